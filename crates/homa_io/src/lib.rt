@@ -1,0 +1,24 @@
+//! Where a program's bytes come from and where they go, in memory and outside of the process.
+//!
+//! Model: a source has bytes left and a sink took bytes, each an optional list, since nothing is
+//! known of bytes outside of the process. Both count their faults.
+//! Promise: a call moves exactly the bytes that it answers for; a call that fails moves none and
+//! raises the count. After a fault in `write_all` the sink took a front of the bytes.
+#![tactic(auto)]
+
+mod faults;
+mod input;
+mod memory;
+mod real;
+mod sink;
+mod source;
+mod sure;
+#[cfg(test)]
+mod tests;
+
+pub use memory::{MemSink, MemSource};
+pub use real::{StdSink, StdSource};
+pub use sink::{Sink, WriteFailed, write_all};
+pub use source::{ReadFailed, Source};
+pub use std::alloc::AllocError as NoMemory;
+pub use sure::{SureSink, SureSource};

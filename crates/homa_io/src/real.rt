@@ -1,0 +1,99 @@
+// The readers and writers of std as a source and a sink. What they move outside is trusted: no
+// contract says it, and a read of theirs that answers 0 is taken for the end.
+ghost use Rattle.std.specs.Prelude.{◌≡◌, None};
+
+use crate::faults::FaultCount;
+use crate::{ReadFailed, Sink, Source, WriteFailed};
+use std::io::{Read, Write};
+
+/// A reader as a source, which can't tell what is left. Each error of the reader is a fault, an
+/// interrupted read too.
+#[derive(Drop)]
+pub struct StdSource<R: Read + Drop> {
+    reader: R,
+    faults: FaultCount,
+}
+
+impl<R: Read + Drop> StdSource<R> {
+    ghost use Rattle.homa_io.specs.Real.{std_source_faults};
+
+    /// A source over this reader.
+    pub fn new(reader: R) -> StdSource<R>
+        ensures { std_source_faults result ≡ 0 }
+    {
+        StdSource {
+            reader,
+            faults: FaultCount::NONE,
+        }
+    }
+}
+
+impl<R: Read + Drop> Source for StdSource<R> {
+    ghost use Rattle.homa_io.specs.Real.{std_source_faults};
+
+    ghost left = { λ _. None };
+
+    ghost faults = { λ s. std_source_faults s };
+
+    ghost is_same = { λ _ _. Unit {0} };
+
+    ghost same_self = { λ _. tt };
+
+    ghost same_on = { λ _ _ _ _ _. tt };
+
+    fn read(&mut self, buf: &mut [u8]) -> Result<usize, ReadFailed> {
+        match self.reader.read(buf) {
+            Ok(n) => Ok(n),
+            Err(_) => {
+                self.faults.raise();
+                Err(ReadFailed)
+            }
+        }
+    }
+}
+
+/// A writer as a sink, which can't tell what was taken. Each error of the writer is a fault, and so
+/// is a write of bytes of which it took none. The writer is never flushed, so let it have no buffer.
+#[derive(Drop)]
+pub struct StdSink<W: Write + Drop> {
+    writer: W,
+    faults: FaultCount,
+}
+
+impl<W: Write + Drop> StdSink<W> {
+    ghost use Rattle.homa_io.specs.Real.{std_sink_faults};
+
+    /// A sink over this writer.
+    pub fn new(writer: W) -> StdSink<W>
+        ensures { std_sink_faults result ≡ 0 }
+    {
+        StdSink {
+            writer,
+            faults: FaultCount::NONE,
+        }
+    }
+}
+
+impl<W: Write + Drop> Sink for StdSink<W> {
+    ghost use Rattle.homa_io.specs.Real.{std_sink_faults};
+
+    ghost taken = { λ _. None };
+
+    ghost faults = { λ s. std_sink_faults s };
+
+    ghost is_same = { λ _ _. Unit {0} };
+
+    ghost same_self = { λ _. tt };
+
+    ghost same_on = { λ _ _ _ _ _. tt };
+
+    fn write(&mut self, bytes: &[u8]) -> Result<usize, WriteFailed> {
+        match self.writer.write(bytes) {
+            Ok(n) if n > 0 || bytes.is_empty() => Ok(n),
+            _ => {
+                self.faults.raise();
+                Err(WriteFailed)
+            }
+        }
+    }
+}

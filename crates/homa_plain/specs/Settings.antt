@@ -1,0 +1,75 @@
+-- The settings of a run, and which are valid.
+use Rattle.std.specs.Prelude.{ℕ, ◌+◌, ◌*◌, ◌≤◌, ◌==◌, nat_lt, ◌||◌, if◌then◌else◌, Option, None, Some, Result, Ok, Err, List, [], ◌∷◌}
+use Rattle.homa_plain.specs.declared.settings.Settings.{Settings}
+use Rattle.homa_plain.specs.declared.settings.Limits.{Limits}
+use Rattle.homa_plain.specs.declared.settings.Name.{Name}
+use Rattle.homa_plain.specs.declared.settings.Name.TheVariants.{Hosts, Seg, Window, Unsched, Overcommit, Rate, Resend, Tries, Life, Pages, Calls, Served, Rebalance, Skew, Wire}
+use Rattle.homa_plain.specs.declared.settings.SettingFault.{SettingFault}
+use Rattle.homa_plain.specs.declared.settings.SettingFault.TheVariants.{OutOfRange, UnschedOverWindow, RateUnderSeg}
+
+-- a setting, the least and the most that it may be, and what it is
+abbrev pub between : Name → ℕ → ℕ → ℕ → Limits
+between name least most value = record { name = name; least = least; most = most; value = value }
+
+-- the settings in their order
+abbrev pub ranges : Settings → List Limits
+ranges s =
+    between Hosts 2 32 s.hosts ∷
+    between Seg 1 1400 s.seg ∷
+    between Window 1 1000000 s.window ∷
+    between Unsched 1 1000000 s.unsched ∷
+    between Overcommit 1 7 s.overcommit ∷
+    between Rate 1 1000000 s.rate ∷
+    between Resend 1 1000 s.resend ∷
+    between Tries 1 100 s.tries ∷
+    between Life 1 100000 s.life ∷
+    between Pages 1 4096 s.pages ∷
+    between Calls 1 1024 s.calls ∷
+    between Served 1 4096 s.served ∷
+    between Rebalance 0 1024 s.rebalance ∷
+    between Skew 0 1000 s.skew ∷
+    between Wire 1 2 s.wire ∷ []
+
+-- each setting is in its range
+abbrev pub AllInRange : List Limits → Type 0
+AllInRange [] = Unit {0}
+AllInRange (r ∷ rest) = (r.least ≤ r.value) × (r.value ≤ r.most) × AllInRange rest
+
+-- settings that a run may have
+pub record IsValid (s : Settings) : Type 0 where
+  pub in_range : AllInRange (ranges s)
+  pub unsched : s.unsched ≤ s.window
+  pub rate : s.seg ≤ s.rate
+
+-- the first setting that is outside its range
+abbrev pub first_outside : List Limits → Option Name
+first_outside [] = None
+first_outside (r ∷ rest) = if nat_lt r.value r.least || nat_lt r.most r.value then Some r.name else first_outside rest
+
+abbrev pub verdict_by : Settings → Option Name → Result (Unit {0}) SettingFault
+verdict_by s (Some name) = Err (OutOfRange name)
+verdict_by s None = if nat_lt s.window s.unsched then Err UnschedOverWindow else if nat_lt s.rate s.seg then Err RateUnderSeg else Ok tt
+
+-- what is wrong with settings, if anything is
+abbrev pub verdict : Settings → Result (Unit {0}) SettingFault
+verdict s = verdict_by s (first_outside (ranges s))
+
+-- the settings that hold where none are given
+abbrev pub usual : Settings
+usual = record { hosts = 2; seg = 1400; window = 10000; unsched = 10000; overcommit = 4; rate = 14000; resend = 4; tries = 5; life = 20; pages = 1024; calls = 256; served = 1024; rebalance = 0; skew = 0; wire = 1 }
+
+-- the ticks after which nothing more can come of silence
+abbrev pub patience : Settings → ℕ
+patience s = s.resend * (s.tries + 1)
+
+-- for how many ticks a packet may be accepted: with version 2 the receiver itself refuses it afterwards
+abbrev pub accepted_life : Settings → ℕ
+accepted_life s = if s.wire == 1 then s.life else s.life + 4 * s.skew
+
+-- by how many ticks two hosts' clocks may differ
+abbrev pub band : Settings → ℕ
+band s = 2 * s.skew
+
+-- how long a packet may still have an effect
+abbrev pub span : Settings → ℕ
+span s = accepted_life s + band s

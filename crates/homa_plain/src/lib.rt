@@ -1,0 +1,27 @@
+//! The plain types of Homa's public surface, and the definitions that every contract above speaks of.
+//!
+//! The types hold no state and take no memory: ids, settings, packets, events, entries of a trace and
+//! the names of all refusals. `specs/` says what is a valid setting, what an entry's line is, what a
+//! schedule stands for and what every trace obeys, as definitions that compute.
+//!
+//! Main promise: `Settings::check` answers the first fault in the order of the settings, and none exactly
+//! where the settings are valid.
+#![tactic(auto)]
+
+mod entry;
+mod event;
+mod fault;
+mod frame;
+mod id;
+mod packet;
+mod row;
+mod settings;
+
+pub use entry::{Entry, Why};
+pub use event::Event;
+pub use fault::{LineFault, ScriptFault, StartFault, WorldFault};
+pub use frame::Frame;
+pub use id::{CallId, HostId};
+pub use packet::{Body, Cutoffs, More, Packet, Role};
+pub use row::{Emitted, OutFacts, RowFacts};
+pub use settings::{Name, SettingFault, Settings};

@@ -1,0 +1,117 @@
+// Packets.
+ghost use Rattle.std.specs.Prelude.{◌≡◌, ◌<◌, ◌≤◌, [], ◌∷◌, ◌++◌, length};
+
+use arrayvec::ArrayVec;
+use std::marker::Model;
+
+/// Who sent a packet: the client of its call, or the server.
+#[derive(Clone, Copy, Debug, PartialEq, Eq)]
+pub enum Role {
+    Client,
+    Server,
+}
+
+/// A receiver's cutoffs: `upto[i]` is the greatest length, in bytes, of a message that goes at level `i`
+/// or above it; 0 at the levels of scheduled packets. Each is at most 1,000,000.
+#[derive(Clone, Copy, Debug, PartialEq, Eq)]
+pub struct Cutoffs {
+    pub version: u16,
+    pub upto: [u32; 8],
+}
+
+/// The further calls that an ACK names, at most four: each an incarnation and a sequence number of the sender.
+/// Contracts see a list.
+#[derive(Debug, PartialEq, Eq, Drop)]
+pub struct More {
+    calls: ArrayVec<(u32, u32), 4>,
+}
+
+impl Model for More {
+    ghost use Rattle.std.specs.Prelude.{ℕ, List};
+
+    ghost Value = { List (ℕ × ℕ) };
+
+    ghost view = { λ m. m.calls.items };
+
+    ghost inverse = { λ xs. record { calls = record { items = xs } } };
+}
+
+impl More {
+    /// No further call.
+    pub fn empty() -> More
+        ensures { result ≡ [] }
+    {
+        More {
+            calls: ArrayVec::new(),
+        }
+    }
+
+    /// Adds a call behind the others.
+    pub fn push(&mut self, inc: u32, seq: u32)
+        requires { length self.old < 4 }
+        ensures { self.new ≡ self.old ++ (inc, seq) ∷ [] }
+    {
+        self.calls.push((inc, seq));
+    }
+
+    /// The calls, in the order in which they were added: at most four.
+    pub fn calls(&self) -> &[(u32, u32)]
+        ensures calls { result.now ≡ self.now }
+        ensures few { length result.now ≤ 4 }
+    {
+        &self.calls
+    }
+}
+
+/// What a packet says, by its kind.
+#[derive(Debug, PartialEq, Eq, Drop)]
+pub enum Body {
+    /// A piece of a message of `length` bytes (1 to 1,000,000) from byte `offset` on. `version` is that of the
+    /// cutoffs by which the sender chose the level. A request's DATA may carry the acknowledgement of a call.
+    Data {
+        length: u32,
+        offset: u32,
+        version: u16,
+        service: u8,
+        ack: Option<(u32, u32)>,
+    },
+    /// Bytes below `offset` (1 to 1,000,000) may be sent, at level `prio` (0 to 7).
+    Grant {
+        offset: u32,
+        prio: u8,
+    },
+    /// The bytes from `from` to `to` - 1 are missing, and are to be sent at level `prio` (0 to 7).
+    Resend {
+        from: u32,
+        to: u32,
+        prio: u8,
+    },
+    /// The answer will take a while.
+    Busy,
+    /// The sender's cutoffs.
+    Cutoffs(Cutoffs),
+    /// The server has no record of the call (reason 0), or ran and forgot it (reason 1).
+    Unknown {
+        reason: u8,
+    },
+    /// The server asks whether the response has arrived.
+    NeedAck,
+    /// The packet's call and `more` calls of its client are finished.
+    Ack {
+        more: More,
+    },
+}
+
+/// A packet without its payload: who sent it (`role`, and the sender's incarnation, at least 1), its level
+/// (0 to 7; 7 but for DATA), its call (`inc` at least 1 and `seq`), and the sender's own clock at the sending
+/// (`at`; 0 in version 1).
+#[derive(Debug, PartialEq, Eq, Drop)]
+pub struct Packet {
+    pub role: Role,
+    pub level: u8,
+    pub sender: u32,
+    pub inc: u32,
+    pub seq: u32,
+    pub at: u64,
+    pub body: Body,
+}

@@ -1,0 +1,4 @@
+pub mod Maps
+pub mod Ranges
+pub mod Numbers
+pub mod Ordered
