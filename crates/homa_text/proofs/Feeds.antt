@@ -1,0 +1,50 @@
+-- Lines with and without their feed.
+use Rattle.std.proofs.Common.{◌≡◌, ℕ, Bool, true, false, List, [], ◌∷◌, ◌++◌, refl, ap, ◌⊎◌, inl, inr, arith}
+use Rattle.std.specs.Prelude.{◌==◌, if◌then◌else◌}
+use Rattle.std.proofs.lemmas.Bool.Decides.{nat_tests}
+use Rattle.homa_plain.specs.Input.{without_feed, has_no_feed, ends_in_feed}
+
+-- a line up to its feed
+text_step : (t : Bool) (x : ℕ) (xs more : List ℕ) → (if t then false else has_no_feed xs) ≡ true → (has_no_feed xs ≡ true → without_feed more ≡ xs) → (if t then [] else x ∷ without_feed more) ≡ x ∷ xs
+text_step true x xs more h f = cc
+text_step false x xs more h f = ap (λ (ys : List ℕ). x ∷ ys) (f h)
+
+pub without_feed-feed : (xs : List ℕ) → has_no_feed xs ≡ true → without_feed (xs ++ 10 ∷ []) ≡ xs
+without_feed-feed [] h = refl
+without_feed-feed (x ∷ xs) h = text_step (x == 10) x xs (xs ++ 10 ∷ []) h (λ k. without_feed-feed xs k)
+
+-- a line that has none
+pub without_feed-none : (xs : List ℕ) → has_no_feed xs ≡ true → without_feed xs ≡ xs
+without_feed-none [] h = refl
+without_feed-none (x ∷ xs) h = text_step (x == 10) x xs xs h (λ k. without_feed-none xs k)
+
+feed_step : (t : Bool) (xs more : List ℕ) → (if t then false else has_no_feed xs) ≡ true → (has_no_feed xs ≡ true → ends_in_feed more ≡ true) → (if t then false else ends_in_feed more) ≡ true
+feed_step true xs more h f = cc
+feed_step false xs more h f = f h
+
+-- a line with its feed behind it
+pub ends_in_feed-feed : (xs : List ℕ) → has_no_feed xs ≡ true → ends_in_feed (xs ++ 10 ∷ []) ≡ true
+ends_in_feed-feed [] h = refl
+ends_in_feed-feed (x ∷ []) h = feed_step (x == 10) [] (10 ∷ []) h (λ k. refl)
+ends_in_feed-feed (x ∷ y ∷ ys) h = feed_step (x == 10) (y ∷ ys) (y ∷ ys ++ 10 ∷ []) h (λ k. ends_in_feed-feed (y ∷ ys) k)
+
+step : (t : Bool) (bytes more : List ℕ) → (if t then false else has_no_feed bytes) ≡ true → (has_no_feed bytes ≡ true → has_no_feed more ≡ true) → (if t then false else has_no_feed more) ≡ true
+step true bytes more h f = cc
+step false bytes more h f = f h
+
+one : (b : ℕ) (t : Bool) → (b == 10) ≡ t → (b ≡ 10 → ⊥) → (if t then false else true) ≡ true
+one b true e other = absurd (other (grind (arith, nat_tests)))
+one b false e other = refl
+
+-- one byte more that is no line feed
+pub has_no_feed-push : (bytes : List ℕ) (b : ℕ) → has_no_feed bytes ≡ true → (b ≡ 10 → ⊥) → has_no_feed (bytes ++ b ∷ []) ≡ true
+has_no_feed-push [] b h other = one b (b == 10) refl other
+has_no_feed-push (x ∷ xs) b h other = step (x == 10) xs (xs ++ b ∷ []) h (λ k. has_no_feed-push xs b k other)
+
+either : (bytes : List ℕ) (b : ℕ) (t : Bool) → (b == 10) ≡ t → has_no_feed bytes ≡ true → (ends_in_feed (bytes ++ b ∷ []) ≡ true) ⊎ (has_no_feed (bytes ++ b ∷ []) ≡ true)
+either bytes b true e h = let is_feed : b ≡ 10 = grind (arith, nat_tests) in inl (rw is_feed (ends_in_feed-feed bytes h))
+either bytes b false e h = inr (has_no_feed-push bytes b h (λ is_feed. absurd (grind (arith, nat_tests))))
+
+-- any byte behind a line without a feed
+pub ends_or_not : (bytes : List ℕ) (b : ℕ) → has_no_feed bytes ≡ true → (ends_in_feed (bytes ++ b ∷ []) ≡ true) ⊎ (has_no_feed (bytes ++ b ∷ []) ≡ true)
+ends_or_not bytes b h = either bytes b (b == 10) refl h

@@ -1,0 +1,7 @@
+pub mod Digits
+pub mod Taking
+pub mod InLine
+pub mod Feeds
+pub mod NextLine
+pub mod Putting
+pub mod Texts

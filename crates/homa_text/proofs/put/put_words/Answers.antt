@@ -1,0 +1,40 @@
+use Rattle.std.proofs.Common.{refl, [], ◌∷◌, ◌++◌}
+use Rattle.std.specs.List.{flat_map}
+use Rattle.std.proofs.lemmas.Result.{MatchResult-from_err, on_ok_weaker, on_err_weaker}
+use Rattle.homa_text.specs.Written.{word_text, spaced_word}
+use Rattle.homa_text.proofs.Putting.{put_on, put_whole, put_front, put_front_last, put_front_held, front_more}
+use Rattle.homa_text.proofs.Texts.{line_of_words-spaced, line_of_words-parts}
+use Rattle.homa_text.proofs.put.put_words.Goals as goal
+
+pub returns-in_err-put_word-clause-err : goal.returns-in_err-put_word-clause-err
+returns-in_err-put_word-clause-err g c =
+    MatchResult-from_err _ _ _ c.from_residual.ensures.0
+    (λ _. front_more _ _ _ _ _ (rw c.requires at c.in_err-put_word.ensures.err) (line_of_words-parts (word_text c.args.first) c.args.others.now))
+
+pub returns-in_err-put_others-clause-err : goal.returns-in_err-put_others-clause-err
+returns-in_err-put_others-clause-err g c =
+    MatchResult-from_err _ _ _ c.from_residual-in_err-put_others.ensures.0
+    (λ _. put_front _ _ _ _ [] (word_text c.args.first) _ _ _ (rw c.requires at c.in_ok-put_word.ensures.ok) c.in_err-put_others.ensures.err (line_of_words-parts (word_text c.args.first) c.args.others.now))
+
+pub returns-in_err-append-clause-err : goal.returns-in_err-append-clause-err
+returns-in_err-append-clause-err g c =
+    let first = word_text c.args.first in
+    let others = flat_map spaced_word c.args.others.now in
+    MatchResult-from_err _ _ _ c.from_residual-in_err-append.ensures.0
+    (λ _. put_front_last _ _ _ _ [] (first ++ others) _ _ (put_on _ _ _ _ _ [] first others _ (rw c.requires at c.in_ok-put_word.ensures.ok) c.in_ok-put_others.ensures.ok refl) c.in_err-append.ensures.err (line_of_words-spaced first c.args.others.now))
+
+pub returns-clause-ok : goal.returns-clause-ok
+returns-clause-ok g c =
+    let first = word_text c.args.first in
+    let others = flat_map spaced_word c.args.others.now in
+    on_ok_weaker c.write_all.result
+    (λ all. put_whole _ _ _ _ _ _ (put_on _ _ _ _ _ [] (first ++ others) (10 ∷ []) _ (put_on _ _ _ _ _ [] first others _ (rw c.requires at c.in_ok-put_word.ensures.ok) c.in_ok-put_others.ensures.ok refl) c.in_ok-append.ensures.ok refl) all (line_of_words-spaced first c.args.others.now))
+    (rw c.as_slice.ensures.value at c.write_all.ensures.ok)
+
+pub returns-clause-err : goal.returns-clause-err
+returns-clause-err g c =
+    let first = word_text c.args.first in
+    let others = flat_map spaced_word c.args.others.now in
+    on_err_weaker c.write_all.result
+    (λ front. put_front_held _ _ _ _ _ _ (put_on _ _ _ _ _ [] (first ++ others) (10 ∷ []) _ (put_on _ _ _ _ _ [] first others _ (rw c.requires at c.in_ok-put_word.ensures.ok) c.in_ok-put_others.ensures.ok refl) c.in_ok-append.ensures.ok refl) front (line_of_words-spaced first c.args.others.now))
+    (rw c.as_slice.ensures.value at c.write_all.ensures.err)

@@ -1,0 +1,19 @@
+use Rattle.std.proofs.Common.{◌-◌, ◌≤◌, []}
+use Rattle.homa_text.specs.Input.{rest_of}
+use Rattle.homa_text.specs.Scan.{IsInLine}
+use Rattle.homa_text.proofs.scan.find_feed.Given as goal
+
+-- n bytes of the line were taken, and no line feed
+abbrev pub invariant-loop-n : goal.invariant-loop-n
+invariant-loop-n g l =
+    let left = g.S.Source.left in
+    let faults = g.S.Source.faults in
+    record {
+      line : IsInLine (rest_of l.fn.input (left l.fn.source)) (rest_of l.input (left l.source)) l.line l.n [];
+      within : l.n ≤ l.most;
+      never_falls : faults l.fn.source ≤ faults l.source;
+      same : g.S.Source.is_same l.fn.source l.source;
+    }
+
+abbrev pub decreases-loop-n : goal.decreases-loop-n
+decreases-loop-n g l = l.most - l.n

@@ -1,0 +1,6 @@
+pub mod Lines
+pub mod Rest
+pub mod Input
+pub mod Scan
+pub mod Written
+pub mod Put

@@ -1,0 +1,319 @@
+// The words of an entry.
+ghost use Rattle.std.specs.Prelude.{◌≡◌, ◌+◌, ◌≤◌, ◌++◌, [], ◌∷◌, length, map, codes, decimal};
+ghost use Rattle.arrayvec.specs.ArrayVec.{array_vec_len};
+ghost use Rattle.homa_plain.specs.Entries.{plain};
+ghost use Rattle.homa_plain.specs.Text.{told_numbers, settings_words, cutoffs_words, call_word, host_word, id_word, hex_word, fault_words, ack_word, role_word, kind_word, body_words, why_word, entry_words};
+ghost use Rattle.homa_text.specs.Written.{word_text};
+
+use crate::Word::{self, Call, Hex, Host, Id, Number, Route, Text};
+use crate::fault_words::push_fault;
+use arrayvec::ArrayVec;
+use homa_plain::{Body, CallId, Cutoffs, Entry, HostId, LineFault, Role, Settings, Why};
+
+// The words of a line. No entry has more than sixteen.
+pub(crate) type WordList<'a> = ArrayVec<Word<'a>, 16>;
+
+// Adds words.
+pub(crate) fn push_all<'a>(list: &mut WordList<'a>, words: &[Word<'a>])
+    requires { array_vec_len list.old + length words.now ≤ 16 }
+    ensures texts { map word_text list.new.items ≡ map word_text list.old.items ++ map word_text words.now }
+    ensures len { array_vec_len list.new ≡ array_vec_len list.old + length words.now }
+{
+    list.try_extend_from_slice(words).unwrap();
+}
+
+// A name, and words behind it.
+fn list_of<'a>(name: &'a [u8], words: &[Word<'a>]) -> WordList<'a>
+    requires { length words.now ≤ 15 }
+    ensures texts { map word_text result.items ≡ name.now ∷ map word_text words.now }
+    ensures len { array_vec_len result ≡ length words.now + 1 }
+{
+    let mut list = WordList::new();
+    list.push(Text(name));
+    push_all(&mut list, words);
+    list
+}
+
+// Adds numbers.
+fn push_numbers(list: &mut WordList<'_>, numbers: &[u32])
+    requires { array_vec_len list.old + length numbers.now ≤ 16 }
+    ensures { map word_text list.new.items ≡ map word_text list.old.items ++ map decimal numbers.now }
+{
+    for n in numbers {
+        list.push(Number(u64::from(*n)));
+    }
+}
+
+// Adds calls.
+fn push_calls(list: &mut WordList<'_>, calls: &[(u32, u32)])
+    requires { array_vec_len list.old + length calls.now ≤ 16 }
+    ensures { map word_text list.new.items ≡ map word_text list.old.items ++ map call_word calls.now }
+{
+    for (inc, seq) in calls {
+        list.push(Call(*inc, *seq));
+    }
+}
+
+// How many numbers of the settings are told.
+fn told(settings: &Settings) -> usize
+    ensures value { result ≡ told_numbers settings.now }
+    ensures fits { result ≤ 15 }
+{
+    if settings.wire != 1 {
+        return 15;
+    }
+    if settings.skew == 0 { 13 } else { 14 }
+}
+
+// The settings.
+fn words_of_settings<'a>(s: &Settings) -> WordList<'a>
+    ensures { map word_text result.items ≡ settings_words s.now }
+{
+    let numbers = [
+        s.hosts,
+        s.seg,
+        s.window,
+        s.unsched,
+        s.overcommit,
+        s.rate,
+        s.resend,
+        s.tries,
+        s.life,
+        s.pages,
+        s.calls,
+        s.served,
+        s.rebalance,
+        s.skew,
+        s.wire,
+    ];
+    let mut list = list_of(b"settings", &[]);
+    push_numbers(&mut list, &numbers[..told(s)]);
+    list
+}
+
+// Adds cutoffs.
+fn push_cutoffs(list: &mut WordList<'_>, cutoffs: &Cutoffs)
+    requires { array_vec_len list.old ≤ 7 }
+    ensures { map word_text list.new.items ≡ map word_text list.old.items ++ cutoffs_words cutoffs.now }
+{
+    push_all(list, &[Number(u64::from(cutoffs.version))]);
+    push_numbers(list, &cutoffs.upto);
+}
+
+// Who sent a packet.
+fn role_text<'a>(role: Role) -> Word<'a>
+    ensures { word_text result ≡ role_word role }
+{
+    match role {
+        Role::Client => Text(b"c"),
+        Role::Server => Text(b"s"),
+    }
+}
+
+// A packet's kind.
+fn kind_text<'a>(body: &Body) -> Word<'a>
+    ensures { word_text result ≡ kind_word body.now }
+{
+    match body {
+        Body::Data { .. } => Text(b"DATA"),
+        Body::Grant { .. } => Text(b"GRANT"),
+        Body::Resend { .. } => Text(b"RESEND"),
+        Body::Busy => Text(b"BUSY"),
+        Body::Cutoffs(_) => Text(b"CUTOFFS"),
+        Body::Unknown { .. } => Text(b"UNKNOWN"),
+        Body::NeedAck => Text(b"NEED_ACK"),
+        Body::Ack { .. } => Text(b"ACK"),
+    }
+}
+
+// The call that a DATA acknowledges, if any.
+fn ack_text<'a>(ack: Option<(u32, u32)>) -> Word<'a>
+    ensures { word_text result ≡ ack_word ack }
+{
+    match ack {
+        None => Text(b"-"),
+        Some((inc, seq)) => Call(inc, seq),
+    }
+}
+
+// Adds what a packet says.
+fn push_body<'a>(list: &mut WordList<'a>, level: u8, body: &Body, payload: &'a [u8])
+    requires { array_vec_len list.old ≤ 7 }
+    ensures { map word_text list.new.items ≡ map word_text list.old.items ++ body_words level body.now payload.now }
+{
+    match *body {
+        Body::Data {
+            length,
+            offset,
+            version,
+            service,
+            ack,
+        } => {
+            let numbers = [
+                u32::from(level),
+                length,
+                offset,
+                u32::from(version),
+                u32::from(service),
+            ];
+            push_numbers(list, &numbers);
+            push_all(list, &[ack_text(ack), Hex(payload)]);
+        }
+        Body::Grant { offset, prio } => push_numbers(list, &[offset, u32::from(prio)]),
+        Body::Resend { from, to, prio } => push_numbers(list, &[from, to, u32::from(prio)]),
+        Body::Cutoffs(ref cutoffs) => push_cutoffs(list, cutoffs),
+        Body::Unknown { reason } => push_numbers(list, &[u32::from(reason)]),
+        Body::Ack { ref more } => push_calls(list, more.calls()),
+        Body::Busy | Body::NeedAck => {}
+    }
+}
+
+// Why a call failed.
+fn why_text<'a>(why: Why) -> Word<'a>
+    ensures { word_text result ≡ why_word why }
+{
+    match why {
+        Why::Timeout => Text(b"timeout"),
+        Why::Forgotten => Text(b"forgotten"),
+    }
+}
+
+// A packet that is sent: who sends it, what it is and what it says.
+fn words_of_send<'a>(
+    sender: &[Word<'a>; 3],
+    packet: &[Word<'a>; 3],
+    level: u8,
+    body: &Body,
+    payload: &'a [u8],
+) -> WordList<'a>
+    ensures { map word_text result.items ≡ codes "send" ∷ map word_text sender.now ++ map word_text packet.now ++ body_words level body.now payload.now }
+{
+    let mut list = list_of(b"send", sender);
+    push_all(&mut list, packet);
+    push_body(&mut list, level, body, payload);
+    list
+}
+
+// Rows or pages that a host lacks: two numbers of them.
+fn full<'a>(host: HostId, id: CallId, what: &'a [u8], a: u32, b: u32) -> WordList<'a>
+    ensures { map word_text result.items ≡ codes "full" ∷ host_word host ∷ id_word id ∷ what.now ∷ decimal a ∷ decimal b ∷ [] }
+{
+    let (a, b) = (Number(u64::from(a)), Number(u64::from(b)));
+    list_of(b"full", &[Host(host), Id(id), Text(what), a, b])
+}
+
+// A call that starts.
+fn words_of_call<'a>(id: CallId, server: HostId, service: u8, bytes: &'a [u8]) -> WordList<'a>
+    ensures { map word_text result.items ≡ codes "call" ∷ id_word id ∷ host_word server ∷ decimal service ∷ hex_word bytes.now ∷ [] }
+{
+    let service = Number(u64::from(service));
+    list_of(b"call", &[Id(id), Host(server), service, Hex(bytes)])
+}
+
+// A service that was called.
+fn words_of_run<'a>(
+    host: HostId,
+    id: CallId,
+    service: u8,
+    request: &'a [u8],
+    response: &'a [u8],
+    hold: u32,
+) -> WordList<'a>
+    ensures { map word_text result.items ≡ codes "run" ∷ host_word host ∷ id_word id ∷ decimal service ∷ hex_word request.now ∷ hex_word response.now ∷ decimal hold ∷ [] }
+{
+    let mut list = list_of(b"run", &[Host(host), Id(id), Number(u64::from(service))]);
+    push_all(
+        &mut list,
+        &[Hex(request), Hex(response), Number(u64::from(hold))],
+    );
+    list
+}
+
+// Cutoffs of a host.
+fn words_of_balance<'a>(host: HostId, cutoffs: &Cutoffs) -> WordList<'a>
+    ensures { map word_text result.items ≡ codes "balance" ∷ host_word host ∷ cutoffs_words cutoffs.now }
+{
+    let mut list = list_of(b"balance", &[Host(host)]);
+    push_cutoffs(&mut list, cutoffs);
+    list
+}
+
+// A line that is refused.
+fn words_of_refusal<'a>(line: u64, fault: LineFault) -> WordList<'a>
+    ensures { map word_text result.items ≡ codes "refused" ∷ decimal line ∷ fault_words fault }
+{
+    let mut list = list_of(b"refused", &[Number(line)]);
+    push_fault(&mut list, fault);
+    list
+}
+
+/// The words of an entry.
+pub(crate) fn words_of_entry<'a>(entry: &Entry<'a>) -> WordList<'a>
+    ensures { map word_text result.items ≡ entry_words (plain entry.now) }
+{
+    match *entry {
+        Entry::Settings(ref settings) => words_of_settings(settings),
+        Entry::Call {
+            id,
+            server,
+            service,
+            bytes,
+        } => words_of_call(id, server, service, bytes),
+        Entry::Deliver { packet } => list_of(b"deliver", &[Number(packet)]),
+        Entry::Clock { tick } => list_of(b"clock", &[Number(tick)]),
+        Entry::Restart { host, inc } => list_of(b"restart", &[Host(host), Number(u64::from(inc))]),
+        Entry::Inject { host, bytes } => list_of(b"inject", &[Host(host), Hex(bytes)]),
+        Entry::Shift { host, n } => list_of(b"shift", &[Host(host), Number(u64::from(n))]),
+        Entry::Junk { host } => list_of(b"junk", &[Host(host)]),
+        Entry::Stale { host, at, now } => list_of(b"stale", &[Host(host), Number(at), Number(now)]),
+        Entry::Send {
+            number,
+            from,
+            to,
+            inc,
+            role,
+            id,
+            level,
+            ref body,
+            payload,
+        } => {
+            let sender = [Number(number), Route(from, to), Number(u64::from(inc))];
+            let packet = [kind_text(body), role_text(role), Id(id)];
+            words_of_send(&sender, &packet, level, body, payload)
+        }
+        Entry::Run {
+            host,
+            id,
+            service,
+            request,
+            response,
+            hold,
+        } => words_of_run(host, id, service, request, response, hold),
+        Entry::Done { id, bytes } => list_of(b"done", &[Id(id), Hex(bytes)]),
+        Entry::Fail { id, why } => list_of(b"fail", &[Id(id), why_text(why)]),
+        Entry::Drop { host, id } => list_of(b"drop", &[Host(host), Id(id)]),
+        Entry::Gaps { host, id } => list_of(b"gaps", &[Host(host), Id(id)]),
+        Entry::Bury { host, id, until } => list_of(b"bury", &[Host(host), Id(id), Number(until)]),
+        Entry::Free { host, id } => list_of(b"free", &[Host(host), Id(id)]),
+        Entry::FullRows {
+            host,
+            id,
+            rows,
+            limit,
+        } => full(host, id, b"rows", rows, limit),
+        Entry::FullPages {
+            host,
+            id,
+            need,
+            free,
+        } => full(host, id, b"pages", need, free),
+        Entry::Balance { host, ref cutoffs } => words_of_balance(host, cutoffs),
+        Entry::Recv { host, from, bytes } => list_of(
+            b"recv",
+            &[Host(host), Host(from), Hex(bytes)],
+        ),
+        Entry::Finished { n } => list_of(b"ok", &[Number(n)]),
+        Entry::Refused { line, fault } => words_of_refusal(line, fault),
+        Entry::Stalled { turns, now } => list_of(b"stalled", &[Number(turns), Number(now)]),
+    }
+}

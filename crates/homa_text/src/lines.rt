@@ -1,0 +1,107 @@
+// The lines of an input, one at a time.
+ghost use Rattle.std.specs.Prelude.{◌≡◌, ◌+◌, ◌-◌, ◌^◌, ◌<◌, ◌≤◌, [], ℕ, List, length, min, IfOk, OnOk, OnErr};
+ghost use Rattle.homa_io.specs.Outside.{HasRisen, unread, IsAtEnd};
+
+use crate::input::Input;
+use crate::scan::{Found, find_feed};
+use homa_io::{ReadFailed, Source};
+use std::alloc::{AllocError, Global};
+
+/// What the next line is.
+#[derive(Clone, Copy, Debug, PartialEq, Eq)]
+pub enum LineGot {
+    /// A line: `bytes` gives it.
+    Line,
+    /// It has more than `longest` bytes, a carriage return counted and the line feed not.
+    Long,
+    /// Byte number `limit + 1` of the input stands in it, its line feed included.
+    Over,
+    /// The input ends with no byte of a further line.
+    End,
+}
+
+/// The lines of an input. A carriage return is a byte like any other.
+#[derive(Drop)]
+pub struct Lines {
+    input: Input,
+    line: Vec<u8>,
+    len: usize,
+    read: u64,
+    number: u64,
+    limit: u64,
+    longest: u32,
+    ghost within: { read ≤ limit },
+    ghost countable: { limit < 2 ^ 64 - 1 },
+    ghost room: { length line.items ≡ longest },
+    ghost short: { len ≤ longest },
+}
+
+impl Lines {
+    ghost use Rattle.homa_text.specs.Lines.{reading, IsNext};
+
+    /// A reader of an input of at most `limit` bytes, in lines of at most `longest` bytes, the line
+    /// feed not counted. Room for the longest line is taken here, and none later.
+    pub fn open(alloc: Global, limit: u64, longest: u32) -> Result<Lines, AllocError>
+        requires longest { longest ≤ 4100000 }
+        requires limit { limit < 2 ^ 64 - 1 }
+        ensures { IfOk result (λ lines. reading lines ≡ record { pending = []; line = []; read = 0; number = 0; limit = limit; longest = longest }) }
+    {
+        Ok(Lines {
+            input: Input::open(alloc)?,
+            line: vec![in alloc; 0; longest as usize]?,
+            len: 0,
+            read: 0,
+            number: 0,
+            limit,
+            longest,
+        })
+    }
+
+    /// Reads the next line. The source is read in parts of up to 64 KiB, and only where no byte is
+    /// pending. After an error the bytes of the line that came are lost.
+    pub fn next<S: Source>(&mut self, source: &mut S) -> Result<LineGot, ReadFailed>
+        ensures next { IfOk result (λ got. (came : List ℕ) × (S.left source.old ≡ unread came (S.left source.new)) × IsNext (reading self.old) (reading self.new) came (IsAtEnd (S.left source.new)) got) }
+        ensures number { OnOk result ((reading self.new).number ≡ min ((reading self.old).number + 1) (2 ^ 64 - 1)) }
+
+        // The two limits stay.
+        ensures limit { (reading self.new).limit ≡ (reading self.old).limit }
+        ensures longest { (reading self.new).longest ≡ (reading self.old).longest }
+
+        ensures err { OnErr result ((came : List ℕ) × (S.left source.old ≡ unread came (S.left source.new))) }
+        ensures risen { OnErr result (HasRisen (S.faults source.old) (S.faults source.new)) }
+        ensures never_falls { S.faults source.old ≤ S.faults source.new }
+        ensures same { S.is_same source.old source.new }
+    {
+        let most = (self.limit - self.read) as usize;
+        let found = find_feed(&mut self.input, source, &mut self.line, most)?;
+        self.number = self.number.saturating_add(1);
+        match found {
+            Found::Over => Ok(LineGot::Over),
+            Found::Line { len, size } => {
+                if size == 0 {
+                    return Ok(LineGot::End);
+                }
+                self.read += size as u64;
+                if len > self.longest as usize {
+                    return Ok(LineGot::Long);
+                }
+                self.len = len;
+                Ok(LineGot::Line)
+            }
+        }
+    }
+
+    /// The last line, without its line feed.
+    pub fn bytes(&self) -> &[u8]
+        ensures { result.now ≡ (reading self.now).line }
+    {
+        &self.line[..self.len]
+    }
+
+    /// How many lines came: the number of the last one, counted from 1. It stays at 2^64 - 1.
+    pub fn number(&self) -> u64
+        ensures { result ≡ (reading self.now).number }
+    {
+        self.number
+    }
+}

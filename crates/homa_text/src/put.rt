@@ -1,0 +1,230 @@
+// Lines that are written through a buffer.
+ghost use Rattle.std.specs.Prelude.{◌≡◌, ◌≤◌, ◌++◌, ◌∷◌, [], length, map, OnOk, OnErr};
+ghost use Rattle.std.specs.List.{flat_map};
+ghost use Rattle.hex.specs.Hex.{encode_lower};
+ghost use Rattle.homa_io.specs.Outside.{HasRisen, appended, TookFront};
+ghost use Rattle.homa_plain.specs.Entries.{plain};
+ghost use Rattle.homa_plain.specs.Text.{line_of_words, line_text};
+ghost use Rattle.homa_text.specs.Put.{IsPut};
+ghost use Rattle.homa_text.specs.Written.{word_text, spaced_word};
+
+use crate::Word;
+use crate::entry_words::words_of_entry;
+use crate::written::{call_text, id_text, number_text, route_text};
+use arrayvec::ArrayVec;
+use homa_io::{Sink, WriteFailed, write_all};
+use homa_plain::Entry;
+
+// How many bytes of a line are held before a write: of a short line, and of any other.
+const SHORT: usize = 4096;
+
+const ROOM: usize = 65536;
+
+// The bytes of a line that aren't written yet.
+type Held<const N: usize> = ArrayVec<u8, N>;
+
+// Writes what is held.
+fn flush<K: Sink, const N: usize>(sink: &mut K, held: &mut Held<N>) -> Result<(), WriteFailed>
+    ensures ok { OnOk result (K.taken sink.new ≡ appended (K.taken sink.old) held.old.items) }
+    ensures empty { OnOk result (held.new.items ≡ []) }
+    ensures err { OnErr result (TookFront (K.taken sink.old) (K.taken sink.new) held.old.items) }
+    ensures risen { OnErr result (HasRisen (K.faults sink.old) (K.faults sink.new)) }
+    ensures never_falls { K.faults sink.old ≤ K.faults sink.new }
+    ensures same { K.is_same sink.old sink.new }
+{
+    write_all(sink, held.as_slice())?;
+    held.clear();
+    Ok(())
+}
+
+// Holds these bytes too. What was held is written first where they don't fit.
+fn append<K: Sink, const N: usize>(
+    sink: &mut K,
+    held: &mut Held<N>,
+    bytes: &[u8],
+) -> Result<(), WriteFailed>
+    ensures ok { OnOk result (IsPut (K.taken sink.old) (K.taken sink.new) held.new.items (held.old.items ++ bytes.now)) }
+    ensures err { OnErr result (TookFront (K.taken sink.old) (K.taken sink.new) (held.old.items ++ bytes.now)) }
+    ensures risen { OnErr result (HasRisen (K.faults sink.old) (K.faults sink.new)) }
+    ensures never_falls { K.faults sink.old ≤ K.faults sink.new }
+    ensures same { K.is_same sink.old sink.new }
+{
+    if bytes.len() <= held.remaining_capacity() {
+        held.try_extend_from_slice(bytes).unwrap();
+        return Ok(());
+    }
+    flush(sink, held)?;
+    if bytes.len() > N {
+        return write_all(sink, bytes);
+    }
+    held.try_extend_from_slice(bytes).unwrap();
+    Ok(())
+}
+
+// Holds a few bytes in hex.
+fn put_digits<K: Sink, const N: usize>(
+    sink: &mut K,
+    held: &mut Held<N>,
+    bytes: &[u8],
+) -> Result<(), WriteFailed>
+    requires { length bytes.now ≤ 256 }
+    ensures ok { OnOk result (IsPut (K.taken sink.old) (K.taken sink.new) held.new.items (held.old.items ++ encode_lower bytes.now)) }
+    ensures err { OnErr result (TookFront (K.taken sink.old) (K.taken sink.new) (held.old.items ++ encode_lower bytes.now)) }
+    ensures risen { OnErr result (HasRisen (K.faults sink.old) (K.faults sink.new)) }
+    ensures never_falls { K.faults sink.old ≤ K.faults sink.new }
+    ensures same { K.is_same sink.old sink.new }
+{
+    let mut digits = [0; 512];
+    let out = &mut digits[..2 * bytes.len()];
+    hex::encode_to_slice(bytes, out).unwrap();
+    append(sink, held, out)
+}
+
+// Holds bytes in hex, a few at a time.
+fn put_hex<K: Sink, const N: usize>(
+    sink: &mut K,
+    held: &mut Held<N>,
+    bytes: &[u8],
+) -> Result<(), WriteFailed>
+    ensures ok { OnOk result (IsPut (K.taken sink.old) (K.taken sink.new) held.new.items (held.old.items ++ encode_lower bytes.now)) }
+    ensures err { OnErr result (TookFront (K.taken sink.old) (K.taken sink.new) (held.old.items ++ encode_lower bytes.now)) }
+    ensures risen { OnErr result (HasRisen (K.faults sink.old) (K.faults sink.new)) }
+    ensures never_falls { K.faults sink.old ≤ K.faults sink.new }
+    ensures same { K.is_same sink.old sink.new }
+{
+    let mut done = 0;
+    while done < bytes.len() {
+        let n = (bytes.len() - done).min(256);
+        put_digits(sink, held, &bytes[done..done + n])?;
+        done += n;
+    }
+    Ok(())
+}
+
+// Holds a word.
+fn put_word<K: Sink, const N: usize>(
+    sink: &mut K,
+    held: &mut Held<N>,
+    word: Word<'_>,
+) -> Result<(), WriteFailed>
+    ensures ok { OnOk result (IsPut (K.taken sink.old) (K.taken sink.new) held.new.items (held.old.items ++ word_text word.entry)) }
+    ensures err { OnErr result (TookFront (K.taken sink.old) (K.taken sink.new) (held.old.items ++ word_text word.entry)) }
+    ensures risen { OnErr result (HasRisen (K.faults sink.old) (K.faults sink.new)) }
+    ensures never_falls { K.faults sink.old ≤ K.faults sink.new }
+    ensures same { K.is_same sink.old sink.new }
+{
+    match word {
+        Word::Text(bytes) => append(sink, held, bytes),
+        Word::Hex([]) => append(sink, held, b"-"),
+        Word::Hex(bytes) => put_hex(sink, held, bytes),
+        Word::Number(n) => append(sink, held, number_text(n).as_slice()),
+        Word::Host(host) => append(sink, held, number_text(u64::from(host.0)).as_slice()),
+        Word::Id(id) => append(sink, held, id_text(id).as_slice()),
+        Word::Route(from, to) => append(sink, held, route_text(from, to).as_slice()),
+        Word::Call(inc, seq) => append(sink, held, call_text(inc, seq).as_slice()),
+    }
+}
+
+// Holds a word behind a space.
+fn put_spaced<K: Sink, const N: usize>(
+    sink: &mut K,
+    held: &mut Held<N>,
+    word: Word<'_>,
+) -> Result<(), WriteFailed>
+    ensures ok { OnOk result (IsPut (K.taken sink.old) (K.taken sink.new) held.new.items (held.old.items ++ spaced_word word.entry)) }
+    ensures err { OnErr result (TookFront (K.taken sink.old) (K.taken sink.new) (held.old.items ++ spaced_word word.entry)) }
+    ensures risen { OnErr result (HasRisen (K.faults sink.old) (K.faults sink.new)) }
+    ensures never_falls { K.faults sink.old ≤ K.faults sink.new }
+    ensures same { K.is_same sink.old sink.new }
+{
+    append(sink, held, b" ")?;
+    put_word(sink, held, word)
+}
+
+// Holds words, each behind a space.
+fn put_others<K: Sink, const N: usize>(
+    sink: &mut K,
+    held: &mut Held<N>,
+    words: &[Word<'_>],
+) -> Result<(), WriteFailed>
+    ensures ok { OnOk result (IsPut (K.taken sink.old) (K.taken sink.new) held.new.items (held.old.items ++ flat_map spaced_word words.now)) }
+    ensures err { OnErr result (TookFront (K.taken sink.old) (K.taken sink.new) (held.old.items ++ flat_map spaced_word words.now)) }
+    ensures risen { OnErr result (HasRisen (K.faults sink.old) (K.faults sink.new)) }
+    ensures never_falls { K.faults sink.old ≤ K.faults sink.new }
+    ensures same { K.is_same sink.old sink.new }
+{
+    for word in words {
+        put_spaced(sink, held, *word)?;
+    }
+    Ok(())
+}
+
+// Writes a word, words behind it and a line feed.
+fn put_words<K: Sink, const N: usize>(
+    sink: &mut K,
+    held: &mut Held<N>,
+    first: Word<'_>,
+    others: &[Word<'_>],
+) -> Result<(), WriteFailed>
+    requires { held.old.items ≡ [] }
+    ensures ok { OnOk result (K.taken sink.new ≡ appended (K.taken sink.old) (line_of_words (word_text first.entry ∷ map word_text others.now))) }
+    ensures err { OnErr result (TookFront (K.taken sink.old) (K.taken sink.new) (line_of_words (word_text first.entry ∷ map word_text others.now))) }
+    ensures risen { OnErr result (HasRisen (K.faults sink.old) (K.faults sink.new)) }
+    ensures never_falls { K.faults sink.old ≤ K.faults sink.new }
+    ensures same { K.is_same sink.old sink.new }
+{
+    put_word(sink, held, first)?;
+    put_others(sink, held, others)?;
+    append(sink, held, b"\n")?;
+    write_all(sink, held.as_slice())
+}
+
+// At most how many bytes a word has with the space or the line feed behind it.
+fn most_bytes(word: Word<'_>) -> usize {
+    match word {
+        Word::Text(bytes) => bytes.len().saturating_add(1),
+        Word::Hex(bytes) => bytes.len().saturating_mul(2).saturating_add(2),
+        _ => 64,
+    }
+}
+
+// Tells that the words surely make a short line.
+fn is_short(words: &[Word<'_>]) -> bool {
+    let mut most = 0_usize;
+    for word in words {
+        most = most.saturating_add(most_bytes(*word));
+    }
+    most <= SHORT
+}
+
+/// Writes words with one space between two, and a line feed. This is one `write` of the sink, unless the
+/// line is longer than 64 KiB. After an error the sink took a front of the line.
+pub fn put_line<K: Sink>(sink: &mut K, words: &[Word<'_>]) -> Result<(), WriteFailed>
+    ensures ok { OnOk result (K.taken sink.new ≡ appended (K.taken sink.old) (line_of_words (map word_text words.now))) }
+    ensures err { OnErr result (TookFront (K.taken sink.old) (K.taken sink.new) (line_of_words (map word_text words.now))) }
+    ensures risen { OnErr result (HasRisen (K.faults sink.old) (K.faults sink.new)) }
+    ensures never_falls { K.faults sink.old ≤ K.faults sink.new }
+    ensures same { K.is_same sink.old sink.new }
+{
+    match words {
+        [] => write_all(sink, b"\n"),
+        [first, others @ ..] => {
+            if is_short(words) {
+                put_words(sink, &mut Held::<SHORT>::new(), *first, others)
+            } else {
+                put_words(sink, &mut Held::<ROOM>::new(), *first, others)
+            }
+        }
+    }
+}
+
+/// Writes the line of an entry, as `put_line` does.
+pub fn put_entry<K: Sink>(sink: &mut K, entry: &Entry<'_>) -> Result<(), WriteFailed>
+    ensures ok { OnOk result (K.taken sink.new ≡ appended (K.taken sink.old) (line_text (plain entry.now))) }
+    ensures err { OnErr result (TookFront (K.taken sink.old) (K.taken sink.new) (line_text (plain entry.now))) }
+    ensures risen { OnErr result (HasRisen (K.faults sink.old) (K.faults sink.new)) }
+    ensures never_falls { K.faults sink.old ≤ K.faults sink.new }
+    ensures same { K.is_same sink.old sink.new }
+{
+    put_line(sink, words_of_entry(entry).as_slice())
+}

@@ -1,0 +1,86 @@
+// The top call.
+ghost use Rattle.std.specs.Prelude.{◌≡◌, ◌≤◌, ◌⊎◌, Some, ℕ, List, map, true, false};
+ghost use Rattle.homa_io.specs.Outside.{HasRisen, appended, IsAtEnd, TookFront};
+ghost use Rattle.homa_plain.specs.First.{replay, replay_text, is_refused};
+ghost use Rattle.homa_plain.specs.Laws.{Holds, Once, Returned, HandedUp, IsHandedUp, nothing_seen, seen_all};
+ghost use Rattle.homa_top.specs.Words.{is_replay, usage_line};
+ghost use Rattle.homa_top.specs.Printing.{PrintsFront};
+
+use crate::Stop;
+use crate::first::replay;
+use homa_io::{Sink, Source, write_all};
+use std::alloc::Global;
+
+const USAGE: &[u8] =
+    b"usage: homa replay | make SEED CALLS | gen SEED CALLS | node | record | check | quiet N M\n";
+
+// Whether the words are the command `replay`.
+fn is_replay(words: &[&str]) -> bool
+    ensures { result ≡ is_replay (map (λ w. w.now) words.now) }
+{
+    if let [word] = words {
+        return *word == "replay";
+    }
+    false
+}
+
+// Prints the usage line.
+fn put_usage<K: Sink>(sink: &mut K) -> u8
+    ensures statuses { (result ≡ 1) ⊎ (result ≡ 4) }
+    ensures line { result ≡ 1 → K.taken sink.new ≡ appended (K.taken sink.old) usage_line }
+    ensures front { TookFront (K.taken sink.old) (K.taken sink.new) usage_line }
+    ensures write { result ≡ 4 → HasRisen (K.faults sink.old) (K.faults sink.new) }
+{
+    match write_all(sink, USAGE) {
+        Ok(()) => 1,
+        Err(_) => 4,
+    }
+}
+
+/// Carries out a command line, `words` without the program's name, and answers the status:
+///
+/// 0 the input was read to its end; 1 the words are none of the commands (so far `replay`); 2 a line is refused;
+/// 3 the source gave a fault; 4 the sink gave a fault; 5 there is no memory, of which no clause says when it comes.
+///
+/// `replay` reads a schedule from the source and prints its trace. What is said of the bytes holds where the source tells
+/// what it has left, and the sink what it took, as those in memory do.
+pub fn run<S: Source, K: Sink>(alloc: Global, words: &[&str], source: &mut S, sink: &mut K) -> u8
+    ensures statuses { result ≤ 5 }
+
+    // The words are none of the commands: the source is as before, and the usage line is printed.
+    ensures usage { result ≡ 1 → is_replay (map (λ w. w.now) words.now) ≡ false }
+    ensures no_command { is_replay (map (λ w. w.now) words.now) ≡ false → (result ≡ 1) ⊎ (result ≡ 4) }
+    ensures source_stays { is_replay (map (λ w. w.now) words.now) ≡ false → source.new ≡ source.old }
+    ensures usage_text { result ≡ 1 → K.taken sink.new ≡ appended (K.taken sink.old) usage_line }
+    ensures usage_front { is_replay (map (λ w. w.now) words.now) ≡ false → TookFront (K.taken sink.old) (K.taken sink.new) usage_line }
+
+    // What was printed is the replay of the bytes that the source had.
+    ensures text { (result ≡ 0) ⊎ (result ≡ 2) → (bytes : List ℕ) → S.left source.old ≡ Some bytes → K.taken sink.new ≡ appended (K.taken sink.old) (replay_text bytes) }
+    ensures accepted { result ≡ 0 → (bytes : List ℕ) → S.left source.old ≡ Some bytes → is_refused bytes ≡ false }
+    ensures refused { result ≡ 2 → (bytes : List ℕ) → S.left source.old ≡ Some bytes → is_refused bytes ≡ true }
+    ensures to_end { result ≡ 0 → IsAtEnd (S.left source.new) }
+
+    // A fault or want of memory leaves a front of it.
+    ensures front { is_replay (map (λ w. w.now) words.now) ≡ true → 3 ≤ result → PrintsFront (S.left source.old) (S.left source.new) (K.taken sink.old) (K.taken sink.new) }
+
+    // Faults have their causes, and nothing else keeps an input that is accepted from its end.
+    ensures read { result ≡ 3 → HasRisen (S.faults source.old) (S.faults source.new) }
+    ensures write { result ≡ 4 → HasRisen (K.faults sink.old) (K.faults sink.new) }
+    ensures complete { is_replay (map (λ w. w.now) words.now) ≡ true → (bytes : List ℕ) → S.left source.old ≡ Some bytes → is_refused bytes ≡ false → (HasRisen (S.faults source.old) (S.faults source.new) → ⊥) → (HasRisen (K.faults sink.old) (K.faults sink.new) → ⊥) → (result ≡ 0) ⊎ (result ≡ 5) }
+
+    // The trace obeys the laws.
+    ensures once { (bytes : List ℕ) → S.left source.old ≡ Some bytes → Holds Once nothing_seen (replay bytes).told }
+    ensures returned { (bytes : List ℕ) → S.left source.old ≡ Some bytes → Holds Returned nothing_seen (replay bytes).told }
+    ensures handed_up { (bytes : List ℕ) → S.left source.old ≡ Some bytes → Holds HandedUp nothing_seen (replay bytes).told × IsHandedUp (seen_all nothing_seen (replay bytes).told) }
+{
+    if !is_replay(words) {
+        return put_usage(sink);
+    }
+    match replay(alloc, source, sink) {
+        Ok(true) => 0,
+        Ok(false) => 2,
+        Err(Stop::Read) => 3,
+        Err(Stop::Write) => 4,
+        Err(Stop::NoMemory) => 5,
+    }
+}

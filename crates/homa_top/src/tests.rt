@@ -1,0 +1,174 @@
+// Whole runs, from the words and the bytes that come in to the bytes that go out and the status.
+use super::*;
+use homa_io::{MemSink, MemSource};
+use std::alloc::Global;
+use std::test::Fail;
+
+const SETTINGS: &str = "settings 2 1400 10000 10000 4 14000 4 5 20 1024 256 1024 0\n";
+
+const CALL: &str =
+    "call 0.1.0 1 0 6869\nsend 0 0>1 1 DATA c 0.1.0 7 2 0 0 0 - 6869\ndeliver 0\nrun 1 0.1.0 0 6869 6869 0\nsend 1 1>0 1 DATA s 0.1.0 7 2 0 0 0 - 6869\ndeliver 1\ndone 0.1.0 6869\n";
+
+const SCHEDULE: &str = "go\ncall 0 1 0 6869\ndeliver 0\ndeliver 1\n";
+
+const USAGE: &str =
+    "usage: homa replay | make SEED CALLS | gen SEED CALLS | node | record | check | quiet N M\n";
+
+// The status of a run, and the bytes that its sink took. These reads and writes fail, by their numbers.
+fn run_with(
+    alloc: Global,
+    words: &[&str],
+    input: &str,
+    reads: Vec<u64>,
+    writes: Vec<u64>,
+) -> Result<(u8, MemSink), Fail> {
+    let mut source = MemSource::new(input.as_bytes().to_vec(alloc)?, reads);
+    let mut sink = MemSink::new(alloc, 10_000, writes)?;
+    let status = run(alloc, words, &mut source, &mut sink);
+    Ok((status, sink))
+}
+
+fn replayed(alloc: Global, input: &str) -> Result<(u8, MemSink), Fail> {
+    run_with(alloc, &["replay"], input, Vec::new(alloc), Vec::new(alloc))
+}
+
+#[test]
+fn one_call_two_bytes(rt: HostRuntime) -> Result<(), Fail> {
+    let alloc = rt.alloc();
+    let (status, sink) = replayed(alloc, SCHEDULE)?;
+    assert_eq!(rt; status, 0);
+    let trace = format!(in alloc; "{SETTINGS}{CALL}ok 3\n")?;
+    assert_eq!(rt; sink.bytes(), trace.as_bytes());
+    Ok(())
+}
+
+#[test]
+fn delivered_three_times(rt: HostRuntime) -> Result<(), Fail> {
+    let alloc = rt.alloc();
+    let schedule = format!(in alloc; "{SCHEDULE}deliver 0\ndeliver 0")?;
+    let (status, sink) = replayed(alloc, schedule.as_str())?;
+    assert_eq!(rt; status, 0);
+    let trace = format!(in alloc; "{SETTINGS}{CALL}deliver 0\ndeliver 0\nok 5\n")?;
+    assert_eq!(rt; sink.bytes(), trace.as_bytes());
+    Ok(())
+}
+
+#[test]
+fn calls_cross(rt: HostRuntime) -> Result<(), Fail> {
+    let alloc = rt.alloc();
+    let (status, sink) = replayed(
+        alloc,
+        "go\ncall 1 0 0 ff\ncall 0 1 0 00\ncall 1 0 0 A0\ndeliver 2\ndeliver 3",
+    )?;
+    assert_eq!(rt; status, 0);
+    let trace = format!(in alloc;
+        "{SETTINGS}call 1.1.0 0 0 ff\nsend 0 1>0 1 DATA c 1.1.0 7 1 0 0 0 - ff\ncall 0.1.0 1 0 00\nsend 1 0>1 1 DATA c 0.1.0 7 1 0 0 0 - 00\ncall 1.1.1 0 0 a0\nsend 2 1>0 1 DATA c 1.1.1 7 1 0 0 0 - a0\ndeliver 2\nrun 0 1.1.1 0 a0 a0 0\nsend 3 0>1 1 DATA s 1.1.1 7 1 0 0 0 - a0\ndeliver 3\ndone 1.1.1 a0\nok 5\n"
+    )?;
+    assert_eq!(rt; sink.bytes(), trace.as_bytes());
+    Ok(())
+}
+
+#[test]
+fn refusals(rt: HostRuntime) -> Result<(), Fail> {
+    let alloc = rt.alloc();
+    // Each schedule behind the settings line, and the last line.
+    let refused = [
+        ("go\ndeliver 0", "refused 2 NoSuchPacket\n"),
+        ("go\ngo", "refused 2 Unbuilt\n"),
+        ("go\n\n", "refused 2 Unbuilt\n"),
+        ("go\ncall 0 1 0 6", "refused 2 Unbuilt\n"),
+        ("go\ncall 0 1 0 -", "refused 2 Unbuilt\n"),
+        ("go\ncall 0 0 0 61", "refused 2 Unbuilt\n"),
+        ("go\ncall 0 1 1 61", "refused 2 Unbuilt\n"),
+        ("go\ncall  0 1 0 61", "refused 2 Unbuilt\n"),
+        ("go\ndeliver 0\r", "refused 2 Unbuilt\n"),
+        ("go\ndeliver 00", "refused 2 Unbuilt\n"),
+    ];
+    for (schedule, last) in refused {
+        let (status, sink) = replayed(alloc, schedule)?;
+        assert_eq!(rt; status, 2);
+        let trace = format!(in alloc; "{SETTINGS}{last}")?;
+        assert_eq!(rt; sink.bytes(), trace.as_bytes());
+    }
+    Ok(())
+}
+
+#[test]
+fn first_lines(rt: HostRuntime) -> Result<(), Fail> {
+    let alloc = rt.alloc();
+    let (status, sink) = replayed(alloc, "")?;
+    assert_eq!(rt; status, 2);
+    assert_eq!(rt; sink.bytes(), b"refused 1 NoGo\n".as_slice());
+    let (status, sink) = replayed(alloc, "go\r\n")?;
+    assert_eq!(rt; status, 2);
+    assert_eq!(rt; sink.bytes(), b"refused 1 Unbuilt\n".as_slice());
+    let (status, sink) = replayed(alloc, "go")?;
+    assert_eq!(rt; status, 0);
+    let trace = format!(in alloc; "{SETTINGS}ok 0\n")?;
+    assert_eq!(rt; sink.bytes(), trace.as_bytes());
+    Ok(())
+}
+
+#[test]
+fn third_write_fails(rt: HostRuntime) -> Result<(), Fail> {
+    let alloc = rt.alloc();
+    let (status, sink) = run_with(
+        alloc,
+        &["replay"],
+        SCHEDULE,
+        Vec::new(alloc),
+        vec![in alloc; 2]?,
+    )?;
+    assert_eq!(rt; status, 4);
+    let front = format!(in alloc; "{SETTINGS}call 0.1.0 1 0 6869\n")?;
+    assert_eq!(rt; sink.bytes(), front.as_bytes());
+    Ok(())
+}
+
+#[test]
+fn first_read_fails(rt: HostRuntime) -> Result<(), Fail> {
+    let alloc = rt.alloc();
+    let (status, sink) = run_with(
+        alloc,
+        &["replay"],
+        SCHEDULE,
+        vec![in alloc; 0]?,
+        Vec::new(alloc),
+    )?;
+    assert_eq!(rt; status, 3);
+    assert_eq!(rt; sink.bytes(), b"".as_slice());
+    Ok(())
+}
+
+#[test]
+fn second_read_fails(rt: HostRuntime) -> Result<(), Fail> {
+    // The whole schedule came with the first read; that the input ends isn't known.
+    let alloc = rt.alloc();
+    let (status, sink) = run_with(
+        alloc,
+        &["replay"],
+        SCHEDULE,
+        vec![in alloc; 1]?,
+        Vec::new(alloc),
+    )?;
+    assert_eq!(rt; status, 3);
+    let front = format!(in alloc; "{SETTINGS}{CALL}")?;
+    assert_eq!(rt; sink.bytes(), front.as_bytes());
+    Ok(())
+}
+
+// Whether the words are no command: the status is 1, and the usage line is all that is printed.
+fn is_usage(alloc: Global, words: &[&str]) -> Result<bool, Fail> {
+    let (status, sink) = run_with(alloc, words, SCHEDULE, Vec::new(alloc), Vec::new(alloc))?;
+    Ok(status == 1 && sink.bytes() == USAGE.as_bytes())
+}
+
+#[test]
+fn no_command(rt: HostRuntime) -> Result<(), Fail> {
+    let alloc = rt.alloc();
+    assert!(rt; is_usage(alloc, &["replay", "now"])?);
+    assert!(rt; is_usage(alloc, &[])?);
+    assert!(rt; is_usage(alloc, &["Replay"])?);
+    assert!(rt; is_usage(alloc, &["check"])?);
+    Ok(())
+}

@@ -1,0 +1,16 @@
+pub mod Allocated
+pub mod Memory
+pub mod Sharing
+pub mod Walks
+pub mod Values
+pub mod Before
+pub mod Placed
+pub mod Trees
+pub mod Standing
+pub mod Costs
+pub mod Moves
+pub mod Room
+pub mod Kept
+pub mod Lists
+pub mod Fronts
+pub mod Words

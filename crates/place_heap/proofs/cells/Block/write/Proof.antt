@@ -1,0 +1,58 @@
+-- `write` puts a value into one cell of the block. Assumes `Logic`.
+use Rattle.place_heap.proofs.Walks.{◌≡◌, ℕ, ◌+◌, ◌*◌, ◌≤◌, ◌<◌, ◌^◌, List, [], ◌∷◌, refl, sym, ◌∙◌, length, set, get_or, length-set, w64, arith, Some, None, proved, full_share, id⊢, ftrue, fat, flft, named, Val, vunit, fact, tables, ‵, raw, ◌⊛◌, at_ret, ◌$◌, ◌∵◌, !, qed, done, move, keep, drop, use1, use2, split, join, fsplit, fsplit3, fjoin, fjoin3, feq_i, rewrite, suffices, frame, whole, sub, enter, of_opd, lit, unit_lit, bin, init, stop, fld, assigns_last, first, blocks, exec, returns, alloc_all, pass_all, free_all, look_at, get, get_in, through, sets, take_at, give_at, env, usize, yes, lone, owns, uint_vals, uint_Tells, Ptr, block_ptr, in_a_block, MutRef, mut_vals, mut_Tells, plain, nothing, opens, closes, heard, Stays, walk_of, says, stay_dropped, Goes-dropped, stay_ref, Goes-ref, ends_at, after}
+use Rattle.place_heap.specs.contracts.cells.Block.write as f
+use Rattle.place_heap.proofs.cells.Block.write.Statement.{statement}
+use Rattle.place_heap.proofs.cells.Block.write.Code as code
+use Rattle.place_heap.specs.contracts.cells.Block.{the_row as R}
+use Rattle.place_heap.specs.contracts.cells.Base.{the_row as B}
+use Rattle.place_heap.specs.contracts.cells.Cell.{the_row as C}
+use Rattle.place_heap.proofs.cells.Base.TheLaws as BL
+use Rattle.place_heap.proofs.cells.Cell.TheLaws as CL
+use Rattle.place_heap.specs.Ownership.{place, places, block_owns, block_ty, may_free}
+use Rattle.place_heap.proofs.Memory.{cell_ty, others, emptied, cell_out, cell_in}
+use base.Fml.{froom}
+use borrow.Table.OneValue.{part_in}
+
+abbrev stayed : Stays f.ended.signature.params f.ended.kept
+stayed = (stay_ref (0 ∷ []) tt (plain (λ _. R)), (stay_dropped (plain (λ _. B)) yes, (stay_dropped (plain (λ _. usize)) yes, (stay_dropped (plain (λ _. C)) yes, tt))))
+
+pub write_spec : {M : Type 1} → statement M
+write_spec 𝓤 𝓛 𝓜 𝓡 wired =
+    let c = f.clauses 𝓛 𝓜.mem 𝓡.returns in let W = walk_of 𝓛 f.ended stayed c in let 𝓣 = tables 𝓤 𝓛.H 𝓜 𝓡 𝓡.env in
+    proved 𝓛 f.ended stayed c 𝓜 𝓡
+    (Goes-ref 𝓛 1 0 tt (plain (λ _. R)), (Goes-dropped 𝓛 1 (plain (λ _. B)) yes (λ κs x w. refl), (Goes-dropped 𝓛 1 (plain (λ _. usize)) yes (λ κs x w. refl), (Goes-dropped 𝓛 1 (plain (λ _. C)) yes (λ κs x w. refl), tt))))
+    f.Key.name code.function (code.unfolded 𝓤 𝓛.H 𝓜 𝓡 wired)
+    (λ κs. (mut_vals, ((λ x. BL.lowered x ∷ []), (uint_vals w64, ((λ x. CL.lowered x ∷ []), tt)))))
+    (λ κs. (mut_Tells (named 0) κs.0 R, (BL.lowers.val_is, (uint_Tells w64, (CL.lowers.val_is, tt)))))
+    (λ κs qs bounds a g are.
+    let b = a.0.ref_ptr.0 in let o = a.0.ref_ptr.1 in let h = a.0.now in let base = a.1.0 in let i : ℕ = a.1.1.0 in let x = a.1.1.1.0 in let v = CL.lowered x in
+    let vs : List Val × (List Val × (List Val × (List Val × Unit {0}))) = (mut_vals a.0, (BL.lowered base ∷ [], (uint_vals w64 i, (v ∷ [], tt)))) in
+    let y : W.Ghost = ((κs, qs, bounds, a, vs), tt) in
+    let good = ((CL.the_row_laws.lawful 𝓛).typed x (v ∷ []) are.1.1.1.0).0 in
+    let new : R.Denot = record h { slots = set h.slots i (Some x) } in
+    qed 𝓛 (((‵ (flft κs.0 qs.0) ⊛ ‵ ftrue) ⊛ ‵ (owns (MutRef (named 0) κs.0 R ∷ B ∷ usize ∷ C ∷ []) a vs)) ∷ raw (fact 𝓤 ((base.ptr ≡ h.at) × (i < length h.slots) × (length h.slots ≤ 8192))) ∷ []) ∵
+    move ! (1 ∷ []) $ heard ! _ (λ asked.
+    split ! $ split ! $ move ! (2 ∷ []) $ fsplit ! $ move ! (1 ∷ []) $ fsplit ! $ drop ! $ fsplit ! $ drop ! $ fsplit ! $ keep ! (2 ∷ 3 ∷ 0 ∷ []) $
+    -- [self; the token; what the cell owns]
+    enter ! _ _ _ _ _ $ alloc_all ! (λ l. pass_all ! refl ((tt, tt), (((BL.the_row_laws.lawful 𝓛).typed base _ are.1.0).0, ((tt, record { fits = are.1.1.0.1 }), (good, tt)))) $
+    fsplit3 ! $ move ! (1 ∷ 2 ∷ 3 ∷ []) $ opens ! tt R b o (λ us. move ! (1 ∷ []) $ fsplit ! $ move ! (1 ∷ []) $
+    in_a_block ! h.at (λ p. block_owns p h.slots) (id⊢ 𝓤 _) (λ b' o' e. fsplit ! $
+    let far : i * 24 < 2 ^ 64 = omega arith in
+    take_at ! 2 $ rewrite ! 0 (λ (p : Ptr). ‵ (fat full_share (lone B.mir) (l 2) 0 (BL.lowered (record { ptr = p })))) (asked.0 ∙ e) refl $ give_at ! 2 $
+    first ! $ blocks ! $
+    sets ! (bin ! (get ! refl) (lit ! tt) (record { fits = far })) refl (tt, record { fits = far }) $
+    sets ! (bin ! (get_in ! (fld ! refl (stop !)) (sub ! 0 refl (whole !))) (get ! refl) tt) refl (tt, tt) $
+    use1 𝓛 (‵ (place b' (i * 24 + o') (get_or h.slots i None)) ⊛ ‵ (others b' o' h.slots i)) (cell_out 𝓛 b' o' h.slots i asked.1) $ split ! $
+    use1 𝓛 (‵ (froom cell_ty b' (i * 24 + o'))) (emptied 𝓛 b' (i * 24 + o') (get_or h.slots i None)) $
+    -- [room for the cell; the others; the right to free; no fields; self's cell; the open borrow, in three; self's first part; what the cell owns]
+    assigns_last ! (of_opd ! (get ! refl)) (through ! refl (stop !)) (init ! 0 refl good) $
+    exec ! 𝓣.C 𝓣.Λ (env code.Mir.locals l) (after 1 (code.function).body) (at_ret _ (W.post y)) $
+    sets ! (of_opd ! (unit_lit !)) refl (tt, tt) $
+    move ! (0 ∷ 9 ∷ []) $ use2 𝓛 (‵ (place b' (i * 24 + o') (Some x))) (part_in 𝓛 C refl full_share x b' (i * 24 + o') v) $
+    use2 𝓛 (‵ (places b' o' new.slots)) (cell_in 𝓛 b' o' h.slots i asked.1 (Some x)) $
+    rewrite ! 1 (λ (n : ℕ). ‵ (may_free (block_ty n) (block_ptr b' o'))) (sym (length-set h.slots i (Some x))) refl $ fjoin ! $
+    rewrite ! 0 (λ (p : Ptr). ‵ (block_owns p new.slots)) (sym e) refl $ move ! (1 ∷ 0 ∷ []) $ fjoin ! $ move ! (1 ∷ 0 ∷ []) $ closes ! tt R new us b o $
+    returns ! (look_at ! 0 refl) $ free_all ! refl $ move ! (3 ∷ []) $
+    suffices ! _ (ends_at 𝓛 f.ended stayed c y vunit tt (new, (tt, (tt, (tt, tt)))) (tt, (tt, (tt, (tt, tt))))) $ says ! (refl, refl) $
+    feq_i ! _ (vunit ∷ []) _ refl $ move ! (4 ∷ []) $ nothing ! $ move ! (1 ∷ 0 ∷ []) $ join ! $ frame ! $ move ! (1 ∷ 2 ∷ 3 ∷ []) $ fjoin3 ! $
+    nothing ! $ nothing ! $ fjoin ! $ nothing ! $ fjoin ! $ nothing ! $ fjoin ! $ move ! (1 ∷ 0 ∷ []) $ fjoin ! $ done !)))))

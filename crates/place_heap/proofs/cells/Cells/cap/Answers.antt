@@ -1,0 +1,6 @@
+use Rattle.std.proofs.Common.{length, sym, ap, ◌∙◌}
+use Rattle.place_heap.proofs.Values.{values_len}
+use Rattle.place_heap.proofs.cells.Cells.cap.Goals as goal
+
+pub returns-clause-len : goal.returns-clause-len
+returns-clause-len c = sym (values_len c.self.invariant) ∙ ap length c.self.view_is

@@ -1,0 +1,16 @@
+use Rattle.std.proofs.Common.{◌≡◌, ℕ, ◌<◌, ◌≤◌, ◌+◌, ◌-◌, ◌*◌, ◌^◌, length, take}
+use Rattle.place_heap.specs.Order.{ordered}
+use Rattle.place_heap.specs.Held.{items_of}
+use Rattle.place_heap.specs.Sifted.{CanSiftDown}
+use Rattle.place_heap.proofs.sift.sift_down.Given as goal
+
+abbrev pub invariant-down : goal.invariant-down
+invariant-down g l = record {
+  can : CanSiftDown l.cells l.len l.i l.item;
+  same_len : length l.cells ≡ length l.fn.cells;
+  list : ordered (take l.len (items_of l.cells)) ≡ ordered (take l.len (items_of l.fn.cells));
+  cost : (b : ℕ) → l.len < 2 ^ b → (c : ℕ) × (l.len < (l.i + 1) * 2 ^ c) × (l.steps + 10 * c ≤ l.fn.steps + 10 * b);
+}
+
+abbrev pub decreases-down : goal.decreases-down
+decreases-down g l = l.len - l.i

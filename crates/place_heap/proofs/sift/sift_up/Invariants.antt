@@ -1,0 +1,16 @@
+use Rattle.std.proofs.Common.{◌≡◌, ℕ, ◌<◌, ◌≤◌, ◌+◌, ◌*◌, ◌^◌, length, take}
+use Rattle.place_heap.specs.Order.{ordered}
+use Rattle.place_heap.specs.Held.{items_of}
+use Rattle.place_heap.specs.Sifted.{CanSiftUp}
+use Rattle.place_heap.proofs.sift.sift_up.Given as goal
+
+abbrev pub invariant-up : goal.invariant-up
+invariant-up g l = record {
+  can : CanSiftUp l.cells l.len l.i l.item;
+  same_len : length l.cells ≡ length l.fn.cells;
+  list : ordered (take l.len (items_of l.cells)) ≡ ordered (take l.len (items_of l.fn.cells));
+  cost : (b : ℕ) → l.from < 2 ^ b → (c : ℕ) × (l.i < 2 ^ c) × (l.steps + 9 * c ≤ l.fn.steps + 9 * b);
+}
+
+abbrev pub decreases-up : goal.decreases-up
+decreases-up g l = l.i

@@ -1,0 +1,6 @@
+pub mod Cells
+pub mod Front
+pub mod Held
+pub mod Order
+pub mod Ownership
+pub mod Sifted
