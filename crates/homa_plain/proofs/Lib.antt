@@ -1,2 +1,14 @@
 pub mod SettingsLemmas
 pub mod Worked
+pub mod WireWorked
+pub mod WireFields
+pub mod WireRows
+pub mod WireBodies
+pub mod WireLaws
+pub mod WireLengths
+pub mod PartsWorked
+pub mod PartSets
+pub mod ArrivalLaws
+pub mod OutgoingLaws
+pub mod ChoiceLaws
+pub mod CutoffLaws

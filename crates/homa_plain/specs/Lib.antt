@@ -5,3 +5,10 @@ pub mod Entries
 pub mod Text
 pub mod First
 pub mod Laws
+pub mod Bytes
+pub mod Wire
+pub mod Incoming
+pub mod Outgoing
+pub mod Choice
+pub mod Cutoffs
+pub mod PartCodes

@@ -1,5 +1,5 @@
 // Datagrams.
-ghost use Rattle.std.specs.Prelude.{◌≡◌, ◌≤◌, [], length};
+ghost use Rattle.std.specs.Prelude.{◌≡◌, ◌≤◌, ◌+◌, ◌++◌, [], length};
 
 use arrayvec::ArrayVec;
 use std::marker::Model;
@@ -36,6 +36,14 @@ impl Frame {
         ensures { self.new ≡ bytes.now }
     {
         self.bytes.clear();
+        self.bytes.try_extend_from_slice(bytes).unwrap();
+    }
+
+    /// Adds bytes behind its own.
+    pub fn extend(&mut self, bytes: &[u8])
+        requires { length self.old + length bytes.now ≤ 1500 }
+        ensures { self.new ≡ self.old ++ bytes.now }
+    {
         self.bytes.try_extend_from_slice(bytes).unwrap();
     }
 

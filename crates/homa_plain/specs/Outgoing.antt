@@ -1,0 +1,133 @@
+-- An outgoing message: which of its bytes wait to be sent, how far it is granted, and how far it was sent.
+use Rattle.std.specs.Prelude.{◌≡◌, ◌⊎◌, ◌<◌, ◌≤◌, true, false, ℕ, ◌+◌, ◌-◌, ◌==◌, ◌||◌, Bool, nat_lt, nat_le, min, max, if◌then◌else◌, Option, Some, None, List, [], ◌∷◌, length}
+use Rattle.plain_sets.specs.Maps.{len}
+use Rattle.plain_sets.specs.Ranges.{Range, range}
+use Rattle.plain_sets.specs.Numbers.{Numbers, with_range, without_range, within, set_of_range, has, IsBelow, ranges}
+
+-- an outgoing message
+pub record Outgoing : Type 0 where
+  pub length : ℕ  -- how many bytes it has
+  pub waiting : Numbers  -- the bytes that wait to be sent, all below the granted end
+  pub granted : ℕ  -- the granted end: bytes from this number on may not be sent yet
+  pub top : ℕ  -- the greatest end of a range that was sent, 0 before the first
+  pub prio : ℕ  -- the priority of its granted bytes
+  pub unsched : ℕ  -- how many bytes need no grant
+
+-- the bytes that need no grant wait, and nothing else
+abbrev pub restart : Outgoing → Outgoing
+restart p = let end = min p.length p.unsched in record p { waiting = set_of_range 0 end; granted = end }
+
+-- a message of n bytes, of which nothing was sent
+abbrev pub opened : ℕ → ℕ → Outgoing
+opened n unsched = record { length = n; waiting = set_of_range 0 (min n unsched); granted = min n unsched; top = 0; prio = 0; unsched = unsched }
+
+-- how many bytes lie above all that were sent
+abbrev pub left : Outgoing → ℕ
+left p = p.length - p.top
+
+-- a grant up to a number that is at most the length
+abbrev pub grant_up_to : Outgoing → ℕ → ℕ → Outgoing
+grant_up_to p end prio =
+    if nat_lt p.granted end
+    then record p { waiting = with_range p.waiting p.granted end; granted = end; prio = prio }
+    else p
+
+-- a grant comes: the bytes from the granted end up to the offset wait too; a grant of no more than before changes nothing
+abbrev pub grant : Outgoing → ℕ → ℕ → Outgoing
+grant p offset prio = grant_up_to p (min offset p.length) prio
+
+-- the answer to a RESEND: the bytes were queued, or the sender is busy
+pub data Answer : Type 0 where
+  Busy : Answer
+  Queued : Answer
+
+-- the answer to a RESEND, and the message after it
+pub record Resent : Type 0 where
+  pub answer : Answer
+  pub part : Outgoing
+
+-- whether a RESEND of the bytes from a to b - 1 queues nothing: there are none, all of them wait, or more than 63 ranges would wait
+abbrev pub is_busy : Outgoing → ℕ → ℕ → Bool
+is_busy p a b = nat_le b a || len (within p.waiting a b) == b - a || nat_lt 63 (length (ranges (with_range p.waiting a b)))
+
+-- a RESEND of bytes below the message's end
+abbrev pub resend_up_to : Outgoing → ℕ → ℕ → ℕ → Resent
+resend_up_to p a b prio =
+    if is_busy p a b
+    then record { answer = Busy; part = p }
+    else record { answer = Queued; part = record p { waiting = with_range p.waiting a b; granted = max p.granted b; prio = prio } }
+
+-- a RESEND comes for the bytes from a to b - 1, of which only those of the message count
+abbrev pub resend : Outgoing → ℕ → ℕ → ℕ → Resent
+resend p a b prio = resend_up_to p a (min b p.length) prio
+
+-- whether bytes wait
+abbrev pub has_waiting : Outgoing → Bool
+has_waiting p = nat_lt 0 (len p.waiting)
+
+-- the front of the first of some ranges, at most seg bytes of it
+abbrev pub front_of : List Range → ℕ → Option Range
+front_of [] seg = None
+front_of (r ∷ rs) seg = Some (range r.from (min r.to (r.from + seg)))
+
+-- the bytes to be sent next
+abbrev pub next_range : Outgoing → ℕ → Option Range
+next_range p seg = front_of (ranges p.waiting) seg
+
+-- the message when bytes of it were sent
+abbrev pub sent : Outgoing → Option Range → Outgoing
+sent p None = p
+sent p (Some r) = record p { waiting = without_range p.waiting r.from r.to; top = max p.top r.to }
+
+-- the bytes that are sent next, and the message after it
+pub record Next : Type 0 where
+  pub range : Option Range
+  pub part : Outgoing
+
+-- the next bytes are taken to be sent: the lowest ones that wait, at most seg in a row
+abbrev pub next : Outgoing → ℕ → Next
+next p seg = record { range = next_range p seg; part = sent p (next_range p seg) }
+
+-- what can happen to an outgoing message
+pub data Change : Type 0 where
+  Grant : (offset prio : ℕ) → Change
+  Resend : (a b prio : ℕ) → Change
+  Restart : Change
+  Send : (seg : ℕ) → Change
+
+-- the message after a change
+abbrev pub changed : Outgoing → Change → Outgoing
+changed p (Grant offset prio) = grant p offset prio
+changed p (Resend a b prio) = (resend p a b prio).part
+changed p Restart = restart p
+changed p (Send seg) = (next p seg).part
+
+-- the message after changes, one after the other
+abbrev pub changed_by : Outgoing → List Change → Outgoing
+changed_by p [] = p
+changed_by p (c ∷ cs) = changed_by (changed p c) cs
+
+-- what holds of each outgoing message: nothing waits from the granted end on, and at most 64 ranges wait, also after any grant
+pub record IsSound (p : Outgoing) : Type 0 where
+  pub below : IsBelow p.waiting p.granted
+  pub within : p.granted ≤ p.length
+  pub top : p.top ≤ p.length
+  pub few : length (ranges p.waiting) ≤ 64
+  pub room : (end : ℕ) → p.granted < end → length (ranges (with_range p.waiting p.granted end)) ≤ 64
+
+-- r is the front of the first waiting range: at most seg bytes, and fewer only where the range ends
+pub record IsFront (p : Outgoing) (seg : ℕ) (r : Range) : Type 0 where
+  pub some : r.from < r.to
+  pub few : r.to ≤ r.from + seg
+  pub granted : r.to ≤ p.granted
+  pub lowest : (x : ℕ) → has p.waiting x ≡ true → r.from ≤ x
+  pub wait : (x : ℕ) → r.from ≤ x → x < r.to → has p.waiting x ≡ true
+  pub ends : (r.to ≡ r.from + seg) ⊎ (has p.waiting r.to ≡ false)
+
+-- no byte waits
+abbrev pub IsIdle : Outgoing → Type 0
+IsIdle p = (x : ℕ) → has p.waiting x ≡ false
+
+-- all bytes from a to b - 1 wait
+abbrev pub AllWait : Outgoing → ℕ → ℕ → Type 0
+AllWait p a b = (x : ℕ) → a ≤ x → x < b → has p.waiting x ≡ true
