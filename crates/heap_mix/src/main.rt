@@ -13,11 +13,10 @@ use crate::map::by_map;
 use crate::mix::{Change, read_mix};
 use crate::raw::by_heap;
 use place_heap::Item;
-use std::env;
-use std::io;
 use std::marker::Brand;
 use std::process::ExitCode;
 use std::sync::ledger::Blank;
+use std::{env, io};
 
 fn print(rt: &impl Print, items: &[Item]) -> io::Result<()> {
     for (slot, key) in items {

@@ -197,8 +197,8 @@ fn is_short(words: &[Word<'_>]) -> bool {
     most <= SHORT
 }
 
-/// Writes words with one space between two, and a line feed. This is one `write` of the sink, unless the
-/// line is longer than 64 KiB. After an error the sink took a front of the line.
+/// Writes words with one space between two, and a line feed. This is one `write`, unless the line is
+/// longer than 64 KiB or the sink takes only a part of it. After an error it took a front of the line.
 pub fn put_line<K: Sink>(sink: &mut K, words: &[Word<'_>]) -> Result<(), WriteFailed>
     ensures ok { OnOk result (K.taken sink.new ≡ appended (K.taken sink.old) (line_of_words (map word_text words.now))) }
     ensures err { OnErr result (TookFront (K.taken sink.old) (K.taken sink.new) (line_of_words (map word_text words.now))) }

@@ -20,19 +20,20 @@ use denote.Struct.Declared as Declared
 use Rattle.core.specs.Allocator.{block_if_ok}
 use Rattle.core.specs.declared.result.Result.TheVariants.{Ok, Err}
 use Rattle.core.proofs.alloc.Calls.{Answer, answer_val}
-use Rattle.place_heap.specs.Ownership.{may_free}
+use Rattle.std_heap.specs.declared.Global.{Global}
+use Rattle.std_heap.specs.contracts.GlobalAllocator.TheImpl.{ghosts}
 
 module _ {M : Type 1} {𝓤 : Ura M} {𝓛 : Logic 𝓤} {K : Type 0} {Γ : List (Item 𝓤)} {G : Goal 𝓤 𝓛.H} where
   -- a block with the right to free it, or nothing
-  pub answered : K → (τ : Ty) (v : Val) (r : Answer.Denot)
-      → ((b o : ℕ) → v ≡ answer_val true b o → Seq K 𝓛 (‵ (froom τ b o) ∷ ‵ (may_free τ (block_ptr b o)) ∷ Γ) G)
+  pub answered : K → (alloc : Global) (τ : Ty) (v : Val) (r : Answer.Denot)
+      → ((b o : ℕ) → v ≡ answer_val true b o → Seq K 𝓛 (‵ (froom τ b o) ∷ ‵ (ghosts.dealloc_token alloc τ (block_ptr b o)) ∷ Γ) G)
       → (v ≡ answer_val false 0 0 → Seq K 𝓛 Γ G)
-      → Seq K 𝓛 (‵ (Answer.own_val r (v ∷ [])) ∷ ‵ (block_if_ok may_free τ r) ∷ Γ) G
-  answered t τ v (Ok p) ok none =
+      → Seq K 𝓛 (‵ (Answer.own_val r (v ∷ [])) ∷ ‵ (block_if_ok (ghosts.dealloc_token alloc) τ r) ∷ Γ) G
+  answered t alloc τ v (Ok p) ok none =
       fpick t (λ us. fsplit t $ feq_l t (λ e. fpick t (λ vss. fsplit t $ feq_l t (λ e'. fsplit t $ feq_l t (λ e''. drop t $
-      in_a_block t p (λ z. fsep (room_for τ z) (may_free τ z)) (fst∗ 𝓤 (never 𝓤) (sem 𝓛 (may_free τ null_ptr))) (λ b o at. fsplit t $
+      in_a_block t p (λ z. fsep (room_for τ z) (ghosts.dealloc_token alloc τ z)) (fst∗ 𝓤 (never 𝓤) (sem 𝓛 (ghosts.dealloc_token alloc τ null_ptr))) (λ b o at. fsplit t $
       ok b o (ap only e ∙ ap (λ (ws : List Val). live 0 (of_list ws)) (e' ∙ ap (λ (ws : List Val). ws ++ []) (e'' ∙ ap (λ (z : Ptr). ptr_val z ∷ []) at)))))))))
-  answered t τ v (Err n) ok none =
+  answered t alloc τ v (Err n) ok none =
       fpick t (λ us. fsplit t $ feq_l t (λ e. fpick t (λ vss. fsplit t $ feq_l t (λ e'. fsplit t $ fpick t (λ nil. fsplit t $ feq_l t (λ e''. drop t $ drop t $ drop t $
       none (ap only e ∙ ap (λ (ws : List Val). live 1 (of_list ws)) (e' ∙ ap (λ (ws : List Val). ws ++ []) e''))))))))
 

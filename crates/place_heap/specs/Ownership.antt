@@ -1,13 +1,14 @@
 -- What the owner of a block owns, and what a `&` to it lends.
 use Rattle.std.specs.Prelude.{ℕ, ◌+◌, List, [], ◌∷◌, length, Option, Some, None}
 use base.Fraction.{full_share}
-use base.Fml.{Lft, Fml, ftrue, ffalse, fsep, froom}
+use base.Fml.{Lft, Fml, ftrue, ffalse, fsep, fex, froom}
 use mir.Syntax.{Ty, ty_array}
 use mir.Raw.{raw}
 use denote.Memory.{lone, part_at, shared_of}
 use denote.Sharing.{nothing, said, beside}
 use denote.RawPtr.{Ptr, block_ptr, null_ptr}
 use Rattle.std.specs.Mem.{type_size}
+use Rattle.std_heap.specs.declared.Global.{Global}
 use Rattle.std_heap.specs.contracts.GlobalAllocator.TheImpl.{ghosts}
 use Rattle.place_heap.specs.contracts.cells.Cell.{the_row as C}
 use Rattle.place_heap.specs.declared.cells.Cell.{Cell}
@@ -26,9 +27,9 @@ places b o (c ∷ cs) = fsep (place b o c) (places b (o + type_size C) cs)
 abbrev pub block_ty : ℕ → Ty
 block_ty n = raw (ty_array (lone C.mir) n)
 
--- the right to free a block, which is the same for each handle to the heap
+-- the right to free a block, by some handle to the allocator
 abbrev pub may_free : Ty → Ptr → Fml
-may_free = ghosts.dealloc_token (record { memory = record { seal = tt } })
+may_free τ p = fex Global (λ alloc. ghosts.dealloc_token alloc τ p)
 
 -- the cells, and the right to free their block
 abbrev pub block_owns : Ptr → List (Option Cell) → Fml

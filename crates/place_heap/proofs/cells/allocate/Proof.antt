@@ -9,7 +9,7 @@ use prog.Wp.{Wp, after_seq, at_return}
 use prog.Capped.{capped_is}
 use contract.Monad.{fact_i}
 use base.Logic.{emp}
-use types.Kit.{Post as After, any_q, use0, flt_i}
+use types.Kit.{Post as After, any_q, use0, flt_i, fpack}
 use types.Match.{live, vrt, in_variant}
 use types.Run.{switches_on}
 use types.ByLocal.{get_tag}
@@ -28,6 +28,8 @@ use Rattle.std_alloc.proofs.ResultValues.{ok_of, err_of}
 use Rattle.std_alloc.proofs.RcSteps.{first_Good}
 use Rattle.std_alloc.proofs.RawLayout.{as_written}
 use Rattle.std.specs.Prelude.{Ok, Err}
+use Rattle.std_heap.specs.declared.Global.{Global}
+use Rattle.std_heap.specs.contracts.GlobalAllocator.TheImpl.{ghosts}
 use Rattle.std_heap.specs.contracts.Global.{the_row as H}
 use Rattle.std_heap.specs.contracts.GlobalAllocator.allocate as g
 use Rattle.std_heap.proofs.GlobalAllocator.allocate.Met.{met}
@@ -82,9 +84,9 @@ allocate_spec 𝓤 𝓛 𝓜 𝓡 wired =
     use2 𝓛 (raw (G.pre z)) (id⊢ 𝓤 _) $
     calls_at ! (framed 𝓤 𝓛.H 𝓜 𝓣) G (met 𝓤 𝓛 𝓜 𝓡 (code.calls-std_heap::GlobalAllocator::allocate 𝓡.env wired)) z (and_then ! (get ! refl) (and_then ! (get ! refl) (and_then ! (lit ! tt) (no_more !)))) (λ v.
     use1 𝓛 (later (some (λ (r : Answer.Denot). ((‵ (flft κs.0 qs.0) ⊛ ‵ ftrue) ⊛ ‵ (Answer.own_val r (v ∷ [])))
-    ⊛ some (λ (ws : Unit {0} × (Unit {0} × (Unit {0} × Unit {0}))). ‵ (lasts g.ended κs z.0.3 ws) ⊛ ‵ (block_if_ok may_free τ r))))) (id⊢ 𝓤 _) $ await ! tt $ pick ! (λ r.
+    ⊛ some (λ (ws : Unit {0} × (Unit {0} × (Unit {0} × Unit {0}))). ‵ (lasts g.ended κs z.0.3 ws) ⊛ ‵ (block_if_ok (ghosts.dealloc_token a.0.now) τ r))))) (id⊢ 𝓤 _) $ await ! tt $ pick ! (λ r.
     split ! $ move ! (1 ∷ []) $ pick ! (λ ws. split ! $ drop ! $ move ! (1 ∷ []) $ split ! $ split ! $ move ! (2 ∷ 3 ∷ 0 ∷ []) $
-    answered ! τ v r
+    answered ! a.0.now τ v r
     (λ b o e.
     let p : Ptr = block_ptr b o in
     let base : B.Denot = record { ptr = p } in
@@ -100,7 +102,7 @@ allocate_spec 𝓤 𝓛 𝓜 𝓡 wired =
     sets_last ! (agg ! (and_then ! (lit ! tt) (and_then ! (get ! refl) (no_more !)))) refl ok $
     exec ! 𝓣.C 𝓣.Λ En (after 3 (code.function).body) (at_ret En (W.post y)) $ sets ! (of_opd ! (get ! refl)) refl ok $
     returns ! (look_at ! 0 refl) $ free_all ! refl $
-    as_written ! (ty_array cell_ty len) b o $ use1 𝓛 (‵ (places b o block.slots)) (of_room 𝓛 b len o) $
+    move ! (1 ∷ []) $ fpack ! Global (λ alloc. ghosts.dealloc_token alloc τ p) a.0.now $ move ! (1 ∷ []) $ as_written ! (ty_array cell_ty len) b o $ use1 𝓛 (‵ (places b o block.slots)) (of_room 𝓛 b len o) $
     rewrite ! 1 (λ (n : ℕ). ‵ (may_free (block_ty n) p)) (sym (length-replicate len None)) refl $ fjoin ! $
     owned ! (Struct (Owning.shape r_type)) (Is (Struct (Owning.shape r_type))) (Struct-Makes 𝓛 (Owning.shape r_type) tt) tt (vstruct vnil ∷ []) (tt, (refl, tt)) $ fjoin ! $
     owned ! B (Is B) (LL.makes b_type BL.the_plain 𝓛) base (BL.lowered base ∷ []) ((ptr_val p ∷ [], tt), (refl, (refl, tt))) $

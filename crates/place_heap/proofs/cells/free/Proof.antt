@@ -7,7 +7,7 @@ use mir.Syntax.{ty_unit, ty_array}
 use mir.Val.{has_ty, WT}
 use prog.Capped.{capped_is}
 use contract.Monad.{fact_i}
-use types.Kit.{use0, flt_i}
+use types.Kit.{use0, flt_i, fpick}
 use Rattle.core.specs.Allocator.{HasLayout}
 use Rattle.std_alloc.proofs.RawLayout.{as_raw}
 use Rattle.std_heap.specs.contracts.Global.{the_row as H}
@@ -59,6 +59,7 @@ free_spec 𝓤 𝓛 𝓜 𝓡 wired =
     take_at ! 2 $ rewrite ! 0 (λ (p : Ptr). ‵ (fat full_share (lone B.mir) (l 2) 0 (BL.lowered (record { ptr = p })))) e refl $ give_at ! 2 $
     use1 𝓛 (‵ (froom (ty_array cell_ty (length h.slots)) b o)) (to_room 𝓛 b h.slots o) $
     rewrite ! 0 (λ (n : ℕ). ‵ (froom (ty_array cell_ty n) b o)) asked.1 refl $ rewrite ! 1 (λ (n : ℕ). ‵ (may_free (block_ty n) (block_ptr b o))) asked.1 refl $ as_raw ! (ty_array cell_ty len) b o $
+    move ! (1 ∷ []) $ fpick ! (λ alloc. move ! (1 ∷ []) $
     let z : G.Ghost = ((κs, qs, tt, (a.0, (block_ptr b o, (bytes, (8, tt)))), (shr_vals a.0, (vptr b o ∷ [], (vint w64 bytes ∷ [], (vint w64 8 ∷ [], tt))))), τ) in
     let has : HasLayout τ bytes 8 = (capped_is bytes fits, refl) in
     first ! $ blocks ! $
@@ -78,4 +79,4 @@ free_spec 𝓤 𝓛 𝓜 𝓡 wired =
     sets ! (of_opd ! (unit_lit !)) refl (tt, tt) $ returns ! (look_at ! 0 refl) $ free_all ! refl $ keep ! (0 ∷ []) $
     suffices ! _ (ends_at 𝓛 f.ended stayed c y vunit tt (tt, (tt, (tt, (tt, tt)))) (tt, (tt, (tt, (tt, tt))))) $
     feq_i ! (List Val) (vunit ∷ []) (vunit ∷ []) refl $ nothing ! $ nothing ! $ fjoin ! $ nothing ! $ fjoin ! $ nothing ! $ fjoin ! $ nothing ! $ fjoin ! $ join ! $
-    move ! (1 ∷ 0 ∷ []) $ join ! $ nothing ! $ move ! (1 ∷ 0 ∷ []) $ done !)))))))
+    move ! (1 ∷ 0 ∷ []) $ join ! $ nothing ! $ move ! (1 ∷ 0 ∷ []) $ done !))))))))

@@ -1,0 +1,4 @@
+pub mod PlainRanges
+mod KeptRanges
+mod Walks
+mod SetAnswers

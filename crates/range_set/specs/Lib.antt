@@ -1,0 +1,4 @@
+pub mod Kept
+pub mod Fits
+pub mod Changed
+pub mod Lists
