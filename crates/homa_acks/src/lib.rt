@@ -1,0 +1,16 @@
+//! The calls that finished at a client and that their servers may forget, kept for each server in order.
+//!
+//! An [`AckBook`] is seen as a list of lists: for each host as a peer, the calls that finished there and of which it
+//! wasn't told yet, the oldest first, each as an incarnation and a sequence number of the client. Each is below five.
+//!
+//! Main promise: each finished call leaves the book once, in order: five together as an [`AckBatch`], as soon as there
+//! are five, or the oldest alone with the next request to that peer. The lists of the other peers stay.
+#![tactic(auto)]
+
+mod book;
+#[cfg(test)]
+mod tests;
+mod waiting;
+
+pub use book::AckBook;
+pub use waiting::AckBatch;
