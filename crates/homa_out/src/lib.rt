@@ -1,0 +1,193 @@
+//! The sender's half of a message: which of its bytes wait to be sent, how far they are granted, and how far they were sent.
+//!
+//! An [`Outgoing`] is seen as the plain record `Outgoing` of `homa_plain`: the set of the waiting bytes, and five numbers.
+//! Each call does exactly what the definition of its name says: it opens a message, takes a GRANT or a RESEND, starts
+//! over, or takes the lowest waiting bytes to be sent. The waiting bytes are always granted ones and make at most 64
+//! ranges, so that a grant never fails and no call takes memory.
+#![tactic(auto)]
+
+ghost use Rattle.std.specs.Prelude.{◌≡◌, ◌+◌, ◌<◌, ◌≤◌, length, IfSome};
+ghost use Rattle.std.specs.Option.{option_map};
+ghost use Rattle.plain_sets.specs.Numbers.{with_range, ranges};
+ghost use Rattle.range_set.specs.Fits.{bounds};
+ghost use Rattle.homa_plain.specs.Outgoing.{opened, grant, resend, restart, next, left, has_waiting};
+ghost use Rattle.homa_out.specs.Answers.{answered};
+
+use range_set::{Changed, RangeSet};
+use std::marker::Model;
+
+/// A message of 1 to 1000000 bytes that is sent.
+#[derive(Drop)]
+pub struct Outgoing {
+    waiting: RangeSet,
+    len: u32,
+    granted: u32,
+    top: u32,
+    prio: u8,
+    unsched: u32,
+}
+
+impl Model for Outgoing {
+    ghost use Rattle.homa_plain.specs.Outgoing.{Outgoing as Plain};
+    ghost use Rattle.homa_plain.specs.PartCodes.{outgoing_code};
+    ghost use Rattle.homa_out.specs.Kept.{IsKept};
+
+    ghost Value = { Plain };
+
+    ghost coded = { outgoing_code };
+
+    ghost view = { λ a. record { length = a.len; waiting = a.waiting; granted = a.granted; top = a.top; prio = a.prio; unsched = a.unsched } };
+
+    ghost invariant = { λ a. IsKept (record { length = a.len; waiting = a.waiting; granted = a.granted; top = a.top; prio = a.prio; unsched = a.unsched }) };
+}
+
+/// The answer to a RESEND.
+#[derive(Clone, Copy, Debug, PartialEq, Eq)]
+pub enum Resent {
+    /// The bytes wait to be sent again.
+    Queued,
+    /// Nothing changed: there are no such bytes, all of them wait, or more than 63 ranges would wait.
+    Busy,
+}
+
+impl Outgoing {
+    /// A message of `len` bytes, 1 to 1000000, of which the first `unsched` need no grant, and none was sent.
+    pub fn open(len: u32, unsched: u32) -> Outgoing
+        requires some { 1 ≤ len }
+        requires small { len ≤ 1000000 }
+        requires unsched { 1 ≤ unsched }
+        ensures { result ≡ opened len unsched }
+    {
+        let end = len.min(unsched);
+        Outgoing {
+            waiting: RangeSet::upto(end),
+            len,
+            granted: end,
+            top: 0,
+            prio: 0,
+            unsched,
+        }
+    }
+
+    /// A grant of the bytes below `offset` comes: those that weren't granted wait now, and go out at `prio`. A grant
+    /// of no more than before changes nothing.
+    pub fn grant(&mut self, offset: u32, prio: u8)
+        ensures { self.new ≡ grant self.old offset prio }
+    {
+        let end = offset.min(self.len);
+        if self.granted < end {
+            add(&mut self.waiting, self.granted, end);
+            self.granted = end;
+            self.prio = prio;
+        }
+    }
+
+    /// A RESEND of the bytes from `a` to `b` - 1 comes: those of the message wait again, and go out at `prio`.
+    pub fn resend(&mut self, a: u32, b: u32, prio: u8) -> Resent
+        requires { a < b }
+        ensures part { self.new ≡ (resend self.old a b prio).part }
+        ensures answer { result ≡ answered (resend self.old a b prio).answer }
+        ensures unchanged { result ≡ Resent.Busy → self.new ≡ self.old }
+    {
+        let end = b.min(self.len);
+        if self.waiting.has_all(a, end) {
+            return Resent::Busy;
+        }
+        match self.waiting.insert(a, end, 63) {
+            Changed::TooMany => Resent::Busy,
+            Changed::Count(_) => {
+                self.granted = self.granted.max(end);
+                self.prio = prio;
+                Resent::Queued
+            }
+        }
+    }
+
+    /// Starts over: the bytes that need no grant wait, and nothing else.
+    pub fn restart(&mut self)
+        ensures { self.new ≡ restart self.old }
+    {
+        self.granted = self.len.min(self.unsched);
+        self.waiting = RangeSet::upto(self.granted);
+    }
+
+    /// Takes the lowest waiting bytes to be sent, at most `seg` in a row: from the first to before the second number.
+    pub fn next(&mut self, seg: u32) -> Option<(u32, u32)>
+        requires { 1 ≤ seg }
+        ensures range { result ≡ option_map bounds (next self.old seg).range }
+        ensures part { self.new ≡ (next self.old seg).part }
+        ensures within { IfSome result (λ r. (r.0 < r.1) × (r.1 ≤ r.0 + seg) × (r.1 ≤ self.old.length)) }
+    {
+        let front = self.waiting.take_first(seg);
+        if let Some((_, to)) = front {
+            self.top = self.top.max(to);
+        }
+        front
+    }
+
+    /// The bytes that `next` would take.
+    pub fn peek(&self, seg: u32) -> Option<(u32, u32)>
+        requires { 1 ≤ seg }
+        ensures range { result ≡ option_map bounds (next self.now seg).range }
+        ensures within { IfSome result (λ r. (r.0 < r.1) × (r.1 ≤ r.0 + seg) × (r.1 ≤ self.now.length)) }
+    {
+        let (from, to) = self.waiting.first_below(self.granted)?;
+        Some((from, from + seg.min(to - from)))
+    }
+
+    /// The end of the bytes that were sent: the number after the greatest, 0 before the first.
+    pub fn top_sent(&self) -> u32
+        ensures { result ≡ self.now.top }
+    {
+        self.top
+    }
+
+    /// How many bytes lie above all that were sent.
+    pub fn left(&self) -> u32
+        ensures { result ≡ left self.now }
+    {
+        self.len - self.top
+    }
+
+    /// The priority at which the granted bytes go out.
+    pub fn prio(&self) -> u8
+        ensures { result ≡ self.now.prio }
+    {
+        self.prio
+    }
+
+    /// Whether bytes wait.
+    pub fn waiting(&self) -> bool
+        ensures { result ≡ has_waiting self.now }
+    {
+        !self.waiting.is_empty()
+    }
+
+    /// How many bytes the message has: at most 1000000.
+    pub fn len(&self) -> u32
+        ensures value { result ≡ self.now.length }
+        ensures small { result ≤ 1000000 }
+    {
+        self.len
+    }
+
+    /// The granted end: bytes from this number on may not be sent yet.
+    pub fn granted(&self) -> u32
+        ensures { result ≡ self.now.granted }
+    {
+        self.granted
+    }
+}
+
+/// Adds the bytes from `a` to `b` - 1, which make at most 64 ranges with the others.
+fn add(waiting: &mut RangeSet, a: u32, b: u32)
+    requires rising { a < b }
+    requires small { b ≤ 1000000 }
+    requires few { length (ranges (with_range waiting.old a b)) ≤ 64 }
+    ensures { waiting.new ≡ with_range waiting.old a b }
+{
+    waiting.insert(a, b, 64);
+}
+
+#[cfg(test)]
+mod tests;
