@@ -1,0 +1,24 @@
+-- The places of hosts, of which each is full or empty, and the spares.
+use Rattle.std.specs.Prelude.{ℕ, ◌-◌, Option, None, List, length, take, slice_get, slice_index_or}
+use Rattle.homa_service.specs.declared.seat.Seat.{Seat}
+use Rattle.homa_service.specs.declared.table.ServiceTable.{ServiceTable}
+
+-- the places of the hosts, in the hosts' order
+abbrev pub places : {V : Type 0} {held : V → Type 0} → ServiceTable V held → List (Option (Seat V held))
+places table = table.places.items
+
+-- the seats that no host has yet
+abbrev pub spares : {V : Type 0} {held : V → Type 0} → ServiceTable V held → List (Seat V held)
+spares table = table.spares.items
+
+-- what is in the host's place, if there is such a place
+abbrev pub place_of : {A : Type 0} → List (Option A) → ℕ → Option A
+place_of all host = slice_index_or all host None
+
+-- the last of these, if there is one
+abbrev pub last_of : {A : Type 0} → List A → Option A
+last_of xs = slice_get xs (length xs - 1)
+
+-- all but the last
+abbrev pub front_of : {A : Type 0} → List A → List A
+front_of xs = take (length xs - 1) xs
