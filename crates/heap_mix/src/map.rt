@@ -29,7 +29,7 @@ fn change(
 }
 
 /// The first eight slots after these changes.
-pub fn by_map(alloc: Global, mix: &[Change]) -> Result<ArrayVec<Item, 8>, AllocError> {
+pub(crate) fn by_map(alloc: Global, mix: &[Change]) -> Result<ArrayVec<Item, 8>, AllocError> {
     let mut map: Sorted = BTreeMap::new(alloc);
     let mut keys: Vec<Option<Key>> = vec![in alloc; None; 8192]?;
     for entry in mix {

@@ -49,7 +49,7 @@ fn read_change(line: &str) -> Option<Change> {
 }
 
 /// The changes that standard input says. Lines that say none are passed over.
-pub fn read_mix(rt: &(impl Input + AllocGlobal)) -> io::Result<Vec<Change>> {
+pub(crate) fn read_mix(rt: &(impl Input + AllocGlobal)) -> io::Result<Vec<Change>> {
     let mut mix = Vec::new(rt.alloc());
     for line in rt.lines(rt.alloc()) {
         let line = line?;

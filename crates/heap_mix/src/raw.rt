@@ -30,7 +30,7 @@ fn unset<L: Ledger>(heap: &mut PlaceHeap, slot: Slot, steps: &mut Steps<L>)
 }
 
 /// The first eight slots after these changes.
-pub fn by_heap<L: Ledger>(
+pub(crate) fn by_heap<L: Ledger>(
     alloc: Global,
     mix: &[Change],
     blank: Blank,
