@@ -142,3 +142,17 @@ fn the_last_spare_is_seated(rt: HostRuntime) -> Result<(), Fail> {
     assert!(rt; is_answer(&reply, b"b", 0));
     Ok(())
 }
+
+#[test]
+fn each_box_is_in_the_table(rt: HostRuntime) -> Result<(), Fail> {
+    let mut boxes: Vec<Box<dyn Service>> = Vec::new(rt.alloc());
+    for _made in 0..96u32 {
+        boxes.push(Box::new(rt.alloc(), Suite::new())?)?;
+    }
+    let mut table = ServiceTable::open(rt.alloc(), boxes, 2)?;
+    for _left in 0..94u32 {
+        assert_eq!(rt; table.replace(HostId(1)), Ok(()));
+    }
+    assert_eq!(rt; table.replace(HostId(1)), Err(NoSpare));
+    Ok(())
+}

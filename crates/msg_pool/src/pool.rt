@@ -62,8 +62,8 @@ impl Model for Lease {
 }
 
 impl Lease {
-    /// How many bytes the lease has.
-    pub(crate) fn len(&self) -> usize
+    /// How many bytes the lease has: 1 to 1,000,000.
+    pub fn len(&self) -> usize
         ensures len { result ≡ self.now.len }
         ensures some { 0 < result }
         ensures small { result ≤ 1000000 }

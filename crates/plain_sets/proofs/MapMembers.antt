@@ -16,7 +16,7 @@ use Rattle.plain_sets.proofs.MapLaws.{list-insert, get-insert, get-remove, get-f
 use Rattle.plain_sets.proofs.OrderSame.{here, there, at_head}
 
 -- equal values from equal options
-same_some : {A : Type 0} (x y : A) → Some x ≡ Some y → x ≡ y
+pub same_some : {A : Type 0} (x y : A) → Some x ≡ Some y → x ≡ y
 same_some x y e = cc
 
 module _ {K X : Type 0} {R : K → K → Ordering} where

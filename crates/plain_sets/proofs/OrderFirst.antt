@@ -10,7 +10,7 @@ use Rattle.plain_sets.proofs.OrderLaws.{below_self, below_other, ordered-cons, o
 use Rattle.plain_sets.proofs.OrderSame.{here, there, at_head, all_at, differ-permuted, ordered-permuted}
 
 -- what holds of each element holds of all
-all_from : {X : Type 0} (P : X → Type 0) (xs : List X) → ((x : X) → Contains xs x → P x) → AllByRecursion P xs
+pub all_from : {X : Type 0} (P : X → Type 0) (xs : List X) → ((x : X) → Contains xs x → P x) → AllByRecursion P xs
 all_from P [] h = tt
 all_from P (x ∷ xs) h = (h x (here x xs), all_from P xs (λ y c. h y (there x y xs c)))
 

@@ -10,7 +10,7 @@ use Rattle.plain_sets.specs.Ordered.{is_below, placed, ordered, IsInOrder, Diffe
 use Rattle.plain_sets.proofs.OrderLaws.{tied_keys, ordered-all, sorted-ordered, permutation-ordered, front, above_all}
 
 -- nothing is in an empty list
-none_in : {X : Type 0} (x : X) → Contains [] x → ⊥
+pub none_in : {X : Type 0} (x : X) → Contains [] x → ⊥
 none_in x c = let l : c.0 < 0 = c.1 in omega arith
 
 -- the head of a list is in it

@@ -123,11 +123,11 @@ ranges-without_range s a b ab = ranges_are (without_range s a b) (parted a b (ra
     (λ q. has-without_range s a b q ∙ ap (λ p. not (is_between a b q) && p) (sym (in_ranges-ranges s q)) ∙ sym (in_ranges-parted (ranges s) a b 0 q ab (apart-ranges s)))
 
 -- a range in front is at most one more
-length-led : (a b : ℕ) (rs : List Range) → length (led a b rs) ≤ length rs + 1
+pub length-led : (a b : ℕ) (rs : List Range) → length (led a b rs) ≤ length rs + 1
 length-led a b rs = cond_both (ltb a b) _ _ (λ (ss : List Range). length ss ≤ length rs + 1) (λ _. omega arith) (λ _. omega arith)
 
 -- an empty one is none more
-length-unled : (a b : ℕ) (rs : List Range) → b ≤ a → length (led a b rs) ≤ length rs
+pub length-unled : (a b : ℕ) (rs : List Range) → b ≤ a → length (led a b rs) ≤ length rs
 length-unled a b rs h = cond_both (ltb a b) _ _ (λ (ss : List Range). length ss ≤ length rs) (λ e. absurd (omega (arith, ltb-true a b e))) (λ _. omega arith)
 
 -- what is taken below the ranges makes none more

@@ -1,0 +1,7 @@
+pub mod KnownLaws
+pub mod FillLaws
+pub mod GapLaws
+pub mod LeaseLaws
+pub mod TakenLaws
+pub mod AnswerLaws
+pub mod PlacedLaws
