@@ -10,17 +10,10 @@ use Rattle.std.proofs.lemmas.Bool.Decides.{nat_tests}
 use Rattle.std.specs.Prelude.{nat_le}
 use Rattle.plain_sets.specs.Ordered.{is_below, ordered, IsInOrder, KeysDiffer, not_of, firsts, SendersDiffer}
 use Rattle.plain_sets.proofs.OrderLaws.{below_self, tied_keys, sorted-ordered, permutation-ordered}
-use Rattle.plain_sets.proofs.OrderSame.{here, there, at_head, all_at, ordered-permuted, ordered-map_same}
+use Rattle.plain_sets.proofs.OrderSame.{here, there, at_head, all_at, none_in, ordered-permuted, ordered-map_same}
+use Rattle.plain_sets.proofs.MapMembers.{same_some}
 use Rattle.plain_sets.proofs.FirstLaws.{firsts-differ, take-differ, firsts-all, sorted-firsts}
 use Rattle.homa_plain.specs.Choice.{Message, sender, choice_key, new_end, Granted, chosen_by, chosen, grants_from, grants, first_due, due, IsBefore, HasAhead, IsGrant}
-
--- nothing is in an empty list
-none_in : {X : Type 0} (x : X) → Contains [] x → ⊥
-none_in x c = let l : c.0 < 0 = c.1 in omega arith
-
--- equal values from equal options
-same_some : {X : Type 0} (x y : X) → Some x ≡ Some y → x ≡ y
-same_some x y e = cc
 
 -- a thing that is listed where a test holds
 one_if : {X : Type 0} (b : Bool) (x : X) → b ≡ true → Contains (cond b (x ∷ []) []) x

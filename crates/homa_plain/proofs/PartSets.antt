@@ -1,6 +1,6 @@
 -- Facts on sets of numbers that the laws of parts share.
 use Rattle.std.proofs.Common.{◌≡◌, ℕ, ◌+◌, ◌-◌, ◌<◌, ◌≤◌, Bool, true, false, not, ◌&&◌, ◌||◌, ltb, leb, min, max, List, [], ◌∷◌, length, refl, sym, ap, ◌∙◌, arith, ◌⊎◌, inl, inr}
-use Rattle.std.proofs.lemmas.Bool.{cond_both, ltb-true, leb-true, cases_lt, and_parts, or_cases, true≢false}
+use Rattle.std.proofs.lemmas.Bool.{ltb-true, leb-true, cases_lt, and_parts, or_cases, true≢false}
 use Rattle.std.proofs.lemmas.Bool.Decides.{nat_tests}
 use Rattle.plain_sets.specs.Maps.{empty, retain, len}
 use Rattle.plain_sets.specs.Ranges.{Range, is_between, in_ranges, AreApart, led, parted}
@@ -8,7 +8,7 @@ use Rattle.plain_sets.specs.Numbers.{Numbers, has, with_range, without_range, wi
 use Rattle.plain_sets.proofs.MapLaws.{empty_of_len}
 use Rattle.plain_sets.proofs.NumberLaws.{has-empty, has-retain, has-with_range, has-without_range, has-within, has-set_of_range, same_numbers, without_range-nothing, with_range-again}
 use Rattle.plain_sets.proofs.RangeLaws.{apart-ranges, in_ranges-ranges, at_from, ranges-empty}
-use Rattle.plain_sets.proofs.RangeChanges.{ranges-without_range, ranges-one_more}
+use Rattle.plain_sets.proofs.RangeChanges.{ranges-without_range, ranges-one_more, length-led, length-unled}
 use Rattle.plain_sets.proofs.CountLaws.{len-retain_both, len-set_of_range, none_left}
 
 -- a number of a range is at its start or above, and below its end
@@ -42,14 +42,6 @@ one_range a b = omega (arith, ranges-one_more empty a b, ap length ranges-empty)
 
 pub one_longer : (a b c : ℕ) → a ≤ b → b ≤ c → length (ranges (with_range (set_of_range a b) b c)) ≤ 1
 one_longer a b c h k = omega (arith, ap (λ s. length (ranges s)) (with_range-again empty a b c h k), one_range a c)
-
--- a range in front is at most one range more
-length-led : (a b : ℕ) (rs : List Range) → length (led a b rs) ≤ length rs + 1
-length-led a b rs = cond_both (ltb a b) _ _ (λ (ss : List Range). length ss ≤ length rs + 1) (λ _. omega arith) (λ _. omega arith)
-
--- and none more where it is empty
-length-unled : (a b : ℕ) (rs : List Range) → b ≤ a → length (led a b rs) ≤ length rs
-length-unled a b rs h = cond_both (ltb a b) _ _ (λ (ss : List Range). length ss ≤ length rs) (λ e. absurd (omega (arith, ltb-true a b e))) (λ _. omega arith)
 
 -- what is taken away from the front makes no range more
 length-parted_front : (rs : List Range) (a b low : ℕ) → a ≤ low → AreApart low rs → length (parted a b rs) ≤ length rs

@@ -2,7 +2,7 @@
 ghost use Rattle.std.specs.Prelude.{◌≡◌, ◌≤◌, ◌⊎◌, Some, ℕ, List, map, true, false};
 ghost use Rattle.homa_io.specs.Outside.{HasRisen, appended, IsAtEnd, TookFront};
 ghost use Rattle.homa_plain.specs.First.{replay, replay_text, is_refused};
-ghost use Rattle.homa_plain.specs.Laws.{Holds, Once, Returned, HandedUp, IsHandedUp, nothing_seen, seen_all};
+ghost use Rattle.homa_plain.specs.FirstLaws.{Holds, Once, Returned, HandedUp, IsHandedUp, nothing_seen, seen_all};
 ghost use Rattle.homa_top.specs.Words.{is_replay, usage_line};
 ghost use Rattle.homa_top.specs.Printing.{PrintsFront};
 

@@ -1,0 +1,130 @@
+-- What a packet of its client does to a call's row at its server.
+use Rattle.std.specs.Prelude.{ℕ, ◌+◌, ◌==◌, not, ◌||◌, nat_lt, nat_le, if◌then◌else◌, Option, None, Some, List, [], ◌∷◌, length}
+use Rattle.homa_plain.specs.declared.id.CallId.{CallId}
+use Rattle.homa_plain.specs.declared.packet.Body.{Body}
+use Rattle.homa_plain.specs.declared.packet.Body.TheVariants as body
+use Rattle.homa_plain.specs.declared.settings.Settings.{Settings}
+use Rattle.homa_plain.specs.Settings.{span}
+use Rattle.homa_plain.specs.Incoming.{Incoming, with_bytes, leaves_too_many_gaps, is_whole, message}
+use Rattle.homa_plain.specs.Incoming as incoming
+use Rattle.homa_plain.specs.Outgoing.{Outgoing, Resent, grant, resend}
+use Rattle.homa_plain.specs.Outgoing as outgoing
+use Rattle.homa_plain.specs.Entries.{PlainRun, PlainBury, PlainFullRows, PlainFullPages, PlainGaps}
+use Rattle.homa_plain.specs.Packets.{Packet}
+use Rattle.homa_plain.specs.Rows.{ServerRow, State, Receiving, Held, Replying, Buried}
+use Rattle.homa_plain.specs.Host.{pages_for}
+use Rattle.homa_plain.specs.AtClient.{busy_for}
+use Rattle.homa_plain.specs.Rules.{Moment, Answer, Piece, Tells, Posts, Did, leaves, keeps, says, opening, version_of}
+
+abbrev pub with_state : ServerRow → State → ServerRow
+with_state row state = record row { state = state }
+
+-- the response goes out from now on, which takes an order number
+abbrev pub replying : Settings → ℕ → List ℕ → ServerRow → Did ServerRow → Did ServerRow
+replying s now response row d = record d {
+  row = Some (with_state row (Replying response (outgoing.opened (length response) s.unsched) d.order now 0));
+  order = d.order + 1;
+}
+
+-- the client hears no more of the call from the server but that it ran, up to a tick
+abbrev pub buried : Moment → CallId → ℕ → ServerRow → Did ServerRow
+buried m id until row = says m (Some (with_state row (Buried until))) (Tells (PlainBury m.host id until) ∷ [])
+
+-- ---- pieces of the request
+
+-- the request is whole: the service runs
+abbrev pub runs : Settings → Moment → CallId → ℕ → List ℕ → Answer → ServerRow → Did ServerRow → Did ServerRow
+runs s m id service request answer row d =
+    let told = record d { says = Tells (PlainRun m.host id service request answer.bytes answer.hold) ∷ [] } in
+    if answer.hold == 0
+    then replying s m.now answer.bytes row told
+    else record told { row = Some (with_state row (Held answer.bytes (m.now + answer.hold))) }
+
+-- the request with the piece
+abbrev pub piece_added : Settings → Moment → CallId → ℕ → Answer → ServerRow → Incoming → Did ServerRow → Did ServerRow
+piece_added s m id service answer row part d =
+    if is_whole part
+    then runs s m id service (message part) answer row d
+    else record d { row = Some (with_state row (Receiving service part m.now 0)) }
+
+-- a piece of the request, which may just have been opened; one of another length or for another service does nothing
+abbrev pub piece_comes : Settings → Moment → CallId → ℕ → Incoming → ServerRow → Piece → Answer → Did ServerRow → Did ServerRow
+piece_comes s m id service part row piece answer d =
+    if not (part.length == piece.size) || not (service == piece.service)
+    then record d { row = Some row }
+    else if leaves_too_many_gaps part piece.offset piece.payload
+    then record d { row = Some (with_state row (Receiving service part m.now 0)); version = version_of piece; says = Tells (PlainGaps m.host id) ∷ [] }
+    else piece_added s m id service answer row (with_bytes part piece.offset piece.payload) (record d { version = version_of piece })
+
+-- the first piece opens the request, where there are a row and pages for it
+abbrev pub opens : Settings → Moment → CallId → Piece → Answer → Did ServerRow
+opens s m id piece answer =
+    if nat_le s.served m.rows
+    then says m None (Tells (PlainFullRows m.host id m.rows s.served) ∷ [])
+    else if nat_lt m.free (pages_for piece.size)
+    then says m None (Tells (PlainFullPages m.host id (pages_for piece.size) m.free) ∷ [])
+    else (let part = incoming.opened id.client piece.size m.order s.unsched in
+    piece_comes s m id piece.service part (record { order = m.order; state = Receiving piece.service part m.now 0 }) piece answer (opening piece.size (leaves m None)))
+
+-- ---- packets, by the state of the row
+
+abbrev pub piece_of : ℕ → ℕ → ℕ → ℕ → List ℕ → Piece
+piece_of size offset version service payload = record { size = size; offset = offset; version = version; service = service; payload = payload }
+
+-- no row
+abbrev pub unknown_gets : Settings → Moment → CallId → Body → List ℕ → Answer → Did ServerRow
+unknown_gets s m id (body.Data size offset version service ack) payload answer = opens s m id (piece_of size offset version service payload) answer
+unknown_gets s m id (body.Resend from to prio) payload answer = says m None (Posts (body.Unknown 0) ∷ [])
+unknown_gets s m id body payload answer = leaves m None
+
+abbrev pub receiving_gets : Settings → Moment → CallId → Body → List ℕ → Answer → ServerRow → ℕ → Incoming → ℕ → Did ServerRow
+receiving_gets s m id (body.Data size offset version service' ack) payload answer row service part base =
+    piece_comes s m id service part row (piece_of size offset version service' payload) answer (leaves m None)
+receiving_gets s m id (body.Resend from to prio) payload answer row service part base =
+    says m (Some (with_state row (Receiving service part base 0))) (Posts body.Busy ∷ [])
+receiving_gets s m id body.Busy payload answer row service part base = keeps m (with_state row (Receiving service part m.now 0))
+receiving_gets s m id body payload answer row service part base = keeps m row
+
+abbrev pub held_gets : Moment → Body → ServerRow → Did ServerRow
+held_gets m (body.Resend from to prio) row = says m (Some row) (Posts body.Busy ∷ [])
+held_gets m body row = keeps m row
+
+-- the row whose timer begins anew, with this outgoing part
+abbrev pub touched : Moment → ServerRow → List ℕ → Outgoing → ℕ → ServerRow
+touched m row response out order = with_state row (Replying response out order m.now 0)
+
+abbrev pub response_resent : Moment → ServerRow → List ℕ → ℕ → Resent → Did ServerRow
+response_resent m row response order resent = says m (Some (touched m row response resent.part order)) (busy_for resent.answer)
+
+abbrev pub replying_gets : Moment → Body → ServerRow → List ℕ → Outgoing → ℕ → Did ServerRow
+replying_gets m (body.Grant offset prio) row response out order = keeps m (touched m row response (grant out offset prio) order)
+replying_gets m (body.Resend from to prio) row response out order = response_resent m row response order (resend out from to prio)
+replying_gets m (body.Ack more) row response out order = keeps m row
+replying_gets m body row response out order = keeps m (touched m row response out order)
+
+abbrev pub buried_gets : Moment → Body → ServerRow → Did ServerRow
+buried_gets m (body.Data size offset version service ack) row = says m (Some row) (Posts (body.Unknown 1) ∷ [])
+buried_gets m (body.Resend from to prio) row = says m (Some row) (Posts (body.Unknown 1) ∷ [])
+buried_gets m body row = keeps m row
+
+abbrev pub row_gets : Settings → Moment → CallId → Body → List ℕ → Answer → ServerRow → State → Did ServerRow
+row_gets s m id body payload answer row (Receiving service part base count) = receiving_gets s m id body payload answer row service part base
+row_gets s m id body payload answer row (Held response release) = held_gets m body row
+row_gets s m id body payload answer row (Replying response out order base count) = replying_gets m body row response out order
+row_gets s m id body payload answer row (Buried until) = buried_gets m body row
+
+-- a packet of role c comes to the server, but for the calls that it acknowledges
+unfoldable pub server_gets : Settings → Moment → Packet → Answer → Option ServerRow → Did ServerRow
+server_gets s m p answer None = unknown_gets s m p.id p.body p.payload answer
+server_gets s m p answer (Some row) = row_gets s m p.id p.body p.payload answer row row.state
+
+abbrev pub state_acked : Settings → Moment → CallId → ServerRow → State → Did ServerRow
+state_acked s m id row (Receiving service part base count) = keeps m row
+state_acked s m id row (Held response release) = buried m id (m.now + span s) row
+state_acked s m id row (Replying response out order base count) = buried m id (m.now + span s) row
+state_acked s m id row (Buried until) = keeps m row
+
+-- the client has finished the call
+unfoldable pub server_acked : Settings → Moment → CallId → Option ServerRow → Did ServerRow
+server_acked s m id None = leaves m None
+server_acked s m id (Some row) = state_acked s m id row row.state

@@ -1,0 +1,127 @@
+-- Which messages a host grants to, and what it sends of its own messages.
+use Rattle.std.specs.Prelude.{ℕ, ◌+◌, ◌-◌, ◌&&◌, ◌||◌, Bool, nat_lt, nat_le, if◌then◌else◌, Option, None, Some, List, [], ◌∷◌, ◌++◌, take, drop}
+use Rattle.std.specs.List.{flat_map}
+use Rattle.plain_sets.specs.Maps.{entries}
+use Rattle.plain_sets.specs.Ranges.{Range}
+use Rattle.homa_plain.specs.declared.id.CallId.{CallId}
+use Rattle.homa_plain.specs.declared.packet.Cutoffs.{Cutoffs}
+use Rattle.homa_plain.specs.declared.packet.Body.{Body}
+use Rattle.homa_plain.specs.declared.packet.Body.TheVariants as body
+use Rattle.homa_plain.specs.declared.settings.Settings.{Settings}
+use Rattle.homa_plain.specs.Settings.{patience}
+use Rattle.homa_plain.specs.Choice.{Message, seen}
+use Rattle.homa_plain.specs.Cutoffs.{level_of}
+use Rattle.homa_plain.specs.Incoming.{Incoming, granted_to}
+use Rattle.homa_plain.specs.Outgoing.{Outgoing, left, has_waiting, next}
+use Rattle.homa_plain.specs.Rows.{ClientRow, ServerRow, State, Receiving, Replying}
+use Rattle.homa_plain.specs.Host.{Host}
+use Rattle.homa_plain.specs.Timers.{Place, OfClient, OfServer}
+
+-- ---- grants
+
+-- an incoming message of a host, which isn't whole
+pub record Arriving : Type 0 where
+  pub place : Place
+  pub message : Message
+
+abbrev pub arriving_at_client : CallId → Option Incoming → List Arriving
+arriving_at_client id None = []
+arriving_at_client id (Some part) = record { place = OfClient id; message = seen part } ∷ []
+
+abbrev pub arriving_at_server : CallId → State → List Arriving
+arriving_at_server id (Receiving service part base count) = record { place = OfServer id; message = seen part } ∷ []
+arriving_at_server id state = []
+
+-- the incoming messages of a host: the responses and the requests of which bytes are missing
+abbrev pub arrivals : Host → List Arriving
+arrivals h =
+    flat_map (λ (e : CallId × ClientRow). arriving_at_client e.0 e.1.part) (entries h.clients)
+    ++ flat_map (λ (e : CallId × ServerRow). arriving_at_server e.0 e.1.state) (entries h.servers)
+
+abbrev pub granted_part : ℕ → Option Incoming → Option Incoming
+granted_part offset None = None
+granted_part offset (Some part) = Some (granted_to part offset)
+
+-- the row of a message that was granted up to an offset: its timer begins anew
+abbrev pub client_granted : ℕ → ℕ → ClientRow → ClientRow
+client_granted now offset r = record r { part = granted_part offset r.part; base = now }
+
+abbrev pub state_granted : ℕ → ℕ → State → State
+state_granted now offset (Receiving service part base count) = Receiving service (granted_to part offset) now count
+state_granted now offset state = state
+
+abbrev pub server_granted : ℕ → ℕ → ServerRow → ServerRow
+server_granted now offset row = record row { state = state_granted now offset row.state }
+
+-- ---- what may be sent
+
+-- a request may be sent where bytes of it wait and it is new, that is, its last byte was never sent, or the server was heard of not long ago
+abbrev pub may_send_request : Settings → ℕ → ClientRow → Bool
+may_send_request s now r = has_waiting r.out && (nat_lt r.out.top r.out.length || nat_le now (r.heard + patience s))
+
+-- an outgoing message that may be sent
+pub record Leaving : Type 0 where
+  pub place : Place
+  pub left : ℕ  -- how many bytes lie above all that were sent
+  pub order : ℕ
+
+-- the message with the fewest bytes left is sent first, and of these the oldest
+abbrev pub leaving_key : Leaving → ℕ × ℕ
+leaving_key l = (l.left, l.order)
+
+abbrev pub leaving_at_client : Settings → ℕ → CallId → ClientRow → List Leaving
+leaving_at_client s now id r = if may_send_request s now r then record { place = OfClient id; left = left r.out; order = r.order } ∷ [] else []
+
+abbrev pub leaving_at_server : CallId → State → List Leaving
+leaving_at_server id (Replying response out order base count) = if has_waiting out then record { place = OfServer id; left = left out; order = order } ∷ [] else []
+leaving_at_server id state = []
+
+-- the outgoing messages of a host that may be sent
+abbrev pub departures : Settings → ℕ → Host → List Leaving
+departures s now h =
+    flat_map (λ (e : CallId × ClientRow). leaving_at_client s now e.0 e.1) (entries h.clients)
+    ++ flat_map (λ (e : CallId × ServerRow). leaving_at_server e.0 e.1.state) (entries h.servers)
+
+-- ---- a piece that is sent
+
+-- the bytes of a message from one number up to another, not with it
+abbrev pub slice : List ℕ → Range → List ℕ
+slice bytes r = take (r.to - r.from) (drop r.from bytes)
+
+-- the level of a piece: by the cutoffs of its receiver where it needs no grant, else the priority that the receiver gave
+abbrev pub level_at : Settings → Cutoffs → Outgoing → ℕ → ℕ
+level_at s cutoffs out offset = if nat_lt offset s.unsched then level_of s.overcommit cutoffs out.length else out.prio
+
+-- what a packet carries
+pub record Content : Type 0 where
+  pub level : ℕ
+  pub body : Body
+  pub payload : List ℕ
+
+-- a piece of the request; it tells the oldest finished call of this server
+abbrev pub request_content : Settings → Cutoffs → Option (ℕ × ℕ) → ClientRow → Range → Content
+request_content s cutoffs ack r range = record {
+  level = level_at s cutoffs r.out range.from;
+  body = body.Data r.out.length range.from cutoffs.version r.service ack;
+  payload = slice r.request range;
+}
+
+abbrev pub response_content : Settings → Cutoffs → List ℕ → Outgoing → Range → Content
+response_content s cutoffs response out range = record {
+  level = level_at s cutoffs out range.from;
+  body = body.Data out.length range.from cutoffs.version 0 None;
+  payload = slice response range;
+}
+
+-- while a request is new, each piece that is sent sets its timer anew
+abbrev pub while_new : ℕ → ClientRow → ClientRow
+while_new now r = if nat_lt r.out.top r.out.length then record r { heard = now; base = now; count = 0 } else r
+
+-- the row of a request of which the next piece is sent
+abbrev pub client_sends : Settings → ℕ → ClientRow → ClientRow
+client_sends s now r = record (while_new now r) { out = (next r.out s.seg).part }
+
+-- the row of a response of which the next piece is sent
+abbrev pub state_sends : Settings → ℕ → State → State
+state_sends s now (Replying response out order base count) = Replying response (next out s.seg).part order now count
+state_sends s now state = state

@@ -1,0 +1,116 @@
+-- When the timer of a row is due, and what the row does then.
+use Rattle.std.specs.Prelude.{ℕ, ◌+◌, ◌-◌, ◌*◌, ◌&&◌, ◌||◌, Bool, false, nat_lt, is_none, if◌then◌else◌, Option, None, Some, List, [], ◌∷◌, ◌++◌}
+use Rattle.std.specs.List.{flat_map}
+use Rattle.plain_sets.specs.Maps.{entries}
+use Rattle.plain_sets.specs.Ranges.{Range, range}
+use Rattle.homa_plain.specs.declared.id.CallId.{CallId}
+use Rattle.homa_plain.specs.declared.packet.Body.TheVariants as body
+use Rattle.homa_plain.specs.declared.settings.Settings.{Settings}
+use Rattle.homa_plain.specs.declared.entry.Why.TheVariants.{Timeout}
+use Rattle.homa_plain.specs.Settings.{span, patience}
+use Rattle.homa_plain.specs.Incoming.{Incoming, first_gap}
+use Rattle.homa_plain.specs.Outgoing.{Outgoing, has_waiting}
+use Rattle.homa_plain.specs.Entries.{PlainFail, PlainDrop, PlainFree}
+use Rattle.homa_plain.specs.Rows.{ClientRow, ServerRow, State, Receiving, Held, Replying, Buried}
+use Rattle.homa_plain.specs.Host.{Host}
+use Rattle.homa_plain.specs.Rules.{Moment, Say, Tells, Posts, Did, leaves, says}
+use Rattle.homa_plain.specs.AtServer.{with_state, replying, buried}
+
+-- ---- deadlines
+
+-- nothing that may come already is missing
+abbrev pub has_no_gap : Incoming → Bool
+has_no_gap part = is_none (first_gap part)
+
+abbrev pub is_response_at_rest : Option Incoming → Bool
+is_response_at_rest None = false
+is_response_at_rest (Some part) = has_no_gap part
+
+-- new bytes of the request still wait to be sent, or all of the response has come that may come so far
+abbrev pub is_client_at_rest : ClientRow → Bool
+is_client_at_rest r = nat_lt r.out.top r.out.length && has_waiting r.out || is_response_at_rest r.part
+
+-- a deadline, unless the timer rests
+abbrev pub unless : Bool → ℕ → Option ℕ
+unless rests at = if rests then None else Some at
+
+unfoldable pub client_deadline : Settings → ClientRow → Option ℕ
+client_deadline s r = unless (is_client_at_rest r) (r.base + s.resend)
+
+abbrev pub state_deadline : Settings → State → Option ℕ
+state_deadline s (Receiving service part base count) = unless (has_no_gap part) (base + s.resend)
+state_deadline s (Held response release) = Some release
+state_deadline s (Replying response out order base count) = unless (has_waiting out) (base + s.resend)
+state_deadline s (Buried until) = Some (until + 1)
+
+unfoldable pub server_deadline : Settings → ServerRow → Option ℕ
+server_deadline s row = state_deadline s row.state
+
+-- ---- acts
+
+-- a RESEND of the first gap
+abbrev pub resend_of : Settings → Option Range → List Say
+resend_of s None = []
+resend_of s (Some r) = Posts (body.Resend r.from r.to (s.overcommit - 1)) ∷ []
+
+-- what a client asks for: the first gap of the response, or, before any of it has come, the bytes that need no grant
+abbrev pub wanted : Settings → Option Incoming → Option Range
+wanted s None = Some (range 0 s.unsched)
+wanted s (Some part) = first_gap part
+
+-- the client asks again, and after `tries` times without an answer the call fails
+abbrev pub client_acts : Settings → Moment → CallId → ClientRow → Did ClientRow
+client_acts s m id r =
+    if nat_lt r.count s.tries
+    then says m (Some (record r { count = r.count + 1; base = m.now })) (resend_of s (wanted s r.part))
+    else says m None (Tells (PlainFail id Timeout) ∷ [])
+
+-- the server asks for what is missing of the request, and gives it up after `tries` times without an answer
+abbrev pub receiving_acts : Settings → Moment → CallId → ServerRow → ℕ → Incoming → ℕ → Did ServerRow
+receiving_acts s m id row service part count =
+    if nat_lt count s.tries
+    then says m (Some (with_state row (Receiving service part m.now (count + 1)))) (resend_of s (first_gap part))
+    else says m None (Tells (PlainDrop m.host id) ∷ [])
+
+-- The server asks whether the response has come, and buries the call after `tries` times without an answer. The client may
+-- still be patient, and its request may be under way for a span after that; so the tombstone stays for both.
+abbrev pub replying_acts : Settings → Moment → CallId → ServerRow → List ℕ → Outgoing → ℕ → ℕ → Did ServerRow
+replying_acts s m id row response out order count =
+    if nat_lt count s.tries
+    then says m (Some (with_state row (Replying response out order m.now (count + 1)))) (Posts body.NeedAck ∷ [])
+    else buried m id (m.now + 2 * span s + patience s) row
+
+abbrev pub state_acts : Settings → Moment → CallId → ServerRow → State → Did ServerRow
+state_acts s m id row (Receiving service part base count) = receiving_acts s m id row service part count
+state_acts s m id row (Held response release) = replying s m.now response row (leaves m None)
+state_acts s m id row (Replying response out order base count) = replying_acts s m id row response out order count
+state_acts s m id row (Buried until) = says m None (Tells (PlainFree m.host id) ∷ [])
+
+abbrev pub server_acts : Settings → Moment → CallId → ServerRow → Did ServerRow
+server_acts s m id row = state_acts s m id row row.state
+
+-- ---- the rows of a host
+
+-- a row of a host: a call that it made, or one that it serves
+pub data Place : Type 0 where
+  OfClient : (id : CallId) → Place
+  OfServer : (id : CallId) → Place
+
+-- a row whose timer doesn't rest
+pub record Timer : Type 0 where
+  pub place : Place
+  pub at : ℕ  -- its deadline
+  pub order : ℕ  -- the row's
+
+abbrev pub timer_key : Timer → ℕ × ℕ
+timer_key t = (t.at, t.order)
+
+abbrev pub timer : Place → ℕ → Option ℕ → List Timer
+timer place order None = []
+timer place order (Some at) = record { place = place; at = at; order = order } ∷ []
+
+-- the timers of a host that don't rest
+abbrev pub timers : Settings → Host → List Timer
+timers s h =
+    flat_map (λ (e : CallId × ClientRow). timer (OfClient e.0) e.1.order (client_deadline s e.1)) (entries h.clients)
+    ++ flat_map (λ (e : CallId × ServerRow). timer (OfServer e.0) e.1.order (server_deadline s e.1)) (entries h.servers)

@@ -1,0 +1,10 @@
+pub mod Bounds
+pub mod OneAnswer
+pub mod Orders
+pub mod Others
+pub mod OwnOrders
+pub mod Picking
+pub mod Places
+pub mod RowMaps
+pub mod StepEnd
+pub mod ToldBy
