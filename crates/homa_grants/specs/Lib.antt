@@ -1,0 +1,3 @@
+pub mod Entries
+pub mod Books
+pub mod Heaps

@@ -1,0 +1,14 @@
+//! The incoming messages of a receiver that aren't whole, and which of them are granted to.
+//!
+//! A [`GrantBook`] is seen as the list of its messages in order of how many bytes are missing, ties by the order in
+//! which they were opened. Each message is under a slot, the place of its row. The main promise: of all messages
+//! `choose` tells the slots of the first few with different senders, and every other call changes the list exactly as
+//! it says. No call walks over all messages: each sender has a heap of its messages, and one heap over the senders is
+//! keyed by their first messages. Only `open` takes memory.
+#![tactic(auto)]
+
+mod book;
+#[cfg(test)]
+mod tests;
+
+pub use book::GrantBook;

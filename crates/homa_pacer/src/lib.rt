@@ -1,0 +1,142 @@
+//! The messages of a host that may be sent: which goes first, and how many bytes may still go out in this tick.
+//!
+//! The model: a [`Pacer`] is the list of the messages that may be sent, in the order of the bytes that are left of
+//! them, ties by an order number, beside the bytes a tick and how many of them are left. A message is named by its
+//! slot, the place of its row. The promise: a call changes the entry of its own slot or the credit and nothing else,
+//! and `pick` answers the message with the fewest bytes left. Only `open` takes memory.
+#![tactic(auto)]
+
+#[cfg(test)]
+mod tests;
+
+ghost use Rattle.std.specs.Prelude.{◌≡◌, ◌+◌, ◌-◌, ◌<◌, ◌≤◌, ◌↔◌, [], length, map, IsNone, IfSome, IfOk};
+ghost use Rattle.std.specs.Option.{option_map};
+ghost use Rattle.place_heap.specs.Held.{list_of};
+ghost use Rattle.plain_sets.specs.Ordered.{placed};
+ghost use Rattle.homa_plain.specs.Choice.{least};
+ghost use Rattle.homa_plain.specs.Settings.{IsValid};
+ghost use Rattle.homa_pacer.specs.Pace.{ready_key, without, IsOwnOrder, IsSound, refill, item_of};
+
+use homa_plain::Settings;
+use place_books::{first, replace};
+use place_heap::{Key, PlaceHeap};
+use std::alloc::{AllocError, Global};
+use std::marker::Model;
+
+/// The messages of a host that may be sent, at most one for each slot, and the bytes that may still be sent.
+#[derive(Drop)]
+pub struct Pacer {
+    heap: PlaceHeap,
+    // How many bytes may be sent in a tick.
+    rate: u32,
+    // How many of them may still be sent.
+    credit: u32,
+    // The tick in which the credit was refilled last.
+    refilled: u64,
+}
+
+impl Model for Pacer {
+    ghost use Rattle.homa_pacer.specs.Pace.{Pace, pace_by, IsSound};
+
+    ghost Value = { Pace };
+
+    ghost view = { λ p. pace_by p.heap p.rate p.credit p.refilled };
+
+    ghost invariant = { λ p. IsSound (pace_by p.heap p.rate p.credit p.refilled) };
+}
+
+impl Pacer {
+    /// A pacer in tick 0 without messages, with a slot for each row that a host may have and the credit of one tick,
+    /// `rate` bytes. Fails where memory runs out.
+    pub fn open(alloc: Global, settings: &Settings) -> Result<Pacer, AllocError>
+        requires { IsValid settings.now }
+        ensures opened { IfOk result (λ pacer. pacer ≡ record {
+          slots = settings.now.calls + settings.now.served;
+          rate = settings.now.rate;
+          credit = settings.now.rate;
+          refilled = 0;
+          ready = [];
+        }) }
+        ensures sound { IfOk result IsSound }
+    {
+        Ok(Pacer {
+            heap: PlaceHeap::new(alloc, settings.calls + settings.served)?,
+            rate: settings.rate,
+            credit: settings.rate,
+            refilled: 0,
+        })
+    }
+
+    /// The message of a slot may be sent, and `left` bytes of it are left, whatever stood under the slot. Of two with
+    /// as many bytes left the one with the lower `order` is sent first.
+    pub fn ready(&mut self, slot: u32, left: u32, order: u64)
+        requires slot { slot < self.old.slots }
+        requires order { IsOwnOrder slot order self.old.ready }
+        ensures ready { self.new ≡ record self.old {
+          ready =
+              placed ready_key (record { slot = slot; left = left; order = order }) (without slot self.old.ready);
+        } }
+        ensures sound { IsSound self.new }
+    {
+        let key = Key {
+            first: u64::from(left),
+            second: order,
+        };
+        replace(&mut self.heap, slot, Some(key));
+    }
+
+    /// The message of a slot may not be sent any more, if it might.
+    pub fn idle(&mut self, slot: u32)
+        requires { slot < self.old.slots }
+        ensures idle { self.new ≡ record self.old { ready = without slot self.old.ready } }
+        ensures sound { IsSound self.new }
+    {
+        replace(&mut self.heap, slot, None);
+    }
+
+    /// The slot of the message to be sent next, if any may be sent.
+    pub fn pick(&self) -> Option<u32>
+        ensures least { result ≡ option_map (λ r. r.slot) (least ready_key self.now.ready) }
+        ensures none { IsNone result ↔ (self.now.ready ≡ []) }
+        ensures within { IfSome result (λ slot. slot < self.now.slots) }
+    {
+        let (slot, _) = first(&self.heap)?;
+        Some(slot)
+    }
+
+    /// Begins a tick: if `now` is later than the tick of the last refill, the credit is `rate` again, however much of
+    /// it was left.
+    pub fn refill(&mut self, now: u64)
+        ensures refilled { self.new ≡ refill now self.old }
+        ensures sound { IsSound self.new }
+    {
+        if self.refilled < now {
+            self.credit = self.rate;
+            self.refilled = now;
+        }
+    }
+
+    /// How many bytes may still be sent in this tick.
+    pub fn credit(&self) -> u32
+        ensures { result ≡ self.now.credit }
+    {
+        self.credit
+    }
+
+    /// So many bytes are sent, at most the credit.
+    pub fn spend(&mut self, bytes: u32)
+        requires { bytes ≤ self.old.credit }
+        ensures spent { self.new ≡ record self.old { credit = self.old.credit - bytes } }
+        ensures sound { IsSound self.new }
+    {
+        self.credit -= bytes;
+    }
+
+    /// The heap: the slots whose messages may be sent, with their keys.
+    pub fn heap(&self) -> &PlaceHeap
+        ensures ready { list_of result.now ≡ map item_of self.now.ready }
+        ensures slots { length result.now.cells ≡ self.now.slots }
+    {
+        &self.heap
+    }
+}
