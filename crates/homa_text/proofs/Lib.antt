@@ -1,3 +1,4 @@
+pub mod Spelled
 pub mod Digits
 pub mod Taking
 pub mod InLine

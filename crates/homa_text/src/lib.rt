@@ -7,6 +7,7 @@
 //! and what is written is the line of each entry. After a fault the sink took a front of it.
 #![tactic(auto)]
 
+mod bytes;
 mod entry_words;
 mod fault_words;
 mod input;
@@ -19,6 +20,7 @@ mod tests;
 mod words;
 mod written;
 
+pub use bytes::read_bytes;
 pub use lines::{LineGot, Lines};
 pub use number::read_number;
 pub use put::{put_entry, put_line};

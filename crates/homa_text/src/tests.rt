@@ -1,5 +1,5 @@
 // Each public function where it succeeds, the edges that no clause shows by itself, and faults.
-use crate::{LineGot, Lines, Word, put_entry, put_line, read_number, word};
+use crate::{LineGot, Lines, Word, put_entry, put_line, read_bytes, read_number, word};
 use homa_io::{MemSink, MemSource, ReadFailed, WriteFailed};
 use homa_plain::{
     Body, CallId, Entry, HostId, LineFault, Name, Role, ScriptFault, SettingFault, Settings,
@@ -27,6 +27,28 @@ fn words(rt: HostRuntime) {
     assert_eq!(rt; word(line, 0), Some(b"go".as_slice()));
     assert_eq!(rt; word(line, 1), Some(b"1".as_slice()));
     assert_eq!(rt; word(line, 2), None);
+}
+
+#[test]
+fn bytes_of_words(rt: HostRuntime) -> Result<(), Fail> {
+    let mut out = vec![in rt.alloc(); 0; 1_050_000]?;
+    let bad_number = Err(ScriptFault::BadNumber);
+    let bad_hex = Err(ScriptFault::BadHex);
+    assert_eq!(rt; read_bytes(b"-", &mut out), Ok(0));
+    assert_eq!(rt; read_bytes(b"*0", &mut out), Ok(0));
+    for word in [b"*1000002".as_slice(), b"*01", b"*x", b"*", b"*-1"] {
+        assert_eq!(rt; read_bytes(word, &mut out), bad_number);
+    }
+    for word in [b"-6".as_slice(), b"--", b"6*", b"6", b"6g", b"66 "] {
+        assert_eq!(rt; read_bytes(word, &mut out), bad_hex);
+    }
+    assert_eq!(rt; read_bytes(b"6A6b", &mut out), Ok(2));
+    assert_eq!(rt; out.get(..2), Some([0x6a, 0x6b].as_slice()));
+    assert_eq!(rt; read_bytes(b"*3", &mut out), Ok(3));
+    assert_eq!(rt; out.get(..4), Some([0, 1, 2, 0].as_slice()));
+    assert_eq!(rt; read_bytes(b"*1000001", &mut out), Ok(1_000_001));
+    assert_eq!(rt; out.get(999_999..1_000_002), Some([63, 64, 0].as_slice()));
+    Ok(())
 }
 
 fn source(alloc: Global, text: &[u8]) -> Result<MemSource, Fail> {

@@ -1,0 +1,11 @@
+pub mod Cuts
+pub mod Times
+pub mod HexWords
+pub mod NumberWords
+pub mod Readers
+pub mod WordLaws
+pub mod HexLaws
+pub mod BodyLaws
+pub mod FaultLaws
+pub mod SettingsLaws
+pub mod EntryLaws

@@ -1,0 +1,13 @@
+pub mod WordsOf
+pub mod LinesOf
+pub mod Returns
+pub mod ReadParts
+pub mod NextLine
+pub mod Taken
+pub mod Steps
+pub mod Openings
+pub mod Putting
+pub mod Printed
+pub mod Decimals
+pub mod Hexes
+pub mod Events

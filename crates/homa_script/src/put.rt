@@ -1,0 +1,106 @@
+// Schedules that are printed.
+ghost use Rattle.std.specs.Prelude.{◌≡◌, ◌≤◌, OnOk, OnErr};
+ghost use Rattle.std.specs.List.{flat_map};
+ghost use Rattle.homa_io.specs.Outside.{HasRisen, appended, TookFront};
+ghost use Rattle.homa_plain.specs.Text.{told_numbers};
+ghost use Rattle.homa_plain.specs.Script.{event_text, setting_text, settings_text};
+
+use crate::name::name_bytes;
+use homa_io::{Sink, WriteFailed};
+use homa_plain::{Event, Name, Settings};
+use homa_text::Word::{Hex, Host, Number, Text};
+use homa_text::put_line;
+
+/// Writes the line of an event, with these bytes where it is a call or an injection, as `put_line`
+/// of `homa_text` does. After an error the sink took a front of the line.
+#[tactic(auto, unfolding(homa_plain::specs::Script::event_text))]
+pub fn put_event<K: Sink>(sink: &mut K, event: &Event, bytes: &[u8]) -> Result<(), WriteFailed>
+    ensures ok { OnOk result (K.taken sink.new ≡ appended (K.taken sink.old) (event_text event.now bytes.now)) }
+    ensures err { OnErr result (TookFront (K.taken sink.old) (K.taken sink.new) (event_text event.now bytes.now)) }
+    ensures risen { OnErr result (HasRisen (K.faults sink.old) (K.faults sink.new)) }
+    ensures never_falls { K.faults sink.old ≤ K.faults sink.new }
+    ensures same { K.is_same sink.old sink.new }
+{
+    match *event {
+        Event::Call {
+            client,
+            server,
+            number,
+        } => {
+            let number = Number(u64::from(number));
+            let words = [
+                Text(b"call"),
+                Host(client),
+                Host(server),
+                number,
+                Hex(bytes),
+            ];
+            put_line(sink, &words)
+        }
+        Event::Deliver { packet } => put_line(sink, &[Text(b"deliver"), Number(packet)]),
+        Event::Clock => put_line(sink, &[Text(b"clock")]),
+        Event::Turn { host } => put_line(sink, &[Text(b"turn"), Host(host)]),
+        Event::Restart { host } => put_line(sink, &[Text(b"restart"), Host(host)]),
+        Event::Inject { host } => put_line(sink, &[Text(b"inject"), Host(host), Hex(bytes)]),
+        Event::Shift { host, n } => {
+            put_line(sink, &[Text(b"shift"), Host(host), Number(u64::from(n))])
+        }
+    }
+}
+
+// How many settings are told.
+fn told(settings: &Settings) -> usize
+    ensures value { result ≡ told_numbers settings.now }
+    ensures fits { result ≤ 15 }
+{
+    if settings.wire != 1 {
+        return 15;
+    }
+    if settings.skew == 0 { 13 } else { 14 }
+}
+
+// Writes the lines of settings with their numbers.
+fn put_numbers<K: Sink>(sink: &mut K, numbers: &[(Name, u32)]) -> Result<(), WriteFailed>
+    ensures ok { OnOk result (K.taken sink.new ≡ appended (K.taken sink.old) (flat_map setting_text numbers.now)) }
+    ensures err { OnErr result (TookFront (K.taken sink.old) (K.taken sink.new) (flat_map setting_text numbers.now)) }
+    ensures risen { OnErr result (HasRisen (K.faults sink.old) (K.faults sink.new)) }
+    ensures never_falls { K.faults sink.old ≤ K.faults sink.new }
+    ensures same { K.is_same sink.old sink.new }
+{
+    for (name, n) in numbers {
+        put_line(sink, &[Text(name_bytes(*name)), Number(u64::from(*n))])?;
+    }
+    Ok(())
+}
+
+/// Writes the lines of the settings that the `settings` line of a trace tells, and `go`. After an
+/// error the sink took a front of them.
+#[tactic(auto, unfolding(homa_plain::specs::Script::settings_text))]
+pub fn put_settings<K: Sink>(sink: &mut K, settings: &Settings) -> Result<(), WriteFailed>
+    ensures ok { OnOk result (K.taken sink.new ≡ appended (K.taken sink.old) (settings_text settings.now)) }
+    ensures err { OnErr result (TookFront (K.taken sink.old) (K.taken sink.new) (settings_text settings.now)) }
+    ensures risen { OnErr result (HasRisen (K.faults sink.old) (K.faults sink.new)) }
+    ensures never_falls { K.faults sink.old ≤ K.faults sink.new }
+    ensures same { K.is_same sink.old sink.new }
+{
+    let s = settings;
+    let numbers = [
+        (Name::Hosts, s.hosts),
+        (Name::Seg, s.seg),
+        (Name::Window, s.window),
+        (Name::Unsched, s.unsched),
+        (Name::Overcommit, s.overcommit),
+        (Name::Rate, s.rate),
+        (Name::Resend, s.resend),
+        (Name::Tries, s.tries),
+        (Name::Life, s.life),
+        (Name::Pages, s.pages),
+        (Name::Calls, s.calls),
+        (Name::Served, s.served),
+        (Name::Rebalance, s.rebalance),
+        (Name::Skew, s.skew),
+        (Name::Wire, s.wire),
+    ];
+    put_numbers(sink, &numbers[..told(s)])?;
+    put_line(sink, &[Text(b"go")])
+}

@@ -1,0 +1,75 @@
+// What comes next of a schedule.
+ghost use Rattle.std.specs.Prelude.{◌≡◌, ◌≤◌, ℕ, List, Some, true, length, IfOk, IfErr, IfSome};
+ghost use Rattle.homa_io.specs.Outside.{HasRisen};
+ghost use Rattle.homa_plain.specs.Settings.{IsValid};
+ghost use Rattle.homa_text.specs.Lines.{reading};
+ghost use Rattle.homa_script.specs.Given.{IsWithin};
+ghost use Rattle.homa_script.specs.Place.{place_of, IsCounted};
+ghost use Rattle.homa_script.specs.Script.{opened, is_read, IsOpening};
+ghost use Rattle.homa_script.specs.Lines.{IsNextGiven, IsGivenOn};
+
+use crate::ScriptStop;
+use crate::event::{Given, read_event_line};
+use crate::line::{last_line, next_line};
+use crate::name::set;
+use crate::opening::{OpeningLine, read_opening_line};
+use homa_io::Source;
+use homa_plain::{ScriptFault, Settings};
+use homa_text::Lines;
+
+/// Reads the lines up to `go`, and gives the settings that hold there.
+pub(crate) fn read_settings<S: Source>(
+    lines: &mut Lines,
+    source: &mut S,
+) -> Result<Settings, ScriptStop>
+    requires longest { (reading lines.old).longest ≡ 2100000 }
+    requires counted { IsCounted (place_of (reading lines.old)) }
+    requires first { place_of (reading lines.old) ≡ (opened (reading lines.old).limit).place }
+    ensures settings { (bytes : List ℕ) → S.left source.old ≡ Some bytes → IsOpening (reading lines.old).limit (place_of (reading lines.new)) bytes (S.left source.new) result }
+    ensures valid { IfOk result IsValid }
+    ensures counted { IfOk result (λ settings. IsCounted (place_of (reading lines.new))) }
+    ensures limit { (reading lines.new).limit ≡ (reading lines.old).limit }
+    ensures longest { (reading lines.new).longest ≡ (reading lines.old).longest }
+    ensures risen { IfErr result (λ stop. is_read stop ≡ true → HasRisen (S.faults source.old) (S.faults source.new)) }
+    ensures never_falls { S.faults source.old ≤ S.faults source.new }
+    ensures same { S.is_same source.old source.new }
+{
+    let mut settings = Settings::usual();
+    'lines: while next_line(lines, source)? {
+        match read_opening_line(last_line(lines))? {
+            OpeningLine::Blank => {}
+            OpeningLine::Setting(name, n) => set(&mut settings, name, n),
+            OpeningLine::Go => {
+                settings.check()?;
+                return Ok(settings);
+            }
+        }
+    }
+    Err(ScriptStop::Fault(ScriptFault::NoGo))
+}
+
+/// Reads the lines up to the next one with words, and gives what it stands for; nothing at the end.
+pub(crate) fn next_given<S: Source>(
+    lines: &mut Lines,
+    source: &mut S,
+    out: &mut [u8],
+) -> Result<Option<Given>, ScriptStop>
+    requires room { 1050000 ≤ length out.old }
+    requires longest { (reading lines.old).longest ≡ 2100000 }
+    requires counted { IsCounted (place_of (reading lines.old)) }
+    ensures given { (bytes : List ℕ) → S.left source.old ≡ Some bytes → IsNextGiven (place_of (reading lines.old)) (place_of (reading lines.new)) out.new bytes (S.left source.new) result }
+    ensures within { IfOk result (λ given. IfSome given (λ g. IsWithin g (length out.new))) }
+    ensures on { IfOk result (IsGivenOn (place_of (reading lines.old)) (place_of (reading lines.new))) }
+    ensures limit { (reading lines.new).limit ≡ (reading lines.old).limit }
+    ensures longest { (reading lines.new).longest ≡ (reading lines.old).longest }
+    ensures risen { IfErr result (λ stop. is_read stop ≡ true → HasRisen (S.faults source.old) (S.faults source.new)) }
+    ensures never_falls { S.faults source.old ≤ S.faults source.new }
+    ensures same { S.is_same source.old source.new }
+{
+    'lines: while next_line(lines, source)? {
+        if let Some(given) = read_event_line(last_line(lines), out)? {
+            return Ok(Some(given));
+        }
+    }
+    Ok(None)
+}

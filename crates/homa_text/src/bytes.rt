@@ -1,0 +1,69 @@
+// Bytes that a word of a schedule spells.
+ghost use Rattle.std.specs.Prelude.{◌≡◌, ◌*◌, ◌≤◌, length, take, IfOk, IfErr};
+ghost use Rattle.hex.specs.Hex.{decode_of};
+ghost use Rattle.homa_plain.specs.Numbers.{number_of};
+ghost use Rattle.homa_plain.specs.Script.{bytes_of_word, hex_bytes, counting, counted, number_up_to, most_counted};
+
+use crate::read_number;
+use homa_plain::ScriptFault;
+
+// The most bytes that a word counts.
+const MOST_COUNTED: u64 = 1_000_001;
+
+// Makes the value of each byte its index modulo 256.
+fn count(out: &mut [u8])
+    ensures { out.new ≡ counting 0 (length out.old) }
+{
+    for (i, b) in out.iter_mut().enumerate() {
+        *b = (i % 256) as u8;
+    }
+}
+
+// Counting bytes, as many as these digits say.
+fn read_counted(digits: &[u8], out: &mut [u8]) -> Result<usize, ScriptFault>
+    requires { most_counted ≤ length out.old }
+    ensures fits { IfOk result (λ n. n ≤ length out.new) }
+    ensures ok { IfOk result (λ n. counted (number_up_to most_counted (number_of digits.now)) ≡ Ok (take n out.new)) }
+    ensures err { IfErr result (λ fault. counted (number_up_to most_counted (number_of digits.now)) ≡ Err fault) }
+{
+    match read_number(digits) {
+        Some(n) if n <= MOST_COUNTED => {
+            count(&mut out[..n as usize]);
+            Ok(n as usize)
+        }
+        _ => Err(ScriptFault::BadNumber),
+    }
+}
+
+// Bytes in hex digits of either case.
+fn read_hex(word: &[u8], out: &mut [u8]) -> Result<usize, ScriptFault>
+    requires { length word.now ≤ 2 * length out.old }
+    ensures fits { IfOk result (λ n. n ≤ length out.new) }
+    ensures ok { IfOk result (λ n. hex_bytes (decode_of word.now) ≡ Ok (take n out.new)) }
+    ensures err { IfErr result (λ fault. hex_bytes (decode_of word.now) ≡ Err fault) }
+{
+    let n = word.len() / 2;
+    match hex::decode_to_slice(word, &mut out[..n]) {
+        Ok(()) => Ok(n),
+        Err(_) => Err(ScriptFault::BadHex),
+    }
+}
+
+/// Reads the bytes that a word of a schedule spells into the front of `out`, and answers how many they
+/// are: none for `-`, at most 1,000,001 counting ones for `*` and their number, and otherwise those of
+/// hex digits of either case. After an error `out` holds anything.
+pub fn read_bytes(word: &[u8], out: &mut [u8]) -> Result<usize, ScriptFault>
+    requires short { length word.now ≤ 2100000 }
+    requires room { 1050000 ≤ length out.old }
+    ensures fits { IfOk result (λ n. n ≤ length out.new) }
+    ensures ok { IfOk result (λ n. bytes_of_word word.now ≡ Ok (take n out.new)) }
+    ensures err { IfErr result (λ fault. bytes_of_word word.now ≡ Err fault) }
+{
+    if word == b"-".as_slice() {
+        return Ok(0);
+    }
+    match word.strip_prefix(b"*") {
+        Some(digits) => read_counted(digits, out),
+        None => read_hex(word, out),
+    }
+}
