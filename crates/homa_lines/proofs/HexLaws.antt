@@ -2,7 +2,7 @@
 use Rattle.std.proofs.Common.{◌≡◌, ◌<◌, ℕ, zero, suc, ◌+◌, ◌*◌, ◌/◌, ◌%◌, ◌==◌, ◌&&◌, cond, Bool, true, false, Option, None, Some, Result, Ok, Err, List, [], ◌∷◌, length, codes, slice_index, refl, sym, ap, ◌∙◌, subst, arith}
 use Rattle.std.specs.Char.{is_ascii_uppercase}
 use Rattle.std.specs.List.{list_any}
-use Rattle.std.specs.Result.{result_unwrap_or}
+use Rattle.std.specs.Result.{result_ok, result_unwrap_or}
 use Rattle.std.proofs.lemmas.Bool.Decides.{nat_tests}
 use Rattle.std.proofs.lemmas.Option.{none-some}
 use Rattle.std.proofs.lemmas.Slice.Eq.{bytes_eq-Decides}
@@ -11,7 +11,7 @@ use Rattle.hex.specs.declared.error.FromHexError.{FromHexError}
 use Rattle.hex.proofs.HexLemmas.{IsDigits-lower_digits, decode_of-encode_lower, decode_of-even, decode_of-ok}
 use Rattle.homa_plain.specs.Text.{hex_word}
 use Rattle.homa_plain.proofs.WireFields.{given, some_is}
-use Rattle.homa_lines.specs.Fields.{hex_of, is_hyphen, value_or_none}
+use Rattle.homa_lines.specs.Fields.{hex_of, is_hyphen}
 use Rattle.homa_lines.proofs.NumberWords.{HasNoBlank, is_blank, or_parts, or_none}
 use Rattle.homa_lines.proofs.Readers.{ReadsWord}
 
@@ -108,10 +108,10 @@ unfolding hex_of encode_with
 two_digits b bytes fits =
     let x = slice_index lower_digits (b / 16) in
     let y = slice_index lower_digits (b % 16) in
-    hex_by (is_hyphen (x ∷ y ∷ encode_lower bytes)) (list_any is_ascii_uppercase (encode_lower (b ∷ bytes))) (value_or_none (decode_of (encode_lower (b ∷ bytes))))
+    hex_by (is_hyphen (x ∷ y ∷ encode_lower bytes)) (list_any is_ascii_uppercase (encode_lower (b ∷ bytes))) (result_ok (decode_of (encode_lower (b ∷ bytes))))
     (no_hyphen x y (encode_lower bytes))
     (none_passes is_ascii_uppercase (none_at is_ascii_uppercase refl lower_digits refl) (b ∷ bytes))
-    ∙ ap value_or_none (decode_of-encode_lower (b ∷ bytes) fits)
+    ∙ ap result_ok (decode_of-encode_lower (b ∷ bytes) fits)
 
 -- ---- hex words
 
@@ -120,7 +120,7 @@ unfolding hex_of
 hex_takes [] bytes e = absurd (none-some bytes e)
 hex_takes (c ∷ cs) bytes e = by_hyphen (is_hyphen (c ∷ cs)) refl e
   where
-    by_value : (r : Result (List ℕ) FromHexError) → decode_of (c ∷ cs) ≡ r → list_any is_ascii_uppercase (c ∷ cs) ≡ false → value_or_none r ≡ Some bytes → (hex_word bytes ≡ c ∷ cs) × IsBytes bytes
+    by_value : (r : Result (List ℕ) FromHexError) → decode_of (c ∷ cs) ≡ r → list_any is_ascii_uppercase (c ∷ cs) ≡ false → result_ok r ≡ Some bytes → (hex_word bytes ≡ c ∷ cs) × IsBytes bytes
     by_value (Ok read) e lower same =
         let is : read ≡ bytes = some_is read bytes same in
         let ok = decode_of-ok (c ∷ cs) read e in
@@ -128,11 +128,11 @@ hex_takes (c ∷ cs) bytes e = by_hyphen (is_hyphen (c ∷ cs)) refl e
         subst (λ (xs : List ℕ). (hex_word xs ≡ c ∷ cs) × IsBytes xs) is (line, ok.3)
     by_value (Err d) e lower same = absurd (none-some bytes same)
 
-    by_upper : (t : Bool) → list_any is_ascii_uppercase (c ∷ cs) ≡ t → cond t None (value_or_none (decode_of (c ∷ cs))) ≡ Some bytes → (hex_word bytes ≡ c ∷ cs) × IsBytes bytes
+    by_upper : (t : Bool) → list_any is_ascii_uppercase (c ∷ cs) ≡ t → cond t None (result_ok (decode_of (c ∷ cs))) ≡ Some bytes → (hex_word bytes ≡ c ∷ cs) × IsBytes bytes
     by_upper true t e = absurd (none-some bytes e)
     by_upper false t e = by_value (decode_of (c ∷ cs)) refl t e
 
-    by_hyphen : (t : Bool) → is_hyphen (c ∷ cs) ≡ t → cond t (Some []) (cond (list_any is_ascii_uppercase (c ∷ cs)) None (value_or_none (decode_of (c ∷ cs)))) ≡ Some bytes → (hex_word bytes ≡ c ∷ cs) × IsBytes bytes
+    by_hyphen : (t : Bool) → is_hyphen (c ∷ cs) ≡ t → cond t (Some []) (cond (list_any is_ascii_uppercase (c ∷ cs)) None (result_ok (decode_of (c ∷ cs)))) ≡ Some bytes → (hex_word bytes ≡ c ∷ cs) × IsBytes bytes
     by_hyphen true t e =
         subst (λ (xs : List ℕ). (hex_word xs ≡ c ∷ cs) × IsBytes xs) (some_is [] bytes e)
         (sym ((bytes_eq-Decides (c ∷ cs) (codes "-")).0 t), λ k. omega arith)

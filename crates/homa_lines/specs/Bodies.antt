@@ -7,6 +7,7 @@ use Rattle.homa_lines.specs.declared.bodies.Kind.{Kind}
 use Rattle.homa_lines.specs.declared.bodies.Kind.TheVariants.{Data, Grant, Resend, Busy, Cutoffs, Unknown, NeedAck, Ack}
 use Rattle.homa_lines.specs.Fields.{◌⊗◌, number_at, ack_at, hex_at, cutoffs_at, call_of, one_of, with_value, whole, ended}
 
+-- a packet's kind, as a word
 abbrev pub kind_name : Kind → List ℕ
 kind_name Data = codes "DATA"
 kind_name Grant = codes "GRANT"
@@ -20,6 +21,7 @@ kind_name Ack = codes "ACK"
 abbrev pub kinds : List Kind
 kinds = Data ∷ Grant ∷ Resend ∷ Busy ∷ Cutoffs ∷ Unknown ∷ NeedAck ∷ Ack ∷ []
 
+-- the kind whose word this is
 unfoldable pub kind_of : List ℕ → Option Kind
 kind_of word = one_of kind_name kinds word
 
@@ -39,12 +41,15 @@ piece_at words =
     with_value (λ x. body.Data x.0 x.1.0 x.1.1.0 x.1.1.1.0 x.1.1.1.1)
     (number_at (2 ^ 32) ⊗ number_at (2 ^ 32) ⊗ number_at (2 ^ 16) ⊗ number_at (2 ^ 8) ⊗ ack_at) words
 
+-- `LEVEL LENGTH OFFSET VERSION SERVICE ACK HEX`
 unfoldable pub data_in : List (List ℕ) → Option (ℕ × Body × List ℕ)
 data_in words = whole (λ x. (x.0, x.1.0, x.1.1)) (number_at (2 ^ 8) ⊗ piece_at ⊗ hex_at) words
 
+-- `OFFSET PRIO`
 unfoldable pub grant_in : List (List ℕ) → Option (ℕ × Body × List ℕ)
 grant_in words = whole (λ x. bare (body.Grant x.0 x.1)) (number_at (2 ^ 32) ⊗ number_at (2 ^ 8)) words
 
+-- `FROM TO PRIO`
 unfoldable pub resend_in : List (List ℕ) → Option (ℕ × Body × List ℕ)
 resend_in words = whole (λ x. bare (body.Resend x.0 x.1.0 x.1.1)) (number_at (2 ^ 32) ⊗ number_at (2 ^ 32) ⊗ number_at (2 ^ 8)) words
 

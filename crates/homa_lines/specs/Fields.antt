@@ -3,6 +3,7 @@
 use Rattle.std.specs.Prelude.{ℕ, zero, suc, ◌^◌, ◌==◌, nat_lt, Bool, true, false, if◌then◌else◌, Option, None, Some, Result, Ok, Err, List, [], ◌∷◌, bytes_eq, codes, find}
 use Rattle.std.specs.List.{slice_split, list_any}
 use Rattle.std.specs.Char.{is_ascii_uppercase}
+use Rattle.std.specs.Result.{result_ok}
 use Rattle.hex.specs.Hex.{decode_of}
 use Rattle.homa_plain.specs.Bytes.{◌>>=◌}
 use Rattle.homa_plain.specs.Numbers.{number_of}
@@ -40,6 +41,7 @@ unfoldable pub times : {A : Type 0} → (List (List ℕ) → Option (A × List (
 times one zero words = Some ([], words)
 times one (suc n) words = one words >>= λ x. times one n x.1 >>= λ xs. Some (x.0 ∷ xs.0, xs.1)
 
+-- no word is left
 abbrev pub is_empty : List (List ℕ) → Bool
 is_empty [] = true
 is_empty (word ∷ words) = false
@@ -62,6 +64,7 @@ one_of word_of xs word = find (λ x. bytes_eq word (word_of x)) xs
 abbrev pub number_below : ℕ → List ℕ → Option ℕ
 number_below limit word = number_of word >>= λ n. if nat_lt n limit then Some n else None
 
+-- such a number, as the next word
 abbrev pub number_at : ℕ → List (List ℕ) → Option (ℕ × List (List ℕ))
 number_at limit words = word_at (number_below limit) words
 
@@ -69,6 +72,7 @@ number_at limit words = word_at (number_below limit) words
 unfoldable pub host_of : List ℕ → Option HostId
 host_of word = number_below (2 ^ 16) word >>= λ n. Some (record { 0 = n })
 
+-- a host, as the next word
 abbrev pub host_at : List (List ℕ) → Option (HostId × List (List ℕ))
 host_at words = word_at host_of words
 
@@ -76,6 +80,7 @@ host_at words = word_at host_of words
 unfoldable pub id_of : List ℕ → Option CallId
 id_of word = whole (λ x. record { client = x.0; inc = x.1.0; seq = x.1.1 }) (host_at ⊗ number_at (2 ^ 32) ⊗ number_at (2 ^ 32)) (parts 46 word)
 
+-- such a call, as the next word
 abbrev pub id_at : List (List ℕ) → Option (CallId × List (List ℕ))
 id_at words = word_at id_of words
 
@@ -87,15 +92,13 @@ call_of word = whole (λ x. x) (number_at (2 ^ 32) ⊗ number_at (2 ^ 32)) (part
 unfoldable pub route_of : List ℕ → Option (HostId × HostId)
 route_of word = whole (λ x. x) (host_at ⊗ host_at) (parts 62 word)
 
+-- a route, as the next word
 abbrev pub route_at : List (List ℕ) → Option ((HostId × HostId) × List (List ℕ))
 route_at words = word_at route_of words
 
+-- a hyphen
 abbrev pub is_hyphen : List ℕ → Bool
 is_hyphen word = bytes_eq word (codes "-")
-
-abbrev pub value_or_none : {A E : Type 0} → Result A E → Option A
-value_or_none (Ok x) = Some x
-value_or_none (Err e) = None
 
 -- bytes in lower-case hex, or none for a hyphen
 unfoldable pub hex_of : List ℕ → Option (List ℕ)
@@ -103,8 +106,9 @@ hex_of [] = None
 hex_of (b ∷ bs) =
     if is_hyphen (b ∷ bs) then Some []
     else if list_any is_ascii_uppercase (b ∷ bs) then None
-    else value_or_none (decode_of (b ∷ bs))
+    else result_ok (decode_of (b ∷ bs))
 
+-- bytes, as the next word
 abbrev pub hex_at : List (List ℕ) → Option (List ℕ × List (List ℕ))
 hex_at words = word_at hex_of words
 
@@ -112,18 +116,23 @@ hex_at words = word_at hex_of words
 unfoldable pub ack_of : List ℕ → Option (Option (ℕ × ℕ))
 ack_of word = if is_hyphen word then Some None else call_of word >>= λ call. Some (Some call)
 
+-- an acknowledgement, as the next word
 abbrev pub ack_at : List (List ℕ) → Option (Option (ℕ × ℕ) × List (List ℕ))
 ack_at words = word_at ack_of words
 
+-- who sent a packet
 unfoldable pub role_of : List ℕ → Option Role
 role_of word = one_of role_word (Client ∷ Server ∷ []) word
 
+-- a role, as the next word
 abbrev pub role_at : List (List ℕ) → Option (Role × List (List ℕ))
 role_at words = word_at role_of words
 
+-- why a call failed
 unfoldable pub why_of : List ℕ → Option Why
 why_of word = one_of why_word (Timeout ∷ Forgotten ∷ []) word
 
+-- a cause, as the next word
 abbrev pub why_at : List (List ℕ) → Option (Why × List (List ℕ))
 why_at words = word_at why_of words
 

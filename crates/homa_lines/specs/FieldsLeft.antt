@@ -13,6 +13,7 @@ parts_left separator (Some text) = parts separator text
 abbrev pub left : Fields → List (List ℕ)
 left fields = parts_left fields.separator (option_map (λ text. text.now) fields.rest)
 
+-- how long the text is, if one is left
 abbrev pub length_or_none : Option (List ℕ) → ℕ
 length_or_none None = 0
 length_or_none (Some text) = length text

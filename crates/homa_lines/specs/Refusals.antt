@@ -16,6 +16,7 @@ use Rattle.homa_plain.specs.declared.settings.SettingFault.{SettingFault}
 use Rattle.homa_plain.specs.declared.settings.SettingFault.TheVariants.{OutOfRange, UnschedOverWindow, RateUnderSeg}
 use Rattle.homa_lines.specs.Fields.{◌⊗◌, number_at, word_at, one_of, whole, ended}
 
+-- the first of some words
 abbrev pub first_word : List (List ℕ) → List ℕ
 first_word [] = []
 first_word (word ∷ words) = word
@@ -37,6 +38,7 @@ plain_faults =
     Script LongLine ∷ Script NotUtf8 ∷ Script UnknownWord ∷ Script BadNumber ∷ Script BadHex ∷ Script Extra ∷ Script Missing ∷ Script NoGo ∷ Script InputTooLong ∷
     World NoSuchHost ∷ World NoSuchPacket ∷ World NoSpare ∷ World ClockEnd ∷ World Decodes ∷ World NoMemory ∷ []
 
+-- the refusal that is this one word
 unfoldable pub plain_of : List ℕ → Option LineFault
 plain_of word = one_of fault_name plain_faults word
 
@@ -44,6 +46,7 @@ plain_of word = one_of fault_name plain_faults word
 unfoldable pub name_of : List ℕ → Option Name
 name_of word = one_of name_word names word
 
+-- why calls can't start
 abbrev pub starts : List StartFault
 starts = Empty ∷ TooLong ∷ SelfCall ∷ CallsFull ∷ SeqSpent ∷ []
 
@@ -87,10 +90,12 @@ long_in word words =
     if bytes_eq word (codes "Setting") then (setting_in words >>= λ fault. Some (Script (Setting fault)))
     else (world_in word words >>= λ fault. Some (World fault))
 
+-- a refusal, by whether its first word is all of it
 abbrev pub plain_or_long : Option LineFault → List ℕ → List (List ℕ) → Option LineFault
 plain_or_long None word words = long_in word words
 plain_or_long (Some fault) word words = ended fault words
 
+-- the refusal that words tell
 unfoldable pub fault_in : List (List ℕ) → Option LineFault
 fault_in [] = None
 fault_in (word ∷ words) = plain_or_long (plain_of word) word words

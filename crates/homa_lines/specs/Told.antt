@@ -15,19 +15,23 @@ use Rattle.homa_plain.specs.declared.fault.WorldFault.TheVariants.{NoSuchHost, N
 use Rattle.homa_plain.specs.declared.fault.LineFault.{LineFault}
 use Rattle.homa_plain.specs.declared.fault.LineFault.TheVariants.{Script, World}
 
+-- a host's number has 16 bits
 abbrev pub FitsHost : HostId → Type 0
 FitsHost host = host.0 < 2 ^ 16
 
--- an incarnation and a sequence number
+-- an incarnation and a sequence number have 32 bits each
 abbrev pub FitsCall : ℕ × ℕ → Type 0
 FitsCall call = (call.0 < 2 ^ 32) × (call.1 < 2 ^ 32)
 
+-- a call with its client
 abbrev pub FitsId : CallId → Type 0
 FitsId id = FitsHost id.client × FitsCall (id.inc, id.seq)
 
+-- a version of 16 bits, and eight bounds of 32
 abbrev pub FitsCutoffs : Cutoffs → Type 0
 FitsCutoffs cutoffs = (cutoffs.version < 2 ^ 16) × (length cutoffs.upto ≡ 8) × AllByRecursion (λ bound. bound < 2 ^ 32) cutoffs.upto
 
+-- what a packet says
 abbrev pub FitsBody : Body → Type 0
 FitsBody (body.Data size offset version service ack) = (size < 2 ^ 32) × (offset < 2 ^ 32) × (version < 2 ^ 16) × (service < 2 ^ 8) × IfSome ack FitsCall
 FitsBody (body.Grant offset prio) = (offset < 2 ^ 32) × (prio < 2 ^ 8)
@@ -38,6 +42,7 @@ FitsBody (body.Unknown reason) = reason < 2 ^ 8
 FitsBody body.NeedAck = Unit {0}
 FitsBody (body.Ack more) = (length more ≤ 4) × AllByRecursion FitsCall more
 
+-- why a line is refused
 abbrev pub FitsWorldFault : WorldFault → Type 0
 FitsWorldFault NoSuchHost = Unit {0}
 FitsWorldFault NoSuchPacket = Unit {0}
@@ -82,7 +87,7 @@ Fits (PlainFinished n) = n < 2 ^ 64
 Fits (PlainRefused line fault) = (line < 2 ^ 64) × FitsFault fault
 Fits (PlainStalled turns now) = (turns < 2 ^ 64) × (now < 2 ^ 64)
 
--- level and payload of a packet, which its line tells of DATA alone
+-- but for DATA, a packet has level 7 and no payload: its line tells neither
 abbrev pub IsBareButData : ℕ → Body → List ℕ → Type 0
 IsBareButData level (body.Data size offset version service ack) payload = Unit {0}
 IsBareButData level (body.Grant offset prio) payload = IsBare level payload
@@ -93,7 +98,7 @@ IsBareButData level (body.Unknown reason) payload = IsBare level payload
 IsBareButData level body.NeedAck payload = IsBare level payload
 IsBareButData level (body.Ack more) payload = IsBare level payload
 
--- a packet that is no DATA has level 7 and no payload
+-- a packet that is sent is so; any other entry is
 abbrev pub IsUsual : PlainEntry → Type 0
 IsUsual (PlainSend number from to inc role id level what payload) = IsBareButData level what payload
 IsUsual entry = Unit {0}

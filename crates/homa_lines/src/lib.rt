@@ -1,9 +1,10 @@
 //! Lines of a trace, read back as the entries that they tell.
 //!
 //! Model: a line is the words of an entry with one space between two, and an entry is one whose numbers
-//! its types hold (`Fits`). A reader answers the value that some words begin with and the words behind it.
-//! Promise: `read_entry` answers an entry exactly where the line is that of one, and then that entry; the
-//! laws of `entry_lines` say that no other entry has this line.
+//! its types hold: `Fits` of `specs/Told.antt`.
+//! Promise: `read_entry` answers an entry exactly where the line is that of one, and then that entry.
+//! `entry_lines` says that no other entry has this line. The other files of `specs/` say what each reader
+//! inside answers; no public clause rests on them.
 #![tactic(auto)]
 
 mod bodies;

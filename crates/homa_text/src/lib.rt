@@ -3,8 +3,9 @@
 //! Model: a reader of lines is a `Reading`: the bytes that it took and that belong to no line yet,
 //! the last line, and how many bytes and lines came. A word is a list of bytes, and a line is its
 //! words with one space between two.
-//! Promise: the lines that are read are those of the input, whatever parts the source gives it in,
-//! and what is written is the line of each entry. After a fault the sink took a front of it.
+//! Promise: the lines that are read are those of the input, whatever parts the source gives it in, a
+//! word is read as the number or the bytes that it spells, and what is written is the line of each
+//! entry. After a fault the sink took a front of it.
 #![tactic(auto)]
 
 mod bytes;
