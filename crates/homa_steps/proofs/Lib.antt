@@ -8,3 +8,4 @@ pub mod Places
 pub mod RowMaps
 pub mod StepEnd
 pub mod ToldBy
+pub mod FullPages

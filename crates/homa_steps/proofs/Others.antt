@@ -1,12 +1,6 @@
 -- No move changes the row of another call.
-use Rattle.std.proofs.Common.{◌≡◌, ℕ, true, false, ◌&&◌, cond, Option, Some, None, List, refl, sym, ap, subst, ◌∙◌}
-use Rattle.std.specs.Prelude.{◌==◌}
-use Rattle.std.specs.Cmp.{IsTotalOrder, tied_itself, nat_cmp_total, unsigned_tied, both_tied}
-use Rattle.std.proofs.lemmas.Cmp.{on_total, then_total}
-use Rattle.std.specs.FinMap.{IsAntisymmetric}
-use Rattle.std.proofs.Math.Bool.{and_assoc}
-use Rattle.std.proofs.lemmas.Bool.{and_parts, eqb-true}
-use Rattle.std.specs.Ordering.{nat_cmp, eq_by_cmp, is_eq, ordering_then}
+use Rattle.std.proofs.Common.{◌≡◌, ℕ, true, false, cond, Option, Some, None, List, refl, ap, subst, ◌∙◌}
+use Rattle.std.specs.Ordering.{eq_by_cmp}
 use Rattle.plain_sets.specs.Maps.{get}
 use Rattle.plain_sets.proofs.MapLaws.{get-insert, get-remove}
 use Rattle.homa_plain.specs.declared.id.CallId.{CallId}
