@@ -1,6 +1,6 @@
 //! Incoming messages.
 
-ghost use Rattle.std.specs.Prelude.{◌≡◌, ℕ, ◌+◌, ◌-◌, ◌<◌, ◌≤◌, ◌↔◌, ◌==◌, true, false, if◌then◌else◌, length};
+ghost use Rattle.std.specs.Prelude.{◌≡◌, ℕ, ◌+◌, ◌-◌, ◌<◌, ◌≤◌, ◌↔◌, ◌==◌, true, false, if◌then◌else◌, length, IfSome};
 ghost use Rattle.std.specs.Bool.{OnTrue, OnFalse};
 ghost use Rattle.std.specs.Option.{option_map};
 ghost use Rattle.plain_sets.specs.Maps.{len};
@@ -108,6 +108,10 @@ impl Incoming {
         // Nothing at all changes where there are too many gaps or no new bytes.
         ensures refused { result ≡ Accepted.TooManyGaps → (self.new ≡ self.old) × (pool.new ≡ pool.old) }
         ensures repeated { result ≡ Accepted.Repeat → (self.new ≡ self.old) × (pool.new ≡ pool.old) }
+
+        // What is missing of the part is what the message lacks.
+        ensures missing { len self.new.missing ≡ remaining (seen pool.new self.new) }
+        ensures sound { IsSound (seen pool.new self.new) }
     {
         match place(&mut self.missing, &self.lease, offset, bytes, pool) {
             Changed::TooMany => Accepted::TooManyGaps,
@@ -129,6 +133,8 @@ impl Incoming {
         ensures completes { result ≡ completes (seen pool.now self.now) offset bytes.now }
         ensures message { OnTrue result (scratch.new ≡ message (with_bytes (seen pool.now self.now) offset bytes.now)) }
         ensures same { OnFalse result (scratch.new ≡ scratch.old) }
+        ensures missing { len self.now.missing ≡ remaining (seen pool.now self.now) }
+        ensures sound { IsSound (seen pool.now self.now) }
     {
         let len = self.len;
         let end = offset + bytes.len() as u32;
@@ -144,6 +150,7 @@ impl Incoming {
     pub fn gap(&self) -> Option<(u32, u32)>
         ensures value { result ≡ option_map bounds (first_below self.now.missing self.now.granted) }
         ensures seen { (pool : Pool) → IsIn pool self.now → result ≡ option_map bounds (first_gap (seen pool self.now)) }
+        ensures within { IfSome result (λ r. (r.0 < r.1) × (r.1 ≤ 1000000)) }
     {
         self.missing.first_below(self.granted)
     }
@@ -192,6 +199,7 @@ impl Incoming {
         ensures value { result ≡ self.now.length }
         ensures small { result ≤ 1000000 }
         ensures lease { result ≡ self.now.lease.len }
+        ensures missing { len self.now.missing ≤ result }
     {
         self.len
     }

@@ -1,13 +1,9 @@
 -- Bytes that are moved in parts.
-use Rattle.std.proofs.Common.{◌≡◌, ℕ, ◌+◌, Option, None, Some, List, ◌++◌, length, take, drop, refl, sym, ap, ◌∙◌, append_assoc}
+use Rattle.std.proofs.Common.{◌≡◌, ℕ, ◌+◌, Option, List, ◌++◌, length, take, drop, sym, ap, ◌∙◌}
 use Rattle.std.proofs.lemmas.List.{take-append-drop, drop-drop}
 use Rattle.std.proofs.Math.Seq.{take-append_seam, take-add}
 use Rattle.homa_io.specs.Outside.{appended, TookFront}
-
--- two parts after one another are taken as one
-pub appended-appended : (old : Option (List ℕ)) (a b : List ℕ) → appended (appended old a) b ≡ appended old (a ++ b)
-appended-appended None a b = refl
-appended-appended (Some taken) a b = ap Some (append_assoc taken a b)
+pub use Rattle.homa_io.specs.Growing.{appended-appended}
 
 -- bytes from the one at `at` on are those that were moved to the front of a buffer, and the rest
 pub moved : (xs part tail : List ℕ) (at n : ℕ) → part ≡ take n (drop at xs) → length part ≡ n → drop at xs ≡ take n (part ++ tail) ++ drop (at + n) xs

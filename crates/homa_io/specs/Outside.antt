@@ -23,3 +23,7 @@ IsAtEnd (Some rest) = rest ≡ []
 -- what was taken is the old and a front of these bytes, where the sink can tell
 abbrev pub TookFront : Option (List ℕ) → Option (List ℕ) → List ℕ → Type 0
 TookFront old new bytes = (front : List ℕ) × (rest : List ℕ) × (front ++ rest ≡ bytes) × (new ≡ appended old front)
+
+-- what was taken is the old, and maybe more behind it
+abbrev pub Grows : Option (List ℕ) → Option (List ℕ) → Type 0
+Grows old new = (more : List ℕ) × (new ≡ appended old more)

@@ -2,11 +2,14 @@
 //!
 //! Model: a source has bytes left and a sink took bytes, each an optional list, since nothing is
 //! known of bytes outside of the process. Both count their faults.
-//! Promise: a call moves exactly the bytes that it answers for; a call that fails moves none and
-//! raises the count. After a fault in `write_all` the sink took a front of the bytes.
+//! Promise: a call moves exactly the bytes that it answers for; a call that fails moves none, and it
+//! alone raises the count. After a fault in `write_all` the sink took a front of the bytes. A sink
+//! that holds lines back is seen as what the sink below it took with what is held behind it, and a
+//! fault loses nothing of that.
 #![tactic(auto)]
 
 mod faults;
+mod held;
 mod input;
 mod memory;
 mod real;
@@ -16,6 +19,7 @@ mod sure;
 #[cfg(test)]
 mod tests;
 
+pub use held::{HeldSink, Room};
 pub use memory::{MemSink, MemSource};
 pub use real::{StdSink, StdSource};
 pub use sink::{Sink, WriteFailed, write_all};

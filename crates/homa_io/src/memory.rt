@@ -1,5 +1,5 @@
 // A source and a sink in memory, whose faults are planned.
-ghost use Rattle.std.specs.Prelude.{◌≡◌, ◌≤◌, ◌<◌, ◌+◌, ◌-◌, ◌^◌, ◌↔◌, ◌⊎◌, Some, [], length, take, min, vec_capacity, Contains, IsErr, OnOk, OnErr, IfOk};
+ghost use Rattle.std.specs.Prelude.{◌≡◌, ◌≤◌, ◌<◌, ◌+◌, ◌-◌, ◌^◌, ◌↔◌, ◌⊎◌, Some, [], length, take, min, vec_capacity, Contains, IsErr, OnOk, OnErr, IfOk, IfSome};
 ghost use Rattle.homa_io.specs.Outside.{HasRisen, unread, appended, IsAtEnd};
 
 use crate::faults::{FaultCount, FaultPlan};
@@ -61,6 +61,8 @@ impl Source for MemSource {
         ensures quiet { OnOk result (source_faults self.new ≡ source_faults self.old) }
         ensures numbered { source_reads self.new ≡ min (source_reads self.old + 1) (2 ^ 64 - 1) }
         ensures plan { source_fails self.new ≡ source_fails self.old }
+        ensures count { IfOk result (λ n. IfSome (source_left self.old) (λ left.
+            n ≡ min (length left) (length buf.old))) }
     {
         if self.plan.is_next_to_fail() {
             self.faults.raise();

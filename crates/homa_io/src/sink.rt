@@ -18,13 +18,14 @@ pub trait Sink {
     ghost is_same: { Self → Self → Type 0 };
 
     /// Takes a front of the bytes, and answers how many. It is 0 only where there are none. An
-    /// error takes none of them.
+    /// error takes none of them, and only an error counts a fault.
     fn write(&mut self, bytes: &[u8]) -> Result<usize, WriteFailed>
         ensures fits { IfOk result (λ n. n ≤ length bytes.now) }
         ensures some { IfOk result (λ n. 0 < length bytes.now → 0 < n) }
         ensures taken { IfOk result (λ n. taken self.new ≡ appended (taken self.old) (take n bytes.now)) }
         ensures err { OnErr result (taken self.new ≡ taken self.old) }
         ensures risen { OnErr result (HasRisen (faults self.old) (faults self.new)) }
+        ensures quiet { OnOk result (faults self.new ≡ faults self.old) }
         ensures never_falls { faults self.old ≤ faults self.new }
         ensures same { is_same self.old self.new };
 
@@ -41,6 +42,7 @@ pub fn write_all<K: Sink>(sink: &mut K, bytes: &[u8]) -> Result<(), WriteFailed>
     ensures ok { OnOk result (K.taken sink.new ≡ appended (K.taken sink.old) bytes.now) }
     ensures err { OnErr result (TookFront (K.taken sink.old) (K.taken sink.new) bytes.now) }
     ensures risen { OnErr result (HasRisen (K.faults sink.old) (K.faults sink.new)) }
+    ensures quiet { OnOk result (K.faults sink.new ≡ K.faults sink.old) }
     ensures never_falls { K.faults sink.old ≤ K.faults sink.new }
     ensures same { K.is_same sink.old sink.new }
 {

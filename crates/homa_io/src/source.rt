@@ -1,5 +1,5 @@
 // What bytes are read from.
-ghost use Rattle.std.specs.Prelude.{◌≡◌, ◌<◌, ◌≤◌, ℕ, List, Option, length, take, OnErr, IfOk};
+ghost use Rattle.std.specs.Prelude.{◌≡◌, ◌<◌, ◌≤◌, ℕ, List, Option, length, take, OnOk, OnErr, IfOk};
 ghost use Rattle.homa_io.specs.Outside.{HasRisen, unread, IsAtEnd};
 
 /// A read failed. Nothing was read, and the source counted a fault.
@@ -18,13 +18,15 @@ pub trait Source {
     ghost is_same: { Self → Self → Type 0 };
 
     /// Moves the next bytes to the front of `buf`, and answers how many they are. It is 0 only at
-    /// the end, or for an empty `buf`. After an error the same bytes are left as before.
+    /// the end, or for an empty `buf`. After an error the same bytes are left as before. Only an error
+    /// counts a fault.
     fn read(&mut self, buf: &mut [u8]) -> Result<usize, ReadFailed>
         ensures fits { IfOk result (λ n. n ≤ length buf.new) }
         ensures read { IfOk result (λ n. left self.old ≡ unread (take n buf.new) (left self.new)) }
         ensures end { IfOk result (λ n. n ≡ 0 → 0 < length buf.old → IsAtEnd (left self.old)) }
         ensures err { OnErr result (left self.new ≡ left self.old) }
         ensures risen { OnErr result (HasRisen (faults self.old) (faults self.new)) }
+        ensures quiet { OnOk result (faults self.new ≡ faults self.old) }
         ensures never_falls { faults self.old ≤ faults self.new }
         ensures same { is_same self.old self.new };
 

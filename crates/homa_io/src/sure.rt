@@ -1,5 +1,5 @@
 // A source and a sink that never fail.
-ghost use Rattle.std.specs.Prelude.{◌≡◌, ◌≤◌, ◌<◌, Some, None, length, take, IsOk, IfOk};
+ghost use Rattle.std.specs.Prelude.{◌≡◌, ◌≤◌, ◌<◌, Some, None, length, take, min, IsOk, IfOk, IfSome};
 ghost use Rattle.homa_io.specs.Outside.{unread, IsAtEnd};
 
 use crate::input::Input;
@@ -45,6 +45,8 @@ impl Source for SureSource {
         ensures read { IfOk result (λ n.
             sure_source_left self.old ≡ unread (take n buf.new) (sure_source_left self.new)) }
         ensures end { IfOk result (λ n. n ≡ 0 → 0 < length buf.old → IsAtEnd (sure_source_left self.old)) }
+        ensures count { IfOk result (λ n. IfSome (sure_source_left self.old) (λ left.
+            n ≡ min (length left) (length buf.old))) }
     {
         Ok(self.input.read_into(buf))
     }

@@ -1,10 +1,11 @@
 // Each constructor and call, where it succeeds and where it fails, and wrappers over what is lent.
-ghost use Rattle.std.specs.Prelude.{◌≡◌, OnOk, IfOk, take};
-ghost use Rattle.homa_io.specs.Outside.{appended, unread};
+ghost use Rattle.std.specs.Prelude.{◌≡◌, ◌++◌, [], OnOk, OnErr, IfOk, take};
+ghost use Rattle.homa_io.specs.Outside.{appended, unread, TookFront};
+ghost use Rattle.homa_io.specs.Held.{sink_below, held_bytes};
 
 use crate::{
-    MemSink, MemSource, ReadFailed, Sink, Source, StdSink, StdSource, SureSink, SureSource,
-    WriteFailed, write_all,
+    HeldSink, MemSink, MemSource, ReadFailed, Room, Sink, Source, StdSink, StdSource, SureSink,
+    SureSource, WriteFailed, write_all,
 };
 use std::io::{self, ErrorKind, Read, Write};
 use std::test::Fail;
@@ -116,6 +117,84 @@ fn sure_ones_never_fail(rt: HostRuntime) -> Result<(), Fail> {
     assert_eq!(rt; source.read(&mut buf), Ok(2));
     assert_eq!(rt; buf, *b"a!m");
     assert_eq!(rt; SureSink::new().write(b"homa!"), Ok(5));
+    Ok(())
+}
+
+// Puts in two texts, behind nothing that is held.
+fn put_two<K: Sink + Drop>(held: &mut HeldSink<K>, a: &[u8], b: &[u8]) -> Result<(), WriteFailed>
+    requires { held_bytes held.old ≡ [] }
+    ensures ok { OnOk result (K.taken (sink_below held.new) ≡ appended (K.taken (sink_below held.old)) (a.now ++ b.now)) }
+    ensures err { OnErr result (TookFront (K.taken (sink_below held.old)) (K.taken (sink_below held.new)) (a.now ++ b.now)) }
+    ensures same { K.is_same (sink_below held.old) (sink_below held.new) }
+{
+    write_all(held, a)?;
+    write_all(held, b)?;
+    held.flush()?;
+    Ok(())
+}
+
+/// Holds two texts back from a sink that is lent, whose lender knows what it took, also after a fault.
+fn hold_two<K: Sink>(sink: &mut K, room: Room, a: &[u8], b: &[u8]) -> Result<(), WriteFailed>
+    ensures ok { OnOk result (K.taken sink.new ≡ appended (K.taken sink.old) (a.now ++ b.now)) }
+    ensures err { OnErr result (TookFront (K.taken sink.old) (K.taken sink.new) (a.now ++ b.now)) }
+{
+    let mut held = HeldSink::over(sink, room);
+    let answer = put_two(&mut held, a, b);
+    let _sink = held.into_sink();
+    answer
+}
+
+#[test]
+fn first_lines_go_out_as_they_come(rt: HostRuntime) -> Result<(), Fail> {
+    // The write that is number 64, counted from 0, is the first one of lines that were held.
+    let below = MemSink::new(rt.alloc(), 200, Vec::from_slice(rt.alloc(), &[64])?)?;
+    let mut held = HeldSink::over(below, Room::new(rt.alloc())?);
+    for _ in 0..64 {
+        assert_eq!(rt; held.write(b"ab"), Ok(2));
+    }
+    assert_eq!(rt; held.write(b"cd"), Ok(2));
+    assert_eq!(rt; held.write(b"ef"), Ok(2));
+    assert_eq!(rt; held.flush(), Err(WriteFailed));
+    assert_eq!(rt; held.write(b"gh"), Ok(2));
+    assert_eq!(rt; held.flush(), Ok(()));
+    let below = held.into_sink();
+    assert_eq!(rt; below.bytes().len(), 134);
+    assert_eq!(rt; below.bytes().ends_with(b"abcdefgh"), true);
+    Ok(())
+}
+
+#[test]
+fn what_fits_is_held(rt: HostRuntime) -> Result<(), Fail> {
+    // Writes 64 and 65 are of what was held and of a long line.
+    let below = MemSink::new(rt.alloc(), 200_000, Vec::from_slice(rt.alloc(), &[65])?)?;
+    let mut held = HeldSink::over(below, Room::new(rt.alloc())?);
+    for _ in 0..64 {
+        assert_eq!(rt; held.write(b"a"), Ok(1));
+    }
+    let long = vec![in rt.alloc(); b'b'; 65_537]?;
+    let line = long.get(..32_768).ok_or("short")?;
+    assert_eq!(rt; held.write(line), Ok(32_768));
+    assert_eq!(rt; held.write(line), Ok(32_768));
+    assert_eq!(rt; held.write(b"c"), Ok(1));
+    assert_eq!(rt; held.flush(), Err(WriteFailed));
+    assert_eq!(rt; held.write(&long), Ok(65_537));
+    let below = held.into_sink();
+    assert_eq!(rt; below.bytes().len(), 64 + 65_536 + 1 + 65_537);
+    Ok(())
+}
+
+#[test]
+fn a_lent_sink_takes_what_was_held(rt: HostRuntime) -> Result<(), Fail> {
+    let mut sink = MemSink::new(rt.alloc(), 8, Vec::from_slice(rt.alloc(), &[3])?)?;
+    assert_eq!(rt;
+        hold_two(&mut sink, Room::new(rt.alloc())?, b"ho", b"ma"),
+        Ok(())
+    );
+    assert_eq!(rt;
+        hold_two(&mut sink, Room::new(rt.alloc())?, b"!", b"?"),
+        Err(WriteFailed)
+    );
+    assert_eq!(rt; sink.bytes(), b"homa!".as_slice());
     Ok(())
 }
 

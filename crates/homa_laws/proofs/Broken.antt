@@ -5,7 +5,7 @@ use Rattle.std.proofs.lemmas.List.Elements.{Contains-append_left}
 use Rattle.std.proofs.lemmas.Option.{same_Some}
 use Rattle.homa_plain.specs.declared.id.CallId.{CallId}
 use Rattle.homa_plain.specs.declared.packet.Role.TheVariants.{Server}
-use Rattle.homa_plain.specs.FirstLaws.{Called, Sent, Ran, View, IsReturned, incarnation, seen, Obeys}
+use Rattle.homa_laws.specs.FirstLaws.{Called, Sent, Ran, View, IsReturned, incarnation, seen, Obeys}
 use Rattle.homa_laws.specs.Broken.{first_call, first_host, second_host, BreaksOnce, BreaksReturned, BreaksHandedUp, BreaksLastBlock, ran_twice, ran_otherwise, ran_elsewhere, returned_otherwise, returned_later, ran_late, never_ran, never_done, two_calls, LawsRefuse}
 
 -- short lists of calls

@@ -12,8 +12,8 @@ use Rattle.homa_plain.specs.declared.id.HostId.{HostId}
 use Rattle.homa_plain.specs.declared.packet.Role.{Role}
 use Rattle.homa_plain.specs.declared.packet.Role.TheVariants.{Client, Server}
 use Rattle.homa_plain.specs.declared.packet.Body.TheVariants.{Data}
-use Rattle.homa_plain.specs.First.{Packet, World, is_among, next_seq}
-use Rattle.homa_plain.specs.FirstLaws.{Called, Sent, Ran, View, is_host, is_call, called, incarnation, IsHandedUp}
+use Rattle.homa_laws.specs.First.{Packet, World, is_among, next_seq}
+use Rattle.homa_laws.specs.FirstLaws.{Called, Sent, Ran, View, is_host, is_call, called, incarnation, IsHandedUp}
 
 -- a packet as its `send` line tells it
 abbrev pub sent_of : Packet → Sent

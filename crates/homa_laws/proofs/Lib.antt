@@ -1,3 +1,4 @@
+pub mod Worked
 pub mod Kept
 pub mod Steps
 pub mod Replays

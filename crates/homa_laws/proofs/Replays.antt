@@ -6,8 +6,8 @@ use Rattle.std.proofs.lemmas.List.Elements.{All-nil}
 use Rattle.homa_plain.specs.Settings.{usual}
 use Rattle.homa_plain.specs.Input.{lines_of, without_feed}
 use Rattle.homa_plain.specs.Entries.{PlainEntry, PlainSettings}
-use Rattle.homa_plain.specs.First.{Packet, World, After, first_world, Given, GivenCall, GivenDeliver, given_of_line, started, Judged, Refused, Carried, Unbuilt, delivered, is_past, judged_given, judged, most_lines, longest_line, next_seq, Replay, RefusedAt, with_told, replay_from, replay_of, replay, is_go}
-use Rattle.homa_plain.specs.FirstLaws.{View, nothing_seen, seen, seen_all, Holds, Once, Returned, HandedUp, IsHandedUp, Obeys}
+use Rattle.homa_laws.specs.First.{Packet, World, After, first_world, Given, GivenCall, GivenDeliver, given_of_line, started, Judged, Refused, Carried, Unbuilt, delivered, is_past, judged_given, judged, most_lines, longest_line, next_seq, Replay, RefusedAt, with_told, replay_from, replay_of, replay, is_go}
+use Rattle.homa_laws.specs.FirstLaws.{View, nothing_seen, seen, seen_all, Holds, Once, Returned, HandedUp, IsHandedUp, Obeys}
 use Rattle.homa_laws.proofs.Kept.{IsPaid, IsKept, paid_at}
 use Rattle.homa_laws.proofs.Steps.{Laws, IsTold, started_told, arrived_told}
 

@@ -9,8 +9,8 @@ use Rattle.homa_plain.specs.declared.id.HostId.{HostId}
 use Rattle.homa_plain.specs.declared.packet.Role.{Role}
 use Rattle.homa_plain.specs.declared.packet.Role.TheVariants.{Client, Server}
 use Rattle.homa_plain.specs.Entries.{PlainEntry, PlainDeliver, PlainRun, PlainDone}
-use Rattle.homa_plain.specs.First.{Packet, World, After, is_among, next_id, sent, request_of, response_to, started, requested, replied, arrived}
-use Rattle.homa_plain.specs.FirstLaws.{Called, Sent, Ran, View, has_run, has_call, called, begun, run_due_by, done_due_by, seen, seen_all, Holds, Once, Returned, HandedUp, incarnation}
+use Rattle.homa_laws.specs.First.{Packet, World, After, is_among, next_id, sent, request_of, response_to, started, requested, replied, arrived}
+use Rattle.homa_laws.specs.FirstLaws.{Called, Sent, Ran, View, has_run, has_call, called, begun, run_due_by, done_due_by, seen, seen_all, Holds, Once, Returned, HandedUp, incarnation}
 use Rattle.homa_laws.proofs.Kept.{sent_of, IsAsked, IsAnswered, IsPaid, IsKept, same_host, has_run-among, called_more, called_new, not_yet_called, numbered_more, paid_more, sent_at, one_life, same_calls}
 
 -- the three laws

@@ -6,7 +6,7 @@ use Rattle.homa_plain.specs.declared.packet.Role.{Role}
 use Rattle.homa_plain.specs.declared.packet.Role.TheVariants.{Client, Server}
 use Rattle.homa_plain.specs.declared.packet.Body.TheVariants.{Data}
 use Rattle.homa_plain.specs.Entries.{PlainEntry, PlainCall, PlainDeliver, PlainSend, PlainRun, PlainDone}
-use Rattle.homa_plain.specs.FirstLaws.{Holds, Once, Returned, HandedUp, IsHandedUp, Obeys, nothing_seen, seen_all}
+use Rattle.homa_laws.specs.FirstLaws.{Holds, Once, Returned, HandedUp, IsHandedUp, Obeys, nothing_seen, seen_all}
 
 -- two hosts, and a call of each
 abbrev pub first_host : HostId

@@ -9,8 +9,8 @@
 #![tactic(auto)]
 
 ghost use Rattle.std.specs.Prelude.{ℕ, List};
-ghost use Rattle.homa_plain.specs.First.{replay};
-ghost use Rattle.homa_plain.specs.FirstLaws.{Obeys};
+ghost use Rattle.homa_laws.specs.First.{replay};
+ghost use Rattle.homa_laws.specs.FirstLaws.{Obeys};
 ghost use Rattle.homa_laws.specs.Broken.{LawsRefuse};
 
 /// Whatever the bytes of a schedule are, the trace of its replay obeys the laws: no call runs twice, nor with

@@ -210,7 +210,7 @@ abbrev IsPlain : LineFault → Type 0
 IsPlain fault = (fault_words fault ≡ fault_name fault ∷ []) × FitsFault fault
 
 all_plain : AllByRecursion IsPlain plain_faults
-all_plain = ((refl, tt), ((refl, tt), ((refl, tt), ((refl, tt), ((refl, tt), ((refl, tt), ((refl, tt), ((refl, tt), ((refl, tt), ((refl, tt), ((refl, tt), ((refl, tt), ((refl, tt), ((refl, tt), ((refl, tt), tt)))))))))))))))
+all_plain = ((refl, tt), ((refl, tt), ((refl, tt), ((refl, tt), ((refl, tt), ((refl, tt), ((refl, tt), ((refl, tt), ((refl, tt), ((refl, tt), ((refl, tt), ((refl, tt), ((refl, tt), ((refl, tt), tt))))))))))))))
 
 plain_takes : (word : List ℕ) (fault : LineFault) → plain_of word ≡ Some fault → (fault_name fault ≡ word) × IsPlain fault
 unfolding plain_of
@@ -248,7 +248,7 @@ fault_again (World (Start fault)) fits = ap (λ (o : Option WorldFault). o >>= �
 fault_again (World NoSpare) fits = refl
 fault_again (World ClockEnd) fits = refl
 fault_again (World Decodes) fits = refl
-fault_again (World NoMemory) fits = refl
+fault_again (World NoMemory) fits = absurd fits
 fault_again (World (OutOfBand n most)) fits = rw (two_again (2 ^ 32) wide32 n most fits.0 fits.1) refl
 fault_again (World (Back last now)) fits = rw (two_again (2 ^ 64) wide64 last now fits.0 fits.1) refl
 
@@ -270,6 +270,6 @@ fault_plain (World (Start fault)) fits = (refl, (start_plain fault tt, tt))
 fault_plain (World NoSpare) fits = (refl, tt)
 fault_plain (World ClockEnd) fits = (refl, tt)
 fault_plain (World Decodes) fits = (refl, tt)
-fault_plain (World NoMemory) fits = (refl, tt)
+fault_plain (World NoMemory) fits = absurd fits
 fault_plain (World (OutOfBand n most)) fits = (refl, (reads_two (2 ^ 32) wide32).plain (n, most) fits)
 fault_plain (World (Back last now)) fits = (refl, (reads_two (2 ^ 64) wide64).plain (last, now) fits)

@@ -10,7 +10,7 @@ use Rattle.homa_plain.specs.declared.fault.ScriptFault.TheVariants.{LongLine, No
 use Rattle.homa_plain.specs.declared.fault.StartFault.{StartFault}
 use Rattle.homa_plain.specs.declared.fault.StartFault.TheVariants.{Empty, TooLong, SelfCall, CallsFull, SeqSpent}
 use Rattle.homa_plain.specs.declared.fault.WorldFault.{WorldFault}
-use Rattle.homa_plain.specs.declared.fault.WorldFault.TheVariants.{NoSuchHost, NoSuchPacket, Late, Start, NoSpare, ClockEnd, Decodes, NoMemory, OutOfBand, Back}
+use Rattle.homa_plain.specs.declared.fault.WorldFault.TheVariants.{NoSuchHost, NoSuchPacket, Late, Start, NoSpare, ClockEnd, Decodes, OutOfBand, Back}
 use Rattle.homa_plain.specs.declared.settings.Name.{Name}
 use Rattle.homa_plain.specs.declared.settings.SettingFault.{SettingFault}
 use Rattle.homa_plain.specs.declared.settings.SettingFault.TheVariants.{OutOfRange, UnschedOverWindow, RateUnderSeg}
@@ -36,7 +36,7 @@ fault_name (World fault) = world_name fault
 abbrev pub plain_faults : List LineFault
 plain_faults =
     Script LongLine ∷ Script NotUtf8 ∷ Script UnknownWord ∷ Script BadNumber ∷ Script BadHex ∷ Script Extra ∷ Script Missing ∷ Script NoGo ∷ Script InputTooLong ∷
-    World NoSuchHost ∷ World NoSuchPacket ∷ World NoSpare ∷ World ClockEnd ∷ World Decodes ∷ World NoMemory ∷ []
+    World NoSuchHost ∷ World NoSuchPacket ∷ World NoSpare ∷ World ClockEnd ∷ World Decodes ∷ []
 
 -- the refusal that is this one word
 unfoldable pub plain_of : List ℕ → Option LineFault

@@ -1,4 +1,4 @@
--- What entries lines tell: those whose numbers their types hold.
+-- What entries lines tell: those whose numbers their types hold, but for a refusal for want of memory.
 use Rattle.std.specs.Prelude.{◌≡◌, ℕ, ◌^◌, ◌<◌, ◌≤◌, IfSome, List, length}
 use Rattle.std.specs.List.{AllByRecursion}
 use Rattle.homa_plain.specs.Bytes.{IsBytes}
@@ -42,7 +42,7 @@ FitsBody (body.Unknown reason) = reason < 2 ^ 8
 FitsBody body.NeedAck = Unit {0}
 FitsBody (body.Ack more) = (length more ≤ 4) × AllByRecursion FitsCall more
 
--- why a line is refused
+-- why a line is refused, which is told: want of memory isn't
 abbrev pub FitsWorldFault : WorldFault → Type 0
 FitsWorldFault NoSuchHost = Unit {0}
 FitsWorldFault NoSuchPacket = Unit {0}
@@ -51,7 +51,7 @@ FitsWorldFault (Start fault) = Unit {0}
 FitsWorldFault NoSpare = Unit {0}
 FitsWorldFault ClockEnd = Unit {0}
 FitsWorldFault Decodes = Unit {0}
-FitsWorldFault NoMemory = Unit {0}
+FitsWorldFault NoMemory = ⊥
 FitsWorldFault (OutOfBand n most) = (n < 2 ^ 32) × (most < 2 ^ 32)
 FitsWorldFault (Back last now) = (last < 2 ^ 64) × (now < 2 ^ 64)
 
@@ -59,7 +59,7 @@ abbrev pub FitsFault : LineFault → Type 0
 FitsFault (Script fault) = Unit {0}
 FitsFault (World fault) = FitsWorldFault fault
 
--- each number of an entry is one of its type
+-- an entry that is told, whose numbers are each one of their type
 abbrev pub Fits : PlainEntry → Type 0
 Fits (PlainSettings settings) = AllByRecursion (λ n. n < 2 ^ 32) (settings_numbers settings)
 Fits (PlainCall id server service bytes) = FitsId id × FitsHost server × (service < 2 ^ 8) × IsBytes bytes

@@ -8,7 +8,7 @@ use crate::fields::{Fields, read_u32, read_u64};
 use homa_plain::{LineFault, Name, ScriptFault, SettingFault, StartFault, WorldFault};
 
 // The refusals that are one word.
-const PLAIN: [LineFault; 15] = [
+const PLAIN: [LineFault; 14] = [
     LineFault::Script(ScriptFault::LongLine),
     LineFault::Script(ScriptFault::NotUtf8),
     LineFault::Script(ScriptFault::UnknownWord),
@@ -23,7 +23,6 @@ const PLAIN: [LineFault; 15] = [
     LineFault::World(WorldFault::NoSpare),
     LineFault::World(WorldFault::ClockEnd),
     LineFault::World(WorldFault::Decodes),
-    LineFault::World(WorldFault::NoMemory),
 ];
 
 const STARTS: [StartFault; 5] = [

@@ -1,4 +1,8 @@
 // Every form of line: printed, compared with the line worked out by hand, and read back; and lines of no entry.
+ghost use Rattle.homa_plain.specs.Entries.{plain};
+ghost use Rattle.homa_plain.specs.Shape.{IsCause};
+ghost use Rattle.homa_text.specs.Told.{HasLine};
+
 use crate::read_entry;
 use homa_io::MemSink;
 use homa_plain::{
@@ -10,7 +14,9 @@ use std::alloc::Global;
 use std::process::Abort;
 use std::test::Fail;
 
-fn same(rt: &impl Abort, alloc: Global, entry: &Entry<'_>, line: &[u8]) -> Result<(), Fail> {
+fn same(rt: &impl Abort, alloc: Global, entry: &Entry<'_>, line: &[u8]) -> Result<(), Fail>
+    requires { HasLine (plain entry.now) }
+{
     let mut expected = Vec::from_slice(alloc, line)?;
     expected.push(b'\n')?;
     let mut sink = MemSink::new(alloc, 300, Vec::new(alloc))?;
@@ -145,7 +151,9 @@ fn rows(rt: HostRuntime) -> Result<(), Fail> {
     same(&rt, alloc, &balance, line)
 }
 
-fn send<'a>(role: Role, level: u8, body: Body, payload: &'a [u8]) -> Entry<'a> {
+fn send<'a>(role: Role, level: u8, body: Body, payload: &'a [u8]) -> Entry<'a>
+    ensures { HasLine (plain result) }
+{
     Entry::Send {
         number: 9,
         from: HostId(1),
@@ -225,7 +233,10 @@ fn other_packets(rt: HostRuntime) -> Result<(), Fail> {
     )
 }
 
-fn refused(fault: LineFault) -> Entry<'static> {
+fn refused(fault: LineFault) -> Entry<'static>
+    requires { IsCause fault }
+    ensures { HasLine (plain result) }
+{
     Entry::Refused { line: 2, fault }
 }
 
@@ -251,8 +262,8 @@ fn ends(rt: HostRuntime) -> Result<(), Fail> {
 #[test]
 fn refusals_by_the_world(rt: HostRuntime) -> Result<(), Fail> {
     let alloc = rt.alloc();
-    let memory = refused(LineFault::World(WorldFault::NoMemory));
-    same(&rt, alloc, &memory, b"refused 2 NoMemory")?;
+    let end = refused(LineFault::World(WorldFault::ClockEnd));
+    same(&rt, alloc, &end, b"refused 2 ClockEnd")?;
     let (sent, now) = (3, 24);
     let late = refused(LineFault::World(WorldFault::Late { sent, now }));
     same(&rt, alloc, &late, b"refused 2 Late 3 24")?;
@@ -293,6 +304,7 @@ fn no_lines(rt: HostRuntime) -> Result<(), Fail> {
         b"okay 1",
         b"# ok 1",
         b"ok 18446744073709551616",
+        b"refused 2 NoMemory",
         b"junk 65536",
         b"restart 1 4294967296",
         b"call 0.1.0 1 256 -",

@@ -10,7 +10,7 @@ ghost use Rattle.std.specs.Prelude.{◌≡◌, ◌+◌, ◌<◌, ◌≤◌, leng
 ghost use Rattle.std.specs.Option.{option_map};
 ghost use Rattle.plain_sets.specs.Numbers.{with_range, ranges};
 ghost use Rattle.range_set.specs.Fits.{bounds};
-ghost use Rattle.homa_plain.specs.Outgoing.{opened, grant, resend, restart, next, left, has_waiting};
+ghost use Rattle.homa_plain.specs.Outgoing.{opened, grant, resend, restart, next, left, has_waiting, IsSound};
 ghost use Rattle.homa_out.specs.Answers.{answered};
 
 use range_set::{Changed, RangeSet};
@@ -167,6 +167,7 @@ impl Outgoing {
     pub fn len(&self) -> u32
         ensures value { result ≡ self.now.length }
         ensures small { result ≤ 1000000 }
+        ensures sound { IsSound self.now }
     {
         self.len
     }

@@ -15,17 +15,20 @@ use Rattle.homa_plain.specs.declared.packet.Role.TheVariants.{Client, Server}
 use Rattle.homa_plain.specs.declared.packet.Body.{Body}
 use Rattle.homa_plain.specs.declared.packet.Body.TheVariants as body
 use Rattle.homa_plain.specs.declared.entry.Why.TheVariants.{Timeout, Forgotten}
-use Rattle.homa_plain.specs.Entries.{PlainEntry, PlainSettings, PlainCall, PlainDeliver, PlainSend, PlainRun, PlainDone, PlainFail}
+use Rattle.homa_plain.specs.declared.fault.LineFault.{LineFault}
+use Rattle.homa_plain.specs.declared.fault.LineFault.TheVariants.{World}
+use Rattle.homa_plain.specs.declared.fault.WorldFault.TheVariants.{NoMemory}
+use Rattle.homa_plain.specs.Entries.{PlainEntry, PlainSettings, PlainCall, PlainDeliver, PlainSend, PlainRun, PlainDone, PlainFail, PlainRefused}
 use Rattle.homa_plain.specs.Settings.{verdict}
 use Rattle.homa_plain.specs.Wire.{Between, is_between, is_server}
 use Rattle.homa_plain.specs.Lines.{named, closes}
 use Rattle.homa_plain.specs.Parts.{Part, Parts, is_message}
 use Rattle.homa_plain.specs.View.{Called, Sent, View, own_tick, has_run, resends_of}
 use Rattle.homa_plain.specs.Seen.{seen}
-use Rattle.homa_plain.specs.Shape.{IsBehind, IsNewCall, IsMade, Shape}
+use Rattle.homa_plain.specs.Shape.{IsBehind, IsNewCall, IsMade, IsCause, Shape}
 use Rattle.homa_plain.specs.Laws.{Once, answers, is_data, IsReturned, Returned, SameCalls, HandedUp, AreSpaced, IsUnanswered, Fails}
 use Rattle.homa_plain.specs.Granting.{Grant, allowed, IsAllowed, IsWithinAt, IsWithin, Granting}
-use Rattle.homa_plain.specs.Judge.{is_behind, is_new_call, is_made, has_shape, is_called, runs_once, is_returned, returns_answer, has_call, are_same_calls, hands_up, are_spaced, is_unanswered, fails_in_time, is_role, is_grant, is_allowed, is_within_at, is_within, grants_chosen}
+use Rattle.homa_plain.specs.Judge.{is_behind, is_new_call, is_made, is_cause, has_shape, is_called, runs_once, is_returned, returns_answer, has_call, are_same_calls, hands_up, are_spaced, is_unanswered, fails_in_time, is_role, is_grant, is_allowed, is_within_at, is_within, grants_chosen}
 use Rattle.homa_plain.proofs.SettingsLemmas.{ok_is_valid}
 use Rattle.homa_plain.proofs.CallOrder.{call_total, call_same, calls_are, hosts_are}
 
@@ -40,6 +43,9 @@ le_is a b = (λ e. grind (arith, nat_tests), λ h. grind (arith, nat_tests))
 
 always : Decides true (Unit {0})
 always = (λ e. tt, λ u. refl)
+
+never : Decides false ⊥
+never = (λ e. cc, λ h. absurd h)
 
 itself : (b : Bool) → Decides b (b ≡ true)
 itself b = (λ e. e, λ e. e)
@@ -85,12 +91,17 @@ made_is : (v : View) (o : Option CallId) → Decides (is_made v o) (IsMade v o)
 made_is v None = always
 made_is v (Some id) = itself (contains_key v.calls id)
 
+cause_is : (fault : LineFault) → Decides (is_cause fault) (IsCause fault)
+cause_is (World NoMemory) = never
+cause_is fault = always
+
 pub shape_is : (v : View) (line : PlainEntry) → Decides (has_shape v line) (Shape v line)
 shape_is v (PlainSettings settings) = Decides-and _ _ (Decides-eqb v.place 0) (ok_is_valid settings (verdict settings) refl)
 shape_is v (PlainCall id server service bytes) = Decides-and _ _ (behind_is v) (new_call_is v id server bytes)
 shape_is v (PlainDeliver packet) = Decides-and _ _ (behind_is v) (Decides-ltb packet (length v.packets))
 shape_is v (PlainSend number from to inc role id level what payload) =
     Decides-like _ (λ h. (h.0.0, h.0.1, h.1)) (λ h. ((h.0, h.1), h.2)) (Decides-and _ _ (Decides-and _ _ (behind_is v) (Decides-eqb number (length v.packets))) (made_is v (Some id)))
+shape_is v (PlainRefused line fault) = Decides-and _ _ (behind_is v) (cause_is fault)
 shape_is v line = Decides-and _ _ (behind_is v) (made_is v (named line))
 
 -- ---- once

@@ -4,8 +4,10 @@ use Rattle.plain_sets.specs.Maps.{empty, insert, insert_all, remove, retain, che
 use Rattle.plain_sets.specs.Numbers.{with_range}
 use Rattle.plain_sets.specs.Ordered.{ordered, firsts}
 use Rattle.homa_plain.specs.declared.packet.Role.TheVariants.{Client, Server}
+use Rattle.homa_plain.specs.declared.fault.LineFault.TheVariants.{World}
+use Rattle.homa_plain.specs.declared.fault.WorldFault.TheVariants.{NoSuchPacket, NoMemory}
 use Rattle.homa_plain.specs.Settings.{usual}
-use Rattle.homa_plain.specs.Entries.{PlainEntry, PlainSettings, PlainCall, PlainDeliver, PlainClock, PlainRun, PlainDone, PlainDrop, PlainFinished}
+use Rattle.homa_plain.specs.Entries.{PlainEntry, PlainSettings, PlainCall, PlainDeliver, PlainClock, PlainRun, PlainDone, PlainDrop, PlainFinished, PlainRefused}
 use Rattle.homa_plain.specs.Seen.{seen}
 use Rattle.homa_plain.specs.Granting.{allowed}
 use Rattle.homa_plain.specs.Judge.{ShapeClause, OnceClause, ReturnedClause, HandedUpClause, judged, first_broken}
@@ -102,6 +104,16 @@ done_too_early = refl
 pub to_other_host : first_broken (PlainSettings (record usual { hosts = 3 }) ∷ PlainCall (call 0 0) (host 1) 0 (97 ∷ []) ∷ piece 0 0 2 Client (call 0 0) 1 0 (97 ∷ []) ∷ PlainDeliver 0 ∷ PlainFinished 2 ∷ []) ≡ None
 unfolding empty insert insert_all remove retain checked get len values with_range ordered firsts seen allowed judged
 to_other_host = refl
+
+-- a line is refused
+pub refused : first_broken (opening ++ run_line ∷ reply ++ done_line ∷ PlainRefused 5 (World NoSuchPacket) ∷ []) ≡ None
+unfolding empty insert insert_all remove retain checked get len values with_range ordered firsts seen allowed judged
+refused = refl
+
+-- but none is for want of memory
+pub refused_for_memory : first_broken (opening ++ run_line ∷ reply ++ done_line ∷ PlainRefused 5 (World NoMemory) ∷ []) ≡ Some (9, ShapeClause)
+unfolding empty insert insert_all remove retain checked get len values with_range ordered firsts seen allowed judged
+refused_for_memory = refl
 
 -- without the settings
 pub no_settings : first_broken (drop 1 opening) ≡ Some (1, ShapeClause)

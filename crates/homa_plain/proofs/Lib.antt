@@ -1,5 +1,4 @@
 pub mod SettingsLemmas
-pub mod Worked
 pub mod ScriptWorked
 pub mod RowsWorked
 pub mod RowsTimed

@@ -11,7 +11,10 @@ use Rattle.homa_plain.specs.declared.packet.Role.TheVariants.{Client, Server}
 use Rattle.homa_plain.specs.declared.packet.Body.{Body}
 use Rattle.homa_plain.specs.declared.packet.Body.TheVariants as body
 use Rattle.homa_plain.specs.declared.entry.Why.TheVariants.{Timeout}
-use Rattle.homa_plain.specs.Entries.{PlainEntry, PlainSettings, PlainCall, PlainDeliver, PlainSend, PlainRun, PlainDone, PlainFail}
+use Rattle.homa_plain.specs.declared.fault.LineFault.{LineFault}
+use Rattle.homa_plain.specs.declared.fault.LineFault.TheVariants.{World}
+use Rattle.homa_plain.specs.declared.fault.WorldFault.TheVariants.{NoMemory}
+use Rattle.homa_plain.specs.Entries.{PlainEntry, PlainSettings, PlainCall, PlainDeliver, PlainSend, PlainRun, PlainDone, PlainFail, PlainRefused}
 use Rattle.homa_plain.specs.Settings.{verdict}
 use Rattle.homa_plain.specs.Wire.{is_between, is_client, is_server}
 use Rattle.homa_plain.specs.Calls.{is_host, is_call}
@@ -40,12 +43,18 @@ abbrev pub is_made : View → Option CallId → Bool
 is_made v None = true
 is_made v (Some id) = contains_key v.calls id
 
+-- a line may be refused for this
+abbrev pub is_cause : LineFault → Bool
+is_cause (World NoMemory) = false
+is_cause fault = true
+
 -- Shape
 abbrev pub has_shape : View → PlainEntry → Bool
 has_shape v (PlainSettings settings) = v.place == 0 && is_ok (verdict settings)
 has_shape v (PlainCall id server service bytes) = is_behind v && is_new_call v id server bytes
 has_shape v (PlainDeliver packet) = is_behind v && nat_lt packet (length v.packets)
 has_shape v (PlainSend number from to inc role id level body payload) = is_behind v && number == length v.packets && is_made v (Some id)
+has_shape v (PlainRefused line fault) = is_behind v && is_cause fault
 has_shape v line = is_behind v && is_made v (named line)
 
 -- ---- the tests of the laws

@@ -4,8 +4,6 @@ pub mod Input
 pub mod Entries
 pub mod Text
 pub mod Script
-pub mod First
-pub mod FirstLaws
 pub mod Bytes
 pub mod Wire
 pub mod Incoming

@@ -3,7 +3,10 @@ use Rattle.std.specs.Prelude.{◌≡◌, ◌≢◌, ℕ, ◌<◌, true, false, O
 use Rattle.plain_sets.specs.Maps.{contains_key}
 use Rattle.homa_plain.specs.declared.id.CallId.{CallId}
 use Rattle.homa_plain.specs.declared.id.HostId.{HostId}
-use Rattle.homa_plain.specs.Entries.{PlainEntry, PlainSettings, PlainCall, PlainDeliver, PlainSend}
+use Rattle.homa_plain.specs.declared.fault.LineFault.{LineFault}
+use Rattle.homa_plain.specs.declared.fault.LineFault.TheVariants.{World}
+use Rattle.homa_plain.specs.declared.fault.WorldFault.TheVariants.{NoMemory}
+use Rattle.homa_plain.specs.Entries.{PlainEntry, PlainSettings, PlainCall, PlainDeliver, PlainSend, PlainRefused}
 use Rattle.homa_plain.specs.Settings.{IsValid}
 use Rattle.homa_plain.specs.Wire.{Between}
 use Rattle.homa_plain.specs.Lines.{named}
@@ -27,10 +30,16 @@ abbrev pub IsMade : View → Option CallId → Type 0
 IsMade v None = Unit {0}
 IsMade v (Some id) = contains_key v.calls id ≡ true
 
+-- want of memory refuses no line; each other cause may
+abbrev pub IsCause : LineFault → Type 0
+IsCause (World NoMemory) = ⊥
+IsCause fault = Unit {0}
+
 -- Shape. The first line and no other is that of the settings. Packets are numbered from 0, and none is delivered before it was sent.
 abbrev pub Shape : View → PlainEntry → Type 0
 Shape v (PlainSettings settings) = (v.place ≡ 0) × IsValid settings
 Shape v (PlainCall id server service bytes) = IsBehind v × IsNewCall v id server bytes
 Shape v (PlainDeliver packet) = IsBehind v × (packet < length v.packets)
 Shape v (PlainSend number from to inc role id level body payload) = IsBehind v × (number ≡ length v.packets) × IsMade v (Some id)
+Shape v (PlainRefused line fault) = IsBehind v × IsCause fault
 Shape v line = IsBehind v × IsMade v (named line)

@@ -11,3 +11,4 @@ pub mod Printed
 pub mod Decimals
 pub mod Hexes
 pub mod Events
+pub mod Sized

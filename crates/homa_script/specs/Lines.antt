@@ -52,7 +52,7 @@ IsNextGiven old new out bytes left (Ok (Some given)) =
 IsNextGiven old new out bytes left (Err (Read failed)) = IsCut bytes left
 IsNextGiven old new out bytes left (Err (Fault fault)) = IsRead bytes left (steps_left old) (λ more. refused_at new.number fault)
 
--- a line came with it
+-- a line came with it, of two bytes at least
 abbrev pub IsGivenOn : Place → Place → Option Given → Type 0
 IsGivenOn old new None = Unit {0}
-IsGivenOn old new (Some given) = IsCounted new × (old.read < new.read)
+IsGivenOn old new (Some given) = IsCounted new × (old.read + 2 ≤ new.read)

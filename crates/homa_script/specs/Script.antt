@@ -1,5 +1,5 @@
 -- What a reader of schedules has, and what it answers.
-use Rattle.std.specs.Prelude.{◌≡◌, ℕ, ◌<◌, ◌≤◌, Bool, true, false, Option, None, Some, Result, Ok, Err, List, []}
+use Rattle.std.specs.Prelude.{◌≡◌, ℕ, ◌+◌, ◌≤◌, Bool, true, false, Option, None, Some, Result, Ok, Err, List, []}
 use Rattle.homa_plain.specs.declared.settings.Settings.{Settings}
 use Rattle.homa_plain.specs.Script.{GivenEvent, GivenTicks, Opened, Unopened, opening}
 use Rattle.homa_script.specs.declared.stop.ScriptStop.{ScriptStop}
@@ -66,8 +66,8 @@ IsInRange (Event event) = Unit {0}
 IsInRange (Ticks n) = (1 ≤ n) × (n ≤ 100000)
 IsInRange End = Unit {0}
 
--- a line came, if it isn't the end
+-- a line came, of two bytes at least, if it isn't the end
 abbrev pub IsOn : Place → Place → Next → Type 0
-IsOn old new (Event event) = IsCounted new × (old.read < new.read)
-IsOn old new (Ticks n) = IsCounted new × (old.read < new.read)
+IsOn old new (Event event) = IsCounted new × (old.read + 2 ≤ new.read)
+IsOn old new (Ticks n) = IsCounted new × (old.read + 2 ≤ new.read)
 IsOn old new End = Unit {0}

@@ -1,5 +1,5 @@
 // The lines of a schedule.
-ghost use Rattle.std.specs.Prelude.{◌≡◌, ◌≤◌, ℕ, List, Some, true, length, IfOk, IfErr};
+ghost use Rattle.std.specs.Prelude.{◌≡◌, ◌≤◌, ◌+◌, ℕ, List, Some, true, length, IfOk, IfErr};
 ghost use Rattle.homa_io.specs.Outside.{HasRisen};
 ghost use Rattle.homa_plain.specs.Script.{without_return};
 ghost use Rattle.homa_text.specs.Lines.{reading};
@@ -21,6 +21,7 @@ pub(crate) fn next_line<S: Source>(lines: &mut Lines, source: &mut S) -> Result<
     ensures line { (bytes : List ℕ) → S.left source.old ≡ Some bytes → IsNextLine (reading lines.old) (reading lines.new) bytes (S.left source.new) result }
     ensures numbered { IsNumbered (place_of (reading lines.old)) (place_of (reading lines.new)) result }
     ensures short { IfOk result (λ there. there ≡ true → length (reading lines.new).line ≤ 2100000) }
+    ensures sized { IfOk result (λ there. there ≡ true → (reading lines.old).read + length (reading lines.new).line ≤ (reading lines.new).read) }
     ensures limit { (reading lines.new).limit ≡ (reading lines.old).limit }
     ensures longest { (reading lines.new).longest ≡ (reading lines.old).longest }
     ensures risen { IfErr result (λ stop. is_read stop ≡ true → HasRisen (S.faults source.old) (S.faults source.new)) }

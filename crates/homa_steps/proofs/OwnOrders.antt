@@ -119,10 +119,10 @@ module _ (of_client : ClientRow → Option ℕ) (of_server : ServerRow → Optio
 moved_kept : {R : Type 0} (f : R → Option ℕ) (low high high' : ℕ) (old : Option ℕ) (o o' : Option R) → high' ≡ high → o' ≡ o → IsKept low high old (option_and_then f o) → IsKept low high' old (option_and_then f o')
 moved_kept f low high high' old o o' e g kept = subst (λ (n : ℕ). IsKept low n old (option_and_then f o')) (sym e) (subst (λ (r : Option _). IsKept low high old (option_and_then f r)) (sym g) kept)
 
-abbrev Own : Work → Type 0
+abbrev pub Own : Work → Type 0
 Own w = HasOwnOrders w.host
 
-own-beside : (w v : Work) → LeavesRows w v → v.host.order ≡ w.host.order → Own w → Own v
+pub own-beside : (w v : Work) → LeavesRows w v → v.host.order ≡ w.host.order → Own w → Own v
 own-beside w v rows e own = record {
   rows = own-rows client_order server_order w v rows e own.rows;
   arriving = own-rows response_order request_order w v rows e own.arriving;
@@ -130,7 +130,7 @@ own-beside w v rows e own = record {
 }
 
 module _ (s : Settings) where
-  asked-own : (id : CallId) (server : HostId) (did : Did ClientRow) (w : Work)
+  pub asked-own : (id : CallId) (server : HostId) (did : Did ClientRow) (w : Work)
       → ClientKept (moment s id w) (option_and_then client_order (get w.host.clients id)) (option_and_then response_order (get w.host.clients id)) did → Own w → Own (asked s id server did w)
   asked-own id server did w kept own =
       let v : Work = asked s id server did w in
@@ -144,7 +144,7 @@ module _ (s : Settings) where
         leaving = own-move client_order reply_order (OfClient id) w v others up (moved_kept client_order w.host.order did.order v.host.order _ did.row (get v.host.clients id) order row kept.at_row) own.leaving;
       }
 
-  served-own : (id : CallId) (did : Did ServerRow) (w : Work) → KeptAt (moment s id w) (get w.host.servers id) did → Own w → Own (served s id did w)
+  pub served-own : (id : CallId) (did : Did ServerRow) (w : Work) → KeptAt (moment s id w) (get w.host.servers id) did → Own w → Own (served s id did w)
   served-own id did w kept own =
       let v : Work = served s id did w in
       let order : v.host.order ≡ did.order = (served-carried s id did w).order in
@@ -159,11 +159,11 @@ module _ (s : Settings) where
 
   -- ---- a packet
 
-  row-own : (p : Packet) (a : Answer) (role : Role) (w : Work) → Own w → Own (comes_to_row s p a role w)
+  pub row-own : (p : Packet) (a : Answer) (role : Role) (w : Work) → Own w → Own (comes_to_row s p a role w)
   row-own p a Client w own = served-own p.id (server_gets s (moment s p.id w) p a (get w.host.servers p.id)) w (server_kept s (moment s p.id w) p a (get w.host.servers p.id)) own
   row-own p a Server w own = asked-own p.id p.server (client_gets s (moment s p.id w) p (get w.host.clients p.id)) w (client_kept s (moment s p.id w) p (get w.host.clients p.id)) own
 
-  acked-own : (ids : List CallId) (w : Work) → Own w → Own (acked s ids w)
+  pub acked-own : (ids : List CallId) (w : Work) → Own w → Own (acked s ids w)
   acked-own [] w own = own
   acked-own (id ∷ ids) w own =
       let did : Did ServerRow = server_acked s (moment s id w) id (get w.host.servers id) in
@@ -183,19 +183,19 @@ module _ (s : Settings) where
 
   -- ---- timers
 
-  client_acted-own : (id : CallId) (o : Option ClientRow) (w : Work) → get w.host.clients id ≡ o → Own w → Own (client_acted s id o w)
+  pub client_acted-own : (id : CallId) (o : Option ClientRow) (w : Work) → get w.host.clients id ≡ o → Own w → Own (client_acted s id o w)
   client_acted-own id None w e own = own
   client_acted-own id (Some r) w e own =
       asked-own id r.server (client_acts s (moment s id w) id r) w
       (subst (λ (o : Option ClientRow). ClientKept (moment s id w) (option_and_then client_order o) (option_and_then response_order o) (client_acts s (moment s id w) id r)) (sym e) (client_acts-kept s (moment s id w) id r)) own
 
-  server_acted-own : (id : CallId) (o : Option ServerRow) (w : Work) → get w.host.servers id ≡ o → Own w → Own (server_acted s id o w)
+  pub server_acted-own : (id : CallId) (o : Option ServerRow) (w : Work) → get w.host.servers id ≡ o → Own w → Own (server_acted s id o w)
   server_acted-own id None w e own = own
   server_acted-own id (Some row) w e own =
       served-own id (server_acts s (moment s id w) id row) w
       (subst (λ (o : Option ServerRow). KeptAt (moment s id w) o (server_acts s (moment s id w) id row)) (sym e) (server_acts-kept s (moment s id w) id row)) own
 
-  acts_at-own : (place : Place) (w : Work) → Own w → Own (acts_at s place w)
+  pub acts_at-own : (place : Place) (w : Work) → Own w → Own (acts_at s place w)
   acts_at-own (OfClient id) w own = client_acted-own id (get w.host.clients id) w refl own
   acts_at-own (OfServer id) w own = server_acted-own id (get w.host.servers id) w refl own
 
@@ -257,14 +257,14 @@ while_new_part now r = cond_both (nat_lt r.out.top r.out.length) (record r { hea
 module _ (s : Settings) where
   -- ---- grants
 
-  client_granted-own : (id : CallId) (offset prio : ℕ) (o : Option ClientRow) (w : Work) → get w.host.clients id ≡ o → Own w → Own (client_is_granted s id (body.Grant offset prio) offset o w)
+  pub client_granted-own : (id : CallId) (offset prio : ℕ) (o : Option ClientRow) (w : Work) → get w.host.clients id ≡ o → Own w → Own (client_is_granted s id (body.Grant offset prio) offset o w)
   client_granted-own id offset prio None w e own = own
   client_granted-own id offset prio (Some r) w e own =
       let v : Work = client_is_granted s id (body.Grant offset prio) offset (Some r) w in
       let row : ClientRow = client_granted (now_of w) offset r in
       own-client id r row w v (client_granted-others s id (body.Grant offset prio) offset (Some r) w) refl e (get-set_row w.host.clients id (Some row)) refl (granted_part_order offset r.part) own
 
-  server_granted-own : (id : CallId) (offset prio : ℕ) (o : Option ServerRow) (w : Work) → get w.host.servers id ≡ o → Own w → Own (server_is_granted s id (body.Grant offset prio) offset o w)
+  pub server_granted-own : (id : CallId) (offset prio : ℕ) (o : Option ServerRow) (w : Work) → get w.host.servers id ≡ o → Own w → Own (server_is_granted s id (body.Grant offset prio) offset o w)
   server_granted-own id offset prio None w e own = own
   server_granted-own id offset prio (Some row) w e own =
       let v : Work = server_is_granted s id (body.Grant offset prio) offset (Some row) w in
@@ -272,7 +272,7 @@ module _ (s : Settings) where
       own-server id row after w v (server_granted-others s id (body.Grant offset prio) offset (Some row) w) refl e (get-set_row w.host.servers id (Some after)) refl
       (granted_arriving (now_of w) offset row.state) (granted_leaving (now_of w) offset row.state) own
 
-  grants_at-own : (place : Place) (offset prio : ℕ) (w : Work) → Own w → Own (grants_at s place offset prio w)
+  pub grants_at-own : (place : Place) (offset prio : ℕ) (w : Work) → Own w → Own (grants_at s place offset prio w)
   grants_at-own (OfClient id) offset prio w own = client_granted-own id offset prio (get w.host.clients id) w refl own
   grants_at-own (OfServer id) offset prio w own = server_granted-own id offset prio (get w.host.servers id) w refl own
 
@@ -282,7 +282,7 @@ module _ (s : Settings) where
 
   -- ---- the pump
 
-  client_leaves-own : (id : CallId) (o : Option ClientRow) (w v : Work) → get w.host.clients id ≡ o → client_leaves s id o w ≡ Some v → Own w → Own v
+  pub client_leaves-own : (id : CallId) (o : Option ClientRow) (w v : Work) → get w.host.clients id ≡ o → client_leaves s id o w ≡ Some v → Own w → Own v
   client_leaves-own id None w v was e own = cc
   client_leaves-own id (Some r) w v was e own =
       let l = left (next_range r.out s.seg) w v (λ range. request_leaves s id r range w) e in
@@ -302,11 +302,11 @@ module _ (s : Settings) where
       refl (sent_arriving s (now_of w) row.state) (sent_leaving s (now_of w) row.state) own)
   server_sends-own id row state w v st was e own = cc
 
-  server_leaves-own : (id : CallId) (o : Option ServerRow) (w v : Work) → get w.host.servers id ≡ o → server_leaves s id o w ≡ Some v → Own w → Own v
+  pub server_leaves-own : (id : CallId) (o : Option ServerRow) (w v : Work) → get w.host.servers id ≡ o → server_leaves s id o w ≡ Some v → Own w → Own v
   server_leaves-own id None w v was e own = cc
   server_leaves-own id (Some row) w v was e own = server_sends-own id row row.state w v refl was e own
 
-  leaves_from-own : (place : Place) (w v : Work) → leaves_from s place w ≡ Some v → Own w → Own v
+  pub leaves_from-own : (place : Place) (w v : Work) → leaves_from s place w ≡ Some v → Own w → Own v
   leaves_from-own (OfClient id) w v e own = client_leaves-own id (get w.host.clients id) w v refl e own
   leaves_from-own (OfServer id) w v e own = server_leaves-own id (get w.host.servers id) w v refl e own
 
@@ -314,7 +314,7 @@ module _ (s : Settings) where
   first_leaves-own None w v e own = cc
   first_leaves-own (Some l) w v e own = leaves_from-own l.place w v e own
 
-  pumped_once-own : (w v : Work) → pumped_once s w ≡ Some v → Own w → Own v
+  pub pumped_once-own : (w v : Work) → pumped_once s w ≡ Some v → Own w → Own v
   unfolding pumped_once
   pumped_once-own w v e own = first_leaves-own (least leaving_key (departures s (now_of w) w.host)) w v e own
 
@@ -334,7 +334,7 @@ module _ (s : Settings) where
 
   -- ---- steps
 
-  starts-own : (server : HostId) (service : ℕ) (request : List ℕ) (w : Work) → Own w → Own (starts s server service request w)
+  pub starts-own : (server : HostId) (service : ℕ) (request : List ℕ) (w : Work) → Own w → Own (starts s server service request w)
   starts-own server service request w own =
       let v : Work = starts s server service request w in
       let id : CallId = next_id w.host in
@@ -348,10 +348,10 @@ module _ (s : Settings) where
         leaving = own-move client_order reply_order (OfClient id) w v others up (moved_kept client_order w.host.order v.host.order v.host.order _ (Some row) (get v.host.clients id) refl is (kept_new w.host.order v.host.order _ w.host.order (omega arith) (omega arith))) own.leaving;
       }
 
-  begun-own : (h : Host) (now : ℕ) → HasOwnOrders h → Own (begun h now)
+  pub begun-own : (h : Host) (now : ℕ) → HasOwnOrders h → Own (begun h now)
   begun-own h now own = record { rows = own.rows; arriving = own.arriving; leaving = own.leaving }
 
-  refilled-own : (h : Host) → HasOwnOrders h → HasOwnOrders (refilled s h)
+  pub refilled-own : (h : Host) → HasOwnOrders h → HasOwnOrders (refilled s h)
   refilled-own h own = cond_both (nat_lt h.refilled h.last) (record h { credit = s.rate; refilled = h.last }) h HasOwnOrders (λ _. record { rows = own.rows; arriving = own.arriving; leaving = own.leaving }) (λ _. own)
 
   pub call-own : (h : Host) (now : ℕ) (server : HostId) (service : ℕ) (request : List ℕ) → HasOwnOrders h → HasOwnOrders (call_step s h now server service request).host

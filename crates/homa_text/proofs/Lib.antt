@@ -6,3 +6,4 @@ pub mod Feeds
 pub mod NextLine
 pub mod Putting
 pub mod Texts
+pub mod LineParts

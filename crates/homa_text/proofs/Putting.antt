@@ -1,13 +1,9 @@
 -- A text that is written and held part by part.
-use Rattle.std.proofs.Common.{◌≡◌, ℕ, Option, None, Some, List, [], ◌++◌, refl, sym, ap, ◌∙◌, append_assoc}
+use Rattle.std.proofs.Common.{◌≡◌, ℕ, Option, List, [], ◌++◌, sym, ap, ◌∙◌, append_assoc}
 use Rattle.std.proofs.lemmas.List.{append-nil}
 use Rattle.homa_io.specs.Outside.{appended, TookFront}
-use Rattle.homa_io.proofs.Parts.{appended-appended}
+use Rattle.homa_io.specs.Growing.{appended-appended, appended-nil}
 use Rattle.homa_text.specs.Put.{IsPut}
-
-pub appended-nil : (taken : Option (List ℕ)) → appended taken [] ≡ taken
-appended-nil None = refl
-appended-nil (Some xs) = ap Some (append-nil xs)
 
 -- what was taken, and then more
 taken_on : (a b c : Option (List ℕ)) (x y : List ℕ) → b ≡ appended a x → c ≡ appended b y → c ≡ appended a (x ++ y)

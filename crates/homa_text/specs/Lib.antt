@@ -4,3 +4,5 @@ pub mod Input
 pub mod Scan
 pub mod Written
 pub mod Put
+pub mod Quick
+pub mod Told

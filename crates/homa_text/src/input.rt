@@ -1,5 +1,5 @@
 // A source that is read through a buffer.
-ghost use Rattle.std.specs.Prelude.{◌≡◌, ◌<◌, ◌≤◌, None, [], length, OnErr, IfOk};
+ghost use Rattle.std.specs.Prelude.{◌≡◌, ◌<◌, ◌≤◌, None, [], length, OnOk, OnErr, IfOk};
 ghost use Rattle.std.specs.Option.{option_to_list};
 ghost use Rattle.homa_io.specs.Outside.{HasRisen, IsAtEnd};
 ghost use Rattle.homa_text.specs.Rest.{Takes};
@@ -41,6 +41,7 @@ impl Input {
         ensures end { IfOk result (λ b. b ≡ None → (pending_of self.new ≡ []) × IsAtEnd (S.left source.new)) }
         ensures err { OnErr result (Takes (rest_of self.old (S.left source.old)) (rest_of self.new (S.left source.new)) []) }
         ensures risen { OnErr result (HasRisen (S.faults source.old) (S.faults source.new)) }
+        ensures quiet { OnOk result (S.faults source.new ≡ S.faults source.old) }
         ensures never_falls { S.faults source.old ≤ S.faults source.new }
         ensures same { S.is_same source.old source.new }
     {

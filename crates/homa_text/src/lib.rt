@@ -8,6 +8,7 @@
 //! entry. After a fault the sink took a front of it.
 #![tactic(auto)]
 
+mod adding;
 mod bytes;
 mod entry_words;
 mod fault_words;
@@ -15,6 +16,7 @@ mod input;
 mod lines;
 mod number;
 mod put;
+mod quick;
 mod scan;
 #[cfg(test)]
 mod tests;

@@ -69,6 +69,7 @@ impl Lines {
 
         ensures err { OnErr result ((came : List ℕ) × (S.left source.old ≡ unread came (S.left source.new))) }
         ensures risen { OnErr result (HasRisen (S.faults source.old) (S.faults source.new)) }
+        ensures quiet { OnOk result (S.faults source.new ≡ S.faults source.old) }
         ensures never_falls { S.faults source.old ≤ S.faults source.new }
         ensures same { S.is_same source.old source.new }
     {

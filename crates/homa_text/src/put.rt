@@ -1,4 +1,4 @@
-// Lines that are written through a buffer.
+// Lines that are written: the frequent ones at once, any other word by word through a buffer.
 ghost use Rattle.std.specs.Prelude.{◌≡◌, ◌≤◌, ◌++◌, ◌∷◌, [], length, map, OnOk, OnErr};
 ghost use Rattle.std.specs.List.{flat_map};
 ghost use Rattle.hex.specs.Hex.{encode_lower};
@@ -6,19 +6,28 @@ ghost use Rattle.homa_io.specs.Outside.{HasRisen, appended, TookFront};
 ghost use Rattle.homa_plain.specs.Entries.{plain};
 ghost use Rattle.homa_plain.specs.Text.{line_of_words, line_text};
 ghost use Rattle.homa_text.specs.Put.{IsPut};
+ghost use Rattle.homa_text.specs.Quick.{grant_sent, piece_sent};
+ghost use Rattle.homa_text.specs.Told.{HasLine};
 ghost use Rattle.homa_text.specs.Written.{word_text, spaced_word};
 
 use crate::Word;
+use crate::adding::write_digits;
 use crate::entry_words::words_of_entry;
+use crate::quick::{
+    Head, Piece, PieceLine, ShortLine, clock_line, deliver_line, grant_line, piece_line,
+};
 use crate::written::{call_text, id_text, number_text, route_text};
 use arrayvec::ArrayVec;
 use homa_io::{Sink, WriteFailed, write_all};
-use homa_plain::Entry;
+use homa_plain::{Body, Entry};
 
 // How many bytes of a line are held before a write: of a short line, and of any other.
 const SHORT: usize = 4096;
 
 const ROOM: usize = 65536;
+
+// The most bytes of a piece whose line is made at once.
+const MOST_PAYLOAD: usize = 1400;
 
 // The bytes of a line that aren't written yet.
 type Held<const N: usize> = ArrayVec<u8, N>;
@@ -29,6 +38,7 @@ fn flush<K: Sink, const N: usize>(sink: &mut K, held: &mut Held<N>) -> Result<()
     ensures empty { OnOk result (held.new.items ≡ []) }
     ensures err { OnErr result (TookFront (K.taken sink.old) (K.taken sink.new) held.old.items) }
     ensures risen { OnErr result (HasRisen (K.faults sink.old) (K.faults sink.new)) }
+    ensures quiet { OnOk result (K.faults sink.new ≡ K.faults sink.old) }
     ensures never_falls { K.faults sink.old ≤ K.faults sink.new }
     ensures same { K.is_same sink.old sink.new }
 {
@@ -46,6 +56,7 @@ fn append<K: Sink, const N: usize>(
     ensures ok { OnOk result (IsPut (K.taken sink.old) (K.taken sink.new) held.new.items (held.old.items ++ bytes.now)) }
     ensures err { OnErr result (TookFront (K.taken sink.old) (K.taken sink.new) (held.old.items ++ bytes.now)) }
     ensures risen { OnErr result (HasRisen (K.faults sink.old) (K.faults sink.new)) }
+    ensures quiet { OnOk result (K.faults sink.new ≡ K.faults sink.old) }
     ensures never_falls { K.faults sink.old ≤ K.faults sink.new }
     ensures same { K.is_same sink.old sink.new }
 {
@@ -71,12 +82,13 @@ fn put_digits<K: Sink, const N: usize>(
     ensures ok { OnOk result (IsPut (K.taken sink.old) (K.taken sink.new) held.new.items (held.old.items ++ encode_lower bytes.now)) }
     ensures err { OnErr result (TookFront (K.taken sink.old) (K.taken sink.new) (held.old.items ++ encode_lower bytes.now)) }
     ensures risen { OnErr result (HasRisen (K.faults sink.old) (K.faults sink.new)) }
+    ensures quiet { OnOk result (K.faults sink.new ≡ K.faults sink.old) }
     ensures never_falls { K.faults sink.old ≤ K.faults sink.new }
     ensures same { K.is_same sink.old sink.new }
 {
     let mut digits = [0; 512];
     let out = &mut digits[..2 * bytes.len()];
-    hex::encode_to_slice(bytes, out).unwrap();
+    write_digits(bytes, out);
     append(sink, held, out)
 }
 
@@ -89,6 +101,7 @@ fn put_hex<K: Sink, const N: usize>(
     ensures ok { OnOk result (IsPut (K.taken sink.old) (K.taken sink.new) held.new.items (held.old.items ++ encode_lower bytes.now)) }
     ensures err { OnErr result (TookFront (K.taken sink.old) (K.taken sink.new) (held.old.items ++ encode_lower bytes.now)) }
     ensures risen { OnErr result (HasRisen (K.faults sink.old) (K.faults sink.new)) }
+    ensures quiet { OnOk result (K.faults sink.new ≡ K.faults sink.old) }
     ensures never_falls { K.faults sink.old ≤ K.faults sink.new }
     ensures same { K.is_same sink.old sink.new }
 {
@@ -110,6 +123,7 @@ fn put_word<K: Sink, const N: usize>(
     ensures ok { OnOk result (IsPut (K.taken sink.old) (K.taken sink.new) held.new.items (held.old.items ++ word_text word.entry)) }
     ensures err { OnErr result (TookFront (K.taken sink.old) (K.taken sink.new) (held.old.items ++ word_text word.entry)) }
     ensures risen { OnErr result (HasRisen (K.faults sink.old) (K.faults sink.new)) }
+    ensures quiet { OnOk result (K.faults sink.new ≡ K.faults sink.old) }
     ensures never_falls { K.faults sink.old ≤ K.faults sink.new }
     ensures same { K.is_same sink.old sink.new }
 {
@@ -134,6 +148,7 @@ fn put_spaced<K: Sink, const N: usize>(
     ensures ok { OnOk result (IsPut (K.taken sink.old) (K.taken sink.new) held.new.items (held.old.items ++ spaced_word word.entry)) }
     ensures err { OnErr result (TookFront (K.taken sink.old) (K.taken sink.new) (held.old.items ++ spaced_word word.entry)) }
     ensures risen { OnErr result (HasRisen (K.faults sink.old) (K.faults sink.new)) }
+    ensures quiet { OnOk result (K.faults sink.new ≡ K.faults sink.old) }
     ensures never_falls { K.faults sink.old ≤ K.faults sink.new }
     ensures same { K.is_same sink.old sink.new }
 {
@@ -150,6 +165,7 @@ fn put_others<K: Sink, const N: usize>(
     ensures ok { OnOk result (IsPut (K.taken sink.old) (K.taken sink.new) held.new.items (held.old.items ++ flat_map spaced_word words.now)) }
     ensures err { OnErr result (TookFront (K.taken sink.old) (K.taken sink.new) (held.old.items ++ flat_map spaced_word words.now)) }
     ensures risen { OnErr result (HasRisen (K.faults sink.old) (K.faults sink.new)) }
+    ensures quiet { OnOk result (K.faults sink.new ≡ K.faults sink.old) }
     ensures never_falls { K.faults sink.old ≤ K.faults sink.new }
     ensures same { K.is_same sink.old sink.new }
 {
@@ -170,6 +186,7 @@ fn put_words<K: Sink, const N: usize>(
     ensures ok { OnOk result (K.taken sink.new ≡ appended (K.taken sink.old) (line_of_words (word_text first.entry ∷ map word_text others.now))) }
     ensures err { OnErr result (TookFront (K.taken sink.old) (K.taken sink.new) (line_of_words (word_text first.entry ∷ map word_text others.now))) }
     ensures risen { OnErr result (HasRisen (K.faults sink.old) (K.faults sink.new)) }
+    ensures quiet { OnOk result (K.faults sink.new ≡ K.faults sink.old) }
     ensures never_falls { K.faults sink.old ≤ K.faults sink.new }
     ensures same { K.is_same sink.old sink.new }
 {
@@ -203,6 +220,7 @@ pub fn put_line<K: Sink>(sink: &mut K, words: &[Word<'_>]) -> Result<(), WriteFa
     ensures ok { OnOk result (K.taken sink.new ≡ appended (K.taken sink.old) (line_of_words (map word_text words.now))) }
     ensures err { OnErr result (TookFront (K.taken sink.old) (K.taken sink.new) (line_of_words (map word_text words.now))) }
     ensures risen { OnErr result (HasRisen (K.faults sink.old) (K.faults sink.new)) }
+    ensures quiet { OnOk result (K.faults sink.new ≡ K.faults sink.old) }
     ensures never_falls { K.faults sink.old ≤ K.faults sink.new }
     ensures same { K.is_same sink.old sink.new }
 {
@@ -218,13 +236,142 @@ pub fn put_line<K: Sink>(sink: &mut K, words: &[Word<'_>]) -> Result<(), WriteFa
     }
 }
 
-/// Writes the line of an entry, as `put_line` does.
-pub fn put_entry<K: Sink>(sink: &mut K, entry: &Entry<'_>) -> Result<(), WriteFailed>
+// Writes the line of an entry, word by word.
+fn put_words_of<K: Sink>(sink: &mut K, entry: &Entry<'_>) -> Result<(), WriteFailed>
     ensures ok { OnOk result (K.taken sink.new ≡ appended (K.taken sink.old) (line_text (plain entry.now))) }
     ensures err { OnErr result (TookFront (K.taken sink.old) (K.taken sink.new) (line_text (plain entry.now))) }
     ensures risen { OnErr result (HasRisen (K.faults sink.old) (K.faults sink.new)) }
+    ensures quiet { OnOk result (K.faults sink.new ≡ K.faults sink.old) }
     ensures never_falls { K.faults sink.old ≤ K.faults sink.new }
     ensures same { K.is_same sink.old sink.new }
 {
     put_line(sink, words_of_entry(entry).as_slice())
+}
+
+// Writes the line of a GRANT.
+fn put_grant<K: Sink>(
+    sink: &mut K,
+    head: Head,
+    level: u8,
+    offset: u64,
+    prio: u64,
+    payload: &[u8],
+) -> Result<(), WriteFailed>
+    ensures ok { OnOk result (K.taken sink.new ≡ appended (K.taken sink.old) (line_text (grant_sent head level offset prio payload.now))) }
+    ensures err { OnErr result (TookFront (K.taken sink.old) (K.taken sink.new) (line_text (grant_sent head level offset prio payload.now))) }
+    ensures risen { OnErr result (HasRisen (K.faults sink.old) (K.faults sink.new)) }
+    ensures quiet { OnOk result (K.faults sink.new ≡ K.faults sink.old) }
+    ensures never_falls { K.faults sink.old ≤ K.faults sink.new }
+    ensures same { K.is_same sink.old sink.new }
+{
+    let mut text = ShortLine::new();
+    grant_line(&mut text, head, offset, prio);
+    write_all(sink, text.as_slice())
+}
+
+// Writes the line of a piece.
+fn put_piece<K: Sink>(
+    sink: &mut K,
+    head: Head,
+    piece: Piece,
+    payload: &[u8],
+) -> Result<(), WriteFailed>
+    requires { length payload.now ≤ 1400 }
+    ensures ok { OnOk result (K.taken sink.new ≡ appended (K.taken sink.old) (line_text (piece_sent head piece payload.now))) }
+    ensures err { OnErr result (TookFront (K.taken sink.old) (K.taken sink.new) (line_text (piece_sent head piece payload.now))) }
+    ensures risen { OnErr result (HasRisen (K.faults sink.old) (K.faults sink.new)) }
+    ensures quiet { OnOk result (K.faults sink.new ≡ K.faults sink.old) }
+    ensures never_falls { K.faults sink.old ≤ K.faults sink.new }
+    ensures same { K.is_same sink.old sink.new }
+{
+    let mut text = PieceLine::new();
+    piece_line(&mut text, head, piece, payload);
+    write_all(sink, text.as_slice())
+}
+
+// Writes the line of an entry that isn't a packet.
+fn put_other<K: Sink>(sink: &mut K, entry: &Entry<'_>) -> Result<(), WriteFailed>
+    ensures ok { OnOk result (K.taken sink.new ≡ appended (K.taken sink.old) (line_text (plain entry.now))) }
+    ensures err { OnErr result (TookFront (K.taken sink.old) (K.taken sink.new) (line_text (plain entry.now))) }
+    ensures risen { OnErr result (HasRisen (K.faults sink.old) (K.faults sink.new)) }
+    ensures quiet { OnOk result (K.faults sink.new ≡ K.faults sink.old) }
+    ensures never_falls { K.faults sink.old ≤ K.faults sink.new }
+    ensures same { K.is_same sink.old sink.new }
+{
+    match *entry {
+        Entry::Clock { tick } => {
+            let mut text = ShortLine::new();
+            clock_line(&mut text, tick);
+            write_all(sink, text.as_slice())
+        }
+        Entry::Deliver { packet } => {
+            let mut text = ShortLine::new();
+            deliver_line(&mut text, packet);
+            write_all(sink, text.as_slice())
+        }
+        _ => put_words_of(sink, entry),
+    }
+}
+
+/// Writes the line of an entry, as `put_line` does. No line tells that memory is wanting, so no entry of
+/// that is handed in.
+pub fn put_entry<K: Sink>(sink: &mut K, entry: &Entry<'_>) -> Result<(), WriteFailed>
+    requires { HasLine (plain entry.now) }
+    ensures ok { OnOk result (K.taken sink.new ≡ appended (K.taken sink.old) (line_text (plain entry.now))) }
+    ensures err { OnErr result (TookFront (K.taken sink.old) (K.taken sink.new) (line_text (plain entry.now))) }
+    ensures risen { OnErr result (HasRisen (K.faults sink.old) (K.faults sink.new)) }
+    ensures quiet { OnOk result (K.faults sink.new ≡ K.faults sink.old) }
+    ensures never_falls { K.faults sink.old ≤ K.faults sink.new }
+    ensures same { K.is_same sink.old sink.new }
+{
+    let Entry::Send {
+        number,
+        from,
+        to,
+        inc,
+        role,
+        id,
+        level,
+        body,
+        payload,
+    } = entry
+    else {
+        return put_other(sink, entry);
+    };
+    let head = Head {
+        number: *number,
+        from: *from,
+        to: *to,
+        inc: *inc,
+        role: *role,
+        id: *id,
+    };
+    match *body {
+        Body::Grant { offset, prio } => put_grant(
+            sink,
+            head,
+            *level,
+            u64::from(offset),
+            u64::from(prio),
+            payload,
+        ),
+        Body::Data {
+            length,
+            offset,
+            version,
+            service,
+            ack,
+        } if payload.len() <= MOST_PAYLOAD => {
+            let piece = Piece {
+                level: *level,
+                size: length,
+                offset,
+                version,
+                service,
+                ack,
+            };
+            put_piece(sink, head, piece, payload)
+        }
+        _ => put_words_of(sink, entry),
+    }
 }

@@ -1,5 +1,5 @@
 // A scan for the next line feed.
-ghost use Rattle.std.specs.Prelude.{◌≡◌, ◌≤◌, slice_set, OnErr, IfOk};
+ghost use Rattle.std.specs.Prelude.{◌≡◌, ◌≤◌, slice_set, OnOk, OnErr, IfOk};
 ghost use Rattle.homa_io.specs.Outside.{HasRisen};
 ghost use Rattle.homa_text.specs.Rest.{TakesSome};
 ghost use Rattle.homa_text.specs.Input.{rest_of};
@@ -37,6 +37,7 @@ pub(crate) fn find_feed<S: Source>(
     ensures found { IfOk result (IsScan (rest_of input.old (S.left source.old)) (rest_of input.new (S.left source.new)) line.new most) }
     ensures err { OnErr result (TakesSome (rest_of input.old (S.left source.old)) (rest_of input.new (S.left source.new))) }
     ensures risen { OnErr result (HasRisen (S.faults source.old) (S.faults source.new)) }
+    ensures quiet { OnOk result (S.faults source.new ≡ S.faults source.old) }
     ensures never_falls { S.faults source.old ≤ S.faults source.new }
     ensures same { S.is_same source.old source.new }
 {

@@ -1,4 +1,7 @@
 // Each public function where it succeeds, the edges that no clause shows by itself, and faults.
+ghost use Rattle.homa_plain.specs.Entries.{plain};
+ghost use Rattle.homa_text.specs.Told.{HasLine};
+
 use crate::{LineGot, Lines, Word, put_entry, put_line, read_bytes, read_number, word};
 use homa_io::{MemSink, MemSource, ReadFailed, WriteFailed};
 use homa_plain::{
@@ -114,7 +117,9 @@ fn a_read_fails_in_a_line(rt: HostRuntime) -> Result<(), Fail> {
     Ok(())
 }
 
-fn expect_line(rt: &impl Abort, alloc: Global, entry: &Entry<'_>, line: &[u8]) -> Result<(), Fail> {
+fn expect_line(rt: &impl Abort, alloc: Global, entry: &Entry<'_>, line: &[u8]) -> Result<(), Fail>
+    requires { HasLine (plain entry.now) }
+{
     let mut sink = MemSink::new(alloc, 200, Vec::new(alloc))?;
     assert_eq!(rt; put_entry(&mut sink, entry), Ok(()));
     assert_eq!(rt; sink.bytes(), line);
@@ -158,6 +163,86 @@ fn lines_of_entries(rt: HostRuntime) -> Result<(), Fail> {
     };
     let text = b"refused 2 Setting OutOfRange seg\n";
     expect_line(&rt, rt.alloc(), &refused, text)
+}
+
+// A packet of a call of host 0, from its client or from its server, host 1.
+fn packet<'a>(number: u64, role: Role, body: Body, payload: &'a [u8]) -> Entry<'a>
+    ensures { HasLine (plain result) }
+{
+    let (from, to, inc) = match role {
+        Role::Client => (HostId(0), HostId(1), 2),
+        Role::Server => (HostId(1), HostId(0), 3),
+    };
+    let id = CallId {
+        client: HostId(0),
+        inc: 2,
+        seq: 8,
+    };
+    Entry::Send {
+        number,
+        from,
+        to,
+        inc,
+        role,
+        id,
+        level: 6,
+        body,
+        payload,
+    }
+}
+
+fn piece(ack: Option<(u32, u32)>) -> Body {
+    Body::Data {
+        length: 3000,
+        offset: 1400,
+        version: 1,
+        service: 4,
+        ack,
+    }
+}
+
+#[test]
+fn lines_that_are_quick(rt: HostRuntime) -> Result<(), Fail> {
+    expect_line(&rt, rt.alloc(), &Entry::Clock { tick: 70 }, b"clock 70\n")?;
+    expect_line(
+        &rt,
+        rt.alloc(),
+        &Entry::Deliver { packet: 0 },
+        b"deliver 0\n",
+    )?;
+
+    let grant = Body::Grant {
+        offset: 28_000,
+        prio: 5,
+    };
+    let text = b"send 12 1>0 3 GRANT s 0.2.8 28000 5\n";
+    expect_line(&rt, rt.alloc(), &packet(12, Role::Server, grant, b""), text)?;
+
+    let bytes = [0, 0xff, 0x9a];
+    let text = b"send 13 0>1 2 DATA c 0.2.8 6 3000 1400 1 4 2.7 00ff9a\n";
+    let data = packet(13, Role::Client, piece(Some((2, 7))), &bytes);
+    expect_line(&rt, rt.alloc(), &data, text)?;
+
+    let text = b"send 14 1>0 3 DATA s 0.2.8 6 3000 1400 1 4 - -\n";
+    expect_line(
+        &rt,
+        rt.alloc(),
+        &packet(14, Role::Server, piece(None), b""),
+        text,
+    )?;
+
+    let resend = Body::Resend {
+        from: 0,
+        to: 1400,
+        prio: 7,
+    };
+    let text = b"send 15 0>1 2 RESEND c 0.2.8 0 1400 7\n";
+    expect_line(
+        &rt,
+        rt.alloc(),
+        &packet(15, Role::Client, resend, b""),
+        text,
+    )
 }
 
 #[test]

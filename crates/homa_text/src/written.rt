@@ -3,9 +3,9 @@ ghost use Rattle.std.specs.Prelude.{◌≡◌, ◌+◌, ◌≤◌, ◌++◌, ◌
 ghost use Rattle.homa_plain.specs.Text.{id_word, call_word, route_word};
 ghost use Rattle.arrayvec.specs.ArrayVec.{array_vec_len};
 
+use crate::adding::add_number;
 use arrayvec::ArrayVec;
 use homa_plain::{CallId, HostId};
-use itoa::Buffer;
 
 /// A word of a line.
 #[derive(Clone, Copy, Debug, PartialEq, Eq)]
@@ -40,17 +40,6 @@ impl Default for Word<'_> {
 
 // A text of numbers, which are three at most.
 pub(crate) type NumberText = ArrayVec<u8, 64>;
-
-// Adds a number.
-fn add_number(text: &mut NumberText, n: u64)
-    requires { array_vec_len text.old + 20 ≤ 64 }
-    ensures items { text.new.items ≡ text.old.items ++ decimal n }
-    ensures len { array_vec_len text.new ≤ array_vec_len text.old + 20 }
-{
-    let mut buffer = Buffer::new();
-    text.try_extend_from_slice(buffer.format(n).as_bytes())
-        .unwrap();
-}
 
 // A number.
 pub(crate) fn number_text(n: u64) -> NumberText

@@ -7,7 +7,7 @@ use Rattle.homa_io.specs.Outside.{unread, appended, IsAtEnd, TookFront}
 use Rattle.homa_io.proofs.Parts.{appended-appended}
 use Rattle.homa_plain.specs.Entries.{PlainEntry}
 use Rattle.homa_plain.specs.Text.{line_text}
-use Rattle.homa_plain.specs.First.{Replay, replay, with_told, text_of, replay_text, end_text, is_refusal, is_refused}
+use Rattle.homa_laws.specs.First.{Replay, replay, with_told, text_of, replay_text, end_text, is_refusal, is_refused}
 use Rattle.homa_top.specs.Due.{IsDue}
 use Rattle.homa_top.specs.Printing.{IsFrontOf}
 

@@ -4,7 +4,7 @@ use Rattle.std.specs.List.{flat_map}
 use Rattle.homa_io.specs.Outside.{appended, TookFront}
 use Rattle.homa_plain.specs.Entries.{PlainEntry, PlainCall, PlainDeliver, PlainRun, PlainDone}
 use Rattle.homa_plain.specs.Text.{line_text}
-use Rattle.homa_plain.specs.First as first
+use Rattle.homa_laws.specs.First as first
 use Rattle.homa_text.proofs.Texts.{flat_map-split, flat_map-more}
 use Rattle.homa_top.specs.declared.first.world.Packet.{Packet}
 use Rattle.homa_top.specs.declared.first.world.World.{World}

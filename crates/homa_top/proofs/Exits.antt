@@ -7,7 +7,7 @@ use Rattle.homa_plain.specs.declared.settings.Settings.{Settings}
 use Rattle.homa_plain.specs.Settings.{usual}
 use Rattle.homa_plain.specs.Entries.{PlainEntry, PlainSettings}
 use Rattle.homa_plain.specs.Text.{line_text}
-use Rattle.homa_plain.specs.First.{World, Replay, Fault, End, Finished, RefusedAt, first_world, replay, with_told, text_of, replay_text, end_text, is_refusal, is_refused}
+use Rattle.homa_laws.specs.First.{World, Replay, Fault, End, Finished, RefusedAt, first_world, replay, with_told, text_of, replay_text, end_text, is_refusal, is_refused}
 use Rattle.homa_text.specs.Lines.{Reading, IsEnd}
 use Rattle.homa_top.specs.declared.first.world.Outcome.{Outcome}
 use Rattle.homa_top.specs.declared.first.fault.Fault.{Fault as CodeFault}

@@ -1,6 +1,6 @@
 -- Words of no form.
 use Rattle.std.proofs.Common.{◌≡◌, None, List, [], ◌∷◌, length, ℕ, refl, map, Bor}
-use Rattle.homa_plain.specs.First.{given_of}
+use Rattle.homa_laws.specs.First.{given_of}
 
 -- neither two words nor five
 pub other_words : (ws : List (Bor (List ℕ))) → (length ws ≡ 2 → ⊥) → (length ws ≡ 5 → ⊥) → None ≡ given_of (map (λ w. w.now) ws)

@@ -4,7 +4,7 @@ use Rattle.std.specs.Prelude.{slice_get, unwrap_or}
 use Rattle.std.proofs.lemmas.List.{map-append}
 use Rattle.homa_plain.specs.declared.id.HostId.{HostId}
 use Rattle.homa_plain.specs.Entries.{PlainCall, PlainDeliver, PlainRun}
-use Rattle.homa_plain.specs.First as first
+use Rattle.homa_laws.specs.First as first
 use Rattle.homa_top.specs.declared.first.world.Packet.{Packet}
 use Rattle.homa_top.specs.declared.first.world.Outcome.TheVariants.{Called, Ran}
 use Rattle.homa_top.specs.Seen.{packet_seen, packet_at, no_packet, told_seen}

@@ -7,7 +7,7 @@ use Rattle.homa_io.specs.Outside.{unread, IsAtEnd}
 use Rattle.homa_plain.specs.Input.{lines_of, without_feed, ends_in_feed, has_no_feed}
 use Rattle.homa_plain.specs.Settings.{usual}
 use Rattle.homa_plain.specs.Entries.{PlainSettings}
-use Rattle.homa_plain.specs.First.{World, After, Replay, Fault, NoGo, Unbuilt, Judged, Refused, Carried, End, Finished, RefusedAt, judged, judged_given, given_of_line, most_lines, longest_line, first_world, replay, replay_of, replay_from, with_told, is_go}
+use Rattle.homa_laws.specs.First.{World, After, Replay, Fault, NoGo, Unbuilt, Judged, Refused, Carried, End, Finished, RefusedAt, judged, judged_given, given_of_line, most_lines, longest_line, first_world, replay, replay_of, replay_from, with_told, is_go}
 use Rattle.homa_text.specs.Lines.{Reading, TakesLine, IsEnd}
 use Rattle.homa_top.specs.declared.first.world.Outcome.{Outcome}
 use Rattle.homa_top.specs.Seen.{told_seen}

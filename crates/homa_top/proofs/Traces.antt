@@ -1,7 +1,7 @@
 -- The laws that the trace of each replay obeys.
 use Rattle.std.proofs.Common.{◌≡◌, ℕ, Option, Some, List}
-use Rattle.homa_plain.specs.First.{replay}
-use Rattle.homa_plain.specs.FirstLaws.{Holds, Once, Returned, HandedUp, IsHandedUp, nothing_seen, seen_all}
+use Rattle.homa_laws.specs.First.{replay}
+use Rattle.homa_laws.specs.FirstLaws.{Holds, Once, Returned, HandedUp, IsHandedUp, nothing_seen, seen_all}
 use Rattle.homa_laws.proofs.Replays.{replay-obeys}
 
 pub replay_once : (left : Option (List ℕ)) (bytes : List ℕ) → left ≡ Some bytes → Holds Once nothing_seen (replay bytes).told

@@ -5,7 +5,7 @@ use Rattle.std.proofs.lemmas.Bool.Decides.{nat_tests}
 use Rattle.std.proofs.lemmas.Slice.Eq.{bytes_eq-Decides}
 use Rattle.homa_io.specs.Outside.{unread}
 use Rattle.homa_plain.specs.Input.{without_feed, ends_in_feed, has_no_feed}
-use Rattle.homa_plain.specs.First as first
+use Rattle.homa_laws.specs.First as first
 use Rattle.homa_text.specs.Lines.{Reading, TakesLine, IsLine, IsLong, IsOver}
 use Rattle.homa_top.specs.Turn.{IsGo, IsOther, IsCut, IsRefused}
 use Rattle.homa_top.proofs.LinesOf.{length-without_feed, without_feed-open}

@@ -5,7 +5,7 @@ use Rattle.homa_io.specs.Outside.{appended}
 use Rattle.homa_plain.specs.Input.{lines_of}
 use Rattle.homa_plain.specs.Entries.{PlainEntry}
 use Rattle.homa_plain.specs.Text.{line_text}
-use Rattle.homa_plain.specs.First.{World, Replay, replay, replay_from, with_told}
+use Rattle.homa_laws.specs.First.{World, Replay, replay, replay_from, with_told}
 
 -- Of the bytes that the source had some came, and these are left. This was told and printed, and whatever comes (nothing,
 -- where the end was seen), the rest of the replay is what is due for it.

@@ -1,6 +1,6 @@
 -- What a line stands for, as the definitions have it.
 use Rattle.std.specs.Prelude.{◌≤◌, vec_len}
-use Rattle.homa_plain.specs.First as first
+use Rattle.homa_laws.specs.First as first
 use Rattle.homa_top.specs.declared.first.script.Given.{Given}
 use Rattle.homa_top.specs.declared.first.script.Given.TheVariants.{Call, Deliver}
 

@@ -1,7 +1,7 @@
 -- What was printed of a replay.
 use Rattle.std.specs.Prelude.{◌≡◌, ℕ, ◌⊎◌, Option, Some, List, [], ◌++◌}
 use Rattle.homa_io.specs.Outside.{TookFront}
-use Rattle.homa_plain.specs.First.{replay_text}
+use Rattle.homa_laws.specs.First.{replay_text}
 
 -- A front of the text of every input that begins with the bytes that came was printed; or nothing more is left, and it
 -- was a front of the text of the input that came.

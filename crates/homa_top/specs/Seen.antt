@@ -2,7 +2,7 @@
 use Rattle.std.specs.Prelude.{ℕ, ◌<◌, List, [], ◌∷◌, map, slice_get, unwrap_or}
 use Rattle.homa_plain.specs.declared.packet.Role.TheVariants.{Client}
 use Rattle.homa_plain.specs.Entries.{PlainEntry, PlainCall, PlainDeliver, PlainRun, PlainDone}
-use Rattle.homa_plain.specs.First as first
+use Rattle.homa_laws.specs.First as first
 use Rattle.homa_top.specs.declared.first.world.Packet.{Packet}
 use Rattle.homa_top.specs.declared.first.world.World.{World}
 use Rattle.homa_top.specs.declared.first.world.Outcome.{Outcome}

@@ -1,7 +1,7 @@
 -- What the next line of a schedule does.
 use Rattle.std.specs.Prelude.{◌≡◌, ℕ, ◌+◌, ◌<◌, ◌≤◌, ◌⊎◌, true, false, Option, None, Some, List, length}
 use Rattle.homa_plain.specs.Input.{without_feed}
-use Rattle.homa_plain.specs.First as first
+use Rattle.homa_laws.specs.First as first
 use Rattle.homa_text.specs.Lines.{Reading, TakesLine, IsOver, IsEnd}
 use Rattle.homa_top.specs.Seen.{told_seen, IsWithin}
 use Rattle.homa_top.specs.declared.first.world.Outcome.{Outcome}

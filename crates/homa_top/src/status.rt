@@ -1,8 +1,8 @@
 // The top call.
-ghost use Rattle.std.specs.Prelude.{◌≡◌, ◌≤◌, ◌⊎◌, Some, ℕ, List, map, true, false};
+ghost use Rattle.std.specs.Prelude.{◌≡◌, ◌≢◌, ◌≤◌, ◌⊎◌, Some, ℕ, List, map, true, false};
 ghost use Rattle.homa_io.specs.Outside.{HasRisen, appended, IsAtEnd, TookFront};
-ghost use Rattle.homa_plain.specs.First.{replay, replay_text, is_refused};
-ghost use Rattle.homa_plain.specs.FirstLaws.{Holds, Once, Returned, HandedUp, IsHandedUp, nothing_seen, seen_all};
+ghost use Rattle.homa_laws.specs.First.{replay, replay_text, is_refused};
+ghost use Rattle.homa_laws.specs.FirstLaws.{Holds, Once, Returned, HandedUp, IsHandedUp, nothing_seen, seen_all};
 ghost use Rattle.homa_top.specs.Words.{is_replay, usage_line};
 ghost use Rattle.homa_top.specs.Printing.{PrintsFront};
 
@@ -30,6 +30,7 @@ fn put_usage<K: Sink>(sink: &mut K) -> u8
     ensures line { result ≡ 1 → K.taken sink.new ≡ appended (K.taken sink.old) usage_line }
     ensures front { TookFront (K.taken sink.old) (K.taken sink.new) usage_line }
     ensures write { result ≡ 4 → HasRisen (K.faults sink.old) (K.faults sink.new) }
+    ensures quiet { result ≡ 1 → K.faults sink.new ≡ K.faults sink.old }
 {
     match write_all(sink, USAGE) {
         Ok(()) => 1,
@@ -63,9 +64,12 @@ pub fn run<S: Source, K: Sink>(alloc: Global, words: &[&str], source: &mut S, si
     // A fault or want of memory leaves a front of it.
     ensures front { is_replay (map (λ w. w.now) words.now) ≡ true → 3 ≤ result → PrintsFront (S.left source.old) (S.left source.new) (K.taken sink.old) (K.taken sink.new) }
 
-    // Faults have their causes, and nothing else keeps an input that is accepted from its end.
+    // Faults have their causes, each fault has its status, and nothing else keeps an input that is
+    // accepted from its end.
     ensures read { result ≡ 3 → HasRisen (S.faults source.old) (S.faults source.new) }
     ensures write { result ≡ 4 → HasRisen (K.faults sink.old) (K.faults sink.new) }
+    ensures read_fault { S.faults source.new ≢ S.faults source.old → result ≡ 3 }
+    ensures write_fault { K.faults sink.new ≢ K.faults sink.old → result ≡ 4 }
     ensures complete { is_replay (map (λ w. w.now) words.now) ≡ true → (bytes : List ℕ) → S.left source.old ≡ Some bytes → is_refused bytes ≡ false → (HasRisen (S.faults source.old) (S.faults source.new) → ⊥) → (HasRisen (K.faults sink.old) (K.faults sink.new) → ⊥) → (result ≡ 0) ⊎ (result ≡ 5) }
 
     // The trace obeys the laws.

@@ -1,10 +1,9 @@
 -- Pages of 4096 bytes in one block, and chains of them by a table of next pages.
-use Rattle.std.specs.Int.{div_ceil}
 use Rattle.std.specs.Prelude.{◌≡◌, ℕ, zero, suc, ◌+◌, ◌*◌, ◌/◌, ◌%◌, ◌<◌, List, [], ◌∷◌, length, slice_index}
 
 -- the fewest pages that have room for so many bytes
 abbrev pub pages_for : ℕ → ℕ
-pages_for bytes = div_ceil bytes 4096
+pages_for bytes = (bytes + 4095) / 4096
 
 -- a byte of a page
 abbrev pub byte_at : List ℕ → ℕ → ℕ → ℕ

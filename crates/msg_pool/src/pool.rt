@@ -111,6 +111,7 @@ impl MsgPool {
         ensures need { IfErr result (λ full. full.need ≡ pages_for len) }
         ensures free { IfErr result (λ full. full.free ≡ free_pages self.old) }
         ensures same { OnErr result (self.new ≡ self.old) }
+        ensures within { leased_pages self.new.leases ≤ self.new.pages }
     {
         let need = len.div_ceil(PAGE);
         if self.free < need {
@@ -153,7 +154,8 @@ impl MsgPool {
     /// Ends a lease, whose pages are free again.
     pub fn give(&mut self, lease: Lease)
         requires { IsLeaseOf self.old lease }
-        ensures { self.new ≡ without self.old lease }
+        ensures given { self.new ≡ without self.old lease }
+        ensures within { leased_pages self.old.leases ≤ self.old.pages }
     {
         let Some(chain) = self.chains.try_remove(lease.number) else {
             unreachable!()

@@ -1,7 +1,7 @@
 // The lines of a schedule, one by one.
 ghost use Rattle.std.specs.Prelude.{◌≡◌, ◌+◌, ◌-◌, ◌*◌, ◌^◌, ◌<◌, ◌≤◌, min, Some, ℕ, List, length, vec_len, OnOk, OnErr, IfOk, IfErr, IsErrOf};
 ghost use Rattle.homa_io.specs.Outside.{HasRisen, unread, IsAtEnd};
-ghost use Rattle.homa_plain.specs.First.{judged, judged_given, Carried, Refused};
+ghost use Rattle.homa_laws.specs.First.{judged, judged_given, Carried, Refused};
 ghost use Rattle.homa_text.specs.Lines.{reading};
 ghost use Rattle.homa_top.specs.Given.{given_seen, IsShort};
 ghost use Rattle.homa_top.specs.Seen.{world_seen, told_seen, IsWithin};
@@ -57,7 +57,7 @@ fn carry_out(world: &mut World, given: Given) -> Result<Result<Outcome, Fault>, 
 }
 
 // Carries out line `number`, without its line feed, or says why it is refused.
-#[tactic(auto, unfolding(homa_plain::specs::First::judged))]
+#[tactic(auto, unfolding(homa_laws::specs::First::judged))]
 fn take(
     alloc: Global,
     world: &mut World,
@@ -94,6 +94,7 @@ pub fn take_line<S: Source>(
     ensures longest { (reading lines.new).longest ≡ (reading lines.old).longest }
     ensures err { OnErr result ((came : List ℕ) × (S.left source.old ≡ unread came (S.left source.new))) }
     ensures read { IsErrOf result Stop.Read → HasRisen (S.faults source.old) (S.faults source.new) }
+    ensures quiet { (IsErrOf result Stop.Read → ⊥) → S.faults source.new ≡ S.faults source.old }
     ensures write { IsErrOf result Stop.Write → ⊥ }
     ensures never_falls { S.faults source.old ≤ S.faults source.new }
 {
@@ -119,6 +120,7 @@ pub fn take_go<S: Source>(lines: &mut Lines, source: &mut S) -> Result<Option<Fa
     ensures longest { (reading lines.new).longest ≡ (reading lines.old).longest }
     ensures err { OnErr result ((came : List ℕ) × (S.left source.old ≡ unread came (S.left source.new))) }
     ensures risen { OnErr result (HasRisen (S.faults source.old) (S.faults source.new)) }
+    ensures quiet { OnOk result (S.faults source.new ≡ S.faults source.old) }
     ensures never_falls { S.faults source.old ≤ S.faults source.new }
 {
     match lines.next(source)? {

@@ -1,12 +1,13 @@
 // What is printed of an outcome, and of a refusal.
-ghost use Rattle.std.specs.Prelude.{◌≡◌, ◌<◌, ◌≤◌, vec_len, OnOk, OnErr};
+ghost use Rattle.std.specs.Prelude.{◌≡◌, ◌<◌, ◌≤◌, vec_len, All, OnOk, OnErr};
 ghost use Rattle.std.specs.List.{flat_map};
 ghost use Rattle.homa_io.specs.Outside.{HasRisen, appended, TookFront};
 ghost use Rattle.homa_plain.specs.Entries.{plain, PlainCall, PlainDeliver, PlainRun, PlainDone};
 ghost use Rattle.homa_plain.specs.Text.{line_text};
-ghost use Rattle.homa_plain.specs.First.{sent, end_text, RefusedAt};
+ghost use Rattle.homa_laws.specs.First.{sent, end_text, RefusedAt};
 ghost use Rattle.homa_top.specs.Seen.{packet_seen, world_seen, told_seen, IsWithin};
 ghost use Rattle.homa_top.specs.Turn.{fault_seen};
+ghost use Rattle.homa_text.specs.Told.{HasLine};
 
 use crate::first::fault::Fault;
 use crate::first::world::{Outcome, Packet, World};
@@ -84,9 +85,11 @@ fn done(response: &Packet) -> Entry<'_>
 
 // The lines of entries, one after another.
 fn put_entries<K: Sink>(sink: &mut K, entries: &[Entry<'_>]) -> Result<(), WriteFailed>
+    requires { All (λ e. HasLine (plain e)) entries.now }
     ensures ok { OnOk result (K.taken sink.new ≡ appended (K.taken sink.old) (flat_map (λ e. line_text (plain e)) entries.now)) }
     ensures err { OnErr result (TookFront (K.taken sink.old) (K.taken sink.new) (flat_map (λ e. line_text (plain e)) entries.now)) }
     ensures risen { OnErr result (HasRisen (K.faults sink.old) (K.faults sink.new)) }
+    ensures quiet { OnOk result (K.faults sink.new ≡ K.faults sink.old) }
     ensures never_falls { K.faults sink.old ≤ K.faults sink.new }
 {
     for entry in entries {
@@ -101,6 +104,7 @@ fn put_called<K: Sink>(sink: &mut K, world: &World, packet: usize) -> Result<(),
     ensures ok { OnOk result (K.taken sink.new ≡ appended (K.taken sink.old) (flat_map line_text (told_seen (world_seen world.now) (Outcome.Called packet)))) }
     ensures err { OnErr result (TookFront (K.taken sink.old) (K.taken sink.new) (flat_map line_text (told_seen (world_seen world.now) (Outcome.Called packet)))) }
     ensures risen { OnErr result (HasRisen (K.faults sink.old) (K.faults sink.new)) }
+    ensures quiet { OnOk result (K.faults sink.new ≡ K.faults sink.old) }
     ensures never_falls { K.faults sink.old ≤ K.faults sink.new }
 {
     let request = &world.packets[packet];
@@ -113,6 +117,7 @@ fn put_arrived<K: Sink>(sink: &mut K, world: &World, packet: usize) -> Result<()
     ensures ok { OnOk result (K.taken sink.new ≡ appended (K.taken sink.old) (flat_map line_text (told_seen (world_seen world.now) (Outcome.Arrived packet)))) }
     ensures err { OnErr result (TookFront (K.taken sink.old) (K.taken sink.new) (flat_map line_text (told_seen (world_seen world.now) (Outcome.Arrived packet)))) }
     ensures risen { OnErr result (HasRisen (K.faults sink.old) (K.faults sink.new)) }
+    ensures quiet { OnOk result (K.faults sink.new ≡ K.faults sink.old) }
     ensures never_falls { K.faults sink.old ≤ K.faults sink.new }
 {
     put_entries(sink, &[delivered(packet)])
@@ -130,6 +135,7 @@ fn put_ran<K: Sink>(
     ensures ok { OnOk result (K.taken sink.new ≡ appended (K.taken sink.old) (flat_map line_text (told_seen (world_seen world.now) (Outcome.Ran packet response)))) }
     ensures err { OnErr result (TookFront (K.taken sink.old) (K.taken sink.new) (flat_map line_text (told_seen (world_seen world.now) (Outcome.Ran packet response)))) }
     ensures risen { OnErr result (HasRisen (K.faults sink.old) (K.faults sink.new)) }
+    ensures quiet { OnOk result (K.faults sink.new ≡ K.faults sink.old) }
     ensures never_falls { K.faults sink.old ≤ K.faults sink.new }
 {
     let request = &world.packets[packet];
@@ -146,6 +152,7 @@ fn put_done<K: Sink>(sink: &mut K, world: &World, packet: usize) -> Result<(), W
     ensures ok { OnOk result (K.taken sink.new ≡ appended (K.taken sink.old) (flat_map line_text (told_seen (world_seen world.now) (Outcome.Done packet)))) }
     ensures err { OnErr result (TookFront (K.taken sink.old) (K.taken sink.new) (flat_map line_text (told_seen (world_seen world.now) (Outcome.Done packet)))) }
     ensures risen { OnErr result (HasRisen (K.faults sink.old) (K.faults sink.new)) }
+    ensures quiet { OnOk result (K.faults sink.new ≡ K.faults sink.old) }
     ensures never_falls { K.faults sink.old ≤ K.faults sink.new }
 {
     let response = &world.packets[packet];
@@ -162,6 +169,7 @@ pub fn put_outcome<K: Sink>(
     ensures ok { OnOk result (K.taken sink.new ≡ appended (K.taken sink.old) (flat_map line_text (told_seen (world_seen world.now) outcome))) }
     ensures err { OnErr result (TookFront (K.taken sink.old) (K.taken sink.new) (flat_map line_text (told_seen (world_seen world.now) outcome))) }
     ensures risen { OnErr result (HasRisen (K.faults sink.old) (K.faults sink.new)) }
+    ensures quiet { OnOk result (K.faults sink.new ≡ K.faults sink.old) }
     ensures never_falls { K.faults sink.old ≤ K.faults sink.new }
 {
     match outcome {
@@ -177,6 +185,7 @@ pub fn put_refused<K: Sink>(sink: &mut K, line: u64, fault: Fault) -> Result<(),
     ensures ok { OnOk result (K.taken sink.new ≡ appended (K.taken sink.old) (end_text (RefusedAt line (fault_seen fault)))) }
     ensures err { OnErr result (TookFront (K.taken sink.old) (K.taken sink.new) (end_text (RefusedAt line (fault_seen fault)))) }
     ensures risen { OnErr result (HasRisen (K.faults sink.old) (K.faults sink.new)) }
+    ensures quiet { OnOk result (K.faults sink.new ≡ K.faults sink.old) }
     ensures never_falls { K.faults sink.old ≤ K.faults sink.new }
 {
     let fault = match fault {

@@ -1,7 +1,7 @@
 // The replay of a schedule.
 ghost use Rattle.std.specs.Prelude.{◌≡◌, Some, ℕ, List, true, not, OnOk, OnErr, IfOk, IsErrOf};
 ghost use Rattle.homa_io.specs.Outside.{HasRisen, appended, IsAtEnd};
-ghost use Rattle.homa_plain.specs.First.{replay_text, is_refused};
+ghost use Rattle.homa_laws.specs.First.{replay_text, is_refused};
 ghost use Rattle.homa_top.specs.Printing.{PrintsFront};
 
 use crate::Stop;
@@ -27,6 +27,8 @@ pub fn replay<S: Source, K: Sink>(alloc: Global, source: &mut S, sink: &mut K) -
     ensures front { OnErr result (PrintsFront (S.left source.old) (S.left source.new) (K.taken sink.old) (K.taken sink.new)) }
     ensures read { IsErrOf result Stop.Read → HasRisen (S.faults source.old) (S.faults source.new) }
     ensures write { IsErrOf result Stop.Write → HasRisen (K.faults sink.old) (K.faults sink.new) }
+    ensures quiet_source { (IsErrOf result Stop.Read → ⊥) → S.faults source.new ≡ S.faults source.old }
+    ensures quiet_sink { (IsErrOf result Stop.Write → ⊥) → K.faults sink.new ≡ K.faults sink.old }
 {
     let mut lines = Lines::open(alloc, MOST_BYTES, LONGEST_LINE)?;
     if let Some(fault) = take_go(&mut lines, source)? {

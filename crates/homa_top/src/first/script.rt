@@ -4,7 +4,7 @@ ghost use Rattle.std.specs.List.{slice_split};
 ghost use Rattle.std.specs.Option.{option_map};
 ghost use Rattle.hex.specs.Hex.{decode_of};
 ghost use Rattle.homa_plain.specs.Numbers.{number_of};
-ghost use Rattle.homa_plain.specs.First.{host_of, call_of, delivery_of, given_of, given_of_line};
+ghost use Rattle.homa_laws.specs.First.{host_of, call_of, delivery_of, given_of, given_of_line};
 ghost use Rattle.homa_top.specs.Given.{given_seen, IsShort};
 
 use hex::FromHexError;

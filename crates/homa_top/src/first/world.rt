@@ -1,6 +1,6 @@
 // The first path's world: two hosts, and the packets between them.
 ghost use Rattle.std.specs.Prelude.{◌≡◌, ◌<◌, ◌≤◌, ◌+◌, vec_len, length, OnOk, IfOk};
-ghost use Rattle.homa_plain.specs.First.{is_among, next_seq};
+ghost use Rattle.homa_laws.specs.First.{is_among, next_seq};
 
 use homa_plain::{CallId, HostId, Role};
 use std::alloc::{AllocError, Global};
@@ -69,7 +69,7 @@ fn copy_of(bytes: &Vec<u8>) -> Result<Vec<u8>, AllocError>
 
 impl World {
     ghost use Rattle.std.specs.Prelude.{[], ◌∷◌, ◌++◌};
-    ghost use Rattle.homa_plain.specs.First.{first_world, started, arrived, requested, replied, is_past};
+    ghost use Rattle.homa_laws.specs.First.{first_world, started, arrived, requested, replied, is_past};
     ghost use Rattle.homa_top.specs.Seen.{packet_at, world_seen, told_seen, IsWithin};
 
     pub fn open(alloc: Global) -> World

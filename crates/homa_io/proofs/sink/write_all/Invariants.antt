@@ -10,7 +10,7 @@ invariant-loop-written g l =
     record {
       so_far : taken l.sink ≡ appended (taken l.fn.sink) (take l.written l.bytes);
       within : l.written ≤ length l.bytes;
-      never_falls : faults l.fn.sink ≤ faults l.sink;
+      quiet : faults l.sink ≡ faults l.fn.sink;
       same : g.K.Sink.is_same l.fn.sink l.sink;
     }
 

@@ -1,4 +1,5 @@
 use Rattle.homa_script.proofs.NextLine.{is_over, is_long, is_text, is_no_text}
+use Rattle.homa_script.proofs.Sized.{line_grows}
 use Rattle.homa_script.proofs.line.next_line.Goals as goal
 
 pub returns-in-Over-clause-line : goal.returns-in-Over-clause-line
@@ -14,3 +15,6 @@ returns-in-Ok-clause-line g c =
 pub returns-in-Err-clause-line : goal.returns-in-Err-clause-line
 returns-in-Err-clause-line g c =
     is_no_text _ _ _ _ (rw c.in-Line.is at c.in_ok-next.ensures.next) c.requires.longest (rw c.bytes.ensures at c.in-Err.ensures.cases.0)
+
+pub returns-in-Ok-clause-sized : goal.returns-in-Ok-clause-sized
+returns-in-Ok-clause-sized g c = λ _. let d = rw c.in-Line.is at c.in_ok-next.ensures.next in line_grows _ _ _ _ _ d.2.1

@@ -4,6 +4,7 @@ use Rattle.homa_text.specs.Lines.{reading}
 use Rattle.homa_script.specs.Given.{given_seen}
 use Rattle.homa_script.proofs.Taken.{taken, counted_on}
 use Rattle.homa_script.proofs.Steps.{due_start, due_blank, due_given, due_fault, due_end, due_stop}
+use Rattle.homa_script.proofs.Sized.{long_line}
 use Rattle.homa_script.proofs.read.next_given.Goals as goal
 
 pub lines-init : goal.lines-init
@@ -56,3 +57,12 @@ returns-in-Some-clause-given g c =
 
 pub returns-clause-given : goal.returns-clause-given
 returns-clause-given g c = due_end (reading c.args.lines.now) (reading c.lines.lines) (reading c.next_line.new.lines) _ _ _ _ c.lines.invariant.due c.if-branch.false c.in_ok-next_line.ensures.line
+
+pub returns-in-Some-clause-on : goal.returns-in-Some-clause-on
+returns-in-Some-clause-on g c =
+    let l = c.lines in
+    let e = c.in_ok-next_line.ensures in
+    let t = taken (reading l.lines) (reading c.next_line.new.lines) _ _ _ c.last_line.result.now c.if-branch.true e.line e.numbered e.limit c.last_line.ensures.value in
+    let two = long_line c.last_line.result.now (given_seen c.in-Some.given c.read_event_line.new.out) (rw c.in-Some.is at c.in_ok-given.ensures.phrase) in
+    let sized = e.sized c.if-branch.true in
+    (counted_on _ _ _ _ _ l.invariant.counted t, omega (arith, two, sized, c.last_line.ensures.short, l.invariant.on))

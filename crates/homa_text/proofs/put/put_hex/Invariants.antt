@@ -1,4 +1,4 @@
-use Rattle.std.proofs.Common.{◌≤◌, ◌-◌, ◌++◌, length, take}
+use Rattle.std.proofs.Common.{◌≡◌, ◌≤◌, ◌-◌, ◌++◌, length, take}
 use Rattle.hex.specs.Hex.{encode_lower}
 use Rattle.homa_text.specs.Put.{IsPut}
 use Rattle.homa_text.proofs.put.put_hex.Given as goal
@@ -11,7 +11,7 @@ invariant-loop-done g l =
     record {
       so_far : IsPut (taken l.fn.sink) (taken l.sink) l.held.items (l.fn.held.items ++ encode_lower (take l.done l.bytes));
       within : l.done ≤ length l.bytes;
-      never_falls : faults l.fn.sink ≤ faults l.sink;
+      quiet : faults l.sink ≡ faults l.fn.sink;
       same : g.K.Sink.is_same l.fn.sink l.sink;
     }
 

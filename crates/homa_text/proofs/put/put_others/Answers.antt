@@ -1,4 +1,4 @@
-use Rattle.std.proofs.Common.{arith}
+use Rattle.std.proofs.Common.{◌∙◌}
 use Rattle.std.proofs.lemmas.Result.{MatchResult-from_err}
 use Rattle.homa_text.specs.Written.{spaced_word}
 use Rattle.homa_text.proofs.Putting.{put_on, put_front}
@@ -13,6 +13,6 @@ returns-in_err-put_spaced-clause-err g c =
 pub loop-word-preserved : goal.loop-word-preserved
 loop-word-preserved g c = record {
   so_far = put_on _ _ _ _ _ _ _ _ _ c.loop-word.invariant.so_far c.in_ok-put_spaced.ensures.ok (flat_map-more spaced_word c.args.words.now c.loop-word.word-index _ c.loop-word-test.true);
-  never_falls = omega arith;
+  quiet = c.in_ok-put_spaced.ensures.quiet ∙ c.loop-word.invariant.quiet;
   same = g.met.K.Sink.same_on _ _ _ c.loop-word.invariant.same c.in_ok-put_spaced.ensures.same;
 }

@@ -1,4 +1,4 @@
-use Rattle.std.proofs.Common.{◌≤◌, ◌++◌, take}
+use Rattle.std.proofs.Common.{◌≡◌, ◌++◌, take}
 use Rattle.std.specs.List.{flat_map}
 use Rattle.homa_text.specs.Put.{IsPut}
 use Rattle.homa_text.specs.Written.{spaced_word}
@@ -11,6 +11,6 @@ invariant-loop-word g l =
     let faults = g.K.Sink.faults in
     record {
       so_far : IsPut (taken l.fn.sink) (taken l.sink) l.held.items (l.fn.held.items ++ flat_map spaced_word (take l.word-index l.words));
-      never_falls : faults l.fn.sink ≤ faults l.sink;
+      quiet : faults l.sink ≡ faults l.fn.sink;
       same : g.K.Sink.is_same l.fn.sink l.sink;
     }

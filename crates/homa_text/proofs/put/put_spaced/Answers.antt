@@ -1,4 +1,4 @@
-use Rattle.std.proofs.Common.{refl, [], ◌∷◌, append_assoc}
+use Rattle.std.proofs.Common.{refl, ◌∙◌, [], ◌∷◌, append_assoc}
 use Rattle.std.proofs.lemmas.Result.{MatchResult-from_err, on_ok_weaker, on_err_weaker}
 use Rattle.homa_text.specs.Written.{word_text}
 use Rattle.homa_text.proofs.Putting.{put_on, put_front_last, front_more}
@@ -16,3 +16,7 @@ returns-clause-ok g c =
 pub returns-clause-err : goal.returns-clause-err
 returns-clause-err g c =
     on_err_weaker c.put_word.result (λ front. put_front_last _ _ _ _ _ _ _ _ c.in_ok-append.ensures.ok front refl) c.put_word.ensures.err
+
+pub returns-clause-quiet : goal.returns-clause-quiet
+returns-clause-quiet g c =
+    on_ok_weaker c.put_word.result (λ same. same ∙ c.in_ok-append.ensures.quiet) c.put_word.ensures.quiet

@@ -1,4 +1,4 @@
-use Rattle.std.proofs.Common.{refl, [], ◌∷◌, ◌++◌}
+use Rattle.std.proofs.Common.{refl, ◌∙◌, [], ◌∷◌, ◌++◌}
 use Rattle.std.specs.List.{flat_map}
 use Rattle.std.proofs.lemmas.Result.{MatchResult-from_err, on_ok_weaker, on_err_weaker}
 use Rattle.homa_text.specs.Written.{word_text, spaced_word}
@@ -38,3 +38,7 @@ returns-clause-err g c =
     on_err_weaker c.write_all.result
     (λ front. put_front_held _ _ _ _ _ _ (put_on _ _ _ _ _ [] (first ++ others) (10 ∷ []) _ (put_on _ _ _ _ _ [] first others _ (rw c.requires at c.in_ok-put_word.ensures.ok) c.in_ok-put_others.ensures.ok refl) c.in_ok-append.ensures.ok refl) front (line_of_words-spaced first c.args.others.now))
     (rw c.as_slice.ensures.value at c.write_all.ensures.err)
+
+pub returns-clause-quiet : goal.returns-clause-quiet
+returns-clause-quiet g c =
+    on_ok_weaker c.write_all.result (λ same. same ∙ (c.in_ok-append.ensures.quiet ∙ (c.in_ok-put_others.ensures.quiet ∙ c.in_ok-put_word.ensures.quiet))) c.write_all.ensures.quiet

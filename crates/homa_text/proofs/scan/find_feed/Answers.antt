@@ -1,10 +1,10 @@
-use Rattle.std.proofs.Common.{arith}
+use Rattle.std.proofs.Common.{arith, refl, ◌∙◌}
 use Rattle.std.proofs.lemmas.Result.{MatchResult-from_err}
 use Rattle.homa_text.proofs.InLine.{in_line_start, in_line_then, in_line_more, in_line_over, in_line_stops, whole_end, whole_feed}
 use Rattle.homa_text.proofs.scan.find_feed.Goals as goal
 
 pub loop-n-init : goal.loop-n-init
-loop-n-init g c = record { line = in_line_start _ _; within = omega arith; never_falls = omega arith; same = g.met.S.Source.same_self _ }
+loop-n-init g c = record { line = in_line_start _ _; within = omega arith; quiet = refl; same = g.met.S.Source.same_self _ }
 
 pub returns-in_err-next_byte-clause-err : goal.returns-in_err-next_byte-clause-err
 returns-in_err-next_byte-clause-err g c =
@@ -23,7 +23,7 @@ pub loop-n-preserved : goal.loop-n-preserved
 loop-n-preserved g c = record {
   line = rw c.keep.ensures (in_line_more _ _ c.loop-n.line c.loop-n.n c.in-Some.b (in_line_then _ _ _ _ _ _ c.loop-n.invariant.line (rw c.in-Some.is at c.in_ok-next_byte.ensures.taken)) c.in-Some.b-test.1);
   within = omega arith;
-  never_falls = omega arith;
+  quiet = c.in_ok-next_byte.ensures.quiet ∙ c.loop-n.invariant.quiet;
   same = g.met.S.Source.same_on _ _ _ c.loop-n.invariant.same c.in_ok-next_byte.ensures.same;
 }
 

@@ -1,4 +1,4 @@
-use Rattle.std.proofs.Common.{◌-◌, ◌≤◌, []}
+use Rattle.std.proofs.Common.{◌≡◌, ◌-◌, ◌≤◌, []}
 use Rattle.homa_text.specs.Input.{rest_of}
 use Rattle.homa_text.specs.Scan.{IsInLine}
 use Rattle.homa_text.proofs.scan.find_feed.Given as goal
@@ -11,7 +11,7 @@ invariant-loop-n g l =
     record {
       line : IsInLine (rest_of l.fn.input (left l.fn.source)) (rest_of l.input (left l.source)) l.line l.n [];
       within : l.n ≤ l.most;
-      never_falls : faults l.fn.source ≤ faults l.source;
+      quiet : faults l.source ≡ faults l.fn.source;
       same : g.S.Source.is_same l.fn.source l.source;
     }
 

@@ -1,9 +1,11 @@
 -- A piece is placed, and the answer is the plain message's.
-use Rattle.std.proofs.Common.{◌≡◌, ◌↔◌, ◌∙◌, sym, ap, subst}
+use Rattle.std.proofs.Common.{◌≡◌, ◌↔◌, ◌∙◌, refl, sym, ap, subst}
+use Rattle.plain_sets.specs.Maps.{len}
+use Rattle.homa_plain.specs.Incoming.{remaining, IsSound}
 use Rattle.homa_in.specs.declared.arriving.Accepted.{Accepted}
 use Rattle.homa_in.specs.Accepts.{answer}
 use Rattle.homa_in.specs.Part.{Part, seen, IsIn}
-use Rattle.homa_in.proofs.TakenLaws.{is_seen}
+use Rattle.homa_in.proofs.TakenLaws.{Holds, is_seen, remaining-seen, sound-seen}
 use Rattle.homa_in.proofs.AnswerLaws.{answer-many, answer-repeat, answer-whole}
 use Rattle.homa_in.proofs.PlacedLaws.{IsPlaced, holds_placed, many_placed, count_placed, taken_placed, others_placed, in_placed, refused_placed, same_placed}
 use Rattle.homa_in.proofs.arriving.Incoming.accept.Goals as goal
@@ -44,6 +46,8 @@ returns c =
     let many = comes c.match-place.result _ _ _ answered (answer-many old part is a piece fits) in
     let repeats = comes c.match-place.result _ _ _ answered (answer-repeat old part is a piece fits) in
     let after = ap (λ (p : Part). record p { missing = missing }) c.self.view_is in
+    let inside = in_placed old new part is c.requires.pool a piece fits missing changed placed in
+    let now = is_seen new (record part { missing = missing }) (record part { missing = missing }) refl inside (holds_placed old new part missing a piece changed placed (subst Holds c.self.view_is c.self.invariant)) in
     record {
       answer = answered;
       too_many = many;
@@ -52,7 +56,9 @@ returns c =
       taken = λ e. ap (seen new) after ∙ taken_placed old new part is c.requires.pool a piece fits missing changed placed e;
       part = after;
       others = others_placed old new part is c.requires.pool a piece fits missing changed placed;
-      pool = subst (IsIn new) (sym after) (in_placed old new part is c.requires.pool a piece fits missing changed placed);
+      pool = subst (IsIn new) (sym after) inside;
+      missing = ap (λ (p : Part). len p.missing) after ∙ remaining-seen new (record part { missing = missing }) now ∙ ap (λ (p : Part). remaining (seen new p)) (sym after);
+      sound = subst (λ (p : Part). IsSound (seen new p)) (sym after) (sound-seen new (record part { missing = missing }) now);
       refused = λ r.
           let both = refused_placed old new part is c.requires.pool a piece fits missing changed placed (many.0 r) in
           (after ∙ ap (λ m. record part { missing = m }) both.0, both.1);

@@ -6,7 +6,7 @@ use Rattle.plain_sets.specs.Numbers.{without_range}
 use Rattle.msg_pool.specs.Pool.{bytes_of}
 use Rattle.homa_in.specs.Part.{Part}
 use Rattle.homa_in.specs.Filled.{IsFilled}
-use Rattle.homa_in.proofs.TakenLaws.{is_seen}
+use Rattle.homa_in.proofs.TakenLaws.{is_seen, remaining-seen, sound-seen}
 use Rattle.homa_in.proofs.AnswerLaws.{completes_true, completes_false, message-filled}
 use Rattle.homa_in.proofs.arriving.Incoming.whole_with.Goals as goal
 
@@ -39,3 +39,15 @@ returns-clause-message c =
     let fill = subst (λ (xs : List ℕ). IsFilled c.self.inside.missing c.args.offset (c.args.offset + length c.args.bytes.now) c.args.bytes.now xs c.put_missing.new.scratch) c.fill.ensures c.put_missing.ensures in
     let fill' = subst (λ (p : Part). IsFilled p.missing c.args.offset (c.args.offset + length c.args.bytes.now) c.args.bytes.now (bytes_of c.args.pool.now p.lease) c.put_missing.new.scratch) c.self.view_is fill in
     message-filled c.args.pool.now c.args.self.now is c.args.offset c.args.bytes.now c.requires.fits c.put_missing.new.scratch last.1 fill'
+
+pub returns-then-not-has_the_last-clause-missing : goal.returns-then-not-has_the_last-clause-missing
+returns-then-not-has_the_last-clause-missing c = remaining-seen c.args.pool.now c.args.self.now (is_seen c.args.pool.now _ c.args.self.now c.self.view_is c.requires.pool c.self.invariant)
+
+pub returns-then-not-has_the_last-clause-sound : goal.returns-then-not-has_the_last-clause-sound
+returns-then-not-has_the_last-clause-sound c = sound-seen c.args.pool.now c.args.self.now (is_seen c.args.pool.now _ c.args.self.now c.self.view_is c.requires.pool c.self.invariant)
+
+pub returns-clause-missing : goal.returns-clause-missing
+returns-clause-missing c = remaining-seen c.args.pool.now c.args.self.now (is_seen c.args.pool.now _ c.args.self.now c.self.view_is c.requires.pool c.self.invariant)
+
+pub returns-clause-sound : goal.returns-clause-sound
+returns-clause-sound c = sound-seen c.args.pool.now c.args.self.now (is_seen c.args.pool.now _ c.args.self.now c.self.view_is c.requires.pool c.self.invariant)

@@ -1,4 +1,4 @@
-use Rattle.std.proofs.Common.{arith}
+use Rattle.std.proofs.Common.{◌∙◌}
 use Rattle.std.proofs.lemmas.Result.{MatchResult-from_err}
 use Rattle.homa_plain.specs.Entries.{plain}
 use Rattle.homa_plain.specs.Text.{line_text}
@@ -13,5 +13,5 @@ returns-in_err-put_entry-clause-err g c =
 pub loop-entry-preserved : goal.loop-entry-preserved
 loop-entry-preserved g c = record {
   so_far = wrote_entry (λ e. line_text (plain e)) c.args.entries.now c.loop-entry.entry-index _ _ _ _ c.loop-entry-test.true c.entry-item.is c.loop-entry.invariant.so_far c.in_ok-put_entry.ensures.ok;
-  never_falls = omega arith;
+  quiet = c.in_ok-put_entry.ensures.quiet ∙ c.loop-entry.invariant.quiet;
 }

@@ -1,4 +1,4 @@
-use Rattle.std.proofs.Common.{◌≡◌, ◌≤◌, take}
+use Rattle.std.proofs.Common.{◌≡◌, take}
 use Rattle.std.specs.List.{flat_map}
 use Rattle.homa_io.specs.Outside.{appended}
 use Rattle.homa_plain.specs.Entries.{plain}
@@ -12,5 +12,5 @@ invariant-loop-entry g l =
     let faults = g.K.Sink.faults in
     record {
       so_far : taken l.sink ≡ appended (taken l.fn.sink) (flat_map (λ e. line_text (plain e)) (take l.entry-index l.entries));
-      never_falls : faults l.fn.sink ≤ faults l.sink;
+      quiet : faults l.sink ≡ faults l.fn.sink;
     }

@@ -2,7 +2,7 @@ use Rattle.std.proofs.Common.{◌≡◌, ◌+◌, arith, ap, refl, sym, ◌∙�
 use Rattle.std.proofs.lemmas.Result.{MatchResult-from_err}
 use Rattle.homa_plain.specs.Settings.{usual}
 use Rattle.homa_plain.specs.Entries.{PlainSettings}
-use Rattle.homa_plain.specs.First.{Finished, RefusedAt, first_world, replay, end_text}
+use Rattle.homa_laws.specs.First.{Finished, RefusedAt, first_world, replay, end_text}
 use Rattle.homa_text.specs.Lines.{Reading, reading}
 use Rattle.homa_top.specs.Seen.{world_seen, told_seen}
 use Rattle.homa_top.specs.Turn.{fault_seen}
@@ -58,8 +58,8 @@ loop-world-init g c =
       read = omega (arith, opening.2.taken.read, opening.2.short, ap (λ (r : Reading). r.read) c.in_ok-lines.ensures);
       limit = c.in_ok-fault.ensures.limit ∙ ap (λ (r : Reading). r.limit) c.in_ok-lines.ensures;
       longest = c.in_ok-fault.ensures.longest ∙ ap (λ (r : Reading). r.longest) c.in_ok-lines.ensures;
-      source_faults = omega arith;
-      sink_faults = omega arith;
+      quiet_source = c.in_ok-fault.ensures.quiet;
+      quiet_sink = c.in_ok-put_entry.ensures.quiet;
     }
 
 pub returns-in_err-take_line-clause-front : goal.returns-in_err-take_line-clause-front
@@ -134,6 +134,6 @@ loop-world-preserved g c =
       read = omega (arith, early.1, l.invariant.read);
       limit = c.in_ok-take_line.ensures.limit ∙ l.invariant.limit;
       longest = c.in_ok-take_line.ensures.longest ∙ l.invariant.longest;
-      source_faults = omega arith;
-      sink_faults = omega arith;
+      quiet_source = c.in_ok-take_line.ensures.quiet (λ e. cc) ∙ l.invariant.quiet_source;
+      quiet_sink = c.in_ok-put_outcome-in-Carry.ensures.quiet ∙ l.invariant.quiet_sink;
     }

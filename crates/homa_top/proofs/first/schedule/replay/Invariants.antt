@@ -17,8 +17,8 @@ invariant-loop-world g l =
       read : now.read ≤ 3001 * now.number;
       limit : now.limit ≡ 68719476736;
       longest : now.longest ≡ 3000;
-      source_faults : g.S.Source.faults l.fn.source ≤ g.S.Source.faults l.source;
-      sink_faults : g.K.Sink.faults l.fn.sink ≤ g.K.Sink.faults l.sink;
+      quiet_source : g.S.Source.faults l.source ≡ g.S.Source.faults l.fn.source;
+      quiet_sink : g.K.Sink.faults l.sink ≡ g.K.Sink.faults l.fn.sink;
     }
 
 abbrev pub decreases-loop-world : goal.decreases-loop-world

@@ -33,13 +33,13 @@ invariant_of-self c =
     let there : slot c.self.inside.chains c.lease.inside.number ≡ Some c.in-Some.chain = sym c.try_remove.ensures.value ∙ c.in-Some.is in
     let last : page_at c.self.inside.next.items c.in-Some.chain.first (c.div_ceil-count.result - 1) ≡ c.nth_page-last.result = ap (λ next. page_at next c.in-Some.chain.first (c.div_ceil-count.result - 1)) (sym c.deref.ensures.value) ∙ sym c.nth_page-last.ensures in
     subst (λ page. AreKept c.self.inside.block.items (set c.self.inside.next.items page c.self.inside.head) c.in-Some.chain.first (c.self.inside.free + c.div_ceil-count.result) c.try_remove.new.self) last
-    (give-kept c.self.inside.block.items c.self.inside.next.items c.self.inside.head c.self.inside.free c.self.inside.chains c.self.invariant c.lease.inside.number c.in-Some.chain there c.div_ceil-count.result c.div_ceil-count.ensures c.try_remove.new.self c.try_remove.ensures.updates c.in-Some.ensures.len c.try_remove.ensures.capacity)
+    (give-kept c.self.inside.block.items c.self.inside.next.items c.self.inside.head c.self.inside.free c.self.inside.chains c.self.invariant c.lease.inside.number c.in-Some.chain there c.div_ceil-count.result (omega (arith, c.div_ceil-count.ensures)) c.try_remove.new.self c.try_remove.ensures.updates c.in-Some.ensures.len c.try_remove.ensures.capacity)
 
-pub returns : goal.returns
-returns c =
+pub returns-clause-given : goal.returns-clause-given
+returns-clause-given c =
     let there : slot c.self.inside.chains c.lease.inside.number ≡ Some c.in-Some.chain = sym c.try_remove.ensures.value ∙ c.in-Some.is in
     let last : page_at c.self.inside.next.items c.in-Some.chain.first (c.div_ceil-count.result - 1) ≡ c.nth_page-last.result = ap (λ next. page_at next c.in-Some.chain.first (c.div_ceil-count.result - 1)) (sym c.deref.ensures.value) ∙ sym c.nth_page-last.ensures in
     view_without c.self.inside.block.items c.self.inside.next.items c.self.inside.chains c.lease.inside.number c.lease.inside.len c.args.self.now c.args.lease c.self.view_is c.lease.view_is _ _
     (length-set c.self.inside.next.items c.nth_page-last.result c.self.inside.head)
     (subst (λ page. leases_of c.self.inside.block.items (set c.self.inside.next.items page c.self.inside.head) c.try_remove.new.self ≡ remove (leases_of c.self.inside.block.items c.self.inside.next.items c.self.inside.chains) c.lease.inside.number) last
-    (give-leases c.self.inside.block.items c.self.inside.next.items c.self.inside.head c.self.inside.free c.self.inside.chains c.self.invariant c.lease.inside.number c.in-Some.chain there c.div_ceil-count.result c.div_ceil-count.ensures c.try_remove.new.self c.try_remove.ensures.updates c.in-Some.ensures.len c.try_remove.ensures.capacity))
+    (give-leases c.self.inside.block.items c.self.inside.next.items c.self.inside.head c.self.inside.free c.self.inside.chains c.self.invariant c.lease.inside.number c.in-Some.chain there c.div_ceil-count.result (omega (arith, c.div_ceil-count.ensures)) c.try_remove.new.self c.try_remove.ensures.updates c.in-Some.ensures.len c.try_remove.ensures.capacity))

@@ -1,6 +1,6 @@
 use Rattle.std.proofs.Common.{◌≡◌, ◌<◌, arith, length, map, sym, ◌∙◌, ap, refl, ◌++◌, ◌∷◌, [], false}
 use Rattle.homa_plain.specs.declared.packet.Role.TheVariants.{Server}
-use Rattle.homa_plain.specs.First as first
+use Rattle.homa_laws.specs.First as first
 use Rattle.homa_top.specs.Seen.{packet_seen, packet_at, world_seen}
 use Rattle.homa_top.proofs.Packets.{RunsNow, seen_at, ran_world, ran_told, map_more, map_length}
 use Rattle.homa_top.proofs.first.world.World.request.Goals as goal

@@ -1,6 +1,6 @@
 use Rattle.std.proofs.Common.{◌≡◌, arith, map, sym, ◌∙◌, ap, ◌++◌, ◌∷◌, []}
 use Rattle.homa_plain.specs.declared.packet.Role.TheVariants.{Client}
-use Rattle.homa_plain.specs.First as first
+use Rattle.homa_laws.specs.First as first
 use Rattle.homa_top.specs.Seen.{packet_seen, world_seen}
 use Rattle.homa_top.proofs.Packets.{told_called, map_more, map_length}
 use Rattle.homa_top.proofs.first.world.World.start.Goals as goal

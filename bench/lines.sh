@@ -1,0 +1,25 @@
+#!/usr/bin/env bash
+# Times lines of a trace that are put together and written, beside copies of the same bytes through the same sink in the
+# same run, and prints the ratios: processor time, the least of seven runs. A run without lines is timed too, and taken
+# off. From the top: bench/lines.sh [LINES]
+set -eu
+cd "$(dirname "$0")/../crates/line_mix"
+rt run -- put clock 3 < /dev/null > /dev/null
+python3 - "${1:-1000000}" <<'P'
+import resource, subprocess, sys
+lines = int(sys.argv[1])
+def spent():
+    used = resource.getrusage(resource.RUSAGE_CHILDREN)
+    return used.ru_utime + used.ru_stime
+def best(*words):
+    times = []
+    for _ in range(7):
+        before = spent()
+        subprocess.run(["out/line_mix", *map(str, words)], stdout=subprocess.DEVNULL, check=True)
+        times.append(spent() - before)
+    return min(times)
+for kind, name in [("clock", "clock"), ("grant", "GRANT"), ("short", "DATA of 60 bytes"), ("long", "DATA of 1,400 bytes")]:
+    none = best("put", kind, 0)
+    put, copy = [(best(how, kind, lines) - none) / lines * 1e9 for how in ("put", "copy")]
+    print(f"{name}: {put:.0f} ns a line, a copy {copy:.0f} ns: put / copy = {put / copy:.1f}")
+P

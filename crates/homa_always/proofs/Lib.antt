@@ -1,0 +1,4 @@
+pub mod ShapedLines
+pub mod ShapedSteps
+pub mod ShapedLaw
+pub mod Joined

@@ -1,0 +1,4 @@
+pub mod Deliver
+pub mod ClientRules
+pub mod RequestBlock
+pub mod ResponseBlock

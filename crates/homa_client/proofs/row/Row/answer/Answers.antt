@@ -1,0 +1,39 @@
+use Rattle.std.proofs.Common.{◌≡◌, ◌∙◌, true, false, ap, sym, subst, Some, Option}
+use Rattle.std.specs.Option.{is_some}
+use Rattle.homa_plain.specs.Incoming.{Incoming}
+use Rattle.homa_plain.specs.AtClient.{response_piece}
+use Rattle.homa_plain.specs.AtServer.{piece_of}
+use Rattle.homa_in.specs.Part.{Part}
+use Rattle.homa_parts.specs.Pooled.{Moves, seen_part}
+use Rattle.homa_parts.proofs.MoveLaws.{still}
+use Rattle.homa_client.specs.Held.{HeldRow, seen_row}
+use Rattle.homa_client.specs.Gives.{Gave, moment_of}
+use Rattle.homa_client.proofs.ReceiveLaws.{put_case, part_there, part_gone}
+use Rattle.homa_client.proofs.row.Row.answer.Goals as goal
+
+pub returns-then-is_some : goal.returns-then-is_some
+returns-then-is_some c s host now rows e =
+    let old = c.args.pool.now in
+    let self = c.args.self.now in
+    let m = moment_of host now c.args.order old self.part rows in
+    let piece = piece_of c.in-Data.length c.in-Data.offset c.in-Data.version c.in-Data.service c.args.payload.now in
+    let there : is_some self.part ≡ true = ap (λ (r : HeldRow). is_some r.part) (sym c.self.view_is) ∙ sym c.is_some.ensures ∙ c.if-is_some.true in
+    rw c.in-Data.is (put_case (λ d. Gave m c.args.id (Some piece) d old self c.put.new.pool c.put.new.self c.put.new.scratch c.put.result)
+    s m c.args.id (seen_row old self) piece (seen_part old self.part) (part_there old self.part there) (c.put.ensures m c.in-Data.version c.in-Data.service))
+
+pub returns-else-is_some : goal.returns-else-is_some
+returns-else-is_some c s host now rows e =
+    let old = c.args.pool.now in
+    let self = c.args.self.now in
+    let m = moment_of host now c.args.order old self.part rows in
+    let piece = piece_of c.in-Data.length c.in-Data.offset c.in-Data.version c.in-Data.service c.args.payload.now in
+    let gone : is_some self.part ≡ false = ap (λ (r : HeldRow). is_some r.part) (sym c.self.view_is) ∙ sym c.is_some.ensures ∙ c.if-is_some.false in
+    rw c.in-Data.is (subst (λ (o : Option Incoming). Gave m c.args.id (Some piece) (response_piece s m c.args.id (seen_row old self) o piece) old self c.open_with.new.pool c.open_with.new.self c.open_with.new.scratch c.open_with.result)
+    (sym (part_gone old self.part gone)) (c.open_with.ensures s c.args.id host now rows c.in-Data.version c.in-Data.service e))
+
+pub returns-in-Resend : goal.returns-in-Resend
+returns-in-Resend c s host now rows e = rw c.in-Resend.is (record {
+  did = c.resend.ensures.did (moment_of host now c.args.order c.args.pool.now c.args.self.now.part rows) c.args.id c.args.pool.now c.args.scratch.now;
+  moves = subst (λ (o : Option Part). Moves c.args.pool.now c.args.self.now.part c.args.pool.now o) (sym c.resend.ensures.part) (still c.args.pool.now c.args.self.now.part c.requires.pool);
+  gone = c.resend.ensures.stays;
+})

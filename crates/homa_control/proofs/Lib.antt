@@ -1,0 +1,4 @@
+pub mod At
+pub mod Opening
+pub mod Calls
+pub mod Settle

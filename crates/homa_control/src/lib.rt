@@ -1,0 +1,15 @@
+//! What a host has beside its rows: its clock, its cutoffs and those of its peers, the calls that finished, and what its
+//! step tells.
+//!
+//! The model: a [`Control`] is a record of these parts of the plain host, with the marks of what was told. `IsAt` says
+//! that a control and an outbox are those of a plain host in the midst of a step.
+//! Main promise: each call is the plain step's move of the same name, in what it tells, in its frames, and in these parts
+//! of the host.
+#![tactic(auto)]
+
+mod control;
+mod marks;
+mod saying;
+
+pub use control::{Control, Leaving, Peer};
+pub use saying::{Outcome, Said};

@@ -1,0 +1,107 @@
+-- What the end of a step leaves of its service's answer.
+use Rattle.std.proofs.Common.{◌≡◌, ℕ, suc, true, false, List, [], ◌∷◌, ◌++◌, refl, sym, ap, subst, ◌∙◌, arith}
+use Rattle.std.specs.List.{AllByRecursion}
+use Rattle.std.proofs.lemmas.Bool.{true≢false}
+use Rattle.homa_plain.specs.declared.id.CallId.{CallId}
+use Rattle.homa_plain.specs.declared.settings.Settings.{Settings}
+use Rattle.homa_plain.specs.Entries.{PlainRun}
+use Rattle.homa_plain.specs.Host.{Host, Told, Says, Sends}
+use Rattle.homa_plain.specs.Rules.{Answer}
+use Rattle.homa_plain.specs.Steps.{Work, ended, has_run}
+use Rattle.homa_steps.specs.StepLaws.{run_count}
+use Rattle.homa_steps.proofs.Places.{all-append}
+use Rattle.homa_steps.proofs.StepEnd.{ended-calm}
+use Rattle.homa_seen.specs.declared.mark.Mark.{Mark}
+use Rattle.homa_seen.specs.declared.mark.Mark.TheVariants.{Ran, Sent}
+use Rattle.homa_seen.specs.declared.outbox.SentFrame.{SentFrame}
+use Rattle.homa_seen.specs.Marks.{mark_of, marks_from, has_ran, response_of, IsReply, IsAllowed}
+use Rattle.host_laws.proofs.Keeps.{ended-keeps}
+use Rattle.homa_host.specs.Parts.{host_of}
+use Rattle.homa_host.specs.Amid.{Amid}
+use Rattle.homa_host.specs.declared.parts.HostParts.{HostParts}
+
+-- ---- what tells no RUN
+
+pub quiet_ran : (n : ℕ) (told : List Told) → run_count told ≡ 0 → has_ran (marks_from n told) ≡ false
+quiet_ran n [] e = refl
+quiet_ran n (Says (PlainRun host id service request response hold) ∷ told) e = absurd (omega arith)
+quiet_ran n (Says entry ∷ told) e = quiet_ran n told e
+quiet_ran n (Sends packet ∷ told) e = quiet_ran (suc n) told e
+
+pub no_replies : (h : Host) (a : Answer) (ms : List Mark) → has_ran ms ≡ false → AllByRecursion (IsReply h a) ms
+no_replies h a [] e = tt
+no_replies h a (Ran id service hold ∷ ms) e = absurd (true≢false e)
+no_replies h a (m ∷ ms) e = (tt, no_replies h a ms e)
+
+pub none_allowed : (h : Host) (allows : ℕ → List ℕ → List ℕ → ℕ → Type 0) (whole : List ℕ) (ms : List Mark) → has_ran ms ≡ false → AllByRecursion (IsAllowed h allows whole) ms
+none_allowed h allows whole [] e = tt
+none_allowed h allows whole (Ran id service hold ∷ ms) e = absurd (true≢false e)
+none_allowed h allows whole (m ∷ ms) e = (tt, none_allowed h allows whole ms e)
+
+pub ran_append : (ms more : List Mark) → has_ran more ≡ false → has_ran (ms ++ more) ≡ has_ran ms
+ran_append [] more e = e
+ran_append (Ran id service hold ∷ ms) more e = refl
+ran_append (m ∷ ms) more e = ran_append ms more e
+
+pub run_append : (told more : List Told) → has_run told ≡ true → has_run (told ++ more) ≡ true
+run_append [] more e = absurd (true≢false (sym e))
+run_append (Says (PlainRun host id service request response hold) ∷ told) more e = refl
+run_append (t ∷ told) more e = run_append told more e
+
+pub marks_append : (n : ℕ) (told more : List Told) → (k : ℕ) × (marks_from n (told ++ more) ≡ marks_from n told ++ marks_from k more)
+marks_append n [] more = (n, refl)
+marks_append n (Says entry ∷ told) more = let r = marks_append n told more in (r.0, ap (λ ms. mark_of entry ∷ ms) r.1)
+marks_append n (Sends packet ∷ told) more = let r = marks_append (suc n) told more in (r.0, ap (λ ms. Sent n ∷ ms) r.1)
+
+pub left_of_all : (P : Mark → Type 0) (ms more : List Mark) → AllByRecursion P (ms ++ more) → AllByRecursion P ms
+left_of_all P [] more all = tt
+left_of_all P (m ∷ ms) more all = (all.0, left_of_all P ms more all.1)
+
+-- ---- of another host with the same responses
+
+module _ (h k : Host) (same : (id : CallId) → response_of k id ≡ response_of h id) where
+  replies_move : (a : Answer) (ms : List Mark) → AllByRecursion (IsReply h a) ms → AllByRecursion (IsReply k a) ms
+  replies_move a [] all = tt
+  replies_move a (Ran id service hold ∷ ms) all = (all.0 ∙ ap (λ (bytes : List ℕ). record { bytes = bytes; hold = hold }) (sym (same id)), replies_move a ms all.1)
+  replies_move a (m ∷ ms) all = (tt, replies_move a ms all.1)
+
+  allowed_move : (allows : ℕ → List ℕ → List ℕ → ℕ → Type 0) (whole : List ℕ) (ms : List Mark) → AllByRecursion (IsAllowed h allows whole) ms → AllByRecursion (IsAllowed k allows whole) ms
+  allowed_move allows whole [] all = tt
+  allowed_move allows whole (Ran id service hold ∷ ms) all = (subst (λ bytes. allows service whole bytes hold) (sym (same id)) all.0, allowed_move allows whole ms all.1)
+  allowed_move allows whole (m ∷ ms) all = (tt, allowed_move allows whole ms all.1)
+
+-- ---- the end of a step
+
+pub run_stays : (s : Settings) (w : Work) → has_run w.told ≡ true → has_run (ended s w).told ≡ true
+run_stays s w e =
+    let calm = ended-calm s w in
+    ap has_run calm.grown ∙ run_append w.told calm.told e
+
+module _ (s : Settings) (w : Work) (mid q : HostParts) (before after : List SentFrame) (amid : Amid w mid before) (ends : Amid (ended s w) q after) where
+  more : List Mark
+  more = marks_from (marks_append 0 w.told (ended-calm s w).told).0 (ended-calm s w).told
+
+  none : has_ran more ≡ false
+  unfolding more
+  none = quiet_ran _ (ended-calm s w).told (ended-calm s w).quiet
+
+  marks_grown : q.control.marks ≡ mid.control.marks ++ more
+  unfolding more
+  marks_grown = ends.marked ∙ ap (marks_from 0) (ended-calm s w).grown ∙ (marks_append 0 w.told (ended-calm s w).told).1 ∙ ap (λ ms. ms ++ more) (sym amid.marked)
+
+  responses : (id : CallId) → response_of (host_of q) id ≡ response_of (host_of mid) id
+  responses id = ap (λ (h : Host). response_of h id) ends.host ∙ (ended-keeps s w).responses id ∙ ap (λ (h : Host). response_of h id) (sym amid.host)
+
+  pub ran_same : has_ran q.control.marks ≡ has_ran mid.control.marks
+  ran_same = ap has_ran marks_grown ∙ ran_append mid.control.marks more none
+
+  pub replies_back : (a : Answer) → AllByRecursion (IsReply (host_of q) a) q.control.marks → AllByRecursion (IsReply (host_of mid) a) mid.control.marks
+  replies_back a all = replies_move (host_of q) (host_of mid) (λ id. sym (responses id)) a mid.control.marks (left_of_all (IsReply (host_of q) a) mid.control.marks more (subst (AllByRecursion (IsReply (host_of q) a)) marks_grown all))
+
+  pub replies_on : (a : Answer) → AllByRecursion (IsReply (host_of mid) a) mid.control.marks → AllByRecursion (IsReply (host_of q) a) q.control.marks
+  replies_on a all = subst (AllByRecursion (IsReply (host_of q) a)) (sym marks_grown)
+      (all-append (IsReply (host_of q) a) mid.control.marks more (replies_move (host_of mid) (host_of q) responses a mid.control.marks all) (no_replies (host_of q) a more none))
+
+  pub allowed_on : (allows : ℕ → List ℕ → List ℕ → ℕ → Type 0) (whole : List ℕ) → AllByRecursion (IsAllowed (host_of mid) allows whole) mid.control.marks → AllByRecursion (IsAllowed (host_of q) allows whole) q.control.marks
+  allowed_on allows whole all = subst (AllByRecursion (IsAllowed (host_of q) allows whole)) (sym marks_grown)
+      (all-append (IsAllowed (host_of q) allows whole) mid.control.marks more (allowed_move (host_of mid) (host_of q) responses allows whole mid.control.marks all) (none_allowed (host_of q) allows whole more none))

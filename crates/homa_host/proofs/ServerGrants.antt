@@ -1,0 +1,67 @@
+-- A server's message is granted to.
+use Rattle.std.proofs.Common.{◌≡◌, ◌<◌, ℕ, Option, Some, List, [], refl, sym, ap, subst, ◌∙◌}
+use Rattle.plain_sets.specs.Maps.{get, insert}
+use Rattle.homa_plain.specs.declared.id.CallId.{CallId}
+use Rattle.homa_plain.specs.declared.packet.Body.TheVariants as body
+use Rattle.homa_plain.specs.declared.packet.Role.TheVariants.{Server}
+use Rattle.homa_plain.specs.Choice.{new_end}
+use Rattle.homa_plain.specs.Rows.{ServerRow}
+use Rattle.homa_plain.specs.Sending.{Arriving, server_granted}
+use Rattle.homa_plain.specs.Steps.{Work, posts, server_is_granted}
+use Rattle.homa_plain.specs.Timers.{OfServer}
+use Rattle.homa_steps.specs.StepLaws.{HasOwnOrders}
+use Rattle.homa_steps.proofs.OwnOrders.{server_granted-own}
+use Rattle.homa_places.specs.Placed.{StandsAt}
+use Rattle.homa_server.specs.Held.{HeldServer, seen_server}
+use Rattle.homa_server.specs.Table.{Servers, ServerMoved}
+use Rattle.homa_control.specs.Control.{Control, IsAt}
+use Rattle.homa_seen.specs.declared.outbox.SentFrame.{SentFrame}
+use Rattle.homa_books.specs.declared.books.Books.{Books}
+use Rattle.host_books.specs.Ends.{grant_to}
+use Rattle.host_laws.specs.Peers.{KnowsClient}
+use Rattle.host_laws.proofs.Known.{state_granted-known}
+use Rattle.homa_host.specs.declared.parts.HostParts.{HostParts}
+use Rattle.homa_host.specs.Parts.{host_of, IsKept}
+use Rattle.homa_host.specs.Amid.{Amid}
+use Rattle.homa_host.proofs.Begun.{at-amid, amid-at}
+use Rattle.homa_host.proofs.SlotRows.{server_row}
+use Rattle.homa_host.proofs.ClientKept.{own_like}
+use Rattle.homa_host.proofs.ClientGrants.{grant_some, work_of}
+use Rattle.homa_host.proofs.ServerStays.{knows, host_put}
+
+module _ (c : HostParts) (kept : IsKept c) (id : CallId) (place : ℕ) (r : HeldServer) (stands : StandsAt c.servers.rows id place r) (offset : ℕ) (servers : Servers)
+    (moved : ServerMoved id c.servers c.pool servers c.pool (Some (server_granted c.control.last offset (seen_server c.pool r)))) where
+  abbrev pub granted_row : ServerRow
+  granted_row = server_granted c.control.last offset (seen_server c.pool r)
+
+  pub granted_known : KnowsClient c.control.settings.hosts id granted_row
+  granted_known = let k = knows c kept id place r stands in record { client = k.client; life = k.life; sender = state_granted-known c.control.settings.hosts c.control.last offset (seen_server c.pool r).state k.sender }
+
+  pub granted_own : HasOwnOrders (host_put c kept id place r stands servers granted_row moved)
+  granted_own =
+      let w : Work = record { host = host_of c; told = [] } in
+      let v : Work = server_is_granted c.control.settings id (body.Grant offset 0) offset (Some (seen_server c.pool r)) w in
+      own_like v.host (host_put c kept id place r stands servers granted_row moved) refl refl (sym moved.rows)
+      (server_granted-own c.control.settings id offset 0 (Some (seen_server c.pool r)) w (server_row c id place r stands) kept.own)
+
+  module _ (out : List SentFrame) (control : Control) (out' : List SentFrame) (prio : ℕ) (books : Books) (credit : books.pacer.credit ≡ c.books.pacer.credit) (refilled : books.pacer.refilled ≡ c.books.pacer.refilled)
+      (posted : (w : Work) → IsAt w c.control out → IsAt (posts c.control.settings Server id c.control.id (body.Grant offset prio) w) control out') where
+    abbrev parts : HostParts
+    parts = record { control = control; clients = c.clients; servers = servers; pool = c.pool; books = books; order = c.order }
+
+    granted_work : (w : Work) → Amid w c out → Amid (server_is_granted c.control.settings id (body.Grant offset prio) offset (Some (seen_server c.pool r)) (record { host = host_of c; told = w.told })) parts out'
+    granted_work w amid =
+        let before = at-amid w c out amid in
+        let v : Work = record { host = record (host_of c) { servers = insert (host_of c).servers id granted_row }; told = w.told } in
+        let at : IsAt v c.control out = record { id = refl; inc = refl; last = refl; tuning = refl; peers = refl; finished = refl; marked = before.marked; sent = before.sent; formed = before.formed } in
+        amid-at (posts c.control.settings Server id c.control.id (body.Grant offset prio) v) parts out' (posted v at)
+        (record { seq = refl; order = refl; credit = credit; refilled = refilled; clients = refl; servers = moved.rows })
+
+    pub server_granted_to : (a : Arriving) (w : Work) → a.place ≡ OfServer id → new_end c.control.settings.window a.message ≡ offset → a.message.granted < offset → Amid w c out → Amid (grant_to c.control.settings a prio w) parts out'
+    server_granted_to a w at ends more amid =
+        let is : w ≡ record { host = host_of c; told = w.told } = work_of c w out amid in
+        let same : grant_to c.control.settings a prio w ≡ server_is_granted c.control.settings id (body.Grant offset prio) offset (Some (seen_server c.pool r)) (record { host = host_of c; told = w.told }) =
+        grant_some c.control.settings a prio offset (OfServer id) w at ends more
+        ∙ (λ i. server_is_granted c.control.settings id (body.Grant offset prio) offset (get (is i).host.servers id) (is i))
+        ∙ ap (λ (o : Option ServerRow). server_is_granted c.control.settings id (body.Grant offset prio) offset o (record { host = host_of c; told = w.told })) (server_row c id place r stands) in
+        subst (λ (v : Work). Amid v parts out') (sym same) (granted_work w amid)

@@ -1,0 +1,262 @@
+-- A server's row becomes another, at its place, and the pool stays.
+use Rattle.std.proofs.Common.{◌≡◌, ◌<◌, ◌≤◌, ◌+◌, ℕ, ◌⊎◌, inl, inr, Bool, true, false, Option, Some, None, IsSome, List, refl, sym, ap, subst, ◌∙◌, arith}
+use Rattle.std.specs.List.{Contains}
+use Rattle.std.specs.Option.{IfSome, option_map, option_and_then}
+use Rattle.plain_sets.specs.Maps.{get}
+use Rattle.plain_sets.proofs.MapLaws.{same_map}
+use Rattle.plain_sets.proofs.OrderSame.{all_at, none_in}
+use Rattle.plain_sets.proofs.MapMembers.{same_some}
+use Rattle.homa_plain.proofs.CallOrder.{call_total, call_same, calls_are}
+use Rattle.homa_plain.specs.Calls.{is_call}
+use Rattle.homa_plain.specs.declared.id.CallId.{CallId}
+use Rattle.homa_plain.specs.declared.settings.Settings.{Settings}
+use Rattle.homa_plain.specs.Choice.{seen}
+use Rattle.homa_plain.specs.Host.{Host}
+use Rattle.homa_plain.specs.Rows.{ServerRow, State, Receiving, Held, Replying, Buried, set_row}
+use Rattle.homa_plain.specs.Sending.{Arriving as Arrives, arrivals, arriving_at_server}
+use Rattle.homa_plain.specs.Steps.{Work}
+use Rattle.homa_plain.specs.Timers.{Place, OfClient, OfServer}
+use Rattle.homa_steps.specs.StepLaws.{HasOwnOrders}
+use Rattle.homa_steps.proofs.Others.{get-set_row, set_row-others}
+use Rattle.homa_in.specs.Part as part
+use Rattle.homa_in.specs.Part.{Part, IsIn}
+use Rattle.homa_parts.specs.Pooled.{IsInPool, AreIn}
+use Rattle.homa_places.specs.Placed.{Placed, ArePlaced, StandsAt, spot_at}
+use Rattle.homa_places.specs.Mapped.{mapped}
+use Rattle.homa_places.proofs.MappedLaws.{get-mapped}
+use Rattle.homa_places.proofs.PlacedLaws.{spot-stands, one_call}
+use Rattle.homa_server.specs.Held.{HeldServer, HeldState, Arriving, Keeping, Answering, Gone, seen_server, seen_state, state_part}
+use Rattle.homa_server.specs.Table.{Servers, ServerMoved, seen_servers, request_at}
+use Rattle.homa_control.specs.Control.{Control, IsSound}
+use Rattle.homa_seen.specs.declared.outbox.SentFrame.{SentFrame}
+use Rattle.homa_seen.specs.Follow.{ChangesAt, has_row, server_arrival}
+use Rattle.homa_books.specs.declared.books.Arrival.{Arrival}
+use Rattle.homa_books.specs.declared.books.Books.{Books}
+use Rattle.homa_books.specs.Duties.{AreOwn, AreBooked, HaveRoom}
+use Rattle.host_books.specs.Duty.{server_duty, arrival_duty, arriving, followed}
+use Rattle.host_books.proofs.Changing.{books_stay}
+use Rattle.host_books.proofs.Tables.{made_of}
+use Rattle.host_books.proofs.Things.{thing_at}
+use Rattle.host_books.proofs.Books.{arrival_things}
+use Rattle.host_laws.specs.Peers.{KnowsClient, KnowsSender, KnowsPeers}
+use Rattle.host_laws.proofs.Known.{known-server}
+use Rattle.homa_host.specs.declared.outcome.Change.TheVariants.{Stays}
+use Rattle.homa_host.specs.declared.parts.HostParts.{HostParts}
+use Rattle.homa_host.specs.Parts.{host_of, seen_of, part_in, IsKept}
+use Rattle.homa_host.specs.Amid.{Amid}
+use Rattle.homa_host.specs.ServerFollow.{MayStayServer, FollowedServer}
+use Rattle.homa_host.proofs.Begun.{at-amid, amid-at, rest-amid}
+use Rattle.homa_host.proofs.SlotRows.{server_row, server_standing, kept_slots}
+use Rattle.homa_host.proofs.ClientKept.{own_like}
+use Rattle.homa_host.proofs.ClientStays.{Beside, changes_like, parts_like}
+use Rattle.homa_host.proofs.ServerKept.{server_parts, requests_in, host_after, seen_after, changes, duty_own, kept_after}
+
+arrival_known : (n : ℕ) (state : State) → KnowsSender n state → IfSome (arrival_duty (arriving state)) (λ (a : Arrival). a.peer.0 < n)
+arrival_known n (Receiving service part base count) k = k
+arrival_known n (Held response release) k = tt
+arrival_known n (Replying response out order base count) k = tt
+arrival_known n (Buried until) k = tt
+
+module _ (c : HostParts) (kept : IsKept c) (id : CallId) (place : ℕ) (r : HeldServer) (stands : StandsAt c.servers.rows id place r) where
+  pub knows : KnowsClient c.control.settings.hosts id (seen_server c.pool r)
+  knows = kept.known.servers id (seen_server c.pool r) (server_row c id place r stands)
+
+  pub all_inside : AreIn c.pool (request_at c.servers.rows)
+  all_inside = server_parts c kept.parts
+
+  -- a part of it stands in the pool
+  pub part_inside : (p : Part) → state_part r.state ≡ Some p → IsIn c.pool p
+  part_inside p e = subst (IsInPool c.pool) e (subst (IsInPool c.pool) (ap (option_and_then (λ (x : Placed HeldServer). state_part x.row.state)) stands) (kept.parts.within (OfServer id)))
+
+  -- nothing changes where the rows stay
+  pub changes_none : ChangesAt (OfServer id) (c.control.settings.calls + place) (seen_of c) (seen_of c)
+  changes_none =
+      let slots = kept_slots c kept in
+      let at = server_standing c id place r stands in
+      record {
+        settings = refl;
+        last = refl;
+        clients = λ q e. refl;
+        servers = λ q e. refl;
+        client_places = λ q e. refl;
+        server_places = λ q e. refl;
+        before = λ has. at.1;
+        after = λ has. at.1;
+        slots_before = slots;
+        slots_after = slots;
+      }
+
+  -- the message that arrives is its part
+  pub message_at : (p : Part) (a : Arrives) → state_part r.state ≡ Some p → a.place ≡ OfServer id → Contains (arrivals (host_of c)) a → a.message ≡ seen (part.seen c.pool p)
+  message_at p a e at arrives =
+      let there : Contains (server_arrival id (get (host_of c).servers id)) a = thing_at arrival_things (host_of c) (OfServer id) a arrives at in
+      by_state r.state e (subst (λ (o : Option ServerRow). Contains (server_arrival id o) a) (server_row c id place r stands) there) where
+        by_state : (state : HeldState) → state_part state ≡ Some p → Contains (arriving_at_server id (seen_state c.pool state)) a → a.message ≡ seen (part.seen c.pool p)
+        by_state (Arriving service q base count) e has =
+            all_at (λ (x : Arrives). x.message ≡ seen (part.seen c.pool p)) (arriving_at_server id (seen_state c.pool (Arriving service q base count))) a (ap (λ (q : Part). seen (part.seen c.pool q)) (same_some q p e), tt) has
+        by_state (Keeping response release) e has = absurd (none_in a has)
+        by_state (Answering response out order base count) e has = absurd (none_in a has)
+        by_state (Gone until) e has = absurd (none_in a has)
+
+  pub at_place : (x : Placed HeldServer) → get c.servers.rows id ≡ Some x → x.place ≡ place
+  at_place x e = ap (λ (x : Placed HeldServer). x.place) (same_some x (record { place = place; row = r }) (sym e ∙ stands))
+
+  module _ (servers : Servers) (row : ServerRow) (moved : ServerMoved id c.servers c.pool servers c.pool (Some row)) where
+    pub at_place_after : (x : Placed HeldServer) → get servers.rows id ≡ Some x → x.place ≡ place
+    at_place_after x e = moved.changed.place (record { place = place; row = r }) x stands e
+
+    -- it stands there afterwards
+    pub stands_after : (x : HeldServer) × StandsAt servers.rows id place x × (seen_server c.pool x ≡ row)
+    stands_after =
+        let m = made_of (λ (x : Placed HeldServer). seen_server c.pool x.row) (get servers.rows id) row moved.here in
+        let at : m.0.place ≡ place = at_place_after m.0 m.1 in
+        (m.0.row, m.1 ∙ (λ i. Some (record { place = at i; row = m.0.row })), m.2)
+
+    pub places_after : ArePlaced c.control.settings.served servers.rows
+    places_after = record {
+      within = λ q x e. let w = was q x e in subst (λ n. n < c.control.settings.served) w.1.1 (kept.server_places.within q w.0 w.1.0);
+      apart = λ p q x y e f at. kept.server_places.apart p q (was p x e).0 (was q y f).0 (was p x e).1.0 (was q y f).1.0 ((was p x e).1.1 ∙ at ∙ sym ((was q y f).1.1));
+    } where
+      was : (q : CallId) (x : Placed HeldServer) → get servers.rows q ≡ Some x → (w : Placed HeldServer) × ((get c.servers.rows q ≡ Some w) × (w.place ≡ x.place))
+      was q x e = elim (one_call q id) [
+        | inl is ↦ (record { place = place; row = r }, (ap (get c.servers.rows) is ∙ stands, sym (at_place_after x (sym (ap (get servers.rows) is) ∙ e))))
+        | inr ne ↦ (x, (sym (moved.changed.others q ne) ∙ e, refl))
+      ]
+
+    settings_after : servers.settings ≡ c.control.settings
+    settings_after = ap (λ (t : Servers). t.settings) moved.kept ∙ kept.one.server_settings
+
+    pub spot_after : IsSome (spot_at servers.rows place)
+    spot_after = rw (spot-stands c.control.settings.served servers.rows places_after id place stands_after.0 stands_after.1) refl
+
+    pub room_after : HaveRoom servers.settings c.books
+    room_after = subst (λ (s : Settings). HaveRoom s c.books) (sym settings_after) kept.room
+
+    pub within_after : place < servers.settings.served
+    within_after = subst (λ (s : Settings). place < s.served) (sym settings_after) (kept.server_places.within id (record { place = place; row = r }) stands)
+
+    pub calls_after : c.control.settings.calls ≡ servers.settings.calls
+    calls_after = ap (λ (s : Settings). s.calls) (sym settings_after)
+
+    pub small_after : c.control.settings.calls + servers.settings.served < 4294967296
+    small_after =
+        let served : servers.settings.served ≡ c.control.settings.served = ap (λ (s : Settings). s.served) settings_after in
+        let range = kept.control.valid.in_range.2.2.2.2.2.2.2.2.2.2 in
+        omega (arith, range.1, range.2.1, served)
+
+    duty_after : server_duty servers.settings (seen_server c.pool stands_after.0) ≡ server_duty c.control.settings row
+    duty_after = λ i. server_duty (settings_after i) (stands_after.2 i)
+
+    inside_after : AreIn c.pool (request_at servers.rows)
+    inside_after = requests_in c kept id place servers c.pool (Some row) moved at_place at_place_after places_after
+
+    pub follows : (books : Books) → FollowedServer servers c.control.settings.calls (Stays place) c.books books → books ≡ followed (c.control.settings.calls + place) (server_duty c.control.settings row) c.books
+    follows books f = f id stands_after.0 c.pool stands_after.1 inside_after ∙ ap (λ d. followed (c.control.settings.calls + place) d c.books) duty_after
+
+    -- its place stays
+    pub places_same : mapped (λ (x : Placed HeldServer). x.place) servers.rows ≡ mapped (λ (x : Placed HeldServer). x.place) c.servers.rows
+    places_same = same_map call_total call_same _ _ (λ q.
+        get-mapped (λ (x : Placed HeldServer). x.place) servers.rows q
+        ∙ by_one q (one_call q id)
+        ∙ sym (get-mapped (λ (x : Placed HeldServer). x.place) c.servers.rows q)) where
+          by_one : (q : CallId) → (q ≡ id) ⊎ (q ≡ id → ⊥) → option_map (λ (x : Placed HeldServer). x.place) (get servers.rows q) ≡ option_map (λ (x : Placed HeldServer). x.place) (get c.servers.rows q)
+          by_one q (inl is) = ap (λ k. option_map (λ (x : Placed HeldServer). x.place) (get servers.rows k)) is ∙ ap (option_map (λ (x : Placed HeldServer). x.place)) stands_after.1 ∙ sym (ap (option_map (λ (x : Placed HeldServer). x.place)) stands) ∙ ap (λ k. option_map (λ (x : Placed HeldServer). x.place) (get c.servers.rows k)) (sym is)
+          by_one q (inr ne) = ap (option_map (λ (x : Placed HeldServer). x.place)) (moved.changed.others q ne)
+
+    -- what is seen changed there alone
+    pub changes_to : (control : Control) → Beside c.control control → (books : Books)
+        → ChangesAt (OfServer id) (c.control.settings.calls + place) (seen_of c) (seen_of (record { control = control; clients = c.clients; servers = servers; pool = c.pool; books = books; order = c.order }))
+    changes_to control beside books =
+        changes_like (OfServer id) (c.control.settings.calls + place) (seen_of c) (seen_after c kept id place servers c.pool (Some row) moved at_place at_place_after places_after c.order)
+        (seen_of (record { control = control; clients = c.clients; servers = servers; pool = c.pool; books = books; order = c.order }))
+        (record { settings = sym beside.settings; last = sym beside.last; clients = refl; servers = refl; client_places = refl; server_places = refl })
+        (changes c kept id place servers c.pool (Some row) moved at_place at_place_after places_after c.order)
+
+    -- no call of its own is served
+    foreign_after : (q : CallId) → q.client ≡ c.control.id → get (seen_servers c.pool servers.rows) q ≡ None
+    foreign_after q of_host = ap (λ m. get m q) moved.rows ∙ by_one (is_call q id) refl where
+      by_one : (b : Bool) → is_call q id ≡ b → get (set_row (seen_servers c.pool c.servers.rows) id (Some row)) q ≡ None
+      by_one true e = absurd (both (sym (kept.foreign q of_host) ∙ ap (get (seen_servers c.pool c.servers.rows)) ((calls_are q id).0 e) ∙ server_row c id place r stands)) where
+        both : {x : ServerRow} → None ≡ Some x → ⊥
+        both e = cc
+      by_one false e = set_row-others (seen_servers c.pool c.servers.rows) id (Some row) q e ∙ kept.foreign q of_host
+
+    stood_there : has_row (seen_of c) (OfServer id)
+    stood_there = (server_standing c id place r stands).0
+
+    module _ (own : HasOwnOrders (host_after c kept id place servers c.pool (Some row) moved at_place at_place_after places_after c.order)) (known : KnowsClient c.control.settings.hosts id row) where
+      pub may_stay : MayStayServer servers c.control.settings.calls c.books place
+      may_stay = record {
+        id = id;
+        row = stands_after.0;
+        pool = c.pool;
+        stands = stands_after.1;
+        inside = inside_after;
+        peer = subst (λ (q : Settings × ServerRow). IfSome (server_duty q.0 q.1).arrival (λ (a : Arrival). a.peer.0 < q.0.hosts)) (λ i. (sym settings_after i, sym stands_after.2 i))
+            (arrival_known c.control.settings.hosts row.state known.sender);
+        own = subst (AreOwn c.books (c.control.settings.calls + place)) (sym duty_after)
+            (duty_own c kept id place servers c.pool (Some row) moved at_place at_place_after places_after c.order (inl stood_there) own);
+      }
+
+      -- all holds again
+      pub kept_stays : (control : Control) → IsSound control → Beside c.control control → (books : Books) → books ≡ followed (c.control.settings.calls + place) (server_duty c.control.settings row) c.books
+          → IsKept (record { control = control; clients = c.clients; servers = servers; pool = c.pool; books = books; order = c.order })
+      kept_stays control sound beside books e =
+          subst (λ (b : Books). IsKept (record { control = control; clients = c.clients; servers = servers; pool = c.pool; books = b; order = c.order })) (sym e)
+          (kept_after c kept id place servers c.pool (Some row) moved at_place at_place_after places_after c.order control (inl stood_there) sound beside.settings beside.id beside.inc beside.last
+          (record { rows = own.rows; arriving = own.arriving; leaving = own.leaving }) peers (λ q of_host. foreign_after q (of_host ∙ beside.id)) (subst (λ n. n ≤ c.order) (sym beside.opened) kept.opened)) where
+            peers : KnowsPeers control.settings (host_of (record { control = control; clients = c.clients; servers = servers; pool = c.pool; books = followed (c.control.settings.calls + place) (server_duty c.control.settings row) c.books; order = c.order }))
+            peers =
+                let h : Host = host_of (record { control = control; clients = c.clients; servers = servers; pool = c.pool; books = followed (c.control.settings.calls + place) (server_duty c.control.settings row) c.books; order = c.order }) in
+                subst (λ (s : Settings). KnowsPeers s h) (sym beside.settings) (known-server c.control.settings (host_of c) h beside.id beside.inc kept.known id (Some row) moved.rows refl known)
+
+    -- the host as the control has it, with the row put
+    abbrev pub host_put : Host
+    host_put = host_after c kept id place servers c.pool (Some row) moved at_place at_place_after places_after c.order
+
+  -- ---- its row is seen as before
+
+  module _ (servers : Servers) (moved : ServerMoved id c.servers c.pool servers c.pool (Some (seen_server c.pool r))) where
+    pub rows_same : seen_servers c.pool servers.rows ≡ seen_servers c.pool c.servers.rows
+    rows_same = moved.rows ∙ same_map call_total call_same _ _ (λ q. by_one q (is_call q id) refl) where
+      by_one : (q : CallId) (b : Bool) → is_call q id ≡ b → get (set_row (seen_servers c.pool c.servers.rows) id (Some (seen_server c.pool r))) q ≡ get (seen_servers c.pool c.servers.rows) q
+      by_one q true e =
+          let is = (calls_are q id).0 e in
+          ap (get (set_row (seen_servers c.pool c.servers.rows) id (Some (seen_server c.pool r)))) is ∙ get-set_row (seen_servers c.pool c.servers.rows) id (Some (seen_server c.pool r))
+          ∙ sym (server_row c id place r stands) ∙ ap (get (seen_servers c.pool c.servers.rows)) (sym is)
+      by_one q false e = set_row-others (seen_servers c.pool c.servers.rows) id (Some (seen_server c.pool r)) q e
+
+    module _ (books : Books) (credit : books.pacer.credit ≡ c.books.pacer.credit) (refilled : books.pacer.refilled ≡ c.books.pacer.refilled) where
+      -- so is the host
+      pub amid_same : (w : Work) (out : List SentFrame) → Amid w c out → Amid w (record { control = c.control; clients = c.clients; servers = servers; pool = c.pool; books = books; order = c.order }) out
+      amid_same w out amid =
+          let rest = rest-amid w c out amid in
+          amid-at w (record { control = c.control; clients = c.clients; servers = servers; pool = c.pool; books = books; order = c.order }) out (at-amid w c out amid)
+          (record { seq = rest.seq; order = rest.order; credit = credit ∙ rest.credit; refilled = refilled ∙ rest.refilled; clients = rest.clients; servers = rows_same ∙ rest.servers })
+
+      -- all holds with the same books, or with others that hold what the rows say
+      pub kept_same : HaveRoom c.control.settings books → AreBooked (seen_of c) books → IsKept (record { control = c.control; clients = c.clients; servers = servers; pool = c.pool; books = books; order = c.order })
+      kept_same room booked =
+          let row = seen_server c.pool r in
+          let after : HostParts = record { control = c.control; clients = c.clients; servers = servers; pool = c.pool; books = books; order = c.order } in
+          let own : HasOwnOrders (host_put servers row moved) = own_like (host_of c) (host_put servers row moved) refl refl (sym rows_same) kept.own in
+          let k = kept_stays servers row moved own knows c.control kept.control (record { settings = refl; id = refl; inc = refl; last = refl; opened = refl }) (followed (c.control.settings.calls + place) (server_duty c.control.settings row) c.books) refl in
+          record {
+            control = k.control;
+            one = record { client = k.one.client; life = k.one.life; client_settings = k.one.client_settings; server = k.one.server; server_settings = k.one.server_settings };
+            own = record { rows = k.own.rows; arriving = k.own.arriving; leaving = k.own.leaving };
+            known = record { clients = k.known.clients; own = k.known.own; servers = k.known.servers };
+            foreign = k.foreign;
+            opened = k.opened;
+            parts = parts_like (record after { books = followed (c.control.settings.calls + place) (server_duty c.control.settings row) c.books }) after (λ p. same p) k.parts;
+            pages = k.pages;
+            leased = k.leased;
+            client_places = k.client_places;
+            server_places = k.server_places;
+            room = room;
+            booked = books_stay (seen_of c) (seen_of after) books (record { settings = refl; last = refl; clients = refl; servers = sym rows_same; client_places = refl; server_places = sym (places_same servers row moved) }) booked;
+          } where
+            same : (p : Place) → part_in (record { control = c.control; clients = c.clients; servers = servers; pool = c.pool; books = books; order = c.order }) p
+                ≡ part_in (record { control = c.control; clients = c.clients; servers = servers; pool = c.pool; books = followed (c.control.settings.calls + place) (server_duty c.control.settings (seen_server c.pool r)) c.books; order = c.order }) p
+            same (OfClient q) = refl
+            same (OfServer q) = refl

@@ -1,0 +1,158 @@
+-- What a packet at a call's server told.
+use Rattle.std.proofs.Common.{◌≡◌, ◌⊎◌, inl, inr, ℕ, Bool, true, false, List, [], ◌∷◌, ◌++◌, refl, sym, ap, subst, ◌∙◌, Option}
+use Rattle.std.specs.List.{AllByRecursion}
+use Rattle.homa_plain.specs.declared.id.CallId.{CallId}
+use Rattle.homa_plain.specs.declared.id.HostId.{HostId}
+use Rattle.homa_plain.specs.declared.packet.Role.{Role}
+use Rattle.homa_plain.specs.declared.packet.Role.TheVariants.{Server}
+use Rattle.homa_plain.specs.declared.settings.Settings.{Settings}
+use Rattle.homa_plain.specs.Host.{Host, Told, Says, Sends}
+use Rattle.homa_plain.specs.Entries.{PlainRun, PlainSettings, PlainCall, PlainDeliver, PlainClock, PlainRestart, PlainInject, PlainShift, PlainJunk, PlainStale, PlainSend, PlainDone, PlainFail, PlainDrop, PlainGaps, PlainBury, PlainFree, PlainFullRows, PlainFullPages, PlainBalance, PlainRecv, PlainFinished, PlainRefused, PlainStalled}
+use Rattle.homa_plain.specs.Rows.{ServerRow, set_row}
+use Rattle.homa_plain.specs.Rules.{Moment, Answer, Did, Piece, Say, Tells, Posts}
+use Rattle.homa_plain.specs.Steps.{Work, notes, tells_cutoffs, said, served, has_run}
+use Rattle.homa_seen.specs.declared.mark.Mark.{Mark}
+use Rattle.homa_seen.specs.Marks.{marks_from, has_ran, response_of, IsReply as IsReplyMark, IsAllowed, IsWhole}
+use Rattle.homa_server.specs.Answers.{served_of, service_in, runs_said, IsReply, IfRan, has_run as did_run}
+use Rattle.homa_server.specs.declared.answers.ServerDid.{ServerDid}
+use Rattle.homa_server.specs.declared.answers.ServerDid.TheVariants as did
+use Rattle.homa_host.proofs.RanLaws.{AreQuiet, IsQuiet, Quiet, Ran, quiet-marks, ran-marks}
+use Rattle.homa_host.proofs.ServerGets.{reply_of, is_reply_of}
+
+-- the service ran, or it didn't
+abbrev pub HasRan : ServerDid → Type 0
+HasRan d = (slot : ℕ) × (opened : Bool) × (hold : ℕ) × (d ≡ did.Ran slot opened hold)
+
+pub ran_or : (d : ServerDid) → HasRan d ⊎ (did_run d ≡ false)
+ran_or did.Nothing = inr refl
+ran_or (did.Touched slot) = inr refl
+ran_or (did.Opened slot) = inr refl
+ran_or (did.Ran slot opened hold) = inl (slot, opened, hold, refl)
+ran_or (did.FullRows rows) = inr refl
+ran_or (did.FullPages need free) = inr refl
+ran_or (did.Gaps slot) = inr refl
+ran_or (did.Say slot what) = inr refl
+
+any_reply : (d : ServerDid) → did_run d ≡ false → (response : List ℕ) (a : Answer) → IsReply response a d
+any_reply did.Nothing e response a = tt
+any_reply (did.Touched slot) e response a = tt
+any_reply (did.Opened slot) e response a = tt
+any_reply (did.Ran slot opened hold) e response a = cc
+any_reply (did.FullRows rows) e response a = tt
+any_reply (did.FullPages need free) e response a = tt
+any_reply (did.Gaps slot) e response a = tt
+any_reply (did.Say slot what) e response a = tt
+
+quiet_says : (s : Settings) (m : Moment) (id : CallId) (piece : Option Piece) (row : Option ServerRow) (told : List ℕ) (a : Answer) (d : ServerDid) → did_run d ≡ false → IsQuiet (served_of s m id piece row told a d).says
+quiet_says s m id piece row told a did.Nothing e = tt
+quiet_says s m id piece row told a (did.Touched slot) e = tt
+quiet_says s m id piece row told a (did.Opened slot) e = tt
+quiet_says s m id piece row told a (did.Ran slot opened hold) e = cc
+quiet_says s m id piece row told a (did.FullRows rows) e = (tt, tt)
+quiet_says s m id piece row told a (did.FullPages need free) e = (tt, tt)
+quiet_says s m id piece row told a (did.Gaps slot) e = (tt, tt)
+quiet_says s m id piece row told a (did.Say slot what) e = tt
+
+module _ (s : Settings) (id : CallId) (piece : Option Piece) (row : Option ServerRow) (told response : List ℕ) (d : ServerDid) (w : Work) (before : AreQuiet w.told) (m : Moment)
+    (rule : Answer → Did ServerRow) (rule_is : (a : Answer) → IsReply response a d → rule a ≡ served_of s m id piece row told a d) where
+  told_quiet : did_run d ≡ false → (a : Answer) → Quiet (served s id (rule a) w).told
+  told_quiet e a = quiet-marks s id (rule a) w before (subst (λ (x : Did ServerRow). IsQuiet x.says) (sym (rule_is a (any_reply d e response a))) (quiet_says s m id piece row told a d e))
+
+  told_ran : (r : HasRan d) (a : Answer) → IsReply response a d → Ran id (service_in piece) told r.2 (served s id (rule a) w).told
+  told_ran r a reply = ran-marks s id (rule a) w before m.host (service_in piece) told a.bytes r.2
+      (ap (λ (x : Did ServerRow). x.says) (rule_is a reply) ∙ ap (λ (d : ServerDid). (served_of s m id piece row told a d).says) r.3)
+
+  abbrev answer : Answer
+  answer = reply_of d response
+
+  pub told_whole : (a : Answer) → IsReply response a d → AllByRecursion (IsWhole told) (served s id (rule a) w).told
+  told_whole a reply = elim (ran_or d) [ inl r ↦ (told_ran r a reply).whole told refl | inr e ↦ (told_quiet e a).whole told ]
+
+  module _ (g : Host) (same : response_of g id ≡ response) (marks : List Mark) (marked : marks ≡ marks_from 0 (served s id (rule answer) w).told) where
+    pub told_runs : has_ran marks ≡ did_run d
+    told_runs = ap has_ran marked ∙ elim (ran_or d) [ inl r ↦ (told_ran r answer (is_reply_of d response)).ran ∙ sym (ap did_run r.3) | inr e ↦ (told_quiet e answer).ran ∙ sym e ]
+
+    pub told_reply : (a : Answer) → AllByRecursion (IsReplyMark g a) marks → IsReply response a d
+    told_reply a all = elim (ran_or d) [
+      | inl r ↦
+          let is = (told_ran r answer (is_reply_of d response)).is_reply a g (subst (AllByRecursion (IsReplyMark g a)) marked all) in
+          subst (λ (d : ServerDid). IsReply response a d) (sym r.3) (is ∙ ap (λ (bytes : List ℕ). record { bytes = bytes; hold = r.2 }) same)
+      | inr e ↦ any_reply d e response a
+    ]
+
+    pub told_answered : AllByRecursion (IsReplyMark g answer) marks
+    told_answered = subst (AllByRecursion (IsReplyMark g answer)) (sym marked) (elim (ran_or d) [
+      | inl r ↦ (told_ran r answer (is_reply_of d response)).reply answer g (subst (λ (d : ServerDid). IsReply response answer d) r.3 (is_reply_of d response) ∙ ap (λ (bytes : List ℕ). record { bytes = bytes; hold = r.2 }) (sym same))
+      | inr e ↦ (told_quiet e answer).reply answer g
+    ])
+
+    pub told_allowed : (allows : ℕ → List ℕ → List ℕ → ℕ → Type 0) → IfRan d (λ hold. allows (service_in piece) told response hold) → AllByRecursion (IsAllowed g allows told) marks
+    told_allowed allows ok = subst (AllByRecursion (IsAllowed g allows told)) (sym marked) (elim (ran_or d) [
+      | inl r ↦ (told_ran r answer (is_reply_of d response)).allowed g allows told (subst (λ (bytes : List ℕ). allows (service_in piece) told bytes r.2) (sym same) (subst (λ (d : ServerDid). IfRan d (λ hold. allows (service_in piece) told response hold)) r.3 ok))
+      | inr e ↦ (told_quiet e answer).allowed g allows told
+    ])
+
+-- ---- where the service found no memory
+
+said_runs : (s : Settings) (h : Host) (role : Role) (id : CallId) (server : HostId) (says : List Say) → runs_said says ≡ true → has_run (said s h role id server says) ≡ true
+said_runs s h role id server [] e = cc
+said_runs s h role id server (Posts what ∷ says) e = said_runs s h role id server says e
+said_runs s h role id server (Tells (PlainRun host call service request response hold) ∷ says) e = refl
+said_runs s h role id server (Tells (PlainSettings x0) ∷ says) e = said_runs s h role id server says e
+said_runs s h role id server (Tells (PlainCall x0 x1 x2 x3) ∷ says) e = said_runs s h role id server says e
+said_runs s h role id server (Tells (PlainDeliver x0) ∷ says) e = said_runs s h role id server says e
+said_runs s h role id server (Tells (PlainClock x0) ∷ says) e = said_runs s h role id server says e
+said_runs s h role id server (Tells (PlainRestart x0 x1) ∷ says) e = said_runs s h role id server says e
+said_runs s h role id server (Tells (PlainInject x0 x1) ∷ says) e = said_runs s h role id server says e
+said_runs s h role id server (Tells (PlainShift x0 x1) ∷ says) e = said_runs s h role id server says e
+said_runs s h role id server (Tells (PlainJunk x0) ∷ says) e = said_runs s h role id server says e
+said_runs s h role id server (Tells (PlainStale x0 x1 x2) ∷ says) e = said_runs s h role id server says e
+said_runs s h role id server (Tells (PlainSend x0 x1 x2 x3 x4 x5 x6 x7 x8) ∷ says) e = said_runs s h role id server says e
+said_runs s h role id server (Tells (PlainDone x0 x1) ∷ says) e = said_runs s h role id server says e
+said_runs s h role id server (Tells (PlainFail x0 x1) ∷ says) e = said_runs s h role id server says e
+said_runs s h role id server (Tells (PlainDrop x0 x1) ∷ says) e = said_runs s h role id server says e
+said_runs s h role id server (Tells (PlainGaps x0 x1) ∷ says) e = said_runs s h role id server says e
+said_runs s h role id server (Tells (PlainBury x0 x1 x2) ∷ says) e = said_runs s h role id server says e
+said_runs s h role id server (Tells (PlainFree x0 x1) ∷ says) e = said_runs s h role id server says e
+said_runs s h role id server (Tells (PlainFullRows x0 x1 x2 x3) ∷ says) e = said_runs s h role id server says e
+said_runs s h role id server (Tells (PlainFullPages x0 x1 x2 x3) ∷ says) e = said_runs s h role id server says e
+said_runs s h role id server (Tells (PlainBalance x0 x1) ∷ says) e = said_runs s h role id server says e
+said_runs s h role id server (Tells (PlainRecv x0 x1 x2) ∷ says) e = said_runs s h role id server says e
+said_runs s h role id server (Tells (PlainFinished x0) ∷ says) e = said_runs s h role id server says e
+said_runs s h role id server (Tells (PlainRefused x0 x1) ∷ says) e = said_runs s h role id server says e
+said_runs s h role id server (Tells (PlainStalled x0 x1) ∷ says) e = said_runs s h role id server says e
+
+behind : (told more : List Told) → has_run more ≡ true → has_run (told ++ more) ≡ true
+behind [] more e = e
+behind (Sends packet ∷ told) more e = behind told more e
+behind (Says (PlainRun host call service request response hold) ∷ told) more e = refl
+behind (Says (PlainSettings x0) ∷ told) more e = behind told more e
+behind (Says (PlainCall x0 x1 x2 x3) ∷ told) more e = behind told more e
+behind (Says (PlainDeliver x0) ∷ told) more e = behind told more e
+behind (Says (PlainClock x0) ∷ told) more e = behind told more e
+behind (Says (PlainRestart x0 x1) ∷ told) more e = behind told more e
+behind (Says (PlainInject x0 x1) ∷ told) more e = behind told more e
+behind (Says (PlainShift x0 x1) ∷ told) more e = behind told more e
+behind (Says (PlainJunk x0) ∷ told) more e = behind told more e
+behind (Says (PlainStale x0 x1 x2) ∷ told) more e = behind told more e
+behind (Says (PlainSend x0 x1 x2 x3 x4 x5 x6 x7 x8) ∷ told) more e = behind told more e
+behind (Says (PlainDone x0 x1) ∷ told) more e = behind told more e
+behind (Says (PlainFail x0 x1) ∷ told) more e = behind told more e
+behind (Says (PlainDrop x0 x1) ∷ told) more e = behind told more e
+behind (Says (PlainGaps x0 x1) ∷ told) more e = behind told more e
+behind (Says (PlainBury x0 x1 x2) ∷ told) more e = behind told more e
+behind (Says (PlainFree x0 x1) ∷ told) more e = behind told more e
+behind (Says (PlainFullRows x0 x1 x2 x3) ∷ told) more e = behind told more e
+behind (Says (PlainFullPages x0 x1 x2 x3) ∷ told) more e = behind told more e
+behind (Says (PlainBalance x0 x1) ∷ told) more e = behind told more e
+behind (Says (PlainRecv x0 x1 x2) ∷ told) more e = behind told more e
+behind (Says (PlainFinished x0) ∷ told) more e = behind told more e
+behind (Says (PlainRefused x0 x1) ∷ told) more e = behind told more e
+behind (Says (PlainStalled x0 x1) ∷ told) more e = behind told more e
+
+pub served_runs : (s : Settings) (id : CallId) (d : Did ServerRow) (w : Work) → runs_said d.says ≡ true → has_run (served s id d w).told ≡ true
+unfolding served
+served_runs s id d w e =
+    let put : Work = record w { host = record w.host { order = d.order; servers = set_row w.host.servers id d.row } } in
+    let reply : Work = tells_cutoffs s Server id w.host.id d.version (notes s d.opened put) in
+    behind reply.told (said s w.host Server id w.host.id d.says) (said_runs s w.host Server id w.host.id d.says e)

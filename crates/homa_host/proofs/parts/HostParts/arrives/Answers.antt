@@ -1,0 +1,153 @@
+use Rattle.std.proofs.Common.{rules, ◌≡◌, ◌≤◌, ◌+◌, ℕ, true, cond, Option, Some, None, List, [], ◌∷◌, length, ap, sym, subst, refl, arith}
+use Rattle.std.specs.Prelude.{OnOk, OnErr}
+use Rattle.std.specs.List.{AllByRecursion}
+use Rattle.std.specs.Option.{option_map}
+use Rattle.homa_plain.specs.declared.packet.Packet.{Packet as WirePacket}
+use Rattle.homa_plain.specs.declared.settings.Settings.{Settings}
+use Rattle.homa_plain.specs.Entries.{PlainJunk}
+use Rattle.homa_plain.specs.Host.{Says}
+use Rattle.homa_plain.specs.Rules.{Answer}
+use Rattle.homa_plain.specs.Packets.{Packet, packet_between}
+use Rattle.homa_plain.specs.Steps.{begun, tells, comes, has_run}
+use Rattle.homa_plain.specs.Wire.{packet_in}
+use Rattle.homa_wire.specs.Part.{part}
+use Rattle.homa_control.specs.Control.{Control}
+use Rattle.homa_seen.specs.Marks.{has_ran, IsReply, IsWhole}
+use Rattle.homa_seen.specs.Done.{arriving}
+use Rattle.homa_host.specs.Parts.{host_of, seen_of}
+use Rattle.homa_host.specs.Amid.{Amid}
+use Rattle.homa_host.proofs.Delivered.{no_replies, none_allowed}
+use Rattle.homa_host.proofs.Came as came
+use Rattle.homa_host.proofs.parts.HostParts.arrives.Goals as goal
+
+pub decode-requires : goal.decode-requires
+decode-requires g c =
+    let r = c.requires.kept.control.valid.in_range.2.2.2.2.2.2.2.2.2.2.2.2.2.2 in
+    subst (λ (s : Settings). (1 ≤ s.wire) × (s.wire ≤ 2)) (sym c.settings.ensures.settings) (r.0, r.1)
+
+pub begin-requires : goal.begin-requires
+begin-requires g c = c.requires.now
+
+pub tell-requires : goal.tell-requires
+tell-requires g c = let none = ap (λ (k : Control). length k.marks) c.begin.ensures in omega (arith, none)
+
+pub slice_bounds-payload-count : goal.slice_bounds-payload-count
+slice_bounds-payload-count g c = search rules
+
+pub slice_bounds-payload-start : goal.slice_bounds-payload-start
+slice_bounds-payload-start g c = search rules
+
+pub slice_bounds-payload-end : goal.slice_bounds-payload-end
+slice_bounds-payload-end g c = search rules
+
+pub comes-requires-clause-kept : goal.comes-requires-clause-kept
+comes-requires-clause-kept g c = c.requires.kept
+
+pub comes-requires-clause-from : goal.comes-requires-clause-from
+comes-requires-clause-from g c = c.requires.from
+
+pub comes-requires-clause-other : goal.comes-requires-clause-other
+comes-requires-clause-other g c = c.requires.other
+
+pub comes-requires-clause-formed : goal.comes-requires-clause-formed
+comes-requires-clause-formed g c = search (rules, c.settings.ensures.settings, c.in-Some.ensures.spelled.0)
+
+pub comes-requires-clause-now : goal.comes-requires-clause-now
+comes-requires-clause-now g c = c.requires.now
+
+pub comes-requires-clause-later : goal.comes-requires-clause-later
+comes-requires-clause-later g c = c.requires.later
+
+pub comes-requires-clause-order : goal.comes-requires-clause-order
+comes-requires-clause-order g c = c.requires.order
+
+pub comes-requires-clause-served : goal.comes-requires-clause-served
+comes-requires-clause-served g c = c.requires.served
+
+pub comes-requires-clause-out : goal.comes-requires-clause-out
+comes-requires-clause-out g c = c.requires.out
+
+pub returns-in-None-clause-step : goal.returns-in-None-clause-step
+returns-in-None-clause-step g c a replies =
+    let o = c.args.self.now in
+    let read = sym (subst (λ (s : Settings). None ≡ packet_in s.wire c.args.frame.now) c.settings.ensures.settings c.in-None.ensures.read) in
+    let is : arriving (seen_of o) c.args.from c.args.frame.now ≡ None = ap (option_map (λ (r : WirePacket × List ℕ). packet_between c.args.from o.control.id r.0 r.1)) read in
+    let told = came.told_amid o c.requires.kept c.args.now c.requires.now c.requires.later c.begin.new.self c.begin.ensures c.tell.new.self (PlainJunk o.control.id) c.tell.ensures in
+    let w = tells (Says (PlainJunk o.control.id) ∷ []) (begun (host_of o) c.args.now) in
+    subst (λ (p : Option Packet). Amid (comes o.control.settings p a (begun (host_of o) c.args.now)) (record o { control = c.tell.new.self }) c.args.out.now × AllByRecursion (IsWhole c.args.scratch.now) (comes o.control.settings p a (begun (host_of o) c.args.now)).told) (sym is)
+    (subst (λ f. Amid w (record o { control = c.tell.new.self }) f) (sym c.requires.out) told, (tt, tt))
+
+pub returns-in-None-clause-steady : goal.returns-in-None-clause-steady
+returns-in-None-clause-steady g c =
+    let m = came.told_marks c.args.self.now c.requires.kept c.args.now c.requires.now c.requires.later c.begin.new.self c.begin.ensures c.tell.new.self _ c.tell.ensures in
+    record {
+      settings = came.told_settings c.args.self.now c.requires.kept c.args.now c.requires.now c.requires.later c.begin.new.self c.begin.ensures c.tell.new.self _ c.tell.ensures;
+      id = came.told_id c.args.self.now c.requires.kept c.args.now c.requires.now c.requires.later c.begin.new.self c.begin.ensures c.tell.new.self _ c.tell.ensures;
+      last = came.told_last c.args.self.now c.requires.kept c.args.now c.requires.now c.requires.later c.begin.new.self c.begin.ensures c.tell.new.self _ c.tell.ensures;
+      marks_told = omega (arith, ap length m);
+      frames_sent = omega (arith, ap length c.requires.out);
+      order = omega arith;
+    }
+
+pub returns-in-None-clause-kept : goal.returns-in-None-clause-kept
+returns-in-None-clause-kept g c = came.told_kept c.args.self.now c.requires.kept c.args.now c.requires.now c.requires.later c.begin.new.self c.begin.ensures c.tell.new.self _ c.tell.ensures
+
+pub returns-in-None-clause-served : goal.returns-in-None-clause-served
+returns-in-None-clause-served g c =
+    let m = came.told_marks c.args.self.now c.requires.kept c.args.now c.requires.now c.requires.later c.begin.new.self c.begin.ensures c.tell.new.self _ c.tell.ensures in
+    subst (λ ms. g.V.Service.served c.args.service.now ≡ cond (has_ran ms) (g.V.Service.served c.args.service.now + 1) (g.V.Service.served c.args.service.now)) (sym m) refl
+
+pub returns-in-None-clause-answered : goal.returns-in-None-clause-answered
+returns-in-None-clause-answered g c =
+    let m = came.told_marks c.args.self.now c.requires.kept c.args.now c.requires.now c.requires.later c.begin.new.self c.begin.ensures c.tell.new.self _ c.tell.ensures in
+    (record { bytes = []; hold = 0 }, no_replies (host_of (record c.args.self.now { control = c.tell.new.self })) (record { bytes = []; hold = 0 }) c.tell.new.self.marks (ap has_ran m))
+
+pub returns-in-None-clause-allowed : goal.returns-in-None-clause-allowed
+returns-in-None-clause-allowed g c =
+    let m = came.told_marks c.args.self.now c.requires.kept c.args.now c.requires.now c.requires.later c.begin.new.self c.begin.ensures c.tell.new.self _ c.tell.ensures in
+    none_allowed (host_of (record c.args.self.now { control = c.tell.new.self })) (g.V.Service.allows c.args.service.now (g.V.Service.served c.args.service.now)) c.args.scratch.now c.tell.new.self.marks (ap has_ran m)
+
+pub returns-in-None-clause-allows_before : goal.returns-in-None-clause-allows_before
+returns-in-None-clause-allows_before g c count number hold q r allows = allows
+
+pub returns-in-Some-clause-step : goal.returns-in-Some-clause-step
+returns-in-Some-clause-step g c =
+    let o = c.args.self.now in
+    let read = sym (subst (λ (s : Settings). Some (c.in-Some.packet, part c.args.frame.now c.in-Some.span) ≡ packet_in s.wire c.args.frame.now) c.settings.ensures.settings c.in-Some.ensures.read) in
+    let is = ap (option_map (λ (r : WirePacket × List ℕ). packet_between c.args.from o.control.id r.0 r.1)) read in
+    subst (λ (p : Option Packet). OnOk c.comes.result ((a : Answer) → AllByRecursion (IsReply (host_of c.comes.new.self) a) c.comes.new.self.control.marks
+    → (Amid (comes o.control.settings p a (begun (host_of o) c.args.now)) c.comes.new.self c.comes.new.out) × AllByRecursion (IsWhole c.comes.new.scratch) (comes o.control.settings p a (begun (host_of o) c.args.now)).told)) (sym is) c.comes.ensures.step
+
+pub returns-in-Some-clause-steady : goal.returns-in-Some-clause-steady
+returns-in-Some-clause-steady g c = c.comes.ensures.steady
+
+pub returns-in-Some-clause-kept : goal.returns-in-Some-clause-kept
+returns-in-Some-clause-kept g c = c.comes.ensures.kept
+
+pub returns-in-Some-clause-served : goal.returns-in-Some-clause-served
+returns-in-Some-clause-served g c = c.comes.ensures.served
+
+pub returns-in-Some-clause-answered : goal.returns-in-Some-clause-answered
+returns-in-Some-clause-answered g c = c.comes.ensures.answered
+
+pub returns-in-Some-clause-allowed : goal.returns-in-Some-clause-allowed
+returns-in-Some-clause-allowed g c = c.comes.ensures.allowed
+
+pub returns-in-Some-clause-whole : goal.returns-in-Some-clause-whole
+returns-in-Some-clause-whole g c =
+    let o = c.args.self.now in
+    let read = sym (subst (λ (s : Settings). Some (c.in-Some.packet, part c.args.frame.now c.in-Some.span) ≡ packet_in s.wire c.args.frame.now) c.settings.ensures.settings c.in-Some.ensures.read) in
+    let is = ap (option_map (λ (r : WirePacket × List ℕ). packet_between c.args.from o.control.id r.0 r.1)) read in
+    subst (λ (p : Option Packet). OnErr c.comes.result ((a : Answer) → has_run (comes o.control.settings p a (begun (host_of o) c.args.now)).told ≡ true)) (sym is) c.comes.ensures.whole
+
+pub returns-in-Some-clause-same : goal.returns-in-Some-clause-same
+returns-in-Some-clause-same g c = c.comes.ensures.same
+
+pub returns-in-Some-clause-none : goal.returns-in-Some-clause-none
+returns-in-Some-clause-none g c = c.comes.ensures.none
+
+pub returns-in-Some-clause-not_served : goal.returns-in-Some-clause-not_served
+returns-in-Some-clause-not_served g c = c.comes.ensures.not_served
+
+pub returns-in-Some-clause-allows_before : goal.returns-in-Some-clause-allows_before
+returns-in-Some-clause-allows_before g c = c.comes.ensures.allows_before

@@ -1,0 +1,5 @@
+pub mod Parts
+pub mod Amid
+pub mod Outcomes
+pub mod Public
+pub mod ServerFollow

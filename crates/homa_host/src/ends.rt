@@ -1,0 +1,151 @@
+// What rows do in turn, and how each step ends: grants, and then the pump.
+ghost use Rattle.std.specs.Prelude.{◌≡◌, ◌+◌, ◌<◌, ◌≤◌, ◌^◌, Some, [], Contains};
+ghost use Rattle.std.specs.Option.{option_map};
+ghost use Rattle.plain_sets.specs.Ordered.{first_of};
+ghost use Rattle.homa_plain.specs.Choice.{least, due};
+ghost use Rattle.homa_plain.specs.Timers.{timers, timer_key as plain_key};
+ghost use Rattle.homa_plain.specs.Sending.{Arriving, arrivals};
+ghost use Rattle.homa_plain.specs.Steps.{Work, now_of, acts, gives_grants, pump, ended};
+ghost use Rattle.homa_steps.specs.StepLaws.{first_acts};
+ghost use Rattle.homa_timers.specs.Armed.{timer_key};
+ghost use Rattle.homa_pacer.specs.Pace.{ready_key};
+ghost use Rattle.homa_seen.specs.Seen.{slot_of};
+ghost use Rattle.homa_host.specs.Parts.{host_of, seen_of, IsKept};
+ghost use Rattle.homa_host.specs.Amid.{Amid, Steady, HasRoom, IsPumped};
+ghost use Rattle.host_books.specs.Ends.{grant_to};
+ghost use Rattle.homa_seen.specs.Follow.{ChangesAt};
+
+use crate::at_client::Pumped;
+use crate::parts::HostParts;
+use arrayvec::ArrayVec;
+use homa_seen::Outbox;
+
+/// How many rows act in a turn at most.
+const MOST_ACTS: u32 = 32;
+
+/// How many packets a step sends at most.
+const MOST_PACKETS: usize = 64;
+
+impl HostParts {
+    // The rows that are due act once each, by deadline and then by order, at most 32.
+    pub(crate) fn act_all(&mut self, out: &mut Outbox)
+        requires kept { IsKept self.old }
+        requires order { self.old.order < 2 ^ 63 }
+        requires none { self.old.control.marks ≡ [] }
+        requires out { out.old ≡ [] }
+        ensures kept { IsKept self.new }
+        ensures step { (w : Work) → Amid w self.old out.old → Amid (acts self.old.control.settings w) self.new out.new }
+        ensures steady { Steady 32 32 32 self.old out.old self.new out.new }
+    {
+        for _ in 0..MOST_ACTS {
+            let Some(slot) = self.books.timers.due(self.control.last()) else {
+                return;
+            };
+            self.act(slot, out);
+        }
+    }
+
+    // The row of a slot acts.
+    fn act(&mut self, slot: u32, out: &mut Outbox)
+        requires kept { IsKept self.old }
+        requires due { option_map (λ t. t.slot) (first_of (due timer_key self.old.control.last self.old.books.timers.timers)) ≡ Some slot }
+        requires order { self.old.order < 2 ^ 63 + 32 }
+        requires room { HasRoom 1 1 self.old out.old }
+        ensures kept { IsKept self.new }
+        ensures step { (w : Work) → Amid w self.old out.old
+            → Amid (first_acts self.old.control.settings (first_of (due plain_key (now_of w) (timers self.old.control.settings w.host))) w) self.new out.new }
+        ensures steady { Steady 1 1 1 self.old out.old self.new out.new }
+    {
+        let calls = self.control.settings().calls;
+        if slot < calls {
+            self.client_acts(slot, out);
+        } else {
+            self.server_acts(slot - calls, out);
+        }
+    }
+
+    // A step ends.
+    pub(crate) fn end_step(&mut self, out: &mut Outbox)
+        requires kept { IsKept self.old }
+        requires room { HasRoom 71 7 self.old out.old }
+        ensures kept { IsKept self.new }
+        ensures step { (w : Work) → Amid w self.old out.old → Amid (ended self.old.control.settings w) self.new out.new }
+        ensures settings { self.new.control.settings ≡ self.old.control.settings }
+    {
+        self.give_grants(out);
+        self.pump(out);
+    }
+
+    // The chosen messages are granted to, in order of rank.
+    fn give_grants(&mut self, out: &mut Outbox)
+        requires kept { IsKept self.old }
+        requires room { HasRoom 7 7 self.old out.old }
+        ensures kept { IsKept self.new }
+        ensures step { (w : Work) → Amid w self.old out.old → Amid (gives_grants self.old.control.settings w) self.new out.new }
+        ensures steady { Steady 7 7 0 self.old out.old self.new out.new }
+    {
+        let mut chosen: ArrayVec<u32, 8> = ArrayVec::new();
+        self.books.grants.choose(&mut chosen);
+        let mut rank = chosen.len() as u8;
+        'ranks: for slot in chosen.as_slice() {
+            rank -= 1;
+            self.grant(*slot, rank, out);
+        }
+    }
+
+    // The message of a slot is granted to.
+    fn grant(&mut self, slot: u32, prio: u8, out: &mut Outbox)
+        requires kept { IsKept self.old }
+        requires arrives { (a : Arriving) × Contains (arrivals (host_of self.old)) a × (slot_of (seen_of self.old) a.place ≡ slot) }
+        requires prio { prio ≤ 7 }
+        requires room { HasRoom 1 1 self.old out.old }
+        ensures kept { IsKept self.new }
+        ensures step { (a : Arriving) (w : Work) → Contains (arrivals (host_of self.old)) a → slot_of (seen_of self.old) a.place ≡ slot
+            → Amid w self.old out.old → Amid (grant_to self.old.control.settings a prio w) self.new out.new }
+        ensures changes { (a : Arriving) → Contains (arrivals (host_of self.old)) a → slot_of (seen_of self.old) a.place ≡ slot
+            → ChangesAt a.place slot (seen_of self.old) (seen_of self.new) }
+        ensures steady { Steady 1 1 0 self.old out.old self.new out.new }
+    {
+        let calls = self.control.settings().calls;
+        if slot < calls {
+            self.client_is_granted(slot, prio, out);
+        } else {
+            self.server_is_granted(slot - calls, prio, out);
+        }
+    }
+
+    // The message that comes first goes on, until none may be sent, the credit is too small, or 64 packets were sent.
+    fn pump(&mut self, out: &mut Outbox)
+        requires kept { IsKept self.old }
+        requires room { HasRoom 64 0 self.old out.old }
+        ensures kept { IsKept self.new }
+        ensures step { (w : Work) → Amid w self.old out.old → Amid (pump self.old.control.settings w) self.new out.new }
+        ensures settings { self.new.control.settings ≡ self.old.control.settings }
+    {
+        'pieces: while out.len() < MOST_PACKETS {
+            let Some(slot) = self.books.pacer.pick() else {
+                return;
+            };
+            if let Pumped::Short = self.leave(slot, out) {
+                return;
+            }
+        }
+    }
+
+    // The next piece of the message of a slot goes out.
+    fn leave(&mut self, slot: u32, out: &mut Outbox) -> Pumped
+        requires kept { IsKept self.old }
+        requires picked { option_map (λ r. r.slot) (least ready_key self.old.books.pacer.ready) ≡ Some slot }
+        requires room { HasRoom 1 1 self.old out.old }
+        ensures kept { IsKept self.new }
+        ensures pumped { IsPumped self.old out.old self.new out.new result }
+        ensures steady { Steady 1 1 0 self.old out.old self.new out.new }
+    {
+        let calls = self.control.settings().calls;
+        if slot < calls {
+            self.request_leaves(slot, out)
+        } else {
+            self.response_leaves(slot - calls, out)
+        }
+    }
+}

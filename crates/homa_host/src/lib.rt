@@ -1,0 +1,18 @@
+//! One host of Homa: its calls, the calls that it serves, and what it sends.
+//!
+//! The model: a [`Host`] is seen as the plain host of `homa_plain`, beside the places of its rows and the marks of its last
+//! step. The promise: each `call`, `deliver` and `turn` is one step of the plain host, in its state, its entries and its
+//! frames; and between two calls the books hold exactly what the rows say. A step looks its call up once, and takes the
+//! books' first entries; none reads all rows.
+#![tactic(auto)]
+
+mod at_client;
+mod at_server;
+mod ends;
+mod host;
+mod outcome;
+mod parts;
+#[cfg(test)]
+mod tests;
+
+pub use host::Host;

@@ -1,0 +1,336 @@
+// What the tables' answers have a host do.
+ghost use Rattle.std.specs.Prelude.{◌≡◌, ℕ, ◌+◌, ◌-◌, ◌<◌, ◌≤◌, Option, Some, None, List, IsSome, IfSome, option_copied, if◌then◌else◌};
+ghost use Rattle.std.specs.Option.{option_and_then};
+ghost use Rattle.homa_plain.specs.declared.id.CallId.{CallId};
+ghost use Rattle.homa_plain.specs.declared.packet.Role.TheVariants.{Client as AsClient, Server as AsServer};
+ghost use Rattle.homa_plain.specs.declared.settings.Settings.{Settings};
+ghost use Rattle.homa_plain.specs.Packets.{Packet as PlainPacket};
+ghost use Rattle.homa_plain.specs.Rows.{ClientRow, ServerRow};
+ghost use Rattle.homa_plain.specs.Rules.{Moment, Answer, Did};
+ghost use Rattle.msg_pool.specs.Pool.{Pool};
+ghost use Rattle.homa_parts.specs.Pooled.{IsInPool, AreIn, seen_part};
+ghost use Rattle.homa_parts.specs.Pieces.{piece_in};
+ghost use Rattle.homa_places.specs.Placed.{StandsAt, spot_at};
+ghost use Rattle.homa_client.specs.Held.{HeldRow, seen_row};
+ghost use Rattle.homa_client.specs.Gives.{IsAct, IsAsked};
+ghost use Rattle.homa_client.specs.AtTable.{version_at, answer_of, IfSaid};
+ghost use Rattle.homa_server.specs.Held.{HeldServer, seen_server};
+ghost use Rattle.homa_server.specs.Answers.{version_there, service_in, served_of, acted_of, IfSaid as IfServerSaid, IsAnswerBody, IfResend};
+ghost use Rattle.homa_server.specs.Table.{request_at};
+ghost use Rattle.homa_control.specs.Saying.{IsOutcome, FitsSaid, outcome_marks, outcome_frames, one_of};
+ghost use Rattle.host_books.specs.Duty.{client_duty, server_duty, timer_duty, arrival_duty};
+ghost use Rattle.homa_host.specs.Outcomes.{IfServerTouched, head_in, length_in, version_in, client_change, server_change, client_orders, server_orders, client_act_change, IfTouched};
+
+use homa_books::{Arrival, Deadline, Duties, Waiting};
+use homa_client::{ClientAct, ClientDid, ClientTable};
+use homa_control::{Outcome, Said};
+use homa_in::Incoming;
+use homa_plain::{Body, CallId, More, RowFacts, Why};
+use homa_seen::Mark;
+use homa_server::{ServerAct, ServerDid, ServerTable};
+
+/// What became of the row at a place.
+#[derive(Clone, Copy, Debug, PartialEq, Eq)]
+pub(crate) enum Change {
+    /// No row changed.
+    Nothing,
+    /// The row stands, and may have changed.
+    Stays(u32),
+    /// The row is gone.
+    Goes(u32),
+}
+
+/// What a piece tells of its message: how many bytes the message has, and the version of the cutoffs, if this is the
+/// first piece.
+#[derive(Clone, Copy, Debug, PartialEq, Eq)]
+pub(crate) struct Head {
+    pub length: u32,
+    pub version: Option<u16>,
+}
+
+/// What the packet's piece tells, if it brings one.
+pub(crate) fn head_of(body: &Body) -> Option<Head>
+    ensures { result ≡ head_in body.now }
+{
+    match body {
+        Body::Data {
+            length,
+            offset,
+            version,
+            ..
+        } => Some(Head {
+            length: *length,
+            version: if *offset == 0 { Some(*version) } else { None },
+        }),
+        _ => None,
+    }
+}
+
+// What comes of a piece that was taken up; it may have opened its message.
+fn taken(opened: bool, head: Option<Head>, said: Said, finished: bool) -> Outcome
+    ensures opened { result.opened ≡ (if opened then Some (length_in head) else None) }
+    ensures version { result.version ≡ version_in head }
+    ensures said { result.said ≡ said }
+    ensures finished { result.finished ≡ finished }
+{
+    match head {
+        Some(head) => Outcome {
+            opened: if opened { Some(head.length) } else { None },
+            version: head.version,
+            said,
+            finished,
+        },
+        None => Outcome {
+            opened: if opened { Some(0) } else { None },
+            version: None,
+            said,
+            finished,
+        },
+    }
+}
+
+/// Which row of a client changed.
+pub(crate) fn client_change(did: &ClientDid) -> Change
+    ensures { result ≡ client_change did.now }
+{
+    match did {
+        ClientDid::Nothing | ClientDid::Ack => Change::Nothing,
+        ClientDid::Touched(slot) | ClientDid::Opened(slot) => Change::Stays(*slot),
+        ClientDid::Full { slot, .. } | ClientDid::Gaps { slot, .. } => Change::Stays(*slot),
+        ClientDid::Say { slot, .. } => Change::Stays(*slot),
+        ClientDid::Done { slot, .. } | ClientDid::Forgotten { slot, .. } => Change::Goes(*slot),
+    }
+}
+
+/// What comes of a packet at its client; `touched` is the version in a first piece of the message in the row.
+pub(crate) fn client_outcome(did: ClientDid, head: Option<Head>, touched: Option<u16>) -> Outcome
+    ensures outcome { (m : Moment) (p : PlainPacket) (row : Option ClientRow) (told : List ℕ) → head ≡ head_in p.body
+        → IfTouched did (λ _. touched ≡ version_at (piece_in p.body p.payload) row) → IsOutcome (answer_of m p row told did) result }
+    ensures fits { IfSaid did (λ what. what ≡ Body.Busy) → FitsSaid AsClient result.said }
+    ensures len { length_in head ≤ 1000000 → IfSome result.opened (λ len. len ≤ 1000000) }
+    ensures marks { outcome_marks result ≤ 4 }
+    ensures frames { outcome_frames result ≤ 3 }
+    ensures opened { one_of result.opened ≤ client_orders did }
+{
+    match did {
+        ClientDid::Nothing => Outcome::none(),
+        ClientDid::Touched(_) => Outcome {
+            version: touched,
+            ..Outcome::none()
+        },
+        ClientDid::Opened(_) => taken(true, head, Said::Nothing, false),
+        ClientDid::Done { id, opened, .. } => {
+            taken(opened, head, Said::Tell(Mark::Done { id }), true)
+        }
+        ClientDid::Full { id, need, free, .. } => {
+            Outcome::of(Said::Tell(Mark::NoPages { id, need, free }))
+        }
+        ClientDid::Gaps { id, .. } => {
+            taken(false, head, Said::Tell(Mark::TooManyGaps { id }), false)
+        }
+        ClientDid::Say { body, .. } => Outcome::of(Said::Post(body)),
+        ClientDid::Ack => {
+            let more = More::empty();
+            Outcome::of(Said::Post(Body::Ack { more }))
+        }
+        ClientDid::Forgotten { id, .. } => {
+            let why = Why::Forgotten;
+            Outcome::of(Said::Tell(Mark::Failed { id, why }))
+        }
+    }
+}
+
+/// How many order numbers a packet took at its client.
+pub(crate) fn client_orders(did: &ClientDid) -> u64
+    ensures order { result ≡ client_orders did.now }
+    ensures one { result ≤ 1 }
+{
+    match did {
+        ClientDid::Opened(_) => 1,
+        ClientDid::Done { opened, .. } => u64::from(*opened),
+        _ => 0,
+    }
+}
+
+/// Which row of a server changed.
+pub(crate) fn server_change(did: &ServerDid) -> Change
+    ensures { result ≡ server_change did.now }
+{
+    match did {
+        ServerDid::Nothing | ServerDid::FullRows { .. } | ServerDid::FullPages { .. } => {
+            Change::Nothing
+        }
+        ServerDid::Touched(slot) | ServerDid::Opened(slot) | ServerDid::Gaps(slot) => {
+            Change::Stays(*slot)
+        }
+        ServerDid::Ran { slot, .. } => Change::Stays(*slot),
+        ServerDid::Say { slot, .. } => match slot {
+            Some(slot) => Change::Stays(*slot),
+            None => Change::Nothing,
+        },
+    }
+}
+
+/// What comes of a packet of a call at its server, whose table has room for `limit` rows; `touched` is the version in a
+/// first piece of the request in the row.
+pub(crate) fn server_outcome(
+    did: ServerDid,
+    id: CallId,
+    service: u8,
+    limit: u32,
+    head: Option<Head>,
+    touched: Option<u16>,
+) -> Outcome
+    ensures outcome { (s : Settings) (m : Moment) (p : PlainPacket) (row : Option ServerRow) (told : List ℕ) (a : Answer) → head ≡ head_in p.body
+        → s.served ≡ limit → service ≡ service_in (piece_in p.body p.payload) → IfServerTouched did (λ _. touched ≡ version_there (piece_in p.body p.payload) row) → p.id ≡ id
+        → IsOutcome (served_of s m id (piece_in p.body p.payload) row told a did) result }
+    ensures fits { IfServerSaid did IsAnswerBody → FitsSaid AsServer result.said }
+    ensures len { length_in head ≤ 1000000 → IfSome result.opened (λ len. len ≤ 1000000) }
+    ensures marks { outcome_marks result ≤ 3 }
+    ensures frames { outcome_frames result ≤ 2 }
+    ensures opened { one_of result.opened ≤ server_orders did }
+{
+    match did {
+        ServerDid::Nothing => Outcome::none(),
+        ServerDid::Touched(_) => Outcome {
+            version: touched,
+            ..Outcome::none()
+        },
+        ServerDid::Opened(_) => taken(true, head, Said::Nothing, false),
+        ServerDid::Ran { opened, hold, .. } => {
+            let mark = Mark::Ran { id, service, hold };
+            taken(opened, head, Said::Tell(mark), false)
+        }
+        ServerDid::FullRows { rows } => { Outcome::of(Said::Tell(Mark::NoRow { id, rows, limit })) }
+        ServerDid::FullPages { need, free } => {
+            Outcome::of(Said::Tell(Mark::NoPages { id, need, free }))
+        }
+        ServerDid::Gaps(_) => taken(false, head, Said::Tell(Mark::TooManyGaps { id }), false),
+        ServerDid::Say { body, .. } => Outcome::of(Said::Post(body)),
+    }
+}
+
+/// How many order numbers a packet took at its server.
+pub(crate) fn server_orders(did: &ServerDid) -> u64
+    ensures order { result ≡ server_orders did.now }
+    ensures two { result ≤ 2 }
+{
+    match did {
+        ServerDid::Opened(_) => 1,
+        ServerDid::Ran { opened, hold, .. } => u64::from(*opened) + u64::from(*hold == 0),
+        _ => 0,
+    }
+}
+
+/// What became of a client's row at a place whose timer was due.
+pub(crate) fn client_act_change(act: ClientAct, slot: u32) -> Change
+    ensures { result ≡ client_act_change slot act }
+{
+    match act {
+        ClientAct::Resend(..) => Change::Stays(slot),
+        ClientAct::Timeout(_) => Change::Goes(slot),
+    }
+}
+
+/// What a client's row did whose timer was due.
+pub(crate) fn client_act_outcome(act: ClientAct, prio: u8) -> Outcome
+    ensures outcome { (s : Settings) (m : Moment) (id : CallId) (d : Did ClientRow) → prio ≡ s.overcommit - 1 → IsAct s m id d act
+        → IsOutcome d result }
+    ensures fits { prio ≤ 7 → IsAsked act → FitsSaid AsClient result.said }
+    ensures marks { outcome_marks result ≤ 1 }
+    ensures frames { outcome_frames result ≤ 1 }
+    ensures opened { result.opened ≡ None }
+{
+    match act {
+        ClientAct::Resend(from, to) => Outcome::of(Said::Post(Body::Resend { from, to, prio })),
+        ClientAct::Timeout(id) => {
+            let why = Why::Timeout;
+            Outcome::of(Said::Tell(Mark::Failed { id, why }))
+        }
+    }
+}
+
+/// What a server's row did whose timer was due.
+pub(crate) fn server_act_outcome(act: ServerAct, prio: u8) -> Outcome
+    ensures outcome { (s : Settings) (m : Moment) (id : CallId) (row : Option ServerRow) → prio ≡ s.overcommit - 1
+        → IsOutcome (acted_of s m id row act) result }
+    ensures fits { prio ≤ 7 → IfResend act (λ from to. (from < to) × (to ≤ 1000000)) → FitsSaid AsServer result.said }
+    ensures marks { outcome_marks result ≤ 1 }
+    ensures frames { outcome_frames result ≤ 1 }
+    ensures opened { result.opened ≡ None }
+{
+    match act {
+        ServerAct::Resend(from, to) => Outcome::of(Said::Post(Body::Resend { from, to, prio })),
+        ServerAct::Drop(id) => Outcome::of(Said::Tell(Mark::Dropped { id })),
+        ServerAct::Release => Outcome::none(),
+        ServerAct::NeedAck => Outcome::of(Said::Post(Body::NeedAck)),
+        ServerAct::Bury(id, until) => Outcome::of(Said::Tell(Mark::Entombed { id, until })),
+        ServerAct::Free(id) => Outcome::of(Said::Tell(Mark::Freed { id })),
+    }
+}
+
+// The entry of a message that isn't whole.
+fn arrival_of(part: Option<&Incoming>) -> Option<Arrival>
+    ensures { (pool : Pool) → IsInPool pool (option_copied part.entry)
+        → result ≡ arrival_duty (seen_part pool (option_copied part.entry)) }
+{
+    let part = part?;
+    Some(Arrival {
+        peer: part.peer(),
+        remaining: part.remaining(),
+        order: part.order(),
+    })
+}
+
+// The entry of a message of which bytes wait to be sent.
+fn waiting_of(facts: &RowFacts) -> Option<Waiting>
+    ensures { result ≡ option_and_then (λ o. if o.waiting then Some (record { left = o.left; order = o.order }) else None) facts.now.out }
+{
+    let out = facts.out?;
+    if !out.waiting {
+        return None;
+    }
+    Some(Waiting {
+        left: out.left,
+        order: out.order,
+    })
+}
+
+// The entry of a row's timer.
+fn deadline_of(facts: &RowFacts, at: Option<u64>) -> Option<Deadline>
+    ensures { result ≡ timer_duty facts.now.order at }
+{
+    let at = at?;
+    Some(Deadline {
+        at,
+        order: facts.order,
+    })
+}
+
+/// What the client's row at a place has in the books.
+pub(crate) fn client_duties(clients: &ClientTable, slot: u32) -> Duties
+    requires stands { IsSome (spot_at clients.now.rows slot) }
+    ensures { (id : CallId) (r : HeldRow) (pool : Pool) → StandsAt clients.now.rows id slot r → IsInPool pool r.part
+        → result ≡ client_duty clients.now.settings (seen_row pool r) }
+{
+    let facts = clients.row(slot);
+    Duties {
+        timer: deadline_of(&facts, clients.deadline(slot)),
+        arrival: arrival_of(clients.incoming(slot)),
+        waiting: waiting_of(&facts),
+    }
+}
+
+/// What the server's row at a place has in the books.
+pub(crate) fn server_duties(servers: &ServerTable, place: u32) -> Duties
+    requires stands { IsSome (spot_at servers.now.rows place) }
+    ensures { (id : CallId) (r : HeldServer) (pool : Pool) → StandsAt servers.now.rows id place r → AreIn pool (request_at servers.now.rows)
+        → result ≡ server_duty servers.now.settings (seen_server pool r) }
+{
+    let facts = servers.row(place);
+    Duties {
+        timer: deadline_of(&facts, servers.deadline(place)),
+        arrival: arrival_of(servers.incoming(place)),
+        waiting: waiting_of(&facts),
+    }
+}

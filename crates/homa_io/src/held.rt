@@ -1,0 +1,211 @@
+// A sink that holds lines back, so that many of them go out in one write.
+ghost use Rattle.std.specs.Prelude.{◌≡◌, ◌≤◌, ◌<◌, ◌+◌, ◌-◌, ◌++◌, ℕ, [], length, take, drop, vec_capacity, nat_eq, IfOk, OnOk, OnErr, if◌then◌else◌};
+ghost use Rattle.homa_io.specs.Outside.{HasRisen, appended, Grows};
+
+use crate::{NoMemory, Sink, WriteFailed};
+use std::alloc::Global;
+
+// The most bytes that are held.
+const ROOM: usize = 65536;
+
+// How many lines go out as they come.
+const DIRECT: u32 = 64;
+
+/// Room for the lines that are held, which is taken before a sink is lent.
+#[derive(Drop)]
+pub struct Room {
+    bytes: Vec<u8>,
+    ghost reserved: { 65536 ≤ vec_capacity bytes },
+}
+
+impl Room {
+    ghost use Rattle.homa_io.specs.Held.{room_size};
+
+    /// Takes room for 65,536 bytes.
+    pub fn new(alloc: Global) -> Result<Room, NoMemory>
+        ensures { IfOk result (λ room. 65536 ≤ room_size room) }
+    {
+        Ok(Room {
+            bytes: Vec::with_capacity(alloc, ROOM)?,
+        })
+    }
+}
+
+/// A sink over another one. It hands the first 64 lines on as they come. What comes later it holds
+/// back, up to 65,536 bytes, until a line doesn't fit behind them or `flush` is called. It takes no
+/// memory. What is held when it is dropped is lost, so flush it on every way out.
+#[derive(Drop)]
+pub struct HeldSink<K> {
+    sink: K,
+    bytes: Vec<u8>,
+    // How many of `bytes` went out already, before a fault.
+    sent: usize,
+    // How many lines still go out as they come.
+    direct: u32,
+    ghost within: { sent ≤ length bytes.items },
+    ghost most: { length bytes.items ≤ 65536 },
+    ghost reserved: { 65536 ≤ vec_capacity bytes },
+}
+
+impl<K: Sink + Drop> HeldSink<K> {
+    ghost use Rattle.homa_io.specs.Held.{sink_below, held_bytes, space_left, direct_lines};
+
+    /// A sink over this one, which holds nothing yet.
+    pub fn over(sink: K, room: Room) -> HeldSink<K>
+        ensures below { sink_below result ≡ sink }
+        ensures none { held_bytes result ≡ [] }
+        ensures space { space_left result ≡ 65536 }
+        ensures direct { direct_lines result ≡ 64 }
+    {
+        let mut bytes = room.bytes;
+        bytes.clear();
+        HeldSink {
+            sink,
+            bytes,
+            sent: 0,
+            direct: DIRECT,
+        }
+    }
+
+    /// The sink below. What is still held is lost.
+    pub fn into_sink(self) -> K
+        ensures { result ≡ sink_below self }
+    {
+        let HeldSink { sink, .. } = self;
+        sink
+    }
+
+    /// Writes what is held. After an error, which is the first that a write gave, what wasn't taken is
+    /// still held.
+    pub fn flush(&mut self) -> Result<(), WriteFailed>
+        ensures whole { appended (K.taken (sink_below self.new)) (held_bytes self.new)
+            ≡ appended (K.taken (sink_below self.old)) (held_bytes self.old) }
+        ensures ok { OnOk result (K.taken (sink_below self.new)
+            ≡ appended (K.taken (sink_below self.old)) (held_bytes self.old)) }
+        ensures none { OnOk result (held_bytes self.new ≡ []) }
+        ensures space { OnOk result (space_left self.new ≡ 65536) }
+        ensures direct { direct_lines self.new ≡ direct_lines self.old }
+
+        ensures grows { Grows (K.taken (sink_below self.old)) (K.taken (sink_below self.new)) }
+        ensures risen { OnErr result
+            (HasRisen (K.faults (sink_below self.old)) (K.faults (sink_below self.new))) }
+        ensures quiet { OnOk result
+            (K.faults (sink_below self.new) ≡ K.faults (sink_below self.old)) }
+        ensures never_falls { K.faults (sink_below self.old) ≤ K.faults (sink_below self.new) }
+        ensures same { K.is_same (sink_below self.old) (sink_below self.new) }
+    {
+        while self.sent < self.bytes.len() {
+            self.sent += self.sink.write(&self.bytes[self.sent..])?;
+        }
+        self.bytes.clear();
+        self.sent = 0;
+        Ok(())
+    }
+
+    // Hands bytes on, where nothing is held.
+    fn pass(&mut self, bytes: &[u8]) -> Result<usize, WriteFailed>
+        requires { held_bytes self.old ≡ [] }
+        ensures fits { IfOk result (λ n. n ≤ length bytes.now) }
+        ensures some { IfOk result (λ n. 0 < length bytes.now → 0 < n) }
+        ensures taken { IfOk result (λ n. K.taken (sink_below self.new) ≡ appended (K.taken (sink_below self.old)) (take n bytes.now)) }
+        ensures err { OnErr result (K.taken (sink_below self.new) ≡ K.taken (sink_below self.old)) }
+        ensures none { held_bytes self.new ≡ [] }
+        ensures counted { IfOk result (λ n. direct_lines self.new ≡ (if nat_eq n (length bytes.now) then direct_lines self.old - 1 else direct_lines self.old)) }
+        ensures uncounted { OnErr result (direct_lines self.new ≡ direct_lines self.old) }
+        ensures grows { Grows (K.taken (sink_below self.old)) (K.taken (sink_below self.new)) }
+        ensures risen { OnErr result (HasRisen (K.faults (sink_below self.old)) (K.faults (sink_below self.new))) }
+        ensures quiet { OnOk result (K.faults (sink_below self.new) ≡ K.faults (sink_below self.old)) }
+        ensures never_falls { K.faults (sink_below self.old) ≤ K.faults (sink_below self.new) }
+        ensures same { K.is_same (sink_below self.old) (sink_below self.new) }
+    {
+        let n = self.sink.write(bytes)?;
+        if n == bytes.len() {
+            self.direct = self.direct.saturating_sub(1);
+        }
+        Ok(n)
+    }
+
+    // Writes what is held, unless so many bytes fit behind it.
+    fn make_room(&mut self, n: usize) -> Result<(), WriteFailed>
+        requires { n ≤ 65536 }
+        ensures space { OnOk result (n ≤ space_left self.new) }
+        ensures waits { n ≤ space_left self.old → self.new ≡ self.old }
+        ensures whole { appended (K.taken (sink_below self.new)) (held_bytes self.new) ≡ appended (K.taken (sink_below self.old)) (held_bytes self.old) }
+        ensures direct { direct_lines self.new ≡ direct_lines self.old }
+        ensures grows { Grows (K.taken (sink_below self.old)) (K.taken (sink_below self.new)) }
+        ensures risen { OnErr result (HasRisen (K.faults (sink_below self.old)) (K.faults (sink_below self.new))) }
+        ensures quiet { OnOk result (K.faults (sink_below self.new) ≡ K.faults (sink_below self.old)) }
+        ensures never_falls { K.faults (sink_below self.old) ≤ K.faults (sink_below self.new) }
+        ensures same { K.is_same (sink_below self.old) (sink_below self.new) }
+    {
+        if n <= ROOM - self.bytes.len() {
+            return Ok(());
+        }
+        self.flush()
+    }
+
+    // Holds bytes too.
+    fn hold(&mut self, bytes: &[u8])
+        requires { length bytes.now ≤ space_left self.old }
+        ensures held { held_bytes self.new ≡ held_bytes self.old ++ bytes.now }
+        ensures below { sink_below self.new ≡ sink_below self.old }
+        ensures direct { direct_lines self.new ≡ direct_lines self.old }
+    {
+        self.bytes.extend_from_slice(bytes).unwrap();
+    }
+}
+
+impl<K: Sink + Drop> Sink for HeldSink<K> {
+    ghost use Rattle.homa_io.specs.Held.{sink_below, held_bytes, space_left, direct_lines};
+    ghost use Rattle.homa_io.specs.Growing.{grows_none, grows_on};
+
+    ghost taken = { λ h. appended (K.taken (sink_below h)) (held_bytes h) };
+
+    ghost faults = { λ h. K.faults (sink_below h) };
+
+    // What the sink below took only grows.
+    ghost is_same = { λ a b. K.is_same (sink_below a) (sink_below b) × Grows (K.taken (sink_below a)) (K.taken (sink_below b)) };
+
+    ghost same_self = { λ a. (K.same_self (sink_below a), grows_none (K.taken (sink_below a))) };
+
+    ghost same_on = { λ a b c p q. (K.same_on (sink_below a) (sink_below b) (sink_below c) p.0 q.0, grows_on (K.taken (sink_below a)) (K.taken (sink_below b)) (K.taken (sink_below c)) p.1 q.1) };
+
+    /// Takes all of the bytes, or as many as the sink below takes of one of the first lines and of
+    /// what is longer than 65,536 bytes. A line is a call of which all bytes were taken.
+    fn write(&mut self, bytes: &[u8]) -> Result<usize, WriteFailed>
+        ensures fits { IfOk result (λ n. n ≤ length bytes.now) }
+        ensures some { IfOk result (λ n. 0 < length bytes.now → 0 < n) }
+        ensures taken { IfOk result (λ n.
+            appended (K.taken (sink_below self.new)) (held_bytes self.new)
+            ≡ appended (appended (K.taken (sink_below self.old)) (held_bytes self.old)) (take n bytes.now)) }
+        ensures err { OnErr result (
+            appended (K.taken (sink_below self.new)) (held_bytes self.new)
+            ≡ appended (K.taken (sink_below self.old)) (held_bytes self.old)) }
+
+        ensures risen { OnErr result
+            (HasRisen (K.faults (sink_below self.old)) (K.faults (sink_below self.new))) }
+        ensures quiet { OnOk result
+            (K.faults (sink_below self.new) ≡ K.faults (sink_below self.old)) }
+        ensures never_falls { K.faults (sink_below self.old) ≤ K.faults (sink_below self.new) }
+        ensures same { K.is_same (sink_below self.old) (sink_below self.new)
+            × Grows (K.taken (sink_below self.old)) (K.taken (sink_below self.new)) }
+
+        // The first lines go out as they come, and each that is taken whole is one of them.
+        ensures first { OnOk result (0 < direct_lines self.old → held_bytes self.new ≡ []) }
+        ensures counted { IfOk result (λ n. n ≡ length bytes.now →
+            0 < direct_lines self.old → direct_lines self.new + 1 ≡ direct_lines self.old) }
+        ensures never_more { direct_lines self.new ≤ direct_lines self.old }
+
+        // What comes later is held as long as it fits.
+        ensures waits { direct_lines self.old ≡ 0 → length bytes.now ≤ space_left self.old →
+            sink_below self.new ≡ sink_below self.old }
+    {
+        if self.direct > 0 || bytes.len() > ROOM {
+            self.flush()?;
+            return self.pass(bytes);
+        }
+        self.make_room(bytes.len())?;
+        self.hold(bytes);
+        Ok(bytes.len())
+    }
+}

@@ -1,0 +1,10 @@
+pub mod Hosts
+pub mod Frame
+pub mod ToldMoves
+pub mod Chosen
+pub mod Folds
+pub mod Events
+pub mod ToldSteps
+pub mod Timed
+pub mod ToldEvents
+pub mod Always

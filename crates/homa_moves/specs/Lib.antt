@@ -1,0 +1,4 @@
+pub mod Always
+pub mod Stands
+pub mod Contents
+pub mod Arrived

@@ -1,0 +1,15 @@
+pub mod Goes
+pub mod OnceLines
+pub mod Amid
+pub mod Acks
+pub mod ServedCame
+pub mod AskedCame
+pub mod SentCame
+pub mod Taken
+pub mod Acting
+pub mod Between
+pub mod Begun
+pub mod Called
+pub mod Restarted
+pub mod Opened
+pub mod Kept

@@ -1,0 +1,4 @@
+pub mod Frames
+pub mod Ages
+pub mod TickLists
+pub mod Rooms

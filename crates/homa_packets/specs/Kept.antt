@@ -1,0 +1,47 @@
+-- What is kept of the packets that were sent.
+use Rattle.std.specs.Prelude.{◌≡◌, ◌<◌, ℕ, ◌+◌, ◌*◌, List, [], ◌∷◌, map, replicate}
+use Rattle.homa_plain.specs.declared.id.HostId.{HostId}
+use Rattle.homa_plain.specs.declared.settings.Settings.{Settings}
+use Rattle.homa_packets.specs.declared.packets.Kept.{Kept}
+use Rattle.homa_packets.specs.declared.packets.Kept.TheVariants.{Whole, Late, Stale}
+use Rattle.homa_packets.specs.declared.tick.Old.{Old}
+use Rattle.homa_packets.specs.declared.tick.Stored.{Stored}
+use Rattle.homa_packets.specs.declared.tick.Stored.TheVariants as stored
+use Rattle.homa_packets.specs.declared.tick.Tick.{Tick}
+use Rattle.homa_packets.specs.Blocks.{Frame, frames_of}
+use Rattle.homa_packets.specs.Olds.{TellsClock}
+
+-- what is kept of a packet: all of it; that it is late for good, and its tick; that it is certainly stale, its receiver and its sender's clock
+pub data KeptPacket : Type 0 where
+  WholePacket : (tick : ℕ) (frame : Frame) → KeptPacket
+  LatePacket : (tick : ℕ) → KeptPacket
+  StalePacket : (to : HostId) (at : ℕ) → KeptPacket
+
+abbrev pub kept_seen : Kept → KeptPacket
+kept_seen (Whole tick from to bytes) = WholePacket tick (record { from = from; to = to; bytes = bytes.now })
+kept_seen (Late tick) = LatePacket tick
+kept_seen (Stale to at) = StalePacket to at
+
+abbrev pub stored_kept : ℕ → Stored → List KeptPacket
+stored_kept tick (stored.Live block) = map (WholePacket tick) (frames_of block)
+stored_kept tick (stored.Late n) = replicate n (LatePacket tick)
+stored_kept tick (stored.Stale olds) = map (λ (o : Old). StalePacket o.to o.at) olds.items
+
+abbrev pub kept_of : Tick → List KeptPacket
+kept_of t = stored_kept t.tick t.stored
+
+-- a packet stays as it is kept, or it became too old by this tick of the world's clock: late for good with version 1, and with
+-- version 2 certainly stale, whatever the leads
+abbrev pub IsAged : Settings → ℕ → KeptPacket → KeptPacket → Type 0
+IsAged s now (WholePacket tick f) (WholePacket later g) = (later ≡ tick) × (g ≡ f)
+IsAged s now (WholePacket tick f) (LatePacket later) = (s.wire ≡ 1) × (later ≡ tick) × (tick + s.life < now)
+IsAged s now (WholePacket tick f) (StalePacket to at) = (s.wire ≡ 2) × (to ≡ f.to) × TellsClock f.bytes at × (at + s.life + 2 * s.skew < now)
+IsAged s now (LatePacket tick) (LatePacket later) = later ≡ tick
+IsAged s now (StalePacket to at) (StalePacket other later) = (other ≡ to) × (later ≡ at)
+IsAged s now old new = ⊥
+
+abbrev pub AllAged : Settings → ℕ → List KeptPacket → List KeptPacket → Type 0
+AllAged s now [] [] = Unit {0}
+AllAged s now [] (new ∷ news) = ⊥
+AllAged s now (old ∷ olds) [] = ⊥
+AllAged s now (old ∷ olds) (new ∷ news) = IsAged s now old new × AllAged s now olds news

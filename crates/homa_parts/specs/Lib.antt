@@ -1,0 +1,4 @@
+pub mod Pooled
+pub mod Putting
+pub mod Pieces
+pub mod Sends

@@ -1,0 +1,5 @@
+pub mod SearchLaws
+pub mod IndexLaws
+pub mod MappedLaws
+pub mod PlacedLaws
+pub mod SpotLaws

@@ -1,0 +1,5 @@
+pub mod Placed
+pub mod Mapped
+pub mod Index
+pub mod Spots
+pub mod Lends

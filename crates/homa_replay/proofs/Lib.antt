@@ -1,0 +1,9 @@
+pub mod Fronts
+pub mod Streams
+pub mod Plays
+pub mod Ticks
+pub mod Turns
+pub mod Fars
+pub mod LineSteps
+pub mod Begins
+pub mod Composed

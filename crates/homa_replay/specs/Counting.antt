@@ -1,0 +1,7 @@
+-- The counts of a source that writes what is held before each read.
+use Rattle.std.specs.Prelude.{ℕ, Option}
+use Rattle.homa_replay.specs.declared.stop.Stop.{Stop}
+use Rattle.homa_replay.specs.Ahead.{Counts}
+
+abbrev pub counts : Option Stop → ℕ → ℕ → ℕ → Counts
+counts stop own source sink = record { stop = stop; own = own; source = source; sink = sink }

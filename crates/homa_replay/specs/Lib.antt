@@ -1,0 +1,9 @@
+pub mod Stream
+pub mod Playing
+pub mod Lines
+pub mod Far
+pub mod Ahead
+pub mod Heeding
+pub mod Counting
+pub mod Came
+pub mod Opens

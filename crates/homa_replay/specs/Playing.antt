@@ -1,0 +1,33 @@
+-- What a world that is played does with an event.
+use Rattle.std.specs.Prelude.{◌≡◌, Bool, true, false, List, ◌++◌}
+use Rattle.homa_plain.specs.declared.settings.Settings.{Settings}
+use Rattle.homa_plain.specs.declared.event.Event.{Event}
+use Rattle.homa_plain.specs.declared.event.Event.TheVariants as event
+use Rattle.homa_plain.specs.declared.fault.WorldFault.{WorldFault}
+use Rattle.homa_plain.specs.declared.fault.WorldFault.TheVariants as fault
+use Rattle.homa_plain.specs.Entries.{PlainEntry}
+use Rattle.homa_plain.specs.World.{World}
+use Rattle.homa_plain.specs.Replay.{Happening}
+use Rattle.homa_replay.specs.Stream.{shown, IsDone, IsRefused}
+
+-- An event was applied, and this is told of it: it is the plain world's outcome with the answers that its `run` line shows, which
+-- the boxes allow. `stands` says which plain worlds the code's world may be afterwards; `before` and `after` say which entries the
+-- boxes allow from then on.
+pub record IsApplied (s : Settings) (w : World) (e : Happening) (stands : World → Type 0) (told : List PlainEntry) (before after : List PlainEntry → Type 0) : Type 0 where
+  pub next : World
+  pub stood : stands next
+  pub done : IsDone s w e (shown told) next told
+  pub allowed : (more : List PlainEntry) → after more → before (told ++ more)
+
+abbrev pub is_memory : WorldFault → Bool
+is_memory fault.NoMemory = true
+is_memory other = false
+
+abbrev pub is_clock : Event → Bool
+is_clock event.Clock = true
+is_clock other = false
+
+-- An event wasn't applied: the plain world refuses it, or there is no memory, of which the clock takes none.
+pub record IsNotApplied (s : Settings) (w : World) (e : Happening) (fault : WorldFault) : Type 0 where
+  pub refused : is_memory fault ≡ false → IsRefused s w e fault
+  pub memory : is_memory fault ≡ true → is_clock e.event ≡ false

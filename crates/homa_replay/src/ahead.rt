@@ -1,0 +1,187 @@
+// A source that writes what is held before each read.
+ghost use Rattle.std.specs.Prelude.{◌≡◌, ◌≤◌, ◌<◌, ◌+◌, ◌^◌, ℕ, List, None, Some, true, false, length, take, IfOk, OnErr, OnOk, IsErrOf};
+ghost use Rattle.std.specs.Result.{result_err};
+ghost use Rattle.homa_io.specs.Outside.{HasRisen, unread, IsAtEnd};
+ghost use Rattle.homa_plain.specs.Settings.{IsValid};
+ghost use Rattle.homa_script.specs.Place.{IsCounted};
+ghost use Rattle.homa_script.specs.Read.{IsCut};
+ghost use Rattle.homa_script.specs.Script.{opened, IsOpening, IsNext, IsInRange, IsOn, is_end};
+ghost use Rattle.homa_replay.specs.Came.{answer_of, opening_of};
+
+use crate::came::Came;
+use crate::{Holding, Stop};
+use homa_io::{ReadFailed, Source};
+use homa_plain::{ScriptFault, Settings};
+use homa_script::{Reader, ScriptStop};
+
+/// A source over another one. Before each read it writes what the sink holds, so that a fault of the source finds nothing
+/// held. After the first fault of either it reads and writes nothing more.
+#[derive(Drop)]
+pub(crate) struct Ahead<'a, S, K> {
+    source: &'a mut S,
+    sink: &'a mut K,
+    stop: Option<Stop>,
+    faults: u64,
+}
+
+impl<'a, S: Source, K: Holding> Ahead<'a, S, K> {
+    // Writes what is held, and reads.
+    fn fetch(&mut self, buf: &mut [u8]) -> Result<usize, Stop>
+        ensures fits { IfOk result (λ n. n ≤ length buf.new) }
+        ensures read { IfOk result (λ n. S.left self.old.source.now ≡ unread (take n buf.new) (S.left self.new.source.now)) }
+        ensures end { IfOk result (λ n. n ≡ 0 → 0 < length buf.old → IsAtEnd (S.left self.old.source.now)) }
+        ensures err { OnErr result (S.left self.new.source.now ≡ S.left self.old.source.now) }
+        ensures taken { K.taken self.new.sink.now ≡ K.taken self.old.sink.now }
+        ensures quiet_source { OnOk result (S.faults self.new.source.now ≡ S.faults self.old.source.now) }
+        ensures quiet_sink { OnOk result (K.faults self.new.sink.now ≡ K.faults self.old.sink.now) }
+        ensures stop { self.new.stop ≡ self.old.stop }
+        ensures faults { self.new.faults ≡ self.old.faults }
+        ensures lent_source { self.new.source.ghost_name ≡ self.old.source.ghost_name }
+        ensures lent_sink { self.new.sink.ghost_name ≡ self.old.sink.ghost_name }
+        ensures same_source { S.is_same self.old.source.now self.new.source.now }
+        ensures same_sink { K.is_same self.old.sink.now self.new.sink.now }
+        ensures read_risen { IsErrOf result Stop.Read → HasRisen (S.faults self.old.source.now) (S.faults self.new.source.now) }
+        ensures read_quiet { IsErrOf result Stop.Read → K.faults self.new.sink.now ≡ K.faults self.old.sink.now }
+        ensures write_risen { IsErrOf result Stop.Write → HasRisen (K.faults self.old.sink.now) (K.faults self.new.sink.now) }
+        ensures write_quiet { IsErrOf result Stop.Write → S.faults self.new.source.now ≡ S.faults self.old.source.now }
+        ensures memory { IsErrOf result Stop.NoMemory → ⊥ }
+    {
+        self.sink.flush()?;
+        let n = self.source.read(buf)?;
+        Ok(n)
+    }
+}
+
+impl<'a, S: Source, K: Holding> Source for Ahead<'a, S, K> {
+    ghost use Rattle.homa_replay.specs.Ahead.{IsHeeded};
+    ghost use Rattle.homa_replay.specs.Counting.{counts};
+    ghost use Rattle.homa_replay.specs.Heeding.{heeded_self, heeded_on};
+    ghost use Rattle.std.specs.Prelude.{refl};
+    ghost use Rattle.std.proofs.Common.{◌∙◌};
+
+    ghost left = { λ a. S.left a.source.now };
+
+    ghost faults = { λ a. a.faults };
+
+    // It refers to the same two. After the first fault nothing changes.
+    ghost is_same = { λ a b. (a.source.ghost_name ≡ b.source.ghost_name) × (a.sink.ghost_name ≡ b.sink.ghost_name) × S.is_same a.source.now b.source.now × K.is_same a.sink.now b.sink.now × (K.taken b.sink.now ≡ K.taken a.sink.now) × IsHeeded (counts a.stop a.faults (S.faults a.source.now) (K.faults a.sink.now)) (counts b.stop b.faults (S.faults b.source.now) (K.faults b.sink.now)) a.stop };
+
+    ghost same_self = { λ a. (refl, refl, S.same_self a.source.now, K.same_self a.sink.now, refl, heeded_self (counts a.stop a.faults (S.faults a.source.now) (K.faults a.sink.now))) };
+
+    ghost same_on = { λ a b c p q. (p.0 ∙ q.0, p.1 ∙ q.1, S.same_on a.source.now b.source.now c.source.now p.2 q.2, K.same_on a.sink.now b.sink.now c.sink.now p.3 q.3, q.4 ∙ p.4, heeded_on (counts a.stop a.faults (S.faults a.source.now) (K.faults a.sink.now)) (counts b.stop b.faults (S.faults b.source.now) (K.faults b.sink.now)) (counts c.stop c.faults (S.faults c.source.now) (K.faults c.sink.now)) p.5 q.5) };
+
+    fn read(&mut self, buf: &mut [u8]) -> Result<usize, ReadFailed> {
+        if self.stop.is_some() {
+            self.faults = self.faults.saturating_add(1);
+            return Err(ReadFailed);
+        }
+        match self.fetch(buf) {
+            Ok(n) => Ok(n),
+            Err(stop) => {
+                self.stop = Some(stop);
+                self.faults = self.faults.saturating_add(1);
+                Err(ReadFailed)
+            }
+        }
+    }
+}
+
+/// Reads up to `go`: the settings that hold there, or why a line is refused.
+pub(crate) fn read_settings<S: Source, K: Holding>(
+    reader: &mut Reader,
+    source: &mut S,
+    sink: &mut K,
+) -> Result<Result<Settings, ScriptFault>, Stop>
+    requires first { reader.old ≡ opened reader.old.place.limit }
+    ensures settings { IfOk result (λ answer. (bytes : List ℕ) → S.left source.old ≡ Some bytes → IsOpening reader.old.place.limit reader.new.place bytes (S.left source.new) (opening_of answer)) }
+    ensures cut { OnErr result ((bytes : List ℕ) → S.left source.old ≡ Some bytes → IsCut bytes (S.left source.new)) }
+    ensures valid { IfOk result (λ answer. IfOk answer IsValid) }
+    ensures started { reader.new.started ≡ true }
+    ensures not_ended { reader.new.ended ≡ false }
+    ensures stopped { IfOk result (λ answer. reader.new.stopped ≡ result_err (opening_of answer)) }
+    ensures counted { IfOk result (λ answer. IfOk answer (λ settings. IsCounted reader.new.place)) }
+    ensures limit { reader.new.place.limit ≡ reader.old.place.limit }
+    ensures taken { K.taken sink.new ≡ K.taken sink.old }
+    ensures quiet_source { OnOk result (S.faults source.new ≡ S.faults source.old) }
+    ensures quiet_sink { OnOk result (K.faults sink.new ≡ K.faults sink.old) }
+    ensures read_risen { IsErrOf result Stop.Read → HasRisen (S.faults source.old) (S.faults source.new) }
+    ensures read_quiet { IsErrOf result Stop.Read → K.faults sink.new ≡ K.faults sink.old }
+    ensures write_risen { IsErrOf result Stop.Write → HasRisen (K.faults sink.old) (K.faults sink.new) }
+    ensures write_quiet { IsErrOf result Stop.Write → S.faults source.new ≡ S.faults source.old }
+    ensures memory { IsErrOf result Stop.NoMemory → ⊥ }
+    ensures same_source { S.is_same source.old source.new }
+    ensures same_sink { K.is_same sink.old sink.new }
+{
+    let mut ahead = Ahead {
+        source,
+        sink,
+        stop: None,
+        faults: 0,
+    };
+    let answer = reader.settings(&mut ahead);
+    let Ahead {
+        source: _,
+        sink: _,
+        stop,
+        faults: _,
+    } = ahead;
+    if let Some(stop) = stop {
+        return Err(stop);
+    }
+    match answer {
+        Ok(settings) => Ok(Ok(settings)),
+        Err(ScriptStop::Fault(fault)) => Ok(Err(fault)),
+        Err(ScriptStop::Read(_)) => unreachable!(),
+    }
+}
+
+/// Reads up to the next line with words. Before the source is read what is held is written.
+pub(crate) fn read_next<S: Source, K: Holding>(
+    reader: &mut Reader,
+    source: &mut S,
+    sink: &mut K,
+) -> Result<Came, Stop>
+    requires started { reader.old.started ≡ true }
+    requires not_ended { reader.old.ended ≡ false }
+    requires running { reader.old.stopped ≡ None }
+    ensures next { IfOk result (λ came. (bytes : List ℕ) → S.left source.old ≡ Some bytes → IsNext reader.old.place reader.new.place reader.new.operand bytes (S.left source.new) (answer_of came)) }
+    ensures cut { OnErr result ((bytes : List ℕ) → S.left source.old ≡ Some bytes → IsCut bytes (S.left source.new)) }
+    ensures started { reader.new.started ≡ true }
+    ensures ended { IfOk result (λ came. reader.new.ended ≡ is_end (answer_of came)) }
+    ensures stopped { IfOk result (λ came. reader.new.stopped ≡ result_err (answer_of came)) }
+    ensures range { IfOk result (λ came. IfOk (answer_of came) IsInRange) }
+    ensures on { IfOk result (λ came. IfOk (answer_of came) (IsOn reader.old.place reader.new.place)) }
+    ensures limit { reader.new.place.limit ≡ reader.old.place.limit }
+    ensures taken { K.taken sink.new ≡ K.taken sink.old }
+    ensures quiet_source { OnOk result (S.faults source.new ≡ S.faults source.old) }
+    ensures quiet_sink { OnOk result (K.faults sink.new ≡ K.faults sink.old) }
+    ensures read_risen { IsErrOf result Stop.Read → HasRisen (S.faults source.old) (S.faults source.new) }
+    ensures read_quiet { IsErrOf result Stop.Read → K.faults sink.new ≡ K.faults sink.old }
+    ensures write_risen { IsErrOf result Stop.Write → HasRisen (K.faults sink.old) (K.faults sink.new) }
+    ensures write_quiet { IsErrOf result Stop.Write → S.faults source.new ≡ S.faults source.old }
+    ensures memory { IsErrOf result Stop.NoMemory → ⊥ }
+    ensures same_source { S.is_same source.old source.new }
+    ensures same_sink { K.is_same sink.old sink.new }
+{
+    let mut ahead = Ahead {
+        source,
+        sink,
+        stop: None,
+        faults: 0,
+    };
+    let answer = reader.next(&mut ahead);
+    let Ahead {
+        source: _,
+        sink: _,
+        stop,
+        faults: _,
+    } = ahead;
+    if let Some(stop) = stop {
+        return Err(stop);
+    }
+    match answer {
+        Ok(next) => Ok(Came::Line(next)),
+        Err(ScriptStop::Fault(fault)) => Ok(Came::Refused(fault)),
+        Err(ScriptStop::Read(_)) => unreachable!(),
+    }
+}

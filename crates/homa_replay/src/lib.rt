@@ -1,0 +1,26 @@
+//! The replay of a schedule, line by line and event by event, over any world.
+//!
+//! Model: a world that is played is seen as the plain world without answers, since nobody knows at a line what a service
+//! will answer at a later one. What is due of a replay is a function of the bytes and of the answers that are to come.
+//! Main promise: where `carry_on` is done, the sink took the text of the replay of the bytes that the source had, with the
+//! answers that its own `run` lines show; where it stops early, the sink took a front of that.
+#![tactic(auto)]
+
+mod ahead;
+mod came;
+mod holding;
+mod lines;
+mod opens;
+mod playing;
+mod print;
+mod schedule;
+mod stop;
+
+pub use holding::Holding;
+pub use opens::{Opens, replay};
+pub use playing::Playing;
+pub use schedule::{MOST_BYTES, begin, carry_on};
+pub use stop::Stop;
+
+#[cfg(test)]
+mod tests;

@@ -1,0 +1,145 @@
+// The events of a line, one after the other.
+ghost use Rattle.std.specs.Prelude.{◌≡◌, ◌≤◌, ◌<◌, ℕ, ◌+◌, ◌*◌, ◌^◌, ◌∷◌, [], Some, None, Ok, true, false, IfOk, IfSome, OnErr, OnOk, IsErrOf};
+ghost use Rattle.homa_io.specs.Outside.{HasRisen};
+ghost use Rattle.homa_plain.specs.declared.event.Event.TheVariants as event;
+ghost use Rattle.homa_plain.specs.Replay.{turns_of, ticks};
+ghost use Rattle.homa_plain.specs.World.{World};
+ghost use Rattle.homa_replay.specs.Playing.{is_memory};
+ghost use Rattle.homa_replay.specs.Lines.{tick_of, ArePlayed, AreRefused, AreCut};
+
+use crate::print::put_entries;
+use crate::{Playing, Stop};
+use homa_io::Sink;
+use homa_plain::{Event, HostId, WorldFault};
+use std::alloc::Global;
+
+// Whether there was no memory.
+fn is_memory(fault: &WorldFault) -> bool
+    ensures { result ≡ is_memory fault.now }
+{
+    matches!(fault, WorldFault::NoMemory)
+}
+
+/// Does an event and prints its entries, or answers why it is refused.
+pub(crate) fn play<P: Playing, K: Sink>(
+    alloc: Global,
+    world: &mut P,
+    sink: &mut K,
+    event: &Event,
+    bytes: &[u8],
+) -> Result<Option<WorldFault>, Stop>
+    requires few { P.events world.old < 2 ^ 57 }
+    ensures played { result ≡ Ok None → (w : World) → P.stands world.old w → ArePlayed (P.settings world.old) w (record { event = event.now; bytes = bytes.now } ∷ []) (P.stands world.new) (K.taken sink.old) (K.taken sink.new) (P.allows world.old) (P.allows world.new) }
+    ensures refused { IfOk result (λ r. IfSome r (λ fault. (w : World) → P.stands world.old w → AreRefused (P.settings world.old) w (record { event = event.now; bytes = bytes.now } ∷ []) (K.taken sink.old) (K.taken sink.new) (P.allows world.old) fault)) }
+    ensures real { IfOk result (λ r. IfSome r (λ fault. is_memory fault ≡ false)) }
+    ensures cut { OnErr result ((w : World) → P.stands world.old w → AreCut (P.settings world.old) w (record { event = event.now; bytes = bytes.now } ∷ []) (K.taken sink.old) (K.taken sink.new) (P.allows world.old)) }
+    ensures settings { P.settings world.new ≡ P.settings world.old }
+    ensures counted { P.events world.new ≤ P.events world.old + 1 }
+    ensures write { IsErrOf result Stop.Write → HasRisen (K.faults sink.old) (K.faults sink.new) }
+    ensures memory { IsErrOf result Stop.NoMemory → K.faults sink.new ≡ K.faults sink.old }
+    ensures read { IsErrOf result Stop.Read → ⊥ }
+    ensures quiet { OnOk result (K.faults sink.new ≡ K.faults sink.old) }
+    ensures same { K.is_same sink.old sink.new }
+{
+    if let Err(fault) = world.apply(alloc, event, bytes) {
+        if is_memory(&fault) {
+            return Err(Stop::NoMemory);
+        }
+        return Ok(Some(fault));
+    }
+    put_entries(world, sink)?;
+    Ok(None)
+}
+
+// A turn of each host.
+fn play_turns<P: Playing, K: Sink>(
+    alloc: Global,
+    world: &mut P,
+    sink: &mut K,
+    hosts: u32,
+) -> Result<Option<WorldFault>, Stop>
+    requires hosts { hosts ≤ 32 }
+    requires few { P.events world.old + hosts ≤ 2 ^ 57 }
+    ensures played { result ≡ Ok None → (w : World) → P.stands world.old w → ArePlayed (P.settings world.old) w (turns_of 0 hosts) (P.stands world.new) (K.taken sink.old) (K.taken sink.new) (P.allows world.old) (P.allows world.new) }
+    ensures refused { IfOk result (λ r. IfSome r (λ fault. (w : World) → P.stands world.old w → AreRefused (P.settings world.old) w (turns_of 0 hosts) (K.taken sink.old) (K.taken sink.new) (P.allows world.old) fault)) }
+    ensures real { IfOk result (λ r. IfSome r (λ fault. is_memory fault ≡ false)) }
+    ensures cut { OnErr result ((w : World) → P.stands world.old w → AreCut (P.settings world.old) w (turns_of 0 hosts) (K.taken sink.old) (K.taken sink.new) (P.allows world.old)) }
+    ensures settings { P.settings world.new ≡ P.settings world.old }
+    ensures counted { P.events world.new ≤ P.events world.old + hosts }
+    ensures write { IsErrOf result Stop.Write → HasRisen (K.faults sink.old) (K.faults sink.new) }
+    ensures memory { IsErrOf result Stop.NoMemory → K.faults sink.new ≡ K.faults sink.old }
+    ensures read { IsErrOf result Stop.Read → ⊥ }
+    ensures quiet { OnOk result (K.faults sink.new ≡ K.faults sink.old) }
+    ensures same { K.is_same sink.old sink.new }
+{
+    for host in 0..hosts {
+        let turn = Event::Turn {
+            host: HostId(host as u16),
+        };
+        let answer = play(alloc, world, sink, &turn, &[])?;
+        if answer.is_some() {
+            return Ok(answer);
+        }
+    }
+    Ok(None)
+}
+
+// The clock goes on, and then each host has a turn.
+fn play_tick<P: Playing, K: Sink>(
+    alloc: Global,
+    world: &mut P,
+    sink: &mut K,
+    hosts: u32,
+) -> Result<Option<WorldFault>, Stop>
+    requires hosts { hosts ≤ 32 }
+    requires few { P.events world.old + hosts < 2 ^ 57 }
+    ensures played { result ≡ Ok None → (w : World) → P.stands world.old w → ArePlayed (P.settings world.old) w (tick_of hosts) (P.stands world.new) (K.taken sink.old) (K.taken sink.new) (P.allows world.old) (P.allows world.new) }
+    ensures refused { IfOk result (λ r. IfSome r (λ fault. (w : World) → P.stands world.old w → AreRefused (P.settings world.old) w (tick_of hosts) (K.taken sink.old) (K.taken sink.new) (P.allows world.old) fault)) }
+    ensures real { IfOk result (λ r. IfSome r (λ fault. is_memory fault ≡ false)) }
+    ensures cut { OnErr result ((w : World) → P.stands world.old w → AreCut (P.settings world.old) w (tick_of hosts) (K.taken sink.old) (K.taken sink.new) (P.allows world.old)) }
+    ensures settings { P.settings world.new ≡ P.settings world.old }
+    ensures counted { P.events world.new ≤ P.events world.old + hosts + 1 }
+    ensures write { IsErrOf result Stop.Write → HasRisen (K.faults sink.old) (K.faults sink.new) }
+    ensures memory { IsErrOf result Stop.NoMemory → K.faults sink.new ≡ K.faults sink.old }
+    ensures read { IsErrOf result Stop.Read → ⊥ }
+    ensures quiet { OnOk result (K.faults sink.new ≡ K.faults sink.old) }
+    ensures same { K.is_same sink.old sink.new }
+{
+    let answer = play(alloc, world, sink, &Event::Clock, &[])?;
+    if answer.is_some() {
+        return Ok(answer);
+    }
+    let turned = play_turns(alloc, world, sink, hosts)?;
+    Ok(turned)
+}
+
+/// So many ticks.
+pub(crate) fn play_ticks<P: Playing, K: Sink>(
+    alloc: Global,
+    world: &mut P,
+    sink: &mut K,
+    hosts: u32,
+    n: u32,
+) -> Result<Option<WorldFault>, Stop>
+    requires hosts { hosts ≤ 32 }
+    requires few { P.events world.old + n * (hosts + 1) ≤ 2 ^ 57 }
+    ensures played { result ≡ Ok None → (w : World) → P.stands world.old w → ArePlayed (P.settings world.old) w (ticks hosts n) (P.stands world.new) (K.taken sink.old) (K.taken sink.new) (P.allows world.old) (P.allows world.new) }
+    ensures refused { IfOk result (λ r. IfSome r (λ fault. (w : World) → P.stands world.old w → AreRefused (P.settings world.old) w (ticks hosts n) (K.taken sink.old) (K.taken sink.new) (P.allows world.old) fault)) }
+    ensures real { IfOk result (λ r. IfSome r (λ fault. is_memory fault ≡ false)) }
+    ensures cut { OnErr result ((w : World) → P.stands world.old w → AreCut (P.settings world.old) w (ticks hosts n) (K.taken sink.old) (K.taken sink.new) (P.allows world.old)) }
+    ensures settings { P.settings world.new ≡ P.settings world.old }
+    ensures counted { P.events world.new ≤ P.events world.old + n * (hosts + 1) }
+    ensures write { IsErrOf result Stop.Write → HasRisen (K.faults sink.old) (K.faults sink.new) }
+    ensures memory { IsErrOf result Stop.NoMemory → K.faults sink.new ≡ K.faults sink.old }
+    ensures read { IsErrOf result Stop.Read → ⊥ }
+    ensures quiet { OnOk result (K.faults sink.new ≡ K.faults sink.old) }
+    ensures same { K.is_same sink.old sink.new }
+{
+    for tick in 0..n {
+        let answer = play_tick(alloc, world, sink, hosts)?;
+        if answer.is_some() {
+            return Ok(answer);
+        }
+    }
+    Ok(None)
+}

@@ -1,0 +1,14 @@
+-- What a closed block has is what is due in it.
+use Rattle.std.specs.Prelude.{◌≡◌, true}
+use Rattle.homa_plain.specs.Entries.{PlainEntry}
+use Rattle.homa_plain.specs.Lines.{closes}
+use Rattle.homa_plain.specs.View.{View}
+use Rattle.homa_plain.specs.Laws.{SameCalls}
+
+-- Forgotten. In a closed block exactly the call fails as forgotten of which an UNKNOWN that counts says so: all of the law fails but what it says of timeouts.
+abbrev pub Forgotten : View → PlainEntry → Type 0
+Forgotten v line = closes line ≡ true → SameCalls v.here.forgotten v.now.due.forgotten
+
+-- runs, done calls and forgotten ones
+abbrev pub Closed : View → PlainEntry → Type 0
+Closed v line = closes line ≡ true → SameCalls v.here.runs v.now.due.runs × SameCalls v.here.dones v.now.due.dones × SameCalls v.here.forgotten v.now.due.forgotten

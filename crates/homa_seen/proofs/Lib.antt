@@ -1,0 +1,3 @@
+pub mod ByBook
+pub mod Pump
+pub mod Told

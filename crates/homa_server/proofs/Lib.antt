@@ -1,0 +1,9 @@
+pub mod ArrivingLaws
+pub mod KeptLaws
+pub mod OpenLaws
+pub mod TableLaws
+pub mod StandLaws
+pub mod KnownLaws
+pub mod ServedLaws
+pub mod ActLaws
+pub mod NewLaws

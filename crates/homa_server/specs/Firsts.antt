@@ -1,0 +1,31 @@
+-- What became of the first piece of a request.
+use Rattle.std.specs.Prelude.{ℕ, true, Option, Some, None, List, []}
+use Rattle.homa_plain.specs.Rows.{ServerRow}
+use Rattle.msg_pool.specs.Pool.{Pool}
+use Rattle.homa_in.specs.Part.{Part}
+use Rattle.homa_server.specs.Held.{seen_server, state_part, response_in}
+use Rattle.homa_server.specs.declared.answers.ServerDid.{ServerDid}
+use Rattle.homa_server.specs.declared.answers.ServerDid.TheVariants as did
+use Rattle.homa_server.specs.declared.first.First.{First}
+use Rattle.homa_server.specs.declared.first.First.TheVariants.{FullPages, Begun, Ran}
+
+-- the answer, where the row comes to a slot
+abbrev pub first_did : ℕ → First → ServerDid
+first_did slot (FullPages need free) = did.FullPages need free
+first_did slot (Begun row) = did.Opened slot
+first_did slot (Ran row hold) = did.Ran slot true hold
+
+abbrev pub first_row : Pool → First → Option ServerRow
+first_row pool (FullPages need free) = None
+first_row pool (Begun row) = Some (seen_server pool row)
+first_row pool (Ran row hold) = Some (seen_server pool row)
+
+abbrev pub first_part : First → Option Part
+first_part (FullPages need free) = None
+first_part (Begun row) = state_part row.state
+first_part (Ran row hold) = state_part row.state
+
+abbrev pub first_response : First → List ℕ
+first_response (FullPages need free) = []
+first_response (Begun row) = response_in row.state
+first_response (Ran row hold) = response_in row.state

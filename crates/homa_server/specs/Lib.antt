@@ -1,0 +1,5 @@
+pub mod Held
+pub mod View
+pub mod Answers
+pub mod Firsts
+pub mod Table

@@ -1,0 +1,51 @@
+-- The lines of packets, by the parts that are added one after another.
+use Rattle.std.proofs.Common.{◌≡◌, ℕ, List, [], ◌∷◌, ◌++◌, codes, decimal, refl, ap, sym, ◌∙◌, append_assoc}
+use Rattle.std.specs.List.{join_with_byte}
+use Rattle.homa_plain.specs.Text.{line_text, line_of_words, hex_word, route_word, role_word, id_word, ack_word}
+use Rattle.homa_text.specs.declared.quick.Head.{Head}
+use Rattle.homa_text.specs.declared.quick.Piece.{Piece}
+use Rattle.homa_text.specs.Quick.{head_text, piece_text, grant_sent, piece_sent}
+
+-- a part that is added behind the parts so far
+pub part_on : (i j old d e all : List ℕ) → i ≡ old ++ d → j ≡ i ++ e → d ++ e ≡ all → j ≡ old ++ all
+part_on i j old d e all f g h = g ∙ (ap (λ (l : List ℕ). l ++ e) f ∙ (append_assoc old d e ∙ ap (λ (l : List ℕ). old ++ l) h))
+
+-- four parts that were added to nothing
+pub four : (i0 i1 i2 i3 i4 x y z w : List ℕ) → i0 ≡ [] → i1 ≡ i0 ++ x → i2 ≡ i1 ++ y → i3 ≡ i2 ++ z → i4 ≡ i3 ++ w → i4 ≡ x ++ (y ++ (z ++ w))
+four i0 i1 i2 i3 i4 x y z w e0 e1 e2 e3 e4 =
+    e4 ∙ (ap (λ (l : List ℕ). l ++ w) (e3 ∙ ap (λ (l : List ℕ). l ++ z) (e2 ∙ ap (λ (l : List ℕ). l ++ y) (e1 ∙ ap (λ (l : List ℕ). l ++ x) e0)))
+    ∙ (append_assoc (x ++ y) z w ∙ append_assoc x y (z ++ w)))
+
+-- words with a space before each but the first, and a line feed behind the last, grouped from the right
+abbrev spread : List ℕ → List (List ℕ) → List ℕ
+spread w [] = w ++ 10 ∷ []
+spread w (v ∷ ws) = w ++ (32 ∷ spread v ws)
+
+line_spread : (w : List ℕ) (ws : List (List ℕ)) → line_of_words (w ∷ ws) ≡ spread w ws
+line_spread w [] = refl
+line_spread w (v ∷ ws) = append_assoc w (32 ∷ join_with_byte 32 (v ∷ ws)) (10 ∷ []) ∙ ap (λ (l : List ℕ). w ++ (32 ∷ l)) (line_spread v ws)
+
+seven : (a b c d e f g x : List ℕ) → (a ++ b ++ c ++ d ++ e ++ f ++ g) ++ x ≡ a ++ (b ++ (c ++ (d ++ (e ++ (f ++ (g ++ x))))))
+seven a b c d e f g x = simp append_assoc
+
+eight : (a b c d e f g h x : List ℕ) → (a ++ b ++ c ++ d ++ e ++ f ++ g ++ h) ++ x ≡ a ++ (b ++ (c ++ (d ++ (e ++ (f ++ (g ++ (h ++ x)))))))
+eight a b c d e f g h x = simp append_assoc
+
+head_on : (head : Head) (kind x : List ℕ)
+    → head_text head kind ++ x ≡ codes "send" ++ ((32 ∷ decimal head.number) ++ ((32 ∷ route_word head.from head.to) ++ ((32 ∷ decimal head.inc) ++ (kind ++ (role_word head.role ++ ((32 ∷ id_word head.id) ++ x))))))
+head_on head kind x = seven (codes "send") (32 ∷ decimal head.number) (32 ∷ route_word head.from head.to) (32 ∷ decimal head.inc) kind (role_word head.role) (32 ∷ id_word head.id) x
+
+pub grant_text : (head : Head) (level offset prio : ℕ) (payload : List ℕ)
+    → head_text head (codes " GRANT ") ++ ((32 ∷ decimal offset) ++ ((32 ∷ decimal prio) ++ 10 ∷ [])) ≡ line_text (grant_sent head level offset prio payload)
+unfolding line_text
+grant_text head level offset prio payload =
+    head_on head (codes " GRANT ") _
+    ∙ sym (line_spread (codes "send") (decimal head.number ∷ route_word head.from head.to ∷ decimal head.inc ∷ codes "GRANT" ∷ role_word head.role ∷ id_word head.id ∷ decimal offset ∷ decimal prio ∷ []))
+
+pub piece_line_text : (head : Head) (piece : Piece) (payload : List ℕ)
+    → head_text head (codes " DATA ") ++ (piece_text piece ++ (hex_word payload ++ 10 ∷ [])) ≡ line_text (piece_sent head piece payload)
+unfolding line_text
+piece_line_text head piece payload =
+    ap (λ (l : List ℕ). head_text head (codes " DATA ") ++ l) (eight (32 ∷ decimal piece.level) (32 ∷ decimal piece.size) (32 ∷ decimal piece.offset) (32 ∷ decimal piece.version) (32 ∷ decimal piece.service) (codes " ") (ack_word piece.ack) (codes " ") (hex_word payload ++ 10 ∷ []))
+    ∙ (head_on head (codes " DATA ") _
+    ∙ sym (line_spread (codes "send") (decimal head.number ∷ route_word head.from head.to ∷ decimal head.inc ∷ codes "DATA" ∷ role_word head.role ∷ id_word head.id ∷ decimal piece.level ∷ decimal piece.size ∷ decimal piece.offset ∷ decimal piece.version ∷ decimal piece.service ∷ ack_word piece.ack ∷ hex_word payload ∷ [])))

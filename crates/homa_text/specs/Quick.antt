@@ -1,0 +1,30 @@
+-- Parts of the line of a packet.
+use Rattle.std.specs.Prelude.{ℕ, List, [], ◌∷◌, ◌++◌, codes}
+use Rattle.std.specs.Fmt.{decimal}
+use Rattle.homa_plain.specs.declared.packet.Body.TheVariants as body
+use Rattle.homa_plain.specs.Entries.{PlainEntry, PlainSend}
+use Rattle.homa_plain.specs.Text.{id_word, role_word, route_word, ack_word}
+use Rattle.homa_text.specs.declared.quick.Head.{Head}
+use Rattle.homa_text.specs.declared.quick.Piece.{Piece}
+
+-- the first words; the kind has a space before and behind it
+abbrev pub head_text : Head → List ℕ → List ℕ
+head_text head kind =
+    codes "send" ++ 32 ∷ decimal head.number ++ 32 ∷ route_word head.from head.to ++ 32 ∷ decimal head.inc ++ kind ++ role_word head.role ++ 32 ∷ id_word head.id
+
+-- the numbers of a piece, with a space before each, and a space
+abbrev pub numbers_text : Piece → List ℕ
+numbers_text piece =
+    32 ∷ decimal piece.level ++ 32 ∷ decimal piece.size ++ 32 ∷ decimal piece.offset ++ 32 ∷ decimal piece.version ++ 32 ∷ decimal piece.service ++ codes " "
+
+-- and then what it acknowledges, and a space
+abbrev pub piece_text : Piece → List ℕ
+piece_text piece = numbers_text piece ++ ack_word piece.ack ++ codes " "
+
+-- a GRANT
+abbrev pub grant_sent : Head → ℕ → ℕ → ℕ → List ℕ → PlainEntry
+grant_sent head level offset prio payload = PlainSend head.number head.from head.to head.inc head.role head.id level (body.Grant offset prio) payload
+
+-- a piece of a message
+abbrev pub piece_sent : Head → Piece → List ℕ → PlainEntry
+piece_sent head piece payload = PlainSend head.number head.from head.to head.inc head.role head.id piece.level (body.Data piece.size piece.offset piece.version piece.service piece.ack) payload

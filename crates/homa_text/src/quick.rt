@@ -1,0 +1,216 @@
+// Lines of the entries that a trace has most of, straight into one buffer.
+ghost use Rattle.std.specs.Prelude.{◌∷◌, decimal, ◌≡◌, ◌≤◌, ◌+◌, ◌*◌, ◌++◌, ◌<◌, ℕ, List, [], length};
+ghost use Rattle.homa_plain.specs.declared.packet.Body.TheVariants as body;
+ghost use Rattle.homa_plain.specs.Text.{id_word, role_word, route_word, call_word, ack_word, hex_word, line_text};
+ghost use Rattle.homa_plain.specs.Entries.{PlainClock, PlainDeliver};
+ghost use Rattle.homa_text.specs.Quick.{head_text, numbers_text, piece_text, grant_sent, piece_sent};
+ghost use Rattle.arrayvec.specs.ArrayVec.{array_vec_len};
+
+use crate::adding::{add, add_hex, add_number};
+use arrayvec::ArrayVec;
+use homa_plain::{CallId, HostId, Role};
+
+/// Room for a line of words without bytes.
+pub(crate) type ShortLine = ArrayVec<u8, 256>;
+
+/// Room for the line of a piece with at most 1,400 bytes.
+pub(crate) type PieceLine = ArrayVec<u8, 4096>;
+
+/// What the line of a packet begins with: its number, from whom to whom, the sender's incarnation, who
+/// sent it, and its call.
+#[derive(Clone, Copy)]
+pub(crate) struct Head {
+    pub(crate) number: u64,
+    pub(crate) from: HostId,
+    pub(crate) to: HostId,
+    pub(crate) inc: u32,
+    pub(crate) role: Role,
+    pub(crate) id: CallId,
+}
+
+/// The numbers of a piece, and the call that it acknowledges.
+#[derive(Clone, Copy)]
+pub(crate) struct Piece {
+    pub(crate) level: u8,
+    pub(crate) size: u32,
+    pub(crate) offset: u32,
+    pub(crate) version: u16,
+    pub(crate) service: u8,
+    pub(crate) ack: Option<(u32, u32)>,
+}
+
+/// A tick of the clock.
+#[tactic(auto, unfolding(homa_plain::specs::Text::line_text))]
+pub(crate) fn clock_line(text: &mut ShortLine, tick: u64)
+    requires { text.old.items ≡ [] }
+    ensures { text.new.items ≡ line_text (PlainClock tick) }
+{
+    add(text, b"clock ");
+    add_number(text, tick);
+    add(text, b"\n");
+}
+
+/// A packet that reaches its host.
+#[tactic(auto, unfolding(homa_plain::specs::Text::line_text))]
+pub(crate) fn deliver_line(text: &mut ShortLine, packet: u64)
+    requires { text.old.items ≡ [] }
+    ensures { text.new.items ≡ line_text (PlainDeliver packet) }
+{
+    add(text, b"deliver ");
+    add_number(text, packet);
+    add(text, b"\n");
+}
+
+// Adds an incarnation and a sequence number.
+#[inline(always)]
+fn add_call<const N: usize>(text: &mut ArrayVec<u8, N>, inc: u32, seq: u32)
+    requires { array_vec_len text.old + 41 ≤ N }
+    ensures items { text.new.items ≡ text.old.items ++ call_word (inc, seq) }
+    ensures len { array_vec_len text.new ≤ array_vec_len text.old + 41 }
+{
+    add_number(text, u64::from(inc));
+    add(text, b".");
+    add_number(text, u64::from(seq));
+}
+
+// Adds a call with its client.
+#[inline(always)]
+fn add_id<const N: usize>(text: &mut ArrayVec<u8, N>, id: CallId)
+    requires { array_vec_len text.old + 62 ≤ N }
+    ensures items { text.new.items ≡ text.old.items ++ id_word id }
+    ensures len { array_vec_len text.new ≤ array_vec_len text.old + 62 }
+{
+    add_number(text, u64::from(id.client.0));
+    add(text, b".");
+    add_call(text, id.inc, id.seq);
+}
+
+// Adds who sent a packet.
+#[inline(always)]
+fn add_role<const N: usize>(text: &mut ArrayVec<u8, N>, role: Role)
+    requires { array_vec_len text.old + 1 ≤ N }
+    ensures items { text.new.items ≡ text.old.items ++ role_word role }
+    ensures len { array_vec_len text.new ≡ array_vec_len text.old + 1 }
+{
+    match role {
+        Role::Client => add(text, b"c"),
+        Role::Server => add(text, b"s"),
+    }
+}
+
+// Adds from whom to whom.
+#[inline(always)]
+fn add_route<const N: usize>(text: &mut ArrayVec<u8, N>, from: HostId, to: HostId)
+    requires { array_vec_len text.old + 41 ≤ N }
+    ensures items { text.new.items ≡ text.old.items ++ route_word from to }
+    ensures len { array_vec_len text.new ≤ array_vec_len text.old + 41 }
+{
+    add_number(text, u64::from(from.0));
+    add(text, b">");
+    add_number(text, u64::from(to.0));
+}
+
+// Adds a call that is acknowledged, if any.
+#[inline(always)]
+fn add_ack<const N: usize>(text: &mut ArrayVec<u8, N>, ack: Option<(u32, u32)>)
+    requires { array_vec_len text.old + 41 ≤ N }
+    ensures items { text.new.items ≡ text.old.items ++ ack_word ack }
+    ensures len { array_vec_len text.new ≤ array_vec_len text.old + 41 }
+{
+    match ack {
+        None => add(text, b"-"),
+        Some((inc, seq)) => add_call(text, inc, seq),
+    }
+}
+
+// Adds bytes in hex, or a hyphen where there are none.
+#[inline(always)]
+fn add_bytes<const N: usize>(text: &mut ArrayVec<u8, N>, bytes: &[u8])
+    requires { array_vec_len text.old + 2 * length bytes.now + 1 ≤ N }
+    ensures items { text.new.items ≡ text.old.items ++ hex_word bytes.now }
+    ensures len { array_vec_len text.new ≤ array_vec_len text.old + 2 * length bytes.now + 1 }
+{
+    if bytes.is_empty() {
+        return add(text, b"-");
+    }
+    add_hex(text, bytes);
+}
+
+// Adds a space and a number.
+#[inline(always)]
+fn add_spaced<const N: usize>(text: &mut ArrayVec<u8, N>, n: u64)
+    requires { array_vec_len text.old + 21 ≤ N }
+    ensures items { text.new.items ≡ text.old.items ++ (32 ∷ decimal n) }
+    ensures len { array_vec_len text.new ≤ array_vec_len text.old + 21 }
+{
+    add(text, b" ");
+    add_number(text, n);
+}
+
+// Adds the first words of a packet's line. The kind has a space before and behind it.
+#[inline(always)]
+fn add_head<const N: usize>(text: &mut ArrayVec<u8, N>, head: Head, kind: &[u8])
+    requires { array_vec_len text.old + length kind.now + 156 ≤ N }
+    ensures items { text.new.items ≡ text.old.items ++ head_text head kind.now }
+    ensures len { array_vec_len text.new ≤ array_vec_len text.old + length kind.now + 156 }
+{
+    add(text, b"send");
+    add_spaced(text, head.number);
+    add(text, b" ");
+    add_route(text, head.from, head.to);
+    add_spaced(text, u64::from(head.inc));
+    add(text, kind);
+    add_role(text, head.role);
+    add(text, b" ");
+    add_id(text, head.id);
+}
+
+/// A GRANT.
+pub(crate) fn grant_line(text: &mut ShortLine, head: Head, offset: u64, prio: u64)
+    requires { text.old.items ≡ [] }
+    ensures { (level : ℕ) (payload : List ℕ) → text.new.items ≡ line_text (grant_sent head level offset prio payload) }
+{
+    add_head(text, head, b" GRANT ");
+    add_spaced(text, offset);
+    add_spaced(text, prio);
+    add(text, b"\n");
+}
+
+// Adds the numbers of a piece, and a space.
+#[inline(always)]
+fn add_numbers<const N: usize>(text: &mut ArrayVec<u8, N>, piece: Piece)
+    requires { array_vec_len text.old + 106 ≤ N }
+    ensures items { text.new.items ≡ text.old.items ++ numbers_text piece }
+    ensures len { array_vec_len text.new ≤ array_vec_len text.old + 106 }
+{
+    add_spaced(text, u64::from(piece.level));
+    add_spaced(text, u64::from(piece.size));
+    add_spaced(text, u64::from(piece.offset));
+    add_spaced(text, u64::from(piece.version));
+    add_spaced(text, u64::from(piece.service));
+    add(text, b" ");
+}
+
+// Adds the numbers of a piece and what it acknowledges, and a space.
+#[inline(always)]
+fn add_piece<const N: usize>(text: &mut ArrayVec<u8, N>, piece: Piece)
+    requires { array_vec_len text.old + 148 ≤ N }
+    ensures items { text.new.items ≡ text.old.items ++ piece_text piece }
+    ensures len { array_vec_len text.new ≤ array_vec_len text.old + 148 }
+{
+    add_numbers(text, piece);
+    add_ack(text, piece.ack);
+    add(text, b" ");
+}
+
+/// A piece of a message.
+pub(crate) fn piece_line(text: &mut PieceLine, head: Head, piece: Piece, payload: &[u8])
+    requires empty { text.old.items ≡ [] }
+    requires short { length payload.now ≤ 1400 }
+    ensures { text.new.items ≡ line_text (piece_sent head piece payload.now) }
+{
+    add_head(text, head, b" DATA ");
+    add_piece(text, piece);
+    add_bytes(text, payload);
+    add(text, b"\n");
+}

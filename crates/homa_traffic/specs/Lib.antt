@@ -1,0 +1,4 @@
+pub mod Draws
+pub mod Fabric
+pub mod Rounds
+pub mod Generated

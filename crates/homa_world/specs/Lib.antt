@@ -1,0 +1,5 @@
+pub mod Staged
+pub mod Boxes
+pub mod Packed
+pub mod Standing
+pub mod Restarted

@@ -1,0 +1,108 @@
+// What the last event of a world told.
+ghost use Rattle.std.specs.Prelude.{◌≡◌, ◌≤◌, ◌<◌, ◌+◌, ◌^◌, ℕ, Some, List, length, slice_get};
+ghost use Rattle.homa_plain.specs.Entries.{plain};
+ghost use Rattle.homa_text.specs.Told.{HasLine};
+ghost use Rattle.world_events.specs.Named.{numbered as plain_numbered};
+ghost use Rattle.homa_world.specs.Standing.{first_told, told_of, IsFew, IsKept};
+
+use crate::parts::{First, Last, WorldParts};
+use homa_plain::{Entry, HostId};
+
+impl First {
+    // How many entries it is.
+    fn entries(self) -> usize
+        ensures told { (host : HostId) (bytes : List ℕ) → result ≡ length (first_told host self bytes) }
+        ensures few { result ≤ 1 }
+    {
+        match self {
+            First::Nothing => 0,
+            First::Delivered(_) | First::Injected => 1,
+        }
+    }
+}
+
+impl WorldParts {
+    /// How many entries the last event has; none after a fault.
+    pub fn entries(&self) -> usize
+        requires kept { IsKept (λ seat. served (seat.service.vtable, seat.service.value)) self.now }
+        ensures { result ≡ length (told_of self.now) }
+    {
+        match self.last {
+            Last::Nothing => 0,
+            Last::Ticked | Last::Restarted { .. } | Last::Shifted { .. } => 1,
+            Last::Stepped { host, first, .. } => first.entries() + self.stage.entries(host),
+        }
+    }
+
+    /// The entry of the last event with this number, counted from 0.
+    pub fn entry(&self, i: usize) -> Entry<'_>
+        requires kept { IsKept (λ seat. served (seat.service.vtable, seat.service.value)) self.now }
+        requires i { i < length (told_of self.now) }
+        ensures entry { slice_get (told_of self.now) i ≡ Some (plain result) }
+        ensures line { HasLine (plain result) }
+    {
+        match self.last {
+            Last::Nothing => unreachable!(),
+            Last::Ticked => Entry::Clock { tick: self.clock },
+            Last::Restarted { host, inc } => Entry::Restart { host, inc },
+            Last::Shifted { host, n } => Entry::Shift { host, n },
+            Last::Stepped { host, first, base } => {
+                let before = first.entries();
+                if i < before {
+                    return self.first_entry(host, first);
+                }
+                numbered(base, self.stage.entry(host, i - before))
+            }
+        }
+    }
+
+    // The entry that stands before those of a host's step.
+    fn first_entry(&self, host: HostId, first: First) -> Entry<'_>
+        requires some { 0 < length (first_told host first self.now.injected.items) }
+        ensures entry { slice_get (first_told host first self.now.injected.items) 0 ≡ Some (plain result) }
+        ensures line { HasLine (plain result) }
+    {
+        match first {
+            First::Nothing => unreachable!(),
+            First::Delivered(packet) => Entry::Deliver { packet },
+            First::Injected => Entry::Inject {
+                host,
+                bytes: &self.injected,
+            },
+        }
+    }
+}
+
+// An entry of a step, where a packet has its number in the world.
+fn numbered(base: u64, entry: Entry<'_>) -> Entry<'_>
+    requires few { IsFew (plain entry) }
+    requires base { base + 64 < 2 ^ 64 }
+    requires line { HasLine (plain entry) }
+    ensures entry { plain result ≡ plain_numbered base (plain entry.entry) }
+    ensures line { HasLine (plain result) }
+{
+    match entry {
+        Entry::Send {
+            number,
+            from,
+            to,
+            inc,
+            role,
+            id,
+            level,
+            body,
+            payload,
+        } => Entry::Send {
+            number: base + number,
+            from,
+            to,
+            inc,
+            role,
+            id,
+            level,
+            body,
+            payload,
+        },
+        other => other,
+    }
+}

@@ -1,0 +1,204 @@
+// The parts of a world, and what each event does with them.
+ghost use Rattle.std.specs.Prelude.{◌≡◌, ◌≤◌, ◌<◌, ◌+◌, ◌^◌, ◌++◌, ◌↔◌, ℕ, IsTrue, IfErr, OnOk, OnErr, Some, [], List, map, length, slice_get, slice_index_or};
+ghost use Rattle.std.specs.List.{AllByRecursion};
+ghost use Rattle.homa_plain.specs.declared.event.Event.TheVariants as event;
+ghost use Rattle.homa_plain.specs.Entries.{plain};
+ghost use Rattle.homa_seen.specs.declared.outbox.SentFrame.{SentFrame};
+ghost use Rattle.homa_packets.specs.Kept.{WholePacket};
+ghost use Rattle.homa_packets.specs.All.{kept_all, settings_of, open_tick, HasRoomFor};
+ghost use Rattle.homa_text.specs.Told.{HasLine};
+ghost use Rattle.homa_world.specs.declared.parts.Last.TheVariants as last;
+ghost use Rattle.homa_world.specs.Staged.{hosts_of};
+ghost use Rattle.homa_world.specs.Packed.{frame_kept, IsShort};
+ghost use Rattle.homa_world.specs.Standing.{told_of, IsKept, Applies, Refuses, StillStands};
+
+use crate::stage::Stage;
+use homa_packets::{Kept, Packets};
+use homa_plain::{Entry, Frame, HostId, Settings, WorldFault};
+use homa_seen::Outbox;
+use homa_service::Service;
+use homa_wire::decode;
+use std::alloc::{AllocError, Global};
+
+/// The last tick of the clock.
+const LAST_TICK: u64 = 1_000_000_000_000;
+
+/// What the last event was, as far as its entries need it.
+#[derive(Clone, Copy)]
+pub enum Last {
+    Nothing,
+    Ticked,
+    Restarted {
+        host: HostId,
+        inc: u32,
+    },
+    Shifted {
+        host: HostId,
+        n: u32,
+    },
+    Stepped {
+        host: HostId,
+        first: First,
+        base: u64,
+    },
+}
+
+/// What stands before the entries of a host's step.
+#[derive(Clone, Copy)]
+pub enum First {
+    Nothing,
+    Delivered(u64),
+    Injected,
+}
+
+/// All hosts, their clocks and the packets between them.
+#[derive(Drop)]
+pub struct WorldParts {
+    pub(crate) settings: Settings,
+    pub(crate) clock: u64,
+    // How far each host's own clock is ahead.
+    pub(crate) leads: Vec<u32>,
+    pub(crate) stage: Stage,
+    pub(crate) packets: Packets,
+    // The datagram of the last event, if it was injected.
+    pub(crate) injected: Vec<u8>,
+    pub(crate) last: Last,
+    // How many events were applied.
+    pub(crate) applied: u64,
+}
+
+impl WorldParts {
+    // A host's own clock.
+    pub fn own_clock(&self, host: HostId) -> u64
+        requires clock { self.now.clock ≤ 1000000000000 }
+        requires lead { host.0 < length self.now.leads.items }
+        ensures { result ≡ self.now.clock + slice_index_or self.now.leads.items host.0 0 }
+    {
+        self.clock + u64::from(self.leads[host.0 as usize])
+    }
+
+    /// The clock goes on by a tick.
+    pub fn tick(&mut self) -> Result<(), WorldFault>
+        requires kept { IsKept (λ seat. served (seat.service.vtable, seat.service.value)) self.old }
+        requires few { self.old.applied < 2 ^ 57 }
+        ensures done { OnOk result (Applies (λ seat. served (seat.service.vtable, seat.service.value)) (λ seat. allows (seat.service.vtable, seat.service.value)) self.old self.new (record { event = event.Clock; bytes = [] })) }
+        ensures fault { IfErr result (λ fault. Refuses self.old (record { event = event.Clock; bytes = [] }) fault) }
+        ensures still { OnErr result (StillStands self.old self.new) }
+        ensures kept { IsKept (λ seat. served (seat.service.vtable, seat.service.value)) self.new }
+        ensures settings { self.new.settings ≡ self.old.settings }
+        ensures counted { self.new.applied ≤ self.old.applied + 1 }
+    {
+        if self.clock == LAST_TICK {
+            return Err(WorldFault::ClockEnd);
+        }
+        self.clock += 1;
+        self.last = Last::Ticked;
+        self.applied += 1;
+        Ok(())
+    }
+
+    // Room for the packets of a step. Nothing is told any more of the last event.
+    pub fn make_room(&mut self, alloc: Global) -> Result<(), AllocError>
+        requires kept { IsKept (λ seat. served (seat.service.vtable, seat.service.value)) self.old }
+        requires few { self.old.applied < 2 ^ 57 }
+        ensures still { StillStands self.old self.new }
+        ensures kept { IsKept (λ seat. served (seat.service.vtable, seat.service.value)) self.new }
+        ensures same { self.new ≡ record self.old { packets = self.new.packets; last = last.Nothing } }
+        ensures room { OnOk result (HasRoomFor self.new.packets 64) }
+        ensures tick { OnOk result (open_tick self.new.packets ≡ self.new.clock) }
+    {
+        self.last = Last::Nothing;
+        self.packets.reserve(alloc, self.clock)
+    }
+
+    // The packets of a host's step are on their way.
+    pub fn finish(&mut self, host: HostId, first: First)
+        requires room { HasRoomFor self.old.packets 64 }
+        requires short { AllByRecursion IsShort self.old.stage.outbox }
+        requires few { self.old.applied < 2 ^ 57 }
+        ensures same { self.new ≡ record self.old { packets = self.new.packets; last = last.Stepped host first (length (kept_all self.old.packets)); applied = self.old.applied + 1 } }
+        ensures sent { kept_all self.new.packets ≡ kept_all self.old.packets ++ map (frame_kept (open_tick self.old.packets)) self.old.stage.outbox }
+        ensures settings { settings_of self.new.packets ≡ settings_of self.old.packets }
+        ensures few { length self.old.stage.outbox ≤ 64 }
+    {
+        let base = self.packets.count();
+        send_all(&mut self.packets, self.stage.outbox());
+        self.last = Last::Stepped { host, first, base };
+        self.applied += 1;
+    }
+
+    /// A turn of a host.
+    pub fn turn(&mut self, alloc: Global, host: HostId) -> Result<(), WorldFault>
+        requires kept { IsKept (λ seat. served (seat.service.vtable, seat.service.value)) self.old }
+        requires few { self.old.applied < 2 ^ 57 }
+        ensures done { OnOk result (Applies (λ seat. served (seat.service.vtable, seat.service.value)) (λ seat. allows (seat.service.vtable, seat.service.value)) self.old self.new (record { event = event.Turn host; bytes = [] })) }
+        ensures fault { IfErr result (λ fault. Refuses self.old (record { event = event.Turn host; bytes = [] }) fault) }
+        ensures still { OnErr result (StillStands self.old self.new) }
+        ensures kept { IsKept (λ seat. served (seat.service.vtable, seat.service.value)) self.new }
+        ensures settings { self.new.settings ≡ self.old.settings }
+        ensures counted { self.new.applied ≤ self.old.applied + 1 }
+    {
+        if !self.stage.has(host) {
+            return Err(WorldFault::NoSuchHost);
+        }
+        if self.make_room(alloc).is_err() {
+            return Err(WorldFault::NoMemory);
+        }
+        let now = self.own_clock(host);
+        self.stage.turn(host, now);
+        self.finish(host, First::Nothing);
+        Ok(())
+    }
+
+    /// A call of a service.
+    pub fn call(
+        &mut self,
+        alloc: Global,
+        client: HostId,
+        server: HostId,
+        number: u8,
+        bytes: &[u8],
+    ) -> Result<(), WorldFault>
+        requires kept { IsKept (λ seat. served (seat.service.vtable, seat.service.value)) self.old }
+        requires few { self.old.applied < 2 ^ 57 }
+        ensures done { OnOk result (Applies (λ seat. served (seat.service.vtable, seat.service.value)) (λ seat. allows (seat.service.vtable, seat.service.value)) self.old self.new (record { event = event.Call client server number; bytes = bytes.now })) }
+        ensures fault { IfErr result (λ fault. Refuses self.old (record { event = event.Call client server number; bytes = bytes.now }) fault) }
+        ensures still { OnErr result (StillStands self.old self.new) }
+        ensures kept { IsKept (λ seat. served (seat.service.vtable, seat.service.value)) self.new }
+        ensures settings { self.new.settings ≡ self.old.settings }
+        ensures counted { self.new.applied ≤ self.old.applied + 1 }
+    {
+        if !self.stage.has(server) {
+            return Err(WorldFault::NoSuchHost);
+        }
+        if !self.stage.has(client) {
+            return Err(WorldFault::NoSuchHost);
+        }
+        if self.make_room(alloc).is_err() {
+            return Err(WorldFault::NoMemory);
+        }
+        let Ok(request) = Vec::from_slice(alloc, bytes) else {
+            return Err(WorldFault::NoMemory);
+        };
+        let now = self.own_clock(client);
+        if let Err((fault, _)) = self.stage.call(client, server, number, request, now) {
+            return Err(WorldFault::Start(fault));
+        }
+        self.finish(client, First::Nothing);
+        Ok(())
+    }
+}
+
+// Frames are sent.
+fn send_all(packets: &mut Packets, outbox: &Outbox)
+    requires room { HasRoomFor packets.old 64 }
+    requires short { AllByRecursion IsShort outbox.now }
+    ensures sent { kept_all packets.new ≡ kept_all packets.old ++ map (frame_kept (open_tick packets.old)) outbox.now }
+    ensures settings { settings_of packets.new ≡ settings_of packets.old }
+    ensures few { length outbox.now ≤ 64 }
+{
+    for i in 0..outbox.len() {
+        let (from, to) = (outbox.sender(i), outbox.receiver(i));
+        packets.push(from, to, outbox.bytes(i));
+    }
+}

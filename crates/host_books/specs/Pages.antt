@@ -1,0 +1,24 @@
+-- The pages that the messages of a host's rows take.
+use Rattle.std.specs.Prelude.{ℕ, ◌+◌, Option, None, Some}
+use Rattle.std.specs.List.{sum_by}
+use Rattle.plain_sets.specs.Maps.{get, values}
+use Rattle.homa_plain.specs.Rows.{ClientRow, ServerRow}
+use Rattle.homa_plain.specs.Host.{Host, part_pages, state_pages}
+use Rattle.homa_plain.specs.Timers.{Place, OfClient, OfServer}
+
+-- those of one row, and of none
+abbrev pub client_pages : Option ClientRow → ℕ
+client_pages None = 0
+client_pages (Some r) = part_pages r.part
+
+abbrev pub server_pages : Option ServerRow → ℕ
+server_pages None = 0
+server_pages (Some r) = state_pages r.state
+
+abbrev pub pages_at : Host → Place → ℕ
+pages_at h (OfClient id) = client_pages (get h.clients id)
+pages_at h (OfServer id) = server_pages (get h.servers id)
+
+-- those of all rows
+abbrev pub row_pages : Host → ℕ
+row_pages h = sum_by (λ (r : ClientRow). part_pages r.part) (values h.clients) + sum_by (λ (r : ServerRow). state_pages r.state) (values h.servers)

@@ -1,0 +1,4 @@
+pub mod Known
+pub mod Keeps
+pub mod OwnTold
+pub mod Shown
