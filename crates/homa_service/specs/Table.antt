@@ -1,14 +1,13 @@
 -- The places of hosts, of which each is full or empty, and the spares.
 use Rattle.std.specs.Prelude.{ℕ, ◌-◌, Option, None, List, length, take, slice_get, slice_index_or}
-use Rattle.homa_service.specs.declared.seat.Seat.{Seat}
 use Rattle.homa_service.specs.declared.table.ServiceTable.{ServiceTable}
 
 -- the places of the hosts, in the hosts' order
-abbrev pub places : {V : Type 0} {held : V → Type 0} → ServiceTable V held → List (Option (Seat V held))
+abbrev pub places : {S : Type 0} → ServiceTable S → List (Option S)
 places table = table.places.items
 
--- the seats that no host has yet
-abbrev pub spares : {V : Type 0} {held : V → Type 0} → ServiceTable V held → List (Seat V held)
+-- the services that no host has yet
+abbrev pub spares : {S : Type 0} → ServiceTable S → List S
 spares table = table.spares.items
 
 -- what is in the host's place, if there is such a place

@@ -1,4 +1,6 @@
 // A boxed service that is a service itself.
+ghost use Rattle.std.specs.Prelude.{◌≡◌, map, IfOk};
+
 use crate::{Reply, Service};
 use std::alloc::{AllocError, Global};
 
@@ -6,6 +8,19 @@ use std::alloc::{AllocError, Global};
 #[derive(Drop)]
 pub struct Seat {
     pub service: Box<dyn Service>,
+}
+
+impl Seat {
+    /// Each box in a seat.
+    pub fn each(alloc: Global, boxes: Vec<Box<dyn Service>>) -> Result<Vec<Seat>, AllocError>
+        ensures { IfOk result (λ seats. seats.items ≡ map (λ b. record { service = b }) boxes.items) }
+    {
+        let mut seats = Vec::with_capacity(alloc, boxes.len())?;
+        for service in boxes {
+            seats.push(Seat { service })?;
+        }
+        Ok(seats)
+    }
 }
 
 impl Service for Seat {

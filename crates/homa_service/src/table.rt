@@ -1,49 +1,42 @@
-// The seats of the hosts, and spares.
+// The services of the hosts, and spares.
 ghost use Rattle.std.specs.Prelude.{◌≡◌, ◌<◌, ◌≤◌, ◌↔◌, [], None, Some, length, map, take, drop, slice_set, IfOk, OnOk, OnErr, IsErr, IsSome, IsNone};
 
-use crate::{Seat, Service};
+use crate::Service;
 use homa_plain::HostId;
 use std::alloc::{AllocError, Global};
 
-/// A place for each host, which is empty while the host's seat is out of it, and the seats that no host has yet.
+/// A place for each host, which is empty while the host's service is out of it, and the services that no host has yet.
 /// Contracts see both as lists.
 #[derive(Drop)]
-pub struct ServiceTable {
-    places: Vec<Option<Seat>>,
-    spares: Vec<Seat>,
+pub struct ServiceTable<S> {
+    places: Vec<Option<S>>,
+    spares: Vec<S>,
 }
 
 /// No spare is left.
 #[derive(Clone, Copy, Debug, PartialEq, Eq)]
 pub struct NoSpare;
 
-impl ServiceTable {
+impl<S: Service> ServiceTable<S> {
     ghost use Rattle.homa_service.specs.Table.{places, spares, place_of, last_of, front_of};
 
     /// Box h serves host h, and the boxes from `hosts` on are the spares, in their order. Only this takes memory.
-    pub fn open(
-        alloc: Global,
-        mut boxes: Vec<Box<dyn Service>>,
-        hosts: u32,
-    ) -> Result<ServiceTable, AllocError>
+    pub fn open(alloc: Global, mut boxes: Vec<S>, hosts: u32) -> Result<ServiceTable<S>, AllocError>
         requires enough { hosts ≤ length boxes.items }
         requires at_most { length boxes.items ≤ 1000000 }
-        ensures places { IfOk result (λ table.
-            places table ≡ map (λ b. Some (record { service = b })) (take hosts boxes.items)) }
-        ensures spares { IfOk result (λ table.
-            spares table ≡ map (λ b. record { service = b }) (drop hosts boxes.items)) }
+        ensures places { IfOk result (λ table. places table ≡ map Some (take hosts boxes.items)) }
+        ensures spares { IfOk result (λ table. spares table ≡ drop hosts boxes.items) }
     {
-        let others = boxes.split_off(hosts as usize)?;
-        let spares = seats_of(alloc, others)?;
+        let spares = boxes.split_off(hosts as usize)?;
         let mut places = Vec::with_capacity(alloc, boxes.len())?;
         for service in boxes {
-            places.push(Some(Seat { service }))?;
+            places.push(Some(service))?;
         }
         Ok(ServiceTable { places, spares })
     }
 
-    /// Takes the host's seat out of its place.
-    pub fn take(&mut self, host: HostId) -> Seat
+    /// Takes the host's service out of its place.
+    pub fn take(&mut self, host: HostId) -> S
         requires { IsSome (place_of (places self.old) host.0) }
         ensures seat { place_of (places self.old) host.0 ≡ Some result }
         ensures places { places self.new ≡ slice_set (places self.old) host.0 None }
@@ -53,17 +46,17 @@ impl ServiceTable {
     }
 
     /// Fills the host's place again.
-    pub fn put_back(&mut self, host: HostId, seat: Seat)
+    pub fn put_back(&mut self, host: HostId, service: S)
         requires host { host.0 < length (places self.old) }
         requires vacant { IsNone (place_of (places self.old) host.0) }
-        ensures places { places self.new ≡ slice_set (places self.old) host.0 (Some seat) }
+        ensures places { places self.new ≡ slice_set (places self.old) host.0 (Some service) }
         ensures spares { spares self.new ≡ spares self.old }
     {
         let place = &mut self.places[host.0 as usize];
-        *place = Some(seat);
+        *place = Some(service);
     }
 
-    /// Drops the host's box, and puts the last spare in its place. Where no spare is left, nothing changes.
+    /// Drops the host's service, and puts the last spare in its place. Where no spare is left, nothing changes.
     pub fn replace(&mut self, host: HostId) -> Result<(), NoSpare>
         requires { IsSome (place_of (places self.old) host.0) }
         ensures none { IsErr result ↔ (spares self.old ≡ []) }
@@ -73,21 +66,10 @@ impl ServiceTable {
         ensures err_places { OnErr result (places self.new ≡ places self.old) }
         ensures err_spares { OnErr result (spares self.new ≡ spares self.old) }
     {
-        let Some(seat) = self.spares.pop() else {
+        let Some(service) = self.spares.pop() else {
             return Err(NoSpare);
         };
-        self.places[host.0 as usize] = Some(seat);
+        self.places[host.0 as usize] = Some(service);
         Ok(())
     }
-}
-
-/// Each box in a seat.
-fn seats_of(alloc: Global, boxes: Vec<Box<dyn Service>>) -> Result<Vec<Seat>, AllocError>
-    ensures { IfOk result (λ seats. seats.items ≡ map (λ b. record { service = b }) boxes.items) }
-{
-    let mut seats = Vec::with_capacity(alloc, boxes.len())?;
-    for service in boxes {
-        seats.push(Seat { service })?;
-    }
-    Ok(seats)
 }

@@ -1,7 +1,7 @@
 // The five kinds of numbers, want of memory, and boxes that move.
 ghost use Rattle.std.specs.Prelude.{◌≡◌, ◌+◌, ◌<◌, ◌^◌, OnOk, IfOk};
 
-use crate::{NoSpare, Reply, Service, ServiceTable, Suite};
+use crate::{NoSpare, Reply, Seat, Service, ServiceTable, Suite};
 use homa_plain::HostId;
 use std::alloc::{AllocError, Global};
 use std::test::Fail;
@@ -112,7 +112,7 @@ fn a_seat_is_taken_and_put_back(rt: HostRuntime) -> Result<(), Fail> {
     boxes.push(letter_box(rt.alloc(), b'a')?)?;
     boxes.push(Box::new(rt.alloc(), Suite::new())?)?;
     boxes.push(letter_box(rt.alloc(), b'b')?)?;
-    let mut table = ServiceTable::open(rt.alloc(), boxes, 2)?;
+    let mut table = ServiceTable::open(rt.alloc(), Seat::each(rt.alloc(), boxes)?, 2)?;
 
     let other = table.take(HostId(0));
     let seat = table.take(HostId(1));
@@ -131,7 +131,7 @@ fn the_last_spare_is_seated(rt: HostRuntime) -> Result<(), Fail> {
     boxes.push(letter_box(rt.alloc(), b'a')?)?;
     boxes.push(letter_box(rt.alloc(), b'b')?)?;
     boxes.push(letter_box(rt.alloc(), b'c')?)?;
-    let mut table = ServiceTable::open(rt.alloc(), boxes, 2)?;
+    let mut table = ServiceTable::open(rt.alloc(), Seat::each(rt.alloc(), boxes)?, 2)?;
     assert_eq!(rt; table.replace(HostId(0)), Ok(()));
     assert_eq!(rt; table.replace(HostId(0)), Err(NoSpare));
     let mut seat = table.take(HostId(0));
@@ -149,7 +149,7 @@ fn each_box_is_in_the_table(rt: HostRuntime) -> Result<(), Fail> {
     for _made in 0..96u32 {
         boxes.push(Box::new(rt.alloc(), Suite::new())?)?;
     }
-    let mut table = ServiceTable::open(rt.alloc(), boxes, 2)?;
+    let mut table = ServiceTable::open(rt.alloc(), Seat::each(rt.alloc(), boxes)?, 2)?;
     for _left in 0..94u32 {
         assert_eq!(rt; table.replace(HostId(1)), Ok(()));
     }
