@@ -1,9 +1,0 @@
-pub mod Packets
-pub mod LinesOf
-pub mod OtherWords
-pub mod Turns
-pub mod Dues
-pub mod Steps
-pub mod Exits
-pub mod Entries
-pub mod Traces
