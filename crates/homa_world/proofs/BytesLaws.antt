@@ -45,10 +45,10 @@ module _ {S : Type 0} (served : S → ℕ) (allows : Allows S) (seen old new : W
       → (w : PlainWorld) → StandsFor seen w → IsApplied seen.settings w (record { event = given; bytes = bytes }) (StandsFor new) (told_of new) (may_tell_of served allows seen) (may_tell_of served allows new)
   applies_with a =
       subst (λ o. (w : PlainWorld) → StandsFor o w → IsApplied o.settings w (record { event = given; bytes = bytes }) (StandsFor new) (told_of new) (may_tell_of served allows o) (may_tell_of served allows new)) view (λ w stands.
-        subst (λ x. IsApplied old.settings w (record { event = x; bytes = bytes }) (StandsFor new) (told_of new) (may_tell_of served allows old) (may_tell_of served allows new)) (sym is)
-        (applied_with old.settings w e bytes (StandsFor new) (told_of new) (may_tell_of served allows old) (may_tell_of served allows new) none (a w stands)))
+      subst (λ x. IsApplied old.settings w (record { event = x; bytes = bytes }) (StandsFor new) (told_of new) (may_tell_of served allows old) (may_tell_of served allows new)) (sym is)
+      (applied_with old.settings w e bytes (StandsFor new) (told_of new) (may_tell_of served allows old) (may_tell_of served allows new) none (a w stands)))
 
   pub refuses_with : (fault : WorldFault) → Refuses old (record { event = e; bytes = [] }) fault → (w : PlainWorld) → StandsFor seen w → IsNotApplied seen.settings w (record { event = given; bytes = bytes }) fault
   refuses_with fault r =
       subst (λ o. (w : PlainWorld) → StandsFor o w → IsNotApplied o.settings w (record { event = given; bytes = bytes }) fault) view (λ w stands.
-        subst (λ x. IsNotApplied old.settings w (record { event = x; bytes = bytes }) fault) (sym is) (refused_with old.settings w e bytes fault none (r w stands)))
+      subst (λ x. IsNotApplied old.settings w (record { event = x; bytes = bytes }) fault) (sym is) (refused_with old.settings w e bytes fault none (r w stands)))
