@@ -39,7 +39,7 @@ fn two(alloc: Global) -> Result<Vec<Fickle>, AllocError>
     ensures none { IfOk result (λ all. AllByRecursion (λ fickle. fickle.served ≡ 0) all.items) }
 {
     let mut all = Vec::new(alloc);
-    for _made in 0..2u32 {
+    for made in 0..2u32 {
         all.push(Fickle {
             is_ready: false,
             served: 0,
