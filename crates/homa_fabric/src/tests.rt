@@ -117,8 +117,8 @@ fn the_257th_of_a_queue_is_lost(rt: HostRuntime) -> Result<(), Fail> {
     fabric.begin();
     assert_eq!(rt; fabric.next(TO, 0), Some(0));
     let mut last = 0;
-    let mut handed = 1;
-    for _ in 0..512 {
+    let mut handed: u64 = 1;
+    for _ in 0..512u64 {
         if let Some(number) = fabric.next(TO, 0) {
             last = number;
             handed += 1;
