@@ -70,13 +70,14 @@ impl Destination {
         })
     }
 
-    /// A packet goes to the end of its level's queue; where that is full it is lost.
+    /// A packet goes to the end of its level's queue; where that is full, or there is no such level, it is lost.
     pub(crate) fn enter(&mut self, level: u8, packet: Queued)
-        requires { level ≤ 7 }
         ensures { self.new ≡ entered self.old level packet }
     {
-        let queue = &mut self.levels[level as usize];
-        let _ = queue.try_push_back(packet);
+        if usize::from(level) < self.levels.len() {
+            let queue = &mut self.levels[level as usize];
+            let _ = queue.try_push_back(packet);
+        }
     }
 
     /// A round begins: the host may be handed as many bytes as in each.

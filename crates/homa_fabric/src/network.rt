@@ -56,23 +56,23 @@ impl Fabric {
     }
 
     /// A packet of `len` bytes is sent at a tick: it enters the queue of its receiver and level, or is lost where that
-    /// is full.
+    /// is full, or isn't there.
     pub fn sent(&mut self, number: u64, to: HostId, level: u8, len: u32, tick: u64)
-        requires to { to.0 < length self.old.fabric.destinations }
-        requires level { level ≤ 7 }
         ensures sent { self.new.fabric ≡ sent self.old.fabric to.0 level (record { number = number; size = len; tick = tick }) }
         ensures life { self.new.life ≡ self.old.life }
         ensures hosts { length self.new.fabric.destinations ≡ length self.old.fabric.destinations }
     {
-        let destination = &mut self.destinations[to.0 as usize];
-        destination.enter(
-            level,
-            Queued {
-                number,
-                size: len,
-                tick,
-            },
-        );
+        if usize::from(to.0) < self.destinations.len() {
+            let destination = &mut self.destinations[to.0 as usize];
+            destination.enter(
+                level,
+                Queued {
+                    number,
+                    size: len,
+                    tick,
+                },
+            );
+        }
     }
 
     /// A round begins: each host may be handed as many bytes as in each round.
