@@ -1,5 +1,6 @@
 -- How many lines of each kind a trace has, in the order of the summary.
 use Rattle.std.specs.Prelude.{ℕ, ◌+◌, Option, None, Some, List, [], ◌∷◌, ◌++◌, replicate, slice_set, slice_index_or, codes}
+use Rattle.std.specs.List.{flat_map, zip}
 use Rattle.homa_plain.specs.declared.entry.Why.TheVariants.{Timeout, Forgotten}
 use Rattle.homa_plain.specs.Entries.{PlainEntry, PlainCall, PlainDeliver, PlainClock, PlainSend, PlainRun, PlainDone, PlainFail}
 use Rattle.homa_traffic.specs.Generated.{kind_number, summary_line}
@@ -35,7 +36,8 @@ names =
     codes "DATA" ∷ codes "GRANT" ∷ codes "RESEND" ∷ codes "BUSY" ∷ codes "CUTOFFS" ∷ codes "UNKNOWN" ∷ codes "NEED_ACK" ∷ codes "ACK" ∷ []
 
 -- the lines of these counts
-abbrev pub counts_text : List (List ℕ) → List ℕ → List ℕ
-counts_text [] counts = []
-counts_text (name ∷ rest) [] = []
-counts_text (name ∷ rest) (n ∷ counts) = summary_line name n ++ counts_text rest counts
+abbrev pub named_line : List ℕ × ℕ → List ℕ
+named_line (name, n) = summary_line name n
+
+abbrev pub counts_text : List ℕ → List ℕ
+counts_text counts = flat_map named_line (zip names counts)

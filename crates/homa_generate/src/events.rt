@@ -1,15 +1,14 @@
 //! The events of a line, whose entries are counted.
-ghost use Rattle.std.specs.Prelude.{◌≡◌, ◌≤◌, ◌<◌, ◌+◌, ◌^◌, ◌∷◌, [], ◌++◌, drop, length, OnOk, OnErr, IfOk};
-ghost use Rattle.homa_plain.specs.declared.event.Event.TheVariants as event;
+ghost use Rattle.std.specs.Prelude.{◌≡◌, ◌≤◌, ◌<◌, ◌+◌, ◌^◌, ◌∷◌, [], drop, length, OnOk};
 ghost use Rattle.homa_plain.specs.World.{World};
-ghost use Rattle.homa_plain.specs.Replay.{turns_of, bare};
+ghost use Rattle.homa_plain.specs.Replay.{turns_of, ticks};
 ghost use Rattle.homa_traffic.specs.Rounds.{all_sent};
 ghost use Rattle.homa_generate.specs.Counts.{counted};
 ghost use Rattle.homa_generate.specs.Carried.{IsCarried};
 
 use crate::{Counts, Generating};
 use homa_fabric::Fabric;
-use homa_plain::{Event, HostId, WorldFault};
+use homa_plain::{Event, HostId};
 use homa_replay::Playing;
 use std::alloc::{AllocError, Global};
 
@@ -24,39 +23,36 @@ fn count_entries<P: Playing>(world: &P, counts: &mut Counts) -> Result<(), Alloc
     Ok(())
 }
 
-/// Does an event and counts its entries; false where the world refuses it.
+/// Does an event and counts its entries. Fails where the world refuses it, as it does with no event of a generated run.
 pub(crate) fn happen<P: Playing>(
     alloc: Global,
     world: &mut P,
     counts: &mut Counts,
     event: &Event,
     bytes: &[u8],
-) -> Result<bool, AllocError>
+) -> Result<(), AllocError>
     requires few { P.events world.old < 2 ^ 57 }
-    ensures carried { IfOk result (λ all. (w : World) → P.stands world.old w → IsCarried (P.settings world.old) w (record { event = event.now; bytes = bytes.now } ∷ []) (P.stands world.new) counts.old counts.new (P.allows world.old) (P.allows world.new) all) }
+    ensures carried { OnOk result ((w : World) → P.stands world.old w → IsCarried (P.settings world.old) w (record { event = event.now; bytes = bytes.now } ∷ []) (P.stands world.new) counts.old counts.new (P.allows world.old) (P.allows world.new)) }
     ensures settings { P.settings world.new ≡ P.settings world.old }
     ensures counted { P.events world.new ≤ P.events world.old + 1 }
 {
-    match world.apply(alloc, event, bytes) {
-        Ok(()) => {
-            count_entries(world, counts)?;
-            Ok(true)
-        }
-        Err(WorldFault::NoMemory) => Err(AllocError),
-        Err(_) => Ok(false),
-    }
+    let Ok(()) = world.apply(alloc, event, bytes) else {
+        return Err(AllocError);
+    };
+    count_entries(world, counts)?;
+    Ok(())
 }
 
-// A turn of each host, up to the first that is refused.
+// A turn of each host.
 fn turns<P: Playing>(
     alloc: Global,
     world: &mut P,
     counts: &mut Counts,
     hosts: u32,
-) -> Result<bool, AllocError>
+) -> Result<(), AllocError>
     requires hosts { hosts ≤ 32 }
     requires few { P.events world.old + hosts ≤ 2 ^ 57 }
-    ensures carried { IfOk result (λ all. (w : World) → P.stands world.old w → IsCarried (P.settings world.old) w (turns_of 0 hosts) (P.stands world.new) counts.old counts.new (P.allows world.old) (P.allows world.new) all) }
+    ensures carried { OnOk result ((w : World) → P.stands world.old w → IsCarried (P.settings world.old) w (turns_of 0 hosts) (P.stands world.new) counts.old counts.new (P.allows world.old) (P.allows world.new)) }
     ensures settings { P.settings world.new ≡ P.settings world.old }
     ensures counted { P.events world.new ≤ P.events world.old + hosts }
 {
@@ -64,11 +60,9 @@ fn turns<P: Playing>(
         let turn = Event::Turn {
             host: HostId(host as u16),
         };
-        if !happen(alloc, world, counts, &turn, &[])? {
-            return Ok(false);
-        }
+        happen(alloc, world, counts, &turn, &[])?;
     }
-    Ok(true)
+    Ok(())
 }
 
 /// The clock goes on, and then each host has a turn.
@@ -77,18 +71,16 @@ pub(crate) fn tick<P: Playing>(
     world: &mut P,
     counts: &mut Counts,
     hosts: u32,
-) -> Result<bool, AllocError>
+) -> Result<(), AllocError>
     requires hosts { hosts ≤ 32 }
     requires few { P.events world.old + hosts < 2 ^ 57 }
-    ensures carried { IfOk result (λ all. (w : World) → P.stands world.old w → IsCarried (P.settings world.old) w (bare event.Clock ∷ turns_of 0 hosts ++ []) (P.stands world.new) counts.old counts.new (P.allows world.old) (P.allows world.new) all) }
+    ensures carried { OnOk result ((w : World) → P.stands world.old w → IsCarried (P.settings world.old) w (ticks hosts 1) (P.stands world.new) counts.old counts.new (P.allows world.old) (P.allows world.new)) }
     ensures settings { P.settings world.new ≡ P.settings world.old }
     ensures counted { P.events world.new ≤ P.events world.old + hosts + 1 }
 {
-    if !happen(alloc, world, counts, &Event::Clock, &[])? {
-        return Ok(false);
-    }
-    let all = turns(alloc, world, counts, hosts)?;
-    Ok(all)
+    happen(alloc, world, counts, &Event::Clock, &[])?;
+    turns(alloc, world, counts, hosts)?;
+    Ok(())
 }
 
 /// The packets with numbers from `first` on enter the fabric. Fails where one isn't kept.

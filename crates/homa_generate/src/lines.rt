@@ -1,5 +1,6 @@
 //! The lines of a schedule: they are printed and carried out, and their packets enter the fabric.
-ghost use Rattle.std.specs.Prelude.{◌≡◌, ◌≤◌, ◌<◌, ◌+◌, ◌^◌, ◌∷◌, [], length, OnOk, OnErr, IfOk, IsErrOf};
+ghost use Rattle.std.specs.Prelude.{codes, ◌++◌, ◌≡◌, ◌≤◌, ◌<◌, ◌+◌, ◌^◌, ◌∷◌, [], length, OnOk, OnErr, IfOk, IsErrOf};
+ghost use Rattle.std.specs.Fmt.{decimal};
 ghost use Rattle.homa_io.specs.Outside.{HasRisen, appended, TookFront};
 ghost use Rattle.homa_plain.specs.World.{World};
 ghost use Rattle.homa_plain.specs.Replay.{events_of};
@@ -41,6 +42,18 @@ pub(crate) struct Progress {
 }
 
 // The word for so many counting bytes.
+fn counting_word(n: u32) -> ArrayVec<u8, 24>
+    ensures { result.items ≡ codes "*" ++ decimal n }
+{
+    let mut word = ArrayVec::<u8, 24>::new();
+    word.push(b'*');
+    let mut buffer = Buffer::new();
+    word.try_extend_from_slice(buffer.format(n).as_bytes())
+        .unwrap();
+    word
+}
+
+// Prints the line of a call.
 fn put_call<K: Sink>(sink: &mut K, t: &Traffic) -> Result<(), WriteFailed>
     ensures ok { OnOk result (K.taken sink.new ≡ appended (K.taken sink.old) (given_text (given_of (Line.Call t.now)))) }
     ensures err { OnErr result (TookFront (K.taken sink.old) (K.taken sink.new) (given_text (given_of (Line.Call t.now)))) }
@@ -48,12 +61,7 @@ fn put_call<K: Sink>(sink: &mut K, t: &Traffic) -> Result<(), WriteFailed>
     ensures quiet { OnOk result (K.faults sink.new ≡ K.faults sink.old) }
     ensures same { K.is_same sink.old sink.new }
 {
-    let mut bytes = ArrayVec::<u8, 24>::new();
-    bytes.push(b'*');
-    let mut buffer = Buffer::new();
-    bytes
-        .try_extend_from_slice(buffer.format(t.len).as_bytes())
-        .unwrap();
+    let bytes = counting_word(t.len);
     let words = [
         Text(b"call"),
         Host(t.client),
@@ -65,6 +73,7 @@ fn put_call<K: Sink>(sink: &mut K, t: &Traffic) -> Result<(), WriteFailed>
 }
 
 // Prints a line.
+#[tactic(auto, unfolding(homa_plain::specs::Script::event_text))]
 fn put<K: Sink>(sink: &mut K, line: &Line) -> Result<(), WriteFailed>
     ensures ok { OnOk result (K.taken sink.new ≡ appended (K.taken sink.old) (given_text (given_of line.now))) }
     ensures err { OnErr result (TookFront (K.taken sink.old) (K.taken sink.new) (given_text (given_of line.now))) }
@@ -79,17 +88,17 @@ fn put<K: Sink>(sink: &mut K, line: &Line) -> Result<(), WriteFailed>
     }
 }
 
-// Carries out a line, up to the first event that is refused.
+// Carries out a line.
 fn carry<P: Playing>(
     setup: &Setup,
     world: &mut P,
     counts: &mut Counts,
     line: &Line,
-) -> Result<bool, AllocError>
+) -> Result<(), AllocError>
     requires setup { setup.now.settings ≡ P.settings world.old }
     requires short { IsShort line.now }
     requires few { P.events world.old + 33 ≤ 2 ^ 57 }
-    ensures carried { IfOk result (λ all. (w : World) → P.stands world.old w → IsCarried (P.settings world.old) w (events_of (P.settings world.old).hosts (given_of line.now)) (P.stands world.new) counts.old counts.new (P.allows world.old) (P.allows world.new) all) }
+    ensures carried { OnOk result ((w : World) → P.stands world.old w → IsCarried (P.settings world.old) w (events_of (P.settings world.old).hosts (given_of line.now)) (P.stands world.new) counts.old counts.new (P.allows world.old) (P.allows world.new)) }
     ensures settings { P.settings world.new ≡ P.settings world.old }
     ensures counted { P.events world.new ≤ P.events world.old + 33 }
 {

@@ -1,5 +1,5 @@
 //! How many lines of each kind a trace has.
-ghost use Rattle.std.specs.Prelude.{◌≡◌, ◌+◌, ◌<◌, ◌∷◌, [], slice_index, IfSome, OnOk, OnErr};
+ghost use Rattle.std.specs.Prelude.{◌≡◌, ◌+◌, ◌<◌, ◌∷◌, [], slice_index_or, IfSome, OnOk, OnErr};
 ghost use Rattle.std.specs.Option.{option_map};
 ghost use Rattle.std.specs.List.{flat_map};
 ghost use Rattle.homa_io.specs.Outside.{HasRisen, appended, TookFront};
@@ -70,7 +70,7 @@ fn place(entry: &Entry<'_>) -> Option<usize>
 // A kind's name in the summary.
 fn name(place: usize) -> &'static [u8]
     requires { place < 15 }
-    ensures { result.now ≡ slice_index names place }
+    ensures { result.now ≡ slice_index_or names place [] }
 {
     match place {
         0 => b"calls",
@@ -115,8 +115,8 @@ impl Counts {
     /// Writes the summary: a line for each kind, with its name and its number. After an error the sink took a front
     /// of it.
     pub fn put<K: Sink>(&self, sink: &mut K) -> Result<(), WriteFailed>
-        ensures ok { OnOk result (K.taken sink.new ≡ appended (K.taken sink.old) (counts_text names self.now)) }
-        ensures err { OnErr result (TookFront (K.taken sink.old) (K.taken sink.new) (counts_text names self.now)) }
+        ensures ok { OnOk result (K.taken sink.new ≡ appended (K.taken sink.old) (counts_text self.now)) }
+        ensures err { OnErr result (TookFront (K.taken sink.old) (K.taken sink.new) (counts_text self.now)) }
         ensures risen { OnErr result (HasRisen (K.faults sink.old) (K.faults sink.new)) }
         ensures quiet { OnOk result (K.faults sink.new ≡ K.faults sink.old) }
         ensures same { K.is_same sink.old sink.new }

@@ -1,0 +1,7 @@
+mod CountLaws
+mod Carryings
+mod LineLaws
+mod Entering
+mod Goings
+mod Extending
+mod HostRounds
