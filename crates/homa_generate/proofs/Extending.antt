@@ -117,10 +117,23 @@ pub rounds_none : (s : Settings) (g : Generated) → rounds zero s g ≡ g
 unfolding rounds
 rounds_none s g = refl
 
-end_extends : (n : ℕ) (s : Settings) (after : Generated) (over : Bool) → Extends (rounds n s) → IsLonger after.lines (by_end n s after over).lines
+pub end_extends : (n : ℕ) (s : Settings) (after : Generated) (over : Bool) → Extends (rounds n s) → IsLonger after.lines (by_end n s after over).lines
 end_extends n s after true rest = longer_self after.lines
 end_extends n s after false rest = rest after
 
 pub rounds_extend : (n : ℕ) (s : Settings) → Extends (rounds n s)
 rounds_extend zero s g = rw (rounds_none s g) (longer_self g.lines)
 rounds_extend (suc n) s g = rw (rounds_step n s g) (longer_on g.lines (next_round s g).lines _ (round_extends s g) (end_extends n s (next_round s g) (is_over (next_round s g)) (rounds_extend n s)))
+
+-- what a round does after its tick, and after its budgets
+abbrev pub after_begun : Settings → Generated → Generated
+after_begun s x = calls_round calls_a_round s (hosts_round s 0 s.hosts x)
+
+abbrev pub after_tick : Settings → Generated → Generated
+after_tick s x = after_begun s (round_begun x)
+
+pub begun_extends : (s : Settings) → Extends (after_begun s)
+begun_extends s x = let handed = hosts_round s 0 s.hosts x in longer_on x.lines handed.lines _ (hosts_extend s 0 s.hosts x) (calls_extend calls_a_round s handed)
+
+pub ticked_extends : (s : Settings) → Extends (after_tick s)
+ticked_extends s x = begun_extends s (round_begun x)

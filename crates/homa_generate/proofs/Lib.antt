@@ -5,3 +5,4 @@ mod Entering
 mod Goings
 mod Extending
 mod HostRounds
+mod MoreRounds

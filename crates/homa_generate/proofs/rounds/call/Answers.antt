@@ -1,21 +1,35 @@
-use Rattle.std.proofs.Common.{rules, ◌≡◌, ◌≤◌, ◌<◌, ◌+◌, ◌*◌, ◌^◌, length, OnOk, OnErr, IsErrOf, ℕ, ◌-◌, ◌/◌, ◌%◌, Bool, true, false, nat_eq, nat_lt, List, [], ◌∷◌, ◌++◌, slice_index_or, slice_set, bit_and, bit_or, Fits, w8, w32, w64, Bor, MutBor}
-use Rattle.homa_io.specs.Outside.{HasRisen}
-use Rattle.homa_plain.specs.World.{World}
-use Rattle.homa_traffic.specs.Rounds.{Generated, host_round, hosts_round, calls_round, next_round, rounds, is_over, most_handed, calls_a_round}
-use Rattle.homa_traffic.specs.Generated.{most_rounds}
-use Rattle.homa_generate.specs.Progress.{holds_of}
-use Rattle.homa_generate.specs.Going.{IsAt, HasGone, HasStopped}
-use Rattle.homa_generate.specs.Steps.{one_call}
+-- The call is drawn, and skipped or made.
+use Rattle.std.proofs.Common.{◌≡◌, ◌≤◌, ◌<◌, ◌∙◌, ◌-◌, ℕ, true, false, nat_le, refl, sym, ap, arith}
+use Rattle.std.proofs.lemmas.Bool.{le-leb, lt-leb}
+use Rattle.std.proofs.lemmas.Result.{MatchResult-from_err}
+use Rattle.homa_plain.specs.declared.settings.Settings.{Settings}
+use Rattle.homa_fabric.specs.Draws.{plain_traffic}
+use Rattle.homa_generate.proofs.Goings.{then_gone, then_stopped, id_extends}
+use Rattle.homa_generate.proofs.Extending.{line_extends}
+use Rattle.homa_generate.proofs.MoreRounds.{call_skipped, call_drawn, call_line}
 use Rattle.homa_generate.proofs.rounds.call.Goals as goal
 
--- src/rounds.rt:117:9
 pub returns-then-setup-live-clause-gone : goal.returns-then-setup-live-clause-gone
-returns-then-setup-live-clause-gone g c = ?
+returns-then-setup-live-clause-gone g c = λ r at.
+    let s = g.P.Playing.settings c.args.world.now in
+    let t = c.traffic-traffic in
+    let full : nat_le s.calls c.live.result ≡ true = ap (λ (o : Settings). nat_le o.calls c.live.result) (sym c.requires.setup) ∙ le-leb _ _ c.if-setup-live.true in
+    call_skipped s r _ _ _ _ at (plain_traffic t.result) t.new.self.fabric.random _ c.live.result c.requires.hosts t.ensures.drawn t.ensures.destinations refl refl refl refl (c.live.ensures r.world at.world) full
 
--- src/rounds.rt:119:5
 pub returns-in_err-play-clause-stopped : goal.returns-in_err-play-clause-stopped
-returns-in_err-play-clause-stopped g c = ?
+returns-in_err-play-clause-stopped g c =
+    let s = g.P.Playing.settings c.args.world.now in
+    let t = c.traffic-traffic in
+    let some : nat_le s.calls c.live.result ≡ false = ap (λ (o : Settings). nat_le o.calls c.live.result) (sym c.requires.setup) ∙ lt-leb _ _ c.if-setup-live.false in
+    MatchResult-from_err _ _ _ c.from_residual.ensures.0
+    (λ _ r at.
+        then_stopped s _ _ (λ x. x) (λ (o : Settings). call_line o (plain_traffic t.result)) r _ _ _ _ _ _ refl id_extends (λ x. line_extends s _ x)
+        (call_drawn s r _ _ _ _ at (plain_traffic t.result) t.new.self.fabric.random _ c.live.result c.requires.hosts t.ensures.drawn t.ensures.destinations refl refl refl refl (c.live.ensures r.world at.world) some) c.in_err-play.ensures.stopped)
 
--- src/rounds.rt:91:1
 pub returns-clause-gone : goal.returns-clause-gone
-returns-clause-gone g c = ?
+returns-clause-gone g c = λ r at.
+    let s = g.P.Playing.settings c.args.world.now in
+    let t = c.traffic-traffic in
+    let some : nat_le s.calls c.live.result ≡ false = ap (λ (o : Settings). nat_le o.calls c.live.result) (sym c.requires.setup) ∙ lt-leb _ _ c.if-setup-live.false in
+    then_gone s _ _ (λ x. x) (λ (o : Settings). call_line o (plain_traffic t.result)) r _ _ _ _ _ _ _ _ refl
+    (call_drawn s r _ _ _ _ at (plain_traffic t.result) t.new.self.fabric.random _ c.live.result c.requires.hosts t.ensures.drawn t.ensures.destinations refl refl refl refl (c.live.ensures r.world at.world) some) c.in_ok-play.ensures.gone

@@ -1,121 +1,60 @@
-use Rattle.std.proofs.Common.{rules, ◌≡◌, ◌≤◌, ◌<◌, ◌+◌, ◌*◌, ◌^◌, length, OnOk, OnErr, IsErrOf, ℕ, ◌-◌, ◌/◌, ◌%◌, Bool, true, false, nat_eq, nat_lt, List, [], ◌∷◌, ◌++◌, slice_index_or, slice_set, bit_and, bit_or, Fits, w8, w32, w64, Bor, MutBor}
-use Rattle.homa_io.specs.Outside.{HasRisen}
-use Rattle.homa_plain.specs.World.{World}
-use Rattle.homa_traffic.specs.Rounds.{Generated, host_round, hosts_round, calls_round, next_round, rounds, is_over, most_handed, calls_a_round}
-use Rattle.homa_traffic.specs.Generated.{most_rounds}
-use Rattle.homa_generate.specs.Progress.{holds_of}
-use Rattle.homa_generate.specs.Going.{IsAt, HasGone, HasStopped}
+-- One call after the other.
+use Rattle.std.proofs.Common.{◌≡◌, ◌≤◌, ◌<◌, ◌∙◌, ◌+◌, ◌-◌, ◌*◌, ◌==◌, ℕ, suc, true, false, refl, sym, ap, arith}
+use Rattle.std.proofs.lemmas.Bool.{eq-eqb, ne_eqb}
+use Rattle.std.proofs.lemmas.Result.{MatchResult-from_err}
+use Rattle.homa_traffic.specs.Rounds.{calls_round, calls_a_round}
 use Rattle.homa_generate.specs.Steps.{one_call}
+use Rattle.homa_generate.proofs.Goings.{gone_none, then_gone, then_stopped}
+use Rattle.homa_generate.proofs.Extending.{call_extends, calls_extend}
+use Rattle.homa_generate.proofs.MoreRounds.{next_call, no_call, calls_spent}
 use Rattle.homa_generate.proofs.rounds.calls_round.Goals as goal
 
--- src/rounds.rt:146:5
 pub loop-init : goal.loop-init
-loop-init g c = ?
+loop-init g c = record {
+  gone = λ r at. gone_none _ r _ _ _ at;
+  settings = refl;
+  counted = omega arith;
+  life = refl;
+  hosts = refl;
+  quiet = refl;
+  same = g.met.K.Sink.same_self _;
+}
 
--- src/rounds.rt:148:13
 pub returns-then-progress-eq0-clause-gone : goal.returns-then-progress-eq0-clause-gone
-returns-then-progress-eq0-clause-gone g c = ?
+returns-then-progress-eq0-clause-gone g c = λ r at.
+    let l = c.loop in
+    let one : calls_a_round - l.counter ≡ suc (calls_a_round - (l.counter + 1)) = omega (arith, c.loop-test.true) in
+    no_call _ _ r _ _ _ _ _ (calls_a_round - l.counter) (calls_a_round - (l.counter + 1)) one (eq-eqb _ _ c.if-progress-eq0.true) (l.invariant.gone r at)
 
--- src/rounds.rt:148:13
-pub returns-then-progress-eq0-clause-settings : goal.returns-then-progress-eq0-clause-settings
-returns-then-progress-eq0-clause-settings g c = ?
-
--- src/rounds.rt:148:13
-pub returns-then-progress-eq0-clause-counted : goal.returns-then-progress-eq0-clause-counted
-returns-then-progress-eq0-clause-counted g c = ?
-
--- src/rounds.rt:148:13
-pub returns-then-progress-eq0-clause-life : goal.returns-then-progress-eq0-clause-life
-returns-then-progress-eq0-clause-life g c = ?
-
--- src/rounds.rt:148:13
-pub returns-then-progress-eq0-clause-hosts : goal.returns-then-progress-eq0-clause-hosts
-returns-then-progress-eq0-clause-hosts g c = ?
-
--- src/rounds.rt:148:13
-pub returns-then-progress-eq0-clause-quiet : goal.returns-then-progress-eq0-clause-quiet
-returns-then-progress-eq0-clause-quiet g c = ?
-
--- src/rounds.rt:148:13
-pub returns-then-progress-eq0-clause-same : goal.returns-then-progress-eq0-clause-same
-returns-then-progress-eq0-clause-same g c = ?
-
--- src/rounds.rt:150:9
-pub call-requires-clause-setup : goal.call-requires-clause-setup
-call-requires-clause-setup g c = ?
-
--- src/rounds.rt:150:9
-pub call-requires-clause-life : goal.call-requires-clause-life
-call-requires-clause-life g c = ?
-
--- src/rounds.rt:150:9
-pub call-requires-clause-hosts : goal.call-requires-clause-hosts
-call-requires-clause-hosts g c = ?
-
--- src/rounds.rt:150:9
-pub call-requires-clause-few : goal.call-requires-clause-few
-call-requires-clause-few g c = ?
-
--- src/rounds.rt:150:9
 pub returns-in_err-call-clause-stopped : goal.returns-in_err-call-clause-stopped
-returns-in_err-call-clause-stopped g c = ?
+returns-in_err-call-clause-stopped g c =
+    let s = g.P.Playing.settings c.args.world.now in
+    let l = c.loop in
+    let one : calls_a_round - l.counter ≡ suc (calls_a_round - (l.counter + 1)) = omega (arith, c.loop-test.true) in
+    MatchResult-from_err _ _ _ c.from_residual.ensures.0
+    (λ _ r at.
+        then_stopped s _ _ (calls_round (calls_a_round - (l.counter + 1)) s) one_call r _ _ _ _ _ _ l.invariant.settings (calls_extend (calls_a_round - (l.counter + 1)) s) (call_extends s)
+        (next_call s _ r _ _ _ _ _ (calls_a_round - l.counter) (calls_a_round - (l.counter + 1)) one (ne_eqb _ _ c.if-progress-eq0.false) (l.invariant.gone r at)) c.in_err-call.ensures.stopped)
 
--- src/rounds.rt:150:9
-pub returns-in_err-call-clause-settings : goal.returns-in_err-call-clause-settings
-returns-in_err-call-clause-settings g c = ?
-
--- src/rounds.rt:150:9
-pub returns-in_err-call-clause-counted : goal.returns-in_err-call-clause-counted
-returns-in_err-call-clause-counted g c = ?
-
--- src/rounds.rt:150:9
-pub returns-in_err-call-clause-life : goal.returns-in_err-call-clause-life
-returns-in_err-call-clause-life g c = ?
-
--- src/rounds.rt:150:9
-pub returns-in_err-call-clause-hosts : goal.returns-in_err-call-clause-hosts
-returns-in_err-call-clause-hosts g c = ?
-
--- src/rounds.rt:150:9
-pub returns-in_err-call-clause-write : goal.returns-in_err-call-clause-write
-returns-in_err-call-clause-write g c = ?
-
--- src/rounds.rt:150:9
-pub returns-in_err-call-clause-memory : goal.returns-in_err-call-clause-memory
-returns-in_err-call-clause-memory g c = ?
-
--- src/rounds.rt:150:9
-pub returns-in_err-call-clause-same : goal.returns-in_err-call-clause-same
-returns-in_err-call-clause-same g c = ?
-
--- src/rounds.rt:146:5
 pub loop-preserved : goal.loop-preserved
-loop-preserved g c = ?
+loop-preserved g c =
+    let s = g.P.Playing.settings c.args.world.now in
+    let l = c.loop in
+    let e = c.in_ok-call.ensures in
+    let one : calls_a_round - l.counter ≡ suc (calls_a_round - (l.counter + 1)) = omega (arith, c.loop-test.true) in
+    record {
+      gone = λ r at.
+          then_gone s _ _ (calls_round (calls_a_round - (l.counter + 1)) s) one_call r _ _ _ _ _ _ _ _ l.invariant.settings
+          (next_call s _ r _ _ _ _ _ (calls_a_round - l.counter) (calls_a_round - (l.counter + 1)) one (ne_eqb _ _ c.if-progress-eq0.false) (l.invariant.gone r at)) e.gone;
+      settings = e.settings ∙ l.invariant.settings;
+      counted = omega (arith, e.counted, l.invariant.counted);
+      life = e.life ∙ l.invariant.life;
+      hosts = e.hosts ∙ l.invariant.hosts;
+      quiet = e.quiet ∙ l.invariant.quiet;
+      same = g.met.K.Sink.same_on _ _ _ l.invariant.same e.same;
+    }
 
--- src/rounds.rt:124:1
 pub returns-clause-gone : goal.returns-clause-gone
-returns-clause-gone g c = ?
-
--- src/rounds.rt:124:1
-pub returns-clause-settings : goal.returns-clause-settings
-returns-clause-settings g c = ?
-
--- src/rounds.rt:124:1
-pub returns-clause-counted : goal.returns-clause-counted
-returns-clause-counted g c = ?
-
--- src/rounds.rt:124:1
-pub returns-clause-life : goal.returns-clause-life
-returns-clause-life g c = ?
-
--- src/rounds.rt:124:1
-pub returns-clause-hosts : goal.returns-clause-hosts
-returns-clause-hosts g c = ?
-
--- src/rounds.rt:124:1
-pub returns-clause-quiet : goal.returns-clause-quiet
-returns-clause-quiet g c = ?
-
--- src/rounds.rt:124:1
-pub returns-clause-same : goal.returns-clause-same
-returns-clause-same g c = ?
+returns-clause-gone g c = λ r at.
+    let none : calls_a_round - c.loop.counter ≡ 0 = omega (arith, c.loop-test.false) in
+    calls_spent _ _ r _ _ _ _ _ (calls_a_round - c.loop.counter) none (c.loop.invariant.gone r at)

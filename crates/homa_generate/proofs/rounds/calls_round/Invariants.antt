@@ -1,12 +1,23 @@
-use Rattle.std.proofs.Common.{◌≡◌, ◌≤◌, ◌<◌, ◌+◌, ◌*◌, ◌^◌, length, OnOk, OnErr, IsErrOf, ℕ, ◌-◌}
-use Rattle.homa_io.specs.Outside.{HasRisen}
-use Rattle.homa_plain.specs.World.{World}
-use Rattle.homa_traffic.specs.Rounds.{Generated, host_round, hosts_round, calls_round, next_round, rounds, is_over, most_handed, calls_a_round}
+-- The calls that are left.
+use Rattle.std.proofs.Common.{◌≡◌, ◌≤◌, ◌+◌, ◌-◌, ◌*◌, length}
+use Rattle.homa_traffic.specs.Rounds.{Generated, hosts_round, calls_round, calls_a_round, rounds}
 use Rattle.homa_traffic.specs.Generated.{most_rounds}
 use Rattle.homa_generate.specs.Progress.{holds_of}
-use Rattle.homa_generate.specs.Going.{IsAt, HasGone, HasStopped}
-use Rattle.homa_generate.specs.Steps.{one_call}
+use Rattle.homa_generate.specs.Going.{IsAt, HasGone}
 use Rattle.homa_generate.proofs.rounds.calls_round.Given as goal
 
 abbrev pub invariant-loop : goal.invariant-loop
-invariant-loop g l = ?
+invariant-loop g l =
+    let p = g.P.Playing in
+    let k = g.K.Sink in
+    let s = p.settings l.fn.world in
+    record {
+      gone : (r : Generated) → IsAt (holds_of l.fn.progress (k.taken l.fn.sink)) (p.stands l.fn.world) r
+          → HasGone (calls_round calls_a_round s) (calls_round (calls_a_round - l.counter) s) r (holds_of l.fn.progress (k.taken l.fn.sink)) (holds_of l.progress (k.taken l.sink)) (p.stands l.world) (p.allows l.fn.world) (p.allows l.world);
+      settings : p.settings l.world ≡ s;
+      counted : p.events l.world ≤ p.events l.fn.world + 33 * l.counter;
+      life : l.progress.fabric.life ≡ l.fn.progress.fabric.life;
+      hosts : length l.progress.fabric.fabric.destinations ≡ length l.fn.progress.fabric.fabric.destinations;
+      quiet : k.faults l.sink ≡ k.faults l.fn.sink;
+      same : k.is_same l.fn.sink l.sink;
+    }

@@ -1,97 +1,57 @@
-use Rattle.std.proofs.Common.{rules, ◌≡◌, ◌≤◌, ◌<◌, ◌+◌, ◌*◌, ◌^◌, length, OnOk, OnErr, IsErrOf, ℕ, ◌-◌, ◌/◌, ◌%◌, Bool, true, false, nat_eq, nat_lt, List, [], ◌∷◌, ◌++◌, slice_index_or, slice_set, bit_and, bit_or, Fits, w8, w32, w64, Bor, MutBor}
-use Rattle.homa_io.specs.Outside.{HasRisen}
-use Rattle.homa_plain.specs.World.{World}
-use Rattle.homa_traffic.specs.Rounds.{Generated, host_round, hosts_round, calls_round, next_round, rounds, is_over, most_handed, calls_a_round}
-use Rattle.homa_traffic.specs.Generated.{most_rounds}
-use Rattle.homa_generate.specs.Progress.{holds_of}
-use Rattle.homa_generate.specs.Going.{IsAt, HasGone, HasStopped}
-use Rattle.homa_generate.specs.Steps.{one_call}
+-- One host after the other.
+use Rattle.std.proofs.Common.{◌≡◌, ◌≤◌, ◌<◌, ◌∙◌, ◌+◌, ◌-◌, ◌*◌, ℕ, suc, refl, sym, ap, arith}
+use Rattle.std.proofs.lemmas.Result.{MatchResult-from_err}
+use Rattle.homa_plain.specs.declared.settings.Settings.{Settings}
+use Rattle.homa_traffic.specs.Rounds.{host_round, hosts_round, most_handed}
+use Rattle.homa_generate.proofs.Goings.{then_gone, then_stopped}
+use Rattle.homa_generate.proofs.Extending.{host_extends, hosts_extend}
+use Rattle.homa_generate.proofs.MoreRounds.{hosts_open, next_host, no_host}
 use Rattle.homa_generate.proofs.rounds.hosts_round.Goals as goal
 
--- src/rounds.rt:84:5
 pub loop-host-init : goal.loop-host-init
-loop-host-init g c = ?
+loop-host-init g c = record {
+  gone = λ r at. hosts_open _ r _ _ _ at;
+  settings = refl;
+  counted = omega arith;
+  life = refl;
+  hosts = refl;
+  quiet = refl;
+  same = g.met.K.Sink.same_self _;
+}
 
--- src/rounds.rt:85:9
-pub host_round-requires-clause-setup : goal.host_round-requires-clause-setup
-host_round-requires-clause-setup g c = ?
-
--- src/rounds.rt:85:9
-pub host_round-requires-clause-life : goal.host_round-requires-clause-life
-host_round-requires-clause-life g c = ?
-
--- src/rounds.rt:85:9
-pub host_round-requires-clause-hosts : goal.host_round-requires-clause-hosts
-host_round-requires-clause-hosts g c = ?
-
--- src/rounds.rt:85:9
-pub host_round-requires-clause-few : goal.host_round-requires-clause-few
-host_round-requires-clause-few g c = ?
-
--- src/rounds.rt:85:9
-pub host_round-requires-clause-inside : goal.host_round-requires-clause-inside
-host_round-requires-clause-inside g c = ?
-
--- src/rounds.rt:85:9
 pub returns-in_err-host_round-clause-stopped : goal.returns-in_err-host_round-clause-stopped
-returns-in_err-host_round-clause-stopped g c = ?
+returns-in_err-host_round-clause-stopped g c =
+    let s = g.P.Playing.settings c.args.world.now in
+    let l = c.loop-host in
+    let many : c.args.setup.now.settings.hosts ≡ s.hosts = ap (λ (o : Settings). o.hosts) c.requires.setup in
+    let one : s.hosts - l.host ≡ suc (s.hosts - (l.host + 1)) = omega (arith, many, c.loop-host-test.true) in
+    MatchResult-from_err _ _ _ c.from_residual.ensures.0
+    (λ _ r at.
+        then_stopped s _ _ (hosts_round s (l.host + 1) (s.hosts - (l.host + 1))) (λ (o : Settings). host_round most_handed o l.host) r _ _ _ _ _ _ l.invariant.settings (hosts_extend s (l.host + 1) (s.hosts - (l.host + 1))) (host_extends most_handed s l.host)
+        (next_host s _ r _ _ _ _ _ l.host (s.hosts - l.host) (s.hosts - (l.host + 1)) one (l.invariant.gone r at)) c.in_err-host_round.ensures.stopped)
 
--- src/rounds.rt:85:9
-pub returns-in_err-host_round-clause-settings : goal.returns-in_err-host_round-clause-settings
-returns-in_err-host_round-clause-settings g c = ?
-
--- src/rounds.rt:85:9
-pub returns-in_err-host_round-clause-counted : goal.returns-in_err-host_round-clause-counted
-returns-in_err-host_round-clause-counted g c = ?
-
--- src/rounds.rt:85:9
-pub returns-in_err-host_round-clause-life : goal.returns-in_err-host_round-clause-life
-returns-in_err-host_round-clause-life g c = ?
-
--- src/rounds.rt:85:9
-pub returns-in_err-host_round-clause-hosts : goal.returns-in_err-host_round-clause-hosts
-returns-in_err-host_round-clause-hosts g c = ?
-
--- src/rounds.rt:85:9
-pub returns-in_err-host_round-clause-write : goal.returns-in_err-host_round-clause-write
-returns-in_err-host_round-clause-write g c = ?
-
--- src/rounds.rt:85:9
-pub returns-in_err-host_round-clause-memory : goal.returns-in_err-host_round-clause-memory
-returns-in_err-host_round-clause-memory g c = ?
-
--- src/rounds.rt:85:9
-pub returns-in_err-host_round-clause-same : goal.returns-in_err-host_round-clause-same
-returns-in_err-host_round-clause-same g c = ?
-
--- src/rounds.rt:84:5
 pub loop-host-preserved : goal.loop-host-preserved
-loop-host-preserved g c = ?
+loop-host-preserved g c =
+    let s = g.P.Playing.settings c.args.world.now in
+    let l = c.loop-host in
+    let e = c.in_ok-host_round.ensures in
+    let many : c.args.setup.now.settings.hosts ≡ s.hosts = ap (λ (o : Settings). o.hosts) c.requires.setup in
+    let one : s.hosts - l.host ≡ suc (s.hosts - (l.host + 1)) = omega (arith, many, c.loop-host-test.true) in
+    record {
+      gone = λ r at.
+          then_gone s _ _ (hosts_round s (l.host + 1) (s.hosts - (l.host + 1))) (λ (o : Settings). host_round most_handed o l.host) r _ _ _ _ _ _ _ _ l.invariant.settings
+          (next_host s _ r _ _ _ _ _ l.host (s.hosts - l.host) (s.hosts - (l.host + 1)) one (l.invariant.gone r at)) e.gone;
+      settings = e.settings ∙ l.invariant.settings;
+      counted = omega (arith, e.counted, l.invariant.counted);
+      life = e.life ∙ l.invariant.life;
+      hosts = e.hosts ∙ l.invariant.hosts;
+      quiet = e.quiet ∙ l.invariant.quiet;
+      same = g.met.K.Sink.same_on _ _ _ l.invariant.same e.same;
+    }
 
--- src/rounds.rt:62:1
 pub returns-clause-gone : goal.returns-clause-gone
-returns-clause-gone g c = ?
-
--- src/rounds.rt:62:1
-pub returns-clause-settings : goal.returns-clause-settings
-returns-clause-settings g c = ?
-
--- src/rounds.rt:62:1
-pub returns-clause-counted : goal.returns-clause-counted
-returns-clause-counted g c = ?
-
--- src/rounds.rt:62:1
-pub returns-clause-life : goal.returns-clause-life
-returns-clause-life g c = ?
-
--- src/rounds.rt:62:1
-pub returns-clause-hosts : goal.returns-clause-hosts
-returns-clause-hosts g c = ?
-
--- src/rounds.rt:62:1
-pub returns-clause-quiet : goal.returns-clause-quiet
-returns-clause-quiet g c = ?
-
--- src/rounds.rt:62:1
-pub returns-clause-same : goal.returns-clause-same
-returns-clause-same g c = ?
+returns-clause-gone g c = λ r at.
+    let s = g.P.Playing.settings c.args.world.now in
+    let many : c.args.setup.now.settings.hosts ≡ s.hosts = ap (λ (o : Settings). o.hosts) c.requires.setup in
+    let none : s.hosts - c.loop-host.host ≡ 0 = omega (arith, many, c.loop-host-test.false) in
+    no_host s _ r _ _ _ _ _ c.loop-host.host (s.hosts - c.loop-host.host) none (c.loop-host.invariant.gone r at)
