@@ -6,3 +6,5 @@ mod Goings
 mod Extending
 mod HostRounds
 mod MoreRounds
+mod Summaries
+mod Making

@@ -2,7 +2,7 @@
 ghost use Rattle.std.specs.Prelude.{◌≡◌, ◌≤◌, OnOk, OnErr, IfOk, IsErrOf};
 ghost use Rattle.homa_io.specs.Outside.{HasRisen, appended};
 ghost use Rattle.homa_traffic.specs.Generated.{generated_settings, schedule_text, summary_text};
-ghost use Rattle.homa_generate.specs.Made.{run_of, IsMade, IsPartMade};
+ghost use Rattle.homa_generate.specs.Made.{run_of, HasRun, IsMade, IsPartMade};
 
 use crate::lines::Progress;
 use crate::nowhere::Nowhere;
@@ -34,6 +34,11 @@ fn generate<B: Drop, P: Generating + Opens<B> + Drop, K: Sink>(
     calls: u32,
 ) -> Result<Counts, Stop>
     requires { P.are_ready boxes }
+    ensures ran { IfOk result (HasRun (run_of seed calls (P.many boxes)) (K.taken sink.old) (K.taken sink.new) (P.are_allowed boxes)) }
+    ensures part { OnErr result (IsPartMade (run_of seed calls (P.many boxes)) (schedule_text generated_settings) (K.taken sink.old) (K.taken sink.new) (P.are_allowed boxes)) }
+    ensures write { IsErrOf result Stop.Write → HasRisen (K.faults sink.old) (K.faults sink.new) }
+    ensures read { IsErrOf result Stop.Read → ⊥ }
+    ensures same { K.is_same sink.old sink.new }
 {
     let setup = Setup::new(alloc, generated_settings())?;
     let mut world = P::open(alloc, &setup.settings, boxes)?;
@@ -59,9 +64,7 @@ pub fn make<B: Drop, P: Generating + Opens<B> + Drop, K: Sink>(
     ensures made { OnOk result (IsMade (run_of seed calls (P.many boxes)) (schedule_text generated_settings) (K.taken sink.old) (K.taken sink.new) (P.are_allowed boxes)) }
     ensures part { OnErr result (IsPartMade (run_of seed calls (P.many boxes)) (schedule_text generated_settings) (K.taken sink.old) (K.taken sink.new) (P.are_allowed boxes)) }
     ensures write { IsErrOf result Stop.Write → HasRisen (K.faults sink.old) (K.faults sink.new) }
-    ensures memory { IsErrOf result Stop.NoMemory → K.faults sink.new ≡ K.faults sink.old }
     ensures read { IsErrOf result Stop.Read → ⊥ }
-    ensures quiet { OnOk result (K.faults sink.new ≡ K.faults sink.old) }
     ensures same { K.is_same sink.old sink.new }
 {
     generate::<B, P, K>(alloc, sink, boxes, seed, calls)?;

@@ -1,25 +1,18 @@
-use Rattle.std.proofs.Common.{rules, ◌≡◌, ◌≤◌, OnOk, OnErr, IfOk, IsErrOf, ℕ, ◌+◌, ◌-◌, ◌*◌, ◌<◌, length, ◌/◌, ◌%◌, Bool, true, false, nat_eq, nat_lt, List, [], ◌∷◌, ◌++◌, slice_index_or, slice_set, bit_and, bit_or, Fits, w8, w32, w64, Bor, MutBor}
-use Rattle.homa_io.specs.Outside.{HasRisen, appended}
-use Rattle.homa_traffic.specs.Generated.{generated_settings, schedule_text, summary_text}
-use Rattle.homa_generate.specs.Made.{run_of, IsMade, IsPartMade}
+-- The summary of the run, whose schedule went nowhere.
+use Rattle.std.proofs.Common.{refl}
+use Rattle.std.proofs.lemmas.Result.{MatchResult-from_err}
+use Rattle.homa_traffic.specs.Rounds.{Generated}
+use Rattle.homa_traffic.specs.Generated.{summary_text}
+use Rattle.homa_generate.proofs.Making.{nothing_part, summary_made, summary_part}
 use Rattle.homa_generate.proofs.printing.count.Goals as goal
 
--- src/printing.rt:89:18
 pub returns-in_err-counts-clause-part : goal.returns-in_err-counts-clause-part
-returns-in_err-counts-clause-part g c = ?
+returns-in_err-counts-clause-part g c =
+    MatchResult-from_err _ _ _ c.from_residual.ensures.0 (λ _. nothing_part _ (λ (g : Generated). summary_text g.told) _ _ (g.met.P.Opens.unasked c.args.boxes _ refl))
 
--- src/printing.rt:89:18
-pub returns-in_err-counts-clause-write : goal.returns-in_err-counts-clause-write
-returns-in_err-counts-clause-write g c = ?
-
--- src/printing.rt:89:18
-pub returns-in_err-counts-clause-read : goal.returns-in_err-counts-clause-read
-returns-in_err-counts-clause-read g c = ?
-
--- src/printing.rt:90:5
 pub returns-in_err-put-clause-part : goal.returns-in_err-put-clause-part
-returns-in_err-put-clause-part g c = ?
+returns-in_err-put-clause-part g c =
+    MatchResult-from_err _ _ _ c.from_residual-in_err-put.ensures.0 (λ _. summary_part _ _ _ _ _ c.in_ok-counts.ensures.ran _ _ c.in_err-put.ensures.err)
 
--- src/printing.rt:73:1
 pub returns-clause-made : goal.returns-clause-made
-returns-clause-made g c = ?
+returns-clause-made g c = summary_made _ _ _ _ _ c.in_ok-counts.ensures.ran _ _ c.in_ok-put.ensures.ok
