@@ -20,8 +20,8 @@ module _ (s : Settings) (to n k : ℕ) (all : Generated → Generated) (g : Gene
     (left : c.left ≡ b.left) (counts : c.counts ≡ b.counts) (taken : c.taken ≡ b.taken) where
   same_handed : next_of life now (destination b.fabric to) b.fabric.random ≡ next_handed s to first.next
   same_handed = ap (λ (f : Fabric). next_of life now (destination f to) f.random) first.stood.fabric
-    ∙ ap (λ (l : ℕ). next_of l now (destination first.next.fabric to) first.next.fabric.random) life_is
-    ∙ ap (λ (t : ℕ). next_of s.life t (destination first.next.fabric to) first.next.fabric.random) now_is
+      ∙ ap (λ (l : ℕ). next_of l now (destination first.next.fabric to) first.next.fabric.random) life_is
+      ∙ ap (λ (t : ℕ). next_of s.life t (destination first.next.fabric to) first.next.fabric.random) now_is
 
   stood_after : IsAt c st (after_handed s to first.next)
   stood_after = record {

@@ -35,8 +35,23 @@ numbers_with told e =
 
 numbers_more : (a : List PlainEntry) (e : PlainEntry) → numbers (a ++ e ∷ []) ≡ numbers_with a e
 numbers_more a e =
-    rw (count_more is_call a e, count_more is_run a e, count_more is_done a e, count_more is_timeout a e, count_more is_forgotten a e, count_more is_deliver a e, count_more is_clock a e,
-    count_more (is_kind 0) a e, count_more (is_kind 1) a e, count_more (is_kind 2) a e, count_more (is_kind 3) a e, count_more (is_kind 4) a e, count_more (is_kind 5) a e, count_more (is_kind 6) a e, count_more (is_kind 7) a e) refl
+    rw (
+      count_more is_call a e,
+      count_more is_run a e,
+      count_more is_done a e,
+      count_more is_timeout a e,
+      count_more is_forgotten a e,
+      count_more is_deliver a e,
+      count_more is_clock a e,
+      count_more (is_kind 0) a e,
+      count_more (is_kind 1) a e,
+      count_more (is_kind 2) a e,
+      count_more (is_kind 3) a e,
+      count_more (is_kind 4) a e,
+      count_more (is_kind 5) a e,
+      count_more (is_kind 6) a e,
+      count_more (is_kind 7) a e,
+    ) refl
 
 placed : (a : List PlainEntry) (e : PlainEntry) → more_at (numbers a) (place e) ≡ numbers_with a e
 placed a (PlainCall id server service bytes) = refl

@@ -27,7 +27,7 @@ returns-in_err-put_settings-clause-part g c =
     let k = g.K.Sink in
     MatchResult-from_err _ _ _ c.from_residual-in_err-put_settings.ensures.0
     (λ _. settings_part _ _ _ _ (g.met.P.Opens.unasked c.args.boxes _ refl)
-        (subst (λ (s : Settings). TookFront (k.taken c.args.sink.now) (k.taken c.put_settings.new.sink) (settings_text s)) same c.in_err-put_settings.ensures.err))
+    (subst (λ (s : Settings). TookFront (k.taken c.args.sink.now) (k.taken c.put_settings.new.sink) (settings_text s)) same c.in_err-put_settings.ensures.err))
 
 pub returns-in_err-play_rounds-clause-part : goal.returns-in_err-play_rounds-clause-part
 returns-in_err-play_rounds-clause-part g c =

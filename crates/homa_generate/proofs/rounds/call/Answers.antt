@@ -23,8 +23,8 @@ returns-in_err-play-clause-stopped g c =
     let some : nat_le s.calls c.live.result ≡ false = ap (λ (o : Settings). nat_le o.calls c.live.result) (sym c.requires.setup) ∙ lt-leb _ _ c.if-setup-live.false in
     MatchResult-from_err _ _ _ c.from_residual.ensures.0
     (λ _ r at.
-        then_stopped s _ _ (λ x. x) (λ (o : Settings). call_line o (plain_traffic t.result)) r _ _ _ _ _ _ refl id_extends (λ x. line_extends s _ x)
-        (call_drawn s r _ _ _ _ at (plain_traffic t.result) t.new.self.fabric.random _ c.live.result c.requires.hosts t.ensures.drawn t.ensures.destinations refl refl refl refl (c.live.ensures r.world at.world) some) c.in_err-play.ensures.stopped)
+    then_stopped s _ _ (λ x. x) (λ (o : Settings). call_line o (plain_traffic t.result)) r _ _ _ _ _ _ refl id_extends (λ x. line_extends s _ x)
+    (call_drawn s r _ _ _ _ at (plain_traffic t.result) t.new.self.fabric.random _ c.live.result c.requires.hosts t.ensures.drawn t.ensures.destinations refl refl refl refl (c.live.ensures r.world at.world) some) c.in_err-play.ensures.stopped)
 
 pub returns-clause-gone : goal.returns-clause-gone
 returns-clause-gone g c = λ r at.

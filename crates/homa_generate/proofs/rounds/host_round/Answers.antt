@@ -34,10 +34,10 @@ returns-in_err-play-clause-stopped g c =
     let one : most_handed - l.counter ≡ suc (most_handed - (l.counter + 1)) = omega (arith, c.loop-test.true) in
     MatchResult-from_err _ _ _ c.from_residual.ensures.0
     (λ _ r at.
-        let first = l.invariant.gone r at in
-        then_stopped s _ _ (host_round (most_handed - (l.counter + 1)) s c.args.to.0) (deliver c.in-Some.number) r _ _ _ _ _ _ l.invariant.settings (host_extends (most_handed - (l.counter + 1)) s c.args.to.0) (λ x. line_extends s _ x)
-        (packet_handed s c.args.to.0 (most_handed - l.counter) (most_handed - (l.counter + 1)) _ r _ _ _ _ _ _ first l.progress.fabric.life c.clock.result one (l.invariant.life ∙ c.requires.life) (c.clock.ensures first.next.world first.stood.world) c.next.ensures.fabric refl refl refl c.in-Some.number (sym c.next.ensures.number ∙ c.in-Some.is))
-        c.in_err-play.ensures.stopped)
+    let first = l.invariant.gone r at in
+    then_stopped s _ _ (host_round (most_handed - (l.counter + 1)) s c.args.to.0) (deliver c.in-Some.number) r _ _ _ _ _ _ l.invariant.settings (host_extends (most_handed - (l.counter + 1)) s c.args.to.0) (λ x. line_extends s _ x)
+    (packet_handed s c.args.to.0 (most_handed - l.counter) (most_handed - (l.counter + 1)) _ r _ _ _ _ _ _ first l.progress.fabric.life c.clock.result one (l.invariant.life ∙ c.requires.life) (c.clock.ensures first.next.world first.stood.world) c.next.ensures.fabric refl refl refl c.in-Some.number (sym c.next.ensures.number ∙ c.in-Some.is))
+    c.in_err-play.ensures.stopped)
 
 pub loop-preserved : goal.loop-preserved
 loop-preserved g c =

@@ -27,8 +27,8 @@ returns-in_err-round-clause-stopped g c =
     let one : most_rounds - l.counter ≡ suc k = omega (arith, c.loop-test.true) in
     MatchResult-from_err _ _ _ c.from_residual.ensures.0
     (λ _ r at.
-        then_stopped s _ _ (λ x. by_end k s x (is_over x)) next_round r _ _ _ _ _ _ l.invariant.settings (λ x. end_extends k s x (is_over x) (rounds_extend k s)) (round_extends s)
-        (next_rounds s _ r _ _ _ _ _ (most_rounds - l.counter) k one (l.invariant.gone r at)) c.in_err-round.ensures.stopped)
+    then_stopped s _ _ (λ x. by_end k s x (is_over x)) next_round r _ _ _ _ _ _ l.invariant.settings (λ x. end_extends k s x (is_over x) (rounds_extend k s)) (round_extends s)
+    (next_rounds s _ r _ _ _ _ _ (most_rounds - l.counter) k one (l.invariant.gone r at)) c.in_err-round.ensures.stopped)
 
 pub returns-then-is_over-clause-gone : goal.returns-then-is_over-clause-gone
 returns-then-is_over-clause-gone g c = λ r at.
