@@ -1,11 +1,11 @@
 -- What becomes of the first packet of a level.
-use Rattle.std.proofs.Common.{◌≡◌, refl, sym, ap, ◌∙◌, ℕ, zero, suc, ◌+◌, ◌-◌, ◌<◌, ◌≤◌, nat_lt, true, false, if◌then◌else◌, Option, None, Some, List, [], ◌∷◌, length, map, get_or, set, drop, arith}
+use Rattle.std.proofs.Common.{◌≡◌, refl, sym, ap, ◌∙◌, ℕ, ◌+◌, ◌-◌, ◌<◌, ◌≤◌, Option, None, Some, List, [], ◌∷◌, get_or, set, drop, arith}
 use Rattle.std.specs.List.{slice_get}
 use Rattle.std.proofs.lemmas.Bool.{lt-ltb, le-ltb}
 use Rattle.rand_pcg.specs.Lcg.{Lcg}
-use Rattle.circular_buffer.specs.Buffer.{Buffer, buffer}
+use Rattle.circular_buffer.specs.Buffer.{Buffer}
 use Rattle.homa_traffic.specs.Draws.{draw}
-use Rattle.homa_traffic.specs.Fabric.{Queued, Destination, Hop, Ends, Loses, level_of, with_level, drawn, first_hop}
+use Rattle.homa_traffic.specs.Fabric.{Queued, Destination, Ends, Loses, level_of, with_level, drawn, first_hop}
 use Rattle.homa_fabric.specs.Queues.{AreQueues}
 use Rattle.homa_fabric.proofs.QueueLaws.{seen, level_seen, level_changed}
 

@@ -1,6 +1,5 @@
 -- What a host is handed next, by what becomes of the packet that comes first.
-use Rattle.std.proofs.Common.{◌≡◌, refl, sym, ap, ◌∙◌, subst, ℕ, zero, suc, ◌+◌, ◌-◌, ◌<◌, ◌≤◌, Bool, nat_lt, true, false, if◌then◌else◌, Option, None, Some, List, [], ◌∷◌, inl, inr, length, map, get_or, set, add-zero, arith}
-use Rattle.std.specs.List.{sum_by}
+use Rattle.std.proofs.Common.{◌≡◌, refl, sym, ap, ◌∙◌, ℕ, zero, suc, ◌+◌, ◌-◌, ◌<◌, Bool, nat_lt, true, false, if◌then◌else◌, Option, None, Some, List, [], ◌∷◌, inl, inr, length, get_or, add-zero, arith}
 use Rattle.std.proofs.lemmas.List.{get_or_past}
 use Rattle.std.proofs.lemmas.List.Sums.{sum_by-set}
 use Rattle.std.proofs.lemmas.Bool.{cases_lt}

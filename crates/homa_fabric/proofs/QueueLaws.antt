@@ -1,6 +1,5 @@
 -- The queues of a destination as they are kept, and as the definitions see them.
-use Rattle.std.proofs.Common.{◌≡◌, ◌↔◌, refl, sym, ap, ◌∙◌, subst, ℕ, zero, suc, ◌+◌, ◌<◌, ◌≤◌, nat_lt, ◌==◌, Bool, true, false, if◌then◌else◌, Option, None, Some, Result, Ok, Err, IsOk, OnOk, IfErr, List, [], ◌∷◌, ◌++◌, inl, inr, length, map, get_or, set, drop, arith}
-use Rattle.std.specs.List.{slice_get}
+use Rattle.std.proofs.Common.{◌≡◌, ◌↔◌, refl, sym, ap, ◌∙◌, ℕ, ◌<◌, ◌≤◌, ◌==◌, true, false, Option, Result, Ok, Err, IsOk, OnOk, IfErr, List, [], ◌∷◌, ◌++◌, inl, inr, length, map, get_or, set, arith}
 use Rattle.std.proofs.lemmas.List.{get_or-map, map-set, set-get_or, get_or_past, length-map}
 use Rattle.std.proofs.lemmas.Bool.{lt-ltb, le-ltb, cases_lt, eqb-true}
 use Rattle.circular_buffer.specs.Buffer.{Buffer, buffer}

@@ -1,5 +1,4 @@
 -- What became of the packet that came first, as the definitions have it.
-use Rattle.std.specs.Prelude.{ℕ}
 use Rattle.rand_pcg.specs.Lcg.{Lcg}
 use Rattle.homa_traffic.specs.Fabric.{Destination}
 use Rattle.homa_traffic.specs.Fabric as fabric

@@ -1,10 +1,9 @@
 -- Packets that enter the fabric one after the other.
-use Rattle.std.proofs.Common.{◌≡◌, ℕ, zero, suc, ◌+◌, Some, List, [], ◌∷◌, drop, length, refl, sym, ap, ◌∙◌, subst, arith}
+use Rattle.std.proofs.Common.{◌≡◌, ℕ, zero, suc, ◌+◌, Some, List, [], ◌∷◌, drop, length, refl, sym, ap, ◌∙◌, arith}
 use Rattle.std.specs.List.{slice_get}
 use Rattle.homa_plain.specs.declared.settings.Settings.{Settings}
-use Rattle.homa_plain.specs.declared.id.HostId.{HostId}
 use Rattle.homa_plain.specs.Packets.{receiver, datagram}
-use Rattle.homa_plain.specs.World.{World, SentPacket}
+use Rattle.homa_plain.specs.World.{SentPacket}
 use Rattle.homa_traffic.specs.Fabric.{Fabric, sent}
 use Rattle.homa_traffic.specs.Rounds.{all_sent}
 use Rattle.homa_generate.specs.declared.worlds.Passing.{Passing}

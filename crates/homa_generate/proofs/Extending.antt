@@ -1,12 +1,12 @@
 -- Each part of a round adds lines alone.
-use Rattle.std.proofs.Common.{◌≡◌, ℕ, zero, suc, Bool, true, false, if◌then◌else◌, nat_le, ◌==◌, ◌+◌, ◌-◌, Option, None, Some, List, [], ◌∷◌, refl}
+use Rattle.std.proofs.Common.{◌≡◌, ℕ, zero, suc, Bool, true, false, if◌then◌else◌, nat_le, ◌==◌, ◌+◌, ◌-◌, Option, None, Some, [], ◌∷◌, refl}
 use Rattle.homa_plain.specs.declared.settings.Settings.{Settings}
 use Rattle.homa_plain.specs.declared.event.Event.TheVariants as event
 use Rattle.homa_plain.specs.Script.{Given, GivenEvent, GivenTicks, counting}
 use Rattle.homa_plain.specs.World.{host_at}
-use Rattle.homa_traffic.specs.Draws.{Traffic, next_traffic}
+use Rattle.homa_traffic.specs.Draws.{next_traffic}
 use Rattle.homa_traffic.specs.Fabric.{Handed, destination, next_of, after_next}
-use Rattle.homa_traffic.specs.Rounds.{Generated, with_line, host_round, hosts_round, most_handed, live_at, with_call, calls_round, calls_a_round, round_begun, next_round, is_over, rounds}
+use Rattle.homa_traffic.specs.Rounds.{Generated, with_line, host_round, hosts_round, most_handed, live_at, calls_round, calls_a_round, round_begun, next_round, is_over, rounds}
 use Rattle.homa_generate.specs.Steps.{one_call}
 use Rattle.homa_generate.proofs.Goings.{IsLonger, Extends, longer_self, longer_on}
 

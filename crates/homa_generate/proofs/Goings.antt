@@ -8,12 +8,11 @@ use Rattle.homa_plain.specs.declared.settings.Settings.{Settings}
 use Rattle.homa_plain.specs.Entries.{PlainEntry}
 use Rattle.homa_plain.specs.Rules.{Answer}
 use Rattle.homa_plain.specs.Script.{Given}
-use Rattle.homa_plain.specs.World.{World, SentPacket}
+use Rattle.homa_plain.specs.World.{World}
 use Rattle.homa_plain.specs.Replay.{carried, events_of}
 use Rattle.homa_replay.specs.Stream.{shown, answering}
 use Rattle.homa_replay.proofs.Streams.{shown_parts}
 use Rattle.homa_replay.proofs.Fronts.{nothing_appended, wrote_more, front_after, front_wide, front_same}
-use Rattle.homa_traffic.specs.Fabric.{Fabric}
 use Rattle.homa_traffic.specs.Rounds.{Generated, all_sent, with_line}
 use Rattle.homa_traffic.specs.Generated.{given_text}
 use Rattle.homa_generate.specs.Counts.{counted}

@@ -1,20 +1,19 @@
 -- A run that was opened, printed, and came to its end.
-use Rattle.std.proofs.Common.{◌≡◌, ℕ, Option, List, [], ◌∷◌, ◌++◌, refl, sym, ap, ◌∙◌, subst, replicate}
-use Rattle.std.specs.List.{flat_map}
+use Rattle.std.proofs.Common.{◌≡◌, ℕ, Option, List, [], ◌∷◌, ◌++◌, refl, sym, ap, ◌∙◌, subst}
 use Rattle.std.proofs.lemmas.List.{append-nil}
 use Rattle.homa_io.specs.Outside.{appended, TookFront}
 use Rattle.homa_plain.specs.declared.settings.Settings.{Settings}
 use Rattle.homa_plain.specs.Entries.{PlainEntry, PlainSettings}
 use Rattle.homa_plain.specs.Rules.{Answer}
 use Rattle.homa_plain.specs.Script.{Given, settings_text}
-use Rattle.homa_plain.specs.World.{World, new_world}
-use Rattle.homa_replay.specs.Stream.{shown, answering}
+use Rattle.homa_plain.specs.World.{World}
+use Rattle.homa_replay.specs.Stream.{shown}
 use Rattle.homa_replay.specs.Opens.{IsFirst, IsOpened}
 use Rattle.homa_replay.proofs.Fronts.{wrote_more, front_after, front_wide, front_none, front_same}
 use Rattle.homa_traffic.specs.Draws.{seeded}
-use Rattle.homa_traffic.specs.Fabric.{Fabric, new_fabric}
-use Rattle.homa_traffic.specs.Rounds.{Generated, first_generated, rounds}
-use Rattle.homa_traffic.specs.Generated.{generated, generated_settings, most_rounds, given_text, schedule_text, summary_text}
+use Rattle.homa_traffic.specs.Fabric.{new_fabric}
+use Rattle.homa_traffic.specs.Rounds.{Generated, rounds}
+use Rattle.homa_traffic.specs.Generated.{generated_settings, most_rounds, schedule_text, summary_text}
 use Rattle.homa_generate.specs.Counts.{counted, no_counts, counts_text}
 use Rattle.homa_generate.specs.Going.{answered, Holds, IsAt, HasGone, HasStopped}
 use Rattle.homa_generate.specs.Made.{Run, run_of, HasRun, IsMade, IsPartMade}

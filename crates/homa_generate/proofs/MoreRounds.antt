@@ -1,5 +1,5 @@
 -- The hosts in order, calls, and rounds.
-use Rattle.std.proofs.Common.{◌≡◌, ℕ, zero, suc, ◌+◌, ◌-◌, ◌≤◌, ◌<◌, ◌==◌, nat_le, Bool, true, false, if◌then◌else◌, Option, List, [], length, map, refl, sym, ap, ◌∙◌, subst, arith}
+use Rattle.std.proofs.Common.{◌≡◌, ℕ, suc, ◌+◌, ◌-◌, ◌==◌, nat_le, Bool, true, false, if◌then◌else◌, List, map, refl, sym, ap, ◌∙◌, arith}
 use Rattle.homa_plain.specs.declared.settings.Settings.{Settings}
 use Rattle.homa_plain.specs.declared.event.Event.TheVariants as event
 use Rattle.homa_plain.specs.Entries.{PlainEntry}
@@ -9,11 +9,11 @@ use Rattle.homa_plain.specs.World.{World, host_at}
 use Rattle.rand_pcg.specs.Lcg.{Lcg}
 use Rattle.homa_traffic.specs.Draws.{Traffic, next_traffic}
 use Rattle.homa_traffic.specs.Fabric.{Destination, Fabric, refilled}
-use Rattle.homa_traffic.specs.Rounds.{Generated, with_line, live_at, with_call, host_round, hosts_round, most_handed, calls_round, calls_a_round, round_begun, next_round, is_over, rounds}
+use Rattle.homa_traffic.specs.Rounds.{Generated, with_line, live_at, with_call, host_round, hosts_round, most_handed, calls_round, round_begun, next_round, is_over, rounds}
 use Rattle.homa_generate.specs.Going.{answered, Holds, IsAt, HasGone}
 use Rattle.homa_generate.specs.Steps.{one_call}
 use Rattle.homa_generate.proofs.Goings.{gone_on, gone_beside, gone_as}
-use Rattle.homa_generate.proofs.Extending.{hosts_step, hosts_none, by_left, calls_step, calls_none, in_round, round_is, by_end, rounds_step, rounds_none, after_begun, after_tick}
+use Rattle.homa_generate.proofs.Extending.{hosts_step, hosts_none, by_left, calls_step, calls_none, round_is, by_end, rounds_step, rounds_none, after_begun, after_tick}
 
 module _ (s : Settings) (all : Generated → Generated) (g : Generated) (a b : Holds) (st : World → Type 0) (p q : List PlainEntry → Type 0) where
   -- the next host

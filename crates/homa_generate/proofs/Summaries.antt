@@ -1,7 +1,6 @@
 -- The counts of a trace are those of its summary.
 use Rattle.std.proofs.Common.{◌≡◌, ℕ, ◌+◌, Bool, true, false, List, [], ◌∷◌, ◌++◌, length, filter, refl, sym, ap, ◌∙◌, append_assoc, length-append, add-zero}
 use Rattle.std.specs.Prelude.{codes}
-use Rattle.std.specs.List.{flat_map, zip}
 use Rattle.std.proofs.lemmas.List.{append-nil}
 use Rattle.std.proofs.lemmas.List.Elements.{filter-append}
 use Rattle.homa_plain.specs.declared.packet.Body.TheVariants as body

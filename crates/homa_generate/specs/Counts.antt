@@ -1,5 +1,5 @@
 -- How many lines of each kind a trace has, in the order of the summary.
-use Rattle.std.specs.Prelude.{ℕ, ◌+◌, Option, None, Some, List, [], ◌∷◌, ◌++◌, replicate, slice_set, slice_index_or, codes}
+use Rattle.std.specs.Prelude.{ℕ, ◌+◌, Option, None, Some, List, [], ◌∷◌, replicate, slice_set, slice_index_or, codes}
 use Rattle.std.specs.List.{flat_map, zip}
 use Rattle.homa_plain.specs.declared.entry.Why.TheVariants.{Timeout, Forgotten}
 use Rattle.homa_plain.specs.Entries.{PlainEntry, PlainCall, PlainDeliver, PlainClock, PlainSend, PlainRun, PlainDone, PlainFail}

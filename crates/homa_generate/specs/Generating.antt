@@ -1,6 +1,5 @@
 -- What is asked of a world in which traffic is generated.
-use Rattle.std.specs.Prelude.{◌≡◌, ℕ, Option, None, Some, List, length, slice_get}
-use Rattle.std.specs.List.{list_all}
+use Rattle.std.specs.Prelude.{◌≡◌, ℕ, Option, None, Some, length, slice_get}
 use Rattle.homa_plain.specs.declared.settings.Settings.{Settings}
 use Rattle.homa_plain.specs.Packets.{receiver, datagram}
 use Rattle.homa_plain.specs.World.{World, SentPacket}

@@ -1,5 +1,5 @@
 -- What the code holds of a run, with what its sink took.
-use Rattle.std.specs.Prelude.{◌≡◌, ℕ, Option, List, length}
+use Rattle.std.specs.Prelude.{ℕ, Option, List}
 use Rattle.homa_generate.specs.declared.lines.Progress.{Progress}
 use Rattle.homa_generate.specs.Going.{Holds}
 

@@ -1,5 +1,4 @@
 -- A step of a round.
-use Rattle.std.specs.Prelude.{ℕ}
 use Rattle.homa_plain.specs.declared.settings.Settings.{Settings}
 use Rattle.homa_traffic.specs.Draws.{next_traffic}
 use Rattle.homa_traffic.specs.Rounds.{Generated, with_call}

@@ -1,5 +1,4 @@
 -- Each draw follows the one before it.
-use Rattle.std.proofs.Common.{◌-◌}
 use Rattle.homa_fabric.proofs.DrawLaws.{drawn_traffic}
 use Rattle.homa_fabric.proofs.draws.next_traffic.Goals as goal
 

@@ -1,7 +1,7 @@
 -- One packet more, up to the last.
-use Rattle.std.proofs.Common.{◌≡◌, ◌≤◌, ◌∙◌, refl, sym, ap, List, [], drop, length, arith}
+use Rattle.std.proofs.Common.{◌≤◌, ◌∙◌, refl, sym, ap, List, length, arith}
 use Rattle.std.proofs.lemmas.List.{drop_all}
-use Rattle.homa_plain.specs.World.{World, SentPacket}
+use Rattle.homa_plain.specs.World.{SentPacket}
 use Rattle.homa_traffic.specs.Rounds.{all_sent}
 use Rattle.homa_generate.proofs.Entering.{entered_next}
 use Rattle.homa_generate.proofs.events.enter.Goals as goal

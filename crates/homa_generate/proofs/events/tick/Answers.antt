@@ -1,5 +1,5 @@
 -- The clock, and then the turns.
-use Rattle.std.proofs.Common.{◌≡◌, ◌∙◌, ◌∷◌, [], sym, ap, List}
+use Rattle.std.proofs.Common.{◌∷◌, []}
 use Rattle.homa_plain.specs.declared.event.Event.TheVariants as event
 use Rattle.homa_plain.specs.Replay.{turns_of, ticks, bare}
 use Rattle.homa_generate.proofs.Carryings.{then_carried}

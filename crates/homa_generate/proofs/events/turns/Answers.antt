@@ -1,7 +1,6 @@
 -- A turn more.
-use Rattle.std.proofs.Common.{◌≡◌, ℕ, ◌∙◌, ◌+◌, ◌∷◌, [], refl, sym, subst, ap, List, arith}
-use Rattle.homa_plain.specs.declared.settings.Settings.{Settings}
-use Rattle.homa_plain.specs.Replay.{Happening, turns_of}
+use Rattle.std.proofs.Common.{◌≡◌, ℕ, ◌∙◌, ◌+◌, ◌∷◌, [], refl, subst, arith}
+use Rattle.homa_plain.specs.Replay.{turns_of}
 use Rattle.homa_replay.proofs.Ticks.{next_turn, turn_at}
 use Rattle.homa_generate.specs.Carried.{IsCarried}
 use Rattle.homa_generate.proofs.Carryings.{none_carried, then_carried}

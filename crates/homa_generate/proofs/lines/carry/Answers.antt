@@ -1,5 +1,5 @@
 -- A request has counting bytes.
-use Rattle.std.proofs.Common.{◌≡◌, ◌≤◌, ◌∙◌, ap, List, ℕ, take}
+use Rattle.std.proofs.Common.{◌≡◌, ◌≤◌, ◌∙◌, ap, take}
 use Rattle.homa_plain.specs.Script.{counting}
 use Rattle.homa_generate.proofs.LineLaws.{take-counting}
 use Rattle.homa_generate.proofs.lines.carry.Goals as goal

@@ -1,5 +1,5 @@
 -- Its text, its events, its packets.
-use Rattle.std.proofs.Common.{◌≡◌, ◌∙◌, ap, refl, sym, drop}
+use Rattle.std.proofs.Common.{◌∙◌, ap, refl, drop}
 use Rattle.std.proofs.lemmas.Result.{MatchResult-from_err}
 use Rattle.homa_plain.specs.declared.settings.Settings.{Settings}
 use Rattle.homa_traffic.specs.Rounds.{all_sent}

@@ -1,5 +1,5 @@
 -- The request is written by its length.
-use Rattle.std.proofs.Common.{◌≡◌, ◌∙◌, ◌∷◌, ℕ, List}
+use Rattle.std.proofs.Common.{◌≡◌, ◌∙◌, ◌∷◌}
 use Rattle.std.specs.Fmt.{decimal}
 use Rattle.homa_generate.proofs.LineLaws.{length-counting}
 use Rattle.homa_generate.proofs.lines.put_call.Goals as goal

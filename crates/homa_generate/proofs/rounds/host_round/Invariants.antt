@@ -3,7 +3,6 @@ use Rattle.std.proofs.Common.{◌≡◌, ◌≤◌, ◌+◌, ◌-◌, ◌*◌, l
 use Rattle.homa_traffic.specs.Rounds.{Generated, host_round, most_handed}
 use Rattle.homa_generate.specs.Progress.{holds_of}
 use Rattle.homa_generate.specs.Going.{IsAt, HasGone}
-use Rattle.homa_generate.proofs.Extending.{line_extends}
 use Rattle.homa_generate.proofs.rounds.host_round.Given as goal
 
 abbrev pub invariant-loop : goal.invariant-loop

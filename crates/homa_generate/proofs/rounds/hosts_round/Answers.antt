@@ -1,5 +1,5 @@
 -- One host after the other.
-use Rattle.std.proofs.Common.{◌≡◌, ◌≤◌, ◌<◌, ◌∙◌, ◌+◌, ◌-◌, ◌*◌, ℕ, suc, refl, sym, ap, arith}
+use Rattle.std.proofs.Common.{◌≡◌, ◌∙◌, ◌+◌, ◌-◌, suc, refl, ap, arith}
 use Rattle.std.proofs.lemmas.Result.{MatchResult-from_err}
 use Rattle.homa_plain.specs.declared.settings.Settings.{Settings}
 use Rattle.homa_traffic.specs.Rounds.{host_round, hosts_round, most_handed}

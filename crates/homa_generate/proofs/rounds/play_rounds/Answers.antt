@@ -1,7 +1,7 @@
 -- One round after the other.
-use Rattle.std.proofs.Common.{◌≡◌, ◌≤◌, ◌<◌, ◌∙◌, ◌+◌, ◌-◌, ◌*◌, ℕ, suc, true, false, refl, sym, ap, arith}
+use Rattle.std.proofs.Common.{◌≡◌, ◌∙◌, ◌+◌, ◌-◌, suc, refl, sym, arith}
 use Rattle.std.proofs.lemmas.Result.{MatchResult-from_err}
-use Rattle.homa_traffic.specs.Rounds.{Generated, next_round, is_over, rounds}
+use Rattle.homa_traffic.specs.Rounds.{next_round, is_over}
 use Rattle.homa_traffic.specs.Generated.{most_rounds}
 use Rattle.homa_generate.proofs.Goings.{gone_none, then_gone, then_stopped}
 use Rattle.homa_generate.proofs.Extending.{by_end, end_extends, round_extends, rounds_extend}

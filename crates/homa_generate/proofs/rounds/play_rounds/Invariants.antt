@@ -1,6 +1,6 @@
 -- The rounds that are left.
 use Rattle.std.proofs.Common.{◌≡◌, ◌≤◌, ◌+◌, ◌-◌, ◌*◌, length}
-use Rattle.homa_traffic.specs.Rounds.{Generated, hosts_round, calls_round, calls_a_round, rounds}
+use Rattle.homa_traffic.specs.Rounds.{Generated, rounds}
 use Rattle.homa_traffic.specs.Generated.{most_rounds}
 use Rattle.homa_generate.specs.Progress.{holds_of}
 use Rattle.homa_generate.specs.Going.{IsAt, HasGone}

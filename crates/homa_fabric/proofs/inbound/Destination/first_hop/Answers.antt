@@ -1,5 +1,5 @@
 -- The first packet of the level's queue, and the queue without it.
-use Rattle.std.proofs.Common.{◌≡◌, ◌<◌, ◌≤◌, ◌-◌, ap, sym, ◌∙◌, ℕ, Some, List, set, arith}
+use Rattle.std.proofs.Common.{◌≡◌, ◌-◌, ap, sym, ◌∙◌, ℕ, Some, set, arith}
 use Rattle.std.specs.List.{slice_get}
 use Rattle.circular_buffer.specs.Buffer.{Buffer}
 use Rattle.homa_traffic.specs.Draws.{draw}

@@ -1,5 +1,5 @@
 -- No level from here on has a packet.
-use Rattle.std.proofs.Common.{◌≡◌, ℕ, ◌≤◌, [], get_or, map}
+use Rattle.std.proofs.Common.{◌≡◌, ℕ, ◌≤◌, []}
 use Rattle.homa_traffic.specs.Fabric.{level_of}
 use Rattle.homa_fabric.proofs.inbound.Destination.highest.Given as goal
 

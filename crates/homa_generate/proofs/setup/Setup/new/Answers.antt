@@ -1,5 +1,5 @@
 -- One byte more, up to the last.
-use Rattle.std.proofs.Common.{◌≡◌, ◌∙◌, ◌+◌, ◌%◌, ◌∷◌, [], ◌++◌, ℕ, suc, List, sym, ap, arith}
+use Rattle.std.proofs.Common.{◌≡◌, ◌∙◌, ◌%◌, ◌∷◌, [], ◌++◌, ℕ, List, ap, arith}
 use Rattle.homa_plain.specs.Script.{counting}
 use Rattle.homa_generate.proofs.LineLaws.{more-counting}
 use Rattle.homa_generate.proofs.setup.Setup.new.Goals as goal
