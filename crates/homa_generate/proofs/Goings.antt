@@ -43,21 +43,6 @@ id_extends g = longer_self g.lines
 
 -- ---- going on
 
--- nothing happens
-pub gone_none : (f : Generated → Generated) (g : Generated) (a : Holds) (st : World → Type 0) (p : List PlainEntry → Type 0) → IsAt a st g → HasGone f f g a a st p p
-gone_none f g a st p stood = record {
-  next = g;
-  stood = stood;
-  told = [];
-  lines = [];
-  tells = sym (append-nil g.told);
-  has = sym (append-nil g.lines);
-  counts = refl;
-  printed = nothing_appended a.taken;
-  allowed = λ more h. h;
-  same = λ later. refl;
-}
-
 -- the fabric and the number of calls change alone
 pub gone_beside : (f h : Generated → Generated) (g next : Generated) (a b : Holds) (st : World → Type 0) (p : List PlainEntry → Type 0) → IsAt b st next → next.told ≡ g.told → next.lines ≡ g.lines → b.counts ≡ a.counts → b.taken ≡ a.taken
     → ((answers : List Answer) → f (answered answers g) ≡ h (answered answers next)) → HasGone f h g a b st p p
@@ -74,6 +59,10 @@ gone_beside f h g next a b st p stood told lines counts taken same = record {
   same = same;
 }
 
+-- nothing happens
+pub gone_none : (f : Generated → Generated) (g : Generated) (a : Holds) (st : World → Type 0) (p : List PlainEntry → Type 0) → IsAt a st g → HasGone f f g a a st p p
+gone_none f g a st p stood = gone_beside f f g g a a st p stood refl refl refl refl (λ answers. refl)
+
 -- one step and then another
 pub gone_on : (f h k : Generated → Generated) (g : Generated) (a b c : Holds) (st su : World → Type 0) (p q r : List PlainEntry → Type 0) (first : HasGone f h g a b st p q) → HasGone h k first.next b c su q r → HasGone f k g a c su p r
 gone_on f h k g a b c st su p q r first second = record {
@@ -89,9 +78,9 @@ gone_on f h k g a b c st su p q r first second = record {
   same = λ later. ap (λ (l : List Answer). f (answered l g)) (shown_parts first.told second.told later) ∙ (first.same (shown second.told ++ later) ∙ second.same later);
 }
 
--- the step of a part is one of the whole
-pub gone_under : (over f h : Generated → Generated) (g : Generated) (a b : Holds) (st : World → Type 0) (p q : List PlainEntry → Type 0) → HasGone f h g a b st p q → HasGone (λ x. over (f x)) (λ x. over (h x)) g a b st p q
-gone_under over f h g a b st p q first = record {
+-- the same step of other parts
+gone_with : (f h all rest : Generated → Generated) (g : Generated) (a b : Holds) (st : World → Type 0) (p q : List PlainEntry → Type 0) (first : HasGone f h g a b st p q) → ((later : List Answer) → all (answered (shown first.told ++ later) g) ≡ rest (answered later first.next)) → HasGone all rest g a b st p q
+gone_with f h all rest g a b st p q first same = record {
   next = first.next;
   stood = first.stood;
   told = first.told;
@@ -101,23 +90,16 @@ gone_under over f h g a b st p q first = record {
   counts = first.counts;
   printed = first.printed;
   allowed = first.allowed;
-  same = λ later. ap over (first.same later);
+  same = same;
 }
+
+-- the step of a part is one of the whole
+pub gone_under : (over f h : Generated → Generated) (g : Generated) (a b : Holds) (st : World → Type 0) (p q : List PlainEntry → Type 0) → HasGone f h g a b st p q → HasGone (λ x. over (f x)) (λ x. over (h x)) g a b st p q
+gone_under over f h g a b st p q first = gone_with f h (λ x. over (f x)) (λ x. over (h x)) g a b st p q first (λ later. ap over (first.same later))
 
 -- the same under another name
 pub gone_as : (f h k : Generated → Generated) (g : Generated) (a b : Holds) (st : World → Type 0) (p q : List PlainEntry → Type 0) (first : HasGone f h g a b st p q) → ((answers : List Answer) → h (answered answers first.next) ≡ k (answered answers first.next)) → HasGone f k g a b st p q
-gone_as f h k g a b st p q first same = record {
-  next = first.next;
-  stood = first.stood;
-  told = first.told;
-  lines = first.lines;
-  tells = first.tells;
-  has = first.has;
-  counts = first.counts;
-  printed = first.printed;
-  allowed = first.allowed;
-  same = λ later. first.same later ∙ same later;
-}
+gone_as f h k g a b st p q first same = gone_with f h f k g a b st p q first (λ later. first.same later ∙ same later)
 
 -- ---- a line
 

@@ -2,6 +2,7 @@ mod CountLaws
 mod Carryings
 mod LineLaws
 mod Entering
+mod Steadiness
 mod Goings
 mod Extending
 mod HostRounds

@@ -8,7 +8,7 @@ ghost use Rattle.homa_traffic.specs.Rounds.{Generated, with_line};
 ghost use Rattle.homa_traffic.specs.Generated.{given_text};
 ghost use Rattle.homa_generate.specs.Carried.{IsCarried};
 ghost use Rattle.homa_generate.specs.Lines.{given_of, IsShort};
-ghost use Rattle.homa_generate.specs.Progress.{holds_of};
+ghost use Rattle.homa_generate.specs.Progress.{holds_of, IsReady, IsSteady, IsFaulted};
 ghost use Rattle.homa_generate.specs.Going.{IsAt, HasGone, HasStopped};
 
 use crate::events::{enter, happen, tick};
@@ -127,20 +127,13 @@ pub(crate) fn play<P: Generating, K: Sink>(
     progress: &mut Progress,
     line: &Line,
 ) -> Result<(), Stop>
-    requires setup { setup.now.settings ≡ P.settings world.old }
+    requires ready { IsReady setup.now.settings (P.settings world.old) progress.old (P.events world.old) 33 }
     requires short { IsShort line.now }
-    requires few { P.events world.old + 33 ≤ 2 ^ 57 }
     ensures gone { OnOk result ((g : Generated) → IsAt (holds_of progress.old (K.taken sink.old)) (P.stands world.old) g → HasGone (with_line (P.settings world.old) (given_of line.now)) (λ x. x) g (holds_of progress.old (K.taken sink.old)) (holds_of progress.new (K.taken sink.new)) (P.stands world.new) (P.allows world.old) (P.allows world.new)) }
     ensures stopped { OnErr result ((g : Generated) → IsAt (holds_of progress.old (K.taken sink.old)) (P.stands world.old) g → HasStopped (with_line (P.settings world.old) (given_of line.now)) g (K.taken sink.old) (K.taken sink.new) (P.allows world.old)) }
-    ensures settings { P.settings world.new ≡ P.settings world.old }
-    ensures counted { P.events world.new ≤ P.events world.old + 33 }
-    ensures life { progress.new.fabric.life ≡ progress.old.fabric.life }
-    ensures hosts { length progress.new.fabric.fabric.destinations ≡ length progress.old.fabric.fabric.destinations }
+    ensures steady { IsSteady (P.settings world.old) (P.settings world.new) progress.old progress.new (P.events world.old) (P.events world.new) 33 }
     ensures left { progress.new.left ≡ progress.old.left }
-    ensures write { IsErrOf result Stop.Write → HasRisen (K.faults sink.old) (K.faults sink.new) }
-    ensures memory { IsErrOf result Stop.NoMemory → K.faults sink.new ≡ K.faults sink.old }
-    ensures read { IsErrOf result Stop.Read → ⊥ }
-    ensures quiet { OnOk result (K.faults sink.new ≡ K.faults sink.old) }
+    ensures faulted { IsFaulted result (K.faults sink.old) (K.faults sink.new) }
     ensures same { K.is_same sink.old sink.new }
 {
     put(sink, line)?;

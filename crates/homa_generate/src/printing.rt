@@ -2,6 +2,7 @@
 ghost use Rattle.std.specs.Prelude.{◌≡◌, ◌≤◌, OnOk, OnErr, IfOk, IsErrOf};
 ghost use Rattle.homa_io.specs.Outside.{HasRisen, appended};
 ghost use Rattle.homa_traffic.specs.Generated.{generated_settings, schedule_text, summary_text};
+ghost use Rattle.homa_generate.specs.Progress.{IsFaulted};
 ghost use Rattle.homa_generate.specs.Made.{run_of, HasRun, IsMade, IsPartMade};
 
 use crate::lines::Progress;
@@ -83,10 +84,7 @@ pub fn count<B: Drop, P: Generating + Opens<B> + Drop, K: Sink>(
     requires { P.are_ready boxes }
     ensures made { OnOk result (IsMade (run_of seed calls (P.many boxes)) (λ g. summary_text g.told) (K.taken sink.old) (K.taken sink.new) (P.are_allowed boxes)) }
     ensures part { OnErr result (IsPartMade (run_of seed calls (P.many boxes)) (λ g. summary_text g.told) (K.taken sink.old) (K.taken sink.new) (P.are_allowed boxes)) }
-    ensures write { IsErrOf result Stop.Write → HasRisen (K.faults sink.old) (K.faults sink.new) }
-    ensures memory { IsErrOf result Stop.NoMemory → K.faults sink.new ≡ K.faults sink.old }
-    ensures read { IsErrOf result Stop.Read → ⊥ }
-    ensures quiet { OnOk result (K.faults sink.new ≡ K.faults sink.old) }
+    ensures faulted { IsFaulted result (K.faults sink.old) (K.faults sink.new) }
     ensures same { K.is_same sink.old sink.new }
 {
     let counts = generate::<B, P, Nowhere>(alloc, &mut Nowhere, boxes, seed, calls)?;

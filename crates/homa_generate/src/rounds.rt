@@ -4,7 +4,7 @@ ghost use Rattle.homa_io.specs.Outside.{HasRisen};
 ghost use Rattle.homa_plain.specs.World.{World};
 ghost use Rattle.homa_traffic.specs.Rounds.{Generated, host_round, hosts_round, calls_round, next_round, rounds, is_over, most_handed, calls_a_round};
 ghost use Rattle.homa_traffic.specs.Generated.{most_rounds};
-ghost use Rattle.homa_generate.specs.Progress.{holds_of};
+ghost use Rattle.homa_generate.specs.Progress.{holds_of, IsReady, IsSteady, IsFaulted};
 ghost use Rattle.homa_generate.specs.Going.{IsAt, HasGone, HasStopped};
 ghost use Rattle.homa_generate.specs.Steps.{one_call};
 
@@ -32,21 +32,12 @@ fn host_round<P: Generating, K: Sink>(
     progress: &mut Progress,
     to: HostId,
 ) -> Result<(), Stop>
-    requires setup { setup.now.settings ≡ P.settings world.old }
-    requires life { progress.old.fabric.life ≡ (P.settings world.old).life }
-    requires hosts { length progress.old.fabric.fabric.destinations ≡ (P.settings world.old).hosts }
-    requires few { P.events world.old + 1056000 ≤ 2 ^ 57 }
+    requires ready { IsReady setup.now.settings (P.settings world.old) progress.old (P.events world.old) 1056000 }
     requires inside { to.0 < (P.settings world.old).hosts }
     ensures gone { OnOk result ((g : Generated) → IsAt (holds_of progress.old (K.taken sink.old)) (P.stands world.old) g → HasGone (host_round most_handed (P.settings world.old) to.0) (λ x. x) g (holds_of progress.old (K.taken sink.old)) (holds_of progress.new (K.taken sink.new)) (P.stands world.new) (P.allows world.old) (P.allows world.new)) }
     ensures stopped { OnErr result ((g : Generated) → IsAt (holds_of progress.old (K.taken sink.old)) (P.stands world.old) g → HasStopped (host_round most_handed (P.settings world.old) to.0) g (K.taken sink.old) (K.taken sink.new) (P.allows world.old)) }
-    ensures settings { P.settings world.new ≡ P.settings world.old }
-    ensures counted { P.events world.new ≤ P.events world.old + 1056000 }
-    ensures life { progress.new.fabric.life ≡ progress.old.fabric.life }
-    ensures hosts { length progress.new.fabric.fabric.destinations ≡ length progress.old.fabric.fabric.destinations }
-    ensures write { IsErrOf result Stop.Write → HasRisen (K.faults sink.old) (K.faults sink.new) }
-    ensures memory { IsErrOf result Stop.NoMemory → K.faults sink.new ≡ K.faults sink.old }
-    ensures read { IsErrOf result Stop.Read → ⊥ }
-    ensures quiet { OnOk result (K.faults sink.new ≡ K.faults sink.old) }
+    ensures steady { IsSteady (P.settings world.old) (P.settings world.new) progress.old progress.new (P.events world.old) (P.events world.new) 1056000 }
+    ensures faulted { IsFaulted result (K.faults sink.old) (K.faults sink.new) }
     ensures same { K.is_same sink.old sink.new }
 {
     for _ in 0..MOST_HANDED {
@@ -65,20 +56,11 @@ fn hosts_round<P: Generating, K: Sink>(
     sink: &mut K,
     progress: &mut Progress,
 ) -> Result<(), Stop>
-    requires setup { setup.now.settings ≡ P.settings world.old }
-    requires life { progress.old.fabric.life ≡ (P.settings world.old).life }
-    requires hosts { length progress.old.fabric.fabric.destinations ≡ (P.settings world.old).hosts }
-    requires few { P.events world.old + 33792000 ≤ 2 ^ 57 }
+    requires ready { IsReady setup.now.settings (P.settings world.old) progress.old (P.events world.old) 33792000 }
     ensures gone { OnOk result ((g : Generated) → IsAt (holds_of progress.old (K.taken sink.old)) (P.stands world.old) g → HasGone (hosts_round (P.settings world.old) 0 (P.settings world.old).hosts) (λ x. x) g (holds_of progress.old (K.taken sink.old)) (holds_of progress.new (K.taken sink.new)) (P.stands world.new) (P.allows world.old) (P.allows world.new)) }
     ensures stopped { OnErr result ((g : Generated) → IsAt (holds_of progress.old (K.taken sink.old)) (P.stands world.old) g → HasStopped (hosts_round (P.settings world.old) 0 (P.settings world.old).hosts) g (K.taken sink.old) (K.taken sink.new) (P.allows world.old)) }
-    ensures settings { P.settings world.new ≡ P.settings world.old }
-    ensures counted { P.events world.new ≤ P.events world.old + 33792000 }
-    ensures life { progress.new.fabric.life ≡ progress.old.fabric.life }
-    ensures hosts { length progress.new.fabric.fabric.destinations ≡ length progress.old.fabric.fabric.destinations }
-    ensures write { IsErrOf result Stop.Write → HasRisen (K.faults sink.old) (K.faults sink.new) }
-    ensures memory { IsErrOf result Stop.NoMemory → K.faults sink.new ≡ K.faults sink.old }
-    ensures read { IsErrOf result Stop.Read → ⊥ }
-    ensures quiet { OnOk result (K.faults sink.new ≡ K.faults sink.old) }
+    ensures steady { IsSteady (P.settings world.old) (P.settings world.new) progress.old progress.new (P.events world.old) (P.events world.new) 33792000 }
+    ensures faulted { IsFaulted result (K.faults sink.old) (K.faults sink.new) }
     ensures same { K.is_same sink.old sink.new }
 {
     for host in 0..setup.settings.hosts {
@@ -94,21 +76,12 @@ fn call<P: Generating, K: Sink>(
     sink: &mut K,
     progress: &mut Progress,
 ) -> Result<(), Stop>
-    requires setup { setup.now.settings ≡ P.settings world.old }
-    requires life { progress.old.fabric.life ≡ (P.settings world.old).life }
-    requires hosts { length progress.old.fabric.fabric.destinations ≡ (P.settings world.old).hosts }
-    requires few { P.events world.old + 33 ≤ 2 ^ 57 }
+    requires ready { IsReady setup.now.settings (P.settings world.old) progress.old (P.events world.old) 33 }
     requires some { 0 < progress.old.left }
     ensures gone { OnOk result ((g : Generated) → IsAt (holds_of progress.old (K.taken sink.old)) (P.stands world.old) g → HasGone (one_call (P.settings world.old)) (λ x. x) g (holds_of progress.old (K.taken sink.old)) (holds_of progress.new (K.taken sink.new)) (P.stands world.new) (P.allows world.old) (P.allows world.new)) }
     ensures stopped { OnErr result ((g : Generated) → IsAt (holds_of progress.old (K.taken sink.old)) (P.stands world.old) g → HasStopped (one_call (P.settings world.old)) g (K.taken sink.old) (K.taken sink.new) (P.allows world.old)) }
-    ensures settings { P.settings world.new ≡ P.settings world.old }
-    ensures counted { P.events world.new ≤ P.events world.old + 33 }
-    ensures life { progress.new.fabric.life ≡ progress.old.fabric.life }
-    ensures hosts { length progress.new.fabric.fabric.destinations ≡ length progress.old.fabric.fabric.destinations }
-    ensures write { IsErrOf result Stop.Write → HasRisen (K.faults sink.old) (K.faults sink.new) }
-    ensures memory { IsErrOf result Stop.NoMemory → K.faults sink.new ≡ K.faults sink.old }
-    ensures read { IsErrOf result Stop.Read → ⊥ }
-    ensures quiet { OnOk result (K.faults sink.new ≡ K.faults sink.old) }
+    ensures steady { IsSteady (P.settings world.old) (P.settings world.new) progress.old progress.new (P.events world.old) (P.events world.new) 33 }
+    ensures faulted { IsFaulted result (K.faults sink.old) (K.faults sink.new) }
     ensures same { K.is_same sink.old sink.new }
 {
     let traffic = progress.fabric.traffic();
@@ -127,20 +100,11 @@ fn calls_round<P: Generating, K: Sink>(
     sink: &mut K,
     progress: &mut Progress,
 ) -> Result<(), Stop>
-    requires setup { setup.now.settings ≡ P.settings world.old }
-    requires life { progress.old.fabric.life ≡ (P.settings world.old).life }
-    requires hosts { length progress.old.fabric.fabric.destinations ≡ (P.settings world.old).hosts }
-    requires few { P.events world.old + 660 ≤ 2 ^ 57 }
+    requires ready { IsReady setup.now.settings (P.settings world.old) progress.old (P.events world.old) 660 }
     ensures gone { OnOk result ((g : Generated) → IsAt (holds_of progress.old (K.taken sink.old)) (P.stands world.old) g → HasGone (calls_round calls_a_round (P.settings world.old)) (λ x. x) g (holds_of progress.old (K.taken sink.old)) (holds_of progress.new (K.taken sink.new)) (P.stands world.new) (P.allows world.old) (P.allows world.new)) }
     ensures stopped { OnErr result ((g : Generated) → IsAt (holds_of progress.old (K.taken sink.old)) (P.stands world.old) g → HasStopped (calls_round calls_a_round (P.settings world.old)) g (K.taken sink.old) (K.taken sink.new) (P.allows world.old)) }
-    ensures settings { P.settings world.new ≡ P.settings world.old }
-    ensures counted { P.events world.new ≤ P.events world.old + 660 }
-    ensures life { progress.new.fabric.life ≡ progress.old.fabric.life }
-    ensures hosts { length progress.new.fabric.fabric.destinations ≡ length progress.old.fabric.fabric.destinations }
-    ensures write { IsErrOf result Stop.Write → HasRisen (K.faults sink.old) (K.faults sink.new) }
-    ensures memory { IsErrOf result Stop.NoMemory → K.faults sink.new ≡ K.faults sink.old }
-    ensures read { IsErrOf result Stop.Read → ⊥ }
-    ensures quiet { OnOk result (K.faults sink.new ≡ K.faults sink.old) }
+    ensures steady { IsSteady (P.settings world.old) (P.settings world.new) progress.old progress.new (P.events world.old) (P.events world.new) 660 }
+    ensures faulted { IsFaulted result (K.faults sink.old) (K.faults sink.new) }
     ensures same { K.is_same sink.old sink.new }
 {
     for _ in 0..CALLS_A_ROUND {
@@ -159,20 +123,11 @@ fn round<P: Generating, K: Sink>(
     sink: &mut K,
     progress: &mut Progress,
 ) -> Result<(), Stop>
-    requires setup { setup.now.settings ≡ P.settings world.old }
-    requires life { progress.old.fabric.life ≡ (P.settings world.old).life }
-    requires hosts { length progress.old.fabric.fabric.destinations ≡ (P.settings world.old).hosts }
-    requires few { P.events world.old + 40000000 ≤ 2 ^ 57 }
+    requires ready { IsReady setup.now.settings (P.settings world.old) progress.old (P.events world.old) 40000000 }
     ensures gone { OnOk result ((g : Generated) → IsAt (holds_of progress.old (K.taken sink.old)) (P.stands world.old) g → HasGone (next_round (P.settings world.old)) (λ x. x) g (holds_of progress.old (K.taken sink.old)) (holds_of progress.new (K.taken sink.new)) (P.stands world.new) (P.allows world.old) (P.allows world.new)) }
     ensures stopped { OnErr result ((g : Generated) → IsAt (holds_of progress.old (K.taken sink.old)) (P.stands world.old) g → HasStopped (next_round (P.settings world.old)) g (K.taken sink.old) (K.taken sink.new) (P.allows world.old)) }
-    ensures settings { P.settings world.new ≡ P.settings world.old }
-    ensures counted { P.events world.new ≤ P.events world.old + 40000000 }
-    ensures life { progress.new.fabric.life ≡ progress.old.fabric.life }
-    ensures hosts { length progress.new.fabric.fabric.destinations ≡ length progress.old.fabric.fabric.destinations }
-    ensures write { IsErrOf result Stop.Write → HasRisen (K.faults sink.old) (K.faults sink.new) }
-    ensures memory { IsErrOf result Stop.NoMemory → K.faults sink.new ≡ K.faults sink.old }
-    ensures read { IsErrOf result Stop.Read → ⊥ }
-    ensures quiet { OnOk result (K.faults sink.new ≡ K.faults sink.old) }
+    ensures steady { IsSteady (P.settings world.old) (P.settings world.new) progress.old progress.new (P.events world.old) (P.events world.new) 40000000 }
+    ensures faulted { IsFaulted result (K.faults sink.old) (K.faults sink.new) }
     ensures same { K.is_same sink.old sink.new }
 {
     play(setup, world, sink, progress, &Line::Tick)?;
@@ -196,20 +151,11 @@ pub(crate) fn play_rounds<P: Generating, K: Sink>(
     sink: &mut K,
     progress: &mut Progress,
 ) -> Result<(), Stop>
-    requires setup { setup.now.settings ≡ P.settings world.old }
-    requires life { progress.old.fabric.life ≡ (P.settings world.old).life }
-    requires hosts { length progress.old.fabric.fabric.destinations ≡ (P.settings world.old).hosts }
-    requires few { P.events world.old + 4000000000000 ≤ 2 ^ 57 }
+    requires ready { IsReady setup.now.settings (P.settings world.old) progress.old (P.events world.old) 4000000000000 }
     ensures gone { OnOk result ((g : Generated) → IsAt (holds_of progress.old (K.taken sink.old)) (P.stands world.old) g → HasGone (rounds most_rounds (P.settings world.old)) (λ x. x) g (holds_of progress.old (K.taken sink.old)) (holds_of progress.new (K.taken sink.new)) (P.stands world.new) (P.allows world.old) (P.allows world.new)) }
     ensures stopped { OnErr result ((g : Generated) → IsAt (holds_of progress.old (K.taken sink.old)) (P.stands world.old) g → HasStopped (rounds most_rounds (P.settings world.old)) g (K.taken sink.old) (K.taken sink.new) (P.allows world.old)) }
-    ensures settings { P.settings world.new ≡ P.settings world.old }
-    ensures counted { P.events world.new ≤ P.events world.old + 4000000000000 }
-    ensures life { progress.new.fabric.life ≡ progress.old.fabric.life }
-    ensures hosts { length progress.new.fabric.fabric.destinations ≡ length progress.old.fabric.fabric.destinations }
-    ensures write { IsErrOf result Stop.Write → HasRisen (K.faults sink.old) (K.faults sink.new) }
-    ensures memory { IsErrOf result Stop.NoMemory → K.faults sink.new ≡ K.faults sink.old }
-    ensures read { IsErrOf result Stop.Read → ⊥ }
-    ensures quiet { OnOk result (K.faults sink.new ≡ K.faults sink.old) }
+    ensures steady { IsSteady (P.settings world.old) (P.settings world.new) progress.old progress.new (P.events world.old) (P.events world.new) 4000000000000 }
+    ensures faulted { IsFaulted result (K.faults sink.old) (K.faults sink.new) }
     ensures same { K.is_same sink.old sink.new }
 {
     for _ in 0..MOST_ROUNDS {

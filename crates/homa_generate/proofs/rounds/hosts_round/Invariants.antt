@@ -1,7 +1,7 @@
 -- The hosts that are left.
 use Rattle.std.proofs.Common.{◌≡◌, ◌≤◌, ◌+◌, ◌-◌, ◌*◌, length}
 use Rattle.homa_traffic.specs.Rounds.{Generated, hosts_round}
-use Rattle.homa_generate.specs.Progress.{holds_of}
+use Rattle.homa_generate.specs.Progress.{holds_of, IsSteady}
 use Rattle.homa_generate.specs.Going.{IsAt, HasGone}
 use Rattle.homa_generate.proofs.rounds.hosts_round.Given as goal
 
@@ -13,10 +13,7 @@ invariant-loop-host g l =
     record {
       gone : (r : Generated) → IsAt (holds_of l.fn.progress (k.taken l.fn.sink)) (p.stands l.fn.world) r
           → HasGone (hosts_round s 0 s.hosts) (hosts_round s l.host (s.hosts - l.host)) r (holds_of l.fn.progress (k.taken l.fn.sink)) (holds_of l.progress (k.taken l.sink)) (p.stands l.world) (p.allows l.fn.world) (p.allows l.world);
-      settings : p.settings l.world ≡ s;
-      counted : p.events l.world ≤ p.events l.fn.world + 1056000 * l.host;
-      life : l.progress.fabric.life ≡ l.fn.progress.fabric.life;
-      hosts : length l.progress.fabric.fabric.destinations ≡ length l.fn.progress.fabric.fabric.destinations;
+      steady : IsSteady s (p.settings l.world) l.fn.progress l.progress (p.events l.fn.world) (p.events l.world) (1056000 * l.host);
       quiet : k.faults l.sink ≡ k.faults l.fn.sink;
       same : k.is_same l.fn.sink l.sink;
     }

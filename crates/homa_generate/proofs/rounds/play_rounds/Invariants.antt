@@ -2,7 +2,7 @@
 use Rattle.std.proofs.Common.{◌≡◌, ◌≤◌, ◌+◌, ◌-◌, ◌*◌, length}
 use Rattle.homa_traffic.specs.Rounds.{Generated, rounds}
 use Rattle.homa_traffic.specs.Generated.{most_rounds}
-use Rattle.homa_generate.specs.Progress.{holds_of}
+use Rattle.homa_generate.specs.Progress.{holds_of, IsSteady}
 use Rattle.homa_generate.specs.Going.{IsAt, HasGone}
 use Rattle.homa_generate.proofs.rounds.play_rounds.Given as goal
 
@@ -14,10 +14,7 @@ invariant-loop g l =
     record {
       gone : (r : Generated) → IsAt (holds_of l.fn.progress (k.taken l.fn.sink)) (p.stands l.fn.world) r
           → HasGone (rounds most_rounds s) (rounds (most_rounds - l.counter) s) r (holds_of l.fn.progress (k.taken l.fn.sink)) (holds_of l.progress (k.taken l.sink)) (p.stands l.world) (p.allows l.fn.world) (p.allows l.world);
-      settings : p.settings l.world ≡ s;
-      counted : p.events l.world ≤ p.events l.fn.world + 40000000 * l.counter;
-      life : l.progress.fabric.life ≡ l.fn.progress.fabric.life;
-      hosts : length l.progress.fabric.fabric.destinations ≡ length l.fn.progress.fabric.fabric.destinations;
+      steady : IsSteady s (p.settings l.world) l.fn.progress l.progress (p.events l.fn.world) (p.events l.world) (40000000 * l.counter);
       quiet : k.faults l.sink ≡ k.faults l.fn.sink;
       same : k.is_same l.fn.sink l.sink;
     }
