@@ -1,5 +1,5 @@
 -- What stays over one step and then another.
-use Rattle.std.proofs.Common.{◌≡◌, ◌≤◌, ◌+◌, ◌^◌, ℕ, length, refl, sym, ap, ◌∙◌, arith}
+use Rattle.std.proofs.Common.{◌≤◌, ◌+◌, ℕ, refl, sym, ap, ◌∙◌, arith}
 use Rattle.homa_plain.specs.declared.settings.Settings.{Settings}
 use Rattle.homa_generate.specs.declared.lines.Progress.{Progress}
 use Rattle.homa_generate.specs.Progress.{IsReady, IsSteady}

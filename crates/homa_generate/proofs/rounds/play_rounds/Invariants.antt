@@ -1,5 +1,5 @@
 -- The rounds that are left.
-use Rattle.std.proofs.Common.{◌≡◌, ◌≤◌, ◌+◌, ◌-◌, ◌*◌, length}
+use Rattle.std.proofs.Common.{◌≡◌, ◌-◌, ◌*◌}
 use Rattle.homa_traffic.specs.Rounds.{Generated, rounds}
 use Rattle.homa_traffic.specs.Generated.{most_rounds}
 use Rattle.homa_generate.specs.Progress.{holds_of, IsSteady}
