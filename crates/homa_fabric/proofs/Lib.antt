@@ -1,0 +1,5 @@
+mod DrawLaws
+mod QueueLaws
+mod FirstHops
+mod HandedLaws
+mod Opened

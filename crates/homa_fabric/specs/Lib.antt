@@ -1,0 +1,4 @@
+pub mod Seen
+pub mod Draws
+pub mod Queues
+pub mod Hops

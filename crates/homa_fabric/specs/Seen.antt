@@ -1,0 +1,8 @@
+-- What contracts see of a fabric.
+use Rattle.std.specs.Prelude.{ℕ}
+use Rattle.homa_traffic.specs.Fabric.{Fabric}
+
+-- what is on its way, and for how many ticks a packet lives
+pub record Seen : Type 0 where
+  pub fabric : Fabric
+  pub life : ℕ

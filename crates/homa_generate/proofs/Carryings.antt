@@ -1,0 +1,103 @@
+-- Events that are carried out one after the other.
+use Rattle.std.proofs.Common.{◌≡◌, ℕ, None, Some, List, [], ◌∷◌, ◌++◌, refl, sym, ap, ◌∙◌, subst, append_assoc}
+use Rattle.std.proofs.lemmas.List.{append-nil}
+use Rattle.homa_plain.specs.declared.settings.Settings.{Settings}
+use Rattle.homa_plain.specs.declared.fault.LineFault.TheVariants.{World as ByWorld}
+use Rattle.homa_plain.specs.Entries.{PlainEntry}
+use Rattle.homa_plain.specs.Rules.{Answer}
+use Rattle.homa_plain.specs.World.{World, Outcome, Refused, Done, outcome}
+use Rattle.homa_plain.specs.Replay.{Happening, Run, after_event, carried}
+use Rattle.homa_replay.specs.Stream.{shown, answering}
+use Rattle.homa_replay.specs.Playing.{IsApplied}
+use Rattle.homa_replay.proofs.Streams.{shown_parts}
+use Rattle.homa_generate.specs.Counts.{counted}
+use Rattle.homa_generate.specs.Carried.{IsCarried}
+use Rattle.homa_generate.proofs.CountLaws.{counted-append}
+
+-- what is carried, by the outcome of the first event
+abbrev by_outcome : Settings → World → List Happening → Outcome → Run
+by_outcome s w es (Refused fault) = record { world = w; told = []; count = 0; fault = Some (ByWorld fault) }
+by_outcome s w es (Done after) = after_event after.told (carried s after.world es)
+
+first_event : (s : Settings) (w : World) (e : Happening) (es : List Happening) → carried s w (e ∷ es) ≡ by_outcome s w es (outcome s w e.event e.bytes)
+unfolding carried
+first_event s w e es = refl
+
+no_event : (s : Settings) (w : World) → carried s w [] ≡ record { world = w; told = []; count = 0; fault = None }
+unfolding carried
+no_event s w = refl
+
+-- what is carried in two parts, but for the number of events
+pub record IsJoined (whole a b : Run) : Type 0 where
+  pub world : whole.world ≡ b.world
+  pub told : whole.told ≡ a.told ++ b.told
+  pub fault : whole.fault ≡ b.fault
+
+joined_first : (s : Settings) (w : World) (a b : List Happening) (o : Outcome) → ((v : World) → (carried s v a).fault ≡ None → IsJoined (carried s v (a ++ b)) (carried s v a) (carried s (carried s v a).world b))
+    → (by_outcome s w a o).fault ≡ None → IsJoined (by_outcome s w (a ++ b) o) (by_outcome s w a o) (carried s (by_outcome s w a o).world b)
+joined_first s w a b (Refused fault) next none = cc
+joined_first s w a b (Done after) next none =
+    let rest = next after.world none in
+    record { world = rest.world; told = ap (λ (l : List PlainEntry). after.told ++ l) rest.told ∙ sym (append_assoc after.told (carried s after.world a).told (carried s (carried s after.world a).world b).told); fault = rest.fault }
+
+pub carried_parts : (s : Settings) (w : World) (a b : List Happening) → (carried s w a).fault ≡ None → IsJoined (carried s w (a ++ b)) (carried s w a) (carried s (carried s w a).world b)
+carried_parts s w [] b none = rw (no_event s w) (record { world = refl; told = refl; fault = refl })
+carried_parts s w (e ∷ a) b none =
+    rw (first_event s w e (a ++ b), first_event s w e a) (joined_first s w a b (outcome s w e.event e.bytes) (λ v h. carried_parts s v a b h) (rw (sym (first_event s w e a)) none))
+
+-- ---- what the code did
+
+module _ (s : Settings) (w : World) (stands : World → Type 0) (old new : List ℕ) (before after : List PlainEntry → Type 0) where
+  -- an event
+  pub one_carried : (e : Happening) (told : List PlainEntry) → IsApplied s w e stands told before after → new ≡ counted old told → IsCarried s w (e ∷ []) stands old new before after
+  one_carried e told a counts =
+      let runs : (later : List Answer) → carried s (answering (shown told ++ later) w) (e ∷ []) ≡ after_event told (record { world = answering later a.next; told = []; count = 0; fault = None }) =
+      λ later. first_event s (answering (shown told ++ later) w) e [] ∙ ap (by_outcome s (answering (shown told ++ later) w) []) (a.done later) ∙ ap (after_event told) (no_event s (answering later a.next)) in
+      record {
+        next = a.next;
+        stood = a.stood;
+        told = told;
+        counts = counts;
+        allowed = a.allowed;
+        world = λ later. ap (λ (r : Run). r.world) (runs later);
+        tells = λ later. ap (λ (r : Run). r.told) (runs later) ∙ append-nil told;
+        done = λ later. ap (λ (r : Run). r.fault) (runs later);
+      }
+
+-- no event
+pub none_carried : (s : Settings) (w : World) (stands : World → Type 0) (old : List ℕ) (before : List PlainEntry → Type 0) → stands w → IsCarried s w [] stands old old before before
+none_carried s w stands old before h = record {
+  next = w;
+  stood = h;
+  told = [];
+  counts = refl;
+  allowed = λ more k. k;
+  world = λ later. ap (λ (r : Run). r.world) (no_event s (answering later w));
+  tells = λ later. ap (λ (r : Run). r.told) (no_event s (answering later w));
+  done = λ later. ap (λ (r : Run). r.fault) (no_event s (answering later w));
+}
+
+-- events behind others
+pub more_carried : (s : Settings) (w : World) (a b : List Happening) (st su : World → Type 0) (old mid new : List ℕ) (p q r : List PlainEntry → Type 0) → IsCarried s w a st old mid p q
+    → ((v : World) → st v → IsCarried s v b su mid new q r) → IsCarried s w (a ++ b) su old new p r
+more_carried s w a b st su old mid new p q r first next =
+    let second = next first.next first.stood in
+    let parts : (later : List Answer) → IsJoined (carried s (answering (shown (first.told ++ second.told) ++ later) w) (a ++ b)) (carried s (answering (shown first.told ++ (shown second.told ++ later)) w) a) (carried s (answering (shown second.told ++ later) first.next) b) =
+    λ later. rw (shown_parts first.told second.told later, ← (first.world (shown second.told ++ later))) (carried_parts s (answering (shown first.told ++ (shown second.told ++ later)) w) a b (first.done (shown second.told ++ later))) in
+    record {
+      next = second.next;
+      stood = second.stood;
+      told = first.told ++ second.told;
+      counts = second.counts ∙ ap (λ (l : List ℕ). counted l second.told) first.counts ∙ sym (counted-append old first.told second.told);
+      allowed = λ more h. subst p (sym (append_assoc first.told second.told more)) (first.allowed (second.told ++ more) (second.allowed more h));
+      world = λ later. (parts later).world ∙ second.world later;
+      tells = λ later. (parts later).told ∙ ap (λ (l : List PlainEntry). l ++ (carried s (answering (shown second.told ++ later) first.next) b).told) (first.tells (shown second.told ++ later)) ∙ ap (λ (l : List PlainEntry). first.told ++ l) (second.tells later);
+      done = λ later. (parts later).fault ∙ second.done later;
+    }
+
+-- further events, where the settings stayed
+pub then_carried : (s t : Settings) (w : World) (a b : List Happening) (st su : World → Type 0) (old mid new : List ℕ) (p q r : List PlainEntry → Type 0) → t ≡ s → IsCarried s w a st old mid p q → (es : List Happening) → es ≡ a ++ b
+    → ((v : World) → st v → IsCarried t v b su mid new q r) → IsCarried s w es su old new p r
+then_carried s t w a b st su old mid new p q r same first es k h =
+    subst (λ (l : List Happening). IsCarried s w l su old new p r) (sym k)
+    (more_carried s w a b st su old mid new p q r first (λ v x. subst (λ (o : Settings). IsCarried o v b su mid new q r) same (h v x)))

@@ -1,0 +1,24 @@
+-- Packets that enter the fabric one after the other.
+use Rattle.std.proofs.Common.{◌≡◌, ℕ, zero, suc, ◌+◌, Some, List, [], ◌∷◌, drop, length, refl, sym, ap, ◌∙◌, arith}
+use Rattle.std.specs.List.{slice_get}
+use Rattle.homa_plain.specs.declared.settings.Settings.{Settings}
+use Rattle.homa_plain.specs.Packets.{receiver, datagram}
+use Rattle.homa_plain.specs.World.{SentPacket}
+use Rattle.homa_traffic.specs.Fabric.{Fabric, sent}
+use Rattle.homa_traffic.specs.Rounds.{all_sent}
+use Rattle.homa_generate.specs.declared.worlds.Passing.{Passing}
+use Rattle.homa_generate.specs.Generating.{IsPassing}
+
+drop_at : {X : Type 0} (xs : List X) (n : ℕ) (x : X) → slice_get xs n ≡ Some x → drop n xs ≡ x ∷ drop (suc n) xs
+drop_at [] n x is = cc
+drop_at (y ∷ ys) zero x is = cc
+drop_at (y ∷ ys) (suc n) x is = drop_at ys n x is
+
+-- the next one
+pub entered_next : (s : Settings) (packets : List SentPacket) (n : ℕ) (x : SentPacket) (p : Passing) (f g : Fabric) → slice_get packets n ≡ Some x → IsPassing s x p → g ≡ sent f p.to.0 p.level (record { number = n; size = p.len; tick = p.tick })
+    → all_sent s n (drop n packets) f ≡ all_sent s (n + 1) (drop (n + 1) packets) g
+entered_next s packets n x p f g is passing entered =
+    let next : suc n ≡ n + 1 = omega arith in
+    ap (λ (l : List SentPacket). all_sent s n l f) (drop_at packets n x is)
+    ∙ ap (λ (k : ℕ). all_sent s k (drop k packets) (sent f (receiver x.packet).0 x.packet.level (record { number = n; size = length (datagram s x.packet); tick = x.tick }))) next
+    ∙ ap (all_sent s (n + 1) (drop (n + 1) packets)) (sym (entered ∙ rw (passing.to, passing.level, passing.len, passing.tick) refl))

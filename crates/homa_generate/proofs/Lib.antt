@@ -1,0 +1,11 @@
+mod CountLaws
+mod Carryings
+mod LineLaws
+mod Entering
+mod Steadiness
+mod Goings
+mod Extending
+mod HostRounds
+mod MoreRounds
+mod Summaries
+mod Making

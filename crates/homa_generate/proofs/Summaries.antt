@@ -1,0 +1,109 @@
+-- The counts of a trace are those of its summary.
+use Rattle.std.proofs.Common.{◌≡◌, ℕ, ◌+◌, Bool, true, false, List, [], ◌∷◌, ◌++◌, length, filter, refl, sym, ap, ◌∙◌, append_assoc, length-append, add-zero}
+use Rattle.std.specs.Prelude.{codes}
+use Rattle.std.proofs.lemmas.List.{append-nil}
+use Rattle.std.proofs.lemmas.List.Elements.{filter-append}
+use Rattle.homa_plain.specs.declared.packet.Body.TheVariants as body
+use Rattle.homa_plain.specs.declared.entry.Why.TheVariants.{Timeout, Forgotten}
+use Rattle.homa_plain.specs.Entries.{PlainEntry, PlainSettings, PlainCall, PlainDeliver, PlainClock, PlainRestart, PlainInject, PlainShift, PlainJunk, PlainStale, PlainSend, PlainRun, PlainDone, PlainFail, PlainDrop, PlainGaps, PlainBury, PlainFree, PlainFullRows, PlainFullPages, PlainBalance, PlainRecv, PlainFinished, PlainRefused, PlainStalled}
+use Rattle.homa_traffic.specs.Generated.{count_of, is_run, is_done, is_timeout, is_forgotten, is_deliver, is_clock, is_call, is_kind, summary_line, summary_text}
+use Rattle.homa_generate.specs.Counts.{place, more_at, counted, no_counts, counts_text}
+
+-- one more where a test holds
+abbrev more_if : Bool → ℕ → ℕ
+more_if true n = n + 1
+more_if false n = n
+
+one_test : (is : PlainEntry → Bool) (e : PlainEntry) (n : ℕ) (test : Bool) → is e ≡ test → n + length (filter is (e ∷ [])) ≡ more_if test n
+one_test is e n true h = rw h refl
+one_test is e n false h = rw h (add-zero n)
+
+count_more : (is : PlainEntry → Bool) (a : List PlainEntry) (e : PlainEntry) → count_of is (a ++ e ∷ []) ≡ more_if (is e) (count_of is a)
+count_more is a e = ap length (filter-append is a (e ∷ [])) ∙ length-append (filter is a) (filter is (e ∷ [])) ∙ one_test is e (count_of is a) (is e) refl
+
+-- the numbers of a trace
+abbrev numbers : List PlainEntry → List ℕ
+numbers told =
+    count_of is_call told ∷ count_of is_run told ∷ count_of is_done told ∷ count_of is_timeout told ∷ count_of is_forgotten told ∷ count_of is_deliver told ∷ count_of is_clock told ∷
+    count_of (is_kind 0) told ∷ count_of (is_kind 1) told ∷ count_of (is_kind 2) told ∷ count_of (is_kind 3) told ∷ count_of (is_kind 4) told ∷ count_of (is_kind 5) told ∷ count_of (is_kind 6) told ∷ count_of (is_kind 7) told ∷ []
+
+abbrev numbers_with : List PlainEntry → PlainEntry → List ℕ
+numbers_with told e =
+    more_if (is_call e) (count_of is_call told) ∷ more_if (is_run e) (count_of is_run told) ∷ more_if (is_done e) (count_of is_done told) ∷ more_if (is_timeout e) (count_of is_timeout told) ∷ more_if (is_forgotten e) (count_of is_forgotten told) ∷ more_if (is_deliver e) (count_of is_deliver told) ∷ more_if (is_clock e) (count_of is_clock told) ∷
+    more_if (is_kind 0 e) (count_of (is_kind 0) told) ∷ more_if (is_kind 1 e) (count_of (is_kind 1) told) ∷ more_if (is_kind 2 e) (count_of (is_kind 2) told) ∷ more_if (is_kind 3 e) (count_of (is_kind 3) told) ∷ more_if (is_kind 4 e) (count_of (is_kind 4) told) ∷ more_if (is_kind 5 e) (count_of (is_kind 5) told) ∷ more_if (is_kind 6 e) (count_of (is_kind 6) told) ∷ more_if (is_kind 7 e) (count_of (is_kind 7) told) ∷ []
+
+numbers_more : (a : List PlainEntry) (e : PlainEntry) → numbers (a ++ e ∷ []) ≡ numbers_with a e
+numbers_more a e =
+    rw (
+      count_more is_call a e,
+      count_more is_run a e,
+      count_more is_done a e,
+      count_more is_timeout a e,
+      count_more is_forgotten a e,
+      count_more is_deliver a e,
+      count_more is_clock a e,
+      count_more (is_kind 0) a e,
+      count_more (is_kind 1) a e,
+      count_more (is_kind 2) a e,
+      count_more (is_kind 3) a e,
+      count_more (is_kind 4) a e,
+      count_more (is_kind 5) a e,
+      count_more (is_kind 6) a e,
+      count_more (is_kind 7) a e,
+    ) refl
+
+placed : (a : List PlainEntry) (e : PlainEntry) → more_at (numbers a) (place e) ≡ numbers_with a e
+placed a (PlainCall id server service bytes) = refl
+placed a (PlainRun host id service request response hold) = refl
+placed a (PlainDone id bytes) = refl
+placed a (PlainFail id Timeout) = refl
+placed a (PlainFail id Forgotten) = refl
+placed a (PlainDeliver packet) = refl
+placed a (PlainClock tick) = refl
+placed a (PlainSend number from to inc role id level (body.Data size offset version service ack) payload) = refl
+placed a (PlainSend number from to inc role id level (body.Grant offset prio) payload) = refl
+placed a (PlainSend number from to inc role id level (body.Resend first end prio) payload) = refl
+placed a (PlainSend number from to inc role id level body.Busy payload) = refl
+placed a (PlainSend number from to inc role id level (body.Cutoffs c) payload) = refl
+placed a (PlainSend number from to inc role id level (body.Unknown reason) payload) = refl
+placed a (PlainSend number from to inc role id level body.NeedAck payload) = refl
+placed a (PlainSend number from to inc role id level (body.Ack more) payload) = refl
+placed a (PlainSettings settings) = refl
+placed a (PlainRestart host inc) = refl
+placed a (PlainInject host bytes) = refl
+placed a (PlainShift host n) = refl
+placed a (PlainJunk host) = refl
+placed a (PlainStale host at now) = refl
+placed a (PlainDrop host id) = refl
+placed a (PlainGaps host id) = refl
+placed a (PlainBury host id until) = refl
+placed a (PlainFree host id) = refl
+placed a (PlainFullRows host id rows limit) = refl
+placed a (PlainFullPages host id need free) = refl
+placed a (PlainBalance host cutoffs) = refl
+placed a (PlainRecv host from bytes) = refl
+placed a (PlainFinished n) = refl
+placed a (PlainRefused line fault) = refl
+placed a (PlainStalled turns now) = refl
+
+counted_from : (a b : List PlainEntry) → counted (numbers a) b ≡ numbers (a ++ b)
+counted_from a [] = ap numbers (sym (append-nil a))
+counted_from a (e ∷ b) =
+    ap (λ (l : List ℕ). counted l b) (placed a e ∙ sym (numbers_more a e)) ∙ counted_from (a ++ e ∷ []) b ∙ ap numbers (append_assoc a (e ∷ []) b)
+
+-- fifteen texts one behind the other
+fifteen : (a b c d e f g h i j k l m n o : List ℕ) → a ++ (b ++ (c ++ (d ++ (e ++ (f ++ (g ++ (h ++ (i ++ (j ++ (k ++ (l ++ (m ++ (n ++ (o ++ [])))))))))))))) ≡ a ++ b ++ c ++ d ++ e ++ f ++ g ++ h ++ i ++ j ++ k ++ l ++ m ++ n ++ o
+fifteen a b c d e f g h i j k l m n o = simp (append_assoc, append-nil)
+
+line_of : List ℕ → (PlainEntry → Bool) → List PlainEntry → List ℕ
+line_of name is told = summary_line name (count_of is told)
+
+text_of_numbers : (told : List PlainEntry) → counts_text (numbers told) ≡ summary_text told
+unfolding line_of
+text_of_numbers told =
+    fifteen (line_of (codes "calls") is_call told) (line_of (codes "runs") is_run told) (line_of (codes "done") is_done told) (line_of (codes "timeout") is_timeout told) (line_of (codes "forgotten") is_forgotten told) (line_of (codes "deliver") is_deliver told) (line_of (codes "clock") is_clock told)
+    (line_of (codes "DATA") (is_kind 0) told) (line_of (codes "GRANT") (is_kind 1) told) (line_of (codes "RESEND") (is_kind 2) told) (line_of (codes "BUSY") (is_kind 3) told) (line_of (codes "CUTOFFS") (is_kind 4) told) (line_of (codes "UNKNOWN") (is_kind 5) told) (line_of (codes "NEED_ACK") (is_kind 6) told) (line_of (codes "ACK") (is_kind 7) told)
+
+-- what was counted of a trace is its summary
+pub summary_counted : (told : List PlainEntry) → counts_text (counted no_counts told) ≡ summary_text told
+summary_counted told = ap counts_text (counted_from [] told) ∙ text_of_numbers told

@@ -1,0 +1,8 @@
+pub mod Counts
+pub mod Generating
+pub mod Carried
+pub mod Going
+pub mod Lines
+pub mod Progress
+pub mod Steps
+pub mod Made

@@ -1,0 +1,144 @@
+//! The lines of a schedule: they are printed and carried out, and their packets enter the fabric.
+ghost use Rattle.std.specs.Prelude.{codes, ◌++◌, ◌≡◌, ◌≤◌, ◌<◌, ◌+◌, ◌^◌, ◌∷◌, [], length, OnOk, OnErr, IfOk, IsErrOf};
+ghost use Rattle.std.specs.Fmt.{decimal};
+ghost use Rattle.homa_io.specs.Outside.{HasRisen, appended, TookFront};
+ghost use Rattle.homa_plain.specs.World.{World};
+ghost use Rattle.homa_plain.specs.Replay.{events_of};
+ghost use Rattle.homa_traffic.specs.Rounds.{Generated, with_line};
+ghost use Rattle.homa_traffic.specs.Generated.{given_text};
+ghost use Rattle.homa_generate.specs.Carried.{IsCarried};
+ghost use Rattle.homa_generate.specs.Lines.{given_of, IsShort};
+ghost use Rattle.homa_generate.specs.Progress.{holds_of, IsReady, IsSteady, IsFaulted};
+ghost use Rattle.homa_generate.specs.Going.{IsAt, HasGone, HasStopped};
+
+use crate::events::{enter, happen, tick};
+use crate::setup::Setup;
+use crate::{Counts, Generating};
+use arrayvec::ArrayVec;
+use homa_fabric::{Fabric, Traffic};
+use homa_io::{Sink, WriteFailed};
+use homa_plain::Event;
+use homa_replay::{Playing, Stop};
+use homa_script::put_event;
+use homa_text::Word::{Host, Number, Text};
+use homa_text::put_line;
+use itoa::Buffer;
+use std::alloc::AllocError;
+
+/// A line of a generated schedule.
+#[derive(Clone, Copy)]
+pub(crate) enum Line {
+    Tick,
+    Deliver(u64),
+    Call(Traffic),
+}
+
+/// How far a run has come, beside its world: the fabric, the counts of its trace, and how many calls are still to be made.
+#[derive(Drop)]
+pub(crate) struct Progress {
+    pub(crate) fabric: Fabric,
+    pub(crate) counts: Counts,
+    pub(crate) left: u32,
+}
+
+// The word for so many counting bytes.
+fn counting_word(n: u32) -> ArrayVec<u8, 24>
+    ensures { result.items ≡ codes "*" ++ decimal n }
+{
+    let mut word = ArrayVec::<u8, 24>::new();
+    word.push(b'*');
+    let mut buffer = Buffer::new();
+    word.try_extend_from_slice(buffer.format(n).as_bytes())
+        .unwrap();
+    word
+}
+
+// Prints the line of a call.
+fn put_call<K: Sink>(sink: &mut K, t: &Traffic) -> Result<(), WriteFailed>
+    ensures ok { OnOk result (K.taken sink.new ≡ appended (K.taken sink.old) (given_text (given_of (Line.Call t.now)))) }
+    ensures err { OnErr result (TookFront (K.taken sink.old) (K.taken sink.new) (given_text (given_of (Line.Call t.now)))) }
+    ensures risen { OnErr result (HasRisen (K.faults sink.old) (K.faults sink.new)) }
+    ensures quiet { OnOk result (K.faults sink.new ≡ K.faults sink.old) }
+    ensures same { K.is_same sink.old sink.new }
+{
+    let bytes = counting_word(t.len);
+    let words = [
+        Text(b"call"),
+        Host(t.client),
+        Host(t.server),
+        Number(u64::from(t.number)),
+        Text(bytes.as_slice()),
+    ];
+    put_line(sink, &words)
+}
+
+// Prints a line.
+#[tactic(auto, unfolding(homa_plain::specs::Script::event_text))]
+fn put<K: Sink>(sink: &mut K, line: &Line) -> Result<(), WriteFailed>
+    ensures ok { OnOk result (K.taken sink.new ≡ appended (K.taken sink.old) (given_text (given_of line.now))) }
+    ensures err { OnErr result (TookFront (K.taken sink.old) (K.taken sink.new) (given_text (given_of line.now))) }
+    ensures risen { OnErr result (HasRisen (K.faults sink.old) (K.faults sink.new)) }
+    ensures quiet { OnOk result (K.faults sink.new ≡ K.faults sink.old) }
+    ensures same { K.is_same sink.old sink.new }
+{
+    match line {
+        Line::Tick => put_line(sink, &[Text(b"tick")]),
+        Line::Deliver(number) => put_line(sink, &[Text(b"deliver"), Number(*number)]),
+        Line::Call(t) => put_call(sink, t),
+    }
+}
+
+// Carries out a line.
+fn carry<P: Playing>(
+    setup: &Setup,
+    world: &mut P,
+    counts: &mut Counts,
+    line: &Line,
+) -> Result<(), AllocError>
+    requires setup { setup.now.settings ≡ P.settings world.old }
+    requires short { IsShort line.now }
+    requires few { P.events world.old + 33 ≤ 2 ^ 57 }
+    ensures carried { OnOk result ((w : World) → P.stands world.old w → IsCarried (P.settings world.old) w (events_of (P.settings world.old).hosts (given_of line.now)) (P.stands world.new) counts.old counts.new (P.allows world.old) (P.allows world.new)) }
+    ensures settings { P.settings world.new ≡ P.settings world.old }
+    ensures counted { P.events world.new ≤ P.events world.old + 33 }
+{
+    match *line {
+        Line::Tick => tick(setup.alloc, world, counts, setup.settings.hosts),
+        Line::Deliver(packet) => {
+            happen(setup.alloc, world, counts, &Event::Deliver { packet }, &[])
+        }
+        Line::Call(t) => {
+            let event = Event::Call {
+                client: t.client,
+                server: t.server,
+                number: t.number,
+            };
+            let bytes = &setup.bytes[..t.len as usize];
+            happen(setup.alloc, world, counts, &event, bytes)
+        }
+    }
+}
+
+/// Prints a line and carries it out; the packets that it sends enter the fabric.
+pub(crate) fn play<P: Generating, K: Sink>(
+    setup: &Setup,
+    world: &mut P,
+    sink: &mut K,
+    progress: &mut Progress,
+    line: &Line,
+) -> Result<(), Stop>
+    requires ready { IsReady setup.now.settings (P.settings world.old) progress.old (P.events world.old) 33 }
+    requires short { IsShort line.now }
+    ensures gone { OnOk result ((g : Generated) → IsAt (holds_of progress.old (K.taken sink.old)) (P.stands world.old) g → HasGone (with_line (P.settings world.old) (given_of line.now)) (λ x. x) g (holds_of progress.old (K.taken sink.old)) (holds_of progress.new (K.taken sink.new)) (P.stands world.new) (P.allows world.old) (P.allows world.new)) }
+    ensures stopped { OnErr result ((g : Generated) → IsAt (holds_of progress.old (K.taken sink.old)) (P.stands world.old) g → HasStopped (with_line (P.settings world.old) (given_of line.now)) g (K.taken sink.old) (K.taken sink.new) (P.allows world.old)) }
+    ensures steady { IsSteady (P.settings world.old) (P.settings world.new) progress.old progress.new (P.events world.old) (P.events world.new) 33 }
+    ensures left { progress.new.left ≡ progress.old.left }
+    ensures faulted { IsFaulted result (K.faults sink.old) (K.faults sink.new) }
+    ensures same { K.is_same sink.old sink.new }
+{
+    put(sink, line)?;
+    let first = world.packets();
+    carry(setup, world, &mut progress.counts, line)?;
+    enter(world, &mut progress.fabric, first)?;
+    Ok(())
+}

@@ -1,0 +1,93 @@
+//! The schedule of a generated run, and its summary.
+ghost use Rattle.std.specs.Prelude.{◌≡◌, ◌≤◌, OnOk, OnErr, IfOk, IsErrOf};
+ghost use Rattle.homa_io.specs.Outside.{HasRisen, appended};
+ghost use Rattle.homa_traffic.specs.Generated.{generated_settings, schedule_text, summary_text};
+ghost use Rattle.homa_generate.specs.Progress.{IsFaulted};
+ghost use Rattle.homa_generate.specs.Made.{run_of, HasRun, IsMade, IsPartMade};
+
+use crate::lines::Progress;
+use crate::nowhere::Nowhere;
+use crate::rounds::play_rounds;
+use crate::setup::Setup;
+use crate::{Counts, Generating};
+use homa_fabric::Fabric;
+use homa_io::Sink;
+use homa_plain::Settings;
+use homa_replay::{Opens, Stop};
+use homa_script::put_settings;
+use std::alloc::Global;
+
+// The settings of generated runs: the usual ones with 32 hosts.
+fn generated_settings() -> Settings
+    ensures { result ≡ generated_settings }
+{
+    let mut settings = Settings::usual();
+    settings.hosts = 32;
+    settings
+}
+
+// Prints the schedule of a run, and answers the counts of its trace.
+fn generate<B: Drop, P: Generating + Opens<B> + Drop, K: Sink>(
+    alloc: Global,
+    sink: &mut K,
+    boxes: B,
+    seed: u64,
+    calls: u32,
+) -> Result<Counts, Stop>
+    requires { P.are_ready boxes }
+    ensures ran { IfOk result (HasRun (run_of seed calls (P.many boxes)) (K.taken sink.old) (K.taken sink.new) (P.are_allowed boxes)) }
+    ensures part { OnErr result (IsPartMade (run_of seed calls (P.many boxes)) (schedule_text generated_settings) (K.taken sink.old) (K.taken sink.new) (P.are_allowed boxes)) }
+    ensures write { IsErrOf result Stop.Write → HasRisen (K.faults sink.old) (K.faults sink.new) }
+    ensures read { IsErrOf result Stop.Read → ⊥ }
+    ensures same { K.is_same sink.old sink.new }
+{
+    let setup = Setup::new(alloc, generated_settings())?;
+    let mut world = P::open(alloc, &setup.settings, boxes)?;
+    let mut progress = Progress {
+        fabric: Fabric::open(alloc, &setup.settings, seed)?,
+        counts: Counts::new(),
+        left: calls,
+    };
+    put_settings(sink, &setup.settings)?;
+    play_rounds(&setup, &mut world, sink, &mut progress)?;
+    Ok(progress.counts)
+}
+
+/// Prints the schedule of the generated run of a seed with so many calls, in a world with these boxes.
+pub fn make<B: Drop, P: Generating + Opens<B> + Drop, K: Sink>(
+    alloc: Global,
+    sink: &mut K,
+    boxes: B,
+    seed: u64,
+    calls: u32,
+) -> Result<(), Stop>
+    requires { P.are_ready boxes }
+    ensures made { OnOk result (IsMade (run_of seed calls (P.many boxes)) (schedule_text generated_settings) (K.taken sink.old) (K.taken sink.new) (P.are_allowed boxes)) }
+    ensures part { OnErr result (IsPartMade (run_of seed calls (P.many boxes)) (schedule_text generated_settings) (K.taken sink.old) (K.taken sink.new) (P.are_allowed boxes)) }
+    ensures write { IsErrOf result Stop.Write → HasRisen (K.faults sink.old) (K.faults sink.new) }
+    ensures read { IsErrOf result Stop.Read → ⊥ }
+    ensures same { K.is_same sink.old sink.new }
+{
+    generate::<B, P, K>(alloc, sink, boxes, seed, calls)?;
+    Ok(())
+}
+
+/// Prints the summary of the generated run of a seed with so many calls, in a world with these boxes. Neither its
+/// schedule nor its trace is kept.
+pub fn count<B: Drop, P: Generating + Opens<B> + Drop, K: Sink>(
+    alloc: Global,
+    sink: &mut K,
+    boxes: B,
+    seed: u64,
+    calls: u32,
+) -> Result<(), Stop>
+    requires { P.are_ready boxes }
+    ensures made { OnOk result (IsMade (run_of seed calls (P.many boxes)) (λ g. summary_text g.told) (K.taken sink.old) (K.taken sink.new) (P.are_allowed boxes)) }
+    ensures part { OnErr result (IsPartMade (run_of seed calls (P.many boxes)) (λ g. summary_text g.told) (K.taken sink.old) (K.taken sink.new) (P.are_allowed boxes)) }
+    ensures faulted { IsFaulted result (K.faults sink.old) (K.faults sink.new) }
+    ensures same { K.is_same sink.old sink.new }
+{
+    let counts = generate::<B, P, Nowhere>(alloc, &mut Nowhere, boxes, seed, calls)?;
+    counts.put(sink)?;
+    Ok(())
+}

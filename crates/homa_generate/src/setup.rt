@@ -1,0 +1,38 @@
+//! What doesn't change in a run.
+ghost use Rattle.std.specs.Prelude.{◌≡◌, IfOk};
+ghost use Rattle.homa_plain.specs.Script.{counting};
+ghost use Rattle.homa_plain.specs.Settings.{IsValid};
+
+use homa_plain::Settings;
+use std::alloc::{AllocError, Global};
+
+/// The most bytes of a request.
+const MOST_BYTES: u32 = 100_000;
+
+/// What doesn't change in a run: its settings, and the bytes of which each request has a front.
+#[derive(Drop)]
+pub(crate) struct Setup {
+    pub(crate) alloc: Global,
+    pub(crate) settings: Settings,
+    pub(crate) bytes: Vec<u8>,
+    ghost valid: { IsValid settings },
+    ghost counting: { bytes.items ≡ counting 0 100000 },
+}
+
+impl Setup {
+    /// A run with these settings.
+    pub(crate) fn new(alloc: Global, settings: Settings) -> Result<Setup, AllocError>
+        requires { IsValid settings }
+        ensures { IfOk result (λ setup. setup.settings ≡ settings) }
+    {
+        let mut bytes = Vec::with_capacity(alloc, MOST_BYTES as usize)?;
+        for i in 0..MOST_BYTES {
+            bytes.push((i % 256) as u8)?;
+        }
+        Ok(Setup {
+            alloc,
+            settings,
+            bytes,
+        })
+    }
+}
