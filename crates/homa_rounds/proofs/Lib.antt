@@ -1,0 +1,9 @@
+pub mod Unasked
+pub mod Reached
+pub mod Midway
+pub mod Ticking
+pub mod Beginning
+pub mod Counting
+pub mod Keeping
+pub mod Telling
+pub mod Stepping
