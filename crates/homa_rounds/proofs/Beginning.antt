@@ -50,6 +50,7 @@ pub record Started (s : Settings) (n m clock : ℕ) (r : Round) (a b : Seen) (fr
   pub pending : List SentPacket
   pub midway : Midway s n m clock r.delivered pending a b frames [] r.world
   pub come : Come s (run_after s r) (deliveries r.delivered (length pending) ++ ticks 2 1) false r.world
+  pub d_is : r.delivered + length pending ≡ length r.world.packets
 
 module _ (s : Settings) (n m clock : ℕ) (r : Round) (a b : Seen) (frames : List SentFrame) (framed : AreFramesOf s frames (packets_of (drop r.delivered r.world.packets))) (hosts : r.world.hosts ≡ a.host ∷ b.host ∷ [])
     (client : a.settings ≡ s) (server : b.settings ≡ s) (client_name : a.host.id ≡ client_id) (server_name : b.host.id ≡ server_id) where
@@ -78,6 +79,7 @@ module _ (s : Settings) (n m clock : ℕ) (r : Round) (a b : Seen) (frames : Lis
           client_name = client_name;
           server_name = server_name;
         };
+        d_is = sym many;
         come = record { world_is = ap (λ (v : Run). v.world) (all_to_come many); done_is = ap (λ (v : Run). has_done v.told) (all_to_come many) };
       } where
         same_hosts : (y z y' z' : Host) → y ∷ z ∷ [] ≡ y' ∷ z' ∷ [] → (ps : List SentPacket) → quiet_world s clock spares y z ps answers ≡ quiet_world s clock spares y' z' ps answers

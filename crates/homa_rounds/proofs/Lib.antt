@@ -7,3 +7,5 @@ pub mod Counting
 pub mod Keeping
 pub mod Telling
 pub mod Stepping
+pub mod Rounding
+pub mod Going

@@ -48,7 +48,7 @@ frames-append s fs gs ps qs a b = record {
 }
 
 -- a frame of a packet is read as it, where it comes to the packet's receiver
-pub read_as : (h : Seen) (p : Packet) (f : SentFrame) → IsFormed h.settings p → f ≡ frame_of h.settings p → h.host.id ≡ f.to → arriving h f.from f.frame ≡ Some p
+read_as : (h : Seen) (p : Packet) (f : SentFrame) → IsFormed h.settings p → f ≡ frame_of h.settings p → h.host.id ≡ f.to → arriving h f.from f.frame ≡ Some p
 read_as h p f formed is name =
     ap (λ (g : SentFrame). arriving h g.from g.frame) is
     ∙ ap (λ (i : HostId). option_map (λ (r : WirePacket × List ℕ). packet_between (frame_of h.settings p).from i r.0 r.1) (packet_in h.settings.wire (frame_of h.settings p).frame)) (name ∙ ap (λ (g : SentFrame). g.to) is)
@@ -116,7 +116,7 @@ module _ (s : Settings) (n m clock d : ℕ) (calm : IsCalm s n m) (x : SentPacke
   abbrev now : ℕ
   now = clock + s.skew
 
-  pub first_frame : f ≡ frame_of s p
+  first_frame : f ≡ frame_of s p
   first_frame = same_head f (frame_of s p) left (frames_of s (packets_of rest)) mid.left_are.are where
     same_head : (f g : SentFrame) (fs gs : List SentFrame) → f ∷ fs ≡ g ∷ gs → f ≡ g
     same_head f g fs gs e = cc
@@ -134,6 +134,10 @@ module _ (s : Settings) (n m clock d : ℕ) (calm : IsCalm s n m) (x : SentPacke
 
   p_is : (r : Role) → p.role ≡ r → p ≡ as_role r
   p_is r e = as_ours s (x.tick + s.skew) p mid.young.0.ours ∙ ap as_role e
+
+  -- the frame, by who sent the packet
+  pub frame_is : (r : Role) → p.role ≡ r → f ≡ frame_of s (as_role r)
+  frame_is r e = first_frame ∙ ap (frame_of s) (p_is r e)
 
   found : (r : Role) → p.role ≡ r → slice_get packets d ≡ Some (record { tick = x.tick; packet = as_role r })
   found r e = is_next ∙ ap (λ (q : Packet). Some (record { tick = x.tick; packet = q })) (p_is r e)
@@ -212,7 +216,7 @@ module _ (s : Settings) (n m clock d : ℕ) (calm : IsCalm s n m) (x : SentPacke
 
     -- the frame goes to the packet's receiver
     to_is : (r : Role) → p.role ≡ r → f.to ≡ (frame_of s (as_role r)).to
-    to_is r e = ap (λ (g : SentFrame). g.to) first_frame ∙ ap (λ (q : Packet). (frame_of s q).to) (p_is r e)
+    to_is r e = ap (λ (g : SentFrame). g.to) (frame_is r e)
 
     to_server : p.role ≡ Client → HasStepped now f.to arrives done (a ∷ b ∷ []) hosts new new' → Delivers s n m clock d rest hosts left new' done w
     to_server e st =

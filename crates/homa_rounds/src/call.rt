@@ -8,8 +8,8 @@ ghost use Rattle.homa_seen.specs.Seen.{Seen};
 ghost use Rattle.homa_seen.specs.Marks.{shown_entries};
 ghost use Rattle.homa_seen.specs.Done.{HoldsSent, arriving};
 ghost use Rattle.homa_quiet.specs.Ends.{IsCalm};
-ghost use Rattle.homa_rounds.specs.Stepped.{HasStepped};
-ghost use Rattle.homa_rounds.specs.Standing.{filled, hosts_of, frames_of, asked, answered, answers, own_clock, round_of, MayStep, IsSameCall, GoesOn};
+ghost use Rattle.homa_rounds.specs.Stepped.{HasStepped, MayStep};
+ghost use Rattle.homa_rounds.specs.Standing.{filled, hosts_of, frames_of, asked, answered, answers, own_clock, round_of, IsSameCall, CallGoesOn};
 
 use crate::filler::{Filler, counting_bytes};
 use crate::frames::{KeptFrame, keep};
@@ -54,7 +54,7 @@ impl QuietCall {
         response: u32,
     ) -> Result<QuietCall, AllocError>
         requires calm { IsCalm settings.now request response }
-        ensures goes_on { IfOk result GoesOn }
+        ensures goes_on { IfOk result CallGoesOn }
         ensures settings { IfOk result (λ call. call.settings ≡ settings.now) }
         ensures request { IfOk result (λ call. asked call ≡ request) }
         ensures response { IfOk result (λ call. answered call ≡ response) }
@@ -83,7 +83,7 @@ impl QuietCall {
 
     /// Goes on until the call is done, and answers in which round that is.
     pub fn finish(&mut self, alloc: Global) -> Result<u64, AllocError>
-        requires goes_on { GoesOn self.old }
+        requires goes_on { CallGoesOn self.old }
         requires clock { self.old.clock ≡ 0 }
         ensures quiet { IfOk result (λ rounds. IsQuiet self.old.settings (asked self.old) (answered self.old) rounds) }
         ensures within { IfOk result (λ rounds. rounds ≤ 2 * (asked self.old + answered self.old) + 8) }
@@ -98,9 +98,9 @@ impl QuietCall {
 
     /// Delivers the frames under way, in order, and then is one tick. Whether the call was done in this round.
     pub fn round(&mut self, alloc: Global) -> Result<bool, AllocError>
-        requires goes_on { GoesOn self.old }
+        requires goes_on { CallGoesOn self.old }
         ensures done { IfOk result (λ done. done ≡ (round_of self.old (self.old.clock + 1)).done) }
-        ensures goes_on { IfOk result (λ done. done ≡ false → GoesOn self.new) }
+        ensures goes_on { IfOk result (λ done. done ≡ false → CallGoesOn self.new) }
         ensures clock { OnOk result (self.new.clock ≡ self.old.clock + 1) }
         ensures same { IsSameCall self.old self.new }
     {

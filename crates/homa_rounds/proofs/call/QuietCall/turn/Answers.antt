@@ -1,8 +1,8 @@
 use Rattle.std.proofs.Common.{◌≡◌, ℕ, Bool, sym, ap, subst, ◌∙◌, refl, arith, length}
 use Rattle.homa_plain.specs.Steps.{turn_step}
 use Rattle.homa_seen.specs.Seen.{Seen}
-use Rattle.homa_rounds.specs.Stepped.{HasStepped}
-use Rattle.homa_rounds.specs.Standing.{MayStep, own_clock, hosts_of, frames_of}
+use Rattle.homa_rounds.specs.Stepped.{HasStepped, MayStep}
+use Rattle.homa_rounds.specs.Standing.{own_clock, hosts_of, frames_of}
 use Rattle.homa_rounds.proofs.Stepping.{if_ok_by, of_read, holds_sent, stepped}
 use Rattle.homa_rounds.proofs.call.QuietCall.turn.Goals as goal
 
