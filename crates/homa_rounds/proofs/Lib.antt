@@ -9,3 +9,4 @@ pub mod Telling
 pub mod Stepping
 pub mod Rounding
 pub mod Going
+pub mod Starting

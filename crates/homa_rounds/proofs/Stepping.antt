@@ -26,6 +26,10 @@ pub if_ok_by : {T E : Type 0} (P S : T → Type 0) (Q R : Type 0) (r : Result T 
 if_ok_by P S Q R (Ok x) f p q s = f x p q s
 if_ok_by P S Q R (Err e) f p q s = tt
 
+pub on_ok_by : {T E : Type 0} (P Q S : Type 0) (r : Result T E) → (P → Q → S) → OnOk r P → OnOk r Q → OnOk r S
+on_ok_by P Q S (Ok x) f p q = f p q
+on_ok_by P Q S (Err e) f p q = tt
+
 -- ---- a thing at its place
 
 pub of_read : {A : Type 0} (P : A → Type 0) (xs : List A) (i : ℕ) (x : A) → i < length xs → x ≡ get_or xs i x → IfSome (slice_get xs i) P → P x

@@ -1,10 +1,15 @@
 -- What a quiet call in the code has.
-use Rattle.std.specs.Prelude.{◌≡◌, ◌+◌, ℕ, List}
+use Rattle.std.specs.Prelude.{◌≡◌, ◌+◌, ℕ, List, [], ◌∷◌}
+use Rattle.plain_sets.specs.Maps.{empty}
+use Rattle.homa_plain.specs.declared.id.HostId.{HostId}
+use Rattle.homa_plain.specs.declared.settings.Settings.{Settings}
+use Rattle.homa_plain.specs.Host.{new_host}
 use Rattle.homa_plain.specs.Rules.{Answer}
 use Rattle.homa_plain.specs.Script.{counting}
 use Rattle.homa_plain.specs.Quiet.{Round, round}
 use Rattle.homa_seen.specs.declared.outbox.SentFrame.{SentFrame}
 use Rattle.homa_seen.specs.Seen.{Seen}
+use Rattle.homa_quiet.specs.Hosts.{client_id, server_id}
 use Rattle.homa_rounds.specs.declared.call.QuietCall.{QuietCall}
 use Rattle.homa_rounds.specs.Stepped.{GoesOn}
 
@@ -48,3 +53,14 @@ round_of q r = round q.settings (asked q) (answered q) r
 -- the call is in progress, after as many rounds as its clock says
 abbrev pub CallGoesOn : QuietCall → Type 0
 CallGoesOn q = GoesOn q.settings (asked q) (answered q) q.clock (hosts_of q) (frames_of q) (answers q)
+
+-- a host that has done nothing
+abbrev pub opened : Settings → HostId → Seen
+opened s id = record { settings = s; host = new_host s id 1 0; client_places = empty; server_places = empty; marks = [] }
+
+-- neither host has done anything
+pub record IsOpened (q : QuietCall) : Type 0 where
+  pub hosts : hosts_of q ≡ opened q.settings client_id ∷ opened q.settings server_id ∷ []
+  pub frames : frames_of q ≡ []
+  pub answers : answers q ≡ 0
+  pub clock : q.clock ≡ 0

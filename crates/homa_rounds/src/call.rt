@@ -1,6 +1,7 @@
 // Two hosts, one call, and the frames between them.
 ghost use Rattle.std.specs.Prelude.{◌≡◌, ◌≢◌, ◌+◌, ◌*◌, ◌<◌, ◌≤◌, ◌++◌, ◌∷◌, [], ◌^◌, ℕ, Bool, false, IfOk, IfSome, OnOk, List, length, slice_get};
 ghost use Rattle.std.specs.List.{AllByRecursion};
+ghost use Rattle.homa_plain.specs.Settings.{IsValid};
 ghost use Rattle.homa_plain.specs.Steps.{arrival_step, turn_step};
 ghost use Rattle.homa_plain.specs.Quiet.{has_done, IsQuiet};
 ghost use Rattle.homa_plain.specs.Entries.{plain};
@@ -9,12 +10,14 @@ ghost use Rattle.homa_seen.specs.Marks.{shown_entries};
 ghost use Rattle.homa_seen.specs.Done.{HoldsSent, arriving};
 ghost use Rattle.homa_quiet.specs.Ends.{IsCalm};
 ghost use Rattle.homa_rounds.specs.Stepped.{HasStepped, MayStep};
-ghost use Rattle.homa_rounds.specs.Standing.{filled, hosts_of, frames_of, asked, answered, answers, own_clock, round_of, IsSameCall, CallGoesOn};
+ghost use Rattle.homa_rounds.specs.Standing.{filled, hosts_of, frames_of, asked, answered, answers, own_clock, round_of, IsSameCall, CallGoesOn, opened, IsOpened};
+ghost use Rattle.homa_quiet.specs.Hosts.{client_id, server_id};
 
 use crate::filler::{Filler, counting_bytes};
 use crate::frames::{KeptFrame, keep};
 use homa_host::Host;
 use homa_plain::{Entry, HostId, Settings};
+use homa_quiet::quiet_calls_end;
 use homa_seen::Outbox;
 use msg_pool::Scratch;
 use std::alloc::{AllocError, Global};
@@ -56,39 +59,64 @@ impl QuietCall {
         requires calm { IsCalm settings.now request response }
         ensures goes_on { IfOk result CallGoesOn }
         ensures settings { IfOk result (λ call. call.settings ≡ settings.now) }
-        ensures request { IfOk result (λ call. asked call ≡ request) }
-        ensures response { IfOk result (λ call. answered call ≡ response) }
-        ensures clock { IfOk result (λ call. call.clock ≡ 0) }
+        ensures asked { IfOk result (λ call. asked call ≡ request) }
+        ensures answered { IfOk result (λ call. answered call ≡ response) }
     {
-        let mut outbox = Outbox::new(alloc)?;
-        let mut client = Host::open(alloc, CLIENT, 1, settings)?;
-        let server = Host::open(alloc, SERVER, 1, settings)?;
-        let bytes = counting_bytes(alloc, request)?;
-        let Ok(_) = client.call(SERVER, 0, bytes, u64::from(settings.skew), &mut outbox) else {
-            unreachable!()
-        };
-        let mut under_way = Vec::new(alloc);
-        keep(&mut under_way, alloc, &outbox)?;
+        let mut call = QuietCall::open(alloc, settings, request, response)?;
+        call.begin(alloc)?;
+        Ok(call)
+    }
+
+    // Two hosts that have done nothing.
+    fn open(
+        alloc: Global,
+        settings: &Settings,
+        request: u32,
+        response: u32,
+    ) -> Result<QuietCall, AllocError>
+        requires calm { IsCalm settings.now request response }
+        ensures opened { IfOk result IsOpened }
+        ensures settings { IfOk result (λ call. call.settings ≡ settings.now) }
+        ensures asked { IfOk result (λ call. asked call ≡ request) }
+        ensures answered { IfOk result (λ call. answered call ≡ response) }
+    {
         Ok(QuietCall {
             settings: *settings,
             request,
             filler: Filler::new(response),
             clock: 0,
-            hosts: Vec::from_array(alloc, [client, server])?,
-            under_way,
-            outbox,
+            hosts: open_hosts(alloc, settings)?,
+            under_way: Vec::new(alloc),
+            outbox: Outbox::new(alloc)?,
             scratch: Scratch::new(alloc)?,
         })
+    }
+
+    // The client calls.
+    fn begin(&mut self, alloc: Global) -> Result<(), AllocError>
+        requires opened { IsOpened self.old }
+        requires calm { IsCalm self.old.settings (asked self.old) (answered self.old) }
+        ensures goes_on { OnOk result (CallGoesOn self.new) }
+        ensures same { IsSameCall self.old self.new }
+    {
+        let now = self.own_clock();
+        let bytes = counting_bytes(alloc, self.request)?;
+        let client = &mut self.hosts[CLIENT.0 as usize];
+        let Ok(_) = client.call(SERVER, 0, bytes, now, &mut self.outbox) else {
+            unreachable!()
+        };
+        keep(&mut self.under_way, alloc, &self.outbox)
     }
 
     /// Goes on until the call is done, and answers in which round that is.
     pub fn finish(&mut self, alloc: Global) -> Result<u64, AllocError>
         requires goes_on { CallGoesOn self.old }
-        requires clock { self.old.clock ≡ 0 }
         ensures quiet { IfOk result (λ rounds. IsQuiet self.old.settings (asked self.old) (answered self.old) rounds) }
         ensures within { IfOk result (λ rounds. rounds ≤ 2 * (asked self.old + answered self.old) + 8) }
     {
-        for _ in 0..bound(self.request, self.filler.size()) {
+        quiet_calls_end();
+        let most = bound(self.request, self.filler.size());
+        while self.clock < most {
             if self.round(alloc)? {
                 return Ok(self.clock);
             }
@@ -180,6 +208,17 @@ impl QuietCall {
     {
         self.clock + u64::from(self.settings.skew)
     }
+}
+
+// Both hosts, with no calls.
+fn open_hosts(alloc: Global, settings: &Settings) -> Result<Vec<Host>, AllocError>
+    requires valid { IsValid settings.now }
+    requires hosts { settings.now.hosts ≡ 2 }
+    ensures { IfOk result (λ hosts. hosts.items ≡ opened settings.now client_id ∷ opened settings.now server_id ∷ []) }
+{
+    let client = Host::open(alloc, CLIENT, 1, settings)?;
+    let server = Host::open(alloc, SERVER, 1, settings)?;
+    Ok(Vec::from_array(alloc, [client, server])?)
 }
 
 // Whether a host's last step told that a call is done.
