@@ -1,6 +1,6 @@
 -- The line of the quiet call.
-use Rattle.std.specs.Prelude.{ℕ, ◌+◌, ◌*◌, List, [], ◌∷◌}
-use Rattle.std.specs.Fmt.{codes, decimal}
+use Rattle.std.specs.Prelude.{ℕ, ◌+◌, ◌*◌, List, [], ◌∷◌, codes}
+use Rattle.std.specs.Fmt.{decimal}
 use Rattle.homa_plain.specs.Text.{line_of_words}
 
 -- the round by which the call is done
