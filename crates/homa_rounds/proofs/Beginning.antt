@@ -1,6 +1,8 @@
 -- A round begins: no packet of it is delivered yet. And the events of it that are past, and those to come.
 use Rattle.std.proofs.Common.{◌≡◌, ℕ, suc, ◌+◌, ◌-◌, ◌⊎◌, ◌||◌, inl, inr, Bool, true, false, List, [], ◌∷◌, ◌++◌, length, refl, sym, ap, subst, ◌∙◌, arith}
 use Rattle.std.specs.Prelude.{drop}
+use Rattle.std.proofs.Math.Bool.{or_assoc}
+use Rattle.std.proofs.Math.Seq.{drop-append_seam}
 use Rattle.std.proofs.lemmas.List.{append-nil, length-append}
 use Rattle.homa_plain.specs.declared.packet.Role.TheVariants.{Client, Server}
 use Rattle.homa_plain.specs.declared.settings.Settings.{Settings}
@@ -20,7 +22,6 @@ use Rattle.homa_quiet.proofs.Amid.{AreNew, Begins, Goes, packets_of}
 use Rattle.homa_rounds.specs.Stepped.{AreFramesOf}
 use Rattle.homa_rounds.proofs.Unasked.{AskNone, none_asked}
 use Rattle.homa_rounds.proofs.Midway.{Midway, Asking}
-use Rattle.homa_rounds.proofs.Ticking.{drop_old}
 
 -- ---- events that are past
 
@@ -29,10 +30,6 @@ pub record Come (s : Settings) (run : Run) (to_come : List Happening) (done : Bo
   pub world_is : run.world ≡ (carried s w to_come).world
   pub done_is : has_done run.told ≡ (done || has_done (carried s w to_come).told)
 
-or_assoc : (a b c : Bool) → (a || (b || c)) ≡ ((a || b) || c)
-or_assoc true b c = refl
-or_assoc false b c = refl
-
 pub come_on : (s : Settings) (run : Run) (e : Happening) (es : List Happening) (done more : Bool) (w : World) (after : After) → outcome s w e.event e.bytes ≡ Done after → more ≡ has_done after.told
     → Come s run (e ∷ es) done w → Come s run es (done || more) after.world
 come_on s run e es done more w after is told come =
@@ -40,7 +37,7 @@ come_on s run e es done more w after is told come =
     record {
       world_is = come.world_is ∙ ap (λ (r : Run). r.world) on;
       done_is = come.done_is ∙ ap (λ (r : Run). done || has_done r.told) on ∙ ap (λ t. done || t) (done-append after.told (carried s after.world es).told)
-          ∙ ap (λ t. done || (t || has_done (carried s after.world es).told)) (sym told) ∙ or_assoc done more (has_done (carried s after.world es).told);
+          ∙ ap (λ t. done || (t || has_done (carried s after.world es).told)) (sym told) ∙ sym (or_assoc done more (has_done (carried s after.world es).told));
     }
 
 -- ---- a round's beginning
@@ -59,7 +56,7 @@ module _ (s : Settings) (n m clock : ℕ) (r : Round) (a b : Seen) (frames : Lis
   starts spares y z old pending fresh answers is none so_many young asked =
       let packets_are : r.world.packets ≡ old ++ pending = ap (λ (w : World). w.packets) is ∙ ap (λ ps. old ++ (pending ++ ps)) none ∙ ap (λ ps. old ++ ps) (append-nil pending) in
       let both : y ∷ z ∷ [] ≡ a.host ∷ b.host ∷ [] = sym (ap (λ (w : World). w.hosts) is) ∙ hosts in
-      let left : drop r.delivered r.world.packets ≡ pending = ap (drop r.delivered) packets_are ∙ subst (λ k. drop k (old ++ pending) ≡ pending) so_many (drop_old old pending) in
+      let left : drop r.delivered r.world.packets ≡ pending = ap (drop r.delivered) packets_are ∙ subst (λ k. drop k (old ++ pending) ≡ pending) so_many (drop-append_seam old pending) in
       let many : length r.world.packets ≡ r.delivered + length pending = ap length packets_are ∙ length-append old pending ∙ ap (λ k. k + length pending) so_many in
       record {
         pending = pending;

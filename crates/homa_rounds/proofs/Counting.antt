@@ -8,7 +8,3 @@ counting_more k (suc n) = ap (λ i. k % 256 ∷ (counting (suc k) n ++ i % 256 �
 
 pub one_more : (n : ℕ) → counting 0 n ++ n % 256 ∷ [] ≡ counting 0 (n + 1)
 one_more n = ap (λ i. counting 0 n ++ i % 256 ∷ []) {x = n} {y = 0 + n} (omega arith) ∙ counting_more 0 n ∙ ap (counting 0) {x = suc n} {y = n + 1} (omega arith)
-
-pub length-counting : (k n : ℕ) → length (counting k n) ≡ n
-length-counting k zero = refl
-length-counting k (suc n) = ap suc (length-counting (suc k) n)

@@ -9,10 +9,10 @@ use Rattle.homa_seen.specs.declared.outbox.SentFrame.{SentFrame}
 use Rattle.homa_seen.specs.Seen.{Seen}
 use Rattle.homa_seen.specs.Done.{arriving}
 use Rattle.homa_rounds.specs.declared.call.QuietCall.{QuietCall}
-use Rattle.homa_rounds.specs.Stepped.{HasStepped, GoesOn}
-use Rattle.homa_rounds.specs.Standing.{filled, hosts_of, frames_of, asked, answered, answers, own_clock, IsSameCall}
+use Rattle.homa_rounds.specs.Stepped.{filled, HasStepped, GoesOn}
+use Rattle.homa_rounds.specs.Standing.{hosts_of, frames_of, asked, answered, answers, own_clock, IsSameCall}
 use Rattle.homa_quiet.specs.Hosts.{client_id, server_id}
-use Rattle.homa_rounds.proofs.Rounding.{AmidRound, RoundEnds, round_ends}
+use Rattle.homa_rounds.proofs.Rounding.{AmidRound, MayCome, may_come, RoundEnds, round_ends}
 
 pub same_on : (a b c : QuietCall) → IsSameCall a b → IsSameCall b c → IsSameCall a c
 same_on a b c p q = record { settings = q.settings ∙ p.settings; asked = q.asked ∙ p.asked; answered = q.answered ∙ p.answered }
@@ -20,6 +20,13 @@ same_on a b c p q = record { settings = q.settings ∙ p.settings; asked = q.ask
 -- the first of the frames that are left
 pub first_left : (fs : List SentFrame) (i : ℕ) (f : SentFrame) → i < length fs → f ≡ get_or fs i f → drop i fs ≡ f ∷ drop (i + 1) fs
 first_left fs i f l is = drop_more fs i f l ∙ ap (λ g. g ∷ drop (i + 1) fs) (sym is)
+
+-- the next frame may come
+pub next_comes : (q l : QuietCall) (fs : List SentFrame) (i : ℕ) (f : SentFrame) (done : Bool) → i < length fs → f ≡ get_or fs i f
+    → AmidRound q.settings (asked q) (answered q) q.clock (hosts_of l) (frames_of l) (answers l) (drop i fs) i done → MayCome q.settings (asked q) (answered q) q.clock f (hosts_of l)
+next_comes q l fs i f done within is am =
+    may_come q.settings (asked q) (answered q) q.clock (hosts_of l) (frames_of l) (answers l) f (drop (i + 1) fs) i done
+    (subst (λ gs. AmidRound q.settings (asked q) (answered q) q.clock (hosts_of l) (frames_of l) (answers l) gs i done) (first_left fs i f within is) am)
 
 pub clock_is : (a b : QuietCall) → IsSameCall a b → b.clock ≡ a.clock → own_clock b ≡ own_clock a
 clock_is a b same clock = ap (λ k. k + b.settings.skew) clock ∙ ap (λ (s : Settings). a.clock + s.skew) same.settings

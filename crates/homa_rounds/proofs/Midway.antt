@@ -36,7 +36,7 @@ use Rattle.homa_quiet.proofs.Stamps.{packets_of-stamped}
 use Rattle.homa_quiet.proofs.Delivered.{moved, length-snoc}
 use Rattle.homa_quiet.proofs.Goings.{limits, GoesOn, IsDelivered, client_server}
 use Rattle.homa_quiet.proofs.Whole.{deliver_on}
-use Rattle.homa_rounds.specs.Stepped.{AreFramesOf, HasStepped}
+use Rattle.homa_rounds.specs.Stepped.{filled, AreFramesOf, HasStepped}
 use Rattle.homa_rounds.proofs.Unasked.{AskNone, unasked, none_asked}
 
 -- ---- frames
@@ -66,16 +66,12 @@ done_any i j (Says e ∷ told) = by e (done_any i j told) where
 
 -- ---- the world
 
--- what the service answers
-abbrev pub reply : ℕ → Answer
-reply m = record { bytes = counting 0 m; hold = 0 }
-
 -- the request is in progress, and the service wasn't asked yet
 pub record Asking (s : Settings) (n m clock d : ℕ) (pending : List SentPacket) (w : World) (answers : List Answer) : Type 0 where
   pub end : ℕ
   pub told : ℕ
   pub amid : Amid Client s n m clock d end told pending w
-  pub left : answers ≡ reply m ∷ []
+  pub left : answers ≡ filled m ∷ []
 
 -- Some of a round's packets are delivered, and these are still to be: two hosts stand in the world, and the frames are those of these
 -- packets, and of what was sent in the round. A service isn't asked any more, or wasn't asked yet.
@@ -146,11 +142,11 @@ module _ (s : Settings) (n m clock d : ℕ) (calm : IsCalm s n m) (x : SentPacke
   fresh_enough = omega (arith, mid.young.0.young, (limits s n m calm).life)
 
   -- the step of the code's host is that of the world's
-  steps_alike : (h : Host) → arrival_step s h now (Some p) (next_answer mid.answers) ≡ arrival_step s h now (Some p) (reply m)
+  steps_alike : (h : Host) → arrival_step s h now (Some p) (next_answer mid.answers) ≡ arrival_step s h now (Some p) (filled m)
   steps_alike h = by mid.asked where
-    by : Asking s n m clock d (x ∷ rest) w mid.answers ⊎ AskNone (x ∷ rest) → arrival_step s h now (Some p) (next_answer mid.answers) ≡ arrival_step s h now (Some p) (reply m)
+    by : Asking s n m clock d (x ∷ rest) w mid.answers ⊎ AskNone (x ∷ rest) → arrival_step s h now (Some p) (next_answer mid.answers) ≡ arrival_step s h now (Some p) (filled m)
     by (inl q) = ap (λ answers. arrival_step s h now (Some p) (next_answer answers)) q.left
-    by (inr none) = same_unasked s h now (Some p) (reply m) (next_answer mid.answers) (unasked s h now p (reply m) none.0)
+    by (inr none) = same_unasked s h now (Some p) (filled m) (next_answer mid.answers) (unasked s h now p (filled m) none.0)
 
   -- the world after the step
   abbrev world_after : Host → Host → Work → World
@@ -203,7 +199,7 @@ module _ (s : Settings) (n m clock d : ℕ) (calm : IsCalm s n m) (x : SentPacke
     }
 
     abbrev arrives : Seen → Work
-    arrives h = arrival_step h.settings h.host now (arriving h f.from f.frame) (reply m)
+    arrives h = arrival_step h.settings h.host now (arriving h f.from f.frame) (filled m)
 
     abbrev sent_by : Seen → Type 0
     sent_by h = (more : List SentFrame) × (new' ≡ new ++ more) × AreFramesOf h.settings more (packets_in (arrives h).told)
@@ -211,46 +207,59 @@ module _ (s : Settings) (n m clock d : ℕ) (calm : IsCalm s n m) (x : SentPacke
     -- what the host read and did
     arrives_is : (h : Seen) → h.settings ≡ s → h.host.id ≡ f.to → arrives h ≡ arrival_step s h.host now (Some p) (next_answer mid.answers)
     arrives_is h is name =
-        ap (λ o. arrival_step h.settings h.host now o (reply m)) (read_as h p f (subst (λ t. IsFormed t p) (sym is) mid.left_are.formed.0) (first_frame ∙ ap (λ t. frame_of t p) (sym is)) name)
-        ∙ ap (λ t. arrival_step t h.host now (Some p) (reply m)) is ∙ sym (steps_alike h.host)
+        ap (λ o. arrival_step h.settings h.host now o (filled m)) (read_as h p f (subst (λ t. IsFormed t p) (sym is) mid.left_are.formed.0) (first_frame ∙ ap (λ t. frame_of t p) (sym is)) name)
+        ∙ ap (λ t. arrival_step t h.host now (Some p) (filled m)) is ∙ sym (steps_alike h.host)
 
     -- the frame goes to the packet's receiver
     to_is : (r : Role) → p.role ≡ r → f.to ≡ (frame_of s (as_role r)).to
     to_is r e = ap (λ (g : SentFrame). g.to) (frame_is r e)
 
+    -- the host that got the frame, and what it sent
+    record Arrived (h after : Seen) (v : Work) : Type 0 where
+      host : after.host ≡ v.host
+      settings : after.settings ≡ s
+      name : after.host.id ≡ h.host.id
+      more : List SentFrame
+      sent : new' ≡ new ++ more
+      framed : AreFramesOf s more (packets_in v.told)
+      told : done ≡ has_done (entries_from 0 v.told)
+
+    abbrev step_of : Role → Seen → Work
+    step_of r h = arrival_step s h.host now (Some (as_role r)) (next_answer mid.answers)
+
+    arrived : (r : Role) (h : Seen) → p.role ≡ r → h.settings ≡ s → h.host.id ≡ (frame_of s (as_role r)).to → (st : HasStepped now f.to arrives done (a ∷ b ∷ []) hosts new new') → h ≡ st.before → Arrived h st.after (step_of r h)
+    arrived r h e settings name st at =
+        let is : arrives h ≡ step_of r h = arrives_is h settings (name ∙ sym (to_is r e)) ∙ ap (λ q. arrival_step s h.host now (Some q) (next_answer mid.answers)) (p_is r e) in
+        let sent : sent_by h = subst sent_by (sym at) st.sent in
+        record {
+          host = st.host ∙ ap (λ (x : Seen). (arrives x).host) (sym at) ∙ ap (λ (u : Work). u.host) is;
+          settings = st.settings ∙ ap (λ (x : Seen). x.settings) (sym at) ∙ settings;
+          name = st.name ∙ ap (λ (x : Seen). x.host.id) (sym at);
+          more = sent.0;
+          sent = sent.1;
+          framed = subst (λ t. AreFramesOf t sent.0 (packets_in (step_of r h).told)) settings (subst (λ (u : Work). AreFramesOf h.settings sent.0 (packets_in u.told)) is sent.2);
+          told = st.done_is ∙ ap (λ (x : Seen). has_done (entries_from 0 (arrives x).told)) (sym at) ∙ ap (λ (u : Work). has_done (entries_from 0 u.told)) is;
+        }
+
     to_server : p.role ≡ Client → HasStepped now f.to arrives done (a ∷ b ∷ []) hosts new new' → Delivers s n m clock d rest hosts left new' done w
     to_server e st =
-        let at : b ≡ st.before = same_some b st.before (ap (λ (i : HostId). slice_get (a ∷ b ∷ []) i.0) (sym (to_is Client e)) ∙ st.at) in
-        let is : arrives b ≡ arrival_step s b.host now (Some (as_role Client)) (next_answer mid.answers) =
-        arrives_is b mid.server (mid.server_name ∙ sym (to_is Client e)) ∙ ap (λ q. arrival_step s b.host now (Some q) (next_answer mid.answers)) (p_is Client e) in
-        let v : Work = arrival_step s b.host now (Some (as_role Client)) (next_answer mid.answers) in
-        let host : st.after.host ≡ v.host = st.host ∙ ap (λ (h : Seen). (arrives h).host) (sym at) ∙ ap (λ (u : Work). u.host) is in
-        let sent : sent_by b = subst sent_by (sym at) st.sent in
-        ends_so a st.after v sent.0 (st.hosts_are ∙ ap (λ (i : HostId). slice_set (a ∷ b ∷ []) i.0 st.after) (to_is Client e)) mid.client (st.settings ∙ ap (λ (h : Seen). h.settings) (sym at) ∙ mid.server) mid.client_name
-        (st.name ∙ ap (λ (h : Seen). h.host.id) (sym at) ∙ mid.server_name)
+        let v : Work = step_of Client b in
+        let g : Arrived b st.after v = arrived Client b e mid.server mid.server_name st (same_some b st.before (ap (λ (i : HostId). slice_get (a ∷ b ∷ []) i.0) (sym (to_is Client e)) ∙ st.at)) in
+        ends_so a st.after v g.more (st.hosts_are ∙ ap (λ (i : HostId). slice_set (a ∷ b ∷ []) i.0 st.after) (to_is Client e)) mid.client g.settings mid.client_name (g.name ∙ mid.server_name)
         (ap (λ u. outcome s u (event.Deliver d) []) mid.is
         ∙ server_gets_it s clock mid.spares a.host b.host packets mid.answers d x.tick p.at p.level p.body p.payload fresh_enough (found Client e)
-        ∙ ap (λ (h : Host). Done (record { world = world_after a.host h v; told = lines_after v })) (sym host))
-        sent.1
-        (subst (λ t. AreFramesOf t sent.0 (packets_in v.told)) mid.server (subst (λ (u : Work). AreFramesOf b.settings sent.0 (packets_in u.told)) is sent.2))
-        (st.done_is ∙ ap (λ (h : Seen). has_done (entries_from 0 (arrives h).told)) (sym at) ∙ ap (λ (u : Work). has_done (entries_from 0 u.told)) is)
+        ∙ ap (λ (h : Host). Done (record { world = world_after a.host h v; told = lines_after v })) (sym g.host))
+        g.sent g.framed g.told
 
     to_client : p.role ≡ Server → HasStepped now f.to arrives done (a ∷ b ∷ []) hosts new new' → Delivers s n m clock d rest hosts left new' done w
     to_client e st =
-        let at : a ≡ st.before = same_some a st.before (ap (λ (i : HostId). slice_get (a ∷ b ∷ []) i.0) (sym (to_is Server e)) ∙ st.at) in
-        let is : arrives a ≡ arrival_step s a.host now (Some (as_role Server)) (next_answer mid.answers) =
-        arrives_is a mid.client (mid.client_name ∙ sym (to_is Server e)) ∙ ap (λ q. arrival_step s a.host now (Some q) (next_answer mid.answers)) (p_is Server e) in
-        let v : Work = arrival_step s a.host now (Some (as_role Server)) (next_answer mid.answers) in
-        let host : st.after.host ≡ v.host = st.host ∙ ap (λ (h : Seen). (arrives h).host) (sym at) ∙ ap (λ (u : Work). u.host) is in
-        let sent : sent_by a = subst sent_by (sym at) st.sent in
-        ends_so st.after b v sent.0 (st.hosts_are ∙ ap (λ (i : HostId). slice_set (a ∷ b ∷ []) i.0 st.after) (to_is Server e)) (st.settings ∙ ap (λ (h : Seen). h.settings) (sym at) ∙ mid.client) mid.server
-        (st.name ∙ ap (λ (h : Seen). h.host.id) (sym at) ∙ mid.client_name) mid.server_name
+        let v : Work = step_of Server a in
+        let g : Arrived a st.after v = arrived Server a e mid.client mid.client_name st (same_some a st.before (ap (λ (i : HostId). slice_get (a ∷ b ∷ []) i.0) (sym (to_is Server e)) ∙ st.at)) in
+        ends_so st.after b v g.more (st.hosts_are ∙ ap (λ (i : HostId). slice_set (a ∷ b ∷ []) i.0 st.after) (to_is Server e)) g.settings mid.server (g.name ∙ mid.client_name) mid.server_name
         (ap (λ u. outcome s u (event.Deliver d) []) mid.is
         ∙ client_gets_it s clock mid.spares a.host b.host packets mid.answers d x.tick p.at p.level p.body p.payload fresh_enough (found Server e)
-        ∙ ap (λ (h : Host). Done (record { world = world_after h b.host v; told = lines_after v })) (sym host))
-        sent.1
-        (subst (λ t. AreFramesOf t sent.0 (packets_in v.told)) mid.client (subst (λ (u : Work). AreFramesOf a.settings sent.0 (packets_in u.told)) is sent.2))
-        (st.done_is ∙ ap (λ (h : Seen). has_done (entries_from 0 (arrives h).told)) (sym at) ∙ ap (λ (u : Work). has_done (entries_from 0 u.told)) is)
+        ∙ ap (λ (h : Host). Done (record { world = world_after h b.host v; told = lines_after v })) (sym g.host))
+        g.sent g.framed g.told
 
     -- the frame comes first: its delivery is the world's
     pub delivers : HasStepped now f.to arrives done (a ∷ b ∷ []) hosts new new' → Delivers s n m clock d rest hosts left new' done w

@@ -1,6 +1,7 @@
 -- A round, as the code carries it out: frame by frame, and then the tick.
 use Rattle.std.proofs.Common.{◌≡◌, ◌≢◌, ◌<◌, ◌≤◌, ℕ, zero, suc, ◌+◌, ◌-◌, ◌*◌, ◌^◌, ◌⊎◌, ◌||◌, inl, inr, Bool, true, false, Option, Some, None, List, [], ◌∷◌, ◌++◌, length, refl, sym, ap, subst, ◌∙◌, arith, true≢false}
 use Rattle.std.specs.Prelude.{map, drop, slice_get, slice_set, IfSome}
+use Rattle.std.proofs.Math.Bool.{or_assoc}
 use Rattle.std.proofs.lemmas.Bool.{cases_lt}
 use Rattle.std.proofs.lemmas.List.{length-map}
 use Rattle.plain_sets.proofs.MapMembers.{same_some}
@@ -21,9 +22,9 @@ use Rattle.homa_seen.specs.Done.{arriving}
 use Rattle.homa_quiet.specs.Ends.{IsCalm, run_after}
 use Rattle.homa_quiet.specs.Hosts.{client_id, server_id, ours}
 use Rattle.homa_quiet.proofs.Amid.{packets_of, Begins, Goes}
-use Rattle.homa_rounds.specs.Stepped.{AreFramesOf, packets_from, MayStep, HasStepped, HostFits, HostsFit, most_steps, StandFor, GoesOn}
+use Rattle.homa_rounds.specs.Stepped.{filled, AreFramesOf, packets_from, MayStep, HasStepped, HostFits, HostsFit, most_steps, StandFor, GoesOn}
 use Rattle.homa_rounds.proofs.Reached.{InProgress, reached}
-use Rattle.homa_rounds.proofs.Midway.{Midway, Delivers, reply, frame_is, delivers}
+use Rattle.homa_rounds.proofs.Midway.{Midway, Delivers, frame_is, delivers}
 use Rattle.homa_rounds.proofs.Ticking.{Ticked, ticked}
 use Rattle.homa_rounds.proofs.Beginning.{Come, come_on, Started, begins}
 
@@ -206,10 +207,10 @@ module _ (s : Settings) (n m clock : ℕ) where
 
     -- it is delivered
     pub delivered_on : (more : Bool) (hosts' : List Seen) (frames' : List SentFrame) (answers' : ℕ)
-        → HasStepped now f.to (λ (h : Seen). arrival_step h.settings h.host now (arriving h f.from f.frame) (reply m)) more hosts hosts' frames frames' → answers' ≤ answers + 1
+        → HasStepped now f.to (λ (h : Seen). arrival_step h.settings h.host now (arriving h f.from f.frame) (filled m)) more hosts hosts' frames frames' → answers' ≤ answers + 1
         → AmidRound s n m clock hosts' frames' answers' left (i + 1) (done || more)
     delivered_on more hosts' frames' answers' st served =
-        let step : Seen → Work = λ h. arrival_step h.settings h.host now (arriving h f.from f.frame) (reply m) in
+        let step : Seen → Work = λ h. arrival_step h.settings h.host now (arriving h f.from f.frame) (filled m) in
         let v : Delivers s n m clock am.d rest hosts' left frames' more am.w =
         delivers s n m clock am.d am.calm x rest am.a am.b f left frames am.w mid more hosts' frames' (subst (λ hs. HasStepped now f.to step more hs hosts' frames frames') am.hosts_are st) in
         record {
@@ -288,12 +289,8 @@ module _ (s : Settings) (n m clock : ℕ) where
         abbrev done_now : Bool
         done_now = (done || d0) || d1
 
-        or_assoc : (a b c : Bool) → (a || (b || c)) ≡ ((a || b) || c)
-        or_assoc true b c = refl
-        or_assoc false b c = refl
-
         run_done : has_done (run_after s r).told ≡ done_now
-        run_done = come.done_is ∙ ap (λ b. done || b) after.done_is ∙ or_assoc done d0 d1
+        run_done = come.done_is ∙ ap (λ b. done || b) after.done_is ∙ sym (or_assoc done d0 d1)
 
         -- the next round of the definition
         stand_next : StandFor s (suc clock) hosts1 frames1 (round s n m (suc clock))

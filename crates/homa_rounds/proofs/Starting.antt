@@ -20,9 +20,8 @@ use Rattle.homa_quiet.specs.Hosts.{client_id, server_id}
 use Rattle.homa_quiet.proofs.Worlds.{carried_on}
 use Rattle.homa_quiet.proofs.Begun.{no_fault}
 use Rattle.homa_quiet.proofs.Stamps.{packets_of-stamped}
-use Rattle.homa_quiet.proofs.FirstRound.{first_goes}
+use Rattle.homa_quiet.proofs.FirstRound.{length-counting, first_goes}
 use Rattle.homa_rounds.specs.Stepped.{AreFramesOf, HostsFit, StandFor, most_steps, GoesOn}
-use Rattle.homa_rounds.proofs.Counting.{length-counting}
 
 module _ (s : Settings) (n m : ℕ) (calm : IsCalm s n m) where
   abbrev pub request : List ℕ

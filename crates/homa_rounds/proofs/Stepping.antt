@@ -16,9 +16,8 @@ use Rattle.homa_seen.specs.Seen.{Seen}
 use Rattle.homa_seen.specs.Marks.{shown_entries, response_of, IsReply, IsAllowed}
 use Rattle.homa_seen.specs.Done.{IsDone, HoldsSent}
 use Rattle.homa_host.specs.Public.{IsSameHost}
-use Rattle.homa_rounds.specs.Stepped.{HasStepped}
-use Rattle.homa_rounds.specs.Standing.{filled}
-use Rattle.homa_rounds.proofs.Counting.{length-counting}
+use Rattle.homa_quiet.proofs.FirstRound.{length-counting}
+use Rattle.homa_rounds.specs.Stepped.{filled, HasStepped}
 
 -- ---- results
 

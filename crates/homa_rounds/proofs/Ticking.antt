@@ -1,6 +1,7 @@
 -- A round begins, and the tick that ends it.
 use Rattle.std.proofs.Common.{◌≡◌, ℕ, zero, suc, ◌+◌, ◌-◌, ◌*◌, ◌<◌, ◌≤◌, ◌⊎◌, ◌||◌, inl, inr, Bool, true, false, Option, Some, None, List, [], ◌∷◌, ◌++◌, length, refl, sym, ap, subst, ◌∙◌, arith, append_assoc}
 use Rattle.std.specs.Prelude.{map, drop, slice_get, slice_set}
+use Rattle.std.proofs.Math.Seq.{drop-append_seam}
 use Rattle.std.proofs.lemmas.List.{map-append, append-nil}
 use Rattle.plain_sets.proofs.MapMembers.{same_some}
 use Rattle.homa_plain.specs.declared.id.HostId.{HostId}
@@ -21,10 +22,6 @@ use Rattle.homa_quiet.proofs.Amid.{packets_of}
 use Rattle.homa_quiet.proofs.Stamps.{packets_of-stamped}
 use Rattle.homa_rounds.specs.Stepped.{AreFramesOf, HasStepped}
 use Rattle.homa_rounds.proofs.Midway.{Midway, frames-append, done_any}
-
-pub drop_old : {A : Type 0} (xs ys : List A) → drop (length xs) (xs ++ ys) ≡ ys
-drop_old [] ys = refl
-drop_old (x ∷ xs) ys = drop_old xs ys
 
 -- two hosts had their turns
 pub record Ticked (s : Settings) (clock d : ℕ) (hosts : List Seen) (frames : List SentFrame) (done : Bool) (run : Run) : Type 0 where
@@ -64,7 +61,7 @@ module _ (s : Settings) (n m clock d : ℕ) (a b : Seen) (new : List SentFrame) 
   under_way =
       ap (λ ps. drop d (ps ++ stamped (clock + 1) (packets_in second.told))) (append_assoc mid.old mid.fresh (stamped (clock + 1) (packets_in first.told)))
       ∙ ap (drop d) (append_assoc mid.old (mid.fresh ++ stamped (clock + 1) (packets_in first.told)) (stamped (clock + 1) (packets_in second.told)))
-      ∙ subst (λ k. drop k (mid.old ++ ((mid.fresh ++ stamped (clock + 1) (packets_in first.told)) ++ stamped (clock + 1) (packets_in second.told))) ≡ (mid.fresh ++ stamped (clock + 1) (packets_in first.told)) ++ stamped (clock + 1) (packets_in second.told)) mid.so_many (drop_old mid.old _)
+      ∙ subst (λ k. drop k (mid.old ++ ((mid.fresh ++ stamped (clock + 1) (packets_in first.told)) ++ stamped (clock + 1) (packets_in second.told))) ≡ (mid.fresh ++ stamped (clock + 1) (packets_in first.told)) ++ stamped (clock + 1) (packets_in second.told)) mid.so_many (drop-append_seam mid.old _)
 
   packets_are : packets_of (drop d run.world.packets) ≡ (packets_of mid.fresh ++ packets_in first.told) ++ packets_in second.told
   packets_are =

@@ -4,18 +4,12 @@ use Rattle.plain_sets.specs.Maps.{empty}
 use Rattle.homa_plain.specs.declared.id.HostId.{HostId}
 use Rattle.homa_plain.specs.declared.settings.Settings.{Settings}
 use Rattle.homa_plain.specs.Host.{new_host}
-use Rattle.homa_plain.specs.Rules.{Answer}
-use Rattle.homa_plain.specs.Script.{counting}
 use Rattle.homa_plain.specs.Quiet.{Round, round}
 use Rattle.homa_seen.specs.declared.outbox.SentFrame.{SentFrame}
 use Rattle.homa_seen.specs.Seen.{Seen}
 use Rattle.homa_quiet.specs.Hosts.{client_id, server_id}
 use Rattle.homa_rounds.specs.declared.call.QuietCall.{QuietCall}
 use Rattle.homa_rounds.specs.Stepped.{GoesOn}
-
--- what the service of the quiet call answers
-abbrev pub filled : ℕ → Answer
-filled size = record { bytes = counting 0 size; hold = 0 }
 
 -- the two hosts
 abbrev pub hosts_of : QuietCall → List Seen

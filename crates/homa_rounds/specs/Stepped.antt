@@ -5,6 +5,8 @@ use Rattle.homa_plain.specs.declared.id.HostId.{HostId}
 use Rattle.homa_plain.specs.declared.settings.Settings.{Settings}
 use Rattle.homa_plain.specs.Packets.{Packet}
 use Rattle.homa_plain.specs.Host.{packets_in, entries_from}
+use Rattle.homa_plain.specs.Rules.{Answer}
+use Rattle.homa_plain.specs.Script.{counting}
 use Rattle.homa_plain.specs.Steps.{Work}
 use Rattle.homa_plain.specs.World.{World, SentPacket}
 use Rattle.homa_plain.specs.Quiet.{Round, has_done, round}
@@ -23,6 +25,10 @@ abbrev pub packets_from : ℕ → World → List Packet
 packets_from n w = map (λ (x : SentPacket). x.packet) (drop n w.packets)
 
 -- ---- a step
+
+-- what the service of the quiet call answers
+abbrev pub filled : ℕ → Answer
+filled size = record { bytes = counting 0 size; hold = 0 }
 
 -- a step may begin at a host, at this tick of its own clock
 pub record MayStep (now : ℕ) (h : Seen) : Type 0 where

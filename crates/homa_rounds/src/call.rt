@@ -9,8 +9,8 @@ ghost use Rattle.homa_seen.specs.Seen.{Seen};
 ghost use Rattle.homa_seen.specs.Marks.{shown_entries};
 ghost use Rattle.homa_seen.specs.Done.{HoldsSent, arriving};
 ghost use Rattle.homa_quiet.specs.Ends.{IsCalm};
-ghost use Rattle.homa_rounds.specs.Stepped.{HasStepped, MayStep};
-ghost use Rattle.homa_rounds.specs.Standing.{filled, hosts_of, frames_of, asked, answered, answers, own_clock, round_of, IsSameCall, CallGoesOn, opened, IsOpened};
+ghost use Rattle.homa_rounds.specs.Stepped.{filled, HasStepped, MayStep};
+ghost use Rattle.homa_rounds.specs.Standing.{hosts_of, frames_of, asked, answered, answers, own_clock, round_of, IsSameCall, CallGoesOn, opened, IsOpened};
 ghost use Rattle.homa_quiet.specs.Hosts.{client_id, server_id};
 
 use crate::filler::{Filler, counting_bytes};

@@ -4,8 +4,8 @@ use Rattle.homa_plain.specs.Steps.{arrival_step}
 use Rattle.homa_seen.specs.declared.outbox.SentFrame.{SentFrame}
 use Rattle.homa_seen.specs.Seen.{Seen}
 use Rattle.homa_seen.specs.Done.{arriving}
-use Rattle.homa_rounds.specs.Stepped.{HasStepped, MayStep}
-use Rattle.homa_rounds.specs.Standing.{own_clock, hosts_of, frames_of, filled, answered}
+use Rattle.homa_rounds.specs.Stepped.{filled, HasStepped, MayStep}
+use Rattle.homa_rounds.specs.Standing.{own_clock, hosts_of, frames_of, answered}
 use Rattle.homa_rounds.proofs.Stepping.{if_ok_by, of_read, holds_sent, stepped, same_size, answered_so}
 use Rattle.homa_rounds.proofs.call.QuietCall.deliver.Goals as goal
 

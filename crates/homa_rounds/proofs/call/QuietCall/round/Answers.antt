@@ -4,8 +4,8 @@ use Rattle.std.proofs.lemmas.List.{drop_all}
 use Rattle.homa_plain.specs.declared.settings.Settings.{Settings}
 use Rattle.homa_seen.specs.declared.outbox.SentFrame.{SentFrame}
 use Rattle.homa_rounds.specs.Standing.{hosts_of, frames_of, asked, answered, answers, own_clock}
-use Rattle.homa_rounds.proofs.Rounding.{AmidRound, round_starts, may_come, delivered_on}
-use Rattle.homa_rounds.proofs.Going.{same_on, first_left, clock_is, came_at, goes_same, ends}
+use Rattle.homa_rounds.proofs.Rounding.{AmidRound, round_starts, delivered_on}
+use Rattle.homa_rounds.proofs.Going.{same_on, first_left, next_comes, clock_is, came_at, goes_same, ends}
 use Rattle.homa_rounds.proofs.call.QuietCall.round.Goals as goal
 
 pub loop-frame-init : goal.loop-frame-init
@@ -22,27 +22,15 @@ loop-frame-init c =
 
 pub deliver-requires-clause-to : goal.deliver-requires-clause-to
 deliver-requires-clause-to c =
-    let q = c.args.self.now in
-    let l = c.loop-frame.self in
-    let left = first_left c.deref-frame-items.result.now c.loop-frame.frame-index c.frame-item.result c.loop-frame-test.true c.frame-item.is in
-    (may_come q.settings (asked q) (answered q) q.clock (hosts_of l) (frames_of l) (answers l) c.frame-item.result _ c.loop-frame.frame-index c.loop-frame.done
-        (subst (λ fs. AmidRound q.settings (asked q) (answered q) q.clock (hosts_of l) (frames_of l) (answers l) fs c.loop-frame.frame-index c.loop-frame.done) left c.loop-frame.invariant.amid)).to
+    (next_comes c.args.self.now c.loop-frame.self c.deref-frame-items.result.now c.loop-frame.frame-index c.frame-item.result c.loop-frame.done c.loop-frame-test.true c.frame-item.is c.loop-frame.invariant.amid).to
 
 pub deliver-requires-clause-from : goal.deliver-requires-clause-from
 deliver-requires-clause-from c =
-    let q = c.args.self.now in
-    let l = c.loop-frame.self in
-    let left = first_left c.deref-frame-items.result.now c.loop-frame.frame-index c.frame-item.result c.loop-frame-test.true c.frame-item.is in
-    (may_come q.settings (asked q) (answered q) q.clock (hosts_of l) (frames_of l) (answers l) c.frame-item.result _ c.loop-frame.frame-index c.loop-frame.done
-        (subst (λ fs. AmidRound q.settings (asked q) (answered q) q.clock (hosts_of l) (frames_of l) (answers l) fs c.loop-frame.frame-index c.loop-frame.done) left c.loop-frame.invariant.amid)).from
+    (next_comes c.args.self.now c.loop-frame.self c.deref-frame-items.result.now c.loop-frame.frame-index c.frame-item.result c.loop-frame.done c.loop-frame-test.true c.frame-item.is c.loop-frame.invariant.amid).from
 
 pub deliver-requires-clause-other : goal.deliver-requires-clause-other
 deliver-requires-clause-other c =
-    let q = c.args.self.now in
-    let l = c.loop-frame.self in
-    let left = first_left c.deref-frame-items.result.now c.loop-frame.frame-index c.frame-item.result c.loop-frame-test.true c.frame-item.is in
-    (may_come q.settings (asked q) (answered q) q.clock (hosts_of l) (frames_of l) (answers l) c.frame-item.result _ c.loop-frame.frame-index c.loop-frame.done
-        (subst (λ fs. AmidRound q.settings (asked q) (answered q) q.clock (hosts_of l) (frames_of l) (answers l) fs c.loop-frame.frame-index c.loop-frame.done) left c.loop-frame.invariant.amid)).other
+    (next_comes c.args.self.now c.loop-frame.self c.deref-frame-items.result.now c.loop-frame.frame-index c.frame-item.result c.loop-frame.done c.loop-frame-test.true c.frame-item.is c.loop-frame.invariant.amid).other
 
 pub loop-frame-preserved : goal.loop-frame-preserved
 loop-frame-preserved c =

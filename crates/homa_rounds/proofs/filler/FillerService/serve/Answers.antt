@@ -1,5 +1,5 @@
 use Rattle.std.proofs.Common.{ap, ◌∙◌, arith, length}
-use Rattle.homa_rounds.proofs.Counting.{length-counting}
+use Rattle.homa_quiet.proofs.FirstRound.{length-counting}
 use Rattle.homa_rounds.proofs.filler.FillerService.serve.Goals as goal
 
 pub returns-clause-size : goal.returns-clause-size
