@@ -1,17 +1,15 @@
 -- A round begins: no packet of it is delivered yet. And the events of it that are past, and those to come.
-use Rattle.std.proofs.Common.{◌≡◌, ℕ, suc, ◌+◌, ◌-◌, ◌⊎◌, ◌||◌, inl, inr, Bool, true, false, List, [], ◌∷◌, ◌++◌, length, refl, sym, ap, subst, ◌∙◌, arith}
+use Rattle.std.proofs.Common.{◌≡◌, ℕ, ◌+◌, ◌-◌, ◌⊎◌, ◌||◌, inl, inr, Bool, false, List, [], ◌∷◌, ◌++◌, length, refl, sym, ap, subst, ◌∙◌, arith}
 use Rattle.std.specs.Prelude.{drop}
 use Rattle.std.proofs.Math.Bool.{or_assoc}
 use Rattle.std.proofs.Math.Seq.{drop-append_seam}
 use Rattle.std.proofs.lemmas.List.{append-nil, length-append}
 use Rattle.homa_plain.specs.declared.packet.Role.TheVariants.{Client, Server}
 use Rattle.homa_plain.specs.declared.settings.Settings.{Settings}
-use Rattle.homa_plain.specs.declared.event.Event.TheVariants as event
-use Rattle.homa_plain.specs.Entries.{PlainEntry}
 use Rattle.homa_plain.specs.Host.{Host}
 use Rattle.homa_plain.specs.Rules.{Answer}
 use Rattle.homa_plain.specs.World.{World, SentPacket, After, Done, outcome}
-use Rattle.homa_plain.specs.Replay.{Happening, Run, bare, carried, ticks, after_event}
+use Rattle.homa_plain.specs.Replay.{Happening, Run, carried, ticks}
 use Rattle.homa_plain.specs.Quiet.{Round, has_done, deliveries, round}
 use Rattle.homa_seen.specs.declared.outbox.SentFrame.{SentFrame}
 use Rattle.homa_seen.specs.Seen.{Seen}

@@ -1,5 +1,5 @@
 -- Counting bytes, one more at the end.
-use Rattle.std.proofs.Common.{◌≡◌, ℕ, zero, suc, ◌+◌, ◌%◌, List, [], ◌∷◌, ◌++◌, length, refl, ap, ◌∙◌, arith}
+use Rattle.std.proofs.Common.{◌≡◌, ℕ, zero, suc, ◌+◌, ◌%◌, [], ◌∷◌, ◌++◌, ap, ◌∙◌, arith}
 use Rattle.homa_plain.specs.Script.{counting}
 
 counting_more : (k n : ℕ) → counting k n ++ (k + n) % 256 ∷ [] ≡ counting k (suc n)

@@ -1,7 +1,6 @@
 -- The world in the midst of a round, the hosts and the frames that stand for it, and what a delivery does.
-use Rattle.std.proofs.Common.{◌≡◌, ℕ, zero, suc, ◌+◌, ◌-◌, ◌*◌, ◌<◌, ◌≤◌, ◌⊎◌, ◌||◌, inl, inr, Bool, true, false, Option, Some, None, List, [], ◌∷◌, ◌++◌, length, refl, sym, ap, subst, ◌∙◌, arith, append_assoc}
-use Rattle.std.specs.Prelude.{map, drop, slice_get, slice_set}
-use Rattle.std.specs.List.{AllByRecursion}
+use Rattle.std.proofs.Common.{◌≡◌, ℕ, suc, ◌+◌, ◌≤◌, ◌⊎◌, inl, inr, Bool, Some, List, [], ◌∷◌, ◌++◌, length, refl, sym, ap, subst, ◌∙◌, arith}
+use Rattle.std.specs.Prelude.{slice_get, slice_set}
 use Rattle.std.specs.Option.{option_map}
 use Rattle.std.proofs.lemmas.List.{map-append}
 use Rattle.plain_sets.proofs.MapMembers.{same_some}
@@ -16,9 +15,8 @@ use Rattle.homa_plain.specs.Wire.{packet_in}
 use Rattle.homa_plain.specs.Packets.{Packet, packet_between}
 use Rattle.homa_plain.specs.Host.{Host, Told, Says, Sends, packets_in, entries_from}
 use Rattle.homa_plain.specs.Rules.{Answer}
-use Rattle.homa_plain.specs.Script.{counting}
-use Rattle.homa_plain.specs.Steps.{Work, has_run, arrival_step}
-use Rattle.homa_plain.specs.World.{World, SentPacket, After, Outcome, Done, outcome, stamped, answers_left, next_answer}
+use Rattle.homa_plain.specs.Steps.{Work, arrival_step}
+use Rattle.homa_plain.specs.World.{World, SentPacket, After, Done, outcome, stamped, answers_left, next_answer}
 use Rattle.homa_plain.specs.Quiet.{has_done}
 use Rattle.homa_steps.proofs.Places.{all-append}
 use Rattle.homa_steps.proofs.OneAnswer.{same_unasked}

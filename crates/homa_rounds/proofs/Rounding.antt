@@ -1,6 +1,6 @@
 -- A round, as the code carries it out: frame by frame, and then the tick.
-use Rattle.std.proofs.Common.{◌≡◌, ◌≢◌, ◌<◌, ◌≤◌, ℕ, zero, suc, ◌+◌, ◌-◌, ◌*◌, ◌^◌, ◌⊎◌, ◌||◌, inl, inr, Bool, true, false, Option, Some, None, List, [], ◌∷◌, ◌++◌, length, refl, sym, ap, subst, ◌∙◌, arith, true≢false}
-use Rattle.std.specs.Prelude.{map, drop, slice_get, slice_set, IfSome}
+use Rattle.std.proofs.Common.{◌≡◌, ◌≢◌, ◌<◌, ◌≤◌, ℕ, zero, suc, ◌+◌, ◌-◌, ◌*◌, ◌^◌, ◌||◌, inl, inr, Bool, false, Some, List, [], ◌∷◌, ◌++◌, length, refl, sym, ap, subst, ◌∙◌, arith}
+use Rattle.std.specs.Prelude.{map, slice_get, slice_set, IfSome}
 use Rattle.std.proofs.Math.Bool.{or_assoc}
 use Rattle.std.proofs.lemmas.Bool.{cases_lt}
 use Rattle.std.proofs.lemmas.List.{length-map}
@@ -13,14 +13,14 @@ use Rattle.homa_plain.specs.declared.event.Event.TheVariants as event
 use Rattle.homa_plain.specs.Host.{Host}
 use Rattle.homa_plain.specs.Steps.{Work, arrival_step, turn_step}
 use Rattle.homa_plain.specs.World.{World, SentPacket}
-use Rattle.homa_plain.specs.Replay.{Run, bare, carried, ticks}
+use Rattle.homa_plain.specs.Replay.{bare, carried, ticks}
 use Rattle.homa_plain.specs.Quiet.{Round, has_done, deliveries, round}
 use Rattle.homa_seen.specs.declared.outbox.SentFrame.{SentFrame}
 use Rattle.homa_seen.specs.Seen.{Seen}
-use Rattle.homa_seen.specs.Frames.{frame_of, frames_of}
+use Rattle.homa_seen.specs.Frames.{frame_of}
 use Rattle.homa_seen.specs.Done.{arriving}
 use Rattle.homa_quiet.specs.Ends.{IsCalm, run_after}
-use Rattle.homa_quiet.specs.Hosts.{client_id, server_id, ours}
+use Rattle.homa_quiet.specs.Hosts.{client_id, server_id}
 use Rattle.homa_quiet.proofs.Amid.{packets_of, Begins, Goes}
 use Rattle.homa_rounds.specs.Stepped.{filled, AreFramesOf, packets_from, MayStep, HasStepped, HostFits, HostsFit, most_steps, StandFor, GoesOn}
 use Rattle.homa_rounds.proofs.Reached.{InProgress, reached}
@@ -39,13 +39,15 @@ fits_set : (s : Settings) (now steps n i : ℕ) (hs : List Seen) (before after :
     → HostsFit s now steps n hs → HostsFit s now (steps + 1) n (slice_set hs i after)
 fits_set s now steps n i [] before after at settings name last order fit = tt
 fits_set s now steps n zero (h ∷ hs) before after at settings name last order fit =
-    let is : h ≡ before = same_some h before at in
-    (record {
-      settings = settings ∙ ap (λ (x : Seen). x.settings) (sym is) ∙ fit.0.settings;
-      name = name ∙ ap (λ (x : Seen). x.host.id) (sym is) ∙ fit.0.name;
-      last = omega (arith, last);
-      order = omega (arith, order, ap (λ (x : Seen). x.host.order) is, fit.0.order);
-    }, fits_later s now now steps (steps + 1) (suc n) hs (omega arith) (omega arith) fit.1)
+    let is : h ≡ before = same_some h before at in (
+      record {
+        settings = settings ∙ ap (λ (x : Seen). x.settings) (sym is) ∙ fit.0.settings;
+        name = name ∙ ap (λ (x : Seen). x.host.id) (sym is) ∙ fit.0.name;
+        last = omega (arith, last);
+        order = omega (arith, order, ap (λ (x : Seen). x.host.order) is, fit.0.order);
+      },
+      fits_later s now now steps (steps + 1) (suc n) hs (omega arith) (omega arith) fit.1,
+    )
 fits_set s now steps n (suc i) (h ∷ hs) before after at settings name last order fit =
     (record { settings = fit.0.settings; name = fit.0.name; last = fit.0.last; order = omega (arith, fit.0.order) }, fits_set s now steps (suc n) i hs before after at settings name last order fit.1)
 

@@ -1,16 +1,14 @@
 -- The call is made: the definition's first round.
-use Rattle.std.proofs.Common.{◌≡◌, ◌<◌, ◌≤◌, ℕ, zero, suc, ◌+◌, ◌*◌, ◌^◌, false, None, List, [], ◌∷◌, ◌++◌, length, refl, sym, ap, subst, ◌∙◌, arith}
-use Rattle.std.specs.Prelude.{map, drop}
+use Rattle.std.proofs.Common.{◌≡◌, ◌≤◌, ℕ, ◌+◌, ◌^◌, false, None, List, [], ◌∷◌, ◌++◌, length, refl, sym, ap, subst, ◌∙◌, arith}
 use Rattle.homa_plain.specs.declared.settings.Settings.{Settings}
 use Rattle.homa_plain.specs.declared.event.Event.TheVariants as event
 use Rattle.homa_plain.specs.Host.{new_host, Host, packets_in, entries_from}
-use Rattle.homa_plain.specs.Packets.{Packet}
 use Rattle.homa_plain.specs.Rules.{Answer}
 use Rattle.homa_plain.specs.Script.{counting}
 use Rattle.homa_plain.specs.Steps.{Work, call_step, start_fault}
 use Rattle.homa_plain.specs.World.{World, new_world, outcome, started, Done, After, stamped, answers_left}
 use Rattle.homa_plain.specs.Replay.{carried, after_event}
-use Rattle.homa_plain.specs.Quiet.{Round, round, first_round, carried_round}
+use Rattle.homa_plain.specs.Quiet.{round, first_round, carried_round}
 use Rattle.homa_seen.specs.declared.outbox.SentFrame.{SentFrame}
 use Rattle.homa_seen.specs.Seen.{Seen}
 use Rattle.homa_seen.specs.Done.{IsDone}
@@ -21,7 +19,7 @@ use Rattle.homa_quiet.proofs.Worlds.{carried_on}
 use Rattle.homa_quiet.proofs.Begun.{no_fault}
 use Rattle.homa_quiet.proofs.Stamps.{packets_of-stamped}
 use Rattle.homa_quiet.proofs.FirstRound.{length-counting, first_goes}
-use Rattle.homa_rounds.specs.Stepped.{AreFramesOf, HostsFit, StandFor, most_steps, GoesOn}
+use Rattle.homa_rounds.specs.Stepped.{AreFramesOf, StandFor, GoesOn}
 
 module _ (s : Settings) (n m : ℕ) (calm : IsCalm s n m) where
   abbrev pub request : List ℕ

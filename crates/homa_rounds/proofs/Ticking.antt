@@ -1,23 +1,20 @@
 -- A round begins, and the tick that ends it.
-use Rattle.std.proofs.Common.{◌≡◌, ℕ, zero, suc, ◌+◌, ◌-◌, ◌*◌, ◌<◌, ◌≤◌, ◌⊎◌, ◌||◌, inl, inr, Bool, true, false, Option, Some, None, List, [], ◌∷◌, ◌++◌, length, refl, sym, ap, subst, ◌∙◌, arith, append_assoc}
-use Rattle.std.specs.Prelude.{map, drop, slice_get, slice_set}
+use Rattle.std.proofs.Common.{◌≡◌, ℕ, ◌+◌, ◌<◌, ◌||◌, Bool, None, List, [], ◌∷◌, ◌++◌, length, refl, sym, ap, subst, ◌∙◌, append_assoc}
+use Rattle.std.specs.Prelude.{drop, slice_get, slice_set}
 use Rattle.std.proofs.Math.Seq.{drop-append_seam}
 use Rattle.std.proofs.lemmas.List.{map-append, append-nil}
 use Rattle.plain_sets.proofs.MapMembers.{same_some}
-use Rattle.homa_plain.specs.declared.id.HostId.{HostId}
 use Rattle.homa_plain.specs.declared.settings.Settings.{Settings}
-use Rattle.homa_plain.specs.Entries.{PlainEntry, PlainClock}
-use Rattle.homa_plain.specs.Packets.{Packet}
-use Rattle.homa_plain.specs.Host.{Host, Told, packets_in, entries_from}
-use Rattle.homa_plain.specs.Rules.{Answer}
+use Rattle.homa_plain.specs.Entries.{PlainClock}
+use Rattle.homa_plain.specs.Host.{packets_in, entries_from}
 use Rattle.homa_plain.specs.Steps.{Work, turn_step}
-use Rattle.homa_plain.specs.World.{World, SentPacket, stamped, answers_left, last_tick}
+use Rattle.homa_plain.specs.World.{World, SentPacket, stamped, last_tick}
 use Rattle.homa_plain.specs.Replay.{Run, carried, ticks, after_event}
 use Rattle.homa_plain.specs.Quiet.{has_done}
 use Rattle.homa_seen.specs.declared.outbox.SentFrame.{SentFrame}
 use Rattle.homa_seen.specs.Seen.{Seen}
 use Rattle.homa_quiet.specs.Hosts.{client_id, server_id}
-use Rattle.homa_quiet.proofs.Worlds.{quiet_world, tick_is, ticked_world, packets0, done-append}
+use Rattle.homa_quiet.proofs.Worlds.{tick_is, ticked_world, done-append}
 use Rattle.homa_quiet.proofs.Amid.{packets_of}
 use Rattle.homa_quiet.proofs.Stamps.{packets_of-stamped}
 use Rattle.homa_rounds.specs.Stepped.{AreFramesOf, HasStepped}

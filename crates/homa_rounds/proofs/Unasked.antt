@@ -1,7 +1,6 @@
 -- Packets at which no service is asked: those of a server, and a client's GRANTs and CUTOFFS.
-use Rattle.std.proofs.Common.{◌≡◌, ℕ, ◌+◌, false, Option, Some, None, List, [], ◌∷◌, ◌++◌, refl, sym, ap, ◌∙◌, arith}
+use Rattle.std.proofs.Common.{◌≡◌, ℕ, false, Option, Some, None, List, [], ◌∷◌, ◌++◌, refl, sym, ap, ◌∙◌, arith}
 use Rattle.std.specs.List.{AllByRecursion}
-use Rattle.std.specs.Prelude.{map}
 use Rattle.std.proofs.lemmas.Bool.{cond_both}
 use Rattle.plain_sets.specs.Maps.{get}
 use Rattle.homa_plain.specs.declared.id.CallId.{CallId}
@@ -10,20 +9,20 @@ use Rattle.homa_plain.specs.declared.packet.Role.TheVariants.{Client, Server}
 use Rattle.homa_plain.specs.declared.packet.Body.{Body}
 use Rattle.homa_plain.specs.declared.packet.Body.TheVariants as body
 use Rattle.homa_plain.specs.declared.settings.Settings.{Settings}
-use Rattle.homa_plain.specs.Entries.{PlainRun, PlainStale}
+use Rattle.homa_plain.specs.Entries.{PlainRun}
 use Rattle.homa_plain.specs.Packets.{Packet, sender, acks}
 use Rattle.homa_plain.specs.Rows.{ServerRow, State, Receiving, Held, Replying, Buried}
-use Rattle.homa_plain.specs.Host.{Host, Told, Says, packets_in}
+use Rattle.homa_plain.specs.Host.{Host, Told, Says}
 use Rattle.homa_plain.specs.Rules.{Moment, Answer}
 use Rattle.homa_plain.specs.AtServer.{unknown_gets, row_gets, server_gets}
-use Rattle.homa_plain.specs.Steps.{Work, begun, now_of, moment, said, served, comes_to_row, acked, takes, is_stale, comes, tells, gives_grants, ended, arrival_step, has_run, hears_cutoffs}
+use Rattle.homa_plain.specs.Steps.{Work, begun, moment, said, comes_to_row, acked, takes, is_stale, comes, ended, arrival_step, has_run, hears_cutoffs}
 use Rattle.homa_plain.specs.World.{SentPacket}
 use Rattle.homa_steps.specs.StepLaws.{run_count}
 use Rattle.homa_steps.proofs.ToldBy.{run_count-append, Calm, asks, said-runs, served-carried}
 use Rattle.homa_steps.proofs.StepEnd.{ended-calm}
 use Rattle.homa_steps.proofs.OneAnswer.{acked-calm}
 use Rattle.homa_host.proofs.Came.{heard_count, client_unrun}
-use Rattle.homa_quiet.specs.Flows.{flows, ahead, other}
+use Rattle.homa_quiet.specs.Flows.{flows, ahead}
 use Rattle.homa_quiet.proofs.Amid.{packets_of}
 
 abbrev pub AsksNone : Role → Body → Type 0
@@ -67,8 +66,17 @@ server_unrun s p a v q none =
     let says : List Told = said s v.host Server p.id v.host.id did.says in
     let c = served-carried s p.id did v in
     ap run_count c.grown ∙ (let e : run_count (v.told ++ (c.before ++ (says ++ c.after))) ≡ 0 =
-    omega (arith, run_count-append v.told (c.before ++ (says ++ c.after)), run_count-append c.before (says ++ c.after), run_count-append says c.after,
-    c.quiet_before, c.quiet_after, said-runs s v.host Server p.id v.host.id did.says, rule_asks s (moment s p.id v) p a (get v.host.servers p.id) q, none) in e)
+    omega (
+      arith,
+      run_count-append v.told (c.before ++ (says ++ c.after)),
+      run_count-append c.before (says ++ c.after),
+      run_count-append says c.after,
+      c.quiet_before,
+      c.quiet_after,
+      said-runs s v.host Server p.id v.host.id did.says,
+      rule_asks s (moment s p.id v) p a (get v.host.servers p.id) q,
+      none,
+    ) in e)
 
 row_unrun : (s : Settings) (p : Packet) (a : Answer) (v : Work) (role : Role) → AsksNone role p.body → run_count v.told ≡ 0 → run_count (comes_to_row s p a role v).told ≡ 0
 row_unrun s p a v Client q none = server_unrun s p a v q none

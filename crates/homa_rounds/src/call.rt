@@ -194,11 +194,7 @@ impl QuietCall {
         ensures same { self.new ≡ record self.old { under_way = self.new.under_way } }
     {
         keep(&mut self.under_way, alloc, &self.outbox)?;
-        Ok(tells_done(
-            &self.hosts[host.0 as usize],
-            &self.outbox,
-            &self.scratch,
-        ))
+        Ok(tells_done(&self.hosts[host.0 as usize], &self.outbox, &self.scratch))
     }
 
     // The own clock of each host.

@@ -13,12 +13,7 @@ use std::alloc::{AllocError, Global};
 
 /// The round in which a call with a request of `n` bytes and a response of `m` is done, where every packet is delivered
 /// once and in order.
-pub fn quiet_rounds(
-    alloc: Global,
-    settings: &Settings,
-    n: u32,
-    m: u32,
-) -> Result<u64, AllocError>
+pub fn quiet_rounds(alloc: Global, settings: &Settings, n: u32, m: u32) -> Result<u64, AllocError>
     requires calm { IsCalm settings.now n m }
     ensures quiet { IfOk result (λ rounds. IsQuiet settings.now n m rounds) }
     ensures within { IfOk result (λ rounds. rounds ≤ 2 * (n + m) + 8) }

@@ -1,4 +1,4 @@
-use Rattle.std.proofs.Common.{sym, ap, ◌∙◌, arith, ◌++◌, ◌∷◌, [], ◌≡◌, take, append_assoc}
+use Rattle.std.proofs.Common.{ap, ◌∙◌, arith, ◌++◌, ◌∷◌, [], take, append_assoc}
 use Rattle.homa_rounds.proofs.Keeping.{frame_with, one_kept}
 use Rattle.homa_rounds.proofs.frames.keep.Goals as goal
 

@@ -1,12 +1,11 @@
-use Rattle.std.proofs.Common.{None, Some, ◌≡◌, ◌+◌, ◌++◌, ◌∷◌, [], ℕ, List, get_or, length, refl, sym, ap, subst, ◌∙◌, arith, true≢false}
+use Rattle.std.proofs.Common.{None, Some, ◌≡◌, ◌++◌, [], get_or, refl, sym, ap, subst, ◌∙◌, arith}
 use Rattle.std.specs.Prelude.{slice_set}
-use Rattle.homa_plain.specs.declared.settings.Settings.{Settings}
 use Rattle.homa_plain.specs.Steps.{call_step, start_fault}
 use Rattle.homa_seen.specs.Seen.{Seen}
 use Rattle.homa_seen.specs.Done.{IsDone}
 use Rattle.homa_quiet.specs.Hosts.{client_id, server_id}
 use Rattle.homa_rounds.specs.Stepped.{GoesOn}
-use Rattle.homa_rounds.specs.Standing.{hosts_of, frames_of, asked, answered, answers, opened}
+use Rattle.homa_rounds.specs.Standing.{hosts_of, asked, answered, answers, opened}
 use Rattle.homa_rounds.proofs.Stepping.{on_ok_by}
 use Rattle.homa_rounds.proofs.Starting.{can_start, goes_on}
 use Rattle.homa_rounds.proofs.Going.{goes_same}
@@ -56,10 +55,10 @@ returns-clause-goes_on c =
     let at : now ≡ s.skew = omega (arith, c.own_clock-now.ensures, c.requires.opened.clock) in
     on_ok_by _ _ _ c.keep.result
     (λ kept few. goes_same s s (asked q) (asked q) (answered q) (answered q) 0 q.clock 0 (answers q) (slice_set (hosts_of q) 0 a) c.keep.new.under_way.items refl refl refl c.requires.opened.clock c.requires.opened.answers
-        (subst (λ hs. GoesOn s (asked q) (answered q) 0 hs c.keep.new.under_way.items 0) (sym (ap (λ hs. slice_set hs 0 a) c.requires.opened.hosts))
-            (goes_on s (asked q) (answered q) c.requires.calm h a (opened s server_id) now c.keep.new.under_way.items c.call.new.out [] (ap (λ (x : Seen). x.settings) is) (ap (λ (x : Seen). x.host) is) refl refl at
-                (subst (λ bytes. IsDone h (call_step h.settings h.host now server_id 0 bytes) a c.call.new.out []) c.in_ok-bytes.ensures (c.in-Ok.ensures.step []))
-                c.call.ensures.steady c.in-Ok.ensures.last (kept ∙ ap (λ fs. fs ++ c.call.new.out) c.requires.opened.frames) few)))
+    (subst (λ hs. GoesOn s (asked q) (answered q) 0 hs c.keep.new.under_way.items 0) (sym (ap (λ hs. slice_set hs 0 a) c.requires.opened.hosts))
+    (goes_on s (asked q) (answered q) c.requires.calm h a (opened s server_id) now c.keep.new.under_way.items c.call.new.out [] (ap (λ (x : Seen). x.settings) is) (ap (λ (x : Seen). x.host) is) refl refl at
+    (subst (λ bytes. IsDone h (call_step h.settings h.host now server_id 0 bytes) a c.call.new.out []) c.in_ok-bytes.ensures (c.in-Ok.ensures.step []))
+    c.call.ensures.steady c.in-Ok.ensures.last (kept ∙ ap (λ fs. fs ++ c.call.new.out) c.requires.opened.frames) few)))
     c.keep.ensures.kept c.keep.ensures.few
 
 pub returns-clause-same : goal.returns-clause-same

@@ -1,4 +1,4 @@
-use Rattle.std.proofs.Common.{◌≡◌, sym, ◌∙◌, arith, true≢false}
+use Rattle.std.proofs.Common.{sym, ◌∙◌, arith, true≢false}
 use Rattle.homa_rounds.specs.Standing.{asked, answered}
 use Rattle.homa_rounds.proofs.call.QuietCall.finish.Goals as goal
 

@@ -1,4 +1,4 @@
-use Rattle.std.proofs.Common.{◌≡◌, ◌-◌}
+use Rattle.std.proofs.Common.{◌-◌}
 use Rattle.homa_rounds.specs.Standing.{IsSameCall, CallGoesOn}
 use Rattle.homa_rounds.proofs.call.QuietCall.finish.Given as goal
 

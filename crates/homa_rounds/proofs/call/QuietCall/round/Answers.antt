@@ -1,7 +1,6 @@
-use Rattle.std.proofs.Common.{◌≡◌, ◌+◌, ℕ, Bool, List, [], ◌∷◌, refl, sym, ap, subst, ◌∙◌, false}
+use Rattle.std.proofs.Common.{◌+◌, List, [], refl, sym, ap, subst, ◌∙◌, false}
 use Rattle.std.specs.Prelude.{drop}
 use Rattle.std.proofs.lemmas.List.{drop_all}
-use Rattle.homa_plain.specs.declared.settings.Settings.{Settings}
 use Rattle.homa_seen.specs.declared.outbox.SentFrame.{SentFrame}
 use Rattle.homa_rounds.specs.Standing.{hosts_of, frames_of, asked, answered, answers, own_clock}
 use Rattle.homa_rounds.proofs.Rounding.{AmidRound, round_starts, delivered_on}
@@ -54,7 +53,7 @@ pub returns-clause-done : goal.returns-clause-done
 returns-clause-done c =
     let none = drop_all c.loop-frame.frame-index c.deref-frame-items.result.now c.loop-frame-test.false in
     (ends c.args.self.now c.loop-frame.self c.turn.new.self c.turn-2.new.self c.loop-frame.invariant.same c.loop-frame.invariant.clock _ none c.loop-frame.frame-index c.loop-frame.done c.in_ok-done-2.field-0 c.in_ok-done-3.field-0
-        c.loop-frame.invariant.amid (record { settings = c.turn.ensures.same.settings; asked = c.turn.ensures.same.asked; answered = c.turn.ensures.same.answered }) c.turn.ensures.clock c.in_ok-done-2.ensures.turned c.in_ok-done-3.ensures.turned).done_is
+    c.loop-frame.invariant.amid (record { settings = c.turn.ensures.same.settings; asked = c.turn.ensures.same.asked; answered = c.turn.ensures.same.answered }) c.turn.ensures.clock c.in_ok-done-2.ensures.turned c.in_ok-done-3.ensures.turned).done_is
 
 pub returns-clause-goes_on : goal.returns-clause-goes_on
 returns-clause-goes_on c not_done =

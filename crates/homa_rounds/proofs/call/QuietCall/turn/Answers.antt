@@ -1,4 +1,4 @@
-use Rattle.std.proofs.Common.{◌≡◌, ℕ, Bool, sym, ap, subst, ◌∙◌, refl, arith, length}
+use Rattle.std.proofs.Common.{ℕ, Bool, ap, subst, arith}
 use Rattle.homa_plain.specs.Steps.{turn_step}
 use Rattle.homa_seen.specs.Seen.{Seen}
 use Rattle.homa_rounds.specs.Stepped.{HasStepped, MayStep}
@@ -26,7 +26,7 @@ returns-clause-turned c =
     let has : ℕ → Bool → Type 0 = λ at done. HasStepped at c.args.host (λ (h : Seen). turn_step h.settings h.host at) done (hosts_of c.args.self.now) (hosts_of c.take_up.new.self) (frames_of c.args.self.now) (frames_of c.take_up.new.self) in
     if_ok_by _ _ _ _ c.take_up.result
     (λ done told kept few. subst (λ at. has at done) c.own_clock-now.ensures
-        (stepped now c.args.host (λ (h : Seen). turn_step h.settings h.host now) c.args.self.now.hosts.items (hosts_of c.take_up.new.self) (frames_of c.args.self.now) (frames_of c.take_up.new.self)
-            c.index_mut.result.now c.turn.new.self c.turn.new.out c.args.self.now.scratch c.requires.host c.index_mut.ensures.value (c.turn.ensures.step c.args.self.now.scratch)
-            done c.turn.ensures.steady c.turn.ensures.last (ap hosts_of c.take_up.ensures.same) told kept few))
+    (stepped now c.args.host (λ (h : Seen). turn_step h.settings h.host now) c.args.self.now.hosts.items (hosts_of c.take_up.new.self) (frames_of c.args.self.now) (frames_of c.take_up.new.self)
+    c.index_mut.result.now c.turn.new.self c.turn.new.out c.args.self.now.scratch c.requires.host c.index_mut.ensures.value (c.turn.ensures.step c.args.self.now.scratch)
+    done c.turn.ensures.steady c.turn.ensures.last (ap hosts_of c.take_up.ensures.same) told kept few))
     c.take_up.ensures.done c.take_up.ensures.kept c.take_up.ensures.few

@@ -1,4 +1,4 @@
-use Rattle.std.proofs.Common.{ap, ◌∙◌, arith, length}
+use Rattle.std.proofs.Common.{ap, arith, length}
 use Rattle.homa_quiet.proofs.FirstRound.{length-counting}
 use Rattle.homa_rounds.proofs.filler.FillerService.serve.Goals as goal
 
