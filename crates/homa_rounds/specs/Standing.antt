@@ -8,6 +8,7 @@ use Rattle.homa_plain.specs.Quiet.{Round, round}
 use Rattle.homa_seen.specs.declared.outbox.SentFrame.{SentFrame}
 use Rattle.homa_seen.specs.Seen.{Seen}
 use Rattle.homa_quiet.specs.Hosts.{client_id, server_id}
+use Rattle.homa_rounds.specs.declared.filler.Filler.{Filler}
 use Rattle.homa_rounds.specs.declared.call.QuietCall.{QuietCall}
 use Rattle.homa_rounds.specs.Stepped.{GoesOn}
 
@@ -19,16 +20,30 @@ hosts_of q = q.hosts.items
 abbrev pub frames_of : QuietCall → List SentFrame
 frames_of q = q.under_way.items
 
+-- how many bytes a service answers with, and how many answers it gave
+abbrev pub size_of : Filler → ℕ
+size_of f = f.size
+
+abbrev pub served_by : Filler → ℕ
+served_by f = f.served
+
 -- how many bytes are asked, and how many answered
 abbrev pub asked : QuietCall → ℕ
 asked q = q.request
 
 abbrev pub answered : QuietCall → ℕ
-answered q = q.filler.size
+answered q = size_of q.filler
 
 -- how many answers there were
 abbrev pub answers : QuietCall → ℕ
-answers q = q.filler.served
+answers q = served_by q.filler
+
+abbrev pub settings_of : QuietCall → Settings
+settings_of q = q.settings
+
+-- after how many rounds it is: each has one tick
+abbrev pub rounds_of : QuietCall → ℕ
+rounds_of q = q.clock
 
 -- each host's own clock
 abbrev pub own_clock : QuietCall → ℕ

@@ -10,7 +10,7 @@ ghost use Rattle.homa_seen.specs.Marks.{shown_entries};
 ghost use Rattle.homa_seen.specs.Done.{HoldsSent, arriving};
 ghost use Rattle.homa_quiet.specs.Ends.{IsCalm};
 ghost use Rattle.homa_rounds.specs.Stepped.{filled, HasStepped, MayStep};
-ghost use Rattle.homa_rounds.specs.Standing.{hosts_of, frames_of, asked, answered, answers, own_clock, round_of, IsSameCall, CallGoesOn, opened, IsOpened};
+ghost use Rattle.homa_rounds.specs.Standing.{settings_of, rounds_of, hosts_of, frames_of, asked, answered, answers, own_clock, round_of, IsSameCall, CallGoesOn, opened, IsOpened};
 ghost use Rattle.homa_quiet.specs.Hosts.{client_id, server_id};
 
 use crate::filler::{Filler, counting_bytes};
@@ -58,7 +58,7 @@ impl QuietCall {
     ) -> Result<QuietCall, AllocError>
         requires calm { IsCalm settings.now request response }
         ensures goes_on { IfOk result CallGoesOn }
-        ensures settings { IfOk result (λ call. call.settings ≡ settings.now) }
+        ensures settings { IfOk result (λ call. settings_of call ≡ settings.now) }
         ensures asked { IfOk result (λ call. asked call ≡ request) }
         ensures answered { IfOk result (λ call. answered call ≡ response) }
     {
@@ -76,7 +76,7 @@ impl QuietCall {
     ) -> Result<QuietCall, AllocError>
         requires calm { IsCalm settings.now request response }
         ensures opened { IfOk result IsOpened }
-        ensures settings { IfOk result (λ call. call.settings ≡ settings.now) }
+        ensures settings { IfOk result (λ call. settings_of call ≡ settings.now) }
         ensures asked { IfOk result (λ call. asked call ≡ request) }
         ensures answered { IfOk result (λ call. answered call ≡ response) }
     {
@@ -95,7 +95,7 @@ impl QuietCall {
     // The client calls.
     fn begin(&mut self, alloc: Global) -> Result<(), AllocError>
         requires opened { IsOpened self.old }
-        requires calm { IsCalm self.old.settings (asked self.old) (answered self.old) }
+        requires calm { IsCalm (settings_of self.old) (asked self.old) (answered self.old) }
         ensures goes_on { OnOk result (CallGoesOn self.new) }
         ensures same { IsSameCall self.old self.new }
     {
@@ -111,7 +111,7 @@ impl QuietCall {
     /// Goes on until the call is done, and answers in which round that is.
     pub fn finish(&mut self, alloc: Global) -> Result<u64, AllocError>
         requires goes_on { CallGoesOn self.old }
-        ensures quiet { IfOk result (λ rounds. IsQuiet self.old.settings (asked self.old) (answered self.old) rounds) }
+        ensures quiet { IfOk result (λ rounds. IsQuiet (settings_of self.old) (asked self.old) (answered self.old) rounds) }
         ensures within { IfOk result (λ rounds. rounds ≤ 2 * (asked self.old + answered self.old) + 8) }
     {
         quiet_calls_end();
@@ -127,9 +127,9 @@ impl QuietCall {
     /// Delivers the frames under way, in order, and then is one tick. Whether the call was done in this round.
     pub fn round(&mut self, alloc: Global) -> Result<bool, AllocError>
         requires goes_on { CallGoesOn self.old }
-        ensures done { IfOk result (λ done. done ≡ (round_of self.old (self.old.clock + 1)).done) }
+        ensures done { IfOk result (λ done. done ≡ (round_of self.old (rounds_of self.old + 1)).done) }
         ensures goes_on { IfOk result (λ done. done ≡ false → CallGoesOn self.new) }
-        ensures clock { OnOk result (self.new.clock ≡ self.old.clock + 1) }
+        ensures clock { OnOk result (rounds_of self.new ≡ rounds_of self.old + 1) }
         ensures same { IsSameCall self.old self.new }
     {
         let frames = std::mem::replace(&mut self.under_way, Vec::new(alloc));
@@ -153,7 +153,7 @@ impl QuietCall {
         requires served { answers self.old < 2 ^ 63 }
         ensures came { IfOk result (λ done. HasStepped (own_clock self.old) frame.now.to (λ h. arrival_step h.settings h.host (own_clock self.old) (arriving h frame.now.from frame.now.frame) (filled (answered self.old))) done (hosts_of self.old) (hosts_of self.new) (frames_of self.old) (frames_of self.new)) }
         ensures served { OnOk result (answers self.new ≤ answers self.old + 1) }
-        ensures clock { self.new.clock ≡ self.old.clock }
+        ensures clock { rounds_of self.new ≡ rounds_of self.old }
         ensures same { IsSameCall self.old self.new }
     {
         let now = self.own_clock();
@@ -176,7 +176,7 @@ impl QuietCall {
         requires may { IfSome (slice_get (hosts_of self.old) host.0) (MayStep (own_clock self.old)) }
         ensures turned { IfOk result (λ done. HasStepped (own_clock self.old) host (λ h. turn_step h.settings h.host (own_clock self.old)) done (hosts_of self.old) (hosts_of self.new) (frames_of self.old) (frames_of self.new)) }
         ensures served { answers self.new ≡ answers self.old }
-        ensures clock { self.new.clock ≡ self.old.clock }
+        ensures clock { rounds_of self.new ≡ rounds_of self.old }
         ensures same { IsSameCall self.old self.new }
     {
         let now = self.own_clock();

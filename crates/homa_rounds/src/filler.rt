@@ -14,18 +14,20 @@ pub struct Filler {
 }
 
 impl Filler {
+    ghost use Rattle.homa_rounds.specs.Standing.{size_of, served_by};
+
     /// One that has answered nothing yet.
     pub fn new(size: u32) -> Filler
         requires { (1 ≤ size) × (size ≤ 1000000) }
-        ensures size { result.size ≡ size }
-        ensures served { result.served ≡ 0 }
+        ensures size { size_of result ≡ size }
+        ensures served { served_by result ≡ 0 }
     {
         Filler { size, served: 0 }
     }
 
     /// How many bytes it answers.
     pub fn size(&self) -> u32
-        ensures { result ≡ self.now.size }
+        ensures { result ≡ size_of self.now }
     {
         self.size
     }
