@@ -3,10 +3,13 @@
 #![tactic(auto)]
 
 use homa_io::{StdSink, StdSource};
-use homa_top::run;
+use homa_top::{run, suites};
 use std::alloc::AllocError;
 use std::process::ExitCode;
 use std::{env, io};
+
+// The status where there is no memory.
+const NO_MEMORY: u8 = 5;
 
 // The command line without the program's name; no words where one of them is no text.
 fn words(rt: &HostRuntime) -> Result<Vec<String>, AllocError> {
@@ -19,14 +22,23 @@ fn words(rt: &HostRuntime) -> Result<Vec<String>, AllocError> {
     Ok(words)
 }
 
-fn main(rt: HostRuntime) -> Result<ExitCode, AllocError> {
+// Hands all to `run`.
+fn status(rt: &HostRuntime) -> Result<u8, AllocError> {
     let alloc = rt.alloc();
-    let words = words(&rt)?;
+    let words = words(rt)?;
     let mut texts = Vec::new(alloc);
     for word in &words {
         texts.push(word.as_str())?;
     }
+    let services = suites(alloc)?;
     let mut source = StdSource::new(rt.reader());
-    let mut sink = StdSink::new(io::writer(&rt));
-    Ok(ExitCode::from(run(alloc, &texts, &mut source, &mut sink)))
+    let mut sink = StdSink::new(io::writer(rt));
+    Ok(run(alloc, &texts, &mut source, &mut sink, services))
+}
+
+fn main(rt: HostRuntime) -> ExitCode {
+    match status(&rt) {
+        Ok(status) => ExitCode::from(status),
+        Err(_) => ExitCode::from(NO_MEMORY),
+    }
 }

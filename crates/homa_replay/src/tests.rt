@@ -1,4 +1,4 @@
-// A replay over a world in which every event is possible and tells nothing.
+// A replay over a world in which every event is possible and tells the same line.
 use super::*;
 use homa_io::{HeldSink, MemSink, MemSource, Room};
 use homa_plain::{Entry, Event, Settings, WorldFault};
@@ -14,7 +14,8 @@ struct Blank {
 }
 
 impl Playing for Blank {
-    ghost use Rattle.std.specs.Prelude.{[], ◌≡◌, refl};
+    ghost use Rattle.std.specs.Prelude.{[], ◌∷◌, ◌≡◌, refl};
+    ghost use Rattle.homa_plain.specs.Entries.{PlainClock};
 
     ghost stands = { λ w v. ⊥ };
 
@@ -22,7 +23,7 @@ impl Playing for Blank {
 
     ghost events = { λ w. w.events };
 
-    ghost told = { λ w. [] };
+    ghost told = { λ w. PlainClock 0 ∷ [] };
 
     ghost allows = { λ w told. told ≡ told };
 
@@ -34,11 +35,11 @@ impl Playing for Blank {
     }
 
     fn entries(&self) -> usize {
-        0
+        1
     }
 
     fn entry(&self, _i: usize) -> Entry<'_> {
-        unreachable!()
+        Entry::Clock { tick: 0 }
     }
 }
 
@@ -90,7 +91,7 @@ fn ticks_are_events(rt: HostRuntime) -> Result<(), Fail> {
     }
     held.flush()?;
     let _sink = held.into_sink();
-    assert!(rt; sink.bytes().ends_with(b"ok 9\n"));
+    assert!(rt; sink.bytes().ends_with(b"clock 0\nclock 0\nok 9\n"));
     Ok(())
 }
 

@@ -1,9 +1,1 @@
-pub mod Packets
-pub mod LinesOf
-pub mod OtherWords
-pub mod Turns
-pub mod Dues
-pub mod Steps
-pub mod Exits
-pub mod Entries
-pub mod Traces
+pub mod Lawful

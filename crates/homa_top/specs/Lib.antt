@@ -1,6 +1,2 @@
-pub mod Seen
-pub mod Given
-pub mod Turn
-pub mod Printing
-pub mod Due
 pub mod Words
+pub mod Lawful

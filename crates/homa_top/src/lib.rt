@@ -2,15 +2,14 @@
 //! the bytes that go out and the status.
 //!
 //! Main promise, the headline: where the words are `replay`, what the sink took is the replay text of the
-//! bytes that the source had, and the trace in it obeys the laws once, returned and handed up.
+//! bytes that the source had, and the trace in it obeys all laws.
 #![tactic(auto)]
 
-mod first;
+mod many;
 mod status;
-mod stop;
 
+pub use many::suites;
 pub use status::run;
-use stop::Stop;
 
 #[cfg(test)]
 mod tests;

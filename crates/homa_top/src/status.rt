@@ -1,14 +1,19 @@
 // The top call.
-ghost use Rattle.std.specs.Prelude.{◌≡◌, ◌≢◌, ◌≤◌, ◌⊎◌, Some, ℕ, List, map, true, false};
-ghost use Rattle.homa_io.specs.Outside.{HasRisen, appended, IsAtEnd, TookFront};
-ghost use Rattle.homa_laws.specs.First.{replay, replay_text, is_refused};
-ghost use Rattle.homa_laws.specs.FirstLaws.{Holds, Once, Returned, HandedUp, IsHandedUp, nothing_seen, seen_all};
+ghost use Rattle.std.specs.Prelude.{◌≡◌, ◌≢◌, ◌≤◌, ◌⊎◌, ℕ, List, Some, [], map, length, true, false};
+ghost use Rattle.homa_io.specs.Outside.{HasRisen, appended, TookFront};
+ghost use Rattle.homa_plain.specs.Rules.{Answer};
+ghost use Rattle.homa_plain.specs.Replay.{replay};
+ghost use Rattle.homa_replay.specs.Far.{replay_of, ArePrinted, AreParts};
+ghost use Rattle.homa_replay.specs.Stream.{shown, is_refusal};
+ghost use Rattle.homa_world.specs.First.{AreReady, AreAllowed};
+ghost use Rattle.every_replay.specs.Replays.{OpensWorld};
+ghost use Rattle.homa_top.specs.Lawful.{TookLawful};
 ghost use Rattle.homa_top.specs.Words.{is_replay, usage_line};
-ghost use Rattle.homa_top.specs.Printing.{PrintsFront};
 
-use crate::Stop;
-use crate::first::replay;
 use homa_io::{Sink, Source, write_all};
+use homa_replay::{Stop, replay};
+use homa_service::Service;
+use homa_world::World;
 use std::alloc::Global;
 
 const USAGE: &[u8] =
@@ -43,9 +48,17 @@ fn put_usage<K: Sink>(sink: &mut K) -> u8
 /// 0 the input was read to its end; 1 the words are none of the commands (so far `replay`); 2 a line is refused;
 /// 3 the source gave a fault; 4 the sink gave a fault; 5 there is no memory, of which no clause says when it comes.
 ///
-/// `replay` reads a schedule from the source and prints its trace. What is said of the bytes holds where the source tells
-/// what it has left, and the sink what it took, as those in memory do.
-pub fn run<S: Source, K: Sink>(alloc: Global, words: &[&str], source: &mut S, sink: &mut K) -> u8
+/// `replay` reads a schedule from the source and prints its trace. Service h serves host h, and the others are there for hosts
+/// that restart, the last one first. What is said of the bytes holds where the source tells what it has left, and the sink
+/// what it took, as those in memory do.
+pub fn run<V: Service, S: Source, K: Sink>(
+    alloc: Global,
+    words: &[&str],
+    source: &mut S,
+    sink: &mut K,
+    services: Vec<V>,
+) -> u8
+    requires { AreReady V.served services.items }
     ensures statuses { result ≤ 5 }
 
     // The words are none of the commands: the source is as before, and the usage line is printed.
@@ -55,32 +68,32 @@ pub fn run<S: Source, K: Sink>(alloc: Global, words: &[&str], source: &mut S, si
     ensures usage_text { result ≡ 1 → K.taken sink.new ≡ appended (K.taken sink.old) usage_line }
     ensures usage_front { is_replay (map (λ w. w.now) words.now) ≡ false → TookFront (K.taken sink.old) (K.taken sink.new) usage_line }
 
-    // What was printed is the replay of the bytes that the source had.
-    ensures text { (result ≡ 0) ⊎ (result ≡ 2) → (bytes : List ℕ) → S.left source.old ≡ Some bytes → K.taken sink.new ≡ appended (K.taken sink.old) (replay_text bytes) }
-    ensures accepted { result ≡ 0 → (bytes : List ℕ) → S.left source.old ≡ Some bytes → is_refused bytes ≡ false }
-    ensures refused { result ≡ 2 → (bytes : List ℕ) → S.left source.old ≡ Some bytes → is_refused bytes ≡ true }
-    ensures to_end { result ≡ 0 → IsAtEnd (S.left source.new) }
+    // What was printed is the replay of the bytes that the source had, with the answers that its own `run` lines show, of which
+    // each is allowed; it refuses no line, or its last line refuses one.
+    ensures accepted { result ≡ 0 → ArePrinted (replay_of (length services.items)) (S.left source.old) (K.taken sink.old) (K.taken sink.new) (AreAllowed V.served V.allows services.items) true }
+    ensures refused { result ≡ 2 → ArePrinted (replay_of (length services.items)) (S.left source.old) (K.taken sink.old) (K.taken sink.new) (AreAllowed V.served V.allows services.items) false }
+    ensures to_end { result ≡ 0 → (bytes : List ℕ) → S.left source.old ≡ Some bytes → S.left source.new ≡ Some [] }
+
+    // Where the schedule opens a world, each of these lines obeys all laws.
+    ensures laws { (result ≡ 0) ⊎ (result ≡ 2) → (bytes : List ℕ) → S.left source.old ≡ Some bytes → OpensWorld bytes → TookLawful (K.taken sink.old) (K.taken sink.new) }
 
     // A fault or want of memory leaves a front of it.
-    ensures front { is_replay (map (λ w. w.now) words.now) ≡ true → 3 ≤ result → PrintsFront (S.left source.old) (S.left source.new) (K.taken sink.old) (K.taken sink.new) }
+    ensures front { is_replay (map (λ w. w.now) words.now) ≡ true → 3 ≤ result → AreParts (replay_of (length services.items)) (S.left source.old) (S.left source.new) (K.taken sink.old) (K.taken sink.new) (AreAllowed V.served V.allows services.items) }
 
     // Faults have their causes, each fault has its status, and nothing else keeps an input that is
-    // accepted from its end.
+    // accepted, whatever is answered, from its end.
     ensures read { result ≡ 3 → HasRisen (S.faults source.old) (S.faults source.new) }
     ensures write { result ≡ 4 → HasRisen (K.faults sink.old) (K.faults sink.new) }
     ensures read_fault { S.faults source.new ≢ S.faults source.old → result ≡ 3 }
     ensures write_fault { K.faults sink.new ≢ K.faults sink.old → result ≡ 4 }
-    ensures complete { is_replay (map (λ w. w.now) words.now) ≡ true → (bytes : List ℕ) → S.left source.old ≡ Some bytes → is_refused bytes ≡ false → (HasRisen (S.faults source.old) (S.faults source.new) → ⊥) → (HasRisen (K.faults sink.old) (K.faults sink.new) → ⊥) → (result ≡ 0) ⊎ (result ≡ 5) }
-
-    // The trace obeys the laws.
-    ensures once { (bytes : List ℕ) → S.left source.old ≡ Some bytes → Holds Once nothing_seen (replay bytes).told }
-    ensures returned { (bytes : List ℕ) → S.left source.old ≡ Some bytes → Holds Returned nothing_seen (replay bytes).told }
-    ensures handed_up { (bytes : List ℕ) → S.left source.old ≡ Some bytes → Holds HandedUp nothing_seen (replay bytes).told × IsHandedUp (seen_all nothing_seen (replay bytes).told) }
+    ensures complete { is_replay (map (λ w. w.now) words.now) ≡ true → (bytes : List ℕ) → S.left source.old ≡ Some bytes
+        → ((answers : List Answer) → is_refusal (replay bytes answers (length services.items)).end ≡ false)
+        → (HasRisen (S.faults source.old) (S.faults source.new) → ⊥) → (HasRisen (K.faults sink.old) (K.faults sink.new) → ⊥) → (result ≡ 0) ⊎ (result ≡ 5) }
 {
     if !is_replay(words) {
         return put_usage(sink);
     }
-    match replay(alloc, source, sink) {
+    match replay::<Vec<V>, World<V>, S, K>(alloc, source, sink, services) {
         Ok(true) => 0,
         Ok(false) => 2,
         Err(Stop::Read) => 3,

@@ -24,7 +24,7 @@ fn run_with(
 ) -> Result<(u8, MemSink), Fail> {
     let mut source = MemSource::new(input.as_bytes().to_vec(alloc)?, reads);
     let mut sink = MemSink::new(alloc, 10_000, writes)?;
-    let status = run(alloc, words, &mut source, &mut sink);
+    let status = run(alloc, words, &mut source, &mut sink, suites(alloc)?);
     Ok((status, sink))
 }
 
@@ -73,16 +73,16 @@ fn refusals(rt: HostRuntime) -> Result<(), Fail> {
     let alloc = rt.alloc();
     // Each schedule behind the settings line, and the last line.
     let refused = [
-        ("go\ndeliver 0", "refused 2 NoSuchPacket\n"),
-        ("go\ngo", "refused 2 Unbuilt\n"),
-        ("go\n\n", "refused 2 Unbuilt\n"),
-        ("go\ncall 0 1 0 6", "refused 2 Unbuilt\n"),
-        ("go\ncall 0 1 0 -", "refused 2 Unbuilt\n"),
-        ("go\ncall 0 0 0 61", "refused 2 Unbuilt\n"),
-        ("go\ncall 0 1 1 61", "refused 2 Unbuilt\n"),
-        ("go\ncall  0 1 0 61", "refused 2 Unbuilt\n"),
-        ("go\ndeliver 0\r", "refused 2 Unbuilt\n"),
-        ("go\ndeliver 00", "refused 2 Unbuilt\n"),
+        ("go\ncall 0 1 0 -", "refused 2 Start Empty\n"),
+        ("go\ncall 0 0 0 61", "refused 2 Start SelfCall\n"),
+        ("go\ncall 0 1 0 6", "refused 2 BadHex\n"),
+        ("go\nseg 4", "refused 2 UnknownWord\n"),
+        ("go\ndeliver", "refused 2 Missing\n"),
+        ("go\nturn 0 0", "refused 2 Extra\n"),
+        ("go\ndeliver 01", "refused 2 BadNumber\n"),
+        ("go\ndeliver 9", "refused 2 NoSuchPacket\n"),
+        ("go\ncall 0 5 0 61", "refused 2 NoSuchHost\n"),
+        ("go\nshift 0 1", "refused 2 OutOfBand 1 0\n"),
     ];
     for (schedule, last) in refused {
         let (status, sink) = replayed(alloc, schedule)?;
@@ -99,9 +99,6 @@ fn first_lines(rt: HostRuntime) -> Result<(), Fail> {
     let (status, sink) = replayed(alloc, "")?;
     assert_eq!(rt; status, 2);
     assert_eq!(rt; sink.bytes(), b"refused 1 NoGo\n".as_slice());
-    let (status, sink) = replayed(alloc, "go\r\n")?;
-    assert_eq!(rt; status, 2);
-    assert_eq!(rt; sink.bytes(), b"refused 1 Unbuilt\n".as_slice());
     let (status, sink) = replayed(alloc, "go")?;
     assert_eq!(rt; status, 0);
     let trace = format!(in alloc; "{SETTINGS}ok 0\n")?;

@@ -14,7 +14,6 @@ use Rattle.homa_plain.specs.Steps.{Work, arrival_step, has_run}
 use Rattle.homa_plain.specs.World.{World as PlainWorld, Outcome, Done, outcome}
 use Rattle.homa_seen.specs.Seen.{Seen}
 use Rattle.homa_seen.specs.Marks.{has_ran, shown_entries}
-use Rattle.homa_service.specs.declared.seat.Seat.{Seat}
 use Rattle.homa_service.specs.Table.{place_of}
 use Rattle.homa_packets.specs.declared.packets.Packets.{Packets}
 use Rattle.homa_packets.specs.All.{kept_all, settings_of}
@@ -26,20 +25,20 @@ use Rattle.homa_moves.proofs.Hosts.{length-set}
 use Rattle.world_events.specs.Named.{IsOwnStep}
 use Rattle.world_events.specs.Apart.{IsApartStep}
 use Rattle.world_events.specs.Stepping.{answering, stepped_world, step_told, IsStepWith}
-use Rattle.homa_world.specs.declared.stage.Stage.{Stage}
+use Rattle.homa_stage.specs.declared.stage.Stage.{Stage}
 use Rattle.homa_world.specs.declared.parts.First.{First}
 use Rattle.homa_world.specs.declared.parts.First.TheVariants as first
 use Rattle.homa_world.specs.declared.parts.Last.TheVariants as last
 use Rattle.homa_world.specs.declared.parts.WorldParts.{WorldParts}
 use Rattle.homa_world.specs.Boxes.{Allows, all_counted, counted, may_tell}
-use Rattle.homa_world.specs.Staged.{Known, known, known_of, hosts_of, seats_of, spares_of, HasCome, HasNotCome}
+use Rattle.homa_stage.specs.Staged.{Known, known, known_of, hosts_of, seats_of, spares_of, HasCome, HasNotCome}
 use Rattle.homa_world.specs.Packed.{frame_kept}
 use Rattle.homa_world.specs.Standing.{StandsFor, IsKept, SeatFits, told_of, may_tell_of, first_told}
 use Rattle.homa_world.proofs.StepLaws.{stands_after, told_after, kept_after}
 use Rattle.homa_world.proofs.ShownLaws.{one_shown, all_show}
 use Rattle.homa_world.proofs.AskedLaws.{MayRun, runs_in, some_in, marks_may, marks_ran, told_runs, AreUnder, all_under, set_under, under_tell, one_entry}
-use Rattle.homa_world.proofs.KeptLaws.{seat_later}
-use Rattle.homa_world.proofs.StageLaws.{map_at}
+use Rattle.homa_world.proofs.KeptLaws.{seat_later, set_fits}
+use Rattle.homa_stage.proofs.StageLaws.{map_at}
 
 first_shown : (id : HostId) (f : First) (bytes : List ℕ) (es : List PlainEntry) → shown (first_told id f bytes ++ es) ≡ shown es
 first_shown id first.Nothing bytes es = refl
@@ -70,20 +69,20 @@ may_from id may m n [] all = tt
 may_from id may m n (Says e ∷ told) all = (all.0, may_from id may m n told all.1)
 may_from id may m n (Sends p ∷ told) all = (tt, may_from id may (suc m) (suc n) told all.1)
 
-module _ {V : Type 0} {held : V → Type 0} (served : Seat V held → ℕ) (allows : Allows (Seat V held)) (mid : WorldParts V held) (kept : IsKept served mid)
-    (now : ℕ) (id : HostId) (h : Seen) (o : Option Packet) (st : Stage V held) (at : slice_get (hosts_of mid.stage) id.0 ≡ Some h) (come : HasCome served allows now id h o mid.stage st)
-    (packets : Packets) (first : First) (like : WorldParts V held) (sent : kept_all packets ≡ kept_all mid.packets ++ map (frame_kept mid.clock) st.outbox) (same : settings_of packets ≡ settings_of mid.packets) where
+module _ {S : Type 0} (served : S → ℕ) (allows : Allows S) (mid : WorldParts S) (kept : IsKept served mid)
+    (now : ℕ) (id : HostId) (h : Seen) (o : Option Packet) (st : Stage S) (at : slice_get (hosts_of mid.stage) id.0 ≡ Some h) (come : HasCome served allows now id h o mid.stage st)
+    (packets : Packets) (first : First) (like : WorldParts S) (sent : kept_all packets ≡ kept_all mid.packets ++ map (frame_kept mid.clock) st.outbox) (same : settings_of packets ≡ settings_of mid.packets) where
   abbrev step : Work
   step = arrival_step h.settings h.host now o come.answer
 
-  abbrev after : WorldParts V held
+  abbrev after : WorldParts S
   after = record mid { stage = st; packets = packets; injected = like.injected; last = last.Stepped id first (length (kept_all mid.packets)); applied = mid.applied + 1 }
 
   -- the boxes after the step allow no more than those before, with the answer counted
   tells : (n : ℕ) (more : List PlainEntry) → may_tell_of served allows after more → may_tell_of served allows mid (entries_from n step.told ++ more)
   tells n more may =
-      let seats : List (Option (Seat V held × ℕ)) = all_counted served (seats_of mid.stage) in
-      let had : Seat V held = come.lent.had in
+      let seats : List (Option (S × ℕ)) = all_counted served (seats_of mid.stage) in
+      let had : S = come.lent.had in
       let place : place_of seats id.0 ≡ Some (had, served had) = place_counted allows served (seats_of mid.stage) id.0 had come.lent.place in
       let runs : runs_in (entries_from n step.told) ≡ run_count step.told = told_runs n step.told in
       let ran : has_ran come.stepped.after.marks ≡ some_in (run_count step.told) =
@@ -94,7 +93,7 @@ module _ {V : Type 0} {held : V → Type 0} (served : Seat V held → ℕ) (allo
       one_entry allows id had (served had) seats (map (counted served) (spares_of mid.stage)) (entries_from n step.told) more place all (omega (arith, runs, few))
       (subst (λ b. may_tell allows (cond b (slice_set seats id.0 (Some (had, served had + 1))) seats) (map (counted served) (spares_of mid.stage)) more) (ran ∙ ap some_in (sym runs)) (counted_tell seats refl place may)) where
         -- the boxes after the step are under those before it, with the answer counted
-        counted_tell : (seats : List (Option (Seat V held × ℕ))) → seats ≡ all_counted served (seats_of mid.stage) → place_of seats id.0 ≡ Some (come.lent.had, served come.lent.had) → may_tell_of served allows after more
+        counted_tell : (seats : List (Option (S × ℕ))) → seats ≡ all_counted served (seats_of mid.stage) → place_of seats id.0 ≡ Some (come.lent.had, served come.lent.had) → may_tell_of served allows after more
             → may_tell allows (cond (has_ran come.stepped.after.marks) (slice_set seats id.0 (Some (come.lent.had, served come.lent.had + 1))) seats) (map (counted served) (spares_of mid.stage)) more
         counted_tell seats is place may =
             under_tell allows (all_counted served (seats_of st)) (cond (has_ran come.stepped.after.marks) (slice_set seats id.0 (Some (come.lent.had, served come.lent.had + 1))) seats) (map (counted served) (spares_of mid.stage)) more
@@ -131,7 +130,7 @@ module _ {V : Type 0} {held : V → Type 0} (served : Seat V held → ℕ) (allo
   pub came_kept : IsOwnStep id step → IsApartStep id step → length st.outbox ≤ 64 → length (kept_all mid.packets) + 64 < 2 ^ 64 → now ≤ mid.clock + slice_index_or mid.leads.items id.0 0 → id.0 < mid.settings.hosts → IsKept served after
   came_kept own apart frames room clock inside =
       kept_after served mid kept now id h step st at come.stepped packets first like sent same own apart frames room clock (ap length come.lent.seats ∙ length-set (seats_of mid.stage) id.0 (Some come.lent.seat))
-      (λ i l. subst (λ xs. SeatFits served (mid.applied + 1) (place_of xs i)) (sym come.lent.seats) (set_fits (seats_of mid.stage) id.0 i come.lent.seat new_count (seat_later served mid.applied (mid.applied + 1) (place_of (seats_of mid.stage) i) (omega (arith)) (kept.seats i l)))) come.lent.spares where
+      (λ i l. subst (λ xs. SeatFits served (mid.applied + 1) (place_of xs i)) (sym come.lent.seats) (set_fits served (mid.applied + 1) (seats_of mid.stage) id.0 i come.lent.seat new_count (seat_later served mid.applied (mid.applied + 1) (place_of (seats_of mid.stage) i) (omega (arith)) (kept.seats i l)))) come.lent.spares where
         new_count : served come.lent.seat ≤ mid.applied + 1
         new_count = by_fit (kept.seats id.0 inside) where
           by_fit : SeatFits served mid.applied (place_of (seats_of mid.stage) id.0) → served come.lent.seat ≤ mid.applied + 1
@@ -139,16 +138,9 @@ module _ {V : Type 0} {held : V → Type 0} (served : Seat V held → ℕ) (allo
               let one_seat : f.seat ≡ come.lent.had = some_is f.seat come.lent.had (sym f.is ∙ come.lent.place) in
               let had : served come.lent.had ≤ mid.applied = subst (λ x. served x ≤ mid.applied) one_seat f.count in
               by_run (has_ran come.stepped.after.marks) come.count had where
-                some_is : (x y : Seat V held) → Some x ≡ Some y → x ≡ y
+                some_is : (x y : S) → Some x ≡ Some y → x ≡ y
                 some_is x y e = cc
 
                 by_run : (b : Bool) → served come.lent.seat ≡ cond b (served come.lent.had + 1) (served come.lent.had) → served come.lent.had ≤ mid.applied → served come.lent.seat ≤ mid.applied + 1
                 by_run true e l = omega (arith, e, l)
                 by_run false e l = omega (arith, e, l)
-
-        set_fits : (xs : List (Option (Seat V held))) (i j : ℕ) (x : Seat V held) → served x ≤ mid.applied + 1 → SeatFits served (mid.applied + 1) (place_of xs j) → SeatFits served (mid.applied + 1) (place_of (slice_set xs i (Some x)) j)
-        set_fits [] i j x l f = f
-        set_fits (y ∷ xs) zero zero x l f = record { seat = x; is = refl; count = l }
-        set_fits (y ∷ xs) zero (suc j) x l f = f
-        set_fits (y ∷ xs) (suc i) zero x l f = f
-        set_fits (y ∷ xs) (suc i) (suc j) x l f = set_fits xs i j x l f

@@ -18,7 +18,6 @@ use Rattle.homa_plain.specs.Settings.{IsValid, band}
 use Rattle.homa_plain.specs.Steps.{Work, has_run, turn_step, call_step, start_fault}
 use Rattle.homa_plain.specs.World.{World as PlainWorld, host_at, own_clock, last_tick}
 use Rattle.homa_seen.specs.Seen.{Seen}
-use Rattle.homa_service.specs.declared.seat.Seat.{Seat}
 use Rattle.homa_service.specs.Table.{place_of}
 use Rattle.homa_packets.specs.All.{kept_all, settings_of, open_tick}
 use Rattle.homa_packets.specs.declared.packets.Packets.{Packets}
@@ -31,17 +30,17 @@ use Rattle.world_events.proofs.Events as events
 use Rattle.world_events.specs.Named.{IsOwnStep}
 use Rattle.world_events.specs.Apart.{IsApart, IsApartStep}
 use Rattle.world_events.specs.Stepping.{IsStepBy, IsRefusal}
-use Rattle.homa_world.specs.declared.stage.Stage.{Stage}
+use Rattle.homa_stage.specs.declared.stage.Stage.{Stage}
 use Rattle.homa_world.specs.declared.parts.First.{First}
 use Rattle.homa_world.specs.declared.parts.First.TheVariants as first
 use Rattle.homa_world.specs.declared.parts.Last.TheVariants as last
 use Rattle.homa_world.specs.declared.parts.WorldParts.{WorldParts}
 use Rattle.homa_world.specs.Boxes.{Allows}
-use Rattle.homa_world.specs.Staged.{Known, known, known_of, hosts_of, seats_of, spares_of, MayStep, HasStepped}
+use Rattle.homa_stage.specs.Staged.{Known, known, known_of, hosts_of, seats_of, spares_of, MayStep, HasStepped}
 use Rattle.homa_world.specs.Packed.{frame_kept, IsShort}
 use Rattle.homa_world.specs.Standing.{StandsFor, HostFits, IsKept, IsLast, SeatFits, Applies, StillStands, told_of, may_tell_of}
 use Rattle.homa_world.proofs.StepLaws.{kept_after, short_frames}
-use Rattle.homa_world.proofs.StageLaws.{map_at}
+use Rattle.homa_stage.proofs.StageLaws.{map_at}
 use Rattle.homa_world.proofs.KeptLaws.{seat_later}
 use Rattle.homa_world.proofs.QuietLaws.{quiet_applies}
 
@@ -61,18 +60,18 @@ of_some P o x e p = subst (λ o. IfSome o P) e p
 pub if_some : {A : Type 0} (P : A → Type 0) (o : Option A) (x : A) → o ≡ Some x → P x → IfSome o P
 if_some P o x e p = subst (λ o. IfSome o P) (sym e) p
 
-module _ {V : Type 0} {held : V → Type 0} (served : Seat V held → ℕ) where
+module _ {S : Type 0} (served : S → ℕ) where
   -- a host may take a step by its own clock
-  pub may_step : (w : WorldParts V held) → IsKept served w → w.applied < 2 ^ 57 → (id : HostId) (now : ℕ) → now ≡ w.clock + slice_index_or w.leads.items id.0 0 → id.0 < length (hosts_of w.stage)
+  pub may_step : (w : WorldParts S) → IsKept served w → w.applied < 2 ^ 57 → (id : HostId) (now : ℕ) → now ≡ w.clock + slice_index_or w.leads.items id.0 0 → id.0 < length (hosts_of w.stage)
       → IfSome (slice_get (hosts_of w.stage) id.0) (MayStep now)
   may_step w k few id now clock l =
       let r = found (hosts_of w.stage) id.0 l in
       let f : HostFits w.settings (w.clock + slice_index_or w.leads.items id.0 0) w.applied (length (spares_of w.stage)) id (known r.h) = k.each id (known r.h) (map_at known (hosts_of w.stage) id.0 r.h r.at) in
       if_some (MayStep now) (slice_get (hosts_of w.stage) id.0) r.h r.at (record { last = omega (arith, f.last, clock); order = omega (arith, f.order, few) })
 
-module _ {V : Type 0} {held : V → Type 0} (served : Seat V held → ℕ) (allows : Allows (Seat V held)) (old mid new : WorldParts V held) (kept : IsKept served mid) (few : mid.applied < 2 ^ 57)
+module _ {S : Type 0} (served : S → ℕ) (allows : Allows S) (old mid new : WorldParts S) (kept : IsKept served mid) (few : mid.applied < 2 ^ 57)
     (room : mid ≡ record old { packets = mid.packets; last = last.Nothing }) (still : StillStands old mid)
-    (now : ℕ) (id : HostId) (h : Seen) (step : Work) (st : Stage V held) (at : slice_get (hosts_of mid.stage) id.0 ≡ Some h) (stepped : HasStepped now id h step mid.stage st)
+    (now : ℕ) (id : HostId) (h : Seen) (step : Work) (st : Stage S) (at : slice_get (hosts_of mid.stage) id.0 ≡ Some h) (stepped : HasStepped now id h step mid.stage st)
     (done : new ≡ record mid { stage = st; packets = new.packets; last = last.Stepped id first.Nothing (length (kept_all mid.packets)); applied = mid.applied + 1 })
     (sent : kept_all new.packets ≡ kept_all mid.packets ++ map (frame_kept mid.clock) st.outbox) (same : settings_of new.packets ≡ settings_of mid.packets)
     (own : IsOwnStep id step) (seats : seats_of st ≡ seats_of mid.stage) (spares : spares_of st ≡ spares_of mid.stage) where
@@ -96,19 +95,19 @@ past_none [] i l = refl
 past_none (x ∷ xs) zero l = absurd (omega (arith, l))
 past_none (x ∷ xs) (suc i) l = past_none xs i (omega (arith, l))
 
-module _ {V : Type 0} {held : V → Type 0} where
+module _ {S : Type 0} where
   -- the plain world has as many hosts
-  hosts_alike : (w : WorldParts V held) (p : PlainWorld) → StandsFor w p → length p.hosts ≡ length (hosts_of w.stage)
+  hosts_alike : (w : WorldParts S) (p : PlainWorld) → StandsFor w p → length p.hosts ≡ length (hosts_of w.stage)
   hosts_alike w p stands = ap length stands.hosts ∙ length-map (known_of w.stage) (λ (k : Known). k.host) ∙ length-map (hosts_of w.stage) known
 
-  pub no_host : (w : WorldParts V held) (id : HostId) (p : PlainWorld) → StandsFor w p → length (hosts_of w.stage) ≤ id.0 → host_at p id ≡ None
+  pub no_host : (w : WorldParts S) (id : HostId) (p : PlainWorld) → StandsFor w p → length (hosts_of w.stage) ≤ id.0 → host_at p id ≡ None
   no_host w id p stands l = past_none p.hosts id.0 (omega (arith, l, hosts_alike w p stands))
 
-  pub host_there : (w : WorldParts V held) (id : HostId) (h : Seen) (p : PlainWorld) → StandsFor w p → slice_get (hosts_of w.stage) id.0 ≡ Some h → host_at p id ≡ Some h.host
+  pub host_there : (w : WorldParts S) (id : HostId) (h : Seen) (p : PlainWorld) → StandsFor w p → slice_get (hosts_of w.stage) id.0 ≡ Some h → host_at p id ≡ Some h.host
   host_there w id h p stands at =
       ap (λ hs. slice_get hs id.0) stands.hosts ∙ map_at (λ (k : Known). k.host) (known_of w.stage) id.0 (known h) (map_at known (hosts_of w.stage) id.0 h at)
 
-  pub clock_there : (w : WorldParts V held) (id : HostId) (now : ℕ) (p : PlainWorld) → StandsFor w p → now ≡ w.clock + slice_index_or w.leads.items id.0 0 → own_clock p id ≡ now
+  pub clock_there : (w : WorldParts S) (id : HostId) (now : ℕ) (p : PlainWorld) → StandsFor w p → now ≡ w.clock + slice_index_or w.leads.items id.0 0 → own_clock p id ≡ now
   clock_there w id now p stands e = ap (λ n. n + slice_index_or p.leads id.0 0) stands.clock ∙ ap (λ ls. w.clock + slice_index_or ls id.0 0) stands.leads ∙ sym e
 
 -- ---- what a test said
@@ -122,21 +121,14 @@ not_there b n m is e =
       no : false ≡ true → ⊥
       no e = cc
 
--- what is so where there was no error
-pub where_ok : {T E : Type 0} (P : Type 0) (r : Result T E) (b : Bool) → b ≡ is_err r → b ≡ false → OnOk r P → P
-where_ok P (Ok x) b is e p = p
-where_ok P (Err x) b is e p = absurd (no (sym e ∙ is)) where
-  no : false ≡ true → ⊥
-  no e = cc
-
 -- frames of the present tick
-pub sent_now : {V : Type 0} {held : V → Type 0} (mid : WorldParts V held) (packets : Packets) (st : Stage V held) → open_tick mid.packets ≡ mid.clock → kept_all packets ≡ kept_all mid.packets ++ map (frame_kept (open_tick mid.packets)) st.outbox
+pub sent_now : {S : Type 0} (mid : WorldParts S) (packets : Packets) (st : Stage S) → open_tick mid.packets ≡ mid.clock → kept_all packets ≡ kept_all mid.packets ++ map (frame_kept (open_tick mid.packets)) st.outbox
     → kept_all packets ≡ kept_all mid.packets ++ map (frame_kept mid.clock) st.outbox
 sent_now mid packets st tick e = subst (λ n. kept_all packets ≡ kept_all mid.packets ++ map (frame_kept n) st.outbox) tick e
 
-module _ {V : Type 0} {held : V → Type 0} (served : Seat V held → ℕ) where
+module _ {S : Type 0} (served : S → ℕ) where
   -- the frames of a step are short
-  pub short_there : (w : WorldParts V held) → IsKept served w → (now : ℕ) (id : HostId) (step : Seen → Work) (st : Stage V held) → id.0 < length (hosts_of w.stage)
+  pub short_there : (w : WorldParts S) → IsKept served w → (now : ℕ) (id : HostId) (step : Seen → Work) (st : Stage S) → id.0 < length (hosts_of w.stage)
       → IfSome (slice_get (hosts_of w.stage) id.0) (λ h. HasStepped now id h (step h) w.stage st) → AllByRecursion IsShort st.outbox
   short_there w k now id step st l did =
       let r = found (hosts_of w.stage) id.0 l in
@@ -146,9 +138,9 @@ module _ {V : Type 0} {held : V → Type 0} (served : Seat V held → ℕ) where
 step_by : (s t : Settings) (a b : ℕ) (p : PlainWorld) (id : HostId) (e : Event) (bytes : List ℕ) (step : Settings → ℕ → Work) → s ≡ t → a ≡ b → IsStepBy [] s p id e bytes [] (step s a) → IsStepBy [] s p id e bytes [] (step t b)
 step_by s t a b p id e bytes step same clock is = subst (λ n. IsStepBy [] s p id e bytes [] (step t n)) clock (subst (λ u. IsStepBy [] s p id e bytes [] (step u a)) same is)
 
-module _ {V : Type 0} {held : V → Type 0} (served : Seat V held → ℕ) (allows : Allows (Seat V held)) (old mid new : WorldParts V held) (kept : IsKept served mid) (few : mid.applied < 2 ^ 57)
+module _ {S : Type 0} (served : S → ℕ) (allows : Allows S) (old mid new : WorldParts S) (kept : IsKept served mid) (few : mid.applied < 2 ^ 57)
     (room : mid ≡ record old { packets = mid.packets; last = last.Nothing }) (still : StillStands old mid)
-    (now : ℕ) (id : HostId) (clock : now ≡ mid.clock + slice_index_or mid.leads.items id.0 0) (l : id.0 < length (hosts_of mid.stage)) (st : Stage V held)
+    (now : ℕ) (id : HostId) (clock : now ≡ mid.clock + slice_index_or mid.leads.items id.0 0) (l : id.0 < length (hosts_of mid.stage)) (st : Stage S)
     (did : IfSome (slice_get (hosts_of mid.stage) id.0) (λ h. HasStepped now id h (turn_step h.settings h.host now) mid.stage st))
     (done : new ≡ record mid { stage = st; packets = new.packets; last = last.Stepped id first.Nothing (length (kept_all mid.packets)); applied = mid.applied + 1 })
     (sent : kept_all new.packets ≡ kept_all mid.packets ++ map (frame_kept mid.clock) st.outbox) (same : settings_of new.packets ≡ settings_of mid.packets)
@@ -180,12 +172,12 @@ not_self s h id server request name none same =
       by_tests false false true o self e = cc
       by_tests false false false o self e = cc
 
-pub is_some_there : {V : Type 0} {held : V → Type 0} (w : WorldParts V held) (id : HostId) (p : PlainWorld) → StandsFor w p → id.0 < length (hosts_of w.stage) → is_some (host_at p id) ≡ true
+pub is_some_there : {S : Type 0} (w : WorldParts S) (id : HostId) (p : PlainWorld) → StandsFor w p → id.0 < length (hosts_of w.stage) → is_some (host_at p id) ≡ true
 is_some_there w id p stands l = let r = found (hosts_of w.stage) id.0 l in ap is_some (host_there w id r.h p stands r.at)
 
-module _ {V : Type 0} {held : V → Type 0} (served : Seat V held → ℕ) where
+module _ {S : Type 0} (served : S → ℕ) where
   -- a host's number is among those of another host's settings
-  pub known_there : (w : WorldParts V held) → IsKept served w → (id other : HostId) → id.0 < length (hosts_of w.stage) → other.0 < length (hosts_of w.stage) → IfSome (slice_get (hosts_of w.stage) id.0) (λ h. other.0 < h.settings.hosts)
+  pub known_there : (w : WorldParts S) → IsKept served w → (id other : HostId) → id.0 < length (hosts_of w.stage) → other.0 < length (hosts_of w.stage) → IfSome (slice_get (hosts_of w.stage) id.0) (λ h. other.0 < h.settings.hosts)
   known_there w k id other l m =
       let r = found (hosts_of w.stage) id.0 l in
       let f = k.each id (known r.h) (map_at known (hosts_of w.stage) id.0 r.h r.at) in
@@ -193,7 +185,7 @@ module _ {V : Type 0} {held : V → Type 0} (served : Seat V held → ℕ) where
       if_some (λ h. other.0 < h.settings.hosts) (slice_get (hosts_of w.stage) id.0) r.h r.at (omega (arith, m, n, k.hosts, length-map (hosts_of w.stage) known))
 
   -- why a call can't start
-  pub start_refused : (w : WorldParts V held) → IsKept served w → (client server : HostId) (number : ℕ) (request : List ℕ) (fault : StartFault) → client.0 < length (hosts_of w.stage) → server.0 < length (hosts_of w.stage)
+  pub start_refused : (w : WorldParts S) → IsKept served w → (client server : HostId) (number : ℕ) (request : List ℕ) (fault : StartFault) → client.0 < length (hosts_of w.stage) → server.0 < length (hosts_of w.stage)
       → IfSome (slice_get (hosts_of w.stage) client.0) (λ h. start_fault h.settings h.host server request ≡ Some fault) → (p : PlainWorld) → StandsFor w p → IsRefusal w.settings p (event.Call client server number) request (fault_word.Start fault)
   start_refused w k client server number request fault l m why p stands =
       let r = found (hosts_of w.stage) client.0 l in
@@ -202,7 +194,7 @@ module _ {V : Type 0} {held : V → Type 0} (served : Seat V held → ℕ) where
       (ap (λ (s : Settings). start_fault s r.h.host server request) (sym f.settings) ∙ of_some (λ h. start_fault h.settings h.host server request ≡ Some fault) (slice_get (hosts_of w.stage) client.0) r.h r.at why)
 
   -- the same hosts and boxes, but for what the last step told
-  pub failed_kept : (w : WorldParts V held) (st : Stage V held) → IsKept served w → w.last ≡ last.Nothing → known_of st ≡ known_of w.stage → seats_of st ≡ seats_of w.stage → spares_of st ≡ spares_of w.stage → IsKept served (record w { stage = st })
+  pub failed_kept : (w : WorldParts S) (st : Stage S) → IsKept served w → w.last ≡ last.Nothing → known_of st ≡ known_of w.stage → seats_of st ≡ seats_of w.stage → spares_of st ≡ spares_of w.stage → IsKept served (record w { stage = st })
   failed_kept w st k none knowns seats spares = record {
     valid = k.valid;
     clock = k.clock;
@@ -219,9 +211,9 @@ module _ {V : Type 0} {held : V → Type 0} (served : Seat V held → ℕ) where
     last = subst (IsLast (record w { stage = st })) (sym none) tt;
   }
 
-module _ {V : Type 0} {held : V → Type 0} (served : Seat V held → ℕ) (allows : Allows (Seat V held)) (old mid new : WorldParts V held) (kept : IsKept served mid) (few : mid.applied < 2 ^ 57)
+module _ {S : Type 0} (served : S → ℕ) (allows : Allows S) (old mid new : WorldParts S) (kept : IsKept served mid) (few : mid.applied < 2 ^ 57)
     (room : mid ≡ record old { packets = mid.packets; last = last.Nothing }) (still : StillStands old mid)
-    (now : ℕ) (client server : HostId) (number : ℕ) (request : List ℕ) (clock : now ≡ mid.clock + slice_index_or mid.leads.items client.0 0) (l : client.0 < length (hosts_of mid.stage)) (m : server.0 < length (hosts_of mid.stage)) (st : Stage V held)
+    (now : ℕ) (client server : HostId) (number : ℕ) (request : List ℕ) (clock : now ≡ mid.clock + slice_index_or mid.leads.items client.0 0) (l : client.0 < length (hosts_of mid.stage)) (m : server.0 < length (hosts_of mid.stage)) (st : Stage S)
     (did : IfSome (slice_get (hosts_of mid.stage) client.0) (λ h. HasStepped now client h (call_step h.settings h.host now server number request) mid.stage st))
     (fine : IfSome (slice_get (hosts_of mid.stage) client.0) (λ h. start_fault h.settings h.host server request ≡ None))
     (done : new ≡ record mid { stage = st; packets = new.packets; last = last.Stepped client first.Nothing (length (kept_all mid.packets)); applied = mid.applied + 1 })

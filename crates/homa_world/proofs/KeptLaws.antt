@@ -1,6 +1,6 @@
 -- What is so between two events stays so.
 use Rattle.std.proofs.Common.{Bool, true, false, ◌≡◌, ◌≢◌, ◌<◌, ◌≤◌, ℕ, zero, suc, ◌+◌, ◌*◌, Option, Some, None, List, [], ◌∷◌, ◌++◌, length, refl, sym, ap, subst, ◌∙◌, arith}
-use Rattle.std.specs.Prelude.{map, slice_get, slice_index_or}
+use Rattle.std.specs.Prelude.{map, slice_get, slice_set, slice_index_or}
 use Rattle.std.specs.List.{AllByRecursion}
 use Rattle.homa_plain.specs.declared.id.HostId.{HostId}
 use Rattle.homa_plain.specs.declared.settings.Settings.{Settings}
@@ -10,7 +10,6 @@ use Rattle.homa_plain.specs.declared.fault.WorldFault.TheVariants as fault
 use Rattle.homa_replay.specs.Playing.{IsNotApplied, is_memory, is_clock}
 use Rattle.world_events.specs.Stepping.{IsRefusal}
 use Rattle.homa_plain.specs.World.{World as PlainWorld, last_tick}
-use Rattle.homa_service.specs.declared.seat.Seat.{Seat}
 use Rattle.homa_service.specs.Table.{place_of}
 use Rattle.homa_packets.specs.declared.packets.Packets.{Packets}
 use Rattle.homa_packets.specs.Kept.{AllAged}
@@ -19,7 +18,7 @@ use Rattle.world_laws.proofs.Sent.{read}
 use Rattle.homa_world.specs.declared.parts.Last.{Last}
 use Rattle.homa_world.specs.declared.parts.Last.TheVariants as last
 use Rattle.homa_world.specs.declared.parts.WorldParts.{WorldParts}
-use Rattle.homa_world.specs.Staged.{Known, known_of, seats_of, spares_of}
+use Rattle.homa_stage.specs.Staged.{Known, known_of, seats_of, spares_of}
 use Rattle.homa_world.specs.Standing.{StandsFor, HostFits, SeatFits, IsKept, IsLast}
 use Rattle.homa_world.proofs.PackedLaws.{shown_later, shown_aged, froms_aged, aged_length}
 
@@ -34,19 +33,26 @@ fits_later s now later a b n id k l m f = record {
   lives = f.lives;
 }
 
-module _ {V : Type 0} {held : V → Type 0} (served : Seat V held → ℕ) where
-  pub seat_later : (a b : ℕ) (o : Option (Seat V held)) → a ≤ b → SeatFits served a o → SeatFits served b o
+module _ {S : Type 0} (served : S → ℕ) where
+  pub seat_later : (a b : ℕ) (o : Option S) → a ≤ b → SeatFits served a o → SeatFits served b o
   seat_later a b o l f = record { seat = f.seat; is = f.is; count = omega (arith, f.count, l) }
 
-  pub spares_later : (a b : ℕ) (xs : List (Seat V held)) → a ≤ b → AllByRecursion (λ seat. served seat ≤ a) xs → AllByRecursion (λ seat. served seat ≤ b) xs
+  pub set_fits : (a : ℕ) (xs : List (Option S)) (i j : ℕ) (x : S) → served x ≤ a → SeatFits served a (place_of xs j) → SeatFits served a (place_of (slice_set xs i (Some x)) j)
+  set_fits a [] i j x l f = f
+  set_fits a (y ∷ xs) zero zero x l f = record { seat = x; is = refl; count = l }
+  set_fits a (y ∷ xs) zero (suc j) x l f = f
+  set_fits a (y ∷ xs) (suc i) zero x l f = f
+  set_fits a (y ∷ xs) (suc i) (suc j) x l f = set_fits a xs i j x l f
+
+  pub spares_later : (a b : ℕ) (xs : List S) → a ≤ b → AllByRecursion (λ seat. served seat ≤ a) xs → AllByRecursion (λ seat. served seat ≤ b) xs
   spares_later a b [] l all = tt
   spares_later a b (x ∷ xs) l all = (omega (arith, all.0, l), spares_later a b xs l all.1)
 
   -- a tick
-  abbrev ticked : WorldParts V held → WorldParts V held
+  abbrev ticked : WorldParts S → WorldParts S
   ticked w = record w { clock = w.clock + 1; last = last.Ticked; applied = w.applied + 1 }
 
-  pub tick_kept : (w : WorldParts V held) → IsKept served w → w.clock ≢ last_tick → IsKept served (ticked w)
+  pub tick_kept : (w : WorldParts S) → IsKept served w → w.clock ≢ last_tick → IsKept served (ticked w)
   tick_kept w k before = record {
     valid = k.valid;
     clock = omega (arith, k.clock, before);
@@ -63,7 +69,7 @@ module _ {V : Type 0} {held : V → Type 0} (served : Seat V held → ℕ) where
     last = tt;
   }
 
-  pub tick_stands : (w : WorldParts V held) (p : PlainWorld) → StandsFor w p → StandsFor (ticked w) (record p { clock = p.clock + 1 })
+  pub tick_stands : (w : WorldParts S) (p : PlainWorld) → StandsFor w p → StandsFor (ticked w) (record p { clock = p.clock + 1 })
   tick_stands w p st = record {
     clock = ap (λ n. n + 1) st.clock;
     hosts = st.hosts;
@@ -86,12 +92,12 @@ no_memory s w e bytes other = record { refused = λ m. absurd (no m); memory = �
 
 -- ---- packets that became too old
 
-module _ {V : Type 0} {held : V → Type 0} (served : Seat V held → ℕ) where
+module _ {S : Type 0} (served : S → ℕ) where
   -- packets that became too old by now, and nothing that is told
-  abbrev aged : WorldParts V held → Packets → WorldParts V held
+  abbrev aged : WorldParts S → Packets → WorldParts S
   aged w packets = record w { packets = packets; last = last.Nothing }
 
-  pub room_kept : (w : WorldParts V held) (packets : Packets) → AllAged (settings_of w.packets) w.clock (kept_all w.packets) (kept_all packets) → settings_of packets ≡ settings_of w.packets → IsKept served w → IsKept served (aged w packets)
+  pub room_kept : (w : WorldParts S) (packets : Packets) → AllAged (settings_of w.packets) w.clock (kept_all w.packets) (kept_all packets) → settings_of packets ≡ settings_of w.packets → IsKept served w → IsKept served (aged w packets)
   room_kept w packets a same k =
       let shorter : length (kept_all packets) ≡ length (kept_all w.packets) = aged_length (settings_of w.packets) w.clock (kept_all w.packets) (kept_all packets) a in
       record {
@@ -106,11 +112,11 @@ module _ {V : Type 0} {held : V → Type 0} (served : Seat V held → ℕ) where
         spares = k.spares;
         packets = same ∙ k.packets;
         few = omega (arith, k.few, shorter);
-        froms = froms_aged (settings_of w.packets) w.settings.hosts w.clock (kept_all w.packets) (kept_all packets) a k.froms;
+        froms = froms_aged (settings_of w.packets) w.settings.hosts w.clock k.clock (kept_all w.packets) (kept_all packets) a k.froms;
         last = tt;
       }
 
-  pub room_stands : (w : WorldParts V held) (packets : Packets) → settings_of w.packets ≡ w.settings → AllAged (settings_of w.packets) w.clock (kept_all w.packets) (kept_all packets) → (p : PlainWorld) → StandsFor w p → StandsFor (aged w packets) p
+  pub room_stands : (w : WorldParts S) (packets : Packets) → settings_of w.packets ≡ w.settings → AllAged (settings_of w.packets) w.clock (kept_all w.packets) (kept_all packets) → (p : PlainWorld) → StandsFor w p → StandsFor (aged w packets) p
   room_stands w packets same a p st = record {
     clock = st.clock;
     hosts = st.hosts;

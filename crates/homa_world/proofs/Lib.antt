@@ -1,4 +1,3 @@
-pub mod StageLaws
 pub mod PackedLaws
 pub mod KeptLaws
 pub mod SendLaws
@@ -9,5 +8,7 @@ pub mod AskedLaws
 pub mod QuietLaws
 pub mod EventLaws
 pub mod CameLaws
-pub mod EntryLaws
 pub mod RestLaws
+pub mod ArrivedLaws
+pub mod FirstLaws
+pub mod BytesLaws

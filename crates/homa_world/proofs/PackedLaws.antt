@@ -88,22 +88,22 @@ seen_as s now (p ∷ ps) (j ∷ ks) (suc n) k all e = let r = seen_as s now ps k
 
 -- ---- the hosts that datagrams come from
 
-froms_by : (s : Settings) (hosts now : ℕ) (k j : KeptPacket) → IsAged s now k j → IsFromHost hosts k → IsFromHost hosts j
-froms_by s hosts now (WholePacket tick f) (WholePacket later g) a b = (subst (λ (x : HostId). x.0 < hosts) (sym (ap (λ h. h.from) a.1)) b.0, λ e. b.1 (sym (ap (λ h. h.from) a.1) ∙ e ∙ ap (λ h. h.to) a.1))
-froms_by s hosts now (WholePacket tick f) (LatePacket later) a b = tt
-froms_by s hosts now (WholePacket tick f) (StalePacket to at) a b = tt
-froms_by s hosts now (LatePacket tick) (LatePacket later) a b = tt
-froms_by s hosts now (LatePacket tick) (WholePacket later g) a b = absurd a
-froms_by s hosts now (LatePacket tick) (StalePacket to at) a b = tt
-froms_by s hosts now (StalePacket to at) (StalePacket other later) a b = tt
-froms_by s hosts now (StalePacket to at) (WholePacket later g) a b = absurd a
-froms_by s hosts now (StalePacket to at) (LatePacket later) a b = tt
+froms_by : (s : Settings) (hosts now : ℕ) → now ≤ 1000000000000 → (k j : KeptPacket) → IsAged s now k j → IsFromHost hosts k → IsFromHost hosts j
+froms_by s hosts now most (WholePacket tick f) (WholePacket later g) a b = (subst (λ (x : HostId). x.0 < hosts) (sym (ap (λ h. h.from) a.1)) b.0, λ e. b.1 (sym (ap (λ h. h.from) a.1) ∙ e ∙ ap (λ h. h.to) a.1))
+froms_by s hosts now most (WholePacket tick f) (LatePacket later) a b = tt
+froms_by s hosts now most (WholePacket tick f) (StalePacket to at) a b = omega (arith, a.3, most)
+froms_by s hosts now most (LatePacket tick) (LatePacket later) a b = tt
+froms_by s hosts now most (LatePacket tick) (WholePacket later g) a b = absurd a
+froms_by s hosts now most (LatePacket tick) (StalePacket to at) a b = absurd a
+froms_by s hosts now most (StalePacket to at) (StalePacket other later) a b = omega (arith, a.1, b)
+froms_by s hosts now most (StalePacket to at) (WholePacket later g) a b = absurd a
+froms_by s hosts now most (StalePacket to at) (LatePacket later) a b = absurd a
 
-pub froms_aged : (s : Settings) (hosts now : ℕ) (ks js : List KeptPacket) → AllAged s now ks js → AllByRecursion (IsFromHost hosts) ks → AllByRecursion (IsFromHost hosts) js
-froms_aged s hosts now [] [] a all = tt
-froms_aged s hosts now [] (j ∷ js) a all = absurd a
-froms_aged s hosts now (k ∷ ks) [] a all = absurd a
-froms_aged s hosts now (k ∷ ks) (j ∷ js) a all = (froms_by s hosts now k j a.0 all.0, froms_aged s hosts now ks js a.1 all.1)
+pub froms_aged : (s : Settings) (hosts now : ℕ) → now ≤ 1000000000000 → (ks js : List KeptPacket) → AllAged s now ks js → AllByRecursion (IsFromHost hosts) ks → AllByRecursion (IsFromHost hosts) js
+froms_aged s hosts now most [] [] a all = tt
+froms_aged s hosts now most [] (j ∷ js) a all = absurd a
+froms_aged s hosts now most (k ∷ ks) [] a all = absurd a
+froms_aged s hosts now most (k ∷ ks) (j ∷ js) a all = (froms_by s hosts now most k j a.0 all.0, froms_aged s hosts now most ks js a.1 all.1)
 
 pub aged_length : (s : Settings) (now : ℕ) (ks js : List KeptPacket) → AllAged s now ks js → length js ≡ length ks
 aged_length s now [] [] a = refl

@@ -10,29 +10,28 @@ use Rattle.homa_plain.specs.Rules.{Answer}
 use Rattle.homa_plain.specs.Steps.{Work, has_run}
 use Rattle.homa_plain.specs.World.{World as PlainWorld, Outcome, Done, outcome}
 use Rattle.homa_seen.specs.Seen.{Seen}
-use Rattle.homa_service.specs.declared.seat.Seat.{Seat}
 use Rattle.homa_packets.specs.declared.packets.Packets.{Packets}
 use Rattle.homa_packets.specs.All.{kept_all, settings_of}
 use Rattle.homa_replay.specs.Stream.{shown}
 use Rattle.homa_replay.specs.Playing.{IsApplied}
 use Rattle.world_events.specs.Named.{IsOwnStep}
 use Rattle.world_events.specs.Stepping.{answering, stepped_world, step_told, IsStepBy}
-use Rattle.homa_world.specs.declared.stage.Stage.{Stage}
+use Rattle.homa_stage.specs.declared.stage.Stage.{Stage}
 use Rattle.homa_world.specs.declared.parts.First.TheVariants as first
 use Rattle.homa_world.specs.declared.parts.Last.TheVariants as last
 use Rattle.homa_world.specs.declared.parts.WorldParts.{WorldParts}
 use Rattle.homa_world.specs.Boxes.{Allows, all_counted, counted, may_tell}
-use Rattle.homa_world.specs.Staged.{hosts_of, seats_of, spares_of, HasStepped}
+use Rattle.homa_stage.specs.Staged.{hosts_of, seats_of, spares_of, HasStepped}
 use Rattle.homa_world.specs.Packed.{frame_kept}
 use Rattle.homa_world.specs.Standing.{StandsFor, IsKept, told_of, may_tell_of}
 use Rattle.homa_world.proofs.StepLaws.{stands_after, told_after}
 use Rattle.homa_world.proofs.ShownLaws.{none_shown}
 use Rattle.homa_world.proofs.BoxLaws.{quiet_tell}
 
-module _ {V : Type 0} {held : V → Type 0} (served : Seat V held → ℕ) (allows : Allows (Seat V held)) (mid : WorldParts V held) (kept : IsKept served mid)
-    (now : ℕ) (id : HostId) (h : Seen) (step : Work) (st : Stage V held) (at : slice_get (hosts_of mid.stage) id.0 ≡ Some h) (stepped : HasStepped now id h step mid.stage st)
-    (packets : Packets) (like : WorldParts V held) (sent : kept_all packets ≡ kept_all mid.packets ++ map (frame_kept mid.clock) st.outbox) (same : settings_of packets ≡ settings_of mid.packets) where
-  abbrev after : WorldParts V held
+module _ {S : Type 0} (served : S → ℕ) (allows : Allows S) (mid : WorldParts S) (kept : IsKept served mid)
+    (now : ℕ) (id : HostId) (h : Seen) (step : Work) (st : Stage S) (at : slice_get (hosts_of mid.stage) id.0 ≡ Some h) (stepped : HasStepped now id h step mid.stage st)
+    (packets : Packets) (like : WorldParts S) (sent : kept_all packets ≡ kept_all mid.packets ++ map (frame_kept mid.clock) st.outbox) (same : settings_of packets ≡ settings_of mid.packets) where
+  abbrev after : WorldParts S
   after = record mid { stage = st; packets = packets; injected = like.injected; last = last.Stepped id first.Nothing (length (kept_all mid.packets)); applied = mid.applied + 1 }
 
   pub quiet_applies : IsOwnStep id step → has_run step.told ≡ false → seats_of st ≡ seats_of mid.stage → spares_of st ≡ spares_of mid.stage → (e : Event) (bytes : List ℕ) (p : PlainWorld) → StandsFor mid p

@@ -18,7 +18,6 @@ use Rattle.homa_plain.specs.World.{World as PlainWorld, host_at, last_tick}
 use Rattle.homa_plain.proofs.CallOrder.{hosts_are}
 use Rattle.homa_moves.proofs.Hosts.{there, elsewhere, length-set, within, apart as apart_of}
 use Rattle.homa_seen.specs.Seen.{Seen}
-use Rattle.homa_service.specs.declared.seat.Seat.{Seat}
 use Rattle.homa_service.specs.Table.{place_of, last_of, front_of}
 use Rattle.homa_replay.specs.Playing.{IsNotApplied, is_memory}
 use Rattle.plain_sets.proofs.MapLaws.{get-empty}
@@ -26,14 +25,14 @@ use Rattle.homa_told.specs.Told.{HasOwnName}
 use Rattle.world_events.specs.Apart.{IsApart}
 use Rattle.world_events.specs.Stepping.{IsRefusal, restarted_world, shifted_world}
 use Rattle.world_events.proofs.Events as events
-use Rattle.homa_world.specs.declared.stage.Stage.{Stage}
+use Rattle.homa_stage.specs.declared.stage.Stage.{Stage}
 use Rattle.homa_world.specs.declared.parts.Last.TheVariants as last
 use Rattle.homa_world.specs.declared.parts.WorldParts.{WorldParts}
 use Rattle.homa_world.specs.Boxes.{Allows, counted, all_counted, may_tell}
-use Rattle.homa_world.specs.Staged.{Known, known, known_of, hosts_of, seats_of, spares_of}
-use Rattle.homa_world.specs.Restarted.{IsAny, HasRestarted, HasNoSpare}
+use Rattle.homa_stage.specs.Staged.{Known, known, known_of, hosts_of, seats_of, spares_of}
+use Rattle.homa_stage.specs.Restarted.{IsAny, HasRestarted, HasNoSpare}
 use Rattle.homa_world.specs.Standing.{StandsFor, HostFits, SeatFits, IsKept, Applies, Refuses}
-use Rattle.homa_world.proofs.StageLaws.{map_at}
+use Rattle.homa_stage.proofs.StageLaws.{map_at}
 use Rattle.homa_world.proofs.KeptLaws.{fits_later, seat_later, spares_later, refused_by, no_memory}
 use Rattle.homa_world.proofs.EventLaws.{IsAt, found, host_there}
 
@@ -93,8 +92,8 @@ same_last x y e = cc
 
 -- ---- a clock is set
 
-module _ {V : Type 0} {held : V → Type 0} (served : Seat V held → ℕ) (allows : Allows (Seat V held)) (w : WorldParts V held) (id : HostId) (n : ℕ) (h : Seen) (at : slice_get (hosts_of w.stage) id.0 ≡ Some h) where
-  abbrev shifted : WorldParts V held
+module _ {S : Type 0} (served : S → ℕ) (allows : Allows S) (w : WorldParts S) (id : HostId) (n : ℕ) (h : Seen) (at : slice_get (hosts_of w.stage) id.0 ≡ Some h) where
+  abbrev shifted : WorldParts S
   shifted = record w { leads = with_item w.leads id.0 n; last = last.Shifted id n; applied = w.applied + 1 }
 
   pub shift_kept : IsKept served w → n ≤ band w.settings → h.host.last ≤ w.clock + n → IsKept served shifted
@@ -165,7 +164,7 @@ module _ {V : Type 0} {held : V → Type 0} (served : Seat V held → ℕ) (allo
 
 -- ---- a host restarts
 
-module _ {V : Type 0} {held : V → Type 0} (served : Seat V held → ℕ) (allows : Allows (Seat V held)) (w : WorldParts V held) (id : HostId) (h : Seen) (at : slice_get (hosts_of w.stage) id.0 ≡ Some h) where
+module _ {S : Type 0} (served : S → ℕ) (allows : Allows S) (w : WorldParts S) (id : HostId) (h : Seen) (at : slice_get (hosts_of w.stage) id.0 ≡ Some h) where
   abbrev fresh : Known
   fresh = record { settings = w.settings; host = new_host w.settings id (h.host.inc + 1) h.host.last }
 
@@ -202,7 +201,7 @@ module _ {V : Type 0} {held : V → Type 0} (served : Seat V held → ℕ) (allo
         (refused_by w.settings p (event.Restart id) [] fault.NoSpare refl (events.no_spare w.settings p id h.host (host_there w id h p stands at) (none_left r.1)))
 
   -- nothing is told any more of the last event
-  pub still_kept : (st : Stage V held) → known_of st ≡ known_of w.stage → seats_of st ≡ seats_of w.stage → spares_of st ≡ spares_of w.stage → IsKept served w → IsKept served (record w { stage = st; last = last.Nothing })
+  pub still_kept : (st : Stage S) → known_of st ≡ known_of w.stage → seats_of st ≡ seats_of w.stage → spares_of st ≡ spares_of w.stage → IsKept served w → IsKept served (record w { stage = st; last = last.Nothing })
   still_kept st known seats spares k = record {
     valid = k.valid;
     clock = k.clock;
@@ -219,8 +218,8 @@ module _ {V : Type 0} {held : V → Type 0} (served : Seat V held → ℕ) (allo
     last = tt;
   }
 
-  module _ (st : Stage V held) (did : HasRestarted id fresh w.stage st) where
-    abbrev restarted : WorldParts V held
+  module _ (st : Stage S) (did : HasRestarted id fresh w.stage st) where
+    abbrev restarted : WorldParts S
     restarted = record w { stage = st; last = last.Restarted id (h.host.inc + 1); applied = w.applied + 1 }
 
     fewer : length (spares_of w.stage) ≡ suc (length (spares_of st))
@@ -269,7 +268,7 @@ module _ {V : Type 0} {held : V → Type 0} (served : Seat V held → ℕ) (allo
       later : AllByRecursion (λ seat. served seat ≤ w.applied + 1) (spares_of w.stage)
       later = spares_later served w.applied (w.applied + 1) (spares_of w.stage) (omega (arith)) k.spares
 
-      last_fits : (xs : List (Seat V held)) → IsAny xs → AllByRecursion (λ seat. served seat ≤ w.applied + 1) xs → SeatFits served (w.applied + 1) (last_of xs)
+      last_fits : (xs : List S) → IsAny xs → AllByRecursion (λ seat. served seat ≤ w.applied + 1) xs → SeatFits served (w.applied + 1) (last_of xs)
       last_fits [] any all = absurd any
       last_fits (x ∷ []) any all = record { seat = x; is = refl; count = all.0 }
       last_fits (x ∷ y ∷ xs) any all =
@@ -327,13 +326,13 @@ module _ {V : Type 0} {held : V → Type 0} (served : Seat V held → ℕ) (allo
               kept_other m q is = k.each m q is
 
   -- by the numbers that were read
-  abbrev restarts : Stage V held → ℕ → WorldParts V held
+  abbrev restarts : Stage S → ℕ → WorldParts S
   restarts st inc = record w { stage = st; last = last.Restarted id inc; applied = w.applied + 1 }
 
   abbrev at_life : ℕ → ℕ → Known
   at_life inc then = record { settings = w.settings; host = new_host w.settings id inc then }
 
-  pub restart_both : (st : Stage V held) (inc then : ℕ) → inc ≡ h.host.inc + 1 → then ≡ h.host.last → HasRestarted id (at_life inc then) w.stage st → IsKept served w
+  pub restart_both : (st : Stage S) (inc then : ℕ) → inc ≡ h.host.inc + 1 → then ≡ h.host.last → HasRestarted id (at_life inc then) w.stage st → IsKept served w
       → (Applies served allows w (restarts st inc) (record { event = event.Restart id; bytes = [] })) × IsKept served (restarts st inc)
   restart_both st inc then e f did k =
       let read : HasRestarted id fresh w.stage st = subst (λ i. HasRestarted id (at_life i h.host.last) w.stage st) e (subst (λ t. HasRestarted id (at_life inc t) w.stage st) f did) in

@@ -16,7 +16,6 @@ use Rattle.homa_seen.specs.Seen.{Seen}
 use Rattle.homa_seen.specs.Frames.{frames_of, IsFormed}
 use Rattle.homa_seen.specs.Marks.{shown_entries}
 use Rattle.homa_seen.specs.Done.{IsDone, HoldsSent}
-use Rattle.homa_service.specs.declared.seat.Seat.{Seat}
 use Rattle.homa_service.specs.Table.{place_of}
 use Rattle.homa_packets.specs.declared.packets.Packets.{Packets}
 use Rattle.homa_packets.specs.All.{kept_all, settings_of}
@@ -29,14 +28,15 @@ use Rattle.world_events.specs.Named.{IsOwnStep, IsOfStep, numbered}
 use Rattle.world_events.specs.Apart.{IsApart, IsApartStep}
 use Rattle.world_events.specs.Stepping.{stepped_world, step_told}
 use Rattle.world_events.proofs.Names.{renumber}
-use Rattle.homa_world.specs.declared.stage.Stage.{Stage}
+use Rattle.homa_stage.specs.declared.stage.Stage.{Stage}
 use Rattle.homa_world.specs.declared.parts.First.{First}
 use Rattle.homa_world.specs.declared.parts.Last.TheVariants as last
 use Rattle.homa_world.specs.declared.parts.WorldParts.{WorldParts}
-use Rattle.homa_world.specs.Staged.{Known, known, known_of, hosts_of, seats_of, spares_of, HasStepped}
+use Rattle.homa_stage.specs.Staged.{Known, known, known_of, hosts_of, seats_of, spares_of, HasStepped}
 use Rattle.homa_world.specs.Packed.{frame_kept, IsShort, IsFromHost, AreShownBy}
-use Rattle.homa_world.specs.Standing.{StandsFor, HostFits, SeatFits, IsKept, IsFew, HasLeft, entries_of, first_told, told_of}
-use Rattle.homa_world.proofs.StageLaws.{map_at}
+use Rattle.homa_stage.specs.Left.{IsFew, HasLeft, entries_of}
+use Rattle.homa_world.specs.Standing.{StandsFor, HostFits, SeatFits, IsKept, first_told, told_of}
+use Rattle.homa_stage.proofs.StageLaws.{map_at}
 use Rattle.homa_world.proofs.PackedLaws.{shown_more, shown_sent, shown_length, froms_sent}
 use Rattle.homa_world.proofs.KeptLaws.{fits_later, spares_later}
 
@@ -64,8 +64,8 @@ both_all id hosts (p ∷ ps) l by apart = ((subst (λ (x : HostId). x.0 < hosts)
 
 -- ---- a step
 
-module _ {V : Type 0} {held : V → Type 0} (served : Seat V held → ℕ) (mid : WorldParts V held) (kept : IsKept served mid)
-    (now : ℕ) (id : HostId) (h : Seen) (step : Work) (st : Stage V held) (at : slice_get (hosts_of mid.stage) id.0 ≡ Some h) (stepped : HasStepped now id h step mid.stage st) where
+module _ {S : Type 0} (served : S → ℕ) (mid : WorldParts S) (kept : IsKept served mid)
+    (now : ℕ) (id : HostId) (h : Seen) (step : Work) (st : Stage S) (at : slice_get (hosts_of mid.stage) id.0 ≡ Some h) (stepped : HasStepped now id h step mid.stage st) where
   pub known_at : slice_get (known_of mid.stage) id.0 ≡ Some (known h)
   known_at = map_at known (hosts_of mid.stage) id.0 h at
 
@@ -78,8 +78,8 @@ module _ {V : Type 0} {held : V → Type 0} (served : Seat V held → ℕ) (mid 
   known_after : known_of st ≡ slice_set (known_of mid.stage) id.0 (known stepped.after)
   known_after = ap (map known) stepped.hosts ∙ map-set known (hosts_of mid.stage) id.0 stepped.after
 
-  module _ (packets : Packets) (first : First) (like : WorldParts V held) (sent : kept_all packets ≡ kept_all mid.packets ++ map (frame_kept mid.clock) st.outbox) (same : settings_of packets ≡ settings_of mid.packets) where
-    abbrev after : WorldParts V held
+  module _ (packets : Packets) (first : First) (like : WorldParts S) (sent : kept_all packets ≡ kept_all mid.packets ++ map (frame_kept mid.clock) st.outbox) (same : settings_of packets ≡ settings_of mid.packets) where
+    abbrev after : WorldParts S
     after = record mid { stage = st; packets = packets; injected = like.injected; last = last.Stepped id first (length (kept_all mid.packets)); applied = mid.applied + 1 }
 
     pub stands_after : (p : PlainWorld) → StandsFor mid p → length (spares_of st) ≡ length (spares_of mid.stage) → StandsFor after (stepped_world p id step)

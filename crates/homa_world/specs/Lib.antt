@@ -1,5 +1,6 @@
-pub mod Staged
 pub mod Boxes
 pub mod Packed
 pub mod Standing
-pub mod Restarted
+pub mod Arrived
+pub mod First
+pub mod Unasked

@@ -19,10 +19,11 @@ AreShownBy s now [] (k ∷ ks) = ⊥
 AreShownBy s now (p ∷ ps) [] = ⊥
 AreShownBy s now (p ∷ ps) (k ∷ ks) = IsShownBy s now p k × AreShownBy s now ps ks
 
--- a datagram comes from one of so many hosts to another one
+-- a datagram comes from one of so many hosts to another one, and a clock is one that a packet can tell
 abbrev pub IsFromHost : ℕ → KeptPacket → Type 0
 IsFromHost hosts (WholePacket tick f) = (f.from.0 < hosts) × (f.from ≢ f.to)
-IsFromHost hosts kept = Unit {0}
+IsFromHost hosts (LatePacket tick) = Unit {0}
+IsFromHost hosts (StalePacket to at) = at ≤ 1000000002000
 
 -- a frame that is sent at a tick
 abbrev pub frame_kept : ℕ → SentFrame → KeptPacket

@@ -4,27 +4,24 @@ use Rattle.std.specs.List.{AllByRecursion}
 use Rattle.homa_plain.specs.declared.id.HostId.{HostId}
 use Rattle.homa_plain.specs.declared.settings.Settings.{Settings}
 use Rattle.homa_plain.specs.Settings.{IsValid, band}
-use Rattle.homa_plain.specs.Entries.{PlainEntry, PlainClock, PlainRestart, PlainShift, PlainDeliver, PlainInject, PlainSend}
+use Rattle.homa_plain.specs.Entries.{PlainEntry, PlainClock, PlainRestart, PlainShift, PlainDeliver, PlainInject}
 use Rattle.homa_plain.specs.World.{World as PlainWorld, last_tick}
 use Rattle.homa_plain.specs.Replay.{Happening}
 use Rattle.homa_plain.specs.declared.fault.WorldFault.{WorldFault}
 use Rattle.homa_replay.specs.Playing.{IsApplied, IsNotApplied}
 use Rattle.homa_told.specs.Told.{HasOwnName}
-use Rattle.homa_seen.specs.Seen.{Seen}
-use Rattle.homa_seen.specs.Marks.{shown_entries}
-use Rattle.homa_seen.specs.Done.{HoldsSent}
-use Rattle.homa_service.specs.declared.seat.Seat.{Seat}
 use Rattle.homa_service.specs.Table.{place_of}
 use Rattle.homa_packets.specs.All.{kept_all, settings_of}
 use Rattle.world_events.specs.Named.{numbered}
 use Rattle.world_events.specs.Apart.{IsApart}
-use Rattle.homa_world.specs.declared.stage.Stage.{Stage}
+use Rattle.homa_stage.specs.declared.stage.Stage.{Stage}
 use Rattle.homa_world.specs.declared.parts.First.{First}
 use Rattle.homa_world.specs.declared.parts.First.TheVariants as first
 use Rattle.homa_world.specs.declared.parts.Last.{Last}
 use Rattle.homa_world.specs.declared.parts.Last.TheVariants as last
 use Rattle.homa_world.specs.declared.parts.WorldParts.{WorldParts}
-use Rattle.homa_world.specs.Staged.{hosts_of, Known, known_of, seats_of, spares_of}
+use Rattle.homa_stage.specs.Left.{entries_of, HasLeft}
+use Rattle.homa_stage.specs.Staged.{hosts_of, Known, known_of, seats_of, spares_of}
 use Rattle.homa_world.specs.Packed.{AreShownBy, IsFromHost}
 use Rattle.homa_world.specs.Boxes.{Allows, counted, all_counted, may_tell}
 
@@ -34,11 +31,6 @@ abbrev pub first_told : HostId → First → List ℕ → List PlainEntry
 first_told host first.Nothing bytes = []
 first_told host (first.Delivered packet) bytes = PlainDeliver packet ∷ []
 first_told host first.Injected bytes = PlainInject host bytes ∷ []
-
--- an entry's number, if it is of a packet, is below 64
-abbrev pub IsFew : PlainEntry → Type 0
-IsFew (PlainSend number from to inc role id level what payload) = number < 64
-IsFew entry = Unit {0}
 
 -- a host with its own name, whose clock and numbers are within their bounds
 pub record HostFits (s : Settings) (now applied spares : ℕ) (id : HostId) (k : Known) : Type 0 where
@@ -50,51 +42,41 @@ pub record HostFits (s : Settings) (now applied spares : ℕ) (id : HostId) (k :
   pub inc : 1 ≤ k.host.inc
   pub lives : k.host.inc + spares ≤ 1000001
 
-module _ {V : Type 0} {held : V → Type 0} where
+module _ {S : Type 0} where
   -- the plain world may be this one, whatever its services will answer
-  pub record StandsFor (world : WorldParts V held) (w : PlainWorld) : Type 0 where
+  pub record StandsFor (world : WorldParts S) (w : PlainWorld) : Type 0 where
     pub clock : w.clock ≡ world.clock
     pub hosts : w.hosts ≡ map (λ (k : Known). k.host) (known_of world.stage)
     pub leads : w.leads ≡ world.leads.items
     pub packets : AreShownBy world.settings world.clock w.packets (kept_all world.packets)
     pub spares : w.spares ≡ length (spares_of world.stage)
 
-  -- the entries of a host's last step
-  abbrev pub entries_of : Stage V held → Option Seen → List PlainEntry
-  entries_of st None = []
-  entries_of st (Some h) = shown_entries h st.outbox st.scratch
-
-  abbrev pub told_by : WorldParts V held → Last → List PlainEntry
+  abbrev pub told_by : WorldParts S → Last → List PlainEntry
   told_by w last.Nothing = []
   told_by w last.Ticked = PlainClock w.clock ∷ []
   told_by w (last.Restarted host inc) = PlainRestart host inc ∷ []
   told_by w (last.Shifted host n) = PlainShift host n ∷ []
   told_by w (last.Stepped host first base) = first_told host first w.injected.items ++ map (numbered base) (entries_of w.stage (slice_get (hosts_of w.stage) host.0))
 
-  abbrev pub told_of : WorldParts V held → List PlainEntry
+  abbrev pub told_of : WorldParts S → List PlainEntry
   told_of w = told_by w w.last
 
   -- what the boxes may answer from now on
-  abbrev pub may_tell_of : (Seat V held → ℕ) → Allows (Seat V held) → WorldParts V held → List PlainEntry → Type 0
+  abbrev pub may_tell_of : (S → ℕ) → Allows S → WorldParts S → List PlainEntry → Type 0
   may_tell_of served allows w = may_tell allows (all_counted served (seats_of w.stage)) (map (counted served) (spares_of w.stage))
 
   -- ---- what is so between two events
 
-  -- a host of which a step was the last event left its packets with it
-  abbrev pub HasLeft : Stage V held → Option Seen → Type 0
-  HasLeft st None = ⊥
-  HasLeft st (Some h) = HoldsSent h st.outbox × AllByRecursion IsFew (shown_entries h st.outbox st.scratch)
-
-  abbrev pub IsLast : WorldParts V held → Last → Type 0
+  abbrev pub IsLast : WorldParts S → Last → Type 0
   IsLast w (last.Stepped host first base) = (base + 64 < 2 ^ 64) × HasLeft w.stage (slice_get (hosts_of w.stage) host.0)
   IsLast w other = Unit {0}
 
-  pub record SeatFits (served : Seat V held → ℕ) (applied : ℕ) (o : Option (Seat V held)) : Type 0 where
-    pub seat : Seat V held
+  pub record SeatFits (served : S → ℕ) (applied : ℕ) (o : Option S) : Type 0 where
+    pub seat : S
     pub is : o ≡ Some seat
     pub count : served seat ≤ applied
 
-  pub record IsKept (served : Seat V held → ℕ) (w : WorldParts V held) : Type 0 where
+  pub record IsKept (served : S → ℕ) (w : WorldParts S) : Type 0 where
     pub valid : IsValid w.settings
     pub clock : w.clock ≤ last_tick
     pub hosts : length (known_of w.stage) ≡ w.settings.hosts
@@ -109,14 +91,14 @@ module _ {V : Type 0} {held : V → Type 0} where
     pub froms : AllByRecursion (IsFromHost w.settings.hosts) (kept_all w.packets)
     pub last : IsLast w w.last
 
-module _ {V : Type 0} {held : V → Type 0} (served : Seat V held → ℕ) (allows : Allows (Seat V held)) where
+module _ {S : Type 0} (served : S → ℕ) (allows : Allows S) where
   -- an event was applied: the plain world's outcome
-  abbrev pub Applies : WorldParts V held → WorldParts V held → Happening → Type 0
+  abbrev pub Applies : WorldParts S → WorldParts S → Happening → Type 0
   Applies old new e = (w : PlainWorld) → StandsFor old w → IsApplied old.settings w e (StandsFor new) (told_of new) (may_tell_of served allows old) (may_tell_of served allows new)
 
 -- an event wasn't applied: the plain world refuses it, or there is no memory
-abbrev pub Refuses : {V : Type 0} {held : V → Type 0} → WorldParts V held → Happening → WorldFault → Type 0
+abbrev pub Refuses : {S : Type 0} → WorldParts S → Happening → WorldFault → Type 0
 Refuses old e fault = (w : PlainWorld) → StandsFor old w → IsNotApplied old.settings w e fault
 
-abbrev pub StillStands : {V : Type 0} {held : V → Type 0} → WorldParts V held → WorldParts V held → Type 0
+abbrev pub StillStands : {S : Type 0} → WorldParts S → WorldParts S → Type 0
 StillStands old new = (w : PlainWorld) → StandsFor old w → StandsFor new w

@@ -3,10 +3,12 @@ ghost use Rattle.std.specs.Prelude.{◌≡◌, ◌≤◌, ◌<◌, ◌+◌, ◌^
 ghost use Rattle.homa_plain.specs.Entries.{plain};
 ghost use Rattle.homa_text.specs.Told.{HasLine};
 ghost use Rattle.world_events.specs.Named.{numbered as plain_numbered};
-ghost use Rattle.homa_world.specs.Standing.{first_told, told_of, IsFew, IsKept};
+ghost use Rattle.homa_stage.specs.Left.{IsFew};
+ghost use Rattle.homa_world.specs.Standing.{first_told, told_of, IsKept};
 
 use crate::parts::{First, Last, WorldParts};
 use homa_plain::{Entry, HostId};
+use homa_service::Service;
 
 impl First {
     // How many entries it is.
@@ -21,10 +23,10 @@ impl First {
     }
 }
 
-impl WorldParts {
+impl<S: Service> WorldParts<S> {
     /// How many entries the last event has; none after a fault.
     pub fn entries(&self) -> usize
-        requires kept { IsKept (λ seat. served (seat.service.vtable, seat.service.value)) self.now }
+        requires kept { IsKept S.served self.now }
         ensures { result ≡ length (told_of self.now) }
     {
         match self.last {
@@ -36,7 +38,7 @@ impl WorldParts {
 
     /// The entry of the last event with this number, counted from 0.
     pub fn entry(&self, i: usize) -> Entry<'_>
-        requires kept { IsKept (λ seat. served (seat.service.vtable, seat.service.value)) self.now }
+        requires kept { IsKept S.served self.now }
         requires i { i < length (told_of self.now) }
         ensures entry { slice_get (told_of self.now) i ≡ Some (plain result) }
         ensures line { HasLine (plain result) }

@@ -7,10 +7,12 @@
 //! the event is refused for the plain world's cause, or for want of memory, and the world is as before.
 #![tactic(auto)]
 
+mod arrivals;
 mod entries;
+mod opening;
 mod parts;
 mod rest;
-mod stage;
+mod world;
 
 pub use parts::{First, Last, WorldParts};
-pub use stage::{BoxedService, Stage};
+pub use world::World;

@@ -8,16 +8,15 @@ ghost use Rattle.homa_packets.specs.Kept.{WholePacket};
 ghost use Rattle.homa_packets.specs.All.{kept_all, settings_of, open_tick, HasRoomFor};
 ghost use Rattle.homa_text.specs.Told.{HasLine};
 ghost use Rattle.homa_world.specs.declared.parts.Last.TheVariants as last;
-ghost use Rattle.homa_world.specs.Staged.{hosts_of};
+ghost use Rattle.homa_stage.specs.Staged.{hosts_of};
 ghost use Rattle.homa_world.specs.Packed.{frame_kept, IsShort};
 ghost use Rattle.homa_world.specs.Standing.{told_of, IsKept, Applies, Refuses, StillStands};
 
-use crate::stage::Stage;
-use homa_packets::{Kept, Packets};
-use homa_plain::{Entry, Frame, HostId, Settings, WorldFault};
+use homa_packets::Packets;
+use homa_plain::{HostId, Settings, WorldFault};
 use homa_seen::Outbox;
 use homa_service::Service;
-use homa_wire::decode;
+use homa_stage::Stage;
 use std::alloc::{AllocError, Global};
 
 /// The last tick of the clock.
@@ -53,12 +52,12 @@ pub enum First {
 
 /// All hosts, their clocks and the packets between them.
 #[derive(Drop)]
-pub struct WorldParts {
+pub struct WorldParts<S> {
     pub(crate) settings: Settings,
     pub(crate) clock: u64,
     // How far each host's own clock is ahead.
     pub(crate) leads: Vec<u32>,
-    pub(crate) stage: Stage,
+    pub(crate) stage: Stage<S>,
     pub(crate) packets: Packets,
     // The datagram of the last event, if it was injected.
     pub(crate) injected: Vec<u8>,
@@ -67,24 +66,24 @@ pub struct WorldParts {
     pub(crate) applied: u64,
 }
 
-impl WorldParts {
+impl<S: Service> WorldParts<S> {
     // A host's own clock.
     pub fn own_clock(&self, host: HostId) -> u64
         requires clock { self.now.clock ≤ 1000000000000 }
         requires lead { host.0 < length self.now.leads.items }
         ensures { result ≡ self.now.clock + slice_index_or self.now.leads.items host.0 0 }
     {
-        self.clock + u64::from(self.leads[host.0 as usize])
+        clock_of(self.clock, &self.leads, host)
     }
 
     /// The clock goes on by a tick.
     pub fn tick(&mut self) -> Result<(), WorldFault>
-        requires kept { IsKept (λ seat. served (seat.service.vtable, seat.service.value)) self.old }
+        requires kept { IsKept S.served self.old }
         requires few { self.old.applied < 2 ^ 57 }
-        ensures done { OnOk result (Applies (λ seat. served (seat.service.vtable, seat.service.value)) (λ seat. allows (seat.service.vtable, seat.service.value)) self.old self.new (record { event = event.Clock; bytes = [] })) }
+        ensures done { OnOk result (Applies S.served S.allows self.old self.new (record { event = event.Clock; bytes = [] })) }
         ensures fault { IfErr result (λ fault. Refuses self.old (record { event = event.Clock; bytes = [] }) fault) }
         ensures still { OnErr result (StillStands self.old self.new) }
-        ensures kept { IsKept (λ seat. served (seat.service.vtable, seat.service.value)) self.new }
+        ensures kept { IsKept S.served self.new }
         ensures settings { self.new.settings ≡ self.old.settings }
         ensures counted { self.new.applied ≤ self.old.applied + 1 }
     {
@@ -99,10 +98,10 @@ impl WorldParts {
 
     // Room for the packets of a step. Nothing is told any more of the last event.
     pub fn make_room(&mut self, alloc: Global) -> Result<(), AllocError>
-        requires kept { IsKept (λ seat. served (seat.service.vtable, seat.service.value)) self.old }
+        requires kept { IsKept S.served self.old }
         requires few { self.old.applied < 2 ^ 57 }
         ensures still { StillStands self.old self.new }
-        ensures kept { IsKept (λ seat. served (seat.service.vtable, seat.service.value)) self.new }
+        ensures kept { IsKept S.served self.new }
         ensures same { self.new ≡ record self.old { packets = self.new.packets; last = last.Nothing } }
         ensures room { OnOk result (HasRoomFor self.new.packets 64) }
         ensures tick { OnOk result (open_tick self.new.packets ≡ self.new.clock) }
@@ -129,12 +128,12 @@ impl WorldParts {
 
     /// A turn of a host.
     pub fn turn(&mut self, alloc: Global, host: HostId) -> Result<(), WorldFault>
-        requires kept { IsKept (λ seat. served (seat.service.vtable, seat.service.value)) self.old }
+        requires kept { IsKept S.served self.old }
         requires few { self.old.applied < 2 ^ 57 }
-        ensures done { OnOk result (Applies (λ seat. served (seat.service.vtable, seat.service.value)) (λ seat. allows (seat.service.vtable, seat.service.value)) self.old self.new (record { event = event.Turn host; bytes = [] })) }
+        ensures done { OnOk result (Applies S.served S.allows self.old self.new (record { event = event.Turn host; bytes = [] })) }
         ensures fault { IfErr result (λ fault. Refuses self.old (record { event = event.Turn host; bytes = [] }) fault) }
         ensures still { OnErr result (StillStands self.old self.new) }
-        ensures kept { IsKept (λ seat. served (seat.service.vtable, seat.service.value)) self.new }
+        ensures kept { IsKept S.served self.new }
         ensures settings { self.new.settings ≡ self.old.settings }
         ensures counted { self.new.applied ≤ self.old.applied + 1 }
     {
@@ -159,12 +158,12 @@ impl WorldParts {
         number: u8,
         bytes: &[u8],
     ) -> Result<(), WorldFault>
-        requires kept { IsKept (λ seat. served (seat.service.vtable, seat.service.value)) self.old }
+        requires kept { IsKept S.served self.old }
         requires few { self.old.applied < 2 ^ 57 }
-        ensures done { OnOk result (Applies (λ seat. served (seat.service.vtable, seat.service.value)) (λ seat. allows (seat.service.vtable, seat.service.value)) self.old self.new (record { event = event.Call client server number; bytes = bytes.now })) }
+        ensures done { OnOk result (Applies S.served S.allows self.old self.new (record { event = event.Call client server number; bytes = bytes.now })) }
         ensures fault { IfErr result (λ fault. Refuses self.old (record { event = event.Call client server number; bytes = bytes.now }) fault) }
         ensures still { OnErr result (StillStands self.old self.new) }
-        ensures kept { IsKept (λ seat. served (seat.service.vtable, seat.service.value)) self.new }
+        ensures kept { IsKept S.served self.new }
         ensures settings { self.new.settings ≡ self.old.settings }
         ensures counted { self.new.applied ≤ self.old.applied + 1 }
     {
@@ -187,6 +186,15 @@ impl WorldParts {
         self.finish(client, First::Nothing);
         Ok(())
     }
+}
+
+// A host's own clock.
+pub(crate) fn clock_of(clock: u64, leads: &[u32], host: HostId) -> u64
+    requires clock { clock ≤ 1000000000000 }
+    requires lead { host.0 < length leads.now }
+    ensures { result ≡ clock + slice_index_or leads.now host.0 0 }
+{
+    clock + u64::from(leads[host.0 as usize])
 }
 
 // Frames are sent.

@@ -1,4 +1,4 @@
-// An event of a world that is no step of a host: a host's clock is set.
+// Events of a world that are no step of a host: a host's clock is set, and a host restarts.
 ghost use Rattle.std.specs.Prelude.{◌≡◌, ◌≤◌, ◌<◌, ◌+◌, ◌^◌, ℕ, IfOk, IfErr, OnOk, OnErr, [], length, replicate};
 ghost use Rattle.std.specs.List.{AllByRecursion};
 ghost use Rattle.homa_plain.specs.Settings.{IsValid};
@@ -9,16 +9,17 @@ ghost use Rattle.homa_world.specs.Standing.{StandsFor, IsKept, Applies, Refuses,
 use crate::parts::{Last, WorldParts};
 use homa_plain::{HostId, WorldFault};
 use homa_service::Service;
+use std::alloc::Global;
 
-impl WorldParts {
+impl<S: Service> WorldParts<S> {
     /// A host's own clock is set to be `n` ticks ahead.
     pub fn shift(&mut self, host: HostId, n: u32) -> Result<(), WorldFault>
-        requires kept { IsKept (λ seat. served (seat.service.vtable, seat.service.value)) self.old }
+        requires kept { IsKept S.served self.old }
         requires few { self.old.applied < 2 ^ 57 }
-        ensures done { OnOk result (Applies (λ seat. served (seat.service.vtable, seat.service.value)) (λ seat. allows (seat.service.vtable, seat.service.value)) self.old self.new (record { event = event.Shift host n; bytes = [] })) }
+        ensures done { OnOk result (Applies S.served S.allows self.old self.new (record { event = event.Shift host n; bytes = [] })) }
         ensures fault { IfErr result (λ fault. Refuses self.old (record { event = event.Shift host n; bytes = [] }) fault) }
         ensures still { OnErr result (StillStands self.old self.new) }
-        ensures kept { IsKept (λ seat. served (seat.service.vtable, seat.service.value)) self.new }
+        ensures kept { IsKept S.served self.new }
         ensures settings { self.new.settings ≡ self.old.settings }
         ensures counted { self.new.applied ≤ self.old.applied + 1 }
     {
@@ -36,6 +37,32 @@ impl WorldParts {
         }
         self.leads[host.0 as usize] = n;
         self.last = Last::Shifted { host, n };
+        self.applied += 1;
+        Ok(())
+    }
+
+    /// A host restarts: it has no calls, is in its next life, and has the last spare service. How far its clock is ahead
+    /// stays, and at what tick of it its last step was.
+    pub fn restart(&mut self, alloc: Global, host: HostId) -> Result<(), WorldFault>
+        requires kept { IsKept S.served self.old }
+        requires few { self.old.applied < 2 ^ 57 }
+        ensures done { OnOk result (Applies S.served S.allows self.old self.new (record { event = event.Restart host; bytes = [] })) }
+        ensures fault { IfErr result (λ fault. Refuses self.old (record { event = event.Restart host; bytes = [] }) fault) }
+        ensures still { OnErr result (StillStands self.old self.new) }
+        ensures kept { IsKept S.served self.new }
+        ensures settings { self.new.settings ≡ self.old.settings }
+        ensures counted { self.new.applied ≤ self.old.applied + 1 }
+    {
+        if !self.stage.has(host) {
+            return Err(WorldFault::NoSuchHost);
+        }
+        let before = self.stage.host(host);
+        let (inc, last) = (before.incarnation() + 1, before.last());
+        self.last = Last::Nothing;
+        if let Err(fault) = self.stage.restart(alloc, host, inc, last, &self.settings) {
+            return Err(fault);
+        }
+        self.last = Last::Restarted { host, inc };
         self.applied += 1;
         Ok(())
     }

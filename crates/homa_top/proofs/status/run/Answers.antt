@@ -1,56 +1,17 @@
-use Rattle.homa_top.proofs.Traces.{replay_once, replay_returned, replay_handed_up}
+use Rattle.std.proofs.Common.{◌≡◌, Bool, true, false, Some, List, ℕ, length, subst}
+use Rattle.homa_replay.specs.Far.{replay_of, ArePrinted}
+use Rattle.homa_world.specs.First.{AreAllowed}
+use Rattle.homa_top.proofs.Lawful.{lawful}
 use Rattle.homa_top.proofs.status.run.Goals as goal
 
-pub returns-then-not-is_replay-clause-once : goal.returns-then-not-is_replay-clause-once
-returns-then-not-is_replay-clause-once g c = replay_once (g.S.Source.left c.args.source.now)
+pub returns-in-Ok-true-clause-accepted : goal.returns-in-Ok-true-clause-accepted
+returns-in-Ok-true-clause-accepted g c = λ _ bytes had. subst (λ b. ArePrinted (replay_of (length c.args.services.items)) (g.S.Source.left c.args.source.now) (g.K.Sink.taken c.args.sink.now) (g.K.Sink.taken c.replay.new.sink) (AreAllowed g.V.Service.served g.V.Service.allows c.args.services.items) b) c.in-Ok-true.field-0-test c.in-Ok-true.ensures.printed bytes had
 
-pub returns-then-not-is_replay-clause-returned : goal.returns-then-not-is_replay-clause-returned
-returns-then-not-is_replay-clause-returned g c = replay_returned (g.S.Source.left c.args.source.now)
+pub returns-in-Ok-true-clause-laws : goal.returns-in-Ok-true-clause-laws
+returns-in-Ok-true-clause-laws g c = λ _. lawful (length c.args.services.items) c.requires.at_most (g.S.Source.left c.args.source.now) (g.K.Sink.taken c.args.sink.now) (g.K.Sink.taken c.replay.new.sink) _ _ c.in-Ok-true.ensures.printed
 
-pub returns-then-not-is_replay-clause-handed_up : goal.returns-then-not-is_replay-clause-handed_up
-returns-then-not-is_replay-clause-handed_up g c = replay_handed_up (g.S.Source.left c.args.source.now)
+pub returns-in-Ok-false-clause-refused : goal.returns-in-Ok-false-clause-refused
+returns-in-Ok-false-clause-refused g c = λ _ bytes had. subst (λ b. ArePrinted (replay_of (length c.args.services.items)) (g.S.Source.left c.args.source.now) (g.K.Sink.taken c.args.sink.now) (g.K.Sink.taken c.replay.new.sink) (AreAllowed g.V.Service.served g.V.Service.allows c.args.services.items) b) c.in-Ok-false.field-0-test c.in-Ok-false.ensures.printed bytes had
 
-pub returns-in-Ok-true-clause-once : goal.returns-in-Ok-true-clause-once
-returns-in-Ok-true-clause-once g c = replay_once (g.S.Source.left c.args.source.now)
-
-pub returns-in-Ok-true-clause-returned : goal.returns-in-Ok-true-clause-returned
-returns-in-Ok-true-clause-returned g c = replay_returned (g.S.Source.left c.args.source.now)
-
-pub returns-in-Ok-true-clause-handed_up : goal.returns-in-Ok-true-clause-handed_up
-returns-in-Ok-true-clause-handed_up g c = replay_handed_up (g.S.Source.left c.args.source.now)
-
-pub returns-in-Ok-false-clause-once : goal.returns-in-Ok-false-clause-once
-returns-in-Ok-false-clause-once g c = replay_once (g.S.Source.left c.args.source.now)
-
-pub returns-in-Ok-false-clause-returned : goal.returns-in-Ok-false-clause-returned
-returns-in-Ok-false-clause-returned g c = replay_returned (g.S.Source.left c.args.source.now)
-
-pub returns-in-Ok-false-clause-handed_up : goal.returns-in-Ok-false-clause-handed_up
-returns-in-Ok-false-clause-handed_up g c = replay_handed_up (g.S.Source.left c.args.source.now)
-
-pub returns-in-Err-Read-clause-once : goal.returns-in-Err-Read-clause-once
-returns-in-Err-Read-clause-once g c = replay_once (g.S.Source.left c.args.source.now)
-
-pub returns-in-Err-Read-clause-returned : goal.returns-in-Err-Read-clause-returned
-returns-in-Err-Read-clause-returned g c = replay_returned (g.S.Source.left c.args.source.now)
-
-pub returns-in-Err-Read-clause-handed_up : goal.returns-in-Err-Read-clause-handed_up
-returns-in-Err-Read-clause-handed_up g c = replay_handed_up (g.S.Source.left c.args.source.now)
-
-pub returns-in-Err-Write-clause-once : goal.returns-in-Err-Write-clause-once
-returns-in-Err-Write-clause-once g c = replay_once (g.S.Source.left c.args.source.now)
-
-pub returns-in-Err-Write-clause-returned : goal.returns-in-Err-Write-clause-returned
-returns-in-Err-Write-clause-returned g c = replay_returned (g.S.Source.left c.args.source.now)
-
-pub returns-in-Err-Write-clause-handed_up : goal.returns-in-Err-Write-clause-handed_up
-returns-in-Err-Write-clause-handed_up g c = replay_handed_up (g.S.Source.left c.args.source.now)
-
-pub returns-in-Err-NoMemory-clause-once : goal.returns-in-Err-NoMemory-clause-once
-returns-in-Err-NoMemory-clause-once g c = replay_once (g.S.Source.left c.args.source.now)
-
-pub returns-in-Err-NoMemory-clause-returned : goal.returns-in-Err-NoMemory-clause-returned
-returns-in-Err-NoMemory-clause-returned g c = replay_returned (g.S.Source.left c.args.source.now)
-
-pub returns-in-Err-NoMemory-clause-handed_up : goal.returns-in-Err-NoMemory-clause-handed_up
-returns-in-Err-NoMemory-clause-handed_up g c = replay_handed_up (g.S.Source.left c.args.source.now)
+pub returns-in-Ok-false-clause-laws : goal.returns-in-Ok-false-clause-laws
+returns-in-Ok-false-clause-laws g c = λ _. lawful (length c.args.services.items) c.requires.at_most (g.S.Source.left c.args.source.now) (g.K.Sink.taken c.args.sink.now) (g.K.Sink.taken c.replay.new.sink) _ _ c.in-Ok-false.ensures.printed

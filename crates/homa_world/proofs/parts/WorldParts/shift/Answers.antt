@@ -2,7 +2,7 @@ use Rattle.std.proofs.Common.{refl, sym, ap, subst, ◌∙◌, ◌+◌, ◌<◌,
 use Rattle.homa_plain.specs.declared.event.Event.TheVariants as event
 use Rattle.homa_plain.specs.declared.fault.WorldFault.TheVariants as fault
 use Rattle.world_events.proofs.Events as events
-use Rattle.homa_world.specs.Staged.{hosts_of}
+use Rattle.homa_stage.specs.Staged.{hosts_of}
 use Rattle.homa_world.specs.Standing.{Refuses}
 use Rattle.homa_world.proofs.KeptLaws.{refused_by}
 use Rattle.homa_world.proofs.EventLaws.{found, is_there, not_there, no_host}

@@ -1,0 +1,5 @@
+pub mod Traces
+pub mod Causes
+pub mod Openings
+pub mod Obeyed
+pub mod Worked

@@ -1,5 +1,0 @@
-pub mod Worked
-pub mod Kept
-pub mod Steps
-pub mod Replays
-pub mod Broken

@@ -1,3 +1,0 @@
-pub mod First
-pub mod FirstLaws
-pub mod Broken

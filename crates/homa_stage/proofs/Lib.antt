@@ -1,0 +1,3 @@
+pub mod StageLaws
+pub mod EntryLaws
+pub mod FirstLaws

@@ -1,0 +1,3 @@
+pub mod Staged
+pub mod Left
+pub mod Restarted

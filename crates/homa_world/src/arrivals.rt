@@ -1,0 +1,198 @@
+// Events that bring a datagram to a host.
+ghost use Rattle.std.specs.Prelude.{◌≡◌, ◌≤◌, ◌<◌, ◌+◌, ◌^◌, ◌==◌, ◌&&◌, nat_lt, ℕ, Some, IfOk, IfErr, OnOk, OnErr, [], ◌∷◌, slice_get};
+ghost use Rattle.homa_plain.specs.Entries.{PlainDeliver};
+ghost use Rattle.homa_plain.specs.World.{stranger as plain_stranger};
+ghost use Rattle.homa_plain.specs.declared.event.Event.TheVariants as event;
+ghost use Rattle.homa_packets.specs.All.{kept_all, open_tick, HasRoomFor};
+ghost use Rattle.homa_packets.specs.Kept.{StalePacket};
+ghost use Rattle.homa_packets.specs.Olds.{TellsClock};
+ghost use Rattle.homa_world.specs.declared.parts.Last.TheVariants as last;
+ghost use Rattle.homa_world.specs.Arrived.{HasArrived};
+ghost use Rattle.homa_world.specs.Standing.{IsKept, Applies, Refuses, StillStands};
+
+use crate::parts::{First, WorldParts, clock_of};
+use homa_packets::Kept;
+use homa_plain::{Body, Frame, HostId, Packet, Role, Settings, WorldFault};
+use homa_service::Service;
+use homa_wire::{decode, encode};
+use std::alloc::{AllocError, Global};
+
+impl<S: Service> WorldParts<S> {
+    /// The packet with this number comes to its receiver.
+    pub fn deliver(&mut self, alloc: Global, number: u64) -> Result<(), WorldFault>
+        requires kept { IsKept S.served self.old }
+        requires few { self.old.applied < 2 ^ 57 }
+        ensures done { OnOk result (Applies S.served S.allows self.old self.new (record { event = event.Deliver number; bytes = [] })) }
+        ensures fault { IfErr result (λ fault. Refuses self.old (record { event = event.Deliver number; bytes = [] }) fault) }
+        ensures still { OnErr result (StillStands self.old self.new) }
+        ensures kept { IsKept S.served self.new }
+        ensures settings { self.new.settings ≡ self.old.settings }
+        ensures counted { self.new.applied ≤ self.old.applied + 1 }
+    {
+        if self.make_room(alloc).is_err() {
+            return Err(WorldFault::NoMemory);
+        }
+        let to = self.arrive(alloc, number)?;
+        self.finish(to, First::Delivered(number));
+        Ok(())
+    }
+
+    // What is kept of a packet comes to its receiver, which answers; or why it can't.
+    fn arrive(&mut self, alloc: Global, number: u64) -> Result<HostId, WorldFault>
+        requires kept { IsKept S.served self.old }
+        requires few { self.old.applied < 2 ^ 57 }
+        requires none { self.old.last ≡ last.Nothing }
+        ensures came { IfOk result (λ to. HasArrived S.served S.allows (event.Deliver number) [] (PlainDeliver number ∷ []) to self.old self.new.stage) }
+        ensures fault { IfErr result (λ fault. Refuses self.old (record { event = event.Deliver number; bytes = [] }) fault) }
+        ensures same { self.new ≡ record self.old { stage = self.new.stage } }
+        ensures kept { OnErr result (IsKept S.served self.new) }
+        ensures still { OnErr result (StillStands self.old self.new) }
+    {
+        let (to, at) = match self.packets.get(number) {
+            None => return Err(WorldFault::NoSuchPacket),
+            Some(Kept::Late { tick }) => {
+                return Err(WorldFault::Late {
+                    sent: tick,
+                    now: self.clock,
+                });
+            }
+            Some(
+                Kept::Whole {
+                    tick,
+                    from,
+                    to,
+                    bytes,
+                },
+            ) => {
+                if is_late(&self.settings, self.clock, tick) {
+                    return Err(WorldFault::Late {
+                        sent: tick,
+                        now: self.clock,
+                    });
+                }
+                if !self.stage.has(to) {
+                    return Err(WorldFault::NoSuchHost);
+                }
+                let now = clock_of(self.clock, &self.leads, to);
+                return match self.stage.deliver(alloc, from, to, bytes, now) {
+                    Ok(()) => Ok(to),
+                    Err(_) => Err(WorldFault::NoMemory),
+                };
+            }
+            Some(Kept::Stale { to, at }) => (to, at),
+        };
+        if let Err(fault) = self.stale_comes(alloc, to, at) {
+            return Err(fault);
+        }
+        Ok(to)
+    }
+
+    // A packet comes of which it is known that it is stale: its receiver tells no more of it than its sender's clock.
+    fn stale_comes(&mut self, alloc: Global, to: HostId, at: u64) -> Result<(), WorldFault>
+        requires kept { IsKept S.served self.old }
+        requires few { self.old.applied < 2 ^ 57 }
+        requires none { self.old.last ≡ last.Nothing }
+        requires at { at ≤ 1000000002000 }
+        ensures came { OnOk result ((n : ℕ) → slice_get (kept_all self.old.packets) n ≡ Some (StalePacket to at)
+            → HasArrived S.served S.allows (event.Deliver n) [] (PlainDeliver n ∷ []) to self.old self.new.stage) }
+        ensures fault { IfErr result (λ fault. (n : ℕ) → slice_get (kept_all self.old.packets) n ≡ Some (StalePacket to at)
+            → Refuses self.old (record { event = event.Deliver n; bytes = [] }) fault) }
+        ensures same { self.new ≡ record self.old { stage = self.new.stage } }
+        ensures kept { OnErr result (IsKept S.served self.new) }
+        ensures still { OnErr result (StillStands self.old self.new) }
+    {
+        if !self.stage.has(to) {
+            return Err(WorldFault::NoSuchHost);
+        }
+        let now = self.own_clock(to);
+        let frame = stale_frame(at);
+        match self
+            .stage
+            .deliver(alloc, stranger(to), to, frame.bytes(), now)
+        {
+            Ok(()) => Ok(()),
+            Err(_) => Err(WorldFault::NoMemory),
+        }
+    }
+
+    /// A datagram that no host sent comes to a host.
+    pub fn inject(&mut self, alloc: Global, host: HostId, bytes: &[u8]) -> Result<(), WorldFault>
+        requires kept { IsKept S.served self.old }
+        requires few { self.old.applied < 2 ^ 57 }
+        ensures done { OnOk result (Applies S.served S.allows self.old self.new (record { event = event.Inject host; bytes = bytes.now })) }
+        ensures fault { IfErr result (λ fault. Refuses self.old (record { event = event.Inject host; bytes = bytes.now }) fault) }
+        ensures still { OnErr result (StillStands self.old self.new) }
+        ensures kept { IsKept S.served self.new }
+        ensures settings { self.new.settings ≡ self.old.settings }
+        ensures counted { self.new.applied ≤ self.old.applied + 1 }
+    {
+        if !self.stage.has(host) {
+            return Err(WorldFault::NoSuchHost);
+        }
+        if decode(bytes, self.settings.wire).is_some() {
+            return Err(WorldFault::Decodes);
+        }
+        if self.keep_injected(alloc, bytes).is_err() {
+            return Err(WorldFault::NoMemory);
+        }
+        let now = self.own_clock(host);
+        let came = self
+            .stage
+            .deliver(alloc, stranger(host), host, &self.injected, now);
+        if came.is_err() {
+            return Err(WorldFault::NoMemory);
+        }
+        self.finish(host, First::Injected);
+        Ok(())
+    }
+
+    // Room for the packets of a step, and the datagram is kept for its entry.
+    fn keep_injected(&mut self, alloc: Global, bytes: &[u8]) -> Result<(), AllocError>
+        requires kept { IsKept S.served self.old }
+        requires few { self.old.applied < 2 ^ 57 }
+        ensures still { StillStands self.old self.new }
+        ensures kept { IsKept S.served self.new }
+        ensures same { self.new ≡ record self.old { packets = self.new.packets; injected = self.new.injected; last = last.Nothing } }
+        ensures bytes { OnOk result (self.new.injected.items ≡ bytes.now) }
+        ensures room { OnOk result (HasRoomFor self.new.packets 64) }
+        ensures tick { OnOk result (open_tick self.new.packets ≡ self.new.clock) }
+    {
+        self.make_room(alloc)?;
+        self.injected.clear();
+        self.injected.extend_from_slice(bytes)
+    }
+}
+
+// Whether a packet that was sent at this tick may not be delivered any more.
+fn is_late(settings: &Settings, clock: u64, tick: u64) -> bool
+    ensures { result ≡ (settings.now.wire == 1 && nat_lt (tick + settings.now.life) clock) }
+{
+    let life = u64::from(settings.life);
+    settings.wire == 1 && tick < clock.saturating_sub(life)
+}
+
+// Whom a datagram that no host sent seems to come from.
+fn stranger(host: HostId) -> HostId
+    ensures { result ≡ plain_stranger host }
+{
+    if host.0 == 0 { HostId(1) } else { HostId(0) }
+}
+
+// A datagram of version 2 that tells this clock of its sender, and no more.
+fn stale_frame(at: u64) -> Frame
+    requires { at ≤ 1000000002000 }
+    ensures { TellsClock result at }
+{
+    let packet = Packet {
+        role: Role::Client,
+        level: 7,
+        sender: 1,
+        inc: 1,
+        seq: 0,
+        at,
+        body: Body::Busy,
+    };
+    let mut frame = Frame::empty();
+    encode(&packet, 2, &[], &mut frame);
+    frame
+}

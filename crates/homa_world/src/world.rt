@@ -1,0 +1,133 @@
+// The world that is played.
+ghost use Rattle.std.specs.Prelude.{◌≡◌, ◌≤◌, length};
+ghost use Rattle.std.specs.List.{AllByRecursion};
+
+use crate::parts::WorldParts;
+use homa_plain::{Entry, Event, HostId, Settings, WorldFault};
+use homa_replay::{Opens, Playing};
+use homa_service::Service;
+use std::alloc::{AllocError, Global};
+use std::marker::Model;
+
+/// All hosts with their clocks and services, and the packets on their way.
+#[derive(Drop)]
+pub struct World<S: Service> {
+    parts: WorldParts<S>,
+}
+
+impl<S: Service> Model for World<S> {
+    ghost use Rattle.homa_world.specs.declared.parts.WorldParts.{WorldParts};
+    ghost use Rattle.homa_world.specs.Standing.{IsKept};
+
+    ghost Value = { WorldParts S };
+
+    ghost view = { λ w. w.parts };
+
+    ghost invariant = { λ w. IsKept S.served w.parts };
+}
+
+impl<S: Service> World<S> {
+    ghost use Rattle.std.specs.Prelude.{IfOk, List, ◌∷◌};
+    ghost use Rattle.homa_plain.specs.Entries.{PlainEntry, PlainSettings};
+    ghost use Rattle.homa_plain.specs.Settings.{IsValid};
+    ghost use Rattle.homa_packets.specs.All.{kept_all};
+    ghost use Rattle.homa_stage.specs.Staged.{hosts_of};
+    ghost use Rattle.homa_world.specs.First.{IsFirstAt, AreAllowed};
+    ghost use Rattle.homa_world.specs.Standing.{StandsFor, may_tell_of};
+
+    /// A world in which nothing has happened, at tick `start` of its clock: so many hosts as the settings say, each in its first
+    /// life. Service h serves host h, and the others are spare.
+    pub fn open_at(
+        alloc: Global,
+        settings: &Settings,
+        services: Vec<S>,
+        start: u64,
+    ) -> Result<World<S>, AllocError>
+        requires valid { IsValid settings.now }
+        requires enough { settings.now.hosts ≤ length services.items }
+        requires at_most { length services.items ≤ 1000000 }
+        requires none { AllByRecursion (λ service. S.served service ≡ 0) services.items }
+        requires start { start ≤ 1000000000000 }
+        ensures first { IfOk result (λ w. IsFirstAt settings.now start (length services.items) (StandsFor w)) }
+        ensures settings { IfOk result (λ w. w.settings ≡ settings.now) }
+        ensures applied { IfOk result (λ w. w.applied ≡ 0) }
+        ensures allows { IfOk result (λ w. (told : List PlainEntry) → may_tell_of S.served S.allows w told → AreAllowed S.served S.allows services.items (PlainSettings settings.now ∷ told)) }
+    {
+        Ok(World {
+            parts: WorldParts::open(alloc, settings, services, start)?,
+        })
+    }
+
+    /// The tick of the clock.
+    pub fn now(&self) -> u64
+        ensures { result ≡ self.now.clock }
+    {
+        self.parts.clock
+    }
+
+    /// How many packets were sent.
+    pub fn packets(&self) -> u64
+        ensures { result ≡ length (kept_all self.now.packets) }
+    {
+        self.parts.packets.count()
+    }
+}
+
+impl<S: Service> Playing for World<S> {
+    ghost use Rattle.homa_world.specs.Standing.{StandsFor, told_of, may_tell_of};
+
+    ghost stands = { λ w. StandsFor w };
+
+    ghost settings = { λ w. w.settings };
+
+    ghost events = { λ w. w.applied };
+
+    ghost told = { λ w. told_of w };
+
+    ghost allows = { λ w. may_tell_of S.served S.allows w };
+
+    fn apply(&mut self, alloc: Global, event: &Event, bytes: &[u8]) -> Result<(), WorldFault> {
+        match *event {
+            Event::Call {
+                client,
+                server,
+                number,
+            } => self.parts.call(alloc, client, server, number, bytes),
+            Event::Deliver { packet } => self.parts.deliver(alloc, packet),
+            Event::Clock => self.parts.tick(),
+            Event::Turn { host } => self.parts.turn(alloc, host),
+            Event::Restart { host } => self.parts.restart(alloc, host),
+            Event::Inject { host } => self.parts.inject(alloc, host, bytes),
+            Event::Shift { host, n } => self.parts.shift(host, n),
+        }
+    }
+
+    fn entries(&self) -> usize {
+        self.parts.entries()
+    }
+
+    fn entry(&self, i: usize) -> Entry<'_> {
+        self.parts.entry(i)
+    }
+
+    ghost allows_none = { λ w. tt };
+}
+
+impl<S: Service> Opens<Vec<S>> for World<S> {
+    ghost use Rattle.std.specs.Prelude.{◌≡◌, ◌≤◌, length};
+    ghost use Rattle.std.specs.List.{AllByRecursion};
+    ghost use Rattle.homa_world.specs.First.{AreAllowed, AreReady};
+    ghost use Rattle.homa_world.specs.Unasked.{unasked_allowed};
+
+    ghost many = { λ boxes. length boxes.items };
+
+    ghost are_ready = { λ boxes. AreReady S.served boxes.items };
+
+    ghost are_allowed = { λ boxes. AreAllowed S.served S.allows boxes.items };
+
+    fn open(alloc: Global, s: &Settings, boxes: Vec<S>) -> Result<World<S>, AllocError> {
+        World::open_at(alloc, s, boxes, 0)
+    }
+
+    ghost unasked = { λ boxes told none. unasked_allowed S.served S.allows boxes.items told none };
+}
