@@ -22,9 +22,10 @@ use homa_seen::Outbox;
 use msg_pool::Scratch;
 use std::alloc::{AllocError, Global};
 
-/// The host that calls, and the one that is called.
+/// The host that calls.
 const CLIENT: HostId = HostId(0);
 
+/// The host that is called.
 const SERVER: HostId = HostId(1);
 
 /// The round by which a quiet call with a request of `n` bytes and a response of `m` is done.
@@ -114,6 +115,7 @@ impl QuietCall {
         ensures quiet { IfOk result (λ rounds. IsQuiet (settings_of self.old) (asked self.old) (answered self.old) rounds) }
         ensures within { IfOk result (λ rounds. rounds ≤ 2 * (asked self.old + answered self.old) + 8) }
     {
+        // By this law there is such a round, within the bound.
         quiet_calls_end();
         let most = bound(self.request, self.filler.size());
         while self.clock < most {
