@@ -1,0 +1,12 @@
+pub mod Unasked
+pub mod Reached
+pub mod Midway
+pub mod Ticking
+pub mod Beginning
+pub mod Counting
+pub mod Keeping
+pub mod Telling
+pub mod Stepping
+pub mod Rounding
+pub mod Going
+pub mod Starting
