@@ -24,7 +24,8 @@ struct Echo {
 }
 
 impl Playing for Echo {
-    ghost use Rattle.std.specs.Prelude.{[], ◌≡◌, refl};
+    ghost use Rattle.std.specs.Prelude.{[], ◌∷◌, ◌≡◌, refl};
+    ghost use Rattle.homa_plain.specs.Entries.{PlainShift};
 
     ghost stands = { λ w v. ⊥ };
 
@@ -32,7 +33,7 @@ impl Playing for Echo {
 
     ghost events = { λ w. w.events };
 
-    ghost told = { λ w. [] };
+    ghost told = { λ w. PlainShift (record { 0 = 0 }) 0 ∷ [] };
 
     ghost allows = { λ w told. told ≡ told };
 
@@ -56,11 +57,14 @@ impl Playing for Echo {
     }
 
     fn entries(&self) -> usize {
-        0
+        1
     }
 
     fn entry(&self, _i: usize) -> Entry<'_> {
-        unreachable!()
+        Entry::Shift {
+            host: HostId(0),
+            n: 0,
+        }
     }
 }
 
