@@ -1,0 +1,290 @@
+// The tests of a line before it is taken.
+use crate::block::Due;
+use crate::call::Call;
+use crate::choice::{Grant, Message, choose, is_granted};
+use crate::trace::Trace;
+use crate::verdict::Clause;
+use homa_plain::{Body, CallId, Entry, HostId, LineFault, Role, Why, WorldFault};
+use std::alloc::{AllocError, Global};
+
+/// The line of an event: a block begins.
+pub(crate) fn is_event(line: &Entry<'_>) -> bool {
+    match line {
+        Entry::Call { .. }
+        | Entry::Deliver { .. }
+        | Entry::Recv { .. }
+        | Entry::Clock { .. }
+        | Entry::Restart { .. }
+        | Entry::Inject { .. }
+        | Entry::Shift { .. } => true,
+        _ => false,
+    }
+}
+
+/// A last line.
+pub(crate) fn is_last(line: &Entry<'_>) -> bool {
+    match line {
+        Entry::Finished { .. } | Entry::Refused { .. } | Entry::Stalled { .. } => true,
+        _ => false,
+    }
+}
+
+/// The call that a line names, other than a `call` line.
+pub(crate) fn named(line: &Entry<'_>) -> Option<CallId> {
+    match line {
+        Entry::Send { id, .. }
+        | Entry::Run { id, .. }
+        | Entry::Done { id, .. }
+        | Entry::Fail { id, .. }
+        | Entry::Drop { id, .. }
+        | Entry::Gaps { id, .. }
+        | Entry::Bury { id, .. }
+        | Entry::Free { id, .. }
+        | Entry::FullRows { id, .. }
+        | Entry::FullPages { id, .. } => Some(*id),
+        _ => None,
+    }
+}
+
+// A line may be refused for this.
+fn is_cause(fault: &LineFault) -> bool {
+    *fault != LineFault::World(WorldFault::NoMemory)
+}
+
+impl Trace {
+    // A line stands behind the first one, and behind no last one.
+    fn is_behind(&self) -> bool {
+        self.place > 0 && !self.ended
+    }
+
+    // The call that a line names, if it names one, was made before.
+    fn is_made(&self, id: Option<CallId>) -> bool {
+        match id {
+            Some(id) => self.find(id).is_some(),
+            None => true,
+        }
+    }
+
+    // A call is new, its request is a message, and its client and its server are two hosts of the run.
+    fn is_new_call(&self, id: CallId, server: HostId, len: usize) -> bool {
+        self.find(id).is_none()
+            && (1..=1_000_000).contains(&len)
+            && u32::from(id.client.0) < self.settings.hosts
+            && u32::from(server.0) < self.settings.hosts
+            && id.client != server
+    }
+
+    // The line may stand where it does.
+    fn has_shape(&self, line: &Entry<'_>) -> bool {
+        if let Entry::Settings(settings) = line {
+            return self.place == 0 && settings.check().is_ok();
+        }
+        self.is_behind()
+            && match line {
+                Entry::Call {
+                    id,
+                    server,
+                    bytes,
+                    ..
+                } => self.is_new_call(*id, *server, bytes.len()),
+                Entry::Deliver { packet } => *packet < self.packets.len() as u64,
+                Entry::Send { number, .. } => {
+                    *number == self.packets.len() as u64 && self.is_made(named(line))
+                }
+                Entry::Refused { fault, .. } => is_cause(fault),
+                _ => self.is_made(named(line)),
+            }
+    }
+
+    // A call, if it was made.
+    fn call(&self, id: CallId) -> Option<&Call> {
+        let at = self.find(id)?;
+        Some(&self.calls[at])
+    }
+
+    // The call didn't run in this life of its server, and the line tells its server, its service and its request.
+    fn runs_once(&self, line: &Entry<'_>) -> bool {
+        let Entry::Run {
+            host,
+            id,
+            service,
+            request,
+            ..
+        } = line
+        else {
+            return true;
+        };
+        match self.call(*id) {
+            Some(call) => {
+                call.server == *host
+                    && !call.ran_in(self.life(*host))
+                    && call.service == *service
+                    && call.request.as_slice() == *request
+            }
+            None => false,
+        }
+    }
+
+    // A call has this answer, of a run in a life of this incarnation.
+    fn has_answer(&self, id: CallId, inc: u32, bytes: &[u8]) -> bool {
+        let Some(call) = self.call(id) else {
+            return false;
+        };
+        let Some(host) = self.hosts.get(call.server.0 as usize) else {
+            return false;
+        };
+        call.runs.iter().any(|run| host.incarnation(run.life) == Some(inc)
+            && run.response.as_slice() == bytes)
+    }
+
+    // The block began with the delivery of a piece of a response, and the call answered this in the life that sent it.
+    fn returns_answer(&self, line: &Entry<'_>) -> bool {
+        let Entry::Done { id, bytes } = line else {
+            return true;
+        };
+        match self.delivery {
+            Some(delivery) => {
+                delivery.packet.role == Role::Server
+                    && delivery.packet.piece.is_data()
+                    && self.has_answer(*id, delivery.packet.inc, bytes)
+            }
+            None => false,
+        }
+    }
+
+    // Since a call's last renewal there were `tries` RESENDs, and no answer to any for `resend` ticks.
+    fn is_unanswered(&self, id: CallId) -> bool {
+        let tick = self.own_tick(id.client);
+        match self.call(id) {
+            Some(call) => call
+                .spot
+                .resends
+                .are_unanswered(tick, self.settings.tries, self.settings.resend),
+            None => false,
+        }
+    }
+
+    // A timeout is of an unanswered call; a block that a line closes has the lines that are due.
+    fn first_open(&self, line: &Entry<'_>) -> Option<Clause> {
+        if let Entry::Fail {
+            id,
+            why: Why::Timeout,
+        } = line
+        {
+            return if self.is_unanswered(*id) {
+                None
+            } else {
+                Some(Clause::Fails)
+            };
+        }
+        if !is_event(line) && !is_last(line) {
+            return None;
+        }
+        let due = Due::of(&self.delivery);
+        if !self.here.runs.is_exactly(due.run) || !self.here.dones.is_exactly(due.done) {
+            Some(Clause::HandedUp)
+        } else if !self.here.forgotten.is_exactly(due.forgotten) {
+            Some(Clause::Fails)
+        } else {
+            None
+        }
+    }
+
+    // The incoming messages of a host, requests before responses, each in order of call.
+    fn messages_at(&self, alloc: Global, host: HostId) -> Result<Vec<Message>, AllocError> {
+        let mut messages = Vec::new(alloc);
+        let Some(host) = self.hosts.get(host.0 as usize) else {
+            return Ok(messages);
+        };
+        for id in host.asked.iter() {
+            if let Some(message) = self.request_of(*id) {
+                messages.push(message)?;
+            }
+        }
+        for id in host.awaited.iter() {
+            if let Some(message) = self.response_of(*id) {
+                messages.push(message)?;
+            }
+        }
+        Ok(messages)
+    }
+
+    // A call's request, as the choice sees it.
+    fn request_of(&self, id: CallId) -> Option<Message> {
+        let call = self.call(id)?;
+        let part = call.spot_in(self.lives(id, call.server)).request?;
+        Some(Message {
+            role: Role::Server,
+            id,
+            peer: id.client,
+            length: part.length,
+            arrived: part.count,
+            granted: part.granted,
+            order: part.order,
+        })
+    }
+
+    // A call's response, as the choice sees it.
+    fn response_of(&self, id: CallId) -> Option<Message> {
+        let call = self.call(id)?;
+        let part = call.spot_in(self.lives(id, call.server)).response?;
+        Some(Message {
+            role: Role::Client,
+            id,
+            peer: call.server,
+            length: part.length,
+            arrived: part.count,
+            granted: part.granted,
+            order: part.order,
+        })
+    }
+
+    // A packet that is a GRANT is one of those that its host may send.
+    fn is_allowed(&self, alloc: Global, line: &Entry<'_>) -> Result<bool, AllocError> {
+        let Entry::Send {
+            from,
+            to,
+            role,
+            id,
+            body: Body::Grant { offset, prio },
+            ..
+        } = line
+        else {
+            return Ok(true);
+        };
+        let messages = self.messages_at(alloc, *from)?;
+        let chosen = choose(alloc, &messages, self.settings.overcommit as usize)?;
+        let grant = Grant {
+            to: *to,
+            role: *role,
+            id: *id,
+            offset: *offset,
+            prio: *prio,
+        };
+        Ok(is_granted(&chosen, self.settings.window, &grant))
+    }
+
+    /// The first clause that fails at a line, by the lines before it.
+    pub(crate) fn judge(
+        &self,
+        alloc: Global,
+        line: &Entry<'_>,
+    ) -> Result<Option<Clause>, AllocError> {
+        if !self.has_shape(line) {
+            return Ok(Some(Clause::Shape));
+        }
+        if !self.runs_once(line) {
+            return Ok(Some(Clause::Once));
+        }
+        if !self.returns_answer(line) {
+            return Ok(Some(Clause::Returned));
+        }
+        if let Some(clause) = self.first_open(line) {
+            return Ok(Some(clause));
+        }
+        if !self.is_allowed(alloc, line)? {
+            return Ok(Some(Clause::Granting));
+        }
+        Ok(None)
+    }
+}

@@ -1,0 +1,75 @@
+// What is kept of a packet.
+use homa_plain::{Body, CallId, HostId, Role};
+
+/// What a packet says, as far as a later line can show it: of DATA its message's size, the number of its first byte, and
+/// how many bytes it has.
+#[derive(Clone, Copy, Debug, PartialEq, Eq)]
+pub(crate) enum Piece {
+    Data { size: u32, offset: u32, len: u32 },
+    Unknown { reason: u8 },
+    Other,
+}
+
+impl Piece {
+    /// Of a packet with so many bytes of payload.
+    pub(crate) fn of(body: &Body, len: u32) -> Piece {
+        match body {
+            Body::Data { length, offset, .. } => Piece::Data {
+                size: *length,
+                offset: *offset,
+                len,
+            },
+            Body::Unknown { reason } => Piece::Unknown { reason: *reason },
+            _ => Piece::Other,
+        }
+    }
+
+    /// It is DATA.
+    pub(crate) fn is_data(self) -> bool {
+        match self {
+            Piece::Data { .. } => true,
+            _ => false,
+        }
+    }
+
+    /// It is UNKNOWN.
+    pub(crate) fn is_unknown(self) -> bool {
+        match self {
+            Piece::Unknown { .. } => true,
+            _ => false,
+        }
+    }
+
+    /// It is UNKNOWN of a call that the server ran and forgot.
+    pub(crate) fn is_forgotten(self) -> bool {
+        match self {
+            Piece::Unknown { reason } => reason == 1,
+            _ => false,
+        }
+    }
+}
+
+/// A packet: from whom to whom, the sender's incarnation, its call, and what it says.
+#[derive(Clone, Copy, Debug, PartialEq, Eq)]
+pub(crate) struct Packet {
+    pub(crate) from: HostId,
+    pub(crate) to: HostId,
+    pub(crate) inc: u32,
+    pub(crate) role: Role,
+    pub(crate) id: CallId,
+    pub(crate) piece: Piece,
+}
+
+impl Packet {
+    /// Whether it is a piece of a request of n bytes with the last of them.
+    pub(crate) fn has_last(&self, n: usize) -> bool {
+        match self.piece {
+            Piece::Data { offset, len, .. } => {
+                self.role == Role::Client
+                    && u64::from(offset) < n as u64
+                    && n as u64 <= u64::from(offset) + u64::from(len)
+            }
+            _ => false,
+        }
+    }
+}

@@ -1,0 +1,42 @@
+// The RESENDs of a call since its last renewal.
+
+/// How many there were, the tick of the latest, and whether each was at least `resend` ticks above the one before it.
+#[derive(Clone, Copy)]
+pub(crate) struct Resends {
+    pub(crate) count: u64,
+    pub(crate) latest: u128,
+    pub(crate) are_spaced: bool,
+}
+
+// Whether a tick is at least a gap above one before it.
+fn is_above(tick: u128, before: u128, gap: u32) -> bool {
+    before <= tick && tick - before >= u128::from(gap)
+}
+
+impl Resends {
+    /// None yet.
+    pub(crate) const NONE: Resends = Resends {
+        count: 0,
+        latest: 0,
+        are_spaced: true,
+    };
+
+    /// Whether a tick is at least a gap above the latest, and each one above the one before it.
+    pub(crate) fn are_spaced_up_to(self, tick: u128, gap: u32) -> bool {
+        self.count == 0 || is_above(tick, self.latest, gap) && self.are_spaced
+    }
+
+    /// With one more.
+    pub(crate) fn told(self, tick: u128, gap: u32) -> Resends {
+        Resends {
+            count: self.count.saturating_add(1),
+            latest: tick,
+            are_spaced: self.are_spaced_up_to(tick, gap),
+        }
+    }
+
+    /// There were `tries`, and no answer to any for `gap` ticks.
+    pub(crate) fn are_unanswered(self, tick: u128, tries: u32, gap: u32) -> bool {
+        self.count == u64::from(tries) && self.are_spaced_up_to(tick, gap)
+    }
+}

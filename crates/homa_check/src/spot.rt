@@ -1,0 +1,135 @@
+// What rests on deliveries, of one call.
+use crate::part::Part;
+use crate::resends::Resends;
+
+/// What rests on deliveries, of one call: the greatest incarnation that counted while it is live, what has arrived of
+/// its request and of its response, and its RESENDs.
+#[derive(Clone, Copy)]
+pub(crate) struct Spot {
+    pub(crate) live: Option<u32>,
+    pub(crate) request: Option<Part>,
+    pub(crate) response: Option<Part>,
+    pub(crate) resends: Resends,
+}
+
+/// What a line does to a call, whether a delivery before it in its block is taken back or not.
+#[derive(Clone, Copy)]
+pub(crate) enum Change {
+    Nothing,
+    Finished,
+    Dropped,
+    Renewed,
+    Told { tick: u128, gap: u32 },
+    RaisedRequest { offset: u32 },
+    RaisedResponse { offset: u32 },
+}
+
+// A part, if there is one, whose granted end is raised.
+fn raised(part: Option<Part>, offset: u32) -> Option<Part> {
+    match part {
+        Some(part) => Some(part.raised(offset)),
+        None => None,
+    }
+}
+
+impl Spot {
+    /// Of a call that wasn't made.
+    pub(crate) const EMPTY: Spot = Spot {
+        live: None,
+        request: None,
+        response: None,
+        resends: Resends::NONE,
+    };
+
+    /// Of a call that starts.
+    pub(crate) const STARTED: Spot = Spot {
+        live: Some(0),
+        request: None,
+        response: None,
+        resends: Resends::NONE,
+    };
+
+    /// With a change.
+    pub(crate) fn changed(self, change: Change) -> Spot {
+        match change {
+            Change::Nothing => self,
+            Change::Finished => Spot {
+                live: None,
+                response: None,
+                ..self
+            },
+            Change::Dropped => Spot {
+                request: None,
+                ..self
+            },
+            Change::Renewed => Spot {
+                resends: Resends::NONE,
+                ..self
+            },
+            Change::Told { tick, gap } => Spot {
+                resends: self.resends.told(tick, gap),
+                ..self
+            },
+            Change::RaisedRequest { offset } => Spot {
+                request: raised(self.request, offset),
+                ..self
+            },
+            Change::RaisedResponse { offset } => Spot {
+                response: raised(self.response, offset),
+                ..self
+            },
+        }
+    }
+
+    /// A packet of this incarnation counts: one of a later incarnation ends the response part, and every one but
+    /// UNKNOWN renews the call.
+    pub(crate) fn heard(self, inc: u32, is_unknown: bool) -> Spot {
+        let later = match self.live {
+            Some(latest) => latest < inc,
+            None => 0 < inc,
+        };
+        Spot {
+            live: Some(inc),
+            request: self.request,
+            response: if later { None } else { self.response },
+            resends: if is_unknown {
+                self.resends
+            } else {
+                Resends::NONE
+            },
+        }
+    }
+
+    /// Both messages are within their windows.
+    pub(crate) fn is_within(self, window: u32) -> bool {
+        is_within(self.request, window) && is_within(self.response, window)
+    }
+}
+
+// A part, if there is one, is within its window.
+fn is_within(part: Option<Part>, window: u32) -> bool {
+    match part {
+        Some(part) => part.is_within(window),
+        None => true,
+    }
+}
+
+// A part, if there is one, is an incoming message.
+fn is_message(part: Option<Part>) -> bool {
+    match part {
+        Some(part) => part.is_message(),
+        None => false,
+    }
+}
+
+impl Spot {
+    /// The request is an incoming message at its server.
+    pub(crate) fn is_asked(self) -> bool {
+        is_message(self.request)
+    }
+
+    /// The response is an incoming message at the client.
+    pub(crate) fn is_awaited(self) -> bool {
+        is_message(self.response)
+    }
+}

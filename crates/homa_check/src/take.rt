@@ -1,0 +1,385 @@
+// A line that is taken.
+use crate::block::{Delivery, Here};
+use crate::call::{Call, Lives, Run};
+use crate::judge::{is_event, is_last};
+use crate::packet::{Packet, Piece};
+use crate::spot::{Change, Spot};
+use crate::trace::Trace;
+use crate::verdict::Clause;
+use homa_plain::{Body, CallId, Entry, HostId, Role, Why};
+use homa_wire::decode;
+use open_ranges::OpenRanges;
+use std::alloc::{AllocError, Global};
+
+// A copy of bytes.
+fn copied(alloc: Global, bytes: &[u8]) -> Result<Vec<u8>, AllocError> {
+    let mut copy = Vec::with_capacity(alloc, bytes.len())?;
+    copy.extend_from_slice(bytes)?;
+    Ok(copy)
+}
+
+// The packet that a datagram from one host to another is.
+fn received(host: HostId, from: HostId, bytes: &[u8], wire: u32) -> Option<Packet> {
+    let (packet, payload) = decode(bytes, wire)?;
+    let client = if packet.role == Role::Client {
+        from
+    } else {
+        host
+    };
+    Some(Packet {
+        from,
+        to: host,
+        inc: packet.sender,
+        role: packet.role,
+        id: CallId {
+            client,
+            inc: packet.inc,
+            seq: packet.seq,
+        },
+        piece: Piece::of(&packet.body, (payload.to - payload.from) as u32),
+    })
+}
+
+impl Trace {
+    // A block begins.
+    fn begin(&mut self) {
+        self.here = Here::NONE;
+        self.delivery = None;
+    }
+
+    // A call starts.
+    fn start(
+        &mut self,
+        alloc: Global,
+        id: CallId,
+        server: HostId,
+        service: u8,
+        bytes: &[u8],
+    ) -> Result<(), AllocError> {
+        let lives = self.lives(id, server);
+        let call = Call {
+            server,
+            service,
+            request: copied(alloc, bytes)?,
+            sent_last: false,
+            runs: Vec::new(alloc),
+            lives,
+            spot: Spot::STARTED,
+            asked: OpenRanges::empty(alloc),
+            answered: OpenRanges::empty(alloc),
+        };
+        self.calls.push(call)?;
+        self.ids.insert(id)?;
+        Ok(())
+    }
+
+    // A packet reaches its host.
+    fn deliver(&mut self, alloc: Global, packet: Packet) -> Result<(), AllocError> {
+        let Some(at) = self.find(packet.id) else {
+            self.delivery = Some(Delivery {
+                packet,
+                refused: Spot::EMPTY,
+                stale: Spot::EMPTY,
+                runs: false,
+                done: false,
+                forgotten: false,
+            });
+            return Ok(());
+        };
+        let lives = self.lives(packet.id, self.calls[at].server);
+        self.calls[at].settle(alloc, lives)?;
+        let stale = self.calls[at].spot_in(lives);
+        let delivered = self.calls[at].delivered(&packet, self.place, lives, self.settings.unsched);
+        self.delivery = Some(Delivery {
+            packet,
+            refused: delivered.refused,
+            stale,
+            runs: delivered.runs,
+            done: delivered.done,
+            forgotten: delivered.forgotten,
+        });
+        self.keep(alloc, at, packet.id, delivered.now)
+    }
+
+    // A host restarts.
+    fn restart(&mut self, alloc: Global, host: HostId, inc: u32) -> Result<(), AllocError> {
+        self.know(alloc, host)?;
+        let host = &mut self.hosts[host.0 as usize];
+        host.restarts.push(inc)?;
+        host.asked.clear();
+        host.awaited.clear();
+        Ok(())
+    }
+
+    // A host's lead.
+    fn shift(&mut self, alloc: Global, host: HostId, n: u32) -> Result<(), AllocError> {
+        self.know(alloc, host)?;
+        self.hosts[host.0 as usize].lead = Some(n);
+        Ok(())
+    }
+
+    // A change of a call, whether the block's delivery is taken back or not.
+    fn change(&mut self, alloc: Global, id: CallId, change: Change) -> Result<(), AllocError> {
+        if let Some(delivery) = &mut self.delivery {
+            if delivery.packet.id == id {
+                delivery.refused = delivery.refused.changed(change);
+                delivery.stale = delivery.stale.changed(change);
+            }
+        }
+        let Some(at) = self.find(id) else {
+            return Ok(());
+        };
+        let lives = self.lives(id, self.calls[at].server);
+        let spot = self.calls[at].spot_in(lives).changed(change);
+        self.keep(alloc, at, id, spot)
+    }
+
+    // What a packet that is sent does to its call.
+    fn change_of(&self, packet: &Packet, body: &Body) -> Change {
+        let Some(at) = self.find(packet.id) else {
+            return Change::Nothing;
+        };
+        let call = &self.calls[at];
+        match body {
+            Body::Grant { offset, .. } => {
+                if packet.role == Role::Server {
+                    if packet.from == call.server && packet.to == packet.id.client {
+                        return Change::RaisedRequest { offset: *offset };
+                    }
+                } else if packet.from == packet.id.client && packet.to == call.server {
+                    return Change::RaisedResponse { offset: *offset };
+                }
+                Change::Nothing
+            }
+            Body::Resend { .. } if packet.role == Role::Client => Change::Told {
+                tick: self.own_tick(packet.id.client),
+                gap: self.settings.resend,
+            },
+            Body::Data { .. } if packet.role == Role::Client && !call.sent_last => Change::Renewed,
+            _ => Change::Nothing,
+        }
+    }
+
+    // The incarnation of a host's first life, if this is its first packet and it hasn't restarted.
+    fn note_first(&mut self, alloc: Global, host: HostId, inc: u32) -> Result<(), AllocError> {
+        self.know(alloc, host)?;
+        let host = &mut self.hosts[host.0 as usize];
+        if host.restarts.is_empty() && host.first.is_none() {
+            host.first = Some(inc);
+        }
+        Ok(())
+    }
+
+    // A packet is sent.
+    fn send(&mut self, alloc: Global, packet: Packet, body: &Body) -> Result<(), AllocError> {
+        let change = self.change_of(&packet, body);
+        self.change(alloc, packet.id, change)?;
+        self.note_first(alloc, packet.from, packet.inc)?;
+        if let Some(at) = self.find(packet.id) {
+            let call = &mut self.calls[at];
+            if packet.has_last(call.request.len()) {
+                call.sent_last = true;
+            }
+        }
+        self.packets.push(packet)?;
+        Ok(())
+    }
+
+    // A service was called.
+    fn run(
+        &mut self,
+        alloc: Global,
+        host: HostId,
+        id: CallId,
+        response: &[u8],
+    ) -> Result<(), AllocError> {
+        let life = self.life(host);
+        if let Some(at) = self.find(id) {
+            let response = copied(alloc, response)?;
+            self.calls[at].runs.insert(0, Run { life, response })?;
+        }
+        self.here.runs = self.here.runs.with(id);
+        Ok(())
+    }
+
+    // The block's delivery is taken back: its bytes aren't admitted.
+    fn refuse(&mut self, alloc: Global, host: HostId, id: CallId) -> Result<(), AllocError> {
+        let Some(delivery) = &mut self.delivery else {
+            return Ok(());
+        };
+        if !delivery.is_to(host, id) {
+            return Ok(());
+        }
+        delivery.runs = false;
+        delivery.done = false;
+        let spot = delivery.refused;
+        let Some(at) = self.find(id) else {
+            return Ok(());
+        };
+        self.keep(alloc, at, id, spot)
+    }
+
+    // The block's delivery is taken back: nothing was delivered.
+    fn forget(&mut self, alloc: Global) -> Result<(), AllocError> {
+        let Some(delivery) = self.delivery else {
+            return Ok(());
+        };
+        self.delivery = None;
+        let Some(at) = self.find(delivery.packet.id) else {
+            return Ok(());
+        };
+        self.keep(alloc, at, delivery.packet.id, delivery.stale)
+    }
+}
+
+impl Trace {
+    // The line of an event is taken.
+    fn take_event(&mut self, alloc: Global, line: &Entry<'_>) -> Result<(), AllocError> {
+        match line {
+            Entry::Call {
+                id,
+                server,
+                service,
+                bytes,
+            } => self.start(alloc, *id, *server, *service, bytes),
+            Entry::Deliver { packet } => match self.packets.get(*packet as usize) {
+                Some(packet) => self.deliver(alloc, *packet),
+                None => Ok(()),
+            },
+            Entry::Recv { host, from, bytes } => {
+                match received(*host, *from, bytes, self.settings.wire) {
+                    Some(packet) => self.deliver(alloc, packet),
+                    None => Ok(()),
+                }
+            }
+            Entry::Clock { tick } => {
+                self.tick = *tick;
+                Ok(())
+            }
+            Entry::Restart { host, inc } => self.restart(alloc, *host, *inc),
+            Entry::Shift { host, n } => self.shift(alloc, *host, *n),
+            _ => Ok(()),
+        }
+    }
+
+    // A line within a block is taken.
+    fn take_inner(&mut self, alloc: Global, line: &Entry<'_>) -> Result<(), AllocError> {
+        match line {
+            Entry::Send {
+                from,
+                to,
+                inc,
+                role,
+                id,
+                body,
+                payload,
+                ..
+            } => {
+                let packet = Packet {
+                    from: *from,
+                    to: *to,
+                    inc: *inc,
+                    role: *role,
+                    id: *id,
+                    piece: Piece::of(body, payload.len() as u32),
+                };
+                self.send(alloc, packet, body)
+            }
+            Entry::Run {
+                host,
+                id,
+                response,
+                ..
+            } => self.run(alloc, *host, *id, response),
+            Entry::Done { id, .. } => {
+                self.here.dones = self.here.dones.with(*id);
+                self.change(alloc, *id, Change::Finished)
+            }
+            Entry::Fail { id, why } => {
+                if *why == Why::Forgotten {
+                    self.here.forgotten = self.here.forgotten.with(*id);
+                }
+                self.change(alloc, *id, Change::Finished)
+            }
+            Entry::Drop { host, id } => {
+                let change = self.change_of_drop(*host, *id);
+                self.change(alloc, *id, change)
+            }
+            Entry::Stale { .. } => self.forget(alloc),
+            Entry::Gaps { host, id }
+            | Entry::FullRows { host, id, .. }
+            | Entry::FullPages { host, id, .. } => self.refuse(alloc, *host, *id),
+            _ => Ok(()),
+        }
+    }
+
+    // What it does to a call that a host gives its request up.
+    fn change_of_drop(&self, host: HostId, id: CallId) -> Change {
+        match self.find(id) {
+            Some(at) if self.calls[at].server == host => Change::Dropped,
+            _ => Change::Nothing,
+        }
+    }
+
+    // The call whose messages are to be tested behind a line, if any.
+    fn to_test(&self, line: &Entry<'_>) -> Option<CallId> {
+        match line {
+            Entry::Send { id, .. } => Some(*id),
+            Entry::Deliver { .. }
+            | Entry::Recv { .. }
+            | Entry::Stale { .. }
+            | Entry::Gaps { .. }
+            | Entry::FullRows { .. }
+            | Entry::FullPages { .. } => match self.delivery {
+                Some(delivery) => Some(delivery.packet.id),
+                None => None,
+            },
+            _ => None,
+        }
+    }
+
+    // The messages of a call are within their windows.
+    fn is_within(&self, id: Option<CallId>) -> bool {
+        let Some(id) = id else {
+            return true;
+        };
+        let Some(at) = self.find(id) else {
+            return true;
+        };
+        let call = &self.calls[at];
+        call.spot_in(self.lives(id, call.server))
+            .is_within(self.settings.window)
+    }
+
+    // A line is taken.
+    fn take(&mut self, alloc: Global, line: &Entry<'_>) -> Result<(), AllocError> {
+        if let Entry::Settings(settings) = line {
+            self.settings = *settings;
+        } else if is_event(line) {
+            self.begin();
+            self.take_event(alloc, line)?;
+        } else {
+            self.take_inner(alloc, line)?;
+        }
+        self.place += 1;
+        self.ended = self.ended || is_last(line);
+        Ok(())
+    }
+
+    /// Judges a line, and takes it where no clause fails.
+    pub(crate) fn step(
+        &mut self,
+        alloc: Global,
+        line: &Entry<'_>,
+    ) -> Result<Option<Clause>, AllocError> {
+        if let Some(clause) = self.judge(alloc, line)? {
+            return Ok(Some(clause));
+        }
+        let before = self.to_test(line);
+        self.take(alloc, line)?;
+        if !self.is_within(before) || !self.is_within(self.to_test(line)) {
+            return Ok(Some(Clause::Granting));
+        }
+        Ok(None)
+    }
+}
