@@ -20,13 +20,14 @@ pub(crate) struct Lives {
     pub(crate) server: usize,
 }
 
-/// A call: its `call` line, whether the last byte of its request was sent, its runs, the latest first, and what rests on
+/// A call: its `call` line and the size of its request, whether the last byte of its request was sent, its runs, the latest first, and what rests on
 /// deliveries, as it was in these lives of its client and its server.
 #[derive(Drop)]
 pub(crate) struct Call {
     pub(crate) server: HostId,
     pub(crate) service: u8,
     pub(crate) request: Vec<u8>,
+    pub(crate) size: u32,
     pub(crate) sent_last: bool,
     pub(crate) runs: Vec<Run>,
     pub(crate) lives: Lives,
@@ -146,7 +147,7 @@ impl Call {
         };
         match packet.piece {
             Piece::Data { size, offset, len } => {
-                let end = u64::from(offset) + u64::from(len);
+                let end = u64::from(offset).saturating_add(len);
                 if packet.role == Role::Client {
                     self.asked_more(packet, place, lives, unsched, offset, end, delivered)
                 } else if counts {
@@ -174,7 +175,7 @@ impl Call {
             return delivered;
         }
         let before = delivered.now.request;
-        let opened = Part::opened(self.request.len() as u32, unsched);
+        let opened = Part::opened(self.size, unsched);
         let after = before
             .unwrap_or(opened)
             .grown(&self.asked, place, offset, end);

@@ -3,7 +3,6 @@
 
 mod block;
 mod call;
-mod check;
 mod choice;
 mod host;
 mod judge;
@@ -14,8 +13,9 @@ mod spot;
 mod take;
 #[cfg(test)]
 mod tests;
+mod text;
 mod trace;
 mod verdict;
 
-pub use check::check;
+pub use text::check;
 pub use verdict::{CheckStop, Clause, Verdict};

@@ -5,14 +5,14 @@ use homa_plain::{Body, CallId, HostId, Role};
 /// how many bytes it has.
 #[derive(Clone, Copy, Debug, PartialEq, Eq)]
 pub(crate) enum Piece {
-    Data { size: u32, offset: u32, len: u32 },
+    Data { size: u32, offset: u32, len: u64 },
     Unknown { reason: u8 },
     Other,
 }
 
 impl Piece {
     /// Of a packet with so many bytes of payload.
-    pub(crate) fn of(body: &Body, len: u32) -> Piece {
+    pub(crate) fn of(body: &Body, len: u64) -> Piece {
         match body {
             Body::Data { length, offset, .. } => Piece::Data {
                 size: *length,
@@ -67,7 +67,7 @@ impl Packet {
             Piece::Data { offset, len, .. } => {
                 self.role == Role::Client
                     && u64::from(offset) < n as u64
-                    && n as u64 <= u64::from(offset) + u64::from(len)
+                    && n as u64 <= u64::from(offset).saturating_add(len)
             }
             _ => false,
         }

@@ -1,4 +1,12 @@
 // What has arrived of a message.
+ghost use Rattle.std.specs.Prelude.{◌≡◌, ◌+◌, ◌<◌, ◌≤◌, nat_le, not, ◌||◌, ◌==◌, if◌then◌else◌, min, IfOk};
+ghost use Rattle.plain_sets.specs.Maps.{empty, len};
+ghost use Rattle.plain_sets.specs.Numbers.{Numbers, with_range};
+ghost use Rattle.homa_plain.specs.declared.id.HostId.{HostId};
+ghost use Rattle.homa_plain.specs.Parts as plain;
+ghost use Rattle.homa_plain.specs.Judge.{is_within_at};
+ghost use Rattle.homa_check.specs.Kept.{arrived_of, part_of, IsCounted, IsPlain};
+
 use open_ranges::OpenRanges;
 use std::alloc::{AllocError, Global};
 
@@ -17,7 +25,11 @@ pub(crate) struct Part {
 
 impl Part {
     /// A part without bytes. The first `unsched` bytes need no grant.
-    pub(crate) fn opened(length: u32, unsched: u32) -> Part {
+    pub(crate) fn opened(length: u32, unsched: u32) -> Part
+        ensures part { (host peer : HostId) (set : Numbers) → part_of host peer set result ≡ plain.opened host peer length unsched }
+        ensures counted { (set : Numbers) → IsCounted set result }
+        ensures plain { IsPlain result }
+    {
         Part {
             length,
             granted: length.min(unsched),
@@ -30,27 +42,31 @@ impl Part {
     }
 
     /// All bytes have arrived.
-    pub(crate) fn is_whole(self) -> bool {
+    pub(crate) fn is_whole(self) -> bool
+        ensures { (host peer : HostId) (set : Numbers) → IsCounted set self → result ≡ plain.is_whole (part_of host peer set self) }
+    {
         self.count == self.length
     }
 
     /// Some bytes have arrived, and not all.
-    pub(crate) fn is_message(self) -> bool {
+    pub(crate) fn is_message(self) -> bool
+        ensures { (host peer : HostId) (set : Numbers) → IsCounted set self → result ≡ plain.is_message (part_of host peer set self) }
+    {
         self.count > 0 && !self.is_whole()
     }
 
     /// The part with the bytes from `a` to `b` - 1, as far as they belong to the message.
-    pub(crate) fn grown(self, set: &OpenRanges, place: u64, a: u32, b: u64) -> Part {
-        let order = if self.count == 0 { place } else { self.order };
+    pub(crate) fn grown(self, set: &OpenRanges, place: u64, a: u32, b: u64) -> Part
+        requires { IsPlain self }
+        ensures part { (host peer : HostId) → IsCounted set.now self → part_of host peer set.now result ≡ plain.grown place a b (part_of host peer set.now self) }
+        ensures counted { IsCounted set.now self → IsCounted set.now result }
+    {
+        let order = self.order_at(place);
         let to = b.min(u64::from(self.length)) as u32;
         if to <= a {
             return Part { order, ..self };
         }
-        let count = if self.keeps {
-            set.count_with(a, to)
-        } else {
-            to - a
-        };
+        let count = count_with(set, self.keeps, a, to);
         Part {
             order,
             count,
@@ -60,8 +76,18 @@ impl Part {
         }
     }
 
+    // The line with which its first bytes came, where more bytes come now.
+    fn order_at(self, place: u64) -> u64
+        ensures { result ≡ (if self.count == 0 then place else self.order) }
+    {
+        if self.count == 0 { place } else { self.order }
+    }
+
     /// A GRANT raises the granted end of a message.
-    pub(crate) fn raised(self, offset: u32) -> Part {
+    pub(crate) fn raised(self, offset: u32) -> Part
+        ensures part { (host peer : HostId) (set : Numbers) → IsCounted set self → part_of host peer set result ≡ plain.raised host peer offset (part_of host peer set self) }
+        ensures counted { (set : Numbers) → IsCounted set self → IsCounted set result }
+    {
         if !self.is_message() {
             return self;
         }
@@ -72,16 +98,37 @@ impl Part {
     }
 
     /// Of a message no more than a window is granted beyond as many bytes as have arrived.
-    pub(crate) fn is_within(self, window: u32) -> bool {
+    pub(crate) fn is_within(self, window: u32) -> bool
+        ensures { (host peer : HostId) (set : Numbers) → IsCounted set self → result ≡ is_within_at window (part_of host peer set self) }
+    {
         !self.is_message() || u64::from(self.granted) <= u64::from(self.count) + u64::from(window)
     }
 }
 
-/// Puts the bytes that came last into the set beside a part.
-pub(crate) fn settle(alloc: Global, set: &mut OpenRanges, part: Part) -> Result<Part, AllocError> {
-    if !part.keeps {
+// How many numbers there are with those from `a` to `b` - 1, in the set or, if that isn't kept, in none.
+fn count_with(set: &OpenRanges, keeps: bool, a: u32, b: u32) -> u32
+    requires { a < b }
+    ensures { result ≡ len (with_range (if keeps then set.now else empty) a b) }
+{
+    if keeps { set.count_with(a, b) } else { b - a }
+}
+
+// Empties a set that isn't kept.
+fn begin(alloc: Global, set: &mut OpenRanges, keeps: bool)
+    ensures { set.new ≡ (if keeps then set.old else empty) }
+{
+    if !keeps {
         *set = OpenRanges::empty(alloc);
     }
+}
+
+/// Puts the bytes that came last into the set beside a part.
+pub(crate) fn settle(alloc: Global, set: &mut OpenRanges, part: Part) -> Result<Part, AllocError>
+    ensures part { IfOk result (λ p. (host peer : HostId) → part_of host peer set.new p ≡ part_of host peer set.old part) }
+    ensures counted { IfOk result (λ p. IsCounted set.old part → IsCounted set.new p) }
+    ensures settled { IfOk result IsPlain }
+{
+    begin(alloc, set, part.keeps);
     if part.from < part.to {
         set.add(part.from, part.to)?;
     }

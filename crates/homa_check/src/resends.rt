@@ -1,4 +1,7 @@
 // The RESENDs of a call since its last renewal.
+ghost use Rattle.std.specs.Prelude.{◌≡◌, ◌+◌, ◌==◌, ◌&&◌, nat_le, ℕ, List, [], ◌∷◌, length};
+ghost use Rattle.homa_plain.specs.Judge.{are_spaced};
+ghost use Rattle.homa_check.specs.Kept.{AreResends};
 
 /// How many there were, the tick of the latest, and whether each was at least `resend` ticks above the one before it.
 #[derive(Clone, Copy)]
@@ -9,7 +12,9 @@ pub(crate) struct Resends {
 }
 
 // Whether a tick is at least a gap above one before it.
-fn is_above(tick: u128, before: u128, gap: u32) -> bool {
+fn is_above(tick: u128, before: u128, gap: u32) -> bool
+    ensures { result ≡ nat_le (before + gap) tick }
+{
     before <= tick && tick - before >= u128::from(gap)
 }
 
@@ -22,12 +27,16 @@ impl Resends {
     };
 
     /// Whether a tick is at least a gap above the latest, and each one above the one before it.
-    pub(crate) fn are_spaced_up_to(self, tick: u128, gap: u32) -> bool {
+    pub(crate) fn are_spaced_up_to(self, tick: u128, gap: u32) -> bool
+        ensures { (ticks : List ℕ) → AreResends gap self ticks → result ≡ are_spaced gap (tick ∷ ticks) }
+    {
         self.count == 0 || is_above(tick, self.latest, gap) && self.are_spaced
     }
 
     /// With one more.
-    pub(crate) fn told(self, tick: u128, gap: u32) -> Resends {
+    pub(crate) fn told(self, tick: u128, gap: u32) -> Resends
+        ensures { (ticks : List ℕ) → AreResends gap self ticks → AreResends gap result (tick ∷ ticks) }
+    {
         Resends {
             count: self.count.saturating_add(1),
             latest: tick,
@@ -36,7 +45,9 @@ impl Resends {
     }
 
     /// There were `tries`, and no answer to any for `gap` ticks.
-    pub(crate) fn are_unanswered(self, tick: u128, tries: u32, gap: u32) -> bool {
+    pub(crate) fn are_unanswered(self, tick: u128, tries: u32, gap: u32) -> bool
+        ensures { (ticks : List ℕ) → AreResends gap self ticks → result ≡ (length ticks == tries && are_spaced gap (tick ∷ ticks)) }
+    {
         self.count == u64::from(tries) && self.are_spaced_up_to(tick, gap)
     }
 }

@@ -36,7 +36,7 @@ fn received(host: HostId, from: HostId, bytes: &[u8], wire: u32) -> Option<Packe
             inc: packet.inc,
             seq: packet.seq,
         },
-        piece: Piece::of(&packet.body, (payload.to - payload.from) as u32),
+        piece: Piece::of(&packet.body, (payload.to - payload.from) as u64),
     })
 }
 
@@ -61,6 +61,7 @@ impl Trace {
             server,
             service,
             request: copied(alloc, bytes)?,
+            size: bytes.len().min(u32::MAX as usize) as u32,
             sent_last: false,
             runs: Vec::new(alloc),
             lives,
@@ -281,7 +282,7 @@ impl Trace {
                     inc: *inc,
                     role: *role,
                     id: *id,
-                    piece: Piece::of(body, payload.len() as u32),
+                    piece: Piece::of(body, payload.len() as u64),
                 };
                 self.send(alloc, packet, body)
             }
@@ -361,7 +362,7 @@ impl Trace {
         } else {
             self.take_inner(alloc, line)?;
         }
-        self.place += 1;
+        self.place = self.place.saturating_add(1);
         self.ended = self.ended || is_last(line);
         Ok(())
     }
