@@ -1,6 +1,6 @@
 -- What is kept of one call, and what that stands for.
-use Rattle.std.specs.Prelude.{◌≡◌, ℕ, ◌+◌, ◌-◌, ◌^◌, ◌<◌, ◌≤◌, min, Bool, true, false, if◌then◌else◌, Option, None, Some, IfSome, List, [], ◌∷◌, length}
-use Rattle.std.specs.Option.{option_map}
+use Rattle.std.specs.Prelude.{◌≡◌, ℕ, ◌+◌, ◌-◌, ◌^◌, ◌<◌, ◌≤◌, min, Bool, true, false, ◌&&◌, ◌==◌, nat_lt, nat_le, if◌then◌else◌, Option, None, Some, IfSome, List, [], ◌∷◌, length}
+use Rattle.std.specs.Option.{option_map, option_map_or}
 use Rattle.plain_sets.specs.Maps.{empty, len}
 use Rattle.plain_sets.specs.Numbers.{Numbers, with_range}
 use Rattle.homa_plain.specs.declared.id.CallId.{CallId}
@@ -9,7 +9,9 @@ use Rattle.homa_plain.specs.declared.packet.Body.{Body}
 use Rattle.homa_plain.specs.declared.packet.Body.TheVariants as body
 use Rattle.homa_plain.specs.Parts as plain
 use Rattle.homa_plain.specs.View.{Sent}
-use Rattle.homa_plain.specs.Judge.{are_spaced}
+use Rattle.homa_plain.specs.declared.packet.Role.{Role}
+use Rattle.homa_plain.specs.Wire.{is_client}
+use Rattle.homa_plain.specs.Judge.{are_spaced, is_within_at}
 use Rattle.homa_judging.specs.Spots as spots
 use Rattle.homa_check.specs.declared.part.Part.{Part}
 use Rattle.homa_check.specs.declared.resends.Resends.{Resends}
@@ -94,3 +96,39 @@ piece_of other n = Other
 -- what is kept of a packet
 abbrev pub packet_of : Sent → Packet
 packet_of p = record { from = p.from; to = p.to; inc = p.inc; role = p.role; id = p.id; piece = piece_of p.body (length p.payload) }
+
+-- ---- what is asked of them
+
+-- no message of the spot is granted beyond its window
+abbrev pub within : ℕ → Option plain.Part → Bool
+within window None = true
+within window (Some p) = is_within_at window p
+
+abbrev pub is_within_spot : ℕ → spots.Spot → Bool
+is_within_spot window s = within window s.request && within window s.response
+
+-- a part, if there is one, is an incoming message
+abbrev pub is_incoming : Option plain.Part → Bool
+is_incoming p = option_map_or plain.is_message p false
+
+-- it is DATA, UNKNOWN, or UNKNOWN of a call that was forgotten
+abbrev pub piece_is_data : Piece → Bool
+piece_is_data (Data size offset n) = true
+piece_is_data (Unknown reason) = false
+piece_is_data Other = false
+
+abbrev pub piece_is_unknown : Piece → Bool
+piece_is_unknown (Data size offset n) = false
+piece_is_unknown (Unknown reason) = true
+piece_is_unknown Other = false
+
+abbrev pub piece_is_forgotten : Piece → Bool
+piece_is_forgotten (Data size offset n) = false
+piece_is_forgotten (Unknown reason) = reason == 1
+piece_is_forgotten Other = false
+
+-- it has the last of n bytes of a request
+abbrev pub piece_has_last : ℕ → Role → Piece → Bool
+piece_has_last size role (Data all offset n) = is_client role && nat_lt offset size && nat_le size (offset + n)
+piece_has_last size role (Unknown reason) = false
+piece_has_last size role Other = false

@@ -1,4 +1,7 @@
 // What is kept of a packet.
+ghost use Rattle.std.specs.Prelude.{◌≡◌};
+ghost use Rattle.homa_check.specs.Kept.{piece_of, piece_is_data, piece_is_unknown, piece_is_forgotten, piece_has_last};
+
 use homa_plain::{Body, CallId, HostId, Role};
 
 /// What a packet says, as far as a later line can show it: of DATA its message's size, the number of its first byte, and
@@ -12,7 +15,9 @@ pub(crate) enum Piece {
 
 impl Piece {
     /// Of a packet with so many bytes of payload.
-    pub(crate) fn of(body: &Body, len: u64) -> Piece {
+    pub(crate) fn of(body: &Body, len: u64) -> Piece
+        ensures { result ≡ piece_of body.now len }
+    {
         match body {
             Body::Data { length, offset, .. } => Piece::Data {
                 size: *length,
@@ -25,7 +30,9 @@ impl Piece {
     }
 
     /// It is DATA.
-    pub(crate) fn is_data(self) -> bool {
+    pub(crate) fn is_data(self) -> bool
+        ensures { result ≡ piece_is_data self }
+    {
         match self {
             Piece::Data { .. } => true,
             _ => false,
@@ -33,7 +40,9 @@ impl Piece {
     }
 
     /// It is UNKNOWN.
-    pub(crate) fn is_unknown(self) -> bool {
+    pub(crate) fn is_unknown(self) -> bool
+        ensures { result ≡ piece_is_unknown self }
+    {
         match self {
             Piece::Unknown { .. } => true,
             _ => false,
@@ -41,7 +50,9 @@ impl Piece {
     }
 
     /// It is UNKNOWN of a call that the server ran and forgot.
-    pub(crate) fn is_forgotten(self) -> bool {
+    pub(crate) fn is_forgotten(self) -> bool
+        ensures { result ≡ piece_is_forgotten self }
+    {
         match self {
             Piece::Unknown { reason } => reason == 1,
             _ => false,
@@ -62,7 +73,9 @@ pub(crate) struct Packet {
 
 impl Packet {
     /// Whether it is a piece of a request of n bytes with the last of them.
-    pub(crate) fn has_last(&self, n: usize) -> bool {
+    pub(crate) fn has_last(&self, n: usize) -> bool
+        ensures { result ≡ piece_has_last n self.now.role self.now.piece }
+    {
         match self.piece {
             Piece::Data { offset, len, .. } => {
                 self.role == Role::Client

@@ -1,5 +1,7 @@
 // What has arrived of a message.
-ghost use Rattle.std.specs.Prelude.{◌≡◌, ◌+◌, ◌<◌, ◌≤◌, nat_le, not, ◌||◌, ◌==◌, if◌then◌else◌, min, IfOk};
+ghost use Rattle.std.specs.Prelude.{◌≡◌, ◌+◌, ◌<◌, ◌≤◌, nat_le, not, ◌||◌, ◌==◌, if◌then◌else◌, min, unwrap_or, IfOk, IfSome};
+ghost use Rattle.std.specs.Option.{option_map};
+ghost use Rattle.homa_check.specs.Calls.{more_of};
 ghost use Rattle.plain_sets.specs.Maps.{empty, len};
 ghost use Rattle.plain_sets.specs.Numbers.{Numbers, with_range};
 ghost use Rattle.homa_plain.specs.declared.id.HostId.{HostId};
@@ -55,14 +57,14 @@ impl Part {
         self.count > 0 && !self.is_whole()
     }
 
-    /// The part with the bytes from `a` to `b` - 1, as far as they belong to the message.
-    pub(crate) fn grown(self, set: &OpenRanges, place: u64, a: u32, b: u64) -> Part
+    /// The part with so many bytes from number `a` on, as far as they belong to the message.
+    pub(crate) fn grown(self, set: &OpenRanges, place: u64, a: u32, len: u64) -> Part
         requires { IsPlain self }
-        ensures part { (host peer : HostId) → IsCounted set.now self → part_of host peer set.now result ≡ plain.grown place a b (part_of host peer set.now self) }
+        ensures part { (host peer : HostId) → IsCounted set.now self → part_of host peer set.now result ≡ plain.grown place a (a + len) (part_of host peer set.now self) }
         ensures counted { IsCounted set.now self → IsCounted set.now result }
     {
         let order = self.order_at(place);
-        let to = b.min(u64::from(self.length)) as u32;
+        let to = end_of(a, len, self.length);
         if to <= a {
             return Part { order, ..self };
         }
@@ -103,6 +105,44 @@ impl Part {
     {
         !self.is_message() || u64::from(self.granted) <= u64::from(self.count) + u64::from(window)
     }
+}
+
+/// Bytes that come: the line with which they come stands behind `place` lines, the first of them has the number
+/// `offset`, and the first `unsched` bytes of a message need no grant.
+#[derive(Clone, Copy)]
+pub(crate) struct Arrival {
+    pub(crate) place: u64,
+    pub(crate) unsched: u32,
+    pub(crate) offset: u32,
+    pub(crate) len: u64,
+}
+
+/// A part of a message of this length with the bytes that come; it is opened with its first bytes.
+pub(crate) fn more(before: Option<Part>, set: &OpenRanges, length: u32, arrival: Arrival) -> Part
+    requires { IfSome before IsPlain }
+    ensures part { (host peer : HostId) → IfSome before (IsCounted set.now) → part_of host peer set.now result ≡ more_of host peer arrival length (option_map (part_of host peer set.now) before) }
+    ensures counted { IfSome before (IsCounted set.now) → IsCounted set.now result }
+{
+    part_or(before, length, arrival.unsched).grown(set, arrival.place, arrival.offset, arrival.len)
+}
+
+// A part, which is opened where there is none.
+fn part_or(before: Option<Part>, length: u32, unsched: u32) -> Part
+    ensures part { (host peer : HostId) (set : Numbers) → part_of host peer set result ≡ unwrap_or (option_map (part_of host peer set) before) (plain.opened host peer length unsched) }
+    ensures counted { (set : Numbers) → IfSome before (IsCounted set) → IsCounted set result }
+    ensures plain { IfSome before IsPlain → IsPlain result }
+{
+    match before {
+        Some(part) => part,
+        None => Part::opened(length, unsched),
+    }
+}
+
+// Where so many bytes from number `a` on end, in a message of this length.
+fn end_of(a: u32, len: u64, length: u32) -> u32
+    ensures { result ≡ min (a + len) length }
+{
+    u64::from(a).saturating_add(len).min(u64::from(length)) as u32
 }
 
 // How many numbers there are with those from `a` to `b` - 1, in the set or, if that isn't kept, in none.

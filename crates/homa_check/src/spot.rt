@@ -1,4 +1,15 @@
 // What rests on deliveries, of one call.
+ghost use Rattle.std.specs.Prelude.{◌≡◌, IfSome};
+ghost use Rattle.std.specs.Option.{option_map};
+ghost use Rattle.plain_sets.specs.Numbers.{Numbers};
+ghost use Rattle.homa_plain.specs.declared.id.HostId.{HostId};
+ghost use Rattle.homa_plain.specs.Parts as plain;
+ghost use Rattle.homa_plain.specs.View.{Sent};
+ghost use Rattle.homa_plain.specs.Seen as seen;
+ghost use Rattle.homa_judging.specs.Spots as spots;
+ghost use Rattle.homa_check.specs.Calls.{ArePlain};
+ghost use Rattle.homa_check.specs.Kept.{part_of, IsCounted, Beside, StandsFor, IsApart, changed, within, is_within_spot, is_incoming};
+
 use crate::part::Part;
 use crate::resends::Resends;
 
@@ -25,7 +36,10 @@ pub(crate) enum Change {
 }
 
 // A part, if there is one, whose granted end is raised.
-fn raised(part: Option<Part>, offset: u32) -> Option<Part> {
+fn raised(part: Option<Part>, offset: u32) -> Option<Part>
+    ensures part { (host peer : HostId) (set : Numbers) → IfSome part (IsCounted set) → option_map (plain.raised host peer offset) (option_map (part_of host peer set) part) ≡ option_map (part_of host peer set) result }
+    ensures counted { (set : Numbers) → IfSome part (IsCounted set) → IfSome result (IsCounted set) }
+{
     match part {
         Some(part) => Some(part.raised(offset)),
         None => None,
@@ -50,7 +64,9 @@ impl Spot {
     };
 
     /// With a change.
-    pub(crate) fn changed(self, change: Change) -> Spot {
+    pub(crate) fn changed(self, change: Change) -> Spot
+        ensures { (b : Beside) (s : spots.Spot) → IsApart b.gap change → StandsFor b self s → StandsFor b result (changed b change s) }
+    {
         match change {
             Change::Nothing => self,
             Change::Finished => Spot {
@@ -83,7 +99,10 @@ impl Spot {
 
     /// A packet of this incarnation counts: one of a later incarnation ends the response part, and every one but
     /// UNKNOWN renews the call.
-    pub(crate) fn heard(self, inc: u32, is_unknown: bool) -> Spot {
+    pub(crate) fn heard(self, inc: u32, is_unknown: bool) -> Spot
+        ensures stands { (b : Beside) (s : spots.Spot) (p : Sent) → p.inc ≡ inc → seen.is_unknown p.body ≡ is_unknown → StandsFor b self s → StandsFor b result (spots.heard_spot p s) }
+        ensures plain { ArePlain self → ArePlain result }
+    {
         let later = match self.live {
             Some(latest) => latest < inc,
             None => 0 < inc,
@@ -101,13 +120,17 @@ impl Spot {
     }
 
     /// Both messages are within their windows.
-    pub(crate) fn is_within(self, window: u32) -> bool {
+    pub(crate) fn is_within(self, window: u32) -> bool
+        ensures { (b : Beside) (s : spots.Spot) → StandsFor b self s → result ≡ is_within_spot window s }
+    {
         is_within(self.request, window) && is_within(self.response, window)
     }
 }
 
 // A part, if there is one, is within its window.
-fn is_within(part: Option<Part>, window: u32) -> bool {
+fn is_within(part: Option<Part>, window: u32) -> bool
+    ensures { (host peer : HostId) (set : Numbers) → IfSome part (IsCounted set) → result ≡ within window (option_map (part_of host peer set) part) }
+{
     match part {
         Some(part) => part.is_within(window),
         None => true,
@@ -115,7 +138,9 @@ fn is_within(part: Option<Part>, window: u32) -> bool {
 }
 
 // A part, if there is one, is an incoming message.
-fn is_message(part: Option<Part>) -> bool {
+fn is_message(part: Option<Part>) -> bool
+    ensures { (host peer : HostId) (set : Numbers) → IfSome part (IsCounted set) → result ≡ is_incoming (option_map (part_of host peer set) part) }
+{
     match part {
         Some(part) => part.is_message(),
         None => false,
@@ -124,12 +149,16 @@ fn is_message(part: Option<Part>) -> bool {
 
 impl Spot {
     /// The request is an incoming message at its server.
-    pub(crate) fn is_asked(self) -> bool {
+    pub(crate) fn is_asked(self) -> bool
+        ensures { (b : Beside) (s : spots.Spot) → StandsFor b self s → result ≡ is_incoming s.request }
+    {
         is_message(self.request)
     }
 
     /// The response is an incoming message at the client.
-    pub(crate) fn is_awaited(self) -> bool {
+    pub(crate) fn is_awaited(self) -> bool
+        ensures { (b : Beside) (s : spots.Spot) → StandsFor b self s → result ≡ is_incoming s.response }
+    {
         is_message(self.response)
     }
 }
