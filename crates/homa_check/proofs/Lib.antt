@@ -1,2 +1,5 @@
 pub mod PartLaws
 pub mod CallLaws
+pub mod Places
+pub mod Hosts
+pub mod NamedLaws

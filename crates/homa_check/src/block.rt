@@ -1,4 +1,11 @@
 // The block of lines that isn't closed.
+ghost use Rattle.std.specs.Prelude.{◌≡◌, ◌&&◌, if◌then◌else◌, Some, None, false, List, ◌∷◌};
+ghost use Rattle.std.specs.Option.{option_to_list, option_map_or};
+ghost use Rattle.homa_plain.specs.declared.id.CallId.{CallId as ACall};
+ghost use Rattle.homa_plain.specs.Calls.{is_call, is_host};
+ghost use Rattle.homa_plain.specs.Judge.{are_same_calls};
+ghost use Rattle.homa_check.specs.Traces.{IsNamed, due_of};
+
 use crate::packet::Packet;
 use crate::spot::Spot;
 use homa_plain::{CallId, HostId};
@@ -11,21 +18,48 @@ pub(crate) enum Named {
     Several,
 }
 
+// Two are one call.
+pub(crate) fn is_same(a: CallId, b: CallId) -> bool
+    ensures { result ≡ is_call a b }
+{
+    a == b
+}
+
+// It is this call.
+fn is_some_of(due: Option<CallId>, id: CallId) -> bool
+    ensures { result ≡ option_map_or (is_call id) due false }
+{
+    match due {
+        Some(due) => is_same(id, due),
+        None => false,
+    }
+}
+
 impl Named {
     /// With one more.
-    pub(crate) fn with(self, id: CallId) -> Named {
+    pub(crate) fn with(self, id: CallId) -> Named
+        ensures { (ids : List ACall) → IsNamed self ids → IsNamed result (id ∷ ids) }
+    {
         match self {
             Named::Nobody => Named::Only(id),
-            Named::Only(other) => { if other == id { self } else { Named::Several } }
+            Named::Only(other) => {
+                if is_same(other, id) {
+                    self
+                } else {
+                    Named::Several
+                }
+            }
             Named::Several => Named::Several,
         }
     }
 
     /// They are this call where it is due, and none where it isn't.
-    pub(crate) fn is_exactly(self, due: Option<CallId>) -> bool {
+    pub(crate) fn is_exactly(self, due: Option<CallId>) -> bool
+        ensures { (ids : List ACall) → IsNamed self ids → result ≡ are_same_calls ids (option_to_list due) }
+    {
         match self {
             Named::Nobody => due.is_none(),
-            Named::Only(id) => due == Some(id),
+            Named::Only(id) => is_some_of(due, id),
             Named::Several => false,
         }
     }
@@ -62,12 +96,16 @@ pub(crate) struct Delivery {
 
 impl Delivery {
     /// It is of a packet of this call to this host.
-    pub(crate) fn is_to(&self, host: HostId, id: CallId) -> bool {
+    pub(crate) fn is_to(&self, host: HostId, id: CallId) -> bool
+        ensures { result ≡ (is_call self.now.packet.id id && is_host self.now.packet.to host) }
+    {
         self.packet.id == id && self.packet.to == host
     }
 
     // The packet's call, if something is due.
-    fn due(&self, is_due: bool) -> Option<CallId> {
+    fn due(&self, is_due: bool) -> Option<CallId>
+        ensures { result ≡ (if is_due then Some self.now.packet.id else None) }
+    {
         if is_due { Some(self.packet.id) } else { None }
     }
 }
@@ -82,7 +120,11 @@ pub(crate) struct Due {
 
 impl Due {
     /// What is due in a block.
-    pub(crate) fn of(delivery: &Option<Delivery>) -> Due {
+    pub(crate) fn of(delivery: &Option<Delivery>) -> Due
+        ensures runs { option_to_list result.run ≡ (due_of delivery.now).runs }
+        ensures dones { option_to_list result.done ≡ (due_of delivery.now).dones }
+        ensures forgotten { option_to_list result.forgotten ≡ (due_of delivery.now).forgotten }
+    {
         match delivery {
             Some(delivery) => Due {
                 run: delivery.due(delivery.runs),

@@ -1,4 +1,7 @@
 // What is kept of a host.
+ghost use Rattle.std.specs.Prelude.{◌≡◌, None, []};
+ghost use Rattle.homa_check.specs.Traces.{incarnation_of};
+
 use homa_plain::CallId;
 use std::alloc::Global;
 use std::collections::BTreeSet;
@@ -16,7 +19,11 @@ pub(crate) struct Host {
 
 impl Host {
     /// A host of which no line spoke.
-    pub(crate) fn new(alloc: Global) -> Host {
+    pub(crate) fn new(alloc: Global) -> Host
+        ensures lead { result.lead ≡ None }
+        ensures first { result.first ≡ None }
+        ensures restarts { result.restarts.items ≡ [] }
+    {
         Host {
             lead: None,
             first: None,
@@ -27,7 +34,9 @@ impl Host {
     }
 
     /// The incarnation of a life, if the lines tell it.
-    pub(crate) fn incarnation(&self, life: usize) -> Option<u32> {
+    pub(crate) fn incarnation(&self, life: usize) -> Option<u32>
+        ensures { result ≡ incarnation_of self.now life }
+    {
         if life == 0 {
             return self.first;
         }

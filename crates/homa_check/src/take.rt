@@ -20,7 +20,7 @@ fn copied(alloc: Global, bytes: &[u8]) -> Result<Vec<u8>, AllocError> {
 
 // The packet that a datagram from one host to another is.
 fn received(host: HostId, from: HostId, bytes: &[u8], wire: u32) -> Option<Packet> {
-    let (packet, payload) = decode(bytes, wire)?;
+    let (packet, payload) = decode(bytes, if wire == 1 { 1 } else { 2 })?;
     let client = if packet.role == Role::Client {
         from
     } else {
@@ -100,6 +100,14 @@ impl Trace {
             forgotten: delivered.forgotten,
         });
         self.keep(alloc, at, packet.id, delivered.now)
+    }
+
+    // A packet reaches its host, if there is one.
+    fn deliver_some(&mut self, alloc: Global, packet: Option<Packet>) -> Result<(), AllocError> {
+        match packet {
+            Some(packet) => self.deliver(alloc, packet),
+            None => Ok(()),
+        }
     }
 
     // A host restarts.
@@ -243,15 +251,13 @@ impl Trace {
                 service,
                 bytes,
             } => self.start(alloc, *id, *server, *service, bytes),
-            Entry::Deliver { packet } => match self.packets.get(*packet as usize) {
-                Some(packet) => self.deliver(alloc, *packet),
-                None => Ok(()),
-            },
+            Entry::Deliver { packet } => {
+                let packet = self.packets.get(*packet as usize).copied();
+                self.deliver_some(alloc, packet)
+            }
             Entry::Recv { host, from, bytes } => {
-                match received(*host, *from, bytes, self.settings.wire) {
-                    Some(packet) => self.deliver(alloc, packet),
-                    None => Ok(()),
-                }
+                let packet = received(*host, *from, bytes, self.settings.wire);
+                self.deliver_some(alloc, packet)
             }
             Entry::Clock { tick } => {
                 self.tick = *tick;

@@ -1,4 +1,12 @@
 // What is kept of the lines of a trace.
+ghost use Rattle.std.specs.Prelude.{◌≡◌, ◌+◌, ◌<◌, ◌≤◌, ℕ, Some, None, [], length, slice_get, unwrap_or, if◌then◌else◌, IfSome, IfNone, OnOk};
+ghost use Rattle.homa_plain.specs.declared.id.CallId.{CallId as ACall};
+ghost use Rattle.homa_plain.specs.declared.id.HostId.{HostId as AHost};
+ghost use Rattle.homa_plain.specs.Calls.{is_call};
+ghost use Rattle.homa_plain.specs.View.{nothing_seen};
+ghost use Rattle.homa_check.specs.Traces.{call_at, host_at, IsPlace, lead_of, first_of, restarts_in, life_in, lives_in, Follows};
+ghost use Rattle.homa_check.specs.Changes.{SameHosts, SameRest, call_or};
+
 use crate::block::{Delivery, Here};
 use crate::call::{Call, Lives};
 use crate::host::Host;
@@ -26,7 +34,9 @@ pub(crate) struct Trace {
 
 impl Trace {
     /// Before the first line.
-    pub(crate) fn new(alloc: Global) -> Trace {
+    pub(crate) fn new(alloc: Global) -> Trace
+        ensures { Follows nothing_seen result }
+    {
         Trace {
             settings: Settings::usual(),
             place: 0,
@@ -42,7 +52,10 @@ impl Trace {
     }
 
     /// Where a call stands, if it was made.
-    pub(crate) fn find(&self, id: CallId) -> Option<usize> {
+    pub(crate) fn find(&self, id: CallId) -> Option<usize>
+        ensures some { IfSome result (λ at. (IsPlace self.now id at) × (call_at self.now id ≡ slice_get self.now.calls.items at)) }
+        ensures none { IfNone result (call_at self.now id ≡ None) }
+    {
         let at = self.ids.get_index_of(&id)?;
         if at < self.calls.len() {
             Some(at)
@@ -52,7 +65,9 @@ impl Trace {
     }
 
     /// In which life a host is.
-    pub(crate) fn life(&self, host: HostId) -> usize {
+    pub(crate) fn life(&self, host: HostId) -> usize
+        ensures { result ≡ life_in self.now host }
+    {
         match self.hosts.get(host.0 as usize) {
             Some(host) => host.restarts.len(),
             None => 0,
@@ -60,25 +75,39 @@ impl Trace {
     }
 
     /// In which lives the client and the server of a call are.
-    pub(crate) fn lives(&self, id: CallId, server: HostId) -> Lives {
+    pub(crate) fn lives(&self, id: CallId, server: HostId) -> Lives
+        ensures { result ≡ lives_in self.now id server }
+    {
         Lives {
             client: self.life(id.client),
             server: self.life(server),
         }
     }
 
-    /// The tick by a host's own clock.
-    pub(crate) fn own_tick(&self, host: HostId) -> u128 {
-        let lead = match self.hosts.get(host.0 as usize) {
+    // By how many ticks a host's own clock is ahead.
+    fn lead(&self, host: HostId) -> u32
+        ensures { result ≡ unwrap_or (lead_of (host_at self.now host)) self.now.settings.skew }
+    {
+        match self.hosts.get(host.0 as usize) {
             Some(host) => host.lead.unwrap_or(self.settings.skew),
             None => self.settings.skew,
-        };
-        u128::from(self.tick) + u128::from(lead)
+        }
+    }
+
+    /// The tick by a host's own clock.
+    pub(crate) fn own_tick(&self, host: HostId) -> u128
+        ensures { result ≡ self.now.tick + unwrap_or (lead_of (host_at self.now host)) self.now.settings.skew }
+    {
+        u128::from(self.tick) + u128::from(self.lead(host))
     }
 
     /// Makes room for a host.
-    pub(crate) fn know(&mut self, alloc: Global, host: HostId) -> Result<(), AllocError> {
-        while self.hosts.len() <= host.0 as usize {
+    pub(crate) fn know(&mut self, alloc: Global, host: HostId) -> Result<(), AllocError>
+        ensures known { OnOk result (host.0 < length self.new.hosts.items) }
+        ensures hosts { SameHosts self.old self.new }
+        ensures rest { self.new ≡ record self.old { hosts = self.new.hosts } }
+    {
+        'hosts: while self.hosts.len() <= host.0 as usize {
             self.hosts.push(Host::new(alloc))?;
         }
         Ok(())
@@ -91,7 +120,12 @@ impl Trace {
         at: usize,
         id: CallId,
         spot: Spot,
-    ) -> Result<(), AllocError> {
+    ) -> Result<(), AllocError>
+        requires { IsPlace self.old id at }
+        ensures calls { OnOk result ((q : ACall) → call_at self.new q ≡ call_or id (λ c. record c { lives = lives_in self.old id c.server; spot = spot }) (call_at self.old) q) }
+        ensures hosts { OnOk result (SameHosts self.old self.new) }
+        ensures rest { OnOk result (SameRest self.old self.new) }
+    {
         let server = self.calls[at].server;
         let lives = self.lives(id, server);
         let before = self.calls[at].spot_in(lives);
@@ -112,7 +146,10 @@ impl Trace {
         host: HostId,
         id: CallId,
         is: bool,
-    ) -> Result<(), AllocError> {
+    ) -> Result<(), AllocError>
+        ensures hosts { OnOk result (SameHosts self.old self.new) }
+        ensures rest { OnOk result (self.new ≡ record self.old { hosts = self.new.hosts }) }
+    {
         self.know(alloc, host)?;
         let asked = &mut self.hosts[host.0 as usize].asked;
         if is {
@@ -130,7 +167,10 @@ impl Trace {
         host: HostId,
         id: CallId,
         is: bool,
-    ) -> Result<(), AllocError> {
+    ) -> Result<(), AllocError>
+        ensures hosts { OnOk result (SameHosts self.old self.new) }
+        ensures rest { OnOk result (self.new ≡ record self.old { hosts = self.new.hosts }) }
+    {
         self.know(alloc, host)?;
         let awaited = &mut self.hosts[host.0 as usize].awaited;
         if is {

@@ -1,0 +1,25 @@
+use Rattle.std.proofs.Common.{◌≡◌, ℕ, ◌+◌, ◌<◌, ◌≤◌, ◌∙◌, sym, ap, subst, arith, Some, None}
+use Rattle.std.specs.Prelude.{IfNone}
+use Rattle.homa_check.specs.Traces.{call_in, IsPlaceIn}
+use Rattle.homa_check.proofs.Places.{same_id, place_found, place_none, call_at_place}
+use Rattle.homa_check.proofs.trace.Trace.find.Goals as goal
+
+pub returns-in_err-at-clause-none : goal.returns-in_err-at-clause-none
+returns-in_err-at-clause-none c =
+    let none = place_none _ c.args.self.now.ids.keys c.args.self.now.calls.items c.args.id (same_id c.args.id) (sym c.get_index_of.ensures.index ∙ c.in_err-at.was) in
+    rw c.from_residual.ensures none
+
+pub returns-then-at-len-clause-some : goal.returns-then-at-len-clause-some
+returns-then-at-len-clause-some c =
+    let ks = c.args.self.now.ids.keys in
+    let cs = c.args.self.now.calls.items in
+    let f = place_found _ ks cs c.args.id c.in_ok-at.at (same_id c.args.id) (sym c.get_index_of.ensures.index ∙ c.in_ok-at.was) in
+    let place : IsPlaceIn ks cs c.args.id c.in_ok-at.at = subst (λ (n : ℕ). IsPlaceIn ks cs c.args.id n) (sym (f.at ∙ omega arith)) (f.place (omega (arith, f.at, c.if-at-len.true, c.len.ensures))) in
+    (place, call_at_place ks cs c.args.id c.in_ok-at.at place)
+
+pub returns-else-at-len-clause-none : goal.returns-else-at-len-clause-none
+returns-else-at-len-clause-none c =
+    let ks = c.args.self.now.ids.keys in
+    let cs = c.args.self.now.calls.items in
+    let f = place_found _ ks cs c.args.id c.in_ok-at.at (same_id c.args.id) (sym c.get_index_of.ensures.index ∙ c.in_ok-at.was) in
+    f.beyond (omega (arith, f.at, c.if-at-len.false, c.len.ensures))

@@ -1,0 +1,174 @@
+-- What is kept of the lines of a trace, and that it is what they say.
+use Rattle.std.specs.Prelude.{◌≡◌, ◌≢◌, ℕ, zero, suc, ◌+◌, ◌<◌, ◌≤◌, ◌==◌, Bool, true, false, if◌then◌else◌, Option, None, Some, unwrap_or, List, [], ◌∷◌, length, map, slice_get}
+use Rattle.std.specs.Option.{option_map, option_map_or, option_and_then}
+use Rattle.std.specs.List.{AllByRecursion, list_all}
+use Rattle.plain_sets.specs.Maps.{get}
+use Rattle.homa_plain.specs.declared.id.CallId.{CallId}
+use Rattle.homa_plain.specs.declared.id.HostId.{HostId}
+use Rattle.homa_plain.specs.Calls.{is_call}
+use Rattle.homa_plain.specs.View.{Ran, Ends, no_ends, View, nothing_seen, restarts_of, life, sent_last}
+use Rattle.homa_plain.specs.Granting.{IsWithin}
+use Rattle.homa_plain.specs.Judge as judge
+use Rattle.homa_judging.specs.Spots as spots
+use Rattle.homa_judging.specs.Kept.{runs_of, AreMade}
+use Rattle.homa_check.specs.declared.block.Delivery.{Delivery}
+use Rattle.homa_check.specs.declared.block.Here.{Here}
+use Rattle.homa_check.specs.declared.block.Named.{Named}
+use Rattle.homa_check.specs.declared.block.Named.TheVariants.{Nobody, Only, Several}
+use Rattle.homa_check.specs.declared.call.Call.{Call}
+use Rattle.homa_check.specs.declared.call.Run.{Run}
+use Rattle.homa_check.specs.declared.call.Lives.{Lives}
+use Rattle.homa_check.specs.declared.host.Host.{Host}
+use Rattle.homa_check.specs.declared.trace.Trace.{Trace}
+use Rattle.homa_check.specs.declared.verdict.Clause.{Clause}
+use Rattle.homa_check.specs.declared.verdict.Clause.TheVariants.{Shape, Once, Returned, HandedUp, Fails, Granting}
+use Rattle.homa_check.specs.Kept.{StandsFor, no_spot, packet_of}
+use Rattle.homa_check.specs.Calls.{spot_in, beside, called_of, ends_of}
+
+-- ---- look-ups
+
+-- the call that stands at the place of its id
+abbrev pub call_in : List CallId → List Call → CallId → Option Call
+call_in [] cs q = None
+call_in (k ∷ ks) [] q = None
+call_in (k ∷ ks) (c ∷ cs) q = if is_call q k then Some c else call_in ks cs q
+
+abbrev pub call_at : Trace → CallId → Option Call
+call_at t q = call_in t.ids.keys t.calls.items q
+
+-- where it stands
+abbrev pub IsPlaceIn : List CallId → List Call → CallId → ℕ → Type 0
+IsPlaceIn [] cs q n = ⊥
+IsPlaceIn (k ∷ ks) [] q n = ⊥
+IsPlaceIn (k ∷ ks) (c ∷ cs) q zero = is_call q k ≡ true
+IsPlaceIn (k ∷ ks) (c ∷ cs) q (suc n) = (is_call q k ≡ false) × IsPlaceIn ks cs q n
+
+abbrev pub IsPlace : Trace → CallId → ℕ → Type 0
+IsPlace t q at = IsPlaceIn t.ids.keys t.calls.items q at
+
+abbrev pub host_at : Trace → HostId → Option Host
+host_at t h = slice_get t.hosts.items h.0
+
+-- what is kept of a host, if anything is
+abbrev pub lead_of : Option Host → Option ℕ
+lead_of None = None
+lead_of (Some h) = h.lead
+
+abbrev pub first_of : Option Host → Option ℕ
+first_of None = None
+first_of (Some h) = h.first
+
+abbrev pub restarts_in : Option Host → List ℕ
+restarts_in None = []
+restarts_in (Some h) = h.restarts.items
+
+abbrev pub life_in : Trace → HostId → ℕ
+life_in t h = length (restarts_in (host_at t h))
+
+abbrev pub lives_in : Trace → CallId → HostId → Lives
+lives_in t q server = record { client = life_in t q.client; server = life_in t server }
+
+-- the incarnation of a host's life
+abbrev pub incarnation_of : Host → ℕ → Option ℕ
+incarnation_of h zero = h.first
+incarnation_of h (suc n) = slice_get h.restarts.items n
+
+-- ---- hosts
+
+pub record IsHost (v : View) (h : HostId) (o : Option Host) : Type 0 where
+  pub lead : get v.leads h.0 ≡ lead_of o
+  pub first : get v.firsts h.0 ≡ first_of o
+  pub restarts : restarts_of v h ≡ restarts_in o
+
+-- ---- calls
+
+-- a run, as its line tells it
+abbrev pub run_of : CallId → HostId → Run → Ran
+run_of q server r = record { host = server; life = r.life; id = q; response = r.response.items }
+
+-- a call that was made
+pub record IsKept (v : View) (q : CallId) (c : Call) : Type 0 where
+  pub called : get v.calls q ≡ Some (called_of c)
+  pub size : c.size ≡ length c.request.items
+  pub sent : c.sent_last ≡ sent_last v q
+  pub runs : runs_of v q ≡ map (run_of q c.server) c.runs.items
+  pub client_life : c.lives.client ≤ life v q.client
+  pub server_life : c.lives.server ≤ life v c.server
+  pub now : StandsFor (beside q.client v.settings.resend c) (spot_in c (record { client = life v q.client; server = life v c.server })) (spots.spot v.now q)
+
+-- a call that wasn't
+pub record IsAbsent (v : View) (q : CallId) : Type 0 where
+  pub called : get v.calls q ≡ None
+  pub runs : runs_of v q ≡ []
+  pub now : spots.spot v.now q ≡ no_spot
+
+abbrev pub IsCallAt : View → CallId → Option Call → Type 0
+IsCallAt v q None = IsAbsent v q
+IsCallAt v q (Some c) = IsKept v q c
+
+-- ---- the block
+
+-- the calls that are told
+abbrev pub IsNamed : Named → List CallId → Type 0
+IsNamed Nobody ids = ids ≡ []
+IsNamed (Only id) ids = (0 < length ids) × AllByRecursion (λ q. q ≡ id) ids
+IsNamed Several ids = (0 < length ids) × ((d : CallId) → list_all (judge.has_call (d ∷ [])) ids ≡ false)
+
+pub record IsHere (k : Here) (ends : Ends) : Type 0 where
+  pub runs : IsNamed k.runs ends.runs
+  pub dones : IsNamed k.dones ends.dones
+  pub forgotten : IsNamed k.forgotten ends.forgotten
+
+-- what is due
+abbrev pub due_of : Option Delivery → Ends
+due_of None = no_ends
+due_of (Some d) = ends_of d.packet.id d.runs d.done d.forgotten
+
+-- the two spots that the delivery may be taken back to
+abbrev pub AreSpots : ℕ → Option Call → Delivery → spots.Undo → Type 0
+AreSpots gap None d u = (u.refused ≡ no_spot) × (u.stale ≡ no_spot)
+AreSpots gap (Some c) d u = StandsFor (beside u.packet.id.client gap c) d.refused u.refused × StandsFor (beside u.packet.id.client gap c) d.stale u.stale
+
+pub record IsUndoOf (t : Trace) (d : Delivery) (u : spots.Undo) : Type 0 where
+  pub packet : d.packet ≡ packet_of u.packet
+  pub spots : AreSpots t.settings.resend (call_at t u.packet.id) d u
+  pub due : u.due ≡ ends_of u.packet.id false false d.forgotten
+
+abbrev pub IsDelivered : Trace → Option Delivery → Option spots.Undo → Type 0
+IsDelivered t None None = Unit {0}
+IsDelivered t None (Some u) = ⊥
+IsDelivered t (Some d) None = ⊥
+IsDelivered t (Some d) (Some u) = IsUndoOf t d u
+
+pub record IsBlock (v : View) (t : Trace) : Type 0 where
+  pub undo : Option spots.Undo
+  pub is : spots.IsUndo v undo
+  pub kept : IsDelivered t t.delivery undo
+  pub due : v.now.due ≡ due_of t.delivery
+  pub here : IsHere t.here v.here
+
+-- ---- all of it
+
+-- what is kept is what the lines say
+pub record Follows (v : View) (t : Trace) : Type 0 where
+  pub settings : v.settings ≡ t.settings
+  pub place : v.place ≡ t.place
+  pub ended : v.ended ≡ t.ended
+  pub tick : v.tick ≡ t.tick
+  pub hosts : (h : HostId) → IsHost v h (host_at t h)
+  pub aligned : length t.ids.keys ≡ length t.calls.items
+  pub calls : (q : CallId) → IsCallAt v q (call_at t q)
+  pub packets : map packet_of v.packets ≡ t.packets.items
+  pub made : AreMade v
+  pub block : IsBlock v t
+  pub within : IsWithin v
+  pub first : v.place ≡ 0 → v ≡ nothing_seen
+
+-- a clause, as the definitions have it
+abbrev pub clause_of : Clause → judge.Clause
+clause_of Shape = judge.ShapeClause
+clause_of Once = judge.OnceClause
+clause_of Returned = judge.ReturnedClause
+clause_of HandedUp = judge.HandedUpClause
+clause_of Fails = judge.FailsClause
+clause_of Granting = judge.GrantingClause
