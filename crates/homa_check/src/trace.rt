@@ -5,6 +5,7 @@ ghost use Rattle.homa_plain.specs.declared.id.HostId.{HostId as AHost};
 ghost use Rattle.homa_plain.specs.Calls.{is_call};
 ghost use Rattle.homa_plain.specs.View.{nothing_seen};
 ghost use Rattle.homa_check.specs.Traces.{call_at, host_at, IsPlace, lead_of, first_of, restarts_in, life_in, lives_in, Follows};
+ghost use Rattle.homa_check.specs.Calls.{spot_in};
 ghost use Rattle.homa_check.specs.Changes.{SameHosts, SameRest, call_or};
 
 use crate::block::{Delivery, Here};
@@ -113,6 +114,15 @@ impl Trace {
         Ok(())
     }
 
+    /// What rests on deliveries for the call at a place.
+    pub(crate) fn spot(&self, at: usize, id: CallId) -> Spot
+        requires { IsPlace self.now id at }
+        ensures { IfSome (call_at self.now id) (λ c. result ≡ spot_in c (lives_in self.now id c.server)) }
+    {
+        let call = &self.calls[at];
+        call.spot_in(self.lives(id, call.server))
+    }
+
     /// Keeps what rests on deliveries for a call, and notes at its hosts which of its messages are incoming ones.
     pub(crate) fn keep(
         &mut self,
@@ -126,17 +136,42 @@ impl Trace {
         ensures hosts { OnOk result (SameHosts self.old self.new) }
         ensures rest { OnOk result (SameRest self.old self.new) }
     {
+        let before = self.spot(at, id);
         let server = self.calls[at].server;
-        let lives = self.lives(id, server);
-        let before = self.calls[at].spot_in(lives);
+        self.put(at, id, spot);
+        self.note(alloc, id, server, before, spot)
+    }
+
+    // Keeps what rests on deliveries for a call.
+    fn put(&mut self, at: usize, id: CallId, spot: Spot)
+        requires { IsPlace self.old id at }
+        ensures calls { (q : ACall) → call_at self.new q ≡ call_or id (λ c. record c { lives = lives_in self.old id c.server; spot = spot }) (call_at self.old) q }
+        ensures rest { self.new ≡ record self.old { calls = self.new.calls } }
+    {
+        let lives = self.lives(id, self.calls[at].server);
         self.calls[at].keep(lives, spot);
-        if before.is_asked() != spot.is_asked() {
-            self.note_asked(alloc, server, id, spot.is_asked())?;
-        }
-        if before.is_awaited() != spot.is_awaited() {
-            self.note_awaited(alloc, id.client, id, spot.is_awaited())?;
-        }
-        Ok(())
+    }
+
+    // Notes which messages of a call became incoming ones, or ceased to be.
+    fn note(
+        &mut self,
+        alloc: Global,
+        id: CallId,
+        server: HostId,
+        before: Spot,
+        after: Spot,
+    ) -> Result<(), AllocError>
+        ensures hosts { OnOk result (SameHosts self.old self.new) }
+        ensures rest { OnOk result (self.new ≡ record self.old { hosts = self.new.hosts }) }
+    {
+        self.note_asked(alloc, server, id, before.is_asked(), after.is_asked())?;
+        self.note_awaited(
+            alloc,
+            id.client,
+            id,
+            before.is_awaited(),
+            after.is_awaited(),
+        )
     }
 
     // Notes whether a call's request is an incoming message at its server.
@@ -145,11 +180,15 @@ impl Trace {
         alloc: Global,
         host: HostId,
         id: CallId,
+        was: bool,
         is: bool,
     ) -> Result<(), AllocError>
         ensures hosts { OnOk result (SameHosts self.old self.new) }
         ensures rest { OnOk result (self.new ≡ record self.old { hosts = self.new.hosts }) }
     {
+        if was == is {
+            return Ok(());
+        }
         self.know(alloc, host)?;
         let asked = &mut self.hosts[host.0 as usize].asked;
         if is {
@@ -166,11 +205,15 @@ impl Trace {
         alloc: Global,
         host: HostId,
         id: CallId,
+        was: bool,
         is: bool,
     ) -> Result<(), AllocError>
         ensures hosts { OnOk result (SameHosts self.old self.new) }
         ensures rest { OnOk result (self.new ≡ record self.old { hosts = self.new.hosts }) }
     {
+        if was == is {
+            return Ok(());
+        }
         self.know(alloc, host)?;
         let awaited = &mut self.hosts[host.0 as usize].awaited;
         if is {
