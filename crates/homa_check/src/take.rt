@@ -1,4 +1,12 @@
 // A line that is taken.
+ghost use Rattle.std.specs.Prelude.{◌≡◌, ◌-◌, ◌^◌, ◌<◌, None, IfOk};
+ghost use Rattle.std.specs.Option.{option_map};
+ghost use Rattle.homa_plain.specs.Entries.{plain};
+ghost use Rattle.homa_plain.specs.View.{View};
+ghost use Rattle.homa_plain.specs.Seen.{seen};
+ghost use Rattle.homa_plain.specs.Judge.{judged};
+ghost use Rattle.homa_check.specs.Traces.{Follows, clause_of};
+
 use crate::block::{Delivery, Here};
 use crate::call::{Call, Lives, Run};
 use crate::judge::{is_event, is_last};
@@ -378,7 +386,10 @@ impl Trace {
         &mut self,
         alloc: Global,
         line: &Entry<'_>,
-    ) -> Result<Option<Clause>, AllocError> {
+    ) -> Result<Option<Clause>, AllocError>
+        ensures judged { IfOk result (λ r. (v : View) → Follows v self.old → option_map clause_of r ≡ judged v (plain line.now)) }
+        ensures next { IfOk result (λ r. (v : View) → Follows v self.old → v.place < 2 ^ 64 - 1 → r ≡ None → Follows (seen v (plain line.now)) self.new) }
+    {
         if let Some(clause) = self.judge(alloc, line)? {
             return Ok(Some(clause));
         }

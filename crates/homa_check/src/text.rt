@@ -1,4 +1,17 @@
 // The check of a text.
+ghost use Rattle.std.specs.Prelude.{◌≡◌, ◌+◌, ◌-◌, ◌*◌, ◌^◌, ◌<◌, ◌≤◌, ℕ, List, Some, None, true, length, min, IfOk, IfErr, OnOk};
+ghost use Rattle.std.specs.Option.{option_map};
+ghost use Rattle.homa_io.specs.Outside.{HasRisen, IsAtEnd};
+ghost use Rattle.homa_plain.specs.View.{View};
+ghost use Rattle.homa_text.specs.Lines.{reading};
+ghost use Rattle.homa_lines.specs.Forms.{entry_of};
+ghost use Rattle.homa_verdict.specs.Verdict.{verdict_of, judged_text, seen_text};
+ghost use Rattle.homa_verdict.specs.Text.{IsTrace};
+ghost use Rattle.homa_check.specs.Traces.{Follows, clause_of};
+ghost use Rattle.homa_check.specs.Checks.{plain_verdict, is_yes, is_read, verdict_at_end, IsNext};
+ghost use Rattle.homa_check.specs.declared.text.Next.TheVariants.{Taken};
+ghost use Rattle.homa_check.specs.declared.verdict.Verdict.TheVariants.{Yes};
+
 use crate::trace::Trace;
 use crate::verdict::{CheckStop, Clause, Verdict};
 use homa_io::Source;
@@ -15,51 +28,108 @@ const LONGEST_LINE: u32 = 4_100_000;
 // Room for the bytes that a line can spell.
 const ROOM: usize = 2_050_000;
 
+/// What became of the next line.
+#[derive(Clone, Copy)]
+pub(crate) enum Next {
+    /// It obeys all laws.
+    Taken,
+    /// There is none.
+    End,
+    /// This clause fails first.
+    Fails(Clause),
+}
+
 // The first clause that fails at a line of text, which is taken where none does.
 fn step(
     alloc: Global,
     trace: &mut Trace,
     line: &[u8],
     room: &mut [u8],
-) -> Result<Option<Clause>, AllocError> {
+) -> Result<Option<Clause>, AllocError>
+    requires { length line.now ≤ 2 * length room.old }
+    ensures judged { IfOk result (λ r. (v : View) → Follows v trace.old → option_map clause_of r ≡ judged_text v (entry_of line.now)) }
+    ensures next { IfOk result (λ r. (v : View) → Follows v trace.old → v.place < 2 ^ 64 - 1 → r ≡ None → Follows (seen_text v (entry_of line.now)) trace.new) }
+{
     match read_entry(line, room) {
         Some(entry) => trace.step(alloc, &entry),
         None => Ok(Some(Clause::Shape)),
     }
 }
 
+// Reads the next line, and judges it.
+fn judge_next<S: Source>(
+    alloc: Global,
+    trace: &mut Trace,
+    lines: &mut Lines,
+    source: &mut S,
+    room: &mut [u8],
+) -> Result<Next, CheckStop>
+    requires longest { (reading lines.old).longest ≡ 4100000 }
+    requires limit { (reading lines.old).limit ≡ 68719476736 }
+    requires room { 2050000 ≤ length room.old }
+    ensures next { IfOk result (λ next. (v : View) → Follows v trace.old → v.place ≤ 68719476736 → IsNext v (reading lines.old) (reading lines.new) (S.left source.old) (S.left source.new) trace.new next) }
+    ensures read { IfOk result (λ next. next ≡ Taken → ((reading lines.old).read < (reading lines.new).read) × ((reading lines.new).read ≤ 68719476736)) }
+    ensures number { OnOk result ((reading lines.new).number ≡ min ((reading lines.old).number + 1) (2 ^ 64 - 1)) }
+    ensures limit { (reading lines.new).limit ≡ (reading lines.old).limit }
+    ensures longest { (reading lines.new).longest ≡ (reading lines.old).longest }
+    ensures room { length room.new ≡ length room.old }
+    ensures risen { IfErr result (λ stop. is_read stop ≡ true → HasRisen (S.faults source.old) (S.faults source.new)) }
+    ensures quiet { OnOk result (S.faults source.new ≡ S.faults source.old) }
+    ensures never_falls { S.faults source.old ≤ S.faults source.new }
+    ensures same { S.is_same source.old source.new }
+{
+    match lines.next(source)? {
+        LineGot::End => Ok(Next::End),
+        LineGot::Long => Ok(Next::Fails(Clause::Shape)),
+        LineGot::Over => Ok(Next::Fails(Clause::Shape)),
+        LineGot::Line => match step(alloc, trace, lines.bytes(), room)? {
+            Some(clause) => Ok(Next::Fails(clause)),
+            None => Ok(Next::Taken),
+        },
+    }
+}
+
+// The verdict where no line is left.
+fn at_end(trace: &Trace) -> Verdict
+    ensures { (v : View) → Follows v trace.now → verdict_at_end v ≡ plain_verdict result }
+{
+    if trace.place == 0 {
+        return Verdict::No {
+            line: 1,
+            clause: Clause::Shape,
+        };
+    }
+    Verdict::Yes { lines: trace.place }
+}
+
 /// Judges a text line by line, up to the first line that isn't one of a trace, or breaks a law.
-pub fn check<S: Source>(alloc: Global, source: &mut S) -> Result<Verdict, CheckStop> {
+pub fn check<S: Source>(alloc: Global, source: &mut S) -> Result<Verdict, CheckStop>
+    // It is the verdict of the definition, on all bytes that the source had.
+    ensures verdict { IfOk result (λ verdict. (bytes : List ℕ) → S.left source.old ≡ Some bytes → verdict_of bytes ≡ plain_verdict verdict) }
+
+    // After a yes the input was read to its end, each line has its shape, and obeys all laws.
+    ensures end { IfOk result (λ verdict. is_yes verdict ≡ true → IsAtEnd (S.left source.new)) }
+    ensures yes { IfOk result (λ verdict. (bytes : List ℕ) (n : ℕ) → S.left source.old ≡ Some bytes → verdict ≡ Yes n → IsTrace bytes n) }
+
+    // Only a fault of the source answers that reading failed.
+    ensures risen { IfErr result (λ stop. is_read stop ≡ true → HasRisen (S.faults source.old) (S.faults source.new)) }
+    ensures quiet { OnOk result (S.faults source.new ≡ S.faults source.old) }
+    ensures never_falls { S.faults source.old ≤ S.faults source.new }
+    ensures same { S.is_same source.old source.new }
+{
     let mut lines = Lines::open(alloc, LONGEST_INPUT, LONGEST_LINE)?;
     let mut room = vec![in alloc; 0; ROOM]?;
     let mut trace = Trace::new(alloc);
-    'lines: while let Some(is_line) = next_line(&mut lines, source)? {
-        let clause = if is_line {
-            step(alloc, &mut trace, lines.bytes(), &mut room)?
-        } else {
-            Some(Clause::Shape)
-        };
-        if let Some(clause) = clause {
-            return Ok(Verdict::No {
-                line: lines.number(),
-                clause,
-            });
+    'lines: loop {
+        match judge_next(alloc, &mut trace, &mut lines, source, &mut room)? {
+            Next::Taken => {}
+            Next::End => return Ok(at_end(&trace)),
+            Next::Fails(clause) => {
+                return Ok(Verdict::No {
+                    line: lines.number(),
+                    clause,
+                });
+            }
         }
-    }
-    if trace.place == 0 {
-        return Ok(Verdict::No {
-            line: 1,
-            clause: Clause::Shape,
-        });
-    }
-    Ok(Verdict::Yes { lines: trace.place })
-}
-
-// Reads the next line, if there is one, and answers whether it isn't too long.
-fn next_line<S: Source>(lines: &mut Lines, source: &mut S) -> Result<Option<bool>, CheckStop> {
-    match lines.next(source)? {
-        LineGot::End => Ok(None),
-        LineGot::Line => Ok(Some(true)),
-        LineGot::Long | LineGot::Over => Ok(Some(false)),
     }
 }

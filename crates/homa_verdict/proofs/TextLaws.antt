@@ -1,6 +1,7 @@
 -- What the verdict says of a text.
-use Rattle.std.proofs.Common.{◌≡◌, ◌<◌, ◌≤◌, ◌⊎◌, inl, inr, ◌↔◌, ℕ, ◌+◌, arith, Bool, true, false, cond, ◌||◌, List, [], ◌∷◌, ◌++◌, length, Option, Some, None, refl, sym, ap, subst, ◌∙◌}
-use Rattle.std.specs.Prelude.{nat_lt}
+use Rattle.std.proofs.Common.{◌≡◌, ◌≢◌, ◌<◌, ◌≤◌, ◌⊎◌, inl, inr, ◌↔◌, ℕ, ◌+◌, arith, Bool, true, false, cond, ◌||◌, List, [], ◌∷◌, ◌++◌, length, Option, Some, None, refl, sym, ap, subst, ◌∙◌}
+use Rattle.std.specs.Prelude.{nat_lt, IfSome, IfNone}
+use Rattle.std.specs.Option.{option_map}
 use Rattle.std.proofs.lemmas.Bool.Decides.{nat_tests}
 use Rattle.homa_plain.specs.Entries.{PlainEntry}
 use Rattle.homa_plain.specs.Input.{lines_of, without_feed}
@@ -24,6 +25,15 @@ own line e f fits usual text h = one_entry f e h.fits fits h.usual usual (h.text
 read_again : (line : List ℕ) (e : PlainEntry) (o : Option PlainEntry) → Fits e → IsUsual e → line_text e ≡ line ++ 10 ∷ [] → entry_of line ≡ o → o ≡ Some e
 read_again line e None fits usual text is = let some = entry_of-again line e fits text in absurd cc
 read_again line e (Some f) fits usual text is = ap (λ x. Some x) (own line e f fits usual text (entry_of-takes line f is))
+
+-- what was read of a line, by the laws of a reader
+pub entry_read : {A : Type 0} (plain : A → PlainEntry) (read : Option A) (line : List ℕ) → IfSome read (λ e. line_text (plain e) ≡ line ++ 10 ∷ []) → IfSome read (λ e. Fits (plain e)) → IfSome read (λ e. IsUsual (plain e))
+    → IfNone read ((e : PlainEntry) → Fits e → line_text e ≢ line ++ 10 ∷ []) → entry_of line ≡ option_map plain read
+entry_read plain (Some e) line text fits usual none = read_again line (plain e) (entry_of line) fits usual text refl
+entry_read plain None line text fits usual none = not_read (entry_of line) refl where
+  not_read : (o : Option PlainEntry) → entry_of line ≡ o → o ≡ None
+  not_read None e = refl
+  not_read (Some f) e = let h = entry_of-takes line f e in absurd (none f h.fits h.text)
 
 -- a line that is short and within the input
 pub short_line : (read : ℕ) (line : List ℕ) → length (without_feed line) ≤ longest_line → read + length line ≤ longest_input → stands_for read line ≡ entry_of (without_feed line)
@@ -75,7 +85,7 @@ record IsYes (v : View) (read : ℕ) (lines : List (List ℕ)) (n : ℕ) : Type 
   pub obeyed : first_from v entries ≡ None
   pub count : n ≡ v.place + length entries
 
-place-seen : (v : View) (line : PlainEntry) → (seen v line).place ≡ v.place + 1
+pub place-seen : (v : View) (line : PlainEntry) → (seen v line).place ≡ v.place + 1
 unfolding seen
 place-seen v line = refl
 

@@ -13,6 +13,6 @@ returns c =
     let t = c.args.self.now in
     let x = c.index-call.result.now in
     let here : call_at t c.args.id ≡ Some x =
-        call_at_place t.ids.keys t.calls.items c.args.id c.args.at c.requires
-        ∙ (slice_get-get_or t.calls.items c.args.at x (place_within t.ids.keys t.calls.items c.args.id c.args.at c.requires) ∙ ap (λ y. Some y) (sym c.index-call.ensures)) in
+    call_at_place t.ids.keys t.calls.items c.args.id c.args.at c.requires
+    ∙ (slice_get-get_or t.calls.items c.args.at x (place_within t.ids.keys t.calls.items c.args.id c.args.at c.requires) ∙ ap (λ y. Some y) (sym c.index-call.ensures)) in
     rw here (c.spot_in.ensures ∙ ap (spot_in x) c.lives.ensures)
