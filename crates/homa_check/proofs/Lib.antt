@@ -3,3 +3,5 @@ pub mod CallLaws
 pub mod Places
 pub mod Hosts
 pub mod NamedLaws
+pub mod LoopLaws
+pub mod Starts

@@ -53,5 +53,5 @@ pub record IsTaken (v : View) (old new : Reading) (left left_then : Option (List
 -- what became of the next line, behind lines that said v
 abbrev pub IsNext : View → Reading → Reading → Option (List ℕ) → Option (List ℕ) → Trace → Next → Type 0
 IsNext v old new left left_then t Taken = IsTaken v old new left left_then t
-IsNext v old new left left_then t End = ((bytes : List ℕ) → left ≡ Some bytes → verdict_next v old bytes ≡ verdict_at_end v) × IsAtEnd left_then
+IsNext v old new left left_then t End = ((bytes : List ℕ) → left ≡ Some bytes → verdict_next v old bytes ≡ verdict_at_end v) × IsAtEnd left_then × Follows v t
 IsNext v old new left left_then t (Fails clause) = (bytes : List ℕ) → left ≡ Some bytes → verdict_next v old bytes ≡ plain.No (v.place + 1) (clause_of clause)

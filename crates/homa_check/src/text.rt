@@ -1,8 +1,8 @@
 // The check of a text.
-ghost use Rattle.std.specs.Prelude.{◌≡◌, ◌+◌, ◌-◌, ◌*◌, ◌^◌, ◌<◌, ◌≤◌, ℕ, List, Some, None, true, length, min, IfOk, IfErr, OnOk};
+ghost use Rattle.std.specs.Prelude.{◌≡◌, ◌+◌, ◌-◌, ◌*◌, ◌^◌, ◌<◌, ◌≤◌, ℕ, List, Some, None, [], true, length, min, IfOk, IfErr, OnOk};
 ghost use Rattle.std.specs.Option.{option_map};
 ghost use Rattle.homa_io.specs.Outside.{HasRisen, IsAtEnd};
-ghost use Rattle.homa_plain.specs.View.{View};
+ghost use Rattle.homa_plain.specs.View.{View, nothing_seen};
 ghost use Rattle.homa_text.specs.Lines.{reading};
 ghost use Rattle.homa_lines.specs.Forms.{entry_of};
 ghost use Rattle.homa_verdict.specs.Verdict.{verdict_of, judged_text, seen_text};
@@ -66,6 +66,7 @@ fn judge_next<S: Source>(
 ) -> Result<Next, CheckStop>
     requires longest { (reading lines.old).longest ≡ 4100000 }
     requires limit { (reading lines.old).limit ≡ 68719476736 }
+    requires within { (reading lines.old).read ≤ 68719476736 }
     requires room { 2050000 ≤ length room.old }
     ensures next { IfOk result (λ next. (v : View) → Follows v trace.old → v.place ≤ 68719476736 → IsNext v (reading lines.old) (reading lines.new) (S.left source.old) (S.left source.new) trace.new next) }
     ensures read { IfOk result (λ next. next ≡ Taken → ((reading lines.old).read < (reading lines.new).read) × ((reading lines.new).read ≤ 68719476736)) }
@@ -120,10 +121,31 @@ pub fn check<S: Source>(alloc: Global, source: &mut S) -> Result<Verdict, CheckS
     let mut lines = Lines::open(alloc, LONGEST_INPUT, LONGEST_LINE)?;
     let mut room = vec![in alloc; 0; ROOM]?;
     let mut trace = Trace::new(alloc);
+    judge_all(alloc, &mut trace, &mut lines, source, &mut room)
+}
+
+// Judges the lines that are left.
+fn judge_all<S: Source>(
+    alloc: Global,
+    trace: &mut Trace,
+    lines: &mut Lines,
+    source: &mut S,
+    room: &mut [u8],
+) -> Result<Verdict, CheckStop>
+    requires follows { Follows nothing_seen trace.old }
+    requires lines { reading lines.old ≡ record { pending = []; line = []; read = 0; number = 0; limit = 68719476736; longest = 4100000 } }
+    requires room { 2050000 ≤ length room.old }
+    ensures verdict { IfOk result (λ verdict. (bytes : List ℕ) → S.left source.old ≡ Some bytes → verdict_of bytes ≡ plain_verdict verdict) }
+    ensures end { IfOk result (λ verdict. is_yes verdict ≡ true → IsAtEnd (S.left source.new)) }
+    ensures risen { IfErr result (λ stop. is_read stop ≡ true → HasRisen (S.faults source.old) (S.faults source.new)) }
+    ensures quiet { OnOk result (S.faults source.new ≡ S.faults source.old) }
+    ensures never_falls { S.faults source.old ≤ S.faults source.new }
+    ensures same { S.is_same source.old source.new }
+{
     'lines: loop {
-        match judge_next(alloc, &mut trace, &mut lines, source, &mut room)? {
+        match judge_next(alloc, trace, lines, source, room)? {
             Next::Taken => {}
-            Next::End => return Ok(at_end(&trace)),
+            Next::End => return Ok(at_end(trace)),
             Next::Fails(clause) => {
                 return Ok(Verdict::No {
                     line: lines.number(),
