@@ -5,3 +5,4 @@ pub mod Hosts
 pub mod NamedLaws
 pub mod LoopLaws
 pub mod Starts
+pub mod Readings

@@ -1,6 +1,6 @@
 -- Calls at the places of their ids.
 use Rattle.std.proofs.Common.{◌≡◌, ℕ, zero, suc, ◌+◌, ◌<◌, ◌≤◌, arith, Bool, true, false, ◌&&◌, ◌||◌, cond, Option, Some, None, List, [], ◌∷◌, ◌++◌, length, refl, sym, ap, ◌∙◌, Decides, subst}
-use Rattle.std.specs.Prelude.{if◌then◌else◌, ◌==◌, slice_get, slice_set, position}
+use Rattle.std.specs.Prelude.{if◌then◌else◌, ◌==◌, is_some, slice_get, slice_set, position}
 use Rattle.std.specs.Option.{option_map}
 use Rattle.std.specs.List.{position_from, list_any}
 use Rattle.std.proofs.lemmas.Iterator.Adapters.{position_from-zero}
@@ -152,3 +152,10 @@ call_added [] [] id d q l h = ap (λ b. cond b (Some d) None) (own_id id q id ((
 call_added [] (c ∷ cs) id d q l h = absurd (omega (arith, l))
 call_added (k ∷ ks) [] id d q l h = absurd (omega (arith, l))
 call_added (k ∷ ks) (c ∷ cs) id d q l h = added_step k ks c cs id d q (is_call id k) refl h (call_added ks cs id d q (omega (arith, l)))
+
+-- there is a call at a place
+pub some_call : (ks : List CallId) (cs : List Call) (q : CallId) (n : ℕ) → IsPlaceIn ks cs q n → is_some (call_in ks cs q) ≡ true
+some_call [] cs q n h = absurd h
+some_call (k ∷ ks) [] q n h = absurd h
+some_call (k ∷ ks) (c ∷ cs) q zero h = ap (λ b. is_some (cond b (Some c) (call_in ks cs q))) h
+some_call (k ∷ ks) (c ∷ cs) q (suc n) h = ap (λ b. is_some (cond b (Some c) (call_in ks cs q))) h.0 ∙ some_call ks cs q n h.1

@@ -1,4 +1,12 @@
 // The tests of a line before it is taken.
+ghost use Rattle.std.specs.Prelude.{◌≡◌, ◌&&◌, ℕ, List, Option, Some, None, length, ◌==◌, nat_lt, is_some, IfSome, IfNone};
+ghost use Rattle.homa_plain.specs.Entries.{plain};
+ghost use Rattle.homa_plain.specs.Calls.{is_host};
+ghost use Rattle.homa_plain.specs.Lines as lines;
+ghost use Rattle.homa_plain.specs.View.{View};
+ghost use Rattle.homa_plain.specs.Judge as tests;
+ghost use Rattle.homa_check.specs.Traces.{Follows, call_at};
+
 use crate::block::Due;
 use crate::call::Call;
 use crate::choice::{Grant, Message, choose, is_granted};
@@ -8,7 +16,9 @@ use homa_plain::{Body, CallId, Entry, HostId, LineFault, Role, Why, WorldFault};
 use std::alloc::{AllocError, Global};
 
 /// The line of an event: a block begins.
-pub(crate) fn is_event(line: &Entry<'_>) -> bool {
+pub(crate) fn is_event(line: &Entry<'_>) -> bool
+    ensures { result ≡ lines.is_event (plain line.now) }
+{
     match line {
         Entry::Call { .. }
         | Entry::Deliver { .. }
@@ -22,7 +32,9 @@ pub(crate) fn is_event(line: &Entry<'_>) -> bool {
 }
 
 /// A last line.
-pub(crate) fn is_last(line: &Entry<'_>) -> bool {
+pub(crate) fn is_last(line: &Entry<'_>) -> bool
+    ensures { result ≡ lines.is_last (plain line.now) }
+{
     match line {
         Entry::Finished { .. } | Entry::Refused { .. } | Entry::Stalled { .. } => true,
         _ => false,
@@ -30,7 +42,9 @@ pub(crate) fn is_last(line: &Entry<'_>) -> bool {
 }
 
 /// The call that a line names, other than a `call` line.
-pub(crate) fn named(line: &Entry<'_>) -> Option<CallId> {
+pub(crate) fn named(line: &Entry<'_>) -> Option<CallId>
+    ensures { result ≡ lines.named (plain line.now) }
+{
     match line {
         Entry::Send { id, .. }
         | Entry::Run { id, .. }
@@ -47,18 +61,34 @@ pub(crate) fn named(line: &Entry<'_>) -> Option<CallId> {
 }
 
 // A line may be refused for this.
-fn is_cause(fault: &LineFault) -> bool {
-    *fault != LineFault::World(WorldFault::NoMemory)
+fn is_cause(fault: &LineFault) -> bool
+    ensures { result ≡ tests.is_cause fault.now }
+{
+    match fault {
+        LineFault::World(WorldFault::NoMemory) => false,
+        _ => true,
+    }
+}
+
+// Two are one host.
+fn is_same_host(a: HostId, b: HostId) -> bool
+    ensures { result ≡ is_host a b }
+{
+    a == b
 }
 
 impl Trace {
     // A line stands behind the first one, and behind no last one.
-    fn is_behind(&self) -> bool {
+    fn is_behind(&self) -> bool
+        ensures { (v : View) → Follows v self.now → result ≡ tests.is_behind v }
+    {
         self.place > 0 && !self.ended
     }
 
     // The call that a line names, if it names one, was made before.
-    fn is_made(&self, id: Option<CallId>) -> bool {
+    fn is_made(&self, id: Option<CallId>) -> bool
+        ensures { (v : View) → Follows v self.now → result ≡ tests.is_made v id }
+    {
         match id {
             Some(id) => self.find(id).is_some(),
             None => true,
@@ -66,44 +96,67 @@ impl Trace {
     }
 
     // A call is new, its request is a message, and its client and its server are two hosts of the run.
-    fn is_new_call(&self, id: CallId, server: HostId, len: usize) -> bool {
+    fn is_new_call(&self, id: CallId, server: HostId, len: usize) -> bool
+        ensures { (v : View) (request : List ℕ) → Follows v self.now → length request ≡ len → result ≡ tests.is_new_call v id server request }
+    {
         self.find(id).is_none()
-            && (1..=1_000_000).contains(&len)
+            && 1 <= len
+            && len <= 1_000_000
             && u32::from(id.client.0) < self.settings.hosts
             && u32::from(server.0) < self.settings.hosts
-            && id.client != server
+            && !is_same_host(id.client, server)
     }
 
     // The line may stand where it does.
-    fn has_shape(&self, line: &Entry<'_>) -> bool {
-        if let Entry::Settings(settings) = line {
-            return self.place == 0 && settings.check().is_ok();
-        }
-        self.is_behind()
-            && match line {
-                Entry::Call {
-                    id,
-                    server,
-                    bytes,
-                    ..
-                } => self.is_new_call(*id, *server, bytes.len()),
-                Entry::Deliver { packet } => *packet < self.packets.len() as u64,
-                Entry::Send { number, .. } => {
-                    *number == self.packets.len() as u64 && self.is_made(named(line))
-                }
-                Entry::Refused { fault, .. } => is_cause(fault),
-                _ => self.is_made(named(line)),
+    fn has_shape(&self, line: &Entry<'_>) -> bool
+        ensures { (v : View) → Follows v self.now → result ≡ tests.has_shape v (plain line.now) }
+    {
+        match line {
+            Entry::Settings(settings) => self.place == 0 && settings.check().is_ok(),
+            Entry::Call {
+                id,
+                server,
+                bytes,
+                ..
+            } => self.is_behind() && self.is_new_call(*id, *server, bytes.len()),
+            Entry::Deliver { packet } => self.is_behind() && self.has_packet(*packet),
+            Entry::Send { number, id, .. } => {
+                self.is_behind() && self.is_next_packet(*number) && self.is_made(Some(*id))
             }
+            Entry::Refused { fault, .. } => self.is_behind() && is_cause(fault),
+            _ => self.is_behind() && self.is_made(named(line)),
+        }
+    }
+
+    // A packet with this number was sent.
+    #[tactic(auto, using(crate::proofs::Readings::sent_is))]
+    fn has_packet(&self, packet: u64) -> bool
+        ensures { (v : View) → Follows v self.now → result ≡ nat_lt packet (length v.packets) }
+    {
+        packet < self.packets.len() as u64
+    }
+
+    // It is the number of the next packet.
+    #[tactic(auto, using(crate::proofs::Readings::sent_is))]
+    fn is_next_packet(&self, number: u64) -> bool
+        ensures { (v : View) → Follows v self.now → result ≡ (number == length v.packets) }
+    {
+        number == self.packets.len() as u64
     }
 
     // A call, if it was made.
-    fn call(&self, id: CallId) -> Option<&Call> {
+    fn call(&self, id: CallId) -> Option<&Call>
+        ensures some { IfSome result (λ call. call_at self.now id ≡ Some call.now) }
+        ensures none { IfNone result (call_at self.now id ≡ None) }
+    {
         let at = self.find(id)?;
         Some(&self.calls[at])
     }
 
     // The call didn't run in this life of its server, and the line tells its server, its service and its request.
-    fn runs_once(&self, line: &Entry<'_>) -> bool {
+    fn runs_once(&self, line: &Entry<'_>) -> bool
+        ensures { (v : View) → Follows v self.now → result ≡ tests.runs_once v (plain line.now) }
+    {
         let Entry::Run {
             host,
             id,
@@ -138,7 +191,9 @@ impl Trace {
     }
 
     // The block began with the delivery of a piece of a response, and the call answered this in the life that sent it.
-    fn returns_answer(&self, line: &Entry<'_>) -> bool {
+    fn returns_answer(&self, line: &Entry<'_>) -> bool
+        ensures { (v : View) → Follows v self.now → result ≡ tests.returns_answer v (plain line.now) }
+    {
         let Entry::Done { id, bytes } = line else {
             return true;
         };
@@ -153,7 +208,9 @@ impl Trace {
     }
 
     // Since a call's last renewal there were `tries` RESENDs, and no answer to any for `resend` ticks.
-    fn is_unanswered(&self, id: CallId) -> bool {
+    fn is_unanswered(&self, id: CallId) -> bool
+        ensures { (v : View) → Follows v self.now → result ≡ tests.is_unanswered v id }
+    {
         let tick = self.own_tick(id.client);
         match self.call(id) {
             Some(call) => call

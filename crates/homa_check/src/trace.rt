@@ -1,5 +1,5 @@
 // What is kept of the lines of a trace.
-ghost use Rattle.std.specs.Prelude.{◌≡◌, ◌+◌, ◌<◌, ◌≤◌, ℕ, Some, None, [], length, slice_get, unwrap_or, if◌then◌else◌, IfSome, IfNone, OnOk};
+ghost use Rattle.std.specs.Prelude.{◌≡◌, ◌+◌, ◌<◌, ◌≤◌, ℕ, Some, None, [], length, slice_get, unwrap_or, if◌then◌else◌, IfSome, IfNone, is_some, OnOk};
 ghost use Rattle.homa_plain.specs.declared.id.CallId.{CallId as ACall};
 ghost use Rattle.homa_plain.specs.declared.id.HostId.{HostId as AHost};
 ghost use Rattle.homa_plain.specs.Calls.{is_call};
@@ -56,6 +56,7 @@ impl Trace {
     pub(crate) fn find(&self, id: CallId) -> Option<usize>
         ensures some { IfSome result (λ at. (IsPlace self.now id at) × (call_at self.now id ≡ slice_get self.now.calls.items at)) }
         ensures none { IfNone result (call_at self.now id ≡ None) }
+        ensures found { is_some result ≡ is_some (call_at self.now id) }
     {
         let at = self.ids.get_index_of(&id)?;
         if at < self.calls.len() {
