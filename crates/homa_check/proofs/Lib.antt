@@ -6,3 +6,4 @@ pub mod NamedLaws
 pub mod LoopLaws
 pub mod Starts
 pub mod Readings
+pub mod RunLaws

@@ -1,6 +1,7 @@
 -- What is kept of the lines of a trace, and that it is what they say.
-use Rattle.std.specs.Prelude.{◌≡◌, ◌≢◌, ℕ, zero, suc, ◌+◌, ◌<◌, ◌≤◌, ◌==◌, Bool, true, false, if◌then◌else◌, Option, None, Some, unwrap_or, List, [], ◌∷◌, length, map, slice_get}
-use Rattle.std.specs.Option.{option_map, option_map_or, option_and_then}
+use Rattle.std.specs.Prelude.{◌≡◌, ◌≢◌, ℕ, zero, suc, ◌+◌, ◌<◌, ◌≤◌, ◌==◌, ◌&&◌, Bool, true, false, if◌then◌else◌, Option, None, Some, unwrap_or, option_and_then, List, [], ◌∷◌, length, map, slice_get}
+use Rattle.std.specs.Str.{bytes_eq}
+use Rattle.std.specs.Option.{option_map, option_map_or}
 use Rattle.std.specs.List.{AllByRecursion, list_all}
 use Rattle.plain_sets.specs.Maps.{get}
 use Rattle.homa_plain.specs.declared.id.CallId.{CallId}
@@ -72,6 +73,13 @@ lives_in t q server = record { client = life_in t q.client; server = life_in t s
 abbrev pub incarnation_of : Host → ℕ → Option ℕ
 incarnation_of h zero = h.first
 incarnation_of h (suc n) = slice_get h.restarts.items n
+
+abbrev pub incarnation_in : Trace → HostId → ℕ → Option ℕ
+incarnation_in t h n = option_and_then (λ host. incarnation_of host n) (host_at t h)
+
+-- a run was in a life of this incarnation, and its response is this
+abbrev pub is_answer_in : Trace → HostId → ℕ → List ℕ → Run → Bool
+is_answer_in t server inc bytes r = option_map_or (λ i. i == inc) (incarnation_in t server r.life) false && bytes_eq bytes r.response.items
 
 -- ---- hosts
 

@@ -1,15 +1,22 @@
 // The tests of a line before it is taken.
-ghost use Rattle.std.specs.Prelude.{◌≡◌, ◌&&◌, ℕ, List, Option, Some, None, length, ◌==◌, nat_lt, is_some, IfSome, IfNone};
+ghost use Rattle.std.specs.Prelude.{◌≡◌, ◌&&◌, ℕ, List, Option, Some, None, length, ◌==◌, nat_lt, not, bytes_eq, is_some, IfSome, IfNone};
+ghost use Rattle.std.specs.List.{list_any};
+ghost use Rattle.homa_plain.specs.Wire.{is_server};
 ghost use Rattle.homa_plain.specs.Entries.{plain};
 ghost use Rattle.homa_plain.specs.Calls.{is_host};
 ghost use Rattle.homa_plain.specs.Lines as lines;
-ghost use Rattle.homa_plain.specs.View.{View};
+ghost use Rattle.homa_plain.specs.View.{View, resends_of};
 ghost use Rattle.homa_plain.specs.Judge as tests;
-ghost use Rattle.homa_check.specs.Traces.{Follows, call_at};
+ghost use Rattle.homa_plain.specs.Laws.{answers};
+ghost use Rattle.homa_check.specs.Kept.{AreResends, piece_is_data};
+ghost use Rattle.homa_check.specs.Calls.{ran_in};
+ghost use Rattle.homa_check.specs.Traces.{Follows, call_at, life_in, incarnation_in, is_answer_in};
 
 use crate::block::Due;
-use crate::call::Call;
+use crate::call::{Call, Run};
 use crate::choice::{Grant, Message, choose, is_granted};
+use crate::packet::Packet;
+use crate::resends::Resends;
 use crate::trace::Trace;
 use crate::verdict::Clause;
 use homa_plain::{Body, CallId, Entry, HostId, LineFault, Role, Why, WorldFault};
@@ -75,6 +82,23 @@ fn is_same_host(a: HostId, b: HostId) -> bool
     ensures { result ≡ is_host a b }
 {
     a == b
+}
+
+// A call was made to this service, with this request.
+fn is_called_with(call: &Call, service: u8, request: &[u8]) -> bool
+    ensures { result ≡ (call.now.service == service && bytes_eq call.now.request.items request.now) }
+{
+    call.service == service && call.request.as_slice() == request
+}
+
+// The packet is a piece of a response.
+fn answers(packet: &Packet) -> bool
+    ensures { result ≡ (is_server packet.now.role && piece_is_data packet.now.piece) }
+{
+    match packet.role {
+        Role::Client => false,
+        Role::Server => packet.piece.is_data(),
+    }
 }
 
 impl Trace {
@@ -153,6 +177,13 @@ impl Trace {
         Some(&self.calls[at])
     }
 
+    // A host is a call's server, and the call didn't run there in this life.
+    fn may_run(&self, call: &Call, host: HostId) -> bool
+        ensures { result ≡ (is_host call.now.server host && not (ran_in call.now (life_in self.now host))) }
+    {
+        is_same_host(call.server, host) && !call.ran_in(self.life(host))
+    }
+
     // The call didn't run in this life of its server, and the line tells its server, its service and its request.
     fn runs_once(&self, line: &Entry<'_>) -> bool
         ensures { (v : View) → Follows v self.now → result ≡ tests.runs_once v (plain line.now) }
@@ -168,26 +199,42 @@ impl Trace {
             return true;
         };
         match self.call(*id) {
-            Some(call) => {
-                call.server == *host
-                    && !call.ran_in(self.life(*host))
-                    && call.service == *service
-                    && call.request.as_slice() == *request
-            }
+            Some(call) => self.may_run(call, *host) && is_called_with(call, *service, request),
             None => false,
         }
     }
 
     // A call has this answer, of a run in a life of this incarnation.
-    fn has_answer(&self, id: CallId, inc: u32, bytes: &[u8]) -> bool {
-        let Some(call) = self.call(id) else {
-            return false;
-        };
-        let Some(host) = self.hosts.get(call.server.0 as usize) else {
-            return false;
-        };
-        call.runs.iter().any(|run| host.incarnation(run.life) == Some(inc)
-            && run.response.as_slice() == bytes)
+    fn has_answer(&self, id: CallId, inc: u32, bytes: &[u8]) -> bool
+        ensures { (v : View) → Follows v self.now → result ≡ list_any (bytes_eq bytes.now) (answers v id inc) }
+    {
+        match self.call(id) {
+            Some(call) => self.is_any_answer(call, inc, bytes),
+            None => false,
+        }
+    }
+
+    // One of a call's runs was in a life of this incarnation, and its response is this.
+    fn is_any_answer(&self, call: &Call, inc: u32, bytes: &[u8]) -> bool
+        ensures { result ≡ list_any (is_answer_in self.now call.now.server inc bytes.now) call.now.runs.items }
+    {
+        call.runs
+            .iter()
+            .any(|run| self.is_answer(call.server, run, inc, bytes))
+    }
+
+    // A run of a call of this server was in a life of this incarnation, and its response is this.
+    fn is_answer(&self, server: HostId, run: &Run, inc: u32, bytes: &[u8]) -> bool
+        ensures { result ≡ is_answer_in self.now server inc bytes.now run.now }
+    {
+        self.incarnation(server, run.life) == Some(inc) && bytes == run.response.as_slice()
+    }
+
+    // The incarnation of a life of a host, if the lines tell it.
+    fn incarnation(&self, host: HostId, life: usize) -> Option<u32>
+        ensures { result ≡ incarnation_in self.now host life }
+    {
+        self.hosts.get(host.0 as usize)?.incarnation(life)
     }
 
     // The block began with the delivery of a piece of a response, and the call answered this in the life that sent it.
@@ -199,11 +246,19 @@ impl Trace {
         };
         match self.delivery {
             Some(delivery) => {
-                delivery.packet.role == Role::Server
-                    && delivery.packet.piece.is_data()
-                    && self.has_answer(*id, delivery.packet.inc, bytes)
+                answers(&delivery.packet) && self.has_answer(*id, delivery.packet.inc, bytes)
             }
             None => false,
+        }
+    }
+
+    // The RESENDs of a call since its last renewal.
+    fn resends(&self, id: CallId) -> Resends
+        ensures { (v : View) → Follows v self.now → AreResends v.settings.resend result (resends_of v.now id) }
+    {
+        match self.call(id) {
+            Some(call) => call.spot.resends,
+            None => Resends::NONE,
         }
     }
 
@@ -212,13 +267,8 @@ impl Trace {
         ensures { (v : View) → Follows v self.now → result ≡ tests.is_unanswered v id }
     {
         let tick = self.own_tick(id.client);
-        match self.call(id) {
-            Some(call) => call
-                .spot
-                .resends
-                .are_unanswered(tick, self.settings.tries, self.settings.resend),
-            None => false,
-        }
+        self.resends(id)
+            .are_unanswered(tick, self.settings.tries, self.settings.resend)
     }
 
     // A timeout is of an unanswered call; a block that a line closes has the lines that are due.
