@@ -107,3 +107,10 @@ once_is v t q c host service request f e =
     let k = kept_at v t q c f e in
     both_ways (is_host c.server host) (ran_in c (life_in t host)) (c.service == service) (bytes_eq c.request.items request) (has_run v host q) (ran_is v t q c host f k)
     ∙ ap (λ (o : Option Called). not (has_run v host q) && option_map_or (tests.is_called host service request) o false) (sym k.called)
+
+-- one test behind another
+pub and_then : (m r a b : Bool) → m ≡ a → m ≡ true → r ≡ b → r ≡ (a && b)
+and_then m r a b e t f = f ∙ ap (λ x. x && b) (sym t ∙ e)
+
+pub and_else : (m a b : Bool) → m ≡ a → m ≡ false → m ≡ (a && b)
+and_else m a b e t = t ∙ ap (λ x. x && b) (sym t ∙ e)

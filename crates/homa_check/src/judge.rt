@@ -1,5 +1,5 @@
 // The tests of a line before it is taken.
-ghost use Rattle.std.specs.Prelude.{◌≡◌, ◌&&◌, ℕ, List, Option, Some, None, length, ◌==◌, nat_lt, not, bytes_eq, is_some, IfSome, IfNone};
+ghost use Rattle.std.specs.Prelude.{◌≡◌, ◌&&◌, ℕ, List, Option, Some, None, length, ◌==◌, nat_lt, not, bytes_eq, is_some, IfSome, IfNone, IfOk};
 ghost use Rattle.std.specs.List.{list_any};
 ghost use Rattle.homa_plain.specs.Wire.{is_server};
 ghost use Rattle.homa_plain.specs.Entries.{plain};
@@ -7,10 +7,13 @@ ghost use Rattle.homa_plain.specs.Calls.{is_host};
 ghost use Rattle.homa_plain.specs.Lines as lines;
 ghost use Rattle.homa_plain.specs.View.{View, resends_of};
 ghost use Rattle.homa_plain.specs.Judge as tests;
+ghost use Rattle.homa_plain.specs.Judge.{are_same_calls};
 ghost use Rattle.homa_plain.specs.Laws.{answers};
 ghost use Rattle.homa_check.specs.Kept.{AreResends, piece_is_data};
 ghost use Rattle.homa_check.specs.Calls.{ran_in};
-ghost use Rattle.homa_check.specs.Traces.{Follows, call_at, life_in, incarnation_in, is_answer_in};
+ghost use Rattle.std.specs.Option.{option_map};
+ghost use Rattle.homa_check.specs.Judging.{is_allowed_line, judged_before};
+ghost use Rattle.homa_check.specs.Traces.{Follows, clause_of, call_at, life_in, incarnation_in, is_answer_in};
 
 use crate::block::Due;
 use crate::call::{Call, Run};
@@ -46,6 +49,13 @@ pub(crate) fn is_last(line: &Entry<'_>) -> bool
         Entry::Finished { .. } | Entry::Refused { .. } | Entry::Stalled { .. } => true,
         _ => false,
     }
+}
+
+// A line closes the block before it.
+fn closes(line: &Entry<'_>) -> bool
+    ensures { result ≡ lines.closes (plain line.now) }
+{
+    is_event(line) || is_last(line)
 }
 
 /// The call that a line names, other than a `call` line.
@@ -271,29 +281,39 @@ impl Trace {
             .are_unanswered(tick, self.settings.tries, self.settings.resend)
     }
 
-    // A timeout is of an unanswered call; a block that a line closes has the lines that are due.
-    fn first_open(&self, line: &Entry<'_>) -> Option<Clause> {
-        if let Entry::Fail {
-            id,
-            why: Why::Timeout,
-        } = line
-        {
-            return if self.is_unanswered(*id) {
-                None
-            } else {
-                Some(Clause::Fails)
-            };
-        }
-        if !is_event(line) && !is_last(line) {
-            return None;
-        }
+    // A block that a line closes has the lines that are due of the message that its delivery made whole.
+    fn hands_up(&self, line: &Entry<'_>) -> bool
+        ensures { (v : View) → Follows v self.now → result ≡ tests.hands_up v (plain line.now) }
+    {
+        !closes(line) || self.has_ends()
+    }
+
+    // The `run` and `done` lines of the block are those that are due.
+    fn has_ends(&self) -> bool
+        ensures { (v : View) → Follows v self.now → result ≡ (are_same_calls v.here.runs v.now.due.runs && are_same_calls v.here.dones v.now.due.dones) }
+    {
         let due = Due::of(&self.delivery);
-        if !self.here.runs.is_exactly(due.run) || !self.here.dones.is_exactly(due.done) {
-            Some(Clause::HandedUp)
-        } else if !self.here.forgotten.is_exactly(due.forgotten) {
-            Some(Clause::Fails)
-        } else {
-            None
+        self.here.runs.is_exactly(due.run) && self.here.dones.is_exactly(due.done)
+    }
+
+    // The `fail` lines of the block that tell of a forgotten call are those that are due.
+    fn has_failed(&self) -> bool
+        ensures { (v : View) → Follows v self.now → result ≡ are_same_calls v.here.forgotten v.now.due.forgotten }
+    {
+        let due = Due::of(&self.delivery);
+        self.here.forgotten.is_exactly(due.forgotten)
+    }
+
+    // A timeout is of an unanswered call; in a block that a line closes the call that is forgotten fails, if any.
+    fn fails_in_time(&self, line: &Entry<'_>) -> bool
+        ensures { (v : View) → Follows v self.now → result ≡ tests.fails_in_time v (plain line.now) }
+    {
+        match line {
+            Entry::Fail {
+                id,
+                why: Why::Timeout,
+            } => self.is_unanswered(*id),
+            _ => !closes(line) || self.has_failed(),
         }
     }
 
@@ -347,7 +367,9 @@ impl Trace {
     }
 
     // A packet that is a GRANT is one of those that its host may send.
-    fn is_allowed(&self, alloc: Global, line: &Entry<'_>) -> Result<bool, AllocError> {
+    fn is_allowed(&self, alloc: Global, line: &Entry<'_>) -> Result<bool, AllocError>
+        ensures { IfOk result (λ r. (v : View) → Follows v self.now → r ≡ is_allowed_line v (plain line.now)) }
+    {
         let Entry::Send {
             from,
             to,
@@ -376,7 +398,9 @@ impl Trace {
         &self,
         alloc: Global,
         line: &Entry<'_>,
-    ) -> Result<Option<Clause>, AllocError> {
+    ) -> Result<Option<Clause>, AllocError>
+        ensures { IfOk result (λ r. (v : View) → Follows v self.now → option_map clause_of r ≡ judged_before v (plain line.now)) }
+    {
         if !self.has_shape(line) {
             return Ok(Some(Clause::Shape));
         }
@@ -386,8 +410,11 @@ impl Trace {
         if !self.returns_answer(line) {
             return Ok(Some(Clause::Returned));
         }
-        if let Some(clause) = self.first_open(line) {
-            return Ok(Some(clause));
+        if !self.hands_up(line) {
+            return Ok(Some(Clause::HandedUp));
+        }
+        if !self.fails_in_time(line) {
+            return Ok(Some(Clause::Fails));
         }
         if !self.is_allowed(alloc, line)? {
             return Ok(Some(Clause::Granting));
