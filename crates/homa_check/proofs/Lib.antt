@@ -7,3 +7,4 @@ pub mod LoopLaws
 pub mod Starts
 pub mod Readings
 pub mod RunLaws
+pub mod ChoiceLaws
