@@ -1,5 +1,3 @@
-pub mod PartLaws
-pub mod CallLaws
 pub mod Places
 pub mod Hosts
 pub mod NamedLaws
@@ -7,4 +5,3 @@ pub mod LoopLaws
 pub mod Starts
 pub mod Readings
 pub mod RunLaws
-pub mod ChoiceLaws

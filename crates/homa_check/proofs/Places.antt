@@ -9,7 +9,7 @@ use Rattle.homa_plain.specs.declared.id.CallId.{CallId}
 use Rattle.homa_plain.specs.declared.id.HostId.{HostId}
 use Rattle.homa_plain.specs.Calls.{is_call}
 use Rattle.homa_plain.proofs.CallOrder.{calls_are, call_same}
-use Rattle.homa_check.specs.declared.call.Call.{Call}
+use Rattle.homa_kept.specs.declared.call.Call.{Call}
 use Rattle.homa_check.specs.Traces.{call_in, IsPlaceIn}
 use Rattle.homa_check.specs.Changes.{call_or}
 

@@ -4,10 +4,10 @@ use Rattle.std.specs.Prelude.{is_some}
 use Rattle.plain_sets.specs.Maps.{get, contains_key}
 use Rattle.homa_plain.specs.declared.id.CallId.{CallId}
 use Rattle.homa_plain.specs.View.{Sent, View}
-use Rattle.homa_check.specs.declared.call.Call.{Call}
-use Rattle.homa_check.specs.declared.packet.Packet.{Packet}
+use Rattle.homa_kept.specs.declared.call.Call.{Call}
+use Rattle.homa_kept.specs.declared.packet.Packet.{Packet}
 use Rattle.homa_check.specs.declared.trace.Trace.{Trace}
-use Rattle.homa_check.specs.Kept.{packet_of}
+use Rattle.homa_kept.specs.Kept.{packet_of}
 use Rattle.homa_check.specs.Traces.{Follows, IsCallAt, call_at}
 
 made_at : (v : View) (q : CallId) (o : Option Call) → IsCallAt v q o → is_some o ≡ contains_key v.calls q

@@ -14,11 +14,11 @@ use Rattle.homa_plain.specs.Laws.{answers}
 use Rattle.homa_plain.specs.Judge as tests
 use Rattle.homa_judging.specs.Kept.{runs_of, is_here, is_in}
 use Rattle.homa_judging.proofs.Lean.{run_here, answers_of}
-use Rattle.homa_check.specs.declared.call.Call.{Call}
-use Rattle.homa_check.specs.declared.call.Run.{Run}
+use Rattle.homa_kept.specs.declared.call.Call.{Call}
+use Rattle.homa_kept.specs.declared.call.Run.{Run}
 use Rattle.homa_check.specs.declared.host.Host.{Host}
 use Rattle.homa_check.specs.declared.trace.Trace.{Trace}
-use Rattle.homa_check.specs.Calls.{ran_in, called_of}
+use Rattle.homa_kept.specs.Calls.{ran_in, called_of}
 use Rattle.homa_check.specs.Traces.{Follows, IsKept, IsCallAt, IsAbsent, IsHost, call_at, host_at, run_of, first_of, restarts_in, life_in, incarnation_of, incarnation_in, is_answer_in}
 
 -- what is kept of a call that was found

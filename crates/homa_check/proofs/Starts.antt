@@ -14,7 +14,7 @@ use Rattle.homa_judging.specs.Spots.{spot, IsSame}
 use Rattle.homa_check.specs.declared.trace.Trace.{Trace}
 use Rattle.homa_check.specs.declared.block.Here.{Here}
 use Rattle.homa_check.specs.declared.block.Named.TheVariants.{Nobody}
-use Rattle.homa_check.specs.Kept.{no_spot, packet_of}
+use Rattle.homa_kept.specs.Kept.{no_spot, packet_of}
 use Rattle.homa_check.specs.Traces.{Follows, host_at, IsHost, IsCallAt, call_in, IsHere, IsDelivered, due_of}
 
 spot_none : (q : CallId) → spot no_progress q ≡ no_spot

@@ -4,7 +4,7 @@ use Rattle.std.specs.Option.{option_map}
 use Rattle.homa_plain.specs.declared.id.CallId.{CallId}
 use Rattle.homa_plain.specs.declared.id.HostId.{HostId}
 use Rattle.homa_plain.specs.Calls.{is_call}
-use Rattle.homa_check.specs.declared.call.Call.{Call}
+use Rattle.homa_kept.specs.declared.call.Call.{Call}
 use Rattle.homa_check.specs.declared.trace.Trace.{Trace}
 use Rattle.homa_check.specs.Traces.{host_at, lead_of, first_of, restarts_in}
 

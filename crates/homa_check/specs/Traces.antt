@@ -16,15 +16,15 @@ use Rattle.homa_check.specs.declared.block.Delivery.{Delivery}
 use Rattle.homa_check.specs.declared.block.Here.{Here}
 use Rattle.homa_check.specs.declared.block.Named.{Named}
 use Rattle.homa_check.specs.declared.block.Named.TheVariants.{Nobody, Only, Several}
-use Rattle.homa_check.specs.declared.call.Call.{Call}
-use Rattle.homa_check.specs.declared.call.Run.{Run}
-use Rattle.homa_check.specs.declared.call.Lives.{Lives}
+use Rattle.homa_kept.specs.declared.call.Call.{Call}
+use Rattle.homa_kept.specs.declared.call.Run.{Run}
+use Rattle.homa_kept.specs.declared.call.Lives.{Lives}
 use Rattle.homa_check.specs.declared.host.Host.{Host}
 use Rattle.homa_check.specs.declared.trace.Trace.{Trace}
 use Rattle.homa_check.specs.declared.verdict.Clause.{Clause}
 use Rattle.homa_check.specs.declared.verdict.Clause.TheVariants.{Shape, Once, Returned, HandedUp, Fails, Granting}
-use Rattle.homa_check.specs.Kept.{StandsFor, no_spot, packet_of}
-use Rattle.homa_check.specs.Calls.{spot_in, beside, called_of, ends_of}
+use Rattle.homa_kept.specs.Kept.{StandsFor, no_spot, packet_of}
+use Rattle.homa_kept.specs.Calls.{spot_in, beside, called_of, ends_of}
 
 -- ---- look-ups
 

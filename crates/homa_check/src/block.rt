@@ -6,8 +6,7 @@ ghost use Rattle.homa_plain.specs.Calls.{is_call, is_host};
 ghost use Rattle.homa_plain.specs.Judge.{are_same_calls};
 ghost use Rattle.homa_check.specs.Traces.{IsNamed, due_of};
 
-use crate::packet::Packet;
-use crate::spot::Spot;
+use homa_kept::{Packet, Spot};
 use homa_plain::{CallId, HostId};
 
 /// The calls that lines of one kind name in a block.

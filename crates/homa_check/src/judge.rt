@@ -9,19 +9,16 @@ ghost use Rattle.homa_plain.specs.View.{View, resends_of};
 ghost use Rattle.homa_plain.specs.Judge as tests;
 ghost use Rattle.homa_plain.specs.Judge.{are_same_calls};
 ghost use Rattle.homa_plain.specs.Laws.{answers};
-ghost use Rattle.homa_check.specs.Kept.{AreResends, piece_is_data};
-ghost use Rattle.homa_check.specs.Calls.{ran_in};
+ghost use Rattle.homa_kept.specs.Kept.{AreResends, piece_is_data};
+ghost use Rattle.homa_kept.specs.Calls.{ran_in};
 ghost use Rattle.std.specs.Option.{option_map};
 ghost use Rattle.homa_check.specs.Judging.{is_allowed_line, judged_before};
 ghost use Rattle.homa_check.specs.Traces.{Follows, clause_of, call_at, life_in, incarnation_in, is_answer_in};
 
 use crate::block::Due;
-use crate::call::{Call, Run};
-use crate::choice::{Grant, Message, choose, is_granted};
-use crate::packet::Packet;
-use crate::resends::Resends;
 use crate::trace::Trace;
 use crate::verdict::Clause;
+use homa_kept::{Call, Grant, Message, Packet, Resends, Run, choose, is_granted};
 use homa_plain::{Body, CallId, Entry, HostId, LineFault, Role, Why, WorldFault};
 use std::alloc::{AllocError, Global};
 

@@ -2,14 +2,8 @@
 #![tactic(auto)]
 
 mod block;
-mod call;
-mod choice;
 mod host;
 mod judge;
-mod packet;
-mod part;
-mod resends;
-mod spot;
 mod take;
 #[cfg(test)]
 mod tests;

@@ -8,12 +8,10 @@ ghost use Rattle.homa_plain.specs.Judge.{judged};
 ghost use Rattle.homa_check.specs.Traces.{Follows, clause_of};
 
 use crate::block::{Delivery, Here};
-use crate::call::{Call, Lives, Run};
 use crate::judge::{is_event, is_last};
-use crate::packet::{Packet, Piece};
-use crate::spot::{Change, Spot};
 use crate::trace::Trace;
 use crate::verdict::Clause;
+use homa_kept::{Call, Change, Lives, Packet, Piece, Run, Spot};
 use homa_plain::{Body, CallId, Entry, HostId, Role, Why};
 use homa_wire::decode;
 use open_ranges::OpenRanges;

@@ -5,14 +5,12 @@ ghost use Rattle.homa_plain.specs.declared.id.HostId.{HostId as AHost};
 ghost use Rattle.homa_plain.specs.Calls.{is_call};
 ghost use Rattle.homa_plain.specs.View.{nothing_seen};
 ghost use Rattle.homa_check.specs.Traces.{call_at, host_at, IsPlace, lead_of, first_of, restarts_in, life_in, lives_in, Follows};
-ghost use Rattle.homa_check.specs.Calls.{spot_in};
+ghost use Rattle.homa_kept.specs.Calls.{spot_in};
 ghost use Rattle.homa_check.specs.Changes.{SameHosts, SameRest, call_or};
 
 use crate::block::{Delivery, Here};
-use crate::call::{Call, Lives};
 use crate::host::Host;
-use crate::packet::Packet;
-use crate::spot::Spot;
+use homa_kept::{Call, Lives, Packet, Spot};
 use homa_plain::{CallId, HostId, Settings};
 use indexmap::IndexSet;
 use std::alloc::{AllocError, Global};

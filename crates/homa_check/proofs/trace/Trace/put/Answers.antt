@@ -1,7 +1,7 @@
 use Rattle.std.proofs.Common.{◌≡◌, ℕ, ◌<◌, arith, Some, refl, sym, ap, ◌∙◌, subst, length}
 use Rattle.std.specs.Prelude.{slice_get, slice_set}
 use Rattle.std.proofs.lemmas.Option.{slice_get-get_or}
-use Rattle.homa_check.specs.declared.call.Call.{Call}
+use Rattle.homa_kept.specs.declared.call.Call.{Call}
 use Rattle.homa_check.specs.Traces.{lives_in, call_in}
 use Rattle.homa_check.specs.Changes.{call_or}
 use Rattle.homa_check.proofs.Places.{place_within, call_changed}

@@ -1,6 +1,6 @@
 use Rattle.std.proofs.Common.{◌≡◌, arith, Some, sym, ap, ◌∙◌}
 use Rattle.std.proofs.lemmas.Option.{slice_get-get_or}
-use Rattle.homa_check.specs.Calls.{spot_in}
+use Rattle.homa_kept.specs.Calls.{spot_in}
 use Rattle.homa_check.specs.Traces.{call_at}
 use Rattle.homa_check.proofs.Places.{place_within, call_at_place}
 use Rattle.homa_check.proofs.trace.Trace.spot.Goals as goal
