@@ -1,6 +1,8 @@
 -- Hosts of which something is changed.
-use Rattle.std.proofs.Common.{◌≡◌, ℕ, zero, suc, Option, Some, None, List, [], ◌∷◌, refl, sym, ap, ◌∙◌}
-use Rattle.std.specs.Prelude.{slice_get, slice_set}
+use Rattle.std.proofs.Common.{◌≡◌, ◌≢◌, ℕ, zero, suc, Bool, true, false, Option, Some, None, List, [], ◌∷◌, refl, sym, ap, ◌∙◌}
+use Rattle.std.specs.Prelude.{◌==◌, if◌then◌else◌, slice_get, slice_set}
+use Rattle.std.proofs.lemmas.Bool.{eqb-true, eq-eqb, true≢false}
+use Rattle.homa_plain.specs.Calls.{is_host}
 use Rattle.homa_plain.specs.declared.id.HostId.{HostId}
 use Rattle.homa_check.specs.declared.host.Host.{Host}
 use Rattle.homa_check.specs.declared.trace.Trace.{Trace}
@@ -22,3 +24,35 @@ same_hosts t u w n old new s e is l f r = record {
   first = λ h. ap (λ (hs : List Host). first_of (slice_get hs h.0)) is ∙ (same_at first_of u.hosts.items n h.0 old new e f ∙ s.first h);
   restarts = λ h. ap (λ (hs : List Host). restarts_in (slice_get hs h.0)) is ∙ (same_at restarts_in u.hosts.items n h.0 old new e (ap (λ rs. rs.items) r) ∙ s.restarts h);
 }
+
+-- ---- one host is changed
+
+there_now : (xs : List Host) (n : ℕ) (old new : Host) → slice_get xs n ≡ Some old → slice_get (slice_set xs n new) n ≡ Some new
+there_now [] n old new e = absurd cc
+there_now (x ∷ xs) zero old new e = refl
+there_now (x ∷ xs) (suc n) old new e = there_now xs n old new e
+
+elsewhere : (xs : List Host) (n k : ℕ) (new : Host) → k ≢ n → slice_get (slice_set xs n new) k ≡ slice_get xs k
+elsewhere [] n k new d = refl
+elsewhere (x ∷ xs) zero zero new d = absurd (d refl)
+elsewhere (x ∷ xs) zero (suc k) new d = refl
+elsewhere (x ∷ xs) (suc n) zero new d = refl
+elsewhere (x ∷ xs) (suc n) (suc k) new d = elsewhere xs n k new (λ e. d (ap suc e))
+
+-- what is kept of each host, where that of one is changed
+pub changed_at : {A : Type 0} (f : Option Host → A) (xs : List Host) (n k : ℕ) (old new : Host) → slice_get xs n ≡ Some old → f (slice_get (slice_set xs n new) k) ≡ (if k == n then f (Some new) else f (slice_get xs k))
+changed_at f xs n k old new e =
+    elim (k == n) as (λ b. (k == n) ≡ b → f (slice_get (slice_set xs n new) k) ≡ (if b then f (Some new) else f (slice_get xs k))) [
+      | true ↦ λ t. ap (λ (j : ℕ). f (slice_get (slice_set xs n new) j)) (eqb-true k n t) ∙ ap f (there_now xs n old new e)
+      | false ↦ λ t. ap f (elsewhere xs n k new (λ p. true≢false (sym (eq-eqb k n p) ∙ t)))
+    ] refl
+
+-- .. as a change of what was kept
+pub changed_by : {A : Type 0} (f : Option Host → A) (change : A → A) (t u : Trace) (host h : HostId) (old new : Host) → ((k : HostId) → f (host_at u k) ≡ f (host_at t k)) → slice_get u.hosts.items host.0 ≡ Some old → f (Some new) ≡ change (f (Some old))
+    → f (slice_get (slice_set u.hosts.items host.0 new) h.0) ≡ (if is_host h host then change (f (host_at t h)) else f (host_at t h))
+changed_by {A} f change t u host h old new same e c =
+    changed_at f u.hosts.items host.0 h.0 old new e
+    ∙ elim (h.0 == host.0) as (λ b. (h.0 == host.0) ≡ b → (if b then f (Some new) else f (host_at u h)) ≡ (if b then change (f (host_at t h)) else f (host_at t h))) [
+      | true ↦ λ p. c ∙ ap change (ap f (sym e) ∙ (ap (λ (n : ℕ). f (slice_get u.hosts.items n)) (sym (eqb-true h.0 host.0 p)) ∙ same h))
+      | false ↦ λ p. same h
+    ] refl

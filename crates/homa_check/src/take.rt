@@ -1,11 +1,14 @@
 // A line that is taken.
-ghost use Rattle.std.specs.Prelude.{◌≡◌, ◌-◌, ◌^◌, ◌<◌, None, IfOk};
+ghost use Rattle.std.specs.Prelude.{◌≡◌, ◌-◌, ◌^◌, ◌<◌, ◌++◌, [], ◌∷◌, if◌then◌else◌, Some, None, IfOk, OnOk};
+ghost use Rattle.homa_plain.specs.declared.id.HostId.{HostId as AHost};
+ghost use Rattle.homa_plain.specs.Calls.{is_host};
+ghost use Rattle.homa_check.specs.declared.block.Named.TheVariants.{Nobody};
 ghost use Rattle.std.specs.Option.{option_map};
 ghost use Rattle.homa_plain.specs.Entries.{plain};
 ghost use Rattle.homa_plain.specs.View.{View};
 ghost use Rattle.homa_plain.specs.Seen.{seen};
 ghost use Rattle.homa_plain.specs.Judge.{judged};
-ghost use Rattle.homa_check.specs.Traces.{Follows, clause_of};
+ghost use Rattle.homa_check.specs.Traces.{Follows, clause_of, host_at, lead_of, first_of, restarts_in};
 
 use crate::block::{Delivery, Here};
 use crate::judge::{is_event, is_last};
@@ -48,7 +51,9 @@ fn received(host: HostId, from: HostId, bytes: &[u8], wire: u32) -> Option<Packe
 
 impl Trace {
     // A block begins.
-    fn begin(&mut self) {
+    fn begin(&mut self)
+        ensures { self.new ≡ record self.old { here = record { runs = Nobody; dones = Nobody; forgotten = Nobody }; delivery = None } }
+    {
         self.here = Here::NONE;
         self.delivery = None;
     }
@@ -117,7 +122,12 @@ impl Trace {
     }
 
     // A host restarts.
-    fn restart(&mut self, alloc: Global, host: HostId, inc: u32) -> Result<(), AllocError> {
+    fn restart(&mut self, alloc: Global, host: HostId, inc: u32) -> Result<(), AllocError>
+        ensures restarts { OnOk result ((h : AHost) → restarts_in (host_at self.new h) ≡ (if is_host h host then restarts_in (host_at self.old h) ++ inc ∷ [] else restarts_in (host_at self.old h))) }
+        ensures lead { OnOk result ((h : AHost) → lead_of (host_at self.new h) ≡ lead_of (host_at self.old h)) }
+        ensures first { OnOk result ((h : AHost) → first_of (host_at self.new h) ≡ first_of (host_at self.old h)) }
+        ensures rest { OnOk result (self.new ≡ record self.old { hosts = self.new.hosts }) }
+    {
         self.know(alloc, host)?;
         let host = &mut self.hosts[host.0 as usize];
         host.restarts.push(inc)?;
@@ -127,7 +137,12 @@ impl Trace {
     }
 
     // A host's lead.
-    fn shift(&mut self, alloc: Global, host: HostId, n: u32) -> Result<(), AllocError> {
+    fn shift(&mut self, alloc: Global, host: HostId, n: u32) -> Result<(), AllocError>
+        ensures lead { OnOk result ((h : AHost) → lead_of (host_at self.new h) ≡ (if is_host h host then Some n else lead_of (host_at self.old h))) }
+        ensures first { OnOk result ((h : AHost) → first_of (host_at self.new h) ≡ first_of (host_at self.old h)) }
+        ensures restarts { OnOk result ((h : AHost) → restarts_in (host_at self.new h) ≡ restarts_in (host_at self.old h)) }
+        ensures rest { OnOk result (self.new ≡ record self.old { hosts = self.new.hosts }) }
+    {
         self.know(alloc, host)?;
         self.hosts[host.0 as usize].lead = Some(n);
         Ok(())
