@@ -1,5 +1,5 @@
 -- What is kept of a call, and what a delivery does to it.
-use Rattle.std.specs.Prelude.{◌≡◌, ℕ, ◌+◌, ◌==◌, ◌&&◌, Bool, true, false, not, nat_le, if◌then◌else◌, Option, None, Some, unwrap_or, IfSome, List, [], ◌∷◌, length}
+use Rattle.std.specs.Prelude.{◌≡◌, ℕ, ◌+◌, ◌==◌, ◌&&◌, Bool, false, nat_le, if◌then◌else◌, Option, None, Some, unwrap_or, IfSome, [], ◌∷◌, length}
 use Rattle.std.specs.Option.{option_map_or}
 use Rattle.std.specs.List.{list_any}
 use Rattle.plain_sets.specs.Maps.{get}
@@ -7,11 +7,10 @@ use Rattle.homa_plain.specs.declared.id.CallId.{CallId}
 use Rattle.homa_plain.specs.declared.id.HostId.{HostId}
 use Rattle.homa_plain.specs.Wire.{is_server}
 use Rattle.homa_plain.specs.Calls.{is_host}
-use Rattle.homa_plain.specs.View.{Called, Sent, Ran, Ends, View, has_run}
+use Rattle.homa_plain.specs.View.{Called, Sent, Ends, View, has_run}
 use Rattle.homa_plain.specs.Parts as plain
 use Rattle.homa_judging.specs.Spots as spots
 use Rattle.homa_kept.specs.declared.call.Call.{Call}
-use Rattle.homa_kept.specs.declared.call.Run.{Run}
 use Rattle.homa_kept.specs.declared.call.Lives.{Lives}
 use Rattle.homa_kept.specs.declared.call.Delivered.{Delivered}
 use Rattle.homa_kept.specs.declared.part.Arrival.{Arrival}

@@ -1,5 +1,5 @@
 -- A message that enters a list of chosen ones.
-use Rattle.std.specs.Prelude.{ℕ, ◌-◌, ◌==◌, Bool, true, false, not, if◌then◌else◌, List, [], ◌∷◌}
+use Rattle.std.specs.Prelude.{ℕ, ◌-◌, ◌==◌, Bool, true, false, not, if◌then◌else◌, List}
 use Rattle.plain_sets.specs.Ordered.{is_below, not_of}
 use Rattle.homa_judging.specs.Entered.{entered}
 use Rattle.homa_kept.specs.declared.choice.Message.{Message}

@@ -1,4 +1,4 @@
-use Rattle.std.proofs.Common.{◌∙◌, ◌&&◌, sym, ap, length}
+use Rattle.std.proofs.Common.{◌∙◌, ◌&&◌, ap, length}
 use Rattle.homa_kept.specs.Kept.{piece_is_forgotten}
 use Rattle.homa_kept.proofs.CallLaws.{heard_leaves, forgotten_piece}
 use Rattle.homa_kept.proofs.call.heard.Goals as goal

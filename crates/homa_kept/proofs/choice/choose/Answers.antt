@@ -1,4 +1,4 @@
-use Rattle.std.proofs.Common.{◌≡◌, ◌-◌, ◌∙◌, arith, sym, ap, take, length}
+use Rattle.std.proofs.Common.{◌-◌, ◌∙◌, arith, sym, ap, take, length}
 use Rattle.plain_sets.specs.Ordered.{ordered, firsts}
 use Rattle.homa_judging.specs.Entered.{entered}
 use Rattle.homa_kept.specs.Choices.{sender_of, key_of}

@@ -1,7 +1,6 @@
-use Rattle.std.proofs.Common.{◌≡◌, ◌∙◌, sym, ap}
+use Rattle.std.proofs.Common.{◌∙◌, sym, ap}
 use Rattle.plain_sets.specs.Numbers.{with_range}
 use Rattle.plain_sets.proofs.NumberLaws.{with_range-nothing}
-use Rattle.homa_kept.specs.Kept.{arrived_of}
 use Rattle.homa_kept.proofs.PartLaws.{settled_part, settled_count}
 use Rattle.homa_kept.proofs.part.settle.Goals as goal
 

@@ -1,9 +1,8 @@
-use Rattle.std.proofs.Common.{◌≡◌, ◌∙◌, refl, sym, ap, length, ℕ, true, false}
+use Rattle.std.proofs.Common.{◌≡◌, ◌∙◌, refl, sym, ap, length, true, false}
 use Rattle.homa_plain.specs.Wire.{is_client}
-use Rattle.homa_plain.specs.View.{View, Sent}
 use Rattle.homa_judging.specs.Spots as spots
-use Rattle.homa_kept.specs.Kept.{StandsFor, piece_is_data}
-use Rattle.homa_kept.specs.Calls.{IsDelivery, Leaves, beside, spot_in}
+use Rattle.homa_kept.specs.Kept.{piece_is_data}
+use Rattle.homa_kept.specs.Calls.{beside}
 use Rattle.homa_kept.proofs.CallLaws.{known, data_body, data_asks, data_answers, answers_nothing, no_data, leaves_as, counts_still, counted_hosts}
 use Rattle.homa_kept.proofs.call.Call.delivered.Goals as goal
 

@@ -1,4 +1,4 @@
-use Rattle.std.proofs.Common.{◌≡◌, sym, ◌∙◌, ap, refl, ◌+◌}
+use Rattle.std.proofs.Common.{refl, ◌+◌}
 use Rattle.homa_kept.proofs.PartLaws.{grown_part, grown_nothing, grown_more}
 use Rattle.homa_kept.proofs.part.Part.grown.Goals as goal
 

@@ -1,5 +1,3 @@
-use Rattle.std.proofs.Common.{◌≡◌, ◌+◌, ◌∙◌, ap, not, sym, true}
-use Rattle.std.specs.Prelude.{nat_le}
 use Rattle.homa_kept.specs.Kept.{part_of}
 use Rattle.homa_kept.proofs.PartLaws.{within_if, within_else}
 use Rattle.homa_kept.proofs.part.Part.is_within.Goals as goal

@@ -1,4 +1,4 @@
-use Rattle.std.proofs.Common.{◌≡◌, sym, ◌∙◌, ap, not, true, false}
+use Rattle.std.proofs.Common.{sym, ◌∙◌}
 use Rattle.homa_kept.proofs.PartLaws.{raised_part, not_raised}
 use Rattle.homa_kept.proofs.part.Part.raised.Goals as goal
 
