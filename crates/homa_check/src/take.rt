@@ -1,12 +1,15 @@
 // A line that is taken.
-ghost use Rattle.std.specs.Prelude.{◌≡◌, ◌-◌, ◌^◌, ◌<◌, ◌++◌, [], ◌∷◌, if◌then◌else◌, Some, None, IfOk, OnOk};
+ghost use Rattle.homa_plain.specs.Wire.{Between, is_client, packet_in};
+ghost use Rattle.homa_plain.specs.Seen as seen;
+ghost use Rattle.homa_kept.specs.Kept.{packet_of};
+ghost use Rattle.std.specs.Prelude.{ℕ, List, length, ◌≡◌, ◌-◌, ◌^◌, ◌<◌, ◌++◌, [], ◌∷◌, if◌then◌else◌, Some, None, IfOk, OnOk};
 ghost use Rattle.homa_plain.specs.declared.id.HostId.{HostId as AHost};
 ghost use Rattle.homa_plain.specs.Calls.{is_host};
 ghost use Rattle.homa_check.specs.declared.block.Named.TheVariants.{Nobody};
 ghost use Rattle.std.specs.Option.{option_map};
 ghost use Rattle.homa_plain.specs.Entries.{plain};
 ghost use Rattle.homa_plain.specs.View.{View};
-ghost use Rattle.homa_plain.specs.Seen.{seen};
+ghost use Rattle.homa_plain.specs.Seen.{seen as seen_with};
 ghost use Rattle.homa_plain.specs.Judge.{judged};
 ghost use Rattle.homa_check.specs.Traces.{Follows, clause_of, host_at, lead_of, first_of, restarts_in};
 
@@ -15,7 +18,7 @@ use crate::judge::{is_event, is_last};
 use crate::trace::Trace;
 use crate::verdict::Clause;
 use homa_kept::{Call, Change, Lives, Packet, Piece, Run, Spot};
-use homa_plain::{Body, CallId, Entry, HostId, Role, Why};
+use homa_plain::{Body, CallId, Entry, HostId, Packet as WirePacket, Role, Why};
 use homa_wire::decode;
 use open_ranges::OpenRanges;
 use std::alloc::{AllocError, Global};
@@ -27,26 +30,48 @@ fn copied(alloc: Global, bytes: &[u8]) -> Result<Vec<u8>, AllocError> {
     Ok(copy)
 }
 
+// The version of the wire format, which is 1 or 2.
+fn version_of(wire: u32) -> u32
+    ensures version { Between 1 2 result }
+    ensures same { Between 1 2 wire → result ≡ wire }
+{
+    if wire == 1 { 1 } else { 2 }
+}
+
 // The packet that a datagram from one host to another is.
-fn received(host: HostId, from: HostId, bytes: &[u8], wire: u32) -> Option<Packet> {
-    let (packet, payload) = decode(bytes, if wire == 1 { 1 } else { 2 })?;
-    let client = if packet.role == Role::Client {
-        from
-    } else {
-        host
-    };
-    Some(Packet {
+fn received(host: HostId, from: HostId, bytes: &[u8], wire: u32) -> Option<Packet>
+    ensures { Between 1 2 wire → result ≡ option_map packet_of (seen.received host from (packet_in wire bytes.now)) }
+{
+    let (packet, payload) = decode(bytes, version_of(wire))?;
+    Some(packet_between(host, from, &packet, (payload.to - payload.from) as u64))
+}
+
+// A packet with so many bytes of payload, from one host to another.
+fn packet_between(host: HostId, from: HostId, packet: &WirePacket, len: u64) -> Packet
+    ensures { (payload : List ℕ) → length payload ≡ len → Some result ≡ option_map packet_of (seen.received host from (Some (packet.now, payload))) }
+{
+    Packet {
         from,
         to: host,
         inc: packet.sender,
         role: packet.role,
         id: CallId {
-            client,
+            client: client_of(packet.role, host, from),
             inc: packet.inc,
             seq: packet.seq,
         },
-        piece: Piece::of(&packet.body, (payload.to - payload.from) as u64),
-    })
+        piece: Piece::of(&packet.body, len),
+    }
+}
+
+// The client of a call between two hosts, of which the first one gets a packet from the second.
+fn client_of(role: Role, host: HostId, from: HostId) -> HostId
+    ensures { result ≡ (if is_client role then from else host) }
+{
+    match role {
+        Role::Client => from,
+        Role::Server => host,
+    }
 }
 
 impl Trace {
@@ -401,7 +426,7 @@ impl Trace {
         line: &Entry<'_>,
     ) -> Result<Option<Clause>, AllocError>
         ensures judged { IfOk result (λ r. (v : View) → Follows v self.old → option_map clause_of r ≡ judged v (plain line.now)) }
-        ensures next { IfOk result (λ r. (v : View) → Follows v self.old → v.place < 2 ^ 64 - 1 → r ≡ None → Follows (seen v (plain line.now)) self.new) }
+        ensures next { IfOk result (λ r. (v : View) → Follows v self.old → v.place < 2 ^ 64 - 1 → r ≡ None → Follows (seen_with v (plain line.now)) self.new) }
     {
         if let Some(clause) = self.judge(alloc, line)? {
             return Ok(Some(clause));
