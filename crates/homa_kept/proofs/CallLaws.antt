@@ -1,30 +1,27 @@
 -- What a delivery does to a call.
-use Rattle.std.proofs.Common.{◌≡◌, ℕ, ◌+◌, Bool, true, false, not, ◌&&◌, Option, Some, [], ◌∷◌, length, refl, sym, ap, ◌∙◌, subst, arith}
-use Rattle.std.specs.Prelude.{if◌then◌else◌, unwrap_or, nat_le}
+use Rattle.std.proofs.Common.{◌≡◌, ℕ, Bool, true, false, not, ◌&&◌, Option, Some, [], ◌∷◌, refl, sym, ap, ◌∙◌, subst, arith}
+use Rattle.std.specs.Prelude.{if◌then◌else◌, nat_le}
 use Rattle.std.proofs.lemmas.Bool.Decides.{nat_tests}
 use Rattle.std.specs.Option.{option_map_or}
 use Rattle.plain_sets.specs.Maps.{get}
 use Rattle.homa_plain.specs.declared.id.CallId.{CallId}
 use Rattle.homa_plain.specs.declared.packet.Body.{Body}
 use Rattle.homa_plain.specs.declared.packet.Body.TheVariants as body
-use Rattle.homa_plain.specs.declared.id.HostId.{HostId}
 use Rattle.homa_plain.specs.Wire.{is_client, is_server}
 use Rattle.homa_plain.specs.Calls.{is_host}
 use Rattle.homa_plain.proofs.CallOrder.{hosts_are}
 use Rattle.homa_plain.specs.Parts as plain
-use Rattle.homa_plain.specs.View.{Called, Sent, Ends, no_ends, View, has_run, is_server_of}
+use Rattle.homa_plain.specs.View.{Called, Sent, Ends, no_ends, View, is_server_of}
 use Rattle.homa_plain.specs.Seen as seen
 use Rattle.homa_judging.specs.Spots as spots
-use Rattle.homa_kept.specs.declared.part.Part.{Part}
-use Rattle.homa_kept.specs.declared.part.Arrival.{Arrival}
 use Rattle.homa_kept.specs.declared.call.Delivered.{Delivered}
 use Rattle.homa_kept.specs.declared.call.Call.{Call}
 use Rattle.homa_kept.specs.declared.call.Lives.{Lives}
 use Rattle.homa_kept.specs.declared.spot.Spot.{Spot}
 use Rattle.homa_kept.specs.declared.packet.Packet.{Packet}
 use Rattle.homa_kept.specs.declared.packet.Piece.TheVariants.{Data}
-use Rattle.homa_kept.specs.Kept.{part_of, packet_of, IsCounted, Beside, StandsFor, piece_of, piece_is_unknown, piece_is_forgotten, piece_is_data}
-use Rattle.homa_kept.specs.Calls.{called_of, Leaves, IsDelivery, ends_of, more_of, counts_for, ran_in, spot_in, beside}
+use Rattle.homa_kept.specs.Kept.{packet_of, Beside, StandsFor, piece_of, piece_is_unknown, piece_is_forgotten, piece_is_data}
+use Rattle.homa_kept.specs.Calls.{called_of, Leaves, IsDelivery, ends_of, counts_for, spot_in, beside}
 
 pub unknown_piece : (b : Body) (n : ℕ) → piece_is_unknown (piece_of b n) ≡ seen.is_unknown b
 unknown_piece (body.Unknown reason) n = refl
@@ -45,31 +42,6 @@ whole_then id before after w r e f g =
 pub whole_else : (id : CallId) (before : Option plain.Part) (after : plain.Part) (w : Bool) → w ≡ option_map_or plain.is_whole before false → w ≡ true → plain.made_whole id before after ≡ (if not w then id ∷ [] else [])
 whole_else id before after w e f =
     ap (λ b. if not b && plain.is_whole after then id ∷ [] else []) (sym e ∙ f) ∙ sym (ap (λ b. if not b then id ∷ [] else []) f)
-
--- bytes of a request are taken
-pub asked_leaves : (b : Beside) (id : CallId) (d : Delivered) (s t : spots.Spot) (due later : Ends) (after : Part) (x : plain.Part) (runs : Bool) → Leaves b id d s t due later
-    → part_of b.server b.client b.asked after ≡ x → IsCounted b.asked after → plain.made_whole id s.request x ≡ (if runs then id ∷ [] else [])
-    → Leaves b id (record d { now = record d.now { request = Some after }; runs = runs }) (record s { request = Some x }) t (record due { runs = plain.made_whole id s.request x }) later
-asked_leaves b id d s t due later after x runs l e n w =
-    let k = l.now in
-    record {
-      now = record { live = k.live; request = ap (λ p. Some p) (sym e); response = k.response; request_count = n; response_count = k.response_count; resends = k.resends };
-      refused = l.refused;
-      due = (λ i. record (l.due i) { runs = w i });
-      due_then = l.due_then;
-    }
-
-pub answered_leaves : (b : Beside) (id : CallId) (d : Delivered) (s t : spots.Spot) (due later : Ends) (after : Part) (x : plain.Part) (done : Bool) → Leaves b id d s t due later
-    → part_of b.client b.server b.answered after ≡ x → IsCounted b.answered after → plain.made_whole id s.response x ≡ (if done then id ∷ [] else [])
-    → Leaves b id (record d { now = record d.now { response = Some after }; done = done }) (record s { response = Some x }) t (record due { dones = plain.made_whole id s.response x }) later
-answered_leaves b id d s t due later after x done l e n w =
-    let k = l.now in
-    record {
-      now = record { live = k.live; request = k.request; response = ap (λ p. Some p) (sym e); request_count = k.request_count; response_count = n; resends = k.resends };
-      refused = l.refused;
-      due = (λ i. record (l.due i) { dones = w i });
-      due_then = l.due_then;
-    }
 
 -- ---- a packet that may count
 
@@ -162,37 +134,6 @@ data_answers v p s size offset d r = (
 -- .. of a packet that doesn't count
 pub answers_nothing : (v : View) (p : Sent) (s : spots.Spot) (size offset : ℕ) (due : Ends) → spots.counts_at v p s ≡ false → (spots.response_spot v p size offset s ≡ s) × (spots.due_response v p size offset due s ≡ due)
 answers_nothing v p s size offset due e = (rw e refl, rw e refl)
-
--- ---- bytes of a request
-
--- whether they are taken
-pub takes_is : (v : View) (p : Sent) (c : Call) (k : Packet) (place free : ℕ) (lives : Lives) → IsDelivery v c k p place lives free → (is_host k.to c.server && not (ran_in c lives.server)) ≡ (is_host p.to c.server && not (has_run v c.server p.id))
-takes_is v p c k place free lives d = ap (λ q. is_host q.to c.server && not (ran_in c lives.server)) d.packet ∙ ap (λ b. is_host p.to c.server && not b) (sym d.ran)
-
--- they aren't
-pub asks_nothing : (v : View) (p : Sent) (c : Call) (offset : ℕ) (s : spots.Spot) (due : Ends) → get v.calls p.id ≡ Some (called_of c) → (is_host p.to c.server && not (has_run v c.server p.id)) ≡ false
-    → (spots.request_spot v p offset (get v.calls p.id) s ≡ s) × (spots.due_request v p offset (get v.calls p.id) due s ≡ due)
-asks_nothing v p c offset s due called e = (rw (called, e) refl, rw (called, e) refl)
-
--- they are
-abbrev pub asked_part : View → Sent → Call → ℕ → spots.Spot → plain.Part
-asked_part v p c offset s = spots.part_with v p offset (plain.opened c.server p.id.client (length c.request.items) v.settings.unsched) s.request
-
-pub asks_more : (v : View) (p : Sent) (c : Call) (offset : ℕ) (s : spots.Spot) (due : Ends) → get v.calls p.id ≡ Some (called_of c) → (is_host p.to c.server && not (has_run v c.server p.id)) ≡ true
-    → (record s { request = Some (asked_part v p c offset s) } ≡ spots.request_spot v p offset (get v.calls p.id) s)
-    × (record due { runs = plain.made_whole p.id s.request (asked_part v p c offset s) } ≡ spots.due_request v p offset (get v.calls p.id) due s)
-asks_more v p c offset s due called e = (sym (rw (called, e) refl), sym (rw (called, e) refl))
-
--- the part with them
-pub asked_is : (v : View) (p : Sent) (c : Call) (k : Packet) (a : Arrival) (lives : Lives) (s : spots.Spot) (before : Option plain.Part) → IsDelivery v c k p a.place lives a.unsched → a.len ≡ length p.payload → s.request ≡ before
-    → more_of c.server p.id.client a c.size before ≡ asked_part v p c a.offset s
-asked_is v p c k a lives s before d n e =
-    λ i. plain.grown (sym d.place i) a.offset (a.offset + n i) (unwrap_or (sym e i) (plain.opened c.server p.id.client (d.size i) (sym d.unsched i)))
-
-pub answered_is : (v : View) (p : Sent) (host peer : HostId) (a : Arrival) (size : ℕ) (s : spots.Spot) (before : Option plain.Part) → v.place ≡ a.place → v.settings.unsched ≡ a.unsched → p.to ≡ host → p.from ≡ peer → a.len ≡ length p.payload → s.response ≡ before
-    → more_of host peer a size before ≡ spots.part_with v p a.offset (plain.opened p.to p.from size v.settings.unsched) s.response
-answered_is v p host peer a size s before place free t f n e =
-    λ i. plain.grown (sym place i) a.offset (a.offset + n i) (unwrap_or (sym e i) (plain.opened (sym t i) (sym f i) size (sym free i)))
 
 -- ---- all of it
 
