@@ -19,16 +19,6 @@ pub struct Message {
     pub order: u64,
 }
 
-/// A GRANT of a host, as its line tells it.
-#[derive(Clone, Copy, Debug, PartialEq, Eq)]
-pub struct Grant {
-    pub to: HostId,
-    pub role: Role,
-    pub id: CallId,
-    pub offset: u32,
-    pub prio: u8,
-}
-
 impl Message {
     // It is chosen before another one: fewer of its bytes are missing, or as many, and it is older.
     fn is_before(&self, other: &Message) -> bool
@@ -37,13 +27,6 @@ impl Message {
         let own = self.length.saturating_sub(self.arrived);
         let its = other.length.saturating_sub(other.arrived);
         own < its || own == its && self.order < other.order
-    }
-
-    // The end that is granted to it where it is chosen.
-    fn new_end(&self, window: u32) -> u64
-        ensures { result ≡ min self.now.length (self.now.arrived + window) }
-    {
-        u64::from(self.length).min(u64::from(self.arrived) + u64::from(window))
     }
 }
 
@@ -129,18 +112,4 @@ pub fn choose(alloc: Global, messages: &[Message], k: usize) -> Result<Vec<Messa
         chosen.truncate(k);
     }
     Ok(chosen)
-}
-
-/// Whether a GRANT is one to these messages.
-pub fn is_granted(chosen: &[Message], window: u32, grant: &Grant) -> bool {
-    for (rank, message) in chosen.iter().enumerate() {
-        if message.role == grant.role && message.id == grant.id {
-            let end = message.new_end(window);
-            return u64::from(grant.offset) == end
-                && u64::from(message.granted) < end
-                && grant.to == message.peer
-                && grant.prio as usize == chosen.len() - 1 - rank;
-        }
-    }
-    false
 }

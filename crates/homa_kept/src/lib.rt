@@ -16,7 +16,7 @@ mod resends;
 mod spot;
 
 pub use call::{Call, Delivered, Lives, Run};
-pub use choice::{Grant, Message, choose, is_granted};
+pub use choice::{Message, choose};
 pub use packet::{Packet, Piece};
 pub use part::{Arrival, Part};
 pub use resends::Resends;
