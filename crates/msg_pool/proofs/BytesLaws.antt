@@ -67,7 +67,7 @@ same_bytes block next block' next' first count alike =
     (λ i k small h. alike i k small h ∙ sym (get-chain_bytes block next first count i k small h))
 
 -- a list of zeros has no other byte
-zero-replicate : (count j : ℕ) → slice_index (replicate count 0) j ≡ 0
+pub zero-replicate : (count j : ℕ) → slice_index (replicate count 0) j ≡ 0
 zero-replicate zero j = refl
 zero-replicate (suc count) zero = refl
 zero-replicate (suc count) (suc j) = zero-replicate count j

@@ -1,6 +1,7 @@
 pub mod WriteLaws
 pub mod ChainLaws
 pub mod BytesLaws
+pub mod StoredLaws
 pub mod LeaseLaws
 pub mod KeptLaws
 pub mod PoolLaws

@@ -1,4 +1,5 @@
 pub mod Bytes
+pub mod Stored
 pub mod Pages
 pub mod Pool
 pub mod Chains

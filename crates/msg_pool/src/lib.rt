@@ -6,6 +6,7 @@
 //! the leases and the free ones add up to all pages. Only `new` takes memory.
 #![tactic(auto)]
 
+mod block;
 mod pages;
 mod pool;
 mod scratch;

@@ -1,12 +1,10 @@
-//! The pages of a pool as one block of bytes, and their chains by a table of next pages.
+//! Chains of pages in a block, by a table of next pages.
 
 ghost use Rattle.std.specs.Prelude.{◌≡◌, ◌≢◌, ℕ, ◌+◌, ◌-◌, ◌*◌, ◌<◌, ◌≤◌, length, slice_index, vec_len, IfOk};
 ghost use Rattle.msg_pool.specs.Pages.{pages_for, byte_at, page_at, IsChain, HasNoRepeat};
 
+use crate::block::{Block, PAGE};
 use std::alloc::{AllocError, Global};
-
-/// How many bytes a page has.
-pub(crate) const PAGE: u32 = 4096;
 
 /// A chain of pages that holds `len` bytes, from the page `first` on.
 #[derive(Clone, Copy)]
@@ -28,43 +26,6 @@ pub(crate) fn linked(alloc: Global, pages: u32) -> Result<Vec<u32>, AllocError>
     Ok(next)
 }
 
-/// Writes bytes over those of a page from `place` on.
-fn put_piece(block: &mut Vec<u8>, page: u32, place: usize, piece: &[u8])
-    requires page { page * 4096 + 4096 ≤ vec_len block.old }
-    requires fits { place + length piece.now ≤ 4096 }
-    ensures len { vec_len block.new ≡ vec_len block.old }
-    ensures put { (k : ℕ) → k < length piece.now → byte_at block.new.items page (place + k) ≡ slice_index piece.now k }
-    ensures before { (k : ℕ) → k < place → byte_at block.new.items page k ≡ byte_at block.old.items page k }
-    ensures behind { (k : ℕ) → place + length piece.now ≤ k → byte_at block.new.items page k ≡ byte_at block.old.items page k }
-    ensures others { (q k : ℕ) → k < 4096 → q ≢ page → byte_at block.new.items q k ≡ byte_at block.old.items q k }
-{
-    let from = page as usize * PAGE as usize + place;
-    block[from..from + piece.len()].copy_from_slice(piece);
-}
-
-/// Makes each byte of a page zero.
-fn zero_page(block: &mut Vec<u8>, page: u32)
-    requires { page * 4096 + 4096 ≤ vec_len block.old }
-    ensures len { vec_len block.new ≡ vec_len block.old }
-    ensures zeros { (k : ℕ) → k < 4096 → byte_at block.new.items page k ≡ 0 }
-    ensures others { (q k : ℕ) → k < 4096 → q ≢ page → byte_at block.new.items q k ≡ byte_at block.old.items q k }
-{
-    let from = page as usize * PAGE as usize;
-    block[from..from + PAGE as usize].fill(0);
-}
-
-/// Copies the bytes of a page to those of a list from `from` on, as far as there are any.
-fn copy_piece(block: &[u8], page: u32, out: &mut [u8], from: usize)
-    requires page { page * 4096 + 4096 ≤ length block.now }
-    requires from { from ≤ length out.old }
-    ensures copied { (k : ℕ) → k < 4096 → from + k < length out.old → slice_index out.new (from + k) ≡ byte_at block.now page k }
-    ensures before { (k : ℕ) → k < from → slice_index out.new k ≡ slice_index out.old k }
-{
-    let count = (out.len() - from).min(PAGE as usize);
-    let start = page as usize * PAGE as usize;
-    out[from..from + count].copy_from_slice(&block[start..start + count]);
-}
-
 /// The page so many steps behind the first one of a chain.
 pub(crate) fn nth_page(next: &[u32], first: u32, steps: u32) -> u32
     requires { IsChain next.now first steps }
@@ -78,31 +39,31 @@ pub(crate) fn nth_page(next: &[u32], first: u32, steps: u32) -> u32
 }
 
 /// Makes each byte of so many pages of a chain zero, and returns the page behind them.
-pub(crate) fn zero_chain(block: &mut Vec<u8>, next: &[u32], first: u32, count: u32) -> u32
-    requires block { vec_len block.old ≡ length next.now * 4096 }
+pub(crate) fn zero_chain(block: &mut Block, next: &[u32], first: u32, count: u32) -> u32
+    requires block { length block.old ≡ length next.now * 4096 }
     requires chain { IsChain next.now first count }
     ensures page { result ≡ page_at next.now first count }
-    ensures len { vec_len block.new ≡ vec_len block.old }
-    ensures zeros { (i k : ℕ) → i < count → k < 4096 → byte_at block.new.items (page_at next.now first i) k ≡ 0 }
-    ensures kept { (q k : ℕ) → k < 4096 → ((i : ℕ) → i < count → q ≢ page_at next.now first i) → byte_at block.new.items q k ≡ byte_at block.old.items q k }
+    ensures len { length block.new ≡ length block.old }
+    ensures zeros { (i k : ℕ) → i < count → k < 4096 → byte_at block.new (page_at next.now first i) k ≡ 0 }
+    ensures kept { (q k : ℕ) → k < 4096 → ((i : ℕ) → i < count → q ≢ page_at next.now first i) → byte_at block.new q k ≡ byte_at block.old q k }
 {
     let mut page = first;
     for _ in 0..count {
-        zero_page(block, page);
+        block.zero_page(page);
         page = next[page as usize];
     }
     page
 }
 
 /// Writes bytes over those of a chain of pages from `offset` on.
-pub(crate) fn write_chain(block: &mut Vec<u8>, next: &[u32], first: u32, offset: u32, bytes: &[u8])
+pub(crate) fn write_chain(block: &mut Block, next: &[u32], first: u32, offset: u32, bytes: &[u8])
     requires size { offset + length bytes.now ≤ 1000000 }
-    requires block { vec_len block.old ≡ length next.now * 4096 }
+    requires block { length block.old ≡ length next.now * 4096 }
     requires chain { IsChain next.now first (pages_for (offset + length bytes.now)) }
     requires apart { HasNoRepeat next.now first (pages_for (offset + length bytes.now)) }
-    ensures len { vec_len block.new ≡ vec_len block.old }
-    ensures written { (i k : ℕ) → k < 4096 → offset ≤ i * 4096 + k → i * 4096 + k < offset + length bytes.now → byte_at block.new.items (page_at next.now first i) k ≡ slice_index bytes.now (i * 4096 + k - offset) }
-    ensures kept { (q k : ℕ) → k < 4096 → ((i : ℕ) → offset ≤ i * 4096 + k → i * 4096 + k < offset + length bytes.now → q ≢ page_at next.now first i) → byte_at block.new.items q k ≡ byte_at block.old.items q k }
+    ensures len { length block.new ≡ length block.old }
+    ensures written { (i k : ℕ) → k < 4096 → offset ≤ i * 4096 + k → i * 4096 + k < offset + length bytes.now → byte_at block.new (page_at next.now first i) k ≡ slice_index bytes.now (i * 4096 + k - offset) }
+    ensures kept { (q k : ℕ) → k < 4096 → ((i : ℕ) → offset ≤ i * 4096 + k → i * 4096 + k < offset + length bytes.now → q ≢ page_at next.now first i) → byte_at block.new q k ≡ byte_at block.old q k }
 {
     let end = offset + bytes.len() as u32;
     let mut page = nth_page(next, first, offset / PAGE);
@@ -111,13 +72,13 @@ pub(crate) fn write_chain(block: &mut Vec<u8>, next: &[u32], first: u32, offset:
         let from = offset.max(start);
         let to = end.min(start + PAGE);
         let piece = &bytes[(from - offset) as usize..(to - offset) as usize];
-        put_piece(block, page, (from - start) as usize, piece);
+        block.put_piece(page, (from - start) as usize, piece);
         page = next[page as usize];
     }
 }
 
 /// Copies the bytes of a chain of pages to a list, as many as it has.
-pub(crate) fn copy_chain(block: &[u8], next: &[u32], first: u32, out: &mut [u8])
+pub(crate) fn copy_chain(block: &Block, next: &[u32], first: u32, out: &mut [u8])
     requires size { length out.old ≤ 1000000 }
     requires block { length block.now ≡ length next.now * 4096 }
     requires chain { IsChain next.now first (pages_for (length out.old)) }
@@ -126,7 +87,7 @@ pub(crate) fn copy_chain(block: &[u8], next: &[u32], first: u32, out: &mut [u8])
     let count = (out.len() as u32).div_ceil(PAGE);
     let mut page = first;
     for i in 0..count {
-        copy_piece(block, page, out, (i * PAGE) as usize);
+        block.copy_piece(page, out, (i * PAGE) as usize);
         page = next[page as usize];
     }
 }

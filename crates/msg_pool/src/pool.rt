@@ -6,7 +6,8 @@ ghost use Rattle.msg_pool.specs.Bytes.{overwritten};
 ghost use Rattle.msg_pool.specs.Pages.{pages_for};
 ghost use Rattle.msg_pool.specs.Pool.{leased_pages, free_pages, bytes_of, IsLeaseOf, with_bytes, without};
 
-use crate::pages::{Chain, PAGE, copy_chain, linked, nth_page, write_chain, zero_chain};
+use crate::block::{Block, PAGE};
+use crate::pages::{Chain, copy_chain, linked, nth_page, write_chain, zero_chain};
 use slab::Slab;
 use std::alloc::{AllocError, Global};
 use std::marker::Model;
@@ -15,7 +16,7 @@ use std::marker::Model;
 #[derive(Drop)]
 pub struct MsgPool {
     // The bytes of all pages.
-    block: Vec<u8>,
+    block: Block,
     // For each page the next one of its chain.
     next: Vec<u32>,
     // The first of the free pages, which are a chain.
@@ -36,9 +37,9 @@ impl Model for MsgPool {
     ghost use Rattle.std.specs.Prelude.{length};
     ghost use Rattle.msg_pool.specs.Chains.{leases_of, AreKept};
 
-    ghost view = { λ p. record { pages = length p.next.items; leases = leases_of p.block.items p.next.items p.chains } };
+    ghost view = { λ p. record { pages = length p.next.items; leases = leases_of p.block p.next.items p.chains } };
 
-    ghost invariant = { λ p. AreKept p.block.items p.next.items p.head p.free p.chains };
+    ghost invariant = { λ p. AreKept p.block p.next.items p.head p.free p.chains };
 }
 
 /// The right to some bytes of a pool. A lease that is dropped keeps its pages from the pool.
@@ -88,7 +89,7 @@ impl MsgPool {
         ensures pages { IfOk result (λ pool. pool.pages ≡ pages) }
         ensures no_lease { IfOk result (λ pool. pool.leases ≡ empty) }
     {
-        let block = vec![in alloc; 0; (pages * PAGE) as usize]?;
+        let block = Block::new(alloc, pages)?;
         let next = linked(alloc, pages)?;
         let chains = Slab::with_capacity(alloc, pages as usize)?;
         Ok(MsgPool {

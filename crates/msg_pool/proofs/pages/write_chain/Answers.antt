@@ -10,7 +10,7 @@ loop-i-preserved c =
     let page : ℕ → ℕ = page_at c.args.next.now c.args.first in
     let source : ℕ → ℕ = slice_index c.args.bytes.now in
     let order : c.max-from.result ≤ c.min-to.result = omega (arith, c.max-from.ensures, c.min-to.ensures) in
-    let piece : IsPiece page source (byte_at c.loop-i.block.items) (byte_at c.put_piece.new.block.items) c.loop-i.page c.loop-i.i c.args.offset (c.args.offset + length c.args.bytes.now) c.max-from.result c.min-to.result = record {
+    let piece : IsPiece page source (byte_at c.loop-i.block) (byte_at c.put_piece.new.self) c.loop-i.page c.loop-i.i c.args.offset (c.args.offset + length c.args.bytes.now) c.max-from.result c.min-to.result = record {
       is_here = c.loop-i.invariant.page;
       is_from = c.max-from.ensures;
       is_to = c.min-to.ensures;
@@ -27,6 +27,6 @@ loop-i-preserved c =
     record {
       page = grind (arith, common_steps, c.loop-i.invariant.page);
       len = grind (arith, common_steps);
-      written = written page source (byte_at c.args.block.now.items) _ _ _ _ _ _ _ _ piece apart c.loop-i.invariant.written;
-      kept = kept page source (byte_at c.args.block.now.items) _ _ _ _ _ _ _ _ piece c.loop-i.invariant.kept;
+      written = written page source (byte_at c.args.block.now) _ _ _ _ _ _ _ _ piece apart c.loop-i.invariant.written;
+      kept = kept page source (byte_at c.args.block.now) _ _ _ _ _ _ _ _ piece c.loop-i.invariant.kept;
     }
