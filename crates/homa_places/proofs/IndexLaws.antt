@@ -1,5 +1,5 @@
 -- The places of an index and the free ones are all places, each once.
-use Rattle.std.proofs.Common.{◌≡◌, ℕ, zero, suc, ◌+◌, ◌<◌, ◌≤◌, ◌==◌, true, false, cond, T, List, [], ◌∷◌, ◌++◌, length, get_or, map, refl, sym, ap, subst, ◌∙◌, arith, add-zero, zero-add, add-one, Some, None, Result, Ok, Err}
+use Rattle.std.proofs.Common.{◌≡◌, ℕ, zero, suc, ◌+◌, ◌<◌, ◌≤◌, ◌==◌, true, false, cond, Bool, T, List, [], ◌∷◌, ◌++◌, length, get_or, map, refl, sym, ap, subst, ◌∙◌, arith, add-zero, zero-add, add-one, Some, None, Result, Ok, Err}
 use Rattle.std.specs.List.{Contains, range_with_len, sum_by, filter, insert as insert_at, remove as remove_at}
 use Rattle.std.specs.List.Sorted.{IsPermutation, IsSearchInRange, IsBinarySearchResult}
 use Rattle.std.specs.Result.{MatchResult}
@@ -192,9 +192,31 @@ all_given room at free id n all e =
     (IsPermutation-trans _ _ _ to_front
     (subst (IsPermutation (n ∷ (values (remove at id) ++ free))) (append_assoc (values (remove at id)) free (n ∷ [])) (IsPermutation-sym _ _ (IsPermutation-to_front (values (remove at id) ++ free) n))))
 
--- at first all places are free
-pub open_kept : (room : ℕ) (index : List (CallId × ℕ)) (free : List ℕ) → index ≡ [] → free ≡ range_with_len 0 room → AreKept room index free
-open_kept room index free none all = rw (none, all) (record { rising = tt; all = rw values-nil (IsPermutation-refl (range_with_len 0 room)) })
+-- at first no place was ever taken
+pub open_kept : (index : List (CallId × ℕ)) (free : List ℕ) → index ≡ [] → free ≡ [] → AreKept 0 index free
+open_kept index free none no_free = rw (none, no_free) (record { rising = tt; all = rw values-nil (IsPermutation-refl []) })
+
+-- the next place may join the free ones
+pub kept_more : (more : Bool) (used new_used : ℕ) (index : List (CallId × ℕ)) (free new_free : List ℕ) → new_free ≡ cond more (free ++ used ∷ []) free → new_used ≡ cond more (used + 1) used
+    → AreKept used index free → AreKept new_used index new_free
+kept_more false used new_used index free new_free e f kept = rw (e, f) kept
+kept_more true used new_used index free new_free e f kept =
+    rw (e, f) (record {
+      rising = kept.rising;
+      all = rw (numbers_more used, sym (append_assoc (values (map_of index)) free (used ∷ []))) (IsPermutation-append_left (used ∷ []) (range_with_len 0 used) (values (map_of index) ++ free) kept.all);
+    })
+
+-- and is one of the room where there is one left
+pub used_within : (n used new_used room : ℕ) → new_used ≡ cond (n == 0) (used + 1) used → used ≤ room → (n ≡ 0 → used + 1 ≤ room) → new_used ≤ room
+used_within n used new_used room e h left =
+    elim (n == 0) as (λ b. (n == 0) ≡ b → new_used ≡ cond b (used + 1) used → new_used ≤ room) [
+      | true ↦ λ t f. let l = left (eqb-true n 0 t) in omega arith
+      | false ↦ λ t f. omega arith
+    ] refl e
+
+-- places below fewer are below more
+pub places_within : (used room : ℕ) (at : RowsOf ℕ) → used ≤ room → ArePlaces used at → ArePlaces room at
+places_within used room at h are = record { within = λ q n e. let l = are.within q n e in omega arith; apart = are.apart }
 
 -- a call took the last free place
 pub kept_taken : (room : ℕ) (index new_index : List (CallId × ℕ)) (free rest : List ℕ) (id : CallId) (i place : ℕ) → AreKept room index free → IsGap call_cmp index id i

@@ -1,8 +1,8 @@
 -- The rows of spots: what stands in a spot is the row of its call, and a change of one spot is that of one row.
-use Rattle.std.proofs.Common.{◌≡◌, ℕ, zero, suc, ◌+◌, ◌<◌, true, false, cond, List, [], ◌∷◌, length, get_or, set, replicate, refl, sym, ap, subst, ◌∙◌, arith, inl, inr, Option, Some, None, IsSome}
+use Rattle.std.proofs.Common.{◌≡◌, ℕ, zero, suc, ◌+◌, ◌<◌, true, false, cond, List, [], ◌∷◌, length, get_or, set, replicate, refl, sym, ap, subst, ◌∙◌, arith, inl, inr, Option, Some, None, IsSome, ◌≤◌, ◌++◌}
 use Rattle.std.specs.Option.{option_map}
 use Rattle.std.proofs.lemmas.Bool.{true≢false, cases_lt, cases_eq}
-use Rattle.std.proofs.lemmas.List.{length-replicate, get_or_default, get_or_past, get_or-set_same, get_or-set_other, length-set}
+use Rattle.std.proofs.lemmas.List.{get_or_default, get_or_past, get_or-set_same, get_or-set_other, length-set}
 use Rattle.core.specs.FinMap.Entries.{find}
 use Rattle.plain_sets.specs.Maps.{empty, from_entries, get, insert, remove, len}
 use Rattle.plain_sets.proofs.MapLaws.{get-empty, get-insert, get-remove, get-from_entries, same_map}
@@ -104,7 +104,7 @@ module _ {R : Type 0} where
 
     pub rows_placed : ArePlaced taken.room (rows_of spots)
     rows_placed = record {
-      within = λ q x e. let l = spot_within q x.row x.place (stands-get spots q x e) in omega (arith, are.spots_are);
+      within = λ q x e. let l = spot_within q x.row x.place (stands-get spots q x e) in omega (arith, are.few);
       apart = λ p q x y e f at. same_call p q x.row y.row (sym (stands-get spots p x e) ∙ ap (λ n. get_or spots n Free) at ∙ stands-get spots q y f);
     }
 
@@ -213,16 +213,26 @@ module _ {R : Type 0} where
   free-at (suc n) zero = refl
   free-at (suc n) (suc m) = free-at n m
 
-  pub rows-none : (spots : List (Spot R)) (n : ℕ) → spots ≡ replicate n Free → rows_of spots ≡ empty
-  unfolding rows_of
-  rows-none spots n e = ap rows_of e ∙ ap (λ es. from_entries es) (free-placed n 0)
+  more-placed : (spots : List (Spot R)) (n k : ℕ) → placed_from k (spots ++ free_spots n) ≡ placed_from k spots
+  more-placed [] n k = free-placed n k
+  more-placed (Free ∷ spots) n k = more-placed spots n (suc k)
+  more-placed (Of id row ∷ spots) n k = ap (λ es. (id, record { place = k; row = row }) ∷ es) (more-placed spots n (suc k))
 
-  pub spots-none : (taken : Taken) (spots : List (Spot R)) (room : ℕ) → taken ≡ record { room = room; at = empty } → spots ≡ replicate room Free → AreSpots taken spots
+  pub more-at : (spots : List (Spot R)) (n m : ℕ) → get_or (spots ++ free_spots n) m Free ≡ get_or spots m Free
+  more-at [] n m = free-at n m
+  more-at (s ∷ spots) n zero = refl
+  more-at (s ∷ spots) n (suc m) = more-at spots n m
+
+  pub rows-none : (spots : List (Spot R)) → spots ≡ [] → rows_of spots ≡ empty
+  unfolding rows_of
+  rows-none spots e = ap rows_of e
+
+  pub spots-none : (taken : Taken) (spots : List (Spot R)) (room : ℕ) → taken ≡ record { room = room; at = empty } → spots ≡ [] → AreSpots taken spots
   spots-none taken spots room t e =
       rw (t, e) (record {
-        spots_are = length-replicate room Free;
+        few = omega arith;
         stands = λ q n some. absurd (nothing n (sym (get-empty call_cmp q) ∙ some));
-        found = λ q n some. absurd (no_call q (sym (ap call_in (free-at room n)) ∙ some));
+        found = λ q n some. absurd (no_call q some);
       }) where
         nothing : (n : ℕ) → None ≡ Some n → ⊥
         nothing n e = cc
@@ -230,12 +240,27 @@ module _ {R : Type 0} where
         no_call : (q : CallId) → None ≡ Some q → ⊥
         no_call q e = cc
 
+  -- more free spots behind the last leave all rows
+  pub rows-more : (spots : List (Spot R)) (n : ℕ) → rows_of (spots ++ free_spots n) ≡ rows_of spots
+  unfolding rows_of
+  rows-more spots n = ap (λ es. from_entries es) (more-placed spots n 0)
+
+  -- so the table stands
+  pub stored : (taken : Taken) (spots more : List (Spot R)) (n : ℕ) → more ≡ spots ++ replicate n Free → AreSpots taken spots → length more ≤ taken.room → AreSpots taken more
+  stored taken spots more n e are few =
+      let same : (m : ℕ) → get_or more m Free ≡ get_or spots m Free = λ m. ap (λ s. get_or s m Free) e ∙ more-at spots n m in
+      record {
+        few = few;
+        stands = λ q m at. ap call_in (same m) ∙ are.stands q m at;
+        found = λ q m at. are.found q m (sym (ap call_in (same m)) ∙ at);
+      }
+
   -- a free spot takes a call's row
-  pub spots-insert : (taken : Taken) (spots : List (Spot R)) (id : CallId) (n : ℕ) (row : R) → AreSpots taken spots → get taken.at id ≡ None → n < taken.room → IsFreePlace taken.at n
+  pub spots-insert : (taken : Taken) (spots : List (Spot R)) (id : CallId) (n : ℕ) (row : R) → AreSpots taken spots → get taken.at id ≡ None → n < length spots → IsFreePlace taken.at n
       → AreSpots (record taken { at = insert taken.at id n }) (set spots n (Of id row))
-  spots-insert taken spots id n row are none within free =
-      let l : n < length spots = omega (arith, are.spots_are) in record {
-        spots_are = length-set spots n (Of id row) ∙ are.spots_are;
+  spots-insert taken spots id n row are none l free =
+      record {
+        few = omega (arith, length-set spots n (Of id row), are.few);
         stands = λ q m e. elim (one_call q id) [
           | inl is ↦
               let at : n ≡ m = same_some n m (sym (get-insert_here taken.at id n) ∙ ap (get (insert taken.at id n)) (sym is) ∙ e) in
@@ -261,7 +286,7 @@ module _ {R : Type 0} where
       → AreSpots (record taken { at = remove taken.at id }) (set spots n Free)
   spots-remove taken spots id n row are here =
       let l : n < length spots = spot_within taken spots are id row n here in record {
-        spots_are = length-set spots n Free ∙ are.spots_are;
+        few = omega (arith, length-set spots n Free, are.few);
         stands = λ q m e. elim (one_call q id) [
           | inl is ↦ absurd (nothing m (sym (get-remove_here taken.at id) ∙ ap (get (remove taken.at id)) (sym is) ∙ e))
           | inr ne ↦
@@ -290,17 +315,16 @@ module _ {R : Type 0} where
         | inl at ↦ ap (call_of (set spots n (Of id new))) at ∙ ap call_in (get_or-set_same spots n (Of id new) Free l) ∙ sym (ap (call_of spots) at ∙ ap call_in here)
         | inr off ↦ ap call_in (get_or-set_other spots n m (Of id new) Free off)
       ] in record {
-        spots_are = length-set spots n (Of id new) ∙ are.spots_are;
+        few = omega (arith, length-set spots n (Of id new), are.few);
         stands = λ q m e. same m ∙ are.stands q m e;
         found = λ q m e. are.found q m (sym (same m) ∙ e);
       }
 
   module _ (taken : Taken) (spots : List (Spot R)) (id : CallId) (n : ℕ) (row : R) (are : AreSpots taken spots) where
     -- the rows after each change
-    pub rows-insert : get taken.at id ≡ None → n < taken.room → IsFreePlace taken.at n → rows_of (set spots n (Of id row)) ≡ insert (rows_of spots) id (record { place = n; row = row })
-    rows-insert none within free =
-        let l : n < length spots = omega (arith, are.spots_are) in
-        rows-put taken (record taken { at = insert taken.at id n }) spots (set spots n (Of id row)) n id are (spots-insert taken spots id n row are none within free)
+    pub rows-insert : get taken.at id ≡ None → n < length spots → IsFreePlace taken.at n → rows_of (set spots n (Of id row)) ≡ insert (rows_of spots) id (record { place = n; row = row })
+    rows-insert none l free =
+        rows-put taken (record taken { at = insert taken.at id n }) spots (set spots n (Of id row)) n id are (spots-insert taken spots id n row are none l free)
         (λ m off. get_or-set_other spots n m (Of id row) Free off) (λ q r e. absurd (free_not_of q r (sym (free-is taken spots are n free) ∙ e))) row (get_or-set_same spots n (Of id row) Free l)
 
     module _ (here : get_or spots n Free ≡ Of id row) where

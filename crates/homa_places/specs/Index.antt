@@ -30,7 +30,7 @@ pub record ArePlaces (room : ℕ) (at : RowsOf ℕ) : Type 0 where
 abbrev pub IsFreePlace : RowsOf ℕ → ℕ → Type 0
 IsFreePlace at place = (q : CallId) → get at q ≡ Some place → ⊥
 
--- the calls of the index rise, and its places and the free ones are all places, each once
-pub record AreKept (room : ℕ) (index : List (CallId × ℕ)) (free : List ℕ) : Type 0 where
+-- the calls of the index rise, and its places and the free ones are the first so many places, each once
+pub record AreKept (used : ℕ) (index : List (CallId × ℕ)) (free : List ℕ) : Type 0 where
   pub rising : T (rises call_cmp index)
-  pub all : IsPermutation (range_with_len 0 room) (values (map_of index) ++ free)
+  pub all : IsPermutation (range_with_len 0 used) (values (map_of index) ++ free)

@@ -1,5 +1,5 @@
--- The spots of a table: one for each place, free or with the row of a call.
-use Rattle.std.specs.Prelude.{◌≡◌, ℕ, suc, Option, Some, None, List, [], ◌∷◌, length, slice_index_or}
+-- The spots of a table, the first for place 0: each free or with the row of a call. A place behind the last is free.
+use Rattle.std.specs.Prelude.{◌≡◌, ◌≤◌, ℕ, suc, Option, Some, None, List, [], ◌∷◌, length, slice_index_or}
 use Rattle.plain_sets.specs.Maps.{from_entries, get}
 use Rattle.homa_plain.specs.declared.id.CallId.{CallId}
 use Rattle.homa_plain.specs.Rows.{RowsOf}
@@ -43,8 +43,8 @@ module _ {R : Type 0} where
   abbrev pub call_of : List (Spot R) → ℕ → Option CallId
   call_of spots n = call_in (slice_index_or spots n Free)
 
-  -- there is a spot for each place, and the spot at a call's place is that call's
+  -- there are no more spots than places, and the spot at a call's place is that call's
   pub record AreSpots (taken : Taken) (spots : List (Spot R)) : Type 0 where
-    pub spots_are : length spots ≡ taken.room
+    pub few : length spots ≤ taken.room
     pub stands : (q : CallId) (n : ℕ) → get taken.at q ≡ Some n → call_of spots n ≡ Some q
     pub found : (q : CallId) (n : ℕ) → call_of spots n ≡ Some q → get taken.at q ≡ Some n

@@ -1,5 +1,5 @@
 //! Which place each call has, and which places are free.
-ghost use Rattle.std.specs.Prelude.{◌≡◌, ◌<◌, ◌≤◌, None, IfOk, IsSome};
+ghost use Rattle.std.specs.Prelude.{◌≡◌, ◌<◌, ◌≤◌, ◌+◌, ◌^◌, ◌==◌, if◌then◌else◌, ◌∷◌, [], ◌++◌, None, IfOk, IsSome, vec_len, vec_capacity};
 ghost use Rattle.plain_sets.specs.Maps.{empty, get, insert, remove, len};
 ghost use Rattle.homa_places.specs.Index.{IsFreePlace, ArePlaces};
 
@@ -11,7 +11,9 @@ use std::marker::Model;
 #[derive(Drop)]
 pub struct Places {
     index: Vec<(CallId, u32)>,
+    // The places that were given back. Those from `used` on were never taken.
     free: Vec<u32>,
+    used: u32,
     room: u32,
 }
 
@@ -27,7 +29,7 @@ impl Model for Places {
 
     ghost view = { λ p. record { room = p.room; at = map_of p.index.items } };
 
-    ghost invariant = { λ p. AreKept p.room p.index.items p.free.items × (p.room ≤ vec_capacity p.index) × (p.room ≤ vec_capacity p.free) };
+    ghost invariant = { λ p. AreKept p.used p.index.items p.free.items × (p.used ≤ p.room) × (p.room ≤ vec_capacity p.index) × (p.room ≤ vec_capacity p.free) };
 }
 
 impl Places {
@@ -36,11 +38,13 @@ impl Places {
         ensures { IfOk result (λ p. p ≡ record { room = room; at = empty }) }
     {
         let index = Vec::with_capacity(alloc, room as usize)?;
-        let mut free = Vec::with_capacity(alloc, room as usize)?;
-        for place in 0..room {
-            free.push_reserved(place);
-        }
-        Ok(Places { index, free, room })
+        let free = Vec::with_capacity(alloc, room as usize)?;
+        Ok(Places {
+            index,
+            free,
+            used: 0,
+            room,
+        })
     }
 
     /// The place of a call, if it has one.
@@ -61,6 +65,7 @@ impl Places {
         ensures within { result < self.old.room }
         ensures free { IsFreePlace self.old.at result }
     {
+        have_free(&mut self.free, &mut self.used);
         let place = self.free.pop().unwrap();
         match self.index.binary_search_by_key(&id, |e| e.0) {
             Ok(_) => unreachable!(),
@@ -95,5 +100,20 @@ impl Places {
     {
         let _fits = self.room;
         self.index.len() as u32
+    }
+}
+
+// Where no place was given back, the first one that was never taken joins the free ones.
+fn have_free(free: &mut Vec<u32>, used: &mut u32)
+    requires room { 0 < vec_capacity free.old }
+    requires left { vec_len free.old ≡ 0 → used.old + 1 < 2 ^ 32 }
+    ensures free { free.new.items ≡ (if vec_len free.old == 0 then free.old.items ++ used.old ∷ [] else free.old.items) }
+    ensures used { used.new ≡ (if vec_len free.old == 0 then used.old + 1 else used.old) }
+    ensures some { 0 < vec_len free.new }
+    ensures capacity { vec_capacity free.new ≡ vec_capacity free.old }
+{
+    if free.is_empty() {
+        free.push_reserved(*used);
+        *used += 1;
     }
 }

@@ -1,10 +1,11 @@
 //! Rows of calls at fixed places.
-ghost use Rattle.std.specs.Prelude.{◌≡◌, ◌<◌, ◌≤◌, Some, None, IfOk, IfSome, IfNone, IsSome};
+ghost use Rattle.std.specs.Prelude.{◌≡◌, ◌<◌, ◌≤◌, ◌+◌, ◌-◌, ◌++◌, max, replicate, Some, None, IfOk, IfSome, IfNone, IsSome, vec_len, vec_capacity};
 ghost use Rattle.std.specs.Option.{option_map};
 ghost use Rattle.std.specs.Borrow.{Lends, sem};
 ghost use Rattle.plain_sets.specs.Maps.{empty, get, insert, remove, len};
 ghost use Rattle.homa_places.specs.Placed.{StandsAt, IsFree, ArePlaced, spot_at};
 ghost use Rattle.homa_places.specs.Spots.{row_in, with_row};
+ghost use Rattle.homa_places.specs.declared.table.Spot.TheVariants.{Free};
 
 use crate::index::Places;
 use homa_plain::CallId;
@@ -17,6 +18,7 @@ use std::mem;
 #[derive(Drop)]
 pub struct Rows<R> {
     places: Places,
+    // What stands at each place up to the last that was ever taken.
     spots: Vec<Spot<R>>,
 }
 
@@ -34,11 +36,12 @@ impl<R> Model for Rows<R> {
 
     ghost coded = { table_code R.code };
 
+    ghost use Rattle.std.specs.Prelude.{◌≤◌, vec_capacity};
     ghost use Rattle.homa_places.specs.Spots.{rows_of, AreSpots};
 
     ghost view = { λ r. record { room = r.places.room; rows = rows_of r.spots.items } };
 
-    ghost invariant = { λ r. AreSpots r.places r.spots.items };
+    ghost invariant = { λ r. AreSpots r.places r.spots.items × (r.places.room ≤ vec_capacity r.spots) };
 }
 
 impl<R> Spot<R> {
@@ -64,10 +67,7 @@ impl<R> Rows<R> {
         ensures { IfOk result (λ t. t ≡ record { room = room; rows = empty }) }
     {
         let places = Places::open(alloc, room)?;
-        let mut spots = Vec::with_capacity(alloc, room as usize)?;
-        for _place in 0..room {
-            spots.push_reserved(Spot::Free);
-        }
+        let spots = Vec::with_capacity(alloc, room as usize)?;
         Ok(Rows { places, spots })
     }
 
@@ -112,6 +112,7 @@ impl<R> Rows<R> {
         ensures free { IsFree self.old.rows result }
     {
         let place = self.places.take(id);
+        store_spot(&mut self.spots, place);
         let free = mem::replace(&mut self.spots[place as usize], Spot::Of(id, row));
         match free {
             Spot::Free => place,
@@ -144,5 +145,18 @@ impl<R> Rows<R> {
     {
         let _spots = &self.spots;
         self.places.len()
+    }
+}
+
+// Stores free spots up to a place, where there are fewer.
+fn store_spot<R>(spots: &mut Vec<Spot<R>>, place: u32)
+    requires { place < vec_capacity spots.old }
+    ensures spots { spots.new.items ≡ spots.old.items ++ replicate (place + 1 - vec_len spots.old) Free }
+    ensures stored { place < vec_len spots.new }
+    ensures len { vec_len spots.new ≡ max (vec_len spots.old) (place + 1) }
+    ensures capacity { vec_capacity spots.new ≡ vec_capacity spots.old }
+{
+    for _ in spots.len()..place as usize + 1 {
+        spots.push_reserved(Spot::Free);
     }
 }

@@ -12,7 +12,7 @@ push_reserved-requires c =
     let by_key = c.binary_search_by_key.ensures.position (λ e. e.0) (answers_always _ _ _ (λ f a r g called. search rules)) in
     let at = found_at index.items c.deref.result.now kept.rising c.args.id c.binary_search_by_key.result c.in-Ok.i c.binary_search_by_key.ensures.bound by_key c.deref.ensures.value c.in-Ok.is in
     let l : c.in-Ok.i < length index.items = at.within in
-    omega (arith, free.ok.0, c.self.invariant.2, len-map_of index.items kept.rising, counted c.self.inside.room (map_of index.items) free.items kept.all)
+    omega (arith, free.ok.0, c.self.invariant.3, c.self.invariant.1, len-map_of index.items kept.rising, counted c.self.inside.used (map_of index.items) free.items kept.all)
 
 pub invariant_of-self : goal.invariant_of-self
 invariant_of-self c =
@@ -20,9 +20,10 @@ invariant_of-self c =
     let kept = c.self.invariant.0 in
     let by_key = c.binary_search_by_key.ensures.position (λ e. e.0) (answers_always _ _ _ (λ f a r g called. search rules)) in
     let at = found_at index c.deref.result.now kept.rising c.args.id c.binary_search_by_key.result c.in-Ok.i c.binary_search_by_key.ensures.bound by_key c.deref.ensures.value c.in-Ok.is in (
-      kept_given c.self.inside.room index c.remove-place.new.self.items c.self.inside.free.items c.push_reserved.new.self.items c.args.id c.in-Ok.i c.remove-place.result kept at c.remove-place.ensures.value c.remove-place.ensures.items c.push_reserved.ensures.items,
-      omega (arith, c.self.invariant.1, c.remove-place.ensures.capacity),
-      omega (arith, c.self.invariant.2, c.push_reserved.ensures.capacity),
+      kept_given c.self.inside.used index c.remove-place.new.self.items c.self.inside.free.items c.push_reserved.new.self.items c.args.id c.in-Ok.i c.remove-place.result kept at c.remove-place.ensures.value c.remove-place.ensures.items c.push_reserved.ensures.items,
+      c.self.invariant.1,
+      omega (arith, c.self.invariant.2, c.remove-place.ensures.capacity),
+      omega (arith, c.self.invariant.3, c.push_reserved.ensures.capacity),
     )
 
 pub unreachable-requires : goal.unreachable-requires
