@@ -20,8 +20,8 @@ const ID: CallId = CallId {
     seq: 7,
 };
 
-// The place that the usual table gives first.
-const LAST: u32 = 1023;
+// The place that a new table gives first.
+const FIRST: u32 = 0;
 
 // A packet of the call.
 fn packet(body: Body) -> Packet
@@ -114,9 +114,9 @@ fn one_call(rt: HostRuntime) -> Result<(), Fail> {
         &mut suite,
         &mut scratch,
     )?;
-    assert_eq!(rt; first, ServerDid::Opened(LAST));
+    assert_eq!(rt; first, ServerDid::Opened(FIRST));
     assert_eq!(rt; table.rows(), 1);
-    assert_eq!(rt; table.find(ID), Some(LAST));
+    assert_eq!(rt; table.find(ID), Some(FIRST));
     let last = table.receive(
         rt.alloc(),
         FROM,
@@ -129,7 +129,7 @@ fn one_call(rt: HostRuntime) -> Result<(), Fail> {
         &mut scratch,
     )?;
     let ran = ServerDid::Ran {
-        slot: LAST,
+        slot: FIRST,
         opened: false,
         hold: 0,
     };
@@ -145,7 +145,7 @@ fn one_call(rt: HostRuntime) -> Result<(), Fail> {
     assert_eq!(rt; table.emit(slot, 12, 4), Emitted::Short);
     let slot = table.find(ID).expect(&rt, "a row");
     assert_eq!(rt; table.emit(slot, 12, 5), Emitted::Sent(0, 5));
-    assert_eq!(rt; table.ack(ID, 13), Some((LAST, 33)));
+    assert_eq!(rt; table.ack(ID, 13), Some((FIRST, 33)));
     assert_eq!(rt; table.response(ID), None);
     assert_eq!(rt; table.rows(), 1);
     Ok(())
@@ -170,7 +170,7 @@ fn a_grant_and_a_tombstone(rt: HostRuntime) -> Result<(), Fail> {
         &mut suite,
         &mut scratch,
     )?;
-    assert_eq!(rt; first, ServerDid::Opened(LAST));
+    assert_eq!(rt; first, ServerDid::Opened(FIRST));
     let slot = table.find(ID).expect(&rt, "a row");
     assert_eq!(rt; table.deadline(slot), Some(14));
     assert!(rt; grant_if_more(&mut table, slot, 12000, 11));
@@ -201,7 +201,7 @@ fn a_held_reply(rt: HostRuntime) -> Result<(), Fail> {
         &mut scratch,
     )?;
     let ran = ServerDid::Ran {
-        slot: LAST,
+        slot: FIRST,
         opened: true,
         hold: 10,
     };
