@@ -1,17 +1,15 @@
 -- The entries of a world's last event.
-use Rattle.std.proofs.Common.{◌≡◌, ◌<◌, ◌≤◌, ℕ, zero, suc, ◌+◌, ◌-◌, Option, Some, None, List, [], ◌∷◌, ◌++◌, length, get_or, refl, sym, ap, subst, ◌∙◌, arith}
+use Rattle.std.proofs.Common.{◌≡◌, ◌<◌, ℕ, zero, suc, Option, Some, None, List, [], ◌∷◌, length, get_or, refl, subst}
 use Rattle.std.specs.Prelude.{map, slice_get}
 use Rattle.std.specs.List.{AllByRecursion}
-use Rattle.std.specs.Option.{option_map}
 use Rattle.std.proofs.lemmas.Option.{slice_get_read}
 use Rattle.plain_sets.proofs.MapMembers.{same_some}
 use Rattle.homa_plain.specs.declared.packet.Packet.{Packet as WirePacket}
-use Rattle.homa_plain.specs.Entries.{PlainEntry}
 use Rattle.homa_seen.specs.declared.mark.Mark.{Mark}
 use Rattle.homa_seen.specs.declared.mark.Mark.TheVariants as mark
 use Rattle.homa_seen.specs.declared.outbox.SentFrame.{SentFrame}
 use Rattle.homa_seen.specs.Frames.{read_line, line_of, packet_of}
-use Rattle.homa_seen.specs.Marks.{shown, shown_entries}
+use Rattle.homa_seen.specs.Marks.{shown}
 use Rattle.homa_seen.specs.Seen.{Seen}
 use Rattle.homa_text.specs.Told.{HasLine}
 use Rattle.homa_stage.specs.declared.stage.Stage.{Stage}

@@ -1,12 +1,11 @@
 -- Hosts in their first life, one after the other.
-use Rattle.std.proofs.Common.{◌≡◌, ℕ, zero, suc, ◌+◌, List, [], ◌∷◌, ◌++◌, refl, sym, ap, subst, ◌∙◌, arith}
+use Rattle.std.proofs.Common.{◌≡◌, ℕ, zero, suc, ◌+◌, List, [], ◌∷◌, ◌++◌, refl, sym, ap, ◌∙◌, arith}
 use Rattle.std.specs.Prelude.{map, replicate}
-use Rattle.homa_plain.specs.declared.id.HostId.{HostId}
 use Rattle.homa_plain.specs.declared.settings.Settings.{Settings}
 use Rattle.homa_plain.specs.Host.{new_host}
 use Rattle.homa_plain.specs.World.{new_hosts}
 use Rattle.homa_seen.specs.Seen.{Seen}
-use Rattle.homa_stage.specs.Staged.{Known, known, known_in, first_known}
+use Rattle.homa_stage.specs.Staged.{known, known_in, first_known}
 
 one_more : (s : Settings) (n i : ℕ) → map (known_in s) (new_hosts s n (replicate (suc i) 1)) ≡ map (known_in s) (new_hosts s n (replicate i 1)) ++ known_in s (new_host s (record { 0 = n + i }) 1 0) ∷ []
 one_more s n zero = ap (λ m. known_in s (new_host s (record { 0 = m }) 1 0) ∷ []) (omega (arith))

@@ -1,5 +1,5 @@
 -- A host that is read and written at its place.
-use Rattle.std.proofs.Common.{◌≡◌, ◌<◌, ℕ, zero, suc, Option, Some, None, List, [], ◌∷◌, length, get_or, refl, sym, ap, subst, ◌∙◌, arith, Bool, true, false, true≢false, ◌↔◌}
+use Rattle.std.proofs.Common.{◌≡◌, ◌<◌, ℕ, zero, suc, Option, Some, None, List, [], ◌∷◌, length, get_or, refl, sym, ap, subst, ◌∙◌, Bool, true, false, true≢false, ◌↔◌}
 use Rattle.std.specs.Prelude.{IfSome, IfErr, OnOk, OnErr, IsErr, is_err, Result, Ok, Err, map, slice_get, slice_set}
 use Rattle.std.proofs.lemmas.Option.{slice_get_read}
 use Rattle.homa_seen.specs.Seen.{Seen}

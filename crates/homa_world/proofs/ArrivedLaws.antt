@@ -1,6 +1,6 @@
 -- A datagram that comes to a host is an event of the world.
 use Rattle.std.proofs.Common.{◌≡◌, ◌≢◌, ◌<◌, ◌≤◌, ℕ, zero, suc, ◌+◌, ◌*◌, ◌^◌, Bool, true, false, cond, Option, Some, None, List, [], ◌∷◌, ◌++◌, length, refl, sym, ap, subst, ◌∙◌, arith, true≢false}
-use Rattle.std.specs.Prelude.{map, slice_get, slice_set, slice_index_or, is_some, IsSome, IfSome, ◌==◌, ◌&&◌, nat_lt}
+use Rattle.std.specs.Prelude.{map, slice_get, slice_index_or, is_some, IsSome, IfSome, ◌==◌, ◌&&◌, nat_lt}
 use Rattle.std.specs.List.{AllByRecursion}
 use Rattle.std.specs.Option.{option_map}
 use Rattle.std.proofs.lemmas.List.{length-map}
@@ -23,11 +23,9 @@ use Rattle.homa_plain.specs.Steps.{Work, arrival_step, is_stale}
 use Rattle.homa_plain.specs.World.{World as PlainWorld, SentPacket, Refused, host_at, own_clock, is_late, delivered, arrives_at, outcome, stranger}
 use Rattle.homa_seen.specs.Seen.{Seen}
 use Rattle.homa_seen.specs.Done.{arriving}
-use Rattle.homa_seen.specs.Frames.{IsFormed}
 use Rattle.homa_service.specs.Table.{place_of}
-use Rattle.homa_packets.specs.declared.packets.Packets.{Packets}
 use Rattle.homa_packets.specs.Blocks.{Frame}
-use Rattle.homa_packets.specs.Kept.{KeptPacket, WholePacket, LatePacket, StalePacket}
+use Rattle.homa_packets.specs.Kept.{WholePacket, LatePacket, StalePacket}
 use Rattle.homa_packets.specs.Olds.{TellsClock}
 use Rattle.homa_packets.specs.All.{kept_all, settings_of}
 use Rattle.homa_replay.specs.Playing.{IsApplied, IsNotApplied}
@@ -40,7 +38,7 @@ use Rattle.world_events.specs.Named.{IsOwnStep}
 use Rattle.world_events.specs.Apart.{IsApartStep}
 use Rattle.world_events.specs.Stepping.{answering, IsStepWith, IsRefusal}
 use Rattle.homa_stage.specs.declared.stage.Stage.{Stage}
-use Rattle.homa_stage.specs.Staged.{Known, known, known_of, hosts_of, seats_of, spares_of, HasCome, HasNotCome}
+use Rattle.homa_stage.specs.Staged.{Known, known, hosts_of, seats_of, spares_of, HasCome, HasNotCome}
 use Rattle.homa_stage.proofs.StageLaws.{map_at}
 use Rattle.homa_world.specs.declared.parts.First.{First}
 use Rattle.homa_world.specs.declared.parts.First.TheVariants as first
@@ -48,7 +46,7 @@ use Rattle.homa_world.specs.declared.parts.Last.TheVariants as last
 use Rattle.homa_world.specs.declared.parts.WorldParts.{WorldParts}
 use Rattle.homa_world.specs.Arrived.{HasArrived}
 use Rattle.homa_world.specs.Boxes.{Allows, counted, all_counted, may_tell}
-use Rattle.homa_world.specs.Packed.{frame_kept, IsShort, IsFromHost}
+use Rattle.homa_world.specs.Packed.{frame_kept, IsShort}
 use Rattle.homa_world.specs.Standing.{StandsFor, HostFits, SeatFits, IsKept, IsLast, Applies, Refuses, StillStands, first_told, told_of, may_tell_of}
 use Rattle.homa_world.proofs.KeptLaws.{refused_by, set_fits}
 use Rattle.homa_world.proofs.PackedLaws.{seen_as, shown_length}

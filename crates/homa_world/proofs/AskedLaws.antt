@@ -1,6 +1,6 @@
 -- The lines of a step that may ask a box, and what the boxes may tell behind them.
-use Rattle.std.proofs.Common.{◌≡◌, ◌≢◌, ◌<◌, ◌≤◌, ℕ, zero, suc, ◌+◌, Bool, true, false, cond, Option, Some, None, List, [], ◌∷◌, ◌++◌, length, refl, sym, ap, subst, ◌∙◌, arith}
-use Rattle.std.specs.Prelude.{map, slice_set, slice_get, slice_index_or, IfSome}
+use Rattle.std.proofs.Common.{◌≡◌, ◌≤◌, ℕ, zero, suc, ◌+◌, Bool, true, false, cond, Option, Some, None, List, [], ◌∷◌, ◌++◌, refl, sym, ap, subst, ◌∙◌, arith}
+use Rattle.std.specs.Prelude.{map, slice_set, slice_get, IfSome}
 use Rattle.std.specs.Option.{option_map}
 use Rattle.std.specs.List.{AllByRecursion}
 use Rattle.homa_plain.specs.declared.id.HostId.{HostId}
@@ -8,7 +8,6 @@ use Rattle.homa_plain.specs.declared.settings.Settings.{Settings}
 use Rattle.homa_plain.specs.declared.packet.Packet.{Packet as WirePacket}
 use Rattle.homa_plain.specs.Entries.{PlainEntry, PlainRun, PlainRestart}
 use Rattle.homa_plain.specs.Host.{Told, Says, Sends, entries_from}
-use Rattle.homa_plain.specs.Steps.{has_run}
 use Rattle.homa_seen.specs.declared.mark.Mark.{Mark}
 use Rattle.homa_seen.specs.declared.mark.Mark.TheVariants.{Called, Junk, Stale, Balanced, Ran, Done, Failed, Dropped, TooManyGaps, Entombed, Freed, NoRow, NoPages, Sent}
 use Rattle.homa_seen.specs.declared.outbox.SentFrame.{SentFrame}
@@ -17,8 +16,7 @@ use Rattle.homa_seen.specs.Seen.{Seen}
 use Rattle.homa_seen.specs.Marks.{shown, has_ran, IsAllowed}
 use Rattle.homa_service.specs.Table.{place_of, last_of, front_of}
 use Rattle.homa_steps.specs.StepLaws.{run_count}
-use Rattle.world_events.specs.Named.{IsOfStep}
-use Rattle.homa_world.specs.Boxes.{Allows, MayTell, seats_after, spares_after, may_tell}
+use Rattle.homa_world.specs.Boxes.{Allows, may_tell}
 
 -- ---- `run` lines among entries
 

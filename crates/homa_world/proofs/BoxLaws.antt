@@ -1,15 +1,11 @@
 -- What the boxes may tell, over the lines of a step.
-use Rattle.std.proofs.Common.{◌≡◌, ◌≢◌, ◌<◌, ◌≤◌, ℕ, zero, suc, ◌+◌, Bool, true, false, cond, Option, Some, None, List, [], ◌∷◌, ◌++◌, length, refl, sym, ap, subst, ◌∙◌, arith, inl, inr}
-use Rattle.std.specs.Prelude.{Contains, map, slice_set, slice_index_or, IfSome}
-use Rattle.std.specs.Option.{option_map}
+use Rattle.std.proofs.Common.{◌≡◌, ℕ, suc, true, false, Option, List, [], ◌∷◌, ◌++◌}
 use Rattle.std.specs.List.{AllByRecursion}
-use Rattle.homa_plain.specs.declared.id.CallId.{CallId}
-use Rattle.homa_plain.specs.declared.id.HostId.{HostId}
 use Rattle.homa_plain.specs.Entries.{PlainEntry, PlainRun, PlainRestart}
 use Rattle.homa_plain.specs.Host.{Told, Says, Sends, entries_from}
 use Rattle.homa_plain.specs.Steps.{has_run}
 use Rattle.world_events.specs.Named.{IsOfStep}
-use Rattle.homa_world.specs.Boxes.{Allows, MayTell, seats_after, spares_after, may_tell}
+use Rattle.homa_world.specs.Boxes.{Allows, may_tell}
 
 module _ {A : Type 0} (allows : Allows A) (spares : List (A × ℕ)) where
   -- lines without an answer and without a restart

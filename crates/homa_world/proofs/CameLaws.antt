@@ -1,16 +1,16 @@
 -- A packet that comes to a host, whose box may be asked, is an event of the world.
-use Rattle.std.proofs.Common.{◌≡◌, ◌≢◌, ◌<◌, ◌≤◌, ℕ, zero, suc, ◌+◌, ◌*◌, ◌^◌, Bool, true, false, cond, Option, Some, None, List, [], ◌∷◌, ◌++◌, length, refl, sym, ap, subst, ◌∙◌, arith, append_assoc, get_or}
-use Rattle.std.specs.Prelude.{map, slice_get, slice_set, slice_index_or, IfSome}
+use Rattle.std.proofs.Common.{◌≡◌, ◌<◌, ◌≤◌, ℕ, zero, suc, ◌+◌, ◌^◌, Bool, true, false, cond, Option, Some, None, List, [], ◌∷◌, ◌++◌, length, refl, sym, ap, subst, ◌∙◌, arith, append_assoc}
+use Rattle.std.specs.Prelude.{map, slice_get, slice_set, slice_index_or}
 use Rattle.std.specs.Option.{option_map}
 use Rattle.std.specs.List.{AllByRecursion}
-use Rattle.std.proofs.lemmas.List.{map-set, length-map, set-get_or}
+use Rattle.std.proofs.lemmas.List.{map-set}
 use Rattle.homa_plain.specs.declared.id.HostId.{HostId}
 use Rattle.homa_plain.specs.declared.event.Event.{Event}
 use Rattle.homa_plain.specs.Entries.{PlainEntry}
-use Rattle.homa_plain.specs.Packets.{Packet, sender, receiver}
+use Rattle.homa_plain.specs.Packets.{Packet}
 use Rattle.homa_plain.specs.Host.{Told, Says, Sends, entries_from}
 use Rattle.homa_plain.specs.Rules.{Answer}
-use Rattle.homa_plain.specs.Steps.{Work, arrival_step, has_run}
+use Rattle.homa_plain.specs.Steps.{Work, arrival_step}
 use Rattle.homa_plain.specs.World.{World as PlainWorld, Outcome, Done, outcome}
 use Rattle.homa_seen.specs.Seen.{Seen}
 use Rattle.homa_seen.specs.Marks.{has_ran, shown_entries}
@@ -31,7 +31,7 @@ use Rattle.homa_world.specs.declared.parts.First.TheVariants as first
 use Rattle.homa_world.specs.declared.parts.Last.TheVariants as last
 use Rattle.homa_world.specs.declared.parts.WorldParts.{WorldParts}
 use Rattle.homa_world.specs.Boxes.{Allows, all_counted, counted, may_tell}
-use Rattle.homa_stage.specs.Staged.{Known, known, known_of, hosts_of, seats_of, spares_of, HasCome, HasNotCome}
+use Rattle.homa_stage.specs.Staged.{known, hosts_of, seats_of, spares_of, HasCome}
 use Rattle.homa_world.specs.Packed.{frame_kept}
 use Rattle.homa_world.specs.Standing.{StandsFor, IsKept, SeatFits, told_of, may_tell_of, first_told}
 use Rattle.homa_world.proofs.StepLaws.{stands_after, told_after, kept_after}
@@ -51,14 +51,14 @@ module _ {A : Type 0} (allows : Allows A) where
   first_tell id (first.Delivered n) bytes seats spares es a = (tt, a)
   first_tell id first.Injected bytes seats spares es a = (tt, a)
 
-  place_counted : (served : A → ℕ) (xs : List (Option A)) (i : ℕ) (x : A) → place_of xs i ≡ Some x → place_of (all_counted served xs) i ≡ Some (counted served x)
+  pub place_counted : (served : A → ℕ) (xs : List (Option A)) (i : ℕ) (x : A) → place_of xs i ≡ Some x → place_of (all_counted served xs) i ≡ Some (counted served x)
   place_counted served [] i x e = absurd (no e) where
     no : None ≡ Some x → ⊥
     no e = cc
   place_counted served (y ∷ xs) zero x e = ap (option_map (counted served)) e
   place_counted served (y ∷ xs) (suc i) x e = place_counted served xs i x e
 
-  same_set : (xs : List (Option (A × ℕ))) (i : ℕ) (x : A × ℕ) → place_of xs i ≡ Some x → slice_set xs i (Some x) ≡ xs
+  pub same_set : (xs : List (Option (A × ℕ))) (i : ℕ) (x : A × ℕ) → place_of xs i ≡ Some x → slice_set xs i (Some x) ≡ xs
   same_set [] i x e = refl
   same_set (y ∷ xs) zero x e = ap (λ z. z ∷ xs) (sym e)
   same_set (y ∷ xs) (suc i) x e = ap (λ zs. y ∷ zs) (same_set xs i x e)

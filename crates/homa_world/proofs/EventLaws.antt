@@ -1,6 +1,6 @@
 -- Events that are steps of hosts, from the world before to the world after.
-use Rattle.std.proofs.Common.{◌≡◌, ◌≢◌, ◌<◌, ◌≤◌, ℕ, zero, suc, ◌+◌, ◌*◌, ◌^◌, Bool, true, false, Option, Some, None, List, [], ◌∷◌, ◌++◌, length, refl, sym, ap, subst, ◌∙◌, arith}
-use Rattle.std.specs.Prelude.{map, slice_get, slice_set, slice_index_or, is_some, IfSome, IsTrue, ◌↔◌, ◌==◌, nat_lt, nat_le, if◌then◌else◌, Result, Ok, Err, OnOk, is_err}
+use Rattle.std.proofs.Common.{◌≡◌, ◌≢◌, ◌<◌, ◌≤◌, ℕ, zero, suc, ◌+◌, ◌^◌, Bool, true, false, Option, Some, None, List, [], ◌∷◌, ◌++◌, length, refl, sym, ap, subst, ◌∙◌, arith}
+use Rattle.std.specs.Prelude.{map, slice_get, slice_index_or, is_some, IfSome, IsTrue, ◌↔◌, ◌==◌, nat_lt, nat_le, if◌then◌else◌}
 use Rattle.std.specs.List.{AllByRecursion}
 use Rattle.std.proofs.lemmas.List.{length-map}
 use Rattle.homa_plain.specs.declared.id.HostId.{HostId}
@@ -14,9 +14,8 @@ use Rattle.plain_sets.specs.Maps.{len}
 use Rattle.homa_plain.specs.Calls.{is_host}
 use Rattle.homa_plain.proofs.CallOrder.{hosts_are}
 use Rattle.homa_plain.specs.Host.{Host}
-use Rattle.homa_plain.specs.Settings.{IsValid, band}
 use Rattle.homa_plain.specs.Steps.{Work, has_run, turn_step, call_step, start_fault}
-use Rattle.homa_plain.specs.World.{World as PlainWorld, host_at, own_clock, last_tick}
+use Rattle.homa_plain.specs.World.{World as PlainWorld, host_at, own_clock}
 use Rattle.homa_seen.specs.Seen.{Seen}
 use Rattle.homa_service.specs.Table.{place_of}
 use Rattle.homa_packets.specs.All.{kept_all, settings_of, open_tick}
@@ -28,10 +27,9 @@ use Rattle.world_events.proofs.Names.{call_named, turn_named}
 use Rattle.world_events.proofs.Apart.{call_apart, turn_apart}
 use Rattle.world_events.proofs.Events as events
 use Rattle.world_events.specs.Named.{IsOwnStep}
-use Rattle.world_events.specs.Apart.{IsApart, IsApartStep}
+use Rattle.world_events.specs.Apart.{IsApartStep}
 use Rattle.world_events.specs.Stepping.{IsStepBy, IsRefusal}
 use Rattle.homa_stage.specs.declared.stage.Stage.{Stage}
-use Rattle.homa_world.specs.declared.parts.First.{First}
 use Rattle.homa_world.specs.declared.parts.First.TheVariants as first
 use Rattle.homa_world.specs.declared.parts.Last.TheVariants as last
 use Rattle.homa_world.specs.declared.parts.WorldParts.{WorldParts}

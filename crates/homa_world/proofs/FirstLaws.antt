@@ -1,5 +1,5 @@
 -- The worlds with which a replay begins.
-use Rattle.std.proofs.Common.{◌≡◌, ◌<◌, ◌≤◌, ℕ, zero, suc, ◌+◌, ◌-◌, ◌*◌, Option, Some, None, List, [], ◌∷◌, length, refl, sym, ap, subst, ◌∙◌, arith}
+use Rattle.std.proofs.Common.{◌≡◌, ◌<◌, ◌≤◌, ℕ, zero, suc, ◌+◌, ◌-◌, ◌*◌, Some, None, List, [], ◌∷◌, length, refl, sym, ap, subst, ◌∙◌, arith}
 use Rattle.std.specs.Prelude.{map, take, drop, replicate, slice_get, slice_index_or}
 use Rattle.std.specs.List.{AllByRecursion}
 use Rattle.std.proofs.lemmas.List.{length-map}
@@ -9,7 +9,7 @@ use Rattle.homa_plain.specs.declared.settings.Settings.{Settings}
 use Rattle.homa_plain.specs.Settings.{IsValid, band}
 use Rattle.homa_plain.specs.Host.{Host, new_host}
 use Rattle.homa_plain.specs.Entries.{PlainEntry, PlainSettings}
-use Rattle.homa_plain.specs.World.{World as PlainWorld, new_world, new_hosts}
+use Rattle.homa_plain.specs.World.{new_world, new_hosts}
 use Rattle.homa_service.specs.Table.{place_of}
 use Rattle.homa_packets.specs.All.{kept_all, settings_of}
 use Rattle.homa_stage.specs.Staged.{Known, known_of, known_in, first_known, seats_of, spares_of}

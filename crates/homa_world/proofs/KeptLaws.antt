@@ -1,6 +1,6 @@
 -- What is so between two events stays so.
-use Rattle.std.proofs.Common.{Bool, true, false, ◌≡◌, ◌≢◌, ◌<◌, ◌≤◌, ℕ, zero, suc, ◌+◌, ◌*◌, Option, Some, None, List, [], ◌∷◌, ◌++◌, length, refl, sym, ap, subst, ◌∙◌, arith}
-use Rattle.std.specs.Prelude.{map, slice_get, slice_set, slice_index_or}
+use Rattle.std.proofs.Common.{true, false, ◌≡◌, ◌≢◌, ◌≤◌, ℕ, zero, suc, ◌+◌, Option, Some, List, [], ◌∷◌, length, refl, sym, ap, subst, ◌∙◌, arith}
+use Rattle.std.specs.Prelude.{slice_set, slice_index_or}
 use Rattle.std.specs.List.{AllByRecursion}
 use Rattle.homa_plain.specs.declared.id.HostId.{HostId}
 use Rattle.homa_plain.specs.declared.settings.Settings.{Settings}
@@ -15,11 +15,10 @@ use Rattle.homa_packets.specs.declared.packets.Packets.{Packets}
 use Rattle.homa_packets.specs.Kept.{AllAged}
 use Rattle.homa_packets.specs.All.{kept_all, settings_of}
 use Rattle.world_laws.proofs.Sent.{read}
-use Rattle.homa_world.specs.declared.parts.Last.{Last}
 use Rattle.homa_world.specs.declared.parts.Last.TheVariants as last
 use Rattle.homa_world.specs.declared.parts.WorldParts.{WorldParts}
-use Rattle.homa_stage.specs.Staged.{Known, known_of, seats_of, spares_of}
-use Rattle.homa_world.specs.Standing.{StandsFor, HostFits, SeatFits, IsKept, IsLast}
+use Rattle.homa_stage.specs.Staged.{Known, seats_of, spares_of}
+use Rattle.homa_world.specs.Standing.{StandsFor, HostFits, SeatFits, IsKept}
 use Rattle.homa_world.proofs.PackedLaws.{shown_later, shown_aged, froms_aged, aged_length}
 
 pub fits_later : (s : Settings) (now later a b n : ℕ) (id : HostId) (k : Known) → now ≤ later → a ≤ b → HostFits s now a n id k → HostFits s later b n id k

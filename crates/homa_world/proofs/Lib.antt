@@ -12,3 +12,5 @@ pub mod RestLaws
 pub mod ArrivedLaws
 pub mod FirstLaws
 pub mod BytesLaws
+pub mod AllowLaws
+pub mod LookLaws

@@ -1,11 +1,11 @@
 -- What is kept of packets, as time goes on and more are sent.
-use Rattle.std.proofs.Common.{◌≡◌, ◌≢◌, ◌<◌, ◌≤◌, ℕ, zero, suc, ◌+◌, ◌*◌, Option, Some, None, List, [], ◌∷◌, ◌++◌, length, refl, sym, ap, subst, ◌∙◌, arith}
+use Rattle.std.proofs.Common.{◌≡◌, ◌≢◌, ◌<◌, ◌≤◌, ℕ, zero, suc, Some, None, List, [], ◌∷◌, ◌++◌, length, refl, sym, ap, subst, ◌∙◌, arith}
 use Rattle.std.specs.Prelude.{map, slice_get}
 use Rattle.std.specs.List.{AllByRecursion}
 use Rattle.homa_plain.specs.declared.id.HostId.{HostId}
 use Rattle.homa_plain.specs.declared.packet.Packet.{Packet as WirePacket}
 use Rattle.homa_plain.specs.declared.settings.Settings.{Settings}
-use Rattle.homa_plain.specs.Wire.{packet_in, IsWellFormed}
+use Rattle.homa_plain.specs.Wire.{packet_in}
 use Rattle.homa_plain.specs.Packets.{Packet, sender, receiver, datagram, wire_packet}
 use Rattle.homa_plain.specs.World.{SentPacket, stamped}
 use Rattle.homa_seen.specs.Frames.{frames_of, IsFormed}

@@ -1,28 +1,23 @@
 -- A host's clock that is set, and a host that restarts.
-use Rattle.std.proofs.Common.{◌≡◌, ◌≢◌, ◌<◌, ◌≤◌, ℕ, zero, suc, ◌+◌, ◌-◌, ◌*◌, ◌^◌, Bool, true, false, Option, Some, None, List, [], ◌∷◌, ◌++◌, length, refl, sym, ap, subst, ◌∙◌, arith}
+use Rattle.std.proofs.Common.{◌≡◌, ◌<◌, ◌≤◌, ℕ, zero, suc, ◌+◌, ◌-◌, Bool, true, false, Some, None, List, [], ◌∷◌, length, refl, sym, ap, subst, ◌∙◌, arith}
 use Rattle.std.specs.Prelude.{map, take, slice_get, slice_set, slice_index_or}
 use Rattle.std.specs.List.{AllByRecursion}
 use Rattle.std.specs.Option.{option_map}
 use Rattle.std.specs.Vec.{with_item}
 use Rattle.std.proofs.lemmas.List.{map-set, length-map}
 use Rattle.homa_plain.specs.declared.id.HostId.{HostId}
-use Rattle.homa_plain.specs.declared.settings.Settings.{Settings}
 use Rattle.homa_plain.specs.declared.event.Event.TheVariants as event
 use Rattle.homa_plain.specs.declared.fault.WorldFault.{WorldFault}
 use Rattle.homa_plain.specs.declared.fault.WorldFault.TheVariants as fault
-use Rattle.homa_plain.specs.Settings.{IsValid, band}
+use Rattle.homa_plain.specs.Settings.{band}
 use Rattle.homa_plain.specs.Calls.{is_host}
-use Rattle.homa_plain.specs.Host.{Host, new_host}
-use Rattle.homa_plain.specs.Entries.{PlainShift, PlainRestart}
-use Rattle.homa_plain.specs.World.{World as PlainWorld, host_at, last_tick}
+use Rattle.homa_plain.specs.Host.{new_host}
 use Rattle.homa_plain.proofs.CallOrder.{hosts_are}
 use Rattle.homa_moves.proofs.Hosts.{there, elsewhere, length-set, within, apart as apart_of}
 use Rattle.homa_seen.specs.Seen.{Seen}
 use Rattle.homa_service.specs.Table.{place_of, last_of, front_of}
 use Rattle.homa_replay.specs.Playing.{IsNotApplied, is_memory}
 use Rattle.plain_sets.proofs.MapLaws.{get-empty}
-use Rattle.homa_told.specs.Told.{HasOwnName}
-use Rattle.world_events.specs.Apart.{IsApart}
 use Rattle.world_events.specs.Stepping.{IsRefusal, restarted_world, shifted_world}
 use Rattle.world_events.proofs.Events as events
 use Rattle.homa_stage.specs.declared.stage.Stage.{Stage}
@@ -31,10 +26,10 @@ use Rattle.homa_world.specs.declared.parts.WorldParts.{WorldParts}
 use Rattle.homa_world.specs.Boxes.{Allows, counted, all_counted, may_tell}
 use Rattle.homa_stage.specs.Staged.{Known, known, known_of, hosts_of, seats_of, spares_of}
 use Rattle.homa_stage.specs.Restarted.{IsAny, HasRestarted, HasNoSpare}
-use Rattle.homa_world.specs.Standing.{StandsFor, HostFits, SeatFits, IsKept, Applies, Refuses}
+use Rattle.homa_world.specs.Standing.{HostFits, SeatFits, IsKept, Applies, Refuses}
 use Rattle.homa_stage.proofs.StageLaws.{map_at}
-use Rattle.homa_world.proofs.KeptLaws.{fits_later, seat_later, spares_later, refused_by, no_memory}
-use Rattle.homa_world.proofs.EventLaws.{IsAt, found, host_there}
+use Rattle.homa_world.proofs.KeptLaws.{fits_later, seat_later, spares_later, refused_by}
+use Rattle.homa_world.proofs.EventLaws.{host_there}
 
 -- ---- lists
 

@@ -1,21 +1,18 @@
 -- A step of a host is an event of the world.
-use Rattle.std.proofs.Common.{◌≡◌, ◌≢◌, ◌<◌, ◌≤◌, ℕ, zero, suc, ◌+◌, ◌*◌, ◌^◌, Bool, true, false, cond, Option, Some, None, List, [], ◌∷◌, ◌++◌, length, refl, sym, ap, subst, ◌∙◌, arith}
-use Rattle.std.specs.Prelude.{map, slice_get, slice_set, slice_index_or, IfSome}
+use Rattle.std.proofs.Common.{◌≡◌, ◌≢◌, ◌<◌, ◌≤◌, ℕ, zero, suc, ◌+◌, ◌^◌, Bool, true, false, Some, None, List, [], ◌∷◌, ◌++◌, length, refl, sym, ap, subst, ◌∙◌, arith}
+use Rattle.std.specs.Prelude.{map, slice_get, slice_set, slice_index_or}
 use Rattle.std.specs.List.{AllByRecursion}
 use Rattle.std.proofs.lemmas.List.{map-set, length-map, length-append}
 use Rattle.homa_plain.specs.declared.id.HostId.{HostId}
 use Rattle.homa_plain.specs.declared.settings.Settings.{Settings}
-use Rattle.homa_plain.specs.declared.event.Event.{Event}
-use Rattle.homa_plain.specs.Entries.{PlainEntry, PlainRun, PlainSend}
-use Rattle.homa_plain.specs.Packets.{Packet, sender, receiver, datagram, wire_packet}
-use Rattle.homa_plain.specs.Host.{Host, Told, Says, Sends, packets_in, entries_from}
-use Rattle.homa_plain.specs.Steps.{Work, has_run}
-use Rattle.homa_plain.specs.World.{World as PlainWorld, SentPacket, stamped}
+use Rattle.homa_plain.specs.Entries.{PlainEntry, PlainSend}
+use Rattle.homa_plain.specs.Packets.{Packet, sender, receiver, wire_packet}
+use Rattle.homa_plain.specs.Host.{Told, Says, Sends, packets_in, entries_from}
+use Rattle.homa_plain.specs.Steps.{Work}
+use Rattle.homa_plain.specs.World.{World as PlainWorld, stamped}
 use Rattle.homa_plain.proofs.WireLengths.{spelling_fits, longest_fits}
 use Rattle.homa_seen.specs.Seen.{Seen}
 use Rattle.homa_seen.specs.Frames.{frames_of, IsFormed}
-use Rattle.homa_seen.specs.Marks.{shown_entries}
-use Rattle.homa_seen.specs.Done.{IsDone, HoldsSent}
 use Rattle.homa_service.specs.Table.{place_of}
 use Rattle.homa_packets.specs.declared.packets.Packets.{Packets}
 use Rattle.homa_packets.specs.All.{kept_all, settings_of}

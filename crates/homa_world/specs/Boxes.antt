@@ -1,5 +1,5 @@
 -- What boxes may answer, by the lines that are told.
-use Rattle.std.specs.Prelude.{◌≡◌, ℕ, ◌+◌, Option, None, Some, IfSome, List, [], ◌∷◌, map, slice_set}
+use Rattle.std.specs.Prelude.{ℕ, ◌+◌, Option, IfSome, List, [], ◌∷◌, map, slice_set}
 use Rattle.std.specs.Option.{option_map}
 use Rattle.homa_plain.specs.Entries.{PlainEntry, PlainRun, PlainRestart}
 use Rattle.homa_service.specs.Table.{place_of, last_of, front_of}

@@ -4,3 +4,4 @@ pub mod Standing
 pub mod Arrived
 pub mod First
 pub mod Unasked
+pub mod Passing

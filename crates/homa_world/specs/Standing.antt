@@ -1,5 +1,5 @@
 -- Which plain worlds a world may be, what it tells of its last event, and what is so of it between two events.
-use Rattle.std.specs.Prelude.{◌≡◌, ◌≤◌, ◌<◌, ◌+◌, ◌*◌, ◌^◌, ℕ, Option, None, Some, List, [], ◌∷◌, ◌++◌, length, map, slice_get, slice_index_or}
+use Rattle.std.specs.Prelude.{◌≡◌, ◌≤◌, ◌<◌, ◌+◌, ◌*◌, ◌^◌, ℕ, Option, Some, List, [], ◌∷◌, ◌++◌, length, map, slice_get, slice_index_or}
 use Rattle.std.specs.List.{AllByRecursion}
 use Rattle.homa_plain.specs.declared.id.HostId.{HostId}
 use Rattle.homa_plain.specs.declared.settings.Settings.{Settings}
@@ -14,7 +14,6 @@ use Rattle.homa_service.specs.Table.{place_of}
 use Rattle.homa_packets.specs.All.{kept_all, settings_of}
 use Rattle.world_events.specs.Named.{numbered}
 use Rattle.world_events.specs.Apart.{IsApart}
-use Rattle.homa_stage.specs.declared.stage.Stage.{Stage}
 use Rattle.homa_world.specs.declared.parts.First.{First}
 use Rattle.homa_world.specs.declared.parts.First.TheVariants as first
 use Rattle.homa_world.specs.declared.parts.Last.{Last}
@@ -95,6 +94,10 @@ module _ {S : Type 0} (served : S → ℕ) (allows : Allows S) where
   -- an event was applied: the plain world's outcome
   abbrev pub Applies : WorldParts S → WorldParts S → Happening → Type 0
   Applies old new e = (w : PlainWorld) → StandsFor old w → IsApplied old.settings w e (StandsFor new) (told_of new) (may_tell_of served allows old) (may_tell_of served allows new)
+
+  -- the boxes may answer no more than before
+  abbrev pub AllowsNoMore : WorldParts S → WorldParts S → Type 0
+  AllowsNoMore old new = (told : List PlainEntry) → may_tell_of served allows new told → may_tell_of served allows old told
 
 -- an event wasn't applied: the plain world refuses it, or there is no memory
 abbrev pub Refuses : {S : Type 0} → WorldParts S → Happening → WorldFault → Type 0

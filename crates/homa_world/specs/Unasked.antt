@@ -1,5 +1,5 @@
 -- Lines that show no answer are allowed by every box.
-use Rattle.std.specs.Prelude.{◌≡◌, ℕ, Option, Some, List, [], ◌∷◌, map, take, drop, slice_set, refl}
+use Rattle.std.specs.Prelude.{◌≡◌, ℕ, Option, Some, List, [], ◌∷◌, map, take, drop, slice_set}
 use Rattle.homa_plain.specs.Entries.{PlainEntry, PlainSettings, PlainRun, PlainRestart}
 use Rattle.homa_service.specs.Table.{last_of, front_of}
 use Rattle.homa_replay.specs.Stream.{shown}

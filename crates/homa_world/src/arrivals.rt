@@ -8,7 +8,7 @@ ghost use Rattle.homa_packets.specs.Kept.{StalePacket};
 ghost use Rattle.homa_packets.specs.Olds.{TellsClock};
 ghost use Rattle.homa_world.specs.declared.parts.Last.TheVariants as last;
 ghost use Rattle.homa_world.specs.Arrived.{HasArrived};
-ghost use Rattle.homa_world.specs.Standing.{IsKept, Applies, Refuses, StillStands};
+ghost use Rattle.homa_world.specs.Standing.{IsKept, Applies, Refuses, StillStands, AllowsNoMore};
 
 use crate::parts::{First, WorldParts, clock_of};
 use homa_packets::Kept;
@@ -25,6 +25,7 @@ impl<S: Service> WorldParts<S> {
         ensures done { OnOk result (Applies S.served S.allows self.old self.new (record { event = event.Deliver number; bytes = [] })) }
         ensures fault { IfErr result (λ fault. Refuses self.old (record { event = event.Deliver number; bytes = [] }) fault) }
         ensures still { OnErr result (StillStands self.old self.new) }
+        ensures allows { OnErr result (AllowsNoMore S.served S.allows self.old self.new) }
         ensures kept { IsKept S.served self.new }
         ensures settings { self.new.settings ≡ self.old.settings }
         ensures counted { self.new.applied ≤ self.old.applied + 1 }
@@ -47,6 +48,7 @@ impl<S: Service> WorldParts<S> {
         ensures same { self.new ≡ record self.old { stage = self.new.stage } }
         ensures kept { OnErr result (IsKept S.served self.new) }
         ensures still { OnErr result (StillStands self.old self.new) }
+        ensures allows { OnErr result (AllowsNoMore S.served S.allows self.old self.new) }
     {
         let (to, at) = match self.packets.get(number) {
             None => return Err(WorldFault::NoSuchPacket),
@@ -100,6 +102,7 @@ impl<S: Service> WorldParts<S> {
         ensures same { self.new ≡ record self.old { stage = self.new.stage } }
         ensures kept { OnErr result (IsKept S.served self.new) }
         ensures still { OnErr result (StillStands self.old self.new) }
+        ensures allows { OnErr result (AllowsNoMore S.served S.allows self.old self.new) }
     {
         if !self.stage.has(to) {
             return Err(WorldFault::NoSuchHost);
@@ -122,6 +125,7 @@ impl<S: Service> WorldParts<S> {
         ensures done { OnOk result (Applies S.served S.allows self.old self.new (record { event = event.Inject host; bytes = bytes.now })) }
         ensures fault { IfErr result (λ fault. Refuses self.old (record { event = event.Inject host; bytes = bytes.now }) fault) }
         ensures still { OnErr result (StillStands self.old self.new) }
+        ensures allows { OnErr result (AllowsNoMore S.served S.allows self.old self.new) }
         ensures kept { IsKept S.served self.new }
         ensures settings { self.new.settings ≡ self.old.settings }
         ensures counted { self.new.applied ≤ self.old.applied + 1 }

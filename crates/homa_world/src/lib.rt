@@ -11,9 +11,11 @@ mod entries;
 mod opening;
 mod parts;
 mod rest;
+mod shown;
 mod world;
 
 pub use parts::{First, Last, WorldParts};
+pub use shown::Passing;
 pub use world::World;
 
 #[cfg(test)]

@@ -10,7 +10,7 @@ ghost use Rattle.homa_text.specs.Told.{HasLine};
 ghost use Rattle.homa_world.specs.declared.parts.Last.TheVariants as last;
 ghost use Rattle.homa_stage.specs.Staged.{hosts_of};
 ghost use Rattle.homa_world.specs.Packed.{frame_kept, IsShort};
-ghost use Rattle.homa_world.specs.Standing.{told_of, IsKept, Applies, Refuses, StillStands};
+ghost use Rattle.homa_world.specs.Standing.{told_of, IsKept, Applies, Refuses, StillStands, AllowsNoMore};
 
 use homa_packets::Packets;
 use homa_plain::{HostId, Settings, WorldFault};
@@ -83,6 +83,7 @@ impl<S: Service> WorldParts<S> {
         ensures done { OnOk result (Applies S.served S.allows self.old self.new (record { event = event.Clock; bytes = [] })) }
         ensures fault { IfErr result (λ fault. Refuses self.old (record { event = event.Clock; bytes = [] }) fault) }
         ensures still { OnErr result (StillStands self.old self.new) }
+        ensures allows { OnErr result (AllowsNoMore S.served S.allows self.old self.new) }
         ensures kept { IsKept S.served self.new }
         ensures settings { self.new.settings ≡ self.old.settings }
         ensures counted { self.new.applied ≤ self.old.applied + 1 }
@@ -133,6 +134,7 @@ impl<S: Service> WorldParts<S> {
         ensures done { OnOk result (Applies S.served S.allows self.old self.new (record { event = event.Turn host; bytes = [] })) }
         ensures fault { IfErr result (λ fault. Refuses self.old (record { event = event.Turn host; bytes = [] }) fault) }
         ensures still { OnErr result (StillStands self.old self.new) }
+        ensures allows { OnErr result (AllowsNoMore S.served S.allows self.old self.new) }
         ensures kept { IsKept S.served self.new }
         ensures settings { self.new.settings ≡ self.old.settings }
         ensures counted { self.new.applied ≤ self.old.applied + 1 }
@@ -163,6 +165,7 @@ impl<S: Service> WorldParts<S> {
         ensures done { OnOk result (Applies S.served S.allows self.old self.new (record { event = event.Call client server number; bytes = bytes.now })) }
         ensures fault { IfErr result (λ fault. Refuses self.old (record { event = event.Call client server number; bytes = bytes.now }) fault) }
         ensures still { OnErr result (StillStands self.old self.new) }
+        ensures allows { OnErr result (AllowsNoMore S.served S.allows self.old self.new) }
         ensures kept { IsKept S.served self.new }
         ensures settings { self.new.settings ≡ self.old.settings }
         ensures counted { self.new.applied ≤ self.old.applied + 1 }

@@ -4,7 +4,7 @@ ghost use Rattle.std.specs.List.{AllByRecursion};
 ghost use Rattle.homa_plain.specs.Settings.{IsValid};
 ghost use Rattle.homa_plain.specs.World.{new_world, last_tick};
 ghost use Rattle.homa_plain.specs.declared.event.Event.TheVariants as event;
-ghost use Rattle.homa_world.specs.Standing.{StandsFor, IsKept, Applies, Refuses, StillStands};
+ghost use Rattle.homa_world.specs.Standing.{StandsFor, IsKept, Applies, Refuses, StillStands, AllowsNoMore};
 
 use crate::parts::{Last, WorldParts};
 use homa_plain::{HostId, WorldFault};
@@ -19,6 +19,7 @@ impl<S: Service> WorldParts<S> {
         ensures done { OnOk result (Applies S.served S.allows self.old self.new (record { event = event.Shift host n; bytes = [] })) }
         ensures fault { IfErr result (λ fault. Refuses self.old (record { event = event.Shift host n; bytes = [] }) fault) }
         ensures still { OnErr result (StillStands self.old self.new) }
+        ensures allows { OnErr result (AllowsNoMore S.served S.allows self.old self.new) }
         ensures kept { IsKept S.served self.new }
         ensures settings { self.new.settings ≡ self.old.settings }
         ensures counted { self.new.applied ≤ self.old.applied + 1 }
@@ -49,6 +50,7 @@ impl<S: Service> WorldParts<S> {
         ensures done { OnOk result (Applies S.served S.allows self.old self.new (record { event = event.Restart host; bytes = [] })) }
         ensures fault { IfErr result (λ fault. Refuses self.old (record { event = event.Restart host; bytes = [] }) fault) }
         ensures still { OnErr result (StillStands self.old self.new) }
+        ensures allows { OnErr result (AllowsNoMore S.served S.allows self.old self.new) }
         ensures kept { IsKept S.served self.new }
         ensures settings { self.new.settings ≡ self.old.settings }
         ensures counted { self.new.applied ≤ self.old.applied + 1 }

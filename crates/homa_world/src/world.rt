@@ -1,8 +1,14 @@
 // The world that is played.
-ghost use Rattle.std.specs.Prelude.{◌≡◌, ◌≤◌, length};
-ghost use Rattle.std.specs.List.{AllByRecursion};
+ghost use Rattle.std.specs.Prelude.{◌≡◌, ◌≤◌, ◌<◌, ◌==◌, Some, MatchOption, length, slice_get};
+ghost use Rattle.std.specs.List.{AllByRecursion, list_all};
+ghost use Rattle.plain_sets.specs.Maps.{len};
+ghost use Rattle.homa_plain.specs.Host.{Host as PlainHost};
+ghost use Rattle.homa_plain.specs.World.{World as PlainWorld, host_at};
+ghost use Rattle.homa_world.specs.Passing.{IsOf};
 
+use crate::Passing;
 use crate::parts::WorldParts;
+use homa_host::Host;
 use homa_plain::{Entry, Event, HostId, Settings, WorldFault};
 use homa_replay::{Opens, Playing};
 use homa_service::Service;
@@ -30,7 +36,6 @@ impl<S: Service> World<S> {
     ghost use Rattle.std.specs.Prelude.{IfOk, List, ◌∷◌};
     ghost use Rattle.homa_plain.specs.Entries.{PlainEntry, PlainSettings};
     ghost use Rattle.homa_plain.specs.Settings.{IsValid};
-    ghost use Rattle.homa_packets.specs.All.{kept_all};
     ghost use Rattle.homa_stage.specs.Staged.{hosts_of};
     ghost use Rattle.homa_world.specs.First.{IsFirstAt, AreAllowed};
     ghost use Rattle.homa_world.specs.Standing.{StandsFor, may_tell_of};
@@ -67,9 +72,40 @@ impl<S: Service> World<S> {
 
     /// How many packets were sent.
     pub fn packets(&self) -> u64
-        ensures { result ≡ length (kept_all self.now.packets) }
+        ensures { (w : PlainWorld) → StandsFor self.now w → result ≡ length w.packets }
     {
         self.parts.packets.count()
+    }
+
+    /// A host; there are as many as the settings say.
+    pub fn host(&self, host: HostId) -> &Host
+        requires { host.0 < self.now.settings.hosts }
+        ensures settings { result.now.settings ≡ self.now.settings }
+        ensures host { (w : PlainWorld) → StandsFor self.now w → slice_get w.hosts host.0 ≡ Some result.now.host }
+    {
+        self.parts.stage.host(host)
+    }
+
+    /// How many live calls a host has; none where there is no such host.
+    pub fn live(&self, host: HostId) -> u32
+        ensures { (w : PlainWorld) → StandsFor self.now w → MatchOption (host_at w host) (result ≡ 0) (λ h. result ≡ len h.clients) }
+    {
+        self.parts.live(host)
+    }
+
+    /// Whether no host has a live call.
+    pub fn is_idle(&self) -> bool
+        ensures { (w : PlainWorld) → StandsFor self.now w → result ≡ list_all (λ (h : PlainHost). len h.clients == 0) w.hosts }
+    {
+        self.parts.is_idle()
+    }
+
+    /// What is shown of the packet with this number, counted from 0; None where it was sent at an earlier tick and is too old
+    /// to be kept whole, or wasn't sent.
+    pub fn packet(&self, n: u64) -> Option<Passing>
+        ensures { (w : PlainWorld) → StandsFor self.now w → IsOf self.now.settings w n result }
+    {
+        self.parts.passing(n)
     }
 }
 

@@ -1,4 +1,4 @@
-use Rattle.std.proofs.Common.{refl, ap, ◌∙◌, ◌≤◌, arith, []}
+use Rattle.std.proofs.Common.{refl, ap, ◌∙◌, arith, []}
 use Rattle.homa_plain.specs.declared.packet.Role.TheVariants.{Client}
 use Rattle.homa_plain.specs.declared.packet.Body.TheVariants as body
 use Rattle.homa_plain.specs.declared.packet.Packet.{Packet}

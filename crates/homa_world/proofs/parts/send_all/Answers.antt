@@ -1,5 +1,5 @@
-use Rattle.std.proofs.Common.{refl, sym, ap, ◌∙◌, arith, ◌++◌, ◌≡◌, length}
-use Rattle.std.specs.Prelude.{map, take}
+use Rattle.std.proofs.Common.{refl, sym, ap, ◌∙◌, arith, ◌++◌}
+use Rattle.std.specs.Prelude.{map}
 use Rattle.std.proofs.lemmas.List.{append-nil, take_all}
 use Rattle.homa_packets.specs.All.{kept_all, open_tick}
 use Rattle.homa_world.specs.Packed.{frame_kept}

@@ -1,6 +1,5 @@
-use Rattle.std.proofs.Common.{refl, Ok, Err, Result}
+use Rattle.std.proofs.Common.{refl}
 use Rattle.std.proofs.lemmas.Result.{on_ok_weaker}
-use Rattle.std.specs.Prelude.{OnErr, IfErr, ◌≡◌}
 use Rattle.homa_stage.proofs.StageLaws.{at_read, still, if_err_weaker, on_err_weaker, both_ok}
 use Rattle.homa_stage.proofs.stage.Stage.call.Goals as goal
 

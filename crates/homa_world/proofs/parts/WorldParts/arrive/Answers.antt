@@ -1,5 +1,5 @@
-use Rattle.std.proofs.Common.{refl, sym, ap, subst, ◌∙◌, ◌+◌, ◌<◌, ◌≡◌, ◌≤◌, ℕ, length, arith, [], ◌∷◌, Some, None, false}
-use Rattle.std.specs.Prelude.{slice_get, slice_index_or, ◌==◌, ◌&&◌, nat_lt}
+use Rattle.std.proofs.Common.{sym, ap, ◌∙◌, ◌+◌, length, [], ◌∷◌, Some}
+use Rattle.std.specs.Prelude.{slice_index_or}
 use Rattle.homa_plain.specs.declared.event.Event.TheVariants as event
 use Rattle.homa_plain.specs.Entries.{PlainDeliver}
 use Rattle.homa_packets.specs.All.{kept_all}
@@ -9,6 +9,7 @@ use Rattle.homa_stage.proofs.EntryLaws.{at_index}
 use Rattle.homa_world.specs.Packed.{IsFromHost}
 use Rattle.homa_world.proofs.EventLaws.{may_step, is_there, not_there}
 use Rattle.homa_world.proofs.ArrivedLaws.{below_hosts, is_other, no_packet, late_whole, late_for_good, fresh_by, no_receiver, has_arrived, makes_delivery, not_came_kept}
+use Rattle.homa_world.proofs.AllowLaws.{not_came_tells}
 use Rattle.homa_world.proofs.parts.WorldParts.arrive.Goals as goal
 
 pub returns-in-None-clause-fault : goal.returns-in-None-clause-fault
@@ -47,3 +48,6 @@ stale_comes-requires-clause-at g c = at_index (IsFromHost c.args.self.now.settin
 
 pub returns-clause-came : goal.returns-clause-came
 returns-clause-came g c = c.in_default.ensures.came c.args.number (c.in-Some-Stale.ensures ∙ ap (λ k. Some (kept_seen k)) c.in-Some-Stale.field-0-is)
+
+pub returns-in-Err-clause-allows : goal.returns-in-Err-clause-allows
+returns-in-Err-clause-allows g c = not_came_tells _ _ c.args.self.now (record c.args.self.now { stage = c.deliver.new.self }) c.in-Some-Whole.to c.in-Err.ensures.none

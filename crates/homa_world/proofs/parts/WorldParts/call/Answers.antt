@@ -1,8 +1,7 @@
-use Rattle.std.proofs.Common.{refl, sym, ap, subst, ◌∙◌, ◌+◌, ◌∷◌, [], ◌<◌, ◌≡◌, length, arith, None, Some}
-use Rattle.std.specs.Prelude.{slice_get, IfSome}
+use Rattle.std.proofs.Common.{refl, sym, ap, subst, ◌<◌, length, arith}
 use Rattle.homa_plain.specs.declared.event.Event.TheVariants as event
 use Rattle.homa_plain.specs.declared.fault.WorldFault.TheVariants as fault
-use Rattle.homa_plain.specs.Steps.{call_step, start_fault}
+use Rattle.homa_plain.specs.Steps.{call_step}
 use Rattle.world_events.proofs.Events as events
 use Rattle.world_events.specs.Stepping.{IsRefusal}
 use Rattle.homa_stage.specs.Staged.{hosts_of}

@@ -1,4 +1,4 @@
-use Rattle.std.proofs.Common.{refl, sym, ap, subst, ◌∙◌, ◌+◌, ◌<◌, ◌≡◌, ◌++◌, length, arith, [], ◌∷◌}
+use Rattle.std.proofs.Common.{ap, ◌∙◌, ◌+◌, ◌++◌, length, arith, []}
 use Rattle.std.specs.Prelude.{map}
 use Rattle.homa_plain.specs.declared.event.Event.TheVariants as event
 use Rattle.homa_packets.specs.All.{kept_all, settings_of, open_tick}

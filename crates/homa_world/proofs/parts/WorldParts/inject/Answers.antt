@@ -1,5 +1,4 @@
-use Rattle.std.proofs.Common.{refl, sym, ap, subst, ◌∙◌, ◌+◌, ◌<◌, ◌≡◌, ◌≤◌, ℕ, length, arith, [], Some, None}
-use Rattle.std.specs.Prelude.{slice_get}
+use Rattle.std.proofs.Common.{refl, sym, ap, subst, ◌∙◌, ◌<◌, length, arith}
 use Rattle.homa_plain.specs.declared.event.Event.TheVariants as event
 use Rattle.homa_plain.specs.declared.fault.WorldFault.TheVariants as fault
 use Rattle.world_events.proofs.Events as events
@@ -10,6 +9,7 @@ use Rattle.homa_stage.proofs.StageLaws.{where_ok, where_err}
 use Rattle.homa_world.proofs.KeptLaws.{refused_by}
 use Rattle.homa_world.proofs.EventLaws.{found, may_step, is_there, not_there, no_host, host_there, sent_now}
 use Rattle.homa_world.proofs.ArrivedLaws.{below_hosts, is_other, stranger_in, stranger_other, read_some, read_none, injection, arrived, short_arrived, not_came_kept}
+use Rattle.homa_world.proofs.AllowLaws.{same_stage, no_more_on, not_came_tells}
 use Rattle.homa_world.proofs.parts.WorldParts.inject.Goals as goal
 
 pub returns-then-not-has-clause-fault : goal.returns-then-not-has-clause-fault
@@ -48,3 +48,9 @@ pub returns-clause-kept : goal.returns-clause-kept
 returns-clause-kept g c = (arrived _ _ c.args.self.now c.keep_injected.new.self c.finish.new.self c.keep_injected.ensures.kept (omega (arith, c.requires.few, ap (λ w. w.applied) c.keep_injected.ensures.same)) (ap (λ w. w.settings) c.keep_injected.ensures.same) (ap (λ w. w.stage) c.keep_injected.ensures.same) c.keep_injected.ensures.still c.args.host first.Injected (event.Inject c.args.host) c.args.bytes.now c.deliver-came.new.self
     (injection _ _ c.keep_injected.new.self c.keep_injected.ensures.kept c.stranger.result c.args.host (λ same. stranger_other c.args.host (sym c.stranger.ensures ∙ same)) c.deref.result.now c.own_clock-now.result c.own_clock-now.ensures (subst (λ w. c.args.host.0 < length (hosts_of w.stage)) (sym c.keep_injected.ensures.same) (is_there c.has.result c.has.ensures c.if-not-has.false)) c.deliver-came.new.self (where_ok _ c.deliver-came.result c.is_err-2.result c.is_err-2.ensures.value c.if-is_err-2.false c.deliver-came.ensures.step) c.args.bytes.now c.deref.ensures.value (where_ok _ c.keep_injected.result c.is_err.result c.is_err.ensures.value c.if-is_err.false c.keep_injected.ensures.bytes) (ap (λ s. packet_in s.wire c.args.bytes.now) (ap (λ w. w.settings) c.keep_injected.ensures.same) ∙ read_none _ c.decode.result _ c.decode.ensures.read (sym c.is_some.ensures ∙ c.if-is_some.false)))
     c.finish.ensures.same (sent_now c.keep_injected.new.self c.finish.new.self.packets c.deliver-came.new.self (where_ok _ c.keep_injected.result c.is_err.result c.is_err.ensures.value c.if-is_err.false c.keep_injected.ensures.tick) c.finish.ensures.sent) c.finish.ensures.settings c.finish.ensures.few).1
+
+pub returns-then-is_err-2-clause-allows : goal.returns-then-is_err-2-clause-allows
+returns-then-is_err-2-clause-allows g c =
+    let mid = c.keep_injected.new.self in
+    no_more_on _ _ c.args.self.now mid (record mid { stage = c.deliver-came.new.self }) (same_stage _ _ c.args.self.now mid (ap (λ w. w.stage) c.keep_injected.ensures.same))
+    (not_came_tells _ _ mid (record mid { stage = c.deliver-came.new.self }) c.args.host (where_err _ c.deliver-came.result c.is_err-2.result c.is_err-2.ensures.value c.if-is_err-2.true c.deliver-came.ensures.none))

@@ -1,4 +1,3 @@
-use Rattle.homa_packets.specs.All.{kept_all}
 use Rattle.homa_world.proofs.KeptLaws.{room_kept, room_stands}
 use Rattle.homa_world.proofs.parts.WorldParts.make_room.Goals as goal
 

@@ -1,14 +1,11 @@
-use Rattle.std.proofs.Common.{refl, sym, ap, subst, ◌∙◌, ◌+◌, ◌<◌, ◌≡◌, ◌≤◌, ℕ, length, arith, [], ◌∷◌, Some, None}
-use Rattle.std.specs.Prelude.{slice_get}
+use Rattle.std.proofs.Common.{sym, subst, ◌∙◌, ◌<◌, length, [], ◌∷◌}
 use Rattle.homa_plain.specs.declared.event.Event.TheVariants as event
-use Rattle.homa_plain.specs.declared.fault.WorldFault.TheVariants as fault
-use Rattle.world_events.proofs.Events as events
 use Rattle.homa_stage.specs.Staged.{hosts_of}
-use Rattle.homa_plain.specs.Settings.{IsValid}
 use Rattle.homa_plain.specs.Entries.{PlainDeliver}
 use Rattle.homa_packets.specs.Olds.{TellsClock}
 use Rattle.homa_world.proofs.EventLaws.{may_step, is_there, not_there}
-use Rattle.homa_world.proofs.ArrivedLaws.{below_hosts, is_other, seat_some, seat_few, stranger_in, stranger_other, no_stale_receiver, has_arrived, makes_stale, not_came_kept, not_came_stands}
+use Rattle.homa_world.proofs.ArrivedLaws.{below_hosts, is_other, stranger_in, stranger_other, no_stale_receiver, has_arrived, makes_stale, not_came_kept}
+use Rattle.homa_world.proofs.AllowLaws.{not_came_tells}
 use Rattle.homa_world.proofs.parts.WorldParts.stale_comes.Goals as goal
 
 pub returns-then-not-has-clause-fault : goal.returns-then-not-has-clause-fault
@@ -32,3 +29,6 @@ returns-in-Ok-clause-came g c = λ n is.
 
 pub returns-in-Err-clause-kept : goal.returns-in-Err-clause-kept
 returns-in-Err-clause-kept g c = not_came_kept _ c.args.self.now c.requires.kept c.args.to (is_there c.has.result c.has.ensures c.if-not-has.false) _ c.deliver.new.self c.requires.none c.in-Err.ensures.none
+
+pub returns-in-Err-clause-allows : goal.returns-in-Err-clause-allows
+returns-in-Err-clause-allows g c = not_came_tells _ _ c.args.self.now (record c.args.self.now { stage = c.deliver.new.self }) c.args.to c.in-Err.ensures.none
