@@ -27,12 +27,14 @@ pub trait Playing {
     ghost allows: { Self → List PlainEntry → Type 0 };
 
     /// Applies an event, with the request of a call or the datagram that is injected beside it. It is the plain world's
-    /// outcome, or the plain world's fault, or there is no memory. After an error the world is as before.
+    /// outcome, or the plain world's fault, or there is no memory. After an error the world is as before, and its boxes allow no
+    /// more.
     fn apply(&mut self, alloc: Global, event: &Event, bytes: &[u8]) -> Result<(), WorldFault>
         requires few { events self.old < 2 ^ 57 }
         ensures done { OnOk result ((w : World) → stands self.old w → IsApplied (settings self.old) w (record { event = event.now; bytes = bytes.now }) (stands self.new) (told self.new) (allows self.old) (allows self.new)) }
         ensures fault { IfErr result (λ fault. (w : World) → stands self.old w → IsNotApplied (settings self.old) w (record { event = event.now; bytes = bytes.now }) fault) }
         ensures kept { OnErr result ((w : World) → stands self.old w → stands self.new w) }
+        ensures allows { OnErr result ((told : List PlainEntry) → allows self.new told → allows self.old told) }
         ensures settings { settings self.new ≡ settings self.old }
         ensures counted { events self.new ≤ events self.old + 1 };
 

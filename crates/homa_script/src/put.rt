@@ -18,6 +18,7 @@ pub fn put_event<K: Sink>(sink: &mut K, event: &Event, bytes: &[u8]) -> Result<(
     ensures ok { OnOk result (K.taken sink.new ≡ appended (K.taken sink.old) (event_text event.now bytes.now)) }
     ensures err { OnErr result (TookFront (K.taken sink.old) (K.taken sink.new) (event_text event.now bytes.now)) }
     ensures risen { OnErr result (HasRisen (K.faults sink.old) (K.faults sink.new)) }
+    ensures quiet { OnOk result (K.faults sink.new ≡ K.faults sink.old) }
     ensures never_falls { K.faults sink.old ≤ K.faults sink.new }
     ensures same { K.is_same sink.old sink.new }
 {
@@ -64,6 +65,7 @@ fn put_numbers<K: Sink>(sink: &mut K, numbers: &[(Name, u32)]) -> Result<(), Wri
     ensures ok { OnOk result (K.taken sink.new ≡ appended (K.taken sink.old) (flat_map setting_text numbers.now)) }
     ensures err { OnErr result (TookFront (K.taken sink.old) (K.taken sink.new) (flat_map setting_text numbers.now)) }
     ensures risen { OnErr result (HasRisen (K.faults sink.old) (K.faults sink.new)) }
+    ensures quiet { OnOk result (K.faults sink.new ≡ K.faults sink.old) }
     ensures never_falls { K.faults sink.old ≤ K.faults sink.new }
     ensures same { K.is_same sink.old sink.new }
 {
@@ -80,6 +82,7 @@ pub fn put_settings<K: Sink>(sink: &mut K, settings: &Settings) -> Result<(), Wr
     ensures ok { OnOk result (K.taken sink.new ≡ appended (K.taken sink.old) (settings_text settings.now)) }
     ensures err { OnErr result (TookFront (K.taken sink.old) (K.taken sink.new) (settings_text settings.now)) }
     ensures risen { OnErr result (HasRisen (K.faults sink.old) (K.faults sink.new)) }
+    ensures quiet { OnOk result (K.faults sink.new ≡ K.faults sink.old) }
     ensures never_falls { K.faults sink.old ≤ K.faults sink.new }
     ensures same { K.is_same sink.old sink.new }
 {

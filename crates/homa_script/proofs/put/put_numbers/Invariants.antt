@@ -1,4 +1,4 @@
-use Rattle.std.proofs.Common.{◌≡◌, ◌≤◌, take}
+use Rattle.std.proofs.Common.{◌≡◌, take}
 use Rattle.std.specs.List.{flat_map}
 use Rattle.homa_io.specs.Outside.{appended}
 use Rattle.homa_plain.specs.Script.{setting_text}
@@ -11,6 +11,6 @@ invariant-loop-name g l =
     let faults = g.K.Sink.faults in
     record {
       so_far : taken l.sink ≡ appended (taken l.fn.sink) (flat_map setting_text (take l.name-index l.numbers));
-      never_falls : faults l.fn.sink ≤ faults l.sink;
+      quiet : faults l.sink ≡ faults l.fn.sink;
       same : g.K.Sink.is_same l.fn.sink l.sink;
     }
