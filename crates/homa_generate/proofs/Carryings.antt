@@ -1,29 +1,30 @@
 -- Events that are carried out one after the other.
-use Rattle.std.proofs.Common.{◌≡◌, ℕ, None, Some, List, [], ◌∷◌, ◌++◌, refl, sym, ap, ◌∙◌, subst, append_assoc}
+use Rattle.std.proofs.Common.{Bool, true, false, ◌≡◌, ℕ, is_none, None, Some, List, [], ◌∷◌, ◌++◌, refl, sym, ap, ◌∙◌, subst, append_assoc}
 use Rattle.std.proofs.lemmas.List.{append-nil}
 use Rattle.homa_plain.specs.declared.settings.Settings.{Settings}
 use Rattle.homa_plain.specs.declared.fault.LineFault.TheVariants.{World as ByWorld}
+use Rattle.homa_plain.specs.declared.fault.WorldFault.{WorldFault}
 use Rattle.homa_plain.specs.Entries.{PlainEntry}
 use Rattle.homa_plain.specs.Rules.{Answer}
 use Rattle.homa_plain.specs.World.{World, Outcome, Refused, Done, outcome}
 use Rattle.homa_plain.specs.Replay.{Happening, Run, after_event, carried}
 use Rattle.homa_replay.specs.Stream.{shown, answering}
-use Rattle.homa_replay.specs.Playing.{IsApplied}
+use Rattle.homa_replay.specs.Playing.{IsApplied, IsNotApplied, is_memory}
 use Rattle.homa_replay.proofs.Streams.{shown_parts}
 use Rattle.homa_generate.specs.Counts.{counted}
 use Rattle.homa_generate.specs.Carried.{IsCarried}
 use Rattle.homa_generate.proofs.CountLaws.{counted-append}
 
 -- what is carried, by the outcome of the first event
-abbrev by_outcome : Settings → World → List Happening → Outcome → Run
+abbrev pub by_outcome : Settings → World → List Happening → Outcome → Run
 by_outcome s w es (Refused fault) = record { world = w; told = []; count = 0; fault = Some (ByWorld fault) }
 by_outcome s w es (Done after) = after_event after.told (carried s after.world es)
 
-first_event : (s : Settings) (w : World) (e : Happening) (es : List Happening) → carried s w (e ∷ es) ≡ by_outcome s w es (outcome s w e.event e.bytes)
+pub first_event : (s : Settings) (w : World) (e : Happening) (es : List Happening) → carried s w (e ∷ es) ≡ by_outcome s w es (outcome s w e.event e.bytes)
 unfolding carried
 first_event s w e es = refl
 
-no_event : (s : Settings) (w : World) → carried s w [] ≡ record { world = w; told = []; count = 0; fault = None }
+pub no_event : (s : Settings) (w : World) → carried s w [] ≡ record { world = w; told = []; count = 0; fault = None }
 unfolding carried
 no_event s w = refl
 
@@ -33,23 +34,40 @@ pub record IsJoined (whole a b : Run) : Type 0 where
   pub told : whole.told ≡ a.told ++ b.told
   pub fault : whole.fault ≡ b.fault
 
-joined_first : (s : Settings) (w : World) (a b : List Happening) (o : Outcome) → ((v : World) → (carried s v a).fault ≡ None → IsJoined (carried s v (a ++ b)) (carried s v a) (carried s (carried s v a).world b))
-    → (by_outcome s w a o).fault ≡ None → IsJoined (by_outcome s w (a ++ b) o) (by_outcome s w a o) (carried s (by_outcome s w a o).world b)
-joined_first s w a b (Refused fault) next none = cc
-joined_first s w a b (Done after) next none =
-    let rest = next after.world none in
+abbrev is_done : Run → Bool
+is_done r = is_none r.fault
+
+-- the first part is done
+joined_first : (s : Settings) (w : World) (a b : List Happening) (o : Outcome) → ((v : World) → is_done (carried s v a) ≡ true → IsJoined (carried s v (a ++ b)) (carried s v a) (carried s (carried s v a).world b))
+    → is_done (by_outcome s w a o) ≡ true → IsJoined (by_outcome s w (a ++ b) o) (by_outcome s w a o) (carried s (by_outcome s w a o).world b)
+joined_first s w a b (Refused fault) next done = cc
+joined_first s w a b (Done after) next done =
+    let rest = next after.world done in
     record { world = rest.world; told = ap (λ (l : List PlainEntry). after.told ++ l) rest.told ∙ sym (append_assoc after.told (carried s after.world a).told (carried s (carried s after.world a).world b).told); fault = rest.fault }
 
-pub carried_parts : (s : Settings) (w : World) (a b : List Happening) → (carried s w a).fault ≡ None → IsJoined (carried s w (a ++ b)) (carried s w a) (carried s (carried s w a).world b)
-carried_parts s w [] b none = rw (no_event s w) (record { world = refl; told = refl; fault = refl })
-carried_parts s w (e ∷ a) b none =
-    rw (first_event s w e (a ++ b), first_event s w e a) (joined_first s w a b (outcome s w e.event e.bytes) (λ v h. carried_parts s v a b h) (rw (sym (first_event s w e a)) none))
+pub carried_parts : (s : Settings) (w : World) (a b : List Happening) → is_done (carried s w a) ≡ true → IsJoined (carried s w (a ++ b)) (carried s w a) (carried s (carried s w a).world b)
+carried_parts s w [] b done = rw (no_event s w) (record { world = refl; told = refl; fault = refl })
+carried_parts s w (e ∷ a) b done =
+    rw (first_event s w e (a ++ b), first_event s w e a) (joined_first s w a b (outcome s w e.event e.bytes) (λ v h. carried_parts s v a b h) (rw (sym (first_event s w e a)) done))
+
+-- the first part is refused
+stopped_first : (s : Settings) (w : World) (a b : List Happening) (o : Outcome) → ((v : World) → is_done (carried s v a) ≡ false → carried s v (a ++ b) ≡ carried s v a)
+    → is_done (by_outcome s w a o) ≡ false → by_outcome s w (a ++ b) o ≡ by_outcome s w a o
+stopped_first s w a b (Refused fault) next stopped = refl
+stopped_first s w a b (Done after) next stopped = ap (after_event after.told) (next after.world stopped)
+
+pub stopped_part : (s : Settings) (w : World) (a b : List Happening) → is_done (carried s w a) ≡ false → carried s w (a ++ b) ≡ carried s w a
+stopped_part s w [] b stopped = absurd (no (ap is_done (sym (no_event s w)) ∙ stopped)) where
+  no : true ≡ false → ⊥
+  no e = cc
+stopped_part s w (e ∷ a) b stopped =
+    rw (first_event s w e (a ++ b), first_event s w e a) (stopped_first s w a b (outcome s w e.event e.bytes) (λ v h. stopped_part s v a b h) (rw (sym (first_event s w e a)) stopped))
 
 -- ---- what the code did
 
 module _ (s : Settings) (w : World) (stands : World → Type 0) (old new : List ℕ) (before after : List PlainEntry → Type 0) where
   -- an event
-  pub one_carried : (e : Happening) (told : List PlainEntry) → IsApplied s w e stands told before after → new ≡ counted old told → IsCarried s w (e ∷ []) stands old new before after
+  pub one_carried : (e : Happening) (told : List PlainEntry) → IsApplied s w e stands told before after → new ≡ counted old told → IsCarried s w (e ∷ []) stands old new before after true
   one_carried e told a counts =
       let runs : (later : List Answer) → carried s (answering (shown told ++ later) w) (e ∷ []) ≡ after_event told (record { world = answering later a.next; told = []; count = 0; fault = None }) =
       λ later. first_event s (answering (shown told ++ later) w) e [] ∙ ap (by_outcome s (answering (shown told ++ later) w) []) (a.done later) ∙ ap (after_event told) (no_event s (answering later a.next)) in
@@ -61,11 +79,32 @@ module _ (s : Settings) (w : World) (stands : World → Type 0) (old new : List 
         allowed = a.allowed;
         world = λ later. ap (λ (r : Run). r.world) (runs later);
         tells = λ later. ap (λ (r : Run). r.told) (runs later) ∙ append-nil told;
-        done = λ later. ap (λ (r : Run). r.fault) (runs later);
+        ends = λ later. ap is_done (runs later);
       }
 
+-- an event that the world refuses
+pub one_refused : (s : Settings) (w : World) (stands : World → Type 0) (old : List ℕ) (before after : List PlainEntry → Type 0) (e : Happening) (fault : WorldFault) → IsNotApplied s w e fault → is_memory fault ≡ false → stands w
+    → ((told : List PlainEntry) → after told → before told) → IsCarried s w (e ∷ []) stands old old before after false
+one_refused s w stands old before after e fault refused known stood no_more =
+    let runs : (later : List Answer) → carried s (answering later w) (e ∷ []) ≡ record { world = answering later w; told = []; count = 0; fault = Some (ByWorld fault) } =
+    λ later. first_event s (answering later w) e [] ∙ ap (by_outcome s (answering later w) []) (refused.refused known later) in
+    record {
+      next = w;
+      stood = stood;
+      told = [];
+      counts = refl;
+      allowed = λ more may. no_more more may;
+      world = λ later. ap (λ (r : Run). r.world) (runs later);
+      tells = λ later. ap (λ (r : Run). r.told) (runs later);
+      ends = λ later. ap is_done (runs later);
+    }
+
+-- whether all was done, under another name
+pub done_as : (s : Settings) (w : World) (es : List Happening) (stands : World → Type 0) (old new : List ℕ) (before after : List PlainEntry → Type 0) (d e : Bool) → IsCarried s w es stands old new before after d → d ≡ e → IsCarried s w es stands old new before after e
+done_as s w es stands old new before after d e c same = subst (IsCarried s w es stands old new before after) same c
+
 -- no event
-pub none_carried : (s : Settings) (w : World) (stands : World → Type 0) (old : List ℕ) (before : List PlainEntry → Type 0) → stands w → IsCarried s w [] stands old old before before
+pub none_carried : (s : Settings) (w : World) (stands : World → Type 0) (old : List ℕ) (before : List PlainEntry → Type 0) → stands w → IsCarried s w [] stands old old before before true
 none_carried s w stands old before h = record {
   next = w;
   stood = h;
@@ -74,16 +113,16 @@ none_carried s w stands old before h = record {
   allowed = λ more k. k;
   world = λ later. ap (λ (r : Run). r.world) (no_event s (answering later w));
   tells = λ later. ap (λ (r : Run). r.told) (no_event s (answering later w));
-  done = λ later. ap (λ (r : Run). r.fault) (no_event s (answering later w));
+  ends = λ later. ap is_done (no_event s (answering later w));
 }
 
 -- events behind others
-pub more_carried : (s : Settings) (w : World) (a b : List Happening) (st su : World → Type 0) (old mid new : List ℕ) (p q r : List PlainEntry → Type 0) → IsCarried s w a st old mid p q
-    → ((v : World) → st v → IsCarried s v b su mid new q r) → IsCarried s w (a ++ b) su old new p r
-more_carried s w a b st su old mid new p q r first next =
+pub more_carried : (s : Settings) (w : World) (a b : List Happening) (st su : World → Type 0) (old mid new : List ℕ) (p q r : List PlainEntry → Type 0) (done : Bool) → IsCarried s w a st old mid p q true
+    → ((v : World) → st v → IsCarried s v b su mid new q r done) → IsCarried s w (a ++ b) su old new p r done
+more_carried s w a b st su old mid new p q r done first next =
     let second = next first.next first.stood in
     let parts : (later : List Answer) → IsJoined (carried s (answering (shown (first.told ++ second.told) ++ later) w) (a ++ b)) (carried s (answering (shown first.told ++ (shown second.told ++ later)) w) a) (carried s (answering (shown second.told ++ later) first.next) b) =
-    λ later. rw (shown_parts first.told second.told later, ← (first.world (shown second.told ++ later))) (carried_parts s (answering (shown first.told ++ (shown second.told ++ later)) w) a b (first.done (shown second.told ++ later))) in
+    λ later. rw (shown_parts first.told second.told later, ← (first.world (shown second.told ++ later))) (carried_parts s (answering (shown first.told ++ (shown second.told ++ later)) w) a b (first.ends (shown second.told ++ later))) in
     record {
       next = second.next;
       stood = second.stood;
@@ -92,12 +131,28 @@ more_carried s w a b st su old mid new p q r first next =
       allowed = λ more h. subst p (sym (append_assoc first.told second.told more)) (first.allowed (second.told ++ more) (second.allowed more h));
       world = λ later. (parts later).world ∙ second.world later;
       tells = λ later. (parts later).told ∙ ap (λ (l : List PlainEntry). l ++ (carried s (answering (shown second.told ++ later) first.next) b).told) (first.tells (shown second.told ++ later)) ∙ ap (λ (l : List PlainEntry). first.told ++ l) (second.tells later);
-      done = λ later. (parts later).fault ∙ second.done later;
+      ends = λ later. ap is_none (parts later).fault ∙ second.ends later;
     }
 
 -- further events, where the settings stayed
-pub then_carried : (s t : Settings) (w : World) (a b : List Happening) (st su : World → Type 0) (old mid new : List ℕ) (p q r : List PlainEntry → Type 0) → t ≡ s → IsCarried s w a st old mid p q → (es : List Happening) → es ≡ a ++ b
-    → ((v : World) → st v → IsCarried t v b su mid new q r) → IsCarried s w es su old new p r
-then_carried s t w a b st su old mid new p q r same first es k h =
-    subst (λ (l : List Happening). IsCarried s w l su old new p r) (sym k)
-    (more_carried s w a b st su old mid new p q r first (λ v x. subst (λ (o : Settings). IsCarried o v b su mid new q r) same (h v x)))
+pub then_carried : (s t : Settings) (w : World) (a b : List Happening) (st su : World → Type 0) (old mid new : List ℕ) (p q r : List PlainEntry → Type 0) (done : Bool) → t ≡ s → IsCarried s w a st old mid p q true → (es : List Happening) → es ≡ a ++ b
+    → ((v : World) → st v → IsCarried t v b su mid new q r done) → IsCarried s w es su old new p r done
+then_carried s t w a b st su old mid new p q r done same first es k h =
+    subst (λ (l : List Happening). IsCarried s w l su old new p r done) (sym k)
+    (more_carried s w a b st su old mid new p q r done first (λ v x. subst (λ (o : Settings). IsCarried o v b su mid new q r done) same (h v x)))
+
+-- events behind one that the world refuses
+pub then_stopped : (s : Settings) (w : World) (a b : List Happening) (st : World → Type 0) (old new : List ℕ) (p q : List PlainEntry → Type 0) → IsCarried s w a st old new p q false → (es : List Happening) → es ≡ a ++ b → IsCarried s w es st old new p q false
+then_stopped s w a b st old new p q first es k =
+    let same : (later : List Answer) → carried s (answering (shown first.told ++ later) w) es ≡ carried s (answering (shown first.told ++ later) w) a =
+    λ later. ap (carried s (answering (shown first.told ++ later) w)) k ∙ stopped_part s (answering (shown first.told ++ later) w) a b (first.ends later) in
+    record {
+      next = first.next;
+      stood = first.stood;
+      told = first.told;
+      counts = first.counts;
+      allowed = first.allowed;
+      world = λ later. ap (λ (r : Run). r.world) (same later) ∙ first.world later;
+      tells = λ later. ap (λ (r : Run). r.told) (same later) ∙ first.tells later;
+      ends = λ later. ap is_done (same later) ∙ first.ends later;
+    }

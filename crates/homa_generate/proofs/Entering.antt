@@ -1,13 +1,14 @@
 -- Packets that enter the fabric one after the other.
-use Rattle.std.proofs.Common.{◌≡◌, ℕ, zero, suc, ◌+◌, Some, List, [], ◌∷◌, drop, length, refl, sym, ap, ◌∙◌, arith}
+use Rattle.std.proofs.Common.{◌≡◌, ℕ, zero, suc, ◌+◌, ◌≤◌, ◌<◌, None, Some, List, [], ◌∷◌, drop, length, refl, sym, ap, ◌∙◌, arith}
 use Rattle.std.specs.List.{slice_get}
 use Rattle.homa_plain.specs.declared.settings.Settings.{Settings}
 use Rattle.homa_plain.specs.Packets.{receiver, datagram}
-use Rattle.homa_plain.specs.World.{SentPacket}
+use Rattle.homa_plain.specs.World.{World, SentPacket}
 use Rattle.homa_traffic.specs.Fabric.{Fabric, sent}
 use Rattle.homa_traffic.specs.Rounds.{all_sent}
-use Rattle.homa_generate.specs.declared.worlds.Passing.{Passing}
-use Rattle.homa_generate.specs.Generating.{IsPassing}
+use Rattle.homa_world.specs.declared.shown.Passing.{Passing}
+use Rattle.homa_world.specs.Passing.{IsPassing, IsOf}
+use Rattle.homa_generate.specs.Generating.{AreNew}
 
 drop_at : {X : Type 0} (xs : List X) (n : ℕ) (x : X) → slice_get xs n ≡ Some x → drop n xs ≡ x ∷ drop (suc n) xs
 drop_at [] n x is = cc
@@ -22,3 +23,13 @@ entered_next s packets n x p f g is passing entered =
     ap (λ (l : List SentPacket). all_sent s n l f) (drop_at packets n x is)
     ∙ ap (λ (k : ℕ). all_sent s k (drop k packets) (sent f (receiver x.packet).0 x.packet.level (record { number = n; size = length (datagram s x.packet); tick = x.tick }))) next
     ∙ ap (all_sent s (n + 1) (drop (n + 1) packets)) (sym (entered ∙ rw (passing.to, passing.level, passing.len, passing.tick) refl))
+
+-- each packet that is new is shown
+pub all_shown : (s : Settings) (w : World) (first n : ℕ) → AreNew s w first → first ≤ n → n < length w.packets → IsOf s w n None → ⊥
+all_shown s w first n new from there none =
+    let x = is_there w.packets n there in
+    omega (arith, none x.0 x.1 new.version, new.now n x.0 from x.1) where
+      is_there : (xs : List SentPacket) (n : ℕ) → n < length xs → (x : SentPacket) × (slice_get xs n ≡ Some x)
+      is_there [] n h = absurd (omega (arith, h))
+      is_there (x ∷ xs) zero h = (x, refl)
+      is_there (x ∷ xs) (suc n) h = is_there xs n (omega (arith, h))

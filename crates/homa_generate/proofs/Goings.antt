@@ -1,6 +1,6 @@
 -- A generated run goes on, step by step.
-use Rattle.std.proofs.Common.{◌≡◌, ℕ, Option, List, [], ◌∷◌, ◌++◌, length, drop, refl, sym, ap, ◌∙◌, subst, append_assoc}
-use Rattle.std.specs.List.{flat_map}
+use Rattle.std.proofs.Common.{Bool, ◌≡◌, ◌≤◌, ℕ, Option, Some, List, [], ◌∷◌, ◌++◌, length, drop, refl, sym, ap, ◌∙◌, subst, append_assoc}
+use Rattle.std.specs.List.{flat_map, slice_get}
 use Rattle.std.proofs.lemmas.List.{append-nil, append_cancel_left}
 use Rattle.std.proofs.lemmas.Grind.{flat_map-append}
 use Rattle.homa_io.specs.Outside.{appended, TookFront}
@@ -8,7 +8,7 @@ use Rattle.homa_plain.specs.declared.settings.Settings.{Settings}
 use Rattle.homa_plain.specs.Entries.{PlainEntry}
 use Rattle.homa_plain.specs.Rules.{Answer}
 use Rattle.homa_plain.specs.Script.{Given}
-use Rattle.homa_plain.specs.World.{World}
+use Rattle.homa_plain.specs.World.{World, SentPacket}
 use Rattle.homa_plain.specs.Replay.{carried, events_of}
 use Rattle.homa_replay.specs.Stream.{shown, answering}
 use Rattle.homa_replay.proofs.Streams.{shown_parts}
@@ -17,8 +17,10 @@ use Rattle.homa_traffic.specs.Rounds.{Generated, all_sent, with_line}
 use Rattle.homa_traffic.specs.Generated.{given_text}
 use Rattle.homa_generate.specs.Counts.{counted}
 use Rattle.homa_generate.specs.Carried.{IsCarried}
+use Rattle.homa_generate.specs.Generating.{AreNew}
 use Rattle.homa_generate.specs.Going.{answered, Holds, IsAt, HasGone, HasStopped}
 use Rattle.homa_generate.proofs.CountLaws.{counted-append}
+use Rattle.homa_generate.proofs.Fresh.{IsSentNow, IsMadeLine, line_now}
 
 -- the text of lines
 abbrev pub text : List Given → List ℕ
@@ -104,11 +106,17 @@ gone_as f h k g a b st p q first same = gone_with f h f k g a b st p q first (λ
 -- ---- a line
 
 -- it was printed, carried out, and its packets entered the fabric
-pub line_gone : (s : Settings) (line : Given) (g : Generated) (a b : Holds) (st su : World → Type 0) (p q : List PlainEntry → Type 0) (first : ℕ) → IsAt a st g → b.left ≡ a.left → b.taken ≡ appended a.taken (given_text line)
-    → first ≡ length g.world.packets → ((w : World) → st w → IsCarried s w (events_of s.hosts line) su a.counts b.counts p q) → ((w : World) → su w → b.fabric ≡ all_sent s first (drop first w.packets) a.fabric)
+pub line_gone : (s : Settings) (line : Given) (done : Bool) (g : Generated) (a b : Holds) (st su : World → Type 0) (p q : List PlainEntry → Type 0) (first : ℕ) → IsAt a st g → b.left ≡ a.left → b.taken ≡ appended a.taken (given_text line)
+    → first ≡ length g.world.packets → s.wire ≡ 1 → IsMadeLine line → ((w : World) → st w → IsCarried s w (events_of s.hosts line) su a.counts b.counts p q done) → ((w : World) → su w → AreNew s w first → b.fabric ≡ all_sent s first (drop first w.packets) a.fabric)
     → HasGone (with_line s line) (λ x. x) g a b su p q
-line_gone s line g a b st su p q first stood left printed count carries enters =
+line_gone s line done g a b st su p q first stood left printed count version made_line carries enters =
     let c = carries g.world stood.world in
+    let begun : World = answering (shown c.told ++ []) g.world in
+    let fresh : AreNew s c.next first = record {
+      version = version;
+      now = subst (λ (k : ℕ). (n : ℕ) (sent : SentPacket) → k ≤ n → slice_get c.next.packets n ≡ Some sent → sent.tick ≡ c.next.clock) (sym count)
+          (subst (λ (w : World). IsSentNow begun w) (c.world []) (line_now s begun line made_line));
+    } in
     let before = length g.world.packets in
     let made : World → List PlainEntry → Generated = λ w told.
     record { world = w; told = g.told ++ told; lines = g.lines ++ line ∷ []; fabric = all_sent s before (drop before w.packets) g.fabric; made = g.made; left = g.left } in
@@ -116,7 +124,7 @@ line_gone s line g a b st su p q first stood left printed count carries enters =
       next = made c.next c.told;
       stood = record {
         world = c.stood;
-        fabric = enters c.next c.stood ∙ (ap (λ (n : ℕ). all_sent s n (drop n c.next.packets) a.fabric) count ∙ ap (all_sent s before (drop before c.next.packets)) stood.fabric);
+        fabric = enters c.next c.stood fresh ∙ (ap (λ (n : ℕ). all_sent s n (drop n c.next.packets) a.fabric) count ∙ ap (all_sent s before (drop before c.next.packets)) stood.fabric);
         left = left ∙ stood.left;
       };
       told = c.told;

@@ -1,6 +1,7 @@
 mod CountLaws
 mod Carryings
 mod LineLaws
+mod Fresh
 mod Entering
 mod Steadiness
 mod Goings

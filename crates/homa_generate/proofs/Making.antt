@@ -17,6 +17,10 @@ use Rattle.homa_traffic.specs.Generated.{generated_settings, most_rounds, schedu
 use Rattle.homa_generate.specs.Counts.{counted, no_counts, counts_text}
 use Rattle.homa_generate.specs.Going.{answered, Holds, IsAt, HasGone, HasStopped}
 use Rattle.homa_generate.specs.Made.{Run, run_of, HasRun, IsMade, IsPartMade}
+use Rattle.homa_generate.specs.declared.lines.Line.{Line}
+use Rattle.homa_generate.specs.declared.lines.Line.TheVariants.{Tick, Deliver, Call}
+use Rattle.homa_generate.specs.Lines.{given_of}
+use Rattle.homa_generate.proofs.Fresh.{IsMadeLine}
 use Rattle.homa_generate.proofs.Goings.{text}
 use Rattle.homa_generate.proofs.Summaries.{summary_counted}
 
@@ -117,3 +121,10 @@ module _ (seed calls boxes : ℕ) (s t : Settings) (a b : Holds) (st su : World 
   stopped_here new stopped =
       run_stopped seed calls boxes opened.first first_is a b su p q allowed old opens_so allow_so new
       (subst (λ (o : Settings). HasStopped (rounds most_rounds o) (begins opened.first seed calls) a.taken new p) (stays ∙ same) (stopped (begins opened.first seed calls) at_first))
+
+-- ---- the lines that the code plays are those of generated schedules
+
+pub made_line : (l : Line) → IsMadeLine (given_of l)
+made_line Tick = refl
+made_line (Deliver number) = tt
+made_line (Call t) = tt

@@ -16,5 +16,6 @@ ready_on own s t p q e f most m n ready steady room = record {
   settings = ready.settings ∙ sym steady.settings;
   life = steady.life ∙ (ready.life ∙ ap (λ (x : Settings). x.life) (sym steady.settings));
   hosts = steady.hosts ∙ (ready.hosts ∙ ap (λ (x : Settings). x.hosts) (sym steady.settings));
+  version = ap (λ (x : Settings). x.wire) steady.settings ∙ ready.version;
   few = omega (arith, ready.few, steady.counted, room);
 }

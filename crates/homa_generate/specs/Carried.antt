@@ -1,5 +1,5 @@
--- Events of a line that were carried out.
-use Rattle.std.specs.Prelude.{◌≡◌, ℕ, None, List, ◌++◌}
+-- Events of a line that were carried out, up to one that the world refuses.
+use Rattle.std.specs.Prelude.{◌≡◌, ℕ, Bool, is_none, List, ◌++◌}
 use Rattle.homa_plain.specs.declared.settings.Settings.{Settings}
 use Rattle.homa_plain.specs.Entries.{PlainEntry}
 use Rattle.homa_plain.specs.Rules.{Answer}
@@ -8,8 +8,8 @@ use Rattle.homa_plain.specs.Replay.{Happening, carried}
 use Rattle.homa_replay.specs.Stream.{shown, answering}
 use Rattle.homa_generate.specs.Counts.{counted}
 
--- None of them was refused. This was told and counted of them, with the answers that it shows.
-pub record IsCarried (s : Settings) (w : World) (es : List Happening) (stands : World → Type 0) (old new : List ℕ) (before after : List PlainEntry → Type 0) : Type 0 where
+-- This was told and counted of them, with the answers that it shows; it is known whether none was refused.
+pub record IsCarried (s : Settings) (w : World) (es : List Happening) (stands : World → Type 0) (old new : List ℕ) (before after : List PlainEntry → Type 0) (done : Bool) : Type 0 where
   pub next : World
   pub stood : stands next
   pub told : List PlainEntry
@@ -17,4 +17,4 @@ pub record IsCarried (s : Settings) (w : World) (es : List Happening) (stands : 
   pub allowed : (more : List PlainEntry) → after more → before (told ++ more)
   pub world : (later : List Answer) → (carried s (answering (shown told ++ later) w) es).world ≡ answering later next
   pub tells : (later : List Answer) → (carried s (answering (shown told ++ later) w) es).told ≡ told
-  pub done : (later : List Answer) → (carried s (answering (shown told ++ later) w) es).fault ≡ None
+  pub ends : (later : List Answer) → is_none (carried s (answering (shown told ++ later) w) es).fault ≡ done

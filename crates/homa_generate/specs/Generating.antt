@@ -1,18 +1,9 @@
--- What is asked of a world in which traffic is generated.
-use Rattle.std.specs.Prelude.{◌≡◌, ℕ, Option, None, Some, length, slice_get}
+-- Packets that a line of a generated schedule sent.
+use Rattle.std.specs.Prelude.{◌≡◌, ℕ, ◌≤◌, Some, slice_get}
 use Rattle.homa_plain.specs.declared.settings.Settings.{Settings}
-use Rattle.homa_plain.specs.Packets.{receiver, datagram}
 use Rattle.homa_plain.specs.World.{World, SentPacket}
-use Rattle.homa_generate.specs.declared.worlds.Passing.{Passing}
 
--- what the fabric is told of a packet
-pub record IsPassing (s : Settings) (sent : SentPacket) (p : Passing) : Type 0 where
-  pub to : p.to ≡ receiver sent.packet
-  pub level : p.level ≡ sent.packet.level
-  pub len : p.len ≡ length (datagram s sent.packet)
-  pub tick : p.tick ≡ sent.tick
-
--- it is the packet with this number
-abbrev pub IsOf : Settings → World → ℕ → Option Passing → Type 0
-IsOf s w n None = Unit {0}
-IsOf s w n (Some p) = (sent : SentPacket) × (slice_get w.packets n ≡ Some sent) × IsPassing s sent p
+-- with version 1, the packets from this number on were sent at the clock's tick
+pub record AreNew (s : Settings) (w : World) (first : ℕ) : Type 0 where
+  pub version : s.wire ≡ 1
+  pub now : (n : ℕ) (sent : SentPacket) → first ≤ n → slice_get w.packets n ≡ Some sent → sent.tick ≡ w.clock

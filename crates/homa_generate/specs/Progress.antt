@@ -11,11 +11,12 @@ use Rattle.homa_generate.specs.Going.{Holds}
 abbrev pub holds_of : Progress → Option (List ℕ) → Holds
 holds_of p taken = record { fabric = p.fabric.fabric; left = p.left; counts = p.counts; taken = taken }
 
--- the code's settings are the world's, its fabric is one for them, and the world has applied at most so many events
+-- the code's settings are the world's, with version 1, its fabric is one for them, and the world has applied at most so many events
 pub record IsReady (own worlds : Settings) (p : Progress) (events most : ℕ) : Type 0 where
   pub settings : own ≡ worlds
   pub life : p.fabric.life ≡ worlds.life
   pub hosts : length p.fabric.fabric.destinations ≡ worlds.hosts
+  pub version : worlds.wire ≡ 1
   pub few : events + most ≤ 2 ^ 57
 
 -- settings, life and the number of hosts stay, and at most so many events more were applied
@@ -26,7 +27,7 @@ pub record IsSteady (old new : Settings) (p q : Progress) (before after most : �
   pub counted : after ≤ before + most
 
 -- the sink's count of faults rises where writing failed, and else stays; nothing is read
-pub record IsFaulted (r : Result (Unit {0}) Stop) (old new : ℕ) : Type 0 where
+pub record IsFaulted {A : Type 0} (r : Result A Stop) (old new : ℕ) : Type 0 where
   pub write : IsErrOf r Write → HasRisen old new
   pub memory : IsErrOf r NoMemory → new ≡ old
   pub read : IsErrOf r Read → ⊥

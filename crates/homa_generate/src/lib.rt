@@ -19,4 +19,4 @@ mod worlds;
 
 pub use printing::{count, make};
 pub use tally::Counts;
-pub use worlds::{Generating, Passing};
+pub use worlds::Generating;

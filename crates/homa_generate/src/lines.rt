@@ -88,17 +88,17 @@ fn put<K: Sink>(sink: &mut K, line: &Line) -> Result<(), WriteFailed>
     }
 }
 
-// Carries out a line.
+// Carries out a line, up to an event that the world refuses; whether it refused none.
 fn carry<P: Playing>(
     setup: &Setup,
     world: &mut P,
     counts: &mut Counts,
     line: &Line,
-) -> Result<(), AllocError>
+) -> Result<bool, AllocError>
     requires setup { setup.now.settings ≡ P.settings world.old }
     requires short { IsShort line.now }
     requires few { P.events world.old + 33 ≤ 2 ^ 57 }
-    ensures carried { OnOk result ((w : World) → P.stands world.old w → IsCarried (P.settings world.old) w (events_of (P.settings world.old).hosts (given_of line.now)) (P.stands world.new) counts.old counts.new (P.allows world.old) (P.allows world.new)) }
+    ensures carried { IfOk result (λ done. (w : World) → P.stands world.old w → IsCarried (P.settings world.old) w (events_of (P.settings world.old).hosts (given_of line.now)) (P.stands world.new) counts.old counts.new (P.allows world.old) (P.allows world.new) done) }
     ensures settings { P.settings world.new ≡ P.settings world.old }
     ensures counted { P.events world.new ≤ P.events world.old + 33 }
 {
@@ -139,6 +139,6 @@ pub(crate) fn play<P: Generating, K: Sink>(
     put(sink, line)?;
     let first = world.packets();
     carry(setup, world, &mut progress.counts, line)?;
-    enter(world, &mut progress.fabric, first)?;
+    enter(world, &mut progress.fabric, first);
     Ok(())
 }

@@ -37,8 +37,7 @@ fn generate<B: Drop, P: Generating + Opens<B> + Drop, K: Sink>(
     requires { P.are_ready boxes }
     ensures ran { IfOk result (HasRun (run_of seed calls (P.many boxes)) (K.taken sink.old) (K.taken sink.new) (P.are_allowed boxes)) }
     ensures part { OnErr result (IsPartMade (run_of seed calls (P.many boxes)) (schedule_text generated_settings) (K.taken sink.old) (K.taken sink.new) (P.are_allowed boxes)) }
-    ensures write { IsErrOf result Stop.Write → HasRisen (K.faults sink.old) (K.faults sink.new) }
-    ensures read { IsErrOf result Stop.Read → ⊥ }
+    ensures faulted { IsFaulted result (K.faults sink.old) (K.faults sink.new) }
     ensures same { K.is_same sink.old sink.new }
 {
     let setup = Setup::new(alloc, generated_settings())?;
@@ -64,8 +63,7 @@ pub fn make<B: Drop, P: Generating + Opens<B> + Drop, K: Sink>(
     requires { P.are_ready boxes }
     ensures made { OnOk result (IsMade (run_of seed calls (P.many boxes)) (schedule_text generated_settings) (K.taken sink.old) (K.taken sink.new) (P.are_allowed boxes)) }
     ensures part { OnErr result (IsPartMade (run_of seed calls (P.many boxes)) (schedule_text generated_settings) (K.taken sink.old) (K.taken sink.new) (P.are_allowed boxes)) }
-    ensures write { IsErrOf result Stop.Write → HasRisen (K.faults sink.old) (K.faults sink.new) }
-    ensures read { IsErrOf result Stop.Read → ⊥ }
+    ensures faulted { IsFaulted result (K.faults sink.old) (K.faults sink.new) }
     ensures same { K.is_same sink.old sink.new }
 {
     generate::<B, P, K>(alloc, sink, boxes, seed, calls)?;

@@ -8,6 +8,7 @@ use homa_fabric::Fabric;
 use homa_io::MemSink;
 use homa_plain::{Body, CallId, Entry, Event, HostId, Role, Settings, Why, WorldFault};
 use homa_replay::Playing;
+use homa_world::Passing;
 use std::alloc::Global;
 use std::test::Fail;
 

@@ -3,43 +3,58 @@ ghost use Rattle.std.specs.Prelude.{◌≡◌, ◌==◌, length};
 ghost use Rattle.std.specs.List.{list_all};
 ghost use Rattle.plain_sets.specs.Maps.{len};
 ghost use Rattle.homa_plain.specs.Host.{Host};
-ghost use Rattle.homa_plain.specs.World.{World, host_at};
+ghost use Rattle.homa_plain.specs.World.{World as PlainWorld, host_at};
 ghost use Rattle.homa_traffic.specs.Rounds.{live_at};
-ghost use Rattle.homa_generate.specs.Generating.{IsOf};
+ghost use Rattle.homa_world.specs.Passing.{IsOf};
 
 use homa_plain::HostId;
 use homa_replay::Playing;
-
-/// What the fabric is told of a packet: where it goes, its level, how many bytes its datagram has, and the tick of its
-/// sending.
-#[derive(Clone, Copy, Debug, PartialEq, Eq)]
-pub struct Passing {
-    pub to: HostId,
-    pub level: u8,
-    pub len: u32,
-    pub tick: u64,
-}
+use homa_service::Service;
+use homa_world::{Passing, World};
 
 /// A world in which traffic is generated: it also shows its clock, the packets that were sent, and which hosts have
 /// live calls.
 pub trait Generating: Playing {
     /// The clock's tick.
     fn clock(&self) -> u64
-        ensures { (w : World) → Self.stands self.now w → result ≡ w.clock };
+        ensures { (w : PlainWorld) → Self.stands self.now w → result ≡ w.clock };
 
     /// How many packets were sent.
     fn packets(&self) -> u64
-        ensures { (w : World) → Self.stands self.now w → result ≡ length w.packets };
+        ensures { (w : PlainWorld) → Self.stands self.now w → result ≡ length w.packets };
 
-    /// The packet with this number; None where it is no longer kept, or wasn't sent.
+    /// The packet with this number; None where it is no longer kept, or wasn't sent. With version 1, one that was sent at the
+    /// clock's tick is kept.
     fn packet(&self, n: u64) -> Option<Passing>
-        ensures { (w : World) → Self.stands self.now w → IsOf (Self.settings self.now) w n result };
+        ensures { (w : PlainWorld) → Self.stands self.now w → IsOf (Self.settings self.now) w n result };
 
     /// How many live calls a host has; none where there is no such host.
     fn live(&self, host: HostId) -> u32
-        ensures { (w : World) → Self.stands self.now w → result ≡ live_at (host_at w host) };
+        ensures { (w : PlainWorld) → Self.stands self.now w → result ≡ live_at (host_at w host) };
 
     /// Whether no host has a live call.
     fn is_idle(&self) -> bool
-        ensures { (w : World) → Self.stands self.now w → result ≡ list_all (λ (h : Host). len h.clients == 0) w.hosts };
+        ensures { (w : PlainWorld) → Self.stands self.now w → result ≡ list_all (λ (h : Host). len h.clients == 0) w.hosts };
+}
+
+impl<S: Service> Generating for World<S> {
+    fn clock(&self) -> u64 {
+        self.now()
+    }
+
+    fn packets(&self) -> u64 {
+        World::packets(self)
+    }
+
+    fn packet(&self, n: u64) -> Option<Passing> {
+        World::packet(self, n)
+    }
+
+    fn live(&self, host: HostId) -> u32 {
+        World::live(self, host)
+    }
+
+    fn is_idle(&self) -> bool {
+        World::is_idle(self)
+    }
 }
