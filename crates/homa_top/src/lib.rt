@@ -5,11 +5,15 @@
 //! bytes that the source had, and the trace in it obeys all laws.
 #![tactic(auto)]
 
+mod commands;
 mod many;
 mod status;
+mod words;
 
+pub use homa_rounds::quiet_rounds;
 pub use many::suites;
 pub use status::run;
+pub use words::Command;
 
 #[cfg(test)]
 mod tests;

@@ -1,56 +1,38 @@
 // The top call.
-ghost use Rattle.std.specs.Prelude.{◌≡◌, ◌≢◌, ◌≤◌, ◌⊎◌, ℕ, List, Some, [], map, length, true, false};
+ghost use Rattle.std.specs.Prelude.{◌≡◌, ◌≢◌, ◌≤◌, ◌⊎◌, ℕ, List, None, Some, [], map, length, true, false};
 ghost use Rattle.homa_io.specs.Outside.{HasRisen, appended, TookFront};
 ghost use Rattle.homa_plain.specs.Rules.{Answer};
 ghost use Rattle.homa_plain.specs.Replay.{replay};
 ghost use Rattle.homa_replay.specs.Far.{replay_of, ArePrinted, AreParts};
 ghost use Rattle.homa_replay.specs.Stream.{shown, is_refusal};
+ghost use Rattle.homa_traffic.specs.Generated.{generated_settings, schedule_text, summary_text};
+ghost use Rattle.homa_generate.specs.Made.{run_of};
 ghost use Rattle.homa_world.specs.First.{AreReady, AreAllowed};
 ghost use Rattle.every_replay.specs.Replays.{OpensWorld};
+ghost use Rattle.homa_top.specs.declared.words.Command.TheVariants as command;
+ghost use Rattle.homa_top.specs.Commands.{HasMade, HasCounted, HasJudged};
 ghost use Rattle.homa_top.specs.Lawful.{TookLawful};
-ghost use Rattle.homa_top.specs.Words.{is_replay, usage_line};
+ghost use Rattle.homa_top.specs.Words.{command_of, reads, usage_line};
 
-use homa_io::{Sink, Source, write_all};
-use homa_replay::{Stop, replay};
+use crate::commands::{put_judgement, put_rounds, put_schedule, put_summary, put_usage, status_of};
+use crate::words::{Command, read_words};
+use homa_io::{Sink, Source};
+use homa_replay::replay;
 use homa_service::Service;
 use homa_world::World;
 use std::alloc::Global;
 
-const USAGE: &[u8] =
-    b"usage: homa replay | make SEED CALLS | gen SEED CALLS | node | record | check | quiet N M\n";
-
-// Whether the words are the command `replay`.
-fn is_replay(words: &[&str]) -> bool
-    ensures { result ≡ is_replay (map (λ w. w.now) words.now) }
-{
-    if let [word] = words {
-        return *word == "replay";
-    }
-    false
-}
-
-// Prints the usage line.
-fn put_usage<K: Sink>(sink: &mut K) -> u8
-    ensures statuses { (result ≡ 1) ⊎ (result ≡ 4) }
-    ensures line { result ≡ 1 → K.taken sink.new ≡ appended (K.taken sink.old) usage_line }
-    ensures front { TookFront (K.taken sink.old) (K.taken sink.new) usage_line }
-    ensures write { result ≡ 4 → HasRisen (K.faults sink.old) (K.faults sink.new) }
-    ensures quiet { result ≡ 1 → K.faults sink.new ≡ K.faults sink.old }
-{
-    match write_all(sink, USAGE) {
-        Ok(()) => 1,
-        Err(_) => 4,
-    }
-}
-
 /// Carries out a command line, `words` without the program's name, and answers the status:
 ///
-/// 0 the input was read to its end; 1 the words are none of the commands (so far `replay`); 2 a line is refused;
-/// 3 the source gave a fault; 4 the sink gave a fault; 5 there is no memory, of which no clause says when it comes.
+/// 0 the end; where an input is read, it was read to its end; 1 the words are none of the commands (so far `replay`,
+/// `make SEED CALLS`, `gen SEED CALLS`, `check` and `quiet N M`); 2 a line is refused; 3 the source gave a fault; 4 the
+/// sink gave a fault; 5 there is no memory, of which no clause says when it comes.
 ///
-/// `replay` reads a schedule from the source and prints its trace. Service h serves host h, and the others are there for hosts
-/// that restart, the last one first. What is said of the bytes holds where the source tells what it has left, and the sink
-/// what it took, as those in memory do.
+/// `replay` reads a schedule from the source and prints its trace. `check` reads a trace and prints the verdict on it, with
+/// status 0 where it is yes and 2 where it is no. `make` prints a schedule of generated traffic, and `gen`
+/// the summary of its trace. `quiet` prints in how many rounds a call is done. Service h serves host h, and the others are
+/// there for hosts that restart, the last one first. What is said of the bytes holds where the source tells what it has
+/// left, and the sink what it took, as those in memory do.
 pub fn run<V: Service, S: Source, K: Sink>(
     alloc: Global,
     words: &[&str],
@@ -61,43 +43,61 @@ pub fn run<V: Service, S: Source, K: Sink>(
     requires { AreReady V.served services.items }
     ensures statuses { result ≤ 5 }
 
-    // The words are none of the commands: the source is as before, and the usage line is printed.
-    ensures usage { result ≡ 1 → is_replay (map (λ w. w.now) words.now) ≡ false }
-    ensures no_command { is_replay (map (λ w. w.now) words.now) ≡ false → (result ≡ 1) ⊎ (result ≡ 4) }
-    ensures source_stays { is_replay (map (λ w. w.now) words.now) ≡ false → source.new ≡ source.old }
+    // The words are none of the commands: the usage line is printed.
+    ensures usage { result ≡ 1 → command_of (map (λ w. w.now) words.now) ≡ None }
+    ensures no_command { command_of (map (λ w. w.now) words.now) ≡ None → (result ≡ 1) ⊎ (result ≡ 4) }
     ensures usage_text { result ≡ 1 → K.taken sink.new ≡ appended (K.taken sink.old) usage_line }
-    ensures usage_front { is_replay (map (λ w. w.now) words.now) ≡ false → TookFront (K.taken sink.old) (K.taken sink.new) usage_line }
+    ensures usage_front { command_of (map (λ w. w.now) words.now) ≡ None → TookFront (K.taken sink.old) (K.taken sink.new) usage_line }
 
-    // What was printed is the replay of the bytes that the source had, with the answers that its own `run` lines show, of which
-    // each is allowed; it refuses no line, or its last line refuses one.
-    ensures accepted { result ≡ 0 → ArePrinted (replay_of (length services.items)) (S.left source.old) (K.taken sink.old) (K.taken sink.new) (AreAllowed V.served V.allows services.items) true }
-    ensures refused { result ≡ 2 → ArePrinted (replay_of (length services.items)) (S.left source.old) (K.taken sink.old) (K.taken sink.new) (AreAllowed V.served V.allows services.items) false }
-    ensures to_end { result ≡ 0 → (bytes : List ℕ) → S.left source.old ≡ Some bytes → S.left source.new ≡ Some [] }
+    // `replay` and `check` alone read, and refuse a line.
+    ensures source_stays { reads (command_of (map (λ w. w.now) words.now)) ≡ false → source.new ≡ source.old }
+    ensures reads { (result ≡ 2) ⊎ (result ≡ 3) → reads (command_of (map (λ w. w.now) words.now)) ≡ true }
+
+    // `replay`: what was printed is the replay of the bytes that the source had, with the answers that its own `run` lines
+    // show, of which each is allowed; it refuses no line, or its last line refuses one.
+    ensures accepted { command_of (map (λ w. w.now) words.now) ≡ Some command.Replay → result ≡ 0 → ArePrinted (replay_of (length services.items)) (S.left source.old) (K.taken sink.old) (K.taken sink.new) (AreAllowed V.served V.allows services.items) true }
+    ensures refused { command_of (map (λ w. w.now) words.now) ≡ Some command.Replay → result ≡ 2 → ArePrinted (replay_of (length services.items)) (S.left source.old) (K.taken sink.old) (K.taken sink.new) (AreAllowed V.served V.allows services.items) false }
+    ensures to_end { command_of (map (λ w. w.now) words.now) ≡ Some command.Replay → result ≡ 0 → (bytes : List ℕ) → S.left source.old ≡ Some bytes → S.left source.new ≡ Some [] }
 
     // Where the schedule opens a world, each of these lines obeys all laws.
-    ensures laws { (result ≡ 0) ⊎ (result ≡ 2) → (bytes : List ℕ) → S.left source.old ≡ Some bytes → OpensWorld bytes → TookLawful (K.taken sink.old) (K.taken sink.new) }
+    ensures laws { command_of (map (λ w. w.now) words.now) ≡ Some command.Replay → (result ≡ 0) ⊎ (result ≡ 2) → (bytes : List ℕ) → S.left source.old ≡ Some bytes → OpensWorld bytes → TookLawful (K.taken sink.old) (K.taken sink.new) }
 
     // A fault or want of memory leaves a front of it.
-    ensures front { is_replay (map (λ w. w.now) words.now) ≡ true → 3 ≤ result → AreParts (replay_of (length services.items)) (S.left source.old) (S.left source.new) (K.taken sink.old) (K.taken sink.new) (AreAllowed V.served V.allows services.items) }
+    ensures front { command_of (map (λ w. w.now) words.now) ≡ Some command.Replay → 3 ≤ result → AreParts (replay_of (length services.items)) (S.left source.old) (S.left source.new) (K.taken sink.old) (K.taken sink.new) (AreAllowed V.served V.allows services.items) }
 
-    // Faults have their causes, each fault has its status, and nothing else keeps an input that is
-    // accepted, whatever is answered, from its end.
+    // `check`: what was printed is the verdict on the bytes that the source had. Yes means that each line has its shape and
+    // obeys all laws, no that the named line is the first that doesn't, by the named clause.
+    ensures judged { command_of (map (λ w. w.now) words.now) ≡ Some command.Check → (bytes : List ℕ) → S.left source.old ≡ Some bytes → HasJudged bytes (S.left source.new) (K.taken sink.old) (K.taken sink.new) result }
+
+    // `make`, `gen` and `quiet`: what was printed is the schedule of the generated run, the summary of its trace, the line of
+    // the quiet call; or a front of it.
+    ensures made { (seed calls : ℕ) → command_of (map (λ w. w.now) words.now) ≡ Some (command.Make seed calls) → HasMade (run_of seed calls (length services.items)) (schedule_text generated_settings) (K.taken sink.old) (K.taken sink.new) (AreAllowed V.served V.allows services.items) result }
+    ensures counted { (seed calls : ℕ) → command_of (map (λ w. w.now) words.now) ≡ Some (command.Gen seed calls) → HasMade (run_of seed calls (length services.items)) (λ g. summary_text g.told) (K.taken sink.old) (K.taken sink.new) (AreAllowed V.served V.allows services.items) result }
+    ensures quiet { (n m : ℕ) → command_of (map (λ w. w.now) words.now) ≡ Some (command.Quiet n m) → HasCounted n m (K.taken sink.old) (K.taken sink.new) result }
+
+    // Faults have their causes, each fault has its status, and nothing else keeps an input that is accepted, with the answers
+    // that the services may give, from its end.
     ensures read { result ≡ 3 → HasRisen (S.faults source.old) (S.faults source.new) }
     ensures write { result ≡ 4 → HasRisen (K.faults sink.old) (K.faults sink.new) }
     ensures read_fault { S.faults source.new ≢ S.faults source.old → result ≡ 3 }
     ensures write_fault { K.faults sink.new ≢ K.faults sink.old → result ≡ 4 }
-    ensures complete { is_replay (map (λ w. w.now) words.now) ≡ true → (bytes : List ℕ) → S.left source.old ≡ Some bytes
-        → ((answers : List Answer) → is_refusal (replay bytes answers (length services.items)).end ≡ false)
+    ensures complete { command_of (map (λ w. w.now) words.now) ≡ Some command.Replay → (bytes : List ℕ) → S.left source.old ≡ Some bytes
+        → ((answers : List Answer) → shown (replay bytes answers (length services.items)).told ≡ answers → AreAllowed V.served V.allows services.items (replay bytes answers (length services.items)).told → is_refusal (replay bytes answers (length services.items)).end ≡ false)
         → (HasRisen (S.faults source.old) (S.faults source.new) → ⊥) → (HasRisen (K.faults sink.old) (K.faults sink.new) → ⊥) → (result ≡ 0) ⊎ (result ≡ 5) }
+    ensures complete_check { command_of (map (λ w. w.now) words.now) ≡ Some command.Check → (HasRisen (S.faults source.old) (S.faults source.new) → ⊥) → (HasRisen (K.faults sink.old) (K.faults sink.new) → ⊥) → (result ≡ 0) ⊎ (result ≡ 2) ⊎ (result ≡ 5) }
 {
-    if !is_replay(words) {
-        return put_usage(sink);
-    }
-    match replay::<Vec<V>, World<V>, S, K>(alloc, source, sink, services) {
-        Ok(true) => 0,
-        Ok(false) => 2,
-        Err(Stop::Read) => 3,
-        Err(Stop::Write) => 4,
-        Err(Stop::NoMemory) => 5,
+    match read_words(words) {
+        None => put_usage(sink),
+        Some(Command::Make { seed, calls }) => put_schedule(alloc, sink, services, seed, calls),
+        Some(Command::Gen { seed, calls }) => put_summary(alloc, sink, services, seed, calls),
+        Some(Command::Check) => put_judgement(alloc, source, sink),
+        Some(Command::Quiet { request, response }) => put_rounds(alloc, sink, request, response),
+        Some(Command::Replay) => {
+            match replay::<Vec<V>, World<V>, S, K>(alloc, source, sink, services) {
+                Ok(true) => 0,
+                Ok(false) => 2,
+                Err(stop) => status_of(stop),
+            }
+        }
     }
 }

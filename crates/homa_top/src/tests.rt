@@ -154,6 +154,44 @@ fn second_read_fails(rt: HostRuntime) -> Result<(), Fail> {
     Ok(())
 }
 
+// How often a replay ends with a status where one read, or one write, fails: the first, the second and so on, up to one that
+// isn't made. What is printed is a front of the whole replay each time.
+fn faults_in_turn(alloc: Global, input: &str, is_read: bool) -> Result<u64, Fail> {
+    let (_, whole) = replayed(alloc, input)?;
+    let wanted = if is_read { 3 } else { 4 };
+    for k in 0..1000u64 {
+        let plan = vec![in alloc; k]?;
+        let none = Vec::new(alloc);
+        let (reads, writes) = if is_read { (plan, none) } else { (none, plan) };
+        let (status, sink) = run_with(alloc, &["replay"], input, reads, writes)?;
+        if status == 0 {
+            return Ok(k);
+        }
+        if status != wanted || !whole.bytes().starts_with(sink.bytes()) {
+            return Err(Fail::new("another status, or no front"));
+        }
+    }
+    Err(Fail::new("no end"))
+}
+
+#[test]
+fn each_fault_in_turn(rt: HostRuntime) -> Result<(), Fail> {
+    let alloc = rt.alloc();
+    // Three reads: the line, its end where it lacks its line feed, and that nothing comes behind it. Two lines are printed.
+    assert_eq!(rt; faults_in_turn(alloc, "go", true)?, 3);
+    assert_eq!(rt; faults_in_turn(alloc, "go", false)?, 2);
+    // Two reads: the lines, and that nothing comes behind them. 201 lines are printed: 64 one by one, the next 136 before the
+    // end is read, and the last.
+    let mut long = String::new(alloc);
+    long.push_str("go\n")?;
+    for _ in 0..199 {
+        long.push_str("clock\n")?;
+    }
+    assert_eq!(rt; faults_in_turn(alloc, long.as_str(), true)?, 2);
+    assert_eq!(rt; faults_in_turn(alloc, long.as_str(), false)?, 66);
+    Ok(())
+}
+
 // Whether the words are no command: the status is 1, and the usage line is all that is printed.
 fn is_usage(alloc: Global, words: &[&str]) -> Result<bool, Fail> {
     let (status, sink) = run_with(alloc, words, SCHEDULE, Vec::new(alloc), Vec::new(alloc))?;
@@ -166,6 +204,75 @@ fn no_command(rt: HostRuntime) -> Result<(), Fail> {
     assert!(rt; is_usage(alloc, &["replay", "now"])?);
     assert!(rt; is_usage(alloc, &[])?);
     assert!(rt; is_usage(alloc, &["Replay"])?);
-    assert!(rt; is_usage(alloc, &["check"])?);
+    assert!(rt; is_usage(alloc, &["check", "now"])?);
+    assert!(rt; is_usage(alloc, &["make", "1", "0"])?);
+    assert!(rt; is_usage(alloc, &["make", "1"])?);
+    assert!(rt; is_usage(alloc, &["gen", "1", "100001"])?);
+    assert!(rt; is_usage(alloc, &["gen", "01", "1"])?);
+    assert!(rt; is_usage(alloc, &["quiet", "0", "1"])?);
+    assert!(rt; is_usage(alloc, &["quiet", "1", "1000001"])?);
+    Ok(())
+}
+
+#[test]
+fn traces_are_judged(rt: HostRuntime) -> Result<(), Fail> {
+    let alloc = rt.alloc();
+    let trace = format!(in alloc; "{SETTINGS}{CALL}ok 3\n")?;
+    // The response of the call is another one than that of its run: its last line but one is line 8.
+    let other = format!(in alloc;
+        "{SETTINGS}call 0.1.0 1 0 6869\nsend 0 0>1 1 DATA c 0.1.0 7 2 0 0 0 - 6869\ndeliver 0\nrun 1 0.1.0 0 6869 6869 0\nsend 1 1>0 1 DATA s 0.1.0 7 2 0 0 0 - 6869\ndeliver 1\ndone 0.1.0 6868\nok 3\n"
+    )?;
+    let judged = [
+        (trace.as_str(), 0, "yes 9\n"),
+        (other.as_str(), 2, "no 8 returned\n"),
+        ("", 2, "no 1 shape\n"),
+    ];
+    for (text, wanted, line) in judged {
+        let (status, sink) = run_with(alloc, &["check"], text, Vec::new(alloc), Vec::new(alloc))?;
+        assert_eq!(rt; status, wanted);
+        assert_eq!(rt; sink.bytes(), line.as_bytes());
+    }
+    let (status, _) = run_with(
+        alloc,
+        &["check"],
+        SCHEDULE,
+        vec![in alloc; 0]?,
+        Vec::new(alloc),
+    )?;
+    assert_eq!(rt; status, 3);
+    Ok(())
+}
+
+#[test]
+fn quiet_calls(rt: HostRuntime) -> Result<(), Fail> {
+    let alloc = rt.alloc();
+    let lines = [
+        (["quiet", "2", "2"], "quiet 2 2 rounds 2 bound 16\n"),
+        (
+            ["quiet", "10001", "1"],
+            "quiet 10001 1 rounds 4 bound 20012\n",
+        ),
+    ];
+    for (words, line) in lines {
+        let (status, sink) = run_with(alloc, &words, "", Vec::new(alloc), Vec::new(alloc))?;
+        assert_eq!(rt; status, 0);
+        assert_eq!(rt; sink.bytes(), line.as_bytes());
+    }
+    Ok(())
+}
+
+#[test]
+fn a_schedule_that_is_not_written(rt: HostRuntime) -> Result<(), Fail> {
+    // The second line isn't taken; the first one is a setting's.
+    let alloc = rt.alloc();
+    let (status, sink) = run_with(
+        alloc,
+        &["make", "1", "50"],
+        "",
+        Vec::new(alloc),
+        vec![in alloc; 1]?,
+    )?;
+    assert_eq!(rt; status, 4);
+    assert_eq!(rt; sink.bytes(), b"hosts 32\n".as_slice());
     Ok(())
 }

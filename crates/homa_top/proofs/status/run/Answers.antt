@@ -1,17 +1,33 @@
-use Rattle.std.proofs.Common.{◌≡◌, Bool, true, false, Some, List, ℕ, length, subst}
+-- Each command, by its words.
+use Rattle.std.proofs.Common.{◌∙◌, ap, sym, map, Some, length, subst}
 use Rattle.homa_replay.specs.Far.{replay_of, ArePrinted}
 use Rattle.homa_world.specs.First.{AreAllowed}
 use Rattle.homa_top.proofs.Lawful.{lawful}
+use Rattle.homa_top.proofs.Numbered.{quiet_sizes, same_make, same_gen}
 use Rattle.homa_top.proofs.status.run.Goals as goal
 
+pub put_rounds-requires-clause-request : goal.put_rounds-requires-clause-request
+put_rounds-requires-clause-request g c = (quiet_sizes (map (λ w. w.now) c.args.words.now) _ _ (sym c.read_words.ensures ∙ (c.in-Some-Quiet.is ∙ ap Some c.in-Some-Quiet.field-0-is))).0
+
+pub put_rounds-requires-clause-response : goal.put_rounds-requires-clause-response
+put_rounds-requires-clause-response g c = (quiet_sizes (map (λ w. w.now) c.args.words.now) _ _ (sym c.read_words.ensures ∙ (c.in-Some-Quiet.is ∙ ap Some c.in-Some-Quiet.field-0-is))).1
+
+pub returns-in-Some-Make-clause-made : goal.returns-in-Some-Make-clause-made
+returns-in-Some-Make-clause-made g c = λ seed calls are.
+    same_make _ _ _ _ _ _ _ (length c.args.services.items) _ (sym (c.in-Some-Make.is ∙ ap Some c.in-Some-Make.field-0-is) ∙ (c.read_words.ensures ∙ are)) c.put_schedule.ensures.made
+
+pub returns-in-Some-Gen-clause-counted : goal.returns-in-Some-Gen-clause-counted
+returns-in-Some-Gen-clause-counted g c = λ seed calls are.
+    same_gen _ _ _ _ _ _ _ (length c.args.services.items) _ (sym (c.in-Some-Gen.is ∙ ap Some c.in-Some-Gen.field-0-is) ∙ (c.read_words.ensures ∙ are)) c.put_summary.ensures.made
+
 pub returns-in-Ok-true-clause-accepted : goal.returns-in-Ok-true-clause-accepted
-returns-in-Ok-true-clause-accepted g c = λ _ bytes had. subst (λ b. ArePrinted (replay_of (length c.args.services.items)) (g.S.Source.left c.args.source.now) (g.K.Sink.taken c.args.sink.now) (g.K.Sink.taken c.replay.new.sink) (AreAllowed g.V.Service.served g.V.Service.allows c.args.services.items) b) c.in-Ok-true.field-0-test c.in-Ok-true.ensures.printed bytes had
+returns-in-Ok-true-clause-accepted g c = λ _ _ bytes had. subst (λ b. ArePrinted (replay_of (length c.args.services.items)) (g.S.Source.left c.args.source.now) (g.K.Sink.taken c.args.sink.now) (g.K.Sink.taken c.replay.new.sink) (AreAllowed g.V.Service.served g.V.Service.allows c.args.services.items) b) c.in-Ok-true.field-0-test c.in-Ok-true.ensures.printed bytes had
 
 pub returns-in-Ok-true-clause-laws : goal.returns-in-Ok-true-clause-laws
-returns-in-Ok-true-clause-laws g c = λ _. lawful (length c.args.services.items) c.requires.at_most (g.S.Source.left c.args.source.now) (g.K.Sink.taken c.args.sink.now) (g.K.Sink.taken c.replay.new.sink) _ _ c.in-Ok-true.ensures.printed
+returns-in-Ok-true-clause-laws g c = λ _ _. lawful (length c.args.services.items) c.requires.at_most (g.S.Source.left c.args.source.now) (g.K.Sink.taken c.args.sink.now) (g.K.Sink.taken c.replay.new.sink) _ _ c.in-Ok-true.ensures.printed
 
 pub returns-in-Ok-false-clause-refused : goal.returns-in-Ok-false-clause-refused
-returns-in-Ok-false-clause-refused g c = λ _ bytes had. subst (λ b. ArePrinted (replay_of (length c.args.services.items)) (g.S.Source.left c.args.source.now) (g.K.Sink.taken c.args.sink.now) (g.K.Sink.taken c.replay.new.sink) (AreAllowed g.V.Service.served g.V.Service.allows c.args.services.items) b) c.in-Ok-false.field-0-test c.in-Ok-false.ensures.printed bytes had
+returns-in-Ok-false-clause-refused g c = λ _ _ bytes had. subst (λ b. ArePrinted (replay_of (length c.args.services.items)) (g.S.Source.left c.args.source.now) (g.K.Sink.taken c.args.sink.now) (g.K.Sink.taken c.replay.new.sink) (AreAllowed g.V.Service.served g.V.Service.allows c.args.services.items) b) c.in-Ok-false.field-0-test c.in-Ok-false.ensures.printed bytes had
 
 pub returns-in-Ok-false-clause-laws : goal.returns-in-Ok-false-clause-laws
-returns-in-Ok-false-clause-laws g c = λ _. lawful (length c.args.services.items) c.requires.at_most (g.S.Source.left c.args.source.now) (g.K.Sink.taken c.args.sink.now) (g.K.Sink.taken c.replay.new.sink) _ _ c.in-Ok-false.ensures.printed
+returns-in-Ok-false-clause-laws g c = λ _ _. lawful (length c.args.services.items) c.requires.at_most (g.S.Source.left c.args.source.now) (g.K.Sink.taken c.args.sink.now) (g.K.Sink.taken c.replay.new.sink) _ _ c.in-Ok-false.ensures.printed

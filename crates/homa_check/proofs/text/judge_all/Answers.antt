@@ -1,0 +1,94 @@
+use Rattle.std.proofs.Common.{◌≡◌, ◌+◌, ◌∙◌, arith, refl, sym, ap, subst, ℕ}
+use Rattle.std.proofs.lemmas.Result.{err_from_is_err_and}
+use Rattle.homa_io.specs.Outside.{HasRisen}
+use Rattle.homa_plain.specs.View.{nothing_seen}
+use Rattle.homa_text.specs.Lines.{reading}
+use Rattle.homa_verdict.specs.Verdict as plain
+use Rattle.homa_check.specs.Traces.{clause_of}
+use Rattle.homa_check.proofs.LoopLaws.{start_due}
+use Rattle.homa_check.proofs.text.judge_all.Goals as goal
+
+pub lines-init : goal.lines-init
+lines-init g c =
+    let e = c.requires.lines in
+    let number : (reading c.args.lines.now).number ≡ 0 = ap (λ x. x.number) e in
+    let read : (reading c.args.lines.now).read ≡ 0 = ap (λ x. x.read) e in
+    record {
+      due = (nothing_seen, c.requires.follows, sym number, λ bytes k. (bytes, k, start_due (reading c.args.lines.now) bytes e));
+      counted = omega (arith, number, read);
+      within = omega (arith, read);
+      limit = ap (λ x. x.limit) e;
+      longest = ap (λ x. x.longest) e;
+      room = c.requires.room;
+      quiet = refl;
+      never_falls = omega arith;
+      same = g.met.S.Source.same_self _;
+    }
+
+pub lines-preserved : goal.lines-preserved
+lines-preserved g c =
+    let i = c.lines.invariant in
+    let e = c.in_ok-judge_next.ensures in
+    let t = rw c.in-Taken.is at (e.next i.due.0 i.due.1 (omega (arith, i.due.2, i.counted, i.within))) in
+    let read = e.read c.in-Taken.is in
+    record {
+      due = (t.w, t.follows, omega (arith, t.place, i.due.2, e.number, i.counted, i.within), λ bytes k. let a = i.due.3 bytes k in let b = t.due a.0 a.1 in (b.0, b.1, a.2 ∙ b.2));
+      counted = omega (arith, read.0, e.number, i.counted);
+      within = read.1;
+      limit = e.limit ∙ i.limit;
+      longest = e.longest ∙ i.longest;
+      room = omega (arith, e.room, i.room);
+      quiet = e.quiet refl ∙ i.quiet;
+      never_falls = omega (arith, e.never_falls, i.never_falls);
+      same = g.met.S.Source.same_on _ _ _ i.same e.same;
+    }
+
+pub lines-smaller : goal.lines-smaller
+lines-smaller g c = let read = c.in_ok-judge_next.ensures.read c.in-Taken.is in omega (arith, read.0, read.1)
+
+pub returns-in-End : goal.returns-in-End
+returns-in-End g c =
+    let i = c.lines.invariant in
+    let e = c.in_ok-judge_next.ensures in
+    let end = rw c.in-End.is at (e.next i.due.0 i.due.1 (omega (arith, i.due.2, i.counted, i.within))) in
+    record {
+      verdict = λ bytes k. let a = i.due.3 bytes k in a.2 ∙ (end.0 a.0 a.1 ∙ c.at_end.ensures i.due.0 end.2);
+      end = λ y. end.1;
+      risen = λ r. absurd cc;
+      quiet = λ r. e.quiet refl ∙ i.quiet;
+      never_falls = omega (arith, e.never_falls, i.never_falls);
+      same = g.met.S.Source.same_on _ _ _ i.same e.same;
+    }
+
+pub returns-in-Fails : goal.returns-in-Fails
+returns-in-Fails g c =
+    let i = c.lines.invariant in
+    let e = c.in_ok-judge_next.ensures in
+    let fails = rw c.in-Fails.is at (e.next i.due.0 i.due.1 (omega (arith, i.due.2, i.counted, i.within))) in
+    let number : i.due.0.place + 1 ≡ c.number.result = omega (arith, c.number.ensures, e.number, i.due.2, i.counted, i.within) in
+    record {
+      verdict = λ bytes k. let a = i.due.3 bytes k in a.2 ∙ (fails a.0 a.1 ∙ ap (λ (n : ℕ). plain.No n (clause_of c.in-Fails.clause)) number);
+      end = λ y. absurd cc;
+      risen = λ r. absurd cc;
+      quiet = λ r. e.quiet refl ∙ i.quiet;
+      never_falls = omega (arith, e.never_falls, i.never_falls);
+      same = g.met.S.Source.same_on _ _ _ i.same e.same;
+    }
+
+pub judge_next-requires : goal.judge_next-requires
+judge_next-requires g c = let i = c.lines.invariant in record { longest = i.longest; limit = i.limit; within = i.within; room = i.room }
+
+pub returns-in_err-judge_next : goal.returns-in_err-judge_next
+returns-in_err-judge_next g c =
+    let i = c.lines.invariant in
+    let k = c.in_err-judge_next.ensures in
+    let p = err_from_is_err_and c.from_residual.result c.from_residual.ensures.1 in
+    rw (p.1, p.2)
+    (record {
+      verdict = tt;
+      end = tt;
+      risen = λ r. subst (λ (n : ℕ). HasRisen n (g.S.Source.faults c.judge_next.new.source)) i.quiet (k.risen r);
+      quiet = λ r. k.quiet r ∙ i.quiet;
+      never_falls = omega (arith, k.never_falls, i.never_falls);
+      same = g.met.S.Source.same_on _ _ _ i.same k.same;
+    })

@@ -1,0 +1,78 @@
+-- A check of a text, line by line.
+use Rattle.std.specs.Prelude.{◌≡◌, ℕ, ◌+◌, ◌==◌, Bool, true, false, if◌then◌else◌, Option, Some, List, [], ◌∷◌, ◌++◌, Result, Ok, Err, codes}
+use Rattle.std.specs.Fmt.{decimal}
+use Rattle.homa_io.specs.Outside.{IsAtEnd}
+use Rattle.homa_plain.specs.Input.{lines_of}
+use Rattle.homa_plain.specs.View.{View}
+use Rattle.homa_plain.specs.Judge.{Clause, ShapeClause, OnceClause, ReturnedClause, HandedUpClause, FailsClause, GrantingClause}
+use Rattle.homa_plain.specs.Text.{line_of_words}
+use Rattle.homa_text.specs.Lines.{Reading}
+use Rattle.homa_verdict.specs.Verdict as plain
+use Rattle.homa_check.specs.declared.text.Next.{Next}
+use Rattle.homa_check.specs.declared.text.Next.TheVariants.{Taken, End, Fails}
+use Rattle.homa_check.specs.declared.trace.Trace.{Trace}
+use Rattle.homa_check.specs.declared.verdict.Verdict.{Verdict}
+use Rattle.homa_check.specs.declared.verdict.Verdict.TheVariants.{Yes, No}
+use Rattle.homa_check.specs.declared.verdict.CheckStop.{CheckStop}
+use Rattle.homa_check.specs.declared.verdict.CheckStop.TheVariants.{Read, NoMemory}
+use Rattle.homa_check.specs.Traces.{Follows, clause_of}
+
+-- a verdict, as the definitions have it
+abbrev pub plain_verdict : Verdict → plain.Verdict
+plain_verdict (Yes lines) = plain.Yes lines
+plain_verdict (No line clause) = plain.No line (clause_of clause)
+
+-- it is yes
+abbrev pub is_yes : Verdict → Bool
+is_yes (Yes lines) = true
+is_yes (No line clause) = false
+
+-- a check stops because the source gave a fault
+abbrev pub is_fault : CheckStop → Bool
+is_fault (Read failed) = true
+is_fault NoMemory = false
+
+-- it is answered that the source gave a fault
+abbrev pub is_read : {A : Type 0} → Result A CheckStop → Bool
+is_read (Ok answer) = false
+is_read (Err stop) = is_fault stop
+
+-- the word of a clause
+abbrev pub clause_word : Clause → List ℕ
+clause_word ShapeClause = codes "shape"
+clause_word OnceClause = codes "once"
+clause_word ReturnedClause = codes "returned"
+clause_word HandedUpClause = codes "handedup"
+clause_word FailsClause = codes "fails"
+clause_word GrantingClause = codes "granting"
+
+-- the line that tells a verdict
+abbrev pub verdict_text : plain.Verdict → List ℕ
+verdict_text (plain.Yes lines) = line_of_words (codes "yes" ∷ decimal lines ∷ [])
+verdict_text (plain.No line clause) = line_of_words (codes "no" ∷ decimal line ∷ clause_word clause ∷ [])
+
+-- the verdict where no line is left, behind lines that said v
+abbrev pub verdict_at_end : View → plain.Verdict
+verdict_at_end v = if v.place == 0 then plain.No 1 ShapeClause else plain.Yes v.place
+
+-- the verdict on the lines that are left, behind lines that said v
+abbrev pub verdict_left : View → ℕ → List (List ℕ) → plain.Verdict
+verdict_left v read [] = verdict_at_end v
+verdict_left v read (line ∷ lines) = plain.verdict_from v read (line ∷ lines)
+
+-- the verdict on what a reader of lines has pending, and these bytes
+abbrev pub verdict_next : View → Reading → List ℕ → plain.Verdict
+verdict_next v r bytes = verdict_left v r.read (lines_of (r.pending ++ bytes))
+
+-- a line was taken: the verdict is that on the lines behind it
+pub record IsTaken (v : View) (old new : Reading) (left left_then : Option (List ℕ)) (t : Trace) : Type 0 where
+  pub w : View
+  pub follows : Follows w t
+  pub place : w.place ≡ v.place + 1
+  pub due : (bytes : List ℕ) → left ≡ Some bytes → (rest : List ℕ) × (left_then ≡ Some rest) × (verdict_next v old bytes ≡ verdict_next w new rest)
+
+-- what became of the next line, behind lines that said v
+abbrev pub IsNext : View → Reading → Reading → Option (List ℕ) → Option (List ℕ) → Trace → Next → Type 0
+IsNext v old new left left_then t Taken = IsTaken v old new left left_then t
+IsNext v old new left left_then t End = ((bytes : List ℕ) → left ≡ Some bytes → verdict_next v old bytes ≡ verdict_at_end v) × IsAtEnd left_then × Follows v t
+IsNext v old new left left_then t (Fails clause) = (bytes : List ℕ) → left ≡ Some bytes → verdict_next v old bytes ≡ plain.No (v.place + 1) (clause_of clause)

@@ -1,0 +1,67 @@
+// Whether a GRANT is one that its host may send.
+ghost use Rattle.std.specs.Prelude.{◌≡◌, ◌+◌, ◌<◌, min, length};
+ghost use Rattle.homa_check.specs.Grants.{new_end_of, is_told_to, is_grant_to, is_grant_among};
+ghost use Rattle.homa_plain.specs.Judge.{is_role};
+
+use crate::block::is_same;
+use crate::host::is_same_host;
+use homa_kept::Message;
+use homa_plain::{CallId, HostId, Role};
+
+/// A GRANT, as its line tells it.
+#[derive(Clone, Copy, Debug, PartialEq, Eq)]
+pub(crate) struct Grant {
+    pub(crate) to: HostId,
+    pub(crate) role: Role,
+    pub(crate) id: CallId,
+    pub(crate) offset: u32,
+    pub(crate) prio: u8,
+}
+
+// The end that is granted to a message where it is chosen.
+fn new_end(message: &Message, window: u32) -> u64
+    ensures { result ≡ new_end_of window message.now }
+{
+    u64::from(message.length).min(u64::from(message.arrived) + u64::from(window))
+}
+
+// Two are one role.
+fn is_same_role(a: Role, b: Role) -> bool
+    ensures { result ≡ is_role a b }
+{
+    match a {
+        Role::Client => b == Role::Client,
+        Role::Server => b == Role::Server,
+    }
+}
+
+// A GRANT tells of this message, up to this end, at this priority.
+fn is_told(message: &Message, end: u64, prio: usize, grant: &Grant) -> bool
+    ensures { result ≡ is_told_to end prio grant.now message.now }
+{
+    is_same_host(grant.to, message.peer)
+        && is_same_role(grant.role, message.role)
+        && is_same(grant.id, message.id)
+        && u64::from(grant.offset) == end
+        && grant.prio as usize == prio
+}
+
+// A GRANT is one to this message, which is chosen.
+fn is_to(message: &Message, window: u32, prio: usize, grant: &Grant) -> bool
+    ensures { result ≡ is_grant_to window prio grant.now message.now }
+{
+    let end = new_end(message, window);
+    u64::from(message.granted) < end && is_told(message, end, prio, grant)
+}
+
+/// A GRANT is one to one of these messages, which are chosen, in order of rank.
+pub(crate) fn is_granted(chosen: &[Message], window: u32, grant: &Grant) -> bool
+    ensures { result ≡ is_grant_among window (length chosen.now) 0 grant.now chosen.now }
+{
+    for (rank, message) in chosen.iter().enumerate() {
+        if is_to(message, window, chosen.len() - 1 - rank, grant) {
+            return true;
+        }
+    }
+    false
+}

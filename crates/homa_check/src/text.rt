@@ -1,0 +1,163 @@
+// The check of a text.
+ghost use Rattle.std.specs.Prelude.{◌≡◌, ◌+◌, ◌-◌, ◌*◌, ◌^◌, ◌<◌, ◌≤◌, ℕ, List, Some, None, [], true, false, length, min, IfOk, OnOk};
+ghost use Rattle.std.specs.Option.{option_map};
+ghost use Rattle.homa_check.specs.Checks.{plain_verdict, is_yes, is_read, verdict_at_end, IsNext};
+ghost use Rattle.homa_check.specs.Traces.{Follows, clause_of};
+ghost use Rattle.homa_check.specs.declared.text.Next.TheVariants.{Taken};
+ghost use Rattle.homa_check.specs.declared.verdict.Clause.{Clause as AClause};
+ghost use Rattle.homa_check.specs.declared.verdict.Verdict.TheVariants.{Yes, No};
+ghost use Rattle.homa_io.specs.Outside.{HasRisen, IsAtEnd};
+ghost use Rattle.homa_lines.specs.Forms.{entry_of};
+ghost use Rattle.homa_plain.specs.View.{View, nothing_seen};
+ghost use Rattle.homa_text.specs.Lines.{reading};
+ghost use Rattle.homa_verdict.specs.Text.{IsTrace, IsNoTrace};
+ghost use Rattle.homa_verdict.specs.Verdict.{verdict_of, judged_text, seen_text};
+
+use crate::trace::Trace;
+use crate::verdict::{CheckStop, Clause, Verdict};
+use homa_io::Source;
+use homa_lines::read_entry;
+use homa_text::{LineGot, Lines};
+use std::alloc::{AllocError, Global};
+
+// The most bytes of an input.
+const LONGEST_INPUT: u64 = 68_719_476_736;
+
+// The most bytes of a line, its line feed not counted.
+const LONGEST_LINE: u32 = 4_100_000;
+
+// Room for the bytes that a line can spell.
+const ROOM: usize = 2_050_000;
+
+/// What became of the next line.
+#[derive(Clone, Copy)]
+pub(crate) enum Next {
+    /// It obeys all laws.
+    Taken,
+    /// There is none.
+    End,
+    /// This clause fails first.
+    Fails(Clause),
+}
+
+// The first clause that fails at a line of text, which is taken where none does.
+fn step(
+    alloc: Global,
+    trace: &mut Trace,
+    line: &[u8],
+    room: &mut [u8],
+) -> Result<Option<Clause>, AllocError>
+    requires { length line.now ≤ 2 * length room.old }
+    ensures judged { IfOk result (λ r. (v : View) → Follows v trace.old → v.place < 2 ^ 64 - 1 → option_map clause_of r ≡ judged_text v (entry_of line.now)) }
+    ensures next { IfOk result (λ r. (v : View) → Follows v trace.old → v.place < 2 ^ 64 - 1 → r ≡ None → Follows (seen_text v (entry_of line.now)) trace.new) }
+{
+    match read_entry(line, room) {
+        Some(entry) => trace.step(alloc, &entry),
+        None => Ok(Some(Clause::Shape)),
+    }
+}
+
+// Reads the next line, and judges it.
+fn judge_next<S: Source>(
+    alloc: Global,
+    trace: &mut Trace,
+    lines: &mut Lines,
+    source: &mut S,
+    room: &mut [u8],
+) -> Result<Next, CheckStop>
+    requires longest { (reading lines.old).longest ≡ 4100000 }
+    requires limit { (reading lines.old).limit ≡ 68719476736 }
+    requires within { (reading lines.old).read ≤ 68719476736 }
+    requires room { 2050000 ≤ length room.old }
+    ensures next { IfOk result (λ next. (v : View) → Follows v trace.old → v.place ≤ 68719476736 → IsNext v (reading lines.old) (reading lines.new) (S.left source.old) (S.left source.new) trace.new next) }
+    ensures read { IfOk result (λ next. next ≡ Taken → ((reading lines.old).read < (reading lines.new).read) × ((reading lines.new).read ≤ 68719476736)) }
+    ensures number { OnOk result ((reading lines.new).number ≡ min ((reading lines.old).number + 1) (2 ^ 64 - 1)) }
+    ensures limit { (reading lines.new).limit ≡ (reading lines.old).limit }
+    ensures longest { (reading lines.new).longest ≡ (reading lines.old).longest }
+    ensures room { length room.new ≡ length room.old }
+    ensures risen { is_read result ≡ true → HasRisen (S.faults source.old) (S.faults source.new) }
+    ensures quiet { is_read result ≡ false → S.faults source.new ≡ S.faults source.old }
+    ensures never_falls { S.faults source.old ≤ S.faults source.new }
+    ensures same { S.is_same source.old source.new }
+{
+    match lines.next(source)? {
+        LineGot::End => Ok(Next::End),
+        LineGot::Long => Ok(Next::Fails(Clause::Shape)),
+        LineGot::Over => Ok(Next::Fails(Clause::Shape)),
+        LineGot::Line => match step(alloc, trace, lines.bytes(), room)? {
+            Some(clause) => Ok(Next::Fails(clause)),
+            None => Ok(Next::Taken),
+        },
+    }
+}
+
+// The verdict where no line is left.
+fn at_end(trace: &Trace) -> Verdict
+    ensures { (v : View) → Follows v trace.now → verdict_at_end v ≡ plain_verdict result }
+{
+    if trace.place == 0 {
+        return Verdict::No {
+            line: 1,
+            clause: Clause::Shape,
+        };
+    }
+    Verdict::Yes { lines: trace.place }
+}
+
+/// Judges a text line by line, up to the first line that isn't one of a trace, or breaks a law. A line of more than
+/// 4,100,000 bytes, its line feed not counted, is none, and so is one in which byte number 68,719,476,737 stands.
+/// Errors: `Read` where the source gave a fault, and `NoMemory`. The source is then read up to some place.
+pub fn check<S: Source>(alloc: Global, source: &mut S) -> Result<Verdict, CheckStop>
+    // It is the verdict of the definition, on all bytes that the source had.
+    ensures verdict { IfOk result (λ verdict. (bytes : List ℕ) → S.left source.old ≡ Some bytes → verdict_of bytes ≡ plain_verdict verdict) }
+
+    // Yes: it has so many lines, each has its shape, and all of them obey all laws. It was read to its end.
+    ensures yes { IfOk result (λ verdict. (bytes : List ℕ) (n : ℕ) → S.left source.old ≡ Some bytes → verdict ≡ Yes n → IsTrace bytes n) }
+    ensures end { IfOk result (λ verdict. is_yes verdict ≡ true → IsAtEnd (S.left source.new)) }
+
+    // No: this line is the first that hasn't its shape or breaks a law, and this clause is the first that fails there.
+    ensures no { IfOk result (λ verdict. (bytes : List ℕ) (line : ℕ) (clause : AClause) → S.left source.old ≡ Some bytes → verdict ≡ No line clause → IsNoTrace bytes line (clause_of clause)) }
+
+    // It says that reading failed exactly where the source's count of faults rose; want of memory is free.
+    ensures risen { is_read result ≡ true → HasRisen (S.faults source.old) (S.faults source.new) }
+    ensures quiet { is_read result ≡ false → S.faults source.new ≡ S.faults source.old }
+    ensures never_falls { S.faults source.old ≤ S.faults source.new }
+    ensures same { S.is_same source.old source.new }
+{
+    let mut lines = Lines::open(alloc, LONGEST_INPUT, LONGEST_LINE)?;
+    let mut room = vec![in alloc; 0; ROOM]?;
+    let mut trace = Trace::new(alloc);
+    judge_all(alloc, &mut trace, &mut lines, source, &mut room)
+}
+
+// Judges the lines that are left.
+fn judge_all<S: Source>(
+    alloc: Global,
+    trace: &mut Trace,
+    lines: &mut Lines,
+    source: &mut S,
+    room: &mut [u8],
+) -> Result<Verdict, CheckStop>
+    requires follows { Follows nothing_seen trace.old }
+    requires lines { reading lines.old ≡ record { pending = []; line = []; read = 0; number = 0; limit = 68719476736; longest = 4100000 } }
+    requires room { 2050000 ≤ length room.old }
+    ensures verdict { IfOk result (λ verdict. (bytes : List ℕ) → S.left source.old ≡ Some bytes → verdict_of bytes ≡ plain_verdict verdict) }
+    ensures end { IfOk result (λ verdict. is_yes verdict ≡ true → IsAtEnd (S.left source.new)) }
+    ensures risen { is_read result ≡ true → HasRisen (S.faults source.old) (S.faults source.new) }
+    ensures quiet { is_read result ≡ false → S.faults source.new ≡ S.faults source.old }
+    ensures never_falls { S.faults source.old ≤ S.faults source.new }
+    ensures same { S.is_same source.old source.new }
+{
+    'lines: loop {
+        match judge_next(alloc, trace, lines, source, room)? {
+            Next::Taken => {}
+            Next::End => return Ok(at_end(trace)),
+            Next::Fails(clause) => {
+                return Ok(Verdict::No {
+                    line: lines.number(),
+                    clause,
+                });
+            }
+        }
+    }
+}

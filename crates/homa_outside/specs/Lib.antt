@@ -1,0 +1,10 @@
+pub mod Net
+pub mod Clock
+pub mod Observer
+pub mod Hosts
+pub mod Given
+pub mod Memory
+pub mod Ticks
+pub mod Sure
+pub mod Real
+pub mod Printer

@@ -1,0 +1,67 @@
+-- What the commands beside `replay` print, by their status.
+use Rattle.std.specs.Prelude.{◌≡◌, ◌≤◌, ◌⊎◌, ℕ, Option, List}
+use Rattle.homa_io.specs.Outside.{appended, TookFront, IsAtEnd}
+use Rattle.homa_plain.specs.Settings.{usual}
+use Rattle.homa_plain.specs.Entries.{PlainEntry}
+use Rattle.homa_plain.specs.Judge.{Clause}
+use Rattle.homa_plain.specs.Quiet.{IsQuiet}
+use Rattle.homa_verdict.specs.Text.{IsTrace, IsNoTrace}
+use Rattle.homa_verdict.specs.Verdict as verdict
+use Rattle.homa_verdict.specs.Verdict.{verdict_of}
+use Rattle.homa_check.specs.Checks.{verdict_text}
+use Rattle.homa_replay.specs.declared.stop.Stop.{Stop}
+use Rattle.homa_replay.specs.declared.stop.Stop.TheVariants.{Read, Write, NoMemory}
+use Rattle.homa_traffic.specs.Rounds.{Generated}
+use Rattle.homa_generate.specs.Made.{Run, IsMade, IsPartMade}
+use Rattle.homa_rounds.specs.Text.{bound, quiet_text}
+
+-- the status of a command that stopped
+abbrev pub status_of : Stop → ℕ
+status_of Read = 3
+status_of Write = 4
+status_of NoMemory = 5
+
+-- the end, a fault of the sink, or want of memory
+abbrev pub IsWritten : ℕ → Type 0
+IsWritten status = (status ≡ 0) ⊎ (status ≡ 4) ⊎ (status ≡ 5)
+
+-- a text of a generated run was printed; with a status other than 0, a front of it
+pub record HasMade (run : Run) (text : Generated → List ℕ) (old new : Option (List ℕ)) (allowed : List PlainEntry → Type 0) (status : ℕ) : Type 0 where
+  pub written : IsWritten status
+  pub whole : status ≡ 0 → IsMade run text old new allowed
+  pub front : 3 ≤ status → IsPartMade run text old new allowed
+
+-- the quiet call is done in this round, at the latest in the round of the bound, and its line was printed
+pub record IsCounted (n m : ℕ) (old new : Option (List ℕ)) : Type 0 where
+  pub rounds : ℕ
+  pub quiet : IsQuiet usual n m rounds
+  pub within : rounds ≤ bound n m
+  pub printed : new ≡ appended old (quiet_text n m rounds)
+
+-- the line of the quiet call was printed; with a status other than 0, a front of it
+pub record HasCounted (n m : ℕ) (old new : Option (List ℕ)) (status : ℕ) : Type 0 where
+  pub written : IsWritten status
+  pub whole : status ≡ 0 → IsCounted n m old new
+  pub front : 3 ≤ status → (rounds : ℕ) → IsQuiet usual n m rounds → TookFront old new (quiet_text n m rounds)
+
+-- ---- `check`
+
+-- every line obeys all laws: that was printed, and the input was read to its end
+pub record IsYes (bytes : List ℕ) (left old new : Option (List ℕ)) : Type 0 where
+  pub lines : ℕ
+  pub trace : IsTrace bytes lines
+  pub printed : new ≡ appended old (verdict_text (verdict.Yes lines))
+  pub to_end : IsAtEnd left
+
+-- a line is the first that doesn't, and a clause the first that fails there: that was printed
+pub record IsNo (bytes : List ℕ) (old new : Option (List ℕ)) : Type 0 where
+  pub line : ℕ
+  pub clause : Clause
+  pub fails : IsNoTrace bytes line clause
+  pub printed : new ≡ appended old (verdict_text (verdict.No line clause))
+
+-- the verdict on these bytes was printed; with the status of a fault or of want of memory, a front of it
+pub record HasJudged (bytes : List ℕ) (left old new : Option (List ℕ)) (status : ℕ) : Type 0 where
+  pub yes : status ≡ 0 → IsYes bytes left old new
+  pub no : status ≡ 2 → IsNo bytes old new
+  pub front : 3 ≤ status → TookFront old new (verdict_text (verdict_of bytes))

@@ -1,0 +1,96 @@
+// The words of a command line.
+ghost use Rattle.std.specs.Prelude.{◌≡◌, ℕ, [], ◌∷◌, map};
+ghost use Rattle.std.specs.Option.{option_map};
+ghost use Rattle.homa_top.specs.declared.words.Command.{Command};
+ghost use Rattle.homa_top.specs.Words.{number_within, seeded, sized, numbered, command_of};
+
+use homa_text::read_number;
+
+/// A command, with the numbers that its words tell.
+#[derive(Clone, Copy, Debug, PartialEq, Eq)]
+pub enum Command {
+    /// The replay of a schedule.
+    Replay,
+    /// The schedule of generated traffic: its seed, and how many calls, from 1 to 100,000.
+    Make { seed: u64, calls: u32 },
+    /// The summary of generated traffic, the same.
+    Gen { seed: u64, calls: u32 },
+    /// The verdict on a trace.
+    Check,
+    /// The rounds of a quiet call: how many bytes it asks and how many it is answered, each from 1 to 1,000,000.
+    Quiet { request: u32, response: u32 },
+}
+
+// The most calls of generated traffic, and the most bytes of a quiet call's messages.
+const MOST_CALLS: u32 = 100_000;
+
+const MOST_BYTES: u32 = 1_000_000;
+
+// The number that a word is, where it is one from 1 to `most`.
+fn number_within(word: &str, most: u32) -> Option<u32>
+    ensures { result ≡ number_within most word.now }
+{
+    let n = u32::try_from(read_number(word.as_bytes())?).ok()?;
+    if 1 <= n && n <= most { Some(n) } else { None }
+}
+
+// The numbers of generated traffic.
+fn seeded(seed: &str, calls: &str) -> Option<(u64, u32)>
+    ensures { (make : ℕ → ℕ → Command) → seeded make seed.now calls.now ≡ option_map (λ x. make x.0 x.1) result }
+{
+    let seed = read_number(seed.as_bytes())?;
+    let calls = number_within(calls, MOST_CALLS)?;
+    Some((seed, calls))
+}
+
+// The lengths of a quiet call's messages.
+fn sized(request: &str, response: &str) -> Option<(u32, u32)>
+    ensures { (make : ℕ → ℕ → Command) → sized make request.now response.now ≡ option_map (λ x. make x.0 x.1) result }
+{
+    let request = number_within(request, MOST_BYTES)?;
+    let response = number_within(response, MOST_BYTES)?;
+    Some((request, response))
+}
+
+// The command of a word with two behind it.
+fn numbered(word: &str, first: &str, second: &str) -> Option<Command>
+    ensures { result ≡ numbered word.now first.now second.now }
+{
+    match word {
+        "make" => {
+            let (seed, calls) = seeded(first, second)?;
+            Some(Command::Make { seed, calls })
+        }
+        "gen" => {
+            let (seed, calls) = seeded(first, second)?;
+            Some(Command::Gen { seed, calls })
+        }
+        "quiet" => {
+            let (request, response) = sized(first, second)?;
+            Some(Command::Quiet { request, response })
+        }
+        _ => None,
+    }
+}
+
+// The command of a word alone.
+fn single(word: &str) -> Option<Command>
+    ensures { result ≡ command_of (word.now ∷ []) }
+{
+    match word {
+        "replay" => Some(Command::Replay),
+        "check" => Some(Command::Check),
+        _ => None,
+    }
+}
+
+/// The command that these words are; None where they are none.
+pub(crate) fn read_words(words: &[&str]) -> Option<Command>
+    ensures { result ≡ command_of (map (λ w. w.now) words.now) }
+{
+    match words {
+        [word] => single(word),
+        [word, first, second] => numbered(word, first, second),
+        _ => None,
+    }
+}

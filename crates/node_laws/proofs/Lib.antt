@@ -1,0 +1,11 @@
+pub mod OfNode
+pub mod Inner
+pub mod Carried
+pub mod Noted
+pub mod Parts
+pub mod Ruled
+pub mod Good
+pub mod GoodSteps
+pub mod Repeated
+pub mod Opening
+pub mod Loops

@@ -1,0 +1,322 @@
+-- What a part of a node's run adds to what the replay of its recording has carried out.
+use Rattle.std.proofs.Common.{◌≡◌, ℕ, suc, zero, ◌+◌, ◌≤◌, Bool, true, false, Option, None, Some, List, [], ◌∷◌, ◌++◌, length, map, refl, sym, ap, ◌∙◌, subst, arith, drop, ◌<◌}
+use Rattle.std.specs.Prelude.{is_some, if◌then◌else◌, slice_get, slice_set, ◌==◌, ◌&&◌, nat_lt, slice_index_or}
+use Rattle.std.specs.List.{AllByRecursion}
+use Rattle.std.specs.Option.{IfSome}
+use Rattle.std.proofs.lemmas.Bool.{cond_both, ltb-true, true≢false}
+use Rattle.homa_plain.specs.declared.id.CallId.{CallId}
+use Rattle.homa_plain.specs.declared.id.HostId.{HostId}
+use Rattle.homa_plain.specs.declared.packet.Packet.{Packet as WirePacket}
+use Rattle.homa_plain.specs.declared.settings.Settings.{Settings}
+use Rattle.homa_plain.specs.declared.event.Event.TheVariants as event
+use Rattle.homa_plain.specs.declared.fault.StartFault.{StartFault}
+use Rattle.homa_plain.specs.declared.fault.WorldFault.TheVariants.{NoSuchHost, Start}
+use Rattle.homa_plain.specs.Calls.{is_host}
+use Rattle.homa_plain.specs.Wire.{packet_in}
+use Rattle.homa_plain.specs.Entries.{PlainEntry, PlainSettings, PlainCall, PlainRecv, PlainDeliver, PlainInject}
+use Rattle.homa_plain.specs.declared.packet.Role.{Role}
+use Rattle.homa_plain.specs.declared.packet.Role.TheVariants.{Client, Server}
+use Rattle.homa_plain.specs.Packets.{Packet, sender, receiver, receiver_of, call_between, server_between, wire_packet, packet_between}
+use Rattle.homa_plain.specs.Host.{Host, Told, packets_in, entries_from}
+use Rattle.homa_plain.specs.Steps.{Work, start_fault, next_id, call_step, arrival_step, turn_step, has_run}
+use Rattle.homa_plain.specs.World.{World, SentPacket, After, Refused, Done, outcome, host_at, own_clock, next_answer, answers_left, stamped, stepped, started, calls_from, turns, arrives_at, last_tick}
+use Rattle.homa_plain.specs.Replay.{Happening, bare}
+use Rattle.homa_moves.proofs.Hosts.{there, elsewhere, within, some_is, number_of, apart}
+use Rattle.homa_plain.specs.Bytes.{IsBytes}
+use Rattle.homa_plain.specs.Settings.{IsValid}
+use Rattle.homa_plain.specs.Rules.{Answer}
+use Rattle.homa_steps.proofs.Places.{all-append}
+use Rattle.world_laws.specs.Sound.{IsSent}
+use Rattle.node_laws.proofs.Good.{IsGoodHost, IsGoodWork, IsSentNow}
+use Rattle.node_laws.proofs.GoodSteps.{call_good, arrival_good, turn_good}
+use Rattle.homa_told.specs.Told.{HasOwnName}
+use Rattle.homa_told.proofs.Lines.{AllInner}
+use Rattle.world_laws.proofs.Sent.{read, between}
+use Rattle.node_runs.specs.Course.{Report, Tells, Turning, Arrival, packet_from, arrival_outcome}
+use Rattle.node_runs.specs.Recorder.{Notes, no_notes, Kind, Sent, Junk, Strange, kind_of, kind_in, kind_events, is_strange, strange, events, kept}
+use Rattle.node_runs.specs.Texts.{entries}
+use Rattle.node_runs.specs.Replayed.{recorded_events, is_of_host, of_hosts, IsAnswer}
+use Rattle.node_laws.proofs.OfNode.{IsOfNode}
+use Rattle.node_laws.proofs.Inner.{call_inside, arrival_inside, turn_inside}
+use Rattle.node_laws.proofs.Carried.{respared, respare, call_respared, turn_respared, deliver_is, inject_is, IsRun, run_one, run_more}
+use Rattle.node_laws.proofs.Noted.{kept_all, kept-append, events-append, events_first, inner_no_event, AreNotes, inner_notes, found_sent, found_junk, found_some}
+
+-- ---- lists of entries
+
+pub entries-append : (a b : List Report) → entries (a ++ b) ≡ entries a ++ entries b
+entries-append [] b = refl
+entries-append (Tells e ∷ a) b = ap (λ (es : List PlainEntry). e ∷ es) (entries-append a b)
+entries-append (Turning host ∷ a) b = entries-append a b
+
+entries-told : (es : List PlainEntry) → entries (map Tells es) ≡ es
+entries-told [] = refl
+entries-told (e ∷ es) = ap (λ (l : List PlainEntry). e ∷ l) (entries-told es)
+
+pub hosts-append : (a b : List PlainEntry) → of_hosts (a ++ b) ≡ of_hosts a ++ of_hosts b
+hosts-append [] b = refl
+hosts-append (e ∷ a) b = by_test (is_of_host e) (hosts-append a b) where
+  by_test : (t : Bool) → of_hosts (a ++ b) ≡ of_hosts a ++ of_hosts b → (if t then e ∷ of_hosts (a ++ b) else of_hosts (a ++ b)) ≡ (if t then e ∷ of_hosts a else of_hosts a) ++ of_hosts b
+  by_test true h = ap (λ (l : List PlainEntry). e ∷ l) h
+  by_test false h = h
+
+pub all_second : {X : Type 0} (P : X → Type 0) (xs ys : List X) → AllByRecursion P (xs ++ ys) → AllByRecursion P ys
+all_second P [] ys all = all
+all_second P (x ∷ xs) ys all = all_second P xs ys all.1
+
+pub done_is : (a b : After) → Done a ≡ Done b → a ≡ b
+done_is a b e = cc
+
+-- ---- a world whose packets are all well formed
+
+pub record IsGoodWorld (s : Settings) (w : World) : Type 0 where
+  pub hosts : (id : HostId) (h : Host) → host_at w id ≡ Some h → IsGoodHost h
+  pub leads : (id : HostId) (h : Host) → host_at w id ≡ Some h → slice_index_or w.leads id.0 0 ≡ s.skew
+  pub packets : AllByRecursion (IsOfNode s) w.packets
+  pub answers : AllByRecursion IsAnswer w.answers
+  pub clock : w.clock ≤ last_tick
+
+-- where no answer is left, there is one byte
+next_is_answer : (answers : List Answer) → AllByRecursion IsAnswer answers → IsAnswer (next_answer answers)
+next_is_answer [] all = ((omega arith, omega arith), one_byte, omega arith) where
+  one_byte : IsBytes (0 ∷ [])
+  one_byte zero = omega arith
+  one_byte (suc i) = omega arith
+next_is_answer (a ∷ answers) all = all.0
+
+all_but_one : {X : Type 0} (P : X → Type 0) (xs : List X) → AllByRecursion P xs → AllByRecursion P (drop 1 xs)
+all_but_one P [] all = tt
+all_but_one P (x ∷ xs) all = all.1
+
+-- ---- what is so between two parts
+
+module _ (s : Settings) (k : ℕ) (v : World) where
+  -- the replay of what these reports recorded has come to this world, with other spare boxes, and told the same of its hosts
+  pub record IsRepeated (w : World) (reports : List Report) : Type 0 where
+    pub names : (id : HostId) (h : Host) → host_at w id ≡ Some h → HasOwnName id h
+    pub good : IsGoodWorld s w
+    pub lines : List PlainEntry
+    pub run : IsRun s v (recorded_events no_notes reports) (respared k w) lines
+    pub told : of_hosts (PlainSettings s ∷ lines) ≡ of_hosts (entries reports)
+    pub notes : AreNotes s (kept_all no_notes reports) w.clock w.packets
+
+  -- what some reports add, from a world to another one
+  pub record IsAdded (n : Notes) (w x : World) (added : List Report) : Type 0 where
+    pub names : (id : HostId) (h : Host) → host_at x id ≡ Some h → HasOwnName id h
+    pub good : IsGoodWorld s x
+    pub lines : List PlainEntry
+    pub run : IsRun s (respared k w) (recorded_events n added) (respared k x) lines
+    pub told : of_hosts lines ≡ of_hosts (entries added)
+    pub notes : AreNotes s (kept_all n added) x.clock x.packets
+
+  pub goes_on : (w x : World) (reports added : List Report) → IsRepeated w reports → IsAdded (kept_all no_notes reports) w x added → IsRepeated x (reports ++ added)
+  goes_on w x reports added j a = record {
+    names = a.names;
+    good = a.good;
+    lines = j.lines ++ a.lines;
+    run = subst (λ (es : List Happening). IsRun s v es (respared k x) (j.lines ++ a.lines)) (sym (events-append no_notes reports added))
+        (run_more s v (respared k w) (respared k x) (recorded_events no_notes reports) (recorded_events (kept_all no_notes reports) added) j.lines a.lines j.run a.run);
+    told = hosts-append (PlainSettings s ∷ j.lines) a.lines
+        ∙ ap (λ (l : List PlainEntry). l ++ of_hosts a.lines) j.told ∙ ap (λ (l : List PlainEntry). of_hosts (entries reports) ++ l) a.told
+        ∙ sym (hosts-append (entries reports) (entries added)) ∙ ap of_hosts (sym (entries-append reports added));
+    notes = subst (λ (m : Notes). AreNotes s m x.clock x.packets) (sym (kept-append no_notes reports added)) a.notes;
+  }
+
+  -- ---- the steps of hosts
+
+  module _ (n : Notes) (w : World) (names : (id : HostId) (h : Host) → host_at w id ≡ Some h → HasOwnName id h) (notes : AreNotes s n w.clock w.packets) (valid : IsValid s) (good : IsGoodWorld s w) where
+    -- the world behind a step
+    abbrev behind : HostId → Work → After → Type 0
+    behind id step after = (after.world.hosts ≡ slice_set w.hosts id.0 step.host) × (after.world.packets ≡ w.packets ++ stamped w.clock (packets_in step.told)) × (after.world.clock ≡ w.clock) × (after.world.leads ≡ w.leads) × (after.world.answers ≡ answers_left step.told w.answers)
+
+    stepped_behind : (id : HostId) (first : List PlainEntry) (step : Work) (after : After) → stepped w id first step ≡ Done after → behind id step after × (after.told ≡ first ++ entries_from (length w.packets) step.told)
+    stepped_behind id first step after is = subst (λ (a : After). behind id step a × (a.told ≡ first ++ entries_from (length w.packets) step.told)) (done_is _ after is) ((refl, refl, refl, refl, refl), refl)
+
+    each_behind : (P : HostId → Host → Type 0) → ((q : HostId) (g : Host) → host_at w q ≡ Some g → P q g) → (id : HostId) (step : Work) (after : After) (h : Host) → host_at w id ≡ Some h → P id step.host → behind id step after → (q : HostId) (g : Host) → host_at after.world q ≡ Some g → P q g
+    each_behind P each id step after h at here b q g is = by_host (is_host id q) refl where
+      set : slice_get (slice_set w.hosts id.0 step.host) q.0 ≡ Some g
+      set = ap (λ (hs : List Host). slice_get hs q.0) (sym b.0) ∙ is
+
+      by_host : (t : Bool) → is_host id q ≡ t → P q g
+      by_host true e =
+          let same : id.0 ≡ q.0 = number_of id q e in
+          let host : id ≡ q = ap (λ (m : ℕ). let i : HostId = record { 0 = m } in i) same in
+          let it : step.host ≡ g = some_is step.host g (sym (there w.hosts id.0 step.host (within w.hosts id.0 h at)) ∙ ap (slice_get (slice_set w.hosts id.0 step.host)) same ∙ set) in
+          subst (λ (x : Host). P q x) it (subst (λ (x : HostId). P x step.host) host here)
+      by_host false e = each q g (sym (elsewhere w.hosts id.0 q.0 step.host (apart id q e)) ∙ set)
+
+    names_behind : (id : HostId) (step : Work) (after : After) (h : Host) → host_at w id ≡ Some h → HasOwnName id step.host → behind id step after → (q : HostId) (g : Host) → host_at after.world q ≡ Some g → HasOwnName q g
+    names_behind id step after h at name b = each_behind HasOwnName names id step after h at name b
+
+    -- the host's own clock is in its range
+    in_time : (id : HostId) (h : Host) → host_at w id ≡ Some h → own_clock w id ≤ 1000000002000
+    in_time id h at = let skew = valid.in_range.2.2.2.2.2.2.2.2.2.2.2.2.2.1 in omega (arith, good.leads id h at, good.clock, skew)
+
+    stamped_good : (id : HostId) (h : Host) (at : host_at w id ≡ Some h) (ps : List Packet) → AllByRecursion (IsSentNow s valid (own_clock w id) (in_time id h at)) ps → AllByRecursion (IsOfNode s) (stamped w.clock ps)
+    stamped_good id h at [] all = tt
+    stamped_good id h at (p ∷ ps) all =
+        let clock : own_clock w id ≡ w.clock + s.skew = ap (λ (n : ℕ). w.clock + n) (good.leads id h at) in
+        (record { formed = all.0.formed; dated = all.0.dated ∙ ap (λ (t : ℕ). if s.wire == 1 then 0 else t) clock }, stamped_good id h at ps all.1)
+
+    good_behind : (id : HostId) (h : Host) (at : host_at w id ≡ Some h) (step : Work) (after : After) → IsGoodWork s valid (own_clock w id) (in_time id h at) step → behind id step after → IsGoodWorld s after.world
+    good_behind id h at step after g b = record {
+      hosts = each_behind (λ (q : HostId) (x : Host). IsGoodHost x) good.hosts id step after h at g.host b;
+      leads = λ q x is. ap (λ (l : List ℕ). slice_index_or l q.0 0) b.3 ∙ each_behind (λ (q : HostId) (x : Host). slice_index_or w.leads q.0 0 ≡ s.skew) good.leads id step after h at (good.leads id h at) b q x is;
+      packets = subst (AllByRecursion (IsOfNode s)) (sym b.1) (all-append (IsOfNode s) w.packets (stamped w.clock (packets_in step.told)) good.packets (stamped_good id h at (packets_in step.told) g.sent));
+      answers = subst (AllByRecursion IsAnswer) (sym b.4) (cond_both (has_run step.told) (drop 1 w.answers) w.answers (AllByRecursion IsAnswer) (λ _. all_but_one IsAnswer w.answers good.answers) (λ _. good.answers));
+      clock = subst (λ (c : ℕ). c ≤ last_tick) (sym b.2) good.clock;
+    }
+
+    -- its packets and its lines
+    notes_behind : (id : HostId) (step : Work) (after : After) (m : Notes) (told : List Told) → packets_in step.told ≡ packets_in told → AllInner told → behind id step after → AllByRecursion (IsOfNode s) after.world.packets → AreNotes s m w.clock w.packets
+        → AreNotes s (kept_all m (map Tells (entries_from (length w.packets) told))) after.world.clock after.world.packets
+    notes_behind id step after m told same inner b all a =
+        let packets : after.world.packets ≡ w.packets ++ stamped w.clock (packets_in told) = b.1 ∙ ap (λ (ps : List Packet). w.packets ++ stamped w.clock ps) same in
+        subst (λ (c : ℕ). AreNotes s (kept_all m (map Tells (entries_from (length w.packets) told))) c after.world.packets) (sym b.2)
+        (subst (AreNotes s (kept_all m (map Tells (entries_from (length w.packets) told))) w.clock) (sym packets)
+        (inner_notes s m w.clock w.packets (length w.packets) told refl inner (all_second (IsOfNode s) w.packets (stamped w.clock (packets_in told)) (subst (AllByRecursion (IsOfNode s)) packets all)) a))
+
+    -- what stays of the notes
+    turning_keeps : (id : HostId) → kept n (Turning id) ≡ n
+    unfolding kept
+    turning_keeps id = refl
+
+    call_keeps : (q : CallId) (server : HostId) (service : ℕ) (bytes : List ℕ) → kept n (Tells (PlainCall q server service bytes)) ≡ n
+    unfolding kept
+    call_keeps q server service bytes = refl
+
+    recv_keeps : (id from : HostId) (bytes : List ℕ) → kept n (Tells (PlainRecv id from bytes)) ≡ n
+    unfolding kept
+    recv_keeps id from bytes = refl
+
+    -- one report that stands for an event, and lines within a step behind it
+    abbrev numbered : List Told → List Report
+    numbered told = map Tells (entries_from (length w.packets) told)
+
+    one_event : (r : Report) (e : Happening) (told : List Told) → AllInner told → events n r ≡ e ∷ [] → recorded_events n (r ∷ numbered told) ≡ e ∷ []
+    one_event r e told inner is =
+        events_first n r (numbered told) ∙ ap (λ (es : List Happening). es ++ recorded_events (kept n r) (numbered told)) is ∙ ap (λ (es : List Happening). e ∷ es) (inner_no_event (kept n r) (length w.packets) told inner)
+
+    -- such reports are added, where the replay carries the event out
+    added : (id : HostId) (h : Host) (step : Work) (after : After) (r : Report) (e : Happening) (first : List PlainEntry) (told : List Told) → host_at w id ≡ Some h → HasOwnName id step.host → behind id step after → packets_in step.told ≡ packets_in told
+        → AllInner told → IsGoodWorld s after.world → events n r ≡ e ∷ [] → kept n r ≡ n → of_hosts first ≡ of_hosts (entries (r ∷ []))
+        → outcome s (respared k w) e.event e.bytes ≡ Done (record { world = respared k after.world; told = first ++ entries_from (length w.packets) told })
+        → IsAdded n w after.world (r ∷ numbered told)
+    added id h step after r e first told at name b packets inner sound is keeps same done = record {
+      names = names_behind id step after h at name b;
+      good = sound;
+      lines = first ++ entries_from (length w.packets) told;
+      run = subst (λ (es : List Happening). IsRun s (respared k w) es (respared k after.world) (first ++ entries_from (length w.packets) told)) (sym (one_event r e told inner is)) (run_one s (respared k w) e _ done);
+      told = hosts-append first (entries_from (length w.packets) told) ∙ ap (λ (l : List PlainEntry). l ++ of_hosts (entries_from (length w.packets) told)) same
+          ∙ ap (λ (l : List PlainEntry). of_hosts (entries (r ∷ [])) ++ of_hosts l) (sym (entries-told (entries_from (length w.packets) told)))
+          ∙ sym (hosts-append (entries (r ∷ [])) (entries (numbered told))) ∙ ap of_hosts (sym (entries-append (r ∷ []) (numbered told)));
+      notes = subst (λ (m : Notes). AreNotes s (kept_all m (numbered told)) after.world.clock after.world.packets) (sym keeps) (notes_behind id step after n told packets inner b sound.packets notes);
+    }
+
+    -- ---- a turn
+
+    pub turn_added : (id : HostId) (after : After) → outcome s w (event.Turn id) [] ≡ Done after → IsAdded n w after.world (Turning id ∷ map Tells after.told)
+    unfolding outcome
+    turn_added id after is = by_host (host_at w id) refl is where
+      by_host : (o : Option Host) → host_at w id ≡ o → turns s w id o ≡ Done after → IsAdded n w after.world (Turning id ∷ map Tells after.told)
+      by_host None at e = absurd (let z : Refused NoSuchHost ≡ Done after = e in cc)
+      by_host (Some h) at e =
+          let step = turn_step s h (own_clock w id) in
+          let inside = turn_inside s id valid.in_range.2.2.2.2.2.2.0 h (own_clock w id) (names id h at) in
+          let b = stepped_behind id [] step after e in
+          let sound = good_behind id h at step after (turn_good s valid (own_clock w id) (in_time id h at) h (good.hosts id h at)) b.0 in
+          let told : after.told ≡ entries_from (length w.packets) inside.rest = b.1 ∙ ap (entries_from (length w.packets)) inside.told in
+          subst (λ (es : List PlainEntry). IsAdded n w after.world (Turning id ∷ map Tells es)) (sym told)
+          (added id h step after (Turning id) (bare (event.Turn id)) [] inside.rest at inside.name b.0 (ap packets_in inside.told) inside.inner sound refl (turning_keeps id) refl
+          (turn_respared s k w id ∙ ap (respare k) is ∙ ap (λ (es : List PlainEntry). Done (record { world = respared k after.world; told = es })) told))
+
+    -- ---- a call
+
+    pub call_added : (client server : HostId) (service : ℕ) (request : List ℕ) (after : After) → IsBytes request → service < 256 → outcome s w (event.Call client server service) request ≡ Done after → IsAdded n w after.world (map Tells after.told)
+    unfolding outcome
+    call_added client server service request after bytes small is = by_server (is_some (host_at w server)) is where
+      by_fault : (h : Host) → host_at w client ≡ Some h → (o : Option StartFault) → start_fault s h server request ≡ o → started s w client server service request h o ≡ Done after → IsAdded n w after.world (map Tells after.told)
+      by_fault h at (Some fault) free e = absurd (let z : Refused (Start fault) ≡ Done after = e in cc)
+      by_fault h at None free e =
+          let step = call_step s h (own_clock w client) server service request in
+          let inside = call_inside s client h (own_clock w client) server service request (names client h at) in
+          let b = stepped_behind client [] step after e in
+          let sound = good_behind client h at step after (call_good s valid (own_clock w client) (in_time client h at) h server service request (good.hosts client h at) free bytes small) b.0 in
+          let q = next_id h in
+          let told : after.told ≡ PlainCall q server service request ∷ entries_from (length w.packets) inside.rest = b.1 ∙ ap (entries_from (length w.packets)) inside.told in
+          let caller : HostId → List Happening = λ (c : HostId). record { event = event.Call c server service; bytes = request } ∷ [] in
+          subst (λ (es : List PlainEntry). IsAdded n w after.world (map Tells es)) (sym told)
+          (added client h step after (Tells (PlainCall q server service request)) (record { event = event.Call client server service; bytes = request }) (PlainCall q server service request ∷ []) inside.rest at inside.name b.0 (ap packets_in inside.told) inside.inner sound
+          (ap caller (names client h at).name) (call_keeps q server service request) refl
+          (call_respared s k w client server service request ∙ ap (respare k) is ∙ ap (λ (es : List PlainEntry). Done (record { world = respared k after.world; told = es })) told))
+
+      by_client : (o : Option Host) → host_at w client ≡ o → calls_from s w client server service request o ≡ Done after → IsAdded n w after.world (map Tells after.told)
+      by_client None at e = absurd (let z : Refused NoSuchHost ≡ Done after = e in cc)
+      by_client (Some h) at e = by_fault h at (start_fault s h server request) refl e
+
+      by_server : (t : Bool) → (if t then calls_from s w client server service request (host_at w client) else Refused NoSuchHost) ≡ Done after → IsAdded n w after.world (map Tells after.told)
+      by_server true e = by_client (host_at w client) refl e
+      by_server false e = absurd (let z : Refused NoSuchHost ≡ Done after = e in cc)
+
+    -- ---- a datagram
+
+    receiver_is : (from to : HostId) (o : Option (WirePacket × List ℕ)) → IfSome (packet_from from to o) (λ p. receiver p ≡ to)
+    receiver_is from to None = tt
+    receiver_is from to (Some (p, payload)) = by_role p.role where
+      by_role : (role : Role) → receiver_of role (call_between role from to p.inc p.seq) (server_between role from to) ≡ to
+      by_role Client = refl
+      by_role Server = refl
+
+    of_packets : (packets : List SentPacket) (i : ℕ) (sent : SentPacket) → slice_get packets i ≡ Some sent → AllByRecursion (IsOfNode s) packets → IsOfNode s sent
+    of_packets [] i sent at all = absurd (let z : None ≡ Some sent = at in cc)
+    of_packets (p ∷ packets) zero sent at all = subst (IsOfNode s) (some_is p sent at) all.0
+    of_packets (p ∷ packets) (suc i) sent at all = of_packets packets i sent at all.1
+
+    timely : (tick clock : ℕ) → clock ≤ tick + s.life → (s.wire == 1 && nat_lt (tick + s.life) clock) ≡ false
+    timely tick clock soon = by_test (s.wire == 1) (nat_lt (tick + s.life) clock) refl where
+      by_test : (a b : Bool) → nat_lt (tick + s.life) clock ≡ b → (a && b) ≡ false
+      by_test true true e = absurd (omega (arith, soon, ltb-true (tick + s.life) clock e))
+      by_test true false e = refl
+      by_test false b e = refl
+
+    pub recv_added : (id : HostId) (a : Arrival) (after : After) → strange n (Tells (PlainRecv id a.from a.bytes)) ≡ false → arrival_outcome s w id a ≡ Done after → IsAdded n w after.world (map Tells after.told)
+    recv_added id a after usual is = by_host (host_at w id) refl is where
+      packet : Option Packet
+      packet = packet_from a.from id (packet_in s.wire a.bytes)
+
+      -- the replay's event, with the entry that it tells first
+      with_event : (h : Host) → host_at w id ≡ Some h → arrives_at s w id (PlainRecv id a.from a.bytes ∷ []) packet (Some h) ≡ Done after → (e : Happening) (first : PlainEntry) → IfSome packet (IsSent s) → events n (Tells (PlainRecv id a.from a.bytes)) ≡ e ∷ [] → of_hosts (first ∷ []) ≡ []
+          → outcome s (respared k w) e.event e.bytes ≡ arrives_at s (respared k w) id (first ∷ []) packet (Some h) → IsAdded n w after.world (map Tells after.told)
+      with_event h at done e first formed is_event aside is_arrival =
+          let step = arrival_step s h (own_clock w id) packet (next_answer w.answers) in
+          let inside = arrival_inside s id h (own_clock w id) packet (next_answer w.answers) (names id h at) (receiver_is a.from id (packet_in s.wire a.bytes)) in
+          let recv : List PlainEntry = PlainRecv id a.from a.bytes ∷ [] in
+          let b = stepped_behind id recv step after done in
+          let sound = good_behind id h at step after (arrival_good s valid (own_clock w id) (in_time id h at) h packet (next_answer w.answers) (good.hosts id h at) formed (next_is_answer w.answers good.answers)) b.0 in
+          let same : entries_from (length w.packets) step.told ≡ entries_from (length w.packets) inside.rest = ap (entries_from (length w.packets)) inside.told in
+          let told : after.told ≡ PlainRecv id a.from a.bytes ∷ entries_from (length w.packets) inside.rest = b.1 ∙ ap (λ (es : List PlainEntry). PlainRecv id a.from a.bytes ∷ es) same in
+          subst (λ (es : List PlainEntry). IsAdded n w after.world (map Tells es)) (sym told)
+          (added id h step after (Tells (PlainRecv id a.from a.bytes)) e (first ∷ []) inside.rest at inside.name b.0 (ap packets_in inside.told) inside.inner sound is_event (recv_keeps id a.from a.bytes) aside
+          (is_arrival ∙ subst (λ (x : After). arrives_at s (respared k w) id (first ∷ []) packet (Some h) ≡ Done (record { world = respared k x.world; told = first ∷ entries_from (length w.packets) inside.rest })) (done_is _ after done)
+          (ap (λ (es : List PlainEntry). Done (record { world = respared k (record w { hosts = slice_set w.hosts id.0 step.host; packets = w.packets ++ stamped w.clock (packets_in step.told); answers = answers_left step.told w.answers }); told = first ∷ es })) same)))
+
+      by_kind : (h : Host) → host_at w id ≡ Some h → arrives_at s w id (PlainRecv id a.from a.bytes ∷ []) packet (Some h) ≡ Done after → (kind : Kind) → kind_in n id a.from a.bytes ≡ Some kind → IsAdded n w after.world (map Tells after.told)
+      by_kind h at done (Sent number) e =
+          let f = found_sent s w.clock w.packets id a.from a.bytes n number notes e in
+          let sent = f.sent in
+          let formed = (of_packets w.packets number sent f.stands good.packets).formed in
+          let reads : packet_in s.wire a.bytes ≡ Some (wire_packet sent.packet, sent.packet.payload) = ap (packet_in s.wire) f.spelled ∙ read s sent.packet formed in
+          let it : packet ≡ Some sent.packet =
+          ap (packet_from a.from id) reads ∙ ap (λ (x : HostId). Some (packet_between x id (wire_packet sent.packet) sent.packet.payload)) f.is_from
+          ∙ ap (λ (x : HostId). Some (packet_between (sender sent.packet) x (wire_packet sent.packet) sent.packet.payload)) f.is_to ∙ ap Some (between sent.packet) in
+          with_event h at done (bare (event.Deliver number)) (PlainDeliver number) (subst (λ (o : Option Packet). IfSome o (IsSent s)) (sym it) formed) (ap (kind_events id a.bytes) e) refl
+          (deliver_is s (respared k w) number sent id f.stands (timely sent.tick w.clock f.life) (sym f.is_to)
+          ∙ ap (λ (o : Option Packet). arrives_at s (respared k w) id (PlainDeliver number ∷ []) o (host_at w id)) (sym it) ∙ ap (arrives_at s (respared k w) id (PlainDeliver number ∷ []) packet) at)
+      by_kind h at done Junk e =
+          let none : packet_in s.wire a.bytes ≡ None = found_junk s w.clock w.packets id a.from a.bytes n notes e in
+          with_event h at done (record { event = event.Inject id; bytes = a.bytes }) (PlainInject id a.bytes) (subst (λ (o : Option (WirePacket × List ℕ)). IfSome (packet_from a.from id o) (IsSent s)) (sym none) tt) (ap (kind_events id a.bytes) e) refl
+          (inject_is s (respared k w) id a.bytes h none at ∙ ap (λ (o : Option (WirePacket × List ℕ)). arrives_at s (respared k w) id (PlainInject id a.bytes ∷ []) (packet_from a.from id o) (Some h)) (sym none))
+      by_kind h at done Strange e = absurd (true≢false (sym (ap is_strange e) ∙ usual))
+
+      by_host : (o : Option Host) → host_at w id ≡ o → arrives_at s w id (PlainRecv id a.from a.bytes ∷ []) packet o ≡ Done after → IsAdded n w after.world (map Tells after.told)
+      by_host None at e = absurd (let z : Refused NoSuchHost ≡ Done after = e in cc)
+      by_host (Some h) at e = by_kind h at e (kind_of s n.datagrams id a.from a.bytes) (found_some s w.clock w.packets id a.from a.bytes n notes (kind_of s n.datagrams id a.from a.bytes) refl)

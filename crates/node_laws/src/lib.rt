@@ -1,0 +1,16 @@
+//! Laws of a node's runs, proved.
+//!
+//! The model: a node is a plain world of which only the local hosts act (`node_runs`), and a recording is the events that
+//! stand for what was told of its run. No code stands here; a law is the contract of a function that does nothing.
+//! Main promise: where all hosts of a node are local with incarnation 1, and nothing of its run is strange, the replay of
+//! what a recorder tells of the run repeats it (`recordings_repeat`). Each packet of such a run is well formed, and so
+//! its datagram gives it back.
+#![tactic(auto)]
+
+ghost use Rattle.node_runs.specs.Replayed.{RecordingsRepeat};
+
+/// Where all hosts of a node are local with incarnation 1, and nothing of its run is strange, the replay of what a
+/// recorder tells of the run gives the run's entries, those of the clock and of datagrams that come aside.
+pub fn recordings_repeat()
+    ensures { RecordingsRepeat }
+{}

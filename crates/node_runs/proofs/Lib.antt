@@ -1,0 +1,4 @@
+pub mod WorkedRuns
+pub mod WorkedTicks
+pub mod WorkedRefused
+pub mod WorkedReplays

@@ -1,0 +1,5 @@
+pub mod Script
+pub mod Course
+pub mod Recorder
+pub mod Texts
+pub mod Replayed

@@ -1,0 +1,64 @@
+-- What the replay of a recording gives: its law, stated; it is proved in node_laws.
+use Rattle.std.specs.Prelude.{◌≡◌, ◌≤◌, ℕ, Bool, true, false, Option, None, List, [], ◌∷◌, ◌++◌, filter, replicate, length}
+use Rattle.std.specs.List.{AllByRecursion}
+use Rattle.homa_plain.specs.declared.settings.Settings.{Settings}
+use Rattle.homa_plain.specs.Bytes.{IsBytes}
+use Rattle.homa_plain.specs.Wire.{Between}
+use Rattle.homa_plain.specs.Entries.{PlainEntry, PlainSettings, PlainDeliver, PlainClock, PlainInject, PlainRecv}
+use Rattle.homa_plain.specs.Rules.{Answer}
+use Rattle.homa_plain.specs.World.{new_world}
+use Rattle.homa_plain.specs.Replay.{Happening, Run, carried}
+use Rattle.homa_plain.specs.Script.{most_bytes}
+use Rattle.node_runs.specs.Script.{Place, Local, Remote, Setup, Calls, Opened, opening}
+use Rattle.node_runs.specs.Course.{Report, Arrival, AreTicks, node_run}
+use Rattle.node_runs.specs.Recorder.{Notes, no_notes, events, strange, kept}
+use Rattle.node_runs.specs.Texts.{entries}
+
+-- ---- what is compared
+
+-- the events that reports stand for
+unfoldable pub recorded_events : Notes → List Report → List Happening
+recorded_events notes [] = []
+recorded_events notes (report ∷ reports) = events notes report ++ recorded_events (kept notes report) reports
+
+-- none of the reports is strange
+unfoldable pub NoneStrange : Notes → List Report → Type 0
+NoneStrange notes [] = Unit {0}
+NoneStrange notes (report ∷ reports) = (strange notes report ≡ false) × NoneStrange (kept notes report) reports
+
+-- an entry of a host: a recording has the clock's ticks one by one, and tells otherwise how a datagram comes
+abbrev pub is_of_host : PlainEntry → Bool
+is_of_host (PlainClock tick) = false
+is_of_host (PlainDeliver packet) = false
+is_of_host (PlainInject host bytes) = false
+is_of_host (PlainRecv host from bytes) = false
+is_of_host entry = true
+
+abbrev pub of_hosts : List PlainEntry → List PlainEntry
+of_hosts told = filter is_of_host told
+
+-- ---- the law
+
+-- the host is local, in incarnation 1
+abbrev pub IsHere : Place → Type 0
+IsHere (Local inc port) = inc ≡ 1
+IsHere (Remote port) = ⊥
+
+-- what a service answers
+abbrev pub IsAnswer : Answer → Type 0
+IsAnswer answer = Between 1 1000000 (length answer.bytes) × IsBytes answer.bytes × (answer.hold ≤ 1000000)
+
+-- the replay of these events, with this trace, has these entries of hosts, and nothing was refused
+abbrev pub RepeatsBy : Run → Settings → List PlainEntry → Type 0
+RepeatsBy run s told = (run.fault ≡ None) × (of_hosts (PlainSettings s ∷ run.told) ≡ of_hosts told)
+
+-- where all hosts of a node are local with incarnation 1, and nothing of its run is strange, the replay of what a recorder tells of the run gives the run's entries, the clock's and those of datagrams that come aside
+abbrev pub RecordingsRepeat : Type 0
+RecordingsRepeat =
+    (bytes : List ℕ) (setup : Setup) (calls : Calls) (answers : List Answer) (ticks : List ℕ) (receives : List (Option Arrival)) (boxes : ℕ)
+    → opening most_bytes bytes ≡ Opened setup calls → AllByRecursion IsHere setup.places
+    → AllByRecursion IsAnswer answers → AreTicks 0 ticks
+    → let s = setup.settings in
+    let reports = (node_run bytes answers ticks receives).reports in
+    NoneStrange no_notes reports
+    → RepeatsBy (carried s (new_world s (replicate s.hosts 1) 0 boxes answers) (recorded_events no_notes reports)) s (entries reports)
