@@ -21,7 +21,7 @@ use Rattle.homa_plain.specs.Seen.{seen, seen_all}
 use Rattle.homa_plain.specs.Shape.{IsBehind, IsNewCall, Shape}
 use Rattle.homa_plain.specs.Laws.{Holds}
 use Rattle.homa_plain.specs.World.{World, SentPacket, After, Done, outcome, host_at, own_clock, next_answer, is_late, new_world, new_hosts}
-use Rattle.homa_told.specs.Told.{IsTold, IsDated, IsTimed}
+use Rattle.told_lines.specs.Told.{IsTold, IsDated, IsTimed}
 use Rattle.homa_moves.specs.Stands.{amid}
 use Rattle.homa_moves.specs.Always.{trace, KeptByEvent, HoldsAlways}
 use Rattle.homa_moves.proofs.Always.{always, told_first}

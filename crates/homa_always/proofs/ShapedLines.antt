@@ -23,8 +23,8 @@ use Rattle.homa_plain.specs.Seen.{seen, seen_all}
 use Rattle.homa_plain.specs.Shape.{IsBehind, IsMade, Shape}
 use Rattle.homa_plain.specs.Laws.{Holds}
 use Rattle.homa_moves.proofs.Hosts.{none_some}
-use Rattle.homa_told.specs.Told.{sent_of}
-use Rattle.homa_told.proofs.Lines.{IsInner, IsSaid, said_inner, AllInner, inner_same, told_packets, said_packets}
+use Rattle.told_lines.specs.Told.{sent_of}
+use Rattle.told_lines.proofs.Lines.{IsInner, IsSaid, said_inner, AllInner, inner_same, told_packets, said_packets}
 use Rattle.homa_told.proofs.Own.{IsOwn, AllOwn}
 use Rattle.homa_told.proofs.Moves.{notes_told, reply_told, acknowledged_told, finishes_told}
 

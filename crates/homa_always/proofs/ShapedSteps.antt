@@ -23,9 +23,9 @@ use Rattle.homa_plain.specs.View.{View}
 use Rattle.homa_plain.specs.Laws.{Holds}
 use Rattle.homa_plain.specs.Shape.{IsBehind, IsMade, Shape}
 use Rattle.homa_plain.specs.World.{World, SentPacket, stamped}
-use Rattle.homa_told.specs.Told.{IsTold, sent_of}
-use Rattle.homa_told.proofs.Lines.{IsSaid, entries_from-append, holds-append}
-use Rattle.homa_told.proofs.Runs.{runs_told}
+use Rattle.told_lines.specs.Told.{IsTold, sent_of}
+use Rattle.told_lines.proofs.Lines.{IsSaid, entries_from-append, holds-append}
+use Rattle.told_lines.proofs.Runs.{runs_told}
 use Rattle.homa_told.proofs.Own.{AllOwn, acked_own, gets_own, gets_quiet, server_acts_own, client_acts_quiet}
 use Rattle.homa_told.proofs.Moves.{IsMove, notes_told, reply_told, finishes_told, served_put, served_noted, served_told, served-move}
 use Rattle.homa_told.proofs.AskedMove.{asked_put, asked_noted, asked_said, asked_told, asked-move}

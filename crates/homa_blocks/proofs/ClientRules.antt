@@ -15,7 +15,7 @@ use Rattle.homa_plain.specs.AtClient.{client_gets, unasked, answered, refreshed,
 use Rattle.homa_plain.specs.View.{View, Ran, incarnation, is_server_of, life, restarts_of}
 use Rattle.homa_plain.specs.Laws.{answers, is_run_in}
 use Rattle.homa_plain.proofs.CallOrder.{hosts_are}
-use Rattle.homa_told.specs.Told.{HasLives}
+use Rattle.told_lines.specs.Told.{HasLives}
 use Rattle.homa_moves.proofs.Hosts.{some_is, within}
 use Rattle.homa_contents.specs.Tales.{replies_in, IsReplyOf}
 use Rattle.homa_contents.proofs.StillRules.{awaited, refreshed_same}

@@ -16,7 +16,7 @@ use Rattle.homa_plain.specs.View.{View, Progress, Sent, Called, Ends, no_ends, h
 use Rattle.homa_plain.specs.Wire.{is_client, is_server}
 use Rattle.homa_plain.specs.Seen.{seen, begun, delivered, heard, counted, to_server, to_client, admitted}
 use Rattle.homa_plain.proofs.CallOrder.{calls_are}
-use Rattle.homa_told.proofs.Progress.{IsLevel, AreLevel, level_itself, get-set, get-gone}
+use Rattle.told_lines.proofs.Progress.{IsLevel, AreLevel, level_itself, get-set, get-gone}
 use Rattle.homa_moves.proofs.Hosts.{turned}
 use Rattle.homa_contents.specs.Tales.{tale}
 use Rattle.homa_contents.proofs.StillRules.{IsOther}

@@ -25,12 +25,12 @@ use Rattle.homa_plain.specs.Laws.{Holds, Once}
 use Rattle.homa_plain.specs.Seen.{seen, seen_all, refused, is_delivery_to}
 use Rattle.homa_plain.specs.World.{World, stamped}
 use Rattle.homa_plain.proofs.CallOrder.{calls_are, hosts_are}
-use Rattle.homa_told.proofs.Lines.{seen-told, inner-append}
-use Rattle.homa_told.proofs.Runs.{runs_told, runs-append}
+use Rattle.told_lines.proofs.Lines.{seen-told, inner-append}
+use Rattle.told_lines.proofs.Runs.{runs_told, runs-append}
 use Rattle.homa_told.proofs.OwnRuns.{notes-runs, reply-runs}
 use Rattle.homa_told.proofs.Own.{AllOwn, runs_said}
 use Rattle.homa_told.proofs.Moves.{notes_told, reply_told, served_put, served_noted, served_told}
-use Rattle.homa_told.proofs.Progress.{IsLevel, AreLevel, level_itself}
+use Rattle.told_lines.proofs.Progress.{IsLevel, AreLevel, level_itself}
 use Rattle.homa_moves.specs.Stands.{Stand, state_of, with_server, put, said_so_far, amid}
 use Rattle.homa_moves.specs.Contents.{replies, Replies}
 use Rattle.homa_moves.specs.Arrived.{IsSamePart}

@@ -23,7 +23,7 @@ use Rattle.homa_plain.specs.World.{World}
 use Rattle.homa_told.proofs.Own.{IsQuiet}
 use Rattle.homa_told.proofs.Moves.{notes_told, reply_told}
 use Rattle.homa_told.proofs.AskedMove.{asked_put, asked_noted}
-use Rattle.homa_told.proofs.Progress.{IsLevel, AreLevel, level_itself}
+use Rattle.told_lines.proofs.Progress.{IsLevel, AreLevel, level_itself}
 use Rattle.homa_moves.specs.Stands.{with_client, put, said_so_far, amid}
 use Rattle.homa_moves.specs.Contents.{Replies}
 use Rattle.homa_life.specs.Lifetime.{times, IsMadeTo}

@@ -13,7 +13,7 @@ use Rattle.homa_plain.specs.Calls.{is_host, is_call}
 use Rattle.homa_plain.specs.Entries.{PlainEntry, PlainDrop, PlainFail}
 use Rattle.homa_plain.specs.Packets.{Packet, send_line}
 use Rattle.homa_plain.specs.Laws.{Holds, Once}
-use Rattle.homa_told.proofs.Progress.{IsLevel}
+use Rattle.told_lines.proofs.Progress.{IsLevel}
 use Rattle.homa_plain.specs.Rows.{ClientRow, ServerRow, set_row}
 use Rattle.homa_plain.specs.Host.{Sends, packets_in, entries_from}
 use Rattle.homa_plain.specs.Rules.{Say, Tells, Did}

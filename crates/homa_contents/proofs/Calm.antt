@@ -27,13 +27,13 @@ use Rattle.homa_plain.specs.View.{View, Progress, Sent, Ran, Ends, life, sent_la
 use Rattle.homa_plain.specs.Seen.{seen, seen_all, dropped}
 use Rattle.homa_plain.specs.Seen as lines
 use Rattle.homa_plain.specs.World.{stamped}
-use Rattle.homa_told.specs.Told.{sent_of}
-use Rattle.homa_told.proofs.Lines.{IsSaid, AllInner, told_same}
-use Rattle.homa_told.proofs.Runs.{is_run, runs_told, unrun_same}
+use Rattle.told_lines.specs.Told.{sent_of}
+use Rattle.told_lines.proofs.Lines.{IsSaid, AllInner, told_same}
+use Rattle.told_lines.proofs.Runs.{is_run, runs_told, unrun_same}
 use Rattle.homa_told.proofs.Own.{runs_said}
 use Rattle.homa_told.proofs.Moves.{notes_told, reply_told, acknowledged_told, finishes_told}
-use Rattle.homa_told.proofs.Progress.{IsLevel, IsUnstale, AllUnstale, unstale-append, ends_told, ends-append, told_level, told_live}
-use Rattle.homa_told.proofs.PartLines.{AllAside, aside-append, is_grant, told_parts}
+use Rattle.told_lines.proofs.Progress.{IsLevel, IsUnstale, AllUnstale, unstale-append, ends_told, ends-append, told_level, told_live}
+use Rattle.told_lines.proofs.PartLines.{AllAside, aside-append, is_grant, told_parts}
 use Rattle.homa_moves.specs.Contents.{replies}
 use Rattle.homa_once.proofs.OnceLines.{or_first, or_second}
 use Rattle.homa_contents.specs.Tales.{Tale, tale, RepliesTo, IsTruthful, CarriesReply, IsClosed}

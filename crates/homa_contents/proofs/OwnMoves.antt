@@ -31,8 +31,8 @@ use Rattle.homa_plain.specs.Seen as lines
 use Rattle.homa_plain.proofs.CallOrder.{calls_are, hosts_are}
 use Rattle.homa_plain.proofs.ArrivalLaws.{sound-granted_to}
 use Rattle.homa_plain.proofs.OutgoingLaws as out_laws
-use Rattle.homa_told.proofs.Progress.{IsUnstale, is_end, IsLevel, get-gone, told_level, told_live}
-use Rattle.homa_told.proofs.PartLines.{IsAside, is_grant, told_parts, request_granted, response_granted, drop_line}
+use Rattle.told_lines.proofs.Progress.{IsUnstale, is_end, IsLevel, get-gone, told_level, told_live}
+use Rattle.told_lines.proofs.PartLines.{IsAside, is_grant, told_parts, request_granted, response_granted, drop_line}
 use Rattle.homa_moves.specs.Contents.{IsSlice}
 use Rattle.homa_moves.specs.Arrived.{IsSamePart}
 use Rattle.homa_moves.proofs.Hosts.{turned}

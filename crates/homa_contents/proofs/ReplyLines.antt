@@ -20,8 +20,8 @@ use Rattle.homa_plain.specs.Seen.{seen, seen_all, refused, failed, is_delivery_t
 use Rattle.homa_plain.specs.Laws.{Holds, Once}
 use Rattle.homa_plain.specs.World.{SentPacket}
 use Rattle.homa_plain.proofs.CallOrder.{calls_are, hosts_are}
-use Rattle.homa_told.proofs.Runs.{IsUnrun, unrun_same}
-use Rattle.homa_told.proofs.Lives.{same_number, restarts_at}
+use Rattle.told_lines.proofs.Runs.{IsUnrun, unrun_same}
+use Rattle.told_lines.proofs.Lives.{same_number, restarts_at}
 use Rattle.homa_plain.specs.declared.packet.Role.TheVariants.{Client, Server}
 use Rattle.homa_plain.specs.declared.packet.Body.TheVariants as body
 use Rattle.homa_contents.specs.Tales.{IsReplyOf, RepliesTo, CarriesReply, IsTruthful}

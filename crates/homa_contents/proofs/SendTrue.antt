@@ -22,8 +22,8 @@ use Rattle.homa_plain.specs.Sending.{Content, client_granted, granted_part, serv
 use Rattle.homa_plain.specs.Steps.{Work, now_of, client_is_granted, server_is_granted, request_leaves, response_leaves}
 use Rattle.homa_plain.specs.View.{View, Called, Sent, life, incarnation}
 use Rattle.homa_plain.specs.World.{World}
-use Rattle.homa_told.specs.Told.{HasLives, IsTold, sent_of}
-use Rattle.homa_told.proofs.Lines.{told_packets}
+use Rattle.told_lines.specs.Told.{HasLives, IsTold, sent_of}
+use Rattle.told_lines.proofs.Lines.{told_packets}
 use Rattle.homa_told.proofs.SendMoves.{server_grant, server_granted-move, client_grant, client_granted-move, response_piece, response_leaves-move, request_piece, request_leaves-move}
 use Rattle.homa_moves.specs.Stands.{Stand, state_of, with_client, with_server, put, said_so_far, amid}
 use Rattle.homa_moves.specs.Contents.{replies, Replies}

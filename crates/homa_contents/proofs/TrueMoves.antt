@@ -21,12 +21,12 @@ use Rattle.homa_plain.specs.Laws.{Holds, Once}
 use Rattle.homa_plain.specs.World.{World, stamped}
 use Rattle.homa_plain.proofs.CallOrder.{calls_are, hosts_are}
 use Rattle.homa_steps.proofs.Places.{all-append}
-use Rattle.homa_told.proofs.Lines.{entries_from-append, seen-told}
+use Rattle.told_lines.proofs.Lines.{entries_from-append, seen-told}
 use Rattle.homa_told.proofs.Own.{AllOwn, IsQuiet, runs_said}
 use Rattle.homa_told.proofs.Moves.{IsMove, notes_told, reply_told, served_put, served_noted, served_told, served_packets, served-move, finishes_told}
 use Rattle.homa_told.proofs.AskedMove.{asked_put, asked_noted, asked_said, asked_told, asked_packets, asked-move}
 use Rattle.homa_told.proofs.OwnRuns.{served-runs, asked-runs}
-use Rattle.homa_told.proofs.Progress.{IsLevel}
+use Rattle.told_lines.proofs.Progress.{IsLevel}
 use Rattle.homa_moves.specs.Stands.{Stand, state_of, with_client, with_server, put, said_so_far, amid}
 use Rattle.homa_moves.specs.Contents.{replies, Replies}
 use Rattle.homa_moves.proofs.Hosts.{some_is}

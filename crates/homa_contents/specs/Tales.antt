@@ -16,7 +16,7 @@ use Rattle.homa_plain.specs.Parts.{Part}
 use Rattle.homa_plain.specs.Rows.{ClientRow, State, Receiving, Held, Replying, Buried}
 use Rattle.homa_plain.specs.View.{View, Progress, Called, Ran, incarnation}
 use Rattle.homa_plain.specs.World.{World, SentPacket}
-use Rattle.homa_told.proofs.Progress.{IsLevel}
+use Rattle.told_lines.proofs.Progress.{IsLevel}
 use Rattle.homa_moves.specs.Stands.{Stand, stand}
 use Rattle.homa_moves.specs.Contents.{replies, IsSlice, Replies}
 use Rattle.homa_moves.specs.Arrived.{IsSamePart, NoMessage}

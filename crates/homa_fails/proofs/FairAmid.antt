@@ -18,11 +18,11 @@ use Rattle.homa_plain.specs.Laws.{Holds}
 use Rattle.homa_plain.specs.World.{World, host_at}
 use Rattle.homa_plain.proofs.CallOrder.{calls_are}
 use Rattle.homa_steps.proofs.Others.{get-set_row, set_row-others}
-use Rattle.homa_told.proofs.Lines.{entries_from-append, holds-append, told_same, SameSetting}
+use Rattle.told_lines.proofs.Lines.{entries_from-append, holds-append, told_same, SameSetting}
 use Rattle.homa_told.proofs.Own.{AllOwn, AllServed, served_own}
 use Rattle.homa_told.proofs.Moves.{IsMove, served_told, served-move}
 use Rattle.homa_told.proofs.AskedMove.{asked_told, asked-move}
-use Rattle.homa_told.proofs.Progress.{IsLevel, AllUnstale, ends_told, told_level}
+use Rattle.told_lines.proofs.Progress.{IsLevel, AllUnstale, ends_told, told_level}
 use Rattle.homa_moves.specs.Stands.{put, said_so_far}
 use Rattle.homa_moves.proofs.Hosts.{apart, there}
 use Rattle.homa_moves.proofs.Frame.{next_number, move_said}

@@ -25,10 +25,10 @@ use Rattle.homa_plain.specs.Laws.{Holds}
 use Rattle.homa_plain.specs.World.{World, host_at, own_clock}
 use Rattle.homa_plain.proofs.CallOrder.{calls_are}
 use Rattle.homa_plain.proofs.OutgoingLaws.{sound-opened}
-use Rattle.homa_told.specs.Told.{IsTold, sent_of}
-use Rattle.homa_told.proofs.Lines.{SameSetting, told_same, said_packets}
-use Rattle.homa_told.proofs.Progress.{get-set, IsLevel, inject_level, call_level}
-use Rattle.homa_told.proofs.Deliveries.{deliver_level, stale_now, stale_level}
+use Rattle.told_lines.specs.Told.{IsTold, sent_of}
+use Rattle.told_lines.proofs.Lines.{SameSetting, told_same, said_packets}
+use Rattle.told_lines.proofs.Progress.{get-set, IsLevel, inject_level, call_level}
+use Rattle.told_lines.proofs.Deliveries.{deliver_level, stale_now, stale_level}
 use Rattle.homa_moves.proofs.Hosts.{within, some_is, apart}
 use Rattle.homa_moves.proofs.ToldMoves.{each_set, own_set}
 use Rattle.homa_moves.proofs.ToldSteps.{SameTold, call_same as call_told, deliver_same, inject_same, set_same}

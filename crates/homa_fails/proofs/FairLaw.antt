@@ -25,8 +25,8 @@ use Rattle.homa_plain.specs.Seen.{seen, seen_all}
 use Rattle.homa_plain.specs.Laws.{Holds}
 use Rattle.homa_plain.specs.World.{World, SentPacket, After, Done, outcome, host_at, next_answer, new_world}
 use Rattle.homa_plain.proofs.CallOrder.{call_total, call_same, calls_are}
-use Rattle.homa_told.specs.Told.{IsTold, sent_of}
-use Rattle.homa_told.proofs.Progress.{IsLevel}
+use Rattle.told_lines.specs.Told.{IsTold, sent_of}
+use Rattle.told_lines.proofs.Progress.{IsLevel}
 use Rattle.homa_moves.specs.Always.{HoldsAlways, IsSoAtFirst, KeptByEvent}
 use Rattle.homa_moves.specs.Stands.{is_old, at_host, stand}
 use Rattle.homa_moves.proofs.Hosts.{within, some_is, none_some}

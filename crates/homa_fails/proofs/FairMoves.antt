@@ -29,13 +29,13 @@ use Rattle.homa_plain.specs.Laws.{AreSpaced, IsUnanswered}
 use Rattle.homa_plain.specs.World.{World}
 use Rattle.homa_plain.proofs.CallOrder.{calls_are}
 use Rattle.homa_plain.proofs.OutgoingLaws.{sound-next, front-next_range}
-use Rattle.homa_told.specs.Told.{sent_of}
-use Rattle.homa_told.proofs.Lines.{told_same}
+use Rattle.told_lines.specs.Told.{sent_of}
+use Rattle.told_lines.proofs.Lines.{told_same}
 use Rattle.homa_told.proofs.Own.{server_acts_served}
 use Rattle.homa_told.proofs.AskedMove.{asked-move}
 use Rattle.homa_told.proofs.SendMoves.{server_grant, server_granted-move, client_grant, client_granted-move, response_piece, response_leaves-move, request_piece, request_leaves-move}
-use Rattle.homa_told.proofs.Progress.{told_live}
-use Rattle.homa_told.proofs.Ticks.{asks, any_last, told_sent_last, resend_ticks, piece_ticks}
+use Rattle.told_lines.proofs.Progress.{told_live}
+use Rattle.told_lines.proofs.Ticks.{asks, any_last, told_sent_last, resend_ticks, piece_ticks}
 use Rattle.homa_moves.specs.Stands.{said_so_far}
 use Rattle.homa_moves.specs.Contents.{called_by}
 use Rattle.homa_moves.proofs.Hosts.{some_is, none_some}

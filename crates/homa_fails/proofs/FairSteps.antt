@@ -28,11 +28,11 @@ use Rattle.homa_plain.specs.View.{View, has_last, Called, Sent, own_tick, sent_l
 use Rattle.homa_plain.specs.Seen.{seen, seen_all, is_unknown}
 use Rattle.homa_plain.specs.World.{World, host_at}
 use Rattle.homa_plain.proofs.CallOrder.{calls_are, hosts_are}
-use Rattle.homa_told.specs.Told.{sent_of}
+use Rattle.told_lines.specs.Told.{sent_of}
 use Rattle.homa_told.proofs.Own.{AllOwn, gets_served, acked_served, gets_quiet}
 use Rattle.homa_told.proofs.SendMoves.{says-move, hears-move}
-use Rattle.homa_told.proofs.Progress.{get-set, IsLevel}
-use Rattle.homa_told.proofs.Deliveries.{deliver_live, deliver_resends, counts_now, uncounted, counted_live, counted_resends, deliver_aside}
+use Rattle.told_lines.proofs.Progress.{get-set, IsLevel}
+use Rattle.told_lines.proofs.Deliveries.{deliver_live, deliver_resends, counts_now, uncounted, counted_live, counted_resends, deliver_aside}
 use Rattle.homa_moves.specs.Contents.{called_by}
 use Rattle.homa_moves.proofs.Hosts.{within, none_some}
 use Rattle.homa_moves.proofs.ToldMoves.{each_set}

@@ -25,13 +25,13 @@ use Rattle.homa_plain.specs.Seen.{seen, seen_all}
 use Rattle.homa_plain.specs.Laws.{Holds}
 use Rattle.homa_plain.proofs.CallOrder.{calls_are}
 use Rattle.homa_steps.proofs.Places.{all-append}
-use Rattle.homa_told.specs.Told.{sent_of}
-use Rattle.homa_told.proofs.Lines.{AllInner, told_same}
+use Rattle.told_lines.specs.Told.{sent_of}
+use Rattle.told_lines.proofs.Lines.{AllInner, told_same}
 use Rattle.homa_told.proofs.Own.{IsOwn, AllOwn, IsServed, AllServed}
 use Rattle.homa_told.proofs.Moves.{IsFrom, notes_told, reply_told, acknowledged_told, finishes_told, served_put, served_noted, served_told, served_packets}
 use Rattle.homa_told.proofs.AskedMove.{asked_put, asked_noted, asked_said, asked_told, asked_packets}
-use Rattle.homa_told.proofs.Progress.{IsLevel, IsUnstale, AllUnstale, is_end, ends_told, ends-append, told_live}
-use Rattle.homa_told.proofs.Ticks.{asks, is_asking, NoneAsks, told_ticks, any_last, told_sent_last}
+use Rattle.told_lines.proofs.Progress.{IsLevel, IsUnstale, AllUnstale, is_end, ends_told, ends-append, told_live}
+use Rattle.told_lines.proofs.Ticks.{asks, is_asking, NoneAsks, told_ticks, any_last, told_sent_last}
 use Rattle.homa_fails.specs.Timeouts.{TimesOut, IsFairRow, IsLiveRow}
 use Rattle.homa_fails.proofs.ClientSays.{IsBare, AllBare, NoTimeouts, ends_said}
 

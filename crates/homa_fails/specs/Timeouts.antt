@@ -12,7 +12,7 @@ use Rattle.homa_plain.specs.Host.{Host}
 use Rattle.homa_plain.specs.World.{World, host_at}
 use Rattle.homa_plain.specs.View.{View, sent_last, resends_of}
 use Rattle.homa_plain.specs.Laws.{AreSpaced, IsUnanswered}
-use Rattle.homa_told.specs.Level.{IsLevel}
+use Rattle.told_lines.specs.Level.{IsLevel}
 use Rattle.homa_moves.specs.Contents.{called_by}
 
 -- the first half of fails: a call times out only when it is unanswered

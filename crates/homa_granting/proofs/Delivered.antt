@@ -19,7 +19,7 @@ use Rattle.homa_plain.specs.Timers.{Place, OfClient, OfServer}
 use Rattle.homa_plain.specs.View.{View, Called, Sent, Progress, counts, has_run}
 use Rattle.homa_plain.specs.Seen.{seen, begun, heard, counted, admitted, to_server, to_client}
 use Rattle.homa_plain.proofs.CallOrder.{calls_are, hosts_are}
-use Rattle.homa_told.proofs.Progress.{get-set, get-gone}
+use Rattle.told_lines.proofs.Progress.{get-set, get-gone}
 use Rattle.homa_blocks.proofs.Deliver.{came_only, begins_by}
 use Rattle.homa_granting.proofs.Messages.{part_in}
 use Rattle.homa_granting.proofs.Each.{AllParts, EachWay}

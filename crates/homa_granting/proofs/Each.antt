@@ -31,11 +31,11 @@ use Rattle.homa_plain.specs.View.{View, Sent, Progress, is_server_of, sent_last,
 use Rattle.homa_plain.specs.Seen.{seen, seen_all, refused, failed, finished, dropped, said, renewed, is_delivery_to}
 use Rattle.homa_plain.specs.World.{World}
 use Rattle.homa_plain.proofs.CallOrder.{calls_are}
-use Rattle.homa_told.specs.Told.{sent_of}
-use Rattle.homa_told.proofs.Progress.{IsUnstale, AllUnstale, unstale-append}
-use Rattle.homa_told.proofs.Runs.{runs_told}
+use Rattle.told_lines.specs.Told.{sent_of}
+use Rattle.told_lines.proofs.Progress.{IsUnstale, AllUnstale, unstale-append}
+use Rattle.told_lines.proofs.Runs.{runs_told}
 use Rattle.homa_told.proofs.Own.{IsOwn, AllOwn, acked_own, server_acts_own, client_acts_quiet}
-use Rattle.homa_told.proofs.Progress.{get-gone, get-changed}
+use Rattle.told_lines.proofs.Progress.{get-gone, get-changed}
 use Rattle.homa_told.proofs.Moves.{IsMove, notes_told, reply_told, served_put, served_noted, served_told, served-move}
 use Rattle.homa_told.proofs.AskedMove.{asked_put, asked_noted, asked_said, asked_told, asked-move}
 use Rattle.homa_told.proofs.SendMoves.{server_granted-move, client_granted-move, request_leaves-move, response_leaves-move}

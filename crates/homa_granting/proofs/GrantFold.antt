@@ -24,7 +24,7 @@ use Rattle.homa_plain.specs.World.{World}
 use Rattle.homa_plain.proofs.CallOrder.{calls_are}
 use Rattle.homa_steps.specs.StepLaws.{LeavesOthers}
 use Rattle.homa_steps.proofs.Others.{get-set_row, set_row-others}
-use Rattle.homa_told.proofs.Lines.{entries_from-append, holds-append}
+use Rattle.told_lines.proofs.Lines.{entries_from-append, holds-append}
 use Rattle.homa_told.proofs.Moves.{IsMove}
 use Rattle.homa_told.proofs.SendMoves.{server_grant, server_granted-move, client_grant, client_granted-move, response_leaves-move, request_leaves-move}
 use Rattle.homa_moves.specs.Stands.{said_so_far}

@@ -20,8 +20,8 @@ use Rattle.homa_plain.specs.Seen.{seen}
 use Rattle.homa_plain.specs.Granting.{IsAllowed, IsWithin, Granting, allowed}
 use Rattle.homa_plain.specs.Granting as lines
 use Rattle.homa_plain.proofs.CallOrder.{calls_are, hosts_are}
-use Rattle.homa_told.proofs.Lines.{inner_same}
-use Rattle.homa_told.proofs.PartLines.{request_granted, response_granted}
+use Rattle.told_lines.proofs.Lines.{inner_same}
+use Rattle.told_lines.proofs.PartLines.{request_granted, response_granted}
 use Rattle.homa_moves.proofs.Hosts.{some_is, none_some}
 use Rattle.homa_moves.proofs.Chosen.{IsGrantAt, grants_of, step_grants_stand}
 use Rattle.homa_granting.proofs.Messages.{part_in}

@@ -19,8 +19,8 @@ use Rattle.homa_plain.specs.Steps.{Work, begun, now_of, tells, starts, next_id, 
 use Rattle.homa_plain.specs.View.{View, Sent, Progress}
 use Rattle.homa_plain.specs.Seen.{seen}
 use Rattle.homa_plain.specs.World.{World, SentPacket, host_at, own_clock, is_late}
-use Rattle.homa_told.specs.Told.{IsTold, IsDated, sent_of}
-use Rattle.homa_told.proofs.Deliveries.{stale_now}
+use Rattle.told_lines.specs.Told.{IsTold, IsDated, sent_of}
+use Rattle.told_lines.proofs.Deliveries.{stale_now}
 use Rattle.homa_told.proofs.SendMoves.{says-move}
 use Rattle.homa_steps.specs.StepLaws.{HasOwnOrders}
 use Rattle.homa_steps.proofs.ToldBy.{hears_cutoffs-calm, hears_cutoffs-rows}

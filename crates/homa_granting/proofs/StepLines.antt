@@ -19,7 +19,7 @@ use Rattle.homa_plain.specs.Seen.{seen}
 use Rattle.homa_plain.specs.Laws.{Holds}
 use Rattle.homa_plain.specs.Granting.{Granting}
 use Rattle.homa_plain.specs.World.{World}
-use Rattle.homa_told.proofs.Lines.{entries_from-append, holds-append}
+use Rattle.told_lines.proofs.Lines.{entries_from-append, holds-append}
 use Rattle.homa_told.proofs.Own.{AllOwn, gets_own, acked_own, server_acts_own, gets_quiet, client_acts_quiet}
 use Rattle.homa_told.proofs.Moves.{IsMove, served_told, served-move}
 use Rattle.homa_told.proofs.AskedMove.{asked_told, asked-move}

@@ -27,10 +27,10 @@ use Rattle.homa_plain.specs.Seen.{seen}
 use Rattle.homa_plain.specs.Seen as lines
 use Rattle.homa_plain.specs.World.{World, host_at}
 use Rattle.homa_plain.proofs.CallOrder.{calls_are, hosts_are}
-use Rattle.homa_told.specs.Told.{sent_of}
+use Rattle.told_lines.specs.Told.{sent_of}
 use Rattle.homa_told.proofs.Moves.{IsMove}
 use Rattle.homa_told.proofs.Own.{gets_own, gets_quiet}
-use Rattle.homa_told.proofs.Runs.{ran_same, unrun_same}
+use Rattle.told_lines.proofs.Runs.{ran_same, unrun_same}
 use Rattle.homa_told.proofs.SendMoves.{hears-move}
 use Rattle.homa_steps.specs.StepLaws.{response_order, arriving_in}
 use Rattle.homa_steps.proofs.ToldBy.{hears_cutoffs-calm, asked-clients}

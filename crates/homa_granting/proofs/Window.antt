@@ -24,10 +24,10 @@ use Rattle.homa_plain.specs.Seen as lines
 use Rattle.homa_plain.specs.Seen.{seen, seen_all, refused, failed, finished, dropped, said, renewed, heard, counted, admitted, to_server, to_client, is_delivery_to}
 use Rattle.homa_plain.specs.Laws.{Holds}
 use Rattle.homa_plain.specs.Granting.{IsWithinAt, IsWithin, Granting, IsAllowed}
-use Rattle.homa_told.specs.Told.{sent_of}
-use Rattle.homa_told.proofs.Lines.{IsSaid, AllInner, said_inner, inner_same}
-use Rattle.homa_told.proofs.Progress.{get-set, get-gone}
-use Rattle.homa_told.proofs.PartLines.{is_grant}
+use Rattle.told_lines.specs.Told.{sent_of}
+use Rattle.told_lines.proofs.Lines.{IsSaid, AllInner, said_inner, inner_same}
+use Rattle.told_lines.proofs.Progress.{get-set, get-gone}
+use Rattle.told_lines.proofs.PartLines.{is_grant}
 
 -- no part, whether it is a message or not, is granted more than a window beyond what has arrived of it
 abbrev pub IsBoundedAt : ℕ → Option Part → Type 0

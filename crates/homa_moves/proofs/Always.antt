@@ -17,8 +17,8 @@ use Rattle.homa_plain.specs.View.{View, at_start}
 use Rattle.homa_plain.specs.Seen.{seen, seen_all}
 use Rattle.homa_plain.specs.Laws.{Holds}
 use Rattle.homa_moves.specs.Always.{IsSoAtFirst, KeptByEvent, IsProvedBy}
-use Rattle.homa_told.specs.Told.{HasOwnName, HasLives, IsTold}
-use Rattle.homa_told.proofs.Lines.{seen_all-append, holds-append}
+use Rattle.told_lines.specs.Told.{HasOwnName, HasLives, IsTold}
+use Rattle.told_lines.proofs.Lines.{seen_all-append, holds-append}
 use Rattle.homa_moves.proofs.Hosts.{some_is, none_some}
 
 -- ---- every list of events

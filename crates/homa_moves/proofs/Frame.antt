@@ -16,8 +16,8 @@ use Rattle.homa_plain.proofs.CallOrder.{calls_are}
 use Rattle.homa_steps.proofs.ToldBy.{packets_in-append}
 use Rattle.homa_steps.proofs.Others.{get-set_row, set_row-others}
 use Rattle.homa_moves.specs.Stands.{Stand, with_client, with_server, state_of, is_old, at_host, put, said_so_far, amid}
-use Rattle.homa_told.proofs.Lines.{seen-told, told_same}
-use Rattle.homa_told.proofs.Runs.{runs_told, told_runs}
+use Rattle.told_lines.proofs.Lines.{seen-told, told_same}
+use Rattle.told_lines.proofs.Runs.{runs_told, told_runs}
 use Rattle.homa_told.proofs.Moves.{IsMove}
 use Rattle.homa_moves.proofs.Hosts.{there, elsewhere, both_set, turned, apart, number_of}
 

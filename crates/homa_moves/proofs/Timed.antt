@@ -8,7 +8,7 @@ use Rattle.homa_plain.specs.Settings.{IsValid, accepted_life}
 use Rattle.homa_plain.specs.Host.{Host}
 use Rattle.homa_plain.specs.Steps.{is_stale}
 use Rattle.homa_plain.specs.World.{World, SentPacket, host_at, own_clock, is_late}
-use Rattle.homa_told.specs.Told.{HasClocks, IsDated, IsTimed, IsFresh}
+use Rattle.told_lines.specs.Told.{HasClocks, IsDated, IsTimed, IsFresh}
 
 -- ---- what valid settings say
 

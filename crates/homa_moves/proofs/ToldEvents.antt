@@ -25,9 +25,9 @@ use Rattle.homa_plain.specs.Seen.{seen, seen_all}
 use Rattle.homa_plain.specs.World.{World, SentPacket, After, Done, outcome, host_at, own_clock, next_answer}
 use Rattle.homa_plain.proofs.CallOrder.{hosts_are}
 use Rattle.homa_moves.specs.Stands.{put, said_so_far}
-use Rattle.homa_told.specs.Told.{IsDated, HasOwnName, HasLives, IsTold}
-use Rattle.homa_told.proofs.Lives.{number_itself, same_number, get-there, get-elsewhere}
-use Rattle.homa_told.proofs.Restarts.{lived_restarted, lives_here, lives_elsewhere}
+use Rattle.told_lines.specs.Told.{IsDated, HasOwnName, HasLives, IsTold}
+use Rattle.told_lines.proofs.Lives.{number_itself, same_number, get-there, get-elsewhere}
+use Rattle.told_lines.proofs.Restarts.{lived_restarted, lives_here, lives_elsewhere}
 use Rattle.homa_moves.proofs.ToldMoves.{each_set, own_set}
 use Rattle.homa_moves.proofs.ToldSteps.{told_view, inject_same, call_same, deliver_same, set_same, IsSameHost, told_host, ToldAmid, told_ended, told_acts, told_comes}
 use Rattle.homa_moves.proofs.Hosts.{within, length-set, some_is, apart, none_some}

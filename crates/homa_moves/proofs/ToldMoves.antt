@@ -21,10 +21,10 @@ use Rattle.homa_steps.proofs.Places.{all-append}
 use Rattle.homa_plain.proofs.CallOrder.{calls_are, hosts_are}
 use Rattle.homa_steps.proofs.Others.{set_row-others}
 use Rattle.homa_moves.specs.Stands.{put, said_so_far}
-use Rattle.homa_told.specs.Told.{IsDated, HasOwnName, HasLives, sent_of, IsTold}
-use Rattle.homa_told.proofs.Lines.{SameSetting, told_same, told_packets}
-use Rattle.homa_told.proofs.Runs.{told_lived}
-use Rattle.homa_told.proofs.Lives.{IsOfLife, told_lives}
+use Rattle.told_lines.specs.Told.{IsDated, HasOwnName, HasLives, sent_of, IsTold}
+use Rattle.told_lines.proofs.Lines.{SameSetting, told_same, told_packets}
+use Rattle.told_lines.proofs.Runs.{told_lived}
+use Rattle.told_lines.proofs.Lives.{IsOfLife, told_lives}
 use Rattle.homa_told.proofs.Moves.{IsFrom, IsMove}
 use Rattle.homa_moves.proofs.Hosts.{there, elsewhere, length-set, some_is, apart}
 use Rattle.homa_moves.proofs.Frame.{move_said, move_packets, next_number}

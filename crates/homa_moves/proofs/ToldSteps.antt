@@ -22,9 +22,9 @@ use Rattle.homa_plain.specs.Seen.{seen, seen_all, delivered, delivery}
 use Rattle.homa_plain.specs.Seen as lines
 use Rattle.homa_plain.specs.World.{World, host_at, own_clock}
 use Rattle.homa_moves.specs.Stands.{put, said_so_far}
-use Rattle.homa_told.specs.Told.{HasOwnName, HasLives, IsTold}
-use Rattle.homa_told.proofs.Runs.{lived_same}
-use Rattle.homa_told.proofs.Lives.{lives_same}
+use Rattle.told_lines.specs.Told.{HasOwnName, HasLives, IsTold}
+use Rattle.told_lines.proofs.Runs.{lived_same}
+use Rattle.told_lines.proofs.Lives.{lives_same}
 use Rattle.homa_told.proofs.Own.{AllOwn, gets_own, acked_own, server_acts_own, gets_quiet, client_acts_quiet}
 use Rattle.homa_told.proofs.Moves.{IsMove, served_told, served-move}
 use Rattle.homa_told.proofs.AskedMove.{asked_told, asked-move}

@@ -18,7 +18,7 @@ use Rattle.homa_plain.proofs.CallOrder.{calls_are}
 use Rattle.homa_steps.proofs.Others.{get-set_row, set_row-others}
 use Rattle.homa_moves.specs.Stands.{Stand, state_of, is_old, at_host, put, amid}
 use Rattle.homa_moves.proofs.Hosts.{both_set, there}
-use Rattle.homa_told.proofs.Runs.{ran_same, unrun_same}
+use Rattle.told_lines.proofs.Runs.{ran_same, unrun_same}
 use Rattle.homa_moves.proofs.Frame.{stand_is}
 use Rattle.homa_moves.proofs.ToldMoves.{own_set}
 use Rattle.homa_life.specs.Lifetime.{times, called_by}

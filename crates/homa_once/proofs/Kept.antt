@@ -21,7 +21,7 @@ use Rattle.homa_plain.specs.World.{World, SentPacket, After, Done, outcome, host
 use Rattle.homa_plain.specs.View.{View}
 use Rattle.homa_plain.specs.Seen.{seen, seen_all}
 use Rattle.homa_plain.specs.Laws.{Holds, Once}
-use Rattle.homa_told.specs.Told.{IsTold, IsDated, IsTimed}
+use Rattle.told_lines.specs.Told.{IsTold, IsDated, IsTimed}
 use Rattle.homa_moves.proofs.Hosts.{some_is, none_some, within}
 use Rattle.homa_moves.proofs.Timed.{seg_of, resend_of, timed, fresh}
 use Rattle.homa_moves.proofs.Events.{after_step, call_done, deliver_done, inject_done, turn_done, restart_done, shift_done, clock_done}

@@ -17,8 +17,8 @@ use Rattle.homa_plain.specs.Seen.{seen, seen_all}
 use Rattle.homa_plain.specs.Laws.{Holds, Once}
 use Rattle.homa_plain.proofs.CallOrder.{calls_are, hosts_are}
 use Rattle.homa_moves.specs.Stands.{Stand}
-use Rattle.homa_told.proofs.Lines.{IsSaid, AllInner, entries_from-append, holds-append, told_same}
-use Rattle.homa_told.proofs.Runs.{is_run, runs_told, told_runs}
+use Rattle.told_lines.proofs.Lines.{IsSaid, AllInner, entries_from-append, holds-append, told_same}
+use Rattle.told_lines.proofs.Runs.{is_run, runs_told, told_runs}
 use Rattle.homa_told.proofs.Own.{IsOwn, AllOwn, runs_said}
 use Rattle.homa_told.proofs.OwnRuns.{says-runs}
 use Rattle.homa_life.specs.Lifetime.{call_to}

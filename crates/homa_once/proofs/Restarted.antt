@@ -14,10 +14,10 @@ use Rattle.homa_plain.specs.View.{View, Sent}
 use Rattle.homa_plain.specs.Seen.{seen, begun, delivered, delivery}
 use Rattle.homa_plain.specs.World.{World, host_at}
 use Rattle.homa_moves.specs.Stands.{Stand, with_client, with_server, state_of, is_old, at_host, stand}
-use Rattle.homa_told.specs.Told.{AllLived}
+use Rattle.told_lines.specs.Told.{AllLived}
 use Rattle.homa_moves.proofs.Hosts.{some_is, there, elsewhere, within, apart, number_of}
-use Rattle.homa_told.proofs.Runs.{IsUnrun, ran_same, unrun_same}
-use Rattle.homa_told.proofs.Restarts.{unrun_restarted, ran_elsewhere}
+use Rattle.told_lines.proofs.Runs.{IsUnrun, ran_same, unrun_same}
+use Rattle.told_lines.proofs.Restarts.{unrun_restarted, ran_elsewhere}
 use Rattle.homa_moves.proofs.Frame.{stand_is}
 use Rattle.homa_plain.proofs.CallOrder.{hosts_are}
 use Rattle.homa_life.specs.Lifetime.{times, Lifetime}

@@ -21,8 +21,8 @@ use Rattle.homa_plain.specs.World.{World, stamped}
 use Rattle.homa_plain.proofs.CallOrder.{calls_are, hosts_are}
 use Rattle.homa_steps.proofs.Places.{all-append}
 use Rattle.homa_moves.specs.Stands.{Stand, state_of, with_server, said_so_far, amid}
-use Rattle.homa_told.proofs.Lines.{AllInner}
-use Rattle.homa_told.proofs.Runs.{runs_told}
+use Rattle.told_lines.proofs.Lines.{AllInner}
+use Rattle.told_lines.proofs.Runs.{runs_told}
 use Rattle.homa_told.proofs.Own.{AllOwn, runs_said}
 use Rattle.homa_told.proofs.Moves.{IsMove, notes_told, reply_told, served_put, served_noted, served_told, served_packets, served-move, served-finished}
 use Rattle.homa_told.proofs.OwnRuns.{notes-runs, reply-runs, served-runs}

@@ -19,8 +19,8 @@ use Rattle.homa_plain.specs.Steps.{Work, now_of, tells, served, asked, moment, h
 use Rattle.homa_plain.specs.View.{View}
 use Rattle.homa_plain.specs.World.{World, stamped}
 use Rattle.homa_moves.specs.Stands.{said_so_far, amid}
-use Rattle.homa_told.proofs.Lines.{IsSaid}
-use Rattle.homa_told.proofs.Runs.{runs_told}
+use Rattle.told_lines.proofs.Lines.{IsSaid}
+use Rattle.told_lines.proofs.Runs.{runs_told}
 use Rattle.homa_told.proofs.Own.{acked_own, gets_own, gets_quiet}
 use Rattle.homa_told.proofs.Moves.{IsMove}
 use Rattle.homa_told.proofs.SendMoves.{says-move, hears-move, hears-finished}

@@ -21,9 +21,9 @@ use Rattle.homa_plain.specs.Seen.{seen}
 use Rattle.homa_plain.specs.Laws.{Once, SameCalls}
 use Rattle.homa_plain.specs.World.{World, host_at, own_clock, new_world}
 use Rattle.homa_plain.proofs.CallOrder.{calls_are}
-use Rattle.homa_told.specs.Told.{IsTold}
-use Rattle.homa_told.proofs.Progress.{get-set, AreLevel, level_itself}
-use Rattle.homa_told.proofs.Runs.{IsUnrun, unrun_same}
+use Rattle.told_lines.specs.Told.{IsTold}
+use Rattle.told_lines.proofs.Progress.{get-set, AreLevel, level_itself}
+use Rattle.told_lines.proofs.Runs.{IsUnrun, unrun_same}
 use Rattle.homa_moves.specs.Stands.{Stand, state_of, at_host, stand, put, amid}
 use Rattle.homa_moves.specs.Contents.{replies, Replies}
 use Rattle.homa_moves.proofs.Hosts.{within, none_some, some_is}

@@ -30,12 +30,12 @@ use Rattle.homa_plain.specs.Seen.{seen, is_forgotten}
 use Rattle.homa_plain.specs.Laws.{Holds, Once, Returned, IsReturned, is_data}
 use Rattle.homa_plain.specs.World.{World}
 use Rattle.homa_plain.proofs.CallOrder.{calls_are, hosts_are}
-use Rattle.homa_told.specs.Told.{sent_of}
-use Rattle.homa_told.proofs.Lines.{entries_from-append}
+use Rattle.told_lines.specs.Told.{sent_of}
+use Rattle.told_lines.proofs.Lines.{entries_from-append}
 use Rattle.homa_told.proofs.Moves.{notes_told, reply_told, finishes_told}
 use Rattle.homa_told.proofs.AskedMove.{asked_put, asked_noted, asked_said}
 use Rattle.homa_told.proofs.Own.{IsQuiet, gets_quiet}
-use Rattle.homa_told.proofs.Progress.{get-set, get-gone}
+use Rattle.told_lines.proofs.Progress.{get-set, get-gone}
 use Rattle.homa_moves.specs.Stands.{Stand, with_client, put, said_so_far, amid}
 use Rattle.homa_moves.specs.Contents.{IsSlice}
 use Rattle.homa_moves.specs.Arrived.{IsSamePart}

@@ -21,7 +21,7 @@ use Rattle.homa_plain.specs.View.{View, Sent, at_start}
 use Rattle.homa_plain.specs.Seen.{seen, seen_all}
 use Rattle.homa_plain.specs.Laws.{Holds, Returned, HandedUp}
 use Rattle.homa_plain.specs.World.{World, SentPacket, After, Done, outcome, host_at, own_clock, next_answer, is_late, new_world}
-use Rattle.homa_told.specs.Told.{IsTold, IsDated, IsTimed, sent_of}
+use Rattle.told_lines.specs.Told.{IsTold, IsDated, IsTimed, sent_of}
 use Rattle.homa_moves.specs.Stands.{Stand, stand, amid}
 use Rattle.homa_moves.specs.Always.{IsOpening, trace, KeptByEvent, HoldsAlways}
 use Rattle.homa_moves.proofs.Always.{always, told_first}

@@ -16,9 +16,9 @@ use Rattle.homa_plain.specs.View.{View, Called, Ran, no_ends, life, is_server_of
 use Rattle.homa_plain.specs.Seen.{seen}
 use Rattle.homa_plain.specs.World.{World, host_at}
 use Rattle.homa_plain.proofs.CallOrder.{call_total, calls_are, hosts_are}
-use Rattle.homa_told.specs.Told.{AllLived}
-use Rattle.homa_told.proofs.Lives.{same_number, restarts_at}
-use Rattle.homa_told.proofs.Progress.{AreLevel, level_itself}
+use Rattle.told_lines.specs.Told.{AllLived}
+use Rattle.told_lines.proofs.Lives.{same_number, restarts_at}
+use Rattle.told_lines.proofs.Progress.{AreLevel, level_itself}
 use Rattle.homa_moves.specs.Stands.{Stand, stand}
 use Rattle.homa_moves.specs.Contents.{replies, Replies}
 use Rattle.homa_moves.proofs.Hosts.{apart}

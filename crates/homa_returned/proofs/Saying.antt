@@ -18,8 +18,8 @@ use Rattle.homa_plain.specs.View.{View, Called}
 use Rattle.homa_plain.specs.Seen.{seen, seen_all}
 use Rattle.homa_plain.specs.Laws.{Holds, Returned}
 use Rattle.homa_plain.specs.World.{World}
-use Rattle.homa_told.specs.Told.{IsTold}
-use Rattle.homa_told.proofs.Lines.{IsInner, said_inner, AllInner, entries_from-append, holds-append}
+use Rattle.told_lines.specs.Told.{IsTold}
+use Rattle.told_lines.proofs.Lines.{IsInner, said_inner, AllInner, entries_from-append, holds-append}
 use Rattle.homa_told.proofs.Own.{AllOwn}
 use Rattle.homa_told.proofs.Moves.{IsMove, notes_told, reply_told, served_put, served_noted, served_told, served-move, finishes_told}
 use Rattle.homa_told.proofs.AskedMove.{asked_put, asked_noted, asked_said, asked_told, asked-move}

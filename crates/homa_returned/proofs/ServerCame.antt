@@ -25,10 +25,10 @@ use Rattle.homa_plain.specs.View.{View, Progress, Called, Ends, no_ends, has_run
 use Rattle.homa_plain.specs.Seen.{seen}
 use Rattle.homa_plain.specs.World.{World}
 use Rattle.homa_plain.proofs.CallOrder.{calls_are, hosts_are}
-use Rattle.homa_told.specs.Told.{IsTold, sent_of}
+use Rattle.told_lines.specs.Told.{IsTold, sent_of}
 use Rattle.homa_told.proofs.Own.{gets_own}
-use Rattle.homa_told.proofs.Progress.{get-set}
-use Rattle.homa_told.proofs.Runs.{ran_same, unrun_same}
+use Rattle.told_lines.proofs.Progress.{get-set}
+use Rattle.told_lines.proofs.Runs.{ran_same, unrun_same}
 use Rattle.homa_moves.specs.Stands.{Stand, state_of, put, said_so_far, amid}
 use Rattle.homa_moves.specs.Contents.{IsSlice}
 use Rattle.homa_moves.specs.Arrived.{IsSamePart}

@@ -24,11 +24,11 @@ use Rattle.homa_plain.specs.Seen.{seen, seen_all, begun, delivery, delivered, st
 use Rattle.homa_plain.specs.Laws.{Holds, Once}
 use Rattle.homa_plain.specs.World.{World}
 use Rattle.homa_steps.proofs.Places.{all-append}
-use Rattle.homa_told.specs.Told.{sent_of}
-use Rattle.homa_told.proofs.Runs.{runs_told}
+use Rattle.told_lines.specs.Told.{sent_of}
+use Rattle.told_lines.proofs.Runs.{runs_told}
 use Rattle.homa_told.proofs.Own.{acked_own, server_acts_own, client_acts_quiet}
 use Rattle.homa_told.proofs.Moves.{IsMove}
-use Rattle.homa_told.proofs.Progress.{AreLevel, level_itself}
+use Rattle.told_lines.proofs.Progress.{AreLevel, level_itself}
 use Rattle.homa_told.proofs.SendMoves.{server_granted-move, client_granted-move, response_leaves-move, request_leaves-move, says-move, hears-move}
 use Rattle.homa_moves.specs.Stands.{Stand, state_of, put, said_so_far, amid}
 use Rattle.homa_moves.specs.Contents.{replies, Replies}

@@ -15,7 +15,7 @@ use Rattle.homa_plain.specs.Rules.{Did}
 use Rattle.homa_plain.specs.Steps.{Work, tells, posts, said, notes, tells_cutoffs, acknowledged, finishes, asked, bare, packet_from}
 use Rattle.homa_steps.proofs.ToldBy.{packets_in-append, asked-clients, asked-servers}
 use Rattle.homa_steps.proofs.Places.{all-append}
-use Rattle.homa_told.proofs.Lines.{AllInner, inner-append}
+use Rattle.told_lines.proofs.Lines.{AllInner, inner-append}
 use Rattle.homa_told.proofs.Own.{AllOwn}
 use Rattle.homa_told.proofs.Moves.{IsFrom, IsMove, notes_told, reply_told, acknowledged_told, finishes_told, SameHost, host_itself, host_then, all_from_same, from_host, notes-host, reply-host, notes-told, reply-told, notes_none, notes_inner, reply_inner, reply_from, said_inner, said_from}
 

@@ -1,13 +1,5 @@
-pub mod Lines
-pub mod Runs
 pub mod Own
 pub mod Moves
 pub mod AskedMove
 pub mod SendMoves
 pub mod OwnRuns
-pub mod Lives
-pub mod Restarts
-pub mod Progress
-pub mod Ticks
-pub mod PartLines
-pub mod Deliveries

@@ -19,7 +19,7 @@ use Rattle.homa_plain.specs.Sending.{Content}
 use Rattle.homa_plain.specs.Steps.{Work, tells, said, notes, tells_cutoffs, served, bare, packet_from}
 use Rattle.homa_steps.proofs.ToldBy.{packets_in-append, served-servers, served-clients}
 use Rattle.homa_steps.proofs.Places.{all-append}
-use Rattle.homa_told.proofs.Lines.{IsSaid, AllInner, inner-append}
+use Rattle.told_lines.proofs.Lines.{IsSaid, AllInner, inner-append}
 use Rattle.homa_told.proofs.Own.{IsOwn, AllOwn}
 
 -- a packet is of this host, of its present life and of its last step at the latest

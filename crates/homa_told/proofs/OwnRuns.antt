@@ -13,7 +13,7 @@ use Rattle.homa_plain.specs.Rows.{ClientRow, ServerRow}
 use Rattle.homa_plain.specs.Host.{Host, Told, Tuned, tuned, is_balance_due, counted, finished_at}
 use Rattle.homa_plain.specs.Rules.{Say, Tells, Posts, Did}
 use Rattle.homa_plain.specs.Steps.{Work, said}
-use Rattle.homa_told.proofs.Runs.{is_run, runs_told, runs-append}
+use Rattle.told_lines.proofs.Runs.{is_run, runs_told, runs-append}
 use Rattle.homa_told.proofs.Own.{IsOwn, AllOwn, runs_said}
 use Rattle.homa_told.proofs.Moves.{notes_told, reply_told, acknowledged_told, finishes_told, served_put, served_noted, served_told}
 use Rattle.homa_told.proofs.AskedMove.{asked_put, asked_noted, asked_said, asked_told}

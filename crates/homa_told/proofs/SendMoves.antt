@@ -15,7 +15,7 @@ use Rattle.homa_plain.specs.Rows.{ClientRow, ServerRow, set_row}
 use Rattle.homa_plain.specs.Host.{Says, Sends, peer_cutoffs, finished_at}
 use Rattle.homa_plain.specs.Sending.{Content, client_granted, server_granted, client_sends, state_sends, request_content}
 use Rattle.homa_plain.specs.Steps.{Work, now_of, tells, bare, packet_from, is_newer, hears_cutoffs, client_is_granted, server_is_granted, oldest, request_leaves, response_leaves}
-use Rattle.homa_told.proofs.Lines.{IsSaid}
+use Rattle.told_lines.proofs.Lines.{IsSaid}
 use Rattle.homa_told.proofs.Moves.{IsMove, from_host}
 
 module _ (s : Settings) (id : CallId) (w : Work) where

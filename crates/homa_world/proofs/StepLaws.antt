@@ -20,7 +20,7 @@ use Rattle.homa_steps.proofs.Places.{all-append}
 use Rattle.homa_moves.proofs.Hosts.{there, elsewhere, length-set, apart as apart_of}
 use Rattle.homa_plain.proofs.CallOrder.{hosts_are}
 use Rattle.homa_plain.specs.Calls.{is_host}
-use Rattle.homa_told.specs.Told.{HasOwnName}
+use Rattle.told_lines.specs.Told.{HasOwnName}
 use Rattle.world_events.specs.Named.{IsOwnStep, IsOfStep, numbered}
 use Rattle.world_events.specs.Apart.{IsApart, IsApartStep}
 use Rattle.world_events.specs.Stepping.{stepped_world, step_told}

@@ -9,7 +9,7 @@ use Rattle.homa_plain.specs.World.{World as PlainWorld, last_tick}
 use Rattle.homa_plain.specs.Replay.{Happening}
 use Rattle.homa_plain.specs.declared.fault.WorldFault.{WorldFault}
 use Rattle.homa_replay.specs.Playing.{IsApplied, IsNotApplied}
-use Rattle.homa_told.specs.Told.{HasOwnName}
+use Rattle.told_lines.specs.Told.{HasOwnName}
 use Rattle.homa_service.specs.Table.{place_of}
 use Rattle.homa_packets.specs.All.{kept_all, settings_of}
 use Rattle.world_events.specs.Named.{numbered}

@@ -19,8 +19,8 @@ use Rattle.homa_plain.specs.Rules.{Answer, Did}
 use Rattle.homa_plain.specs.Timers.{Place, OfClient, OfServer, client_acts, server_acts}
 use Rattle.homa_plain.specs.Sending.{client_granted, client_sends}
 use Rattle.homa_plain.specs.Steps.{Work, begun, now_of, moment, asked, served, hears_cutoffs, comes_to_row, takes, is_stale, comes, client_acted, server_acted, acts_at, acts, ended, next_id, new_call, starts, refilled, call_step, arrival_step, turn_step}
-use Rattle.homa_told.specs.Told.{HasOwnName}
-use Rattle.homa_told.proofs.Lines.{AllInner, inner-append}
+use Rattle.told_lines.specs.Told.{HasOwnName}
+use Rattle.told_lines.proofs.Lines.{AllInner, inner-append}
 use Rattle.homa_told.proofs.Own.{AllOwn, gets_own, acked_own, server_acts_own, gets_quiet, client_acts_quiet}
 use Rattle.homa_told.proofs.Moves.{IsMove, served_told, served-move}
 use Rattle.homa_told.proofs.AskedMove.{asked_told, asked-move}

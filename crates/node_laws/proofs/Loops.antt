@@ -19,7 +19,7 @@ use Rattle.homa_plain.specs.Rules.{Answer}
 use Rattle.homa_plain.specs.Steps.{Work, start_fault, call_step, arrival_step, turn_step}
 use Rattle.homa_plain.specs.World.{World, After, Outcome, Refused, Done, outcome, host_at, own_clock, next_answer, stepped, started, calls_from, turns, arrives_at, new_world, last_tick, new_hosts}
 use Rattle.homa_plain.specs.Replay.{Happening, carried}
-use Rattle.homa_told.specs.Told.{HasOwnName}
+use Rattle.told_lines.specs.Told.{HasOwnName}
 use Rattle.homa_moves.proofs.Always.{hosts_new}
 use Rattle.node_laws.proofs.Inner.{new_named}
 use Rattle.node_runs.specs.Script.{Place, Local, Remote, Setup, TimedCall, Refusal, Calls, Opening, Opened, opening}

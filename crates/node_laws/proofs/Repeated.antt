@@ -29,8 +29,8 @@ use Rattle.homa_steps.proofs.Places.{all-append}
 use Rattle.world_laws.specs.Sound.{IsSent}
 use Rattle.node_laws.proofs.Good.{IsGoodHost, IsGoodWork, IsSentNow}
 use Rattle.node_laws.proofs.GoodSteps.{call_good, arrival_good, turn_good}
-use Rattle.homa_told.specs.Told.{HasOwnName}
-use Rattle.homa_told.proofs.Lines.{AllInner}
+use Rattle.told_lines.specs.Told.{HasOwnName}
+use Rattle.told_lines.proofs.Lines.{AllInner}
 use Rattle.world_laws.proofs.Sent.{read, between}
 use Rattle.node_runs.specs.Course.{Report, Tells, Turning, Arrival, packet_from, arrival_outcome}
 use Rattle.node_runs.specs.Recorder.{Notes, no_notes, Kind, Sent, Junk, Strange, kind_of, kind_in, kind_events, is_strange, strange, events, kept}

@@ -31,7 +31,7 @@ use Rattle.homa_plain.proofs.CallOrder.{calls_are}
 use Rattle.homa_steps.proofs.Others.{get-set_row, set_row-others}
 use Rattle.homa_steps.proofs.Places.{all-append}
 use Rattle.homa_steps.proofs.ToldBy.{packets_in-append}
-use Rattle.homa_told.specs.Told.{HasOwnName}
+use Rattle.told_lines.specs.Told.{HasOwnName}
 use Rattle.homa_told.proofs.Own.{AllOwn, gets_own, acked_own, server_acts_own, gets_quiet, client_acts_quiet}
 use Rattle.homa_told.proofs.Moves.{IsMove, reply_told, acknowledged_told, finishes_told, served_noted, served_told, served_packets, served-move}
 use Rattle.homa_told.proofs.AskedMove.{asked_noted, asked_said, asked_told, asked_packets, asked-move}

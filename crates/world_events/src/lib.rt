@@ -22,7 +22,7 @@ ghost use Rattle.homa_plain.specs.Host.{Host, Told, new_host, entries_from};
 ghost use Rattle.homa_plain.specs.Rules.{Answer};
 ghost use Rattle.homa_plain.specs.Steps.{call_step, arrival_step, turn_step, start_fault};
 ghost use Rattle.homa_plain.specs.World.{World, SentPacket, host_at, own_clock, is_late, last_tick, outcome, Refused};
-ghost use Rattle.homa_told.specs.Told.{HasOwnName};
+ghost use Rattle.told_lines.specs.Told.{HasOwnName};
 ghost use Rattle.world_events.specs.Apart.{IsApart, IsApartStep};
 ghost use Rattle.world_events.specs.Named.{IsOfStep, IsOwnStep, numbered};
 ghost use Rattle.world_events.specs.Stepping.{IsStep, IsStepWith, IsChange, IsRefusal, ticked_world, restarted_world, shifted_world};

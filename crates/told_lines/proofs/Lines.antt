@@ -12,7 +12,7 @@ use Rattle.homa_plain.specs.Host.{Told, Says, Sends, packets_in, entries_from}
 use Rattle.homa_plain.specs.View.{View}
 use Rattle.homa_plain.specs.Seen.{seen, seen_all, refused, failed, is_delivery_to}
 use Rattle.homa_plain.specs.Laws.{Holds}
-use Rattle.homa_told.specs.Told.{sent_of}
+use Rattle.told_lines.specs.Told.{sent_of}
 
 pub seen_all-append : (v : View) (a b : List PlainEntry) → seen_all v (a ++ b) ≡ seen_all (seen_all v a) b
 seen_all-append v [] b = refl

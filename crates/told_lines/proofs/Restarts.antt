@@ -12,8 +12,8 @@ use Rattle.homa_plain.specs.Host.{Host}
 use Rattle.homa_plain.specs.View.{View, Ran, has_run, life, restarts_of}
 use Rattle.homa_plain.specs.Seen.{seen}
 use Rattle.homa_plain.proofs.CallOrder.{hosts_are}
-use Rattle.homa_told.specs.Told.{AllLived, HasLives}
-use Rattle.homa_told.proofs.Lives.{number_itself, same_number, restarts_at, life_restarted, life_more}
+use Rattle.told_lines.specs.Told.{AllLived, HasLives}
+use Rattle.told_lines.proofs.Lives.{number_itself, same_number, restarts_at, life_restarted, life_more}
 
 -- ---- in the new life no call has run, at the other hosts those that had
 

@@ -21,8 +21,8 @@ use Rattle.homa_plain.specs.Host.{Host, Told, Says, Sends, packets_in, entries_f
 use Rattle.homa_plain.specs.View.{View, Sent, life, restarts_of}
 use Rattle.homa_plain.specs.Seen.{seen, seen_all, refused, failed, is_delivery_to, with_first}
 use Rattle.homa_plain.proofs.CallOrder.{hosts_are}
-use Rattle.homa_told.specs.Told.{HasLives, sent_of}
-use Rattle.homa_told.proofs.Lines.{IsSaid, AllInner, inner_same, said_inner, said_packets}
+use Rattle.told_lines.specs.Told.{HasLives, sent_of}
+use Rattle.told_lines.proofs.Lines.{IsSaid, AllInner, inner_same, said_inner, said_packets}
 
 -- ---- a map from numbers, of which one is set
 

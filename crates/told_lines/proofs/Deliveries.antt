@@ -14,7 +14,7 @@ use Rattle.homa_plain.specs.Entries.{PlainDeliver, PlainStale}
 use Rattle.homa_plain.specs.View.{View, Called, Sent, Progress, no_ends, has_run, counts}
 use Rattle.homa_plain.specs.Seen.{seen, begun, delivered, delivery, counted, heard, admitted, to_server, to_client, is_unknown}
 use Rattle.homa_plain.proofs.CallOrder.{calls_are}
-use Rattle.homa_told.proofs.Progress.{get-set, is_of, AreLevel, IsLevel}
+use Rattle.told_lines.proofs.Progress.{get-set, is_of, AreLevel, IsLevel}
 
 flipped : (a b : CallId) → is_call a b ≡ false → is_call b a ≡ false
 flipped a b e = false_from_ne_true (is_call b a) (λ t. true≢false (sym ((calls_are a b).1 (sym ((calls_are b a).0 t))) ∙ e))

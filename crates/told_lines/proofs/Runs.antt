@@ -16,8 +16,8 @@ use Rattle.homa_plain.specs.Host.{Told, Says, Sends, entries_from}
 use Rattle.homa_plain.specs.View.{View, Ran, Sent, has_run, life}
 use Rattle.homa_plain.specs.Seen.{seen, seen_all, refused, failed, is_delivery_to, delivered, delivery, begun}
 use Rattle.homa_plain.proofs.CallOrder.{hosts_are}
-use Rattle.homa_told.specs.Told.{AllLived}
-use Rattle.homa_told.proofs.Lines.{IsInner, IsSaid, AllInner, said_inner}
+use Rattle.told_lines.specs.Told.{AllLived}
+use Rattle.told_lines.proofs.Lines.{IsInner, IsSaid, AllInner, said_inner}
 
 -- ---- lines that say the same of who ran, and of who restarted
 

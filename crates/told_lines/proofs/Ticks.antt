@@ -21,9 +21,9 @@ use Rattle.homa_plain.specs.Host.{Told, Says, Sends, packets_in, entries_from}
 use Rattle.homa_plain.specs.View.{View, Called, Sent, Progress, own_tick, is_server_of, has_last, sent_last, resends_of}
 use Rattle.homa_plain.specs.Seen.{seen, seen_all, refused, failed, said, renewed, is_delivery_to}
 use Rattle.homa_plain.proofs.CallOrder.{calls_are}
-use Rattle.homa_told.specs.Told.{sent_of}
-use Rattle.homa_told.proofs.Lines.{AllInner, told_same, told_packets}
-use Rattle.homa_told.proofs.Progress.{get-set, IsLevel, IsUnstale, AllUnstale, unstale_taken, taken_level}
+use Rattle.told_lines.specs.Told.{sent_of}
+use Rattle.told_lines.proofs.Lines.{AllInner, told_same, told_packets}
+use Rattle.told_lines.proofs.Progress.{get-set, IsLevel, IsUnstale, AllUnstale, unstale_taken, taken_level}
 
 -- ---- RESENDs
 

@@ -20,8 +20,8 @@ use Rattle.homa_plain.specs.Parts.{Part, Parts, raised, changed, changed_part}
 use Rattle.homa_plain.specs.View.{View, Sent, Progress, own_tick, is_server_of, sent_last, resends_of}
 use Rattle.homa_plain.specs.Seen.{seen, seen_all, refused, failed, finished, dropped, said, renewed, is_delivery_to}
 use Rattle.homa_plain.proofs.CallOrder.{call_total, calls_are}
-pub use Rattle.homa_told.specs.Level.{is_of, AreLevel, IsLevel}
-use Rattle.homa_told.proofs.Lines.{IsInner}
+pub use Rattle.told_lines.specs.Level.{is_of, AreLevel, IsLevel}
+use Rattle.told_lines.proofs.Lines.{IsInner}
 
 -- ---- maps from calls, of which one is set
 

@@ -20,8 +20,8 @@ use Rattle.homa_plain.specs.Parts.{raised, changed}
 use Rattle.homa_plain.specs.View.{View, Sent, Progress, is_server_of, sent_last}
 use Rattle.homa_plain.specs.Seen.{seen, seen_all, refused, failed, finished, dropped, said, is_delivery_to}
 use Rattle.homa_plain.proofs.CallOrder.{calls_are}
-use Rattle.homa_told.specs.Told.{sent_of}
-use Rattle.homa_told.proofs.Progress.{get-gone, get-changed, is_of, IsLevel, IsUnstale, AllUnstale, unstale_taken, taken_level}
+use Rattle.told_lines.specs.Told.{sent_of}
+use Rattle.told_lines.proofs.Progress.{get-gone, get-changed, is_of, IsLevel, IsUnstale, AllUnstale, unstale_taken, taken_level}
 
 -- the parts of a call
 pub record SameParts (q : CallId) (m n : Progress) : Type 0 where
