@@ -6,7 +6,7 @@ ghost use Rattle.homa_io.specs.Outside.{HasRisen, appended, TookFront};
 ghost use Rattle.homa_plain.specs.Entries.{plain};
 ghost use Rattle.homa_plain.specs.Text.{line_of_words, line_text};
 ghost use Rattle.homa_text.specs.Put.{IsPut};
-ghost use Rattle.homa_text.specs.Quick.{grant_sent, piece_sent};
+ghost use Rattle.homa_text.specs.Quick.{grant_sent, piece_sent, packet_sent};
 ghost use Rattle.homa_text.specs.Told.{HasLine};
 ghost use Rattle.homa_text.specs.Written.{word_text, spaced_word};
 
@@ -313,6 +313,49 @@ fn put_other<K: Sink>(sink: &mut K, entry: &Entry<'_>) -> Result<(), WriteFailed
     }
 }
 
+// Writes the line of a packet, which is this entry.
+fn put_packet<K: Sink>(
+    sink: &mut K,
+    entry: &Entry<'_>,
+    head: Head,
+    level: u8,
+    body: &Body,
+    payload: &[u8],
+) -> Result<(), WriteFailed>
+    requires { plain entry.now ≡ packet_sent head level body.now payload.now }
+    ensures ok { OnOk result (K.taken sink.new ≡ appended (K.taken sink.old) (line_text (plain entry.now))) }
+    ensures err { OnErr result (TookFront (K.taken sink.old) (K.taken sink.new) (line_text (plain entry.now))) }
+    ensures risen { OnErr result (HasRisen (K.faults sink.old) (K.faults sink.new)) }
+    ensures quiet { OnOk result (K.faults sink.new ≡ K.faults sink.old) }
+    ensures never_falls { K.faults sink.old ≤ K.faults sink.new }
+    ensures same { K.is_same sink.old sink.new }
+{
+    match *body {
+        Body::Grant { offset, prio } => {
+            let (offset, prio) = (u64::from(offset), u64::from(prio));
+            put_grant(sink, head, level, offset, prio, payload)
+        }
+        Body::Data {
+            length: size,
+            offset,
+            version,
+            service,
+            ack,
+        } if payload.len() <= MOST_PAYLOAD => {
+            let piece = Piece {
+                level,
+                size,
+                offset,
+                version,
+                service,
+                ack,
+            };
+            put_piece(sink, head, piece, payload)
+        }
+        _ => put_words_of(sink, entry),
+    }
+}
+
 /// Writes the line of an entry, as `put_line` does. No line tells that memory is wanting, so no entry of
 /// that is handed in.
 pub fn put_entry<K: Sink>(sink: &mut K, entry: &Entry<'_>) -> Result<(), WriteFailed>
@@ -346,32 +389,5 @@ pub fn put_entry<K: Sink>(sink: &mut K, entry: &Entry<'_>) -> Result<(), WriteFa
         role: *role,
         id: *id,
     };
-    match *body {
-        Body::Grant { offset, prio } => put_grant(
-            sink,
-            head,
-            *level,
-            u64::from(offset),
-            u64::from(prio),
-            payload,
-        ),
-        Body::Data {
-            length,
-            offset,
-            version,
-            service,
-            ack,
-        } if payload.len() <= MOST_PAYLOAD => {
-            let piece = Piece {
-                level: *level,
-                size: length,
-                offset,
-                version,
-                service,
-                ack,
-            };
-            put_piece(sink, head, piece, payload)
-        }
-        _ => put_words_of(sink, entry),
-    }
+    put_packet(sink, entry, head, *level, body, payload)
 }
