@@ -3,6 +3,7 @@ use Rattle.std.proofs.Common.{◌≡◌, ℕ, suc, zero, ◌+◌, ◌<◌, Bool,
 use Rattle.std.specs.Prelude.{◌==◌, not, nat_lt, map, filter, slice_get, Contains}
 use Rattle.std.specs.Option.{option_map_or}
 use Rattle.std.proofs.lemmas.Bool.{and_parts, eqb-true, eq-eqb, ltb-false, false≢true}
+use Rattle.plain_sets.proofs.OrderSame.{here, there}
 use Rattle.homa_plain.specs.declared.id.CallId.{CallId}
 use Rattle.homa_plain.specs.declared.id.HostId.{HostId}
 use Rattle.homa_plain.specs.declared.settings.Settings.{Settings}
@@ -80,17 +81,11 @@ one_reply v q server h inc a b l x y =
       heads e = cc
 
 -- it is among the answers of that incarnation
-contains_front : {A : Type 0} (x : A) (xs : List A) → Contains (x ∷ xs) x
-contains_front x xs = (0, omega arith, refl)
-
-contains_more : {A : Type 0} (x y : A) (xs : List A) → Contains xs x → Contains (y ∷ xs) x
-contains_more x y xs c = (suc c.0, omega (arith, c.1), c.2)
-
 passes_more : (p q : Ran → Bool) → ((r : Ran) → p r ≡ true → q r ≡ true) → (rs : List Ran) (x : List ℕ) → map (λ (r : Ran). r.response) (filter p rs) ≡ x ∷ [] → Contains (map (λ (r : Ran). r.response) (filter q rs)) x
 passes_more p q all [] x e = cc
 passes_more p q all (r ∷ rs) x e = by_test (λ f. passes_more p q all rs x f) (p r) refl (q r) refl e where
   kept : (b : Bool) → Contains (map (λ (r : Ran). r.response) (filter q rs)) x → Contains (map (λ (r : Ran). r.response) (cond b (r ∷ filter q rs) (filter q rs))) x
-  kept true c = contains_more x r.response (map (λ (r : Ran). r.response) (filter q rs)) c
+  kept true c = there r.response x (map (λ (r : Ran). r.response) (filter q rs)) c
   kept false c = c
 
   heads : (a : List ℕ) (xs : List (List ℕ)) → a ∷ xs ≡ x ∷ [] → a ≡ x
@@ -101,7 +96,7 @@ passes_more p q all (r ∷ rs) x e = by_test (λ f. passes_more p q all rs x f) 
   by_test rest true f true g e =
       let first : r.response ≡ x = heads r.response _ (sym (ap (λ b. map (λ (r : Ran). r.response) (cond b (r ∷ filter p rs) (filter p rs))) f) ∙ e) in
       subst (λ b. Contains (map (λ (r : Ran). r.response) (cond b (r ∷ filter q rs) (filter q rs))) x) (sym g)
-      (subst (λ (y : List ℕ). Contains (r.response ∷ map (λ (r : Ran). r.response) (filter q rs)) y) first (contains_front r.response (map (λ (r : Ran). r.response) (filter q rs))))
+      (subst (λ (y : List ℕ). Contains (r.response ∷ map (λ (r : Ran). r.response) (filter q rs)) y) first (here r.response (map (λ (r : Ran). r.response) (filter q rs))))
   by_test rest false f c g e = kept (q r) (rest (sym (ap (λ b. map (λ (r : Ran). r.response) (cond b (r ∷ filter p rs) (filter p rs))) f) ∙ e))
 
 pub among_answers : (v : View) (q : CallId) (server : HostId) (inc : ℕ) (response : List ℕ) → is_server_of v q server ≡ true → IsReplyOf v q server inc response → Contains (answers v q inc) response

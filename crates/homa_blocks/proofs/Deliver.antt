@@ -3,6 +3,7 @@ use Rattle.std.proofs.Common.{◌≡◌, ℕ, ◌+◌, Bool, true, false, ◌&&�
 use Rattle.std.specs.Prelude.{not, nat_lt, nat_le, unwrap_or, slice_get}
 use Rattle.std.specs.Option.{option_map_or}
 use Rattle.std.proofs.lemmas.Bool.{le-leb}
+use Rattle.std.proofs.Math.Bool.{and-false}
 use Rattle.plain_sets.specs.Maps.{get, insert, remove}
 use Rattle.homa_plain.specs.declared.id.CallId.{CallId}
 use Rattle.homa_plain.specs.declared.packet.Role.{Role}
@@ -69,12 +70,8 @@ module _ (v : View) (k : ℕ) (p : Sent) (came : slice_get v.packets k ≡ Some 
     -- a piece for a call that ran
     pub client_ran : has_run v c.server p.id ≡ true → Begins (seen v (PlainDeliver k)) (came_only v p) (came_only v p)
     client_ran ran =
-        begins_at (seen v (PlainDeliver k)) _ _ (came_only v p) (came_only v p) (admits ∙ ap (λ b. cond (is_host p.to c.server && not b) new (came_only v p)) ran ∙ ap (λ b. cond b new (came_only v p)) (and_false (is_host p.to c.server)))
+        begins_at (seen v (PlainDeliver k)) _ _ (came_only v p) (came_only v p) (admits ∙ ap (λ b. cond (is_host p.to c.server && not b) new (came_only v p)) ran ∙ ap (λ b. cond b new (came_only v p)) (and-false (is_host p.to c.server)))
         (counted_is false (uncounted role)) (begins_by v k p came) where
-          and_false : (b : Bool) → (b && false) ≡ false
-          and_false true = refl
-          and_false false = refl
-
           grows : Part
           grows = grown v.place offset (offset + length p.payload) (unwrap_or (get v.now.requests p.id) (opened c.server p.id.client (length c.request) v.settings.unsched))
 

@@ -4,6 +4,7 @@ use Rattle.std.specs.Prelude.{◌==◌, not, nat_lt, map, if◌then◌else◌}
 use Rattle.std.specs.Option.{option_map_or}
 use Rattle.std.specs.List.{AllByRecursion}
 use Rattle.std.proofs.lemmas.Bool.{cond_both}
+use Rattle.std.proofs.Math.Bool.{and-false}
 use Rattle.plain_sets.specs.Maps.{get, len}
 use Rattle.homa_plain.specs.declared.id.CallId.{CallId}
 use Rattle.homa_plain.specs.declared.id.HostId.{HostId}
@@ -42,7 +43,7 @@ use Rattle.homa_contents.specs.Tales.{Tale, tale, IsTruthful, IsSameRequest, IsS
 use Rattle.homa_contents.proofs.StillRules.{IsCalmBody}
 use Rattle.homa_contents.proofs.Pieces.{StaysPending, RequestTaken, Gapped, Unheld, Unpaged, Taken, Ran}
 use Rattle.homa_blocks.proofs.Deliver.{Begins}
-use Rattle.homa_contents.proofs.Calm.{and_false, own_replies, told_replies, unstale_inner, calm_notes, calm_reply}
+use Rattle.homa_contents.proofs.Calm.{own_replies, told_replies, unstale_inner, calm_notes, calm_reply}
 use Rattle.homa_contents.proofs.ReplyLines.{none_pass}
 use Rattle.homa_contents.proofs.TrueMoves.{response_later, served_lines, served_once, served_gave, served_other, served_here, served_true, served_front, before_served, served_before, served_split, served_fits}
 use Rattle.homa_contents.proofs.ActMoves.{elsewhere_made}
@@ -159,8 +160,8 @@ module _ (s : Settings) (w : World) (v : View) (host : HostId) (now : ℕ) (stan
     elsewhere n t e live response =
         let x : Stand = amid w v host work id n in
         let o = z.itself n in
-        let off : (is_call id id && is_host host n) ≡ false = ap (λ b. is_call id id && b) e ∙ and_false (is_call id id) in
-        let gave = served_gave s w v host now stands work id did k own d after id n (ap (λ b. runs_said did.says && b) off ∙ and_false (runs_said did.says)) in
+        let off : (is_call id id && is_host host n) ≡ false = ap (λ b. is_call id id && b) e ∙ and-false (is_call id id) in
+        let gave = served_gave s w v host now stands work id did k own d after id n (ap (λ b. runs_said did.says && b) off ∙ and-false (runs_said did.says)) in
         subst (λ y. IsSame s (seen_all u lines) id n y t) (sym (served_other s w v host now stands work id did k own d after id n off)) (record {
           live = live ∙ o.live;
           request = λ c' called at. absurd (elsewhere_made host n x c' (record { service = d.change.made.service; request = d.change.made.request; called = d.change.made.called }) called at e);
@@ -291,7 +292,7 @@ module _ (s : Settings) (w : World) (v : View) (host : HostId) (now : ℕ) (stan
           true_false e = cc
 
           whole_no_message : (q : Part) → parts.is_whole q ≡ true → is_message q ≡ false
-          whole_no_message q e = ap (λ b. nat_lt 0 (len q.arrived) && not b) e ∙ and_false (nat_lt 0 (len q.arrived))
+          whole_no_message q e = ap (λ b. nat_lt 0 (len q.arrived) && not b) e ∙ and-false (nat_lt 0 (len q.arrived))
 
           front_gave : replies front host id ≡ replies u host id
           front_gave =

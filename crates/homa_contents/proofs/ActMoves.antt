@@ -3,6 +3,7 @@ use Rattle.std.proofs.Common.{◌≡◌, ℕ, ◌+◌, ◌<◌, Bool, true, fals
 use Rattle.std.specs.Option.{option_map_or}
 use Rattle.std.specs.List.{AllByRecursion}
 use Rattle.std.proofs.lemmas.Bool.{true≢false}
+use Rattle.std.proofs.Math.Bool.{and-false}
 use Rattle.plain_sets.specs.Maps.{get}
 use Rattle.homa_plain.specs.declared.id.CallId.{CallId}
 use Rattle.homa_plain.specs.declared.id.HostId.{HostId}
@@ -35,7 +36,7 @@ use Rattle.homa_once.proofs.Acks.{GoesWhenDone}
 use Rattle.homa_once.proofs.Amid.{IsAmid}
 use Rattle.homa_contents.specs.Tales.{Tale, tale, IsTruthful, CarriesReply, IsSameResponse, IsSame, IsClosed, IsTrue}
 use Rattle.homa_contents.proofs.StillRules.{IsCalmBody}
-use Rattle.homa_contents.proofs.Calm.{tale_is, SameBlock, block_then, closed_same, and_false, told_replies}
+use Rattle.homa_contents.proofs.Calm.{tale_is, SameBlock, block_then, closed_same, told_replies}
 use Rattle.homa_contents.proofs.OwnMoves.{drop_own, drop_tale, fail_ended, packet_own}
 use Rattle.homa_contents.proofs.TrueMoves.{response_later, same_stays, true_move, served_front, asked_front, served_lines, served_once, served_gave, served_other, served_here, served_true, before_served, served_before, served_split, served_fits, asked_lines, asked_once, asked_gave, asked_true, before_asked, asked_before, said_asked, asked_split, asked_after, asked_fits}
 
@@ -99,7 +100,7 @@ module _ (s : Settings) (w : World) (v : View) (host : HostId) (now : ℕ) (stan
         response = response_later s u lines id (amid w v host work id n).client (get u.now.responses id) once old.response;
         replies = subst (λ xs. Replies xs (amid w v host work id n).server) (sym (gave n)) old.replies;
       } in
-      subst (λ x. IsSame s (seen_all u lines) id n x (tale (seen_all u lines).now id)) (sym (served_other s w v host now stands work id did k own d after id n (ap (λ b. is_call id id && b) e ∙ and_false (is_call id id))))
+      subst (λ x. IsSame s (seen_all u lines) id n x (tale (seen_all u lines).now id)) (sym (served_other s w v host now stands work id did k own d after id n (ap (λ b. is_call id id && b) e ∙ and-false (is_call id id))))
       (subst (IsSame s (seen_all u lines) id n (amid w v host work id n)) (sym told) new)) in
       let each = (λ (n : HostId). by_host n (is_host host n) refl here (there n)) in
       served_true s w v host now stands work id did k own d after t.packets (λ q n e. t.same q n) (λ q e. ap (λ (x : View). tale x.now q) is ∙ line.others q e ∙ before.tales q) each
@@ -190,7 +191,7 @@ module _ (s : Settings) (w : World) (v : View) (host : HostId) (now : ℕ) (stan
           response = subst (IsSameResponse s sent_view id (amid w v host work id n).client) (sym response) (response_later s u (send_line (length w.packets + length (packets_in work.told)) p ∷ []) id (amid w v host work id n).client (get u.now.responses id) (tt, tt) old.response);
           replies = subst (λ xs. Replies xs (amid w v host work id n).server) (sym (server_packet_gave id n)) old.replies;
         } in
-        subst (λ x. IsSame s sent_view id n x (tale sent_view.now id)) (sym (server_packet_stand id n false (ap (λ b. is_call id id && b) e ∙ and_false (is_call id id)))) same) in
+        subst (λ x. IsSame s sent_view id n x (tale sent_view.now id)) (sym (server_packet_stand id n false (ap (λ b. is_call id id && b) e ∙ and-false (is_call id id)))) same) in
         let here : IsSame s sent_view id host (amid w v host new id host) (tale sent_view.now id) =
         subst (λ x. IsSame s sent_view id host x (tale sent_view.now id)) (sym (server_packet_stand id host true (ap (λ b. b && is_host host host) ((calls_are id id).1 refl) ∙ (hosts_are host host).1 refl))) itself in
         true_move s w v host work new (Sends p ∷ []) work.host.clients (set_row work.host.servers id (Some row)) move now after t.packets

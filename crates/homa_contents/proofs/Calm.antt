@@ -8,6 +8,7 @@ use Rattle.homa_steps.proofs.ToldBy.{packets_in-append}
 use Rattle.homa_steps.proofs.Places.{all-append}
 use Rattle.std.specs.List.{AllByRecursion}
 use Rattle.std.proofs.lemmas.Bool.{cond_both, eq-eqb}
+use Rattle.std.proofs.Math.Bool.{and-false}
 use Rattle.homa_plain.specs.declared.id.CallId.{CallId}
 use Rattle.homa_plain.specs.declared.id.HostId.{HostId}
 use Rattle.homa_plain.specs.declared.entry.Why.TheVariants.{Timeout}
@@ -179,17 +180,13 @@ calm_append a b x y = record {
   plain = subst (AllByRecursion (λ (p : Packet). IsCalmBody p.body)) (sym (packets_in-append a b)) (all-append (λ (p : Packet). IsCalmBody p.body) (packets_in a) (packets_in b) x.plain y.plain);
 }
 
-pub and_false : (b : Bool) → (b && false) ≡ false
-and_false true = refl
-and_false false = refl
-
 no_grant : (what : Body) → IsCalmBody what → is_grant what ≡ false
 no_grant (body.Grant offset prio) c = absurd c
 no_grant what c = refl
 
 -- one packet
 pub calm_packet : (p : Packet) → IsCalmBody p.body → IsCalmTold (Sends p ∷ [])
-calm_packet p c = record { steady = tt; unstale = tt; aside = λ q. (ap (λ b. is_call q p.id && b) (no_grant p.body c) ∙ and_false (is_call q p.id), tt); live = λ q. refl; plain = (c, tt) }
+calm_packet p c = record { steady = tt; unstale = tt; aside = λ q. (ap (λ b. is_call q p.id && b) (no_grant p.body c) ∙ and-false (is_call q p.id), tt); live = λ q. refl; plain = (c, tt) }
 
 module _ (s : Settings) where
   pub calm_notes : (o : Option ℕ) (w : Work) → IsCalmTold (notes_told s o w)

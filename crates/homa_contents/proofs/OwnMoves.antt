@@ -1,8 +1,9 @@
 -- Moves that change what has arrived of their own call, or send a piece of a message.
-use Rattle.std.proofs.Common.{◌≡◌, ℕ, ◌+◌, ◌-◌, ◌≤◌, ◌<◌, max, Bool, true, false, ◌&&◌, ◌||◌, Option, Some, None, List, [], ◌∷◌, length, cond, refl, sym, ap, subst, ◌∙◌, arith}
+use Rattle.std.proofs.Common.{◌≡◌, ℕ, ◌+◌, ◌-◌, ◌≤◌, ◌<◌, max, Bool, true, false, ◌&&◌, Option, Some, None, List, [], ◌∷◌, length, cond, refl, sym, ap, subst, ◌∙◌, arith}
 use Rattle.std.specs.Prelude.{not, take, drop}
 use Rattle.std.specs.Option.{option_map, MatchOption}
 use Rattle.std.proofs.lemmas.Bool.{cond_both, lt-ltb}
+use Rattle.std.proofs.Math.Bool.{and-false, or-false}
 use Rattle.std.proofs.lemmas.List.{length-take, length-drop}
 use Rattle.plain_sets.specs.Maps.{get, len}
 use Rattle.plain_sets.specs.Ranges.{Range}
@@ -74,10 +75,6 @@ unfolding lines.seen
 fail_responses v id Timeout = get-gone v.now.responses id id ∙ ap (λ b. cond b None (get v.now.responses id)) ((calls_are id id).1 refl)
 fail_responses v id Forgotten = get-gone v.now.responses id id ∙ ap (λ b. cond b None (get v.now.responses id)) ((calls_are id id).1 refl)
 
-or_false : (b : Bool) → (b || false) ≡ b
-or_false true = refl
-or_false false = refl
-
 -- a line by which a call isn't live any more
 pub record EndedLine (id : CallId) (v u : View) : Type 0 where
   pub others : (q : CallId) → is_call id q ≡ false → tale u.now q ≡ tale v.now q
@@ -87,7 +84,7 @@ pub record EndedLine (id : CallId) (v u : View) : Type 0 where
 ended_line : (v : View) (id : CallId) (entry : PlainEntry) → IsLevel v → IsUnstale entry → ((q : CallId) → is_call q id ≡ false → IsAside q entry) → ((q : CallId) → is_end q entry ≡ is_call q id)
     → get (lines.seen v entry).now.requests id ≡ get v.now.requests id → get (lines.seen v entry).now.responses id ≡ None → EndedLine id v (lines.seen v entry)
 ended_line v id entry level unstale aside ends requests responses =
-    let live = (λ (q : CallId) (b : Bool) (e : is_call q id ≡ b). told_live v 0 (Says entry ∷ []) q (unstale, tt) level ∙ ap (λ t. cond t None (get v.now.live q)) (or_false (is_end q entry) ∙ ends q ∙ e)) in
+    let live = (λ (q : CallId) (b : Bool) (e : is_call q id ≡ b). told_live v 0 (Says entry ∷ []) q (unstale, tt) level ∙ ap (λ t. cond t None (get v.now.live q)) (or-false (is_end q entry) ∙ ends q ∙ e)) in
     record {
       others = λ q e. let p = told_parts v 0 (Says entry ∷ []) q (unstale, tt) level (aside q (turned id q e), tt) in tale_is _ _ (live q false (turned id q e)) p.requests p.responses;
       level = told_level v 0 (Says entry ∷ []) (unstale, tt) level;
@@ -151,10 +148,6 @@ module _ (s : Settings) (h : HostId) (message : List ℕ) (p : Incoming) (q : Pa
   pub peer_granted : (from to : HostId) → (raised from to offset q).peer ≡ q.peer
   peer_granted from to = cond_both (is_host q.host from && is_host q.peer to && is_message q) _ _ (λ (x : Part). x.peer ≡ q.peer) (λ _. refl) (λ _. refl)
 
-and_false : (b : Bool) → (b && false) ≡ false
-and_false true = refl
-and_false false = refl
-
 -- a packet of one call: what a GRANT leaves
 grant_others : (v : View) (n : ℕ) (p : Packet) (id : CallId) → p.id ≡ id → IsLevel v → (q : CallId) → is_call id q ≡ false → tale (lines.seen v (send_line n p)).now q ≡ tale v.now q
 grant_others v n p id of level q e =
@@ -169,7 +162,7 @@ module _ (v : View) (n : ℕ) (p : Packet) (id : CallId) (of : p.id ≡ id) (lev
   -- any but a GRANT leaves all
   pub packet_tale : is_grant p.body ≡ false → (q : CallId) → tale (lines.seen v (send_line n p)).now q ≡ tale v.now q
   packet_tale e q =
-      let aside = ap (λ b. is_call q p.id && b) e ∙ and_false (is_call q p.id) in
+      let aside = ap (λ b. is_call q p.id && b) e ∙ and-false (is_call q p.id) in
       let parts = told_parts v n (Sends p ∷ []) q tt level (aside, tt) in
       tale_is _ _ (told_live v n (Sends p ∷ []) q tt level) parts.requests parts.responses
 

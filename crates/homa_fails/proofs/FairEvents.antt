@@ -20,7 +20,6 @@ use Rattle.homa_plain.specs.Rules.{Answer}
 use Rattle.homa_plain.specs.Steps.{Work, begun, starts, next_id, new_call, comes, takes, is_stale, acts, refilled, ended, tells, call_step, arrival_step, turn_step}
 use Rattle.homa_plain.specs.View.{View, Called, Sent, Progress, own_tick, has_last, sent_last}
 use Rattle.homa_plain.specs.Seen.{seen, seen_all}
-use Rattle.homa_plain.specs.Seen as lines
 use Rattle.homa_plain.specs.Laws.{Holds}
 use Rattle.homa_plain.specs.World.{World, host_at, own_clock}
 use Rattle.homa_plain.proofs.CallOrder.{calls_are}
@@ -34,6 +33,7 @@ use Rattle.homa_moves.proofs.ToldMoves.{each_set, own_set}
 use Rattle.homa_moves.proofs.ToldSteps.{SameTold, call_same as call_told, deliver_same, inject_same, set_same}
 use Rattle.homa_moves.proofs.Timed.{resend_of, seg_of}
 use Rattle.homa_moves.proofs.Events.{after_step}
+use Rattle.homa_once.proofs.Restarted.{deliver_calls}
 use Rattle.homa_fails.specs.Timeouts.{TimesOut, IsFairRow, IsLiveRow, HasFairRows}
 use Rattle.homa_fails.proofs.FairAmid.{none_renewed, AreLiveAs}
 use Rattle.homa_fails.proofs.FairMoves.{Fair, acts_fair, ended_fair}
@@ -113,14 +113,6 @@ module _ (s : Settings) (w : World) (v : View) (host : HostId) (now : ℕ) (h : 
     here q r is false e =
         let old : get h.clients q ≡ Some r = sym (get-set h.clients id (new_call s now h.order server service request) q ∙ ap (λ b. cond b (Some (new_call s now h.order server service request)) (get h.clients q)) e) ∙ is in
         row_view s v called now q r (call_aside q e) (row_later s v h.last now q r le (k.rows host h at q r (own q r old) old))
-
--- a delivery leaves the calls that were made
-same_calls : (v : View) (n : ℕ) → (seen v (PlainDeliver n)).calls ≡ v.calls
-unfolding seen
-same_calls v n = by_packet (slice_get v.packets n) where
-  by_packet : (o : Option Sent) → (lines.delivered (lines.begun v) o).calls ≡ v.calls
-  by_packet None = refl
-  by_packet (Some p) = refl
 
 -- ---- steps
 
@@ -229,7 +221,7 @@ module _ (s : Settings) (w : World) (v : View) (host : HostId) (h : Host) (at : 
           stale_setting = told_same u 0 (Says (PlainStale h.id p.at t) ∷ []) (tt, tt)
 
           calls_same : u.calls ≡ v.calls
-          calls_same = same_calls v n
+          calls_same = deliver_calls v n
 
           stale_packets : stale.packets ≡ u.packets
           stale_packets = said_packets u (PlainStale h.id p.at t) tt

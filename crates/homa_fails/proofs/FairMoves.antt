@@ -3,6 +3,7 @@ use Rattle.std.proofs.Common.{◌≡◌, ℕ, ◌+◌, ◌-◌, ◌≤◌, ◌<�
 use Rattle.std.specs.Prelude.{nat_lt, nat_le, max}
 use Rattle.std.specs.Option.{MatchOption}
 use Rattle.std.proofs.lemmas.Bool.{cond_both, ltb-true, ltb-false, leb-true, lt-ltb, le-leb, and_left, and_right, and_parts, and_from, cases_lt, true≢false}
+use Rattle.std.proofs.Math.Bool.{or-false}
 use Rattle.std.proofs.lemmas.List.{length-take, length-drop}
 use Rattle.plain_sets.specs.Maps.{Map, get}
 use Rattle.plain_sets.specs.Ranges.{Range}
@@ -109,14 +110,10 @@ sent_fair s now r range ticks all seg sound size at f = by_new (nat_lt r.out.top
 
 -- ---- what the lines say behind one packet of a client
 
-or_false : (b : Bool) → (b || false) ≡ b
-or_false true = refl
-or_false false = refl
-
 module _ (s : Settings) (v : View) (n : ℕ) (p : Packet) where
   -- of the call itself
   one_sent_last : (c : Called) → get v.calls p.id ≡ Some c → sent_last (seen v (send_line n p)) p.id ≡ sent_last v p.id || has_last p.id (length c.request) (sent_of p) p.body
-  one_sent_last c is = told_sent_last v n (Sends p ∷ []) p.id tt ∙ ap (λ b. sent_last v p.id || b) (ap (λ o. any_last p.id o (sent_of p ∷ [])) is ∙ or_false (has_last p.id (length c.request) (sent_of p) p.body))
+  one_sent_last c is = told_sent_last v n (Sends p ∷ []) p.id tt ∙ ap (λ b. sent_last v p.id || b) (ap (λ o. any_last p.id o (sent_of p ∷ [])) is ∙ or-false (has_last p.id (length c.request) (sent_of p) p.body))
 
   one_row : (last : ℕ) (r x : ClientRow) → IsLiveRow s v last p.id r → x.seen ≡ r.seen → called_by x ≡ called_by r → x.request ≡ r.request → x.out.length ≡ r.out.length → outgoing.IsSound x.out
       → get (seen v (send_line n p)).now.live p.id ≡ get v.now.live p.id → IsFairRow s last x (resends_of (seen v (send_line n p)).now p.id) (sent_last (seen v (send_line n p)) p.id) → IsLiveRow s (seen v (send_line n p)) last p.id x
@@ -151,7 +148,7 @@ module _ (s : Settings) (w : World) (v : View) (host : HostId) (now : ℕ) (stan
       let u : View = said_so_far w v work in
       let tick : own_tick u id.client ≡ now = ap (own_tick u) mine ∙ k.tick in
       let ticks : resends_of (seen u (send_line n p)).now id ≡ now ∷ resends_of u.now id = resend_ticks u n p x.from x.to (s.overcommit - 1) refl refl ∙ ap (λ (t : ℕ). t ∷ resends_of u.now id) tick in
-      let last : sent_last (seen u (send_line n p)) id ≡ sent_last u id = one_sent_last s u n p (called_by r) old.called ∙ or_false (sent_last u id) in
+      let last : sent_last (seen u (send_line n p)) id ≡ sent_last u id = one_sent_last s u n p (called_by r) old.called ∙ or-false (sent_last u id) in
       let asked_row : ClientRow = record r { count = r.count + 1; base = now_of work } in
       let fair : IsFairRow s now asked_row (now ∷ resends_of u.now id) (sent_last u id) =
       subst (λ (t : ℕ). IsFairRow s t asked_row (t ∷ resends_of u.now id) (sent_last u id)) k.last (fair_asks s now (now_of work) at r (resends_of u.now id) (sent_last u id) old.fair deadline over few) in
@@ -175,7 +172,7 @@ module _ (s : Settings) (w : World) (v : View) (host : HostId) (now : ℕ) (stan
       subst (λ (x : Settings). (length (resends_of u.now id) ≡ x.tries) × AreSpaced x.resend (own_tick u id.client ∷ resends_of u.now id)) (sym k.settings)
       (f.0, subst (λ (t : ℕ). AreSpaced s.resend (t ∷ resends_of u.now id)) tick f.1) in
       fair_client s w v host now stands none_renewed work (asked s id r.server did work) (Says (PlainFail id Timeout) ∷ []) id None m mine (tt, tt) (unanswered, tt)
-      (λ q e. record { lives = or_false (is_call q id) ∙ e; bare = tt }) (λ q r e. refl) (λ y e. absurd (none_some y e)) k
+      (λ q e. record { lives = or-false (is_call q id) ∙ e; bare = tt }) (λ q r e. refl) (λ y e. absurd (none_some y e)) k
 
   client_fair : (work : Work) (id : CallId) (r : ClientRow) (at : ℕ) → Fair work → get work.host.clients id ≡ Some r → client_deadline s r ≡ Some at → at ≤ now_of work → Fair (asked s id r.server (client_acts s (moment s id work) id r) work)
   client_fair work id r at k is deadline over =

@@ -3,6 +3,7 @@ use Rattle.std.proofs.Common.{◌≡◌, ℕ, suc, Bool, true, false, ◌&&◌, 
 use Rattle.std.specs.Prelude.{◌==◌, ◌+◌, nat_lt, nat_le, unwrap_or}
 use Rattle.std.specs.List.{AllByRecursion, list_any}
 use Rattle.std.proofs.lemmas.Bool.{cond_both, and_left, and_right, true≢false, false_from_ne_true}
+use Rattle.std.proofs.Math.Bool.{or-false}
 use Rattle.plain_sets.specs.Maps.{get}
 use Rattle.homa_plain.specs.declared.id.CallId.{CallId}
 use Rattle.homa_plain.specs.declared.id.HostId.{HostId}
@@ -76,17 +77,14 @@ module _ (q : CallId) where
   silent_row s v n told last r inner fresh level silent k =
       let u : View = seen_all v (entries_from n told) in
       let ticks : resends_of v.now q ≡ resends_of u.now q = ap (λ (o : Option (List ℕ)). unwrap_or o []) (sym (told_ticks v n told q fresh level silent.bare)) in
-      let sent : sent_last v q ≡ sent_last u q = sym (told_sent_last v n told q inner ∙ ap (λ b. sent_last v q || b) (none_last (get v.calls q) (packets_in told) silent.bare) ∙ or_false (sent_last v q)) in
+      let sent : sent_last v q ≡ sent_last u q = sym (told_sent_last v n told q inner ∙ ap (λ b. sent_last v q || b) (none_last (get v.calls q) (packets_in told) silent.bare) ∙ or-false (sent_last v q)) in
       record {
         live = told_live v n told q fresh level ∙ ap (λ b. cond b None (get v.now.live q)) silent.lives ∙ k.live;
         called = ap (λ m. get m q) (told_same v n told inner).calls ∙ k.called;
         size = k.size;
         sound = k.sound;
         fair = subst (λ (ts : List ℕ). IsFairRow s last r ts (sent_last u q)) ticks (subst (IsFairRow s last r (resends_of v.now q)) sent k.fair);
-      } where
-        or_false : (b : Bool) → (b || false) ≡ b
-        or_false true = refl
-        or_false false = refl
+      }
 
 -- ---- a host's packets are of no call of another client
 
@@ -279,10 +277,7 @@ module _ (s : Settings) where
         let ends = finishes_told s id server did.finished (asked_said s id server did w) in
         ends-append q noted (reply ++ (says ++ ends)) ∙ ap (λ b. b || ends_told q (reply ++ (says ++ ends))) ((notes_calm did.opened (asked_put s id server did w)).1 q)
         ∙ ends-append q reply (says ++ ends) ∙ ap (λ b. b || ends_told q (says ++ ends)) ((reply_calm Client id server did.version (asked_noted s id server did w)).1 q)
-        ∙ ends-append q says ends ∙ ap (λ b. ends_told q says || b) ((finishes_calm id server did.finished (asked_said s id server did w)).1 q) ∙ or_false (ends_told q says) ∙ says_ends w.host id server id.client q did.says own where
-          or_false : (b : Bool) → (b || false) ≡ b
-          or_false true = refl
-          or_false false = refl
+        ∙ ends-append q says ends ∙ ap (λ b. ends_told q says || b) ((finishes_calm id server did.finished (asked_said s id server did w)).1 q) ∙ or-false (ends_told q says) ∙ says_ends w.host id server id.client q did.says own
 
     pub asked_bare : AllBare did.says → (q : CallId) → NoneAsks q (packets_in (asked_told s id server did w))
     asked_bare bare q =

@@ -3,6 +3,7 @@ use Rattle.std.proofs.Common.{◌≡◌, ℕ, ◌+◌, ◌≤◌, ◌<◌, Bool,
 use Rattle.std.specs.Prelude.{◌==◌, nat_lt, nat_le, slice_get, unwrap_or, if◌then◌else◌}
 use Rattle.std.specs.Option.{option_map, option_map_or}
 use Rattle.std.proofs.lemmas.Bool.{false_from_ne_true, leb-true, eqb-true, ltb-true, ltb-false, le-leb, false≢true}
+use Rattle.std.proofs.Math.Bool.{and-false}
 use Rattle.plain_sets.specs.Maps.{get, remove}
 use Rattle.homa_plain.specs.declared.id.CallId.{CallId}
 use Rattle.homa_plain.specs.declared.id.HostId.{HostId}
@@ -52,7 +53,7 @@ use Rattle.homa_contents.specs.Tales.{Tale, tale, receiving, IsSameRequest, IsRe
 use Rattle.homa_contents.proofs.ReplyLines.{lines_reply}
 use Rattle.homa_contents.proofs.StillRules.{IsOther, IsPlain, StillAsked, Forgets, Awaited, awaited, unasked_still, answered_still, unknown_answered}
 use Rattle.homa_contents.proofs.Pieces.{ResponseTaken, Gapped, Unpaged, Taken, Done, response_opens, response_grows}
-use Rattle.homa_contents.proofs.Calm.{tale_is, SameBlock, and_false}
+use Rattle.homa_contents.proofs.Calm.{tale_is, SameBlock}
 use Rattle.homa_contents.proofs.TrueMoves.{asked_still, asked_once, asked_before, before_asked}
 use Rattle.homa_contents.proofs.ActMoves.{asked_fails}
 use Rattle.homa_blocks.proofs.Deliver.{came_only, Begins, server_uncounted, was_heard, server_other, new_response, response_admitted, server_piece, heard_others, heard_of, response_of}
@@ -152,7 +153,7 @@ module _ (s : Settings) (w : World) (v : View) (n : ℕ) (host : HostId) (now : 
   unasked_came is =
       let m : Moment = moment s p.id work in
       let counting : counts v (came_only v x) x ≡ false =
-      counts_by v (came_only v x) x (is_server_of v x.id x.from) false refl (ap (λ o. option_map_or (λ latest. nat_le latest p.inc) o false) (live_is None is)) (ap is_server role) to_client ∙ and_false (is_server_of v x.id x.from) in
+      counts_by v (came_only v x) x (is_server_of v x.id x.from) false refl (ap (λ o. option_map_or (λ latest. nat_le latest p.inc) o false) (live_is None is)) (ap is_server role) to_client ∙ and-false (is_server_of v x.id x.from) in
       uncounted None is counting (subst (StillAsked None) (sym (ap (client_gets s m p) is ∙ gets_unasked s m p)) (unasked_still m p.body))
 
   -- ---- a live call
@@ -415,7 +416,7 @@ module _ (s : Settings) (w : World) (v : View) (n : ℕ) (host : HostId) (now : 
       by_tests false e c f = uncounted (Some r) is (counting_is ∙ ap (λ a. a && nat_le r.seen p.inc) (turned_host false e)) (kept_row (gets_elsewhere s (moment s p.id work) p r e))
       by_tests true e true f =
           let earlier : nat_le r.seen p.inc ≡ false = false_from_ne_true (nat_le r.seen p.inc) (λ g. absurd (omega (arith, ltb-true p.inc r.seen f, leb-true r.seen p.inc g))) in
-          uncounted (Some r) is (counting_is ∙ ap (λ a. is_host r.server (sender p) && a) earlier ∙ and_false (is_host r.server (sender p))) (kept_row (gets_earlier s (moment s p.id work) p r f))
+          uncounted (Some r) is (counting_is ∙ ap (λ a. is_host r.server (sender p) && a) earlier ∙ and-false (is_host r.server (sender p))) (kept_row (gets_earlier s (moment s p.id work) p r f))
       by_tests true e false f = counted_came e f
 
   pub client_saying : IsSaying s w (line_view s w v n host now stands) host now stands (asked s p.id p.server (client_gets s (moment s p.id work) p (get work.host.clients p.id)) work)

@@ -1,7 +1,8 @@
 -- Each event keeps what the lines say of messages true; so returned and handed up hold of every trace, and calls are forgotten as they should be.
-use Rattle.std.proofs.Common.{◌≡◌, ℕ, zero, suc, ◌+◌, ◌<◌, true, false, Option, Some, None, List, [], ◌∷◌, ◌++◌, length, refl, sym, ap, subst, ◌∙◌}
-use Rattle.std.specs.Prelude.{slice_get, map}
-use Rattle.std.specs.Option.{is_some}
+use Rattle.std.proofs.Common.{◌≡◌, ℕ, ◌+◌, ◌<◌, true, false, Option, Some, None, List, [], ◌∷◌, ◌++◌, length, refl, sym, ap, subst, ◌∙◌}
+use Rattle.std.specs.Prelude.{slice_get}
+use Rattle.std.specs.Option.{is_some, option_map}
+use Rattle.std.proofs.lemmas.Option.{slice_get-map}
 use Rattle.std.specs.List.{AllByRecursion}
 use Rattle.std.proofs.lemmas.Bool.{false≢true}
 use Rattle.std.proofs.lemmas.List.{append-nil}
@@ -25,7 +26,7 @@ use Rattle.told_lines.specs.Told.{IsTold, IsDated, IsTimed, sent_of}
 use Rattle.homa_moves.specs.Stands.{Stand, stand, amid}
 use Rattle.homa_moves.specs.Always.{IsOpening, trace, KeptByEvent, HoldsAlways}
 use Rattle.homa_moves.proofs.Always.{always, told_first}
-use Rattle.homa_moves.proofs.Hosts.{some_is, none_some, within, length-set}
+use Rattle.homa_moves.proofs.Hosts.{within, length-set}
 use Rattle.homa_moves.proofs.Timed.{seg_of, resend_of, timed, fresh}
 use Rattle.homa_moves.proofs.Events.{after_step, call_done, deliver_done, inject_done, turn_done, restart_done, shift_done, clock_done}
 use Rattle.homa_moves.proofs.ToldEvents.{told_event}
@@ -63,11 +64,6 @@ step_says s w v host now stands work k = record {
   same = record { same = k.same.same; packets = k.same.packets; level = k.same.level; closed = k.same.closed };
   served = λ q c e. subst (λ (n : ℕ). c.server.0 < n) (sym (length-set w.hosts host.0 work.host)) (k.returned.1 q c e);
 }
-
-get_map : {A B : Type 0} (f : A → B) (xs : List A) (n : ℕ) (x : A) → slice_get xs n ≡ Some x → slice_get (map f xs) n ≡ Some (f x)
-get_map f [] n x e = absurd (none_some x e)
-get_map f (y ∷ xs) zero x e = ap (λ z. Some (f z)) (some_is y x e)
-get_map f (y ∷ xs) (suc n) x e = get_map f xs n x e
 
 module _ (s : Settings) (w : World) (v : View) (host : HostId) (h : Host) (stands : host_at w host ≡ Some h) (told : IsTold s w v) (k : IsKept s w v) (t : IsTrue s w v) (served : AreServed w v) where
   time : IsTimed s w host h (own_clock w host)
@@ -114,7 +110,7 @@ module _ (s : Settings) (w : World) (v : View) (n : ℕ) (host : HostId) (h : Ho
       let b = begun_before s w v n host h (record h { last = now }) stands told (record { id = refl; inc = refl; seq = refl; clients = refl; servers = refl; finished = refl; last = refl }) time.last time.within k t served in
       let fits = all_get (PacketFits s (amid w line host first)) w.packets n sent (subst (AllByRecursion (PacketFits s (amid w line host first))) (append-nil w.packets) b.amid.kept.packets) at in
       let carries = all_get (IsTruthful line) w.packets n sent (subst (AllByRecursion (IsTruthful line)) (append-nil w.packets) b.packets) at in
-      let came : slice_get v.packets n ≡ Some (sent_of sent.packet) = ap (λ (ps : List Sent). slice_get ps n) told.packets ∙ get_map (λ (p : SentPacket). sent_of p.packet) w.packets n sent at in
+      let came : slice_get v.packets n ≡ Some (sent_of sent.packet) = ap (λ (ps : List Sent). slice_get ps n) told.packets ∙ (slice_get-map (λ (p : SentPacket). sent_of p.packet) w.packets n ∙ ap (option_map (λ (p : SentPacket). sent_of p.packet)) at) in
       step_says s w line host now room (ended s (comes s (Some sent.packet) answer first))
       (ended_saying s w line host now room time.from time.within (seg_of s told.valid) (comes s (Some sent.packet) answer first)
       (packet_saying s w v n host now room sent.packet sent.tick answer first came told.settings served b time.from time.within
