@@ -38,9 +38,9 @@ use Rattle.homa_once.proofs.Restarted.{inject_calls, inject_line, still_stand}
 use Rattle.homa_returned.proofs.Beginning.{AreServed, inject_fresh, line_true}
 use Rattle.homa_returned.proofs.Restart.{get-kept}
 use Rattle.homa_returned.proofs.Laws.{IsSoFar, event_says, so_later, opened_so, some_within}
-use Rattle.homa_granting.proofs.Messages.{part_in}
-use Rattle.homa_granting.proofs.Window.{PartsWithin, IsBoundedAt, parts_within, deliver_within, inject_within}
-use Rattle.homa_granting.proofs.Ages.{number, IsInOrder}
+use Rattle.grant_lines.proofs.Messages.{part_in}
+use Rattle.grant_lines.proofs.Window.{PartsWithin, IsBoundedAt, parts_within, deliver_within, inject_within}
+use Rattle.message_ages.proofs.Ages.{number, IsInOrder}
 use Rattle.homa_granting.proofs.GrantSteps.{HasGrants, StepGrants, call_grants, turn_grants, junk_grants, packet_grants}
 
 -- ---- hosts

@@ -1,6 +1,8 @@
 -- The law at each step of a host, and at each other event.
-use Rattle.std.proofs.Common.{◌≡◌, ℕ, zero, suc, map, cond, ◌<◌, Bool, true, false, Option, Some, None, List, [], ◌∷◌, length, inl, refl, sym, ap, subst, ◌∙◌, arith}
+use Rattle.std.proofs.Common.{◌≡◌, ℕ, cond, ◌<◌, Bool, true, false, Option, Some, None, List, [], ◌∷◌, length, inl, refl, sym, ap, subst, ◌∙◌, arith}
 use Rattle.std.specs.Prelude.{nat_lt, slice_get}
+use Rattle.std.specs.Option.{option_map}
+use Rattle.std.proofs.lemmas.Option.{slice_get-map}
 use Rattle.std.specs.List.{AllByRecursion}
 use Rattle.std.proofs.lemmas.Bool.{cond_both}
 use Rattle.std.proofs.lemmas.List.{append-nil}
@@ -38,14 +40,14 @@ use Rattle.homa_contents.specs.Tales.{IsTruthful, IsTrue}
 use Rattle.homa_returned.proofs.Saying.{IsSaying}
 use Rattle.homa_returned.proofs.Stepping.{junk_saying, turn_saying, packet_saying}
 use Rattle.homa_returned.proofs.Beginning.{AreServed, begun_saying, begun_before, started_saying}
-use Rattle.homa_granting.proofs.Messages.{part_in}
-use Rattle.homa_granting.proofs.Window.{PartsWithin, AllWithin, NowWithin, deliver_within}
-use Rattle.homa_granting.proofs.StepLines.{early_lawful, early_comes, early_begun, early_started, late_begun, late_acts}
-use Rattle.homa_granting.proofs.GrantFold.{IsLawful}
-use Rattle.homa_granting.proofs.Each.{numbers_same, set_client, call_each, place_grows, now_beside, now_acts}
-use Rattle.homa_granting.proofs.Ages.{IsInOrder, number_none, part_none, part_raises}
-use Rattle.homa_granting.proofs.Aged.{IsAged, IsSet, OldNumber, OldPart, IsOld, old_number, old_part, old_aged, Ends, step_ends}
-use Rattle.homa_granting.proofs.Taken.{server_aged, client_aged}
+use Rattle.grant_lines.proofs.Messages.{part_in}
+use Rattle.grant_lines.proofs.Window.{PartsWithin, AllWithin, NowWithin, deliver_within}
+use Rattle.grant_lines.proofs.StepLines.{early_lawful, early_comes, early_begun, early_started, late_begun, late_acts}
+use Rattle.grant_lines.proofs.GrantFold.{IsLawful}
+use Rattle.message_ages.proofs.Each.{numbers_same, set_client, call_each, place_grows, now_beside, now_acts}
+use Rattle.message_ages.proofs.Ages.{IsInOrder, number_none, part_none, part_raises}
+use Rattle.message_ages.proofs.Aged.{IsAged, IsSet, OldNumber, OldPart, IsOld, old_number, old_part, old_aged, Ends, step_ends}
+use Rattle.message_ages.proofs.Taken.{server_aged, client_aged}
 
 -- what is so between two events: windows, and one order of the messages
 pub record HasGrants (s : Settings) (w : World) (v : View) : Type 0 where
@@ -58,11 +60,6 @@ pub record HasGrants (s : Settings) (w : World) (v : View) : Type 0 where
 pub record StepGrants (s : Settings) (w : World) (v : View) (host : HostId) (before : View) (work : Work) : Type 0 where
   pub ends : Ends s w v host before work
   pub own : HasOwnOrders work.host
-
-get_map : {A B : Type 0} (f : A → B) (xs : List A) (n : ℕ) (x : A) → slice_get xs n ≡ Some x → slice_get (map f xs) n ≡ Some (f x)
-get_map f [] n x e = absurd (none_some x e)
-get_map f (y ∷ xs) zero x e = ap (λ z. Some (f z)) (some_is y x e)
-get_map f (y ∷ xs) (suc n) x e = get_map f xs n x e
 
 -- packets that are taken leave the orders a host's own
 own_comes : (s : Settings) (o : Option Packet) (answer : Answer) (work : Work) → Own work → Own (comes s o answer work)
@@ -178,7 +175,7 @@ module _ (s : Settings) (w : World) (v : View) (n : ℕ) (host : HostId) (h : Ho
   work = comes s (Some sent.packet) answer (begun h (own_clock w host))
 
   came : slice_get v.packets n ≡ Some (sent_of sent.packet)
-  came = ap (λ (ps : List Sent). slice_get ps n) told.packets ∙ get_map (λ (x : SentPacket). sent_of x.packet) w.packets n sent at
+  came = ap (λ (ps : List Sent). slice_get ps n) told.packets ∙ (slice_get-map (λ (x : SentPacket). sent_of x.packet) w.packets n ∙ ap (option_map (λ (x : SentPacket). sent_of x.packet)) at)
 
   packet_says : IsSaying s w (seen v (PlainDeliver n)) host (own_clock w host) (within w.hosts host.0 h stands) (comes s (Some sent.packet) answer (begun h (own_clock w host)))
   packet_says =

@@ -43,12 +43,12 @@ use Rattle.homa_life.specs.Kept.{IsKept}
 use Rattle.homa_contents.specs.Tales.{receiving, IsSameRequest, IsSamePiece, IsSameResponse, IsTrue}
 use Rattle.homa_blocks.proofs.Deliver.{came_only}
 use Rattle.homa_returned.proofs.ClientCame.{counts_by}
-use Rattle.homa_granting.proofs.Messages.{part_in}
-use Rattle.homa_granting.proofs.Each.{response_number, request_number, number_stays, IsEach, each_beside, each_served, each_asked, each_acked}
-use Rattle.homa_granting.proofs.Ages.{number, AgedNumber, AgedPart, number_none, part_none, part_raises, order_here, order_elsewhere, placed_later}
-use Rattle.homa_granting.proofs.NewNumbers.{ServerNumber, Stayed, Given, server_number, IsHeard, ClientNumber, Gone, Left, Begun, client_number}
-use Rattle.homa_granting.proofs.Delivered.{place_other, client_place, to_server_parts, to_client_parts, OldResponse, NewResponse}
-use Rattle.homa_granting.proofs.Aged.{IsAged, IsSet}
+use Rattle.grant_lines.proofs.Messages.{part_in}
+use Rattle.message_ages.proofs.Each.{response_number, request_number, number_stays, IsEach, each_beside, each_served, each_asked, each_acked}
+use Rattle.message_ages.proofs.Ages.{number, AgedNumber, AgedPart, number_none, part_none, part_raises, order_here, order_elsewhere, placed_later}
+use Rattle.message_ages.proofs.NewNumbers.{ServerNumber, Stayed, Given, server_number, IsHeard, ClientNumber, Gone, Left, Begun, client_number}
+use Rattle.message_ages.proofs.Delivered.{place_other, client_place, to_server_parts, to_client_parts, OldResponse, NewResponse}
+use Rattle.message_ages.proofs.Aged.{IsAged, IsSet}
 
 -- ---- rows that receive a request
 

@@ -14,12 +14,12 @@ use Rattle.homa_steps.specs.StepLaws.{HasOwnOrders}
 use Rattle.homa_moves.specs.Stands.{put, said_so_far}
 use Rattle.homa_life.specs.Kept.{IsKept}
 use Rattle.homa_contents.specs.Tales.{IsTrue}
-use Rattle.homa_granting.proofs.Messages.{part_in}
-use Rattle.homa_granting.proofs.Window.{PartsWithin}
-use Rattle.homa_granting.proofs.GrantFold.{IsLawful, IsReady, ended_lawful}
-use Rattle.homa_granting.proofs.Ready.{matched_of, granted_of, peers_of}
-use Rattle.homa_granting.proofs.Each.{IsNow, now_ended}
-use Rattle.homa_granting.proofs.Ages.{number, IsInOrder, AgedNumber, AgedPart, number_none, part_none, part_raises, order_here, order_elsewhere, placed_later}
+use Rattle.grant_lines.proofs.Messages.{part_in}
+use Rattle.grant_lines.proofs.Window.{PartsWithin}
+use Rattle.grant_lines.proofs.GrantFold.{IsLawful, IsReady, ended_lawful}
+use Rattle.message_ages.proofs.Ready.{matched_of, granted_of, peers_of}
+use Rattle.message_ages.proofs.Each.{IsNow, now_ended}
+use Rattle.message_ages.proofs.Ages.{number, IsInOrder, AgedNumber, AgedPart, number_none, part_none, part_raises, order_here, order_elsewhere, placed_later}
 
 -- of a host's messages, and of those of all others, against the lines before its step
 pub record IsAged (w : World) (v : View) (host : HostId) (before : View) (work : Work) : Type 0 where

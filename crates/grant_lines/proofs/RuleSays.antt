@@ -27,7 +27,7 @@ use Rattle.homa_steps.proofs.Places.{all-append}
 use Rattle.homa_told.proofs.Moves.{notes_told, reply_told, acknowledged_told, finishes_told, served_put, served_noted, served_told, served_packets}
 use Rattle.homa_told.proofs.AskedMove.{asked_put, asked_noted, asked_said, asked_told, asked_packets}
 use Rattle.told_lines.proofs.PartLines.{is_grant}
-use Rattle.homa_granting.proofs.Window.{NoGrants, IsLate, AllLate}
+use Rattle.grant_lines.proofs.Window.{NoGrants, IsLate, AllLate}
 
 -- no GRANT is said
 abbrev pub AllOther : List Say → Type 0

@@ -24,9 +24,9 @@ use Rattle.told_lines.proofs.Lines.{inner_same}
 use Rattle.told_lines.proofs.PartLines.{request_granted, response_granted}
 use Rattle.homa_moves.proofs.Hosts.{some_is, none_some}
 use Rattle.homa_moves.proofs.Chosen.{IsGrantAt, grants_of, step_grants_stand}
-use Rattle.homa_granting.proofs.Messages.{part_in}
-use Rattle.homa_granting.proofs.Allowed.{IsSeenAs, IsMatched, role_at, call_at, grant_allowed}
-use Rattle.homa_granting.proofs.Window.{IsBoundedAt, NowWithin, parts_within}
+use Rattle.grant_lines.proofs.Messages.{part_in}
+use Rattle.grant_lines.proofs.Allowed.{IsSeenAs, IsMatched, role_at, call_at, grant_allowed}
+use Rattle.grant_lines.proofs.Window.{IsBoundedAt, NowWithin, parts_within}
 
 -- ---- what a GRANT's line does to the parts
 

@@ -9,8 +9,8 @@ use Rattle.homa_plain.specs.Timers.{Place}
 use Rattle.homa_plain.specs.View.{View, Progress}
 use Rattle.homa_steps.specs.StepLaws.{number_at, response_order, request_order}
 use Rattle.homa_moves.proofs.Hosts.{some_is, none_some}
-use Rattle.homa_granting.proofs.Messages.{part_in}
-use Rattle.homa_granting.proofs.GrantLines.{raised_is}
+use Rattle.grant_lines.proofs.Messages.{part_in}
+use Rattle.grant_lines.proofs.GrantLines.{raised_is}
 
 abbrev pub number : Host → Place → Option ℕ
 number h q = number_at response_order request_order h q

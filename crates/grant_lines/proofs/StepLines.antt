@@ -29,9 +29,9 @@ use Rattle.homa_moves.proofs.Frame.{next_number, move_said}
 use Rattle.homa_moves.proofs.ToldMoves.{own_set}
 use Rattle.homa_moves.proofs.Chosen.{IsTimerAt}
 use Rattle.homa_moves.proofs.Folds.{acked_kept, turn_kept}
-use Rattle.homa_granting.proofs.Window.{parts_within, AllWithin, NowWithin, NoGrants, told_granting, call_within}
-use Rattle.homa_granting.proofs.GrantFold.{IsLawful, lawful_move}
-use Rattle.homa_granting.proofs.RuleSays.{AllOther, server_gets_other, acked_other, client_gets_other, server_acts_other, client_acts_other, served_other, served_late, asked_other, asked_late}
+use Rattle.grant_lines.proofs.Window.{parts_within, AllWithin, NowWithin, NoGrants, told_granting, call_within}
+use Rattle.grant_lines.proofs.GrantFold.{IsLawful, lawful_move}
+use Rattle.grant_lines.proofs.RuleSays.{AllOther, server_gets_other, acked_other, client_gets_other, server_acts_other, client_acts_other, served_other, served_late, asked_other, asked_late}
 
 module _ (s : Settings) (w : World) (v : View) (host : HostId) where
   abbrev pub Lawful : Work → Type 0

@@ -47,9 +47,9 @@ use Rattle.homa_moves.proofs.ToldMoves.{own_set}
 use Rattle.homa_moves.proofs.Chosen.{IsTimerAt}
 use Rattle.homa_moves.proofs.Folds.{acked_kept, turn_kept, GrantKeeps, PieceKeeps, ended_kept}
 use Rattle.homa_contents.proofs.Calm.{calm_notes, calm_reply, calm_finishes}
-use Rattle.homa_granting.proofs.Messages.{part_in}
-use Rattle.homa_granting.proofs.Window.{IsLate, AllLate}
-use Rattle.homa_granting.proofs.RuleSays.{server_acts_other, client_acts_other, served_late, asked_late}
+use Rattle.grant_lines.proofs.Messages.{part_in}
+use Rattle.grant_lines.proofs.Window.{IsLate, AllLate}
+use Rattle.grant_lines.proofs.RuleSays.{server_acts_other, client_acts_other, served_late, asked_late}
 
 -- ---- what the rules leave of a number
 
@@ -340,9 +340,6 @@ module _ (s : Settings) (w : World) (v : View) (host : HostId) (least : ℕ) (N 
     pub name : work.host.id ≡ host
     pub own : (q : CallId) (r : ClientRow) → get work.host.clients q ≡ Some r → q.client ≡ host
     pub late : least ≤ (said_so_far w v work).place
-
-  pub now_each : (work : Work) → IsEach work → IsNow work
-  now_each work k = record { numbers = k.numbers; parts = k.parts.now; name = k.name; own = k.own; late = k.late }
 
   now_move : (work new : Work) (told : List Told) (clients : RowsOf ClientRow) (servers : RowsOf ServerRow) → IsMove work new told clients servers → AllLate told → AllNumbers N no_number new.host → ((q : CallId) (r : ClientRow) → get clients q ≡ Some r → q.client ≡ host) → IsNow work → IsNow new
   now_move work new told clients servers m e numbers own k = record {

@@ -19,7 +19,7 @@ use Rattle.homa_steps.specs.StepLaws.{response_order, request_order, arriving_in
 use Rattle.homa_steps.proofs.Orders.{IsKept, client_kept, server_kept}
 use Rattle.homa_moves.proofs.Hosts.{some_is, none_some}
 use Rattle.homa_blocks.proofs.ClientRules.{gets_unasked, gets_elsewhere, gets_earlier, gets_answered}
-use Rattle.homa_granting.proofs.Each.{Stays, response_number, request_number}
+use Rattle.message_ages.proofs.Each.{Stays, response_number, request_number}
 
 -- a new number, given since
 abbrev pub IsGiven : ℕ → Option ℕ → Type 0

@@ -24,10 +24,10 @@ use Rattle.homa_moves.proofs.Chosen.{IsReceiving, IsAwaiting, IsArrivingAt}
 use Rattle.homa_life.specs.Lifetime.{IsMadeTo, call_to, took_part}
 use Rattle.homa_life.specs.Kept.{IsKept}
 use Rattle.homa_contents.specs.Tales.{receiving, IsSameRequest, IsSamePiece, IsSameResponse, IsTrue}
-use Rattle.homa_granting.proofs.Messages.{part_in}
-use Rattle.homa_granting.proofs.Allowed.{IsSeenAs, IsMatched, arriving_number}
-use Rattle.homa_granting.proofs.Ages.{IsInOrder}
-use Rattle.homa_granting.proofs.GrantFold.{HasOwnPeers, AreGranted}
+use Rattle.grant_lines.proofs.Messages.{part_in}
+use Rattle.grant_lines.proofs.Allowed.{IsSeenAs, IsMatched, arriving_number}
+use Rattle.message_ages.proofs.Ages.{IsInOrder}
+use Rattle.grant_lines.proofs.GrantFold.{HasOwnPeers, AreGranted}
 
 -- a message of the host, and its part by the lines
 record IsOne (s : Settings) (host : HostId) (u : View) (place : Place) (part : Incoming) (peer : HostId) : Type 0 where

@@ -32,8 +32,8 @@ use Rattle.homa_steps.proofs.RowMaps.{AreApart, apart-entries}
 use Rattle.homa_steps.proofs.Places.{Pairwise, pairwise-append, pairwise-filter, arrivals-keys}
 use Rattle.homa_moves.proofs.Hosts.{some_is}
 use Rattle.homa_moves.proofs.Chosen.{IsArrivingAt, at_rank}
-use Rattle.homa_granting.proofs.Alike.{Agree, AgreeWith, SendersSame, chosen_alike}
-use Rattle.homa_granting.proofs.Messages.{arrival_stands, stands_arrival, of_map, in_map, place_of, part_in, lined, lined_in}
+use Rattle.grant_lines.proofs.Alike.{Agree, AgreeWith, SendersSame, chosen_alike}
+use Rattle.grant_lines.proofs.Messages.{arrival_stands, stands_arrival, of_map, in_map, place_of, part_in, lined, lined_in}
 
 -- the lines have this message of a host at a place, its order and its granted end aside
 pub record IsSeenAs (host : HostId) (m : Progress) (place : Place) (a : Message) : Type 0 where

@@ -21,9 +21,9 @@ use Rattle.homa_plain.specs.Seen.{seen, begun, heard, counted, admitted, to_serv
 use Rattle.homa_plain.proofs.CallOrder.{calls_are, hosts_are}
 use Rattle.told_lines.proofs.Progress.{get-set, get-gone}
 use Rattle.homa_blocks.proofs.Deliver.{came_only, begins_by}
-use Rattle.homa_granting.proofs.Messages.{part_in}
-use Rattle.homa_granting.proofs.Each.{AllParts, EachWay}
-use Rattle.homa_granting.proofs.Ages.{AgedPart, part_none, part_raises}
+use Rattle.grant_lines.proofs.Messages.{part_in}
+use Rattle.message_ages.proofs.Each.{AllParts, EachWay}
+use Rattle.message_ages.proofs.Ages.{AgedPart, part_none, part_raises}
 
 unequal : (n : ℕ) → 0 < n → (n == 0) ≡ false
 unequal n k = false_from_ne_true (n == 0) (λ e. absurd (omega (arith, k, eqb-true n 0 e)))
@@ -38,9 +38,6 @@ first_order place a b host peer size unsched = ap (λ (k : ℕ). cond (k == 0) p
 
 pub place_other : (q id : CallId) → OfServer q ≡ OfClient id → ⊥
 place_other q id e = cc
-
-other_place : (q id : CallId) → OfClient q ≡ OfServer id → ⊥
-other_place q id e = cc
 
 pub client_place : (q id : CallId) → OfClient q ≡ OfClient id → is_call q id ≡ true
 client_place q id e = (calls_are q id).1 cc

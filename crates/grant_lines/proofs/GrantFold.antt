@@ -33,10 +33,10 @@ use Rattle.homa_moves.proofs.Frame.{next_number, move_said}
 use Rattle.homa_moves.proofs.ToldMoves.{own_set}
 use Rattle.homa_moves.proofs.Chosen.{IsReceiving, IsAwaiting, IsArrivingAt, IsGrantAt, grants_of, step_grants_stand}
 use Rattle.homa_moves.proofs.Folds.{stays_at, grants_kept, pump_kept, PieceKeeps}
-use Rattle.homa_granting.proofs.Messages.{part_in}
-use Rattle.homa_granting.proofs.Allowed.{IsMatched, role_at, call_at}
-use Rattle.homa_granting.proofs.Window.{NowWithin, NoGrants, AllLate, told_late}
-use Rattle.homa_granting.proofs.GrantLines.{same_place, RaisesAt, request_raises, response_raises, matched_raised, near_after, lawful, granted_end}
+use Rattle.grant_lines.proofs.Messages.{part_in}
+use Rattle.grant_lines.proofs.Allowed.{IsMatched, role_at, call_at}
+use Rattle.grant_lines.proofs.Window.{NowWithin, NoGrants, AllLate, told_late}
+use Rattle.grant_lines.proofs.GrantLines.{same_place, RaisesAt, request_raises, response_raises, matched_raised, near_after, lawful, granted_end}
 
 -- the senders of a host's messages are those of its rows' calls
 pub record HasOwnPeers (h : Host) : Type 0 where
