@@ -34,10 +34,8 @@ use Rattle.homa_seen.specs.declared.outbox.SentFrame.{SentFrame}
 use Rattle.homa_seen.specs.Seen.{ready_of, waiting}
 use Rattle.homa_pacer.specs.Pace as pace
 use Rattle.homa_books.specs.declared.books.Books.{Books}
-use Rattle.homa_books.specs.declared.books.Waiting.{Waiting}
 use Rattle.homa_books.specs.Duties.{ready_in}
 use Rattle.host_books.specs.Duty.{server_duty, followed}
-use Rattle.host_books.proofs.Follows.{IsFew}
 use Rattle.host_books.proofs.PumpOnce.{picked, idle_ready, sends_next, server_departs, server_waits, server_rests, RestsIn, server_sends_next, server_short, some_next, shorter, booked_length}
 use Rattle.host_laws.specs.Peers.{KnowsClient}
 use Rattle.host_laws.proofs.Known.{state_sends-known}
@@ -51,7 +49,7 @@ use Rattle.homa_host.specs.ServerFollow.{FollowedServer}
 use Rattle.homa_host.specs.declared.outcome.Change.TheVariants.{Stays}
 use Rattle.homa_host.proofs.CanFollow.{CanFollowServer}
 use Rattle.homa_host.proofs.ClientStays.{Beside, spends, kept_spent}
-use Rattle.homa_host.proofs.Emits.{picked_in}
+use Rattle.homa_host.proofs.Emits.{few_ready, picked_in}
 use Rattle.homa_host.proofs.ServerStays.{knows, all_inside, host_put, kept_same, amid_same, stands_after, can_follow, followed_by, kept_stays}
 
 -- ---- what a row emits
@@ -134,10 +132,6 @@ held_response pool (Arriving service part base count) = refl
 held_response pool (Keeping response release) = refl
 held_response pool (Answering response out order base count) = refl
 held_response pool (Gone until) = refl
-
-few_ready : (slot : ℕ) (o : Option Waiting) → IsFew (ready_in slot o)
-few_ready slot None = tt
-few_ready slot (Some w) = tt
 
 module _ (c : HostParts) (kept : IsKept c) (place : ℕ) (n : IsNext c place) where
   abbrev row : ServerRow
