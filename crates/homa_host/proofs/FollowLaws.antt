@@ -26,13 +26,6 @@ use Rattle.homa_host.specs.declared.outcome.Change.{Change}
 use Rattle.homa_host.specs.declared.outcome.Change.TheVariants.{Nothing, Stays, Goes}
 use Rattle.homa_host.proofs.ClientKept.{at_slot_after, places_after, slot_within, host_after, duty_own}
 
--- where a row stands at a place, there is one
-pub stands_of : (rows : HeldRows) (slot : ℕ) → IsSome (spot_at rows slot) → (id : CallId) × (r : HeldRow) × StandsAt rows id slot r
-stands_of rows slot is = at (spot_at rows slot) refl is where
-  at : (o : Option (CallId × HeldRow)) → spot_at rows slot ≡ o → IsSome o → (id : CallId) × (r : HeldRow) × StandsAt rows id slot r
-  at None e h = cc
-  at (Some s) e h = (s.0, s.1, get-spot rows slot s.0 s.1 e)
-
 -- the row of a call stays at the slot, or goes from it
 abbrev pub IsChange : Change → ℕ → Option ClientRow → Type 0
 IsChange Nothing slot row = ⊥

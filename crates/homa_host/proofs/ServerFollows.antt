@@ -27,13 +27,6 @@ use Rattle.homa_host.specs.declared.outcome.Change.{Change}
 use Rattle.homa_host.specs.declared.outcome.Change.TheVariants.{Nothing, Stays, Goes}
 use Rattle.homa_host.proofs.ServerKept.{requests_in, host_after, seen_after, duty_own}
 
--- where a row stands at a place, there is one
-pub server_stands_of : (rows : ServerRows) (slot : ℕ) → IsSome (spot_at rows slot) → (id : CallId) × (r : HeldServer) × StandsAt rows id slot r
-server_stands_of rows slot is = at (spot_at rows slot) refl is where
-  at : (o : Option (CallId × HeldServer)) → spot_at rows slot ≡ o → IsSome o → (id : CallId) × (r : HeldServer) × StandsAt rows id slot r
-  at None e h = cc
-  at (Some s) e h = (s.0, s.1, get-spot rows slot s.0 s.1 e)
-
 -- the row of a call stays at the slot, or goes from it
 abbrev pub IsServerChange : Change → ℕ → Option ServerRow → Type 0
 IsServerChange Nothing slot row = ⊥
