@@ -9,10 +9,10 @@ use Rattle.homa_plain.specs.Rows.{ClientRow}
 use Rattle.homa_steps.specs.StepLaws.{HasOwnOrders}
 use Rattle.msg_pool.specs.Pool.{Pool}
 use Rattle.homa_places.specs.Placed.{Placed, StandsAt, spot_at}
-use Rattle.homa_places.proofs.PlacedLaws.{get-spot, spot-stands}
+use Rattle.homa_places.proofs.PlacedLaws.{spot-stands}
 use Rattle.homa_parts.specs.Pooled.{AreIn}
 use Rattle.homa_client.specs.Held.{HeldRow, seen_row}
-use Rattle.homa_client.specs.AtTable.{Clients, HeldRows, Moved, part_at, place_at}
+use Rattle.homa_client.specs.AtTable.{Clients, Moved, part_at, place_at}
 use Rattle.homa_client.proofs.TableLaws.{part_stands}
 use Rattle.homa_books.specs.declared.books.Books.{Books}
 use Rattle.homa_books.specs.declared.books.Arrival.{Arrival}

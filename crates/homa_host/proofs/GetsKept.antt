@@ -3,18 +3,15 @@ use Rattle.std.proofs.Common.{◌≡◌, ◌<◌, ◌≤◌, ◌+◌, ℕ, refl,
 use Rattle.std.specs.Option.{IsSome}
 use Rattle.homa_plain.specs.declared.id.CallId.{CallId}
 use Rattle.homa_plain.specs.declared.id.HostId.{HostId}
-use Rattle.homa_plain.specs.declared.packet.Role.TheVariants.{Server}
 use Rattle.homa_plain.specs.declared.packet.Packet.{Packet as WirePacket}
 use Rattle.homa_plain.specs.declared.settings.Settings.{Settings}
-use Rattle.homa_plain.specs.Packets.{packet_between}
 use Rattle.homa_plain.specs.Rows.{ClientRow}
-use Rattle.homa_plain.specs.Rules.{Answer, Did, Piece}
+use Rattle.homa_plain.specs.Rules.{Did, Piece}
 use Rattle.homa_plain.specs.Steps.{Work, asked}
-use Rattle.msg_pool.specs.Pool.{Pool, leased_pages}
-use Rattle.homa_parts.specs.Pooled.{AreIn}
+use Rattle.msg_pool.specs.Pool.{Pool}
 use Rattle.homa_places.specs.Placed.{StandsAt, spot_at}
 use Rattle.homa_client.specs.Held.{HeldRow, seen_row}
-use Rattle.homa_client.specs.AtTable.{Clients, Received, slot_in, part_at, row_at, version_at}
+use Rattle.homa_client.specs.AtTable.{Clients, slot_in, row_at, version_at}
 use Rattle.homa_client.specs.declared.answers.ClientDid.{ClientDid}
 use Rattle.homa_server.specs.Table.{seen_servers}
 use Rattle.homa_control.specs.Control.{Control, IsSound, IsAt}

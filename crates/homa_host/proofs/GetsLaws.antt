@@ -12,7 +12,7 @@ use Rattle.homa_plain.specs.Calls.{is_host}
 use Rattle.homa_plain.specs.Host.{Host, free_beside}
 use Rattle.homa_plain.specs.Packets.{Packet, sender, packet_between}
 use Rattle.homa_plain.specs.Rows.{ClientRow}
-use Rattle.homa_plain.specs.Rules.{Moment, Answer, Did}
+use Rattle.homa_plain.specs.Rules.{Moment, Did}
 use Rattle.homa_plain.specs.AtClient.{client_gets}
 use Rattle.homa_plain.specs.Steps.{Work, moment, asked}
 use Rattle.homa_steps.proofs.OwnOrders.{Own, row-own}

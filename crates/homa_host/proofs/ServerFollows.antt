@@ -9,10 +9,10 @@ use Rattle.homa_plain.specs.Timers.{OfServer}
 use Rattle.homa_steps.specs.StepLaws.{HasOwnOrders}
 use Rattle.msg_pool.specs.Pool.{Pool}
 use Rattle.homa_places.specs.Placed.{Placed, StandsAt, ArePlaced, spot_at}
-use Rattle.homa_places.proofs.PlacedLaws.{get-spot, spot-stands}
+use Rattle.homa_places.proofs.PlacedLaws.{spot-stands}
 use Rattle.homa_parts.specs.Pooled.{AreIn}
 use Rattle.homa_server.specs.Held.{HeldServer, seen_server}
-use Rattle.homa_server.specs.Table.{Servers, ServerRows, ServerMoved, request_at}
+use Rattle.homa_server.specs.Table.{Servers, ServerMoved, request_at}
 use Rattle.homa_books.specs.declared.books.Books.{Books}
 use Rattle.homa_books.specs.declared.books.Arrival.{Arrival}
 use Rattle.homa_books.specs.Duties.{AreOwn, HaveRoom}

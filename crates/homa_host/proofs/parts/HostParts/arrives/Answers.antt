@@ -1,4 +1,4 @@
-use Rattle.std.proofs.Common.{rules, ◌≡◌, ◌≤◌, ◌+◌, ℕ, true, cond, Option, Some, None, List, [], ◌∷◌, length, ap, sym, subst, refl, arith}
+use Rattle.std.proofs.Common.{rules, ◌≡◌, ◌≤◌, ℕ, true, Option, Some, None, List, [], ◌∷◌, length, ap, sym, subst, refl, arith}
 use Rattle.std.specs.Prelude.{OnOk, OnErr}
 use Rattle.std.specs.List.{AllByRecursion}
 use Rattle.std.specs.Option.{option_map}
@@ -12,7 +12,7 @@ use Rattle.homa_plain.specs.Steps.{begun, tells, comes, has_run}
 use Rattle.homa_plain.specs.Wire.{packet_in}
 use Rattle.homa_wire.specs.Part.{part}
 use Rattle.homa_control.specs.Control.{Control}
-use Rattle.homa_seen.specs.Marks.{has_ran, IsReply, IsWhole}
+use Rattle.homa_seen.specs.Marks.{IsReply, IsWhole}
 use Rattle.homa_seen.specs.Done.{arriving}
 use Rattle.homa_host.specs.Parts.{host_of, seen_of}
 use Rattle.homa_host.specs.Amid.{Amid}

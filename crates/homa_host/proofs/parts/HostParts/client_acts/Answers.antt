@@ -1,5 +1,5 @@
 -- A client's row that is due acts.
-use Rattle.std.proofs.Common.{◌≡◌, ◌≤◌, ◌<◌, ◌-◌, sym, subst, ap, arith}
+use Rattle.std.proofs.Common.{◌≤◌, ◌<◌, ◌-◌, sym, subst, ap, arith}
 use Rattle.homa_plain.specs.declared.row.RowFacts.{RowFacts}
 use Rattle.homa_plain.specs.declared.id.CallId.{CallId}
 use Rattle.homa_plain.specs.declared.settings.Settings.{Settings}

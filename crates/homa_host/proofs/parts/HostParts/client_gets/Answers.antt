@@ -1,5 +1,5 @@
 -- A packet of a server comes to a call's client.
-use Rattle.std.proofs.Common.{◌+◌, sym, subst, ap, arith, [], List}
+use Rattle.std.proofs.Common.{◌+◌, sym, subst, ap, arith, List}
 use Rattle.homa_plain.specs.Host.{Told}
 use Rattle.homa_plain.specs.Packets.{Packet}
 use Rattle.std.specs.List.{AllByRecursion}
@@ -11,12 +11,10 @@ use Rattle.homa_parts.specs.Pieces.{piece_in}
 use Rattle.homa_client.specs.AtTable.{row_at}
 use Rattle.homa_control.specs.Control.{IsAt}
 use Rattle.homa_seen.specs.Marks.{IsWhole}
-use Rattle.homa_plain.specs.Rules.{Answer, Did}
+use Rattle.homa_plain.specs.Rules.{Did}
 use Rattle.homa_plain.specs.Steps.{asked, moment}
 use Rattle.homa_control.specs.Saying.{IsOutcome, one_of}
 use Rattle.homa_host.specs.Amid.{Amid}
-use Rattle.homa_host.specs.Outcomes.{FollowedClient}
-use Rattle.homa_host.specs.declared.outcome.Change.{Change}
 use Rattle.homa_host.proofs.Begun.{at-amid}
 use Rattle.homa_host.proofs.ClientKept.{client_parts}
 use Rattle.homa_host.proofs.GetsLaws.{HasReceived, p, is_p, gets, gets_is, gets_whole, touched_stays}

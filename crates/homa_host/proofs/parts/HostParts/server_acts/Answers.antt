@@ -12,7 +12,7 @@ use Rattle.homa_control.specs.Saying.{one_of, IsOutcome}
 use Rattle.homa_server.specs.Held.{HeldServer}
 use Rattle.homa_server.specs.Table.{server_at}
 use Rattle.homa_host.proofs.Emits.{at_spot}
-use Rattle.homa_host.proofs.AskedLaws.{at_of}
+use Rattle.homa_host.proofs.Begun.{at-amid}
 use Rattle.homa_host.proofs.CanFollow.{CanFollowServer}
 use Rattle.homa_host.proofs.ServerKept.{server_parts}
 use Rattle.homa_host.proofs.ServerActLaws.{RowActed, acted_by, row_known, did_at, acted_at, acted_follows, acted_kept, acted_amid}
@@ -82,6 +82,6 @@ returns-clause-step c = λ id r w stands amid.
     let did : Did ServerRow = did_at host c.requires.kept c.args.place c.act-act.new.self c.act-act.new.pool c.act-act.result id r x.row w in
     let outcome = subst (λ (d : Did ServerRow). IsOutcome d c.server_act_outcome-outcome.result) (sym (acted_at host c.requires.kept c.args.place c.act-act.new.self c.act-act.new.pool c.act-act.result id r x.row w amid.host))
     (c.server_act_outcome-outcome.ensures.outcome s (moment s id w) id (server_at c.act-act.new.pool c.act-act.new.self.rows id) (ap (λ (s : Settings). s.overcommit - 1) c.settings-settings.ensures.settings)) in
-    let settled = subst (λ (f : RowFacts). IsAt (served s f.id did w) c.settle_server.new.self c.settle_server.new.out) (c.row-facts.ensures.facts id r stands) (c.settle_server.ensures.step did w outcome (at_of w host c.args.out.now amid)) in
+    let settled = subst (λ (f : RowFacts). IsAt (served s f.id did w) c.settle_server.new.self c.settle_server.new.out) (c.row-facts.ensures.facts id r stands) (c.settle_server.ensures.step did w outcome (at-amid w host c.args.out.now amid)) in
     acted_amid host c.requires.kept c.args.place c.act-act.new.self c.act-act.new.pool c.act-act.result id r x.row c.settings-settings.result.now.calls c.server_act_change-change.result x.calls c.server_act_change-change.ensures
     c.follow_server.new.books c.follow_server.ensures (host.order + c.server_act_orders.result) (ap (λ n. host.order + n) c.server_act_orders.ensures.orders) c.settle_server.new.self w c.args.out.now c.settle_server.new.out amid settled

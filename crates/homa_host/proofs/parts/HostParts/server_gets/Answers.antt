@@ -1,8 +1,6 @@
 -- A packet of a client comes to a call's server.
-use Rattle.std.proofs.Common.{true, Result, Ok, Err, OnErr, ◌≡◌, ◌≤◌, ◌<◌, ◌+◌, ◌∙◌, refl, sym, subst, ap, arith, ℕ}
-use Rattle.std.specs.List.{AllByRecursion}
+use Rattle.std.proofs.Common.{true, Result, Ok, Err, OnErr, ◌≡◌, ◌+◌, refl, sym, subst, ap, arith, ℕ}
 use Rattle.homa_plain.specs.declared.settings.Settings.{Settings}
-use Rattle.msg_pool.specs.Pool.{leased_pages}
 use Rattle.homa_control.specs.Saying.{one_of, IsOutcome}
 use Rattle.homa_host.specs.Parts.{IsKept}
 use Rattle.homa_host.specs.Outcomes.{IfStays, server_change}
@@ -10,21 +8,16 @@ use Rattle.homa_host.specs.ServerFollow.{MayStayServer, FollowedServer}
 use Rattle.homa_host.specs.declared.outcome.Change.{Change}
 use Rattle.homa_host.specs.declared.parts.HostParts.{HostParts}
 use Rattle.homa_host.proofs.ServerKept.{server_parts}
-use Rattle.homa_host.proofs.ServerHeard.{HasHeard, heard_by}
+use Rattle.homa_host.proofs.ServerHeard.{heard_by}
 use Rattle.homa_host.proofs.ServerTold.{HasSettled, q, heard_work, rule, rule_is, settled_by, served_runs}
 use Rattle.plain_sets.specs.Maps.{get}
-use Rattle.homa_plain.specs.declared.id.HostId.{HostId}
-use Rattle.homa_plain.specs.declared.packet.Role.TheVariants.{Client}
 use Rattle.homa_plain.specs.Packets.{Packet, packet_between}
 use Rattle.homa_plain.specs.AtServer.{server_gets}
 use Rattle.homa_plain.specs.Rows.{ServerRow}
-use Rattle.homa_plain.specs.Rules.{Answer, Did}
-use Rattle.homa_plain.specs.Steps.{Work, begun, hears_cutoffs, comes_to_row, moment, served}
+use Rattle.homa_plain.specs.Rules.{Did}
+use Rattle.homa_plain.specs.Steps.{Work, begun, hears_cutoffs, moment}
 use Rattle.homa_parts.specs.Pieces.{piece_in}
-use Rattle.homa_seen.specs.Marks.{response_of, IsWhole}
-use Rattle.homa_control.specs.Control.{IsAt}
-use Rattle.homa_server.specs.Answers.{IsReply, served_of, runs_said}
-use Rattle.homa_server.specs.Table.{response_at}
+use Rattle.homa_server.specs.Answers.{runs_said}
 use Rattle.homa_host.specs.Parts.{host_of}
 use Rattle.homa_host.specs.Amid.{Amid}
 use Rattle.homa_host.proofs.Begun.{at-amid}
@@ -123,7 +116,7 @@ pub returns-clause-step : goal.returns-clause-step
 returns-clause-step g c =
     let at = goal.at.returns-clause-step g c in
     let x = settled g at.After-settle_server (taken g at.After-settings-settings) (followed g at.After-follow_server) in
-    λ a all. x.step a all
+    x.step
 
 pub returns-clause-served : goal.returns-clause-served
 returns-clause-served g c =
