@@ -25,7 +25,7 @@ use Rattle.host_laws.proofs.Known.{known-client}
 use Rattle.homa_host.specs.Parts.{host_of, IsKept}
 use Rattle.homa_host.specs.Amid.{Amid}
 use Rattle.homa_host.specs.declared.parts.HostParts.{HostParts}
-use Rattle.homa_host.proofs.Begun.{at-amid, amid-at}
+use Rattle.homa_host.proofs.Begun.{amid-at}
 use Rattle.homa_host.proofs.ClientKept.{own_like, servers_same, own_call, host_after, parts_after, kept_after}
 
 -- ---- what a rule leaves as it is, beside the rows, the clock, the cutoffs and the finished calls
@@ -81,9 +81,6 @@ module _ (s : Settings) where
       record { seq = b.seq ∙ a.seq; credit = b.credit ∙ a.credit; refilled = b.refilled ∙ a.refilled }
 
 -- ---- in the midst of a step
-
-pub at_of : (w : Work) (c : HostParts) (frames : List SentFrame) → Amid w c frames → IsAt w c.control frames
-at_of w c frames amid = at-amid w c frames amid
 
 -- with what else the parts have of the host, what is so of the control is so of them
 pub amid_of : (v : Work) (c : HostParts) (frames : List SentFrame) → IsAt v c.control frames → c.clients.seq ≡ v.host.seq → c.order ≡ v.host.order → c.books.pacer.credit ≡ v.host.credit → c.books.pacer.refilled ≡ v.host.refilled

@@ -1,5 +1,5 @@
 -- A packet that comes: too old, of a server, of a client.
-use Rattle.std.proofs.Common.{inl, inr, ◌⊎◌, ◌≡◌, ◌≤◌, ◌+◌, ℕ, suc, Bool, true, false, not, cond, Option, Some, None, List, [], ◌∷◌, ◌++◌, refl, sym, ap, subst, ◌∙◌, arith}
+use Rattle.std.proofs.Common.{inl, inr, ◌⊎◌, ◌≡◌, ◌≤◌, ◌+◌, ℕ, suc, Bool, true, false, not, cond, Option, Some, None, List, [], ◌∷◌, ◌++◌, length, refl, sym, ap, subst, ◌∙◌, arith}
 use Rattle.std.specs.Prelude.{◌==◌}
 use Rattle.std.specs.List.{AllByRecursion}
 use Rattle.std.proofs.lemmas.Bool.{true≢false, cond_both}
@@ -31,18 +31,18 @@ use Rattle.homa_seen.specs.declared.mark.Mark.{Mark}
 use Rattle.homa_seen.specs.declared.mark.Mark.TheVariants.{Ran}
 use Rattle.homa_seen.specs.declared.outbox.SentFrame.{SentFrame}
 use Rattle.homa_seen.specs.Marks.{mark_of, marks_from, has_ran, response_of, IsReply, IsAllowed, IsWhole}
-use Rattle.homa_control.specs.Control.{Control, IsSound, IsAt}
+use Rattle.homa_control.specs.Control.{Control}
 use Rattle.homa_control.specs.Saying.{HasFitCutoffs}
 use Rattle.homa_host.specs.Parts.{host_of, IsKept}
-use Rattle.homa_host.specs.Amid.{Amid}
+use Rattle.homa_host.specs.Amid.{Amid, HasCome}
 use Rattle.homa_host.specs.declared.parts.HostParts.{HostParts}
 use Rattle.homa_host.proofs.WholeLaws.{SayWhole, served-whole}
-use Rattle.homa_host.proofs.Delivered.{quiet_ran, no_replies, none_allowed, ran_append, run_append, marks_append, left_of_all}
-use Rattle.homa_host.proofs.Begun.{kept-control, sound-begun, amid-begun, amid-told, amid-heard, at-amid}
+use Rattle.homa_host.proofs.Delivered.{TellsAlike, quiet_ran, no_replies, none_allowed, ran_append, run_append, marks_append, left_of_all}
+use Rattle.homa_host.proofs.Begun.{kept-control, sound-begun, amid-begun, amid-told}
 
 -- ---- the plain packet
 
-pub sender_is : (r : Role) (from me : HostId) (inc seq : ℕ) → sender_of r (call_between r from me inc seq) (server_between r from me) ≡ from
+sender_is : (r : Role) (from me : HostId) (inc seq : ℕ) → sender_of r (call_between r from me inc seq) (server_between r from me) ≡ from
 sender_is Client from me inc seq = refl
 sender_is Server from me inc seq = refl
 
@@ -94,63 +94,35 @@ module _ (s : Settings) (h : Host) (now : ℕ) (from me : HostId) (w : WirePacke
   pub client_comes : is_stale s now came ≡ false → w.role ≡ Client → comes s (Some came) a (begun h now) ≡ acked s (acks came) (comes_to_row s came a Client (hears_cutoffs s from w.sender w.body (begun h now)))
   client_comes e role = fresh_comes e ∙ ap (λ r. acked s (acks came) (comes_to_row s came a r (hears_cutoffs s from w.sender w.body (begun h now)))) role
 
--- ---- a step that begins with one entry, or with what a peer tells
+-- ---- a step that tells one entry
 
-module _ (o : HostParts) (kept : IsKept o) (now : ℕ) (clock : now ≤ 1000000002000) (later : o.control.last ≤ now) (first : Control) (begins : first ≡ record o.control { last = now; marks = [] }) where
-  module _ (second : Control) (m : Mark) (told : second ≡ record first { marks = first.marks ++ m ∷ [] }) where
-    both : second ≡ record o.control { last = now; marks = m ∷ [] }
-    both = told ∙ ap (λ (k : Control). record k { marks = k.marks ++ m ∷ [] }) begins
+-- a host began a step in tick `now`, and told one entry, of no run
+pub record HasTold (o : HostParts) (now : ℕ) (entry : PlainEntry) (control : Control) : Type 0 where
+  pub kept : IsKept (record o { control = control })
+  pub amid : Amid (tells (Says entry ∷ []) (begun (host_of o) now)) (record o { control = control }) []
+  pub steady : (out : List SentFrame) → out ≡ [] → HasCome now 10 4 2 o (record o { control = control }) out
+  pub quiet : has_ran control.marks ≡ false
 
-    pub told_kept : IsKept (record o { control = second })
-    told_kept = subst (λ (k : Control). IsKept (record o { control = k })) (sym both)
-        (kept-control o (record o.control { last = now; marks = m ∷ [] }) (record { settings = refl; id = refl; inc = refl; last = later; opened = refl }) (sound-begun o.control now (m ∷ []) clock (omega arith) kept.control) kept)
-
-    pub told_marks : second.marks ≡ m ∷ []
-    told_marks = ap (λ (k : Control). k.marks) both
-
-    pub told_settings : second.settings ≡ o.control.settings
-    told_settings = ap (λ (k : Control). k.settings) both
-
-    pub told_id : second.id ≡ o.control.id
-    told_id = ap (λ (k : Control). k.id) both
-
-    pub told_last : second.last ≡ now
-    told_last = ap (λ (k : Control). k.last) both
-
-  pub told_amid : (second : Control) (entry : PlainEntry) → second ≡ record first { marks = first.marks ++ mark_of entry ∷ [] } → Amid (tells (Says entry ∷ []) (begun (host_of o) now)) (record o { control = second }) []
-  told_amid second entry told = amid-told (begun (host_of o) now) (record o { control = first }) second [] entry told (amid-begun o first now begins)
-
-  module _ (second : Control) (same : second ≡ record first { peers = second.peers }) where
-    heard : second ≡ record o.control { last = now; marks = []; peers = second.peers }
-    heard = same ∙ ap (λ (k : Control). record k { peers = second.peers }) begins
-
-    pub heard_settings : second.settings ≡ o.control.settings
-    heard_settings = ap (λ (k : Control). k.settings) heard
-
-    pub heard_id : second.id ≡ o.control.id
-    heard_id = ap (λ (k : Control). k.id) heard
-
-    pub heard_marks : second.marks ≡ []
-    heard_marks = ap (λ (k : Control). k.marks) heard
-
-    pub heard_last : second.last ≡ now
-    heard_last = ap (λ (k : Control). k.last) heard
-
-    pub heard_kept : IsSound second → IsKept (record o { control = second })
-    heard_kept sound = kept-control o second (record {
-      settings = heard_settings;
-      id = heard_id;
-      inc = ap (λ (k : Control). k.inc) heard;
-      last = subst (λ n. o.control.last ≤ n) (sym heard_last) later;
-      opened = ap (λ (k : Control). k.tuning.opened) heard;
-    }) sound kept
-
-    pub heard_amid : (peer : HostId) (inc : ℕ) (what : Body) → ((w : Work) (frames : List SentFrame) → IsAt w first frames → IsAt (hears_cutoffs first.settings peer inc what w) second frames)
-        → Amid (hears_cutoffs o.control.settings peer inc what (begun (host_of o) now)) (record o { control = second }) []
-    heard_amid peer inc what step =
-        let begin = amid-begun o first now begins in
-        let at = subst (λ (s : Settings). IsAt (hears_cutoffs s peer inc what (begun (host_of o) now)) second []) (ap (λ (k : Control). k.settings) begins) (step (begun (host_of o) now) [] (at-amid (begun (host_of o) now) (record o { control = first }) [] begin)) in
-        amid-heard o.control.settings peer inc what (begun (host_of o) now) (record o { control = first }) second [] at begin
+pub told_by : (o : HostParts) → IsKept o → (now : ℕ) → now ≤ 1000000002000 → o.control.last ≤ now → (entry : PlainEntry) → has_ran (mark_of entry ∷ []) ≡ false
+    → (first told : Control) → first ≡ record o.control { last = now; marks = [] } → told ≡ record first { marks = first.marks ++ mark_of entry ∷ [] } → HasTold o now entry told
+told_by o kept now clock later entry quiet first told begins tells =
+    let m = mark_of entry in
+    let both : told ≡ record o.control { last = now; marks = m ∷ [] } = tells ∙ ap (λ (k : Control). record k { marks = k.marks ++ m ∷ [] }) begins in
+    let marks : told.marks ≡ m ∷ [] = ap (λ (k : Control). k.marks) both in
+    record {
+      kept = subst (λ (k : Control). IsKept (record o { control = k })) (sym both)
+          (kept-control o (record o.control { last = now; marks = m ∷ [] }) (record { settings = refl; id = refl; inc = refl; last = later; opened = refl }) (sound-begun o.control now (m ∷ []) clock (omega arith) kept.control) kept);
+      amid = amid-told (begun (host_of o) now) (record o { control = first }) told [] entry tells (amid-begun o first now begins);
+      steady = λ out none. record {
+        settings = ap (λ (k : Control). k.settings) both;
+        id = ap (λ (k : Control). k.id) both;
+        last = ap (λ (k : Control). k.last) both;
+        marks_told = omega (arith, ap length marks);
+        frames_sent = omega (arith, ap length none);
+        order = omega arith;
+      };
+      quiet = ap has_ran marks ∙ quiet;
+    }
 
 -- ---- whose RUN is told
 
@@ -292,28 +264,31 @@ module _ (n : ℕ) (w v : Work) (calm : Calm n w v) (mid q : HostParts) (before 
   own_marks : AllByRecursion (IsRanOf id) mid.control.marks
   own_marks = subst (AllByRecursion (IsRanOf id)) (sym amid.marked) (ran_of id 0 w.told own)
 
-  pub over_ran : has_ran q.control.marks ≡ has_ran mid.control.marks
+  over_ran : has_ran q.control.marks ≡ has_ran mid.control.marks
   over_ran = ap has_ran marks_grown ∙ ran_append mid.control.marks more none
 
-  pub over_back : (a : Answer) → AllByRecursion (IsReply (host_of q) a) q.control.marks → AllByRecursion (IsReply (host_of mid) a) mid.control.marks
+  over_back : (a : Answer) → AllByRecursion (IsReply (host_of q) a) q.control.marks → AllByRecursion (IsReply (host_of mid) a) mid.control.marks
   over_back a all = elim same [
     | inl quiet ↦ no_replies (host_of mid) a mid.control.marks quiet
     | inr e ↦ replies_at (host_of q) (host_of mid) id (sym e) a mid.control.marks own_marks (left_of_all (IsReply (host_of q) a) mid.control.marks more (subst (AllByRecursion (IsReply (host_of q) a)) marks_grown all))
   ]
 
-  pub over_on : (a : Answer) → AllByRecursion (IsReply (host_of mid) a) mid.control.marks → AllByRecursion (IsReply (host_of q) a) q.control.marks
+  over_on : (a : Answer) → AllByRecursion (IsReply (host_of mid) a) mid.control.marks → AllByRecursion (IsReply (host_of q) a) q.control.marks
   over_on a all = elim same [
     | inl quiet ↦ no_replies (host_of q) a q.control.marks (over_ran ∙ quiet)
     | inr e ↦ subst (AllByRecursion (IsReply (host_of q) a)) (sym marks_grown)
         (all-append (IsReply (host_of q) a) mid.control.marks more (replies_at (host_of mid) (host_of q) id e a mid.control.marks own_marks all) (no_replies (host_of q) a more none))
   ]
 
-  pub over_allowed : (allows : ℕ → List ℕ → List ℕ → ℕ → Type 0) (whole : List ℕ) → AllByRecursion (IsAllowed (host_of mid) allows whole) mid.control.marks → AllByRecursion (IsAllowed (host_of q) allows whole) q.control.marks
+  over_allowed : (allows : ℕ → List ℕ → List ℕ → ℕ → Type 0) (whole : List ℕ) → AllByRecursion (IsAllowed (host_of mid) allows whole) mid.control.marks → AllByRecursion (IsAllowed (host_of q) allows whole) q.control.marks
   over_allowed allows whole all = elim same [
     | inl quiet ↦ none_allowed (host_of q) allows whole q.control.marks (over_ran ∙ quiet)
     | inr e ↦ subst (AllByRecursion (IsAllowed (host_of q) allows whole)) (sym marks_grown)
         (all-append (IsAllowed (host_of q) allows whole) mid.control.marks more (allowed_at (host_of mid) (host_of q) id e allows whole mid.control.marks own_marks all) (none_allowed (host_of q) allows whole more none))
   ]
+
+  over_alike : TellsAlike mid q
+  over_alike = record { ran = over_ran; back = over_back; on = over_on; allowed = over_allowed }
 
 -- nothing is told of what a peer tells
 pub heard_told : (s : Settings) (peer : HostId) (inc : ℕ) (what : Body) (h : Host) (now : ℕ) → (hears_cutoffs s peer inc what (begun h now)).told ≡ []
@@ -324,7 +299,7 @@ heard_told s peer inc (body.Resend from to prio) h now = refl
 heard_told s peer inc body.Busy h now = refl
 heard_told s peer inc (body.Unknown reason) h now = refl
 heard_told s peer inc body.NeedAck h now = refl
-heard_told s peer inc (body.Ack more) h now = refl
+heard_told s peer inc (body.Ack calls) h now = refl
 
 abbrev pub is_stale_here : Settings → ℕ → HostId → HostId → WirePacket → List ℕ → Bool
 is_stale_here s now from me w payload = is_stale s now (packet_between from me w payload)
@@ -368,17 +343,8 @@ module _ (s : Settings) (p : Packet) (v : Work) (quiet : run_count v.told ≡ 0)
     | inr none ↦ inr (others none)
   ]
 
-  pub client_ran : has_ran q.control.marks ≡ has_ran mid.control.marks
-  client_ran = let c = acked_calm s (acks p) row in over_ran c.0 row (acked s (acks p) row) c.1 mid q before after amid ends p.id (own_run s p first v quiet) either
-
-  pub client_back : (a : Answer) → AllByRecursion (IsReply (host_of q) a) q.control.marks → AllByRecursion (IsReply (host_of mid) a) mid.control.marks
-  client_back = let c = acked_calm s (acks p) row in over_back c.0 row (acked s (acks p) row) c.1 mid q before after amid ends p.id (own_run s p first v quiet) either
-
-  pub client_on : (a : Answer) → AllByRecursion (IsReply (host_of mid) a) mid.control.marks → AllByRecursion (IsReply (host_of q) a) q.control.marks
-  client_on = let c = acked_calm s (acks p) row in over_on c.0 row (acked s (acks p) row) c.1 mid q before after amid ends p.id (own_run s p first v quiet) either
-
-  pub client_allowed : (allows : ℕ → List ℕ → List ℕ → ℕ → Type 0) (whole : List ℕ) → AllByRecursion (IsAllowed (host_of mid) allows whole) mid.control.marks → AllByRecursion (IsAllowed (host_of q) allows whole) q.control.marks
-  client_allowed = let c = acked_calm s (acks p) row in over_allowed c.0 row (acked s (acks p) row) c.1 mid q before after amid ends p.id (own_run s p first v quiet) either
+  pub client_alike : TellsAlike mid q
+  client_alike = let c = acked_calm s (acks p) row in over_alike c.0 row (acked s (acks p) row) c.1 mid q before after amid ends p.id (own_run s p first v quiet) either
 
   -- and so with each answer that the marks agree to
   pub client_done : (whole : List ℕ) (a : Answer) → (Amid (comes_to_row s p a Client v) mid before) × AllByRecursion (IsWhole whole) (comes_to_row s p a Client v).told

@@ -17,19 +17,23 @@ use Rattle.homa_steps.proofs.OwnOrders.{client_granted-own}
 use Rattle.homa_places.specs.Placed.{StandsAt}
 use Rattle.homa_client.specs.Held.{HeldRow, seen_row}
 use Rattle.homa_client.specs.AtTable.{Clients, Moved}
-use Rattle.homa_control.specs.Control.{Control, IsAt}
+use Rattle.homa_control.specs.Control.{Control, IsSound, IsAt}
 use Rattle.homa_seen.specs.declared.outbox.SentFrame.{SentFrame}
 use Rattle.homa_books.specs.declared.books.Books.{Books}
+use Rattle.host_books.specs.Duty.{client_duty, followed}
 use Rattle.host_books.specs.Ends.{grant_to}
 use Rattle.host_laws.specs.Peers.{KnowsServer}
 use Rattle.host_laws.proofs.Known.{client_granted-known}
 use Rattle.homa_host.specs.declared.parts.HostParts.{HostParts}
 use Rattle.homa_host.specs.Parts.{host_of, IsKept}
 use Rattle.homa_host.specs.Amid.{Amid}
+use Rattle.homa_host.specs.Outcomes.{FollowedClient}
+use Rattle.homa_host.specs.declared.outcome.Change.TheVariants.{Stays}
 use Rattle.homa_host.proofs.Begun.{at-amid, amid-at}
 use Rattle.homa_host.proofs.SlotRows.{client_row}
 use Rattle.homa_host.proofs.ClientKept.{own_like, host_after}
-use Rattle.homa_host.proofs.ClientStays.{stood, knows}
+use Rattle.homa_host.proofs.CanFollow.{CanFollowClient}
+use Rattle.homa_host.proofs.ClientStays.{Beside, stood, knows, can_follow, followed_by, kept_stays}
 
 -- a message that is granted as much already is left
 pub grant_none : (s : Settings) (a : Arriving) (prio : ℕ) (w : Work) → new_end s.window a.message ≤ a.message.granted → grant_to s a prio w ≡ w
@@ -60,24 +64,35 @@ module _ (c : HostParts) (kept : IsKept c) (id : CallId) (slot : ℕ) (r : HeldR
       own_like v.host (host_after c kept id slot (stood c kept id slot r stands) clients c.pool (Some granted_row) moved c.order) refl (sym moved.rows) refl
       (client_granted-own c.control.settings id offset 0 (Some (seen_row c.pool r)) w (client_row c id slot r stands) kept.own)
 
-  module _ (out : List SentFrame) (control : Control) (out' : List SentFrame) (prio : ℕ) (books : Books) (credit : books.pacer.credit ≡ c.books.pacer.credit) (refilled : books.pacer.refilled ≡ c.books.pacer.refilled)
-      (posted : (w : Work) → IsAt w c.control out → IsAt (posts c.control.settings Client id r.server (body.Grant offset prio) w) control out') where
+  -- the books can follow
+  pub granted_follows : CanFollowClient clients c.books (Stays slot)
+  granted_follows = can_follow c kept id slot r stands clients granted_row moved granted_own granted_known c.books refl
+
+  module _ (books : Books) (follows : FollowedClient clients (Stays slot) c.books books) (control : Control) where
+    followed_granted : books ≡ followed slot (client_duty c.control.settings granted_row) c.books
+    followed_granted = followed_by c kept id slot r stands clients granted_row moved c.books books refl follows
+
     abbrev parts : HostParts
     parts = record { control = control; clients = clients; servers = c.servers; pool = c.pool; books = books; order = c.order }
 
-    granted_work : (w : Work) → w.host ≡ host_of c → Amid w c out → Amid (client_is_granted c.control.settings id (body.Grant offset prio) offset (Some (seen_row c.pool r)) (record { host = host_of c; told = w.told })) parts out'
-    granted_work w same amid =
-        let before = at-amid w c out amid in
-        let v : Work = record { host = record (host_of c) { clients = insert (host_of c).clients id granted_row }; told = w.told } in
-        let at : IsAt v c.control out = record { id = refl; inc = refl; last = refl; tuning = refl; peers = refl; finished = refl; marked = before.marked; sent = before.sent; formed = before.formed } in
-        amid-at (posts c.control.settings Client id r.server (body.Grant offset prio) v) parts out' (posted v at)
-        (record { seq = ap (λ (t : Clients). t.seq) moved.kept; order = refl; credit = credit; refilled = refilled; clients = moved.rows; servers = refl })
+    pub granted_kept : IsSound control → Beside c.control control → IsKept parts
+    granted_kept sound beside = kept_stays c kept id slot r stands clients granted_row moved granted_own granted_known control sound beside books followed_granted
 
-    pub client_granted_to : (a : Arriving) (w : Work) → a.place ≡ OfClient id → new_end c.control.settings.window a.message ≡ offset → a.message.granted < offset → Amid w c out → Amid (grant_to c.control.settings a prio w) parts out'
-    client_granted_to a w place ends more amid =
-        let is : w ≡ record { host = host_of c; told = w.told } = work_of c w out amid in
-        let same : grant_to c.control.settings a prio w ≡ client_is_granted c.control.settings id (body.Grant offset prio) offset (Some (seen_row c.pool r)) (record { host = host_of c; told = w.told }) =
-        grant_some c.control.settings a prio offset (OfClient id) w place ends more
-        ∙ (λ i. client_is_granted c.control.settings id (body.Grant offset prio) offset (get (is i).host.clients id) (is i))
-        ∙ ap (λ (o : Option ClientRow). client_is_granted c.control.settings id (body.Grant offset prio) offset o (record { host = host_of c; told = w.told })) (client_row c id slot r stands) in
-        subst (λ (v : Work). Amid v parts out') (sym same) (granted_work w (sym amid.host) amid)
+    module _ (out out' : List SentFrame) (prio : ℕ) (posted : (w : Work) → IsAt w c.control out → IsAt (posts c.control.settings Client id r.server (body.Grant offset prio) w) control out') where
+      granted_work : (w : Work) → Amid w c out → Amid (client_is_granted c.control.settings id (body.Grant offset prio) offset (Some (seen_row c.pool r)) (record { host = host_of c; told = w.told })) parts out'
+      granted_work w amid =
+          let before = at-amid w c out amid in
+          let e = followed_granted in
+          let v : Work = record { host = record (host_of c) { clients = insert (host_of c).clients id granted_row }; told = w.told } in
+          let at : IsAt v c.control out = record { id = refl; inc = refl; last = refl; tuning = refl; peers = refl; finished = refl; marked = before.marked; sent = before.sent; formed = before.formed } in
+          amid-at (posts c.control.settings Client id r.server (body.Grant offset prio) v) parts out' (posted v at)
+          (record { seq = ap (λ (t : Clients). t.seq) moved.kept; order = refl; credit = ap (λ (b : Books). b.pacer.credit) e; refilled = ap (λ (b : Books). b.pacer.refilled) e; clients = moved.rows; servers = refl })
+
+      pub client_granted_to : (a : Arriving) (w : Work) → a.place ≡ OfClient id → new_end c.control.settings.window a.message ≡ offset → a.message.granted < offset → Amid w c out → Amid (grant_to c.control.settings a prio w) parts out'
+      client_granted_to a w place ends more amid =
+          let is : w ≡ record { host = host_of c; told = w.told } = work_of c w out amid in
+          let same : grant_to c.control.settings a prio w ≡ client_is_granted c.control.settings id (body.Grant offset prio) offset (Some (seen_row c.pool r)) (record { host = host_of c; told = w.told }) =
+          grant_some c.control.settings a prio offset (OfClient id) w place ends more
+          ∙ (λ i. client_is_granted c.control.settings id (body.Grant offset prio) offset (get (is i).host.clients id) (is i))
+          ∙ ap (λ (o : Option ClientRow). client_is_granted c.control.settings id (body.Grant offset prio) offset o (record { host = host_of c; told = w.told })) (client_row c id slot r stands) in
+          subst (λ (v : Work). Amid v parts out') (sym same) (granted_work w amid)

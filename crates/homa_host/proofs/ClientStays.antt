@@ -50,6 +50,7 @@ use Rattle.homa_host.specs.Parts.{host_of, seen_of, part_in, IsKept}
 use Rattle.homa_host.specs.Amid.{Amid}
 use Rattle.homa_host.proofs.Begun.{at-amid, amid-at, rest-amid}
 use Rattle.homa_host.specs.Outcomes.{MayStayClient, FollowedClient}
+use Rattle.homa_host.proofs.CanFollow.{CanFollowClient}
 use Rattle.homa_host.proofs.SlotRows.{client_row, client_standing, kept_slots}
 use Rattle.homa_host.proofs.ClientKept.{own_like, at_slot_after, places_after, slot_within, parts_in, host_after, seen_after, changes, duty_own, kept_after}
 
@@ -281,6 +282,14 @@ module _ (c : HostParts) (kept : IsKept c) (id : CallId) (slot : ℕ) (r : HeldR
             peers =
                 let h : Host = host_of (record { control = control; clients = clients; servers = c.servers; pool = c.pool; books = followed slot (client_duty c.control.settings row) c.books; order = c.order }) in
                 subst (λ (s : Settings). KnowsPeers s h) (sym beside.settings) (known-client c.control.settings (host_of c) h beside.id beside.inc kept.known id (Some row) moved.rows refl (known, owned))
+
+      -- the books can follow
+      pub can_follow : (books : Books) → books ≡ c.books → CanFollowClient clients books (Stays slot)
+      can_follow books e = subst (λ (b : Books). CanFollowClient clients b (Stays slot)) (sym e) (record { stands = spot_after; may = may_stay; room = room_after; within = within_after })
+
+    -- the books followed
+    pub followed_by : (books after : Books) → books ≡ c.books → FollowedClient clients (Stays slot) books after → after ≡ followed slot (client_duty c.control.settings row) c.books
+    followed_by books after e f = follows after (subst (λ (b : Books). FollowedClient clients (Stays slot) b after) e f)
 
   -- ---- its row is seen as before
 

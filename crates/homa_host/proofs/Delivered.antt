@@ -1,5 +1,5 @@
 -- What the end of a step leaves of its service's answer.
-use Rattle.std.proofs.Common.{◌≡◌, ℕ, suc, true, false, List, [], ◌∷◌, ◌++◌, refl, sym, ap, subst, ◌∙◌, arith}
+use Rattle.std.proofs.Common.{◌≡◌, ◌+◌, ℕ, suc, Bool, true, false, cond, List, [], ◌∷◌, ◌++◌, refl, sym, ap, subst, ◌∙◌, arith}
 use Rattle.std.specs.List.{AllByRecursion}
 use Rattle.std.proofs.lemmas.Bool.{true≢false}
 use Rattle.homa_plain.specs.declared.id.CallId.{CallId}
@@ -37,6 +37,20 @@ pub none_allowed : (h : Host) (allows : ℕ → List ℕ → List ℕ → ℕ �
 none_allowed h allows whole [] e = tt
 none_allowed h allows whole (Ran id service hold ∷ ms) e = absurd (true≢false e)
 none_allowed h allows whole (m ∷ ms) e = (tt, none_allowed h allows whole ms e)
+
+-- where no service was asked, it is served as often as before, and any answer is the one that was given
+pub served_none : (n : ℕ) (ms : List Mark) → has_ran ms ≡ false → n ≡ cond (has_ran ms) (n + 1) n
+served_none n ms e = subst (λ (b : Bool). n ≡ cond b (n + 1) n) (sym e) refl
+
+pub answered_none : (h : Host) (ms : List Mark) → has_ran ms ≡ false → (a : Answer) × AllByRecursion (IsReply h a) ms
+answered_none h ms e = (record { bytes = []; hold = 0 }, no_replies h (record { bytes = []; hold = 0 }) ms e)
+
+-- the later of two parts tells of the same runs, with the same responses
+pub record TellsAlike (old new : HostParts) : Type 1 where
+  pub ran : has_ran new.control.marks ≡ has_ran old.control.marks
+  pub back : (a : Answer) → AllByRecursion (IsReply (host_of new) a) new.control.marks → AllByRecursion (IsReply (host_of old) a) old.control.marks
+  pub on : (a : Answer) → AllByRecursion (IsReply (host_of old) a) old.control.marks → AllByRecursion (IsReply (host_of new) a) new.control.marks
+  pub allowed : (allows : ℕ → List ℕ → List ℕ → ℕ → Type 0) (whole : List ℕ) → AllByRecursion (IsAllowed (host_of old) allows whole) old.control.marks → AllByRecursion (IsAllowed (host_of new) allows whole) new.control.marks
 
 pub ran_append : (ms more : List Mark) → has_ran more ≡ false → has_ran (ms ++ more) ≡ has_ran ms
 ran_append [] more e = e
@@ -92,16 +106,19 @@ module _ (s : Settings) (w : Work) (mid q : HostParts) (before after : List Sent
   responses : (id : CallId) → response_of (host_of q) id ≡ response_of (host_of mid) id
   responses id = ap (λ (h : Host). response_of h id) ends.host ∙ (ended-keeps s w).responses id ∙ ap (λ (h : Host). response_of h id) (sym amid.host)
 
-  pub ran_same : has_ran q.control.marks ≡ has_ran mid.control.marks
+  ran_same : has_ran q.control.marks ≡ has_ran mid.control.marks
   ran_same = ap has_ran marks_grown ∙ ran_append mid.control.marks more none
 
-  pub replies_back : (a : Answer) → AllByRecursion (IsReply (host_of q) a) q.control.marks → AllByRecursion (IsReply (host_of mid) a) mid.control.marks
+  replies_back : (a : Answer) → AllByRecursion (IsReply (host_of q) a) q.control.marks → AllByRecursion (IsReply (host_of mid) a) mid.control.marks
   replies_back a all = replies_move (host_of q) (host_of mid) (λ id. sym (responses id)) a mid.control.marks (left_of_all (IsReply (host_of q) a) mid.control.marks more (subst (AllByRecursion (IsReply (host_of q) a)) marks_grown all))
 
-  pub replies_on : (a : Answer) → AllByRecursion (IsReply (host_of mid) a) mid.control.marks → AllByRecursion (IsReply (host_of q) a) q.control.marks
+  replies_on : (a : Answer) → AllByRecursion (IsReply (host_of mid) a) mid.control.marks → AllByRecursion (IsReply (host_of q) a) q.control.marks
   replies_on a all = subst (AllByRecursion (IsReply (host_of q) a)) (sym marks_grown)
       (all-append (IsReply (host_of q) a) mid.control.marks more (replies_move (host_of mid) (host_of q) responses a mid.control.marks all) (no_replies (host_of q) a more none))
 
-  pub allowed_on : (allows : ℕ → List ℕ → List ℕ → ℕ → Type 0) (whole : List ℕ) → AllByRecursion (IsAllowed (host_of mid) allows whole) mid.control.marks → AllByRecursion (IsAllowed (host_of q) allows whole) q.control.marks
+  allowed_on : (allows : ℕ → List ℕ → List ℕ → ℕ → Type 0) (whole : List ℕ) → AllByRecursion (IsAllowed (host_of mid) allows whole) mid.control.marks → AllByRecursion (IsAllowed (host_of q) allows whole) q.control.marks
   allowed_on allows whole all = subst (AllByRecursion (IsAllowed (host_of q) allows whole)) (sym marks_grown)
       (all-append (IsAllowed (host_of q) allows whole) mid.control.marks more (allowed_move (host_of mid) (host_of q) responses allows whole mid.control.marks all) (none_allowed (host_of q) allows whole more none))
+
+  pub ended_alike : TellsAlike mid q
+  ended_alike = record { ran = ran_same; back = replies_back; on = replies_on; allowed = allowed_on }

@@ -15,6 +15,9 @@ use Rattle.homa_parts.specs.Sends.{emits}
 use Rattle.homa_places.specs.Placed.{Placed, StandsAt, spot_at}
 use Rattle.homa_places.proofs.PlacedLaws.{get-spot}
 use Rattle.homa_pacer.specs.Pace as pace
+use Rattle.homa_books.specs.declared.books.Waiting.{Waiting}
+use Rattle.homa_books.specs.Duties.{ready_in}
+use Rattle.host_books.proofs.Follows.{IsFew}
 
 -- what is so where this was emitted, of a message that may be sent or not, with these next bytes
 abbrev pub IsView : Bool → Option Range → ℕ → Emitted → Type 0
@@ -45,3 +48,8 @@ picked_in book n e = by_first (first_of (ordered pace.ready_key book)) (first-or
     nothing : None ≡ Some n → ⊥
     nothing e = cc
   by_first (Some r) least e = (r, least.0, same_some r.slot n e)
+
+-- a message has one thing in the pacer at most
+pub few_ready : (slot : ℕ) (o : Option Waiting) → IsFew (ready_in slot o)
+few_ready slot None = tt
+few_ready slot (Some w) = tt

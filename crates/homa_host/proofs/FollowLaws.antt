@@ -9,10 +9,10 @@ use Rattle.homa_plain.specs.Rows.{ClientRow}
 use Rattle.homa_steps.specs.StepLaws.{HasOwnOrders}
 use Rattle.msg_pool.specs.Pool.{Pool}
 use Rattle.homa_places.specs.Placed.{Placed, StandsAt, spot_at}
-use Rattle.homa_places.proofs.PlacedLaws.{get-spot, spot-stands}
+use Rattle.homa_places.proofs.PlacedLaws.{spot-stands}
 use Rattle.homa_parts.specs.Pooled.{AreIn}
 use Rattle.homa_client.specs.Held.{HeldRow, seen_row}
-use Rattle.homa_client.specs.AtTable.{Clients, HeldRows, Moved, part_at, place_at}
+use Rattle.homa_client.specs.AtTable.{Clients, Moved, part_at, place_at}
 use Rattle.homa_client.proofs.TableLaws.{part_stands}
 use Rattle.homa_books.specs.declared.books.Books.{Books}
 use Rattle.homa_books.specs.declared.books.Arrival.{Arrival}
@@ -25,13 +25,6 @@ use Rattle.homa_host.specs.declared.parts.HostParts.{HostParts}
 use Rattle.homa_host.specs.declared.outcome.Change.{Change}
 use Rattle.homa_host.specs.declared.outcome.Change.TheVariants.{Nothing, Stays, Goes}
 use Rattle.homa_host.proofs.ClientKept.{at_slot_after, places_after, slot_within, host_after, duty_own}
-
--- where a row stands at a place, there is one
-pub stands_of : (rows : HeldRows) (slot : ℕ) → IsSome (spot_at rows slot) → (id : CallId) × (r : HeldRow) × StandsAt rows id slot r
-stands_of rows slot is = at (spot_at rows slot) refl is where
-  at : (o : Option (CallId × HeldRow)) → spot_at rows slot ≡ o → IsSome o → (id : CallId) × (r : HeldRow) × StandsAt rows id slot r
-  at None e h = cc
-  at (Some s) e h = (s.0, s.1, get-spot rows slot s.0 s.1 e)
 
 -- the row of a call stays at the slot, or goes from it
 abbrev pub IsChange : Change → ℕ → Option ClientRow → Type 0

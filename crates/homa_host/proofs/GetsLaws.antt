@@ -1,5 +1,5 @@
 -- A packet at a call's client, as the parts have it.
-use Rattle.std.proofs.Common.{◌≡◌, ◌≤◌, ◌+◌, ℕ, Bool, true, false, cond, ◌&&◌, not, nat_lt, if◌then◌else◌, refl, sym, ap, subst, ◌∙◌, arith, List, Option, Some, None}
+use Rattle.std.proofs.Common.{◌≡◌, ◌≤◌, ◌+◌, ℕ, Bool, true, false, cond, ◌&&◌, not, nat_lt, if◌then◌else◌, refl, sym, ap, subst, ◌∙◌, arith, List, [], Option, Some, None}
 use Rattle.std.specs.Option.{option_map, option_and_then, IfSome, IsSome}
 use Rattle.plain_sets.specs.Maps.{get, len}
 use Rattle.plain_sets.proofs.MapMembers.{same_some}
@@ -12,12 +12,12 @@ use Rattle.homa_plain.specs.Calls.{is_host}
 use Rattle.homa_plain.specs.Host.{Host, free_beside}
 use Rattle.homa_plain.specs.Packets.{Packet, sender, packet_between}
 use Rattle.homa_plain.specs.Rows.{ClientRow}
-use Rattle.homa_plain.specs.Rules.{Moment, Answer, Did}
+use Rattle.homa_plain.specs.Rules.{Moment, Did}
 use Rattle.homa_plain.specs.AtClient.{client_gets}
 use Rattle.homa_plain.specs.Steps.{Work, moment, asked}
 use Rattle.homa_steps.proofs.OwnOrders.{Own, row-own}
 use Rattle.msg_pool.specs.Pool.{Pool, leased_pages, free_pages}
-use Rattle.homa_parts.specs.Pooled.{pages_of}
+use Rattle.homa_parts.specs.Pooled.{AreIn, pages_of}
 use Rattle.homa_parts.specs.Pieces.{moment_with}
 use Rattle.homa_places.specs.Placed.{Placed}
 use Rattle.homa_places.proofs.MappedLaws.{get-mapped}
@@ -154,23 +154,30 @@ known_if c kept id (Some r) e = kept.known.clients id r e
 
 -- ---- the packet
 
-module _ (c : HostParts) (kept : IsKept c) (from : HostId) (packet : WirePacket) (payload : List ℕ) (role : packet.role ≡ Server) (now : ℕ) (now_is : now ≡ c.control.last) (most : leased_pages c.pool.leases ≤ c.pool.pages)
-    (clients : Clients) (pool : Pool) (told : List ℕ) (d : ClientDid)
-    (received : Received c.clients c.pool (packet_between from c.clients.host packet payload) now c.order clients pool told d) where
+-- a packet of a server came to a host, whose table took it up
+pub record HasReceived (c : HostParts) (from : HostId) (packet : WirePacket) (payload : List ℕ) (now : ℕ) (clients : Clients) (pool : Pool) (told : List ℕ) (d : ClientDid) : Type 0 where
+  pub role : packet.role ≡ Server
+  pub now_is : now ≡ c.control.last
+  pub most : leased_pages c.pool.leases ≤ c.pool.pages
+  pub received : Received c.clients c.pool (packet_between from c.clients.host packet payload) now c.order clients pool told d
+  pub inside : AreIn pool (part_at clients.rows)
+
+module _ (c : HostParts) (kept : IsKept c) {from : HostId} {packet : WirePacket} {payload : List ℕ} {now : ℕ} {clients : Clients} {pool : Pool} {told : List ℕ} {d : ClientDid} (taken : HasReceived c from packet payload now clients pool told d) where
   abbrev pub p : Packet
   p = from_server from c.control.id packet payload
 
   pub is_p : p ≡ packet_between from c.control.id packet payload
-  is_p = of_server from c.control.id packet payload role
+  is_p = of_server from c.control.id packet payload taken.role
 
   pub got : Received c.clients c.pool p now c.order clients pool told d
   got =
       subst (λ (q : Packet). Received c.clients c.pool q now c.order clients pool told d) (sym is_p)
-      (subst (λ (h : HostId). Received c.clients c.pool (packet_between from h packet payload) now c.order clients pool told d) kept.one.client received)
+      (subst (λ (h : HostId). Received c.clients c.pool (packet_between from h packet payload) now c.order clients pool told d) kept.one.client taken.received)
 
   -- the pages that all other messages leave free
   free_is : free_pages c.pool + pages_of (part_at c.clients.rows p.id) ≡ free_beside c.control.settings (host_of c) p.id
   free_is =
+      let most = taken.most in
       let leased = kept.leased in
       let pages = kept.pages in
       let mine : client_pages (get (seen_rows c.pool c.clients.rows) p.id) ≡ pages_of (part_at c.clients.rows p.id) =
@@ -189,7 +196,7 @@ module _ (c : HostParts) (kept : IsKept c) (from : HostId) (packet : WirePacket)
       let rows = len w.host.servers in
       let m : moment_with c.clients.host now c.order (free_pages c.pool + pages_of (part_at c.clients.rows p.id)) rows ≡ moment s p.id w = λ i. record {
         host = (kept.one.client ∙ ap (λ (h : Host). h.id) same) i;
-        now = (now_is ∙ ap (λ (h : Host). h.last) same) i;
+        now = (taken.now_is ∙ ap (λ (h : Host). h.last) same) i;
         order = ap (λ (h : Host). h.order) same i;
         free = (free_is ∙ ap (λ (h : Host). free_beside s h p.id) same) i;
         rows = rows;
@@ -222,5 +229,5 @@ module _ (c : HostParts) (kept : IsKept c) (from : HostId) (packet : WirePacket)
   pub gets_known : IfSome (gets (silent c)).row (KnowsServer c.control.settings.hosts)
   gets_known = client_gets-known c.control.settings.hosts c.control.settings (moment c.control.settings p.id (silent c)) p (get (host_of c).clients p.id) (known_if c kept p.id (get (host_of c).clients p.id) refl)
 
-  pub gets_own : (a : Answer) → Own (asked c.control.settings p.id from (gets (silent c)) (silent c))
-  gets_own a = row-own c.control.settings p a Server (silent c) kept.own
+  pub gets_own : Own (asked c.control.settings p.id from (gets (silent c)) (silent c))
+  gets_own = row-own c.control.settings p (record { bytes = []; hold = 0 }) Server (silent c) kept.own

@@ -1,3 +1,4 @@
+pub mod CanFollow
 pub mod ClientKept
 pub mod AskedLaws
 pub mod FollowLaws

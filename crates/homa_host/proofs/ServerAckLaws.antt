@@ -35,13 +35,15 @@ use Rattle.homa_host.specs.Parts.{host_of, IsKept}
 use Rattle.homa_host.specs.Amid.{Amid}
 use Rattle.homa_host.specs.Outcomes.{IfStays, IfChanged}
 use Rattle.homa_host.specs.ServerFollow.{acked_change, MayStayServer, FollowedServer}
+use Rattle.homa_host.specs.declared.outcome.Change.{Change}
 use Rattle.homa_host.specs.declared.outcome.Change.TheVariants.{Stays}
 use Rattle.homa_host.specs.declared.parts.HostParts.{HostParts}
 use Rattle.homa_host.proofs.AskedLaws.{silent, served-aside, amid_of}
 use Rattle.homa_host.proofs.Begun.{GoesOn, kept-control}
 use Rattle.homa_host.proofs.ServerKept.{server_parts, host_after, served_orders, served_kept}
+use Rattle.homa_host.proofs.CanFollow.{CanFollowServer}
 use Rattle.homa_host.proofs.ServerFollows.{IsServerChange, follow_within, follow_stands, follow_may, follow_books}
-use Rattle.homa_host.proofs.ServerActLaws.{at_slot, row_get, not_own, slot_low, stays_at, placed_in, moment_of, known_row}
+use Rattle.homa_host.proofs.ServerActLaws.{at_slot, row_get, not_own, slot_low, stays_at, placed_in, moment_of, known_row, few_places}
 
 -- what the free pages and the rows are is nothing to an ACK
 acked_like : (s : Settings) (h : HostId) (now order f g f' g' : ℕ) (id : CallId) (o : Option ServerRow) → server_acked s (moment_with h now order f g) id o ≡ server_acked s (moment_with h now order f' g') id o
@@ -90,13 +92,13 @@ module _ (c : HostParts) (kept : IsKept c) (id : CallId) (client : id.client.0 <
   did_at w = server_acked c.control.settings (moment c.control.settings id w) id (get w.host.servers id)
 
   module _ (result : Option (ℕ × ℕ)) (is : IsAck c id now servers result) where
-    pub moved : ServerMoved id c.servers c.pool servers c.pool row_now
+    moved : ServerMoved id c.servers c.pool servers c.pool row_now
     moved = is.moved c.pool (server_parts c kept.parts)
 
-    pub settings_now : servers.settings ≡ c.control.settings
+    settings_now : servers.settings ≡ c.control.settings
     settings_now = ap (λ (t : Servers). t.settings) moved.kept ∙ kept.one.server_settings
 
-    pub room_now : HaveRoom servers.settings c.books
+    room_now : HaveRoom servers.settings c.books
     room_now = subst (λ (s : Settings). HaveRoom s c.books) (sym settings_now) kept.room
 
     abbrev until : Option ℕ
@@ -119,13 +121,13 @@ module _ (c : HostParts) (kept : IsKept c) (id : CallId) (client : id.client.0 <
     pub acked_at : (w : Work) → host_of c ≡ w.host → did_at w ≡ acked_of (moment c.control.settings id w) id row_now until
     acked_at w e = acked_on w.host e
 
-    pub row_at : (w : Work) → host_of c ≡ w.host → (did_at w).row ≡ row_now
+    row_at : (w : Work) → host_of c ≡ w.host → (did_at w).row ≡ row_now
     row_at w e = ap (λ (d : Did ServerRow). d.row) (acked_at w e) ∙ of_row (moment c.control.settings id w) id row_now until
 
-    pub order_at : (w : Work) → host_of c ≡ w.host → (did_at w).order ≡ c.order
+    order_at : (w : Work) → host_of c ≡ w.host → (did_at w).order ≡ c.order
     order_at w e = ap (λ (d : Did ServerRow). d.order) (acked_at w e) ∙ of_order (moment c.control.settings id w) id row_now until ∙ ap (λ (h : Host). h.order) (sym e)
 
-    pub acked_known : IfSome row_now (KnowsClient c.control.settings.hosts id)
+    acked_known : IfSome row_now (KnowsClient c.control.settings.hosts id)
     acked_known = subst (λ (o : Option ServerRow). IfSome o (KnowsClient c.control.settings.hosts id)) (row_at (silent c) refl)
         (known_row c.control.settings.hosts id client call (did_at (silent c)).row
         (server_acked-known c.control.settings.hosts c.control.settings (moment c.control.settings id (silent c)) id (get (host_of c).servers id) (old_known (get (host_of c).servers id) refl))) where
@@ -133,7 +135,7 @@ module _ (c : HostParts) (kept : IsKept c) (id : CallId) (client : id.client.0 <
           old_known None e = tt
           old_known (Some row) e = (kept.known.servers id row e).sender
 
-    pub acked_own : Own (served c.control.settings id (did_at (silent c)) (silent c))
+    acked_own : Own (served c.control.settings id (did_at (silent c)) (silent c))
     acked_own = served-own c.control.settings id (did_at (silent c)) (silent c) (server_acked-kept c.control.settings (moment c.control.settings id (silent c)) id (get (host_of c).servers id)) kept.own
 
     -- the responses of other calls stay
@@ -154,7 +156,7 @@ module _ (c : HostParts) (kept : IsKept c) (id : CallId) (client : id.client.0 <
         same_place : z.place ≡ x.0
         same_place = let a : Some z.place ≡ Some x.0 = ap (option_map (λ (z : Placed HeldServer). z.place)) (sym f) ∙ is.slot in cc
 
-    pub stood_there : (r : HeldServer) × StandsAt c.servers.rows id x.0 r
+    stood_there : (r : HeldServer) × StandsAt c.servers.rows id x.0 r
     stood_there = stood_in (get c.servers.rows id) refl
         (acked_there c.servers.settings (server_moment c.servers now c.order c.pool id) id (server_at c.pool c.servers.rows id) row_now x.1 (is.acked c.pool c.order (server_parts c kept.parts)))
 
@@ -206,17 +208,32 @@ module _ (c : HostParts) (kept : IsKept c) (id : CallId) (client : id.client.0 <
 
   -- ---- both ways
 
-  pub acked_stands : (result : Option (ℕ × ℕ)) → IsAck c id now servers result → IfStays (acked_change result) (λ n. IsSome (spot_at servers.rows n))
+  acked_stands : (result : Option (ℕ × ℕ)) → IsAck c id now servers result → IfStays (acked_change result) (λ n. IsSome (spot_at servers.rows n))
   acked_stands None is = tt
   acked_stands (Some x) is = stays_there x is
 
-  pub acked_within : (result : Option (ℕ × ℕ)) → IsAck c id now servers result → IfChanged (acked_change result) (λ n. n < servers.settings.served)
+  acked_within : (result : Option (ℕ × ℕ)) → IsAck c id now servers result → IfChanged (acked_change result) (λ n. n < servers.settings.served)
   acked_within None is = tt
   acked_within (Some x) is = low_there x is
 
-  pub acked_may : (result : Option (ℕ × ℕ)) → IsAck c id now servers result → IfStays (acked_change result) (MayStayServer servers c.control.settings.calls c.books)
+  acked_may : (result : Option (ℕ × ℕ)) → IsAck c id now servers result → IfStays (acked_change result) (MayStayServer servers c.control.settings.calls c.books)
   acked_may None is = tt
   acked_may (Some x) is = may_stay x is
+
+  -- the books can follow, and what they follow
+  module _ (result : Option (ℕ × ℕ)) (is : IsAck c id now servers result) (calls : ℕ) (change : Change) (calls_are : calls ≡ c.control.settings.calls) (change_is : change ≡ acked_change result) where
+    pub acked_follows : CanFollowServer servers calls c.books change
+    acked_follows = subst (λ (y : ℕ × Change). CanFollowServer servers y.0 c.books y.1) (λ i. (sym calls_are i, sym change_is i)) (record {
+      stands = acked_stands result is;
+      may = acked_may result is;
+      room = room_now result is;
+      calls = ap (λ (s : Settings). s.calls) (sym (settings_now result is));
+      within = acked_within result is;
+      small = few_places c kept c.control.settings servers.settings refl (settings_now result is);
+    })
+
+    pub acked_followed : (books : Books) → FollowedServer servers calls change c.books books → FollowedServer servers c.control.settings.calls (acked_change result) c.books books
+    acked_followed books f = subst (λ (y : ℕ × Change). FollowedServer servers y.0 y.1 c.books books) (λ i. (calls_are i, change_is i)) f
 
   pub acked_kept : (result : Option (ℕ × ℕ)) → IsAck c id now servers result → (books : Books) (control : Control) → FollowedServer servers c.control.settings.calls (acked_change result) c.books books → IsSound control
       → control ≡ record c.control { tuning = control.tuning; marks = control.marks } → control.tuning.opened ≡ c.control.tuning.opened → IsKept (record { control = control; clients = c.clients; servers = servers; pool = c.pool; books = books; order = c.order })
@@ -233,7 +250,7 @@ module _ (c : HostParts) (kept : IsKept c) (id : CallId) (client : id.client.0 <
         at_least e = omega (arith, e)
   acked_kept (Some x) is books control f sound same opened = kept_there x is books control f sound same opened
 
-  pub acked_credit : (result : Option (ℕ × ℕ)) → IsAck c id now servers result → (books : Books) → FollowedServer servers c.control.settings.calls (acked_change result) c.books books
+  acked_credit : (result : Option (ℕ × ℕ)) → IsAck c id now servers result → (books : Books) → FollowedServer servers c.control.settings.calls (acked_change result) c.books books
       → (books.pacer.credit ≡ c.books.pacer.credit) × (books.pacer.refilled ≡ c.books.pacer.refilled)
   acked_credit None is books f = (ap (λ (b : Books). b.pacer.credit) f, ap (λ (b : Books). b.pacer.refilled) f)
   acked_credit (Some x) is books f = let e = books_there x is books f in (ap (λ (b : Books). b.pacer.credit) e, ap (λ (b : Books). b.pacer.refilled) e)

@@ -9,10 +9,10 @@ use Rattle.homa_plain.specs.Timers.{OfServer}
 use Rattle.homa_steps.specs.StepLaws.{HasOwnOrders}
 use Rattle.msg_pool.specs.Pool.{Pool}
 use Rattle.homa_places.specs.Placed.{Placed, StandsAt, ArePlaced, spot_at}
-use Rattle.homa_places.proofs.PlacedLaws.{get-spot, spot-stands}
+use Rattle.homa_places.proofs.PlacedLaws.{spot-stands}
 use Rattle.homa_parts.specs.Pooled.{AreIn}
 use Rattle.homa_server.specs.Held.{HeldServer, seen_server}
-use Rattle.homa_server.specs.Table.{Servers, ServerRows, ServerMoved, request_at}
+use Rattle.homa_server.specs.Table.{Servers, ServerMoved, request_at}
 use Rattle.homa_books.specs.declared.books.Books.{Books}
 use Rattle.homa_books.specs.declared.books.Arrival.{Arrival}
 use Rattle.homa_books.specs.Duties.{AreOwn, HaveRoom}
@@ -26,13 +26,6 @@ use Rattle.homa_host.specs.declared.parts.HostParts.{HostParts}
 use Rattle.homa_host.specs.declared.outcome.Change.{Change}
 use Rattle.homa_host.specs.declared.outcome.Change.TheVariants.{Nothing, Stays, Goes}
 use Rattle.homa_host.proofs.ServerKept.{requests_in, host_after, seen_after, duty_own}
-
--- where a row stands at a place, there is one
-pub server_stands_of : (rows : ServerRows) (slot : ℕ) → IsSome (spot_at rows slot) → (id : CallId) × (r : HeldServer) × StandsAt rows id slot r
-server_stands_of rows slot is = at (spot_at rows slot) refl is where
-  at : (o : Option (CallId × HeldServer)) → spot_at rows slot ≡ o → IsSome o → (id : CallId) × (r : HeldServer) × StandsAt rows id slot r
-  at None e h = cc
-  at (Some s) e h = (s.0, s.1, get-spot rows slot s.0 s.1 e)
 
 -- the row of a call stays at the slot, or goes from it
 abbrev pub IsServerChange : Change → ℕ → Option ServerRow → Type 0

@@ -30,7 +30,7 @@ use Rattle.homa_seen.specs.declared.outbox.SentFrame.{SentFrame}
 use Rattle.homa_client.specs.AtTable.{seen_rows}
 use Rattle.homa_seen.specs.Marks.{response_of, response_in as mark_response}
 use Rattle.homa_server.specs.Held.{HeldServer, HeldState, Arriving, Keeping, Answering, Gone, seen_server, seen_state, response_in as held_response}
-use Rattle.homa_server.specs.Answers.{served_of, slot_in, IsSlotOf, IsReply, version_there}
+use Rattle.homa_server.specs.Answers.{served_of, service_in, slot_in, IsSlotOf, IsReply, version_there}
 use Rattle.homa_server.specs.Table.{Servers, ServerRows, Served, seen_servers, server_at, slot_at, request_at, response_at, server_moment}
 use Rattle.homa_server.specs.declared.answers.ServerDid.{ServerDid}
 use Rattle.homa_server.specs.declared.answers.ServerDid.TheVariants as did
@@ -52,6 +52,7 @@ use Rattle.homa_host.specs.declared.outcome.Change.{Change}
 use Rattle.homa_host.specs.declared.outcome.Change.TheVariants.{Nothing}
 use Rattle.homa_host.proofs.AskedLaws.{silent, served-aside, amid_of}
 use Rattle.homa_host.proofs.Begun.{GoesOn, kept-control}
+use Rattle.homa_host.proofs.ServerHeard.{HasHeard}
 use Rattle.homa_host.proofs.ServerKept.{state_pages_of, seen_after, clients_same, served_orders, served_kept}
 use Rattle.homa_host.proofs.ServerFollows.{IsServerChange, follow_within, follow_stands, follow_may, follow_books}
 use Rattle.homa_host.proofs.ServerActLaws.{placed_in, known_row}
@@ -211,26 +212,37 @@ of_client from host w payload e = ap (λ (role : Role). record {
   payload = payload;
 }) (sym e)
 
-module _ (c : HostParts) (kept : IsKept c) (from : HostId) (known : from.0 < c.control.settings.hosts) (other : from ≡ c.control.id → ⊥) (packet : WirePacket) (payload : List ℕ) (role : packet.role ≡ Client) (life : 1 ≤ packet.inc)
-    (now : ℕ) (now_is : now ≡ c.control.last) (most : leased_pages c.pool.leases ≤ c.pool.pages) (servers : Servers) (pool : Pool) (told : List ℕ) (allowed : List ℕ → List ℕ → ℕ → Type 0) (d : ServerDid)
-    (received : Served c.servers c.pool (packet_between from c.servers.host packet payload) now c.order servers pool told allowed d) (rows_placed : ArePlaced servers.settings.served servers.rows) where
+-- a packet of a client came to a host, whose table took it up
+pub record HasReceived (c : HostParts) (from : HostId) (packet : WirePacket) (payload : List ℕ) (now : ℕ) (servers : Servers) (pool : Pool) (told : List ℕ) (allowed : List ℕ → List ℕ → ℕ → Type 0) (d : ServerDid) : Type 0 where
+  pub known : from.0 < c.control.settings.hosts
+  pub other : from ≡ c.control.id → ⊥
+  pub role : packet.role ≡ Client
+  pub life : 1 ≤ packet.inc
+  pub now_is : now ≡ c.control.last
+  pub most : leased_pages c.pool.leases ≤ c.pool.pages
+  pub received : Served c.servers c.pool (packet_between from c.servers.host packet payload) now c.order servers pool told allowed d
+  pub placed : ArePlaced servers.settings.served servers.rows
+
+module _ (c : HostParts) (kept : IsKept c) {from : HostId} {packet : WirePacket} {payload : List ℕ} {now : ℕ} {servers : Servers} {pool : Pool} {told : List ℕ} {allowed : List ℕ → List ℕ → ℕ → Type 0} {d : ServerDid}
+    (taken : HasReceived c from packet payload now servers pool told allowed d) where
   abbrev pub p : Packet
   p = from_client from c.control.id packet payload
 
   pub is_p : p ≡ packet_between from c.control.id packet payload
-  is_p = of_client from c.control.id packet payload role
+  is_p = of_client from c.control.id packet payload taken.role
 
   pub got : Served c.servers c.pool p now c.order servers pool told allowed d
   got =
       subst (λ (q : Packet). Served c.servers c.pool q now c.order servers pool told allowed d) (sym is_p)
-      (subst (λ (h : HostId). Served c.servers c.pool (packet_between from h packet payload) now c.order servers pool told allowed d) kept.one.server received)
+      (subst (λ (h : HostId). Served c.servers c.pool (packet_between from h packet payload) now c.order servers pool told allowed d) kept.one.server taken.received)
 
   abbrev pub row_now : Option ServerRow
   row_now = server_at pool servers.rows p.id
 
-  -- the pages that all other messages leave free
+  -- the pages that all taken.other messages leave free
   free_is : free_pages c.pool + pages_of (request_at c.servers.rows p.id) ≡ free_beside c.control.settings (host_of c) p.id
   free_is =
+      let most = taken.most in
       let leased = kept.leased in
       let pages = kept.pages in
       let mine : server_pages (get (seen_servers c.pool c.servers.rows) p.id) ≡ pages_of (request_at c.servers.rows p.id) =
@@ -240,7 +252,7 @@ module _ (c : HostParts) (kept : IsKept c) (from : HostId) (known : from.0 < c.c
       omega arith where
         none_of : (o : Option ClientRow) → get (host_of c).clients p.id ≡ o → client_pages o ≡ 0
         none_of None e = refl
-        none_of (Some r) e = absurd (other (kept.known.own p.id r e).0)
+        none_of (Some r) e = absurd (taken.other (kept.known.own p.id r e).0)
 
   -- what the plain rule does
   abbrev pub gets : Answer → Work → Did ServerRow
@@ -255,7 +267,7 @@ module _ (c : HostParts) (kept : IsKept c) (from : HostId) (known : from.0 < c.c
       let piece = piece_in p.body p.payload in
       let m : moment_with c.servers.host now c.order (free_pages c.pool + pages_of (request_at c.servers.rows p.id)) (len c.servers.rows) ≡ moment s p.id w = λ i. record {
         host = (kept.one.server ∙ ap (λ (h : Host). h.id) same) i;
-        now = (now_is ∙ ap (λ (h : Host). h.last) same) i;
+        now = (taken.now_is ∙ ap (λ (h : Host). h.last) same) i;
         order = ap (λ (h : Host). h.order) same i;
         free = (free_is ∙ ap (λ (h : Host). free_beside s h p.id) same) i;
         rows = (sym (len-mapped (λ (x : Placed HeldServer). seen_server c.pool x.row) c.servers.rows) ∙ ap (λ (h : Host). len h.servers) same) i;
@@ -285,8 +297,8 @@ module _ (c : HostParts) (kept : IsKept c) (from : HostId) (known : from.0 < c.c
 
   pub gets_known : IfSome row_now (KnowsClient c.control.settings.hosts p.id)
   gets_known = subst (λ (o : Option ServerRow). IfSome o (KnowsClient c.control.settings.hosts p.id)) (gets_row answer replies (silent c) refl)
-      (known_row c.control.settings.hosts p.id known life (gets answer (silent c)).row
-      (server_gets-known c.control.settings.hosts p.id known c.control.settings (moment c.control.settings p.id (silent c)) p answer (get (host_of c).servers p.id) refl (old_known (get (host_of c).servers p.id) refl))) where
+      (known_row c.control.settings.hosts p.id taken.known taken.life (gets answer (silent c)).row
+      (server_gets-known c.control.settings.hosts p.id taken.known c.control.settings (moment c.control.settings p.id (silent c)) p answer (get (host_of c).servers p.id) refl (old_known (get (host_of c).servers p.id) refl))) where
         old_known : (o : Option ServerRow) → get (host_of c).servers p.id ≡ o → IfSome o (λ row. KnowsSender c.control.settings.hosts row.state)
         old_known None e = tt
         old_known (Some row) e = (kept.known.servers p.id row e).sender
@@ -298,7 +310,7 @@ module _ (c : HostParts) (kept : IsKept c) (from : HostId) (known : from.0 < c.c
   gets_room = subst (λ (s : Settings). HaveRoom s c.books) (sym settings_now) kept.room
 
   placed : ArePlaced c.control.settings.served servers.rows
-  placed = placed_in c kept p.id servers pool row_now got.moved rows_placed
+  placed = placed_in c kept p.id servers pool row_now got.moved taken.placed
 
   -- where the answer names a slot, the row stands there
   module _ (slot : ℕ) (e : slot_in d ≡ Some slot) where
@@ -354,7 +366,7 @@ module _ (c : HostParts) (kept : IsKept c) (from : HostId) (known : from.0 < c.c
         let did : Did ServerRow = gets answer (silent c) in
         let count : did.order ≡ order = gets_order answer replies (silent c) refl ∙ sym order_is in
         let all = served_kept c kept p.id slot servers pool row_now got.moved before after placed did row_is control (stood did.order) sound same (subst (λ n. control.tuning.opened ≤ n) (sym count) opened)
-        (subst (λ (o : Option ServerRow). IfSome o (KnowsClient c.control.settings.hosts p.id)) (sym row_is) gets_known) other gets_own in
+        (subst (λ (o : Option ServerRow). IfSome o (KnowsClient c.control.settings.hosts p.id)) (sym row_is) gets_known) taken.other gets_own in
         subst (λ (q : HostParts). IsKept q) (λ i. record { control = control; clients = c.clients; servers = servers; pool = pool; books = (sym b) i; order = count i }) all
 
     clients_there : seen_rows pool c.clients.rows ≡ seen_rows c.pool c.clients.rows
@@ -428,6 +440,28 @@ module _ (c : HostParts) (kept : IsKept c) (from : HostId) (known : from.0 < c.c
         (refilled_is ∙ ap (λ (h : Host). h.refilled) amid.host ∙ sym aside.refilled)
         (clients_are ∙ ap (λ (h : Host). h.clients) amid.host ∙ sym (served-clients s p.id did w))
         (got.moved.rows ∙ ap (λ (h : Host). set_row h.servers p.id row_now) amid.host ∙ ap (set_row w.host.servers p.id) (sym (gets_row a reply w amid.host)) ∙ sym (served-servers s p.id did w))
+
+-- a host heard a packet of a client, which its table had taken up
+pub record HasTaken (host : HostParts) (from : HostId) (packet : WirePacket) (payload : List ℕ) (now : ℕ) (control : Control) (servers : Servers) (pool : Pool) (told : List ℕ) (allows : ℕ → List ℕ → List ℕ → ℕ → Type 0) (d : ServerDid) : Type 0 where
+  pub heard : HasHeard host now from packet.sender packet.body control
+  pub taken : HasReceived (record host { control = control }) from packet payload now servers pool told (allows (service_in (piece_in packet.body payload))) d
+
+pub taken_by : (host : HostParts) (from : HostId) (packet : WirePacket) (payload : List ℕ) (now : ℕ) (control : Control) (servers : Servers) (pool : Pool) (told : List ℕ) (allows : ℕ → List ℕ → List ℕ → ℕ → Type 0) (d : ServerDid)
+    → HasHeard host now from packet.sender packet.body control → from.0 < host.control.settings.hosts → (from ≡ host.control.id → ⊥) → packet.role ≡ Client → 1 ≤ packet.inc → leased_pages host.pool.leases ≤ host.pool.pages
+    → Served host.servers host.pool (packet_between from host.servers.host packet payload) now host.order servers pool told (allows (service_in (piece_in packet.body payload))) d → ArePlaced servers.settings.served servers.rows → HasTaken host from packet payload now control servers pool told allows d
+taken_by host from packet payload now control servers pool told allows d heard known other role life most received placed = record {
+  heard = heard;
+  taken = record {
+    known = subst (λ (s : Settings). from.0 < s.hosts) (sym heard.on.settings) known;
+    other = λ e. other (e ∙ heard.on.id);
+    role = role;
+    life = life;
+    now_is = sym heard.last;
+    most = most;
+    received = received;
+    placed = placed;
+  };
+}
 
 -- ---- where the service found no memory
 

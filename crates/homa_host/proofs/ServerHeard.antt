@@ -11,30 +11,33 @@ use Rattle.homa_host.specs.Amid.{Amid}
 use Rattle.homa_host.specs.declared.parts.HostParts.{HostParts}
 use Rattle.homa_host.proofs.Begun.{GoesOn, kept-control, amid-begun, at-amid, amid-heard}
 
-module _ (host : HostParts) (kept : IsKept host) (now : ℕ) (later : host.control.last ≤ now) (first heard : Control) (begins : first ≡ record host.control { last = now; marks = [] }) (hears : heard ≡ record first { peers = heard.peers })
-    (sound : IsSound heard) where
-  abbrev pub at : HostParts
-  at = record host { control = heard }
+-- a host began a step in tick `now`, and heard what a peer tells
+pub record HasHeard (host : HostParts) (now : ℕ) (peer : HostId) (inc : ℕ) (what : Body) (control : Control) : Type 0 where
+  pub on : GoesOn host.control control
+  pub last : control.last ≡ now
+  pub marks : control.marks ≡ []
+  pub kept : IsKept (record host { control = control })
+  pub amid : Amid (hears_cutoffs host.control.settings peer inc what (begun (host_of host) now)) (record host { control = control }) []
 
-  pub same_last : now ≡ heard.last
-  same_last = sym (ap (λ (c : Control). c.last) hears ∙ ap (λ (c : Control). c.last) begins)
-
-  pub on : GoesOn host.control heard
-  on = record {
-    settings = ap (λ (c : Control). c.settings) hears ∙ ap (λ (c : Control). c.settings) begins;
-    id = ap (λ (c : Control). c.id) hears ∙ ap (λ (c : Control). c.id) begins;
-    inc = ap (λ (c : Control). c.inc) hears ∙ ap (λ (c : Control). c.inc) begins;
-    last = subst (λ n. host.control.last ≤ n) same_last later;
-    opened = ap (λ (c : Control). c.tuning.opened) hears ∙ ap (λ (c : Control). c.tuning.opened) begins;
-  }
-
-  pub kept_at : IsKept at
-  kept_at = kept-control host heard on sound kept
-
-  pub amid_at : (from : HostId) (inc : ℕ) (what : Body) → ((w : Work) (frames : List SentFrame) → IsAt w first frames → IsAt (hears_cutoffs first.settings from inc what w) heard frames)
-      → Amid (hears_cutoffs host.control.settings from inc what (begun (host_of host) now)) at []
-  amid_at from inc what step =
-      let start : Amid (begun (host_of host) now) (record host { control = first }) [] = amid-begun host first now begins in
-      let heard_at : IsAt (hears_cutoffs host.control.settings from inc what (begun (host_of host) now)) heard [] =
-      subst (λ (s : Settings). IsAt (hears_cutoffs s from inc what (begun (host_of host) now)) heard []) (ap (λ (c : Control). c.settings) begins) (step (begun (host_of host) now) [] (at-amid (begun (host_of host) now) (record host { control = first }) [] start)) in
-      amid-heard host.control.settings from inc what (begun (host_of host) now) (record host { control = first }) heard [] heard_at start
+pub heard_by : (host : HostParts) → IsKept host → (now : ℕ) → host.control.last ≤ now → (peer : HostId) (inc : ℕ) (what : Body) (first heard : Control) → first ≡ record host.control { last = now; marks = [] } → heard ≡ record first { peers = heard.peers } → IsSound heard
+    → ((w : Work) (frames : List SentFrame) → IsAt w first frames → IsAt (hears_cutoffs first.settings peer inc what w) heard frames) → HasHeard host now peer inc what heard
+heard_by host kept now later peer inc what first heard begins hears sound step =
+    let is : heard ≡ record host.control { last = now; marks = []; peers = heard.peers } = hears ∙ ap (λ (k : Control). record k { peers = heard.peers }) begins in
+    let last : heard.last ≡ now = ap (λ (k : Control). k.last) is in
+    let on : GoesOn host.control heard = record {
+      settings = ap (λ (k : Control). k.settings) is;
+      id = ap (λ (k : Control). k.id) is;
+      inc = ap (λ (k : Control). k.inc) is;
+      last = subst (λ n. host.control.last ≤ n) (sym last) later;
+      opened = ap (λ (k : Control). k.tuning.opened) is;
+    } in
+    let start : Amid (begun (host_of host) now) (record host { control = first }) [] = amid-begun host first now begins in
+    let at : IsAt (hears_cutoffs host.control.settings peer inc what (begun (host_of host) now)) heard [] =
+    subst (λ (s : Settings). IsAt (hears_cutoffs s peer inc what (begun (host_of host) now)) heard []) (ap (λ (k : Control). k.settings) begins) (step (begun (host_of host) now) [] (at-amid (begun (host_of host) now) (record host { control = first }) [] start)) in
+    record {
+      on = on;
+      last = last;
+      marks = ap (λ (k : Control). k.marks) is;
+      kept = kept-control host heard on sound kept;
+      amid = amid-heard host.control.settings peer inc what (begun (host_of host) now) (record host { control = first }) heard [] at start;
+    }

@@ -2,7 +2,7 @@
 use Rattle.std.proofs.Common.{◌≡◌, ◌<◌, ◌≤◌, ℕ, ◌+◌, ◌-◌, Bool, true, false, cond, Option, Some, None, List, [], length, refl, sym, ap, subst, ◌∙◌, arith}
 use Rattle.std.specs.Prelude.{nat_lt}
 use Rattle.std.specs.List.{Contains}
-use Rattle.std.specs.Option.{option_map, MatchOption}
+use Rattle.std.specs.Option.{option_map, option_and_then, MatchOption}
 use Rattle.std.proofs.lemmas.Bool.{true≢false}
 use Rattle.plain_sets.specs.Maps.{get, insert}
 use Rattle.plain_sets.specs.Ordered.{ordered, first_of}
@@ -12,7 +12,8 @@ use Rattle.homa_plain.specs.declared.settings.Settings.{Settings}
 use Rattle.homa_plain.specs.declared.row.Emitted.{Emitted}
 use Rattle.homa_plain.specs.declared.row.Emitted.TheVariants.{Sent, Short, Rests}
 use Rattle.homa_plain.specs.Host.{Host, peer_cutoffs}
-use Rattle.homa_plain.specs.Outgoing.{Outgoing, has_waiting, next_range, IsSound, IsFront, IsIdle}
+use Rattle.homa_plain.specs.Outgoing as outgoing
+use Rattle.homa_plain.specs.Outgoing.{Outgoing, has_waiting, next_range, IsFront, IsIdle}
 use Rattle.homa_plain.proofs.OutgoingLaws.{front-next_range, idle-waiting}
 use Rattle.homa_plain.specs.Rows.{ServerRow, State, Receiving, Held, Replying, Buried}
 use Rattle.homa_plain.specs.Sending.{Leaving, departures, response_content}
@@ -22,20 +23,19 @@ use Rattle.msg_pool.specs.Pool.{Pool}
 use Rattle.homa_steps.specs.StepLaws.{HasOwnOrders}
 use Rattle.homa_steps.proofs.OwnOrders.{server_leaves-own}
 use Rattle.homa_parts.specs.Sends.{emits}
-use Rattle.homa_places.specs.Placed.{StandsAt}
+use Rattle.homa_parts.specs.Pooled.{AreIn}
+use Rattle.homa_places.specs.Placed.{Placed, StandsAt}
 use Rattle.homa_server.specs.Held as held
 use Rattle.homa_server.specs.Held.{HeldServer, HeldState, Arriving, Keeping, Answering, Gone, seen_server, seen_state, state_response}
-use Rattle.homa_server.specs.Table.{Servers, ServerMoved}
+use Rattle.homa_server.specs.Table.{Servers, ServerMoved, request_at}
 use Rattle.homa_server.specs.Answers.{state_emits, server_sends}
-use Rattle.homa_control.specs.Control.{Control, IsAt}
+use Rattle.homa_control.specs.Control.{Control, IsSound, IsAt}
 use Rattle.homa_seen.specs.declared.outbox.SentFrame.{SentFrame}
 use Rattle.homa_seen.specs.Seen.{ready_of, waiting}
 use Rattle.homa_pacer.specs.Pace as pace
 use Rattle.homa_books.specs.declared.books.Books.{Books}
-use Rattle.homa_books.specs.declared.books.Waiting.{Waiting}
 use Rattle.homa_books.specs.Duties.{ready_in}
 use Rattle.host_books.specs.Duty.{server_duty, followed}
-use Rattle.host_books.proofs.Follows.{IsFew}
 use Rattle.host_books.proofs.PumpOnce.{picked, idle_ready, sends_next, server_departs, server_waits, server_rests, RestsIn, server_sends_next, server_short, some_next, shorter, booked_length}
 use Rattle.host_laws.specs.Peers.{KnowsClient}
 use Rattle.host_laws.proofs.Known.{state_sends-known}
@@ -45,9 +45,12 @@ use Rattle.homa_host.specs.Amid.{WasSent, WasIdle, WasShort}
 use Rattle.homa_host.proofs.Begun.{at-amid, amid-at, rest-amid}
 use Rattle.homa_host.proofs.SlotRows.{server_row, server_standing, kept_slots}
 use Rattle.homa_host.proofs.ClientKept.{own_like}
-use Rattle.homa_host.proofs.ClientStays.{spends, kept_spent}
-use Rattle.homa_host.proofs.Emits.{picked_in}
-use Rattle.homa_host.proofs.ServerStays.{knows, host_put, kept_same, amid_same}
+use Rattle.homa_host.specs.ServerFollow.{FollowedServer}
+use Rattle.homa_host.specs.declared.outcome.Change.TheVariants.{Stays}
+use Rattle.homa_host.proofs.CanFollow.{CanFollowServer}
+use Rattle.homa_host.proofs.ClientStays.{Beside, spends, kept_spent}
+use Rattle.homa_host.proofs.Emits.{few_ready, picked_in}
+use Rattle.homa_host.proofs.ServerStays.{knows, all_inside, host_put, kept_same, amid_same, stands_after, can_follow, followed_by, kept_stays}
 
 -- ---- what a row emits
 
@@ -81,18 +84,34 @@ server_view_of s pool credit (Answering response out order base count) some k = 
   by_next None n = some_next out s.seg some k.sound n
   by_next (Some rg) n = by_cost rg (nat_lt credit (rg.to - rg.from)) n refl
 
-pub server_view_by : (h : HostParts) (r : HeldServer) (s : Settings) (credit : ℕ) (result e : Emitted) → s ≡ h.control.settings → credit ≡ h.books.pacer.credit → result ≡ e → result ≡ state_emits s credit (seen_server h.pool r).state
-    → 0 < h.control.settings.seg → held.IsKept r.state → IsServerView h.control.settings h.pool h.books.pacer.credit r.state e
-server_view_by h r s credit result e es ec ee is some k =
-    subst (IsServerView h.control.settings h.pool h.books.pacer.credit r.state) (sym (λ i. state_emits (es i) (ec i) (seen_server h.pool r).state) ∙ sym is ∙ ee)
-    (server_view_of h.control.settings h.pool h.books.pacer.credit r.state some k)
+-- the row at a place, when it is to be sent next
+pub record IsNext (c : HostParts) (place : ℕ) : Type 0 where
+  pub id : CallId
+  pub row : HeldServer
+  pub stands : StandsAt c.servers.rows id place row
+  pub sound : held.IsKept row.state
+  pub first : option_map (λ (r : pace.Ready). r.slot) (first_of (ordered pace.ready_key c.books.pacer.ready)) ≡ Some (c.control.settings.calls + place)
 
-pub server_moved_of : (h : HostParts) (id : CallId) (r : HeldServer) (servers : Servers) (s : Settings) (now : ℕ) (result e : Emitted) → s ≡ h.control.settings → now ≡ h.control.last → result ≡ e
-    → ServerMoved id h.servers h.pool servers h.pool (Some (server_sends s now (seen_server h.pool r) result)) → ServerMoved id h.servers h.pool servers h.pool (Some (server_sends h.control.settings h.control.last (seen_server h.pool r) e))
-server_moved_of h id r servers s now result e es en ee = subst (λ (row : ServerRow). ServerMoved id h.servers h.pool servers h.pool (Some row)) (λ i. server_sends (es i) (en i) (seen_server h.pool r) (ee i))
+-- what was emitted from it, and the table afterwards
+pub record HasEmitted (c : HostParts) (place : ℕ) (n : IsNext c place) (servers : Servers) (e : Emitted) : Type 0 where
+  pub view : IsServerView c.control.settings c.pool c.books.pacer.credit n.row.state e
+  pub moved : ServerMoved n.id c.servers c.pool servers c.pool (Some (server_sends c.control.settings c.control.last (seen_server c.pool n.row) e))
+
+-- by the settings of the table, and the clock and the credit that it was told
+pub emitted_at : (c : HostParts) (kept : IsKept c) (place : ℕ) (n : IsNext c place) (servers : Servers) (now credit : ℕ) (result e : Emitted) → now ≡ c.control.last → credit ≡ c.books.pacer.credit → result ≡ e
+    → (AreIn c.pool (request_at c.servers.rows) → ServerMoved n.id c.servers c.pool servers c.pool (Some (server_sends c.servers.settings now (seen_server c.pool n.row) result)))
+    → result ≡ state_emits c.servers.settings credit (seen_server c.pool n.row).state → HasEmitted c place n servers e
+emitted_at c kept place n servers now credit result e en ec ee moved is =
+    let es = kept.one.server_settings in
+    record {
+      view = subst (IsServerView c.control.settings c.pool c.books.pacer.credit n.row.state) (sym (λ i. state_emits (es i) (ec i) (seen_server c.pool n.row).state) ∙ sym is ∙ ee)
+          (server_view_of c.control.settings c.pool c.books.pacer.credit n.row.state kept.control.valid.in_range.2.0 n.sound);
+      moved = subst (λ (row : ServerRow). ServerMoved n.id c.servers c.pool servers c.pool (Some row)) (λ i. server_sends (es i) (en i) (seen_server c.pool n.row) (ee i))
+          (moved (all_inside c kept n.id place n.row n.stands));
+    }
 
 -- where there are next bytes some wait
-some_waits : (out : Outgoing) (seg : ℕ) (rg : Range) → 0 < seg → IsSound out → next_range out seg ≡ Some rg → has_waiting out ≡ true
+some_waits : (out : Outgoing) (seg : ℕ) (rg : Range) → 0 < seg → outgoing.IsSound out → next_range out seg ≡ Some rg → has_waiting out ≡ true
 some_waits out seg rg some sound e = by_waiting (has_waiting out) refl where
   front : IsFront out seg rg
   front = subst (λ (o : Option Range). MatchOption o (IsIdle out) (IsFront out seg)) e (front-next_range out seg some sound)
@@ -114,146 +133,159 @@ held_response pool (Keeping response release) = refl
 held_response pool (Answering response out order base count) = refl
 held_response pool (Gone until) = refl
 
-few_ready : (slot : ℕ) (o : Option Waiting) → IsFew (ready_in slot o)
-few_ready slot None = tt
-few_ready slot (Some w) = tt
-
-module _ (c : HostParts) (kept : IsKept c) (id : CallId) (place : ℕ) (r : HeldServer) (stands : StandsAt c.servers.rows id place r) (sound : held.IsKept r.state)
-    (first : option_map (λ (r : pace.Ready). r.slot) (first_of (ordered pace.ready_key c.books.pacer.ready)) ≡ Some (c.control.settings.calls + place)) where
+module _ (c : HostParts) (kept : IsKept c) (place : ℕ) (n : IsNext c place) where
   abbrev row : ServerRow
-  row = seen_server c.pool r
+  row = seen_server c.pool n.row
 
   abbrev slot : ℕ
   slot = c.control.settings.calls + place
 
-  is_row : get (host_of c).servers id ≡ Some row
-  is_row = server_row c id place r stands
+  is_row : get (host_of c).servers n.id ≡ Some row
+  is_row = server_row c n.id place n.row n.stands
 
   some_seg : 0 < c.control.settings.seg
   some_seg = kept.control.valid.in_range.2.0
 
-  is_picked : (l : Leaving) × (first_of (ordered pace.ready_key c.books.pacer.ready) ≡ Some (ready_of (seen_of c) l)) × (l.place ≡ OfServer id) × Contains (waiting (host_of c)) l
-  is_picked = let at = server_standing c id place r stands in picked (seen_of c) (kept_slots c kept) (OfServer id) slot at.0 at.1 c.books.pacer.ready kept.booked.ready first
+  is_picked : (l : Leaving) × (first_of (ordered pace.ready_key c.books.pacer.ready) ≡ Some (ready_of (seen_of c) l)) × (l.place ≡ OfServer n.id) × Contains (waiting (host_of c)) l
+  is_picked = let at = server_standing c n.id place n.row n.stands in picked (seen_of c) (kept_slots c kept) (OfServer n.id) slot at.0 at.1 c.books.pacer.ready kept.booked.ready n.first
 
   -- ---- of a response that goes out
 
-  module _ (a : IsAnswering r.state) where
+  module _ (a : IsAnswering n.row.state) where
     replies : row.state ≡ Replying a.response a.out a.order a.base a.count
     replies = ap (seen_state c.pool) a.is
 
     replied : held.IsReplied a.response a.out a.base
-    replied = subst held.IsKept a.is sound
+    replied = subst held.IsKept a.is n.sound
 
     -- where bytes wait it is sent next
-    next_here : (rg : Range) → next_range a.out c.control.settings.seg ≡ Some rg → (w : Work) → w.host ≡ host_of c → pumped_once c.control.settings w ≡ leaves_from c.control.settings (OfServer id) w
+    next_here : (rg : Range) → next_range a.out c.control.settings.seg ≡ Some rg → (w : Work) → w.host ≡ host_of c → pumped_once c.control.settings w ≡ leaves_from c.control.settings (OfServer n.id) w
     next_here rg next w same =
-        let at = server_standing c id place r stands in
+        let at = server_standing c n.id place n.row n.stands in
         let l = is_picked in
-        let is = server_waits (seen_of c) id row is_row a.response a.out a.order a.base a.count replies l.0 l.3 l.2 in
-        sends_next (seen_of c) (kept_slots c kept) (OfServer id) slot at.0 at.1 c.books.pacer.ready w l.0 kept.own kept.booked.ready l.1 l.2
+        let is = server_waits (seen_of c) n.id row is_row a.response a.out a.order a.base a.count replies l.0 l.3 l.2 in
+        sends_next (seen_of c) (kept_slots c kept) (OfServer n.id) slot at.0 at.1 c.books.pacer.ready w l.0 kept.own kept.booked.ready l.1 l.2
         (subst (Contains (departures c.control.settings c.control.last (host_of c))) (sym is)
-        (server_departs (seen_of c) id row is_row a.response a.out a.order a.base a.count replies (some_waits a.out c.control.settings.seg rg some_seg replied.sound next))) same
+        (server_departs (seen_of c) n.id row is_row a.response a.out a.order a.base a.count replies (some_waits a.out c.control.settings.seg rg some_seg replied.sound next))) same
 
   -- ---- nothing is sent
 
-  module _ (servers : Servers) (moved : ServerMoved id c.servers c.pool servers c.pool (Some row)) where
-    -- it rests
-    module _ (view : IsServerView c.control.settings c.pool c.books.pacer.credit r.state Rests) where
-      abbrev rested : Books
-      rested = record c.books { pacer = record c.books.pacer { ready = pace.without slot c.books.pacer.ready } }
+  -- it rests
+  module _ (servers : Servers) (x : HasEmitted c place n servers Rests) (pacer : pace.Pace) (idle : pacer ≡ record c.books.pacer { ready = pace.without slot c.books.pacer.ready }) where
+    abbrev rested : Books
+    rested = record c.books { pacer = record c.books.pacer { ready = pace.without slot c.books.pacer.ready } }
 
-      pub rests_kept : IsKept (record { control = c.control; clients = c.clients; servers = servers; pool = c.pool; books = rested; order = c.order })
-      rests_kept =
-          let at = server_standing c id place r stands in
-          kept_same c kept id place r stands servers moved rested refl refl
-          (record { timers = kept.room.timers; grants = kept.room.grants; hosts = kept.room.hosts; most = kept.room.most; pacer = kept.room.pacer; rate = kept.room.rate })
-          (record {
-            armed = kept.booked.armed;
-            entered = kept.booked.entered;
-            ready = idle_ready (seen_of c) (kept_slots c kept) (OfServer id) slot at.0 at.1 c.books.pacer.ready kept.booked.ready (server_rests (seen_of c) id row is_row view);
-          })
+    abbrev parts : Books → HostParts
+    parts books = record { control = c.control; clients = c.clients; servers = servers; pool = c.pool; books = books; order = c.order }
 
-      pub rests_idle : (out : List SentFrame) → WasIdle c out (record { control = c.control; clients = c.clients; servers = servers; pool = c.pool; books = rested; order = c.order }) out
-      rests_idle out =
-          let y = picked_in c.books.pacer.ready slot first in
-          record {
-            step = λ w amid. amid_same c kept id place r stands servers moved rested refl refl w out amid;
-            frames = refl;
-            control = refl;
-            fewer = shorter pace.ready_key (λ (x : pace.Ready). x.slot) slot c.books.pacer.ready y.0 y.1 y.2;
-          }
+    pub rests_kept : IsKept (parts (record c.books { pacer = pacer }))
+    rests_kept =
+        let at = server_standing c n.id place n.row n.stands in
+        subst (λ (p : pace.Pace). IsKept (parts (record c.books { pacer = p }))) (sym idle)
+        (kept_same c kept n.id place n.row n.stands servers x.moved rested refl refl
+        (record { timers = kept.room.timers; grants = kept.room.grants; hosts = kept.room.hosts; most = kept.room.most; pacer = kept.room.pacer; rate = kept.room.rate })
+        (record {
+          armed = kept.booked.armed;
+          entered = kept.booked.entered;
+          ready = idle_ready (seen_of c) (kept_slots c kept) (OfServer n.id) slot at.0 at.1 c.books.pacer.ready kept.booked.ready (server_rests (seen_of c) n.id row is_row x.view);
+        }))
 
-    -- its next piece costs too much
+    pub rests_idle : (out : List SentFrame) → WasIdle c out (parts (record c.books { pacer = pacer })) out
+    rests_idle out =
+        let y = picked_in c.books.pacer.ready slot n.first in
+        subst (λ (p : pace.Pace). WasIdle c out (parts (record c.books { pacer = p })) out) (sym idle) (record {
+          step = λ w amid. amid_same c kept n.id place n.row n.stands servers x.moved rested refl refl w out amid;
+          frames = refl;
+          control = refl;
+          fewer = shorter pace.ready_key (λ (x : pace.Ready). x.slot) slot c.books.pacer.ready y.0 y.1 y.2;
+        })
+
+  -- its next piece costs too much
+  module _ (servers : Servers) (x : HasEmitted c place n servers Short) where
     pub short_kept : IsKept (record { control = c.control; clients = c.clients; servers = servers; pool = c.pool; books = c.books; order = c.order })
-    short_kept = kept_same c kept id place r stands servers moved c.books refl refl kept.room kept.booked
+    short_kept = kept_same c kept n.id place n.row n.stands servers x.moved c.books refl refl kept.room kept.booked
 
-    pub short_ends : (out : List SentFrame) → IsServerView c.control.settings c.pool c.books.pacer.credit r.state Short → WasShort c out (record { control = c.control; clients = c.clients; servers = servers; pool = c.pool; books = c.books; order = c.order }) out
-    short_ends out view = record {
-      step = λ w amid. let a = view.0 in next_here a view.1 view.2 w (sym amid.host) ∙ server_short (seen_of c) id row is_row a.response a.out a.order a.base a.count (replies a) w view.1 (sym amid.host) view.2 view.3;
-      same = λ w amid. amid_same c kept id place r stands servers moved c.books refl refl w out amid;
+    pub short_ends : (out : List SentFrame) → WasShort c out (record { control = c.control; clients = c.clients; servers = servers; pool = c.pool; books = c.books; order = c.order }) out
+    short_ends out = record {
+      step = λ w amid. let a = x.view.0 in next_here a x.view.1 x.view.2 w (sym amid.host) ∙ server_short (seen_of c) n.id row is_row a.response a.out a.order a.base a.count (replies a) w x.view.1 (sym amid.host) x.view.2 x.view.3;
+      same = λ w amid. amid_same c kept n.id place n.row n.stands servers x.moved c.books refl refl w out amid;
     }
 
   -- ---- a piece is sent
 
-  module _ (from to : ℕ) (servers : Servers) (moved : ServerMoved id c.servers c.pool servers c.pool (Some (server_sends c.control.settings c.control.last row (Sent from to)))) where
-    abbrev pub sent_row : ServerRow
+  module _ (from to : ℕ) (servers : Servers) (x : HasEmitted c place n servers (Sent from to)) where
+    abbrev sent_row : ServerRow
     sent_row = server_sends c.control.settings c.control.last row (Sent from to)
 
-    pub sent_known : KnowsClient c.control.settings.hosts id sent_row
-    sent_known = let k = knows c kept id place r stands in record { client = k.client; life = k.life; sender = state_sends-known c.control.settings.hosts c.control.settings c.control.last row.state k.sender }
+    sent_known : KnowsClient c.control.settings.hosts n.id sent_row
+    sent_known = let k = knows c kept n.id place n.row n.stands in record { client = k.client; life = k.life; sender = state_sends-known c.control.settings.hosts c.control.settings c.control.last row.state k.sender }
+
+    abbrev a : IsAnswering n.row.state
+    a = x.view.0
 
     -- the response stays
-    pub response_there : (a : IsAnswering r.state) (x : HeldServer) → seen_server c.pool x ≡ sent_row → state_response x.state ≡ Some a.response
-    response_there a x is =
-        held_response c.pool x.state ∙ ap (λ (q : ServerRow). plain_response q.state) is ∙ ap (λ (st : State). plain_response (server_sends c.control.settings c.control.last (record { order = r.order; state = st }) (Sent from to)).state) (replies a)
+    pub response_there : option_and_then (λ (y : Placed HeldServer). state_response y.row.state) (get servers.rows n.id) ≡ Some a.response
+    response_there =
+        let y = stands_after c kept n.id place n.row n.stands servers sent_row x.moved in
+        ap (option_and_then (λ (y : Placed HeldServer). state_response y.row.state)) y.1
+        ∙ held_response c.pool y.0.state ∙ ap (λ (q : ServerRow). plain_response q.state) y.2
+        ∙ ap (λ (st : State). plain_response (server_sends c.control.settings c.control.last (record { order = n.row.order; state = st }) (Sent from to)).state) (replies a)
 
-    module _ (view : IsServerView c.control.settings c.pool c.books.pacer.credit r.state (Sent from to)) where
-      abbrev a : IsAnswering r.state
-      a = view.0
+    abbrev content : Work → Work
+    content w = response_leaves c.control.settings n.id row (response_content c.control.settings (peer_cutoffs c.control.settings w.host n.id.client).cutoffs a.response a.out (range from to)) (range from to) w
 
-      abbrev content : Work → Work
-      content w = response_leaves c.control.settings id row (response_content c.control.settings (peer_cutoffs c.control.settings w.host id.client).cutoffs a.response a.out (range from to)) (range from to) w
+    leaves_here : (w : Work) → w.host ≡ host_of c → leaves_from c.control.settings (OfServer n.id) w ≡ Some (content w)
+    leaves_here w same = server_sends_next (seen_of c) n.id row is_row a.response a.out a.order a.base a.count (replies a) w (range from to) same x.view.1 x.view.2
 
-      leaves_here : (w : Work) → w.host ≡ host_of c → leaves_from c.control.settings (OfServer id) w ≡ Some (content w)
-      leaves_here w same = server_sends_next (seen_of c) id row is_row a.response a.out a.order a.base a.count (replies a) w (range from to) same view.1 view.2
+    abbrev paid : HostParts
+    paid = record c { books = spends (to - from) c.books }
 
-      abbrev pub paid : HostParts
-      paid = record c { books = spends (to - from) c.books }
+    paid_kept : IsKept paid
+    paid_kept = kept_spent c (to - from) kept
 
-      pub paid_kept : IsKept paid
-      paid_kept = kept_spent c (to - from) kept
+    sent_own : HasOwnOrders (host_put paid paid_kept n.id place n.row n.stands servers sent_row x.moved)
+    sent_own =
+        let w : Work = record { host = host_of c; told = [] } in
+        let v : Work = content w in
+        own_like v.host (host_put paid paid_kept n.id place n.row n.stands servers sent_row x.moved) refl refl (sym x.moved.rows)
+        (server_leaves-own c.control.settings n.id (Some row) w v is_row (subst (λ (o : Option ServerRow). server_leaves c.control.settings n.id o w ≡ Some v) is_row (leaves_here w refl)) kept.own)
 
-      pub sent_own : HasOwnOrders (host_put paid paid_kept id place r stands servers sent_row moved)
-      sent_own =
-          let w : Work = record { host = host_of c; told = [] } in
-          let v : Work = content w in
-          own_like v.host (host_put paid paid_kept id place r stands servers sent_row moved) refl refl (sym moved.rows)
-          (server_leaves-own c.control.settings id (Some row) w v is_row (subst (λ (o : Option ServerRow). server_leaves c.control.settings id o w ≡ Some v) is_row (leaves_here w refl)) kept.own)
+    -- with its bytes paid for, the books can follow
+    module _ (calls : ℕ) (pacer : pace.Pace) (calls_are : calls ≡ c.control.settings.calls) (spent : pacer ≡ record c.books.pacer { credit = c.books.pacer.credit - (to - from) }) where
+      pub sent_follows : CanFollowServer servers calls (record c.books { pacer = pacer }) (Stays place)
+      sent_follows = can_follow paid paid_kept n.id place n.row n.stands servers sent_row x.moved sent_own sent_known calls (record c.books { pacer = pacer }) calls_are (λ i. record c.books { pacer = spent i })
 
-      pub sent_step : (out : List SentFrame) (control : Control) (out' : List SentFrame) (books : Books) → books ≡ followed slot (server_duty c.control.settings sent_row) (spends (to - from) c.books)
-          → ((w : Work) → IsAt w c.control out → IsAt (content w) control out') → length out' ≡ length out + 1 → length control.marks ≡ length c.control.marks + 1
-          → WasSent c out (record { control = control; clients = c.clients; servers = servers; pool = c.pool; books = books; order = c.order }) out'
-      sent_step out control out' books e posted frames told =
-          let y = picked_in c.books.pacer.ready slot first in
-          record {
-            step = λ w amid.
-                let rest = rest-amid w c out amid in (
-                  content w,
-                  next_here a (range from to) view.1 w (sym amid.host) ∙ leaves_here w (sym amid.host),
-                  amid-at (content w) (record { control = control; clients = c.clients; servers = servers; pool = c.pool; books = books; order = c.order }) out' (posted w (at-amid w c out amid))
-                      (record {
-                        seq = rest.seq;
-                        order = rest.order;
-                        credit = ap (λ (b : Books). b.pacer.credit) e ∙ ap (λ n. n - (to - from)) rest.credit;
-                        refilled = ap (λ (b : Books). b.pacer.refilled) e ∙ rest.refilled;
-                        clients = rest.clients;
-                        servers = moved.rows ∙ ap (λ (h : Host). insert h.servers id (server_sends c.control.settings h.last row (Sent from to))) amid.host;
-                      }),
-                );
-            frames = frames;
-            told = told;
-            ready =
-                let duty = server_duty c.control.settings sent_row in
-                subst (λ (b : Books). length b.pacer.ready ≤ length c.books.pacer.ready) (sym e)
-                (booked_length pace.ready_key (λ (x : pace.Ready). x.slot) slot (ready_in slot duty.waiting) c.books.pacer.ready y.0 (few_ready slot duty.waiting) y.1 y.2);
-          }
+      module _ (books : Books) (follows : FollowedServer servers calls (Stays place) (record c.books { pacer = pacer }) books) where
+        followed_sent : books ≡ followed slot (server_duty c.control.settings sent_row) (spends (to - from) c.books)
+        followed_sent = followed_by paid paid_kept n.id place n.row n.stands servers sent_row x.moved calls (record c.books { pacer = pacer }) books calls_are (λ i. record c.books { pacer = spent i }) follows
+
+        pub sent_kept : (control : Control) → IsSound control → Beside c.control control → IsKept (record { control = control; clients = c.clients; servers = servers; pool = c.pool; books = books; order = c.order })
+        sent_kept control sound beside = kept_stays paid paid_kept n.id place n.row n.stands servers sent_row x.moved sent_own sent_known control sound beside books followed_sent
+
+        pub sent_step : (out : List SentFrame) (control : Control) (out' : List SentFrame) → ((w : Work) → IsAt w c.control out → IsAt (content w) control out') → length out' ≡ length out + 1
+            → length control.marks ≡ length c.control.marks + 1 → WasSent c out (record { control = control; clients = c.clients; servers = servers; pool = c.pool; books = books; order = c.order }) out'
+        sent_step out control out' posted frames told =
+            let y = picked_in c.books.pacer.ready slot n.first in
+            let e = followed_sent in
+            record {
+              step = λ w amid.
+                  let rest = rest-amid w c out amid in (
+                    content w,
+                    next_here a (range from to) x.view.1 w (sym amid.host) ∙ leaves_here w (sym amid.host),
+                    amid-at (content w) (record { control = control; clients = c.clients; servers = servers; pool = c.pool; books = books; order = c.order }) out' (posted w (at-amid w c out amid))
+                        (record {
+                          seq = rest.seq;
+                          order = rest.order;
+                          credit = ap (λ (b : Books). b.pacer.credit) e ∙ ap (λ n. n - (to - from)) rest.credit;
+                          refilled = ap (λ (b : Books). b.pacer.refilled) e ∙ rest.refilled;
+                          clients = rest.clients;
+                          servers = x.moved.rows ∙ ap (λ (h : Host). insert h.servers n.id (server_sends c.control.settings h.last row (Sent from to))) amid.host;
+                        }),
+                  );
+              frames = frames;
+              told = told;
+              ready =
+                  let duty = server_duty c.control.settings sent_row in
+                  subst (λ (b : Books). length b.pacer.ready ≤ length c.books.pacer.ready) (sym e)
+                  (booked_length pace.ready_key (λ (x : pace.Ready). x.slot) slot (ready_in slot duty.waiting) c.books.pacer.ready y.0 (few_ready slot duty.waiting) y.1 y.2);
+            }

@@ -48,6 +48,7 @@ use Rattle.homa_host.specs.ServerFollow.{MayStayServer, FollowedServer}
 use Rattle.homa_host.proofs.Begun.{at-amid, amid-at, rest-amid}
 use Rattle.homa_host.proofs.SlotRows.{server_row, server_standing, kept_slots}
 use Rattle.homa_host.proofs.ClientKept.{own_like}
+use Rattle.homa_host.proofs.CanFollow.{CanFollowServer}
 use Rattle.homa_host.proofs.ClientStays.{Beside, changes_like, parts_like}
 use Rattle.homa_host.proofs.ServerKept.{server_parts, requests_in, host_after, seen_after, changes, duty_own, kept_after}
 
@@ -209,6 +210,22 @@ module _ (c : HostParts) (kept : IsKept c) (id : CallId) (place : ℕ) (r : Held
             peers =
                 let h : Host = host_of (record { control = control; clients = c.clients; servers = servers; pool = c.pool; books = followed (c.control.settings.calls + place) (server_duty c.control.settings row) c.books; order = c.order }) in
                 subst (λ (s : Settings). KnowsPeers s h) (sym beside.settings) (known-server c.control.settings (host_of c) h beside.id beside.inc kept.known id (Some row) moved.rows refl known)
+
+      -- the books can follow, where so many slots of clients' rows stand before
+      pub can_follow : (calls : ℕ) (books : Books) → calls ≡ c.control.settings.calls → books ≡ c.books → CanFollowServer servers calls books (Stays place)
+      can_follow calls books n e = subst (λ (x : ℕ × Books). CanFollowServer servers x.0 x.1 (Stays place)) (λ i. (sym n i, sym e i)) (record {
+        stands = spot_after;
+        may = may_stay;
+        room = room_after;
+        calls = calls_after;
+        within = within_after;
+        small = small_after;
+      })
+
+    -- the books followed
+    pub followed_by : (calls : ℕ) (books after : Books) → calls ≡ c.control.settings.calls → books ≡ c.books → FollowedServer servers calls (Stays place) books after
+        → after ≡ followed (c.control.settings.calls + place) (server_duty c.control.settings row) c.books
+    followed_by calls books after n e f = follows after (subst (λ (x : ℕ × Books). FollowedServer servers x.0 (Stays place) x.1 after) (λ i. (n i, e i)) f)
 
     -- the host as the control has it, with the row put
     abbrev pub host_put : Host

@@ -1,29 +1,42 @@
 -- What a packet at a call's server told.
-use Rattle.std.proofs.Common.{◌≡◌, ◌⊎◌, inl, inr, ℕ, Bool, true, false, List, [], ◌∷◌, ◌++◌, refl, sym, ap, subst, ◌∙◌, Option}
+use Rattle.std.proofs.Common.{◌≡◌, ◌⊎◌, inl, inr, ◌+◌, ℕ, Bool, true, false, List, [], ◌∷◌, ◌++◌, refl, sym, ap, subst, ◌∙◌, Option}
 use Rattle.std.specs.List.{AllByRecursion}
 use Rattle.homa_plain.specs.declared.id.CallId.{CallId}
 use Rattle.homa_plain.specs.declared.id.HostId.{HostId}
 use Rattle.homa_plain.specs.declared.packet.Role.{Role}
-use Rattle.homa_plain.specs.declared.packet.Role.TheVariants.{Server}
+use Rattle.homa_plain.specs.declared.packet.Role.TheVariants.{Client, Server}
+use Rattle.homa_plain.specs.declared.packet.Packet.{Packet as WirePacket}
 use Rattle.homa_plain.specs.declared.settings.Settings.{Settings}
 use Rattle.homa_plain.specs.Host.{Host, Told, Says, Sends}
 use Rattle.homa_plain.specs.Entries.{PlainRun, PlainSettings, PlainCall, PlainDeliver, PlainClock, PlainRestart, PlainInject, PlainShift, PlainJunk, PlainStale, PlainSend, PlainDone, PlainFail, PlainDrop, PlainGaps, PlainBury, PlainFree, PlainFullRows, PlainFullPages, PlainBalance, PlainRecv, PlainFinished, PlainRefused, PlainStalled}
 use Rattle.homa_plain.specs.Rows.{ServerRow, set_row}
 use Rattle.homa_plain.specs.Rules.{Moment, Answer, Did, Piece, Say, Tells, Posts}
-use Rattle.homa_plain.specs.Steps.{Work, notes, tells_cutoffs, said, served, has_run}
+use Rattle.homa_plain.specs.Steps.{Work, moment, begun, hears_cutoffs, comes_to_row, notes, tells_cutoffs, said, served, has_run}
+use Rattle.homa_plain.specs.Packets.{Packet, packet_between}
+use Rattle.msg_pool.specs.Pool.{Pool}
+use Rattle.homa_parts.specs.Pieces.{piece_in}
 use Rattle.homa_seen.specs.declared.mark.Mark.{Mark}
 use Rattle.homa_seen.specs.Marks.{marks_from, has_ran, response_of, IsReply as IsReplyMark, IsAllowed, IsWhole}
 use Rattle.homa_server.specs.Answers.{served_of, service_in, runs_said, IsReply, IfRan, has_run as did_run}
+use Rattle.homa_server.specs.Table.{Servers, response_at}
 use Rattle.homa_server.specs.declared.answers.ServerDid.{ServerDid}
 use Rattle.homa_server.specs.declared.answers.ServerDid.TheVariants as did
-use Rattle.homa_host.proofs.RanLaws.{AreQuiet, IsQuiet, Quiet, Ran, quiet-marks, ran-marks}
-use Rattle.homa_host.proofs.ServerGets.{reply_of, is_reply_of}
+use Rattle.homa_control.specs.Control.{Control, IsAt}
+use Rattle.homa_seen.specs.declared.outbox.SentFrame.{SentFrame}
+use Rattle.homa_books.specs.declared.books.Books.{Books}
+use Rattle.homa_host.specs.Parts.{host_of}
+use Rattle.homa_host.specs.Amid.{Amid}
+use Rattle.homa_host.specs.Outcomes.{server_change, server_orders}
+use Rattle.homa_host.specs.ServerFollow.{FollowedServer}
+use Rattle.homa_host.specs.declared.parts.HostParts.{HostParts}
+use Rattle.homa_host.proofs.RanLaws.{AreQuiet, IsQuiet, Quiet, Ran, quiet-marks, ran-marks, heard-quiet}
+use Rattle.homa_host.proofs.ServerGets.{HasTaken, p, is_p, got, row_now, gets, gets_is, gets_amid, response_same, reply_of, is_reply_of}
 
 -- the service ran, or it didn't
 abbrev pub HasRan : ServerDid → Type 0
 HasRan d = (slot : ℕ) × (opened : Bool) × (hold : ℕ) × (d ≡ did.Ran slot opened hold)
 
-pub ran_or : (d : ServerDid) → HasRan d ⊎ (did_run d ≡ false)
+ran_or : (d : ServerDid) → HasRan d ⊎ (did_run d ≡ false)
 ran_or did.Nothing = inr refl
 ran_or (did.Touched slot) = inr refl
 ran_or (did.Opened slot) = inr refl
@@ -65,14 +78,14 @@ module _ (s : Settings) (id : CallId) (piece : Option Piece) (row : Option Serve
   abbrev answer : Answer
   answer = reply_of d response
 
-  pub told_whole : (a : Answer) → IsReply response a d → AllByRecursion (IsWhole told) (served s id (rule a) w).told
+  told_whole : (a : Answer) → IsReply response a d → AllByRecursion (IsWhole told) (served s id (rule a) w).told
   told_whole a reply = elim (ran_or d) [ inl r ↦ (told_ran r a reply).whole told refl | inr e ↦ (told_quiet e a).whole told ]
 
   module _ (g : Host) (same : response_of g id ≡ response) (marks : List Mark) (marked : marks ≡ marks_from 0 (served s id (rule answer) w).told) where
-    pub told_runs : has_ran marks ≡ did_run d
+    told_runs : has_ran marks ≡ did_run d
     told_runs = ap has_ran marked ∙ elim (ran_or d) [ inl r ↦ (told_ran r answer (is_reply_of d response)).ran ∙ sym (ap did_run r.3) | inr e ↦ (told_quiet e answer).ran ∙ sym e ]
 
-    pub told_reply : (a : Answer) → AllByRecursion (IsReplyMark g a) marks → IsReply response a d
+    told_reply : (a : Answer) → AllByRecursion (IsReplyMark g a) marks → IsReply response a d
     told_reply a all = elim (ran_or d) [
       | inl r ↦
           let is = (told_ran r answer (is_reply_of d response)).is_reply a g (subst (AllByRecursion (IsReplyMark g a)) marked all) in
@@ -80,17 +93,67 @@ module _ (s : Settings) (id : CallId) (piece : Option Piece) (row : Option Serve
       | inr e ↦ any_reply d e response a
     ]
 
-    pub told_answered : AllByRecursion (IsReplyMark g answer) marks
+    told_answered : AllByRecursion (IsReplyMark g answer) marks
     told_answered = subst (AllByRecursion (IsReplyMark g answer)) (sym marked) (elim (ran_or d) [
       | inl r ↦ (told_ran r answer (is_reply_of d response)).reply answer g (subst (λ (d : ServerDid). IsReply response answer d) r.3 (is_reply_of d response) ∙ ap (λ (bytes : List ℕ). record { bytes = bytes; hold = r.2 }) (sym same))
       | inr e ↦ (told_quiet e answer).reply answer g
     ])
 
-    pub told_allowed : (allows : ℕ → List ℕ → List ℕ → ℕ → Type 0) → IfRan d (λ hold. allows (service_in piece) told response hold) → AllByRecursion (IsAllowed g allows told) marks
+    told_allowed : (allows : ℕ → List ℕ → List ℕ → ℕ → Type 0) → IfRan d (λ hold. allows (service_in piece) told response hold) → AllByRecursion (IsAllowed g allows told) marks
     told_allowed allows ok = subst (AllByRecursion (IsAllowed g allows told)) (sym marked) (elim (ran_or d) [
       | inl r ↦ (told_ran r answer (is_reply_of d response)).allowed g allows told (subst (λ (bytes : List ℕ). allows (service_in piece) told bytes r.2) (sym same) (subst (λ (d : ServerDid). IfRan d (λ hold. allows (service_in piece) told response hold)) r.3 ok))
       | inr e ↦ (told_quiet e answer).allowed g allows told
     ])
+
+-- what comes of a packet of a client once it was settled
+pub record HasSettled (host : HostParts) (from : HostId) (packet : WirePacket) (payload : List ℕ) (now : ℕ) (new : HostParts) (out : List SentFrame) (told : List ℕ) (allows : ℕ → List ℕ → List ℕ → ℕ → Type 0) (d : ServerDid) : Type 0 where
+  pub ran : has_ran new.control.marks ≡ did_run d
+  pub answered : (a : Answer) × AllByRecursion (IsReplyMark (host_of new) a) new.control.marks
+  pub allowed : AllByRecursion (IsAllowed (host_of new) allows told) new.control.marks
+  pub step : (a : Answer) → AllByRecursion (IsReplyMark (host_of new) a) new.control.marks
+      → let w = comes_to_row host.control.settings (packet_between from host.control.id packet payload) a Client (hears_cutoffs host.control.settings from packet.sender packet.body (begun (host_of host) now)) in
+      Amid w new out × AllByRecursion (IsWhole told) w.told
+
+module _ (host : HostParts) {from : HostId} {packet : WirePacket} {payload : List ℕ} {now : ℕ} {control : Control} {servers : Servers} {pool : Pool} {told : List ℕ} {allows : ℕ → List ℕ → List ℕ → ℕ → Type 0} {d : ServerDid}
+    (x : HasTaken host from packet payload now control servers pool told allows d) where
+  abbrev heard : HostParts
+  heard = record host { control = control }
+
+  abbrev pub q : Packet
+  q = p heard x.heard.kept x.taken
+
+  abbrev pub heard_work : Work
+  heard_work = hears_cutoffs host.control.settings from packet.sender packet.body (begun (host_of host) now)
+
+  abbrev pub rule : Answer → Did ServerRow
+  rule a = gets heard x.heard.kept x.taken a heard_work
+
+  pub rule_is : (a : Answer) → IsReply (response_at servers.rows q.id) a d → rule a ≡ served_of control.settings (moment control.settings q.id heard_work) q.id (piece_in packet.body payload) (row_now heard x.heard.kept x.taken) told a d
+  rule_is a reply = gets_is heard x.heard.kept x.taken a reply heard_work x.heard.amid.host
+
+  pub settled_by : (after : Control) (out : List SentFrame) (books : Books) (order : ℕ) → order ≡ host.order + server_orders d → FollowedServer servers control.settings.calls (server_change d) host.books books
+      → ((a : Answer) → IsReply (response_at servers.rows q.id) a d → IsAt (served control.settings q.id (rule a) heard_work) after out)
+      → HasSettled host from packet payload now (record { control = after; clients = host.clients; servers = servers; pool = pool; books = books; order = order }) out told allows d
+  settled_by after out books order order_is follows settled =
+      let s = control.settings in
+      let m = moment s q.id heard_work in
+      let piece = piece_in packet.body payload in
+      let row = row_now heard x.heard.kept x.taken in
+      let response = response_at servers.rows q.id in
+      let quiet : AreQuiet heard_work.told = heard-quiet host.control.settings from packet.sender packet.body (begun (host_of host) now) tt in
+      let new : HostParts = record { control = after; clients = host.clients; servers = servers; pool = pool; books = books; order = order } in
+      let same : response_of (host_of new) q.id ≡ response = response_same pool servers.rows q.id (host_of new) refl in
+      let marked = (settled (reply_of d response) (is_reply_of d response)).marked in
+      record {
+        ran = told_runs s q.id piece row told response d heard_work quiet m rule rule_is (host_of new) same after.marks marked;
+        answered = (reply_of d response, told_answered s q.id piece row told response d heard_work quiet m rule rule_is (host_of new) same after.marks marked);
+        allowed = told_allowed s q.id piece row told response d heard_work quiet m rule rule_is (host_of new) same after.marks marked allows (got heard x.heard.kept x.taken).ran;
+        step = λ a all.
+            let reply = told_reply s q.id piece row told response d heard_work quiet m rule rule_is (host_of new) same after.marks marked a all in
+            subst (λ (t : Settings × Packet). Amid (comes_to_row t.0 t.1 a Client heard_work) new out × AllByRecursion (IsWhole told) (comes_to_row t.0 t.1 a Client heard_work).told)
+            (λ i. (x.heard.on.settings i, (is_p heard x.heard.kept x.taken ∙ ap (λ (h : HostId). packet_between from h packet payload) x.heard.on.id) i))
+            (gets_amid heard x.heard.kept x.taken after books order order_is follows a reply heard_work [] out x.heard.amid (settled a reply), told_whole s q.id piece row told response d heard_work quiet m rule rule_is a reply);
+      }
 
 -- ---- where the service found no memory
 

@@ -1,12 +1,37 @@
 use Rattle.std.proofs.Common.{◌≡◌, ◌<◌, ◌≤◌, ◌+◌, Bool, true, cond, sym, subst, ◌∙◌, arith}
-use Rattle.homa_plain.specs.Steps.{begun, comes, arrival_step, has_run}
+use Rattle.homa_plain.specs.Rules.{Answer}
+use Rattle.homa_plain.specs.Steps.{begun, comes, arrival_step, has_run, ended as ended_step}
+use Rattle.homa_host.specs.Amid.{Amid}
 use Rattle.homa_seen.specs.Seen.{Seen}
 use Rattle.homa_seen.specs.Done.{IsDone, arriving}
 use Rattle.homa_host.specs.Parts.{host_of, seen_of}
 use Rattle.homa_host.specs.Public.{IsSameHost}
 use Rattle.homa_host.proofs.Ending.{ended_through, arrival_done, arrival_same, arrival_last, arrival_whole, arrival_run, arriving_of_host, quiet_kept, quiet_seen, quiet_same}
-use Rattle.homa_host.proofs.Delivered.{ran_same, replies_back, replies_on, allowed_on}
+use Rattle.homa_host.proofs.Delivered.{TellsAlike, ended_alike}
+use Rattle.homa_host.proofs.host.Host.deliver.Given as given
 use Rattle.homa_host.proofs.host.Host.deliver.Goals as goal
+use Rattle.homa_host.proofs.host.Host.deliver.Goals.{After-end_step}
+
+-- what is so at the end of the step, with any answer and with the one that was given
+record HasEnded (g : given.Over) (c : After-end_step g) : Type 1 where
+  ends : (a : Answer) → let o = c.self.inside.parts in
+      let w = comes o.control.settings (arriving (seen_of o) c.args.from c.args.frame.now) a (begun (host_of o) c.args.now) in
+      Amid w c.arrives.new.self c.arrives.new.out → Amid (ended_step o.control.settings w) c.end_step.new.self c.end_step.new.out
+  first : let o = c.self.inside.parts in
+      let w = comes o.control.settings (arriving (seen_of o) c.args.from c.args.frame.now) c.in-Ok.ensures.answered.0 (begun (host_of o) c.args.now) in
+      Amid (ended_step o.control.settings w) c.end_step.new.self c.end_step.new.out
+  alike : TellsAlike c.arrives.new.self c.end_step.new.self
+
+ended : (g : given.Over) (c : After-end_step g) → HasEnded g c
+ended g c =
+    let o = c.self.inside.parts in
+    let s = o.control.settings in
+    let work = λ (a : Answer). comes s (arriving (seen_of o) c.args.from c.args.frame.now) a (begun (host_of o) c.args.now) in
+    let given = c.in-Ok.ensures.answered in
+    let amid = (c.in-Ok.ensures.step given.0 given.1).0 in
+    let ends : (a : Answer) → Amid (work a) c.arrives.new.self c.arrives.new.out → Amid (ended_step s (work a)) c.end_step.new.self c.end_step.new.out =
+    λ a amid. ended_through s (work a) c.arrives.new.self c.end_step.new.self c.arrives.new.out c.end_step.new.out c.in-Ok.ensures.steady.settings amid c.end_step.ensures.step in
+    record { ends = ends; first = ends given.0 amid; alike = ended_alike s (work given.0) c.arrives.new.self c.end_step.new.self c.arrives.new.out c.end_step.new.out amid (ends given.0 amid) }
 
 pub arrives-requires-clause-kept : goal.arrives-requires-clause-kept
 arrives-requires-clause-kept g c = c.self.invariant
@@ -51,51 +76,25 @@ returns-in-Ok-clause-step g c a answer =
     let o = c.self.inside.parts in
     let s = o.control.settings in
     let p = arriving (seen_of o) c.args.from c.args.frame.now in
-    let first = c.in-Ok.ensures.answered in
-    let w0 = comes s p first.0 (begun (host_of o) c.args.now) in
-    let amid0 = (c.in-Ok.ensures.step first.0 first.1).0 in
-    let ends0 = ended_through s w0 c.arrives.new.self c.end_step.new.self c.arrives.new.out c.end_step.new.out c.in-Ok.ensures.steady.settings amid0 c.end_step.ensures.step in
-    let replies = replies_back s w0 c.arrives.new.self c.end_step.new.self c.arrives.new.out c.end_step.new.out amid0 ends0 a answer in
-    let came = c.in-Ok.ensures.step a replies in
-    let w = comes s p a (begun (host_of o) c.args.now) in
-    let ends = ended_through s w c.arrives.new.self c.end_step.new.self c.arrives.new.out c.end_step.new.out c.in-Ok.ensures.steady.settings came.0 c.end_step.ensures.step in
+    let x = ended g (goal.at.returns-in-Ok-clause-step g c).After-end_step in
+    let came = c.in-Ok.ensures.step a (x.alike.back a answer) in
     subst (λ (h : Seen). IsDone h (arrival_step h.settings h.host c.args.now (arriving h c.args.from c.args.frame.now) a) (seen_of c.end_step.new.self) c.end_step.new.out c.arrives.new.scratch) c.self.view_is
-    (arrival_done o c.end_step.new.self c.self.invariant c.args.now (c.end_step.ensures.settings ∙ c.in-Ok.ensures.steady.settings) c.end_step.new.out p a ends c.arrives.new.scratch
+    (arrival_done o c.end_step.new.self c.self.invariant c.args.now (c.end_step.ensures.settings ∙ c.in-Ok.ensures.steady.settings) c.end_step.new.out p a (x.ends a came.0) c.arrives.new.scratch
     (arriving_of_host o c.args.from c.args.frame.now) answer (arrival_whole s (host_of o) c.args.now p a c.arrives.new.scratch came.1))
 
 pub returns-in-Ok-clause-served : goal.returns-in-Ok-clause-served
 returns-in-Ok-clause-served g c =
-    let o = c.self.inside.parts in
-    let s = o.control.settings in
-    let p = arriving (seen_of o) c.args.from c.args.frame.now in
-    let first = c.in-Ok.ensures.answered in
-    let w0 = comes s p first.0 (begun (host_of o) c.args.now) in
-    let amid0 = (c.in-Ok.ensures.step first.0 first.1).0 in
-    let ends0 = ended_through s w0 c.arrives.new.self c.end_step.new.self c.arrives.new.out c.end_step.new.out c.in-Ok.ensures.steady.settings amid0 c.end_step.ensures.step in
-    let same = ran_same s w0 c.arrives.new.self c.end_step.new.self c.arrives.new.out c.end_step.new.out amid0 ends0 in
-    subst (λ (b : Bool). g.V.Service.served c.arrives.new.service ≡ cond b (g.V.Service.served c.args.service.now + 1) (g.V.Service.served c.args.service.now)) (sym same) c.in-Ok.ensures.served
+    let x = ended g (goal.at.returns-in-Ok-clause-served g c).After-end_step in
+    subst (λ (b : Bool). g.V.Service.served c.arrives.new.service ≡ cond b (g.V.Service.served c.args.service.now + 1) (g.V.Service.served c.args.service.now)) (sym x.alike.ran) c.in-Ok.ensures.served
 
 pub returns-in-Ok-clause-answered : goal.returns-in-Ok-clause-answered
 returns-in-Ok-clause-answered g c =
-    let o = c.self.inside.parts in
-    let s = o.control.settings in
-    let p = arriving (seen_of o) c.args.from c.args.frame.now in
     let first = c.in-Ok.ensures.answered in
-    let w0 = comes s p first.0 (begun (host_of o) c.args.now) in
-    let amid0 = (c.in-Ok.ensures.step first.0 first.1).0 in
-    let ends0 = ended_through s w0 c.arrives.new.self c.end_step.new.self c.arrives.new.out c.end_step.new.out c.in-Ok.ensures.steady.settings amid0 c.end_step.ensures.step in
-    (first.0, replies_on s w0 c.arrives.new.self c.end_step.new.self c.arrives.new.out c.end_step.new.out amid0 ends0 first.0 first.1)
+    (first.0, (ended g (goal.at.returns-in-Ok-clause-answered g c).After-end_step).alike.on first.0 first.1)
 
 pub returns-in-Ok-clause-allowed : goal.returns-in-Ok-clause-allowed
 returns-in-Ok-clause-allowed g c =
-    let o = c.self.inside.parts in
-    let s = o.control.settings in
-    let p = arriving (seen_of o) c.args.from c.args.frame.now in
-    let first = c.in-Ok.ensures.answered in
-    let w0 = comes s p first.0 (begun (host_of o) c.args.now) in
-    let amid0 = (c.in-Ok.ensures.step first.0 first.1).0 in
-    let ends0 = ended_through s w0 c.arrives.new.self c.end_step.new.self c.arrives.new.out c.end_step.new.out c.in-Ok.ensures.steady.settings amid0 c.end_step.ensures.step in
-    allowed_on s w0 c.arrives.new.self c.end_step.new.self c.arrives.new.out c.end_step.new.out amid0 ends0 (g.V.Service.allows c.args.service.now (g.V.Service.served c.args.service.now)) c.arrives.new.scratch c.in-Ok.ensures.allowed
+    (ended g (goal.at.returns-in-Ok-clause-allowed g c).After-end_step).alike.allowed (g.V.Service.allows c.args.service.now (g.V.Service.served c.args.service.now)) c.arrives.new.scratch c.in-Ok.ensures.allowed
 
 pub returns-in-Ok-clause-allows_before : goal.returns-in-Ok-clause-allows_before
 returns-in-Ok-clause-allows_before g c = c.arrives.ensures.allows_before
@@ -103,25 +102,15 @@ returns-in-Ok-clause-allows_before g c = c.arrives.ensures.allows_before
 pub returns-in-Ok-clause-steady : goal.returns-in-Ok-clause-steady
 returns-in-Ok-clause-steady g c =
     let o = c.self.inside.parts in
-    let s = o.control.settings in
-    let p = arriving (seen_of o) c.args.from c.args.frame.now in
-    let first = c.in-Ok.ensures.answered in
-    let w0 = comes s p first.0 (begun (host_of o) c.args.now) in
-    let amid0 = (c.in-Ok.ensures.step first.0 first.1).0 in
-    let ends0 = ended_through s w0 c.arrives.new.self c.end_step.new.self c.arrives.new.out c.end_step.new.out c.in-Ok.ensures.steady.settings amid0 c.end_step.ensures.step in
+    let x = ended g (goal.at.returns-in-Ok-clause-steady g c).After-end_step in
     subst (λ (h : Seen). IsSameHost h (seen_of c.end_step.new.self)) c.self.view_is
-    (arrival_same o c.end_step.new.self c.self.invariant c.args.now (c.end_step.ensures.settings ∙ c.in-Ok.ensures.steady.settings) c.end_step.new.out p first.0 ends0)
+    (arrival_same o c.end_step.new.self c.self.invariant c.args.now (c.end_step.ensures.settings ∙ c.in-Ok.ensures.steady.settings) c.end_step.new.out (arriving (seen_of o) c.args.from c.args.frame.now) c.in-Ok.ensures.answered.0 x.first)
 
 pub returns-in-Ok-clause-last : goal.returns-in-Ok-clause-last
 returns-in-Ok-clause-last g c =
     let o = c.self.inside.parts in
-    let s = o.control.settings in
-    let p = arriving (seen_of o) c.args.from c.args.frame.now in
-    let first = c.in-Ok.ensures.answered in
-    let w0 = comes s p first.0 (begun (host_of o) c.args.now) in
-    let amid0 = (c.in-Ok.ensures.step first.0 first.1).0 in
-    let ends0 = ended_through s w0 c.arrives.new.self c.end_step.new.self c.arrives.new.out c.end_step.new.out c.in-Ok.ensures.steady.settings amid0 c.end_step.ensures.step in
-    arrival_last o c.end_step.new.self c.self.invariant c.args.now (c.end_step.ensures.settings ∙ c.in-Ok.ensures.steady.settings) c.end_step.new.out p first.0 ends0
+    let x = ended g (goal.at.returns-in-Ok-clause-last g c).After-end_step in
+    arrival_last o c.end_step.new.self c.self.invariant c.args.now (c.end_step.ensures.settings ∙ c.in-Ok.ensures.steady.settings) c.end_step.new.out (arriving (seen_of o) c.args.from c.args.frame.now) c.in-Ok.ensures.answered.0 x.first
 
 pub returns-in-Err-clause-whole : goal.returns-in-Err-clause-whole
 returns-in-Err-clause-whole g c a =

@@ -1,4 +1,4 @@
-use Rattle.std.proofs.Common.{rules, ◌≡◌, ◌≤◌, ◌+◌, ℕ, true, cond, Option, Some, None, List, [], ◌∷◌, length, ap, sym, subst, refl, arith}
+use Rattle.std.proofs.Common.{rules, ◌≡◌, ◌≤◌, ℕ, true, Option, Some, None, List, [], ◌∷◌, length, ap, sym, subst, refl, arith}
 use Rattle.std.specs.Prelude.{OnOk, OnErr}
 use Rattle.std.specs.List.{AllByRecursion}
 use Rattle.std.specs.Option.{option_map}
@@ -12,13 +12,24 @@ use Rattle.homa_plain.specs.Steps.{begun, tells, comes, has_run}
 use Rattle.homa_plain.specs.Wire.{packet_in}
 use Rattle.homa_wire.specs.Part.{part}
 use Rattle.homa_control.specs.Control.{Control}
-use Rattle.homa_seen.specs.Marks.{has_ran, IsReply, IsWhole}
+use Rattle.homa_seen.specs.Marks.{IsReply, IsWhole}
 use Rattle.homa_seen.specs.Done.{arriving}
 use Rattle.homa_host.specs.Parts.{host_of, seen_of}
 use Rattle.homa_host.specs.Amid.{Amid}
-use Rattle.homa_host.proofs.Delivered.{no_replies, none_allowed}
-use Rattle.homa_host.proofs.Came as came
+use Rattle.homa_host.proofs.Delivered.{none_allowed, served_none, answered_none}
+use Rattle.homa_host.proofs.Came.{HasTold, told_by}
+use Rattle.homa_host.proofs.parts.HostParts.arrives.Given as given
 use Rattle.homa_host.proofs.parts.HostParts.arrives.Goals as goal
+use Rattle.homa_host.proofs.parts.HostParts.arrives.Goals.{After-tell, In-Some}
+
+-- what is no packet is told
+junk : (g : given.Over) (c : After-tell g) → HasTold c.args.self.now c.args.now (PlainJunk c.args.self.now.control.id) c.tell.new.self
+junk g c = told_by c.args.self.now c.requires.kept c.args.now c.requires.now c.requires.later (PlainJunk c.args.self.now.control.id) refl c.begin.new.self c.tell.new.self c.begin.ensures c.tell.ensures
+
+-- what a datagram is read as, at its host
+came : (g : given.Over) (c : In-Some g) → Some (packet_between c.args.from c.args.self.now.control.id c.in-Some.packet (part c.args.frame.now c.in-Some.span)) ≡ arriving (seen_of c.args.self.now) c.args.from c.args.frame.now
+came g c = sym (ap (option_map (λ (r : WirePacket × List ℕ). packet_between c.args.from c.args.self.now.control.id r.0 r.1))
+    (sym (subst (λ (s : Settings). Some (c.in-Some.packet, part c.args.frame.now c.in-Some.span) ≡ packet_in s.wire c.args.frame.now) c.settings.ensures.settings c.in-Some.ensures.read)))
 
 pub decode-requires : goal.decode-requires
 decode-requires g c =
@@ -72,40 +83,26 @@ returns-in-None-clause-step g c a replies =
     let o = c.args.self.now in
     let read = sym (subst (λ (s : Settings). None ≡ packet_in s.wire c.args.frame.now) c.settings.ensures.settings c.in-None.ensures.read) in
     let is : arriving (seen_of o) c.args.from c.args.frame.now ≡ None = ap (option_map (λ (r : WirePacket × List ℕ). packet_between c.args.from o.control.id r.0 r.1)) read in
-    let told = came.told_amid o c.requires.kept c.args.now c.requires.now c.requires.later c.begin.new.self c.begin.ensures c.tell.new.self (PlainJunk o.control.id) c.tell.ensures in
     let w = tells (Says (PlainJunk o.control.id) ∷ []) (begun (host_of o) c.args.now) in
     subst (λ (p : Option Packet). Amid (comes o.control.settings p a (begun (host_of o) c.args.now)) (record o { control = c.tell.new.self }) c.args.out.now × AllByRecursion (IsWhole c.args.scratch.now) (comes o.control.settings p a (begun (host_of o) c.args.now)).told) (sym is)
-    (subst (λ f. Amid w (record o { control = c.tell.new.self }) f) (sym c.requires.out) told, (tt, tt))
+    (subst (λ f. Amid w (record o { control = c.tell.new.self }) f) (sym c.requires.out) (junk g (goal.at.returns-in-None-clause-step g c).After-tell).amid, (tt, tt))
 
 pub returns-in-None-clause-steady : goal.returns-in-None-clause-steady
-returns-in-None-clause-steady g c =
-    let m = came.told_marks c.args.self.now c.requires.kept c.args.now c.requires.now c.requires.later c.begin.new.self c.begin.ensures c.tell.new.self _ c.tell.ensures in
-    record {
-      settings = came.told_settings c.args.self.now c.requires.kept c.args.now c.requires.now c.requires.later c.begin.new.self c.begin.ensures c.tell.new.self _ c.tell.ensures;
-      id = came.told_id c.args.self.now c.requires.kept c.args.now c.requires.now c.requires.later c.begin.new.self c.begin.ensures c.tell.new.self _ c.tell.ensures;
-      last = came.told_last c.args.self.now c.requires.kept c.args.now c.requires.now c.requires.later c.begin.new.self c.begin.ensures c.tell.new.self _ c.tell.ensures;
-      marks_told = omega (arith, ap length m);
-      frames_sent = omega (arith, ap length c.requires.out);
-      order = omega arith;
-    }
+returns-in-None-clause-steady g c = (junk g (goal.at.returns-in-None-clause-steady g c).After-tell).steady c.args.out.now c.requires.out
 
 pub returns-in-None-clause-kept : goal.returns-in-None-clause-kept
-returns-in-None-clause-kept g c = came.told_kept c.args.self.now c.requires.kept c.args.now c.requires.now c.requires.later c.begin.new.self c.begin.ensures c.tell.new.self _ c.tell.ensures
+returns-in-None-clause-kept g c = (junk g (goal.at.returns-in-None-clause-kept g c).After-tell).kept
 
 pub returns-in-None-clause-served : goal.returns-in-None-clause-served
-returns-in-None-clause-served g c =
-    let m = came.told_marks c.args.self.now c.requires.kept c.args.now c.requires.now c.requires.later c.begin.new.self c.begin.ensures c.tell.new.self _ c.tell.ensures in
-    subst (λ ms. g.V.Service.served c.args.service.now ≡ cond (has_ran ms) (g.V.Service.served c.args.service.now + 1) (g.V.Service.served c.args.service.now)) (sym m) refl
+returns-in-None-clause-served g c = served_none (g.V.Service.served c.args.service.now) c.tell.new.self.marks (junk g (goal.at.returns-in-None-clause-served g c).After-tell).quiet
 
 pub returns-in-None-clause-answered : goal.returns-in-None-clause-answered
-returns-in-None-clause-answered g c =
-    let m = came.told_marks c.args.self.now c.requires.kept c.args.now c.requires.now c.requires.later c.begin.new.self c.begin.ensures c.tell.new.self _ c.tell.ensures in
-    (record { bytes = []; hold = 0 }, no_replies (host_of (record c.args.self.now { control = c.tell.new.self })) (record { bytes = []; hold = 0 }) c.tell.new.self.marks (ap has_ran m))
+returns-in-None-clause-answered g c = answered_none (host_of (record c.args.self.now { control = c.tell.new.self })) c.tell.new.self.marks (junk g (goal.at.returns-in-None-clause-answered g c).After-tell).quiet
 
 pub returns-in-None-clause-allowed : goal.returns-in-None-clause-allowed
 returns-in-None-clause-allowed g c =
-    let m = came.told_marks c.args.self.now c.requires.kept c.args.now c.requires.now c.requires.later c.begin.new.self c.begin.ensures c.tell.new.self _ c.tell.ensures in
-    none_allowed (host_of (record c.args.self.now { control = c.tell.new.self })) (g.V.Service.allows c.args.service.now (g.V.Service.served c.args.service.now)) c.args.scratch.now c.tell.new.self.marks (ap has_ran m)
+    let quiet = (junk g (goal.at.returns-in-None-clause-allowed g c).After-tell).quiet in
+    none_allowed (host_of (record c.args.self.now { control = c.tell.new.self })) (g.V.Service.allows c.args.service.now (g.V.Service.served c.args.service.now)) c.args.scratch.now c.tell.new.self.marks quiet
 
 pub returns-in-None-clause-allows_before : goal.returns-in-None-clause-allows_before
 returns-in-None-clause-allows_before g c count number hold q r allows = allows
@@ -113,10 +110,9 @@ returns-in-None-clause-allows_before g c count number hold q r allows = allows
 pub returns-in-Some-clause-step : goal.returns-in-Some-clause-step
 returns-in-Some-clause-step g c =
     let o = c.args.self.now in
-    let read = sym (subst (λ (s : Settings). Some (c.in-Some.packet, part c.args.frame.now c.in-Some.span) ≡ packet_in s.wire c.args.frame.now) c.settings.ensures.settings c.in-Some.ensures.read) in
-    let is = ap (option_map (λ (r : WirePacket × List ℕ). packet_between c.args.from o.control.id r.0 r.1)) read in
     subst (λ (p : Option Packet). OnOk c.comes.result ((a : Answer) → AllByRecursion (IsReply (host_of c.comes.new.self) a) c.comes.new.self.control.marks
-    → (Amid (comes o.control.settings p a (begun (host_of o) c.args.now)) c.comes.new.self c.comes.new.out) × AllByRecursion (IsWhole c.comes.new.scratch) (comes o.control.settings p a (begun (host_of o) c.args.now)).told)) (sym is) c.comes.ensures.step
+    → (Amid (comes o.control.settings p a (begun (host_of o) c.args.now)) c.comes.new.self c.comes.new.out) × AllByRecursion (IsWhole c.comes.new.scratch) (comes o.control.settings p a (begun (host_of o) c.args.now)).told))
+    (came g (goal.at.returns-in-Some-clause-step g c).In-Some) c.comes.ensures.step
 
 pub returns-in-Some-clause-steady : goal.returns-in-Some-clause-steady
 returns-in-Some-clause-steady g c = c.comes.ensures.steady
@@ -136,9 +132,7 @@ returns-in-Some-clause-allowed g c = c.comes.ensures.allowed
 pub returns-in-Some-clause-whole : goal.returns-in-Some-clause-whole
 returns-in-Some-clause-whole g c =
     let o = c.args.self.now in
-    let read = sym (subst (λ (s : Settings). Some (c.in-Some.packet, part c.args.frame.now c.in-Some.span) ≡ packet_in s.wire c.args.frame.now) c.settings.ensures.settings c.in-Some.ensures.read) in
-    let is = ap (option_map (λ (r : WirePacket × List ℕ). packet_between c.args.from o.control.id r.0 r.1)) read in
-    subst (λ (p : Option Packet). OnErr c.comes.result ((a : Answer) → has_run (comes o.control.settings p a (begun (host_of o) c.args.now)).told ≡ true)) (sym is) c.comes.ensures.whole
+    subst (λ (p : Option Packet). OnErr c.comes.result ((a : Answer) → has_run (comes o.control.settings p a (begun (host_of o) c.args.now)).told ≡ true)) (came g (goal.at.returns-in-Some-clause-whole g c).In-Some) c.comes.ensures.whole
 
 pub returns-in-Some-clause-same : goal.returns-in-Some-clause-same
 returns-in-Some-clause-same g c = c.comes.ensures.same

@@ -1,3 +1,4 @@
+-- A packet comes: too old, of a server, or of a client.
 use Rattle.std.proofs.Common.{◌≡◌, ◌<◌, ◌+◌, Bool, true, false, cond, [], ◌∷◌, length, ap, sym, subst, ◌∙◌, refl, arith}
 use Rattle.std.specs.List.{AllByRecursion}
 use Rattle.homa_plain.specs.declared.id.HostId.{HostId}
@@ -15,9 +16,80 @@ use Rattle.homa_plain.specs.Wire.{IsWellFormed}
 use Rattle.homa_seen.specs.Marks.{has_ran, response_of, IsWhole}
 use Rattle.homa_host.specs.Parts.{host_of}
 use Rattle.homa_host.specs.Amid.{Amid}
-use Rattle.homa_host.proofs.Delivered.{no_replies, none_allowed}
+use Rattle.homa_host.proofs.Delivered.{TellsAlike, none_allowed, served_none, answered_none}
+use Rattle.homa_host.proofs.ServerHeard.{HasHeard, heard_by}
 use Rattle.homa_host.proofs.Came as came
+use Rattle.homa_host.proofs.Came.{HasTold, told_by}
+use Rattle.homa_host.proofs.parts.HostParts.comes.Given as given
 use Rattle.homa_host.proofs.parts.HostParts.comes.Goals as goal
+use Rattle.homa_host.proofs.parts.HostParts.comes.Goals.{After-is_stale, After-tell, After-settings-settings, After-client_gets, After-acknowledged}
+
+-- whether the packet is too old
+age : (g : given.Over) (c : After-is_stale g) → came.is_stale_here c.args.self.now.control.settings c.args.now c.args.from c.args.self.now.control.id c.args.packet.now c.args.payload.now ≡ c.is_stale.result
+age g c = let o = c.args.self.now in
+    sym (subst (λ (t : Settings). c.is_stale.result ≡ came.is_stale_here t c.args.now c.args.from o.control.id c.args.packet.now c.args.payload.now) c.settings.ensures.settings (c.is_stale.ensures (packet_between c.args.from o.control.id c.args.packet.now c.args.payload.now) refl))
+
+-- one that is too old is told
+stale : (g : given.Over) (c : After-tell g) → HasTold c.args.self.now c.args.now (PlainStale c.args.self.now.control.id c.args.packet.now.at c.args.now) c.tell.new.self
+stale g c = told_by c.args.self.now c.requires.kept c.args.now c.requires.now c.requires.later (PlainStale c.args.self.now.control.id c.args.packet.now.at c.args.now) refl c.begin.new.self c.tell.new.self c.begin.ensures c.tell.ensures
+
+-- the cutoffs of one of a server are heard
+heard : (g : given.Over) (c : After-settings-settings g) → HasHeard c.args.self.now c.args.now c.args.from c.args.packet.now.sender c.args.packet.now.body c.hear.new.self
+heard g c = heard_by c.args.self.now c.requires.kept c.args.now c.requires.later c.args.from c.args.packet.now.sender c.args.packet.now.body c.begin-in-Server.new.self c.hear.new.self c.begin-in-Server.ensures c.hear.ensures.same c.settings-settings.ensures.sound c.hear.ensures.step
+
+-- what the packet of a server did at the client of its call: no service is asked
+record AtClient (g : given.Over) (c : After-client_gets g) : Type 0 where
+  step : (a : Answer) → let o = c.args.self.now in
+      let s = o.control.settings in
+      let w = comes_to_row s (packet_between c.args.from o.control.id c.args.packet.now c.args.payload.now) a Server (hears_cutoffs s c.args.from c.args.packet.now.sender c.args.packet.now.body (begun (host_of o) c.args.now)) in
+      Amid w c.client_gets.new.self c.client_gets.new.out × AllByRecursion (IsWhole c.client_gets.new.scratch) w.told
+  quiet : has_ran c.client_gets.new.self.control.marks ≡ false
+
+at_client : (g : given.Over) (c : After-client_gets g) → HasHeard c.args.self.now c.args.now c.args.from c.args.packet.now.sender c.args.packet.now.body c.hear.new.self → AtClient g c
+at_client g c x =
+    let o = c.args.self.now in
+    let s = o.control.settings in
+    let v = hears_cutoffs s c.args.from c.args.packet.now.sender c.args.packet.now.body (begun (host_of o) c.args.now) in
+    let there = subst (λ f. Amid v (record o { control = c.hear.new.self }) f) (sym c.requires.out) x.amid in
+    let p = packet_between c.args.from c.hear.new.self.id c.args.packet.now c.args.payload.now in
+    let some : Answer = record { bytes = []; hold = 0 } in
+    record {
+      step = λ a. subst (λ (y : Settings × HostId). let w = comes_to_row y.0 (packet_between c.args.from y.1 c.args.packet.now c.args.payload.now) a Server v in Amid w c.client_gets.new.self c.client_gets.new.out × AllByRecursion (IsWhole c.client_gets.new.scratch) w.told)
+          (λ i. (x.on.settings i, x.on.id i))
+          (c.client_gets.ensures.step v a there, c.client_gets.ensures.whole v a there (came.heard_told s c.args.from c.args.packet.now.sender c.args.packet.now.body (host_of o) c.args.now));
+      quiet = came.server_marks c.hear.new.self.settings p some v (came.heard_count s c.args.from c.args.packet.now.sender c.args.packet.now.body (host_of o) c.args.now)
+          c.client_gets.new.self c.client_gets.new.out (c.client_gets.ensures.step v some there);
+    }
+
+-- what became of the packet of a client once the calls that it acknowledges were over
+record AtServer (g : given.Over) (c : After-acknowledged g) : Type 1 where
+  alike : TellsAlike c.server_gets.new.self c.acknowledged.new.self
+  step : (a : Answer) → let o = c.args.self.now in
+      let s = o.control.settings in
+      let p = packet_between c.args.from o.control.id c.args.packet.now c.args.payload.now in
+      let w = comes_to_row s p a Client (hears_cutoffs s c.args.from c.args.packet.now.sender c.args.packet.now.body (begun (host_of o) c.args.now)) in
+      Amid w c.server_gets.new.self c.server_gets.new.out × AllByRecursion (IsWhole c.server_gets.new.scratch) w.told
+      → Amid (acked s (acks p) w) c.acknowledged.new.self c.acknowledged.new.out × AllByRecursion (IsWhole c.server_gets.new.scratch) (acked s (acks p) w).told
+
+at_server : (g : given.Over) (c : After-acknowledged g) → AtServer g c
+at_server g c =
+    let o = c.args.self.now in
+    let s = o.control.settings in
+    let mid = c.server_gets.new.self in
+    let q = c.acknowledged.new.self in
+    let e = c.in-Ok.ensures in
+    let p = packet_between c.args.from o.control.id c.args.packet.now c.args.payload.now in
+    let v = hears_cutoffs s c.args.from c.args.packet.now.sender c.args.packet.now.body (begun (host_of o) c.args.now) in
+    let quiet = came.heard_count s c.args.from c.args.packet.now.sender c.args.packet.now.body (host_of o) c.args.now in
+    let step : (w : Work) → Amid w mid c.server_gets.new.out → Amid (acked s (acks p) w) q c.acknowledged.new.out = λ w amid.
+    subst (λ (y : Settings × HostId). Amid (acked y.0 (acks (packet_between c.args.from y.1 c.args.packet.now c.args.payload.now)) w) q c.acknowledged.new.out) (λ i. (e.steady.settings i, e.steady.id i)) (c.acknowledged.ensures.step c.args.payload.now w amid) in
+    let others : AllByRecursion (λ (id : CallId). p.id ≡ id → ⊥) (acks p) → response_of (host_of q) p.id ≡ response_of (host_of mid) p.id =
+    λ apart. c.acknowledged.ensures.others c.args.payload.now p.id (subst (λ (me : HostId). AllByRecursion (λ (id : CallId). p.id ≡ id → ⊥) (acks (packet_between c.args.from me c.args.packet.now c.args.payload.now))) (sym e.steady.id) apart) in
+    let amid = (e.step e.answered.0 e.answered.1).0 in
+    record {
+      alike = came.client_alike s p v quiet mid q c.server_gets.new.out c.acknowledged.new.out step others e.answered.0 amid;
+      step = came.client_done s p v quiet mid q c.server_gets.new.out c.acknowledged.new.out step others e.answered.0 amid c.server_gets.new.scratch;
+    }
 
 pub is_stale-requires-clause-valid : goal.is_stale-requires-clause-valid
 is_stale-requires-clause-valid g c = subst IsValid (sym c.settings.ensures.settings) c.requires.kept.control.valid
@@ -34,42 +106,28 @@ tell-requires g c = let none = ap (λ (k : Control). length k.marks) c.begin.ens
 pub returns-then-is_stale-clause-step : goal.returns-then-is_stale-clause-step
 returns-then-is_stale-clause-step g c a replies =
     let o = c.args.self.now in
-    let stale : came.is_stale_here o.control.settings c.args.now c.args.from o.control.id c.args.packet.now c.args.payload.now ≡ true = sym (subst (λ (t : Settings). c.is_stale.result ≡ came.is_stale_here t c.args.now c.args.from o.control.id c.args.packet.now c.args.payload.now) c.settings.ensures.settings (c.is_stale.ensures (packet_between c.args.from o.control.id c.args.packet.now c.args.payload.now) refl)) ∙ c.if-is_stale.true in
-    let is = came.stale_comes o.control.settings (host_of o) c.args.now c.args.from o.control.id c.args.packet.now c.args.payload.now a stale in
-    let told = came.told_amid o c.requires.kept c.args.now c.requires.now c.requires.later c.begin.new.self c.begin.ensures c.tell.new.self (PlainStale o.control.id c.args.packet.now.at c.args.now) c.tell.ensures in
+    let at = goal.at.returns-then-is_stale-clause-step g c in
+    let is = came.stale_comes o.control.settings (host_of o) c.args.now c.args.from o.control.id c.args.packet.now c.args.payload.now a (age g at.After-is_stale ∙ c.if-is_stale.true) in
     let w = tells (Says (PlainStale o.control.id c.args.packet.now.at c.args.now) ∷ []) (begun (host_of o) c.args.now) in
     subst (λ (w : Work). Amid w (record o { control = c.tell.new.self }) c.args.out.now × AllByRecursion (IsWhole c.args.scratch.now) w.told) (sym is)
-    (subst (λ f. Amid w (record o { control = c.tell.new.self }) f) (sym c.requires.out) told, (tt, tt))
+    (subst (λ f. Amid w (record o { control = c.tell.new.self }) f) (sym c.requires.out) (stale g at.After-tell).amid, (tt, tt))
 
 pub returns-then-is_stale-clause-steady : goal.returns-then-is_stale-clause-steady
-returns-then-is_stale-clause-steady g c =
-    let m = came.told_marks c.args.self.now c.requires.kept c.args.now c.requires.now c.requires.later c.begin.new.self c.begin.ensures c.tell.new.self _ c.tell.ensures in
-    record {
-      settings = came.told_settings c.args.self.now c.requires.kept c.args.now c.requires.now c.requires.later c.begin.new.self c.begin.ensures c.tell.new.self _ c.tell.ensures;
-      id = came.told_id c.args.self.now c.requires.kept c.args.now c.requires.now c.requires.later c.begin.new.self c.begin.ensures c.tell.new.self _ c.tell.ensures;
-      last = came.told_last c.args.self.now c.requires.kept c.args.now c.requires.now c.requires.later c.begin.new.self c.begin.ensures c.tell.new.self _ c.tell.ensures;
-      marks_told = omega (arith, ap length m);
-      frames_sent = omega (arith, ap length c.requires.out);
-      order = omega arith;
-    }
+returns-then-is_stale-clause-steady g c = (stale g (goal.at.returns-then-is_stale-clause-steady g c).After-tell).steady c.args.out.now c.requires.out
 
 pub returns-then-is_stale-clause-kept : goal.returns-then-is_stale-clause-kept
-returns-then-is_stale-clause-kept g c = came.told_kept c.args.self.now c.requires.kept c.args.now c.requires.now c.requires.later c.begin.new.self c.begin.ensures c.tell.new.self _ c.tell.ensures
+returns-then-is_stale-clause-kept g c = (stale g (goal.at.returns-then-is_stale-clause-kept g c).After-tell).kept
 
 pub returns-then-is_stale-clause-served : goal.returns-then-is_stale-clause-served
-returns-then-is_stale-clause-served g c =
-    let m = came.told_marks c.args.self.now c.requires.kept c.args.now c.requires.now c.requires.later c.begin.new.self c.begin.ensures c.tell.new.self _ c.tell.ensures in
-    subst (λ ms. g.V.Service.served c.args.service.now ≡ cond (has_ran ms) (g.V.Service.served c.args.service.now + 1) (g.V.Service.served c.args.service.now)) (sym m) refl
+returns-then-is_stale-clause-served g c = served_none (g.V.Service.served c.args.service.now) c.tell.new.self.marks (stale g (goal.at.returns-then-is_stale-clause-served g c).After-tell).quiet
 
 pub returns-then-is_stale-clause-answered : goal.returns-then-is_stale-clause-answered
-returns-then-is_stale-clause-answered g c =
-    let m = came.told_marks c.args.self.now c.requires.kept c.args.now c.requires.now c.requires.later c.begin.new.self c.begin.ensures c.tell.new.self _ c.tell.ensures in
-    (record { bytes = []; hold = 0 }, no_replies (host_of (record c.args.self.now { control = c.tell.new.self })) (record { bytes = []; hold = 0 }) c.tell.new.self.marks (ap has_ran m))
+returns-then-is_stale-clause-answered g c = answered_none (host_of (record c.args.self.now { control = c.tell.new.self })) c.tell.new.self.marks (stale g (goal.at.returns-then-is_stale-clause-answered g c).After-tell).quiet
 
 pub returns-then-is_stale-clause-allowed : goal.returns-then-is_stale-clause-allowed
 returns-then-is_stale-clause-allowed g c =
-    let m = came.told_marks c.args.self.now c.requires.kept c.args.now c.requires.now c.requires.later c.begin.new.self c.begin.ensures c.tell.new.self _ c.tell.ensures in
-    none_allowed (host_of (record c.args.self.now { control = c.tell.new.self })) (g.V.Service.allows c.args.service.now (g.V.Service.served c.args.service.now)) c.args.scratch.now c.tell.new.self.marks (ap has_ran m)
+    let quiet = (stale g (goal.at.returns-then-is_stale-clause-allowed g c).After-tell).quiet in
+    none_allowed (host_of (record c.args.self.now { control = c.tell.new.self })) (g.V.Service.allows c.args.service.now (g.V.Service.served c.args.service.now)) c.args.scratch.now c.tell.new.self.marks quiet
 
 pub returns-then-is_stale-clause-allows_before : goal.returns-then-is_stale-clause-allows_before
 returns-then-is_stale-clause-allows_before g c count number hold q r allows = allows
@@ -84,18 +142,14 @@ pub hear-requires-clause-fit : goal.hear-requires-clause-fit
 hear-requires-clause-fit g c = came.fit_cutoffs c.args.packet.now.role c.args.packet.now.level c.args.packet.now.body c.args.payload.now c.requires.formed.of_kind
 
 pub client_gets-requires-clause-kept : goal.client_gets-requires-clause-kept
-client_gets-requires-clause-kept g c =
-    came.heard_kept c.args.self.now c.requires.kept c.args.now c.requires.now c.requires.later c.begin-in-Server.new.self c.begin-in-Server.ensures c.hear.new.self c.hear.ensures.same c.settings-settings.ensures.sound
+client_gets-requires-clause-kept g c = (heard g (goal.at.client_gets-requires-clause-kept g c).After-settings-settings).kept
 
 pub client_gets-requires-clause-from : goal.client_gets-requires-clause-from
-client_gets-requires-clause-from g c =
-    let same = came.heard_settings c.args.self.now c.requires.kept c.args.now c.requires.now c.requires.later c.begin-in-Server.new.self c.begin-in-Server.ensures c.hear.new.self c.hear.ensures.same in
-    subst (λ (s : Settings). c.args.from.0 < s.hosts) (sym same) c.requires.from
+client_gets-requires-clause-from g c = subst (λ (s : Settings). c.args.from.0 < s.hosts) (sym (heard g (goal.at.client_gets-requires-clause-from g c).After-settings-settings).on.settings) c.requires.from
 
 pub client_gets-requires-clause-formed : goal.client_gets-requires-clause-formed
 client_gets-requires-clause-formed g c =
-    let same = came.heard_settings c.args.self.now c.requires.kept c.args.now c.requires.now c.requires.later c.begin-in-Server.new.self c.begin-in-Server.ensures c.hear.new.self c.hear.ensures.same in
-    subst (λ (s : Settings). IsWellFormed s.wire c.args.packet.now c.args.payload.now) (sym same) c.requires.formed
+    subst (λ (s : Settings). IsWellFormed s.wire c.args.packet.now c.args.payload.now) (sym (heard g (goal.at.client_gets-requires-clause-formed g c).After-settings-settings).on.settings) c.requires.formed
 
 pub client_gets-requires-clause-role : goal.client_gets-requires-clause-role
 client_gets-requires-clause-role g c = c.in-Server.is
@@ -105,7 +159,7 @@ client_gets-requires-clause-order g c = c.requires.order
 
 pub client_gets-requires-clause-room : goal.client_gets-requires-clause-room
 client_gets-requires-clause-room g c =
-    let none = came.heard_marks c.args.self.now c.requires.kept c.args.now c.requires.now c.requires.later c.begin-in-Server.new.self c.begin-in-Server.ensures c.hear.new.self c.hear.ensures.same in
+    let none = (heard g (goal.at.client_gets-requires-clause-room g c).After-settings-settings).marks in
     record { marks_left = omega (arith, ap length none); frames_left = omega (arith, ap length c.requires.out) }
 
 pub server_gets-requires-clause-kept : goal.server_gets-requires-clause-kept
@@ -138,35 +192,29 @@ server_gets-requires-clause-served g c = c.requires.served
 pub server_gets-requires-clause-out : goal.server_gets-requires-clause-out
 server_gets-requires-clause-out g c = c.requires.out
 
-pub returns-in-Err-clause-whole :
-    goal.returns-in-Err-clause-whole
+pub returns-in-Err-clause-whole : goal.returns-in-Err-clause-whole
 returns-in-Err-clause-whole g c a =
     let o = c.args.self.now in
     let s = o.control.settings in
     let p = packet_between c.args.from o.control.id c.args.packet.now c.args.payload.now in
     let v = hears_cutoffs s c.args.from c.args.packet.now.sender c.args.packet.now.body (begun (host_of o) c.args.now) in
-    let stale : came.is_stale_here s c.args.now c.args.from o.control.id c.args.packet.now c.args.payload.now ≡ false = sym (subst (λ (t : Settings). c.is_stale.result ≡ came.is_stale_here t c.args.now c.args.from o.control.id c.args.packet.now c.args.payload.now) c.settings.ensures.settings (c.is_stale.ensures (packet_between c.args.from o.control.id c.args.packet.now c.args.payload.now) refl)) ∙ c.if-is_stale.false in
-    let is = came.client_comes s (host_of o) c.args.now c.args.from o.control.id c.args.packet.now c.args.payload.now a stale c.in-Client.is in
+    let fresh = age g (goal.at.returns-in-Err-clause-whole g c).After-is_stale ∙ c.if-is_stale.false in
+    let is = came.client_comes s (host_of o) c.args.now c.args.from o.control.id c.args.packet.now c.args.payload.now a fresh c.in-Client.is in
     subst (λ (w : Work). has_run w.told ≡ true) (sym is) (came.acked_run s (acks p) (comes_to_row s p a Client v) (c.in-Err.ensures.whole a))
 
-pub returns-in-Err-clause-same :
-    goal.returns-in-Err-clause-same
+pub returns-in-Err-clause-same : goal.returns-in-Err-clause-same
 returns-in-Err-clause-same g c = c.in-Err.ensures.same
 
-pub returns-in-Err-clause-none :
-    goal.returns-in-Err-clause-none
+pub returns-in-Err-clause-none : goal.returns-in-Err-clause-none
 returns-in-Err-clause-none g c = c.in-Err.ensures.none
 
-pub returns-in-Err-clause-not_served :
-    goal.returns-in-Err-clause-not_served
+pub returns-in-Err-clause-not_served : goal.returns-in-Err-clause-not_served
 returns-in-Err-clause-not_served g c = c.in-Err.ensures.not_served
 
-pub returns-in-Err-clause-allows_before :
-    goal.returns-in-Err-clause-allows_before
+pub returns-in-Err-clause-allows_before : goal.returns-in-Err-clause-allows_before
 returns-in-Err-clause-allows_before g c = c.server_gets.ensures.allows_before
 
-pub returns-in-Err-clause-kept :
-    goal.returns-in-Err-clause-kept
+pub returns-in-Err-clause-kept : goal.returns-in-Err-clause-kept
 returns-in-Err-clause-kept g c = c.server_gets.ensures.kept
 
 pub acknowledged-requires-clause-kept : goal.acknowledged-requires-clause-kept
@@ -192,33 +240,19 @@ acknowledged-requires-clause-room g c =
 pub returns-in-Server-clause-step : goal.returns-in-Server-clause-step
 returns-in-Server-clause-step g c a replies =
     let o = c.args.self.now in
-    let s = o.control.settings in
-    let first = c.begin-in-Server.new.self in
-    let second = c.hear.new.self in
-    let same = came.heard_settings o c.requires.kept c.args.now c.requires.now c.requires.later first c.begin-in-Server.ensures second c.hear.ensures.same in
-    let name = came.heard_id o c.requires.kept c.args.now c.requires.now c.requires.later first c.begin-in-Server.ensures second c.hear.ensures.same in
-    let v = hears_cutoffs s c.args.from c.args.packet.now.sender c.args.packet.now.body (begun (host_of o) c.args.now) in
-    let heard = came.heard_amid o c.requires.kept c.args.now c.requires.now c.requires.later first c.begin-in-Server.ensures second c.hear.ensures.same c.args.from c.args.packet.now.sender c.args.packet.now.body c.hear.ensures.step in
-    let there = subst (λ f. Amid v (record o { control = second }) f) (sym c.requires.out) heard in
-    let stale : came.is_stale_here s c.args.now c.args.from o.control.id c.args.packet.now c.args.payload.now ≡ false = sym (subst (λ (t : Settings). c.is_stale.result ≡ came.is_stale_here t c.args.now c.args.from o.control.id c.args.packet.now c.args.payload.now) c.settings.ensures.settings (c.is_stale.ensures (packet_between c.args.from o.control.id c.args.packet.now c.args.payload.now) refl)) ∙ c.if-is_stale.false in
-    let is = came.server_comes s (host_of o) c.args.now c.args.from o.control.id c.args.packet.now c.args.payload.now a stale c.in-Server.is c.requires.formed.of_kind in
-    let row = λ (t : Settings) (me : HostId). comes_to_row t (packet_between c.args.from me c.args.packet.now c.args.payload.now) a Server v in
-    let amid = subst (λ (me : HostId). Amid (row s me) c.client_gets.new.self c.client_gets.new.out) name (subst (λ (t : Settings). Amid (row t second.id) c.client_gets.new.self c.client_gets.new.out) same (c.client_gets.ensures.step v a there)) in
-    let whole = subst (λ (me : HostId). AllByRecursion (IsWhole c.client_gets.new.scratch) (row s me).told) name (subst (λ (t : Settings). AllByRecursion (IsWhole c.client_gets.new.scratch) (row t second.id).told) same (c.client_gets.ensures.whole v a there (came.heard_told s c.args.from c.args.packet.now.sender c.args.packet.now.body (host_of o) c.args.now))) in
-    subst (λ (w : Work). Amid w c.client_gets.new.self c.client_gets.new.out × AllByRecursion (IsWhole c.client_gets.new.scratch) w.told) (sym is) (amid, whole)
+    let at = goal.at.returns-in-Server-clause-step g c in
+    let is = came.server_comes o.control.settings (host_of o) c.args.now c.args.from o.control.id c.args.packet.now c.args.payload.now a (age g at.After-is_stale ∙ c.if-is_stale.false) c.in-Server.is c.requires.formed.of_kind in
+    subst (λ (w : Work). Amid w c.client_gets.new.self c.client_gets.new.out × AllByRecursion (IsWhole c.client_gets.new.scratch) w.told) (sym is) ((at_client g at.After-client_gets (heard g at.After-settings-settings)).step a)
 
 pub returns-in-Server-clause-steady : goal.returns-in-Server-clause-steady
 returns-in-Server-clause-steady g c =
-    let o = c.args.self.now in
-    let first = c.begin-in-Server.new.self in
-    let second = c.hear.new.self in
     let t = c.client_gets.ensures.steady in
-    let none = came.heard_marks o c.requires.kept c.args.now c.requires.now c.requires.later first c.begin-in-Server.ensures second c.hear.ensures.same in
+    let x = heard g (goal.at.returns-in-Server-clause-steady g c).After-settings-settings in
     record {
-      settings = t.settings ∙ came.heard_settings o c.requires.kept c.args.now c.requires.now c.requires.later first c.begin-in-Server.ensures second c.hear.ensures.same;
-      id = t.id ∙ came.heard_id o c.requires.kept c.args.now c.requires.now c.requires.later first c.begin-in-Server.ensures second c.hear.ensures.same;
-      last = t.last ∙ came.heard_last o c.requires.kept c.args.now c.requires.now c.requires.later first c.begin-in-Server.ensures second c.hear.ensures.same;
-      marks_told = omega (arith, t.marks_told, ap length none);
+      settings = t.settings ∙ x.on.settings;
+      id = t.id ∙ x.on.id;
+      last = t.last ∙ x.last;
+      marks_told = omega (arith, t.marks_told, ap length x.marks);
       frames_sent = omega (arith, t.frames_sent, ap length c.requires.out);
       order = omega (arith, t.order);
     }
@@ -228,143 +262,55 @@ returns-in-Server-clause-kept g c = c.client_gets.ensures.kept
 
 pub returns-in-Server-clause-served : goal.returns-in-Server-clause-served
 returns-in-Server-clause-served g c =
-    let o = c.args.self.now in
-    let s = o.control.settings in
-    let first = c.begin-in-Server.new.self in
-    let second = c.hear.new.self in
-    let v = hears_cutoffs s c.args.from c.args.packet.now.sender c.args.packet.now.body (begun (host_of o) c.args.now) in
-    let heard = came.heard_amid o c.requires.kept c.args.now c.requires.now c.requires.later first c.begin-in-Server.ensures second c.hear.ensures.same c.args.from c.args.packet.now.sender c.args.packet.now.body c.hear.ensures.step in
-    let there = subst (λ f. Amid v (record o { control = second }) f) (sym c.requires.out) heard in
-    let a : Answer = record { bytes = []; hold = 0 } in
-    let none = came.server_marks second.settings (packet_between c.args.from second.id c.args.packet.now c.args.payload.now) a v (came.heard_count s c.args.from c.args.packet.now.sender c.args.packet.now.body (host_of o) c.args.now)
-    c.client_gets.new.self c.client_gets.new.out (c.client_gets.ensures.step v a there) in
-    subst (λ (b : Bool). g.V.Service.served c.args.service.now ≡ cond b (g.V.Service.served c.args.service.now + 1) (g.V.Service.served c.args.service.now)) (sym none) refl
+    let at = goal.at.returns-in-Server-clause-served g c in
+    let x = at_client g at.After-client_gets (heard g at.After-settings-settings) in
+    served_none (g.V.Service.served c.args.service.now) c.client_gets.new.self.control.marks x.quiet
 
 pub returns-in-Server-clause-answered : goal.returns-in-Server-clause-answered
 returns-in-Server-clause-answered g c =
-    let o = c.args.self.now in
-    let s = o.control.settings in
-    let first = c.begin-in-Server.new.self in
-    let second = c.hear.new.self in
-    let v = hears_cutoffs s c.args.from c.args.packet.now.sender c.args.packet.now.body (begun (host_of o) c.args.now) in
-    let heard = came.heard_amid o c.requires.kept c.args.now c.requires.now c.requires.later first c.begin-in-Server.ensures second c.hear.ensures.same c.args.from c.args.packet.now.sender c.args.packet.now.body c.hear.ensures.step in
-    let there = subst (λ f. Amid v (record o { control = second }) f) (sym c.requires.out) heard in
-    let a : Answer = record { bytes = []; hold = 0 } in
-    let none = came.server_marks second.settings (packet_between c.args.from second.id c.args.packet.now c.args.payload.now) a v (came.heard_count s c.args.from c.args.packet.now.sender c.args.packet.now.body (host_of o) c.args.now)
-    c.client_gets.new.self c.client_gets.new.out (c.client_gets.ensures.step v a there) in
-    (a, no_replies (host_of c.client_gets.new.self) a c.client_gets.new.self.control.marks none)
+    let at = goal.at.returns-in-Server-clause-answered g c in
+    let x = at_client g at.After-client_gets (heard g at.After-settings-settings) in
+    answered_none (host_of c.client_gets.new.self) c.client_gets.new.self.control.marks x.quiet
 
 pub returns-in-Server-clause-allowed : goal.returns-in-Server-clause-allowed
 returns-in-Server-clause-allowed g c =
-    let o = c.args.self.now in
-    let s = o.control.settings in
-    let first = c.begin-in-Server.new.self in
-    let second = c.hear.new.self in
-    let v = hears_cutoffs s c.args.from c.args.packet.now.sender c.args.packet.now.body (begun (host_of o) c.args.now) in
-    let heard = came.heard_amid o c.requires.kept c.args.now c.requires.now c.requires.later first c.begin-in-Server.ensures second c.hear.ensures.same c.args.from c.args.packet.now.sender c.args.packet.now.body c.hear.ensures.step in
-    let there = subst (λ f. Amid v (record o { control = second }) f) (sym c.requires.out) heard in
-    let a : Answer = record { bytes = []; hold = 0 } in
-    let none = came.server_marks second.settings (packet_between c.args.from second.id c.args.packet.now c.args.payload.now) a v (came.heard_count s c.args.from c.args.packet.now.sender c.args.packet.now.body (host_of o) c.args.now)
-    c.client_gets.new.self c.client_gets.new.out (c.client_gets.ensures.step v a there) in
-    none_allowed (host_of c.client_gets.new.self) (g.V.Service.allows c.args.service.now (g.V.Service.served c.args.service.now)) c.client_gets.new.scratch c.client_gets.new.self.control.marks none
+    let at = goal.at.returns-in-Server-clause-allowed g c in
+    let x = at_client g at.After-client_gets (heard g at.After-settings-settings) in
+    none_allowed (host_of c.client_gets.new.self) (g.V.Service.allows c.args.service.now (g.V.Service.served c.args.service.now)) c.client_gets.new.scratch c.client_gets.new.self.control.marks x.quiet
 
 pub returns-in-Server-clause-allows_before : goal.returns-in-Server-clause-allows_before
 returns-in-Server-clause-allows_before g c count number hold q r allows = allows
 
-pub returns-in-Ok-clause-step :
-    goal.returns-in-Ok-clause-step
+pub returns-in-Ok-clause-step : goal.returns-in-Ok-clause-step
 returns-in-Ok-clause-step g c a replies =
     let o = c.args.self.now in
-    let s = o.control.settings in
-    let mid = c.server_gets.new.self in
-    let q = c.acknowledged.new.self in
-    let e = c.in-Ok.ensures in
-    let p = packet_between c.args.from o.control.id c.args.packet.now c.args.payload.now in
-    let v = hears_cutoffs s c.args.from c.args.packet.now.sender c.args.packet.now.body (begun (host_of o) c.args.now) in
-    let quiet = came.heard_count s c.args.from c.args.packet.now.sender c.args.packet.now.body (host_of o) c.args.now in
-    let step : (w : Work) → Amid w mid c.server_gets.new.out → Amid (acked s (acks p) w) q c.acknowledged.new.out =
-    λ w amid. subst (λ (me : HostId). Amid (acked s (acks (packet_between c.args.from me c.args.packet.now c.args.payload.now)) w) q c.acknowledged.new.out) e.steady.id
-    (subst (λ (t : Settings). Amid (acked t (acks (packet_between c.args.from mid.control.id c.args.packet.now c.args.payload.now)) w) q c.acknowledged.new.out) e.steady.settings (c.acknowledged.ensures.step c.args.payload.now w amid)) in
-    let others : AllByRecursion (λ (id : CallId). p.id ≡ id → ⊥) (acks p) → response_of (host_of q) p.id ≡ response_of (host_of mid) p.id =
-    λ apart. c.acknowledged.ensures.others c.args.payload.now p.id (subst (λ (me : HostId). AllByRecursion (λ (id : CallId). p.id ≡ id → ⊥) (acks (packet_between c.args.from me c.args.packet.now c.args.payload.now))) (sym e.steady.id) apart) in
-    let first = e.answered in
-    let amid = (e.step first.0 first.1).0 in
-    let stale : came.is_stale_here s c.args.now c.args.from o.control.id c.args.packet.now c.args.payload.now ≡ false = sym (subst (λ (t : Settings). c.is_stale.result ≡ came.is_stale_here t c.args.now c.args.from o.control.id c.args.packet.now c.args.payload.now) c.settings.ensures.settings (c.is_stale.ensures (packet_between c.args.from o.control.id c.args.packet.now c.args.payload.now) refl)) ∙ c.if-is_stale.false in
-    let is = came.client_comes s (host_of o) c.args.now c.args.from o.control.id c.args.packet.now c.args.payload.now a stale c.in-Client.is in
-    let done = came.client_done s p v quiet mid q c.server_gets.new.out c.acknowledged.new.out step others first.0 amid c.server_gets.new.scratch a (e.step a (came.client_back s p v quiet mid q c.server_gets.new.out c.acknowledged.new.out step others first.0 amid a replies)) in
-    subst (λ (w : Work). Amid w q c.acknowledged.new.out × AllByRecursion (IsWhole c.server_gets.new.scratch) w.told) (sym is) done
+    let at = goal.at.returns-in-Ok-clause-step g c in
+    let x = at_server g at.After-acknowledged in
+    let is = came.client_comes o.control.settings (host_of o) c.args.now c.args.from o.control.id c.args.packet.now c.args.payload.now a (age g at.After-is_stale ∙ c.if-is_stale.false) c.in-Client.is in
+    subst (λ (w : Work). Amid w c.acknowledged.new.self c.acknowledged.new.out × AllByRecursion (IsWhole c.server_gets.new.scratch) w.told) (sym is) (x.step a (c.in-Ok.ensures.step a (x.alike.back a replies)))
 
-pub returns-in-Ok-clause-steady :
-    goal.returns-in-Ok-clause-steady
+pub returns-in-Ok-clause-steady : goal.returns-in-Ok-clause-steady
 returns-in-Ok-clause-steady g c =
     let e = c.in-Ok.ensures.steady in
     let t = c.acknowledged.ensures.steady in
     record { settings = t.settings ∙ e.settings; id = t.id ∙ e.id; last = t.last ∙ e.last; marks_told = omega (arith, t.marks_told, e.marks_told); frames_sent = omega (arith, t.frames_sent, e.frames_sent); order = omega (arith, t.order, e.order) }
 
-pub returns-in-Ok-clause-served :
-    goal.returns-in-Ok-clause-served
+pub returns-in-Ok-clause-served : goal.returns-in-Ok-clause-served
 returns-in-Ok-clause-served g c =
-    let o = c.args.self.now in
-    let s = o.control.settings in
-    let mid = c.server_gets.new.self in
-    let q = c.acknowledged.new.self in
-    let e = c.in-Ok.ensures in
-    let p = packet_between c.args.from o.control.id c.args.packet.now c.args.payload.now in
-    let v = hears_cutoffs s c.args.from c.args.packet.now.sender c.args.packet.now.body (begun (host_of o) c.args.now) in
-    let quiet = came.heard_count s c.args.from c.args.packet.now.sender c.args.packet.now.body (host_of o) c.args.now in
-    let step : (w : Work) → Amid w mid c.server_gets.new.out → Amid (acked s (acks p) w) q c.acknowledged.new.out =
-    λ w amid. subst (λ (me : HostId). Amid (acked s (acks (packet_between c.args.from me c.args.packet.now c.args.payload.now)) w) q c.acknowledged.new.out) e.steady.id
-    (subst (λ (t : Settings). Amid (acked t (acks (packet_between c.args.from mid.control.id c.args.packet.now c.args.payload.now)) w) q c.acknowledged.new.out) e.steady.settings (c.acknowledged.ensures.step c.args.payload.now w amid)) in
-    let others : AllByRecursion (λ (id : CallId). p.id ≡ id → ⊥) (acks p) → response_of (host_of q) p.id ≡ response_of (host_of mid) p.id =
-    λ apart. c.acknowledged.ensures.others c.args.payload.now p.id (subst (λ (me : HostId). AllByRecursion (λ (id : CallId). p.id ≡ id → ⊥) (acks (packet_between c.args.from me c.args.packet.now c.args.payload.now))) (sym e.steady.id) apart) in
-    let first = e.answered in
-    let amid = (e.step first.0 first.1).0 in
-    subst (λ (b : Bool). g.V.Service.served c.server_gets.new.service ≡ cond b (g.V.Service.served c.args.service.now + 1) (g.V.Service.served c.args.service.now)) (sym (came.client_ran s p v quiet mid q c.server_gets.new.out c.acknowledged.new.out step others first.0 amid)) e.served
+    subst (λ (b : Bool). g.V.Service.served c.server_gets.new.service ≡ cond b (g.V.Service.served c.args.service.now + 1) (g.V.Service.served c.args.service.now)) (sym (at_server g (goal.at.returns-in-Ok-clause-served g c).After-acknowledged).alike.ran)
+    c.in-Ok.ensures.served
 
-pub returns-in-Ok-clause-answered :
-    goal.returns-in-Ok-clause-answered
+pub returns-in-Ok-clause-answered : goal.returns-in-Ok-clause-answered
 returns-in-Ok-clause-answered g c =
-    let o = c.args.self.now in
-    let s = o.control.settings in
-    let mid = c.server_gets.new.self in
-    let q = c.acknowledged.new.self in
-    let e = c.in-Ok.ensures in
-    let p = packet_between c.args.from o.control.id c.args.packet.now c.args.payload.now in
-    let v = hears_cutoffs s c.args.from c.args.packet.now.sender c.args.packet.now.body (begun (host_of o) c.args.now) in
-    let quiet = came.heard_count s c.args.from c.args.packet.now.sender c.args.packet.now.body (host_of o) c.args.now in
-    let step : (w : Work) → Amid w mid c.server_gets.new.out → Amid (acked s (acks p) w) q c.acknowledged.new.out =
-    λ w amid. subst (λ (me : HostId). Amid (acked s (acks (packet_between c.args.from me c.args.packet.now c.args.payload.now)) w) q c.acknowledged.new.out) e.steady.id
-    (subst (λ (t : Settings). Amid (acked t (acks (packet_between c.args.from mid.control.id c.args.packet.now c.args.payload.now)) w) q c.acknowledged.new.out) e.steady.settings (c.acknowledged.ensures.step c.args.payload.now w amid)) in
-    let others : AllByRecursion (λ (id : CallId). p.id ≡ id → ⊥) (acks p) → response_of (host_of q) p.id ≡ response_of (host_of mid) p.id =
-    λ apart. c.acknowledged.ensures.others c.args.payload.now p.id (subst (λ (me : HostId). AllByRecursion (λ (id : CallId). p.id ≡ id → ⊥) (acks (packet_between c.args.from me c.args.packet.now c.args.payload.now))) (sym e.steady.id) apart) in
-    let first = e.answered in
-    let amid = (e.step first.0 first.1).0 in
-    (first.0, came.client_on s p v quiet mid q c.server_gets.new.out c.acknowledged.new.out step others first.0 amid first.0 first.1)
+    let first = c.in-Ok.ensures.answered in
+    (first.0, (at_server g (goal.at.returns-in-Ok-clause-answered g c).After-acknowledged).alike.on first.0 first.1)
 
-pub returns-in-Ok-clause-allowed :
-    goal.returns-in-Ok-clause-allowed
+pub returns-in-Ok-clause-allowed : goal.returns-in-Ok-clause-allowed
 returns-in-Ok-clause-allowed g c =
-    let o = c.args.self.now in
-    let s = o.control.settings in
-    let mid = c.server_gets.new.self in
-    let q = c.acknowledged.new.self in
-    let e = c.in-Ok.ensures in
-    let p = packet_between c.args.from o.control.id c.args.packet.now c.args.payload.now in
-    let v = hears_cutoffs s c.args.from c.args.packet.now.sender c.args.packet.now.body (begun (host_of o) c.args.now) in
-    let quiet = came.heard_count s c.args.from c.args.packet.now.sender c.args.packet.now.body (host_of o) c.args.now in
-    let step : (w : Work) → Amid w mid c.server_gets.new.out → Amid (acked s (acks p) w) q c.acknowledged.new.out =
-    λ w amid. subst (λ (me : HostId). Amid (acked s (acks (packet_between c.args.from me c.args.packet.now c.args.payload.now)) w) q c.acknowledged.new.out) e.steady.id
-    (subst (λ (t : Settings). Amid (acked t (acks (packet_between c.args.from mid.control.id c.args.packet.now c.args.payload.now)) w) q c.acknowledged.new.out) e.steady.settings (c.acknowledged.ensures.step c.args.payload.now w amid)) in
-    let others : AllByRecursion (λ (id : CallId). p.id ≡ id → ⊥) (acks p) → response_of (host_of q) p.id ≡ response_of (host_of mid) p.id =
-    λ apart. c.acknowledged.ensures.others c.args.payload.now p.id (subst (λ (me : HostId). AllByRecursion (λ (id : CallId). p.id ≡ id → ⊥) (acks (packet_between c.args.from me c.args.packet.now c.args.payload.now))) (sym e.steady.id) apart) in
-    let first = e.answered in
-    let amid = (e.step first.0 first.1).0 in
-    came.client_allowed s p v quiet mid q c.server_gets.new.out c.acknowledged.new.out step others first.0 amid (g.V.Service.allows c.args.service.now (g.V.Service.served c.args.service.now)) c.server_gets.new.scratch e.allowed
+    (at_server g (goal.at.returns-in-Ok-clause-allowed g c).After-acknowledged).alike.allowed (g.V.Service.allows c.args.service.now (g.V.Service.served c.args.service.now)) c.server_gets.new.scratch c.in-Ok.ensures.allowed
 
-pub returns-in-Ok-clause-kept :
-    goal.returns-in-Ok-clause-kept
+pub returns-in-Ok-clause-kept : goal.returns-in-Ok-clause-kept
 returns-in-Ok-clause-kept g c = c.acknowledged.ensures.kept
 
-pub returns-in-Ok-clause-allows_before :
-    goal.returns-in-Ok-clause-allows_before
+pub returns-in-Ok-clause-allows_before : goal.returns-in-Ok-clause-allows_before
 returns-in-Ok-clause-allows_before g c = c.server_gets.ensures.allows_before

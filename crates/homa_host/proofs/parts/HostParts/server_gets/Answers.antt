@@ -1,38 +1,65 @@
 -- A packet of a client comes to a call's server.
-use Rattle.std.proofs.Common.{true, Result, Ok, Err, OnErr, ◌≡◌, ◌≤◌, ◌<◌, ◌+◌, ◌∙◌, refl, sym, subst, ap, arith, ℕ}
-use Rattle.std.specs.List.{AllByRecursion}
+use Rattle.std.proofs.Common.{true, Result, Ok, Err, OnErr, ◌≡◌, ◌+◌, refl, sym, subst, ap, arith, ℕ}
 use Rattle.homa_plain.specs.declared.settings.Settings.{Settings}
-use Rattle.msg_pool.specs.Pool.{leased_pages}
 use Rattle.homa_control.specs.Saying.{one_of, IsOutcome}
 use Rattle.homa_host.specs.Parts.{IsKept}
-use Rattle.homa_host.specs.Outcomes.{IfStays}
+use Rattle.homa_host.specs.Outcomes.{IfStays, server_change}
 use Rattle.homa_host.specs.ServerFollow.{MayStayServer, FollowedServer}
 use Rattle.homa_host.specs.declared.outcome.Change.{Change}
 use Rattle.homa_host.specs.declared.parts.HostParts.{HostParts}
-use Rattle.homa_host.proofs.Begun.{GoesOn}
 use Rattle.homa_host.proofs.ServerKept.{server_parts}
-use Rattle.homa_host.proofs.ServerHeard.{at, same_last, on, kept_at, amid_at}
-use Rattle.homa_host.proofs.ServerGets.{touched_stays, gets_stands, gets_may, gets_kept}
-use Rattle.homa_host.proofs.ServerTold.{told_whole, told_runs, told_reply, told_answered, told_allowed, served_runs}
+use Rattle.homa_host.proofs.ServerHeard.{heard_by}
+use Rattle.homa_host.proofs.ServerTold.{HasSettled, q, heard_work, rule, rule_is, settled_by, served_runs}
 use Rattle.plain_sets.specs.Maps.{get}
-use Rattle.homa_plain.specs.declared.id.HostId.{HostId}
-use Rattle.homa_plain.specs.declared.packet.Role.TheVariants.{Client}
 use Rattle.homa_plain.specs.Packets.{Packet, packet_between}
 use Rattle.homa_plain.specs.AtServer.{server_gets}
 use Rattle.homa_plain.specs.Rows.{ServerRow}
-use Rattle.homa_plain.specs.Rules.{Answer, Did}
-use Rattle.homa_plain.specs.Steps.{Work, begun, hears_cutoffs, comes_to_row, moment, served}
+use Rattle.homa_plain.specs.Rules.{Did}
+use Rattle.homa_plain.specs.Steps.{Work, begun, hears_cutoffs, moment}
 use Rattle.homa_parts.specs.Pieces.{piece_in}
-use Rattle.homa_seen.specs.Marks.{response_of, IsWhole}
-use Rattle.homa_control.specs.Control.{IsAt}
-use Rattle.homa_server.specs.Answers.{IsReply, served_of, runs_said}
-use Rattle.homa_server.specs.Table.{response_at}
+use Rattle.homa_server.specs.Answers.{runs_said}
 use Rattle.homa_host.specs.Parts.{host_of}
 use Rattle.homa_host.specs.Amid.{Amid}
-use Rattle.homa_host.proofs.AskedLaws.{at_of}
-use Rattle.homa_host.proofs.RanLaws.{AreQuiet, heard-quiet}
-use Rattle.homa_host.proofs.ServerGets.{p, is_p, got, row_now, gets, gets_is, gets_touched, gets_amid, gets_then, heard_host, response_same, reply_of, is_reply_of}
+use Rattle.homa_host.proofs.Begun.{at-amid}
+use Rattle.homa_host.proofs.ServerGets.{HasTaken, taken_by, touched_stays, gets_stands, gets_may, gets_kept, gets_touched, gets_then, heard_host, row_now}
+use Rattle.homa_host.proofs.parts.HostParts.server_gets.Given as given
 use Rattle.homa_host.proofs.parts.HostParts.server_gets.Goals as goal
+use Rattle.homa_host.proofs.parts.HostParts.server_gets.Goals.{After-settings-settings, After-follow_server, After-settle_server}
+
+-- what is so once the host heard the packet, which its table had taken up
+taken : (g : given.Over) (c : After-settings-settings g)
+    → HasTaken c.args.self.now c.args.from c.args.packet.now c.args.payload.now c.args.now c.hear.new.self c.receive.new.self c.receive.new.pool c.receive.new.scratch (g.V.Service.allows c.args.service.now (g.V.Service.served c.args.service.now)) c.in_ok-did.did
+taken g c =
+    let host = c.args.self.now in
+    let heard = heard_by host c.requires.kept c.args.now c.requires.later c.args.from c.args.packet.now.sender c.args.packet.now.body c.begin.new.self c.hear.new.self c.begin.ensures c.hear.ensures.same c.settings-settings.ensures.sound c.hear.ensures.step in
+    taken_by host c.args.from c.args.packet.now c.args.payload.now c.args.now c.hear.new.self c.receive.new.self c.receive.new.pool c.receive.new.scratch (g.V.Service.allows c.args.service.now (g.V.Service.served c.args.service.now)) c.in_ok-did.did
+    heard c.requires.from c.requires.other c.requires.role c.requires.formed.call.0 (omega (arith, c.free-free.ensures.whole)) c.in_ok-did.ensures.received c.rows-rows.ensures.placed
+
+-- the books followed
+followed : (g : given.Over) (c : After-follow_server g) → FollowedServer c.receive.new.self c.hear.new.self.settings.calls (server_change c.in_ok-did.did) c.args.self.now.books c.follow_server.new.books
+followed g c = subst (λ (t : Change × ℕ). FollowedServer c.receive.new.self t.1 t.0 c.args.self.now.books c.follow_server.new.books)
+    (λ i. (c.server_change-change.ensures i, ap (λ (s : Settings). s.calls) c.settings-settings.ensures.settings i)) c.follow_server.ensures
+
+-- what came of the packet
+settled : (g : given.Over) (c : After-settle_server g)
+    → HasTaken c.args.self.now c.args.from c.args.packet.now c.args.payload.now c.args.now c.hear.new.self c.receive.new.self c.receive.new.pool c.receive.new.scratch (g.V.Service.allows c.args.service.now (g.V.Service.served c.args.service.now)) c.in_ok-did.did
+    → FollowedServer c.receive.new.self c.hear.new.self.settings.calls (server_change c.in_ok-did.did) c.args.self.now.books c.follow_server.new.books
+    → HasSettled c.args.self.now c.args.from c.args.packet.now c.args.payload.now c.args.now
+    (record { control = c.settle_server.new.self; clients = c.args.self.now.clients; servers = c.receive.new.self; pool = c.receive.new.pool; books = c.follow_server.new.books; order = c.args.self.now.order + c.server_orders.result })
+    c.settle_server.new.out c.receive.new.scratch (g.V.Service.allows c.args.service.now (g.V.Service.served c.args.service.now)) c.in_ok-did.did
+settled g c x follows =
+    let host = c.args.self.now in
+    let heard : HostParts = record host { control = c.hear.new.self } in
+    let s = c.hear.new.self.settings in
+    let packet = q host x in
+    let w = heard_work host x in
+    let row = row_now heard x.heard.kept x.taken in
+    let touched = gets_touched heard x.heard.kept x.taken c.touched_version-touched.result (piece_in packet.body packet.payload) (λ r. c.touched_version-touched.ensures packet c.receive.new.pool packet.id r c.head_of-head.ensures) in
+    settled_by host x c.settle_server.new.self c.settle_server.new.out c.follow_server.new.books (host.order + c.server_orders.result) (ap (λ n. host.order + n) c.server_orders.ensures.order) follows (λ a reply.
+    c.settle_server.ensures.step (rule host x a) w
+    (subst (λ (d : Did ServerRow). IsOutcome d c.server_outcome-outcome.result) (sym (rule_is host x a reply))
+    (c.server_outcome-outcome.ensures.outcome s (moment s packet.id w) packet row c.receive.new.scratch a c.head_of-head.ensures (sym (ap (λ (s : Settings). s.served) c.settings-settings.ensures.settings)) (c.service_of-number.ensures packet.payload) touched refl))
+    (at-amid w heard c.args.out.now (subst (λ frames. Amid w heard frames) (sym c.requires.out) x.heard.amid)))
 
 err_any : {A E : Type 0} (r : Result A E) (P : Type 0) → P → OnErr r P
 err_any (Ok x) P h = tt
@@ -64,207 +91,47 @@ returns-in_err-did-clause-whole g c =
 
 pub touched_version-touched-requires : goal.touched_version-touched-requires
 touched_version-touched-requires g c =
-    let host = c.args.self.now in
-    let p1 : HostParts = at c.args.self.now c.requires.kept c.args.now c.requires.later c.begin.new.self c.hear.new.self c.begin.ensures c.hear.ensures.same c.settings-settings.ensures.sound in
-    let kept1 : IsKept p1 = kept_at c.args.self.now c.requires.kept c.args.now c.requires.later c.begin.new.self c.hear.new.self c.begin.ensures c.hear.ensures.same c.settings-settings.ensures.sound in
-    let goes : GoesOn host.control p1.control = on c.args.self.now c.requires.kept c.args.now c.requires.later c.begin.new.self c.hear.new.self c.begin.ensures c.hear.ensures.same c.settings-settings.ensures.sound in
-    let last = same_last c.args.self.now c.requires.kept c.args.now c.requires.later c.begin.new.self c.hear.new.self c.begin.ensures c.hear.ensures.same c.settings-settings.ensures.sound in
-    let known = subst (λ (s : Settings). c.args.from.0 < s.hosts) (sym goes.settings) c.requires.from in
-    let other : c.args.from ≡ p1.control.id → ⊥ = λ e. c.requires.other (e ∙ goes.id) in
-    let life = c.requires.formed.call.0 in
-    let most : leased_pages host.pool.leases ≤ host.pool.pages = omega (arith, c.free-free.ensures.whole) in
-    let d = c.in_ok-did.did in
-    record { stands = touched_stays _ d (gets_stands p1 kept1 c.args.from known other c.args.packet.now c.args.payload.now c.requires.role life c.args.now last most c.receive.new.self c.receive.new.pool c.receive.new.scratch _ d c.in_ok-did.ensures.received c.rows-rows.ensures.placed) }
+    let x = taken g (goal.at.touched_version-touched-requires g c).After-settings-settings in
+    record { stands = touched_stays _ c.in_ok-did.did (gets_stands (record c.args.self.now { control = c.hear.new.self }) x.heard.kept x.taken) }
 
 pub follow_server-requires-clause-stands : goal.follow_server-requires-clause-stands
 follow_server-requires-clause-stands g c =
-    let host = c.args.self.now in
-    let p1 : HostParts = at c.args.self.now c.requires.kept c.args.now c.requires.later c.begin.new.self c.hear.new.self c.begin.ensures c.hear.ensures.same c.settings-settings.ensures.sound in
-    let kept1 : IsKept p1 = kept_at c.args.self.now c.requires.kept c.args.now c.requires.later c.begin.new.self c.hear.new.self c.begin.ensures c.hear.ensures.same c.settings-settings.ensures.sound in
-    let goes : GoesOn host.control p1.control = on c.args.self.now c.requires.kept c.args.now c.requires.later c.begin.new.self c.hear.new.self c.begin.ensures c.hear.ensures.same c.settings-settings.ensures.sound in
-    let last = same_last c.args.self.now c.requires.kept c.args.now c.requires.later c.begin.new.self c.hear.new.self c.begin.ensures c.hear.ensures.same c.settings-settings.ensures.sound in
-    let known = subst (λ (s : Settings). c.args.from.0 < s.hosts) (sym goes.settings) c.requires.from in
-    let other : c.args.from ≡ p1.control.id → ⊥ = λ e. c.requires.other (e ∙ goes.id) in
-    let life = c.requires.formed.call.0 in
-    let most : leased_pages host.pool.leases ≤ host.pool.pages = omega (arith, c.free-free.ensures.whole) in
-    let d = c.in_ok-did.did in
-    rw c.server_change-change.ensures (gets_stands p1 kept1 c.args.from known other c.args.packet.now c.args.payload.now c.requires.role life c.args.now last most c.receive.new.self c.receive.new.pool c.receive.new.scratch _ d c.in_ok-did.ensures.received c.rows-rows.ensures.placed)
+    let x = taken g (goal.at.follow_server-requires-clause-stands g c).After-settings-settings in
+    rw c.server_change-change.ensures (gets_stands (record c.args.self.now { control = c.hear.new.self }) x.heard.kept x.taken)
 
 pub follow_server-requires-clause-may : goal.follow_server-requires-clause-may
 follow_server-requires-clause-may g c =
-    let host = c.args.self.now in
-    let p1 : HostParts = at c.args.self.now c.requires.kept c.args.now c.requires.later c.begin.new.self c.hear.new.self c.begin.ensures c.hear.ensures.same c.settings-settings.ensures.sound in
-    let kept1 : IsKept p1 = kept_at c.args.self.now c.requires.kept c.args.now c.requires.later c.begin.new.self c.hear.new.self c.begin.ensures c.hear.ensures.same c.settings-settings.ensures.sound in
-    let goes : GoesOn host.control p1.control = on c.args.self.now c.requires.kept c.args.now c.requires.later c.begin.new.self c.hear.new.self c.begin.ensures c.hear.ensures.same c.settings-settings.ensures.sound in
-    let last = same_last c.args.self.now c.requires.kept c.args.now c.requires.later c.begin.new.self c.hear.new.self c.begin.ensures c.hear.ensures.same c.settings-settings.ensures.sound in
-    let known = subst (λ (s : Settings). c.args.from.0 < s.hosts) (sym goes.settings) c.requires.from in
-    let other : c.args.from ≡ p1.control.id → ⊥ = λ e. c.requires.other (e ∙ goes.id) in
-    let life = c.requires.formed.call.0 in
-    let most : leased_pages host.pool.leases ≤ host.pool.pages = omega (arith, c.free-free.ensures.whole) in
-    let d = c.in_ok-did.did in
-    subst (λ (t : Change × ℕ). IfStays t.0 (MayStayServer c.receive.new.self t.1 host.books)) (λ i. (sym c.server_change-change.ensures i, sym (ap (λ (s : Settings). s.calls) c.settings-settings.ensures.settings) i))
-    (gets_may p1 kept1 c.args.from known other c.args.packet.now c.args.payload.now c.requires.role life c.args.now last most c.receive.new.self c.receive.new.pool c.receive.new.scratch _ d c.in_ok-did.ensures.received c.rows-rows.ensures.placed)
+    let x = taken g (goal.at.follow_server-requires-clause-may g c).After-settings-settings in
+    subst (λ (t : Change × ℕ). IfStays t.0 (MayStayServer c.receive.new.self t.1 c.args.self.now.books)) (λ i. (sym c.server_change-change.ensures i, sym (ap (λ (s : Settings). s.calls) c.settings-settings.ensures.settings) i))
+    (gets_may (record c.args.self.now { control = c.hear.new.self }) x.heard.kept x.taken)
 
 pub returns-clause-kept : goal.returns-clause-kept
 returns-clause-kept g c =
     let host = c.args.self.now in
-    let p1 : HostParts = at c.args.self.now c.requires.kept c.args.now c.requires.later c.begin.new.self c.hear.new.self c.begin.ensures c.hear.ensures.same c.settings-settings.ensures.sound in
-    let kept1 : IsKept p1 = kept_at c.args.self.now c.requires.kept c.args.now c.requires.later c.begin.new.self c.hear.new.self c.begin.ensures c.hear.ensures.same c.settings-settings.ensures.sound in
-    let goes : GoesOn host.control p1.control = on c.args.self.now c.requires.kept c.args.now c.requires.later c.begin.new.self c.hear.new.self c.begin.ensures c.hear.ensures.same c.settings-settings.ensures.sound in
-    let last = same_last c.args.self.now c.requires.kept c.args.now c.requires.later c.begin.new.self c.hear.new.self c.begin.ensures c.hear.ensures.same c.settings-settings.ensures.sound in
-    let known = subst (λ (s : Settings). c.args.from.0 < s.hosts) (sym goes.settings) c.requires.from in
-    let other : c.args.from ≡ p1.control.id → ⊥ = λ e. c.requires.other (e ∙ goes.id) in
-    let life = c.requires.formed.call.0 in
-    let most : leased_pages host.pool.leases ≤ host.pool.pages = omega (arith, c.free-free.ensures.whole) in
-    let d = c.in_ok-did.did in
-    let followed = subst (λ (t : Change × ℕ). FollowedServer c.receive.new.self t.1 t.0 host.books c.follow_server.new.books) (λ i. (c.server_change-change.ensures i, ap (λ (s : Settings). s.calls) c.settings-settings.ensures.settings i)) c.follow_server.ensures in
-    gets_kept p1 kept1 c.args.from known other c.args.packet.now c.args.payload.now c.requires.role life c.args.now last most c.receive.new.self c.receive.new.pool c.receive.new.scratch _ d c.in_ok-did.ensures.received c.rows-rows.ensures.placed c.settle_server.new.self c.follow_server.new.books (host.order + c.server_orders.result) (ap (λ n. host.order + n) c.server_orders.ensures.order) followed
+    let x = taken g (goal.at.returns-clause-kept g c).After-settings-settings in
+    gets_kept (record host { control = c.hear.new.self }) x.heard.kept x.taken c.settle_server.new.self c.follow_server.new.books (host.order + c.server_orders.result) (ap (λ n. host.order + n) c.server_orders.ensures.order) (followed g (goal.at.returns-clause-kept g c).After-follow_server)
     (one_of c.server_outcome-outcome.result.opened) c.settle_server.ensures.sound c.settle_server.ensures.same c.settle_server.ensures.opened c.server_outcome-outcome.ensures.opened
 
 pub returns-clause-step : goal.returns-clause-step
-returns-clause-step g c = λ a all.
-    let host = c.args.self.now in
-    let p1 : HostParts = at c.args.self.now c.requires.kept c.args.now c.requires.later c.begin.new.self c.hear.new.self c.begin.ensures c.hear.ensures.same c.settings-settings.ensures.sound in
-    let kept1 : IsKept p1 = kept_at c.args.self.now c.requires.kept c.args.now c.requires.later c.begin.new.self c.hear.new.self c.begin.ensures c.hear.ensures.same c.settings-settings.ensures.sound in
-    let goes : GoesOn host.control p1.control = on c.args.self.now c.requires.kept c.args.now c.requires.later c.begin.new.self c.hear.new.self c.begin.ensures c.hear.ensures.same c.settings-settings.ensures.sound in
-    let last = same_last c.args.self.now c.requires.kept c.args.now c.requires.later c.begin.new.self c.hear.new.self c.begin.ensures c.hear.ensures.same c.settings-settings.ensures.sound in
-    let known = subst (λ (s : Settings). c.args.from.0 < s.hosts) (sym goes.settings) c.requires.from in
-    let other : c.args.from ≡ p1.control.id → ⊥ = λ e. c.requires.other (e ∙ goes.id) in
-    let life = c.requires.formed.call.0 in
-    let most : leased_pages host.pool.leases ≤ host.pool.pages = omega (arith, c.free-free.ensures.whole) in
-    let d = c.in_ok-did.did in
-    let followed = subst (λ (t : Change × ℕ). FollowedServer c.receive.new.self t.1 t.0 host.books c.follow_server.new.books) (λ i. (c.server_change-change.ensures i, ap (λ (s : Settings). s.calls) c.settings-settings.ensures.settings i)) c.follow_server.ensures in
-    let s = p1.control.settings in
-    let q : Packet = p p1 kept1 c.args.from known other c.args.packet.now c.args.payload.now c.requires.role life c.args.now last most c.receive.new.self c.receive.new.pool c.receive.new.scratch _ d c.in_ok-did.ensures.received c.rows-rows.ensures.placed in
-    let w : Work = hears_cutoffs host.control.settings c.args.from c.args.packet.now.sender c.args.packet.now.body (begun (host_of host) c.args.now) in
-    let amid : Amid w p1 c.args.out.now = subst (λ frames. Amid w p1 frames) (sym c.requires.out) (amid_at c.args.self.now c.requires.kept c.args.now c.requires.later c.begin.new.self c.hear.new.self c.begin.ensures c.hear.ensures.same c.settings-settings.ensures.sound c.args.from c.args.packet.now.sender c.args.packet.now.body c.hear.ensures.step) in
-    let m = moment s q.id w in
-    let piece = piece_in q.body q.payload in
-    let row = row_now p1 kept1 c.args.from known other c.args.packet.now c.args.payload.now c.requires.role life c.args.now last most c.receive.new.self c.receive.new.pool c.receive.new.scratch _ d c.in_ok-did.ensures.received c.rows-rows.ensures.placed in
-    let told = c.receive.new.scratch in
-    let response = response_at c.receive.new.self.rows q.id in
-    let rule : Answer → Did ServerRow = λ a. gets p1 kept1 c.args.from known other c.args.packet.now c.args.payload.now c.requires.role life c.args.now last most c.receive.new.self c.receive.new.pool c.receive.new.scratch _ d c.in_ok-did.ensures.received c.rows-rows.ensures.placed a w in
-    let rule_is : (a : Answer) → IsReply response a d → rule a ≡ served_of s m q.id piece row told a d = λ a reply. gets_is p1 kept1 c.args.from known other c.args.packet.now c.args.payload.now c.requires.role life c.args.now last most c.receive.new.self c.receive.new.pool c.receive.new.scratch _ d c.in_ok-did.ensures.received c.rows-rows.ensures.placed a reply w amid.host in
-    let quiet : AreQuiet w.told = heard-quiet host.control.settings c.args.from c.args.packet.now.sender c.args.packet.now.body (begun (host_of host) c.args.now) tt in
-    let touched = gets_touched p1 kept1 c.args.from known other c.args.packet.now c.args.payload.now c.requires.role life c.args.now last most c.receive.new.self c.receive.new.pool c.receive.new.scratch _ d c.in_ok-did.ensures.received c.rows-rows.ensures.placed c.touched_version-touched.result piece (λ r. c.touched_version-touched.ensures q c.receive.new.pool q.id r c.head_of-head.ensures) in
-    let settled : (a : Answer) → IsReply response a d → IsAt (served s q.id (rule a) w) c.settle_server.new.self c.settle_server.new.out = λ a reply.
-    c.settle_server.ensures.step (rule a) w
-    (subst (λ (x : Did ServerRow). IsOutcome x c.server_outcome-outcome.result) (sym (rule_is a reply))
-    (c.server_outcome-outcome.ensures.outcome s m q row told a c.head_of-head.ensures (sym (ap (λ (s : Settings). s.served) c.settings-settings.ensures.settings)) (c.service_of-number.ensures q.payload) touched refl))
-    (at_of w p1 c.args.out.now amid) in
-    let new : HostParts = record { control = c.settle_server.new.self; clients = host.clients; servers = c.receive.new.self; pool = c.receive.new.pool; books = c.follow_server.new.books; order = host.order + c.server_orders.result } in
-    let same : response_of (host_of new) q.id ≡ response = response_same c.receive.new.pool c.receive.new.self.rows q.id (host_of new) refl in
-    let marked = (settled (reply_of d response) (is_reply_of d response)).marked in
-    let reply = told_reply s q.id piece row told response d w quiet m rule rule_is (host_of new) same c.settle_server.new.self.marks marked a all in
-    let after = gets_amid p1 kept1 c.args.from known other c.args.packet.now c.args.payload.now c.requires.role life c.args.now last most c.receive.new.self c.receive.new.pool c.receive.new.scratch _ d c.in_ok-did.ensures.received c.rows-rows.ensures.placed c.settle_server.new.self c.follow_server.new.books (host.order + c.server_orders.result) (ap (λ n. host.order + n) c.server_orders.ensures.order) followed a reply w c.args.out.now c.settle_server.new.out amid (settled a reply) in
-    let whole = told_whole s q.id piece row told response d w quiet m rule rule_is a reply in
-    subst (λ (t : Settings × Packet). Amid (comes_to_row t.0 t.1 a Client w) new c.settle_server.new.out × AllByRecursion (IsWhole told) (comes_to_row t.0 t.1 a Client w).told)
-    (λ i. (goes.settings i, (is_p p1 kept1 c.args.from known other c.args.packet.now c.args.payload.now c.requires.role life c.args.now last most c.receive.new.self c.receive.new.pool c.receive.new.scratch _ d c.in_ok-did.ensures.received c.rows-rows.ensures.placed ∙ ap (λ (h : HostId). packet_between c.args.from h c.args.packet.now c.args.payload.now) goes.id) i)) (after, whole)
+returns-clause-step g c =
+    let at = goal.at.returns-clause-step g c in
+    let x = settled g at.After-settle_server (taken g at.After-settings-settings) (followed g at.After-follow_server) in
+    x.step
 
 pub returns-clause-served : goal.returns-clause-served
 returns-clause-served g c =
-    let host = c.args.self.now in
-    let p1 : HostParts = at c.args.self.now c.requires.kept c.args.now c.requires.later c.begin.new.self c.hear.new.self c.begin.ensures c.hear.ensures.same c.settings-settings.ensures.sound in
-    let kept1 : IsKept p1 = kept_at c.args.self.now c.requires.kept c.args.now c.requires.later c.begin.new.self c.hear.new.self c.begin.ensures c.hear.ensures.same c.settings-settings.ensures.sound in
-    let goes : GoesOn host.control p1.control = on c.args.self.now c.requires.kept c.args.now c.requires.later c.begin.new.self c.hear.new.self c.begin.ensures c.hear.ensures.same c.settings-settings.ensures.sound in
-    let last = same_last c.args.self.now c.requires.kept c.args.now c.requires.later c.begin.new.self c.hear.new.self c.begin.ensures c.hear.ensures.same c.settings-settings.ensures.sound in
-    let known = subst (λ (s : Settings). c.args.from.0 < s.hosts) (sym goes.settings) c.requires.from in
-    let other : c.args.from ≡ p1.control.id → ⊥ = λ e. c.requires.other (e ∙ goes.id) in
-    let life = c.requires.formed.call.0 in
-    let most : leased_pages host.pool.leases ≤ host.pool.pages = omega (arith, c.free-free.ensures.whole) in
-    let d = c.in_ok-did.did in
-    let followed = subst (λ (t : Change × ℕ). FollowedServer c.receive.new.self t.1 t.0 host.books c.follow_server.new.books) (λ i. (c.server_change-change.ensures i, ap (λ (s : Settings). s.calls) c.settings-settings.ensures.settings i)) c.follow_server.ensures in
-    let s = p1.control.settings in
-    let q : Packet = p p1 kept1 c.args.from known other c.args.packet.now c.args.payload.now c.requires.role life c.args.now last most c.receive.new.self c.receive.new.pool c.receive.new.scratch _ d c.in_ok-did.ensures.received c.rows-rows.ensures.placed in
-    let w : Work = hears_cutoffs host.control.settings c.args.from c.args.packet.now.sender c.args.packet.now.body (begun (host_of host) c.args.now) in
-    let amid : Amid w p1 c.args.out.now = subst (λ frames. Amid w p1 frames) (sym c.requires.out) (amid_at c.args.self.now c.requires.kept c.args.now c.requires.later c.begin.new.self c.hear.new.self c.begin.ensures c.hear.ensures.same c.settings-settings.ensures.sound c.args.from c.args.packet.now.sender c.args.packet.now.body c.hear.ensures.step) in
-    let m = moment s q.id w in
-    let piece = piece_in q.body q.payload in
-    let row = row_now p1 kept1 c.args.from known other c.args.packet.now c.args.payload.now c.requires.role life c.args.now last most c.receive.new.self c.receive.new.pool c.receive.new.scratch _ d c.in_ok-did.ensures.received c.rows-rows.ensures.placed in
-    let told = c.receive.new.scratch in
-    let response = response_at c.receive.new.self.rows q.id in
-    let rule : Answer → Did ServerRow = λ a. gets p1 kept1 c.args.from known other c.args.packet.now c.args.payload.now c.requires.role life c.args.now last most c.receive.new.self c.receive.new.pool c.receive.new.scratch _ d c.in_ok-did.ensures.received c.rows-rows.ensures.placed a w in
-    let rule_is : (a : Answer) → IsReply response a d → rule a ≡ served_of s m q.id piece row told a d = λ a reply. gets_is p1 kept1 c.args.from known other c.args.packet.now c.args.payload.now c.requires.role life c.args.now last most c.receive.new.self c.receive.new.pool c.receive.new.scratch _ d c.in_ok-did.ensures.received c.rows-rows.ensures.placed a reply w amid.host in
-    let quiet : AreQuiet w.told = heard-quiet host.control.settings c.args.from c.args.packet.now.sender c.args.packet.now.body (begun (host_of host) c.args.now) tt in
-    let touched = gets_touched p1 kept1 c.args.from known other c.args.packet.now c.args.payload.now c.requires.role life c.args.now last most c.receive.new.self c.receive.new.pool c.receive.new.scratch _ d c.in_ok-did.ensures.received c.rows-rows.ensures.placed c.touched_version-touched.result piece (λ r. c.touched_version-touched.ensures q c.receive.new.pool q.id r c.head_of-head.ensures) in
-    let settled : (a : Answer) → IsReply response a d → IsAt (served s q.id (rule a) w) c.settle_server.new.self c.settle_server.new.out = λ a reply.
-    c.settle_server.ensures.step (rule a) w
-    (subst (λ (x : Did ServerRow). IsOutcome x c.server_outcome-outcome.result) (sym (rule_is a reply))
-    (c.server_outcome-outcome.ensures.outcome s m q row told a c.head_of-head.ensures (sym (ap (λ (s : Settings). s.served) c.settings-settings.ensures.settings)) (c.service_of-number.ensures q.payload) touched refl))
-    (at_of w p1 c.args.out.now amid) in
-    let new : HostParts = record { control = c.settle_server.new.self; clients = host.clients; servers = c.receive.new.self; pool = c.receive.new.pool; books = c.follow_server.new.books; order = host.order + c.server_orders.result } in
-    let same : response_of (host_of new) q.id ≡ response = response_same c.receive.new.pool c.receive.new.self.rows q.id (host_of new) refl in
-    let marked = (settled (reply_of d response) (is_reply_of d response)).marked in
-    rw (told_runs s q.id piece row told response d w quiet m rule rule_is (host_of new) same c.settle_server.new.self.marks marked) c.in_ok-did.ensures.served
+    let at = goal.at.returns-clause-served g c in
+    let x = settled g at.After-settle_server (taken g at.After-settings-settings) (followed g at.After-follow_server) in
+    rw x.ran c.in_ok-did.ensures.served
 
 pub returns-clause-answered : goal.returns-clause-answered
 returns-clause-answered g c =
-    let host = c.args.self.now in
-    let p1 : HostParts = at c.args.self.now c.requires.kept c.args.now c.requires.later c.begin.new.self c.hear.new.self c.begin.ensures c.hear.ensures.same c.settings-settings.ensures.sound in
-    let kept1 : IsKept p1 = kept_at c.args.self.now c.requires.kept c.args.now c.requires.later c.begin.new.self c.hear.new.self c.begin.ensures c.hear.ensures.same c.settings-settings.ensures.sound in
-    let goes : GoesOn host.control p1.control = on c.args.self.now c.requires.kept c.args.now c.requires.later c.begin.new.self c.hear.new.self c.begin.ensures c.hear.ensures.same c.settings-settings.ensures.sound in
-    let last = same_last c.args.self.now c.requires.kept c.args.now c.requires.later c.begin.new.self c.hear.new.self c.begin.ensures c.hear.ensures.same c.settings-settings.ensures.sound in
-    let known = subst (λ (s : Settings). c.args.from.0 < s.hosts) (sym goes.settings) c.requires.from in
-    let other : c.args.from ≡ p1.control.id → ⊥ = λ e. c.requires.other (e ∙ goes.id) in
-    let life = c.requires.formed.call.0 in
-    let most : leased_pages host.pool.leases ≤ host.pool.pages = omega (arith, c.free-free.ensures.whole) in
-    let d = c.in_ok-did.did in
-    let followed = subst (λ (t : Change × ℕ). FollowedServer c.receive.new.self t.1 t.0 host.books c.follow_server.new.books) (λ i. (c.server_change-change.ensures i, ap (λ (s : Settings). s.calls) c.settings-settings.ensures.settings i)) c.follow_server.ensures in
-    let s = p1.control.settings in
-    let q : Packet = p p1 kept1 c.args.from known other c.args.packet.now c.args.payload.now c.requires.role life c.args.now last most c.receive.new.self c.receive.new.pool c.receive.new.scratch _ d c.in_ok-did.ensures.received c.rows-rows.ensures.placed in
-    let w : Work = hears_cutoffs host.control.settings c.args.from c.args.packet.now.sender c.args.packet.now.body (begun (host_of host) c.args.now) in
-    let amid : Amid w p1 c.args.out.now = subst (λ frames. Amid w p1 frames) (sym c.requires.out) (amid_at c.args.self.now c.requires.kept c.args.now c.requires.later c.begin.new.self c.hear.new.self c.begin.ensures c.hear.ensures.same c.settings-settings.ensures.sound c.args.from c.args.packet.now.sender c.args.packet.now.body c.hear.ensures.step) in
-    let m = moment s q.id w in
-    let piece = piece_in q.body q.payload in
-    let row = row_now p1 kept1 c.args.from known other c.args.packet.now c.args.payload.now c.requires.role life c.args.now last most c.receive.new.self c.receive.new.pool c.receive.new.scratch _ d c.in_ok-did.ensures.received c.rows-rows.ensures.placed in
-    let told = c.receive.new.scratch in
-    let response = response_at c.receive.new.self.rows q.id in
-    let rule : Answer → Did ServerRow = λ a. gets p1 kept1 c.args.from known other c.args.packet.now c.args.payload.now c.requires.role life c.args.now last most c.receive.new.self c.receive.new.pool c.receive.new.scratch _ d c.in_ok-did.ensures.received c.rows-rows.ensures.placed a w in
-    let rule_is : (a : Answer) → IsReply response a d → rule a ≡ served_of s m q.id piece row told a d = λ a reply. gets_is p1 kept1 c.args.from known other c.args.packet.now c.args.payload.now c.requires.role life c.args.now last most c.receive.new.self c.receive.new.pool c.receive.new.scratch _ d c.in_ok-did.ensures.received c.rows-rows.ensures.placed a reply w amid.host in
-    let quiet : AreQuiet w.told = heard-quiet host.control.settings c.args.from c.args.packet.now.sender c.args.packet.now.body (begun (host_of host) c.args.now) tt in
-    let touched = gets_touched p1 kept1 c.args.from known other c.args.packet.now c.args.payload.now c.requires.role life c.args.now last most c.receive.new.self c.receive.new.pool c.receive.new.scratch _ d c.in_ok-did.ensures.received c.rows-rows.ensures.placed c.touched_version-touched.result piece (λ r. c.touched_version-touched.ensures q c.receive.new.pool q.id r c.head_of-head.ensures) in
-    let settled : (a : Answer) → IsReply response a d → IsAt (served s q.id (rule a) w) c.settle_server.new.self c.settle_server.new.out = λ a reply.
-    c.settle_server.ensures.step (rule a) w
-    (subst (λ (x : Did ServerRow). IsOutcome x c.server_outcome-outcome.result) (sym (rule_is a reply))
-    (c.server_outcome-outcome.ensures.outcome s m q row told a c.head_of-head.ensures (sym (ap (λ (s : Settings). s.served) c.settings-settings.ensures.settings)) (c.service_of-number.ensures q.payload) touched refl))
-    (at_of w p1 c.args.out.now amid) in
-    let new : HostParts = record { control = c.settle_server.new.self; clients = host.clients; servers = c.receive.new.self; pool = c.receive.new.pool; books = c.follow_server.new.books; order = host.order + c.server_orders.result } in
-    let same : response_of (host_of new) q.id ≡ response = response_same c.receive.new.pool c.receive.new.self.rows q.id (host_of new) refl in
-    let marked = (settled (reply_of d response) (is_reply_of d response)).marked in
-    (reply_of d response, told_answered s q.id piece row told response d w quiet m rule rule_is (host_of new) same c.settle_server.new.self.marks marked)
+    let at = goal.at.returns-clause-answered g c in
+    let x = settled g at.After-settle_server (taken g at.After-settings-settings) (followed g at.After-follow_server) in
+    x.answered
 
 pub returns-clause-allowed : goal.returns-clause-allowed
 returns-clause-allowed g c =
-    let host = c.args.self.now in
-    let p1 : HostParts = at c.args.self.now c.requires.kept c.args.now c.requires.later c.begin.new.self c.hear.new.self c.begin.ensures c.hear.ensures.same c.settings-settings.ensures.sound in
-    let kept1 : IsKept p1 = kept_at c.args.self.now c.requires.kept c.args.now c.requires.later c.begin.new.self c.hear.new.self c.begin.ensures c.hear.ensures.same c.settings-settings.ensures.sound in
-    let goes : GoesOn host.control p1.control = on c.args.self.now c.requires.kept c.args.now c.requires.later c.begin.new.self c.hear.new.self c.begin.ensures c.hear.ensures.same c.settings-settings.ensures.sound in
-    let last = same_last c.args.self.now c.requires.kept c.args.now c.requires.later c.begin.new.self c.hear.new.self c.begin.ensures c.hear.ensures.same c.settings-settings.ensures.sound in
-    let known = subst (λ (s : Settings). c.args.from.0 < s.hosts) (sym goes.settings) c.requires.from in
-    let other : c.args.from ≡ p1.control.id → ⊥ = λ e. c.requires.other (e ∙ goes.id) in
-    let life = c.requires.formed.call.0 in
-    let most : leased_pages host.pool.leases ≤ host.pool.pages = omega (arith, c.free-free.ensures.whole) in
-    let d = c.in_ok-did.did in
-    let followed = subst (λ (t : Change × ℕ). FollowedServer c.receive.new.self t.1 t.0 host.books c.follow_server.new.books) (λ i. (c.server_change-change.ensures i, ap (λ (s : Settings). s.calls) c.settings-settings.ensures.settings i)) c.follow_server.ensures in
-    let s = p1.control.settings in
-    let q : Packet = p p1 kept1 c.args.from known other c.args.packet.now c.args.payload.now c.requires.role life c.args.now last most c.receive.new.self c.receive.new.pool c.receive.new.scratch _ d c.in_ok-did.ensures.received c.rows-rows.ensures.placed in
-    let w : Work = hears_cutoffs host.control.settings c.args.from c.args.packet.now.sender c.args.packet.now.body (begun (host_of host) c.args.now) in
-    let amid : Amid w p1 c.args.out.now = subst (λ frames. Amid w p1 frames) (sym c.requires.out) (amid_at c.args.self.now c.requires.kept c.args.now c.requires.later c.begin.new.self c.hear.new.self c.begin.ensures c.hear.ensures.same c.settings-settings.ensures.sound c.args.from c.args.packet.now.sender c.args.packet.now.body c.hear.ensures.step) in
-    let m = moment s q.id w in
-    let piece = piece_in q.body q.payload in
-    let row = row_now p1 kept1 c.args.from known other c.args.packet.now c.args.payload.now c.requires.role life c.args.now last most c.receive.new.self c.receive.new.pool c.receive.new.scratch _ d c.in_ok-did.ensures.received c.rows-rows.ensures.placed in
-    let told = c.receive.new.scratch in
-    let response = response_at c.receive.new.self.rows q.id in
-    let rule : Answer → Did ServerRow = λ a. gets p1 kept1 c.args.from known other c.args.packet.now c.args.payload.now c.requires.role life c.args.now last most c.receive.new.self c.receive.new.pool c.receive.new.scratch _ d c.in_ok-did.ensures.received c.rows-rows.ensures.placed a w in
-    let rule_is : (a : Answer) → IsReply response a d → rule a ≡ served_of s m q.id piece row told a d = λ a reply. gets_is p1 kept1 c.args.from known other c.args.packet.now c.args.payload.now c.requires.role life c.args.now last most c.receive.new.self c.receive.new.pool c.receive.new.scratch _ d c.in_ok-did.ensures.received c.rows-rows.ensures.placed a reply w amid.host in
-    let quiet : AreQuiet w.told = heard-quiet host.control.settings c.args.from c.args.packet.now.sender c.args.packet.now.body (begun (host_of host) c.args.now) tt in
-    let touched = gets_touched p1 kept1 c.args.from known other c.args.packet.now c.args.payload.now c.requires.role life c.args.now last most c.receive.new.self c.receive.new.pool c.receive.new.scratch _ d c.in_ok-did.ensures.received c.rows-rows.ensures.placed c.touched_version-touched.result piece (λ r. c.touched_version-touched.ensures q c.receive.new.pool q.id r c.head_of-head.ensures) in
-    let settled : (a : Answer) → IsReply response a d → IsAt (served s q.id (rule a) w) c.settle_server.new.self c.settle_server.new.out = λ a reply.
-    c.settle_server.ensures.step (rule a) w
-    (subst (λ (x : Did ServerRow). IsOutcome x c.server_outcome-outcome.result) (sym (rule_is a reply))
-    (c.server_outcome-outcome.ensures.outcome s m q row told a c.head_of-head.ensures (sym (ap (λ (s : Settings). s.served) c.settings-settings.ensures.settings)) (c.service_of-number.ensures q.payload) touched refl))
-    (at_of w p1 c.args.out.now amid) in
-    let new : HostParts = record { control = c.settle_server.new.self; clients = host.clients; servers = c.receive.new.self; pool = c.receive.new.pool; books = c.follow_server.new.books; order = host.order + c.server_orders.result } in
-    let same : response_of (host_of new) q.id ≡ response = response_same c.receive.new.pool c.receive.new.self.rows q.id (host_of new) refl in
-    let marked = (settled (reply_of d response) (is_reply_of d response)).marked in
-    told_allowed s q.id piece row told response d w quiet m rule rule_is (host_of new) same c.settle_server.new.self.marks marked (g.V.Service.allows c.args.service.now (g.V.Service.served c.args.service.now)) (got p1 kept1 c.args.from known other c.args.packet.now c.args.payload.now c.requires.role life c.args.now last most c.receive.new.self c.receive.new.pool c.receive.new.scratch _ d c.in_ok-did.ensures.received c.rows-rows.ensures.placed).ran
+    let at = goal.at.returns-clause-allowed g c in
+    let x = settled g at.After-settle_server (taken g at.After-settings-settings) (followed g at.After-follow_server) in
+    x.allowed
