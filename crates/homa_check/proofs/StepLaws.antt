@@ -29,7 +29,7 @@ use Rattle.homa_judging.specs.Spots.{spot, Undo, IsUndo}
 use Rattle.homa_judging.specs.Steps.{undo_after, undo_of}
 use Rattle.homa_judging.specs.Tested.{IsWithinSpot, to_test, AtCall, IsOther}
 use Rattle.homa_judging.proofs.Lines.{line_undo}
-use Rattle.homa_judging.proofs.Within.{within_line}
+use Rattle.homa_judging.proofs.Within.{same_settings, within_line}
 use Rattle.homa_kept.specs.declared.call.Call.{Call}
 use Rattle.homa_kept.specs.Kept.{within, is_within_spot}
 use Rattle.homa_kept.specs.Calls.{called_of}
@@ -241,34 +241,6 @@ at_delivered w v t window None (Some p) e is h = absurd is
 at_delivered w v t window (Some d) None e is h = absurd is
 at_delivered w v t window (Some d) (Some p) e is h =
     subst (λ (q : CallId). IsWithinSpot window (spot w.now q)) (ap (λ k. k.id) is.packet) (subst (λ (n : ℕ). IsWithinSpot n (spot w.now d.packet.id)) e (spot_within w.settings.window (spot w.now d.packet.id) h))
-
--- the settings stay
-same_settings : (v : View) (line : PlainEntry) → IsOther line → (seen v line).settings ≡ v.settings
-unfolding seen
-same_settings v (PlainSettings settings) other = absurd other
-same_settings v (PlainDeliver packet) other = of_packet (delivery v (PlainDeliver packet)) where
-  of_packet : (o : Option Sent) → (delivered (begun v) o).settings ≡ v.settings
-  of_packet None = refl
-  of_packet (Some p) = refl
-same_settings v (PlainRecv host from bytes) other = of_packet (delivery v (PlainRecv host from bytes)) where
-  of_packet : (o : Option Sent) → (delivered (begun v) o).settings ≡ v.settings
-  of_packet None = refl
-  of_packet (Some p) = refl
-same_settings v (PlainFail id Timeout) other = refl
-same_settings v (PlainFail id Forgotten) other = refl
-same_settings v (PlainGaps host id) other = of_test (is_delivery_to v host id) where
-  of_test : (b : Bool) → (if b then record v { now = v.if_refused } else v).settings ≡ v.settings
-  of_test true = refl
-  of_test false = refl
-same_settings v (PlainFullRows host id rows limit) other = of_test (is_delivery_to v host id) where
-  of_test : (b : Bool) → (if b then record v { now = v.if_refused } else v).settings ≡ v.settings
-  of_test true = refl
-  of_test false = refl
-same_settings v (PlainFullPages host id need free) other = of_test (is_delivery_to v host id) where
-  of_test : (b : Bool) → (if b then record v { now = v.if_refused } else v).settings ≡ v.settings
-  of_test true = refl
-  of_test false = refl
-same_settings v line other = refl
 
 -- the calls that were tested are those that a line may take out of their windows
 at_tested : (v : View) (t u : Trace) (o : Option Undo) (line : PlainEntry) → IsOther line → (seen v line).settings ≡ v.settings → IsDelivered t t.delivery o → IsDelivered u u.delivery (undo_after v o line) → keeps_window (seen v line) (tested t.delivery line) ≡ true → keeps_window (seen v line) (tested u.delivery line) ≡ true
