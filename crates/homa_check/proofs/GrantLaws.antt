@@ -29,7 +29,7 @@ use Rattle.homa_plain.specs.View.{View}
 use Rattle.homa_kept.specs.declared.choice.Message.{Message}
 use Rattle.homa_kept.specs.Choices.{sender_of, key_of}
 use Rattle.homa_check.specs.declared.grant.Grant.{Grant}
-use Rattle.homa_check.specs.Traces.{is_incoming_at}
+use Rattle.homa_trace.specs.Traces.{is_incoming_at}
 use Rattle.homa_check.specs.Grants.{message_of, plain_grant, is_told_to, is_grant_among}
 
 -- ---- keys in order

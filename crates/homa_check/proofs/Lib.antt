@@ -1,17 +1,4 @@
-pub mod Places
-pub mod Hosts
-pub mod NamedLaws
 pub mod LoopLaws
-pub mod Starts
-pub mod Readings
-pub mod RunLaws
-pub mod KeepLaws
 pub mod GrantLaws
 pub mod MessageLaws
-pub mod TakeLaws
-pub mod DeliverLaws
-pub mod SendLaws
-pub mod LineLaws
-pub mod StartLaws
-pub mod EventLaws
 pub mod StepLaws

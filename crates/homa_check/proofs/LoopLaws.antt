@@ -14,9 +14,10 @@ use Rattle.homa_script.proofs.ReadParts.{some_left, at_end, none_left}
 use Rattle.homa_script.proofs.LinesOf.{lines_of-front}
 use Rattle.homa_verdict.specs.Verdict as plain
 use Rattle.homa_verdict.proofs.TextLaws.{short_line, long_line, over_line, place-seen}
-use Rattle.homa_check.specs.declared.trace.Trace.{Trace}
+use Rattle.homa_trace.specs.declared.trace.Trace.{Trace}
 use Rattle.homa_check.specs.declared.verdict.Clause.{Clause}
-use Rattle.homa_check.specs.Traces.{Follows, clause_of}
+use Rattle.homa_check.specs.Clauses.{clause_of}
+use Rattle.homa_trace.specs.Traces.{Follows}
 use Rattle.homa_check.specs.Checks.{verdict_at_end, verdict_left, verdict_next, IsTaken}
 
 -- ---- the lines that are left

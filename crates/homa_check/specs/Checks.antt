@@ -10,12 +10,13 @@ use Rattle.homa_text.specs.Lines.{Reading}
 use Rattle.homa_verdict.specs.Verdict as plain
 use Rattle.homa_check.specs.declared.text.Next.{Next}
 use Rattle.homa_check.specs.declared.text.Next.TheVariants.{Taken, End, Fails}
-use Rattle.homa_check.specs.declared.trace.Trace.{Trace}
+use Rattle.homa_trace.specs.declared.trace.Trace.{Trace}
 use Rattle.homa_check.specs.declared.verdict.Verdict.{Verdict}
 use Rattle.homa_check.specs.declared.verdict.Verdict.TheVariants.{Yes, No}
 use Rattle.homa_check.specs.declared.verdict.CheckStop.{CheckStop}
 use Rattle.homa_check.specs.declared.verdict.CheckStop.TheVariants.{Read, NoMemory}
-use Rattle.homa_check.specs.Traces.{Follows, clause_of}
+use Rattle.homa_check.specs.Clauses.{clause_of}
+use Rattle.homa_trace.specs.Traces.{Follows}
 
 -- a verdict, as the definitions have it
 abbrev pub plain_verdict : Verdict → plain.Verdict

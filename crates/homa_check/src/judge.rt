@@ -5,7 +5,8 @@ ghost use Rattle.std.specs.Option.{option_map};
 ghost use Rattle.std.specs.List.Sorted.{IsStrictlySortedBy};
 ghost use Rattle.homa_check.specs.Grants.{message_of, asked_message, awaited_message, plain_grant};
 ghost use Rattle.homa_check.specs.Judging.{is_allowed_line, judged_before};
-ghost use Rattle.homa_check.specs.Traces.{Follows, clause_of, call_at, life_in, incarnation_in, is_answer_in};
+ghost use Rattle.homa_check.specs.Clauses.{clause_of};
+ghost use Rattle.homa_trace.specs.Traces.{Follows, call_at, life_in, incarnation_in, is_answer_in};
 ghost use Rattle.homa_kept.specs.Calls.{ran_in};
 ghost use Rattle.homa_kept.specs.Kept.{AreResends, piece_is_data};
 ghost use Rattle.homa_plain.specs.Calls.{is_host, call_cmp};
@@ -18,40 +19,12 @@ ghost use Rattle.homa_plain.specs.Lines as lines;
 ghost use Rattle.homa_plain.specs.View.{View, resends_of};
 ghost use Rattle.homa_plain.specs.Wire.{is_server};
 
-use crate::block::Due;
 use crate::grant::{Grant, is_granted};
-use crate::host::{Host, is_same_host};
-use crate::trace::Trace;
 use crate::verdict::Clause;
 use homa_kept::{Call, Message, Packet, Resends, Run, choose};
 use homa_plain::{Body, CallId, Entry, HostId, LineFault, Role, Why, WorldFault};
+use homa_trace::{Due, Host, Trace, is_event, is_last, is_same_host};
 use std::alloc::{AllocError, Global};
-
-/// The line of an event: a block begins.
-pub(crate) fn is_event(line: &Entry<'_>) -> bool
-    ensures { result ≡ lines.is_event (plain line.now) }
-{
-    match line {
-        Entry::Call { .. }
-        | Entry::Deliver { .. }
-        | Entry::Recv { .. }
-        | Entry::Clock { .. }
-        | Entry::Restart { .. }
-        | Entry::Inject { .. }
-        | Entry::Shift { .. } => true,
-        _ => false,
-    }
-}
-
-/// A last line.
-pub(crate) fn is_last(line: &Entry<'_>) -> bool
-    ensures { result ≡ lines.is_last (plain line.now) }
-{
-    match line {
-        Entry::Finished { .. } | Entry::Refused { .. } | Entry::Stalled { .. } => true,
-        _ => false,
-    }
-}
 
 // A line closes the block before it.
 fn closes(line: &Entry<'_>) -> bool
@@ -106,368 +79,356 @@ fn answers(packet: &Packet) -> bool
     }
 }
 
-impl Trace {
-    // A line stands behind the first one, and behind no last one.
-    fn is_behind(&self) -> bool
-        ensures { (v : View) → Follows v self.now → result ≡ tests.is_behind v }
-    {
-        self.place > 0 && !self.ended
-    }
+// A line stands behind the first one, and behind no last one.
+fn is_behind(trace: &Trace) -> bool
+    ensures { (v : View) → Follows v trace.now → result ≡ tests.is_behind v }
+{
+    trace.place > 0 && !trace.ended
+}
 
-    // The call that a line names, if it names one, was made before.
-    fn is_made(&self, id: Option<CallId>) -> bool
-        ensures { (v : View) → Follows v self.now → result ≡ tests.is_made v id }
-    {
-        match id {
-            Some(id) => self.find(id).is_some(),
-            None => true,
-        }
+// The call that a line names, if it names one, was made before.
+fn is_made(trace: &Trace, id: Option<CallId>) -> bool
+    ensures { (v : View) → Follows v trace.now → result ≡ tests.is_made v id }
+{
+    match id {
+        Some(id) => trace.find(id).is_some(),
+        None => true,
     }
+}
 
-    // A call is new, its request is a message, and its client and its server are two hosts of the run.
-    fn is_new_call(&self, id: CallId, server: HostId, len: usize) -> bool
-        ensures { (v : View) (request : List ℕ) → Follows v self.now → length request ≡ len → result ≡ tests.is_new_call v id server request }
-    {
-        self.find(id).is_none()
-            && 1 <= len
-            && len <= 1_000_000
-            && u32::from(id.client.0) < self.settings.hosts
-            && u32::from(server.0) < self.settings.hosts
-            && !is_same_host(id.client, server)
-    }
+// A call is new, its request is a message, and its client and its server are two hosts of the run.
+fn is_new_call(trace: &Trace, id: CallId, server: HostId, len: usize) -> bool
+    ensures { (v : View) (request : List ℕ) → Follows v trace.now → length request ≡ len → result ≡ tests.is_new_call v id server request }
+{
+    trace.find(id).is_none()
+        && 1 <= len
+        && len <= 1_000_000
+        && u32::from(id.client.0) < trace.settings.hosts
+        && u32::from(server.0) < trace.settings.hosts
+        && !is_same_host(id.client, server)
+}
 
-    // The line may stand where it does.
-    fn has_shape(&self, line: &Entry<'_>) -> bool
-        ensures { (v : View) → Follows v self.now → result ≡ tests.has_shape v (plain line.now) }
-    {
-        match line {
-            Entry::Settings(settings) => self.place == 0 && settings.check().is_ok(),
-            Entry::Call {
-                id,
-                server,
-                bytes,
-                ..
-            } => self.is_behind() && self.is_new_call(*id, *server, bytes.len()),
-            Entry::Deliver { packet } => self.is_behind() && self.has_packet(*packet),
-            Entry::Send { number, id, .. } => {
-                self.is_behind() && self.is_next_packet(*number) && self.is_made(Some(*id))
-            }
-            Entry::Refused { fault, .. } => self.is_behind() && is_cause(fault),
-            _ => self.is_behind() && self.is_made(named(line)),
-        }
-    }
-
-    // A packet with this number was sent.
-    #[tactic(auto, using(crate::proofs::Readings::sent_is))]
-    fn has_packet(&self, packet: u64) -> bool
-        ensures { (v : View) → Follows v self.now → result ≡ nat_lt packet (length v.packets) }
-    {
-        packet < self.packets.len() as u64
-    }
-
-    // It is the number of the next packet.
-    #[tactic(auto, using(crate::proofs::Readings::sent_is))]
-    fn is_next_packet(&self, number: u64) -> bool
-        ensures { (v : View) → Follows v self.now → result ≡ (number == length v.packets) }
-    {
-        number == self.packets.len() as u64
-    }
-
-    /// A call, if it was made.
-    pub(crate) fn call(&self, id: CallId) -> Option<&Call>
-        ensures some { IfSome result (λ call. call_at self.now id ≡ Some call.now) }
-        ensures none { IfNone result (call_at self.now id ≡ None) }
-    {
-        let at = self.find(id)?;
-        Some(&self.calls[at])
-    }
-
-    // A host is a call's server, and the call didn't run there in this life.
-    fn may_run(&self, call: &Call, host: HostId) -> bool
-        ensures { result ≡ (is_host call.now.server host && not (ran_in call.now (life_in self.now host))) }
-    {
-        is_same_host(call.server, host) && !call.ran_in(self.life(host))
-    }
-
-    // The call didn't run in this life of its server, and the line tells its server, its service and its request.
-    fn runs_once(&self, line: &Entry<'_>) -> bool
-        ensures { (v : View) → Follows v self.now → result ≡ tests.runs_once v (plain line.now) }
-    {
-        let Entry::Run {
-            host,
+// The line may stand where it does.
+fn has_shape(trace: &Trace, line: &Entry<'_>) -> bool
+    ensures { (v : View) → Follows v trace.now → result ≡ tests.has_shape v (plain line.now) }
+{
+    match line {
+        Entry::Settings(settings) => trace.place == 0 && settings.check().is_ok(),
+        Entry::Call {
             id,
-            service,
-            request,
+            server,
+            bytes,
             ..
-        } = line
-        else {
-            return true;
-        };
-        match self.call(*id) {
-            Some(call) => self.may_run(call, *host) && is_called_with(call, *service, request),
-            None => false,
+        } => is_behind(trace) && is_new_call(trace, *id, *server, bytes.len()),
+        Entry::Deliver { packet } => is_behind(trace) && has_packet(trace, *packet),
+        Entry::Send { number, id, .. } => {
+            is_behind(trace) && is_next_packet(trace, *number) && is_made(trace, Some(*id))
         }
+        Entry::Refused { fault, .. } => is_behind(trace) && is_cause(fault),
+        _ => is_behind(trace) && is_made(trace, named(line)),
     }
+}
 
-    // A call has this answer, of a run in a life of this incarnation.
-    fn has_answer(&self, id: CallId, inc: u32, bytes: &[u8]) -> bool
-        ensures { (v : View) → Follows v self.now → result ≡ list_any (bytes_eq bytes.now) (answers v id inc) }
-    {
-        match self.call(id) {
-            Some(call) => self.is_any_answer(call, inc, bytes),
-            None => false,
+// A packet with this number was sent.
+#[tactic(auto, using(homa_trace::proofs::Readings::sent_is))]
+fn has_packet(trace: &Trace, packet: u64) -> bool
+    ensures { (v : View) → Follows v trace.now → result ≡ nat_lt packet (length v.packets) }
+{
+    packet < trace.packets.len() as u64
+}
+
+// It is the number of the next packet.
+#[tactic(auto, using(homa_trace::proofs::Readings::sent_is))]
+fn is_next_packet(trace: &Trace, number: u64) -> bool
+    ensures { (v : View) → Follows v trace.now → result ≡ (number == length v.packets) }
+{
+    number == trace.packets.len() as u64
+}
+
+// A host is a call's server, and the call didn't run there in this life.
+fn may_run(trace: &Trace, call: &Call, host: HostId) -> bool
+    ensures { result ≡ (is_host call.now.server host && not (ran_in call.now (life_in trace.now host))) }
+{
+    is_same_host(call.server, host) && !call.ran_in(trace.life(host))
+}
+
+// The call didn't run in this life of its server, and the line tells its server, its service and its request.
+fn runs_once(trace: &Trace, line: &Entry<'_>) -> bool
+    ensures { (v : View) → Follows v trace.now → result ≡ tests.runs_once v (plain line.now) }
+{
+    let Entry::Run {
+        host,
+        id,
+        service,
+        request,
+        ..
+    } = line
+    else {
+        return true;
+    };
+    match trace.call(*id) {
+        Some(call) => may_run(trace, call, *host) && is_called_with(call, *service, request),
+        None => false,
+    }
+}
+
+// A call has this answer, of a run in a life of this incarnation.
+fn has_answer(trace: &Trace, id: CallId, inc: u32, bytes: &[u8]) -> bool
+    ensures { (v : View) → Follows v trace.now → result ≡ list_any (bytes_eq bytes.now) (answers v id inc) }
+{
+    match trace.call(id) {
+        Some(call) => is_any_answer(trace, call, inc, bytes),
+        None => false,
+    }
+}
+
+// One of a call's runs was in a life of this incarnation, and its response is this.
+fn is_any_answer(trace: &Trace, call: &Call, inc: u32, bytes: &[u8]) -> bool
+    ensures { result ≡ list_any (is_answer_in trace.now call.now.server inc bytes.now) call.now.runs.items }
+{
+    call.runs
+        .iter()
+        .any(|run| is_answer(trace, call.server, run, inc, bytes))
+}
+
+// A run of a call of this server was in a life of this incarnation, and its response is this.
+fn is_answer(trace: &Trace, server: HostId, run: &Run, inc: u32, bytes: &[u8]) -> bool
+    ensures { result ≡ is_answer_in trace.now server inc bytes.now run.now }
+{
+    incarnation(trace, server, run.life) == Some(inc) && bytes == run.response.as_slice()
+}
+
+// The incarnation of a life of a host, if the lines tell it.
+fn incarnation(trace: &Trace, host: HostId, life: usize) -> Option<u32>
+    ensures { result ≡ incarnation_in trace.now host life }
+{
+    trace.hosts.get(host.0 as usize)?.incarnation(life)
+}
+
+// The block began with the delivery of a piece of a response, and the call answered this in the life that sent it.
+fn returns_answer(trace: &Trace, line: &Entry<'_>) -> bool
+    ensures { (v : View) → Follows v trace.now → result ≡ tests.returns_answer v (plain line.now) }
+{
+    let Entry::Done { id, bytes } = line else {
+        return true;
+    };
+    match trace.delivery {
+        Some(delivery) => {
+            answers(&delivery.packet) && has_answer(trace, *id, delivery.packet.inc, bytes)
         }
+        None => false,
     }
+}
 
-    // One of a call's runs was in a life of this incarnation, and its response is this.
-    fn is_any_answer(&self, call: &Call, inc: u32, bytes: &[u8]) -> bool
-        ensures { result ≡ list_any (is_answer_in self.now call.now.server inc bytes.now) call.now.runs.items }
-    {
-        call.runs
-            .iter()
-            .any(|run| self.is_answer(call.server, run, inc, bytes))
+// The RESENDs of a call since its last renewal.
+fn resends(trace: &Trace, id: CallId) -> Resends
+    ensures { (v : View) → Follows v trace.now → AreResends v.settings.resend result (resends_of v.now id) }
+{
+    match trace.call(id) {
+        Some(call) => call.spot.resends,
+        None => Resends::NONE,
     }
+}
 
-    // A run of a call of this server was in a life of this incarnation, and its response is this.
-    fn is_answer(&self, server: HostId, run: &Run, inc: u32, bytes: &[u8]) -> bool
-        ensures { result ≡ is_answer_in self.now server inc bytes.now run.now }
-    {
-        self.incarnation(server, run.life) == Some(inc) && bytes == run.response.as_slice()
-    }
+// Since a call's last renewal there were `tries` RESENDs, and no answer to any for `resend` ticks.
+fn is_unanswered(trace: &Trace, id: CallId) -> bool
+    ensures { (v : View) → Follows v trace.now → result ≡ tests.is_unanswered v id }
+{
+    let tick = trace.own_tick(id.client);
+    resends(trace, id).are_unanswered(tick, trace.settings.tries, trace.settings.resend)
+}
 
-    // The incarnation of a life of a host, if the lines tell it.
-    fn incarnation(&self, host: HostId, life: usize) -> Option<u32>
-        ensures { result ≡ incarnation_in self.now host life }
-    {
-        self.hosts.get(host.0 as usize)?.incarnation(life)
-    }
+// A block that a line closes has the lines that are due of the message that its delivery made whole.
+fn hands_up(trace: &Trace, line: &Entry<'_>) -> bool
+    ensures { (v : View) → Follows v trace.now → result ≡ tests.hands_up v (plain line.now) }
+{
+    !closes(line) || has_ends(trace)
+}
 
-    // The block began with the delivery of a piece of a response, and the call answered this in the life that sent it.
-    fn returns_answer(&self, line: &Entry<'_>) -> bool
-        ensures { (v : View) → Follows v self.now → result ≡ tests.returns_answer v (plain line.now) }
-    {
-        let Entry::Done { id, bytes } = line else {
-            return true;
-        };
-        match self.delivery {
-            Some(delivery) => {
-                answers(&delivery.packet) && self.has_answer(*id, delivery.packet.inc, bytes)
-            }
-            None => false,
-        }
-    }
+// The `run` and `done` lines of the block are those that are due.
+fn has_ends(trace: &Trace) -> bool
+    ensures { (v : View) → Follows v trace.now → result ≡ (are_same_calls v.here.runs v.now.due.runs && are_same_calls v.here.dones v.now.due.dones) }
+{
+    let due = Due::of(&trace.delivery);
+    trace.here.runs.is_exactly(due.run) && trace.here.dones.is_exactly(due.done)
+}
 
-    // The RESENDs of a call since its last renewal.
-    fn resends(&self, id: CallId) -> Resends
-        ensures { (v : View) → Follows v self.now → AreResends v.settings.resend result (resends_of v.now id) }
-    {
-        match self.call(id) {
-            Some(call) => call.spot.resends,
-            None => Resends::NONE,
-        }
-    }
+// The `fail` lines of the block that tell of a forgotten call are those that are due.
+fn has_failed(trace: &Trace) -> bool
+    ensures { (v : View) → Follows v trace.now → result ≡ are_same_calls v.here.forgotten v.now.due.forgotten }
+{
+    let due = Due::of(&trace.delivery);
+    trace.here.forgotten.is_exactly(due.forgotten)
+}
 
-    // Since a call's last renewal there were `tries` RESENDs, and no answer to any for `resend` ticks.
-    fn is_unanswered(&self, id: CallId) -> bool
-        ensures { (v : View) → Follows v self.now → result ≡ tests.is_unanswered v id }
-    {
-        let tick = self.own_tick(id.client);
-        self.resends(id)
-            .are_unanswered(tick, self.settings.tries, self.settings.resend)
-    }
-
-    // A block that a line closes has the lines that are due of the message that its delivery made whole.
-    fn hands_up(&self, line: &Entry<'_>) -> bool
-        ensures { (v : View) → Follows v self.now → result ≡ tests.hands_up v (plain line.now) }
-    {
-        !closes(line) || self.has_ends()
-    }
-
-    // The `run` and `done` lines of the block are those that are due.
-    fn has_ends(&self) -> bool
-        ensures { (v : View) → Follows v self.now → result ≡ (are_same_calls v.here.runs v.now.due.runs && are_same_calls v.here.dones v.now.due.dones) }
-    {
-        let due = Due::of(&self.delivery);
-        self.here.runs.is_exactly(due.run) && self.here.dones.is_exactly(due.done)
-    }
-
-    // The `fail` lines of the block that tell of a forgotten call are those that are due.
-    fn has_failed(&self) -> bool
-        ensures { (v : View) → Follows v self.now → result ≡ are_same_calls v.here.forgotten v.now.due.forgotten }
-    {
-        let due = Due::of(&self.delivery);
-        self.here.forgotten.is_exactly(due.forgotten)
-    }
-
-    // A timeout is of an unanswered call; in a block that a line closes the call that is forgotten fails, if any.
-    fn fails_in_time(&self, line: &Entry<'_>) -> bool
-        ensures { (v : View) → Follows v self.now → result ≡ tests.fails_in_time v (plain line.now) }
-    {
-        match line {
-            Entry::Fail {
-                id,
-                why: Why::Timeout,
-            } => self.is_unanswered(*id),
-            _ => !closes(line) || self.has_failed(),
-        }
-    }
-
-    // A call's request, as the choice sees it.
-    fn request_of(&self, id: CallId) -> Option<Message>
-        ensures { result ≡ asked_message self.now id }
-    {
-        let call = self.call(id)?;
-        let part = call.spot_in(self.lives(id, call.server)).request?;
-        Some(Message {
-            role: Role::Server,
+// A timeout is of an unanswered call; in a block that a line closes the call that is forgotten fails, if any.
+fn fails_in_time(trace: &Trace, line: &Entry<'_>) -> bool
+    ensures { (v : View) → Follows v trace.now → result ≡ tests.fails_in_time v (plain line.now) }
+{
+    match line {
+        Entry::Fail {
             id,
-            peer: id.client,
-            length: part.length,
-            arrived: part.count,
-            granted: part.granted,
-            order: part.order,
-        })
+            why: Why::Timeout,
+        } => is_unanswered(trace, *id),
+        _ => !closes(line) || has_failed(trace),
     }
+}
 
-    // A call's response, as the choice sees it.
-    fn response_of(&self, id: CallId) -> Option<Message>
-        ensures { result ≡ awaited_message self.now id }
-    {
-        let call = self.call(id)?;
-        let part = call.spot_in(self.lives(id, call.server)).response?;
-        Some(Message {
-            role: Role::Client,
-            id,
-            peer: call.server,
-            length: part.length,
-            arrived: part.count,
-            granted: part.granted,
-            order: part.order,
-        })
+// A call's request, as the choice sees it.
+fn request_of(trace: &Trace, id: CallId) -> Option<Message>
+    ensures { result ≡ asked_message trace.now id }
+{
+    let call = trace.call(id)?;
+    let part = call.spot_in(trace.lives(id, call.server)).request?;
+    Some(Message {
+        role: Role::Server,
+        id,
+        peer: id.client,
+        length: part.length,
+        arrived: part.count,
+        granted: part.granted,
+        order: part.order,
+    })
+}
+
+// A call's response, as the choice sees it.
+fn response_of(trace: &Trace, id: CallId) -> Option<Message>
+    ensures { result ≡ awaited_message trace.now id }
+{
+    let call = trace.call(id)?;
+    let part = call.spot_in(trace.lives(id, call.server)).response?;
+    Some(Message {
+        role: Role::Client,
+        id,
+        peer: call.server,
+        length: part.length,
+        arrived: part.count,
+        granted: part.granted,
+        order: part.order,
+    })
+}
+
+// The requests that are incoming messages of a host, in order of call.
+fn requests_at(alloc: Global, trace: &Trace, host: &Host) -> Result<Vec<Message>, AllocError>
+    ensures items { IfOk result (λ r. r.items ≡ filter_map (asked_message trace.now) host.now.asked.keys) }
+    ensures ordered { IsStrictlySortedBy call_cmp host.now.asked.keys }
+{
+    host.asked
+        .iter()
+        .filter_map(|id| request_of(trace, *id))
+        .collect(alloc)
+}
+
+// The responses that are.
+fn responses_at(alloc: Global, trace: &Trace, host: &Host) -> Result<Vec<Message>, AllocError>
+    ensures items { IfOk result (λ r. r.items ≡ filter_map (awaited_message trace.now) host.now.awaited.keys) }
+    ensures ordered { IsStrictlySortedBy call_cmp host.now.awaited.keys }
+{
+    host.awaited
+        .iter()
+        .filter_map(|id| response_of(trace, *id))
+        .collect(alloc)
+}
+
+// The requests and then the responses that are.
+fn messages_of(alloc: Global, trace: &Trace, host: &Host) -> Result<Vec<Message>, AllocError>
+    ensures items { IfOk result (λ r. r.items ≡ filter_map (asked_message trace.now) host.now.asked.keys ++ filter_map (awaited_message trace.now) host.now.awaited.keys) }
+    ensures asked { IfOk result (λ r. IsStrictlySortedBy call_cmp host.now.asked.keys) }
+    ensures awaited { IfOk result (λ r. IsStrictlySortedBy call_cmp host.now.awaited.keys) }
+{
+    let mut messages = requests_at(alloc, trace, host)?;
+    messages.extend_from_slice(&responses_at(alloc, trace, host)?)?;
+    Ok(messages)
+}
+
+// The incoming messages of a host, requests before responses, each in order of call.
+fn messages_at(alloc: Global, trace: &Trace, host: HostId) -> Result<Vec<Message>, AllocError>
+    ensures { IfOk result (λ r. (v : View) → Follows v trace.now → r.items ≡ map message_of (incoming v.now host)) }
+{
+    match trace.hosts.get(host.0 as usize) {
+        Some(known) => Ok(messages_of(alloc, trace, known)?),
+        None => Ok(Vec::new(alloc)),
     }
+}
 
-    // The requests that are incoming messages of a host, in order of call.
-    fn requests_at(&self, alloc: Global, host: &Host) -> Result<Vec<Message>, AllocError>
-        ensures items { IfOk result (λ r. r.items ≡ filter_map (asked_message self.now) host.now.asked.keys) }
-        ensures ordered { IsStrictlySortedBy call_cmp host.now.asked.keys }
-    {
-        host.asked
-            .iter()
-            .filter_map(|id| self.request_of(*id))
-            .collect(alloc)
-    }
+// A GRANT is one of those that a host may send.
+fn has_grant(alloc: Global, trace: &Trace, host: HostId, grant: &Grant) -> Result<bool, AllocError>
+    ensures { IfOk result (λ r. (v : View) → Follows v trace.now → r ≡ list_any (is_grant (plain_grant grant.now)) (allowed v host)) }
+{
+    let messages = messages_at(alloc, trace, host)?;
+    let chosen = choose(alloc, &messages, trace.settings.overcommit as usize)?;
+    Ok(is_granted(&chosen, trace.settings.window, grant))
+}
 
-    // The responses that are.
-    fn responses_at(&self, alloc: Global, host: &Host) -> Result<Vec<Message>, AllocError>
-        ensures items { IfOk result (λ r. r.items ≡ filter_map (awaited_message self.now) host.now.awaited.keys) }
-        ensures ordered { IsStrictlySortedBy call_cmp host.now.awaited.keys }
-    {
-        host.awaited
-            .iter()
-            .filter_map(|id| self.response_of(*id))
-            .collect(alloc)
-    }
-
-    // The requests and then the responses that are.
-    fn messages_of(&self, alloc: Global, host: &Host) -> Result<Vec<Message>, AllocError>
-        ensures items { IfOk result (λ r. r.items ≡ filter_map (asked_message self.now) host.now.asked.keys ++ filter_map (awaited_message self.now) host.now.awaited.keys) }
-        ensures asked { IfOk result (λ r. IsStrictlySortedBy call_cmp host.now.asked.keys) }
-        ensures awaited { IfOk result (λ r. IsStrictlySortedBy call_cmp host.now.awaited.keys) }
-    {
-        let mut messages = self.requests_at(alloc, host)?;
-        messages.extend_from_slice(&self.responses_at(alloc, host)?)?;
-        Ok(messages)
-    }
-
-    // The incoming messages of a host, requests before responses, each in order of call.
-    fn messages_at(&self, alloc: Global, host: HostId) -> Result<Vec<Message>, AllocError>
-        ensures { IfOk result (λ r. (v : View) → Follows v self.now → r.items ≡ map message_of (incoming v.now host)) }
-    {
-        match self.hosts.get(host.0 as usize) {
-            Some(known) => Ok(self.messages_of(alloc, known)?),
-            None => Ok(Vec::new(alloc)),
-        }
-    }
-
-    // A GRANT is one of those that a host may send.
-    fn has_grant(&self, alloc: Global, host: HostId, grant: &Grant) -> Result<bool, AllocError>
-        ensures { IfOk result (λ r. (v : View) → Follows v self.now → r ≡ list_any (is_grant (plain_grant grant.now)) (allowed v host)) }
-    {
-        let messages = self.messages_at(alloc, host)?;
-        let chosen = choose(alloc, &messages, self.settings.overcommit as usize)?;
-        Ok(is_granted(&chosen, self.settings.window, grant))
-    }
-
-    // A packet with this body, if it is a GRANT, is one of those that its host may send.
-    fn is_allowed_body(
-        &self,
-        alloc: Global,
-        from: HostId,
-        to: HostId,
-        role: Role,
-        id: CallId,
-        body: &Body,
-    ) -> Result<bool, AllocError>
-        ensures { IfOk result (λ r. (v : View) → Follows v self.now → r ≡ tests.is_allowed v from to role id body.now) }
-    {
-        match body {
-            Body::Grant { offset, prio } => {
-                let grant = Grant {
-                    to,
-                    role,
-                    id,
-                    offset: *offset,
-                    prio: *prio,
-                };
-                Ok(self.has_grant(alloc, from, &grant)?)
-            }
-            _ => Ok(true),
-        }
-    }
-
-    // A packet that is a GRANT is one of those that its host may send.
-    fn is_allowed(&self, alloc: Global, line: &Entry<'_>) -> Result<bool, AllocError>
-        ensures { IfOk result (λ r. (v : View) → Follows v self.now → r ≡ is_allowed_line v (plain line.now)) }
-    {
-        match line {
-            Entry::Send {
-                from,
+// A packet with this body, if it is a GRANT, is one of those that its host may send.
+fn is_allowed_body(
+    alloc: Global,
+    trace: &Trace,
+    from: HostId,
+    to: HostId,
+    role: Role,
+    id: CallId,
+    body: &Body,
+) -> Result<bool, AllocError>
+    ensures { IfOk result (λ r. (v : View) → Follows v trace.now → r ≡ tests.is_allowed v from to role id body.now) }
+{
+    match body {
+        Body::Grant { offset, prio } => {
+            let grant = Grant {
                 to,
                 role,
                 id,
-                body,
-                ..
-            } => Ok(self.is_allowed_body(alloc, *from, *to, *role, *id, body)?),
-            _ => Ok(true),
+                offset: *offset,
+                prio: *prio,
+            };
+            Ok(has_grant(alloc, trace, from, &grant)?)
         }
+        _ => Ok(true),
     }
+}
 
-    /// The first clause that fails at a line, by the lines before it.
-    pub(crate) fn judge(
-        &self,
-        alloc: Global,
-        line: &Entry<'_>,
-    ) -> Result<Option<Clause>, AllocError>
-        ensures { IfOk result (λ r. (v : View) → Follows v self.now → option_map clause_of r ≡ judged_before v (plain line.now)) }
-    {
-        if !self.has_shape(line) {
-            return Ok(Some(Clause::Shape));
-        }
-        if !self.runs_once(line) {
-            return Ok(Some(Clause::Once));
-        }
-        if !self.returns_answer(line) {
-            return Ok(Some(Clause::Returned));
-        }
-        if !self.hands_up(line) {
-            return Ok(Some(Clause::HandedUp));
-        }
-        if !self.fails_in_time(line) {
-            return Ok(Some(Clause::Fails));
-        }
-        if !self.is_allowed(alloc, line)? {
-            return Ok(Some(Clause::Granting));
-        }
-        Ok(None)
+// A packet that is a GRANT is one of those that its host may send.
+fn is_allowed(alloc: Global, trace: &Trace, line: &Entry<'_>) -> Result<bool, AllocError>
+    ensures { IfOk result (λ r. (v : View) → Follows v trace.now → r ≡ is_allowed_line v (plain line.now)) }
+{
+    match line {
+        Entry::Send {
+            from,
+            to,
+            role,
+            id,
+            body,
+            ..
+        } => Ok(is_allowed_body(alloc, trace, *from, *to, *role, *id, body)?),
+        _ => Ok(true),
     }
+}
+
+/// The first clause that fails at a line, by the lines before it.
+pub(crate) fn judge(
+    alloc: Global,
+    trace: &Trace,
+    line: &Entry<'_>,
+) -> Result<Option<Clause>, AllocError>
+    ensures { IfOk result (λ r. (v : View) → Follows v trace.now → option_map clause_of r ≡ judged_before v (plain line.now)) }
+{
+    if !has_shape(trace, line) {
+        return Ok(Some(Clause::Shape));
+    }
+    if !runs_once(trace, line) {
+        return Ok(Some(Clause::Once));
+    }
+    if !returns_answer(trace, line) {
+        return Ok(Some(Clause::Returned));
+    }
+    if !hands_up(trace, line) {
+        return Ok(Some(Clause::HandedUp));
+    }
+    if !fails_in_time(trace, line) {
+        return Ok(Some(Clause::Fails));
+    }
+    if !is_allowed(alloc, trace, line)? {
+        return Ok(Some(Clause::Granting));
+    }
+    Ok(None)
 }

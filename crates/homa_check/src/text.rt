@@ -2,7 +2,8 @@
 ghost use Rattle.std.specs.Prelude.{◌≡◌, ◌+◌, ◌-◌, ◌*◌, ◌^◌, ◌<◌, ◌≤◌, ℕ, List, Some, None, [], true, false, length, min, IfOk, OnOk};
 ghost use Rattle.std.specs.Option.{option_map};
 ghost use Rattle.homa_check.specs.Checks.{plain_verdict, is_yes, is_read, verdict_at_end, IsNext};
-ghost use Rattle.homa_check.specs.Traces.{Follows, clause_of};
+ghost use Rattle.homa_check.specs.Clauses.{clause_of};
+ghost use Rattle.homa_trace.specs.Traces.{Follows};
 ghost use Rattle.homa_check.specs.declared.text.Next.TheVariants.{Taken};
 ghost use Rattle.homa_check.specs.declared.verdict.Clause.{Clause as AClause};
 ghost use Rattle.homa_check.specs.declared.verdict.Verdict.TheVariants.{Yes, No};
@@ -13,11 +14,12 @@ ghost use Rattle.homa_text.specs.Lines.{reading};
 ghost use Rattle.homa_verdict.specs.Text.{IsTrace, IsNoTrace};
 ghost use Rattle.homa_verdict.specs.Verdict.{verdict_of, judged_text, seen_text};
 
-use crate::trace::Trace;
+use crate::step::step_entry;
 use crate::verdict::{CheckStop, Clause, Verdict};
 use homa_io::Source;
 use homa_lines::read_entry;
 use homa_text::{LineGot, Lines};
+use homa_trace::Trace;
 use std::alloc::{AllocError, Global};
 
 // The most bytes of an input.
@@ -52,7 +54,7 @@ fn step(
     ensures next { IfOk result (λ r. (v : View) → Follows v trace.old → v.place < 2 ^ 64 - 1 → r ≡ None → Follows (seen_text v (entry_of line.now)) trace.new) }
 {
     match read_entry(line, room) {
-        Some(entry) => trace.step(alloc, &entry),
+        Some(entry) => step_entry(alloc, trace, &entry),
         None => Ok(Some(Clause::Shape)),
     }
 }

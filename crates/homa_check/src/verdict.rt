@@ -22,7 +22,7 @@ pub enum Clause {
 impl Clause {
     ghost use Rattle.std.specs.Prelude.{◌≡◌};
     ghost use Rattle.homa_check.specs.Checks.{clause_word};
-    ghost use Rattle.homa_check.specs.Traces.{clause_of};
+    ghost use Rattle.homa_check.specs.Clauses.{clause_of};
 
     /// Its word.
     pub fn word(self) -> &'static [u8]

@@ -76,7 +76,7 @@ module _ (w : ℕ) where
       turned false false s = refl
 
 -- the settings stay
-same_settings : (v : View) (line : PlainEntry) → IsOther line → (seen v line).settings ≡ v.settings
+pub same_settings : (v : View) (line : PlainEntry) → IsOther line → (seen v line).settings ≡ v.settings
 unfolding seen
 same_settings v (PlainSettings settings) other = absurd other
 same_settings v (PlainDeliver packet) other = of_packet (delivery v (PlainDeliver packet)) where

@@ -13,6 +13,7 @@ use Rattle.homa_plain.specs.Wire.{is_client}
 use Rattle.homa_plain.specs.Judge.{are_spaced, is_within_at}
 use Rattle.homa_judging.specs.Spots as spots
 use Rattle.homa_kept.specs.declared.part.Part.{Part}
+use Rattle.homa_kept.specs.declared.resends.OwnTick.{OwnTick}
 use Rattle.homa_kept.specs.declared.resends.Resends.{Resends}
 use Rattle.homa_kept.specs.declared.spot.Spot.{Spot}
 use Rattle.homa_kept.specs.declared.spot.Change.{Change}
@@ -41,10 +42,14 @@ IsPlain p = p.to ≤ p.from
 
 -- ---- RESENDs
 
+-- a tick by a host's own clock
+abbrev pub own_value : OwnTick → ℕ
+own_value t = t.tick + t.lead
+
 -- what is kept of the ticks of RESENDs, the latest first
 abbrev pub AreResends : ℕ → Resends → List ℕ → Type 0
 AreResends gap r [] = (r.count ≡ 0) × (r.are_spaced ≡ true)
-AreResends gap r (t ∷ ticks) = (r.count ≡ min (length ticks + 1) (2 ^ 64 - 1)) × (r.latest ≡ t) × (r.are_spaced ≡ are_spaced gap (t ∷ ticks))
+AreResends gap r (t ∷ ticks) = (r.count ≡ min (length ticks + 1) (2 ^ 64 - 1)) × (own_value r.latest ≡ t) × (r.are_spaced ≡ are_spaced gap (t ∷ ticks))
 
 -- ---- spots
 
@@ -80,7 +85,7 @@ changed b Nothing s = s
 changed b Finished s = spots.finished_spot s
 changed b Dropped s = spots.dropped_spot s
 changed b Renewed s = spots.renewed_spot s
-changed b (Told tick gap) s = spots.told_spot tick s
+changed b (Told tick gap) s = spots.told_spot (own_value tick) s
 changed b (RaisedRequest offset) s = spots.raised_request b.server b.client offset s
 changed b (RaisedResponse offset) s = spots.raised_response b.client b.server offset s
 

@@ -19,5 +19,5 @@ pub use call::{Call, Delivered, Lives, Run};
 pub use choice::{Message, choose};
 pub use packet::{Packet, Piece};
 pub use part::{Arrival, Part};
-pub use resends::Resends;
+pub use resends::{OwnTick, Resends};
 pub use spot::{Change, Spot};

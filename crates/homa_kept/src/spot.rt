@@ -11,7 +11,7 @@ ghost use Rattle.homa_kept.specs.Calls.{ArePlain};
 ghost use Rattle.homa_kept.specs.Kept.{part_of, IsCounted, Beside, StandsFor, IsApart, changed, within, is_within_spot, is_incoming};
 
 use crate::part::Part;
-use crate::resends::Resends;
+use crate::resends::{OwnTick, Resends};
 
 /// What rests on deliveries, of one call: the greatest incarnation that counted while it is live, what has arrived of
 /// its request and of its response, and its RESENDs.
@@ -30,7 +30,7 @@ pub enum Change {
     Finished,
     Dropped,
     Renewed,
-    Told { tick: u128, gap: u32 },
+    Told { tick: OwnTick, gap: u32 },
     RaisedRequest { offset: u32 },
     RaisedResponse { offset: u32 },
 }

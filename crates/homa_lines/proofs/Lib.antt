@@ -1,5 +1,6 @@
 pub mod Cuts
 pub mod Times
+pub mod DigitLaws
 pub mod HexWords
 pub mod NumberWords
 pub mod Readers

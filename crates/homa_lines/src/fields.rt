@@ -1,13 +1,13 @@
 // Values that are read from the words of a line.
 ghost use Rattle.std.specs.Prelude.{◌≡◌, ◌+◌, ◌*◌, ◌^◌, ◌≤◌, ◌∷◌, length, is_some, IfSome};
-ghost use Rattle.std.specs.Char.{is_ascii_uppercase};
-ghost use Rattle.std.specs.List.{list_any};
 ghost use Rattle.std.specs.Option.{option_map};
 ghost use Rattle.homa_lines.specs.Fields.{word_at, number_at, number_below, host_at, id_of, id_at, call_of, route_of, route_at, hex_of, hex_at, ack_of, ack_at, role_of, role_at, why_of, why_at, is_empty, parts};
 ghost use Rattle.homa_lines.specs.FieldsLeft.{left, size, parts_left, length_or_none};
 
+use crate::digits::read_pairs;
 use homa_plain::{CallId, HostId, Role, Why};
 use homa_text::read_number;
+use memchr::memchr;
 
 // What is left of a text's words, between which `separator` stands.
 #[derive(Clone, Copy)]
@@ -21,7 +21,7 @@ fn cut(text: &[u8], separator: u8) -> (&[u8], Option<&[u8]>)
     ensures parts { parts separator text.now ≡ result.0.now ∷ parts_left separator (option_map (λ x. x.now) result.1) }
     ensures shorter { length result.0.now + length_or_none (option_map (λ x. x.now) result.1) ≤ length text.now }
 {
-    match text.iter().position(|b| *b == separator) {
+    match memchr(separator, text) {
         None => (text, None),
         Some(i) => (&text[..i], Some(&text[i + 1..])),
     }
@@ -232,13 +232,6 @@ pub(crate) fn read_why(fields: Fields<'_>) -> Option<(Why, Fields<'_>)>
     Some((why_from(word)?, rest))
 }
 
-// Tells that an upper-case letter stands in a word.
-fn has_upper(word: &[u8]) -> bool
-    ensures { result ≡ list_any is_ascii_uppercase word.now }
-{
-    word.iter().any(u8::is_ascii_uppercase)
-}
-
 // Bytes in lower-case hex, or none for a hyphen, as a word. They are put into the front of `out`.
 #[tactic(auto, unfolding(crate::specs::Fields::hex_of))]
 fn hex_from<'a>(word: &[u8], out: &'a mut [u8]) -> Option<(&'a [u8], &'a mut [u8])>
@@ -252,12 +245,15 @@ fn hex_from<'a>(word: &[u8], out: &'a mut [u8]) -> Option<(&'a [u8], &'a mut [u8
     if word == b"-".as_slice() {
         return Some((&[], out));
     }
-    if has_upper(word) {
+    if word.len() % 2 == 1 {
         return None;
     }
     let (bytes, rest) = out.split_at_mut(word.len() / 2);
-    hex::decode_to_slice(word, bytes).ok()?;
-    Some((bytes, rest))
+    if read_pairs(word, bytes) {
+        Some((bytes, rest))
+    } else {
+        None
+    }
 }
 
 // Bytes, which are put into the front of `out`.

@@ -8,6 +8,7 @@
 #![tactic(auto)]
 
 mod bodies;
+mod digits;
 mod entries;
 mod faults;
 mod fields;

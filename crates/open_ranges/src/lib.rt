@@ -69,6 +69,7 @@ impl OpenRanges {
         ensures same { OnErr result (self.new ≡ self.old) }
     {
         let count = kept::count_with(&self.kept, self.count, a, b);
+        kept::make_room(&mut self.kept)?;
         kept::insert(&mut self.kept, self.count, a, b)?;
         self.count = count;
         Ok(())

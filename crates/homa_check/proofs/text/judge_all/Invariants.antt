@@ -2,7 +2,7 @@ use Rattle.std.proofs.Common.{◌≡◌, ◌-◌, ◌≤◌, ℕ, List, Some, le
 use Rattle.homa_plain.specs.View.{View}
 use Rattle.homa_text.specs.Lines.{reading}
 use Rattle.homa_verdict.specs.Verdict.{verdict_of}
-use Rattle.homa_check.specs.Traces.{Follows}
+use Rattle.homa_trace.specs.Traces.{Follows}
 use Rattle.homa_check.specs.Checks.{verdict_next}
 use Rattle.homa_check.proofs.text.judge_all.Given as goal
 

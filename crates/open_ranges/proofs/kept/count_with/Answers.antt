@@ -1,7 +1,5 @@
-use Rattle.std.proofs.Common.{◌≡◌, ◌+◌, ◌<◌, ◌++◌, ◌∷◌, take, drop, length, ◌-◌, sym, ap, subst, ◌∙◌, arith}
+use Rattle.std.proofs.Common.{arith}
 use Rattle.std.proofs.lemmas.List.{take_rest}
-use Rattle.plain_sets.specs.Ranges.{AreApart, width_of, joined, absorbed, range}
-use Rattle.open_ranges.specs.Kept.{plain}
 use Rattle.open_ranges.proofs.Walks.{apart_drop, width_drop, fewer, fewer-joined, width-touched}
 use Rattle.open_ranges.proofs.kept.count_with.Goals as goal
 

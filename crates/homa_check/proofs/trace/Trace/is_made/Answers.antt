@@ -1,7 +1,0 @@
-use Rattle.std.proofs.Common.{◌∙◌, sym, ap}
-use Rattle.homa_plain.specs.Judge as tests
-use Rattle.homa_check.proofs.Readings.{made_is}
-use Rattle.homa_check.proofs.trace.Trace.is_made.Goals as goal
-
-pub returns-in-Some : goal.returns-in-Some
-returns-in-Some c v f = c.is_some.ensures ∙ (c.find.ensures.found ∙ (made_is v c.args.self.now c.in-Some.id f ∙ sym (ap (tests.is_made v) c.in-Some.is)))

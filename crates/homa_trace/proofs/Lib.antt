@@ -1,0 +1,14 @@
+pub mod Places
+pub mod Hosts
+pub mod NamedLaws
+pub mod Starts
+pub mod Readings
+pub mod RunLaws
+pub mod KeepLaws
+pub mod TakeLaws
+pub mod DeliverLaws
+pub mod SendLaws
+pub mod LineLaws
+pub mod StartLaws
+pub mod EventLaws
+pub mod TakenLaws
