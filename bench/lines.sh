@@ -18,7 +18,9 @@ def best(*words):
         subprocess.run(["out/line_mix", *map(str, words)], stdout=subprocess.DEVNULL, check=True)
         times.append(spent() - before)
     return min(times)
-for kind, name in [("clock", "clock"), ("grant", "GRANT"), ("short", "DATA of 60 bytes"), ("long", "DATA of 1,400 bytes")]:
+kinds = [("clock", "clock"), ("grant", "GRANT"), ("junk", "junk"), ("inject", "inject of a byte"), ("short", "DATA of 60 bytes"),
+         ("long", "DATA of 1,400 bytes"), ("call", "call of 100 bytes"), ("run", "run of 100 and 100 bytes"), ("done", "done of 100 bytes")]
+for kind, name in kinds:
     none = best("put", kind, 0)
     put, copy = [(best(how, kind, lines) - none) / lines * 1e9 for how in ("put", "copy")]
     print(f"{name}: {put:.0f} ns a line, a copy {copy:.0f} ns: put / copy = {put / copy:.1f}")

@@ -1,5 +1,5 @@
 -- The packets of ticks, one behind the other.
-use Rattle.std.proofs.Common.{Vec, Global, ◌*◌, ◌≡◌, ◌<◌, ◌≤◌, ℕ, zero, suc, ◌+◌, ◌-◌, Bool, true, false, Some, List, [], ◌∷◌, ◌++◌, length, length-append, get_or, refl, sym, ap, ◌∙◌, subst, arith, true≢false}
+use Rattle.std.proofs.Common.{Box, Vec, Global, ◌*◌, ◌≡◌, ◌<◌, ◌≤◌, ℕ, zero, suc, ◌+◌, ◌-◌, Bool, true, false, Some, List, [], ◌∷◌, ◌++◌, length, length-append, get_or, refl, sym, ap, ◌∙◌, subst, arith, true≢false}
 use Rattle.std.proofs.Math.Seq.{take-length}
 use Rattle.std.specs.Prelude.{◌==◌, ◌&&◌, nat_lt, map, take, slice_get, slice_set}
 use Rattle.std.specs.List.{flat_map}
@@ -224,21 +224,21 @@ tells_clock bytes payload packet e = ((packet, payload), sym e, refl)
 -- ---- a tick whose packets became too old
 
 module _ (s : Settings) (now : ℕ) (ts : List Tick) (i : ℕ) (t : Tick) (h : i < length ts) (is : t ≡ get_or ts i t) where
-  live_kept : (b : Block) → t.stored ≡ Live b → kept_at ts i ≡ map (WholePacket (tick_at ts i)) (frames_of b)
+  live_kept : (b : Box Block Global) → t.stored ≡ Live b → kept_at ts i ≡ map (WholePacket (tick_at ts i)) (frames_of b.value)
   live_kept b e =
       let it = item ts i t h is in
-      it.2 ∙ (ap (λ (x : Stored). stored_kept t.tick x) e ∙ ap (λ (n : ℕ). map (WholePacket n) (frames_of b)) (sym it.1))
+      it.2 ∙ (ap (λ (x : Stored). stored_kept t.tick x) e ∙ ap (λ (n : ℕ). map (WholePacket n) (frames_of b.value)) (sym it.1))
 
-  pub aged_late : (b : Block) (new : Stored) → t.stored ≡ Live b → s.wire ≡ 1 → tick_at ts i + s.life < now → new ≡ Late (length (frames_of b)) → AllAged s now (kept_at ts i) (stored_kept (tick_at ts i) new)
+  pub aged_late : (b : Box Block Global) (new : Stored) → t.stored ≡ Live b → s.wire ≡ 1 → tick_at ts i + s.life < now → new ≡ Late (length (frames_of b.value)) → AllAged s now (kept_at ts i) (stored_kept (tick_at ts i) new)
   aged_late b new e one old same =
       subst (λ (ks : List KeptPacket). AllAged s now ks (stored_kept (tick_at ts i) new)) (sym (live_kept b e))
-      (subst (λ (x : Stored). AllAged s now (map (WholePacket (tick_at ts i)) (frames_of b)) (stored_kept (tick_at ts i) x)) (sym same)
-      (late_aged s now (tick_at ts i) (frames_of b) (length (frames_of b)) refl one old))
+      (subst (λ (x : Stored). AllAged s now (map (WholePacket (tick_at ts i)) (frames_of b.value)) (stored_kept (tick_at ts i) x)) (sym same)
+      (late_aged s now (tick_at ts i) (frames_of b.value) (length (frames_of b.value)) refl one old))
 
-  pub aged_stale : (b : Block) (olds : Vec Old Global) (reach : ℕ) → t.stored ≡ Live b → s.wire ≡ 2 → reach ≡ s.life + 2 * s.skew → AreOlds reach now (frames_of b) olds.items → AllAged s now (kept_at ts i) (stored_kept (tick_at ts i) (Stale olds))
+  pub aged_stale : (b : Box Block Global) (olds : Box (Vec Old Global) Global) (reach : ℕ) → t.stored ≡ Live b → s.wire ≡ 2 → reach ≡ s.life + 2 * s.skew → AreOlds reach now (frames_of b.value) olds.value.items → AllAged s now (kept_at ts i) (stored_kept (tick_at ts i) (Stale olds))
   aged_stale b olds reach e two far a =
       subst (λ (ks : List KeptPacket). AllAged s now ks (stored_kept (tick_at ts i) (Stale olds))) (sym (live_kept b e))
-      (stale_aged s now (tick_at ts i) reach (frames_of b) olds.items two far a)
+      (stale_aged s now (tick_at ts i) reach (frames_of b.value) olds.value.items two far a)
 
   module _ (new : Stored) (a : AllAged s now (kept_at ts i) (stored_kept (tick_at ts i) new)) where
     now_old : AllAged s now (kept_at ts i) (stored_kept t.tick new)

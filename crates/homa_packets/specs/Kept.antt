@@ -23,9 +23,9 @@ kept_seen (Late tick) = LatePacket tick
 kept_seen (Stale to at) = StalePacket to at
 
 abbrev pub stored_kept : ℕ → Stored → List KeptPacket
-stored_kept tick (stored.Live block) = map (WholePacket tick) (frames_of block)
+stored_kept tick (stored.Live block) = map (WholePacket tick) (frames_of block.value)
 stored_kept tick (stored.Late n) = replicate n (LatePacket tick)
-stored_kept tick (stored.Stale olds) = map (λ (o : Old). StalePacket o.to o.at) olds.items
+stored_kept tick (stored.Stale olds) = map (λ (o : Old). StalePacket o.to o.at) olds.value.items
 
 abbrev pub kept_of : Tick → List KeptPacket
 kept_of t = stored_kept t.tick t.stored

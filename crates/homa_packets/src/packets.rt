@@ -86,7 +86,7 @@ impl Packets {
         ensures settings { settings_of self.new ≡ settings_of self.old }
     {
         let count = self.front.len() as u64;
-        let block = self.front.copy(alloc)?;
+        let block = Box::new(alloc, self.front.copy(alloc)?)?;
         self.ticks.push(Tick {
             tick: self.tick,
             first: self.first,
@@ -157,7 +157,7 @@ impl Packets {
         }
         let reach = u64::from(s.life + 2 * s.skew);
         match olds_of(alloc, block, reach, now)? {
-            Some(olds) => Ok(Some(Stored::Stale(olds))),
+            Some(olds) => Ok(Some(Stored::Stale(Box::new(alloc, olds)?))),
             None => Ok(None),
         }
     }

@@ -20,11 +20,11 @@ pub(crate) struct Old {
 #[derive(Drop)]
 pub(crate) enum Stored {
     /// Their datagrams.
-    Live(Block),
+    Live(Box<Block>),
     /// How many they are: they are late for good.
     Late(u64),
     /// Their receivers and their senders' clocks: they are certainly stale.
-    Stale(Vec<Old>),
+    Stale(Box<Vec<Old>>),
 }
 
 /// The packets that were sent in a tick, from number `first` on.

@@ -1,7 +1,10 @@
 -- The lines of packets, by the parts that are added one after another.
 use Rattle.std.proofs.Common.{◌≡◌, ℕ, List, [], ◌∷◌, ◌++◌, codes, decimal, refl, ap, sym, ◌∙◌, append_assoc}
 use Rattle.std.specs.List.{join_with_byte}
+use Rattle.homa_plain.specs.Entries.{PlainCall, PlainInject, PlainRun, PlainDone}
 use Rattle.homa_plain.specs.Text.{line_text, line_of_words, hex_word, route_word, role_word, id_word, ack_word}
+use Rattle.homa_plain.specs.declared.id.CallId.{CallId}
+use Rattle.homa_plain.specs.declared.id.HostId.{HostId}
 use Rattle.homa_text.specs.declared.quick.Head.{Head}
 use Rattle.homa_text.specs.declared.quick.Piece.{Piece}
 use Rattle.homa_text.specs.Quick.{head_text, piece_text, grant_sent, piece_sent}
@@ -49,3 +52,35 @@ piece_line_text head piece payload =
     ap (λ (l : List ℕ). head_text head (codes " DATA ") ++ l) (eight (32 ∷ decimal piece.level) (32 ∷ decimal piece.size) (32 ∷ decimal piece.offset) (32 ∷ decimal piece.version) (32 ∷ decimal piece.service) (codes " ") (ack_word piece.ack) (codes " ") (hex_word payload ++ 10 ∷ []))
     ∙ (head_on head (codes " DATA ") _
     ∙ sym (line_spread (codes "send") (decimal head.number ∷ route_word head.from head.to ∷ decimal head.inc ∷ codes "DATA" ∷ role_word head.role ∷ id_word head.id ∷ decimal piece.level ∷ decimal piece.size ∷ decimal piece.offset ∷ decimal piece.version ∷ decimal piece.service ∷ ack_word piece.ack ∷ hex_word payload ∷ [])))
+
+-- one part more behind parts that were added to nothing
+pub more : (i j d e : List ℕ) → i ≡ d → j ≡ i ++ e → j ≡ d ++ e
+more i j d e f g = g ∙ ap (λ (l : List ℕ). l ++ e) f
+
+five_spread : (a b c d e f : List ℕ) → ((((a ++ b) ++ c) ++ d) ++ e) ++ f ≡ a ++ (b ++ (c ++ (d ++ (e ++ f))))
+five_spread a b c d e f = simp append_assoc
+
+seven_spread : (a b c d e f g h : List ℕ) → ((((((a ++ b) ++ c) ++ d) ++ e) ++ f) ++ g) ++ h ≡ a ++ (b ++ (c ++ (d ++ (e ++ (f ++ (g ++ h))))))
+seven_spread a b c d e f g h = simp append_assoc
+
+pub call_text : (id : CallId) (server : HostId) (service : ℕ) (bytes : List ℕ)
+    → ((((codes "call" ++ (32 ∷ id_word id)) ++ (32 ∷ decimal server.0)) ++ (32 ∷ decimal service)) ++ (32 ∷ hex_word bytes)) ++ 10 ∷ [] ≡ line_text (PlainCall id server service bytes)
+unfolding line_text
+call_text id server service bytes =
+    five_spread (codes "call") (32 ∷ id_word id) (32 ∷ decimal server.0) (32 ∷ decimal service) (32 ∷ hex_word bytes) (10 ∷ [])
+    ∙ sym (line_spread (codes "call") (id_word id ∷ decimal server.0 ∷ decimal service ∷ hex_word bytes ∷ []))
+
+pub run_text : (host : HostId) (id : CallId) (service : ℕ) (request response : List ℕ) (hold : ℕ)
+    → ((((((codes "run" ++ (32 ∷ decimal host.0)) ++ (32 ∷ id_word id)) ++ (32 ∷ decimal service)) ++ (32 ∷ hex_word request)) ++ (32 ∷ hex_word response)) ++ (32 ∷ decimal hold)) ++ 10 ∷ [] ≡ line_text (PlainRun host id service request response hold)
+unfolding line_text
+run_text host id service request response hold =
+    seven_spread (codes "run") (32 ∷ decimal host.0) (32 ∷ id_word id) (32 ∷ decimal service) (32 ∷ hex_word request) (32 ∷ hex_word response) (32 ∷ decimal hold) (10 ∷ [])
+    ∙ sym (line_spread (codes "run") (decimal host.0 ∷ id_word id ∷ decimal service ∷ hex_word request ∷ hex_word response ∷ decimal hold ∷ []))
+
+pub done_text : (id : CallId) (bytes : List ℕ) → codes "done" ++ ((32 ∷ id_word id) ++ ((32 ∷ hex_word bytes) ++ 10 ∷ [])) ≡ line_text (PlainDone id bytes)
+unfolding line_text
+done_text id bytes = sym (line_spread (codes "done") (id_word id ∷ hex_word bytes ∷ []))
+
+pub inject_text : (host : HostId) (bytes : List ℕ) → codes "inject" ++ ((32 ∷ decimal host.0) ++ ((32 ∷ hex_word bytes) ++ 10 ∷ [])) ≡ line_text (PlainInject host bytes)
+unfolding line_text
+inject_text host bytes = sym (line_spread (codes "inject") (decimal host.0 ∷ hex_word bytes ∷ []))

@@ -1,6 +1,7 @@
 -- Parts of the line of a packet.
 use Rattle.std.specs.Prelude.{ℕ, List, [], ◌∷◌, ◌++◌, codes}
 use Rattle.std.specs.Fmt.{decimal}
+use Rattle.homa_plain.specs.declared.packet.Body.{Body}
 use Rattle.homa_plain.specs.declared.packet.Body.TheVariants as body
 use Rattle.homa_plain.specs.Entries.{PlainEntry, PlainSend}
 use Rattle.homa_plain.specs.Text.{id_word, role_word, route_word, ack_word}
@@ -21,10 +22,14 @@ numbers_text piece =
 abbrev pub piece_text : Piece → List ℕ
 piece_text piece = numbers_text piece ++ ack_word piece.ack ++ codes " "
 
+-- a packet
+abbrev pub packet_sent : Head → ℕ → Body → List ℕ → PlainEntry
+packet_sent head level body payload = PlainSend head.number head.from head.to head.inc head.role head.id level body payload
+
 -- a GRANT
 abbrev pub grant_sent : Head → ℕ → ℕ → ℕ → List ℕ → PlainEntry
-grant_sent head level offset prio payload = PlainSend head.number head.from head.to head.inc head.role head.id level (body.Grant offset prio) payload
+grant_sent head level offset prio payload = packet_sent head level (body.Grant offset prio) payload
 
 -- a piece of a message
 abbrev pub piece_sent : Head → Piece → List ℕ → PlainEntry
-piece_sent head piece payload = PlainSend head.number head.from head.to head.inc head.role head.id piece.level (body.Data piece.size piece.offset piece.version piece.service piece.ack) payload
+piece_sent head piece payload = packet_sent head piece.level (body.Data piece.size piece.offset piece.version piece.service piece.ack) payload

@@ -17,6 +17,7 @@ mod lines;
 mod number;
 mod put;
 mod quick;
+mod quick_calls;
 mod scan;
 #[cfg(test)]
 mod tests;

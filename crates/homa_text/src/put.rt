@@ -1,33 +1,40 @@
 // Lines that are written: the frequent ones at once, any other word by word through a buffer.
-ghost use Rattle.std.specs.Prelude.{◌≡◌, ◌≤◌, ◌++◌, ◌∷◌, [], length, map, OnOk, OnErr};
+ghost use Rattle.std.specs.Prelude.{◌≡◌, ◌≤◌, ◌+◌, ◌++◌, ◌∷◌, [], length, map, OnOk, OnErr};
 ghost use Rattle.std.specs.List.{flat_map};
 ghost use Rattle.hex.specs.Hex.{encode_lower};
 ghost use Rattle.homa_io.specs.Outside.{HasRisen, appended, TookFront};
-ghost use Rattle.homa_plain.specs.Entries.{plain};
+ghost use Rattle.homa_plain.specs.Entries.{PlainCall, PlainInject, PlainRun, PlainDone, plain};
 ghost use Rattle.homa_plain.specs.Text.{line_of_words, line_text};
 ghost use Rattle.homa_text.specs.Put.{IsPut};
-ghost use Rattle.homa_text.specs.Quick.{grant_sent, piece_sent};
+ghost use Rattle.homa_text.specs.Quick.{grant_sent, piece_sent, packet_sent};
 ghost use Rattle.homa_text.specs.Told.{HasLine};
 ghost use Rattle.homa_text.specs.Written.{word_text, spaced_word};
 
 use crate::Word;
 use crate::adding::write_digits;
 use crate::entry_words::words_of_entry;
-use crate::quick::{
-    Head, Piece, PieceLine, ShortLine, clock_line, deliver_line, grant_line, piece_line,
-};
+use crate::quick::{Head, Piece, ShortLine, clock_line, deliver_line, grant_line, piece_line};
+use crate::quick_calls::{call_line, done_line, inject_line, junk_line, run_line};
 use crate::written::{call_text, id_text, number_text, route_text};
 use arrayvec::ArrayVec;
 use homa_io::{Sink, WriteFailed, write_all};
-use homa_plain::{Body, Entry};
+use homa_plain::{Body, CallId, Entry, HostId};
 
-// How many bytes of a line are held before a write: of a short line, and of any other.
+// How many bytes of a line are held before a write: of a line of numbers, of a short line, and of any other.
+const TINY: usize = 256;
+
 const SHORT: usize = 4096;
 
 const ROOM: usize = 65536;
 
 // The most bytes of a piece whose line is made at once.
 const MOST_PAYLOAD: usize = 1400;
+
+// The most bytes of a message or a datagram whose line is made at once, in small room.
+const FEW: usize = 350;
+
+// Room for the line of few bytes.
+type FewLine = ArrayVec<u8, 1024>;
 
 // The bytes of a line that aren't written yet.
 type Held<const N: usize> = ArrayVec<u8, N>;
@@ -205,13 +212,13 @@ fn most_bytes(word: Word<'_>) -> usize {
     }
 }
 
-// Tells that the words surely make a short line.
-fn is_short(words: &[Word<'_>]) -> bool {
+// At most how many bytes the line of the words has.
+fn most_bytes_of(words: &[Word<'_>]) -> usize {
     let mut most = 0_usize;
     for word in words {
         most = most.saturating_add(most_bytes(*word));
     }
-    most <= SHORT
+    most
 }
 
 /// Writes words with one space between two, and a line feed. This is one `write`, unless the line is
@@ -226,13 +233,11 @@ pub fn put_line<K: Sink>(sink: &mut K, words: &[Word<'_>]) -> Result<(), WriteFa
 {
     match words {
         [] => write_all(sink, b"\n"),
-        [first, others @ ..] => {
-            if is_short(words) {
-                put_words(sink, &mut Held::<SHORT>::new(), *first, others)
-            } else {
-                put_words(sink, &mut Held::<ROOM>::new(), *first, others)
-            }
-        }
+        [first, others @ ..] => match most_bytes_of(words) {
+            0..=TINY => put_words(sink, &mut Held::<TINY>::new(), *first, others),
+            0..=SHORT => put_words(sink, &mut Held::<SHORT>::new(), *first, others),
+            _ => put_words(sink, &mut Held::<ROOM>::new(), *first, others),
+        },
     }
 }
 
@@ -284,9 +289,121 @@ fn put_piece<K: Sink>(
     ensures never_falls { K.faults sink.old ≤ K.faults sink.new }
     ensures same { K.is_same sink.old sink.new }
 {
-    let mut text = PieceLine::new();
+    if payload.len() <= FEW {
+        let mut text = FewLine::new();
+        piece_line(&mut text, head, piece, payload);
+        return write_all(sink, text.as_slice());
+    }
+    let mut text = Held::<SHORT>::new();
     piece_line(&mut text, head, piece, payload);
     write_all(sink, text.as_slice())
+}
+
+// Writes the line of a call that starts.
+fn put_call<K: Sink>(
+    sink: &mut K,
+    id: CallId,
+    server: HostId,
+    service: u64,
+    bytes: &[u8],
+) -> Result<(), WriteFailed>
+    requires { length bytes.now ≤ 350 }
+    ensures ok { OnOk result (K.taken sink.new ≡ appended (K.taken sink.old) (line_text (PlainCall id server service bytes.now))) }
+    ensures err { OnErr result (TookFront (K.taken sink.old) (K.taken sink.new) (line_text (PlainCall id server service bytes.now))) }
+    ensures risen { OnErr result (HasRisen (K.faults sink.old) (K.faults sink.new)) }
+    ensures quiet { OnOk result (K.faults sink.new ≡ K.faults sink.old) }
+    ensures never_falls { K.faults sink.old ≤ K.faults sink.new }
+    ensures same { K.is_same sink.old sink.new }
+{
+    let mut text = FewLine::new();
+    call_line(&mut text, id, server, service, bytes);
+    write_all(sink, text.as_slice())
+}
+
+// Writes the line of a service that was called.
+fn put_run<K: Sink>(
+    sink: &mut K,
+    host: HostId,
+    id: CallId,
+    service: u64,
+    request: &[u8],
+    response: &[u8],
+    hold: u64,
+) -> Result<(), WriteFailed>
+    requires { length request.now + length response.now ≤ 400 }
+    ensures ok { OnOk result (K.taken sink.new ≡ appended (K.taken sink.old) (line_text (PlainRun host id service request.now response.now hold))) }
+    ensures err { OnErr result (TookFront (K.taken sink.old) (K.taken sink.new) (line_text (PlainRun host id service request.now response.now hold))) }
+    ensures risen { OnErr result (HasRisen (K.faults sink.old) (K.faults sink.new)) }
+    ensures quiet { OnOk result (K.faults sink.new ≡ K.faults sink.old) }
+    ensures never_falls { K.faults sink.old ≤ K.faults sink.new }
+    ensures same { K.is_same sink.old sink.new }
+{
+    let mut text = FewLine::new();
+    run_line(&mut text, host, id, service, request, response, hold);
+    write_all(sink, text.as_slice())
+}
+
+// Writes the line of a call that is done.
+fn put_done<K: Sink>(sink: &mut K, id: CallId, bytes: &[u8]) -> Result<(), WriteFailed>
+    requires { length bytes.now ≤ 350 }
+    ensures ok { OnOk result (K.taken sink.new ≡ appended (K.taken sink.old) (line_text (PlainDone id bytes.now))) }
+    ensures err { OnErr result (TookFront (K.taken sink.old) (K.taken sink.new) (line_text (PlainDone id bytes.now))) }
+    ensures risen { OnErr result (HasRisen (K.faults sink.old) (K.faults sink.new)) }
+    ensures quiet { OnOk result (K.faults sink.new ≡ K.faults sink.old) }
+    ensures never_falls { K.faults sink.old ≤ K.faults sink.new }
+    ensures same { K.is_same sink.old sink.new }
+{
+    let mut text = FewLine::new();
+    done_line(&mut text, id, bytes);
+    write_all(sink, text.as_slice())
+}
+
+// Writes the line of a datagram that is injected.
+fn put_inject<K: Sink>(sink: &mut K, host: HostId, bytes: &[u8]) -> Result<(), WriteFailed>
+    requires { length bytes.now ≤ 350 }
+    ensures ok { OnOk result (K.taken sink.new ≡ appended (K.taken sink.old) (line_text (PlainInject host bytes.now))) }
+    ensures err { OnErr result (TookFront (K.taken sink.old) (K.taken sink.new) (line_text (PlainInject host bytes.now))) }
+    ensures risen { OnErr result (HasRisen (K.faults sink.old) (K.faults sink.new)) }
+    ensures quiet { OnOk result (K.faults sink.new ≡ K.faults sink.old) }
+    ensures never_falls { K.faults sink.old ≤ K.faults sink.new }
+    ensures same { K.is_same sink.old sink.new }
+{
+    let mut text = FewLine::new();
+    inject_line(&mut text, host, bytes);
+    write_all(sink, text.as_slice())
+}
+
+// Writes the line of an entry of a call, or of an injection.
+fn put_messages<K: Sink>(sink: &mut K, entry: &Entry<'_>) -> Result<(), WriteFailed>
+    ensures ok { OnOk result (K.taken sink.new ≡ appended (K.taken sink.old) (line_text (plain entry.now))) }
+    ensures err { OnErr result (TookFront (K.taken sink.old) (K.taken sink.new) (line_text (plain entry.now))) }
+    ensures risen { OnErr result (HasRisen (K.faults sink.old) (K.faults sink.new)) }
+    ensures quiet { OnOk result (K.faults sink.new ≡ K.faults sink.old) }
+    ensures never_falls { K.faults sink.old ≤ K.faults sink.new }
+    ensures same { K.is_same sink.old sink.new }
+{
+    match *entry {
+        Entry::Call {
+            id,
+            server,
+            service,
+            bytes,
+        } if bytes.len() <= FEW => put_call(sink, id, server, u64::from(service), bytes),
+        Entry::Run {
+            host,
+            id,
+            service,
+            request,
+            response,
+            hold,
+        } if request.len() <= 200 && response.len() <= 200 => {
+            let (service, hold) = (u64::from(service), u64::from(hold));
+            put_run(sink, host, id, service, request, response, hold)
+        }
+        Entry::Done { id, bytes } if bytes.len() <= FEW => put_done(sink, id, bytes),
+        Entry::Inject { host, bytes } if bytes.len() <= FEW => put_inject(sink, host, bytes),
+        _ => put_words_of(sink, entry),
+    }
 }
 
 // Writes the line of an entry that isn't a packet.
@@ -308,6 +425,54 @@ fn put_other<K: Sink>(sink: &mut K, entry: &Entry<'_>) -> Result<(), WriteFailed
             let mut text = ShortLine::new();
             deliver_line(&mut text, packet);
             write_all(sink, text.as_slice())
+        }
+        Entry::Junk { host } => {
+            let mut text = ShortLine::new();
+            junk_line(&mut text, host);
+            write_all(sink, text.as_slice())
+        }
+        _ => put_messages(sink, entry),
+    }
+}
+
+// Writes the line of a packet, which is this entry.
+fn put_packet<K: Sink>(
+    sink: &mut K,
+    entry: &Entry<'_>,
+    head: Head,
+    level: u8,
+    body: &Body,
+    payload: &[u8],
+) -> Result<(), WriteFailed>
+    requires { plain entry.now ≡ packet_sent head level body.now payload.now }
+    ensures ok { OnOk result (K.taken sink.new ≡ appended (K.taken sink.old) (line_text (plain entry.now))) }
+    ensures err { OnErr result (TookFront (K.taken sink.old) (K.taken sink.new) (line_text (plain entry.now))) }
+    ensures risen { OnErr result (HasRisen (K.faults sink.old) (K.faults sink.new)) }
+    ensures quiet { OnOk result (K.faults sink.new ≡ K.faults sink.old) }
+    ensures never_falls { K.faults sink.old ≤ K.faults sink.new }
+    ensures same { K.is_same sink.old sink.new }
+{
+    match *body {
+        Body::Grant { offset, prio } => {
+            let (offset, prio) = (u64::from(offset), u64::from(prio));
+            put_grant(sink, head, level, offset, prio, payload)
+        }
+        Body::Data {
+            length: size,
+            offset,
+            version,
+            service,
+            ack,
+        } if payload.len() <= MOST_PAYLOAD => {
+            let piece = Piece {
+                level,
+                size,
+                offset,
+                version,
+                service,
+                ack,
+            };
+            put_piece(sink, head, piece, payload)
         }
         _ => put_words_of(sink, entry),
     }
@@ -346,32 +511,5 @@ pub fn put_entry<K: Sink>(sink: &mut K, entry: &Entry<'_>) -> Result<(), WriteFa
         role: *role,
         id: *id,
     };
-    match *body {
-        Body::Grant { offset, prio } => put_grant(
-            sink,
-            head,
-            *level,
-            u64::from(offset),
-            u64::from(prio),
-            payload,
-        ),
-        Body::Data {
-            length,
-            offset,
-            version,
-            service,
-            ack,
-        } if payload.len() <= MOST_PAYLOAD => {
-            let piece = Piece {
-                level: *level,
-                size: length,
-                offset,
-                version,
-                service,
-                ack,
-            };
-            put_piece(sink, head, piece, payload)
-        }
-        _ => put_words_of(sink, entry),
-    }
+    put_packet(sink, entry, head, *level, body, payload)
 }

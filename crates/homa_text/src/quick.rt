@@ -13,9 +13,6 @@ use homa_plain::{CallId, HostId, Role};
 /// Room for a line of words without bytes.
 pub(crate) type ShortLine = ArrayVec<u8, 256>;
 
-/// Room for the line of a piece with at most 1,400 bytes.
-pub(crate) type PieceLine = ArrayVec<u8, 4096>;
-
 /// What the line of a packet begins with: its number, from whom to whom, the sender's incarnation, who
 /// sent it, and its call.
 #[derive(Clone, Copy)]
@@ -73,9 +70,9 @@ fn add_call<const N: usize>(text: &mut ArrayVec<u8, N>, inc: u32, seq: u32)
     add_number(text, u64::from(seq));
 }
 
-// Adds a call with its client.
+/// Adds a call with its client.
 #[inline(always)]
-fn add_id<const N: usize>(text: &mut ArrayVec<u8, N>, id: CallId)
+pub(crate) fn add_id<const N: usize>(text: &mut ArrayVec<u8, N>, id: CallId)
     requires { array_vec_len text.old + 62 ≤ N }
     ensures items { text.new.items ≡ text.old.items ++ id_word id }
     ensures len { array_vec_len text.new ≤ array_vec_len text.old + 62 }
@@ -123,9 +120,9 @@ fn add_ack<const N: usize>(text: &mut ArrayVec<u8, N>, ack: Option<(u32, u32)>)
     }
 }
 
-// Adds bytes in hex, or a hyphen where there are none.
+/// Adds bytes in hex, or a hyphen where there are none.
 #[inline(always)]
-fn add_bytes<const N: usize>(text: &mut ArrayVec<u8, N>, bytes: &[u8])
+pub(crate) fn add_bytes<const N: usize>(text: &mut ArrayVec<u8, N>, bytes: &[u8])
     requires { array_vec_len text.old + 2 * length bytes.now + 1 ≤ N }
     ensures items { text.new.items ≡ text.old.items ++ hex_word bytes.now }
     ensures len { array_vec_len text.new ≤ array_vec_len text.old + 2 * length bytes.now + 1 }
@@ -136,9 +133,9 @@ fn add_bytes<const N: usize>(text: &mut ArrayVec<u8, N>, bytes: &[u8])
     add_hex(text, bytes);
 }
 
-// Adds a space and a number.
+/// Adds a space and a number.
 #[inline(always)]
-fn add_spaced<const N: usize>(text: &mut ArrayVec<u8, N>, n: u64)
+pub(crate) fn add_spaced<const N: usize>(text: &mut ArrayVec<u8, N>, n: u64)
     requires { array_vec_len text.old + 21 ≤ N }
     ensures items { text.new.items ≡ text.old.items ++ (32 ∷ decimal n) }
     ensures len { array_vec_len text.new ≤ array_vec_len text.old + 21 }
@@ -204,9 +201,14 @@ fn add_piece<const N: usize>(text: &mut ArrayVec<u8, N>, piece: Piece)
 }
 
 /// A piece of a message.
-pub(crate) fn piece_line(text: &mut PieceLine, head: Head, piece: Piece, payload: &[u8])
+pub(crate) fn piece_line<const N: usize>(
+    text: &mut ArrayVec<u8, N>,
+    head: Head,
+    piece: Piece,
+    payload: &[u8],
+)
     requires empty { text.old.items ≡ [] }
-    requires short { length payload.now ≤ 1400 }
+    requires room { 2 * length payload.now + 312 ≤ N }
     ensures { text.new.items ≡ line_text (piece_sent head piece payload.now) }
 {
     add_head(text, head, b" DATA ");

@@ -23,7 +23,7 @@ fn run_with(
     writes: Vec<u64>,
 ) -> Result<(u8, MemSink), Fail> {
     let mut source = MemSource::new(input.as_bytes().to_vec(alloc)?, reads);
-    let mut sink = MemSink::new(alloc, 10_000, writes)?;
+    let mut sink = MemSink::new(alloc, 100_000, writes)?;
     let status = run(alloc, words, &mut source, &mut sink, suites(alloc)?);
     Ok((status, sink))
 }
@@ -151,6 +151,46 @@ fn second_read_fails(rt: HostRuntime) -> Result<(), Fail> {
     assert_eq!(rt; status, 3);
     let front = format!(in alloc; "{SETTINGS}{CALL}")?;
     assert_eq!(rt; sink.bytes(), front.as_bytes());
+    Ok(())
+}
+
+// A schedule in which the request of host 0's call comes with 65 gaps: of its pieces of one byte every second one comes.
+fn with_gaps(alloc: Global, rest: &str) -> Result<String, Fail> {
+    let mut schedule = String::new(alloc);
+    schedule.push_str("hosts 3\nseg 1\ngo\ncall 0 1 0 *129\nturn 0\n")?;
+    for i in 0..64u64 {
+        let line = format!(in alloc; "deliver {}\n", 2 * i + 1)?;
+        schedule.push_str(line.as_str())?;
+    }
+    schedule.push_str(rest)?;
+    Ok(schedule)
+}
+
+#[test]
+fn others_are_served(rt: HostRuntime) -> Result<(), Fail> {
+    // Behind a line that tells of too few pages, too few rows or too many gaps, another client's call is served: each schedule,
+    // and how its trace ends. Host 1 lacks a page for the request of 4,097 bytes; its one row is taken by the call of 8 bytes.
+    let alloc = rt.alloc();
+    let gaps = with_gaps(alloc, "call 2 1 0 61\ndeliver 128")?;
+    let served = [
+        (
+            "hosts 3\npages 1\ngo\ncall 0 1 0 *4097\ndeliver 0\ncall 2 1 0 61\ndeliver 3",
+            "\ndeliver 0\nfull 1 0.1.0 pages 2 1\ncall 2.1.0 1 0 61\nsend 3 2>1 1 DATA c 2.1.0 7 1 0 0 0 - 61\ndeliver 3\nrun 1 2.1.0 0 61 61 0\nsend 4 1>2 1 DATA s 2.1.0 7 1 0 0 0 - 61\nok 4\n",
+        ),
+        (
+            "hosts 3\nserved 1\nseg 4\ngo\ncall 0 1 0 *8\ndeliver 0\ncall 2 1 0 61\ndeliver 2\ndeliver 1",
+            "\ncall 2.1.0 1 0 61\nsend 2 2>1 1 DATA c 2.1.0 7 1 0 0 0 - 61\ndeliver 2\nfull 1 2.1.0 rows 1 1\ndeliver 1\nrun 1 0.1.0 0 0001020304050607 0001020304050607 0\nsend 3 1>0 1 DATA s 0.1.0 7 8 0 0 0 - 00010203\nsend 4 1>0 1 DATA s 0.1.0 7 8 4 0 0 - 04050607\nok 5\n",
+        ),
+        (
+            gaps.as_str(),
+            "\ndeliver 127\ngaps 1 0.1.0\ncall 2.1.0 1 0 61\nsend 128 2>1 1 DATA c 2.1.0 7 1 0 0 0 - 61\ndeliver 128\nrun 1 2.1.0 0 61 61 0\nsend 129 1>2 1 DATA s 2.1.0 7 1 0 0 0 - 61\nok 68\n",
+        ),
+    ];
+    for (schedule, end) in served {
+        let (status, sink) = replayed(alloc, schedule)?;
+        assert_eq!(rt; status, 0);
+        assert!(rt; sink.bytes().ends_with(end.as_bytes()));
+    }
     Ok(())
 }
 

@@ -1,8 +1,9 @@
 //! Writes many lines of one kind of entry to standard output, through a sink that holds lines back; or as
 //! many copies of the first one. `bench/lines.sh` times the one beside the other.
 //!
-//! The words are `put` or `copy`; the kind, which is `clock`, `grant`, `short` or `long`: the last two are
-//! pieces of 60 and of 1,400 bytes; and the number of lines.
+//! The words are `put` or `copy`; the kind; and the number of lines. The kinds are `clock`, `grant`, `junk`,
+//! `inject` of a byte, `short` and `long`, which are pieces of 60 and of 1,400 bytes, and `call`, `run` and
+//! `done` of 100 bytes each.
 #![tactic(auto)]
 
 ghost use Rattle.homa_plain.specs.Entries.{plain};
@@ -19,17 +20,36 @@ use std::{env, io};
 enum Kind {
     Clock,
     Grant,
+    Junk,
+    Inject,
     Short,
     Long,
+    Call,
+    Run,
+    Done,
 }
 
 fn kind_of(word: &str) -> Option<Kind> {
     match word {
         "clock" => Some(Kind::Clock),
         "grant" => Some(Kind::Grant),
+        "junk" => Some(Kind::Junk),
+        "inject" => Some(Kind::Inject),
         "short" => Some(Kind::Short),
         "long" => Some(Kind::Long),
+        "call" => Some(Kind::Call),
+        "run" => Some(Kind::Run),
+        "done" => Some(Kind::Done),
         _ => None,
+    }
+}
+
+// The call that all packets and messages are of.
+fn call_id() -> CallId {
+    CallId {
+        client: HostId(3),
+        inc: 1,
+        seq: 77,
     }
 }
 
@@ -43,11 +63,7 @@ fn packet<'a>(number: u64, body: Body, payload: &'a [u8]) -> Entry<'a>
         to: HostId(3),
         inc: 1,
         role: Role::Server,
-        id: CallId {
-            client: HostId(3),
-            inc: 1,
-            seq: 77,
-        },
+        id: call_id(),
         level: 6,
         body,
         payload,
@@ -65,6 +81,30 @@ fn piece() -> Body {
     }
 }
 
+// What is told of a call: it starts, its service was called, or it is done.
+fn message<'a>(kind: Kind, bytes: &'a [u8]) -> Entry<'a>
+    ensures { HasLine (plain result) }
+{
+    let (id, host, service) = (call_id(), HostId(5), 0);
+    match kind {
+        Kind::Call => Entry::Call {
+            id,
+            server: host,
+            service,
+            bytes,
+        },
+        Kind::Run => Entry::Run {
+            host,
+            id,
+            service,
+            request: bytes,
+            response: bytes,
+            hold: 0,
+        },
+        _ => Entry::Done { id, bytes },
+    }
+}
+
 // Entry number `i` of this kind, whose number has seven digits.
 fn entry<'a>(kind: Kind, i: u64, payload: &'a [u8; 1400]) -> Entry<'a>
     ensures { HasLine (plain result) }
@@ -79,8 +119,14 @@ fn entry<'a>(kind: Kind, i: u64, payload: &'a [u8; 1400]) -> Entry<'a>
             };
             packet(number, grant, &payload[..0])
         }
+        Kind::Junk => Entry::Junk { host: HostId(5) },
+        Kind::Inject => Entry::Inject {
+            host: HostId(5),
+            bytes: &payload[..1],
+        },
         Kind::Short => packet(number, piece(), &payload[..60]),
         Kind::Long => packet(number, piece(), payload),
+        Kind::Call | Kind::Run | Kind::Done => message(kind, &payload[..100]),
     }
 }
 

@@ -1,4 +1,4 @@
-use Rattle.std.proofs.Common.{◌≡◌, ◌+◌, ◌++◌, [], ◌∷◌, List, true, length, ap, sym, subst, arith, rules, refl}
+use Rattle.std.proofs.Common.{◌≡◌, ◌+◌, ◌++◌, [], ◌∷◌, List, true, length, ap, sym, subst, arith, rules, refl, ◌∙◌}
 use Rattle.std.proofs.lemmas.List.{length-map}
 use Rattle.homa_packets.specs.declared.tick.Tick.{Tick}
 use Rattle.homa_packets.specs.declared.tick.Stored.TheVariants.{Live}
@@ -14,8 +14,8 @@ invariant_of-self-2 c =
     let t : Tick = record { tick = p.tick; first = p.first; stored = Live c.in_ok-block.block } in
     let items : c.push.new.self.items ≡ p.ticks.items ++ t ∷ [] = search rules in
     let later = p.first + c.len-count.result in
-    let long = length-map (frames_of c.in_ok-block.block) (WholePacket p.tick) in
-    let same = ap length c.in_ok-block.ensures in
+    let long = length-map (frames_of c.in_ok-block.block.value) (WholePacket p.tick) in
+    let same = ap length (ap frames_of c.in_ok-block.ensures.ok ∙ c.in_ok-copy.ensures) in
     let none = ap length c.clear.ensures.frames in
     record {
       valid = p.valid;
