@@ -1,17 +1,17 @@
 // A host with what its steps are lent.
-ghost use Rattle.std.specs.Prelude.{◌≡◌, ◌≢◌, ◌<◌, ◌≤◌, ◌×◌, IsTrue, ◌↔◌, Some, None, [], length, slice_get, IfSome, OnSome, OnNone};
+ghost use Rattle.std.specs.Prelude.{◌≡◌, ◌≢◌, ◌<◌, ◌≤◌, IsTrue, ◌↔◌, Some, None, [], length, slice_get, IfOk, IfSome, IfNone};
 ghost use Rattle.plain_sets.specs.Maps.{empty};
 ghost use Rattle.homa_plain.specs.Settings.{IsValid};
 ghost use Rattle.homa_plain.specs.Entries.{plain};
 ghost use Rattle.homa_plain.specs.Host.{new_host};
 ghost use Rattle.homa_plain.specs.Rules.{Answer};
-ghost use Rattle.homa_plain.specs.Steps.{call_step, arrival_step, turn_step};
+ghost use Rattle.homa_plain.specs.Steps.{next_id, call_step, arrival_step, turn_step};
 ghost use Rattle.homa_seen.specs.Marks.{shown_entries};
 ghost use Rattle.homa_seen.specs.Done.{arriving};
 ghost use Rattle.driven_host.specs.Driven.{IsStep, MayBegin};
 
 use homa_host::Host;
-use homa_plain::{Entry, HostId, Settings};
+use homa_plain::{CallId, Entry, HostId, Settings};
 use homa_seen::Outbox;
 use homa_service::Suite;
 use msg_pool::Scratch;
@@ -77,31 +77,32 @@ impl DrivenHost {
 
     /// Calls a service of another host, at tick `now` of the host's own clock. None where the call can't start, and where
     /// this is no step of a host.
-    pub fn call(&mut self, server: HostId, number: u8, request: Vec<u8>, now: u64) -> Option<()>
-        ensures step { OnSome result (IsStep (call_step self.old.host.settings self.old.host.host now server number request.items) self.old self.new) }
-        ensures same { OnNone result (self.new.host.host ≡ self.old.host.host) }
+    pub fn call(&mut self, server: HostId, number: u8, request: Vec<u8>, now: u64) -> Option<CallId>
+        ensures id { IfSome result (λ id. id ≡ next_id self.old.host.host) }
+        ensures step { IfSome result (λ _. IsStep (call_step self.old.host.settings self.old.host.host now server number request.items) self.old self.new) }
+        ensures same { IfNone result (self.new.host.host ≡ self.old.host.host) }
     {
         if !is_other(self.id, self.hosts, server) || !may_begin(&self.host, self.steps, now) {
             return None;
         }
         self.steps += 1;
-        match self.host.call(server, number, request, now, &mut self.out) {
-            Ok(_) => Some(()),
-            Err(_) => None,
-        }
+        let Ok(id) = self.host.call(server, number, request, now, &mut self.out) else {
+            return None;
+        };
+        Some(id)
     }
 
     /// A datagram comes from another host, at tick `now` of the host's own clock. None where its service finds no memory,
     /// and where this is no step of a host.
     pub fn deliver(&mut self, alloc: Global, from: HostId, frame: &[u8], now: u64) -> Option<()>
-        ensures step { OnSome result ((a : Answer) × IsStep (arrival_step self.old.host.settings self.old.host.host now (arriving self.old.host from frame.now) a) self.old self.new) }
-        ensures same { OnNone result (self.new.host.host ≡ self.old.host.host) }
+        ensures step { IfSome result (λ _. (a : Answer) × IsStep (arrival_step self.old.host.settings self.old.host.host now (arriving self.old.host from frame.now) a) self.old self.new) }
+        ensures same { IfNone result (self.new.host.host ≡ self.old.host.host) }
     {
         if !is_other(self.id, self.hosts, from) || !may_begin(&self.host, self.steps, now) {
             return None;
         }
         self.steps += 1;
-        let came = self.host.deliver(
+        match self.host.deliver(
             alloc,
             from,
             frame,
@@ -109,14 +110,16 @@ impl DrivenHost {
             &mut self.suite,
             &mut self.out,
             &mut self.scratch,
-        );
-        came.ok()
+        ) {
+            Ok(()) => Some(()),
+            Err(_) => None,
+        }
     }
 
     /// A turn at tick `now` of the host's own clock. None where this is no step of a host.
     pub fn turn(&mut self, now: u64) -> Option<()>
-        ensures step { OnSome result (IsStep (turn_step self.old.host.settings self.old.host.host now) self.old self.new) }
-        ensures same { OnNone result (self.new.host.host ≡ self.old.host.host) }
+        ensures step { IfSome result (λ _. IsStep (turn_step self.old.host.settings self.old.host.host now) self.old self.new) }
+        ensures same { IfNone result (self.new.host.host ≡ self.old.host.host) }
     {
         if !may_begin(&self.host, self.steps, now) {
             return None;

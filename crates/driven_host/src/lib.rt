@@ -6,7 +6,5 @@
 #![tactic(auto)]
 
 mod driven;
-#[cfg(test)]
-mod tests;
 
 pub use driven::DrivenHost;

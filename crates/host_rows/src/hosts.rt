@@ -114,9 +114,10 @@ impl Hosts {
     // A packet comes to its receiver.
     fn deliver<K: Sink>(&mut self, alloc: Global, sink: &mut K, packet: u64) -> Option<()> {
         put_entry(sink, &Entry::Deliver { packet }).ok()?;
-        let sent = self.sent.get(usize::try_from(packet).ok()?)?;
-        let to = sent.to;
+        let number = usize::try_from(packet).ok()?;
+        let to = self.sent.get(number)?.to;
         let now = self.own_clock(to)?;
+        let sent = self.sent.get(number)?;
         let host = self.hosts.get_mut(to.0 as usize)?;
         host.deliver(alloc, sent.from, &sent.bytes, now)?;
         self.finish(alloc, sink, to)

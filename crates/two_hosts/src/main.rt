@@ -5,9 +5,12 @@
 //! lines of a world: at tick 4 the server asks for an ACK, keeps the call's name up to tick 24, and frees it then.
 #![tactic(auto)]
 
-ghost use Rattle.std.specs.Prelude.{◌≡◌, ◌≢◌, ◌+◌, ◌<◌, ◌≤◌, ◌^◌, [], OnSome, IfSome, length};
-ghost use Rattle.homa_host.specs.Public.{IsSameHost};
+ghost use Rattle.std.specs.Prelude.{◌≡◌, ◌≢◌, ◌+◌, ◌<◌, ◌≤◌, ◌^◌, [], IfSome};
+ghost use Rattle.plain_sets.specs.Maps.{empty};
+ghost use Rattle.homa_plain.specs.Settings.{IsValid};
+ghost use Rattle.homa_plain.specs.Host.{new_host};
 ghost use Rattle.homa_seen.specs.Done.{HoldsSent};
+ghost use Rattle.homa_host.specs.Public.{IsSameHost};
 
 use homa_host::Host;
 use homa_io::{Sink, StdSink};
@@ -34,7 +37,18 @@ struct Side {
 }
 
 impl Side {
-    fn open(alloc: Global, id: HostId, settings: &Settings) -> Option<Side> {
+    fn open(alloc: Global, id: HostId, settings: &Settings) -> Option<Side>
+        requires valid { IsValid settings.now }
+        requires id { id.0 < settings.now.hosts }
+        ensures host { IfSome result (λ s. s.host ≡ record {
+          settings = settings.now;
+          host = new_host settings.now id 1 0;
+          client_places = empty;
+          server_places = empty;
+          marks = [];
+        }) }
+        ensures suite { IfSome result (λ s. s.suite ≡ 0) }
+    {
         Some(Side {
             host: Host::open(alloc, id, 1, settings).ok()?,
             suite: Suite::new(),
@@ -44,13 +58,22 @@ impl Side {
     }
 
     // Calls service 0 of the server.
-    fn call<K: Sink>(&mut self, sink: &mut K, request: Vec<u8>, now: u64) -> Option<()> {
-        let Side { host, out, .. } = self;
-        host.call(SERVER, 0, request, now, out).ok()?;
+    fn call<K: Sink>(&mut self, sink: &mut K, request: Vec<u8>, now: u64) -> Option<()>
+        requires server { 1 < self.old.host.settings.hosts }
+        requires now { now ≤ 1000000002000 }
+        requires later { self.old.host.host.last ≤ now }
+        requires order { self.old.host.host.order < 2 ^ 63 }
+        ensures same { IsSameHost self.old.host self.new.host }
+        ensures last { IfSome result (λ _. self.new.host.host.last ≡ now) }
+        ensures served { self.new.suite ≡ self.old.suite }
+    {
+        let Ok(_) = self.host.call(SERVER, 0, request, now, &mut self.out) else {
+            return None;
+        };
         self.print(sink)
     }
 
-    // The datagram of another host's step comes.
+    // The datagram that a step of another host sent comes.
     fn receive<K: Sink>(
         &mut self,
         alloc: Global,
@@ -58,25 +81,44 @@ impl Side {
         from: HostId,
         sent: &Outbox,
         now: u64,
-    ) -> Option<()> {
+    ) -> Option<()>
+        requires from { from.0 < self.old.host.settings.hosts }
+        requires other { from ≢ self.old.host.host.id }
+        requires now { now ≤ 1000000002000 }
+        requires later { self.old.host.host.last ≤ now }
+        requires order { self.old.host.host.order < 2 ^ 63 }
+        requires served { self.old.suite < 2 ^ 63 }
+        ensures same { IsSameHost self.old.host self.new.host }
+        ensures last { IfSome result (λ _. self.new.host.host.last ≡ now) }
+        ensures served { self.new.suite ≤ self.old.suite + 1 }
+    {
         if sent.is_empty() {
             return None;
         }
-        self.host
-            .deliver(
-                alloc,
-                from,
-                sent.bytes(0),
-                now,
-                &mut self.suite,
-                &mut self.out,
-                &mut self.scratch,
-            )
-            .ok()?;
+        let frame = sent.bytes(0);
+        let Ok(()) = self.host.deliver(
+            alloc,
+            from,
+            frame,
+            now,
+            &mut self.suite,
+            &mut self.out,
+            &mut self.scratch,
+        )
+        else {
+            return None;
+        };
         self.print(sink)
     }
 
-    fn turn<K: Sink>(&mut self, sink: &mut K, now: u64) -> Option<()> {
+    fn turn<K: Sink>(&mut self, sink: &mut K, now: u64) -> Option<()>
+        requires now { now ≤ 1000000002000 }
+        requires later { self.old.host.host.last ≤ now }
+        requires order { self.old.host.host.order < 2 ^ 63 }
+        ensures same { IsSameHost self.old.host self.new.host }
+        ensures last { self.new.host.host.last ≡ now }
+        ensures served { self.new.suite ≡ self.old.suite }
+    {
         self.host.turn(now, &mut self.out);
         self.print(sink)
     }
