@@ -8,6 +8,9 @@ use homa_plain::{Entry, Event, HostId, Settings};
 use homa_text::put_entry;
 use std::alloc::Global;
 
+// The last tick of a host's own clock.
+const LAST_TICK: u64 = 1_000_000_002_000;
+
 // A datagram that was sent.
 #[derive(Debug, Drop)]
 struct Sent {
@@ -58,7 +61,7 @@ impl Hosts {
     pub(crate) fn tick<K: Sink>(&mut self, alloc: Global, sink: &mut K) -> Option<()> {
         self.apply(alloc, sink, &Event::Clock, &[])?;
         for id in 0..self.settings.hosts {
-            let host = HostId(id as u16);
+            let host = HostId(u16::try_from(id).ok()?);
             self.apply(alloc, sink, &Event::Turn { host }, &[])?;
         }
         Some(())
@@ -78,37 +81,60 @@ impl Hosts {
                 client,
                 server,
                 number,
-            } => {
-                let request = Vec::from_slice(alloc, bytes).ok()?;
-                let now = self.own_clock(client)?;
-                let host = self.hosts.get_mut(client.0 as usize)?;
-                host.call(server, number, request, now)?;
-                self.finish(alloc, sink, client)
-            }
+            } => self.call(alloc, sink, client, server, number, bytes),
             Event::Deliver { packet } => self.deliver(alloc, sink, packet),
             Event::Clock => {
                 self.clock = self.clock.checked_add(1)?;
                 put_entry(sink, &Entry::Clock { tick: self.clock }).ok()
             }
-            Event::Turn { host } => {
-                let now = self.own_clock(host)?;
-                self.hosts.get_mut(host.0 as usize)?.turn(now)?;
-                self.finish(alloc, sink, host)
-            }
+            Event::Turn { host } => self.turn(alloc, sink, host),
             Event::Restart { host } => self.restart(alloc, sink, host),
-            Event::Inject { host } => {
-                put_entry(sink, &Entry::Inject { host, bytes }).ok()?;
-                let now = self.own_clock(host)?;
-                let from = HostId(u16::from(host.0 == 0));
-                let place = self.hosts.get_mut(host.0 as usize)?;
-                place.deliver(alloc, from, bytes, now)?;
-                self.finish(alloc, sink, host)
-            }
+            Event::Inject { host } => self.inject(alloc, sink, host, bytes),
             Event::Shift { host, n } => {
-                *self.leads.get_mut(host.0 as usize)? = n;
+                *self.leads.get_mut(usize::from(host.0))? = n;
                 put_entry(sink, &Entry::Shift { host, n }).ok()
             }
         }
+    }
+
+    // A host calls a service of another one.
+    fn call<K: Sink>(
+        &mut self,
+        alloc: Global,
+        sink: &mut K,
+        client: HostId,
+        server: HostId,
+        number: u8,
+        bytes: &[u8],
+    ) -> Option<()> {
+        let request = Vec::from_slice(alloc, bytes).ok()?;
+        let now = self.own_clock(client)?;
+        let host = self.hosts.get_mut(usize::from(client.0))?;
+        host.call(server, number, request, now)?;
+        self.finish(alloc, sink, client)
+    }
+
+    // A host has its turn.
+    fn turn<K: Sink>(&mut self, alloc: Global, sink: &mut K, host: HostId) -> Option<()> {
+        let now = self.own_clock(host)?;
+        self.hosts.get_mut(usize::from(host.0))?.turn(now)?;
+        self.finish(alloc, sink, host)
+    }
+
+    // A datagram that no host sent comes to a host.
+    fn inject<K: Sink>(
+        &mut self,
+        alloc: Global,
+        sink: &mut K,
+        host: HostId,
+        bytes: &[u8],
+    ) -> Option<()> {
+        put_entry(sink, &Entry::Inject { host, bytes }).ok()?;
+        let now = self.own_clock(host)?;
+        let from = HostId(u16::from(host.0 == 0));
+        let receiver = self.hosts.get_mut(usize::from(host.0))?;
+        receiver.deliver(alloc, from, bytes, now)?;
+        self.finish(alloc, sink, host)
     }
 
     // A packet comes to its receiver.
@@ -118,23 +144,24 @@ impl Hosts {
         let to = self.sent.get(number)?.to;
         let now = self.own_clock(to)?;
         let sent = self.sent.get(number)?;
-        let host = self.hosts.get_mut(to.0 as usize)?;
+        let host = self.hosts.get_mut(usize::from(to.0))?;
         host.deliver(alloc, sent.from, &sent.bytes, now)?;
         self.finish(alloc, sink, to)
     }
 
     // A host begins its next life, with no calls and a new service.
     fn restart<K: Sink>(&mut self, alloc: Global, sink: &mut K, host: HostId) -> Option<()> {
-        let before = self.hosts.get(host.0 as usize)?.host();
+        let before = self.hosts.get(usize::from(host.0))?.host();
         let inc = before.incarnation().checked_add(1)?;
-        let next = DrivenHost::open(alloc, host, inc, before.last(), &self.settings).ok()?;
-        *self.hosts.get_mut(host.0 as usize)? = next;
+        let last = before.last();
+        let next = reopened(alloc, host, inc, last, &self.settings)?;
+        *self.hosts.get_mut(usize::from(host.0))? = next;
         put_entry(sink, &Entry::Restart { host, inc }).ok()
     }
 
     // Prints a host's last step, whose frames are on their way.
     fn finish<K: Sink>(&mut self, alloc: Global, sink: &mut K, host: HostId) -> Option<()> {
-        let host = self.hosts.get(host.0 as usize)?;
+        let host = self.hosts.get(usize::from(host.0))?;
         put_step(sink, host, self.sent.len() as u64)?;
         let out = host.out();
         for i in 0..out.len() {
@@ -147,7 +174,24 @@ impl Hosts {
 
     // The tick of a host's own clock.
     fn own_clock(&self, host: HostId) -> Option<u64> {
-        let lead = self.leads.get(host.0 as usize)?;
+        let lead = self.leads.get(usize::from(host.0))?;
         self.clock.checked_add(u64::from(*lead))
     }
+}
+
+// A host in its next life, where the settings have such a host.
+fn reopened(
+    alloc: Global,
+    id: HostId,
+    inc: u32,
+    last: u64,
+    settings: &Settings,
+) -> Option<DrivenHost> {
+    if settings.check().is_err() || u32::from(id.0) >= settings.hosts {
+        return None;
+    }
+    if inc == 0 || last > LAST_TICK {
+        return None;
+    }
+    DrivenHost::open(alloc, id, inc, last, settings).ok()
 }

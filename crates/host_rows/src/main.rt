@@ -4,6 +4,8 @@
 //! to be printed are the worked traces, one after the other. A schedule with a line that is refused isn't carried out.
 #![tactic(auto)]
 
+ghost use Rattle.std.specs.Prelude.{◌≡◌, true, false, IfSome};
+
 mod hosts;
 mod told;
 
@@ -19,25 +21,55 @@ use std::{env, fs, io};
 // The most bytes of a schedule.
 const MOST_BYTES: u64 = 1_000_000;
 
+// The most lines with words of a schedule.
+const MOST_LINES: u32 = 1_000_000;
+
+// Carries out the next line that has words, and prints what it tells. Whether there was such a line.
+fn play_line<K: Sink>(
+    alloc: Global,
+    sink: &mut K,
+    reader: &mut Reader,
+    source: &mut MemSource,
+    hosts: &mut Hosts,
+) -> Option<bool>
+    requires started { reader.old.started ≡ true }
+    requires going { reader.old.ended ≡ false }
+    ensures started { reader.new.started ≡ true }
+    ensures going { IfSome result (λ more. more ≡ true → reader.new.ended ≡ false) }
+{
+    let Ok(next) = reader.next(source) else {
+        return None;
+    };
+    match next {
+        Next::Event(event) => {
+            hosts.apply(alloc, sink, &event, reader.bytes())?;
+            Some(true)
+        }
+        Next::Ticks(n) => {
+            for _ in 0..n {
+                hosts.tick(alloc, sink)?;
+            }
+            Some(true)
+        }
+        Next::End => Some(false),
+    }
+}
+
 // Carries a schedule out, and prints it. None where that can't be done.
 fn replay<K: Sink>(alloc: Global, script: Vec<u8>, sink: &mut K) -> Option<()> {
     let mut source = MemSource::new(script, Vec::new(alloc));
     let mut reader = Reader::open(alloc, MOST_BYTES).ok()?;
-    let settings = reader.settings(&mut source).ok()?;
+    let Ok(settings) = reader.settings(&mut source) else {
+        return None;
+    };
     put_entry(sink, &Entry::Settings(settings)).ok()?;
     let mut hosts = Hosts::open(alloc, &settings)?;
-    loop {
-        match reader.next(&mut source).ok()? {
-            Next::Event(event) => hosts.apply(alloc, sink, &event, reader.bytes())?,
-            Next::Ticks(n) => {
-                for _ in 0..n {
-                    hosts.tick(alloc, sink)?;
-                }
-            }
-            Next::End => break,
+    'lines: for _ in 0..MOST_LINES {
+        if !play_line(alloc, sink, &mut reader, &mut source, &mut hosts)? {
+            return put_entry(sink, &Entry::Finished { n: hosts.events() }).ok();
         }
     }
-    put_entry(sink, &Entry::Finished { n: hosts.events() }).ok()
+    None
 }
 
 fn main(rt: HostRuntime) -> io::Result<ExitCode> {
