@@ -1,0 +1,32 @@
+-- A host that is driven by hand.
+use Rattle.std.specs.Prelude.{◌≡◌, ◌<◌, ◌≤◌, ◌*◌, ◌^◌, ℕ, List}
+use Rattle.homa_plain.specs.declared.id.HostId.{HostId}
+use Rattle.homa_plain.specs.Steps.{Work}
+use Rattle.homa_seen.specs.declared.outbox.SentFrame.{SentFrame}
+use Rattle.homa_seen.specs.Seen.{Seen}
+use Rattle.homa_seen.specs.Done.{IsDone, HoldsSent}
+
+-- a host, and what its last step left: its frames, and the message that became whole
+pub record Driven : Type 0 where
+  pub host : Seen
+  pub out : List SentFrame
+  pub whole : List ℕ
+
+-- the host, the entries and the frames are those of a plain step
+abbrev pub IsStep : Work → Driven → Driven → Type 0
+IsStep step old new = IsDone old.host step new.host new.out new.whole
+
+-- a host that began so many steps may begin one at this tick of its own clock
+pub record MayBegin (h : Seen) (steps now : ℕ) : Type 0 where
+  pub now_is : now ≤ 1000000002000
+  pub later : h.host.last ≤ now
+  pub few : steps < 2 ^ 32
+
+-- what stands beside a host is the host's, and its numbers grow with its steps
+pub record IsKept (h : Seen) (served : ℕ) (out : List SentFrame) (id : HostId) (hosts steps : ℕ) : Type 0 where
+  pub name : h.host.id ≡ id
+  pub hosts_are : h.settings.hosts ≡ hosts
+  pub order : h.host.order ≤ 64 * steps
+  pub served_few : served ≤ steps
+  pub few : steps ≤ 2 ^ 32
+  pub sent : HoldsSent h out

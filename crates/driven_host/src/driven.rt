@@ -1,0 +1,167 @@
+// A host with what its steps are lent.
+ghost use Rattle.std.specs.Prelude.{◌≡◌, ◌≢◌, ◌<◌, ◌≤◌, IsTrue, ◌↔◌, Some, None, [], length, slice_get, IfOk, IfSome, IfNone};
+ghost use Rattle.plain_sets.specs.Maps.{empty};
+ghost use Rattle.homa_plain.specs.Settings.{IsValid};
+ghost use Rattle.homa_plain.specs.Entries.{plain};
+ghost use Rattle.homa_plain.specs.Host.{new_host};
+ghost use Rattle.homa_plain.specs.Rules.{Answer};
+ghost use Rattle.homa_plain.specs.Steps.{next_id, call_step, arrival_step, turn_step};
+ghost use Rattle.homa_seen.specs.Marks.{shown_entries};
+ghost use Rattle.homa_seen.specs.Done.{arriving};
+ghost use Rattle.driven_host.specs.Driven.{IsStep, MayBegin};
+
+use homa_host::Host;
+use homa_plain::{CallId, Entry, HostId, Settings};
+use homa_seen::Outbox;
+use homa_service::Suite;
+use msg_pool::Scratch;
+use std::alloc::{AllocError, Global};
+use std::marker::Model;
+
+/// The last tick of a host's own clock.
+const LAST_TICK: u64 = 1_000_000_002_000;
+
+/// The most steps that a host is driven.
+const MOST_STEPS: u64 = 1 << 32;
+
+/// A host with all that a step of it is lent: its services, and room for its frames and for a whole message.
+#[derive(Drop)]
+pub struct DrivenHost {
+    host: Host,
+    suite: Suite,
+    out: Outbox,
+    scratch: Scratch,
+    id: HostId,
+    // How many hosts there are.
+    hosts: u32,
+    // How many steps were begun.
+    steps: u64,
+}
+
+impl Model for DrivenHost {
+    ghost use Rattle.driven_host.specs.Driven.{Driven, IsKept};
+
+    ghost Value = { Driven };
+
+    ghost view = { λ d. record { host = d.host; out = d.out; whole = d.scratch } };
+
+    ghost invariant = { λ d. IsKept d.host d.suite d.out d.id d.hosts d.steps };
+}
+
+impl DrivenHost {
+    /// A host without calls, in this incarnation, whose own clock stood at `last` at its last step in an earlier life.
+    pub fn open(
+        alloc: Global,
+        id: HostId,
+        inc: u32,
+        last: u64,
+        settings: &Settings,
+    ) -> Result<DrivenHost, AllocError>
+        requires valid { IsValid settings.now }
+        requires id { id.0 < settings.now.hosts }
+        requires inc { 1 ≤ inc }
+        requires last { last ≤ 1000000002000 }
+        ensures host { IfOk result (λ d. d.host.host ≡ new_host settings.now id inc last) }
+        ensures settings { IfOk result (λ d. d.host.settings ≡ settings.now) }
+    {
+        Ok(DrivenHost {
+            host: Host::open_at(alloc, id, inc, last, settings)?,
+            suite: Suite::new(),
+            out: Outbox::new(alloc)?,
+            scratch: Scratch::new(alloc)?,
+            id,
+            hosts: settings.hosts,
+            steps: 0,
+        })
+    }
+
+    /// Calls a service of another host, at tick `now` of the host's own clock. None where the call can't start, and where
+    /// this is no step of a host.
+    pub fn call(&mut self, server: HostId, number: u8, request: Vec<u8>, now: u64) -> Option<CallId>
+        ensures id { IfSome result (λ id. id ≡ next_id self.old.host.host) }
+        ensures step { IfSome result (λ _. IsStep (call_step self.old.host.settings self.old.host.host now server number request.items) self.old self.new) }
+        ensures same { IfNone result (self.new.host.host ≡ self.old.host.host) }
+    {
+        if !is_other(self.id, self.hosts, server) || !may_begin(&self.host, self.steps, now) {
+            return None;
+        }
+        self.steps += 1;
+        let Ok(id) = self.host.call(server, number, request, now, &mut self.out) else {
+            return None;
+        };
+        Some(id)
+    }
+
+    /// A datagram comes from another host, at tick `now` of the host's own clock. None where its service finds no memory,
+    /// and where this is no step of a host.
+    pub fn deliver(&mut self, alloc: Global, from: HostId, frame: &[u8], now: u64) -> Option<()>
+        ensures step { IfSome result (λ _. (a : Answer) × IsStep (arrival_step self.old.host.settings self.old.host.host now (arriving self.old.host from frame.now) a) self.old self.new) }
+        ensures same { IfNone result (self.new.host.host ≡ self.old.host.host) }
+    {
+        if !is_other(self.id, self.hosts, from) || !may_begin(&self.host, self.steps, now) {
+            return None;
+        }
+        self.steps += 1;
+        match self.host.deliver(
+            alloc,
+            from,
+            frame,
+            now,
+            &mut self.suite,
+            &mut self.out,
+            &mut self.scratch,
+        ) {
+            Ok(()) => Some(()),
+            Err(_) => None,
+        }
+    }
+
+    /// A turn at tick `now` of the host's own clock. None where this is no step of a host.
+    pub fn turn(&mut self, now: u64) -> Option<()>
+        ensures step { IfSome result (λ _. IsStep (turn_step self.old.host.settings self.old.host.host now) self.old self.new) }
+        ensures same { IfNone result (self.new.host.host ≡ self.old.host.host) }
+    {
+        if !may_begin(&self.host, self.steps, now) {
+            return None;
+        }
+        self.steps += 1;
+        self.host.turn(now, &mut self.out);
+        Some(())
+    }
+
+    /// The host.
+    pub fn host(&self) -> &Host
+        ensures { result.now ≡ self.now.host }
+    {
+        &self.host
+    }
+
+    /// The frames of its last step.
+    pub fn out(&self) -> &Outbox
+        ensures { result.now ≡ self.now.out }
+    {
+        &self.out
+    }
+
+    /// The entry of its last step with this number, counted from 0. A packet has its number within the step.
+    pub fn entry(&self, i: usize) -> Entry<'_>
+        requires i { i < length self.now.host.marks }
+        ensures { slice_get (shown_entries self.now.host self.now.out self.now.whole) i ≡ Some (plain result) }
+    {
+        self.host.entry(i, &self.out, &self.scratch)
+    }
+}
+
+// Whether there is another host of this name.
+fn is_other(id: HostId, hosts: u32, other: HostId) -> bool
+    ensures { IsTrue result ↔ ((other.0 < hosts) × (other ≢ id)) }
+{
+    u32::from(other.0) < hosts && other != id
+}
+
+// Whether a host that began so many steps may begin one at this tick of its own clock.
+fn may_begin(host: &Host, steps: u64, now: u64) -> bool
+    ensures { IsTrue result ↔ MayBegin host.now steps now }
+{
+    now <= LAST_TICK && host.last() <= now && steps < MOST_STEPS
+}
