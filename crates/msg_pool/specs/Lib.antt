@@ -3,3 +3,4 @@ pub mod Stored
 pub mod Pages
 pub mod Pool
 pub mod Chains
+pub mod Near

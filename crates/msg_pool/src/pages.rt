@@ -2,6 +2,7 @@
 
 ghost use Rattle.std.specs.Prelude.{◌≡◌, ◌≢◌, ℕ, ◌+◌, ◌-◌, ◌*◌, ◌<◌, ◌≤◌, length, slice_index, vec_len, IfOk};
 ghost use Rattle.msg_pool.specs.Pages.{pages_for, byte_at, page_at, IsChain, HasNoRepeat};
+ghost use Rattle.msg_pool.specs.Near.{IsNear};
 
 use crate::block::{Block, PAGE};
 use std::alloc::{AllocError, Global};
@@ -11,6 +12,14 @@ use std::alloc::{AllocError, Global};
 pub(crate) struct Chain {
     pub(crate) first: u32,
     pub(crate) len: u32,
+}
+
+/// A page that was looked for: so many steps behind the first one of a chain.
+#[derive(Clone, Copy)]
+pub(crate) struct Near {
+    pub(crate) first: u32,
+    pub(crate) steps: u32,
+    pub(crate) page: u32,
 }
 
 /// The table in which each page is followed by the one with the next number.
@@ -38,6 +47,23 @@ pub(crate) fn nth_page(next: &[u32], first: u32, steps: u32) -> u32
     page
 }
 
+/// The page so many steps behind the first one of a chain, from the last one that was looked for on where that comes
+/// before it. It is the last one that was looked for then.
+fn near_page(next: &[u32], near: &mut Near, first: u32, steps: u32) -> u32
+    requires chain { IsChain next.now first steps }
+    requires near { IsNear next.now near.old }
+    ensures page { result ≡ page_at next.now first steps }
+    ensures near { IsNear next.now near.new }
+{
+    let page = if near.first == first && near.steps <= steps {
+        nth_page(next, near.page, steps - near.steps)
+    } else {
+        nth_page(next, first, steps)
+    };
+    *near = Near { first, steps, page };
+    page
+}
+
 /// Makes each byte of so many pages of a chain zero, and returns the page behind them.
 pub(crate) fn zero_chain(block: &mut Block, next: &[u32], first: u32, count: u32) -> u32
     requires block { length block.old ≡ length next.now * 4096 }
@@ -55,18 +81,27 @@ pub(crate) fn zero_chain(block: &mut Block, next: &[u32], first: u32, count: u32
     page
 }
 
-/// Writes bytes over those of a chain of pages from `offset` on.
-pub(crate) fn write_chain(block: &mut Block, next: &[u32], first: u32, offset: u32, bytes: &[u8])
+/// Writes bytes over those of a chain of pages from `offset` on. The page of the first one is looked for.
+pub(crate) fn write_chain(
+    block: &mut Block,
+    next: &[u32],
+    near: &mut Near,
+    first: u32,
+    offset: u32,
+    bytes: &[u8],
+)
     requires size { offset + length bytes.now ≤ 1000000 }
     requires block { length block.old ≡ length next.now * 4096 }
     requires chain { IsChain next.now first (pages_for (offset + length bytes.now)) }
     requires apart { HasNoRepeat next.now first (pages_for (offset + length bytes.now)) }
+    requires near { IsNear next.now near.old }
+    ensures near { IsNear next.now near.new }
     ensures len { length block.new ≡ length block.old }
     ensures written { (i k : ℕ) → k < 4096 → offset ≤ i * 4096 + k → i * 4096 + k < offset + length bytes.now → byte_at block.new (page_at next.now first i) k ≡ slice_index bytes.now (i * 4096 + k - offset) }
     ensures kept { (q k : ℕ) → k < 4096 → ((i : ℕ) → offset ≤ i * 4096 + k → i * 4096 + k < offset + length bytes.now → q ≢ page_at next.now first i) → byte_at block.new q k ≡ byte_at block.old q k }
 {
     let end = offset + bytes.len() as u32;
-    let mut page = nth_page(next, first, offset / PAGE);
+    let mut page = near_page(next, near, first, offset / PAGE);
     for i in offset / PAGE..end.div_ceil(PAGE) {
         let start = i * PAGE;
         let from = offset.max(start);

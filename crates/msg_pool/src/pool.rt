@@ -7,7 +7,7 @@ ghost use Rattle.msg_pool.specs.Pages.{pages_for};
 ghost use Rattle.msg_pool.specs.Pool.{leased_pages, free_pages, bytes_of, IsLeaseOf, with_bytes, without};
 
 use crate::block::{Block, PAGE};
-use crate::pages::{Chain, copy_chain, linked, nth_page, write_chain, zero_chain};
+use crate::pages::{Chain, Near, copy_chain, linked, nth_page, write_chain, zero_chain};
 use slab::Slab;
 use std::alloc::{AllocError, Global};
 use std::marker::Model;
@@ -25,7 +25,16 @@ pub struct MsgPool {
     free: u32,
     // The chain of each lease, under its number.
     chains: Slab<Chain>,
+    // The page where the last write began.
+    near: Near,
 }
+
+// The first page, none steps behind itself.
+const FIRST: Near = Near {
+    first: 0,
+    steps: 0,
+    page: 0,
+};
 
 impl Model for MsgPool {
     ghost use Rattle.msg_pool.specs.Pool.{Pool, pool_code};
@@ -36,10 +45,11 @@ impl Model for MsgPool {
 
     ghost use Rattle.std.specs.Prelude.{length};
     ghost use Rattle.msg_pool.specs.Chains.{leases_of, AreKept};
+    ghost use Rattle.msg_pool.specs.Near.{IsNear};
 
     ghost view = { λ p. record { pages = length p.next.items; leases = leases_of p.block p.next.items p.chains } };
 
-    ghost invariant = { λ p. AreKept p.block p.next.items p.head p.free p.chains };
+    ghost invariant = { λ p. (AreKept p.block p.next.items p.head p.free p.chains) × (IsNear p.next.items p.near) };
 }
 
 /// The right to some bytes of a pool. A lease that is dropped keeps its pages from the pool.
@@ -98,6 +108,7 @@ impl MsgPool {
             head: 0,
             free: pages,
             chains,
+            near: FIRST,
         })
     }
 
@@ -137,7 +148,15 @@ impl MsgPool {
         let Some(chain) = self.chains.get(lease.number) else {
             unreachable!()
         };
-        write_chain(&mut self.block, &self.next, chain.first, offset, bytes);
+        let first = chain.first;
+        write_chain(
+            &mut self.block,
+            &self.next,
+            &mut self.near,
+            first,
+            offset,
+            bytes,
+        );
     }
 
     /// Copies a lease's bytes to a list of the same length.
@@ -164,6 +183,7 @@ impl MsgPool {
         let count = chain.len.div_ceil(PAGE);
         let last = nth_page(&self.next, chain.first, count - 1);
         self.next[last as usize] = self.head;
+        self.near = FIRST;
         self.head = chain.first;
         self.free += count;
     }

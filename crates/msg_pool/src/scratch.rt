@@ -1,6 +1,6 @@
 //! Room for the bytes of one message, outside of the pool.
 
-ghost use Rattle.std.specs.Prelude.{◌≡◌, ◌+◌, ◌≤◌, [], length, IfOk};
+ghost use Rattle.std.specs.Prelude.{◌≡◌, ◌+◌, ◌≤◌, [], length, take, IfOk};
 ghost use Rattle.msg_pool.specs.Bytes.{overwritten};
 ghost use Rattle.msg_pool.specs.Pool.{bytes_of, IsLeaseOf};
 
@@ -14,17 +14,19 @@ pub const MAX_MESSAGE: usize = 1_000_000;
 /// A list of at most 1,000,000 bytes, for which the room is taken at opening.
 #[derive(Drop)]
 pub struct Scratch {
-    bytes: Vec<u8>,
+    // The bytes are the first of these; behind them are some of longer messages before.
+    room: Vec<u8>,
+    len: usize,
 }
 
 impl Model for Scratch {
-    ghost use Rattle.std.specs.Prelude.{◌≤◌, List, ℕ, vec_capacity, vec_len};
+    ghost use Rattle.std.specs.Prelude.{◌≤◌, List, ℕ, take, vec_capacity, vec_len};
 
     ghost Value = { List ℕ };
 
-    ghost view = { λ s. s.bytes.items };
+    ghost view = { λ s. take s.len s.room.items };
 
-    ghost invariant = { λ s. (1000000 ≤ vec_capacity s.bytes) × (vec_len s.bytes ≤ 1000000) };
+    ghost invariant = { λ s. (1000000 ≤ vec_capacity s.room) × (vec_len s.room ≤ 1000000) × (s.len ≤ vec_len s.room) };
 }
 
 impl Scratch {
@@ -32,8 +34,21 @@ impl Scratch {
     pub fn new(alloc: Global) -> Result<Scratch, AllocError>
         ensures { IfOk result (λ s. s ≡ []) }
     {
-        let bytes = Vec::with_capacity(alloc, MAX_MESSAGE)?;
-        Ok(Scratch { bytes })
+        let room = Vec::with_capacity(alloc, MAX_MESSAGE)?;
+        Ok(Scratch { room, len: 0 })
+    }
+
+    // Has so many bytes from now on, whatever they are. Only those that no message had before are written.
+    fn set_len(&mut self, len: usize)
+        requires { len ≤ 1000000 }
+        ensures { length self.new ≡ len }
+    {
+        if self.room.len() < len {
+            let Ok(()) = self.room.resize(len, 0) else {
+                unreachable!()
+            };
+        }
+        self.len = len;
     }
 
     /// Becomes these bytes.
@@ -41,10 +56,8 @@ impl Scratch {
         requires { length bytes.now ≤ 1000000 }
         ensures { self.new ≡ bytes.now }
     {
-        self.bytes.clear();
-        let Ok(()) = self.bytes.extend_from_slice(bytes) else {
-            unreachable!()
-        };
+        self.set_len(bytes.len());
+        copy_front(&mut self.room, bytes);
     }
 
     /// Becomes the bytes of a lease.
@@ -52,11 +65,8 @@ impl Scratch {
         requires { IsLeaseOf pool.now lease.now }
         ensures { self.new ≡ bytes_of pool.now lease.now }
     {
-        self.bytes.clear();
-        let Ok(()) = self.bytes.resize(lease.len(), 0) else {
-            unreachable!()
-        };
-        pool.copy_out(lease, &mut self.bytes);
+        self.set_len(lease.len());
+        fill_front(&mut self.room, pool, lease);
     }
 
     /// Writes `bytes` over those from `offset` on.
@@ -64,14 +74,50 @@ impl Scratch {
         requires { offset + length bytes.now ≤ length self.old }
         ensures { self.new ≡ overwritten self.old offset bytes.now }
     {
-        let from = offset as usize;
-        self.bytes[from..from + bytes.len()].copy_from_slice(bytes);
+        put_front(&mut self.room, self.len, offset as usize, bytes);
     }
 
     /// The bytes.
     pub fn bytes(&self) -> &[u8]
         ensures { result.now ≡ self.now }
     {
-        self.bytes.as_slice()
+        &self.room[..self.len]
     }
+}
+
+// The first bytes of a list become these.
+fn copy_front(room: &mut [u8], bytes: &[u8])
+    requires { length bytes.now ≤ length room.old }
+    ensures len { length room.new ≡ length room.old }
+    ensures front { take (length bytes.now) room.new ≡ bytes.now }
+{
+    room[..bytes.len()].copy_from_slice(bytes);
+}
+
+// The first bytes of a list become those of a lease.
+fn fill_front(room: &mut [u8], pool: &MsgPool, lease: &Lease)
+    requires lease { IsLeaseOf pool.now lease.now }
+    requires fits { lease.now.len ≤ length room.old }
+    ensures len { length room.new ≡ length room.old }
+    ensures front { take lease.now.len room.new ≡ bytes_of pool.now lease.now }
+{
+    pool.copy_out(lease, &mut room[..lease.len()]);
+}
+
+// Writes bytes over those of a list from a place on.
+fn overwrite(list: &mut [u8], from: usize, bytes: &[u8])
+    requires { from + length bytes.now ≤ length list.old }
+    ensures { list.new ≡ overwritten list.old from bytes.now }
+{
+    list[from..from + bytes.len()].copy_from_slice(bytes);
+}
+
+// Writes bytes over the first so many of a list, from a place on.
+fn put_front(room: &mut [u8], len: usize, from: usize, bytes: &[u8])
+    requires fits { from + length bytes.now ≤ len }
+    requires within { len ≤ length room.old }
+    ensures len { length room.new ≡ length room.old }
+    ensures front { take len room.new ≡ overwritten (take len room.old) from bytes.now }
+{
+    overwrite(&mut room[..len], from, bytes);
 }

@@ -60,7 +60,8 @@ pub fn remove(kept: &mut ArrayVec<Range, 64>, a: u32, b: u32) -> Changed
     ensures unchanged { result ≡ Changed.TooMany → kept.new ≡ kept.old }
     ensures kept_again { AreKept kept.new.items }
 {
-    let parted = part(kept.as_slice(), a, b);
+    let mut parted = ArrayVec::new();
+    part(&mut parted, kept.as_slice(), a, b);
     if parted.len() > 64 {
         return Changed::TooMany;
     }
@@ -179,17 +180,16 @@ fn absorb(kept: &[Range], a: u32, b: u32) -> (Range, usize)
     (Range { from, to }, kept.len())
 }
 
-/// The ranges with the numbers from `a` to `b` - 1 taken away.
-fn part(kept: &[Range], a: u32, b: u32) -> ArrayVec<Range, 65>
-    requires { length (parted a b (plain kept.now)) ≤ 65 }
-    ensures { plain result.items ≡ parted a b (plain kept.now) }
+/// The ranges with the numbers from `a` to `b` - 1 taken away, in an empty list that is lent.
+fn part(out: &mut ArrayVec<Range, 65>, kept: &[Range], a: u32, b: u32)
+    requires none { out.old.items ≡ [] }
+    requires few { length (parted a b (plain kept.now)) ≤ 65 }
+    ensures { plain out.new.items ≡ parted a b (plain kept.now) }
 {
-    let mut out: ArrayVec<Range, 65> = ArrayVec::new();
     for range in kept {
-        lead(&mut out, range.from, range.to.min(a));
-        lead(&mut out, range.from.max(b), range.to);
+        lead(out, range.from, range.to.min(a));
+        lead(out, range.from.max(b), range.to);
     }
-    out
 }
 
 /// Appends the range from `from` to `to` - 1, unless it is empty.

@@ -5,18 +5,18 @@ use Rattle.range_set.proofs.PlainRanges.{length-plain}
 use Rattle.range_set.proofs.KeptRanges.{kept-parted, room_parted, parted_narrower}
 use Rattle.range_set.proofs.kept.remove.Goals as goal
 
-pub part-parted-requires : goal.part-parted-requires
-part-parted-requires c = rw c.as_slice.ensures.value (room_parted _ _ _ c.requires.rising c.requires.kept)
+pub part-requires-clause-few : goal.part-requires-clause-few
+part-requires-clause-few c = rw c.as_slice.ensures.value (room_parted _ _ _ c.requires.rising c.requires.kept)
 
 pub returns-then-len-gt64-clause-too_many : goal.returns-then-len-gt64-clause-too_many
 returns-then-len-gt64-clause-too_many c =
-    let made : plain c.part-parted.result.items ≡ parted c.args.a c.args.b (plain c.args.kept.now.items) = cc in
-    (λ _. omega (arith, ap length made, length-plain c.part-parted.result.items), λ _. refl)
+    let made : plain c.part.new.out.items ≡ parted c.args.a c.args.b (plain c.args.kept.now.items) = cc in
+    (λ _. omega (arith, ap length made, length-plain c.part.new.out.items), λ _. refl)
 
 pub width-requires : goal.width-requires
 width-requires c =
     let made : plain c.as_slice-4.result.now ≡ parted c.args.a c.args.b (plain c.args.kept.now.items) = cc in
-    let same : c.as_slice-4.result.now ≡ c.part-parted.result.items = cc in
+    let same : c.as_slice-4.result.now ≡ c.part.new.out.items = cc in
     kept-parted _ _ _ _ c.requires.rising c.requires.kept made (omega (arith, ap length same))
 
 pub overflow_sub-result : goal.overflow_sub-result
@@ -45,11 +45,11 @@ returns-clause-removed c =
 
 pub returns-clause-too_many : goal.returns-clause-too_many
 returns-clause-too_many c =
-    let made : plain c.part-parted.result.items ≡ parted c.args.a c.args.b (plain c.args.kept.now.items) = cc in
-    (λ e. cc, λ h. absurd (omega (arith, ap length made, length-plain c.part-parted.result.items)))
+    let made : plain c.part.new.out.items ≡ parted c.args.a c.args.b (plain c.args.kept.now.items) = cc in
+    (λ e. cc, λ h. absurd (omega (arith, ap length made, length-plain c.part.new.out.items)))
 
 pub returns-clause-kept_again : goal.returns-clause-kept_again
 returns-clause-kept_again c =
     let made : plain c.replace.new.kept.items ≡ parted c.args.a c.args.b (plain c.args.kept.now.items) = cc in
-    let same : c.replace.new.kept.items ≡ c.part-parted.result.items = cc in
+    let same : c.replace.new.kept.items ≡ c.part.new.out.items = cc in
     kept-parted _ _ _ _ c.requires.rising c.requires.kept made (omega (arith, ap length same))

@@ -18,7 +18,7 @@ copy_chain-requires-clause-chain c =
     let there : slot c.self.inside.chains c.lease.inside.number ≡ Some c.in-Some.chain.now = sym c.get.ensures ∙ ap option_copied c.in-Some.is in
     let long = slot_len c.self.inside.block c.self.inside.next.items c.self.inside.chains c.lease.inside.number c.lease.inside.len c.args.self.now c.args.lease.now c.self.view_is c.lease.view_is c.requires.lease c.in-Some.chain.now there in
     let size : c.in-Some.chain.now.len ≡ length c.args.out.now = long ∙ ap (λ (l : Held). l.len) c.lease.view_is ∙ sym c.requires.fits in
-    let whole = chain_within c.self.inside.block c.self.inside.next.items c.self.inside.head c.self.inside.free c.self.inside.chains c.self.invariant c.lease.inside.number c.in-Some.chain.now there in
+    let whole = chain_within c.self.inside.block c.self.inside.next.items c.self.inside.head c.self.inside.free c.self.inside.chains c.self.invariant.0 c.lease.inside.number c.in-Some.chain.now there in
     subst (λ n. IsChain c.deref.result.now c.in-Some.chain.now.first (pages_for n)) size
     (subst (λ next. IsChain next c.in-Some.chain.now.first (pages_for c.in-Some.chain.now.len)) (sym c.deref.ensures.value) whole)
 
