@@ -20,9 +20,6 @@ const ID: CallId = CallId {
     seq: 7,
 };
 
-// The place that a new table gives first.
-const FIRST: u32 = 0;
-
 // A packet of the call.
 fn packet(body: Body) -> Packet
     ensures role { result.role ≡ Role.Client }
@@ -114,9 +111,9 @@ fn one_call(rt: HostRuntime) -> Result<(), Fail> {
         &mut suite,
         &mut scratch,
     )?;
-    assert_eq!(rt; first, ServerDid::Opened(FIRST));
+    let slot = table.find(ID).expect(&rt, "a row");
+    assert_eq!(rt; first, ServerDid::Opened(slot));
     assert_eq!(rt; table.rows(), 1);
-    assert_eq!(rt; table.find(ID), Some(FIRST));
     let last = table.receive(
         rt.alloc(),
         FROM,
@@ -129,7 +126,7 @@ fn one_call(rt: HostRuntime) -> Result<(), Fail> {
         &mut scratch,
     )?;
     let ran = ServerDid::Ran {
-        slot: FIRST,
+        slot,
         opened: false,
         hold: 0,
     };
@@ -145,7 +142,7 @@ fn one_call(rt: HostRuntime) -> Result<(), Fail> {
     assert_eq!(rt; table.emit(slot, 12, 4), Emitted::Short);
     let slot = table.find(ID).expect(&rt, "a row");
     assert_eq!(rt; table.emit(slot, 12, 5), Emitted::Sent(0, 5));
-    assert_eq!(rt; table.ack(ID, 13), Some((FIRST, 33)));
+    assert_eq!(rt; table.ack(ID, 13), Some((slot, 33)));
     assert_eq!(rt; table.response(ID), None);
     assert_eq!(rt; table.rows(), 1);
     Ok(())
@@ -170,8 +167,8 @@ fn a_grant_and_a_tombstone(rt: HostRuntime) -> Result<(), Fail> {
         &mut suite,
         &mut scratch,
     )?;
-    assert_eq!(rt; first, ServerDid::Opened(FIRST));
     let slot = table.find(ID).expect(&rt, "a row");
+    assert_eq!(rt; first, ServerDid::Opened(slot));
     assert_eq!(rt; table.deadline(slot), Some(14));
     assert!(rt; grant_if_more(&mut table, slot, 12000, 11));
     let slot = table.find(ID).expect(&rt, "a row");
@@ -200,8 +197,9 @@ fn a_held_reply(rt: HostRuntime) -> Result<(), Fail> {
         &mut suite,
         &mut scratch,
     )?;
+    let slot = table.find(ID).expect(&rt, "a row");
     let ran = ServerDid::Ran {
-        slot: FIRST,
+        slot,
         opened: true,
         hold: 10,
     };
@@ -268,7 +266,8 @@ fn a_drop_and_its_reopening(rt: HostRuntime) -> Result<(), Fail> {
         &mut suite,
         &mut scratch,
     )?;
-    assert_eq!(rt; first, ServerDid::Opened(0));
+    let slot = table.find(ID).expect(&rt, "a row");
+    assert_eq!(rt; first, ServerDid::Opened(slot));
     let other = table.receive(
         rt.alloc(),
         HostId(2),
@@ -300,7 +299,8 @@ fn a_drop_and_its_reopening(rt: HostRuntime) -> Result<(), Fail> {
         &mut suite,
         &mut scratch,
     )?;
-    assert_eq!(rt; second, ServerDid::Opened(0));
+    let slot = table.find(ID).expect(&rt, "a row");
+    assert_eq!(rt; second, ServerDid::Opened(slot));
     Ok(())
 }
 
