@@ -443,11 +443,11 @@ module _ (c : HostParts) (kept : IsKept c) {from : HostId} {packet : WirePacket}
 
 -- a host heard a packet of a client, which its table had taken up
 pub record HasTaken (host : HostParts) (from : HostId) (packet : WirePacket) (payload : List ℕ) (now : ℕ) (control : Control) (servers : Servers) (pool : Pool) (told : List ℕ) (allows : ℕ → List ℕ → List ℕ → ℕ → Type 0) (d : ServerDid) : Type 0 where
-  pub heard : HasHeard host now from packet.sender packet.body control
+  pub heard : HasHeard host from packet now control
   pub taken : HasReceived (record host { control = control }) from packet payload now servers pool told (allows (service_in (piece_in packet.body payload))) d
 
 pub taken_by : (host : HostParts) (from : HostId) (packet : WirePacket) (payload : List ℕ) (now : ℕ) (control : Control) (servers : Servers) (pool : Pool) (told : List ℕ) (allows : ℕ → List ℕ → List ℕ → ℕ → Type 0) (d : ServerDid)
-    → HasHeard host now from packet.sender packet.body control → from.0 < host.control.settings.hosts → (from ≡ host.control.id → ⊥) → packet.role ≡ Client → 1 ≤ packet.inc → leased_pages host.pool.leases ≤ host.pool.pages
+    → HasHeard host from packet now control → from.0 < host.control.settings.hosts → (from ≡ host.control.id → ⊥) → packet.role ≡ Client → 1 ≤ packet.inc → leased_pages host.pool.leases ≤ host.pool.pages
     → Served host.servers host.pool (packet_between from host.servers.host packet payload) now host.order servers pool told (allows (service_in (piece_in packet.body payload))) d → ArePlaced servers.settings.served servers.rows → HasTaken host from packet payload now control servers pool told allows d
 taken_by host from packet payload now control servers pool told allows d heard known other role life most received placed = record {
   heard = heard;
