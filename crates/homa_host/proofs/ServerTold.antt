@@ -11,7 +11,7 @@ use Rattle.homa_plain.specs.Host.{Host, Told, Says, Sends}
 use Rattle.homa_plain.specs.Entries.{PlainRun, PlainSettings, PlainCall, PlainDeliver, PlainClock, PlainRestart, PlainInject, PlainShift, PlainJunk, PlainStale, PlainSend, PlainDone, PlainFail, PlainDrop, PlainGaps, PlainBury, PlainFree, PlainFullRows, PlainFullPages, PlainBalance, PlainRecv, PlainFinished, PlainRefused, PlainStalled}
 use Rattle.homa_plain.specs.Rows.{ServerRow, set_row}
 use Rattle.homa_plain.specs.Rules.{Moment, Answer, Did, Piece, Say, Tells, Posts}
-use Rattle.homa_plain.specs.Steps.{Work, moment, begun, hears_cutoffs, comes_to_row, notes, tells_cutoffs, said, served, has_run}
+use Rattle.homa_plain.specs.Steps.{Work, moment, begun, comes_to_row, notes, tells_cutoffs, said, served, has_run}
 use Rattle.homa_plain.specs.Packets.{Packet, packet_between}
 use Rattle.msg_pool.specs.Pool.{Pool}
 use Rattle.homa_parts.specs.Pieces.{piece_in}

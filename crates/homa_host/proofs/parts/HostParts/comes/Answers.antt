@@ -11,7 +11,7 @@ use Rattle.homa_plain.specs.Entries.{PlainStale}
 use Rattle.homa_plain.specs.Host.{Says}
 use Rattle.homa_plain.specs.Settings.{IsValid}
 use Rattle.homa_control.specs.Control.{Control}
-use Rattle.homa_plain.specs.Steps.{Work, begun, tells, acked, comes_to_row, hears_cutoffs, has_run}
+use Rattle.homa_plain.specs.Steps.{Work, begun, tells, acked, comes_to_row, has_run}
 use Rattle.homa_plain.specs.Wire.{IsWellFormed}
 use Rattle.homa_seen.specs.Marks.{has_ran, response_of, IsWhole}
 use Rattle.homa_host.specs.Parts.{host_of}

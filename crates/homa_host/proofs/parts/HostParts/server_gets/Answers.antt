@@ -15,10 +15,9 @@ use Rattle.homa_plain.specs.Packets.{Packet, packet_between}
 use Rattle.homa_plain.specs.AtServer.{server_gets}
 use Rattle.homa_plain.specs.Rows.{ServerRow}
 use Rattle.homa_plain.specs.Rules.{Did}
-use Rattle.homa_plain.specs.Steps.{Work, begun, hears_cutoffs, moment}
+use Rattle.homa_plain.specs.Steps.{moment}
 use Rattle.homa_parts.specs.Pieces.{piece_in}
 use Rattle.homa_server.specs.Answers.{runs_said}
-use Rattle.homa_host.specs.Parts.{host_of}
 use Rattle.homa_host.specs.Amid.{Amid}
 use Rattle.homa_host.proofs.Begun.{at-amid}
 use Rattle.homa_host.proofs.ServerGets.{HasTaken, taken_by, touched_stays, gets_stands, gets_may, gets_kept, gets_touched, gets_then, heard_host, row_now}
