@@ -212,6 +212,20 @@ of_client from host w payload e = ap (λ (role : Role). record {
   payload = payload;
 }) (sym e)
 
+-- the pages that all other messages leave free
+free_left : (c : HostParts) (kept : IsKept c) (id : CallId) → (id.client ≡ c.control.id → ⊥) → leased_pages c.pool.leases ≤ c.pool.pages → free_pages c.pool + pages_of (request_at c.servers.rows id) ≡ free_beside c.control.settings (host_of c) id
+free_left c kept id other most =
+    let leased = kept.leased in
+    let pages = kept.pages in
+    let mine : server_pages (get (seen_servers c.pool c.servers.rows) id) ≡ pages_of (request_at c.servers.rows id) =
+    ap server_pages (get-mapped (λ (x : Placed HeldServer). seen_server c.pool x.row) c.servers.rows id) ∙ state_pages_of c.pool (get c.servers.rows id) in
+    let none : client_pages (get (host_of c).clients id) ≡ 0 = none_of (get (host_of c).clients id) refl in
+    let free = pages_free c.control.settings (host_of c) id (omega arith) in
+    omega arith where
+      none_of : (o : Option ClientRow) → get (host_of c).clients id ≡ o → client_pages o ≡ 0
+      none_of None e = refl
+      none_of (Some r) e = absurd (other (kept.known.own id r e).0)
+
 -- a packet of a client came to a host, whose table took it up
 pub record HasReceived (c : HostParts) (from : HostId) (packet : WirePacket) (payload : List ℕ) (now : ℕ) (servers : Servers) (pool : Pool) (told : List ℕ) (allowed : List ℕ → List ℕ → ℕ → Type 0) (d : ServerDid) : Type 0 where
   pub known : from.0 < c.control.settings.hosts
@@ -239,20 +253,8 @@ module _ (c : HostParts) (kept : IsKept c) {from : HostId} {packet : WirePacket}
   abbrev pub row_now : Option ServerRow
   row_now = server_at pool servers.rows p.id
 
-  -- the pages that all taken.other messages leave free
   free_is : free_pages c.pool + pages_of (request_at c.servers.rows p.id) ≡ free_beside c.control.settings (host_of c) p.id
-  free_is =
-      let most = taken.most in
-      let leased = kept.leased in
-      let pages = kept.pages in
-      let mine : server_pages (get (seen_servers c.pool c.servers.rows) p.id) ≡ pages_of (request_at c.servers.rows p.id) =
-      ap server_pages (get-mapped (λ (x : Placed HeldServer). seen_server c.pool x.row) c.servers.rows p.id) ∙ state_pages_of c.pool (get c.servers.rows p.id) in
-      let none : client_pages (get (host_of c).clients p.id) ≡ 0 = none_of (get (host_of c).clients p.id) refl in
-      let free = pages_free c.control.settings (host_of c) p.id (omega arith) in
-      omega arith where
-        none_of : (o : Option ClientRow) → get (host_of c).clients p.id ≡ o → client_pages o ≡ 0
-        none_of None e = refl
-        none_of (Some r) e = absurd (taken.other (kept.known.own p.id r e).0)
+  free_is = free_left c kept p.id taken.other taken.most
 
   -- what the plain rule does
   abbrev pub gets : Answer → Work → Did ServerRow
@@ -443,11 +445,11 @@ module _ (c : HostParts) (kept : IsKept c) {from : HostId} {packet : WirePacket}
 
 -- a host heard a packet of a client, which its table had taken up
 pub record HasTaken (host : HostParts) (from : HostId) (packet : WirePacket) (payload : List ℕ) (now : ℕ) (control : Control) (servers : Servers) (pool : Pool) (told : List ℕ) (allows : ℕ → List ℕ → List ℕ → ℕ → Type 0) (d : ServerDid) : Type 0 where
-  pub heard : HasHeard host now from packet.sender packet.body control
+  pub heard : HasHeard host from packet now control
   pub taken : HasReceived (record host { control = control }) from packet payload now servers pool told (allows (service_in (piece_in packet.body payload))) d
 
 pub taken_by : (host : HostParts) (from : HostId) (packet : WirePacket) (payload : List ℕ) (now : ℕ) (control : Control) (servers : Servers) (pool : Pool) (told : List ℕ) (allows : ℕ → List ℕ → List ℕ → ℕ → Type 0) (d : ServerDid)
-    → HasHeard host now from packet.sender packet.body control → from.0 < host.control.settings.hosts → (from ≡ host.control.id → ⊥) → packet.role ≡ Client → 1 ≤ packet.inc → leased_pages host.pool.leases ≤ host.pool.pages
+    → HasHeard host from packet now control → from.0 < host.control.settings.hosts → (from ≡ host.control.id → ⊥) → packet.role ≡ Client → 1 ≤ packet.inc → leased_pages host.pool.leases ≤ host.pool.pages
     → Served host.servers host.pool (packet_between from host.servers.host packet payload) now host.order servers pool told (allows (service_in (piece_in packet.body payload))) d → ArePlaced servers.settings.served servers.rows → HasTaken host from packet payload now control servers pool told allows d
 taken_by host from packet payload now control servers pool told allows d heard known other role life most received placed = record {
   heard = heard;
@@ -469,19 +471,6 @@ module _ (c : HostParts) (kept : IsKept c) (from : HostId) (other : from ≡ c.c
   abbrev q : Packet
   q = from_client from c.control.id packet payload
 
-  free_then : free_pages c.pool + pages_of (request_at c.servers.rows q.id) ≡ free_beside c.control.settings (host_of c) q.id
-  free_then =
-      let leased = kept.leased in
-      let pages = kept.pages in
-      let mine : server_pages (get (seen_servers c.pool c.servers.rows) q.id) ≡ pages_of (request_at c.servers.rows q.id) =
-      ap server_pages (get-mapped (λ (x : Placed HeldServer). seen_server c.pool x.row) c.servers.rows q.id) ∙ state_pages_of c.pool (get c.servers.rows q.id) in
-      let none : client_pages (get (host_of c).clients q.id) ≡ 0 = none_of (get (host_of c).clients q.id) refl in
-      let free = pages_free c.control.settings (host_of c) q.id (omega arith) in
-      omega arith where
-        none_of : (o : Option ClientRow) → get (host_of c).clients q.id ≡ o → client_pages o ≡ 0
-        none_of None e = refl
-        none_of (Some r) e = absurd (other (kept.known.own q.id r e).0)
-
   pub gets_then : (a : Answer) (w : Work) (peers : List PeerCutoffs) → record (host_of c) { last = now; peers = peers } ≡ w.host
       → let x = packet_between from c.servers.host packet payload in
       let y = packet_between from c.control.id packet payload in
@@ -493,7 +482,7 @@ module _ (c : HostParts) (kept : IsKept c) (from : HostId) (other : from ≡ c.c
         host = (kept.one.server ∙ ap (λ (h : Host). h.id) same) i;
         now = ap (λ (h : Host). h.last) same i;
         order = ap (λ (h : Host). h.order) same i;
-        free = (free_then ∙ ap (λ (h : Host). free_beside s h q.id) same) i;
+        free = (free_left c kept q.id other most ∙ ap (λ (h : Host). free_beside s h q.id) same) i;
         rows = (sym (len-mapped (λ (x : Placed HeldServer). seen_server c.pool x.row) c.servers.rows) ∙ ap (λ (h : Host). len h.servers) same) i;
       } in
       let row : server_at c.pool c.servers.rows q.id ≡ get w.host.servers q.id = sym (get-mapped (λ (x : Placed HeldServer). seen_server c.pool x.row) c.servers.rows q.id) ∙ ap (λ (h : Host). get h.servers q.id) same in

@@ -11,7 +11,7 @@ use Rattle.homa_plain.specs.Host.{Host, Told, Says, Sends}
 use Rattle.homa_plain.specs.Entries.{PlainRun, PlainSettings, PlainCall, PlainDeliver, PlainClock, PlainRestart, PlainInject, PlainShift, PlainJunk, PlainStale, PlainSend, PlainDone, PlainFail, PlainDrop, PlainGaps, PlainBury, PlainFree, PlainFullRows, PlainFullPages, PlainBalance, PlainRecv, PlainFinished, PlainRefused, PlainStalled}
 use Rattle.homa_plain.specs.Rows.{ServerRow, set_row}
 use Rattle.homa_plain.specs.Rules.{Moment, Answer, Did, Piece, Say, Tells, Posts}
-use Rattle.homa_plain.specs.Steps.{Work, moment, begun, hears_cutoffs, comes_to_row, notes, tells_cutoffs, said, served, has_run}
+use Rattle.homa_plain.specs.Steps.{Work, moment, begun, comes_to_row, notes, tells_cutoffs, said, served, has_run}
 use Rattle.homa_plain.specs.Packets.{Packet, packet_between}
 use Rattle.msg_pool.specs.Pool.{Pool}
 use Rattle.homa_parts.specs.Pieces.{piece_in}
@@ -30,6 +30,7 @@ use Rattle.homa_host.specs.Outcomes.{server_change, server_orders}
 use Rattle.homa_host.specs.ServerFollow.{FollowedServer}
 use Rattle.homa_host.specs.declared.parts.HostParts.{HostParts}
 use Rattle.homa_host.proofs.RanLaws.{AreQuiet, IsQuiet, Quiet, Ran, quiet-marks, ran-marks, heard-quiet}
+use Rattle.homa_host.proofs.ServerHeard.{heard_work}
 use Rattle.homa_host.proofs.ServerGets.{HasTaken, p, is_p, got, row_now, gets, gets_is, gets_amid, response_same, reply_of, is_reply_of}
 
 -- the service ran, or it didn't
@@ -111,7 +112,7 @@ pub record HasSettled (host : HostParts) (from : HostId) (packet : WirePacket) (
   pub answered : (a : Answer) × AllByRecursion (IsReplyMark (host_of new) a) new.control.marks
   pub allowed : AllByRecursion (IsAllowed (host_of new) allows told) new.control.marks
   pub step : (a : Answer) → AllByRecursion (IsReplyMark (host_of new) a) new.control.marks
-      → let w = comes_to_row host.control.settings (packet_between from host.control.id packet payload) a Client (hears_cutoffs host.control.settings from packet.sender packet.body (begun (host_of host) now)) in
+      → let w = comes_to_row host.control.settings (packet_between from host.control.id packet payload) a Client (heard_work host from packet now) in
       Amid w new out × AllByRecursion (IsWhole told) w.told
 
 module _ (host : HostParts) {from : HostId} {packet : WirePacket} {payload : List ℕ} {now : ℕ} {control : Control} {servers : Servers} {pool : Pool} {told : List ℕ} {allows : ℕ → List ℕ → List ℕ → ℕ → Type 0} {d : ServerDid}
@@ -122,37 +123,37 @@ module _ (host : HostParts) {from : HostId} {packet : WirePacket} {payload : Lis
   abbrev pub q : Packet
   q = p heard x.heard.kept x.taken
 
-  abbrev pub heard_work : Work
-  heard_work = hears_cutoffs host.control.settings from packet.sender packet.body (begun (host_of host) now)
+  abbrev w : Work
+  w = heard_work host from packet now
 
   abbrev pub rule : Answer → Did ServerRow
-  rule a = gets heard x.heard.kept x.taken a heard_work
+  rule a = gets heard x.heard.kept x.taken a w
 
-  pub rule_is : (a : Answer) → IsReply (response_at servers.rows q.id) a d → rule a ≡ served_of control.settings (moment control.settings q.id heard_work) q.id (piece_in packet.body payload) (row_now heard x.heard.kept x.taken) told a d
-  rule_is a reply = gets_is heard x.heard.kept x.taken a reply heard_work x.heard.amid.host
+  pub rule_is : (a : Answer) → IsReply (response_at servers.rows q.id) a d → rule a ≡ served_of control.settings (moment control.settings q.id w) q.id (piece_in packet.body payload) (row_now heard x.heard.kept x.taken) told a d
+  rule_is a reply = gets_is heard x.heard.kept x.taken a reply w x.heard.amid.host
 
   pub settled_by : (after : Control) (out : List SentFrame) (books : Books) (order : ℕ) → order ≡ host.order + server_orders d → FollowedServer servers control.settings.calls (server_change d) host.books books
-      → ((a : Answer) → IsReply (response_at servers.rows q.id) a d → IsAt (served control.settings q.id (rule a) heard_work) after out)
+      → ((a : Answer) → IsReply (response_at servers.rows q.id) a d → IsAt (served control.settings q.id (rule a) w) after out)
       → HasSettled host from packet payload now (record { control = after; clients = host.clients; servers = servers; pool = pool; books = books; order = order }) out told allows d
   settled_by after out books order order_is follows settled =
       let s = control.settings in
-      let m = moment s q.id heard_work in
+      let m = moment s q.id w in
       let piece = piece_in packet.body payload in
       let row = row_now heard x.heard.kept x.taken in
       let response = response_at servers.rows q.id in
-      let quiet : AreQuiet heard_work.told = heard-quiet host.control.settings from packet.sender packet.body (begun (host_of host) now) tt in
+      let quiet : AreQuiet w.told = heard-quiet host.control.settings from packet.sender packet.body (begun (host_of host) now) tt in
       let new : HostParts = record { control = after; clients = host.clients; servers = servers; pool = pool; books = books; order = order } in
       let same : response_of (host_of new) q.id ≡ response = response_same pool servers.rows q.id (host_of new) refl in
       let marked = (settled (reply_of d response) (is_reply_of d response)).marked in
       record {
-        ran = told_runs s q.id piece row told response d heard_work quiet m rule rule_is (host_of new) same after.marks marked;
-        answered = (reply_of d response, told_answered s q.id piece row told response d heard_work quiet m rule rule_is (host_of new) same after.marks marked);
-        allowed = told_allowed s q.id piece row told response d heard_work quiet m rule rule_is (host_of new) same after.marks marked allows (got heard x.heard.kept x.taken).ran;
+        ran = told_runs s q.id piece row told response d w quiet m rule rule_is (host_of new) same after.marks marked;
+        answered = (reply_of d response, told_answered s q.id piece row told response d w quiet m rule rule_is (host_of new) same after.marks marked);
+        allowed = told_allowed s q.id piece row told response d w quiet m rule rule_is (host_of new) same after.marks marked allows (got heard x.heard.kept x.taken).ran;
         step = λ a all.
-            let reply = told_reply s q.id piece row told response d heard_work quiet m rule rule_is (host_of new) same after.marks marked a all in
-            subst (λ (t : Settings × Packet). Amid (comes_to_row t.0 t.1 a Client heard_work) new out × AllByRecursion (IsWhole told) (comes_to_row t.0 t.1 a Client heard_work).told)
+            let reply = told_reply s q.id piece row told response d w quiet m rule rule_is (host_of new) same after.marks marked a all in
+            subst (λ (t : Settings × Packet). Amid (comes_to_row t.0 t.1 a Client w) new out × AllByRecursion (IsWhole told) (comes_to_row t.0 t.1 a Client w).told)
             (λ i. (x.heard.on.settings i, (is_p heard x.heard.kept x.taken ∙ ap (λ (h : HostId). packet_between from h packet payload) x.heard.on.id) i))
-            (gets_amid heard x.heard.kept x.taken after books order order_is follows a reply heard_work [] out x.heard.amid (settled a reply), told_whole s q.id piece row told response d heard_work quiet m rule rule_is a reply);
+            (gets_amid heard x.heard.kept x.taken after books order order_is follows a reply w [] out x.heard.amid (settled a reply), told_whole s q.id piece row told response d w quiet m rule rule_is a reply);
       }
 
 -- ---- where the service found no memory

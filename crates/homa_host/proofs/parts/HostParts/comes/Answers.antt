@@ -11,13 +11,13 @@ use Rattle.homa_plain.specs.Entries.{PlainStale}
 use Rattle.homa_plain.specs.Host.{Says}
 use Rattle.homa_plain.specs.Settings.{IsValid}
 use Rattle.homa_control.specs.Control.{Control}
-use Rattle.homa_plain.specs.Steps.{Work, begun, tells, acked, comes_to_row, hears_cutoffs, has_run}
+use Rattle.homa_plain.specs.Steps.{Work, begun, tells, acked, comes_to_row, has_run}
 use Rattle.homa_plain.specs.Wire.{IsWellFormed}
 use Rattle.homa_seen.specs.Marks.{has_ran, response_of, IsWhole}
 use Rattle.homa_host.specs.Parts.{host_of}
 use Rattle.homa_host.specs.Amid.{Amid}
 use Rattle.homa_host.proofs.Delivered.{TellsAlike, none_allowed, served_none, answered_none}
-use Rattle.homa_host.proofs.ServerHeard.{HasHeard, heard_by}
+use Rattle.homa_host.proofs.ServerHeard.{heard_work, HasHeard, heard_by}
 use Rattle.homa_host.proofs.Came as came
 use Rattle.homa_host.proofs.Came.{HasTold, told_by}
 use Rattle.homa_host.proofs.parts.HostParts.comes.Given as given
@@ -34,22 +34,22 @@ stale : (g : given.Over) (c : After-tell g) → HasTold c.args.self.now c.args.n
 stale g c = told_by c.args.self.now c.requires.kept c.args.now c.requires.now c.requires.later (PlainStale c.args.self.now.control.id c.args.packet.now.at c.args.now) refl c.begin.new.self c.tell.new.self c.begin.ensures c.tell.ensures
 
 -- the cutoffs of one of a server are heard
-heard : (g : given.Over) (c : After-settings-settings g) → HasHeard c.args.self.now c.args.now c.args.from c.args.packet.now.sender c.args.packet.now.body c.hear.new.self
-heard g c = heard_by c.args.self.now c.requires.kept c.args.now c.requires.later c.args.from c.args.packet.now.sender c.args.packet.now.body c.begin-in-Server.new.self c.hear.new.self c.begin-in-Server.ensures c.hear.ensures.same c.settings-settings.ensures.sound c.hear.ensures.step
+heard : (g : given.Over) (c : After-settings-settings g) → HasHeard c.args.self.now c.args.from c.args.packet.now c.args.now c.hear.new.self
+heard g c = heard_by c.args.self.now c.requires.kept c.args.from c.args.packet.now c.args.now c.requires.later c.begin-in-Server.new.self c.hear.new.self c.begin-in-Server.ensures c.hear.ensures.same c.settings-settings.ensures.sound c.hear.ensures.step
 
 -- what the packet of a server did at the client of its call: no service is asked
 record AtClient (g : given.Over) (c : After-client_gets g) : Type 0 where
   step : (a : Answer) → let o = c.args.self.now in
       let s = o.control.settings in
-      let w = comes_to_row s (packet_between c.args.from o.control.id c.args.packet.now c.args.payload.now) a Server (hears_cutoffs s c.args.from c.args.packet.now.sender c.args.packet.now.body (begun (host_of o) c.args.now)) in
+      let w = comes_to_row s (packet_between c.args.from o.control.id c.args.packet.now c.args.payload.now) a Server (heard_work o c.args.from c.args.packet.now c.args.now) in
       Amid w c.client_gets.new.self c.client_gets.new.out × AllByRecursion (IsWhole c.client_gets.new.scratch) w.told
   quiet : has_ran c.client_gets.new.self.control.marks ≡ false
 
-at_client : (g : given.Over) (c : After-client_gets g) → HasHeard c.args.self.now c.args.now c.args.from c.args.packet.now.sender c.args.packet.now.body c.hear.new.self → AtClient g c
+at_client : (g : given.Over) (c : After-client_gets g) → HasHeard c.args.self.now c.args.from c.args.packet.now c.args.now c.hear.new.self → AtClient g c
 at_client g c x =
     let o = c.args.self.now in
     let s = o.control.settings in
-    let v = hears_cutoffs s c.args.from c.args.packet.now.sender c.args.packet.now.body (begun (host_of o) c.args.now) in
+    let v = heard_work o c.args.from c.args.packet.now c.args.now in
     let there = subst (λ f. Amid v (record o { control = c.hear.new.self }) f) (sym c.requires.out) x.amid in
     let p = packet_between c.args.from c.hear.new.self.id c.args.packet.now c.args.payload.now in
     let some : Answer = record { bytes = []; hold = 0 } in
@@ -67,7 +67,7 @@ record AtServer (g : given.Over) (c : After-acknowledged g) : Type 1 where
   step : (a : Answer) → let o = c.args.self.now in
       let s = o.control.settings in
       let p = packet_between c.args.from o.control.id c.args.packet.now c.args.payload.now in
-      let w = comes_to_row s p a Client (hears_cutoffs s c.args.from c.args.packet.now.sender c.args.packet.now.body (begun (host_of o) c.args.now)) in
+      let w = comes_to_row s p a Client (heard_work o c.args.from c.args.packet.now c.args.now) in
       Amid w c.server_gets.new.self c.server_gets.new.out × AllByRecursion (IsWhole c.server_gets.new.scratch) w.told
       → Amid (acked s (acks p) w) c.acknowledged.new.self c.acknowledged.new.out × AllByRecursion (IsWhole c.server_gets.new.scratch) (acked s (acks p) w).told
 
@@ -79,7 +79,7 @@ at_server g c =
     let q = c.acknowledged.new.self in
     let e = c.in-Ok.ensures in
     let p = packet_between c.args.from o.control.id c.args.packet.now c.args.payload.now in
-    let v = hears_cutoffs s c.args.from c.args.packet.now.sender c.args.packet.now.body (begun (host_of o) c.args.now) in
+    let v = heard_work o c.args.from c.args.packet.now c.args.now in
     let quiet = came.heard_count s c.args.from c.args.packet.now.sender c.args.packet.now.body (host_of o) c.args.now in
     let step : (w : Work) → Amid w mid c.server_gets.new.out → Amid (acked s (acks p) w) q c.acknowledged.new.out = λ w amid.
     subst (λ (y : Settings × HostId). Amid (acked y.0 (acks (packet_between c.args.from y.1 c.args.packet.now c.args.payload.now)) w) q c.acknowledged.new.out) (λ i. (e.steady.settings i, e.steady.id i)) (c.acknowledged.ensures.step c.args.payload.now w amid) in
@@ -197,7 +197,7 @@ returns-in-Err-clause-whole g c a =
     let o = c.args.self.now in
     let s = o.control.settings in
     let p = packet_between c.args.from o.control.id c.args.packet.now c.args.payload.now in
-    let v = hears_cutoffs s c.args.from c.args.packet.now.sender c.args.packet.now.body (begun (host_of o) c.args.now) in
+    let v = heard_work o c.args.from c.args.packet.now c.args.now in
     let fresh = age g (goal.at.returns-in-Err-clause-whole g c).After-is_stale ∙ c.if-is_stale.false in
     let is = came.client_comes s (host_of o) c.args.now c.args.from o.control.id c.args.packet.now c.args.payload.now a fresh c.in-Client.is in
     subst (λ (w : Work). has_run w.told ≡ true) (sym is) (came.acked_run s (acks p) (comes_to_row s p a Client v) (c.in-Err.ensures.whole a))

@@ -8,17 +8,16 @@ use Rattle.homa_host.specs.ServerFollow.{MayStayServer, FollowedServer}
 use Rattle.homa_host.specs.declared.outcome.Change.{Change}
 use Rattle.homa_host.specs.declared.parts.HostParts.{HostParts}
 use Rattle.homa_host.proofs.ServerKept.{server_parts}
-use Rattle.homa_host.proofs.ServerHeard.{heard_by}
-use Rattle.homa_host.proofs.ServerTold.{HasSettled, q, heard_work, rule, rule_is, settled_by, served_runs}
+use Rattle.homa_host.proofs.ServerHeard.{heard_work, heard_by}
+use Rattle.homa_host.proofs.ServerTold.{HasSettled, q, rule, rule_is, settled_by, served_runs}
 use Rattle.plain_sets.specs.Maps.{get}
 use Rattle.homa_plain.specs.Packets.{Packet, packet_between}
 use Rattle.homa_plain.specs.AtServer.{server_gets}
 use Rattle.homa_plain.specs.Rows.{ServerRow}
 use Rattle.homa_plain.specs.Rules.{Did}
-use Rattle.homa_plain.specs.Steps.{Work, begun, hears_cutoffs, moment}
+use Rattle.homa_plain.specs.Steps.{moment}
 use Rattle.homa_parts.specs.Pieces.{piece_in}
 use Rattle.homa_server.specs.Answers.{runs_said}
-use Rattle.homa_host.specs.Parts.{host_of}
 use Rattle.homa_host.specs.Amid.{Amid}
 use Rattle.homa_host.proofs.Begun.{at-amid}
 use Rattle.homa_host.proofs.ServerGets.{HasTaken, taken_by, touched_stays, gets_stands, gets_may, gets_kept, gets_touched, gets_then, heard_host, row_now}
@@ -31,7 +30,7 @@ taken : (g : given.Over) (c : After-settings-settings g)
     → HasTaken c.args.self.now c.args.from c.args.packet.now c.args.payload.now c.args.now c.hear.new.self c.receive.new.self c.receive.new.pool c.receive.new.scratch (g.V.Service.allows c.args.service.now (g.V.Service.served c.args.service.now)) c.in_ok-did.did
 taken g c =
     let host = c.args.self.now in
-    let heard = heard_by host c.requires.kept c.args.now c.requires.later c.args.from c.args.packet.now.sender c.args.packet.now.body c.begin.new.self c.hear.new.self c.begin.ensures c.hear.ensures.same c.settings-settings.ensures.sound c.hear.ensures.step in
+    let heard = heard_by host c.requires.kept c.args.from c.args.packet.now c.args.now c.requires.later c.begin.new.self c.hear.new.self c.begin.ensures c.hear.ensures.same c.settings-settings.ensures.sound c.hear.ensures.step in
     taken_by host c.args.from c.args.packet.now c.args.payload.now c.args.now c.hear.new.self c.receive.new.self c.receive.new.pool c.receive.new.scratch (g.V.Service.allows c.args.service.now (g.V.Service.served c.args.service.now)) c.in_ok-did.did
     heard c.requires.from c.requires.other c.requires.role c.requires.formed.call.0 (omega (arith, c.free-free.ensures.whole)) c.in_ok-did.ensures.received c.rows-rows.ensures.placed
 
@@ -52,7 +51,7 @@ settled g c x follows =
     let heard : HostParts = record host { control = c.hear.new.self } in
     let s = c.hear.new.self.settings in
     let packet = q host x in
-    let w = heard_work host x in
+    let w = heard_work host c.args.from c.args.packet.now c.args.now in
     let row = row_now heard x.heard.kept x.taken in
     let touched = gets_touched heard x.heard.kept x.taken c.touched_version-touched.result (piece_in packet.body packet.payload) (λ r. c.touched_version-touched.ensures packet c.receive.new.pool packet.id r c.head_of-head.ensures) in
     settled_by host x c.settle_server.new.self c.settle_server.new.out c.follow_server.new.books (host.order + c.server_orders.result) (ap (λ n. host.order + n) c.server_orders.ensures.order) follows (λ a reply.
@@ -83,7 +82,7 @@ returns-in_err-did-clause-whole g c =
     err_any c.from_residual.result _ (λ a.
     let host = c.args.self.now in
     let s = host.control.settings in
-    let w : Work = hears_cutoffs s c.args.from c.args.packet.now.sender c.args.packet.now.body (begun (host_of host) c.args.now) in
+    let w = heard_work host c.args.from c.args.packet.now c.args.now in
     let q : Packet = packet_between c.args.from host.control.id c.args.packet.now c.args.payload.now in
     served_runs s q.id (server_gets s (moment s q.id w) q a (get w.host.servers q.id)) w
     (subst (λ (x : Did ServerRow). runs_said x.says ≡ true) (gets_then host c.requires.kept c.args.from c.requires.other c.args.packet.now c.args.payload.now c.requires.role c.args.now (omega (arith, c.free-free.ensures.whole)) a w w.host.peers
