@@ -286,18 +286,18 @@ module _ (c : HostParts) (kept : IsKept c) {from : HostId} {packet : WirePacket}
   pub replies : Replies answer
   replies = is_reply_of d (response_at servers.rows p.id)
 
-  pub gets_row : (a : Answer) → Replies a → (w : Work) → host_of c ≡ w.host → (gets a w).row ≡ row_now
+  gets_row : (a : Answer) → Replies a → (w : Work) → host_of c ≡ w.host → (gets a w).row ≡ row_now
   gets_row a reply w same = ap (λ (d : Did ServerRow). d.row) (gets_is a reply w same) ∙ answer_row c.control.settings (moment c.control.settings p.id w) p.id (piece_in p.body p.payload) row_now told a d
 
-  pub gets_order : (a : Answer) → Replies a → (w : Work) → host_of c ≡ w.host → (gets a w).order ≡ c.order + server_orders d
+  gets_order : (a : Answer) → Replies a → (w : Work) → host_of c ≡ w.host → (gets a w).order ≡ c.order + server_orders d
   gets_order a reply w same =
       ap (λ (d : Did ServerRow). d.order) (gets_is a reply w same) ∙ answer_order c.control.settings (moment c.control.settings p.id w) p.id (piece_in p.body p.payload) row_now told a d
       ∙ ap (λ (h : Host). h.order + server_orders d) (sym same)
 
-  pub gets_own : Own (served c.control.settings p.id (gets answer (silent c)) (silent c))
+  gets_own : Own (served c.control.settings p.id (gets answer (silent c)) (silent c))
   gets_own = row-own c.control.settings p answer Client (silent c) kept.own
 
-  pub gets_known : IfSome row_now (KnowsClient c.control.settings.hosts p.id)
+  gets_known : IfSome row_now (KnowsClient c.control.settings.hosts p.id)
   gets_known = subst (λ (o : Option ServerRow). IfSome o (KnowsClient c.control.settings.hosts p.id)) (gets_row answer replies (silent c) refl)
       (known_row c.control.settings.hosts p.id taken.known taken.life (gets answer (silent c)).row
       (server_gets-known c.control.settings.hosts p.id taken.known c.control.settings (moment c.control.settings p.id (silent c)) p answer (get (host_of c).servers p.id) refl (old_known (get (host_of c).servers p.id) refl))) where
@@ -305,10 +305,10 @@ module _ (c : HostParts) (kept : IsKept c) {from : HostId} {packet : WirePacket}
         old_known None e = tt
         old_known (Some row) e = (kept.known.servers p.id row e).sender
 
-  pub settings_now : servers.settings ≡ c.control.settings
+  settings_now : servers.settings ≡ c.control.settings
   settings_now = ap (λ (t : Servers). t.settings) got.moved.kept ∙ kept.one.server_settings
 
-  pub gets_room : HaveRoom servers.settings c.books
+  gets_room : HaveRoom servers.settings c.books
   gets_room = subst (λ (s : Settings). HaveRoom s c.books) (sym settings_now) kept.room
 
   placed : ArePlaced c.control.settings.served servers.rows
@@ -381,7 +381,7 @@ module _ (c : HostParts) (kept : IsKept c) {from : HostId} {packet : WirePacket}
   pub gets_stands : IfStays (server_change d) (λ n. IsSome (spot_at servers.rows n))
   gets_stands = by_slot _ (λ e. subst (λ (ch : Change). IfStays ch (λ n. IsSome (spot_at servers.rows n))) (sym (no_change d e)) tt) stands_there
 
-  pub gets_within : IfChanged (server_change d) (λ n. n < servers.settings.served)
+  gets_within : IfChanged (server_change d) (λ n. n < servers.settings.served)
   gets_within = by_slot _ (λ e. subst (λ (ch : Change). IfChanged ch (λ n. n < servers.settings.served)) (sym (no_change d e)) tt) within_there
 
   pub gets_may : IfStays (server_change d) (MayStayServer servers c.control.settings.calls c.books)
