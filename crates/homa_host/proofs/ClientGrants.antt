@@ -54,10 +54,10 @@ module _ (c : HostParts) (kept : IsKept c) (id : CallId) (slot : ℕ) (r : HeldR
   abbrev pub granted_row : ClientRow
   granted_row = client_granted c.control.last offset (seen_row c.pool r)
 
-  pub granted_known : KnowsServer c.control.settings.hosts granted_row
+  granted_known : KnowsServer c.control.settings.hosts granted_row
   granted_known = client_granted-known c.control.settings.hosts c.control.last offset (seen_row c.pool r) (knows c kept id slot r stands)
 
-  pub granted_own : HasOwnOrders (host_after c kept id slot (stood c kept id slot r stands) clients c.pool (Some granted_row) moved c.order)
+  granted_own : HasOwnOrders (host_after c kept id slot (stood c kept id slot r stands) clients c.pool (Some granted_row) moved c.order)
   granted_own =
       let w : Work = record { host = host_of c; told = [] } in
       let v : Work = client_is_granted c.control.settings id (body.Grant offset 0) offset (Some (seen_row c.pool r)) w in

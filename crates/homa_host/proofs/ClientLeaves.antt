@@ -48,7 +48,7 @@ use Rattle.homa_host.proofs.ClientStays.{Beside, stood, knows, inside, spends, k
 use Rattle.homa_host.proofs.Emits.{IsView, view_of, picked_in, few_ready}
 
 -- what the row of a request keeps
-pub sends_request : (now seg : ℕ) (r : ClientRow) → (while_new now r).request ≡ r.request
+sends_request : (now seg : ℕ) (r : ClientRow) → (while_new now r).request ≡ r.request
 sends_request now seg r = cond_both (nat_lt r.out.top r.out.length) (record r { heard = now; base = now; count = 0 }) r (λ (q : ClientRow). q.request ≡ r.request) (λ _. refl) (λ _. refl)
 
 -- the row at a place, when it is to be sent next

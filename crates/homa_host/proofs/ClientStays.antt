@@ -222,10 +222,10 @@ module _ (c : HostParts) (kept : IsKept c) (id : CallId) (slot : ℕ) (r : HeldR
     pub spot_after : IsSome (spot_at clients.rows slot)
     spot_after = rw (spot-stands c.control.settings.calls clients.rows (places_after c kept id slot stood clients c.pool (Some row) moved) id slot stands_after.0 stands_after.1) refl
 
-    pub room_after : HaveRoom clients.settings c.books
+    room_after : HaveRoom clients.settings c.books
     room_after = subst (λ (s : Settings). HaveRoom s c.books) (sym settings_after) kept.room
 
-    pub within_after : slot < clients.settings.calls
+    within_after : slot < clients.settings.calls
     within_after = subst (λ (s : Settings). slot < s.calls) (sym settings_after) (slot_within c kept id slot stood clients c.pool (Some row) moved)
 
     duty_after : client_duty clients.settings (seen_row c.pool stands_after.0) ≡ client_duty c.control.settings row
@@ -236,7 +236,7 @@ module _ (c : HostParts) (kept : IsKept c) (id : CallId) (slot : ℕ) (r : HeldR
         subst (IsInPool c.pool) (ap (option_and_then (λ (x : Placed HeldRow). x.row.part)) stands_after.1)
         ((parts_in c kept id slot stood clients c.pool (Some row) moved).within (OfClient id))
 
-    pub follows : (books : Books) → FollowedClient clients (Stays slot) c.books books → books ≡ followed slot (client_duty c.control.settings row) c.books
+    follows : (books : Books) → FollowedClient clients (Stays slot) c.books books → books ≡ followed slot (client_duty c.control.settings row) c.books
     follows books f = f id stands_after.0 c.pool stands_after.1 inside_after ∙ ap (λ d. followed slot d c.books) duty_after
 
     -- its place stays
@@ -259,7 +259,7 @@ module _ (c : HostParts) (kept : IsKept c) (id : CallId) (slot : ℕ) (r : HeldR
         (changes c kept id slot stood clients c.pool (Some row) moved c.order)
 
     module _ (own : HasOwnOrders (host_after c kept id slot stood clients c.pool (Some row) moved c.order)) (known : KnowsServer c.control.settings.hosts row) where
-      pub may_stay : MayStayClient clients c.books slot
+      may_stay : MayStayClient clients c.books slot
       may_stay = record {
         id = id;
         row = stands_after.0;

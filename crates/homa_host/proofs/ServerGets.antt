@@ -36,7 +36,6 @@ use Rattle.homa_server.specs.declared.answers.ServerDid.{ServerDid}
 use Rattle.homa_server.specs.declared.answers.ServerDid.TheVariants as did
 use Rattle.homa_control.specs.Control.{Control, IsSound, IsAt}
 use Rattle.homa_books.specs.declared.books.Books.{Books}
-use Rattle.homa_books.specs.Duties.{HaveRoom}
 use Rattle.host_books.specs.Pages.{client_pages, server_pages}
 use Rattle.host_books.specs.Duty.{server_duty_in, followed}
 use Rattle.host_books.specs.Stood.{Stood}
@@ -45,7 +44,7 @@ use Rattle.host_laws.specs.Peers.{KnowsClient, KnowsSender}
 use Rattle.host_laws.proofs.Known.{server_gets-known}
 use Rattle.homa_host.specs.Parts.{host_of, seen_of, IsKept}
 use Rattle.homa_host.specs.Amid.{Amid}
-use Rattle.homa_host.specs.Outcomes.{server_change, server_orders, one_if, IfStays, IfChanged, IfServerTouched}
+use Rattle.homa_host.specs.Outcomes.{server_change, server_orders, one_if, IfStays, IfServerTouched}
 use Rattle.homa_host.specs.ServerFollow.{MayStayServer, FollowedServer}
 use Rattle.homa_host.specs.declared.parts.HostParts.{HostParts}
 use Rattle.homa_host.specs.declared.outcome.Change.{Change}
@@ -54,7 +53,7 @@ use Rattle.homa_host.proofs.AskedLaws.{silent, served-aside, amid_of}
 use Rattle.homa_host.proofs.Begun.{GoesOn, kept-control}
 use Rattle.homa_host.proofs.ServerHeard.{HasHeard}
 use Rattle.homa_host.proofs.ServerKept.{state_pages_of, seen_after, clients_same, served_orders, served_kept}
-use Rattle.homa_host.proofs.ServerFollows.{IsServerChange, follow_within, follow_stands, follow_may, follow_books}
+use Rattle.homa_host.proofs.ServerFollows.{IsServerChange, follow_stands, follow_may, follow_books}
 use Rattle.homa_host.proofs.ServerActLaws.{placed_in, known_row}
 
 -- ---- answers
@@ -286,30 +285,24 @@ module _ (c : HostParts) (kept : IsKept c) {from : HostId} {packet : WirePacket}
   pub replies : Replies answer
   replies = is_reply_of d (response_at servers.rows p.id)
 
-  pub gets_row : (a : Answer) → Replies a → (w : Work) → host_of c ≡ w.host → (gets a w).row ≡ row_now
+  gets_row : (a : Answer) → Replies a → (w : Work) → host_of c ≡ w.host → (gets a w).row ≡ row_now
   gets_row a reply w same = ap (λ (d : Did ServerRow). d.row) (gets_is a reply w same) ∙ answer_row c.control.settings (moment c.control.settings p.id w) p.id (piece_in p.body p.payload) row_now told a d
 
-  pub gets_order : (a : Answer) → Replies a → (w : Work) → host_of c ≡ w.host → (gets a w).order ≡ c.order + server_orders d
+  gets_order : (a : Answer) → Replies a → (w : Work) → host_of c ≡ w.host → (gets a w).order ≡ c.order + server_orders d
   gets_order a reply w same =
       ap (λ (d : Did ServerRow). d.order) (gets_is a reply w same) ∙ answer_order c.control.settings (moment c.control.settings p.id w) p.id (piece_in p.body p.payload) row_now told a d
       ∙ ap (λ (h : Host). h.order + server_orders d) (sym same)
 
-  pub gets_own : Own (served c.control.settings p.id (gets answer (silent c)) (silent c))
+  gets_own : Own (served c.control.settings p.id (gets answer (silent c)) (silent c))
   gets_own = row-own c.control.settings p answer Client (silent c) kept.own
 
-  pub gets_known : IfSome row_now (KnowsClient c.control.settings.hosts p.id)
+  gets_known : IfSome row_now (KnowsClient c.control.settings.hosts p.id)
   gets_known = subst (λ (o : Option ServerRow). IfSome o (KnowsClient c.control.settings.hosts p.id)) (gets_row answer replies (silent c) refl)
       (known_row c.control.settings.hosts p.id taken.known taken.life (gets answer (silent c)).row
       (server_gets-known c.control.settings.hosts p.id taken.known c.control.settings (moment c.control.settings p.id (silent c)) p answer (get (host_of c).servers p.id) refl (old_known (get (host_of c).servers p.id) refl))) where
         old_known : (o : Option ServerRow) → get (host_of c).servers p.id ≡ o → IfSome o (λ row. KnowsSender c.control.settings.hosts row.state)
         old_known None e = tt
         old_known (Some row) e = (kept.known.servers p.id row e).sender
-
-  pub settings_now : servers.settings ≡ c.control.settings
-  settings_now = ap (λ (t : Servers). t.settings) got.moved.kept ∙ kept.one.server_settings
-
-  pub gets_room : HaveRoom servers.settings c.books
-  gets_room = subst (λ (s : Settings). HaveRoom s c.books) (sym settings_now) kept.room
 
   placed : ArePlaced c.control.settings.served servers.rows
   placed = placed_in c kept p.id servers pool row_now got.moved taken.placed
@@ -338,9 +331,6 @@ module _ (c : HostParts) (kept : IsKept c) {from : HostId} {packet : WirePacket}
     change : IsServerChange (server_change d) slot row_now
     change = change_of d slot row_now e is_some
 
-    low : slot < c.control.settings.served
-    low = subst (λ n. n < c.control.settings.served) there.1.1 (placed.within p.id there.0 there.1.0)
-
     stood : (order : ℕ) → Stood (OfServer p.id) (seen_of c) (seen_after c kept p.id slot servers pool row_now got.moved before after placed order)
     stood order = inr (seen_server pool there.0.row, get-mapped (λ (x : Placed HeldServer). seen_server pool x.row) servers.rows p.id ∙ ap (option_map (λ (x : Placed HeldServer). seen_server pool x.row)) there.1.0)
 
@@ -354,9 +344,6 @@ module _ (c : HostParts) (kept : IsKept c) {from : HostId} {packet : WirePacket}
 
     stands_there : IfStays (server_change d) (λ n. IsSome (spot_at servers.rows n))
     stands_there = follow_stands c kept p.id slot servers pool row_now got.moved before after placed (server_change d) change
-
-    within_there : IfChanged (server_change d) (λ n. n < servers.settings.served)
-    within_there = follow_within c kept p.id slot servers pool row_now got.moved before after placed (server_change d) low change
 
     books_there : (books : Books) → FollowedServer servers c.control.settings.calls (server_change d) c.books books → books ≡ followed (c.control.settings.calls + slot) (server_duty_in c.control.settings row_now) c.books
     books_there books f = follow_books c kept p.id slot servers pool row_now got.moved before after placed (server_change d) books change f
@@ -380,9 +367,6 @@ module _ (c : HostParts) (kept : IsKept c) {from : HostId} {packet : WirePacket}
 
   pub gets_stands : IfStays (server_change d) (λ n. IsSome (spot_at servers.rows n))
   gets_stands = by_slot _ (λ e. subst (λ (ch : Change). IfStays ch (λ n. IsSome (spot_at servers.rows n))) (sym (no_change d e)) tt) stands_there
-
-  pub gets_within : IfChanged (server_change d) (λ n. n < servers.settings.served)
-  gets_within = by_slot _ (λ e. subst (λ (ch : Change). IfChanged ch (λ n. n < servers.settings.served)) (sym (no_change d e)) tt) within_there
 
   pub gets_may : IfStays (server_change d) (MayStayServer servers c.control.settings.calls c.books)
   gets_may = by_slot _ (λ e. subst (λ (ch : Change). IfStays ch (MayStayServer servers c.control.settings.calls c.books)) (sym (no_change d e)) tt) may_there

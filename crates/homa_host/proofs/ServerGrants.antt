@@ -39,10 +39,10 @@ module _ (c : HostParts) (kept : IsKept c) (id : CallId) (place : ℕ) (r : Held
   abbrev pub granted_row : ServerRow
   granted_row = server_granted c.control.last offset (seen_server c.pool r)
 
-  pub granted_known : KnowsClient c.control.settings.hosts id granted_row
+  granted_known : KnowsClient c.control.settings.hosts id granted_row
   granted_known = let k = knows c kept id place r stands in record { client = k.client; life = k.life; sender = state_granted-known c.control.settings.hosts c.control.last offset (seen_server c.pool r).state k.sender }
 
-  pub granted_own : HasOwnOrders (host_put c kept id place r stands servers granted_row moved)
+  granted_own : HasOwnOrders (host_put c kept id place r stands servers granted_row moved)
   granted_own =
       let w : Work = record { host = host_of c; told = [] } in
       let v : Work = server_is_granted c.control.settings id (body.Grant offset 0) offset (Some (seen_server c.pool r)) w in

@@ -68,7 +68,7 @@ IsServerView s pool credit state Rests = RestsIn (seen_state pool state)
 IsServerView s pool credit state Short = (a : IsAnswering state) × (rg : Range) × (next_range a.out s.seg ≡ Some rg) × (nat_lt credit (rg.to - rg.from) ≡ true)
 IsServerView s pool credit state (Sent from to) = (a : IsAnswering state) × (next_range a.out s.seg ≡ Some (range from to)) × (nat_lt credit (to - from) ≡ false)
 
-pub server_view_of : (s : Settings) (pool : Pool) (credit : ℕ) (state : HeldState) → 0 < s.seg → held.IsKept state → IsServerView s pool credit state (state_emits s credit (seen_state pool state))
+server_view_of : (s : Settings) (pool : Pool) (credit : ℕ) (state : HeldState) → 0 < s.seg → held.IsKept state → IsServerView s pool credit state (state_emits s credit (seen_state pool state))
 server_view_of s pool credit (Arriving service part base count) some k = tt
 server_view_of s pool credit (Keeping response release) some k = tt
 server_view_of s pool credit (Gone until) some k = tt

@@ -127,19 +127,19 @@ module _ (c : HostParts) (kept : IsKept c) (id : CallId) (place : ℕ) (r : Held
     settings_after : servers.settings ≡ c.control.settings
     settings_after = ap (λ (t : Servers). t.settings) moved.kept ∙ kept.one.server_settings
 
-    pub spot_after : IsSome (spot_at servers.rows place)
+    spot_after : IsSome (spot_at servers.rows place)
     spot_after = rw (spot-stands c.control.settings.served servers.rows places_after id place stands_after.0 stands_after.1) refl
 
-    pub room_after : HaveRoom servers.settings c.books
+    room_after : HaveRoom servers.settings c.books
     room_after = subst (λ (s : Settings). HaveRoom s c.books) (sym settings_after) kept.room
 
-    pub within_after : place < servers.settings.served
+    within_after : place < servers.settings.served
     within_after = subst (λ (s : Settings). place < s.served) (sym settings_after) (kept.server_places.within id (record { place = place; row = r }) stands)
 
-    pub calls_after : c.control.settings.calls ≡ servers.settings.calls
+    calls_after : c.control.settings.calls ≡ servers.settings.calls
     calls_after = ap (λ (s : Settings). s.calls) (sym settings_after)
 
-    pub small_after : c.control.settings.calls + servers.settings.served < 4294967296
+    small_after : c.control.settings.calls + servers.settings.served < 4294967296
     small_after =
         let served : servers.settings.served ≡ c.control.settings.served = ap (λ (s : Settings). s.served) settings_after in
         let range = kept.control.valid.in_range.2.2.2.2.2.2.2.2.2.2 in
@@ -151,7 +151,7 @@ module _ (c : HostParts) (kept : IsKept c) (id : CallId) (place : ℕ) (r : Held
     inside_after : AreIn c.pool (request_at servers.rows)
     inside_after = requests_in c kept id place servers c.pool (Some row) moved at_place at_place_after places_after
 
-    pub follows : (books : Books) → FollowedServer servers c.control.settings.calls (Stays place) c.books books → books ≡ followed (c.control.settings.calls + place) (server_duty c.control.settings row) c.books
+    follows : (books : Books) → FollowedServer servers c.control.settings.calls (Stays place) c.books books → books ≡ followed (c.control.settings.calls + place) (server_duty c.control.settings row) c.books
     follows books f = f id stands_after.0 c.pool stands_after.1 inside_after ∙ ap (λ d. followed (c.control.settings.calls + place) d c.books) duty_after
 
     -- its place stays
@@ -186,7 +186,7 @@ module _ (c : HostParts) (kept : IsKept c) (id : CallId) (place : ℕ) (r : Held
     stood_there = (server_standing c id place r stands).0
 
     module _ (own : HasOwnOrders (host_after c kept id place servers c.pool (Some row) moved at_place at_place_after places_after c.order)) (known : KnowsClient c.control.settings.hosts id row) where
-      pub may_stay : MayStayServer servers c.control.settings.calls c.books place
+      may_stay : MayStayServer servers c.control.settings.calls c.books place
       may_stay = record {
         id = id;
         row = stands_after.0;
