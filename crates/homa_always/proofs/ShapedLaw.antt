@@ -1,5 +1,5 @@
 -- Each event tells lines that have the shape; so every trace has it.
-use Rattle.std.proofs.Common.{◌≡◌, ℕ, suc, ◌+◌, ◌<◌, true, false, ◌||◌, Option, Some, None, List, [], ◌∷◌, ◌++◌, length, refl, sym, ap, subst, ◌∙◌, arith}
+use Rattle.std.proofs.Common.{◌≡◌, ℕ, ◌+◌, ◌<◌, true, false, ◌||◌, Option, Some, None, List, [], ◌∷◌, ◌++◌, length, refl, sym, ap, subst, ◌∙◌, arith}
 use Rattle.std.specs.Prelude.{slice_get, is_some}
 use Rattle.std.specs.List.{AllByRecursion}
 use Rattle.std.proofs.lemmas.Bool.{false≢true, true≢false}
@@ -20,11 +20,11 @@ use Rattle.homa_plain.specs.View.{View, Called, at_start}
 use Rattle.homa_plain.specs.Seen.{seen, seen_all}
 use Rattle.homa_plain.specs.Shape.{IsBehind, IsNewCall, Shape}
 use Rattle.homa_plain.specs.Laws.{Holds}
-use Rattle.homa_plain.specs.World.{World, SentPacket, After, Done, outcome, host_at, own_clock, next_answer, is_late, new_world, new_hosts}
+use Rattle.homa_plain.specs.World.{World, SentPacket, After, Done, outcome, host_at, own_clock, next_answer, is_late, new_world}
 use Rattle.told_lines.specs.Told.{IsTold, IsDated, IsTimed}
 use Rattle.homa_moves.specs.Stands.{amid}
 use Rattle.homa_moves.specs.Always.{trace, KeptByEvent, HoldsAlways}
-use Rattle.homa_moves.proofs.Always.{always, told_first}
+use Rattle.homa_moves.proofs.Always.{always, told_first, length-new}
 use Rattle.homa_moves.proofs.Hosts.{within, length-set, apart}
 use Rattle.homa_moves.proofs.Timed.{seg_of, resend_of, timed, fresh}
 use Rattle.homa_moves.proofs.Events.{after_step, call_done, deliver_done, inject_done, turn_done, restart_done, shift_done, clock_done}
@@ -184,17 +184,13 @@ last_shaped v (PlainRefused line fault) e b = λ cause. (b, cause)
 last_shaped v (PlainStalled turns tick) e b = λ cause. (b, tt)
 last_shaped v line e b = absurd (false≢true e)
 
-length_hosts : (s : Settings) (n : ℕ) (incs : List ℕ) → length (new_hosts s n incs) ≡ length incs
-length_hosts s n [] = refl
-length_hosts s n (inc ∷ incs) = ap suc (length_hosts s (suc n) incs)
-
 opened_behind : (s : Settings) (clock : ℕ) → IsBehind (seen (at_start clock) (PlainSettings s))
 unfolding seen
 opened_behind s clock = record { first = omega arith; last = refl }
 
 opened_hosts : (s : Settings) (incs : List ℕ) (clock boxes : ℕ) (answers : List Answer) → length (new_world s incs clock boxes answers).hosts ≡ length incs
 unfolding new_world
-opened_hosts s incs clock boxes answers = length_hosts s 0 incs
+opened_hosts s incs clock boxes answers = length-new s 0 incs
 
 event_lines : KeptByEvent IsSoFar IsShapedLine
 event_lines s w v e after so done =

@@ -1,8 +1,8 @@
 -- Each event keeps what is so of live calls and their RESENDs; so each timeout of a trace is of an unanswered call.
-use Rattle.std.proofs.Common.{◌≡◌, ℕ, zero, suc, ◌+◌, ◌<◌, true, false, not, ◌&&◌, ◌||◌, Some, None, List, [], ◌∷◌, length, map, cond, refl, sym, ap, subst, ◌∙◌, arith, inl, inr}
-use Rattle.std.specs.Prelude.{◌==◌, nat_lt, slice_get, slice_set}
+use Rattle.std.proofs.Common.{◌≡◌, ℕ, zero, suc, ◌+◌, ◌<◌, true, false, not, ◌&&◌, ◌||◌, Some, None, List, [], ◌∷◌, length, map, cond, refl, sym, ap, subst, ◌∙◌, arith}
+use Rattle.std.specs.Prelude.{nat_lt, slice_get, slice_set}
 use Rattle.std.specs.List.{AllByRecursion, list_any}
-use Rattle.std.proofs.lemmas.Bool.{ltb-true, and_parts, and_left, and_right, or_cases, false≢true, false_from_ne_true}
+use Rattle.std.proofs.lemmas.Bool.{and_left, and_right, false≢true, false_from_ne_true}
 use Rattle.plain_sets.specs.Maps.{get}
 use Rattle.plain_sets.proofs.MapLaws.{get-retain, get-empty}
 use Rattle.homa_plain.specs.declared.id.CallId.{CallId}
@@ -35,6 +35,7 @@ use Rattle.homa_moves.proofs.ToldSteps.{set_same}
 use Rattle.homa_moves.proofs.Events.{call_done, deliver_done, inject_done, turn_done, restart_done, shift_done, clock_done}
 use Rattle.homa_moves.proofs.Always.{always, told_first, IsNew, hosts_new}
 use Rattle.homa_life.specs.Kept.{PacketFits, IsKept}
+use Rattle.homa_once.proofs.Called.{next_unused}
 use Rattle.homa_once.proofs.Kept.{IsSoFar, event_once}
 use Rattle.homa_once.proofs.Opened.{opened_kept}
 use Rattle.homa_fails.specs.Timeouts.{TimesOut, AreLive, HasFairRows}
@@ -54,13 +55,6 @@ unlast q n p (body.Unknown reason) e = refl
 unlast q n p body.NeedAck e = refl
 unlast q n p (body.Ack more) e = refl
 
-next_new : (h : Host) → is_old (next_id h) h ≡ false
-next_new h = false_from_ne_true (is_old (next_id h) h) (λ e.
-    elim (or_cases (nat_lt h.inc h.inc) (h.inc == h.inc && nat_lt h.seq h.seq) e) as (λ _. ⊥) [
-      | inl a ↦ absurd (let l : h.inc < h.inc = ltb-true h.inc h.inc a in omega (arith, l))
-      | inr b ↦ absurd (let l : h.seq < h.seq = ltb-true h.seq h.seq (and_parts (h.inc == h.inc) (nat_lt h.seq h.seq) b).1 in omega (arith, l))
-    ])
-
 unsent_next : (s : Settings) (w : World) (v : View) (host : HostId) (h : Host) → host_at w host ≡ Some h → IsTold s w v → IsKept s w v → IsUnsent v (next_id h)
 unsent_next s w v host h at told kept n = ap (list_any (λ (p : Sent). has_last (next_id h) n p p.body)) told.packets ∙ by_packets w.packets kept.packets where
   -- the packet's call was made, so its name is old
@@ -70,7 +64,7 @@ unsent_next s w v host h at told kept n = ap (list_any (λ (p : Sent). has_last 
       let old : at_host false (is_old p.packet.id) (host_at w p.packet.id.client) ≡ true = (kept.calls p.packet.id p.packet.server).named _ f.fits.made.called in
       let place : host_at w (next_id h).client ≡ Some h = ap (λ (x : HostId). slice_get w.hosts x.0) (told.names host h at).name ∙ at in
       let next : is_old (next_id h) h ≡ true = sym (ap (at_host false (is_old (next_id h))) place) ∙ ap (λ (q : CallId). at_host false (is_old q) (host_at w q.client)) (sym same) ∙ old in
-      false≢true (sym (next_new h) ∙ next))
+      false≢true (sym (next_unused h) ∙ next))
 
   by_packets : (ps : List SentPacket) → AllByRecursion (PacketFits s (stand w v)) ps → list_any (λ (p : Sent). has_last (next_id h) n p p.body) (map (λ (p : SentPacket). sent_of p.packet) ps) ≡ false
   by_packets [] all = refl

@@ -11,7 +11,8 @@ use Rattle.homa_plain.specs.Rules.{Say, Tells, Posts, Did}
 use Rattle.homa_plain.specs.View.{Called}
 use Rattle.homa_moves.specs.Stands.{Stand, with_client}
 use Rattle.homa_life.specs.Lifetime.{Times, span, gone_since, expiry, expiry_of, took_part, CoversReply, IsMadeTo, HasSentAll, RequestFits, RowFits, called_by, Lifetime, Later}
-use Rattle.homa_life.proofs.Later.{none_some, some_is, client_ends, made_at, row_at}
+use Rattle.homa_moves.proofs.Hosts.{none_some, some_is}
+use Rattle.homa_life.proofs.Later.{client_ends, made_at, row_at}
 use Rattle.homa_life.proofs.ServerRules.{SaysFit}
 
 -- a packet that is no piece of a message; only of a call that isn't live it is told, to a server that asks, that it is over

@@ -23,7 +23,7 @@ use Rattle.homa_plain.proofs.CallOrder.{hosts_are}
 use Rattle.homa_plain.proofs.OutgoingLaws as out_laws
 use Rattle.homa_moves.specs.Stands.{Stand}
 use Rattle.homa_life.specs.Lifetime.{Times, CoversReply, ReplyFits, Fits, Lifetime}
-use Rattle.homa_life.proofs.Later.{none_some, some_is}
+use Rattle.homa_moves.proofs.Hosts.{none_some, some_is}
 use Rattle.homa_life.proofs.ClientRules.{AllBare, IsLike, ClientChange, ClientKeeps, gone_change, like_change, as_change, heard_change, IsSame, same_row, like_same, like_itself, change_same}
 
 -- ---- the request

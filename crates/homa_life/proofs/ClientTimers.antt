@@ -21,7 +21,8 @@ use Rattle.homa_plain.specs.Sending.{may_send_request, while_new, client_sends, 
 use Rattle.homa_plain.proofs.OutgoingLaws as out_laws
 use Rattle.homa_moves.specs.Stands.{Stand, with_client}
 use Rattle.homa_life.specs.Lifetime.{times, CoversRequest, IsMadeTo, Fits, called_by, Lifetime}
-use Rattle.homa_life.proofs.Later.{some_is, made_at}
+use Rattle.homa_moves.proofs.Hosts.{some_is}
+use Rattle.homa_life.proofs.Later.{made_at}
 use Rattle.homa_life.proofs.ClientRules.{AllBare, IsLike, ClientChange, ClientKeeps, gone_change, as_change, unsent_change, ran_expiry}
 
 -- a live call is made to its row's server

@@ -9,7 +9,8 @@ use Rattle.homa_plain.specs.View.{Called}
 use Rattle.homa_plain.proofs.OutgoingLaws as out_laws
 use Rattle.homa_moves.specs.Stands.{Stand, with_client, with_server}
 use Rattle.homa_life.specs.Lifetime.{Times, times, took_part, called_by, RowFits, ClientFits, Lifetime, Later}
-use Rattle.homa_life.proofs.Later.{none_some, some_is, client_at}
+use Rattle.homa_moves.proofs.Hosts.{none_some, some_is}
+use Rattle.homa_life.proofs.Later.{client_at}
 use Rattle.homa_life.proofs.ClientRules.{gone_change, later_client, lifetime_client, took_expiry}
 
 -- ---- a call starts

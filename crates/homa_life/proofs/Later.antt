@@ -9,13 +9,8 @@ use Rattle.homa_plain.specs.Incoming.{Incoming}
 use Rattle.homa_plain.specs.Rows.{ClientRow, State, Receiving, Held, Replying, Buried}
 use Rattle.homa_plain.specs.View.{Called}
 use Rattle.homa_moves.specs.Stands.{Stand}
+use Rattle.homa_moves.proofs.Hosts.{none_some, some_is}
 use Rattle.homa_life.specs.Lifetime.{Times, gone_since, expiry, call_to, IsMadeTo, IsOver, HasSentAll, RequestFits, ReplyFits, BodyFits, Fits, PartFits, RowFits, called_by, ClientFits, Lifetime, Later}
-
-pub none_some : {A : Type 0} (x : A) → None ≡ Some x → ⊥
-none_some x e = cc
-
-pub some_is : {A : Type 0} (x y : A) → Some x ≡ Some y → x ≡ y
-some_is x y e = cc
 
 pub none_from : {A : Type 0} (o : Option A) → ((x : A) → o ≡ Some x → ⊥) → o ≡ None
 none_from None h = refl

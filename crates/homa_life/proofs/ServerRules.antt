@@ -13,7 +13,8 @@ use Rattle.homa_plain.specs.Rules.{Moment, Say, Tells, Posts, Did, leaves, says}
 use Rattle.homa_moves.specs.Stands.{Stand, state_of, with_server}
 use Rattle.homa_told.proofs.Own.{runs_said}
 use Rattle.homa_life.specs.Lifetime.{Times, span, expiry, expiry_of, took_part, CoversRequest, CoversReply, call_to, IsMadeTo, HasSentAll, BodyFits, Fits, PartFits, RowFits, Lifetime, Later}
-use Rattle.homa_life.proofs.Later.{none_some, made_at, client_at, part_at, row_at}
+use Rattle.homa_moves.proofs.Hosts.{none_some}
+use Rattle.homa_life.proofs.Later.{made_at, client_at, part_at, row_at}
 
 -- the packets that a rule says fit
 abbrev pub SaysFit : Times → HostId → Stand → ℕ → Role → List Say → Type 0

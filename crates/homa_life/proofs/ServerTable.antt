@@ -32,7 +32,7 @@ use Rattle.homa_plain.proofs.OutgoingLaws as out_laws
 use Rattle.homa_moves.specs.Stands.{Stand, state_of, with_server}
 use Rattle.homa_told.proofs.Own.{runs_said}
 use Rattle.homa_life.specs.Lifetime.{Times, span, gone_since, expiry, call_to, IsMadeTo, HasSentAll, IsRequestPiece, Fits, has_last, PartFits, RowFits, Lifetime}
-use Rattle.homa_life.proofs.Later.{none_some, some_is}
+use Rattle.homa_moves.proofs.Hosts.{none_some, some_is}
 use Rattle.homa_life.proofs.ServerRules.{SaysFit, ServerChange, ServerKeeps, row_is, live_change, same_change, quiet_keeps, same_keeps, row_keeps, says_unknown, says_live, part_now}
 
 module _ (s : Times) (h : HostId) (v : Stand) where

@@ -23,7 +23,8 @@ use Rattle.homa_plain.proofs.OutgoingLaws as out_laws
 use Rattle.homa_moves.specs.Stands.{Stand, state_of, with_server}
 use Rattle.homa_told.proofs.Own.{runs_said}
 use Rattle.homa_life.specs.Lifetime.{times, gone_since, expiry, IsMadeTo, IsOver, HasSentAll, Fits, RowFits, Lifetime}
-use Rattle.homa_life.proofs.Later.{none_some, some_is, made_at, part_at}
+use Rattle.homa_moves.proofs.Hosts.{none_some, some_is}
+use Rattle.homa_life.proofs.Later.{made_at, part_at}
 use Rattle.homa_life.proofs.ServerRules.{SaysFit, IsSafeExpiry, ServerChange, ServerKeeps, row_made, row_is, live_change, quiet_keeps, same_keeps, row_keeps, live_covers, says_live, part_now}
 
 -- a host's own clock in its step: it is within the band, and the host's last tick

@@ -69,7 +69,7 @@ hosts_new s n [] i h e = absurd (none_some h e)
 hosts_new s n (inc ∷ incs) zero h e = let same : n ≡ n + 0 = omega arith in record { inc = inc; is = sym (some_is (new_host s (record { 0 = n }) inc 0) h e) ∙ ap (λ (m : ℕ). new_host s (record { 0 = m }) inc 0) same }
 hosts_new s n (inc ∷ incs) (suc i) h e = let r = hosts_new s (suc n) incs i h e in let same : suc n + i ≡ n + suc i = omega arith in record { inc = r.inc; is = r.is ∙ ap (λ (m : ℕ). new_host s (record { 0 = m }) r.inc 0) same }
 
-length-new : (s : Settings) (n : ℕ) (incs : List ℕ) → length (new_hosts s n incs) ≡ length incs
+pub length-new : (s : Settings) (n : ℕ) (incs : List ℕ) → length (new_hosts s n incs) ≡ length incs
 length-new s n [] = refl
 length-new s n (inc ∷ incs) = ap suc (length-new s (suc n) incs)
 

@@ -124,9 +124,6 @@ module _ (s : Settings) (w : World) (v : View) (host : HostId) (stands : host.0 
   pub own_amid : (work : Work) → ToldAmid work → (q : CallId) (r : ClientRow) → get work.host.clients q ≡ Some r → q.client ≡ host
   own_amid work k = (k.names host work.host (there w.hosts host.0 work.host stands)).own
 
-  pub last_amid : (work : Work) → ToldAmid work → work.host.last ≤ own_clock w host
-  last_amid work k = k.clocks.last host work.host (there w.hosts host.0 work.host stands)
-
   -- a move that leaves the rows of the host as a client
   told_beside : (work new : Work) (told : List Told) (servers : RowsOf ServerRow) → IsMove work new told work.host.clients servers → ToldAmid work → ToldAmid new
   told_beside work new told servers m k = told_move s w v host work new told work.host.clients servers m stands (own_amid work k) k

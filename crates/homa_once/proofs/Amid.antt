@@ -19,10 +19,10 @@ use Rattle.homa_moves.specs.Stands.{at_host, put, said_so_far, amid}
 use Rattle.homa_told.proofs.Moves.{IsMove}
 use Rattle.homa_moves.proofs.Hosts.{there, elsewhere, apart}
 use Rattle.homa_moves.proofs.Frame.{next_number, move_packets}
-use Rattle.homa_life.specs.Lifetime.{times, IsOver}
+use Rattle.homa_life.specs.Lifetime.{IsOver}
 use Rattle.homa_life.specs.Kept.{PacketFits, call_of, IsKept}
 use Rattle.homa_once.proofs.OnceLines.{once_append}
-use Rattle.homa_once.proofs.Goes.{AllGo, goes_then, packets_later, lists_later}
+use Rattle.homa_once.proofs.Goes.{AllGo, packets_later, lists_later}
 
 -- a host's rows as a client are of its own calls
 abbrev pub AreOwn : HostId → RowsOf ClientRow → Type 0
@@ -41,9 +41,6 @@ module _ (s : Settings) (w : World) (v : View) (host : HostId) (now : ℕ) where
   pub record Came (work new : Work) : Type 0 where
     pub goes : AllGo s (amid w v host work) (amid w v host new)
     pub amid : IsAmid new
-
-  pub came_then : (work new after : Work) → Came work new → Came new after → Came work after
-  came_then work new after a b = record { goes = λ q n. goes_then (times s) n (amid w v host work q n) (amid w v host new q n) (amid w v host after q n) (a.goes q n) (b.goes q n); amid = b.amid }
 
   -- calls of this host's lists of finished calls are over
   abbrev pub AreOver : Work → (HostId → List (ℕ × ℕ)) → Type 0

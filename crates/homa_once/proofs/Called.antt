@@ -2,6 +2,7 @@
 use Rattle.std.proofs.Common.{◌≡◌, ℕ, zero, suc, ◌+◌, ◌≤◌, ◌<◌, Bool, true, false, ◌&&◌, ◌||◌, Some, None, List, [], ◌∷◌, length, refl, sym, ap, subst, ◌∙◌, inl, inr, arith}
 use Rattle.std.specs.Prelude.{◌==◌, nat_lt, slice_get, slice_set}
 use Rattle.std.proofs.lemmas.Bool.{lt-ltb, le-ltb, eq-eqb, or_cases, and_parts, ltb-true}
+use Rattle.std.proofs.Math.Bool.{and-false}
 use Rattle.plain_sets.specs.Maps.{get}
 use Rattle.homa_plain.specs.declared.id.CallId.{CallId}
 use Rattle.homa_plain.specs.declared.id.HostId.{HostId}
@@ -46,11 +47,8 @@ old_more q h x inc seq e =
       or_true false = refl
 
 -- the next name wasn't, and then it is
-next_unused : (h : Host) → is_old (next_id h) h ≡ false
-next_unused h = ap (λ b. b || (h.inc == h.inc && nat_lt h.seq h.seq)) (le-ltb h.inc h.inc (omega arith)) ∙ ap (λ b. (h.inc == h.inc) && b) (le-ltb h.seq h.seq (omega arith)) ∙ and_false (h.inc == h.inc) where
-  and_false : (b : Bool) → b && false ≡ false
-  and_false true = refl
-  and_false false = refl
+pub next_unused : (h : Host) → is_old (next_id h) h ≡ false
+next_unused h = ap (λ b. b || (h.inc == h.inc && nat_lt h.seq h.seq)) (le-ltb h.inc h.inc (omega arith)) ∙ ap (λ b. (h.inc == h.inc) && b) (le-ltb h.seq h.seq (omega arith)) ∙ and-false (h.inc == h.inc)
 
 next_used : (h x : Host) → x.inc ≡ h.inc → x.seq ≡ h.seq + 1 → is_old (next_id h) x ≡ true
 next_used h x inc seq =

@@ -17,7 +17,7 @@ use Rattle.homa_plain.specs.World.{World, new_hosts, new_world}
 use Rattle.homa_moves.specs.Stands.{Stand, state_of, at_host, stand}
 use Rattle.homa_life.specs.Lifetime.{Times, times, took_part, IsOver, RowFits, Lifetime}
 use Rattle.homa_life.specs.Kept.{call_of, IsKept}
-use Rattle.homa_life.proofs.Later.{none_some}
+use Rattle.homa_moves.proofs.Hosts.{none_some}
 use Rattle.homa_once.proofs.Restarted.{none_finished}
 
 -- a call that wasn't made, at a host that has done nothing
