@@ -1,12 +1,14 @@
 -- What a delivery does to a call.
 use Rattle.std.proofs.Common.{◌≡◌, ℕ, Bool, true, false, not, ◌&&◌, Option, Some, [], ◌∷◌, refl, sym, ap, ◌∙◌, subst, arith}
-use Rattle.std.specs.Prelude.{if◌then◌else◌, nat_le}
+use Rattle.std.specs.Prelude.{if◌then◌else◌, nat_le, IfSome}
 use Rattle.std.proofs.lemmas.Bool.Decides.{nat_tests}
 use Rattle.std.specs.Option.{option_map_or}
 use Rattle.plain_sets.specs.Maps.{get}
 use Rattle.homa_plain.specs.declared.id.CallId.{CallId}
 use Rattle.homa_plain.specs.declared.packet.Body.{Body}
 use Rattle.homa_plain.specs.declared.packet.Body.TheVariants as body
+use Rattle.homa_plain.specs.declared.packet.Role.{Role}
+use Rattle.homa_plain.specs.declared.packet.Role.TheVariants.{Client, Server}
 use Rattle.homa_plain.specs.Wire.{is_client, is_server}
 use Rattle.homa_plain.specs.Calls.{is_host}
 use Rattle.homa_plain.proofs.CallOrder.{hosts_are}
@@ -20,8 +22,8 @@ use Rattle.homa_kept.specs.declared.call.Lives.{Lives}
 use Rattle.homa_kept.specs.declared.spot.Spot.{Spot}
 use Rattle.homa_kept.specs.declared.packet.Packet.{Packet}
 use Rattle.homa_kept.specs.declared.packet.Piece.TheVariants.{Data}
-use Rattle.homa_kept.specs.Kept.{packet_of, Beside, StandsFor, piece_of, piece_is_unknown, piece_is_forgotten, piece_is_data}
-use Rattle.homa_kept.specs.Calls.{called_of, Leaves, IsDelivery, ends_of, counts_for, spot_in, beside}
+use Rattle.homa_kept.specs.Kept.{IsPlain, packet_of, Beside, StandsFor, piece_of, piece_is_unknown, piece_is_forgotten, piece_is_data}
+use Rattle.homa_kept.specs.Calls.{called_of, Leaves, IsDelivery, ends_of, counts_for, spot_in, beside, IsSettled}
 
 pub unknown_piece : (b : Body) (n : ℕ) → piece_is_unknown (piece_of b n) ≡ seen.is_unknown b
 unknown_piece (body.Unknown reason) n = refl
@@ -156,3 +158,13 @@ pub known : (v : View) (p : Sent) (s : spots.Spot) (c : Call) (k : Packet) (befo
 known v p s c k before at lives free gap counts d b st e =
     let here : StandsFor (beside p.id.client gap c) before s = subst (λ (x : Spot). StandsFor (beside p.id.client gap c) x s) (sym b) st in
     (e ∙ ap (λ x. counts_for c.server x before.live) d.packet ∙ counts_is v p c s before.live d.called here.live, here)
+
+-- ---- settled parts
+
+pub settled_request : (role : Role) (k : Spot) → is_client role ≡ true → IsSettled role k → IfSome k.request IsPlain
+settled_request Client k e settled = settled
+settled_request Server k e settled = absurd cc
+
+pub settled_response : (role : Role) (k : Spot) → is_client role ≡ false → IsSettled role k → IfSome k.response IsPlain
+settled_response Client k e settled = absurd cc
+settled_response Server k e settled = settled

@@ -5,6 +5,8 @@ use Rattle.std.specs.List.{list_any}
 use Rattle.plain_sets.specs.Maps.{get}
 use Rattle.homa_plain.specs.declared.id.CallId.{CallId}
 use Rattle.homa_plain.specs.declared.id.HostId.{HostId}
+use Rattle.homa_plain.specs.declared.packet.Role.{Role}
+use Rattle.homa_plain.specs.declared.packet.Role.TheVariants.{Client, Server}
 use Rattle.homa_plain.specs.Wire.{is_server}
 use Rattle.homa_plain.specs.Calls.{is_host}
 use Rattle.homa_plain.specs.View.{Called, Sent, Ends, View, has_run}
@@ -39,9 +41,10 @@ called_of c = record { server = c.server; service = c.service; request = c.reque
 abbrev pub ran_in : Call → ℕ → Bool
 ran_in c life = list_any (λ r. r.life == life) c.runs.items
 
--- its parts are plain
-abbrev pub ArePlain : Spot → Type 0
-ArePlain k = IfSome k.request IsPlain × IfSome k.response IsPlain
+-- the part is plain that bytes belong to which this side of the call sends
+abbrev pub IsSettled : Role → Spot → Type 0
+IsSettled Client k = IfSome k.request IsPlain
+IsSettled Server k = IfSome k.response IsPlain
 
 -- a packet counts for a call of this server that is live in so far
 abbrev pub counts_for : HostId → Packet → Option ℕ → Bool

@@ -11,7 +11,7 @@ ghost use Rattle.homa_plain.specs.Parts as plain;
 ghost use Rattle.homa_plain.specs.View.{Sent, View, Ends};
 ghost use Rattle.homa_judging.specs.Spots as spots;
 ghost use Rattle.homa_kept.specs.Kept.{part_of, IsCounted, IsPlain, Beside, StandsFor, packet_of, piece_is_forgotten};
-ghost use Rattle.homa_kept.specs.Calls.{spot_in, beside, ran_in, ArePlain, counts_for, Leaves, IsDelivery};
+ghost use Rattle.homa_kept.specs.Calls.{spot_in, beside, ran_in, IsSettled, counts_for, Leaves, IsDelivery};
 
 use crate::packet::{Packet, Piece};
 use crate::part::{Arrival, Part, more, settle};
@@ -40,9 +40,9 @@ pub struct Lives {
 pub struct Call {
     pub server: HostId,
     pub service: u8,
-    pub request: Vec<u8>,
-    pub size: u32,
     pub sent_last: bool,
+    pub size: u32,
+    pub request: Vec<u8>,
     pub runs: Vec<Run>,
     pub lives: Lives,
     pub spot: Spot,
@@ -129,23 +129,40 @@ impl Call {
         self.runs.iter().any(|run| run.life == life)
     }
 
-    /// Puts the bytes that came last into the sets beside the parts.
-    pub fn settle(&mut self, alloc: Global, lives: Lives) -> Result<(), AllocError>
+    /// Puts the bytes that came last into the set beside the part that they belong to: of what the client sends that of the
+    /// request, and of what the server sends that of the response.
+    pub fn settle(&mut self, alloc: Global, lives: Lives, role: Role) -> Result<(), AllocError>
         ensures spot { OnOk result ((client : AHost) (gap : ℕ) (s : spots.Spot) → StandsFor (beside client gap self.old) (spot_in self.old lives) s → StandsFor (beside client gap self.new) (spot_in self.new lives) s) }
-        ensures plain { OnOk result (ArePlain (spot_in self.new lives)) }
+        ensures settled { OnOk result (IsSettled role (spot_in self.new lives)) }
         ensures rest { OnOk result (self.new ≡ record self.old { lives = lives; spot = self.new.spot; asked = self.new.asked; answered = self.new.answered }) }
+    {
+        match role {
+            Role::Client => Ok(self.settle_request(alloc, lives)?),
+            Role::Server => Ok(self.settle_response(alloc, lives)?),
+        }
+    }
+
+    // Puts the bytes of the request that came last into the set beside its part.
+    fn settle_request(&mut self, alloc: Global, lives: Lives) -> Result<(), AllocError>
+        ensures spot { OnOk result ((client : AHost) (gap : ℕ) (s : spots.Spot) → StandsFor (beside client gap self.old) (spot_in self.old lives) s → StandsFor (beside client gap self.new) (spot_in self.new lives) s) }
+        ensures settled { OnOk result (IfSome (spot_in self.new lives).request IsPlain) }
+        ensures rest { OnOk result (self.new ≡ record self.old { lives = lives; spot = self.new.spot; asked = self.new.asked }) }
     {
         let spot = self.spot_in(lives);
         let request = settle_some(alloc, &mut self.asked, spot.request)?;
+        self.keep(lives, Spot { request, ..spot });
+        Ok(())
+    }
+
+    // Puts the bytes of the response that came last into the set beside its part.
+    fn settle_response(&mut self, alloc: Global, lives: Lives) -> Result<(), AllocError>
+        ensures spot { OnOk result ((client : AHost) (gap : ℕ) (s : spots.Spot) → StandsFor (beside client gap self.old) (spot_in self.old lives) s → StandsFor (beside client gap self.new) (spot_in self.new lives) s) }
+        ensures settled { OnOk result (IfSome (spot_in self.new lives).response IsPlain) }
+        ensures rest { OnOk result (self.new ≡ record self.old { lives = lives; spot = self.new.spot; answered = self.new.answered }) }
+    {
+        let spot = self.spot_in(lives);
         let response = settle_some(alloc, &mut self.answered, spot.response)?;
-        self.keep(
-            lives,
-            Spot {
-                request,
-                response,
-                ..spot
-            },
-        );
+        self.keep(lives, Spot { response, ..spot });
         Ok(())
     }
 
@@ -162,9 +179,10 @@ impl Call {
             }
     }
 
-    /// What the delivery of a packet of this call does, at a line behind `place` lines. The parts are settled.
+    /// What the delivery of a packet of this call does, at a line behind `place` lines. The part that its bytes belong to is
+    /// settled.
     pub fn delivered(&self, packet: &Packet, place: u64, lives: Lives, unsched: u32) -> Delivered
-        requires { ArePlain (spot_in self.now lives) }
+        requires { IsSettled packet.now.role (spot_in self.now lives) }
         ensures { (v : View) (p : Sent) (s : spots.Spot) (gap : ℕ) → IsDelivery v self.now packet.now p place lives unsched → StandsFor (beside p.id.client gap self.now) (spot_in self.now lives) s
             → Leaves (beside p.id.client gap self.now) p.id result (spots.delivered_spot v p s) (spots.counted_spot v p s) (spots.due_spot v p s) (spots.due_if_refused v p s) }
     {
@@ -264,7 +282,8 @@ fn forgets(packet: &Packet, counts: bool) -> bool
 fn heard(packet: &Packet, counts: bool, spot: Spot) -> Delivered
     ensures leaves { (b : Beside) (v : View) (p : Sent) (s : spots.Spot) → packet.now ≡ packet_of p → counts ≡ spots.counts_at v p s → StandsFor b spot s
         → Leaves b p.id result (spots.counted_spot v p s) (spots.counted_spot v p s) (spots.due_if_refused v p s) (spots.due_if_refused v p s) }
-    ensures plain { ArePlain spot → ArePlain result.now }
+    ensures request { IfSome spot.request IsPlain → IfSome result.now.request IsPlain }
+    ensures response { IfSome spot.response IsPlain → IfSome result.now.response IsPlain }
 {
     let refused = counted(packet, counts, spot);
     Delivered {
@@ -279,7 +298,8 @@ fn heard(packet: &Packet, counts: bool, spot: Spot) -> Delivered
 // What rests on deliveries, with a packet that may count.
 fn counted(packet: &Packet, counts: bool, spot: Spot) -> Spot
     ensures stands { (b : Beside) (s : spots.Spot) (p : Sent) → packet.now ≡ packet_of p → StandsFor b spot s → StandsFor b result (if counts then spots.heard_spot p s else s) }
-    ensures plain { ArePlain spot → ArePlain result }
+    ensures request { IfSome spot.request IsPlain → IfSome result.request IsPlain }
+    ensures response { IfSome spot.response IsPlain → IfSome result.response IsPlain }
 {
     if counts {
         spot.heard(packet.inc, packet.piece.is_unknown())

@@ -7,8 +7,7 @@ ghost use Rattle.homa_plain.specs.Parts as plain;
 ghost use Rattle.homa_plain.specs.View.{Sent};
 ghost use Rattle.homa_plain.specs.Seen as seen;
 ghost use Rattle.homa_judging.specs.Spots as spots;
-ghost use Rattle.homa_kept.specs.Calls.{ArePlain};
-ghost use Rattle.homa_kept.specs.Kept.{part_of, IsCounted, Beside, StandsFor, IsApart, changed, within, is_within_spot, is_incoming};
+ghost use Rattle.homa_kept.specs.Kept.{part_of, IsCounted, IsPlain, Beside, StandsFor, IsApart, changed, within, is_within_spot, is_incoming};
 
 use crate::part::Part;
 use crate::resends::{OwnTick, Resends};
@@ -101,7 +100,8 @@ impl Spot {
     /// UNKNOWN renews the call.
     pub fn heard(self, inc: u32, is_unknown: bool) -> Spot
         ensures stands { (b : Beside) (s : spots.Spot) (p : Sent) → p.inc ≡ inc → seen.is_unknown p.body ≡ is_unknown → StandsFor b self s → StandsFor b result (spots.heard_spot p s) }
-        ensures plain { ArePlain self → ArePlain result }
+        ensures request { IfSome self.request IsPlain → IfSome result.request IsPlain }
+        ensures response { IfSome self.response IsPlain → IfSome result.response IsPlain }
     {
         let later = match self.live {
             Some(latest) => latest < inc,

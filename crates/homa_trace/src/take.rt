@@ -7,7 +7,7 @@ ghost use Rattle.homa_trace.specs.Traces.{Follows, Keeps, StandsOr, IsUndoOf, Is
 ghost use Rattle.homa_trace.specs.declared.block.Named.TheVariants.{Nobody};
 ghost use Rattle.homa_judging.specs.Spots.{Spot as ASpot, Undo, IsUndo, spot, only, undo_each, said_spot, counted_spot, delivered_spot, due_spot, due_if_refused};
 ghost use Rattle.homa_judging.specs.Tested.{IsOther};
-ghost use Rattle.homa_kept.specs.Calls.{spot_in, beside, ends_of, ArePlain, Leaves};
+ghost use Rattle.homa_kept.specs.Calls.{spot_in, beside, ends_of, IsSettled, Leaves};
 ghost use Rattle.homa_kept.specs.Kept.{packet_of};
 ghost use Rattle.homa_kept.specs.declared.call.Call.{Call as ACall};
 ghost use Rattle.homa_kept.specs.declared.spot.Change.TheVariants.{Nothing, Dropped};
@@ -177,9 +177,9 @@ impl Trace {
         let call = Call {
             server,
             service,
-            request: copied(alloc, bytes)?,
-            size: bytes.len().min(u32::MAX as usize) as u32,
             sent_last: false,
+            size: bytes.len().min(u32::MAX as usize) as u32,
+            request: copied(alloc, bytes)?,
             runs: Vec::new(alloc),
             lives,
             spot: Spot::STARTED,
@@ -191,23 +191,23 @@ impl Trace {
         Ok(())
     }
 
-    // Puts the bytes that came last for a call into the sets beside its parts.
-    fn settle(&mut self, alloc: Global, at: usize, id: CallId) -> Result<(), AllocError>
+    // Puts the bytes that came last for a message of a call into the set beside its part.
+    fn settle(&mut self, alloc: Global, at: usize, id: CallId, role: Role) -> Result<(), AllocError>
         requires { IsPlace self.old id at }
         ensures kept { OnOk result ((v : View) → Keeps v self.old → Keeps v self.new) }
-        ensures plain { OnOk result (IfSome (call_at self.new id) (λ c. ArePlain (spot_in c (lives_in self.new id c.server)))) }
+        ensures settled { OnOk result (IfSome (call_at self.new id) (λ c. IsSettled role (spot_in c (lives_in self.new id c.server)))) }
         ensures place { OnOk result (IsPlace self.new id at) }
         ensures rest { OnOk result (self.new ≡ record self.old { calls = self.new.calls }) }
     {
         let lives = self.lives(id, self.calls[at].server);
-        self.calls[at].settle(alloc, lives)?;
+        self.calls[at].settle(alloc, lives, role)?;
         Ok(())
     }
 
-    // What the delivery of a packet does to its call, whose parts are settled.
+    // What the delivery of a packet does to its call, whose part that the packet's bytes belong to is settled.
     fn delivered(&self, at: usize, packet: &Packet) -> Delivered
         requires place { IsPlace self.now packet.now.id at }
-        requires plain { IfSome (call_at self.now packet.now.id) (λ c. ArePlain (spot_in c (lives_in self.now packet.now.id c.server))) }
+        requires settled { IfSome (call_at self.now packet.now.id) (λ c. IsSettled packet.now.role (spot_in c (lives_in self.now packet.now.id c.server))) }
         ensures { (v : View) (p : Sent) (c : ACall) → Keeps v self.now → v.place ≡ self.now.place → packet.now ≡ packet_of p → call_at self.now packet.now.id ≡ Some c
             → Leaves (beside p.id.client self.now.settings.resend c) p.id result (delivered_spot v p (spot v.now p.id)) (counted_spot v p (spot v.now p.id)) (due_spot v p (spot v.now p.id)) (due_if_refused v p (spot v.now p.id)) }
     {
@@ -222,7 +222,7 @@ impl Trace {
         ensures taken { OnOk result ((v : View) (p : Sent) → Keeps v self.old → v.place ≡ self.old.place → v.now.due ≡ no_ends → packet ≡ packet_of p → IsAfter v (Some p) self.new) }
         ensures count { OnOk result (SameCount self.old self.new) }
     {
-        self.settle(alloc, at, packet.id)?;
+        self.settle(alloc, at, packet.id, packet.role)?;
         let stale = self.spot(at, packet.id);
         let delivered = self.delivered(at, &packet);
         self.keep(alloc, at, packet.id, delivered.now)?;

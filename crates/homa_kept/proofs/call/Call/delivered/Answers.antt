@@ -2,9 +2,19 @@ use Rattle.std.proofs.Common.{◌≡◌, ◌∙◌, refl, sym, ap, length, true,
 use Rattle.homa_plain.specs.Wire.{is_client}
 use Rattle.homa_judging.specs.Spots as spots
 use Rattle.homa_kept.specs.Kept.{piece_is_data}
-use Rattle.homa_kept.specs.Calls.{beside}
-use Rattle.homa_kept.proofs.CallLaws.{known, data_body, data_asks, data_answers, answers_nothing, no_data, leaves_as, counts_still, counted_hosts}
+use Rattle.homa_kept.specs.Calls.{beside, spot_in}
+use Rattle.homa_kept.proofs.CallLaws.{known, data_body, data_asks, data_answers, answers_nothing, no_data, leaves_as, counts_still, counted_hosts, settled_request, settled_response}
 use Rattle.homa_kept.proofs.call.Call.delivered.Goals as goal
+
+pub asked_more-requires : goal.asked_more-requires
+asked_more-requires c =
+    c.heard-delivered.ensures.request
+    (rw c.spot_in-before.ensures (settled_request c.args.packet.now.role (spot_in c.args.self.now c.args.lives) (sym c.is_of_client.ensures ∙ c.if-is_of_client.true) c.requires))
+
+pub answered_more-requires : goal.answered_more-requires
+answered_more-requires c =
+    c.heard-delivered.ensures.response
+    (rw c.spot_in-before.ensures (settled_response c.args.packet.now.role (spot_in c.args.self.now c.args.lives) (sym c.is_of_client.ensures ∙ c.if-is_of_client.false) c.requires))
 
 pub returns-then-is_of_client : goal.returns-then-is_of_client
 returns-then-is_of_client c v p s gap d st =

@@ -5,7 +5,7 @@ use Rattle.homa_plain.specs.declared.id.CallId.{CallId}
 use Rattle.homa_kept.specs.declared.call.Call.{Call}
 use Rattle.homa_kept.specs.declared.call.Lives.{Lives}
 use Rattle.homa_kept.specs.Kept.{StandsFor}
-use Rattle.homa_kept.specs.Calls.{spot_in, beside, ArePlain, IsDelivery, Leaves}
+use Rattle.homa_kept.specs.Calls.{spot_in, beside, IsSettled, IsDelivery, Leaves}
 use Rattle.homa_trace.specs.Traces.{call_at, lives_in}
 use Rattle.homa_trace.proofs.Places.{place_within, call_at_place}
 use Rattle.homa_trace.proofs.KeepLaws.{stands_now}
@@ -22,8 +22,8 @@ delivered-requires c =
     let x = c.index-call.result.now in
     let here : call_at t id ≡ Some x = call_at_place t.ids.keys t.calls.items id c.args.at c.requires.place
     ∙ (slice_get-get_or t.calls.items c.args.at x (place_within t.ids.keys t.calls.items id c.args.at c.requires.place) ∙ ap (λ z. Some z) (sym c.index-call.ensures)) in
-    let plain : ArePlain (spot_in x (lives_in t id x.server)) = rw here at c.requires.plain in
-    subst (λ (l : Lives). ArePlain (spot_in x l)) (sym c.lives-lives.ensures) plain
+    let settled : IsSettled c.args.packet.now.role (spot_in x (lives_in t id x.server)) = rw here at c.requires.settled in
+    subst (λ (l : Lives). IsSettled c.args.packet.now.role (spot_in x l)) (sym c.lives-lives.ensures) settled
 
 pub returns : goal.returns
 returns c v p y keeps place e has =

@@ -3,7 +3,7 @@ use Rattle.std.specs.Prelude.{slice_get}
 use Rattle.std.proofs.Math.ListN.{length-set}
 use Rattle.std.proofs.lemmas.Option.{slice_get-get_or}
 use Rattle.homa_kept.specs.declared.call.Lives.{Lives}
-use Rattle.homa_kept.specs.Calls.{spot_in, ArePlain}
+use Rattle.homa_kept.specs.Calls.{spot_in, IsSettled}
 use Rattle.homa_trace.specs.Traces.{call_at, lives_in}
 use Rattle.homa_trace.proofs.Places.{place_within, call_at_place, place_stays}
 use Rattle.homa_trace.proofs.TakeLaws.{settled_call, replaced_keeps, here_now}
@@ -30,8 +30,8 @@ returns-clause-kept c v keeps =
     let e = c.in_ok-settle.ensures in
     replaced_keeps v t _ id c.args.at c.settle.new.self keeps c.requires (settled_call v t id x c.settle.new.self c.lives-lives.result keeps here lives e.rest e.spot) refl refl (length-set t.calls.items c.args.at c.settle.new.self)
 
-pub returns-clause-plain : goal.returns-clause-plain
-returns-clause-plain c =
+pub returns-clause-settled : goal.returns-clause-settled
+returns-clause-settled c =
     let t = c.args.self.now in
     let id = c.args.id in
     let d = c.settle.new.self in
@@ -43,7 +43,7 @@ returns-clause-plain c =
     let same : y ≡ x = cc in
     let e = c.in_ok-settle.ensures in
     let lives : c.lives-lives.result ≡ lives_in t id d.server = c.lives-lives.ensures ∙ (ap (λ z. lives_in t id z.server) same ∙ ap (λ z. lives_in t id z.server) (sym e.rest)) in
-    rw (here_now t id c.args.at d c.requires) (subst (λ (l : Lives). ArePlain (spot_in d l)) lives e.plain)
+    rw (here_now t id c.args.at d c.requires) (subst (λ (l : Lives). IsSettled c.args.role (spot_in d l)) lives e.settled)
 
 pub returns-clause-place : goal.returns-clause-place
 returns-clause-place c = place_stays c.args.self.now.ids.keys c.args.self.now.calls.items c.args.id c.args.at c.args.at c.settle.new.self c.requires
