@@ -11,7 +11,7 @@ use driven_host::DrivenHost;
 use homa_io::{Sink, StdSink};
 use homa_plain::{Entry, HostId, Settings};
 use homa_text::put_entry;
-use std::alloc::{AllocError, Global};
+use std::alloc::Global;
 use std::io;
 use std::process::ExitCode;
 
@@ -30,84 +30,72 @@ fn print<K: Sink>(sink: &mut K, host: &DrivenHost) -> Option<()> {
     Some(())
 }
 
-// A host's turn.
-fn turn<K: Sink>(sink: &mut K, host: &mut DrivenHost, now: u64) -> Option<()> {
+// A host in its first life.
+fn open(alloc: Global, hosts: &mut Vec<DrivenHost>, id: HostId) -> Option<()>
+    requires { id.0 < 2 }
+{
+    let host = DrivenHost::open(alloc, id, 1, 0, &Settings::usual()).ok()?;
+    hosts.push(host).ok()
+}
+
+// A host calls service 0 of another one.
+fn call<K: Sink>(
+    alloc: Global,
+    sink: &mut K,
+    hosts: &mut [DrivenHost],
+    client: usize,
+    server: HostId,
+) -> Option<()> {
+    let request = Vec::from_slice(alloc, b"hi").ok()?;
+    let host = hosts.get_mut(client)?;
+    host.call(server, 0, request, 0)?;
+    print(sink, host)
+}
+
+// A host has its turn, at this tick of its clock.
+fn turn<K: Sink>(sink: &mut K, hosts: &mut [DrivenHost], host: usize, now: u64) -> Option<()> {
+    let host = hosts.get_mut(host)?;
     host.turn(now)?;
     print(sink, host)
 }
 
-// Hands the datagram of a host's last step over to the other host, at this tick of its clock.
+// Hands the datagram that a host sent in its last step over to its receiver, at this tick of the receiver's clock.
 fn hand_over<K: Sink>(
     alloc: Global,
     sink: &mut K,
-    from: HostId,
-    sender: &DrivenHost,
-    receiver: &mut DrivenHost,
+    hosts: &mut [DrivenHost],
+    sender: usize,
     now: u64,
 ) -> Option<()> {
-    let out = sender.out();
+    let out = hosts.get(sender)?.out();
     if out.is_empty() {
         return None;
     }
-    receiver.deliver(alloc, from, out.bytes(0), now)?;
-    print(sink, receiver)
-}
-
-// Service 0 of the server answers a request by its bytes.
-fn call<K: Sink>(
-    alloc: Global,
-    sink: &mut K,
-    client: &mut DrivenHost,
-    server: &mut DrivenHost,
-) -> Option<()> {
-    let request = Vec::from_slice(alloc, b"hi").ok()?;
-    client.call(SERVER, 0, request, 0)?;
-    print(sink, client)?;
-    hand_over(alloc, sink, CLIENT, client, server, 0)?;
-    hand_over(alloc, sink, SERVER, server, client, 0)
-}
-
-// The server asks whether its response has come, and forgets the call once it is told so.
-fn acknowledge<K: Sink>(
-    alloc: Global,
-    sink: &mut K,
-    client: &mut DrivenHost,
-    server: &mut DrivenHost,
-) -> Option<()> {
-    turn(sink, server, 4)?;
-    hand_over(alloc, sink, SERVER, server, client, 4)?;
-    hand_over(alloc, sink, CLIENT, client, server, 4)
+    let (from, to) = (out.sender(0), out.receiver(0));
+    let frame = Vec::from_slice(alloc, out.bytes(0)).ok()?;
+    let host = hosts.get_mut(usize::from(to.0))?;
+    host.deliver(alloc, from, &frame, now)?;
+    print(sink, host)
 }
 
 // A call, up to the tick at which nothing is left of it. None where there is no memory, or a line isn't written.
-fn drive<K: Sink>(
-    alloc: Global,
-    sink: &mut K,
-    client: &mut DrivenHost,
-    server: &mut DrivenHost,
-) -> Option<()> {
-    call(alloc, sink, client, server)?;
-    acknowledge(alloc, sink, client, server)?;
-    turn(sink, server, 24)?;
-    turn(sink, server, 25)
-}
-
-// A host of this name in its first life.
-fn open(alloc: Global, id: HostId) -> Result<DrivenHost, AllocError>
-    requires { id.0 < 2 }
-{
-    DrivenHost::open(alloc, id, 1, 0, &Settings::usual())
+fn drive<K: Sink>(alloc: Global, sink: &mut K, hosts: &mut Vec<DrivenHost>) -> Option<()> {
+    open(alloc, hosts, HostId(0))?;
+    open(alloc, hosts, HostId(1))?;
+    call(alloc, sink, hosts, 0, HostId(1))?;
+    hand_over(alloc, sink, hosts, 0, 0)?;
+    hand_over(alloc, sink, hosts, 1, 0)?;
+    turn(sink, hosts, 1, 4)?;
+    hand_over(alloc, sink, hosts, 1, 4)?;
+    hand_over(alloc, sink, hosts, 0, 4)?;
+    turn(sink, hosts, 1, 24)?;
+    turn(sink, hosts, 1, 25)
 }
 
 fn main(rt: HostRuntime) -> ExitCode {
     let mut sink = StdSink::new(io::writer(&rt));
-    let Ok(mut client) = open(rt.alloc(), CLIENT) else {
-        return ExitCode::from(1);
-    };
-    let Ok(mut server) = open(rt.alloc(), SERVER) else {
-        return ExitCode::from(1);
-    };
-    match drive(rt.alloc(), &mut sink, &mut client, &mut server) {
+    let mut hosts = Vec::new(rt.alloc());
+    match drive(rt.alloc(), &mut sink, &mut hosts) {
         Some(()) => ExitCode::from(0),
         None => ExitCode::from(1),
     }
