@@ -1,4 +1,7 @@
 // A host with so many rows, and deliveries for them.
+ghost use Rattle.std.specs.Prelude.{◌≡◌, ◌<◌};
+ghost use Rattle.homa_plain.specs.Settings.{IsValid};
+
 use crate::frames::{frame, piece};
 use crate::kind::Kind;
 use driven_host::DrivenHost;
@@ -20,6 +23,23 @@ pub(crate) struct Told {
     pub frames: u64,
 }
 
+impl Told {
+    // Nothing so far.
+    fn nothing() -> Told {
+        Told {
+            entries: 0,
+            frames: 0,
+        }
+    }
+
+    // A host's last step too.
+    fn add(&mut self, host: &DrivenHost) {
+        let (entries, frames) = (host.host().entries(), host.out().len());
+        self.entries = self.entries.saturating_add(entries as u64);
+        self.frames = self.frames.saturating_add(frames as u64);
+    }
+}
+
 // A datagram of a peer.
 #[derive(Debug, Drop)]
 struct Sent {
@@ -28,7 +48,10 @@ struct Sent {
 }
 
 // Messages of three bytes, of which one is granted at a time; rows that rest for a thousand ticks.
-fn settings() -> Settings {
+fn settings() -> Settings
+    ensures valid { IsValid result }
+    ensures hosts { result.hosts ≡ 8 }
+{
     Settings {
         hosts: 8,
         window: 1,
@@ -47,11 +70,7 @@ fn peer(row: u32) -> HostId {
 
 // A host with a row for each number below `rows`.
 fn filled(alloc: Global, kind: Kind, rows: u32) -> Option<DrivenHost> {
-    let settings = settings();
-    if settings.check().is_err() {
-        return None;
-    }
-    let mut host = DrivenHost::open(alloc, HOST, 1, 0, &settings).ok()?;
+    let mut host = DrivenHost::open(alloc, HOST, 1, 0, &settings()).ok()?;
     for row in 0..rows {
         if kind.is_served() {
             let length = if let Kind::Ack = kind { 1 } else { 3 };
@@ -96,42 +115,31 @@ fn hand_over(
     packets: &[Sent],
     rounds: u32,
 ) -> Option<Told> {
-    let mut told = Told {
-        entries: 0,
-        frames: 0,
-    };
-    let mut next = 0;
-    for _ in 0..rounds {
-        let Sent { from, bytes } = packets.get(next)?;
+    let mut told = Told::nothing();
+    for i in 0..rounds {
+        if packets.is_empty() {
+            return None;
+        }
+        let Sent { from, bytes } = &packets[i as usize % packets.len()];
         let now = match kind {
             Kind::Unknown => 0,
-            _ => host.host().last() + 1,
+            _ => host.host().last().saturating_add(1),
         };
         host.deliver(alloc, *from, bytes, now)?;
-        told.entries += host.host().entries() as u64;
-        told.frames += host.out().len() as u64;
-        next = if next + 1 < packets.len() {
-            next + 1
-        } else {
-            0
-        };
+        told.add(host);
     }
     Some(told)
 }
 
 // So many times the oldest call is done, and another one is made.
 fn finish_calls(alloc: Global, host: &mut DrivenHost, rows: u32, rounds: u32) -> Option<Told> {
-    let mut told = Told {
-        entries: 0,
-        frames: 0,
-    };
+    let mut told = Told::nothing();
     for done in 0..rounds {
         let bytes = frame(alloc, Kind::Done, done).ok()?;
         host.deliver(alloc, peer(done), &bytes, 0)?;
-        told.entries += host.host().entries() as u64;
-        told.frames += host.out().len() as u64;
+        told.add(host);
         let request = Vec::from_slice(alloc, &REQUEST).ok()?;
-        host.call(peer(done + rows), 0, request, 0)?;
+        host.call(peer(done.checked_add(rows)?), 0, request, 0)?;
     }
     Some(told)
 }
