@@ -6,5 +6,7 @@
 #![tactic(auto)]
 
 mod driven;
+#[cfg(test)]
+mod tests;
 
 pub use driven::DrivenHost;
