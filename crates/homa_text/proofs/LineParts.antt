@@ -1,7 +1,7 @@
 -- The lines of packets, by the parts that are added one after another.
 use Rattle.std.proofs.Common.{◌≡◌, ℕ, List, [], ◌∷◌, ◌++◌, codes, decimal, refl, ap, sym, ◌∙◌, append_assoc}
 use Rattle.std.specs.List.{join_with_byte}
-use Rattle.homa_plain.specs.Entries.{PlainCall, PlainInject, PlainRun, PlainDone}
+use Rattle.homa_plain.specs.Entries.{PlainCall, PlainInject, PlainRun, PlainDone, PlainBury, PlainFree}
 use Rattle.homa_plain.specs.Text.{line_text, line_of_words, hex_word, route_word, role_word, id_word, ack_word}
 use Rattle.homa_plain.specs.declared.id.CallId.{CallId}
 use Rattle.homa_plain.specs.declared.id.HostId.{HostId}
@@ -84,3 +84,17 @@ done_text id bytes = sym (line_spread (codes "done") (id_word id ∷ hex_word by
 pub inject_text : (host : HostId) (bytes : List ℕ) → codes "inject" ++ ((32 ∷ decimal host.0) ++ ((32 ∷ hex_word bytes) ++ 10 ∷ [])) ≡ line_text (PlainInject host bytes)
 unfolding line_text
 inject_text host bytes = sym (line_spread (codes "inject") (decimal host.0 ∷ hex_word bytes ∷ []))
+
+four_spread : (a b c d e : List ℕ) → (((a ++ b) ++ c) ++ d) ++ e ≡ a ++ (b ++ (c ++ (d ++ e)))
+four_spread a b c d e = simp append_assoc
+
+pub bury_text : (host : HostId) (id : CallId) (until : ℕ)
+    → (((codes "bury" ++ (32 ∷ decimal host.0)) ++ (32 ∷ id_word id)) ++ (32 ∷ decimal until)) ++ 10 ∷ [] ≡ line_text (PlainBury host id until)
+unfolding line_text
+bury_text host id until =
+    four_spread (codes "bury") (32 ∷ decimal host.0) (32 ∷ id_word id) (32 ∷ decimal until) (10 ∷ [])
+    ∙ sym (line_spread (codes "bury") (decimal host.0 ∷ id_word id ∷ decimal until ∷ []))
+
+pub free_text : (host : HostId) (id : CallId) → codes "free" ++ ((32 ∷ decimal host.0) ++ ((32 ∷ id_word id) ++ 10 ∷ [])) ≡ line_text (PlainFree host id)
+unfolding line_text
+free_text host id = sym (line_spread (codes "free") (decimal host.0 ∷ id_word id ∷ []))

@@ -1,5 +1,5 @@
 // Lines that are written: the frequent ones at once, any other word by word through a buffer.
-ghost use Rattle.std.specs.Prelude.{◌≡◌, ◌≤◌, ◌+◌, ◌++◌, ◌∷◌, [], length, map, OnOk, OnErr};
+ghost use Rattle.std.specs.Prelude.{◌≡◌, ◌≤◌, ◌+◌, ◌*◌, ◌++◌, ◌∷◌, [], true, length, map, OnOk, OnErr};
 ghost use Rattle.std.specs.List.{flat_map};
 ghost use Rattle.hex.specs.Hex.{encode_lower};
 ghost use Rattle.homa_io.specs.Outside.{HasRisen, appended, TookFront};
@@ -14,14 +14,18 @@ use crate::Word;
 use crate::adding::write_digits;
 use crate::entry_words::words_of_entry;
 use crate::quick::{Head, Piece, ShortLine, clock_line, deliver_line, grant_line, piece_line};
-use crate::quick_calls::{call_line, done_line, inject_line, junk_line, run_line};
+use crate::quick_calls::{
+    bury_line, call_line, done_line, free_line, inject_line, junk_line, run_line,
+};
 use crate::written::{call_text, id_text, number_text, route_text};
 use arrayvec::ArrayVec;
 use homa_io::{Sink, WriteFailed, write_all};
 use homa_plain::{Body, CallId, Entry, HostId};
 
-// How many bytes of a line are held before a write: of a line of numbers, of a short line, and of any other.
+// How many bytes of a line are held before a write: of a line of numbers, of few bytes, of a short line, and of any other.
 const TINY: usize = 256;
+
+const SMALL: usize = 1024;
 
 const SHORT: usize = 4096;
 
@@ -34,7 +38,7 @@ const MOST_PAYLOAD: usize = 1400;
 const FEW: usize = 350;
 
 // Room for the line of few bytes.
-type FewLine = ArrayVec<u8, 1024>;
+type FewLine = ArrayVec<u8, SMALL>;
 
 // The bytes of a line that aren't written yet.
 type Held<const N: usize> = ArrayVec<u8, N>;
@@ -274,6 +278,28 @@ fn put_grant<K: Sink>(
     write_all(sink, text.as_slice())
 }
 
+// Writes the line of a piece through room for so many bytes. A function has one room at most: room is filled with zeros
+// where its function begins, whether it is used or not.
+fn put_piece_in<K: Sink, const N: usize>(
+    sink: &mut K,
+    head: Head,
+    piece: Piece,
+    payload: &[u8],
+) -> Result<(), WriteFailed>
+    requires room { 2 * length payload.now + 312 ≤ N }
+    requires small { N ≤ 4096 }
+    ensures ok { OnOk result (K.taken sink.new ≡ appended (K.taken sink.old) (line_text (piece_sent head piece payload.now))) }
+    ensures err { OnErr result (TookFront (K.taken sink.old) (K.taken sink.new) (line_text (piece_sent head piece payload.now))) }
+    ensures risen { OnErr result (HasRisen (K.faults sink.old) (K.faults sink.new)) }
+    ensures quiet { OnOk result (K.faults sink.new ≡ K.faults sink.old) }
+    ensures never_falls { K.faults sink.old ≤ K.faults sink.new }
+    ensures same { K.is_same sink.old sink.new }
+{
+    let mut text = Held::<N>::new();
+    piece_line(&mut text, head, piece, payload);
+    write_all(sink, text.as_slice())
+}
+
 // Writes the line of a piece.
 fn put_piece<K: Sink>(
     sink: &mut K,
@@ -290,13 +316,9 @@ fn put_piece<K: Sink>(
     ensures same { K.is_same sink.old sink.new }
 {
     if payload.len() <= FEW {
-        let mut text = FewLine::new();
-        piece_line(&mut text, head, piece, payload);
-        return write_all(sink, text.as_slice());
+        return put_piece_in::<K, SMALL>(sink, head, piece, payload);
     }
-    let mut text = Held::<SHORT>::new();
-    piece_line(&mut text, head, piece, payload);
-    write_all(sink, text.as_slice())
+    put_piece_in::<K, SHORT>(sink, head, piece, payload)
 }
 
 // Writes the line of a call that starts.
@@ -406,6 +428,38 @@ fn put_messages<K: Sink>(sink: &mut K, entry: &Entry<'_>) -> Result<(), WriteFai
     }
 }
 
+// Makes a text the line of an entry of a few numbers. False where it is another entry.
+fn add_few(text: &mut ShortLine, entry: &Entry<'_>) -> bool
+    requires { text.old.items ≡ [] }
+    ensures { result ≡ true → text.new.items ≡ line_text (plain entry.now) }
+{
+    match *entry {
+        Entry::Clock { tick } => clock_line(text, tick),
+        Entry::Deliver { packet } => deliver_line(text, packet),
+        Entry::Junk { host } => junk_line(text, host),
+        Entry::Bury { host, id, until } => bury_line(text, host, id, until),
+        Entry::Free { host, id } => free_line(text, host, id),
+        _ => return false,
+    }
+    true
+}
+
+// Writes the line of an entry of numbers and words.
+fn put_few<K: Sink>(sink: &mut K, entry: &Entry<'_>) -> Result<(), WriteFailed>
+    ensures ok { OnOk result (K.taken sink.new ≡ appended (K.taken sink.old) (line_text (plain entry.now))) }
+    ensures err { OnErr result (TookFront (K.taken sink.old) (K.taken sink.new) (line_text (plain entry.now))) }
+    ensures risen { OnErr result (HasRisen (K.faults sink.old) (K.faults sink.new)) }
+    ensures quiet { OnOk result (K.faults sink.new ≡ K.faults sink.old) }
+    ensures never_falls { K.faults sink.old ≤ K.faults sink.new }
+    ensures same { K.is_same sink.old sink.new }
+{
+    let mut text = ShortLine::new();
+    if add_few(&mut text, entry) {
+        return write_all(sink, text.as_slice());
+    }
+    put_words_of(sink, entry)
+}
+
 // Writes the line of an entry that isn't a packet.
 fn put_other<K: Sink>(sink: &mut K, entry: &Entry<'_>) -> Result<(), WriteFailed>
     ensures ok { OnOk result (K.taken sink.new ≡ appended (K.taken sink.old) (line_text (plain entry.now))) }
@@ -416,22 +470,10 @@ fn put_other<K: Sink>(sink: &mut K, entry: &Entry<'_>) -> Result<(), WriteFailed
     ensures same { K.is_same sink.old sink.new }
 {
     match *entry {
-        Entry::Clock { tick } => {
-            let mut text = ShortLine::new();
-            clock_line(&mut text, tick);
-            write_all(sink, text.as_slice())
+        Entry::Call { .. } | Entry::Run { .. } | Entry::Done { .. } | Entry::Inject { .. } => {
+            put_messages(sink, entry)
         }
-        Entry::Deliver { packet } => {
-            let mut text = ShortLine::new();
-            deliver_line(&mut text, packet);
-            write_all(sink, text.as_slice())
-        }
-        Entry::Junk { host } => {
-            let mut text = ShortLine::new();
-            junk_line(&mut text, host);
-            write_all(sink, text.as_slice())
-        }
-        _ => put_messages(sink, entry),
+        _ => put_few(sink, entry),
     }
 }
 

@@ -1,7 +1,7 @@
 // Lines of calls and of datagrams that are injected, with few bytes, straight into one buffer.
 ghost use Rattle.std.specs.Prelude.{◌∷◌, ◌≡◌, ◌≤◌, ◌+◌, ◌*◌, ◌++◌, [], length};
 ghost use Rattle.homa_plain.specs.Text.{host_word, id_word, hex_word, line_text};
-ghost use Rattle.homa_plain.specs.Entries.{PlainCall, PlainInject, PlainJunk, PlainRun, PlainDone};
+ghost use Rattle.homa_plain.specs.Entries.{PlainCall, PlainInject, PlainJunk, PlainRun, PlainDone, PlainBury, PlainFree};
 ghost use Rattle.arrayvec.specs.ArrayVec.{array_vec_len};
 
 use crate::adding::{add, add_number};
@@ -117,5 +117,28 @@ pub(crate) fn junk_line(text: &mut ShortLine, host: HostId)
 {
     add(text, b"junk ");
     add_number(text, u64::from(host.0));
+    add(text, b"\n");
+}
+
+/// A server keeps nothing of a call but that it ran, up to a tick.
+pub(crate) fn bury_line(text: &mut ShortLine, host: HostId, id: CallId, until: u64)
+    requires { text.old.items ≡ [] }
+    ensures { text.new.items ≡ line_text (PlainBury host id until) }
+{
+    add(text, b"bury");
+    add_spaced_host(text, host);
+    add_spaced_id(text, id);
+    add_spaced(text, until);
+    add(text, b"\n");
+}
+
+/// A server forgets that a call ran.
+pub(crate) fn free_line(text: &mut ShortLine, host: HostId, id: CallId)
+    requires { text.old.items ≡ [] }
+    ensures { text.new.items ≡ line_text (PlainFree host id) }
+{
+    add(text, b"free");
+    add_spaced_host(text, host);
+    add_spaced_id(text, id);
     add(text, b"\n");
 }
