@@ -1,5 +1,5 @@
 -- Lines with and without their feed.
-use Rattle.std.proofs.Common.{◌≡◌, ℕ, Bool, true, false, List, [], ◌∷◌, ◌++◌, refl, ap, ◌⊎◌, inl, inr, arith}
+use Rattle.std.proofs.Common.{◌≡◌, ◌<◌, ℕ, suc, Bool, true, false, List, [], ◌∷◌, ◌++◌, length, get_or, refl, ap, ◌⊎◌, inl, inr, arith}
 use Rattle.std.specs.Prelude.{◌==◌, if◌then◌else◌}
 use Rattle.std.proofs.lemmas.Bool.Decides.{nat_tests}
 use Rattle.homa_plain.specs.Input.{without_feed, has_no_feed, ends_in_feed}
@@ -28,9 +28,23 @@ ends_in_feed-feed [] h = refl
 ends_in_feed-feed (x ∷ []) h = feed_step (x == 10) [] (10 ∷ []) h (λ k. refl)
 ends_in_feed-feed (x ∷ y ∷ ys) h = feed_step (x == 10) (y ∷ ys) (y ∷ ys ++ 10 ∷ []) h (λ k. ends_in_feed-feed (y ∷ ys) k)
 
+no_feed : (t : Bool) (xs : List ℕ) → (t ≡ true → ⊥) → has_no_feed xs ≡ true → (if t then false else has_no_feed xs) ≡ true
+no_feed true xs other h = absurd (other refl)
+no_feed false xs other h = h
+
+-- none of the bytes is a line feed
+pub has_no_feed-nowhere : (xs : List ℕ) → ((k : ℕ) → k < length xs → get_or xs k 0 == 10 ≡ true → ⊥) → has_no_feed xs ≡ true
+has_no_feed-nowhere [] h = refl
+has_no_feed-nowhere (x ∷ xs) h = no_feed (x == 10) xs (h 0 (omega arith)) (has_no_feed-nowhere xs (λ k l. h (suc k) (omega arith)))
+
 step : (t : Bool) (bytes more : List ℕ) → (if t then false else has_no_feed bytes) ≡ true → (has_no_feed bytes ≡ true → has_no_feed more ≡ true) → (if t then false else has_no_feed more) ≡ true
 step true bytes more h f = cc
 step false bytes more h f = f h
+
+-- bytes behind one another
+pub has_no_feed-append : (xs ys : List ℕ) → has_no_feed xs ≡ true → has_no_feed ys ≡ true → has_no_feed (xs ++ ys) ≡ true
+has_no_feed-append [] ys h k = k
+has_no_feed-append (x ∷ xs) ys h k = step (x == 10) xs (xs ++ ys) h (λ j. has_no_feed-append xs ys j k)
 
 one : (b : ℕ) (t : Bool) → (b == 10) ≡ t → (b ≡ 10 → ⊥) → (if t then false else true) ≡ true
 one b true e other = absurd (other (grind (arith, nat_tests)))

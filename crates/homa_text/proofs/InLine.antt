@@ -1,87 +1,84 @@
--- A line that is taken byte by byte.
-use Rattle.std.proofs.Common.{◌≡◌, ◌<◌, ◌≤◌, ℕ, ◌+◌, add-zero, arith, List, [], ◌∷◌, ◌++◌, length, take, set, refl, sym, ap, ◌∙◌, subst, length-append, inl, inr, ◌⊎◌}
+-- A line that is taken in parts.
+use Rattle.std.proofs.Common.{◌≡◌, ◌<◌, ◌≤◌, ℕ, ◌+◌, ◌-◌, true, add-zero, arith, List, [], ◌∷◌, ◌++◌, length, take, drop, refl, sym, ap, ◌∙◌, subst, length-append, inl, inr, ◌⊎◌}
 use Rattle.std.proofs.lemmas.Bool.{cases_lt}
-use Rattle.std.proofs.lemmas.List.{take_more_set, set_past, length-set, take-append-le, take_all, append-nil}
-use Rattle.std.proofs.Math.Seq.{take-nil}
+use Rattle.std.proofs.lemmas.List.{length-take-le, take-append-le, take_all, append-nil}
+use Rattle.std.proofs.Math.Seq.{take-nil, take-append-add}
 use Rattle.homa_io.specs.Outside.{IsAtEnd}
+use Rattle.homa_plain.specs.Input.{has_no_feed}
 use Rattle.homa_text.specs.Rest.{Rest, Takes, TakesSome}
 use Rattle.homa_text.specs.Scan.{IsInLine, IsWhole}
-use Rattle.homa_text.proofs.Feeds.{has_no_feed-push}
-use Rattle.homa_text.proofs.Taking.{takes_none, takes_on}
+use Rattle.homa_text.proofs.Feeds.{has_no_feed-append}
+use Rattle.homa_text.proofs.Taking.{takes_none, takes_on, takes_front, takes_behind, takes_first}
 
 -- no byte was taken yet
-pub in_line_start : (rest : Rest) (line : List ℕ) → IsInLine rest rest line 0 []
-in_line_start rest line = record { bytes = []; taken = takes_none rest.pending rest.left rest.left refl; one_line = refl; count = refl; kept = sym (take-nil (length line)) }
+pub in_line_start : (rest : Rest) (room : ℕ) (line : List ℕ) → line ≡ [] → IsInLine rest rest room line 0 []
+in_line_start rest room line none = record { bytes = []; taken = takes_none rest.pending rest.left rest.left refl; one_line = refl; count = refl; kept = none ∙ sym (take-nil room) }
 
--- any byte follows
-pub in_line_then : (old mid new : Rest) (line : List ℕ) (n b : ℕ) → IsInLine old mid line n [] → Takes mid new (b ∷ []) → IsInLine old new line n (b ∷ [])
-in_line_then old mid new line n b so_far next = record {
+-- any bytes follow
+pub in_line_then : (old mid new : Rest) (room : ℕ) (line : List ℕ) (n : ℕ) (last : List ℕ) → IsInLine old mid room line n [] → Takes mid new last → IsInLine old new room line n last
+in_line_then old mid new room line n last so_far next = record {
   bytes = so_far.bytes;
-  taken = subst (λ (xs : List ℕ). Takes old new (xs ++ b ∷ [])) (append-nil so_far.bytes) (takes_on old mid new (so_far.bytes ++ []) (b ∷ []) so_far.taken next);
+  taken = subst (λ (xs : List ℕ). Takes old new (xs ++ last)) (append-nil so_far.bytes) (takes_on old mid new (so_far.bytes ++ []) last so_far.taken next);
   one_line = so_far.one_line;
   count = so_far.count;
   kept = so_far.kept;
 }
 
 -- as much of the line is kept as there is room for
-kept_more : (line bytes : List ℕ) (n b : ℕ) → length bytes ≡ n → take n line ≡ take (length line) bytes → (n < length line) ⊎ (length line ≤ n) → take (n + 1) (set line n b) ≡ take (length (set line n b)) (bytes ++ b ∷ [])
-kept_more line bytes n b c k (inl h) =
-    take_more_set line n b h
-    ∙ (ap (λ (xs : List ℕ). xs ++ b ∷ []) (k ∙ take_all (length line) bytes (omega arith))
-    ∙ sym (take_all (length (set line n b)) (bytes ++ b ∷ []) (omega (arith, length-set line n b, length-append bytes (b ∷ [])))))
-kept_more line bytes n b c k (inr h) =
-    let same = set_past line n b h in
-    let all : take n line ≡ line = take_all n line h in
-    rw same (take_all (n + 1) line (omega arith) ∙ (sym all ∙ (k ∙ sym (take-append-le (length line) bytes (b ∷ []) (omega arith)))))
+kept_more : (room : ℕ) (bytes more : List ℕ) → (room < length bytes) ⊎ (length bytes ≤ room) → take room bytes ++ take (room - length (take room bytes)) more ≡ take room (bytes ++ more)
+kept_more room bytes more (inl h) =
+    let none : room - length (take room bytes) ≡ 0 = omega (arith, length-take-le room bytes (omega arith)) in
+    rw none (append-nil (take room bytes) ∙ sym (take-append-le room bytes more (omega arith)))
+kept_more room bytes more (inr h) =
+    let sum : length bytes + (room - length bytes) ≡ room = omega arith in
+    rw (take_all room bytes h) (sym (take-append-add bytes more (room - length bytes)) ∙ ap (λ (k : ℕ). take k (bytes ++ more)) sum)
 
--- a byte that is no line feed stands in the line
-pub in_line_more : (old new : Rest) (line : List ℕ) (n b : ℕ) → IsInLine old new line n (b ∷ []) → (b ≡ 10 → ⊥) → IsInLine old new (set line n b) (n + 1) []
-in_line_more old new line n b so_far other = record {
-  bytes = so_far.bytes ++ b ∷ [];
-  taken = subst (λ (xs : List ℕ). Takes old new xs) (sym (append-nil (so_far.bytes ++ b ∷ []))) so_far.taken;
-  one_line = has_no_feed-push so_far.bytes b so_far.one_line other;
-  count = length-append so_far.bytes (b ∷ []) ∙ ap (λ (k : ℕ). k + 1) so_far.count;
-  kept = kept_more line so_far.bytes n b so_far.count so_far.kept (cases_lt n (length line));
-}
+kept_on : (room : ℕ) (line bytes more : List ℕ) → line ≡ take room bytes → line ++ take (room - length line) more ≡ take room (bytes ++ more)
+kept_on room line bytes more is = rw is (kept_more room bytes more (cases_lt room (length bytes)))
 
--- nothing follows
-in_line_none : (old mid new : Rest) (line : List ℕ) (n : ℕ) → IsInLine old mid line n [] → Takes mid new [] → IsInLine old new line n []
-in_line_none old mid new line n so_far next = record {
-  bytes = so_far.bytes;
-  taken = subst (λ (xs : List ℕ). Takes old new xs) (append-nil (so_far.bytes ++ [])) (takes_on old mid new (so_far.bytes ++ []) [] so_far.taken next);
-  one_line = so_far.one_line;
-  count = so_far.count;
-  kept = so_far.kept;
-}
+-- k pending bytes, of which none is a line feed, are taken, and kept where there is room
+pub in_line_more : (old mid : Rest) (room : ℕ) (line : List ℕ) (n k : ℕ) (more : List ℕ) → IsInLine old mid room line n [] → has_no_feed (take k mid.pending) ≡ true → k ≤ length mid.pending → more ≡ line ++ take (room - length line) (take k mid.pending)
+    → IsInLine old (record { pending = drop k mid.pending; left = mid.left }) room more (n + k) []
+in_line_more old mid room line n k more so_far none fits is =
+    let part = take k mid.pending in
+    let then = in_line_then old mid (record { pending = drop k mid.pending; left = mid.left }) room line n part so_far (takes_front mid.pending k mid.left) in record {
+      bytes = then.bytes ++ part;
+      taken = subst (λ (xs : List ℕ). Takes old (record { pending = drop k mid.pending; left = mid.left }) xs) (sym (append-nil (then.bytes ++ part))) then.taken;
+      one_line = has_no_feed-append then.bytes part then.one_line none;
+      count = omega (arith, length-append then.bytes part, then.count, length-take-le k mid.pending fits);
+      kept = is ∙ kept_on room line then.bytes part then.kept;
+    }
 
 -- a read failed behind these bytes
-pub in_line_stops : (old mid new : Rest) (line : List ℕ) (n : ℕ) → IsInLine old mid line n [] → Takes mid new [] → TakesSome old new
-in_line_stops old mid new line n so_far next = let stopped = in_line_none old mid new line n so_far next in (stopped.bytes ++ [], stopped.taken)
+pub in_line_stops : (old mid new : Rest) (room : ℕ) (line : List ℕ) (n : ℕ) → IsInLine old mid room line n [] → Takes mid new [] → TakesSome old new
+in_line_stops old mid new room line n so_far next = let stopped = in_line_then old mid new room line n [] so_far next in (stopped.bytes ++ [], stopped.taken)
 
 -- the input ends behind them
-pub whole_end : (old mid new : Rest) (line : List ℕ) (n most : ℕ) → IsInLine old mid line n [] → Takes mid new [] → (new.pending ≡ []) × IsAtEnd new.left → n ≤ most → IsWhole old new line n n × (n ≤ most)
-whole_end old mid new line n most so_far next at_end within = (
+pub whole_end : (old mid new : Rest) (room : ℕ) (line : List ℕ) (n most : ℕ) → IsInLine old mid room line n [] → Takes mid new [] → new.pending ≡ [] → IsAtEnd new.left → n ≤ most → IsWhole old new room line n n × (n ≤ most)
+whole_end old mid new room line n most so_far next none_pending none_left within = (
   record {
     last = [];
-    in_line = in_line_none old mid new line n so_far next;
-    ended = inr (refl, record { none_pending = at_end.0; none_left = at_end.1 });
+    in_line = in_line_then old mid new room line n [] so_far next;
+    ended = inr (refl, record { none_pending = none_pending; none_left = none_left });
     total = add-zero n;
   },
   within,
 )
 
--- their line feed follows
-pub whole_feed : (old mid new : Rest) (line : List ℕ) (n most : ℕ) → IsInLine old mid line n [] → Takes mid new (10 ∷ []) → n < most → IsWhole old new line n (n + 1) × (n + 1 ≤ most)
-whole_feed old mid new line n most so_far next within = (
+-- their line feed is pending
+pub whole_feed : (old mid : Rest) (pending : List ℕ) (room : ℕ) (line : List ℕ) (n most : ℕ) → IsInLine old mid room line n [] → mid.pending ≡ 10 ∷ pending → n < most → IsWhole old (record { pending = pending; left = mid.left }) room line n (n + 1) × (n + 1 ≤ most)
+whole_feed old mid pending room line n most so_far is within = (
   record {
     last = 10 ∷ [];
-    in_line = in_line_then old mid new line n 10 so_far next;
+    in_line = in_line_then old mid (record { pending = pending; left = mid.left }) room line n (10 ∷ []) so_far (takes_behind mid.pending 10 pending mid.left is);
     ended = inl refl;
     total = refl;
   },
   omega arith,
 )
 
--- one byte more than `most` follows
-pub in_line_over : (old mid new : Rest) (line : List ℕ) (n most b : ℕ) → IsInLine old mid line n [] → Takes mid new (b ∷ []) → n ≡ most → (x : ℕ) × IsInLine old new line most (x ∷ [])
-in_line_over old mid new line n most b so_far next all = (b, subst (λ (k : ℕ). IsInLine old new line k (b ∷ [])) all (in_line_then old mid new line n b so_far next))
+-- one byte more than `most` is pending
+pub in_line_over : (old mid : Rest) (room : ℕ) (line : List ℕ) (n most : ℕ) → IsInLine old mid room line n [] → 0 < length mid.pending → n ≡ most → (b : ℕ) × IsInLine old (record { pending = drop 1 mid.pending; left = mid.left }) room line most (b ∷ [])
+in_line_over old mid room line n most so_far some all =
+    let next = takes_first mid.pending mid.left some in
+    (next.0, subst (λ (k : ℕ). IsInLine old (record { pending = drop 1 mid.pending; left = mid.left }) room line k (next.0 ∷ [])) all (in_line_then old mid (record { pending = drop 1 mid.pending; left = mid.left }) room line n (next.0 ∷ []) so_far next.1))

@@ -3,6 +3,7 @@ pub mod Digits
 pub mod Taking
 pub mod InLine
 pub mod Feeds
+pub mod BeforeFeed
 pub mod NextLine
 pub mod Putting
 pub mod Texts

@@ -1,7 +1,6 @@
 -- What the next line is, from what a scan found.
-use Rattle.std.proofs.Common.{◌≡◌, ◌<◌, ◌≤◌, ℕ, ◌+◌, arith, true, Option, List, [], ◌∷◌, ◌++◌, Vec, Global, length, take, sym, ap, ◌∙◌, length-append, inl, inr, ◌⊎◌}
-use Rattle.std.proofs.lemmas.List.{with_items_is, take_all, append-nil}
-use Rattle.std.specs.Vec.{with_items}
+use Rattle.std.proofs.Common.{◌≡◌, ◌<◌, ◌≤◌, ℕ, ◌+◌, arith, true, Option, List, [], ◌∷◌, ◌++◌, length, sym, ap, ◌∙◌, length-append, inl, inr, ◌⊎◌}
+use Rattle.std.proofs.lemmas.List.{take_all, append-nil}
 use Rattle.homa_io.specs.Outside.{unread, IsAtEnd}
 use Rattle.homa_plain.specs.Input.{without_feed, has_no_feed, ends_in_feed}
 use Rattle.homa_text.specs.Rest.{Rest}
@@ -19,10 +18,6 @@ rest reading left = record { pending = reading.pending; left = left }
 abbrev pub Next : Reading → Reading → Option (List ℕ) → Option (List ℕ) → LineGot → Type 0
 Next old new before now got = (came : List ℕ) × (before ≡ unread came now) × IsNext old new came (IsAtEnd now) got
 
--- what a vector has after a write through its slice
-pub same_items : (v : Vec ℕ Global) (ws : List ℕ) → length ws ≡ length v.items → (with_items v ws).items ≡ ws
-same_items v ws h = with_items_is v ws (h ∙ sym v.ok.0)
-
 whole : (new : Rest) (bytes last : List ℕ) → has_no_feed bytes ≡ true → 0 < length (bytes ++ last) → (last ≡ 10 ∷ []) ⊎ ((last ≡ []) × IsEnded new) → (ends_in_feed (bytes ++ last) ≡ true) ⊎ ((has_no_feed (bytes ++ last) ≡ true) × (0 < length (bytes ++ last)) × (new.pending ≡ []) × IsAtEnd new.left)
 whole new bytes last h some (inl e) = inl (rw e (ends_in_feed-feed bytes h))
 whole new bytes last h some (inr (e, ended)) = inr (rw (e, append-nil) h, some, ended.none_pending, ended.none_left)
@@ -31,8 +26,8 @@ text : (new : Rest) (bytes last : List ℕ) → has_no_feed bytes ≡ true → (
 text new bytes last h (inl e) = rw e (without_feed-feed bytes h)
 text new bytes last h (inr (e, ended)) = rw (e, append-nil) (without_feed-none bytes h)
 
-takes_line : (old new : Reading) (before now : Option (List ℕ)) (line : List ℕ) (n size : ℕ) (w : IsWhole (rest old before) (rest new now) line n size) → 0 < size → new.read ≡ old.read + size → new.read ≤ old.limit → TakesLine old new w.in_line.taken.came (w.in_line.bytes ++ w.last) (IsAtEnd now)
-takes_line old new before now line n size w some read within =
+takes_line : (old new : Reading) (before now : Option (List ℕ)) (room : ℕ) (line : List ℕ) (n size : ℕ) (w : IsWhole (rest old before) (rest new now) room line n size) → 0 < size → new.read ≡ old.read + size → new.read ≤ old.limit → TakesLine old new w.in_line.taken.came (w.in_line.bytes ++ w.last) (IsAtEnd now)
+takes_line old new before now room line n size w some read within =
     let total : length (w.in_line.bytes ++ w.last) ≡ size = omega (arith, length-append w.in_line.bytes w.last, w.in_line.count, w.total) in record {
       bytes = w.in_line.taken.bytes;
       whole = whole (rest new now) w.in_line.bytes w.last w.in_line.one_line (omega arith) w.ended;
@@ -41,39 +36,39 @@ takes_line old new before now line n size w some read within =
     }
 
 -- a line that isn't too long
-pub is_line : (old new : Reading) (before now : Option (List ℕ)) (line : List ℕ) (n size : ℕ) → IsWhole (rest old before) (rest new now) line n size → 0 < size → new.read ≡ old.read + size → new.read ≤ old.limit → n ≤ old.longest → n ≤ length line → new.line ≡ take n line → Next old new before now Line
-is_line old new before now line n size w some read within short fits kept =
+pub is_line : (old new : Reading) (before now : Option (List ℕ)) (n size : ℕ) → IsWhole (rest old before) (rest new now) old.longest new.line n size → 0 < size → new.read ≡ old.read + size → new.read ≤ old.limit → n ≤ old.longest → Next old new before now Line
+is_line old new before now n size w some read within short =
     let same = text (rest new now) w.in_line.bytes w.last w.in_line.one_line w.ended in (
       w.in_line.taken.came,
       w.in_line.taken.source,
       (
         w.in_line.bytes ++ w.last,
         record {
-          taken = takes_line old new before now line n size w some read within;
+          taken = takes_line old new before now old.longest new.line n size w some read within;
           short = omega (arith, ap length same, w.in_line.count);
-          kept = kept ∙ (w.in_line.kept ∙ (take_all (length line) w.in_line.bytes (omega (arith, w.in_line.count)) ∙ sym same));
+          kept = w.in_line.kept ∙ (take_all old.longest w.in_line.bytes (omega (arith, w.in_line.count)) ∙ sym same);
         },
       ),
     )
 
 -- a line that is too long
-pub is_long : (old new : Reading) (before now : Option (List ℕ)) (line : List ℕ) (n size : ℕ) → IsWhole (rest old before) (rest new now) line n size → 0 < size → new.read ≡ old.read + size → new.read ≤ old.limit → old.longest < n → Next old new before now Long
-is_long old new before now line n size w some read within long =
+pub is_long : (old new : Reading) (before now : Option (List ℕ)) (room : ℕ) (line : List ℕ) (n size : ℕ) → IsWhole (rest old before) (rest new now) room line n size → 0 < size → new.read ≡ old.read + size → new.read ≤ old.limit → old.longest < n → Next old new before now Long
+is_long old new before now room line n size w some read within long =
     let same = text (rest new now) w.in_line.bytes w.last w.in_line.one_line w.ended in (
       w.in_line.taken.came,
       w.in_line.taken.source,
       (
         w.in_line.bytes ++ w.last,
         record {
-          taken = takes_line old new before now line n size w some read within;
+          taken = takes_line old new before now room line n size w some read within;
           long = omega (arith, ap length same, w.in_line.count);
         },
       ),
     )
 
 -- a line that goes past the limit
-pub is_over : (old new : Reading) (before now : Option (List ℕ)) (line : List ℕ) (most b : ℕ) → IsInLine (rest old before) (rest new now) line most (b ∷ []) → old.read + most ≡ old.limit → Next old new before now Over
-is_over old new before now line most b w all = (
+pub is_over : (old new : Reading) (before now : Option (List ℕ)) (room : ℕ) (line : List ℕ) (most b : ℕ) → IsInLine (rest old before) (rest new now) room line most (b ∷ []) → old.read + most ≡ old.limit → Next old new before now Over
+is_over old new before now room line most b w all = (
   w.taken.came,
   w.taken.source,
   (

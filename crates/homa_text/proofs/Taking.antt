@@ -1,6 +1,6 @@
 -- Bytes that are taken one after another.
-use Rattle.std.proofs.Common.{◌≡◌, ◌<◌, ◌≤◌, ℕ, ◌+◌, ◌-◌, zero, suc, arith, Option, None, Some, List, [], ◌∷◌, ◌++◌, length, take, drop, get_or, refl, sym, ap, ◌∙◌, add-one, drop-cons, append_assoc}
-use Rattle.std.proofs.lemmas.List.{append-nil}
+use Rattle.std.proofs.Common.{◌≡◌, ◌<◌, ◌≤◌, ℕ, ◌+◌, ◌-◌, arith, Option, None, Some, List, [], ◌∷◌, ◌++◌, length, take, drop, refl, sym, ap, ◌∙◌, append_assoc}
+use Rattle.std.proofs.lemmas.List.{append-nil, take-append-drop, length-take, drop-take, drop-drop}
 use Rattle.homa_io.specs.Outside.{unread}
 use Rattle.homa_text.specs.Rest.{Rest, Takes}
 
@@ -29,21 +29,28 @@ takes_on old mid new xs ys first then = record {
       ∙ (ap (λ (zs : List ℕ). xs ++ zs) then.bytes ∙ sym (append_assoc xs ys new.pending))));
 }
 
-take_pred : (n : ℕ) (x : ℕ) (xs : List ℕ) → 0 < n → take n (x ∷ xs) ≡ x ∷ take (n - 1) xs
-take_pred zero x xs h = absurd (omega arith)
-take_pred (suc n) x xs h = ap (λ (k : ℕ). x ∷ take k xs) (let e : n ≡ suc n - 1 = omega arith in e)
+-- the first n pending bytes are taken
+pub takes_front : (pending : List ℕ) (n : ℕ) (left : Option (List ℕ)) → Takes (record { pending = pending; left = left }) (record { pending = drop n pending; left = left }) (take n pending)
+takes_front pending n left = record { came = []; source = sym (unread-nil left); bytes = append-nil pending ∙ sym (take-append-drop n pending) }
 
--- the first byte of a part
-pub part-first : (buf : List ℕ) (start end x : ℕ) → start < end → end ≤ length buf → x ≡ get_or buf start x → take (end - start) (drop start buf) ≡ x ∷ take (end - (start + 1)) (drop (start + 1) buf)
-part-first buf start end x h k is =
-    let cut : drop start buf ≡ x ∷ drop (start + 1) buf = rw add-one (drop-cons buf start x (omega arith) ∙ ap (λ (y : ℕ). y ∷ drop (suc start) buf) (sym is)) in
-    let less : end - start - 1 ≡ end - (start + 1) = omega arith in
-    ap (λ (xs : List ℕ). take (end - start) xs) cut ∙ (take_pred (end - start) x (drop (start + 1) buf) (omega arith) ∙ ap (λ (n : ℕ). x ∷ take n (drop (start + 1) buf)) less)
+-- this byte is pending, and is taken
+pub takes_behind : (pending : List ℕ) (b : ℕ) (more : List ℕ) (left : Option (List ℕ)) → pending ≡ b ∷ more → Takes (record { pending = pending; left = left }) (record { pending = more; left = left }) (b ∷ [])
+takes_behind pending b more left is = record { came = []; source = sym (unread-nil left); bytes = append-nil pending ∙ is }
 
--- a byte that was pending is taken
-pub takes_pending : (buf : List ℕ) (start end x : ℕ) (left : Option (List ℕ)) → start < end → end ≤ length buf → x ≡ get_or buf start x → Takes (record { pending = take (end - start) (drop start buf); left = left }) (record { pending = take (end - (start + 1)) (drop (start + 1) buf); left = left }) (x ∷ [])
-takes_pending buf start end x left h k is = record {
-  came = [];
-  source = sym (unread-nil left);
-  bytes = append-nil (take (end - start) (drop start buf)) ∙ part-first buf start end x h k is;
-}
+-- the first pending byte is taken
+pub takes_first : (pending : List ℕ) (left : Option (List ℕ)) → 0 < length pending → (b : ℕ) × Takes (record { pending = pending; left = left }) (record { pending = drop 1 pending; left = left }) (b ∷ [])
+takes_first [] left some = absurd (omega arith)
+takes_first (b ∷ more) left some = (b, takes_behind (b ∷ more) b more left refl)
+
+-- bytes came, where none was pending
+pub takes_came : (old now : Option (List ℕ)) (pending came : List ℕ) → pending ≡ [] → old ≡ unread came now → Takes (record { pending = pending; left = old }) (record { pending = came; left = now }) []
+takes_came old now pending came none is = record { came = came; source = is; bytes = ap (λ (xs : List ℕ). xs ++ came) none }
+
+-- the first n bytes of a part are taken off it
+pub part_rest : (buf : List ℕ) (start end n : ℕ) → n ≤ length (take (end - start) (drop start buf)) → take (end - (start + n)) (drop (start + n) buf) ≡ drop n (take (end - start) (drop start buf))
+part_rest buf start end n within =
+    let rest = end - (start + n) in
+    let sum : n + rest ≡ end - start = omega (arith, length-take (end - start) (drop start buf)) in
+    sym
+    (ap (λ (k : ℕ). drop n (take k (drop start buf))) (sym sum)
+    ∙ (drop-take n rest (drop start buf) ∙ ap (λ (xs : List ℕ). take rest xs) (drop-drop n start buf)))

@@ -1,7 +1,8 @@
 -- What a reader of lines has, and what the next line is.
-use Rattle.std.specs.Prelude.{◌≡◌, ℕ, ◌+◌, ◌<◌, ◌≤◌, ◌⊎◌, true, List, [], ◌++◌, length, take}
+use Rattle.std.specs.Prelude.{◌≡◌, ℕ, ◌+◌, ◌<◌, ◌≤◌, ◌⊎◌, true, List, [], ◌++◌, length}
 use Rattle.homa_plain.specs.Input.{without_feed, has_no_feed, ends_in_feed}
 use Rattle.homa_text.specs.Input.{pending_of}
+use Rattle.homa_text.specs.LineRoom.{kept}
 use Rattle.homa_text.specs.declared.lines.Lines.{Lines}
 use Rattle.homa_text.specs.declared.lines.LineGot.{LineGot}
 use Rattle.homa_text.specs.declared.lines.LineGot.TheVariants.{Line, Long, Over, End}
@@ -17,7 +18,7 @@ pub record Reading : Type 0 where
 
 -- what a reader of lines has
 abbrev pub reading : Lines → Reading
-reading lines = record { pending = pending_of lines.input; line = take lines.len lines.line.items; read = lines.read; number = lines.number; limit = lines.limit; longest = lines.longest }
+reading lines = record { pending = pending_of lines.input; line = kept lines.line; read = lines.read; number = lines.number; limit = lines.limit; longest = lines.longest }
 
 -- a line, with its feed if it has one, was taken off what was pending and what came, and was counted; one without a feed is the last, and nothing is left
 pub record TakesLine (old new : Reading) (came line : List ℕ) (end : Type 0) : Type 0 where

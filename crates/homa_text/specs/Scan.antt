@@ -6,13 +6,13 @@ use Rattle.homa_text.specs.Rest.{Rest, Takes}
 use Rattle.homa_text.specs.declared.scan.Found.{Found}
 use Rattle.homa_text.specs.declared.scan.Found.TheVariants.{Line, Over}
 
--- n bytes without a line feed were taken, and then `last`; `line` has as many of the n as it has room for
-pub record IsInLine (old new : Rest) (line : List ℕ) (n : ℕ) (last : List ℕ) : Type 0 where
+-- n bytes without a line feed were taken, and then `last`; `line` has as many of the n as there is room for
+pub record IsInLine (old new : Rest) (room : ℕ) (line : List ℕ) (n : ℕ) (last : List ℕ) : Type 0 where
   pub bytes : List ℕ
   pub taken : Takes old new (bytes ++ last)
   pub one_line : has_no_feed bytes ≡ true
   pub count : length bytes ≡ n
-  pub kept : take n line ≡ take (length line) bytes
+  pub kept : line ≡ take room bytes
 
 -- the input ended
 pub record IsEnded (rest : Rest) : Type 0 where
@@ -20,13 +20,13 @@ pub record IsEnded (rest : Rest) : Type 0 where
   pub none_left : IsAtEnd rest.left
 
 -- n bytes stand in a line before its line feed or the end of the input, and `size` with the line feed
-pub record IsWhole (old new : Rest) (line : List ℕ) (n size : ℕ) : Type 0 where
+pub record IsWhole (old new : Rest) (room : ℕ) (line : List ℕ) (n size : ℕ) : Type 0 where
   pub last : List ℕ
-  pub in_line : IsInLine old new line n last
+  pub in_line : IsInLine old new room line n last
   pub ended : (last ≡ 10 ∷ []) ⊎ ((last ≡ []) × IsEnded new)
   pub total : n + length last ≡ size
 
 -- what a scan over at most `most` bytes found
-abbrev pub IsScan : Rest → Rest → List ℕ → ℕ → Found → Type 0
-IsScan old new line most (Line n size) = IsWhole old new line n size × (size ≤ most)
-IsScan old new line most Over = (b : ℕ) × IsInLine old new line most (b ∷ [])
+abbrev pub IsScan : Rest → Rest → ℕ → List ℕ → ℕ → Found → Type 0
+IsScan old new room line most (Line n size) = IsWhole old new room line n size × (size ≤ most)
+IsScan old new room line most Over = (b : ℕ) × IsInLine old new room line most (b ∷ [])

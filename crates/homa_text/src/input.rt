@@ -1,6 +1,5 @@
 // A source that is read through a buffer.
-ghost use Rattle.std.specs.Prelude.{◌≡◌, ◌<◌, ◌≤◌, None, [], length, OnOk, OnErr, IfOk};
-ghost use Rattle.std.specs.Option.{option_to_list};
+ghost use Rattle.std.specs.Prelude.{◌≡◌, ◌<◌, ◌≤◌, [], length, drop, OnOk, OnErr, IfOk};
 ghost use Rattle.homa_io.specs.Outside.{HasRisen, IsAtEnd};
 ghost use Rattle.homa_text.specs.Rest.{Takes};
 
@@ -35,28 +34,36 @@ impl Input {
         })
     }
 
-    /// The next byte, or none at the end. The source is read only where no byte is pending.
-    pub(crate) fn next_byte<S: Source>(&mut self, source: &mut S) -> Result<Option<u8>, ReadFailed>
-        ensures taken { IfOk result (λ b. Takes (rest_of self.old (S.left source.old)) (rest_of self.new (S.left source.new)) (option_to_list b)) }
-        ensures end { IfOk result (λ b. b ≡ None → (pending_of self.new ≡ []) × IsAtEnd (S.left source.new)) }
-        ensures err { OnErr result (Takes (rest_of self.old (S.left source.old)) (rest_of self.new (S.left source.new)) []) }
+    /// Reads the source where no byte is pending. None is pending then only at the end.
+    pub(crate) fn fill<S: Source>(&mut self, source: &mut S) -> Result<(), ReadFailed>
+        ensures taken { Takes (rest_of self.old (S.left source.old)) (rest_of self.new (S.left source.new)) [] }
+        ensures end { OnOk result (pending_of self.new ≡ [] → IsAtEnd (S.left source.new)) }
         ensures risen { OnErr result (HasRisen (S.faults source.old) (S.faults source.new)) }
         ensures quiet { OnOk result (S.faults source.new ≡ S.faults source.old) }
         ensures never_falls { S.faults source.old ≤ S.faults source.new }
         ensures same { S.is_same source.old source.new }
     {
         if self.start < self.end {
-            let b = self.buf[self.start];
-            self.start += 1;
-            return Ok(Some(b));
+            return Ok(());
         }
         let n = source.read(&mut self.buf)?;
         self.start = 0;
         self.end = n;
-        if n == 0 {
-            return Ok(None);
-        }
-        self.start = 1;
-        Ok(Some(self.buf[0]))
+        Ok(())
+    }
+
+    /// The bytes that are pending.
+    pub(crate) fn pending(&self) -> &[u8]
+        ensures { result.now ≡ pending_of self.now }
+    {
+        &self.buf[self.start..self.end]
+    }
+
+    /// Takes the first `n` pending bytes.
+    pub(crate) fn take(&mut self, n: usize)
+        requires { n ≤ length (pending_of self.old) }
+        ensures { pending_of self.new ≡ drop n (pending_of self.old) }
+    {
+        self.start += n;
     }
 }

@@ -13,6 +13,7 @@ mod bytes;
 mod entry_words;
 mod fault_words;
 mod input;
+mod line_room;
 mod lines;
 mod number;
 mod put;

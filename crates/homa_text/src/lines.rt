@@ -1,8 +1,10 @@
 // The lines of an input, one at a time.
-ghost use Rattle.std.specs.Prelude.{◌≡◌, ◌+◌, ◌-◌, ◌^◌, ◌<◌, ◌≤◌, [], ℕ, List, length, min, IfOk, OnOk, OnErr};
+ghost use Rattle.std.specs.Prelude.{◌≡◌, ◌+◌, ◌-◌, ◌^◌, ◌<◌, ◌≤◌, [], ℕ, List, min, IfOk, OnOk, OnErr};
 ghost use Rattle.homa_io.specs.Outside.{HasRisen, unread, IsAtEnd};
+ghost use Rattle.homa_text.specs.LineRoom.{room};
 
 use crate::input::Input;
+use crate::line_room::LineRoom;
 use crate::scan::{Found, find_feed};
 use homa_io::{ReadFailed, Source};
 use std::alloc::{AllocError, Global};
@@ -24,16 +26,14 @@ pub enum LineGot {
 #[derive(Drop)]
 pub struct Lines {
     input: Input,
-    line: Vec<u8>,
-    len: usize,
+    line: LineRoom,
     read: u64,
     number: u64,
     limit: u64,
     longest: u32,
     ghost within: { read ≤ limit },
     ghost countable: { limit < 2 ^ 64 - 1 },
-    ghost room: { length line.items ≡ longest },
-    ghost short: { len ≤ longest },
+    ghost sized: { room line ≡ longest },
 }
 
 impl Lines {
@@ -48,8 +48,7 @@ impl Lines {
     {
         Ok(Lines {
             input: Input::open(alloc)?,
-            line: vec![in alloc; 0; longest as usize]?,
-            len: 0,
+            line: LineRoom::open(alloc, longest as usize)?,
             read: 0,
             number: 0,
             limit,
@@ -86,7 +85,6 @@ impl Lines {
                 if len > self.longest as usize {
                     return Ok(LineGot::Long);
                 }
-                self.len = len;
                 Ok(LineGot::Line)
             }
         }
@@ -96,7 +94,7 @@ impl Lines {
     pub fn bytes(&self) -> &[u8]
         ensures { result.now ≡ (reading self.now).line }
     {
-        &self.line[..self.len]
+        self.line.bytes()
     }
 
     /// How many lines came: the number of the last one, counted from 1. It stays at 2^64 - 1.

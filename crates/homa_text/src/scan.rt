@@ -1,12 +1,16 @@
 // A scan for the next line feed.
-ghost use Rattle.std.specs.Prelude.{◌≡◌, ◌≤◌, slice_set, OnOk, OnErr, IfOk};
+ghost use Rattle.std.specs.Prelude.{◌≡◌, ◌≤◌, ◌<◌, ◌+◌, ◌∷◌, true, false, length, take, drop, min, OnOk, OnErr, IfOk};
 ghost use Rattle.homa_io.specs.Outside.{HasRisen};
 ghost use Rattle.homa_text.specs.Rest.{TakesSome};
 ghost use Rattle.homa_text.specs.Input.{rest_of};
 ghost use Rattle.homa_text.specs.Scan.{IsScan};
+ghost use Rattle.homa_text.specs.LineRoom.{kept, room};
+ghost use Rattle.homa_plain.specs.Input.{has_no_feed};
 
 use crate::input::Input;
+use crate::line_room::LineRoom;
 use homa_io::{ReadFailed, Source};
+use memchr::memchr;
 
 // What a scan found.
 #[derive(Clone, Copy)]
@@ -17,12 +21,18 @@ pub(crate) enum Found {
     Over,
 }
 
-// Keeps a byte where there is room.
-fn keep(line: &mut [u8], n: usize, b: u8)
-    ensures { line.new ≡ slice_set line.old n b }
+// How many of the first `most` bytes stand before a line feed, and whether one stands behind them.
+fn before_feed(bytes: &[u8], most: usize) -> (usize, bool)
+    ensures within { result.0 ≤ length bytes.now }
+    ensures most { result.0 ≤ most }
+    ensures before { has_no_feed (take result.0 bytes.now) ≡ true }
+    ensures feed { result.1 ≡ true → (result.0 < most) × (drop result.0 bytes.now ≡ 10 ∷ drop (result.0 + 1) bytes.now) }
+    ensures all { result.1 ≡ false → result.0 ≡ min (length bytes.now) most }
 {
-    if n < line.len() {
-        line[n] = b;
+    let front = &bytes[..bytes.len().min(most)];
+    match memchr(b'\n', front) {
+        Some(i) => (i, true),
+        None => (front.len(), false),
     }
 }
 
@@ -31,34 +41,41 @@ fn keep(line: &mut [u8], n: usize, b: u8)
 pub(crate) fn find_feed<S: Source>(
     input: &mut Input,
     source: &mut S,
-    line: &mut [u8],
+    line: &mut LineRoom,
     most: usize,
 ) -> Result<Found, ReadFailed>
-    ensures found { IfOk result (IsScan (rest_of input.old (S.left source.old)) (rest_of input.new (S.left source.new)) line.new most) }
+    ensures found { IfOk result (IsScan (rest_of input.old (S.left source.old)) (rest_of input.new (S.left source.new)) (room line.new) (kept line.new) most) }
+    ensures room { room line.new ≡ room line.old }
     ensures err { OnErr result (TakesSome (rest_of input.old (S.left source.old)) (rest_of input.new (S.left source.new))) }
     ensures risen { OnErr result (HasRisen (S.faults source.old) (S.faults source.new)) }
     ensures quiet { OnOk result (S.faults source.new ≡ S.faults source.old) }
     ensures never_falls { S.faults source.old ≤ S.faults source.new }
     ensures same { S.is_same source.old source.new }
 {
+    line.clear();
     let mut n = 0;
     while n < most {
-        match input.next_byte(source)? {
-            None => return Ok(Found::Line { len: n, size: n }),
-            Some(b'\n') => {
-                return Ok(Found::Line {
-                    len: n,
-                    size: n + 1,
-                });
-            }
-            Some(b) => {
-                keep(line, n, b);
-                n += 1;
-            }
+        input.fill(source)?;
+        let pending = input.pending();
+        if pending.is_empty() {
+            return Ok(Found::Line { len: n, size: n });
         }
+        let (len, is_feed) = before_feed(pending, most - n);
+        line.add(&pending[..len]);
+        n += len;
+        if is_feed {
+            input.take(len + 1);
+            return Ok(Found::Line {
+                len: n,
+                size: n + 1,
+            });
+        }
+        input.take(len);
     }
-    match input.next_byte(source)? {
-        None => Ok(Found::Line { len: n, size: n }),
-        Some(_) => Ok(Found::Over),
+    input.fill(source)?;
+    if input.pending().is_empty() {
+        return Ok(Found::Line { len: n, size: n });
     }
+    input.take(1);
+    Ok(Found::Over)
 }

@@ -1,4 +1,4 @@
-use Rattle.std.proofs.Common.{length, arith}
+use Rattle.std.proofs.Common.{arith}
 use Rattle.homa_text.proofs.Spelled.{count_step}
 use Rattle.homa_text.proofs.bytes.count.Goals as goal
 

@@ -1,4 +1,4 @@
-use Rattle.std.proofs.Common.{◌∙◌, ap}
+use Rattle.std.proofs.Common.{◌∙◌}
 use Rattle.homa_text.proofs.LineParts.{more, call_text}
 use Rattle.homa_text.proofs.quick_calls.call_line.Goals as goal
 

@@ -1,41 +1,51 @@
-use Rattle.std.proofs.Common.{arith, refl, ◌∙◌}
+use Rattle.std.proofs.Common.{◌+◌, ◌<◌, ◌≤◌, length, arith, refl, ap, ◌∙◌}
+use Rattle.std.proofs.lemmas.Grind.{common_steps}
 use Rattle.std.proofs.lemmas.Result.{MatchResult-from_err}
-use Rattle.homa_text.proofs.InLine.{in_line_start, in_line_then, in_line_more, in_line_over, in_line_stops, whole_end, whole_feed}
+use Rattle.homa_text.specs.Input.{pending_of}
+use Rattle.homa_text.proofs.InLine.{in_line_start, in_line_then, in_line_more, in_line_over, in_line_stops, whole_feed}
 use Rattle.homa_text.proofs.scan.find_feed.Goals as goal
 
 pub loop-n-init : goal.loop-n-init
-loop-n-init g c = record { line = in_line_start _ _; within = omega arith; quiet = refl; same = g.met.S.Source.same_self _ }
+loop-n-init g c = record { line = in_line_start _ _ _ c.clear.ensures.none; room = c.clear.ensures.room; within = omega arith; quiet = refl; same = g.met.S.Source.same_self _ }
 
-pub returns-in_err-next_byte-clause-err : goal.returns-in_err-next_byte-clause-err
-returns-in_err-next_byte-clause-err g c =
+pub returns-in_err-fill-clause-err : goal.returns-in_err-fill-clause-err
+returns-in_err-fill-clause-err g c =
     MatchResult-from_err _ _ _ c.from_residual.ensures.0
-    (λ _. in_line_stops _ _ _ _ _ c.loop-n.invariant.line c.in_err-next_byte.ensures.err)
+    (λ _. in_line_stops _ _ _ _ _ _ c.loop-n.invariant.line c.fill.ensures.taken)
 
-pub returns-in-None-clause-found : goal.returns-in-None-clause-found
-returns-in-None-clause-found g c =
-    whole_end _ _ _ _ _ _ c.loop-n.invariant.line (rw c.in-None.is at c.in_ok-next_byte.ensures.taken) (c.in_ok-next_byte.ensures.end c.in-None.is) c.loop-n.invariant.within
-
-pub returns-in-Some-eq10-clause-found : goal.returns-in-Some-eq10-clause-found
-returns-in-Some-eq10-clause-found g c =
-    whole_feed _ _ _ _ _ _ c.loop-n.invariant.line (rw (c.in-Some-eq10.is, c.in-Some-eq10.field-0-test) at c.in_ok-next_byte.ensures.taken) c.loop-n-test.true
+pub returns-then-is_feed-clause-found : goal.returns-then-is_feed-clause-found
+returns-then-is_feed-clause-found g c =
+    let pending = c.pending-pending.ensures in
+    let front = c.before_feed-len.ensures in
+    let so_far = in_line_then _ _ _ _ _ _ _ c.loop-n.invariant.line c.fill.ensures.taken in
+    let fits : c.before_feed-len.result.0 ≤ length (pending_of c.fill.new.self) = omega (arith, ap length pending, front.within) in
+    let more = in_line_more _ _ _ _ c.loop-n.n c.before_feed-len.result.0 _ so_far (rw pending at front.before) fits (rw pending at c.add.ensures.added) in
+    let feed = rw pending at front.feed c.if-is_feed.true in
+    let within : c.loop-n.n + c.before_feed-len.result.0 < c.args.most = omega (arith, feed.0, c.loop-n-test.true) in
+    rw (c.add.ensures.room, c.take.ensures) (whole_feed _ _ _ _ _ (c.loop-n.n + c.before_feed-len.result.0) c.args.most more feed.1 within)
 
 pub loop-n-preserved : goal.loop-n-preserved
-loop-n-preserved g c = record {
-  line = rw c.keep.ensures (in_line_more _ _ c.loop-n.line c.loop-n.n c.in-Some.b (in_line_then _ _ _ _ _ _ c.loop-n.invariant.line (rw c.in-Some.is at c.in_ok-next_byte.ensures.taken)) c.in-Some.b-test.1);
-  within = omega arith;
-  quiet = c.in_ok-next_byte.ensures.quiet ∙ c.loop-n.invariant.quiet;
-  same = g.met.S.Source.same_on _ _ _ c.loop-n.invariant.same c.in_ok-next_byte.ensures.same;
-}
+loop-n-preserved g c =
+    let pending = c.pending-pending.ensures in
+    let front = c.before_feed-len.ensures in
+    let so_far = in_line_then _ _ _ _ _ _ _ c.loop-n.invariant.line c.fill.ensures.taken in
+    let fits : c.before_feed-len.result.0 ≤ length (pending_of c.fill.new.self) = omega (arith, ap length pending, front.within) in
+    let more = in_line_more _ _ _ _ c.loop-n.n c.before_feed-len.result.0 _ so_far (rw pending at front.before) fits (rw pending at c.add.ensures.added) in
+    record {
+      line = rw (c.add.ensures.room, c.take-in-loop-n.ensures) more;
+      room = c.add.ensures.room ∙ c.loop-n.invariant.room;
+      within = omega (arith, front.most, c.loop-n-test.true);
+      quiet = c.in_ok-fill.ensures.quiet ∙ c.loop-n.invariant.quiet;
+      same = g.met.S.Source.same_on _ _ _ c.loop-n.invariant.same c.fill.ensures.same;
+    }
 
-pub returns-in_err-next_byte-2-clause-err : goal.returns-in_err-next_byte-2-clause-err
-returns-in_err-next_byte-2-clause-err g c =
-    MatchResult-from_err _ _ _ c.from_residual-in_err-next_byte-2.ensures.0
-    (λ _. in_line_stops _ _ _ _ _ c.loop-n.invariant.line c.in_err-next_byte-2.ensures.err)
+pub returns-in_err-fill-2-clause-err : goal.returns-in_err-fill-2-clause-err
+returns-in_err-fill-2-clause-err g c =
+    MatchResult-from_err _ _ _ c.from_residual-in_err-fill-2.ensures.0
+    (λ _. in_line_stops _ _ _ _ _ _ c.loop-n.invariant.line c.fill-2.ensures.taken)
 
-pub returns-in-None-2-clause-found : goal.returns-in-None-2-clause-found
-returns-in-None-2-clause-found g c =
-    whole_end _ _ _ _ _ _ c.loop-n.invariant.line (rw c.in-None-2.is at c.in_ok-next_byte-2.ensures.taken) (c.in_ok-next_byte-2.ensures.end c.in-None-2.is) c.loop-n.invariant.within
-
-pub returns-in-Some-2-clause-found : goal.returns-in-Some-2-clause-found
-returns-in-Some-2-clause-found g c =
-    in_line_over _ _ _ _ _ _ _ c.loop-n.invariant.line (rw c.in-Some-2.is at c.in_ok-next_byte-2.ensures.taken) (omega arith)
+pub returns-clause-found : goal.returns-clause-found
+returns-clause-found g c =
+    let so_far = in_line_then _ _ _ _ _ _ _ c.loop-n.invariant.line c.fill-2.ensures.taken in
+    let some : 0 < length (pending_of c.fill-2.new.self) = grind (arith, common_steps) in
+    rw c.take-2.ensures (in_line_over _ _ _ _ _ _ so_far some (omega arith))

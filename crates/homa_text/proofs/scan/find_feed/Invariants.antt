@@ -1,5 +1,6 @@
 use Rattle.std.proofs.Common.{◌≡◌, ◌-◌, ◌≤◌, []}
 use Rattle.homa_text.specs.Input.{rest_of}
+use Rattle.homa_text.specs.LineRoom.{kept, room}
 use Rattle.homa_text.specs.Scan.{IsInLine}
 use Rattle.homa_text.proofs.scan.find_feed.Given as goal
 
@@ -9,7 +10,8 @@ invariant-loop-n g l =
     let left = g.S.Source.left in
     let faults = g.S.Source.faults in
     record {
-      line : IsInLine (rest_of l.fn.input (left l.fn.source)) (rest_of l.input (left l.source)) l.line l.n [];
+      line : IsInLine (rest_of l.fn.input (left l.fn.source)) (rest_of l.input (left l.source)) (room l.line) (kept l.line) l.n [];
+      room : room l.line ≡ room l.fn.line;
       within : l.n ≤ l.most;
       quiet : faults l.source ≡ faults l.fn.source;
       same : g.S.Source.is_same l.fn.source l.source;

@@ -1,20 +1,18 @@
-use Rattle.std.proofs.Common.{arith, ap, ◌∙◌, List, ℕ, take, length, refl}
-use Rattle.homa_text.proofs.NextLine.{is_line, is_long, is_over, same_items}
+use Rattle.std.proofs.Common.{arith, refl}
+use Rattle.homa_text.proofs.NextLine.{is_line, is_long, is_over}
 use Rattle.homa_text.proofs.lines.Lines.next.Goals as goal
 
 pub returns-in-Over-clause-next : goal.returns-in-Over-clause-next
 returns-in-Over-clause-next g c =
     let found = rw c.in-Over.is at c.in_ok-found.ensures.found in
-    is_over _ _ _ _ _ _ _ found.1 (omega (arith, c.args.self.now.within))
+    is_over _ _ _ _ _ _ _ _ found.1 (omega (arith, c.args.self.now.within))
 
 pub returns-then-len-self-clause-next : goal.returns-then-len-self-clause-next
 returns-then-len-self-clause-next g c =
     let found = rw c.in-Line.is at c.in_ok-found.ensures.found in
-    is_long _ _ _ _ _ _ _ found.0 (omega arith) refl (omega (arith, found.1, c.args.self.now.within)) c.if-len-self.true
+    is_long _ _ _ _ _ _ _ _ found.0 (omega arith) refl (omega (arith, found.1, c.args.self.now.within)) c.if-len-self.true
 
 pub returns-else-len-self-clause-next : goal.returns-else-len-self-clause-next
 returns-else-len-self-clause-next g c =
-    let found = rw c.in-Line.is at c.in_ok-found.ensures.found in
-    let same = c.find_feed.auto.line ∙ ap length c.deref_mut.ensures.value in
-    is_line _ _ _ _ c.find_feed.new.line c.in-Line.len c.in-Line.size found.0 (omega (arith, c.if-size-eq0.false)) refl (omega (arith, found.1, c.args.self.now.within)) c.if-len-self.false (omega (arith, same, c.args.self.now.room))
-    (ap (λ (xs : List ℕ). take c.in-Line.len xs) (same_items c.args.self.now.line c.find_feed.new.line same))
+    let found = rw (c.in-Line.is, c.find_feed.ensures.room, c.args.self.now.sized) at c.in_ok-found.ensures.found in
+    is_line _ _ _ _ _ _ found.0 (omega (arith, c.if-size-eq0.false)) refl (omega (arith, found.1, c.args.self.now.within)) c.if-len-self.false
