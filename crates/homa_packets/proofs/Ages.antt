@@ -2,10 +2,11 @@
 use Rattle.std.proofs.Common.{◌≡◌, ◌<◌, ℕ, zero, suc, ◌+◌, ◌*◌, List, [], ◌∷◌, ◌++◌, length, refl, sym, ap, ◌∙◌, subst, arith}
 use Rattle.std.specs.Prelude.{map, replicate}
 use Rattle.homa_plain.specs.declared.settings.Settings.{Settings}
-use Rattle.homa_packets.specs.declared.tick.Old.{Old}
+use Rattle.homa_packets.specs.declared.past.Old.{Old}
 use Rattle.homa_packets.specs.Blocks.{Frame}
 use Rattle.homa_packets.specs.Olds.{TellsClock, AreOlds}
 use Rattle.homa_packets.specs.Kept.{KeptPacket, WholePacket, LatePacket, StalePacket, IsAged, AllAged}
+use Rattle.homa_packets.specs.Past.{olds_kept}
 
 module _ (s : Settings) (now : ℕ) where
   aged_self : (k : KeptPacket) → IsAged s now k k
@@ -68,8 +69,8 @@ module _ (s : Settings) (now : ℕ) where
   late_aged tick (f ∷ frames) (suc n) e one old = ((one, refl, old), late_aged tick frames n (omega (arith, e)) one old)
 
   pub stale_aged : (tick reach : ℕ) (frames : List Frame) (olds : List Old) → s.wire ≡ 2 → reach ≡ s.life + 2 * s.skew → AreOlds reach now frames olds
-      → AllAged s now (map (WholePacket tick) frames) (map (λ (o : Old). StalePacket o.to o.at) olds)
+      → AllAged s now (map (WholePacket tick) frames) (olds_kept olds)
   stale_aged tick reach [] [] two e h = tt
   stale_aged tick reach [] (o ∷ olds) two e h = absurd h
   stale_aged tick reach (f ∷ frames) [] two e h = absurd h
-  stale_aged tick reach (f ∷ frames) (o ∷ olds) two e h = ((two, h.0, h.1, omega (arith, h.2, e)), stale_aged tick reach frames olds two e h.3)
+  stale_aged tick reach (f ∷ frames) (o ∷ olds) two e h = ((two, h.0.0, h.0.1, omega (arith, h.0.2, e)), stale_aged tick reach frames olds two e h.1)

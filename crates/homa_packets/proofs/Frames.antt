@@ -9,21 +9,21 @@ use Rattle.homa_packets.specs.declared.block.Rec.{Rec}
 use Rattle.homa_packets.specs.Ends.{ends_at}
 use Rattle.homa_packets.specs.Blocks.{Frame, frames_from, start_at, end_of}
 
-both : (a b : Bool) → (a && b) ≡ true → (a ≡ true) × (b ≡ true)
+pub both : (a b : Bool) → (a && b) ≡ true → (a ≡ true) × (b ≡ true)
 both true b e = (refl, e)
 both false b e = absurd (true≢false (sym e))
 
-join : (a b : Bool) → a ≡ true → b ≡ true → (a && b) ≡ true
+pub join : (a b : Bool) → a ≡ true → b ≡ true → (a && b) ≡ true
 join true b h e = e
 join false b h e = h
 
-from_le : (m n : ℕ) → nat_le m n ≡ true → m ≤ n
+pub from_le : (m n : ℕ) → nat_le m n ≡ true → m ≤ n
 from_le m n e = grind (arith, nat_tests, e)
 
-to_le : (m n : ℕ) → m ≤ n → nat_le m n ≡ true
+pub to_le : (m n : ℕ) → m ≤ n → nat_le m n ≡ true
 to_le m n e = grind (arith, nat_tests, e)
 
-from_eq : (m n : ℕ) → (m == n) ≡ true → m ≡ n
+pub from_eq : (m n : ℕ) → (m == n) ≡ true → m ≡ n
 from_eq m n e = grind (arith, nat_tests, e)
 
 same_eq : (n : ℕ) → (n == n) ≡ true

@@ -1,4 +1,8 @@
 pub mod Frames
 pub mod Ages
-pub mod TickLists
+pub mod Parts
+pub mod LateLaws
+pub mod LatesLaws
+pub mod PastLaws
+pub mod AllLaws
 pub mod Rooms

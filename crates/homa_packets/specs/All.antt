@@ -4,11 +4,13 @@ use Rattle.std.specs.List.{flat_map}
 use Rattle.homa_plain.specs.declared.settings.Settings.{Settings}
 use Rattle.homa_packets.specs.declared.packets.Packets.{Packets}
 use Rattle.homa_packets.specs.Blocks.{frames_of, size_of, HasRoom}
-use Rattle.homa_packets.specs.Kept.{KeptPacket, WholePacket, kept_of}
+use Rattle.homa_packets.specs.Kept.{KeptPacket, WholePacket}
+use Rattle.homa_packets.specs.Ticks.{kept_of}
+use Rattle.homa_packets.specs.Past.{past_kept}
 
 -- what is kept of each, by its number
 abbrev pub kept_all : Packets → List KeptPacket
-kept_all p = flat_map kept_of p.ticks.items ++ map (WholePacket p.tick) (frames_of p.front)
+kept_all p = past_kept p.past ++ flat_map kept_of p.ticks.items ++ map (WholePacket p.tick) (frames_of p.front)
 
 abbrev pub settings_of : Packets → Settings
 settings_of p = p.settings

@@ -1,31 +1,16 @@
--- Where the packets of ticks begin.
-use Rattle.std.specs.Prelude.{◌≤◌, ◌<◌, ℕ, zero, suc, ◌+◌, ◌==◌, ◌&&◌, Bool, List, [], ◌∷◌, length}
-use Rattle.homa_packets.specs.declared.tick.Tick.{Tick}
-use Rattle.homa_packets.specs.Kept.{KeptPacket, kept_of}
+-- Where packets that lie in several parts begin, one part behind the other.
+use Rattle.std.specs.Prelude.{◌≡◌, ◌≤◌, ◌<◌, ℕ, ◌+◌, ◌-◌, ◌==◌, ◌&&◌, Bool, List, [], ◌∷◌, length, slice_get}
+use Rattle.std.specs.List.{flat_map}
+use Rattle.homa_packets.specs.Kept.{KeptPacket}
 
--- the first packet of each tick stands behind those of the ticks before, and behind the last ones the number is `end`
-abbrev pub firsts_at : ℕ → List Tick → ℕ → Bool
-firsts_at n [] end = n == end
-firsts_at n (t ∷ ts) end = t.first == n && firsts_at (n + length (kept_of t)) ts end
+module _ {T : Type 0} (first : T → ℕ) (kept : T → List KeptPacket) where
+  -- the first packet of each part stands behind those of the parts before, and behind the last ones the number is `end`
+  abbrev pub firsts_at : ℕ → List T → ℕ → Bool
+  firsts_at n [] end = n == end
+  firsts_at n (t ∷ ts) end = first t == n && firsts_at (n + length (kept t)) ts end
 
--- the tick with this place, and its packets
-abbrev pub tick_at : List Tick → ℕ → ℕ
-tick_at [] i = 0
-tick_at (t ∷ ts) zero = t.tick
-tick_at (t ∷ ts) (suc i) = tick_at ts i
-
-abbrev pub kept_at : List Tick → ℕ → List KeptPacket
-kept_at [] i = []
-kept_at (t ∷ ts) zero = kept_of t
-kept_at (t ∷ ts) (suc i) = kept_at ts i
-
-abbrev pub first_at : List Tick → ℕ → ℕ
-first_at [] i = 0
-first_at (t ∷ ts) zero = t.first
-first_at (t ∷ ts) (suc i) = first_at ts i
-
--- the packet with number n is one of the tick with this place
-pub record IsAt (ticks : List Tick) (n i : ℕ) : Type 0 where
-  pub place : i < length ticks
-  pub from : first_at ticks i ≤ n
-  pub to : n < first_at ticks i + length (kept_at ticks i)
+  -- the packet with number n is one of this part, where those of all parts begin with number m
+  pub record IsIn (ts : List T) (m n : ℕ) (t : T) : Type 0 where
+    pub from : first t ≤ n
+    pub place : n - first t < length (kept t)
+    pub same : slice_get (flat_map kept ts) (n - m) ≡ slice_get (kept t) (n - first t)

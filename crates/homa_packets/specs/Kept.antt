@@ -1,14 +1,10 @@
 -- What is kept of the packets that were sent.
-use Rattle.std.specs.Prelude.{◌≡◌, ◌<◌, ℕ, ◌+◌, ◌*◌, List, [], ◌∷◌, map, replicate}
+use Rattle.std.specs.Prelude.{◌≡◌, ◌<◌, ℕ, ◌+◌, ◌*◌, List, [], ◌∷◌}
 use Rattle.homa_plain.specs.declared.id.HostId.{HostId}
 use Rattle.homa_plain.specs.declared.settings.Settings.{Settings}
 use Rattle.homa_packets.specs.declared.packets.Kept.{Kept}
 use Rattle.homa_packets.specs.declared.packets.Kept.TheVariants.{Whole, Late, Stale}
-use Rattle.homa_packets.specs.declared.tick.Old.{Old}
-use Rattle.homa_packets.specs.declared.tick.Stored.{Stored}
-use Rattle.homa_packets.specs.declared.tick.Stored.TheVariants as stored
-use Rattle.homa_packets.specs.declared.tick.Tick.{Tick}
-use Rattle.homa_packets.specs.Blocks.{Frame, frames_of}
+use Rattle.homa_packets.specs.Blocks.{Frame}
 use Rattle.homa_packets.specs.Olds.{TellsClock}
 
 -- what is kept of a packet: all of it; that it is late for good, and its tick; that it is certainly stale, its receiver and its sender's clock
@@ -21,14 +17,6 @@ abbrev pub kept_seen : Kept → KeptPacket
 kept_seen (Whole tick from to bytes) = WholePacket tick (record { from = from; to = to; bytes = bytes.now })
 kept_seen (Late tick) = LatePacket tick
 kept_seen (Stale to at) = StalePacket to at
-
-abbrev pub stored_kept : ℕ → Stored → List KeptPacket
-stored_kept tick (stored.Live block) = map (WholePacket tick) (frames_of block.value)
-stored_kept tick (stored.Late n) = replicate n (LatePacket tick)
-stored_kept tick (stored.Stale olds) = map (λ (o : Old). StalePacket o.to o.at) olds.value.items
-
-abbrev pub kept_of : Tick → List KeptPacket
-kept_of t = stored_kept t.tick t.stored
 
 -- a packet stays as it is kept, or it became too old by this tick of the world's clock: late for good with version 1, and with
 -- version 2 certainly stale, whatever the leads

@@ -2,5 +2,9 @@ pub mod Ends
 pub mod Blocks
 pub mod Olds
 pub mod Kept
+pub mod Later
+pub mod Lates
+pub mod Ticks
 pub mod Firsts
+pub mod Past
 pub mod All

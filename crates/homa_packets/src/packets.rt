@@ -1,14 +1,19 @@
 // All packets of a world, by their numbers.
-ghost use Rattle.std.specs.Prelude.{◌≡◌, ◌≤◌, ◌<◌, ◌+◌, ◌*◌, ◌^◌, ◌++◌, ◌∷◌, [], ℕ, true, Some, None, length, slice_get, IfOk, IfSome, OnOk, OnErr, MatchOption};
+ghost use Rattle.std.specs.Prelude.{◌≡◌, ◌≤◌, ◌<◌, ◌+◌, ◌*◌, ◌^◌, ◌++◌, ◌∷◌, [], ℕ, true, Some, None, length, slice_get, nat_le, IfOk, IfSome, OnOk, OnErr, MatchOption};
 ghost use Rattle.homa_plain.specs.declared.settings.Settings.{Settings};
 ghost use Rattle.homa_plain.specs.Settings.{IsValid};
+ghost use Rattle.homa_packets.specs.declared.tick.Tick.{Tick};
 ghost use Rattle.homa_packets.specs.Firsts.{firsts_at};
+ghost use Rattle.homa_packets.specs.Ticks.{kept_of};
+ghost use Rattle.homa_packets.specs.Past.{past_kept};
 ghost use Rattle.homa_packets.specs.Blocks.{frames_of, size_of};
 
 use crate::block::Block;
-use crate::tick::{Stored, Tick, late_of, olds_of};
+use crate::past::Past;
+use crate::tick::Tick;
 use homa_plain::{HostId, Settings};
 use std::alloc::{AllocError, Global};
+use std::collections::VecDeque;
 
 /// What is kept of a packet.
 #[derive(Clone, Copy, Debug, PartialEq, Eq)]
@@ -38,21 +43,21 @@ const MOST_SIZE: usize = 1 << 30;
 #[derive(Drop)]
 pub struct Packets {
     settings: Settings,
-    // The packets of earlier ticks; those before `gone` were looked at, and are too old.
-    ticks: Vec<Tick>,
-    gone: usize,
+    // The first packets, which are too old, and behind them those of earlier ticks.
+    past: Past,
+    ticks: VecDeque<Tick>,
     // The packets of the last tick, from number `first` on.
     front: Block,
     tick: u64,
     first: u64,
     ghost valid: { IsValid settings },
-    ghost firsts: { firsts_at 0 ticks.items first ≡ true },
+    ghost firsts: { firsts_at (λ (t : Tick). t.first) kept_of (length (past_kept past)) ticks.items first ≡ true },
     ghost few: { first + length (frames_of front) < 2 ^ 64 },
 }
 
 impl Packets {
-    ghost use Rattle.homa_packets.specs.Kept.{WholePacket, kept_seen, stored_kept, AllAged};
-    ghost use Rattle.homa_packets.specs.Firsts.{tick_at, kept_at, IsAt};
+    ghost use Rattle.homa_packets.specs.Kept.{WholePacket, kept_seen, AllAged};
+    ghost use Rattle.homa_packets.specs.Firsts.{IsIn};
     ghost use Rattle.homa_packets.specs.All.{kept_all, settings_of, open_tick, HasRoomFor};
 
     /// No packet was sent yet. It takes no memory.
@@ -63,8 +68,8 @@ impl Packets {
     {
         Packets {
             settings: *settings,
-            ticks: Vec::new(alloc),
-            gone: 0,
+            past: Past::open(alloc, settings.wire),
+            ticks: VecDeque::new(alloc),
             front: Block::open(alloc),
             tick: 0,
             first: 0,
@@ -86,11 +91,11 @@ impl Packets {
         ensures settings { settings_of self.new ≡ settings_of self.old }
     {
         let count = self.front.len() as u64;
-        let block = Box::new(alloc, self.front.copy(alloc)?)?;
-        self.ticks.push(Tick {
+        let block = self.front.copy(alloc)?;
+        self.ticks.push_back(Tick {
             tick: self.tick,
             first: self.first,
-            stored: Stored::Live(block),
+            block,
         })?;
         self.front.clear();
         self.first += count;
@@ -117,65 +122,18 @@ impl Packets {
         Ok(())
     }
 
-    // After how many ticks packets may be too old.
-    fn life(&self) -> u64
-        ensures { self.now.settings.wire ≡ 1 → result ≡ self.now.settings.life }
-    {
-        let s = &self.settings;
-        if s.wire == 1 {
-            return u64::from(s.life);
-        }
-        u64::from(s.life) + 4 * u64::from(s.skew)
-    }
-
-    // Whether the packets of a tick may be too old at this tick of the world's clock.
-    fn is_old(&self, i: usize, now: u64) -> bool
-        requires { i < length self.now.ticks.items }
-        ensures { result ≡ true → self.now.settings.wire ≡ 1 → tick_at self.now.ticks.items i + self.now.settings.life < now }
-    {
-        let life = self.life();
-        if now <= life {
-            return false;
-        }
-        self.ticks[i].tick < now - life
-    }
-
-    // What is kept of a tick whose packets are too old; None where one of them isn't.
-    fn aged(&self, alloc: Global, i: usize, now: u64) -> Result<Option<Stored>, AllocError>
-        requires { i < length self.now.ticks.items }
-        ensures { IfOk result (λ r. IfSome r (λ stored. AllAged self.now.settings now (kept_at self.now.ticks.items i) (stored_kept (tick_at self.now.ticks.items i) stored))) }
-    {
-        if !self.is_old(i, now) {
-            return Ok(None);
-        }
-        let s = &self.settings;
-        let Stored::Live(block) = &self.ticks[i].stored else {
-            return Ok(None);
-        };
-        if s.wire == 1 {
-            return Ok(Some(late_of(block)));
-        }
-        let reach = u64::from(s.life + 2 * s.skew);
-        match olds_of(alloc, block, reach, now)? {
-            Some(olds) => Ok(Some(Stored::Stale(Box::new(alloc, olds)?))),
-            None => Ok(None),
-        }
-    }
-
     // Gives up the datagrams of the ticks whose packets are too old, the oldest first.
-    fn expire(&mut self, alloc: Global, now: u64) -> Result<(), AllocError>
+    fn expire(&mut self, now: u64) -> Result<(), AllocError>
         ensures aged { AllAged (settings_of self.old) now (kept_all self.old) (kept_all self.new) }
         ensures settings { settings_of self.new ≡ settings_of self.old }
         ensures front { self.new.front ≡ self.old.front }
         ensures tick { self.new.tick ≡ self.old.tick }
     {
-        while self.gone < self.ticks.len() {
-            let Some(stored) = self.aged(alloc, self.gone, now)? else {
+        while !self.ticks.is_empty() {
+            if !self.past.take(&self.settings, &self.ticks[0], now)? {
                 break;
-            };
-            let tick = &mut self.ticks[self.gone];
-            tick.stored = stored;
-            self.gone += 1;
+            }
+            self.ticks.pop_front();
         }
         Ok(())
     }
@@ -191,7 +149,7 @@ impl Packets {
         ensures settings { settings_of self.new ≡ settings_of self.old }
     {
         self.turn_over(alloc, now)?;
-        self.expire(alloc, now)?;
+        self.expire(now)?;
         self.front.reserve()?;
         Ok(())
     }
@@ -208,30 +166,29 @@ impl Packets {
         self.front.push(from, to, bytes);
     }
 
-    // The tick in which the packet with this number was sent: its place among the earlier ones.
-    fn find(&self, n: u64) -> usize
-        requires { n < self.now.first }
-        ensures { IsAt self.now.ticks.items n result }
+    // The tick in which the packet with this number was sent.
+    fn find(&self, n: u64) -> &Tick
+        requires from { length (past_kept self.now.past) ≤ n }
+        requires to { n < self.now.first }
+        ensures { IsIn (λ (t : Tick). t.first) kept_of self.now.ticks.items (length (past_kept self.now.past)) n result.now }
     {
-        let mut low = 0;
-        let mut high = self.ticks.len();
-        while high - low > 1 {
-            let middle = low + (high - low) / 2;
-            if self.ticks[middle].first <= n {
-                low = middle;
-            } else {
-                high = middle;
-            }
-        }
-        low
+        let place = self.ticks.partition_point(
+            |tick: &Tick| -> bool
+                ensures { result ≡ nat_le tick.now.first n }
+            { tick.first <= n },
+        );
+        &self.ticks[place - 1]
     }
 
     /// What is kept of the packet with this number, if so many were sent.
     pub fn get(&self, n: u64) -> Option<Kept<'_>>
         ensures { MatchOption result (length (kept_all self.now) ≤ n) (λ kept. slice_get (kept_all self.now) n ≡ Some (kept_seen kept)) }
     {
+        if n < self.past.len() {
+            return Some(self.past.get(n));
+        }
         if n < self.first {
-            let tick = &self.ticks[self.find(n)];
+            let tick = self.find(n);
             return Some(tick.get((n - tick.first) as usize));
         }
         let i = (n - self.first) as usize;

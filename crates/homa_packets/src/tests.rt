@@ -70,3 +70,23 @@ fn stale_by_its_clock(rt: HostRuntime) -> Result<(), Fail> {
     );
     Ok(())
 }
+
+#[test]
+fn late_by_its_number(rt: HostRuntime) -> Result<(), Fail> {
+    let alloc = rt.alloc();
+    let mut packets = Packets::open(alloc, &settings(1)?);
+    for number in 0..200u64 {
+        packets.reserve(alloc, 2 * number)?;
+        packets.push(HostId(0), HostId(1), b"abc");
+    }
+    packets.reserve(alloc, 100_000)?;
+    packets.push(HostId(0), HostId(1), b"abc");
+    packets.reserve(alloc, 100_021)?;
+    for number in 0..200u64 {
+        assert!(rt; packets.get(number) == Some(Kept::Late { tick: 2 * number }));
+    }
+    assert!(rt; packets.get(200) == Some(Kept::Late { tick: 100_000 }));
+    assert!(rt; packets.get(201).is_none());
+    assert_eq!(rt; packets.count(), 201);
+    Ok(())
+}

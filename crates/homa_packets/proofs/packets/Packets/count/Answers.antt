@@ -2,10 +2,11 @@ use Rattle.std.proofs.Common.{map, ◌∙◌, sym}
 use Rattle.std.proofs.lemmas.List.{length-map}
 use Rattle.homa_packets.specs.Blocks.{frames_of}
 use Rattle.homa_packets.specs.Kept.{WholePacket}
-use Rattle.homa_packets.proofs.TickLists.{count_all}
+use Rattle.homa_packets.specs.Past.{past_kept}
+use Rattle.homa_packets.proofs.AllLaws.{count_all}
 use Rattle.homa_packets.proofs.packets.Packets.count.Goals as goal
 
 pub returns : goal.returns
 returns c =
     let p = c.args.self.now in
-    count_all p.ticks.items p.first (map (WholePacket p.tick) (frames_of p.front)) c.len.result p.firsts (length-map (frames_of p.front) (WholePacket p.tick) ∙ sym c.len.ensures)
+    count_all (past_kept p.past) p.ticks.items p.first (map (WholePacket p.tick) (frames_of p.front)) c.len.result p.firsts (length-map (frames_of p.front) (WholePacket p.tick) ∙ sym c.len.ensures)

@@ -1,9 +1,9 @@
-use Rattle.std.proofs.Common.{◌≡◌, ◌-◌, length}
+use Rattle.std.proofs.Common.{◌≡◌, length}
 use Rattle.homa_packets.specs.Kept.{AllAged}
 use Rattle.homa_packets.specs.All.{kept_all, settings_of}
 use Rattle.homa_packets.proofs.packets.Packets.expire.Given as goal
 
--- packets before `gone` became too old
+-- packets of ticks that were given up became too old
 abbrev pub invariant-loop-self : goal.invariant-loop-self
 invariant-loop-self l = record {
   aged : AllAged (settings_of l.fn.self) l.now (kept_all l.fn.self) (kept_all l.self);
@@ -13,4 +13,4 @@ invariant-loop-self l = record {
 }
 
 abbrev pub decreases-loop-self : goal.decreases-loop-self
-decreases-loop-self l = length l.self.ticks.items - l.self.gone
+decreases-loop-self l = length l.self.ticks.items

@@ -2,7 +2,9 @@ use Rattle.std.proofs.Common.{◌++◌, ◌∙◌, List, length, map, sym, ap, s
 use Rattle.std.specs.List.{flat_map}
 use Rattle.homa_packets.specs.Blocks.{Frame, size_of}
 use Rattle.homa_packets.specs.declared.block.Block.{Block}
-use Rattle.homa_packets.specs.Kept.{KeptPacket, WholePacket, kept_of, AllAged}
+use Rattle.homa_packets.specs.Kept.{KeptPacket, WholePacket, AllAged}
+use Rattle.homa_packets.specs.Ticks.{kept_of}
+use Rattle.homa_packets.specs.Past.{past_kept}
 use Rattle.homa_packets.specs.All.{kept_all}
 use Rattle.homa_packets.proofs.Ages.{all_aged_self, length-aged}
 use Rattle.homa_packets.proofs.packets.Packets.reserve.Goals as goal
@@ -17,7 +19,7 @@ returns-clause-room c =
     let t = c.turn_over.new.self in
     let e = c.expire.new.self in
     let size = c.in_ok-reserve.ensures.size ∙ ap (λ (b : Block). size_of b) c.in_ok-expire.ensures.front in
-    let kept = ap (λ (fs : List Frame). length (flat_map kept_of e.ticks.items ++ map (WholePacket e.tick) fs)) c.in_ok-reserve.ensures.frames in
+    let kept = ap (λ (fs : List Frame). length (past_kept e.past ++ flat_map kept_of e.ticks.items ++ map (WholePacket e.tick) fs)) c.in_ok-reserve.ensures.frames in
     let aged = length-aged t.settings c.args.now (kept_all t) (kept_all e) c.in_ok-expire.ensures.aged in
     let turned = ap length c.in_ok-turn_over.ensures.kept in
     record {

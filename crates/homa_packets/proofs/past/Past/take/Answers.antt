@@ -1,0 +1,31 @@
+use Rattle.std.proofs.Common.{◌≡◌, ◌++◌, sym, ap, subst, ◌∙◌, refl, arith}
+use Rattle.homa_packets.specs.declared.past.Past.{Past}
+use Rattle.homa_packets.specs.Blocks.{frames_of}
+use Rattle.homa_packets.specs.Kept.{AllAged}
+use Rattle.homa_packets.specs.Ticks.{kept_of}
+use Rattle.homa_packets.specs.Past.{past_kept, lates_kept, olds_kept}
+use Rattle.homa_packets.specs.Olds.{AddsOlds}
+use Rattle.homa_packets.proofs.PastLaws.{if_taken, takes_late, takes_stale}
+use Rattle.homa_packets.proofs.past.Past.take.Goals as goal
+
+pub returns-in_ok-push-in-Late : goal.returns-in_ok-push-in-Late
+returns-in_ok-push-in-Late c =
+    let s = c.args.s.now in
+    let t = c.args.tick.now in
+    let after = lates_kept c.push.new.self in
+    subst (λ (p : Past). AllAged s c.args.now (past_kept p ++ kept_of t) after) (sym c.in-Late.is)
+    (takes_late s c.args.now t.tick (frames_of t.block) (lates_kept c.in-Late.lates) after c.len.result c.len.ensures c.if-s-eq1.true (c.if-not-is_old.ensures refl c.if-s-eq1.true) c.in_ok-push-in-Late.ensures.more)
+
+pub returns-in-Stale : goal.returns-in-Stale
+returns-in-Stale c =
+    let s = c.args.s.now in
+    let t = c.args.tick.now in
+    let before = c.in-Stale.olds.items in
+    let after = c.push_olds.new.olds.items in
+    let wire = c.requires.valid.in_range.2.2.2.2.2.2.2.2.2.2.2.2.2.2 in
+    let two : s.wire ≡ 2 = omega (arith, wire.0, wire.1, c.if-s-ne1.true) in
+    if_taken c.push_olds.result (AddsOlds c.from-reach.result c.args.now (frames_of t.block) before after) (after ≡ before) (AllAged s c.args.now (past_kept c.args.self.now ++ kept_of t) (olds_kept after)) (olds_kept after ≡ past_kept c.args.self.now)
+    (λ a. subst (λ (p : Past). AllAged s c.args.now (past_kept p ++ kept_of t) (olds_kept after)) (sym c.in-Stale.is)
+    (takes_stale s c.args.now t.tick (frames_of t.block) before after c.from-reach.result two c.from-reach.ensures a))
+    (λ same. ap olds_kept same ∙ ap past_kept (sym c.in-Stale.is))
+    c.push_olds.ensures

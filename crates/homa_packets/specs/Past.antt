@@ -1,0 +1,20 @@
+-- What is kept of packets that are too old.
+use Rattle.std.specs.Prelude.{List, ◌++◌, map}
+use Rattle.std.specs.List.{flat_map}
+use Rattle.homa_packets.specs.declared.late.Lates.{Lates}
+use Rattle.homa_packets.specs.declared.past.Old.{Old}
+use Rattle.homa_packets.specs.declared.past.Past.{Past}
+use Rattle.homa_packets.specs.declared.past.Past.TheVariants.{Late, Stale}
+use Rattle.homa_packets.specs.Kept.{KeptPacket, StalePacket}
+use Rattle.homa_packets.specs.Lates.{late_of}
+
+abbrev pub lates_kept : Lates → List KeptPacket
+lates_kept l = flat_map late_of l.full.items ++ late_of l.latest
+
+-- what is kept of each packet that is certainly stale
+abbrev pub olds_kept : List Old → List KeptPacket
+olds_kept olds = map (λ (o : Old). StalePacket o.to o.at) olds
+
+abbrev pub past_kept : Past → List KeptPacket
+past_kept (Late lates) = lates_kept lates
+past_kept (Stale olds) = olds_kept olds.items

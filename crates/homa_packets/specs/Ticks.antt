@@ -1,0 +1,8 @@
+-- The packets of a tick, with their datagrams.
+use Rattle.std.specs.Prelude.{List, map}
+use Rattle.homa_packets.specs.declared.tick.Tick.{Tick}
+use Rattle.homa_packets.specs.Blocks.{frames_of}
+use Rattle.homa_packets.specs.Kept.{KeptPacket, WholePacket}
+
+abbrev pub kept_of : Tick → List KeptPacket
+kept_of t = map (WholePacket t.tick) (frames_of t.block)
