@@ -5,4 +5,5 @@ pub mod LateLaws
 pub mod LatesLaws
 pub mod PastLaws
 pub mod AllLaws
+pub mod RecentLaws
 pub mod Rooms

@@ -1,7 +1,7 @@
 -- Packets that became too old.
 use Rattle.std.proofs.Common.{◌*◌, ◌≡◌, ◌<◌, ℕ, zero, suc, ◌+◌, Some, List, [], ◌∷◌, ◌++◌, length, take, refl, sym, ap, ◌∙◌, subst, arith}
 use Rattle.std.proofs.Math.Seq.{take-length}
-use Rattle.std.specs.Prelude.{Bool, true, false, Result, Ok, Err, map, replicate, slice_get}
+use Rattle.std.specs.Prelude.{Bool, true, false, Result, Ok, Err, IfOk, map, replicate, slice_get}
 use Rattle.core.specs.declared.alloc.AllocError.{AllocError}
 use Rattle.homa_plain.specs.declared.settings.Settings.{Settings}
 use Rattle.homa_plain.specs.declared.packet.Packet.{Packet as WirePacket}
@@ -18,6 +18,10 @@ pub if_taken : (r : Result Bool AllocError) (P Q R S : Type 0) → (P → R) →
 if_taken (Ok true) P Q R S f g h = f h
 if_taken (Ok false) P Q R S f g h = g h
 if_taken (Err e) P Q R S f g h = g h
+
+pub if_left : (r : Result Bool AllocError) (P Q : Type 0) → (P → Q) → IfOk r (λ taken. taken ≡ false → P) → IfOk r (λ taken. taken ≡ false → Q)
+if_left (Ok taken) P Q f h = λ e. f (h e)
+if_left (Err e) P Q f h = h
 
 -- ---- packets that are certainly stale
 

@@ -1,5 +1,5 @@
 -- What is kept of packets that are certainly stale.
-use Rattle.std.specs.Prelude.{◌≡◌, ◌<◌, ℕ, ◌+◌, true, false, Bool, Some, Result, Ok, Err, List, [], ◌∷◌, ◌++◌}
+use Rattle.std.specs.Prelude.{◌≡◌, ◌≤◌, ◌<◌, ℕ, ◌+◌, true, false, Bool, Some, Result, Ok, Err, List, [], ◌∷◌, ◌++◌, slice_get}
 use Rattle.core.specs.declared.alloc.AllocError.{AllocError}
 use Rattle.homa_plain.specs.declared.id.HostId.{HostId}
 use Rattle.homa_plain.specs.declared.packet.Packet.{Packet as WirePacket}
@@ -15,7 +15,15 @@ TellsClock bytes at = (read : WirePacket × List ℕ) × (packet_in 2 bytes ≡ 
 abbrev pub IsOld : ℕ → ℕ → HostId → List ℕ → Old → Type 0
 IsOld reach now to bytes o = (o.to ≡ to) × TellsClock bytes o.at × (o.at + reach < now)
 
--- the packets of these datagrams are, and this is kept of them
+-- a datagram's packet isn't certainly stale at a tick, or the bytes are no packet
+abbrev pub IsNotOld : ℕ → ℕ → List ℕ → Type 0
+IsNotOld reach now bytes = (at : ℕ) → TellsClock bytes at → now ≤ at + reach
+
+-- one of these datagrams is such
+abbrev pub HasNotOld : ℕ → ℕ → List Frame → Type 0
+HasNotOld reach now frames = (i : ℕ) × (f : Frame) × (slice_get frames i ≡ Some f) × IsNotOld reach now f.bytes
+
+-- the packets of these datagrams are certainly stale, and this is kept of them
 abbrev pub AreOlds : ℕ → ℕ → List Frame → List Old → Type 0
 AreOlds reach now [] [] = Unit {0}
 AreOlds reach now [] (o ∷ olds) = ⊥

@@ -1,5 +1,5 @@
 -- What is kept of packets that are too old.
-use Rattle.std.specs.Prelude.{List, ◌++◌, map}
+use Rattle.std.specs.Prelude.{ℕ, List, ◌++◌, map}
 use Rattle.std.specs.List.{flat_map}
 use Rattle.homa_packets.specs.declared.late.Lates.{Lates}
 use Rattle.homa_packets.specs.declared.past.Old.{Old}
@@ -18,3 +18,8 @@ olds_kept olds = map (λ (o : Old). StalePacket o.to o.at) olds
 abbrev pub past_kept : Past → List KeptPacket
 past_kept (Late lates) = lates_kept lates
 past_kept (Stale olds) = olds_kept olds.items
+
+-- the version of the wire format in which packets become too old in this way
+abbrev pub wire_of : Past → ℕ
+wire_of (Late lates) = 1
+wire_of (Stale olds) = 2

@@ -1,11 +1,12 @@
 // All packets of a world, by their numbers.
-ghost use Rattle.std.specs.Prelude.{◌≡◌, ◌≤◌, ◌<◌, ◌+◌, ◌*◌, ◌^◌, ◌++◌, ◌∷◌, [], ℕ, true, Some, None, length, slice_get, nat_le, IfOk, IfSome, OnOk, OnErr, MatchOption};
+ghost use Rattle.std.specs.Prelude.{◌≡◌, ◌≤◌, ◌<◌, ◌+◌, ◌*◌, ◌^◌, ◌++◌, ◌∷◌, [], ℕ, true, Some, None, length, slice_get, nat_le, nat_lt, IfOk, IfSome, OnOk, OnErr, MatchOption};
+ghost use Rattle.std.specs.List.{list_all, flat_map};
 ghost use Rattle.homa_plain.specs.declared.settings.Settings.{Settings};
 ghost use Rattle.homa_plain.specs.Settings.{IsValid};
 ghost use Rattle.homa_packets.specs.declared.tick.Tick.{Tick};
 ghost use Rattle.homa_packets.specs.Firsts.{firsts_at};
 ghost use Rattle.homa_packets.specs.Ticks.{kept_of};
-ghost use Rattle.homa_packets.specs.Past.{past_kept};
+ghost use Rattle.homa_packets.specs.Past.{past_kept, wire_of};
 ghost use Rattle.homa_packets.specs.Blocks.{frames_of, size_of};
 
 use crate::block::Block;
@@ -53,10 +54,12 @@ pub struct Packets {
     ghost valid: { IsValid settings },
     ghost firsts: { firsts_at (λ (t : Tick). t.first) kept_of (length (past_kept past)) ticks.items first ≡ true },
     ghost few: { first + length (frames_of front) < 2 ^ 64 },
+    ghost wire: { wire_of past ≡ settings.wire },
+    ghost filled: { list_all (λ (t : Tick). nat_lt 0 (length (kept_of t))) ticks.items ≡ true },
 }
 
 impl Packets {
-    ghost use Rattle.homa_packets.specs.Kept.{WholePacket, kept_seen, AllAged};
+    ghost use Rattle.homa_packets.specs.Kept.{WholePacket, kept_seen, AllAged, HasNoOld};
     ghost use Rattle.homa_packets.specs.Firsts.{IsIn};
     ghost use Rattle.homa_packets.specs.All.{kept_all, settings_of, open_tick, HasRoomFor};
 
@@ -83,7 +86,7 @@ impl Packets {
         self.first + self.front.len() as u64
     }
 
-    // The packets of the last tick get room of their own, as much as they need.
+    // The packets of the last tick, if there are any, get room of their own, as much as they need.
     fn close(&mut self, alloc: Global) -> Result<(), AllocError>
         ensures kept { kept_all self.new ≡ kept_all self.old }
         ensures closed { OnOk result (frames_of self.new.front ≡ []) }
@@ -91,6 +94,10 @@ impl Packets {
         ensures settings { settings_of self.new ≡ settings_of self.old }
     {
         let count = self.front.len() as u64;
+        if count == 0 {
+            self.front.clear();
+            return Ok(());
+        }
         let block = self.front.copy(alloc)?;
         self.ticks.push_back(Tick {
             tick: self.tick,
@@ -109,11 +116,6 @@ impl Packets {
         ensures small { OnOk result (size_of self.new.front ≤ 2 ^ 30) }
         ensures settings { settings_of self.new ≡ settings_of self.old }
     {
-        if self.front.len() == 0 {
-            self.front.clear();
-            self.tick = now;
-            return Ok(());
-        }
         if self.tick == now && self.front.size() <= MOST_SIZE {
             return Ok(());
         }
@@ -126,6 +128,7 @@ impl Packets {
     fn expire(&mut self, now: u64) -> Result<(), AllocError>
         ensures aged { AllAged (settings_of self.old) now (kept_all self.old) (kept_all self.new) }
         ensures settings { settings_of self.new ≡ settings_of self.old }
+        ensures no_old { OnOk result (HasNoOld (settings_of self.old) now (flat_map kept_of self.new.ticks.items)) }
         ensures front { self.new.front ≡ self.old.front }
         ensures tick { self.new.tick ≡ self.old.tick }
     {
@@ -139,11 +142,12 @@ impl Packets {
     }
 
     /// The packets that are pushed next are sent in the tick `now`, which isn't below the last one; there is room for 64 of them.
-    /// Gives up the datagrams of packets that are too old. Only this takes memory; after an error the packets are the same but
-    /// for those that became too old.
+    /// Gives up the datagrams of each tick whose packets are all too old, the oldest first, up to one that has a packet that isn't.
+    /// Only this takes memory; after an error the packets are the same but for those that became too old.
     pub fn reserve(&mut self, alloc: Global, now: u64) -> Result<(), AllocError>
         requires { length (kept_all self.old) + 64 < 2 ^ 64 }
         ensures aged { AllAged (settings_of self.old) now (kept_all self.old) (kept_all self.new) }
+        ensures no_old { OnOk result (HasNoOld (settings_of self.old) now (kept_all self.new)) }
         ensures room { OnOk result (HasRoomFor self.new 64) }
         ensures tick { OnOk result (open_tick self.new ≡ now) }
         ensures settings { settings_of self.new ≡ settings_of self.old }

@@ -1,9 +1,9 @@
 // What is kept of packets that are too old.
-ghost use Rattle.std.specs.Prelude.{◌≡◌, ◌≢◌, ◌≤◌, ◌<◌, ◌+◌, ◌*◌, ◌++◌, ◌^◌, [], ℕ, true, Some, length, slice_get, IfSome};
+ghost use Rattle.std.specs.Prelude.{◌≡◌, ◌≢◌, ◌≤◌, ◌<◌, ◌+◌, ◌*◌, ◌++◌, ◌^◌, [], ℕ, true, false, Some, length, slice_get, IfSome, IfNone, IfOk};
 ghost use Rattle.homa_plain.specs.declared.settings.Settings.{Settings};
 ghost use Rattle.homa_plain.specs.Settings.{IsValid};
 ghost use Rattle.homa_packets.specs.Blocks.{frames_of};
-ghost use Rattle.homa_packets.specs.Olds.{IsOld, AddsOlds, IfTaken};
+ghost use Rattle.homa_packets.specs.Olds.{IsOld, IsNotOld, AddsOlds, HasNotOld, IfTaken};
 
 use crate::block::Block;
 use crate::late::Lates;
@@ -31,7 +31,9 @@ pub(crate) enum Past {
 
 // Whether the packets of a tick may be too old at this tick of the world's clock.
 fn is_old(s: &Settings, tick: u64, now: u64) -> bool
-    ensures { result ≡ true → s.now.wire ≡ 1 → tick + s.now.life < now }
+    ensures old { result ≡ true → s.now.wire ≡ 1 → tick + s.now.life < now }
+    ensures late { result ≡ false → s.now.wire ≡ 1 → now ≤ tick + s.now.life }
+    ensures stale { result ≡ false → s.now.wire ≡ 2 → now ≤ tick + s.now.life + 4 * s.now.skew }
 {
     let mut life = u64::from(s.life);
     if s.wire != 1 {
@@ -42,7 +44,8 @@ fn is_old(s: &Settings, tick: u64, now: u64) -> bool
 
 // What is kept of a packet for this host, if it is certainly stale: if its sender's clock is more than `reach` ticks behind.
 fn old_of(to: HostId, bytes: &[u8], reach: u64, now: u64) -> Option<Old>
-    ensures { IfSome result (IsOld reach now to bytes.now) }
+    ensures some { IfSome result (IsOld reach now to bytes.now) }
+    ensures none { IfNone result (IsNotOld reach now bytes.now) }
 {
     let Some((packet, _)) = decode(bytes, 2) else {
         return None;
@@ -56,7 +59,8 @@ fn old_of(to: HostId, bytes: &[u8], reach: u64, now: u64) -> Option<Old>
 // Adds what is kept of the packets of a block, if they are certainly stale; false where one of them isn't. Then, and after an
 // error, nothing is added.
 fn push_olds(olds: &mut Vec<Old>, block: &Block, reach: u64, now: u64) -> Result<bool, AllocError>
-    ensures { IfTaken result (AddsOlds reach now (frames_of block.now) olds.old.items olds.new.items) (olds.new.items ≡ olds.old.items) }
+    ensures olds { IfTaken result (AddsOlds reach now (frames_of block.now) olds.old.items olds.new.items) (olds.new.items ≡ olds.old.items) }
+    ensures left { IfOk result (λ taken. taken ≡ false → HasNotOld reach now (frames_of block.now)) }
 {
     olds.reserve(block.len())?;
     let before = olds.len();
@@ -72,13 +76,15 @@ fn push_olds(olds: &mut Vec<Old>, block: &Block, reach: u64, now: u64) -> Result
 }
 
 impl Past {
-    ghost use Rattle.homa_packets.specs.Kept.{kept_seen, AllAged};
-    ghost use Rattle.homa_packets.specs.Past.{past_kept};
+    ghost use Rattle.homa_packets.specs.Kept.{kept_seen, AllAged, HasNoOld};
+    ghost use Rattle.homa_packets.specs.Past.{past_kept, wire_of};
     ghost use Rattle.homa_packets.specs.Ticks.{kept_of};
 
     /// No packet. It takes no memory.
     pub(crate) fn open(alloc: Global, wire: u32) -> Past
-        ensures { past_kept result ≡ [] }
+        ensures none { past_kept result ≡ [] }
+        ensures one { wire ≡ 1 → wire_of result ≡ 1 }
+        ensures two { wire ≢ 1 → wire_of result ≡ 2 }
     {
         if wire == 1 {
             return Past::Late(Lates::open(alloc));
@@ -113,12 +119,14 @@ impl Past {
         }
     }
 
-    /// Adds the packets of the next tick, if they are too old; false where they aren't. Then, and after an error, nothing is
-    /// added.
+    /// Adds the packets of the next tick, if they are all too old; false where one of them isn't. Then, and after an error, nothing
+    /// is added.
     pub(crate) fn take(&mut self, s: &Settings, tick: &Tick, now: u64) -> Result<bool, AllocError>
         requires valid { IsValid s.now }
         requires few { length (past_kept self.old) + length (kept_of tick.now) < 2 ^ 64 }
-        ensures { IfTaken result (AllAged s.now now (past_kept self.old ++ kept_of tick.now) (past_kept self.new)) (past_kept self.new ≡ past_kept self.old) }
+        ensures aged { IfTaken result (AllAged s.now now (past_kept self.old ++ kept_of tick.now) (past_kept self.new)) (past_kept self.new ≡ past_kept self.old) }
+        ensures left { wire_of self.old ≡ s.now.wire → IfOk result (λ taken. taken ≡ false → HasNoOld s.now now (kept_of tick.now)) }
+        ensures wire { wire_of self.new ≡ wire_of self.old }
     {
         if !is_old(s, tick.tick, now) {
             return Ok(false);

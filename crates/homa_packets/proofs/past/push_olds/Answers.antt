@@ -23,6 +23,6 @@ loop-i-preserved c =
     let long = ap length items ∙ length-append c.loop-i.olds.items (c.in-Some.old ∷ []) in
     record {
       adds = subst (λ (os : List Old). AddsOlds c.args.reach c.args.now (take (c.loop-i.i + 1) frames) olds os) (sym items)
-          (adds_more c.args.reach c.args.now frames olds c.loop-i.olds.items c.loop-i.i f c.in-Some.old c.loop-i.invariant.adds c.get.ensures c.in-Some.ensures);
+          (adds_more c.args.reach c.args.now frames olds c.loop-i.olds.items c.loop-i.i f c.in-Some.old c.loop-i.invariant.adds c.get.ensures c.in-Some.ensures.some);
       room = omega (arith, c.loop-i.invariant.room, long, c.push.ensures.capacity);
     }

@@ -7,6 +7,7 @@ use Rattle.homa_packets.specs.Ticks.{kept_of}
 use Rattle.homa_packets.specs.Firsts.{firsts_at}
 use Rattle.homa_packets.specs.Past.{past_kept}
 use Rattle.homa_packets.proofs.Parts.{firsts_push}
+use Rattle.homa_packets.proofs.RecentLaws.{EachHolds, holds_push}
 use Rattle.homa_packets.proofs.packets.Packets.close.Goals as goal
 
 pub invariant_of-self-2 : goal.invariant_of-self-2
@@ -17,10 +18,12 @@ invariant_of-self-2 c =
     let later = p.first + c.len-count.result in
     let long = length-map (frames_of c.in_ok-block.block) (WholePacket p.tick) in
     let same = ap length c.in_ok-block.ensures in
-    let none = ap length c.clear.ensures.frames in
+    let none = ap length c.clear-2.ensures.frames in
     record {
       valid = p.valid;
       firsts = subst (λ (ts : List Tick). firsts_at (λ (u : Tick). u.first) kept_of (length (past_kept p.past)) ts later ≡ true) (sym items)
           (firsts_push (λ (u : Tick). u.first) kept_of (length (past_kept p.past)) p.ticks.items p.first later t p.firsts refl (omega (arith, long, same, c.len-count.ensures)));
       few = omega (arith, none, p.few, c.len-count.ensures);
+      wire = p.wire;
+      filled = subst EachHolds (sym items) (holds_push p.ticks.items t p.filled (omega (arith, long, same, c.len-count.ensures, c.if-count-eq0.false)));
     }

@@ -1,12 +1,14 @@
 use Rattle.std.proofs.Common.{◌++◌, ◌∙◌, List, length, map, sym, ap, subst, arith}
 use Rattle.std.specs.List.{flat_map}
-use Rattle.homa_packets.specs.Blocks.{Frame, size_of}
+use Rattle.homa_plain.specs.declared.settings.Settings.{Settings}
+use Rattle.homa_packets.specs.Blocks.{Frame, frames_of, size_of}
 use Rattle.homa_packets.specs.declared.block.Block.{Block}
-use Rattle.homa_packets.specs.Kept.{KeptPacket, WholePacket, AllAged}
+use Rattle.homa_packets.specs.Kept.{KeptPacket, WholePacket, AllAged, HasNoOld}
 use Rattle.homa_packets.specs.Ticks.{kept_of}
 use Rattle.homa_packets.specs.Past.{past_kept}
 use Rattle.homa_packets.specs.All.{kept_all}
 use Rattle.homa_packets.proofs.Ages.{all_aged_self, length-aged}
+use Rattle.homa_packets.proofs.RecentLaws.{no_old-all}
 use Rattle.homa_packets.proofs.packets.Packets.reserve.Goals as goal
 
 pub returns-in_err-turn_over-clause-aged : goal.returns-in_err-turn_over-clause-aged
@@ -27,3 +29,10 @@ returns-clause-room c =
       small = omega (arith, size, c.in_ok-turn_over.ensures.small);
       few = omega (arith, kept, aged, turned, c.requires);
     }
+
+pub returns-clause-no_old : goal.returns-clause-no_old
+returns-clause-no_old c =
+    let e = c.expire.new.self in
+    let s = c.args.self.now.settings in
+    no_old-all s c.args.now e.past e.ticks.items e.tick (frames_of c.reserve.new.self) (c.in_ok-expire.ensures.tick ∙ c.in_ok-turn_over.ensures.tick)
+    (subst (λ (x : Settings). HasNoOld x c.args.now (flat_map kept_of e.ticks.items)) c.in_ok-turn_over.ensures.settings c.in_ok-expire.ensures.no_old)
