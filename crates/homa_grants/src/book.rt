@@ -124,6 +124,18 @@ impl GrantBook {
         ensures sound { IsSound self.now }
     {
         out.clear();
+        if first(&self.peers).is_some() {
+            self.push_chosen(out);
+        }
+    }
+
+    // The same, with `out` empty. Room for the first peers is written where a message waits, and so not in most steps.
+    fn push_chosen(&self, out: &mut ArrayVec<u32, 8>)
+        requires { out.old.items ≡ [] }
+        ensures chosen { out.new.items ≡
+            map (λ e. e.slot) (chosen_by entry_peer entry_key self.now.most self.now.entries) }
+        ensures few { length out.new.items ≤ self.now.most }
+    {
         for (peer, _) in first_k(&self.peers, self.most).as_slice() {
             let heap = &self.heaps[*peer as usize];
             let Some((slot, _)) = first(heap) else {

@@ -1,12 +1,16 @@
 -- What a piece does to a part of which bytes are missing.
-use Rattle.std.proofs.Common.{◌≡◌, ◌<◌, ◌≤◌, ℕ, ◌+◌, min, true, false, ◌&&◌, ltb, List, length, sym, ap, subst, ◌∙◌, arith, inl, inr}
+use Rattle.std.proofs.Common.{◌≡◌, ◌<◌, ◌≤◌, ℕ, ◌+◌, min, suc, unwrap_or, nat_cmp, Bool, true, false, ◌&&◌, ltb, List, [], ◌∷◌, length, refl, sym, ap, subst, ◌∙◌, arith, inl, inr}
 use Rattle.std.proofs.lemmas.Bool.{eq-eqb, ne_eqb, cases_lt, true≢false, lt-ltb, and_parts}
-use Rattle.plain_sets.specs.Maps.{len, empty}
-use Rattle.plain_sets.specs.Numbers.{IsBelow}
-use Rattle.plain_sets.proofs.KeySets.{len-key_set}
+use Rattle.std.specs.Cmp.{nat_cmp_total}
+use Rattle.plain_sets.specs.Maps.{len, empty, checked, retain, insert_all, key_set}
+use Rattle.plain_sets.specs.Ranges.{is_between}
+use Rattle.plain_sets.specs.Numbers.{IsBelow, with_range}
+use Rattle.plain_sets.proofs.MapLaws.{get-empty, list-retain, empty_of_len}
+use Rattle.plain_sets.proofs.KeySets.{len-key_set, len-insert_all}
+use Rattle.plain_sets.proofs.WholeLaws.{values-insert_all_empty}
 use Rattle.plain_sets.proofs.CountLaws.{len-below, len-set_of_range}
 use Rattle.homa_plain.specs.declared.id.HostId.{HostId}
-use Rattle.homa_plain.specs.Incoming.{Incoming, opened, arrived, remaining, with_bytes, new_bytes, leaves_too_many_gaps, is_whole}
+use Rattle.homa_plain.specs.Incoming.{Incoming, opened, arrived, remaining, with_bytes, new_bytes, first_known, leaves_too_many_gaps, is_whole, message}
 use Rattle.homa_plain.proofs.ArrivalLaws.{below-with_bytes, remaining-with_bytes, whole-gaps}
 use Rattle.msg_pool.specs.Pool.{Pool, Held, IsLeaseOf}
 use Rattle.homa_in.specs.Part.{Part, seen, unarrived, IsIn}
@@ -57,3 +61,38 @@ module _ (mid : Pool) (part : Part) (peer : HostId) (n order unsched granted : �
 
   pub begun_lease : part.lease ≡ lease
   begun_lease = ap (λ (x : Part). x.lease) is
+
+-- ---- a message whose bytes are one piece
+
+-- there are enough where there aren't too few
+pub enough_if : (n m : ℕ) → (m < n → false ≡ true) → n ≤ m
+enough_if n m h = elim (cases_lt m n) [ inl l ↦ absurd (true≢false (sym (h l))) | inr r ↦ r ]
+
+-- where nothing is known the bytes of a list are its own
+all_new : (a : ℕ) (xs : List ℕ) → first_known empty a xs ≡ xs
+all_new a [] = refl
+all_new a (x ∷ xs) = ap (λ o. unwrap_or o x ∷ first_known empty (suc a) xs) (get-empty nat_cmp a) ∙ ap (λ ys. x ∷ ys) (all_new (suc a) xs)
+
+-- of nothing nothing is kept
+none_kept : (f : ℕ → Bool) → retain (empty {X = ℕ} {R = nat_cmp}) f ≡ empty
+unfolding empty len
+none_kept f = empty_of_len (retain empty f) (ap length (list-retain nat_cmp_total empty f))
+
+-- nothing has no keys
+no_keys : key_set (empty {X = ℕ} {R = nat_cmp}) ≡ empty
+unfolding empty key_set checked
+no_keys = refl
+
+-- so the bytes of the first piece are its own
+first_new : (xs : List ℕ) → first_known (retain empty (is_between 0 (0 + length xs))) 0 xs ≡ xs
+first_new xs = ap (λ known. first_known known 0 xs) (none_kept (is_between 0 (0 + length xs))) ∙ all_new 0 xs
+
+-- its bytes are those of the piece
+pub message_at_once : (peer : HostId) (n order unsched : ℕ) (xs : List ℕ) → message (with_bytes (opened peer n order unsched) 0 xs) ≡ xs
+message_at_once peer n order unsched xs = values-insert_all_empty 0 (first_known (retain empty (is_between 0 (0 + length xs))) 0 xs) ∙ first_new xs
+
+-- and none is missing
+pub whole_at_once : (peer : HostId) (order unsched : ℕ) (xs : List ℕ) → is_whole (with_bytes (opened peer (length xs) order unsched) 0 xs) ≡ true
+whole_at_once peer order unsched xs =
+    let known = first_known (retain empty (is_between 0 (0 + length xs))) 0 xs in
+    eq-eqb (len (insert_all empty 0 known)) (length xs) (omega (arith, len-insert_all empty 0 known, ap (λ s. len (with_range s 0 (0 + length known))) no_keys, len-set_of_range 0 (0 + length known), ap length (first_new xs)))

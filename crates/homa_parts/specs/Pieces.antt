@@ -1,5 +1,5 @@
 -- What the answers of both tables say of a packet's piece, and of what its rule is given.
-use Rattle.std.specs.Prelude.{◌≡◌, ◌<◌, ◌≤◌, ℕ, ◌==◌, ◌+◌, Bool, true, false, if◌then◌else◌, Option, Some, None, List, length}
+use Rattle.std.specs.Prelude.{◌<◌, ◌≤◌, ℕ, ◌==◌, ◌+◌, Bool, true, false, if◌then◌else◌, Option, Some, None, List, length}
 use Rattle.homa_plain.specs.declared.id.HostId.{HostId}
 use Rattle.homa_plain.specs.declared.packet.Body.{Body}
 use Rattle.homa_plain.specs.declared.packet.Body.TheVariants as body

@@ -1,5 +1,5 @@
 //! Pieces of messages, and the parts that they go into.
-ghost use Rattle.std.specs.Prelude.{◌≡◌, ◌+◌, ◌<◌, ◌≤◌, length, Some, None};
+ghost use Rattle.std.specs.Prelude.{◌≡◌, ℕ, ◌+◌, ◌<◌, ◌≤◌, length, Some, None};
 ghost use Rattle.plain_sets.specs.Maps.{len};
 ghost use Rattle.msg_pool.specs.Pool.{Pool, free_pages};
 ghost use Rattle.homa_in.specs.Part.{IsIn};
@@ -8,7 +8,7 @@ ghost use Rattle.homa_parts.specs.Putting.{WasPut, WasOpened};
 
 use homa_in::{Accepted, Incoming};
 use homa_plain::HostId;
-use msg_pool::{MsgPool, Scratch};
+use msg_pool::{MsgPool, PoolFull, Scratch};
 
 /// What a piece did to a part.
 #[derive(Clone, Copy, Debug, PartialEq, Eq)]
@@ -73,13 +73,57 @@ pub fn open_part(
     requires small { size ≤ 1000000 }
     ensures { WasOpened pool.old peer size order unsched offset bytes.now pool.new scratch.new result }
 {
-    let lease = match pool.take(size) {
-        Err(full) => {
-            return Opening::Full {
-                need: full.need,
-                free: full.free,
-            };
+    if bytes.len() == size as usize {
+        return open_whole(bytes, pool, scratch);
+    }
+    open_by_piece(peer, size, order, unsched, offset, bytes, pool, scratch)
+}
+
+// The message isn't opened, since too few pages are free.
+fn no_pages(full: PoolFull) -> Opening
+    ensures { result ≡ Opening.Full full.need full.free }
+{
+    Opening::Full {
+        need: full.need,
+        free: full.free,
+    }
+}
+
+// Opens a message whose bytes are these, and takes it: no part of it is kept, and none is written.
+fn open_whole(bytes: &[u8], pool: &mut MsgPool, scratch: &mut Scratch) -> Opening
+    requires some { 0 < length bytes.now }
+    requires small { length bytes.now ≤ 1000000 }
+    ensures { (peer : HostId) (order unsched : ℕ)
+        → WasOpened pool.old peer (length bytes.now) order unsched 0 bytes.now pool.new scratch.new result }
+{
+    match pool.take(bytes.len() as u32) {
+        Err(full) => no_pages(full),
+        Ok(lease) => {
+            pool.give(lease);
+            scratch.set(bytes);
+            Opening::Whole
         }
+    }
+}
+
+// Opens a message of which the first piece is a part.
+fn open_by_piece(
+    peer: HostId,
+    size: u32,
+    order: u64,
+    unsched: u32,
+    offset: u32,
+    bytes: &[u8],
+    pool: &mut MsgPool,
+    scratch: &mut Scratch,
+) -> Opening
+    requires some { 0 < length bytes.now }
+    requires fits { offset + length bytes.now ≤ size }
+    requires small { size ≤ 1000000 }
+    ensures { WasOpened pool.old peer size order unsched offset bytes.now pool.new scratch.new result }
+{
+    let lease = match pool.take(size) {
+        Err(full) => return no_pages(full),
         Ok(lease) => lease,
     };
     let mut part = Incoming::open(peer, size, size.min(unsched), order, lease);

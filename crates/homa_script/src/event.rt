@@ -41,31 +41,17 @@ pub(crate) fn is_comment(word: &[u8]) -> bool
 pub(crate) fn read_event_word(word: &[u8]) -> Option<EventWord>
     ensures { option_map word_seen result ≡ event_word word.now }
 {
-    if word == b"call".as_slice() {
-        return Some(EventWord::Call);
+    match word {
+        b"call" => Some(EventWord::Call),
+        b"deliver" => Some(EventWord::Deliver),
+        b"clock" => Some(EventWord::Clock),
+        b"turn" => Some(EventWord::Turn),
+        b"tick" => Some(EventWord::Tick),
+        b"restart" => Some(EventWord::Restart),
+        b"inject" => Some(EventWord::Inject),
+        b"shift" => Some(EventWord::Shift),
+        _ => None,
     }
-    if word == b"deliver".as_slice() {
-        return Some(EventWord::Deliver);
-    }
-    if word == b"clock".as_slice() {
-        return Some(EventWord::Clock);
-    }
-    if word == b"turn".as_slice() {
-        return Some(EventWord::Turn);
-    }
-    if word == b"tick".as_slice() {
-        return Some(EventWord::Tick);
-    }
-    if word == b"restart".as_slice() {
-        return Some(EventWord::Restart);
-    }
-    if word == b"inject".as_slice() {
-        return Some(EventWord::Inject);
-    }
-    if word == b"shift".as_slice() {
-        return Some(EventWord::Shift);
-    }
-    None
 }
 
 // The operands of `call`.

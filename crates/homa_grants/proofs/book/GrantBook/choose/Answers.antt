@@ -1,47 +1,30 @@
--- Each first peer tells the first message of its heap.
-use Rattle.std.proofs.Common.{map, take, length, ap, sym, ◌∙◌, arith}
-use Rattle.std.proofs.lemmas.List.{length-map}
+-- Where no peer has a message there is none to choose.
+use Rattle.std.proofs.Common.{◌≡◌, ℕ, zero, suc, false, Option, Some, None, is_some, List, [], ◌∷◌, map, take, refl, sym, ap, ◌∙◌, arith}
+use Rattle.place_heap.specs.Order.{Item, first_of}
 use Rattle.place_heap.specs.Held.{list_of}
 use Rattle.homa_grants.specs.Entries.{Entry}
-use Rattle.homa_grants.specs.Books.{Book}
 use Rattle.homa_grants.proofs.KeptLaws.{kept_as}
-use Rattle.homa_grants.proofs.ChoiceWalk.{chosen_of, chosen_is, few_chosen, peer_in, has_room, first_is, told_more, told_all}
+use Rattle.homa_grants.proofs.ChoiceWalk.{chosen_is, told_all}
 use Rattle.homa_grants.proofs.book.GrantBook.choose.Goals as goal
 
-pub loop-peer-init : goal.loop-peer-init
-loop-peer-init c = c.clear.ensures
+-- a list without a first item has none
+no_items : (items : List Item) → first_of items ≡ None → items ≡ []
+no_items [] e = refl
+no_items (x ∷ xs) e = cc e
 
-pub index-heap-requires : goal.index-heap-requires
-index-heap-requires c =
-    let taken = c.as_slice-peer-items.ensures.value ∙ c.first_k.ensures ∙ ap (λ (b : Book). take b.most (list_of c.self.inside.peers)) c.self.view_is in
-    omega (arith, peer_in (kept_as c.self.view_is c.self.invariant) c.as_slice-peer-items.result.now taken c.loop-peer.peer-index c.loop-peer-test.true, c.self.inside.heaps.ok.0)
+-- where there isn't some there is none
+none_of : (o : Option Item) → is_some o ≡ false → o ≡ None
+none_of None e = refl
+none_of (Some x) e = cc e
 
-pub push-requires : goal.push-requires
-push-requires c =
-    let taken = c.as_slice-peer-items.ensures.value ∙ c.first_k.ensures ∙ ap (λ (b : Book). take b.most (list_of c.self.inside.peers)) c.self.view_is in
-    (omega arith, has_room (kept_as c.self.view_is c.self.invariant) c.as_slice-peer-items.result.now taken c.loop-peer.peer-index c.loop-peer-test.true c.loop-peer.out.items c.loop-peer.invariant)
+-- of nothing the first few are none
+take_none : (k : ℕ) → take {A = Item} k [] ≡ []
+take_none zero = refl
+take_none (suc k) = refl
 
-pub unreachable-requires : goal.unreachable-requires
-unreachable-requires c =
-    let taken = c.as_slice-peer-items.ensures.value ∙ c.first_k.ensures ∙ ap (λ (b : Book). take b.most (list_of c.self.inside.peers)) c.self.view_is in
-    let first = first_is (kept_as c.self.view_is c.self.invariant) c.as_slice-peer-items.result.now taken c.loop-peer.peer-index c.loop-peer-test.true c.index-heap.result.now c.index-heap.ensures in
-    cc (first, c.first.ensures, c.in_default.is)
-
-pub loop-peer-preserved : goal.loop-peer-preserved
-loop-peer-preserved c =
-    let taken = c.as_slice-peer-items.ensures.value ∙ c.first_k.ensures ∙ ap (λ (b : Book). take b.most (list_of c.self.inside.peers)) c.self.view_is in
-    c.push.ensures.items ∙ told_more (kept_as c.self.view_is c.self.invariant) c.as_slice-peer-items.result.now taken c.loop-peer.peer-index c.loop-peer-test.true c.index-heap.result.now c.index-heap.ensures
-    c.loop-peer.out.items c.in-Some.slot c.in-Some.field-0-1 c.loop-peer.invariant (sym c.first.ensures ∙ c.in-Some.is)
-
-pub returns-clause-chosen : goal.returns-clause-chosen
-returns-clause-chosen c =
+pub returns-else-is_some-clause-chosen : goal.returns-else-is_some-clause-chosen
+returns-else-is_some-clause-chosen c =
     let kept = kept_as c.self.view_is c.self.invariant in
-    let taken = c.as_slice-peer-items.ensures.value ∙ c.first_k.ensures ∙ ap (λ (b : Book). take b.most (list_of c.self.inside.peers)) c.self.view_is in
-    c.loop-peer.invariant ∙ ap (map (λ (e : Entry). e.slot)) (told_all kept c.as_slice-peer-items.result.now taken c.loop-peer.peer-index c.loop-peer-test.false ∙ sym (chosen_is c.args.self.now kept.sound))
-
-pub returns-clause-few : goal.returns-clause-few
-returns-clause-few c =
-    let kept = kept_as c.self.view_is c.self.invariant in
-    let taken = c.as_slice-peer-items.ensures.value ∙ c.first_k.ensures ∙ ap (λ (b : Book). take b.most (list_of c.self.inside.peers)) c.self.view_is in
-    let all = c.loop-peer.invariant ∙ ap (map (λ (e : Entry). e.slot)) (told_all kept c.as_slice-peer-items.result.now taken c.loop-peer.peer-index c.loop-peer-test.false) in
-    omega (arith, ap length all, length-map (chosen_of c.args.self.now) (λ (e : Entry). e.slot), few_chosen c.args.self.now)
+    let none : first_of (list_of c.self.inside.peers) ≡ None = sym c.first.ensures ∙ none_of c.first.result (sym c.is_some.ensures ∙ c.if-is_some.false) in
+    let taken = sym (ap (take c.args.self.now.most) (no_items (list_of c.self.inside.peers) none) ∙ take_none c.args.self.now.most) in
+    c.clear.ensures ∙ ap (map (λ (e : Entry). e.slot)) (told_all kept [] taken 0 (omega arith) ∙ sym (chosen_is c.args.self.now kept.sound))
