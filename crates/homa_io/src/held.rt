@@ -130,6 +130,8 @@ impl<K: Sink + Drop> HeldSink<K> {
         requires { n ≤ 65536 }
         ensures space { OnOk result (n ≤ space_left self.new) }
         ensures waits { n ≤ space_left self.old → self.new ≡ self.old }
+        ensures sent { OnOk result (space_left self.old < n → K.taken (sink_below self.new) ≡ appended (K.taken (sink_below self.old)) (held_bytes self.old)) }
+        ensures none { OnOk result (space_left self.old < n → held_bytes self.new ≡ []) }
         ensures whole { appended (K.taken (sink_below self.new)) (held_bytes self.new) ≡ appended (K.taken (sink_below self.old)) (held_bytes self.old) }
         ensures direct { direct_lines self.new ≡ direct_lines self.old }
         ensures grows { Grows (K.taken (sink_below self.old)) (K.taken (sink_below self.new)) }
@@ -196,9 +198,14 @@ impl<K: Sink + Drop> Sink for HeldSink<K> {
             0 < direct_lines self.old → direct_lines self.new + 1 ≡ direct_lines self.old) }
         ensures never_more { direct_lines self.new ≤ direct_lines self.old }
 
-        // What comes later is held as long as it fits.
+        // What comes later is held as long as it fits. Of what doesn't fit, up to 65,536 bytes are
+        // held alone, after what was held went out.
         ensures waits { direct_lines self.old ≡ 0 → length bytes.now ≤ space_left self.old →
             sink_below self.new ≡ sink_below self.old }
+        ensures held { OnOk result
+            (direct_lines self.old ≡ 0 → space_left self.old < length bytes.now → length bytes.now ≤ 65536 →
+            (K.taken (sink_below self.new) ≡ appended (K.taken (sink_below self.old)) (held_bytes self.old))
+            × (held_bytes self.new ≡ bytes.now)) }
     {
         if self.direct > 0 || bytes.len() > ROOM {
             self.flush()?;

@@ -56,8 +56,10 @@ impl Source for MemSource {
         ensures risen { OnErr result (HasRisen (source_faults self.old) (source_faults self.new)) }
         ensures never_falls { source_faults self.old ≤ source_faults self.new }
 
-        // A read fails exactly where the plan has its number, and only that counts a fault.
+        // A read fails exactly where the plan has its number, and only that counts a fault: one.
         ensures planned { IsErr result ↔ Contains (source_fails self.old) (source_reads self.old) }
+        ensures counted { OnErr result
+            (source_faults self.new ≡ min (source_faults self.old + 1) (2 ^ 64 - 1)) }
         ensures quiet { OnOk result (source_faults self.new ≡ source_faults self.old) }
         ensures numbered { source_reads self.new ≡ min (source_reads self.old + 1) (2 ^ 64 - 1) }
         ensures plan { source_fails self.new ≡ source_fails self.old }
@@ -141,6 +143,8 @@ impl Sink for MemSink {
             Contains (sink_fails self.old) (sink_writes self.old) ⊎ (sink_space self.old ≡ 0) }
         ensures count { IfOk result (λ n. n ≡ min (length bytes.now) (sink_space self.old)) }
 
+        ensures counted { OnErr result
+            (sink_faults self.new ≡ min (sink_faults self.old + 1) (2 ^ 64 - 1)) }
         ensures quiet { OnOk result (sink_faults self.new ≡ sink_faults self.old) }
         ensures numbered { sink_writes self.new ≡ min (sink_writes self.old + 1) (2 ^ 64 - 1) }
         ensures plan { sink_fails self.new ≡ sink_fails self.old }

@@ -1,6 +1,6 @@
 // The readers and writers of std as a source and a sink. What they move outside is trusted: no
 // contract says it, and a read of theirs that answers 0 is taken for the end.
-ghost use Rattle.std.specs.Prelude.{◌≡◌, None};
+ghost use Rattle.std.specs.Prelude.{◌≡◌, ◌≤◌, ◌<◌, ◌+◌, ◌-◌, ◌^◌, None, length, min, OnOk, OnErr, IfOk};
 
 use crate::faults::FaultCount;
 use crate::{ReadFailed, Sink, Source, WriteFailed};
@@ -41,7 +41,14 @@ impl<R: Read + Drop> Source for StdSource<R> {
 
     ghost same_on = { λ _ _ _ _ _. tt };
 
-    fn read(&mut self, buf: &mut [u8]) -> Result<usize, ReadFailed> {
+    /// Reads what one call of the reader gives. An error counts one fault.
+    fn read(&mut self, buf: &mut [u8]) -> Result<usize, ReadFailed>
+        ensures fits { IfOk result (λ n. n ≤ length buf.new) }
+        ensures counted { OnErr result
+            (std_source_faults self.new ≡ min (std_source_faults self.old + 1) (2 ^ 64 - 1)) }
+        ensures quiet { OnOk result (std_source_faults self.new ≡ std_source_faults self.old) }
+        ensures never_falls { std_source_faults self.old ≤ std_source_faults self.new }
+    {
         match self.reader.read(buf) {
             Ok(n) => Ok(n),
             Err(_) => {
@@ -87,7 +94,15 @@ impl<W: Write + Drop> Sink for StdSink<W> {
 
     ghost same_on = { λ _ _ _ _ _. tt };
 
-    fn write(&mut self, bytes: &[u8]) -> Result<usize, WriteFailed> {
+    /// Hands the bytes to one call of the writer. An error counts one fault.
+    fn write(&mut self, bytes: &[u8]) -> Result<usize, WriteFailed>
+        ensures fits { IfOk result (λ n. n ≤ length bytes.now) }
+        ensures some { IfOk result (λ n. 0 < length bytes.now → 0 < n) }
+        ensures counted { OnErr result
+            (std_sink_faults self.new ≡ min (std_sink_faults self.old + 1) (2 ^ 64 - 1)) }
+        ensures quiet { OnOk result (std_sink_faults self.new ≡ std_sink_faults self.old) }
+        ensures never_falls { std_sink_faults self.old ≤ std_sink_faults self.new }
+    {
         match self.writer.write(bytes) {
             Ok(n) if n > 0 || bytes.is_empty() => Ok(n),
             _ => {

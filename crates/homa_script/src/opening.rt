@@ -5,9 +5,9 @@ ghost use Rattle.homa_plain.specs.Script.{setting_given, phrase_of};
 ghost use Rattle.homa_script.specs.Given.{line_of};
 
 use crate::event::{is_comment, read_event_word};
-use crate::name::read_name;
 use crate::words::Words;
 use homa_plain::{Name, ScriptFault};
+use homa_text::read_name;
 
 /// What a line before `go`, or `go` itself, stands for.
 #[derive(Clone, Copy)]

@@ -5,11 +5,10 @@ ghost use Rattle.homa_io.specs.Outside.{HasRisen, appended, TookFront};
 ghost use Rattle.homa_plain.specs.Text.{told_numbers};
 ghost use Rattle.homa_plain.specs.Script.{event_text, setting_text, settings_text};
 
-use crate::name::name_bytes;
 use homa_io::{Sink, WriteFailed};
 use homa_plain::{Event, Name, Settings};
 use homa_text::Word::{Hex, Host, Number, Text};
-use homa_text::put_line;
+use homa_text::{name_bytes, put_line};
 
 /// Writes the line of an event, with these bytes where it is a call or an injection, as `put_line`
 /// of `homa_text` does. After an error the sink took a front of the line.

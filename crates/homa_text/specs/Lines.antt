@@ -48,6 +48,7 @@ pub record IsLong (old new : Reading) (came line : List ℕ) (end : Type 0) : Ty
 pub record IsEnd (old new : Reading) (came : List ℕ) (end : Type 0) : Type 0 where
   pub none_came : old.pending ++ came ≡ []
   pub none_pending : new.pending ≡ []
+  pub read : new.read ≡ old.read
   pub at_end : end
 
 -- what the next line is, where these bytes came from the source, and `end` says that it has no more

@@ -6,29 +6,14 @@ ghost use Rattle.homa_text.specs.Written.{word_text};
 
 use crate::Word::{self, Number, Text};
 use crate::entry_words::{WordList, push_all};
+use crate::name::name_bytes;
 use homa_plain::{LineFault, Name, ScriptFault, SettingFault, StartFault, WorldFault};
 
 // The name of a setting.
 fn name_text(name: Name) -> Word<'static>
     ensures { word_text result ≡ name_word name }
 {
-    match name {
-        Name::Hosts => Text(b"hosts"),
-        Name::Seg => Text(b"seg"),
-        Name::Window => Text(b"window"),
-        Name::Unsched => Text(b"unsched"),
-        Name::Overcommit => Text(b"overcommit"),
-        Name::Rate => Text(b"rate"),
-        Name::Resend => Text(b"resend"),
-        Name::Tries => Text(b"tries"),
-        Name::Life => Text(b"life"),
-        Name::Pages => Text(b"pages"),
-        Name::Calls => Text(b"calls"),
-        Name::Served => Text(b"served"),
-        Name::Rebalance => Text(b"rebalance"),
-        Name::Skew => Text(b"skew"),
-        Name::Wire => Text(b"wire"),
-    }
+    Text(name_bytes(name))
 }
 
 // Why a call can't start.

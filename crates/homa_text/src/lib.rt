@@ -4,7 +4,7 @@
 //! the last line, and how many bytes and lines came. A word is a list of bytes, and a line is its
 //! words with one space between two.
 //! Promise: the lines that are read are those of the input, whatever parts the source gives it in, a
-//! word is read as the number or the bytes that it spells, and what is written is the line of each
+//! word is read as the number, the bytes or the setting that it spells, and what is written is the line of each
 //! entry. After a fault the sink took a front of it.
 #![tactic(auto)]
 
@@ -15,6 +15,7 @@ mod fault_words;
 mod input;
 mod line_room;
 mod lines;
+mod name;
 mod number;
 mod put;
 mod quick;
@@ -27,6 +28,7 @@ mod written;
 
 pub use bytes::read_bytes;
 pub use lines::{LineGot, Lines};
+pub use name::{name_bytes, read_name};
 pub use number::read_number;
 pub use put::{put_entry, put_line};
 pub use words::word;

@@ -57,7 +57,7 @@ impl Lines {
     }
 
     /// Reads the next line. The source is read in parts of up to 64 KiB, and only where no byte is
-    /// pending. After an error the bytes of the line that came are lost.
+    /// pending. After an error the bytes of the line that came are lost, and nothing is counted.
     pub fn next<S: Source>(&mut self, source: &mut S) -> Result<LineGot, ReadFailed>
         ensures next { IfOk result (λ got. (came : List ℕ) × (S.left source.old ≡ unread came (S.left source.new)) × IsNext (reading self.old) (reading self.new) came (IsAtEnd (S.left source.new)) got) }
         ensures number { OnOk result ((reading self.new).number ≡ min ((reading self.old).number + 1) (2 ^ 64 - 1)) }
@@ -65,6 +65,10 @@ impl Lines {
         // The two limits stay.
         ensures limit { (reading self.new).limit ≡ (reading self.old).limit }
         ensures longest { (reading self.new).longest ≡ (reading self.old).longest }
+
+        // An error counts no bytes and no line.
+        ensures read { OnErr result ((reading self.new).read ≡ (reading self.old).read) }
+        ensures uncounted { OnErr result ((reading self.new).number ≡ (reading self.old).number) }
 
         ensures err { OnErr result ((came : List ℕ) × (S.left source.old ≡ unread came (S.left source.new))) }
         ensures risen { OnErr result (HasRisen (S.faults source.old) (S.faults source.new)) }

@@ -278,8 +278,8 @@ fn put_grant<K: Sink>(
     write_all(sink, text.as_slice())
 }
 
-// Writes the line of a piece through room for so many bytes. A function has one room at most: room is filled with zeros
-// where its function begins, whether it is used or not.
+// Writes the line of a piece through room for so many bytes. A function has at most one room as a variable: that is filled
+// with zeros where the function begins, whether it is used or not.
 fn put_piece_in<K: Sink, const N: usize>(
     sink: &mut K,
     head: Head,

@@ -7,7 +7,7 @@ use Rattle.std.proofs.lemmas.Iterator.Search.{find_from_yields_List}
 use Rattle.homa_plain.specs.declared.settings.Name.{Name}
 use Rattle.homa_plain.specs.Text.{name_word}
 use Rattle.homa_plain.specs.Script.{names}
-use Rattle.homa_script.proofs.name.read_name.Goals as goal
+use Rattle.homa_text.proofs.name.read_name.Goals as goal
 
 same_option : (o : Option Name) → option_map (λ x. x) o ≡ o
 same_option None = refl
