@@ -1,11 +1,12 @@
 // Refusals that are read from the words of a line.
 ghost use Rattle.std.specs.Prelude.{◌≡◌, ◌^◌};
-ghost use Rattle.homa_plain.specs.Text.{name_word, start_word};
+ghost use Rattle.homa_plain.specs.Text.{start_word};
 ghost use Rattle.homa_lines.specs.FieldsLeft.{left};
 ghost use Rattle.homa_lines.specs.Refusals.{script_name, world_name, fault_name, plain_of, name_of, start_of, start_in, out_of_range_in, setting_in, two_in, world_in, long_in, fault_in};
 
 use crate::fields::{Fields, read_u32, read_u64};
 use homa_plain::{LineFault, Name, ScriptFault, SettingFault, StartFault, WorldFault};
+use homa_text::read_name;
 
 // The refusals that are one word.
 const PLAIN: [LineFault; 14] = [
@@ -31,24 +32,6 @@ const STARTS: [StartFault; 5] = [
     StartFault::SelfCall,
     StartFault::CallsFull,
     StartFault::SeqSpent,
-];
-
-const NAMES: [Name; 15] = [
-    Name::Hosts,
-    Name::Seg,
-    Name::Window,
-    Name::Unsched,
-    Name::Overcommit,
-    Name::Rate,
-    Name::Resend,
-    Name::Tries,
-    Name::Life,
-    Name::Pages,
-    Name::Calls,
-    Name::Served,
-    Name::Rebalance,
-    Name::Skew,
-    Name::Wire,
 ];
 
 // The first word of a refusal by what the line says.
@@ -108,38 +91,12 @@ fn plain_from(word: &[u8]) -> Option<LineFault>
         .find(|fault| word == fault_name(*fault))
 }
 
-// The word of a setting.
-fn setting_name(name: Name) -> &'static [u8]
-    ensures { result.now ≡ name_word name }
-{
-    match name {
-        Name::Hosts => b"hosts",
-        Name::Seg => b"seg",
-        Name::Window => b"window",
-        Name::Unsched => b"unsched",
-        Name::Overcommit => b"overcommit",
-        Name::Rate => b"rate",
-        Name::Resend => b"resend",
-        Name::Tries => b"tries",
-        Name::Life => b"life",
-        Name::Pages => b"pages",
-        Name::Calls => b"calls",
-        Name::Served => b"served",
-        Name::Rebalance => b"rebalance",
-        Name::Skew => b"skew",
-        Name::Wire => b"wire",
-    }
-}
-
 // A setting, as a word.
 #[tactic(auto, unfolding(crate::specs::Refusals::name_of))]
 fn name_from(word: &[u8]) -> Option<Name>
     ensures { result ≡ name_of word.now }
 {
-    NAMES
-        .iter()
-        .copied()
-        .find(|name| word == setting_name(*name))
+    read_name(word)
 }
 
 // The word of a refused start.

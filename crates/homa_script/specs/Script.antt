@@ -26,6 +26,11 @@ abbrev pub is_read : ScriptStop → Bool
 is_read (Read failed) = true
 is_read (Fault fault) = false
 
+-- a call failed since a read did
+abbrev pub has_failed_read : {A : Type 0} → Result A ScriptStop → Bool
+has_failed_read (Ok answer) = false
+has_failed_read (Err stop) = is_read stop
+
 -- what the definition of a schedule says of the bytes, where `settings` gives this
 abbrev pub IsOpening : ℕ → Place → List ℕ → Option (List ℕ) → Result Settings ScriptStop → Type 0
 IsOpening limit new bytes left (Ok settings) = IsRead bytes left (opening limit) (λ more. Opened settings (steps_left new more))

@@ -1,10 +1,10 @@
 // The lines of a schedule.
-ghost use Rattle.std.specs.Prelude.{◌≡◌, ◌≤◌, ◌+◌, ℕ, List, Some, true, length, IfOk, IfErr};
+ghost use Rattle.std.specs.Prelude.{◌≡◌, ◌≤◌, ◌+◌, ℕ, List, Some, true, false, length, IfOk, IfErr};
 ghost use Rattle.homa_io.specs.Outside.{HasRisen};
 ghost use Rattle.homa_plain.specs.Script.{without_return};
 ghost use Rattle.homa_text.specs.Lines.{reading};
 ghost use Rattle.homa_script.specs.Place.{place_of, IsCounted};
-ghost use Rattle.homa_script.specs.Script.{is_read};
+ghost use Rattle.homa_script.specs.Script.{is_read, has_failed_read};
 ghost use Rattle.homa_script.specs.Lines.{IsNextLine, IsNumbered};
 
 use crate::ScriptStop;
@@ -25,6 +25,7 @@ pub(crate) fn next_line<S: Source>(lines: &mut Lines, source: &mut S) -> Result<
     ensures limit { (reading lines.new).limit ≡ (reading lines.old).limit }
     ensures longest { (reading lines.new).longest ≡ (reading lines.old).longest }
     ensures risen { IfErr result (λ stop. is_read stop ≡ true → HasRisen (S.faults source.old) (S.faults source.new)) }
+    ensures quiet { has_failed_read result ≡ false → S.faults source.new ≡ S.faults source.old }
     ensures never_falls { S.faults source.old ≤ S.faults source.new }
     ensures same { S.is_same source.old source.new }
 {

@@ -1,11 +1,11 @@
 // What comes next of a schedule.
-ghost use Rattle.std.specs.Prelude.{◌≡◌, ◌≤◌, ℕ, List, Some, true, length, IfOk, IfErr, IfSome};
+ghost use Rattle.std.specs.Prelude.{◌≡◌, ◌≤◌, ℕ, List, Some, true, false, length, IfOk, IfErr, IfSome};
 ghost use Rattle.homa_io.specs.Outside.{HasRisen};
 ghost use Rattle.homa_plain.specs.Settings.{IsValid};
 ghost use Rattle.homa_text.specs.Lines.{reading};
 ghost use Rattle.homa_script.specs.Given.{IsWithin};
 ghost use Rattle.homa_script.specs.Place.{place_of, IsCounted};
-ghost use Rattle.homa_script.specs.Script.{opened, is_read, IsOpening};
+ghost use Rattle.homa_script.specs.Script.{opened, is_read, has_failed_read, IsOpening};
 ghost use Rattle.homa_script.specs.Lines.{IsNextGiven, IsGivenOn};
 
 use crate::ScriptStop;
@@ -31,6 +31,7 @@ pub(crate) fn read_settings<S: Source>(
     ensures limit { (reading lines.new).limit ≡ (reading lines.old).limit }
     ensures longest { (reading lines.new).longest ≡ (reading lines.old).longest }
     ensures risen { IfErr result (λ stop. is_read stop ≡ true → HasRisen (S.faults source.old) (S.faults source.new)) }
+    ensures quiet { has_failed_read result ≡ false → S.faults source.new ≡ S.faults source.old }
     ensures never_falls { S.faults source.old ≤ S.faults source.new }
     ensures same { S.is_same source.old source.new }
 {
@@ -63,6 +64,7 @@ pub(crate) fn next_given<S: Source>(
     ensures limit { (reading lines.new).limit ≡ (reading lines.old).limit }
     ensures longest { (reading lines.new).longest ≡ (reading lines.old).longest }
     ensures risen { IfErr result (λ stop. is_read stop ≡ true → HasRisen (S.faults source.old) (S.faults source.new)) }
+    ensures quiet { has_failed_read result ≡ false → S.faults source.new ≡ S.faults source.old }
     ensures never_falls { S.faults source.old ≤ S.faults source.new }
     ensures same { S.is_same source.old source.new }
 {

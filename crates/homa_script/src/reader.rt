@@ -56,7 +56,7 @@ impl Model for Reader {
 }
 
 impl Reader {
-    ghost use Rattle.homa_script.specs.Script.{opened, is_read, has_operand, is_end, IsOpening, IsNext, IsInRange, IsOn};
+    ghost use Rattle.homa_script.specs.Script.{opened, is_read, has_failed_read, has_operand, is_end, IsOpening, IsNext, IsInRange, IsOn};
     ghost use Rattle.homa_script.specs.Place.{IsCounted};
 
     /// A reader of a schedule of at most `limit` bytes.
@@ -88,6 +88,7 @@ impl Reader {
         ensures limit { self.new.place.limit ≡ self.old.place.limit }
 
         ensures risen { IfErr result (λ stop. is_read stop ≡ true → HasRisen (S.faults source.old) (S.faults source.new)) }
+        ensures quiet { has_failed_read result ≡ false → S.faults source.new ≡ S.faults source.old }
         ensures never_falls { S.faults source.old ≤ S.faults source.new }
         ensures same { S.is_same source.old source.new }
     {
@@ -121,6 +122,7 @@ impl Reader {
         ensures kept { is_some self.old.stopped ≡ true → (self.new ≡ self.old) × (source.new ≡ source.old) }
 
         ensures risen { self.old.stopped ≡ None → IfErr result (λ stop. is_read stop ≡ true → HasRisen (S.faults source.old) (S.faults source.new)) }
+        ensures quiet { has_failed_read result ≡ false → S.faults source.new ≡ S.faults source.old }
         ensures never_falls { S.faults source.old ≤ S.faults source.new }
         ensures same { S.is_same source.old source.new }
     {

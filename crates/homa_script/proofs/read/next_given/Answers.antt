@@ -14,6 +14,7 @@ lines-init g c = record {
   on = omega arith;
   limit = refl;
   longest = refl;
+  quiet = refl;
   never_falls = omega arith;
   same = g.met.S.Source.same_self _;
 }
@@ -29,6 +30,7 @@ lines-preserved g c =
       on = omega (arith, t.on, l.invariant.on);
       limit = e.limit ∙ l.invariant.limit;
       longest = e.longest ∙ l.invariant.longest;
+      quiet = e.quiet refl ∙ l.invariant.quiet;
       never_falls = omega (arith, e.never_falls, l.invariant.never_falls);
       same = g.met.S.Source.same_on _ _ _ l.invariant.same e.same;
     }

@@ -15,6 +15,7 @@ invariant-lines g l =
       on : (reading l.fn.lines).read ≤ (reading l.lines).read;
       limit : (reading l.lines).limit ≡ (reading l.fn.lines).limit;
       longest : (reading l.lines).longest ≡ (reading l.fn.lines).longest;
+      quiet : faults l.source ≡ faults l.fn.source;
       never_falls : faults l.fn.source ≤ faults l.source;
       same : g.S.Source.is_same l.fn.source l.source;
     }

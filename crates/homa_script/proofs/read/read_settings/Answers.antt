@@ -11,6 +11,7 @@ lines-init g c = record {
   counted = c.requires.counted;
   limit = refl;
   longest = refl;
+  quiet = refl;
   never_falls = omega arith;
   same = g.met.S.Source.same_self _;
 }
@@ -25,6 +26,7 @@ lines-preserved-in-Blank g c =
       counted = counted_on _ _ _ _ _ l.invariant.counted t;
       limit = e.limit ∙ l.invariant.limit;
       longest = e.longest ∙ l.invariant.longest;
+      quiet = e.quiet refl ∙ l.invariant.quiet;
       never_falls = omega (arith, e.never_falls, l.invariant.never_falls);
       same = g.met.S.Source.same_on _ _ _ l.invariant.same e.same;
     }
@@ -39,6 +41,7 @@ lines-preserved g c =
       counted = counted_on _ _ _ _ _ l.invariant.counted t;
       limit = e.limit ∙ l.invariant.limit;
       longest = e.longest ∙ l.invariant.longest;
+      quiet = e.quiet refl ∙ l.invariant.quiet;
       never_falls = omega (arith, e.never_falls, l.invariant.never_falls);
       same = g.met.S.Source.same_on _ _ _ l.invariant.same e.same;
     }
