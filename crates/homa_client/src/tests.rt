@@ -54,6 +54,26 @@ fn piece(length: u32, offset: u32) -> Body
     }
 }
 
+// Settings by which the server is asked once.
+fn one_try() -> Settings
+    ensures { IsValid result }
+{
+    Settings {
+        tries: 1,
+        ..Settings::usual()
+    }
+}
+
+// Settings with room for one call.
+fn one_call_at_a_time() -> Settings
+    ensures { IsValid result }
+{
+    Settings {
+        calls: 1,
+        ..Settings::usual()
+    }
+}
+
 // A client with its pool.
 #[derive(Drop)]
 struct Client {
@@ -248,14 +268,7 @@ fn a_grant(rt: HostRuntime) -> Result<(), Fail> {
 
 #[test]
 fn a_timeout(rt: HostRuntime) -> Result<(), Fail> {
-    let settings = Settings {
-        tries: 1,
-        ..Settings::usual()
-    };
-    if settings.check().is_err() {
-        return Ok(());
-    }
-    let mut client = Client::open(rt.alloc(), &settings, 7, 1)?;
+    let mut client = Client::open(rt.alloc(), &one_try(), 7, 1)?;
     let request = Vec::from_slice(rt.alloc(), b"ab")?;
     let (slot, _) = client.start(SERVER, request, 10).ok().ok_or("started")?;
     assert_eq!(rt; client.table.find(ID), Some(slot));
@@ -322,13 +335,7 @@ fn two_lives_of_the_server(rt: HostRuntime) -> Result<(), Fail> {
 
 #[test]
 fn calls_that_cannot_start(rt: HostRuntime) -> Result<(), Fail> {
-    let settings = Settings {
-        calls: 1,
-        ..Settings::usual()
-    };
-    if settings.check().is_err() {
-        return Ok(());
-    }
+    let settings = one_call_at_a_time();
     let mut client = Client::open(rt.alloc(), &settings, u32::MAX - 1, 1)?;
     let empty = client.start(SERVER, Vec::new(rt.alloc()), 10);
     assert!(rt; matches!(&empty, Err((StartFault::Empty, _))));

@@ -4,7 +4,7 @@ use homa_plain::{Body, CallId};
 /// What a packet did.
 #[derive(Debug, PartialEq, Eq, Drop)]
 pub enum ServerDid {
-    /// Nothing, or the packet isn't one of the request that arrives.
+    /// Nothing: no row changed, and nothing is said.
     Nothing,
     /// The row in this slot may have changed.
     Touched(u32),
@@ -13,13 +13,13 @@ pub enum ServerDid {
     /// The request is whole, and the service ran; `opened` tells whether this packet opened the request, and `hold` for
     /// how many ticks the response is held back.
     Ran { slot: u32, opened: bool, hold: u32 },
-    /// There is no room for a further row; there are so many.
+    /// The call has no row, and there is no room for it: there are `rows` rows, as many as there may be.
     FullRows { rows: u32 },
-    /// There are too few free pages for the request.
+    /// The request needs `need` pages, of which only `free` are free.
     FullPages { need: u32, free: u32 },
-    /// The request would have been left with too many gaps.
+    /// The request in this slot would have been left with more than 64 gaps, and the piece wasn't taken.
     Gaps(u32),
-    /// This is said to the client. The slot is none where the call has no row.
+    /// The client is to be told this: BUSY, or UNKNOWN. The slot is none where the call has no row.
     Say { slot: Option<u32>, body: Body },
 }
 

@@ -253,10 +253,7 @@ impl Row {
             ),
             Body::Resend { .. } => {
                 self.forget_tries();
-                Ok(ServerDid::Say {
-                    slot: Some(slot),
-                    body: Body::Busy,
-                })
+                Ok(busy(slot))
             }
             Body::Busy => {
                 self.touch(now);
