@@ -1,12 +1,11 @@
 // Refusals that are read from the words of a line.
 ghost use Rattle.std.specs.Prelude.{◌≡◌, ◌^◌};
-ghost use Rattle.homa_plain.specs.Text.{start_word};
 ghost use Rattle.homa_lines.specs.FieldsLeft.{left};
 ghost use Rattle.homa_lines.specs.Refusals.{script_name, world_name, fault_name, plain_of, name_of, start_of, start_in, out_of_range_in, setting_in, two_in, world_in, long_in, fault_in};
 
 use crate::fields::{Fields, read_u32, read_u64};
 use homa_plain::{LineFault, Name, ScriptFault, SettingFault, StartFault, WorldFault};
-use homa_text::read_name;
+use homa_text::{read_name, start_bytes};
 
 // The refusals that are one word.
 const PLAIN: [LineFault; 14] = [
@@ -99,19 +98,6 @@ fn name_from(word: &[u8]) -> Option<Name>
     read_name(word)
 }
 
-// The word of a refused start.
-fn start_name(fault: StartFault) -> &'static [u8]
-    ensures { result.now ≡ start_word fault }
-{
-    match fault {
-        StartFault::Empty => b"Empty",
-        StartFault::TooLong => b"TooLong",
-        StartFault::SelfCall => b"SelfCall",
-        StartFault::CallsFull => b"CallsFull",
-        StartFault::SeqSpent => b"SeqSpent",
-    }
-}
-
 // Why a call can't start, as a word.
 #[tactic(auto, unfolding(crate::specs::Refusals::start_of))]
 fn start_from(word: &[u8]) -> Option<StartFault>
@@ -120,7 +106,7 @@ fn start_from(word: &[u8]) -> Option<StartFault>
     STARTS
         .iter()
         .copied()
-        .find(|fault| word == start_name(*fault))
+        .find(|fault| word == start_bytes(*fault))
 }
 
 // A setting that is out of its range, and no other word.

@@ -3,7 +3,6 @@ pub mod Reached
 pub mod Midway
 pub mod Ticking
 pub mod Beginning
-pub mod Counting
 pub mod Keeping
 pub mod Telling
 pub mod Stepping

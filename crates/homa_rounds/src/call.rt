@@ -13,12 +13,13 @@ ghost use Rattle.homa_rounds.specs.Stepped.{filled, HasStepped, MayStep};
 ghost use Rattle.homa_rounds.specs.Standing.{settings_of, rounds_of, hosts_of, frames_of, asked, answered, answers, own_clock, round_of, IsSameCall, CallGoesOn, opened, IsOpened};
 ghost use Rattle.homa_quiet.specs.Hosts.{client_id, server_id};
 
-use crate::filler::{Filler, counting_bytes};
+use crate::filler::Filler;
 use crate::frames::{KeptFrame, keep};
 use homa_host::Host;
 use homa_plain::{Entry, HostId, Settings};
 use homa_quiet::quiet_calls_end;
 use homa_seen::Outbox;
+use homa_text::counting_bytes;
 use msg_pool::Scratch;
 use std::alloc::{AllocError, Global};
 

@@ -1,11 +1,11 @@
 // The service of the quiet call.
-ghost use Rattle.std.specs.Prelude.{◌≡◌, ◌≤◌, IfOk};
-ghost use Rattle.homa_plain.specs.Script.{counting};
+ghost use Rattle.std.specs.Prelude.{◌≡◌, ◌≤◌};
 
 use homa_service::{Reply, Service};
+use homa_text::counting_bytes;
 use std::alloc::{AllocError, Global};
 
-/// Answers every request by `size` bytes, the remainders of their numbers by 256, and holds none back.
+/// Answers every request by `size` counting bytes (each is its place modulo 256), and holds none back.
 #[derive(Debug, Drop)]
 pub struct Filler {
     size: u32,
@@ -46,15 +46,4 @@ impl Service for Filler {
         self.served += 1;
         Ok(Reply::new(bytes, 0))
     }
-}
-
-/// So many bytes, the remainders of their numbers by 256.
-pub fn counting_bytes(alloc: Global, size: u32) -> Result<Vec<u8>, AllocError>
-    ensures { IfOk result (λ bytes. bytes.items ≡ counting 0 size) }
-{
-    let mut bytes = Vec::with_capacity(alloc, size as usize)?;
-    for i in 0..size {
-        bytes.push((i % 256) as u8)?;
-    }
-    Ok(bytes)
 }

@@ -2,13 +2,12 @@
 ghost use Rattle.std.specs.Prelude.{◌≡◌, ◌≤◌, OnOk, OnErr};
 ghost use Rattle.std.specs.List.{flat_map};
 ghost use Rattle.homa_io.specs.Outside.{HasRisen, appended, TookFront};
-ghost use Rattle.homa_plain.specs.Text.{told_numbers};
 ghost use Rattle.homa_plain.specs.Script.{event_text, setting_text, settings_text};
 
 use homa_io::{Sink, WriteFailed};
 use homa_plain::{Event, Name, Settings};
 use homa_text::Word::{Hex, Host, Number, Text};
-use homa_text::{name_bytes, put_line};
+use homa_text::{name_bytes, put_line, told_settings};
 
 /// Writes the line of an event, with these bytes where it is a call or an injection, as `put_line`
 /// of `homa_text` does. After an error the sink took a front of the line.
@@ -46,17 +45,6 @@ pub fn put_event<K: Sink>(sink: &mut K, event: &Event, bytes: &[u8]) -> Result<(
             put_line(sink, &[Text(b"shift"), Host(host), Number(u64::from(n))])
         }
     }
-}
-
-// How many settings are told.
-fn told(settings: &Settings) -> usize
-    ensures value { result ≡ told_numbers settings.now }
-    ensures fits { result ≤ 15 }
-{
-    if settings.wire != 1 {
-        return 15;
-    }
-    if settings.skew == 0 { 13 } else { 14 }
 }
 
 // Writes the lines of settings with their numbers.
@@ -103,6 +91,6 @@ pub fn put_settings<K: Sink>(sink: &mut K, settings: &Settings) -> Result<(), Wr
         (Name::Skew, s.skew),
         (Name::Wire, s.wire),
     ];
-    put_numbers(sink, &numbers[..told(s)])?;
+    put_numbers(sink, &numbers[..told_settings(s)])?;
     put_line(sink, &[Text(b"go")])
 }

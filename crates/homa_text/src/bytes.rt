@@ -6,6 +6,7 @@ ghost use Rattle.homa_plain.specs.Script.{bytes_of_word, hex_bytes, counting, co
 
 use crate::read_number;
 use homa_plain::ScriptFault;
+use std::alloc::{AllocError, Global};
 
 // The most bytes that a word counts.
 const MOST_COUNTED: u64 = 1_000_001;
@@ -17,6 +18,15 @@ fn count(out: &mut [u8])
     for (i, b) in out.iter_mut().enumerate() {
         *b = (i % 256) as u8;
     }
+}
+
+/// So many counting bytes: each is its place modulo 256. Fails where memory runs out.
+pub fn counting_bytes(alloc: Global, size: u32) -> Result<Vec<u8>, AllocError>
+    ensures { IfOk result (λ bytes. bytes.items ≡ counting 0 size) }
+{
+    let mut bytes = vec![in alloc; 0; size as usize]?;
+    count(&mut bytes);
+    Ok(bytes)
 }
 
 // Counting bytes, as many as these digits say.
@@ -50,8 +60,9 @@ fn read_hex(word: &[u8], out: &mut [u8]) -> Result<usize, ScriptFault>
 }
 
 /// Reads the bytes that a word of a schedule spells into the front of `out`, and answers how many they
-/// are: none for `-`, at most 1,000,001 counting ones for `*` and their number, and otherwise those of
-/// hex digits of either case. After an error `out` holds anything.
+/// are: none for `-`, at most 1,000,001 counting ones (each is its place modulo 256) for `*` and their
+/// number, and otherwise those of hex digits of either case. `BadNumber` for another number behind `*`,
+/// `BadHex` for what is no pairs of hex digits; `out` then holds anything.
 pub fn read_bytes(word: &[u8], out: &mut [u8]) -> Result<usize, ScriptFault>
     requires short { length word.now ≤ 2100000 }
     requires room { 1050000 ≤ length out.old }

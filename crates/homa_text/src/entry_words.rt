@@ -2,11 +2,12 @@
 ghost use Rattle.std.specs.Prelude.{◌≡◌, ◌+◌, ◌≤◌, ◌++◌, [], ◌∷◌, length, map, codes, decimal};
 ghost use Rattle.arrayvec.specs.ArrayVec.{array_vec_len};
 ghost use Rattle.homa_plain.specs.Entries.{plain};
-ghost use Rattle.homa_plain.specs.Text.{told_numbers, settings_words, cutoffs_words, call_word, host_word, id_word, hex_word, fault_words, ack_word, role_word, kind_word, body_words, why_word, entry_words};
+ghost use Rattle.homa_plain.specs.Text.{settings_words, cutoffs_words, call_word, host_word, id_word, hex_word, fault_words, ack_word, role_word, kind_word, body_words, why_word, entry_words};
 ghost use Rattle.homa_text.specs.Written.{word_text};
 
 use crate::Word::{self, Call, Hex, Host, Id, Number, Route, Text};
 use crate::fault_words::push_fault;
+use crate::name::told_settings;
 use arrayvec::ArrayVec;
 use homa_plain::{Body, CallId, Cutoffs, Entry, HostId, LineFault, Role, Settings, Why};
 
@@ -54,17 +55,6 @@ fn push_calls(list: &mut WordList<'_>, calls: &[(u32, u32)])
     }
 }
 
-// How many numbers of the settings are told.
-fn told(settings: &Settings) -> usize
-    ensures value { result ≡ told_numbers settings.now }
-    ensures fits { result ≤ 15 }
-{
-    if settings.wire != 1 {
-        return 15;
-    }
-    if settings.skew == 0 { 13 } else { 14 }
-}
-
 // The settings.
 fn words_of_settings<'a>(s: &Settings) -> WordList<'a>
     ensures { map word_text result.items ≡ settings_words s.now }
@@ -87,7 +77,7 @@ fn words_of_settings<'a>(s: &Settings) -> WordList<'a>
         s.wire,
     ];
     let mut list = list_of(b"settings", &[]);
-    push_numbers(&mut list, &numbers[..told(s)]);
+    push_numbers(&mut list, &numbers[..told_settings(s)]);
     list
 }
 

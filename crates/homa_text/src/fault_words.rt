@@ -6,7 +6,7 @@ ghost use Rattle.homa_text.specs.Written.{word_text};
 
 use crate::Word::{self, Number, Text};
 use crate::entry_words::{WordList, push_all};
-use crate::name::name_bytes;
+use crate::name::{name_bytes, start_bytes};
 use homa_plain::{LineFault, Name, ScriptFault, SettingFault, StartFault, WorldFault};
 
 // The name of a setting.
@@ -20,13 +20,7 @@ fn name_text(name: Name) -> Word<'static>
 fn start_text(fault: StartFault) -> Word<'static>
     ensures { word_text result ≡ start_word fault }
 {
-    match fault {
-        StartFault::Empty => Text(b"Empty"),
-        StartFault::TooLong => Text(b"TooLong"),
-        StartFault::SelfCall => Text(b"SelfCall"),
-        StartFault::CallsFull => Text(b"CallsFull"),
-        StartFault::SeqSpent => Text(b"SeqSpent"),
-    }
+    Text(start_bytes(fault))
 }
 
 // Adds why settings aren't valid.

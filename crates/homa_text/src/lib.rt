@@ -26,9 +26,9 @@ mod tests;
 mod words;
 mod written;
 
-pub use bytes::read_bytes;
+pub use bytes::{counting_bytes, read_bytes};
 pub use lines::{LineGot, Lines};
-pub use name::{name_bytes, read_name};
+pub use name::{name_bytes, read_name, start_bytes, told_settings};
 pub use number::read_number;
 pub use put::{put_entry, put_line};
 pub use words::word;

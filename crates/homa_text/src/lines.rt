@@ -39,8 +39,8 @@ pub struct Lines {
 impl Lines {
     ghost use Rattle.homa_text.specs.Lines.{reading, IsNext};
 
-    /// A reader of an input of at most `limit` bytes, in lines of at most `longest` bytes, the line
-    /// feed not counted. Room for the longest line is taken here, and none later.
+    /// A reader of an input of at most `limit` bytes, fewer than 2^64 - 1, in lines of at most `longest`
+    /// bytes, 4,100,000 or fewer, the line feed not counted. Room for the longest line is taken here, and none later.
     pub fn open(alloc: Global, limit: u64, longest: u32) -> Result<Lines, AllocError>
         requires longest { longest ≤ 4100000 }
         requires limit { limit < 2 ^ 64 - 1 }
@@ -94,7 +94,7 @@ impl Lines {
         }
     }
 
-    /// The last line, without its line feed.
+    /// The last line, without its line feed, where `next` answered `Line`; otherwise the bytes that were kept of what came.
     pub fn bytes(&self) -> &[u8]
         ensures { result.now ≡ (reading self.now).line }
     {
