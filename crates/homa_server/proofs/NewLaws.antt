@@ -147,6 +147,48 @@ module _ (t : Servers) (id : CallId) (none : get t.rows id ≡ None) where
                 moved = server_moved t rows pool pool' id _ are moves_new (changed-new t.rows id _ none) refl;
               }
 
+-- ---- the same of a table that is seen as this one
+
+module _ (t seen : Servers) (is : t ≡ seen) (id : CallId) (none : get seen.rows id ≡ None) where
+  none_here : get t.rows id ≡ None
+  none_here = subst (λ (x : Servers). get x.rows id ≡ None) (sym is) none
+
+  pub seen_said : (now order : ℕ) (pool : Pool) (what : Body) (payload : List ℕ) (a : Answer)
+      → runs_said (unknown_gets t.settings (moment_with t.host now order (free_pages pool) (len t.rows)) id what payload a).says ≡ true → (role : Role) (server : HostId) (inc at level : ℕ)
+      → runs_said (server_gets seen.settings (server_moment seen now order pool id) (packet_of id what payload role server inc at level) a (server_at pool seen.rows id)).says ≡ true
+  seen_said now order pool what payload a said role server inc at level =
+      subst (λ (x : Servers). runs_said (server_gets x.settings (server_moment x now order pool id) (packet_of id what payload role server inc at level) a (server_at pool x.rows id)).says ≡ true) is
+      (said_new t id none_here now order pool what payload role server inc at level a said)
+
+  module _ (now order : ℕ) (pool : Pool) (are : AreIn pool (request_at seen.rows)) (what : Body) (payload : List ℕ) (pool' : Pool) (told : List ℕ) (allowed : List ℕ → List ℕ → ℕ → Type 0) (answer : ServerDid) where
+    abbrev pub IsGiven : Option ServerRow → List ℕ → Type 0
+    IsGiven row response =
+        let k = moment_with t.host now order (free_pages pool) (len t.rows) in
+        IsAnswered t.settings k id (piece_in what payload) (λ (a : Answer). unknown_gets t.settings k id what payload a) row response told answer
+
+    are_here : AreIn pool (request_at t.rows)
+    are_here = subst (λ (x : Servers). AreIn pool (request_at x.rows)) (sym is) are
+
+    pub seen_none : Moves pool None pool' None → IsGiven None [] → IsSlotOf None answer → IfSaid answer IsAnswerBody → has_run answer ≡ false → pool' ≡ pool
+        → (role : Role) (server : HostId) (inc at level : ℕ) → Served seen pool (packet_of id what payload role server inc at level) now order seen pool' told allowed answer
+    seen_none moves did here said silent idle role server inc at level =
+        subst (λ (x : Servers). Served x pool (packet_of id what payload role server inc at level) now order x pool' told allowed answer) is
+        (served_none t id none_here now order pool what payload role server inc at level pool' told allowed answer are_here moves did here said silent idle)
+
+    module _ (place : ℕ) (row : HeldServer) (after : ServerRows) (made : after ≡ insert t.rows id (record { place = place; row = row })) (moves : Moves pool None pool' (state_part row.state)) where
+      pub seen_new : IsGiven (Some (seen_server pool' row)) (response_in row.state) → IsSlotOf (Some place) answer → (slot_in answer ≡ None → ⊥) → IfSaid answer IsAnswerBody
+          → IfRan answer (λ hold. allowed told (response_in row.state) hold)
+          → (role : Role) (server : HostId) (inc at level : ℕ) → Served seen pool (packet_of id what payload role server inc at level) now order (record t { rows = after }) pool' told allowed answer
+      seen_new did here named said ran role server inc at level =
+          subst (λ (x : Servers). Served x pool (packet_of id what payload role server inc at level) now order (record t { rows = after }) pool' told allowed answer) is
+          (subst (λ (rows : ServerRows). Served t pool (packet_of id what payload role server inc at level) now order (record t { rows = rows }) pool' told allowed answer) (sym made)
+          (served_new t id none_here now order pool what payload role server inc at level pool' told allowed answer are_here place row moves did here named said ran))
+
+      pub seen_still : AreIn pool' (request_at after)
+      seen_still =
+          subst (λ (rows : ServerRows). AreIn pool' (request_at rows)) (sym made)
+          (still_new t id none_here now order pool what payload Client t.host 0 0 0 pool' told allowed answer are_here place row moves)
+
 -- a packet that its client sent, as one of its call
 pub sent_is : (from host : HostId) (w : WirePacket) (payload : List ℕ) → w.role ≡ Client
     → packet_of (record { client = from; inc = w.inc; seq = w.seq }) w.body payload w.role (server_between w.role from host) w.sender w.at w.level ≡ packet_between from host w payload
