@@ -2,11 +2,9 @@
 use Rattle.std.specs.Prelude.{◌≡◌, ◌+◌, ◌<◌, ◌==◌, IfSome, ℕ, Bool, true, false, if◌then◌else◌, Option, None, Some}
 use Rattle.homa_plain.specs.declared.packet.Body.{Body}
 use Rattle.homa_plain.specs.declared.packet.Body.TheVariants as body
-use Rattle.homa_plain.specs.declared.settings.Settings.{Settings}
 use Rattle.homa_books.specs.declared.books.Books.{Books}
-use Rattle.homa_books.specs.declared.books.Duties.{Duties}
 use Rattle.homa_books.specs.declared.books.Arrival.{Arrival}
-use Rattle.homa_books.specs.Duties.{HaveRoom, AreOwn}
+use Rattle.homa_books.specs.Duties.{AreOwn}
 use Rattle.host_books.specs.Duty.{no_duties, client_duty, followed}
 use Rattle.homa_plain.specs.declared.id.CallId.{CallId}
 use Rattle.msg_pool.specs.Pool.{Pool}
@@ -26,25 +24,29 @@ use Rattle.homa_host.specs.declared.outcome.Head.{Head}
 
 -- ---- pieces
 
+-- what a packet's piece tells of its message: how long it is, and in a first piece the version of the cutoffs
 abbrev pub head_in : Body → Option Head
 head_in (body.Data size offset version service ack) = Some (record { length = size; version = if offset == 0 then Some version else None })
 head_in what = None
 
--- the same of no piece
+-- how long the message of a piece is
 abbrev pub length_in : Option Head → ℕ
 length_in None = 0
 length_in (Some h) = h.length
 
+-- the version of the cutoffs in a first piece
 abbrev pub version_in : Option Head → Option ℕ
 version_in None = None
 version_in (Some h) = h.version
 
 -- ---- which row changed
 
+-- a row that stays at a place, if there is one
 abbrev pub slot_change : Option ℕ → Change
 slot_change None = Nothing
 slot_change (Some slot) = Stays slot
 
+-- what became of the row that an answer of a client's table is about
 abbrev pub client_change : ClientDid → Change
 client_change client.Nothing = Nothing
 client_change (client.Touched slot) = Stays slot
@@ -56,10 +58,12 @@ client_change (client.Say slot what) = Stays slot
 client_change client.Ack = Nothing
 client_change (client.Forgotten slot id) = Goes slot
 
+-- the same of a client's row whose timer was due
 abbrev pub client_act_change : ℕ → ClientAct → Change
 client_act_change slot (act.Resend from to) = Stays slot
 client_act_change slot (act.Timeout q) = Goes slot
 
+-- what became of the row that an answer of a server's table is about
 abbrev pub server_change : ServerDid → Change
 server_change server.Nothing = Nothing
 server_change (server.Touched slot) = Stays slot
@@ -72,10 +76,12 @@ server_change (server.Say slot what) = slot_change slot
 
 -- ---- order numbers
 
+-- one where this is so
 abbrev pub one_if : Bool → ℕ
 one_if true = 1
 one_if false = 0
 
+-- how many order numbers an answer of a client's table takes: one where a message was opened
 abbrev pub client_orders : ClientDid → ℕ
 client_orders client.Nothing = 0
 client_orders (client.Touched slot) = 0
@@ -87,6 +93,7 @@ client_orders (client.Say slot what) = 0
 client_orders client.Ack = 0
 client_orders (client.Forgotten slot id) = 0
 
+-- the same of a server's table: one where a request was opened, and one where its response goes out at once
 abbrev pub server_orders : ServerDid → ℕ
 server_orders server.Nothing = 0
 server_orders (server.Touched slot) = 0
@@ -99,17 +106,19 @@ server_orders (server.Say slot what) = 0
 
 -- ---- by what changed
 
+-- this holds of the place of a row that stays
 abbrev pub IfStays : Change → (ℕ → Type 0) → Type 0
 IfStays Nothing P = Unit {0}
 IfStays (Stays slot) P = P slot
 IfStays (Goes slot) P = Unit {0}
 
+-- this holds of the place of a row that changed, whether or not it stays
 abbrev pub IfChanged : Change → (ℕ → Type 0) → Type 0
 IfChanged Nothing P = Unit {0}
 IfChanged (Stays slot) P = P slot
 IfChanged (Goes slot) P = P slot
 
--- the row was touched, and no more
+-- this holds of the place of a client's row that was touched, and no more
 abbrev pub IfTouched : ClientDid → (ℕ → Type 0) → Type 0
 IfTouched client.Nothing P = Unit {0}
 IfTouched (client.Touched slot) P = P slot
@@ -121,6 +130,7 @@ IfTouched (client.Say slot what) P = Unit {0}
 IfTouched client.Ack P = Unit {0}
 IfTouched (client.Forgotten slot id) P = Unit {0}
 
+-- the same of a server's row
 abbrev pub IfServerTouched : ServerDid → (ℕ → Type 0) → Type 0
 IfServerTouched server.Nothing P = Unit {0}
 IfServerTouched (server.Touched slot) P = P slot
@@ -132,19 +142,6 @@ IfServerTouched (server.Gaps slot) P = Unit {0}
 IfServerTouched (server.Say slot what) P = Unit {0}
 
 -- ---- what the books owe
-
--- a slot of a row that changed is given what the row has in the books now
-abbrev pub IsFollowed : ℕ → Change → Duties → Books → Books → Type 0
-IsFollowed base Nothing duties old new = new ≡ old
-IsFollowed base (Stays slot) duties old new = new ≡ followed (base + slot) duties old
-IsFollowed base (Goes slot) duties old new = new ≡ followed (base + slot) no_duties old
-
--- what holds where a slot of the books is to be given this
-pub record MayFollow (s : Settings) (base : ℕ) (change : Change) (duties : Duties) (b : Books) : Type 0 where
-  pub room : HaveRoom s b
-  pub within : IfChanged change (λ slot. base + slot < s.calls + s.served)
-  pub peer : IfStays change (λ slot. IfSome duties.arrival (λ (a : Arrival). a.peer.0 < s.hosts))
-  pub own : IfStays change (λ slot. AreOwn b (base + slot) duties)
 
 -- the row that stands at a place may have in the books what it has, where its part stands in this pool
 pub record MayStayClient (t : Clients) (b : Books) (slot : ℕ) : Type 0 where

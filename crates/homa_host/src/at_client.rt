@@ -26,7 +26,7 @@ ghost use Rattle.homa_host.specs.Outcomes.{head_in, IfTouched};
 
 use crate::outcome::{
     Change, Head, client_act_change, client_act_outcome, client_change, client_orders,
-    client_outcome, head_of,
+    client_outcome, head_of, new_end_of,
 };
 use crate::parts::{HostParts, follow_client};
 use homa_client::{ClientDid, ClientTable};
@@ -132,8 +132,7 @@ impl HostParts {
         let Some(part) = self.clients.incoming(slot) else {
             unreachable!()
         };
-        let window = self.control.settings().window;
-        let offset = part.len().min(part.arrived() + window);
+        let offset = new_end_of(part, self.control.settings().window);
         if offset <= part.granted() {
             return;
         }

@@ -31,7 +31,8 @@ ghost use Rattle.homa_host.specs.Outcomes.{head_in, IfServerTouched};
 
 use crate::at_client::Pumped;
 use crate::outcome::{
-    Change, Head, head_of, server_act_outcome, server_change, server_orders, server_outcome,
+    Change, Head, head_of, new_end_of, server_act_outcome, server_change, server_orders,
+    server_outcome,
 };
 use crate::parts::{HostParts, follow_server};
 use homa_control::{Leaving, Outcome, Said};
@@ -180,7 +181,7 @@ impl HostParts {
         let Some(part) = self.servers.incoming(place) else {
             unreachable!()
         };
-        let offset = part.len().min(part.arrived() + settings.window);
+        let offset = new_end_of(part, settings.window);
         if offset <= part.granted() {
             return;
         }

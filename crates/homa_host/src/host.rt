@@ -132,7 +132,7 @@ impl Host {
     }
 
     /// A datagram comes from a host, at tick `now` of this host's own clock. Where its service finds no memory for a
-    /// request that the datagram makes whole, nothing happens.
+    /// request that the datagram makes whole, nothing but `scratch` changes, which then holds the request.
     #[tactic(none)]
     pub fn deliver<V: Service>(
         &mut self,

@@ -4,10 +4,12 @@ ghost use Rattle.std.specs.Option.{option_and_then};
 ghost use Rattle.homa_plain.specs.declared.id.CallId.{CallId};
 ghost use Rattle.homa_plain.specs.declared.packet.Role.TheVariants.{Client as AsClient, Server as AsServer};
 ghost use Rattle.homa_plain.specs.declared.settings.Settings.{Settings};
+ghost use Rattle.homa_plain.specs.Choice.{new_end, seen as message_of};
 ghost use Rattle.homa_plain.specs.Packets.{Packet as PlainPacket};
 ghost use Rattle.homa_plain.specs.Rows.{ClientRow, ServerRow};
 ghost use Rattle.homa_plain.specs.Rules.{Moment, Answer, Did};
 ghost use Rattle.msg_pool.specs.Pool.{Pool};
+ghost use Rattle.homa_in.specs.Part.{IsIn, seen};
 ghost use Rattle.homa_parts.specs.Pooled.{IsInPool, AreIn, seen_part};
 ghost use Rattle.homa_parts.specs.Pieces.{piece_in};
 ghost use Rattle.homa_places.specs.Placed.{StandsAt, spot_at};
@@ -280,6 +282,16 @@ fn arrival_of(part: Option<&Incoming>) -> Option<Arrival>
         remaining: part.remaining(),
         order: part.order(),
     })
+}
+
+/// How far a message that isn't whole is to be granted: `window` bytes beyond as many as have arrived.
+pub(crate) fn new_end_of(part: &Incoming, window: u32) -> u32
+    requires window { window ≤ 1000000 }
+    ensures end { (pool : Pool) → IsIn pool part.now → result ≡ new_end window (message_of (seen pool part.now)) }
+    ensures within { result ≤ part.now.length }
+    ensures small { result ≤ 1000000 }
+{
+    part.len().min(part.arrived() + window)
 }
 
 // The entry of a message of which bytes wait to be sent.

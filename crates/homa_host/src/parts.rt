@@ -23,7 +23,7 @@ ghost use Rattle.host_books.specs.Duty.{client_duty, server_duty};
 ghost use Rattle.homa_host.specs.Parts.{host_of, seen_of, IsKept};
 ghost use Rattle.homa_host.specs.Amid.{Amid, Steady, HasRoom, IsBegun, HasCome};
 ghost use Rattle.homa_host.specs.ServerFollow.{MayStayServer, FollowedServer};
-ghost use Rattle.homa_host.specs.Outcomes.{IfStays, IfChanged, IsFollowed, MayFollow, MayStayClient, FollowedClient};
+ghost use Rattle.homa_host.specs.Outcomes.{IfStays, IfChanged, MayStayClient, FollowedClient};
 
 use crate::outcome::{Change, client_duties, server_duties};
 use homa_books::{Books, Duties};

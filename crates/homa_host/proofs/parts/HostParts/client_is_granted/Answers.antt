@@ -1,8 +1,6 @@
 -- The response in the row at a place is granted to.
-use Rattle.std.proofs.Common.{◌≡◌, ◌≤◌, ◌+◌, min, Some, option_copied, sym, ap, subst, ◌∙◌, arith}
+use Rattle.std.proofs.Common.{◌≡◌, ◌≤◌, Some, option_copied, sym, ap, subst, ◌∙◌, arith}
 use Rattle.std.specs.List.{Contains}
-use Rattle.plain_sets.specs.Maps.{len}
-use Rattle.plain_sets.proofs.KeySets.{len-key_set}
 use Rattle.homa_plain.specs.declared.id.CallId.{CallId}
 use Rattle.homa_plain.specs.declared.packet.Body.TheVariants as body
 use Rattle.homa_plain.specs.declared.packet.Role.TheVariants.{Client}
@@ -11,7 +9,6 @@ use Rattle.homa_plain.specs.Choice.{new_end}
 use Rattle.homa_plain.specs.Sending.{Arriving, arrivals, client_granted}
 use Rattle.homa_plain.specs.Steps.{Work, posts}
 use Rattle.homa_plain.specs.Timers.{OfClient}
-use Rattle.homa_in.specs.Part.{seen}
 use Rattle.homa_places.specs.Placed.{StandsAt}
 use Rattle.homa_client.specs.Held.{HeldRow, seen_row}
 use Rattle.homa_client.specs.AtTable.{Moved}
@@ -30,7 +27,7 @@ use Rattle.homa_host.proofs.parts.HostParts.client_is_granted.Goals.{After-grant
 -- how far the message that arrives in a row is granted, and how far it is to be
 record Ends (c : After-granted) (a : Arriving) : Type 0 where
   now : a.message.granted ≡ c.granted.result
-  new : new_end c.args.self.now.control.settings.window a.message ≡ c.min-offset.result
+  new : new_end c.args.self.now.control.settings.window a.message ≡ c.new_end_of-offset.result
 
 ends : (c : After-granted) (id : CallId) (r : HeldRow) (a : Arriving) → StandsAt c.args.self.now.clients.rows id c.args.slot r → a.place ≡ OfClient id → Contains (arrivals (host_of c.args.self.now)) a → Ends c a
 ends c id r a stands at arrives =
@@ -38,26 +35,25 @@ ends c id r a stands at arrives =
     let p = c.in-Some.part.now in
     let is : r.part ≡ Some p = sym (c.incoming.ensures id r stands) ∙ ap option_copied c.in-Some.is in
     let message = message_at h c.requires.kept id c.args.slot r stands p a is at arrives in
-    let arrived : c.arrived.result ≡ len (seen h.pool p).bytes = c.arrived.ensures.seen h.pool (part_inside h c.requires.kept id c.args.slot r stands p is) ∙ len-key_set (seen h.pool p).bytes in
     record {
       now = ap (λ m. m.granted) message ∙ sym c.granted.ensures.value;
-      new = ap (new_end h.control.settings.window) message ∙ sym (c.min-offset.ensures ∙ (λ i. min (c.len.ensures.value i) (arrived i + (c.settings.ensures.settings i).window)));
+      new = sym (c.new_end_of-offset.ensures.end h.pool (part_inside h c.requires.kept id c.args.slot r stands p is) ∙ (λ i. new_end (c.settings.ensures.settings i).window (sym message i)));
     }
 
 -- what is so of a row at the place once the table granted to it
 record HasGranted (c : After-granted-2) (id : CallId) (r : HeldRow) : Type 0 where
   facts : c.row-facts.result ≡ facts id r
-  moved : Moved id c.args.self.now.clients c.args.self.now.pool c.granted-2.new.self c.args.self.now.pool (Some (client_granted c.args.self.now.control.last c.min-offset.result (seen_row c.args.self.now.pool r)))
+  moved : Moved id c.args.self.now.clients c.args.self.now.pool c.granted-2.new.self c.args.self.now.pool (Some (client_granted c.args.self.now.control.last c.new_end_of-offset.result (seen_row c.args.self.now.pool r)))
   follows : CanFollowClient c.granted-2.new.self c.args.self.now.books (Stays c.args.slot)
 
 granted : (c : After-granted-2) (id : CallId) (r : HeldRow) → StandsAt c.args.self.now.clients.rows id c.args.slot r → HasGranted c id r
 granted c id r stands =
     let h = c.args.self.now in
-    let moved = subst (λ n. Moved id h.clients h.pool c.granted-2.new.self h.pool (Some (client_granted n c.min-offset.result (seen_row h.pool r)))) c.last.ensures (c.granted-2.ensures id r h.pool stands (inside h c.requires.kept id c.args.slot r stands)) in
+    let moved = subst (λ n. Moved id h.clients h.pool c.granted-2.new.self h.pool (Some (client_granted n c.new_end_of-offset.result (seen_row h.pool r)))) c.last.ensures (c.granted-2.ensures id r h.pool stands (inside h c.requires.kept id c.args.slot r stands)) in
     record {
       facts = c.row-facts.ensures.facts id r stands;
       moved = moved;
-      follows = granted_follows h c.requires.kept id c.args.slot r stands c.min-offset.result c.granted-2.new.self moved;
+      follows = granted_follows h c.requires.kept id c.args.slot r stands c.new_end_of-offset.result c.granted-2.new.self moved;
     }
 
 pub incoming-requires : goal.incoming-requires
@@ -102,13 +98,13 @@ returns-clause-kept c =
     let h = c.args.self.now in
     let a = c.requires.arrives in
     let x = granted (goal.at.returns-clause-kept c).After-granted-2 a.0 a.1 a.2 in
-    granted_kept h c.requires.kept a.0 c.args.slot a.1 a.2 c.min-offset.result c.granted-2.new.self x.moved c.follow_client.new.books c.follow_client.ensures c.post.new.self
+    granted_kept h c.requires.kept a.0 c.args.slot a.1 a.2 c.new_end_of-offset.result c.granted-2.new.self x.moved c.follow_client.new.books c.follow_client.ensures c.post.new.self
     (sound_told h.control c.post.new.self _ c.post.ensures.marks (omega (arith, c.requires.room.marks_left)) c.requires.kept.control) (beside_told h.control c.post.new.self _ c.post.ensures.marks)
 
 pub returns-clause-step : goal.returns-clause-step
 returns-clause-step c = λ id r a w stands at arrives amid.
     let h = c.args.self.now in
-    let offset = c.min-offset.result in
+    let offset = c.new_end_of-offset.result in
     let x = granted (goal.at.returns-clause-step c).After-granted-2 id r stands in
     let e = ends (goal.at.returns-clause-step c).After-granted id r a stands at arrives in
     let posted : (w : Work) → IsAt w h.control c.args.out.now → IsAt (posts h.control.settings Client id r.server (body.Grant offset c.args.prio) w) c.post.new.self c.post.new.out = λ w at.
