@@ -6,6 +6,7 @@ use Rattle.homa_seen.specs.Seen.{Seen}
 use Rattle.homa_seen.specs.Marks.{shown_entries}
 use Rattle.homa_seen.specs.Done.{HoldsSent}
 use Rattle.homa_stage.specs.declared.stage.Stage.{Stage}
+use Rattle.homa_stage.specs.Staged.{frames_of, whole_of}
 
 -- an entry's number, if it is of a packet, is below 64
 abbrev pub IsFew : PlainEntry → Type 0
@@ -16,9 +17,9 @@ module _ {S : Type 0} where
   -- the entries of a host's last step
   abbrev pub entries_of : Stage S → Option Seen → List PlainEntry
   entries_of st None = []
-  entries_of st (Some h) = shown_entries h st.outbox st.scratch
+  entries_of st (Some h) = shown_entries h (frames_of st) (whole_of st)
 
   -- a host whose step was the last one left its packets with it
   abbrev pub HasLeft : Stage S → Option Seen → Type 0
   HasLeft st None = ⊥
-  HasLeft st (Some h) = HoldsSent h st.outbox × AllByRecursion IsFew (shown_entries h st.outbox st.scratch)
+  HasLeft st (Some h) = HoldsSent h (frames_of st) × AllByRecursion IsFew (shown_entries h (frames_of st) (whole_of st))

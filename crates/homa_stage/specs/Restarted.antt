@@ -8,6 +8,7 @@ use Rattle.homa_service.specs.Table.{last_of, front_of}
 use Rattle.homa_stage.specs.declared.stage.Stage.{Stage}
 use Rattle.homa_stage.specs.Staged.{Known, known_of, seats_of, spares_of}
 
+-- there is one at least
 abbrev pub IsAny : {A : Type 0} → List A → Type 0
 IsAny [] = ⊥
 IsAny (x ∷ xs) = Unit {0}

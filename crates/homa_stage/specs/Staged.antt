@@ -8,6 +8,7 @@ use Rattle.homa_plain.specs.Packets.{Packet}
 use Rattle.homa_plain.specs.World.{new_hosts}
 use Rattle.homa_plain.specs.Rules.{Answer}
 use Rattle.homa_plain.specs.Steps.{Work, arrival_step}
+use Rattle.homa_seen.specs.declared.outbox.SentFrame.{SentFrame}
 use Rattle.homa_seen.specs.Seen.{Seen}
 use Rattle.homa_seen.specs.Marks.{has_ran, IsAllowed}
 use Rattle.homa_seen.specs.Done.{IsDone}
@@ -19,28 +20,40 @@ use Rattle.homa_stage.specs.declared.stage.Stage.{Stage}
 abbrev pub hosts_of : {S : Type 0} → Stage S → List Seen
 hosts_of st = st.hosts.items
 
--- a host with its settings, without what its last step told
+-- the frames of the last step
+abbrev pub frames_of : {S : Type 0} → Stage S → List SentFrame
+frames_of st = st.outbox
+
+-- the message that became whole in it
+abbrev pub whole_of : {S : Type 0} → Stage S → List ℕ
+whole_of st = st.scratch
+
+-- a host with its settings
 pub record Known : Type 0 where
   pub settings : Settings
   pub host : Host
 
+-- a host that is seen, without what its last step told
 abbrev pub known : Seen → Known
 known h = record { settings = h.settings; host = h.host }
 
+-- the hosts without what their last steps told
 abbrev pub known_of : {S : Type 0} → Stage S → List Known
 known_of st = map known (hosts_of st)
 
--- the first so many hosts, each in its first life
+-- a host with these settings
 abbrev pub known_in : Settings → Host → Known
 known_in s h = record { settings = s; host = h }
 
+-- the first so many hosts, each in its first life
 abbrev pub first_known : Settings → ℕ → List Known
 first_known s n = map (known_in s) (new_hosts s 0 (replicate n 1))
 
--- the hosts' boxes, and those of hosts that restart
+-- the hosts' boxes
 abbrev pub seats_of : {S : Type 0} → Stage S → List (Option S)
 seats_of st = places st.services
 
+-- the boxes of hosts that restart
 abbrev pub spares_of : {S : Type 0} → Stage S → List S
 spares_of st = spares st.services
 
@@ -53,7 +66,7 @@ pub record MayStep (now : ℕ) (h : Seen) : Type 0 where
 pub record HasStepped {S : Type 0} (now : ℕ) (id : HostId) (h : Seen) (step : Work) (old new : Stage S) : Type 0 where
   pub after : Seen
   pub hosts : hosts_of new ≡ slice_set (hosts_of old) id.0 after
-  pub done : IsDone h step after new.outbox new.scratch
+  pub done : IsDone h step after (frames_of new) (whole_of new)
   pub same : IsSameHost h after
   pub last : after.host.last ≡ now
 
@@ -72,7 +85,7 @@ pub record HasCome {S : Type 0} (served : S → ℕ) (allows : S → ℕ → ℕ
   pub stepped : HasStepped now id h (arrival_step h.settings h.host now o answer) old new
   pub lent : IsLent allows id old new
   pub count : served lent.seat ≡ (if has_ran stepped.after.marks then served lent.had + 1 else served lent.had)
-  pub allowed : AllByRecursion (IsAllowed stepped.after.host (allows lent.had (served lent.had)) new.scratch) stepped.after.marks
+  pub allowed : AllByRecursion (IsAllowed stepped.after.host (allows lent.had (served lent.had)) (whole_of new)) stepped.after.marks
 
 -- no packet came, and the box gave no answer
 pub record HasNotCome {S : Type 0} (served : S → ℕ) (allows : S → ℕ → ℕ → List ℕ → List ℕ → ℕ → Type 0) (id : HostId) (old new : Stage S) : Type 0 where

@@ -1,8 +1,9 @@
 // The hosts and their services, with the room that a step needs.
-ghost use Rattle.std.specs.Prelude.{◌≡◌, ◌≢◌, ◌<◌, ◌≤◌, ◌+◌, ◌^◌, ◌↔◌, ℕ, IsTrue, IsSome, IfSome, IfOk, IfErr, OnOk, OnErr, Some, [], List, map, take, drop, length, slice_get, slice_set};
+ghost use Rattle.std.specs.Prelude.{◌≡◌, ◌≢◌, ◌<◌, ◌≤◌, ◌+◌, ◌^◌, ◌↔◌, ℕ, true, IsTrue, IsSome, IfSome, IfOk, IfErr, OnOk, OnErr, Some, [], List, map, take, drop, length, slice_get, slice_set};
 ghost use Rattle.homa_plain.specs.Settings.{IsValid};
 ghost use Rattle.homa_plain.specs.Host.{new_host};
-ghost use Rattle.homa_plain.specs.Steps.{start_fault, call_step, turn_step};
+ghost use Rattle.homa_plain.specs.Rules.{Answer};
+ghost use Rattle.homa_plain.specs.Steps.{start_fault, call_step, arrival_step, turn_step, has_run};
 ghost use Rattle.homa_seen.specs.Seen.{Seen};
 ghost use Rattle.homa_seen.specs.Done.{arriving, HoldsSent};
 ghost use Rattle.homa_seen.specs.Marks.{shown_entries};
@@ -10,11 +11,11 @@ ghost use Rattle.homa_plain.specs.Entries.{plain};
 ghost use Rattle.homa_service.specs.Table.{places, place_of, last_of, front_of};
 ghost use Rattle.homa_text.specs.Told.{HasLine};
 ghost use Rattle.homa_stage.specs.Left.{entries_of, HasLeft, IsFew};
-ghost use Rattle.homa_stage.specs.Staged.{hosts_of, known, known_of, known_in, first_known, seats_of, spares_of, MayStep, HasStepped, HasCome, HasNotCome};
+ghost use Rattle.homa_stage.specs.Staged.{hosts_of, frames_of, known, known_of, known_in, first_known, seats_of, spares_of, MayStep, HasStepped, HasCome, HasNotCome};
 ghost use Rattle.homa_stage.specs.Restarted.{HasRestarted, HasNoSpare};
 
 use homa_host::Host;
-use homa_plain::{CallId, Entry, HostId, Settings, StartFault, WorldFault};
+use homa_plain::{Entry, HostId, Settings, StartFault, WorldFault};
 use homa_seen::Outbox;
 use homa_service::{Service, ServiceTable};
 use msg_pool::Scratch;
@@ -68,12 +69,13 @@ impl<S: Service> Stage<S> {
 
     /// The frames of the last step.
     pub fn outbox(&self) -> &Outbox
-        ensures { result.now ≡ self.now.outbox }
+        ensures { result.now ≡ frames_of self.now }
     {
         &self.outbox
     }
 
-    /// A call of a service, at tick `now` of the client's own clock, or why it can't start.
+    /// A call of a service, at tick `now` of the client's own clock; or why it can't start: nothing happens then, and the
+    /// request is dropped.
     pub fn call(
         &mut self,
         client: HostId,
@@ -81,22 +83,27 @@ impl<S: Service> Stage<S> {
         number: u8,
         request: Vec<u8>,
         now: u64,
-    ) -> Result<CallId, (StartFault, Vec<u8>)>
+    ) -> Result<(), StartFault>
         requires client { client.0 < length (hosts_of self.old) }
         requires server { IfSome (slice_get (hosts_of self.old) client.0) (λ h. server.0 < h.settings.hosts) }
         requires may { IfSome (slice_get (hosts_of self.old) client.0) (MayStep now) }
         requires now { now ≤ 1000000002000 }
         ensures step { OnOk result (IfSome (slice_get (hosts_of self.old) client.0) (λ h. HasStepped now client h (call_step h.settings h.host now server number request.items) self.old self.new)) }
         ensures no_fault { OnOk result (IfSome (slice_get (hosts_of self.old) client.0) (λ h. start_fault h.settings h.host server request.items ≡ None)) }
-        ensures fault { IfErr result (λ e. IfSome (slice_get (hosts_of self.old) client.0) (λ h. start_fault h.settings h.host server request.items ≡ Some e.0)) }
+        ensures fault { IfErr result (λ e. IfSome (slice_get (hosts_of self.old) client.0) (λ h. start_fault h.settings h.host server request.items ≡ Some e)) }
         ensures known { OnErr result (known_of self.new ≡ known_of self.old) }
         ensures seats { seats_of self.new ≡ seats_of self.old }
         ensures spares { spares_of self.new ≡ spares_of self.old }
     {
-        self.hosts[client.0 as usize].call(server, number, request, now, &mut self.outbox)
+        let host = &mut self.hosts[client.0 as usize];
+        if let Err((fault, _)) = host.call(server, number, request, now, &mut self.outbox) {
+            return Err(fault);
+        }
+        Ok(())
     }
 
-    /// A datagram comes to a host from another one, at tick `now` of its own clock.
+    /// A datagram comes to a host from another one, at tick `now` of its own clock. Where its service finds no memory for a
+    /// request that the datagram makes whole, nothing happens.
     pub fn deliver(
         &mut self,
         alloc: Global,
@@ -114,6 +121,8 @@ impl<S: Service> Stage<S> {
         requires served { IfSome (place_of (seats_of self.old) to.0) (λ service. S.served service < 2 ^ 63) }
         ensures step { OnOk result (IfSome (slice_get (hosts_of self.old) to.0) (λ h.
             HasCome S.served S.allows now to h (arriving h from frame.now) self.old self.new)) }
+        ensures whole { OnErr result (IfSome (slice_get (hosts_of self.old) to.0) (λ h. (a : Answer)
+            → has_run (arrival_step h.settings h.host now (arriving h from frame.now) a).told ≡ true)) }
         ensures none { OnErr result (HasNotCome S.served S.allows to self.old self.new) }
     {
         let mut service = self.services.take(to);

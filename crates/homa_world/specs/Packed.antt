@@ -13,6 +13,7 @@ IsShownBy s now sent (WholePacket tick f) = (tick ≡ sent.tick) × (f ≡ recor
 IsShownBy s now sent (LatePacket tick) = (s.wire ≡ 1) × (tick ≡ sent.tick) × (tick + s.life < now)
 IsShownBy s now sent (StalePacket to at) = (s.wire ≡ 2) × (to ≡ receiver sent.packet) × (at ≡ sent.packet.at) × (at + s.life + 2 * s.skew < now)
 
+-- the same of each packet, in order
 abbrev pub AreShownBy : Settings → ℕ → List SentPacket → List KeptPacket → Type 0
 AreShownBy s now [] [] = Unit {0}
 AreShownBy s now [] (k ∷ ks) = ⊥

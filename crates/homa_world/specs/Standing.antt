@@ -26,6 +26,7 @@ use Rattle.homa_world.specs.Boxes.{Allows, counted, all_counted, may_tell}
 
 -- ---- what the last event told
 
+-- the entry that stands before those of a host's step, if there is one
 abbrev pub first_told : HostId → First → List ℕ → List PlainEntry
 first_told host first.Nothing bytes = []
 first_told host (first.Delivered packet) bytes = PlainDeliver packet ∷ []
@@ -50,6 +51,7 @@ module _ {S : Type 0} where
     pub packets : AreShownBy world.settings world.clock w.packets (kept_all world.packets)
     pub spares : w.spares ≡ length (spares_of world.stage)
 
+  -- the entries of an event that was this one
   abbrev pub told_by : WorldParts S → Last → List PlainEntry
   told_by w last.Nothing = []
   told_by w last.Ticked = PlainClock w.clock ∷ []
@@ -57,6 +59,7 @@ module _ {S : Type 0} where
   told_by w (last.Shifted host n) = PlainShift host n ∷ []
   told_by w (last.Stepped host first base) = first_told host first w.injected.items ++ map (numbered base) (entries_of w.stage (slice_get (hosts_of w.stage) host.0))
 
+  -- the entries of the last event
   abbrev pub told_of : WorldParts S → List PlainEntry
   told_of w = told_by w w.last
 
@@ -66,15 +69,18 @@ module _ {S : Type 0} where
 
   -- ---- what is so between two events
 
+  -- a step left its packets at its host, and there are numbers for them
   abbrev pub IsLast : WorldParts S → Last → Type 0
   IsLast w (last.Stepped host first base) = (base + 64 < 2 ^ 64) × HasLeft w.stage (slice_get (hosts_of w.stage) host.0)
   IsLast w other = Unit {0}
 
+  -- a box stands there, which answered no more often than there were events
   pub record SeatFits (served : S → ℕ) (applied : ℕ) (o : Option S) : Type 0 where
     pub seat : S
     pub is : o ≡ Some seat
     pub count : served seat ≤ applied
 
+  -- the settings hold of all parts, whose numbers are within their bounds
   pub record IsKept (served : S → ℕ) (w : WorldParts S) : Type 0 where
     pub valid : IsValid w.settings
     pub clock : w.clock ≤ last_tick
@@ -103,5 +109,6 @@ module _ {S : Type 0} (served : S → ℕ) (allows : Allows S) where
 abbrev pub Refuses : {S : Type 0} → WorldParts S → Happening → WorldFault → Type 0
 Refuses old e fault = (w : PlainWorld) → StandsFor old w → IsNotApplied old.settings w e fault
 
+-- it still stands for each plain world that it stood for
 abbrev pub StillStands : {S : Type 0} → WorldParts S → WorldParts S → Type 0
 StillStands old new = (w : PlainWorld) → StandsFor old w → StandsFor new w

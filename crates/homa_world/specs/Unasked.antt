@@ -18,6 +18,7 @@ module _ {S : Type 0} (served : S → ℕ) (allows : Allows S) where
     by_entry (PlainRestart host inc) e rest = (tt, rest (slice_set seats host.0 (last_of spares)) (front_of spares) e)
     by_entry entry e rest = (tt, rest seats spares e)
 
+  -- lines of a replay without an answer
   pub unasked_allowed : (boxes : List S) (told : List PlainEntry) → shown told ≡ [] → AreAllowed served allows boxes told
   unasked_allowed boxes [] e = e
   unasked_allowed boxes (PlainSettings s ∷ told) e = none_told (all_counted served (map Some (take s.hosts boxes))) (map (counted served) (drop s.hosts boxes)) told e

@@ -83,9 +83,7 @@ impl<S: Service> WorldParts<S> {
             }
             Some(Kept::Stale { to, at }) => (to, at),
         };
-        if let Err(fault) = self.stale_comes(alloc, to, at) {
-            return Err(fault);
-        }
+        self.stale_comes(alloc, to, at)?;
         Ok(to)
     }
 

@@ -8,7 +8,7 @@ ghost use Rattle.homa_packets.specs.Kept.{WholePacket};
 ghost use Rattle.homa_packets.specs.All.{kept_all, settings_of, open_tick, HasRoomFor};
 ghost use Rattle.homa_text.specs.Told.{HasLine};
 ghost use Rattle.homa_world.specs.declared.parts.Last.TheVariants as last;
-ghost use Rattle.homa_stage.specs.Staged.{hosts_of};
+ghost use Rattle.homa_stage.specs.Staged.{hosts_of, frames_of};
 ghost use Rattle.homa_world.specs.Packed.{frame_kept, IsShort};
 ghost use Rattle.homa_world.specs.Standing.{told_of, IsKept, Applies, Refuses, StillStands, AllowsNoMore};
 
@@ -25,16 +25,21 @@ const LAST_TICK: u64 = 1_000_000_000_000;
 /// What the last event was, as far as its entries need it.
 #[derive(Clone, Copy)]
 pub enum Last {
+    /// Nothing is told: there was none yet, or it was refused.
     Nothing,
+    /// The clock went on.
     Ticked,
+    /// A host restarted, in this incarnation.
     Restarted {
         host: HostId,
         inc: u32,
     },
+    /// A host's own clock was set to be `n` ticks ahead.
     Shifted {
         host: HostId,
         n: u32,
     },
+    /// A host did a step, whose packets have the numbers from `base` on.
     Stepped {
         host: HostId,
         first: First,
@@ -45,8 +50,11 @@ pub enum Last {
 /// What stands before the entries of a host's step.
 #[derive(Clone, Copy)]
 pub enum First {
+    /// Nothing: it was a call or a turn.
     Nothing,
+    /// The delivery of the packet with this number.
     Delivered(u64),
+    /// The injection of a datagram that no host sent.
     Injected,
 }
 
@@ -68,7 +76,7 @@ pub struct WorldParts<S> {
 
 impl<S: Service> WorldParts<S> {
     // A host's own clock.
-    pub fn own_clock(&self, host: HostId) -> u64
+    pub(crate) fn own_clock(&self, host: HostId) -> u64
         requires clock { self.now.clock ≤ 1000000000000 }
         requires lead { host.0 < length self.now.leads.items }
         ensures { result ≡ self.now.clock + slice_index_or self.now.leads.items host.0 0 }
@@ -98,7 +106,7 @@ impl<S: Service> WorldParts<S> {
     }
 
     // Room for the packets of a step. Nothing is told any more of the last event.
-    pub fn make_room(&mut self, alloc: Global) -> Result<(), AllocError>
+    pub(crate) fn make_room(&mut self, alloc: Global) -> Result<(), AllocError>
         requires kept { IsKept S.served self.old }
         requires few { self.old.applied < 2 ^ 57 }
         ensures still { StillStands self.old self.new }
@@ -112,14 +120,14 @@ impl<S: Service> WorldParts<S> {
     }
 
     // The packets of a host's step are on their way.
-    pub fn finish(&mut self, host: HostId, first: First)
+    pub(crate) fn finish(&mut self, host: HostId, first: First)
         requires room { HasRoomFor self.old.packets 64 }
-        requires short { AllByRecursion IsShort self.old.stage.outbox }
+        requires short { AllByRecursion IsShort (frames_of self.old.stage) }
         requires few { self.old.applied < 2 ^ 57 }
         ensures same { self.new ≡ record self.old { packets = self.new.packets; last = last.Stepped host first (length (kept_all self.old.packets)); applied = self.old.applied + 1 } }
-        ensures sent { kept_all self.new.packets ≡ kept_all self.old.packets ++ map (frame_kept (open_tick self.old.packets)) self.old.stage.outbox }
+        ensures sent { kept_all self.new.packets ≡ kept_all self.old.packets ++ map (frame_kept (open_tick self.old.packets)) (frames_of self.old.stage) }
         ensures settings { settings_of self.new.packets ≡ settings_of self.old.packets }
-        ensures few { length self.old.stage.outbox ≤ 64 }
+        ensures few { length (frames_of self.old.stage) ≤ 64 }
     {
         let base = self.packets.count();
         send_all(&mut self.packets, self.stage.outbox());
@@ -183,7 +191,7 @@ impl<S: Service> WorldParts<S> {
             return Err(WorldFault::NoMemory);
         };
         let now = self.own_clock(client);
-        if let Err((fault, _)) = self.stage.call(client, server, number, request, now) {
+        if let Err(fault) = self.stage.call(client, server, number, request, now) {
             return Err(WorldFault::Start(fault));
         }
         self.finish(client, First::Nothing);

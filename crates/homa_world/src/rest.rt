@@ -61,9 +61,7 @@ impl<S: Service> WorldParts<S> {
         let before = self.stage.host(host);
         let (inc, last) = (before.incarnation() + 1, before.last());
         self.last = Last::Nothing;
-        if let Err(fault) = self.stage.restart(alloc, host, inc, last, &self.settings) {
-            return Err(fault);
-        }
+        self.stage.restart(alloc, host, inc, last, &self.settings)?;
         self.last = Last::Restarted { host, inc };
         self.applied += 1;
         Ok(())

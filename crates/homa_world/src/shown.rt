@@ -27,7 +27,7 @@ const LEVEL: usize = 3;
 
 impl<S: Service> WorldParts<S> {
     // How many live calls a host has; none where there is no such host.
-    pub fn live(&self, host: HostId) -> u32
+    pub(crate) fn live(&self, host: HostId) -> u32
         ensures { (w : PlainWorld) → StandsFor self.now w → MatchOption (host_at w host) (result ≡ 0) (λ h. result ≡ len h.clients) }
     {
         if !self.stage.has(host) {
@@ -37,7 +37,7 @@ impl<S: Service> WorldParts<S> {
     }
 
     // Whether no host has a live call.
-    pub fn is_idle(&self) -> bool
+    pub(crate) fn is_idle(&self) -> bool
         requires kept { IsKept S.served self.now }
         ensures { (w : PlainWorld) → StandsFor self.now w → result ≡ list_all (λ (h : PlainHost). len h.clients == 0) w.hosts }
     {
@@ -50,20 +50,20 @@ impl<S: Service> WorldParts<S> {
     }
 
     // What is shown of the packet with this number.
-    pub fn passing(&self, n: u64) -> Option<Passing>
+    pub(crate) fn passing(&self, n: u64) -> Option<Passing>
         ensures { (w : PlainWorld) → StandsFor self.now w → IsOf self.now.settings w n result }
     {
         match self.packets.get(n) {
             Some(
                 Kept::Whole {
                     tick,
-                    from: _from,
                     to,
                     bytes,
+                    ..
                 },
             ) => passing_of(tick, to, bytes),
-            Some(Kept::Late { tick: _tick }) => None,
-            Some(Kept::Stale { to: _to, at: _at }) => None,
+            Some(Kept::Late { .. }) => None,
+            Some(Kept::Stale { .. }) => None,
             None => None,
         }
     }

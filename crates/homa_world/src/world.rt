@@ -101,7 +101,7 @@ impl<S: Service> World<S> {
     }
 
     /// What is shown of the packet with this number, counted from 0; None where it was sent at an earlier tick and is too old
-    /// to be kept whole, or wasn't sent.
+    /// to be kept whole, or wasn't sent. With version 2 nothing is said of where it is None.
     pub fn packet(&self, n: u64) -> Option<Passing>
         ensures { (w : PlainWorld) → StandsFor self.now w → IsOf self.now.settings w n result }
     {

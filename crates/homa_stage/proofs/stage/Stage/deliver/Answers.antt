@@ -31,6 +31,10 @@ returns-clause-step g c =
     (both_ok _ _ c.deliver-came.result c.deliver-came.ensures.step
     (both_ok _ _ c.deliver-came.result c.deliver-came.ensures.last (both_ok _ _ c.deliver-came.result c.deliver-came.ensures.served c.deliver-came.ensures.allowed))))
 
+pub returns-clause-whole : goal.returns-clause-whole
+returns-clause-whole g c =
+    on_err_weaker _ _ c.deliver-came.result (λ ran. at_read _ c.args.self.now.hosts.items c.args.to.0 c.index_mut.result.now c.requires.to c.index_mut.ensures.value ran) c.deliver-came.ensures.whole
+
 pub returns-clause-none : goal.returns-clause-none
 returns-clause-none g c =
     on_err_weaker _ _ c.deliver-came.result (λ same. record {

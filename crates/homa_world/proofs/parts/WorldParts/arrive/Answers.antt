@@ -47,7 +47,7 @@ pub stale_comes-requires-clause-at : goal.stale_comes-requires-clause-at
 stale_comes-requires-clause-at g c = at_index (IsFromHost c.args.self.now.settings.hosts) (kept_all c.args.self.now.packets) c.args.number (StalePacket c.in-Some-Stale.to c.in-Some-Stale.at) c.requires.kept.froms (c.in-Some-Stale.ensures ∙ ap (λ k. Some (kept_seen k)) c.in-Some-Stale.field-0-is)
 
 pub returns-clause-came : goal.returns-clause-came
-returns-clause-came g c = c.in_default.ensures.came c.args.number (c.in-Some-Stale.ensures ∙ ap (λ k. Some (kept_seen k)) c.in-Some-Stale.field-0-is)
+returns-clause-came g c = c.in_ok-stale_comes.ensures.came c.args.number (c.in-Some-Stale.ensures ∙ ap (λ k. Some (kept_seen k)) c.in-Some-Stale.field-0-is)
 
 pub returns-in-Err-clause-allows : goal.returns-in-Err-clause-allows
 returns-in-Err-clause-allows g c = not_came_tells _ _ c.args.self.now (record c.args.self.now { stage = c.deliver.new.self }) c.in-Some-Whole.to c.in-Err.ensures.none

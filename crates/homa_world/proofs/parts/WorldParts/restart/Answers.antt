@@ -1,8 +1,10 @@
-use Rattle.std.proofs.Common.{refl, ap, ◌+◌, length, arith, []}
+use Rattle.std.proofs.Common.{Result, Ok, Err, refl, sym, subst, ap, ◌+◌, length, arith, []}
+use Rattle.std.specs.Prelude.{IfErr, IsErrAnd}
 use Rattle.homa_plain.specs.declared.event.Event.TheVariants as event
 use Rattle.homa_plain.specs.declared.fault.WorldFault.TheVariants as fault
 use Rattle.world_events.proofs.Events as events
 use Rattle.homa_stage.specs.Staged.{hosts_of}
+use Rattle.homa_world.specs.Standing.{Refuses}
 use Rattle.homa_world.proofs.KeptLaws.{refused_by}
 use Rattle.homa_world.proofs.EventLaws.{not_there, no_host}
 use Rattle.homa_world.proofs.RestLaws.{next_life, clock_fits, not_restarted, still_kept, restart_both}
@@ -19,14 +21,19 @@ overflow_add-inc g c = omega (arith, c.incarnation.ensures, next_life _ (λ seat
 pub restart-requires-clause-last : goal.restart-requires-clause-last
 restart-requires-clause-last g c = omega (arith, c.last-last.ensures, clock_fits _ (λ seat count number q r hold. Unit {0}) c.args.self.now c.args.host c.host-before.result.now c.host-before.ensures c.requires.kept)
 
-pub returns-in-Err-clause-fault : goal.returns-in-Err-clause-fault
-returns-in-Err-clause-fault g c = not_restarted (λ _. 0) (λ seat count number q r hold. Unit {0}) c.args.self.now c.args.host c.host-before.result.now c.host-before.ensures c.in-Err.fault c.in-Err.ensures.fault
+-- what is so of an error that was handed on
+handed : {T E : Type 0} (r : Result T E) (P Q : E → Type 0) → IsErrAnd r P → ((y : E) → P y → Q y) → IfErr r Q
+handed (Ok x) P Q is f = tt
+handed (Err y) P Q is f = f y is
 
-pub returns-in-Err-clause-kept : goal.returns-in-Err-clause-kept
-returns-in-Err-clause-kept g c = still_kept _ (λ seat count number q r hold. Unit {0}) c.args.self.now c.args.host c.host-before.result.now c.host-before.ensures c.restart.new.self c.in-Err.ensures.known c.in-Err.ensures.seats c.in-Err.ensures.spares c.requires.kept
+pub returns-in_err-restart-clause-fault : goal.returns-in_err-restart-clause-fault
+returns-in_err-restart-clause-fault g c = handed c.from_residual.result _ _ c.from_residual.ensures.1 (λ y e. subst (Refuses c.args.self.now (record { event = event.Restart c.args.host; bytes = [] })) (sym e) (not_restarted (λ _. 0) (λ seat count number q r hold. Unit {0}) c.args.self.now c.args.host c.host-before.result.now c.host-before.ensures c.in_err-restart.field-0.0 c.in_err-restart.ensures.fault))
+
+pub returns-in_err-restart-clause-kept : goal.returns-in_err-restart-clause-kept
+returns-in_err-restart-clause-kept g c = still_kept _ (λ seat count number q r hold. Unit {0}) c.args.self.now c.args.host c.host-before.result.now c.host-before.ensures c.restart.new.self c.in_err-restart.ensures.known c.in_err-restart.ensures.seats c.in_err-restart.ensures.spares c.requires.kept
 
 pub returns-clause-done : goal.returns-clause-done
-returns-clause-done g c = (restart_both _ _ c.args.self.now c.args.host c.host-before.result.now c.host-before.ensures c.restart.new.self (c.incarnation.result + 1) c.last-last.result (ap (λ n. n + 1) c.incarnation.ensures) c.last-last.ensures c.in_default.ensures.done c.requires.kept).0
+returns-clause-done g c = (restart_both _ _ c.args.self.now c.args.host c.host-before.result.now c.host-before.ensures c.restart.new.self (c.incarnation.result + 1) c.last-last.result (ap (λ n. n + 1) c.incarnation.ensures) c.last-last.ensures c.in_ok-restart.ensures.done c.requires.kept).0
 
 pub returns-clause-kept : goal.returns-clause-kept
-returns-clause-kept g c = (restart_both _ (λ seat count number q r hold. Unit {0}) c.args.self.now c.args.host c.host-before.result.now c.host-before.ensures c.restart.new.self (c.incarnation.result + 1) c.last-last.result (ap (λ n. n + 1) c.incarnation.ensures) c.last-last.ensures c.in_default.ensures.done c.requires.kept).1
+returns-clause-kept g c = (restart_both _ (λ seat count number q r hold. Unit {0}) c.args.self.now c.args.host c.host-before.result.now c.host-before.ensures c.restart.new.self (c.incarnation.result + 1) c.last-last.result (ap (λ n. n + 1) c.incarnation.ensures) c.last-last.ensures c.in_ok-restart.ensures.done c.requires.kept).1
