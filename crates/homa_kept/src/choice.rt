@@ -30,14 +30,14 @@ impl Message {
     }
 }
 
-// Whether a message entered a list.
+/// Whether a message entered a list.
 #[derive(Clone, Copy)]
-pub enum Stage {
-    // Its place isn't reached.
+pub(crate) enum Stage {
+    /// Its place isn't reached.
     Waiting,
-    // It stands at its place.
+    /// It stands at its place.
     Entered,
-    // One of its sender stands before it.
+    /// One of its sender stands before it.
     Blocked,
 }
 
