@@ -7,7 +7,7 @@ use Rattle.homa_plain.specs.declared.packet.Body.TheVariants as body
 use Rattle.homa_plain.specs.declared.entry.Why.TheVariants.{Timeout, Forgotten}
 use Rattle.homa_plain.specs.Entries.{PlainEntry, PlainSettings, PlainCall, PlainDeliver, PlainClock, PlainRestart, PlainInject, PlainShift, PlainJunk, PlainStale, PlainSend, PlainRun, PlainDone, PlainFail, PlainDrop, PlainGaps, PlainBury, PlainFree, PlainFullRows, PlainFullPages, PlainBalance, PlainRecv, PlainFinished, PlainRefused, PlainStalled}
 use Rattle.homa_traffic.specs.Generated.{count_of, is_run, is_done, is_timeout, is_forgotten, is_deliver, is_clock, is_call, is_kind, summary_line, summary_text}
-use Rattle.homa_generate.specs.Counts.{place, more_at, counted, no_counts, counts_text}
+use Rattle.homa_generate.specs.Counts.{kind_of, one_more, counted, no_counts, counts_text}
 
 -- one more where a test holds
 abbrev more_if : Bool → ℕ → ℕ
@@ -52,7 +52,7 @@ numbers_more a e =
       count_more (is_kind 7) a e,
     ) refl
 
-placed : (a : List PlainEntry) (e : PlainEntry) → more_at (numbers a) (place e) ≡ numbers_with a e
+placed : (a : List PlainEntry) (e : PlainEntry) → one_more (numbers a) (kind_of e) ≡ numbers_with a e
 placed a (PlainCall id server service bytes) = refl
 placed a (PlainRun host id service request response hold) = refl
 placed a (PlainDone id bytes) = refl

@@ -8,7 +8,6 @@
 
 mod events;
 mod lines;
-mod nowhere;
 mod printing;
 mod rounds;
 mod setup;

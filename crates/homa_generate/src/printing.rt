@@ -6,12 +6,11 @@ ghost use Rattle.homa_generate.specs.Progress.{IsFaulted};
 ghost use Rattle.homa_generate.specs.Made.{run_of, HasRun, IsMade, IsPartMade};
 
 use crate::lines::Progress;
-use crate::nowhere::Nowhere;
 use crate::rounds::play_rounds;
 use crate::setup::Setup;
 use crate::{Counts, Generating};
 use homa_fabric::Fabric;
-use homa_io::Sink;
+use homa_io::{Sink, SureSink};
 use homa_plain::Settings;
 use homa_replay::{Opens, Stop};
 use homa_script::put_settings;
@@ -85,7 +84,7 @@ pub fn count<B: Drop, P: Generating + Opens<B> + Drop, K: Sink>(
     ensures faulted { IsFaulted result (K.faults sink.old) (K.faults sink.new) }
     ensures same { K.is_same sink.old sink.new }
 {
-    let counts = generate::<B, P, Nowhere>(alloc, &mut Nowhere, boxes, seed, calls)?;
+    let counts = generate::<B, P, SureSink>(alloc, &mut SureSink::new(), boxes, seed, calls)?;
     counts.put(sink)?;
     Ok(())
 }

@@ -1,11 +1,10 @@
 //! How many lines of each kind a trace has.
-ghost use Rattle.std.specs.Prelude.{◌≡◌, ◌+◌, ◌<◌, ◌∷◌, [], slice_index_or, IfSome, OnOk, OnErr};
+ghost use Rattle.std.specs.Prelude.{◌≡◌, ◌<◌, [], ◌∷◌, OnOk, OnErr};
 ghost use Rattle.std.specs.Option.{option_map};
 ghost use Rattle.std.specs.List.{flat_map};
 ghost use Rattle.homa_io.specs.Outside.{HasRisen, appended, TookFront};
 ghost use Rattle.homa_plain.specs.Entries.{plain};
-ghost use Rattle.homa_traffic.specs.Generated.{kind_number};
-ghost use Rattle.homa_generate.specs.Counts.{place, counted, no_counts, names, counts_text};
+ghost use Rattle.homa_generate.specs.Counts.{IsFull, kind_of, packet_kind, name, place, number_of, counted, no_counts, counts_text};
 
 use homa_io::{Sink, WriteFailed};
 use homa_plain::{Body, Entry, Why};
@@ -14,13 +13,120 @@ use homa_text::put_line;
 use std::alloc::AllocError;
 use std::marker::Model;
 
-/// How many kinds there are.
-const KINDS: usize = 15;
+/// The kinds of lines that are counted, in the order of the summary: those of a run's steps, and packets by their kind.
+#[derive(Clone, Copy)]
+pub(crate) enum Kind {
+    Call,
+    Run,
+    Done,
+    Timeout,
+    Forgotten,
+    Deliver,
+    Clock,
+    Data,
+    Grant,
+    Resend,
+    Busy,
+    Cutoffs,
+    Unknown,
+    NeedAck,
+    Ack,
+}
+
+// How many kinds there are.
+const COUNT: usize = 15;
+
+// All kinds, in the order of the summary.
+const KINDS: [Kind; COUNT] = [
+    Kind::Call,
+    Kind::Run,
+    Kind::Done,
+    Kind::Timeout,
+    Kind::Forgotten,
+    Kind::Deliver,
+    Kind::Clock,
+    Kind::Data,
+    Kind::Grant,
+    Kind::Resend,
+    Kind::Busy,
+    Kind::Cutoffs,
+    Kind::Unknown,
+    Kind::NeedAck,
+    Kind::Ack,
+];
+
+impl Kind {
+    // The kind of a packet's line.
+    fn of_packet(body: &Body) -> Kind
+        ensures { result ≡ packet_kind body.now }
+    {
+        match body {
+            Body::Data { .. } => Kind::Data,
+            Body::Grant { .. } => Kind::Grant,
+            Body::Resend { .. } => Kind::Resend,
+            Body::Busy => Kind::Busy,
+            Body::Cutoffs(_) => Kind::Cutoffs,
+            Body::Unknown { .. } => Kind::Unknown,
+            Body::NeedAck => Kind::NeedAck,
+            Body::Ack { .. } => Kind::Ack,
+        }
+    }
+
+    // The kind of an entry's line, if it is counted.
+    fn of(entry: &Entry<'_>) -> Option<Kind>
+        ensures { result ≡ kind_of (plain entry.now) }
+    {
+        match entry {
+            Entry::Call { .. } => Some(Kind::Call),
+            Entry::Run { .. } => Some(Kind::Run),
+            Entry::Done { .. } => Some(Kind::Done),
+            Entry::Fail { why, .. } => match why {
+                Why::Timeout => Some(Kind::Timeout),
+                Why::Forgotten => Some(Kind::Forgotten),
+            },
+            Entry::Deliver { .. } => Some(Kind::Deliver),
+            Entry::Clock { .. } => Some(Kind::Clock),
+            Entry::Send { body, .. } => Some(Kind::of_packet(body)),
+            _ => None,
+        }
+    }
+
+    // The place of its number.
+    fn place(self) -> usize
+        ensures place { result ≡ place self }
+        ensures inside { result < 15 }
+    {
+        self as usize
+    }
+
+    // Its name in the summary.
+    fn name(self) -> &'static [u8]
+        ensures { result.now ≡ name self }
+    {
+        match self {
+            Kind::Call => b"calls",
+            Kind::Run => b"runs",
+            Kind::Done => b"done",
+            Kind::Timeout => b"timeout",
+            Kind::Forgotten => b"forgotten",
+            Kind::Deliver => b"deliver",
+            Kind::Clock => b"clock",
+            Kind::Data => b"DATA",
+            Kind::Grant => b"GRANT",
+            Kind::Resend => b"RESEND",
+            Kind::Busy => b"BUSY",
+            Kind::Cutoffs => b"CUTOFFS",
+            Kind::Unknown => b"UNKNOWN",
+            Kind::NeedAck => b"NEED_ACK",
+            Kind::Ack => b"ACK",
+        }
+    }
+}
 
 /// How many lines of each kind a trace has, in the order of its summary.
 #[derive(Drop)]
 pub struct Counts {
-    numbers: [u64; 15],
+    numbers: [u64; COUNT],
 }
 
 impl Model for Counts {
@@ -31,83 +137,25 @@ impl Model for Counts {
     ghost view = { λ c. c.numbers };
 }
 
-// The place of a packet's count, by its kind.
-fn place_of_kind(body: &Body) -> usize
-    ensures { result ≡ 7 + kind_number body.now }
-{
-    match body {
-        Body::Data { .. } => 7,
-        Body::Grant { .. } => 8,
-        Body::Resend { .. } => 9,
-        Body::Busy => 10,
-        Body::Cutoffs(_) => 11,
-        Body::Unknown { .. } => 12,
-        Body::NeedAck => 13,
-        Body::Ack { .. } => 14,
-    }
-}
-
-// The place of an entry's count, if it is counted.
-fn place(entry: &Entry<'_>) -> Option<usize>
-    ensures place { result ≡ place (plain entry.now) }
-    ensures inside { IfSome result (λ place. place < 15) }
-{
-    match entry {
-        Entry::Call { .. } => Some(0),
-        Entry::Run { .. } => Some(1),
-        Entry::Done { .. } => Some(2),
-        Entry::Fail { why, .. } => match why {
-            Why::Timeout => Some(3),
-            Why::Forgotten => Some(4),
-        },
-        Entry::Deliver { .. } => Some(5),
-        Entry::Clock { .. } => Some(6),
-        Entry::Send { body, .. } => Some(place_of_kind(body)),
-        _ => None,
-    }
-}
-
-// A kind's name in the summary.
-fn name(place: usize) -> &'static [u8]
-    requires { place < 15 }
-    ensures { result.now ≡ slice_index_or names place [] }
-{
-    match place {
-        0 => b"calls",
-        1 => b"runs",
-        2 => b"done",
-        3 => b"timeout",
-        4 => b"forgotten",
-        5 => b"deliver",
-        6 => b"clock",
-        7 => b"DATA",
-        8 => b"GRANT",
-        9 => b"RESEND",
-        10 => b"BUSY",
-        11 => b"CUTOFFS",
-        12 => b"UNKNOWN",
-        13 => b"NEED_ACK",
-        _ => b"ACK",
-    }
-}
-
 impl Counts {
     /// No line was counted.
     pub fn new() -> Counts
         ensures { result ≡ no_counts }
     {
-        Counts { numbers: [0; 15] }
+        Counts {
+            numbers: [0; COUNT],
+        }
     }
 
-    /// Counts an entry. Fails where its number has no room left.
+    /// Counts an entry. Fails where the number of its kind has no room left, and then counts nothing.
     pub fn note(&mut self, entry: &Entry<'_>) -> Result<(), AllocError>
-        ensures { OnOk result (self.new ≡ counted self.old (plain entry.now ∷ [])) }
+        ensures ok { OnOk result (self.new ≡ counted self.old (plain entry.now ∷ [])) }
+        ensures full { OnErr result (IsFull self.old (plain entry.now)) }
+        ensures same { OnErr result (self.new ≡ self.old) }
     {
-        if let Some(place) = place(entry) {
-            let Some(more) = self.numbers[place].checked_add(1) else {
-                return Err(AllocError);
-            };
-            self.numbers[place] = more;
+        if let Some(kind) = Kind::of(entry) {
+            let number = &mut self.numbers[kind.place()];
+            *number = number.checked_add(1).ok_or(AllocError)?;
         }
         Ok(())
     }
@@ -121,8 +169,11 @@ impl Counts {
         ensures quiet { OnOk result (K.faults sink.new ≡ K.faults sink.old) }
         ensures same { K.is_same sink.old sink.new }
     {
-        for place in 0..KINDS {
-            put_line(sink, &[Text(name(place)), Number(self.numbers[place])])?;
+        for kind in KINDS {
+            put_line(
+                sink,
+                &[Text(kind.name()), Number(self.numbers[kind.place()])],
+            )?;
         }
         Ok(())
     }

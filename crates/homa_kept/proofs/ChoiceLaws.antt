@@ -1,34 +1,47 @@
 -- A message that enters a list of chosen ones.
-use Rattle.std.proofs.Common.{◌≡◌, ℕ, zero, suc, ◌+◌, ◌-◌, ◌<◌, arith, Bool, true, false, not, cond, List, [], ◌∷◌, ◌++◌, take, drop, get_or, length, refl, sym, ap, ◌∙◌}
+use Rattle.std.proofs.Common.{◌≡◌, ℕ, zero, suc, ◌+◌, ◌-◌, ◌<◌, ◌≤◌, arith, Bool, true, false, List, [], ◌∷◌, take, drop, get_or, length, refl, sym, ap, ◌∙◌}
 use Rattle.std.proofs.Math.Seq.{drop-cons}
-use Rattle.std.specs.Prelude.{◌==◌, if◌then◌else◌}
+use Rattle.std.specs.Prelude.{◌==◌, ◌||◌, if◌then◌else◌, slice_get}
+use Rattle.std.specs.List.{insert}
 use Rattle.plain_sets.specs.Ordered.{is_below, not_of, ordered, firsts}
 use Rattle.homa_judging.specs.Entered.{entered}
 use Rattle.homa_judging.proofs.Entering.{chosen-more}
 use Rattle.homa_kept.specs.declared.choice.Message.{Message}
-use Rattle.homa_kept.specs.declared.choice.Stage.{Stage}
-use Rattle.homa_kept.specs.declared.choice.Stage.TheVariants.{Waiting, Entered, Blocked}
-use Rattle.homa_kept.specs.Choices.{sender_of, key_of, passed, has_entered, has_stayed, rest_of}
+use Rattle.homa_kept.specs.Choices.{sender_of, key_of, place_in, is_blocked}
 
--- what one of the list adds
-abbrev pub added : Message → Message → Stage → List Message
-added m w stage = (if has_entered stage (passed m w stage) then m ∷ [] else []) ++ (if has_stayed m w (passed m w stage) then w ∷ [] else [])
+-- those of other senders
+abbrev others : Message → List Message → List Message
+others m ws = not_of sender_of (sender_of m) ws
 
-none_of : (m w : Message) (ws : List Message) (b : Bool) → (sender_of w == sender_of m) ≡ b → not_of sender_of (sender_of m) (w ∷ ws) ≡ (if not b then w ∷ [] else []) ++ not_of sender_of (sender_of m) ws
-none_of m w ws true e = ap (λ b. cond (not b) (w ∷ not_of sender_of (sender_of m) ws) (not_of sender_of (sender_of m) ws)) e
-none_of m w ws false e = ap (λ b. cond (not b) (w ∷ not_of sender_of (sender_of m) ws) (not_of sender_of (sender_of m) ws)) e
+-- what becomes of a list that a message enters at a place, if it isn't blocked there
+pub record Enters (m : Message) (ws : List Message) (n : ℕ) : Type 0 where
+  pub stays : is_blocked m (slice_get ws n) ≡ true → ws ≡ entered sender_of key_of m ws
+  pub changes : is_blocked m (slice_get ws n) ≡ false → insert (others m ws) n m ≡ entered sender_of key_of m ws
+  pub inside : is_blocked m (slice_get ws n) ≡ false → n ≤ length (others m ws)
 
-waits : (m w : Message) (ws : List Message) (b c : Bool) → is_below (key_of m) (key_of w) ≡ b → (sender_of w == sender_of m) ≡ c
-    → (if b then m ∷ not_of sender_of (sender_of m) (w ∷ ws) else (if c then w ∷ ws else w ∷ entered sender_of key_of m ws))
-    ≡ ((if has_entered Waiting (if b then Entered else (if c then Blocked else Waiting)) then m ∷ [] else []) ++ (if has_stayed m w (if b then Entered else (if c then Blocked else Waiting)) then w ∷ [] else [])) ++ rest_of m (if b then Entered else (if c then Blocked else Waiting)) ws
-waits m w ws true c e f = ap (λ l. m ∷ l) (none_of m w ws (sender_of w == sender_of m) refl)
-waits m w ws false true e f = refl
-waits m w ws false false e f = refl
+enters_behind : (m w : Message) (ws : List Message) (b c : Bool) → is_below (key_of m) (key_of w) ≡ b → (sender_of w == sender_of m) ≡ c → Enters m ws (place_in m ws) → Enters m (w ∷ ws) (if b || c then 0 else suc (place_in m ws))
+enters_behind m w ws true c e f i =
+    record {
+      stays = λ h. let x : false ≡ true = rw e at h in absurd cc;
+      changes = λ h. rw e refl;
+      inside = λ h. omega arith;
+    }
+enters_behind m w ws false true e f i =
+    record {
+      stays = λ h. rw (e, f) refl;
+      changes = λ h. let x : true ≡ false = rw e at h in absurd cc;
+      inside = λ h. omega arith;
+    }
+enters_behind m w ws false false e f i =
+    record {
+      stays = λ h. rw (e, f) (ap (λ l. w ∷ l) (i.stays h));
+      changes = λ h. rw (e, f) (ap (λ l. w ∷ l) (i.changes h));
+      inside = λ h. rw f (omega (arith, i.inside h));
+    }
 
-pub rest_step : (m w : Message) (ws : List Message) (stage : Stage) → rest_of m stage (w ∷ ws) ≡ added m w stage ++ rest_of m (passed m w stage) ws
-rest_step m w ws Waiting = waits m w ws (is_below (key_of m) (key_of w)) (sender_of w == sender_of m) refl refl
-rest_step m w ws Entered = none_of m w ws (sender_of w == sender_of m) refl
-rest_step m w ws Blocked = refl
+pub enters_at : (m : Message) (ws : List Message) → Enters m ws (place_in m ws)
+enters_at m [] = record { stays = λ h. absurd cc; changes = λ h. refl; inside = λ h. omega arith }
+enters_at m (w ∷ ws) = enters_behind m w ws (is_below (key_of m) (key_of w)) (sender_of w == sender_of m) refl refl (enters_at m ws)
 
 -- ---- all messages
 

@@ -103,11 +103,12 @@ packet_of p = record { from = p.from; to = p.to; inc = p.inc; role = p.role; id 
 
 -- ---- what is asked of them
 
--- no message of the spot is granted beyond its window
+-- a part, if there is one, isn't granted beyond its window
 abbrev pub within : ℕ → Option plain.Part → Bool
 within window None = true
 within window (Some p) = is_within_at window p
 
+-- no message of the spot is granted beyond its window
 abbrev pub is_within_spot : ℕ → spots.Spot → Bool
 is_within_spot window s = within window s.request && within window s.response
 
@@ -115,17 +116,19 @@ is_within_spot window s = within window s.request && within window s.response
 abbrev pub is_incoming : Option plain.Part → Bool
 is_incoming p = option_map_or plain.is_message p false
 
--- it is DATA, UNKNOWN, or UNKNOWN of a call that was forgotten
+-- it is DATA
 abbrev pub piece_is_data : Piece → Bool
 piece_is_data (Data size offset n) = true
 piece_is_data (Unknown reason) = false
 piece_is_data Other = false
 
+-- it is UNKNOWN
 abbrev pub piece_is_unknown : Piece → Bool
 piece_is_unknown (Data size offset n) = false
 piece_is_unknown (Unknown reason) = true
 piece_is_unknown Other = false
 
+-- it is UNKNOWN of a call that the server ran and forgot
 abbrev pub piece_is_forgotten : Piece → Bool
 piece_is_forgotten (Data size offset n) = false
 piece_is_forgotten (Unknown reason) = reason == 1

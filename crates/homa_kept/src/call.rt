@@ -34,19 +34,28 @@ pub struct Lives {
     pub server: usize,
 }
 
-/// A call: its `call` line and the size of its request, whether the last byte of its request was sent, its runs, the latest first, and what rests on
-/// deliveries, as it was in these lives of its client and its server.
+/// A call, and what rests on its deliveries, as it was in these lives of its client and its server.
 #[derive(Drop)]
 pub struct Call {
+    /// The server, of its `call` line.
     pub server: HostId,
+    /// The service that it asks.
     pub service: u8,
+    /// Whether the last byte of its request was sent.
     pub sent_last: bool,
+    /// How many bytes its request has.
     pub size: u32,
+    /// The bytes of its request.
     pub request: Vec<u8>,
+    /// Its runs, the latest first.
     pub runs: Vec<Run>,
+    /// The lives in which `spot` was so.
     pub lives: Lives,
+    /// What rests on deliveries.
     pub spot: Spot,
+    /// Which bytes of the request came, those of the last packet aside.
     pub asked: OpenRanges,
+    /// Which bytes of the response came, the same.
     pub answered: OpenRanges,
 }
 
@@ -137,8 +146,8 @@ impl Call {
         ensures rest { OnOk result (self.new ≡ record self.old { lives = lives; spot = self.new.spot; asked = self.new.asked; answered = self.new.answered }) }
     {
         match role {
-            Role::Client => Ok(self.settle_request(alloc, lives)?),
-            Role::Server => Ok(self.settle_response(alloc, lives)?),
+            Role::Client => self.settle_request(alloc, lives),
+            Role::Server => self.settle_response(alloc, lives),
         }
     }
 

@@ -1,8 +1,8 @@
 // The messages that a host may grant to.
-ghost use Rattle.std.specs.Prelude.{◌≡◌, ◌+◌, min, take, IfOk};
+ghost use Rattle.std.specs.Prelude.{◌≡◌, ◌+◌, min, take, slice_get, IfOk, OnOk};
 ghost use Rattle.plain_sets.specs.Ordered.{is_below, ordered, firsts};
 ghost use Rattle.homa_judging.specs.Entered.{entered};
-ghost use Rattle.homa_kept.specs.Choices.{sender_of, key_of, passed, has_entered, has_stayed};
+ghost use Rattle.homa_kept.specs.Choices.{sender_of, key_of, place_in, is_blocked};
 
 use homa_plain::{CallId, HostId, Role};
 use std::alloc::{AllocError, Global};
@@ -30,76 +30,39 @@ impl Message {
     }
 }
 
-// Whether a message entered a list.
-#[derive(Clone, Copy)]
-pub enum Stage {
-    // Its place isn't reached.
-    Waiting,
-    // It stands at its place.
-    Entered,
-    // One of its sender stands before it.
-    Blocked,
-}
-
-// How a message goes on at one of the list.
-fn passes(message: &Message, other: &Message, stage: Stage) -> Stage
-    ensures { result ≡ passed message.now other.now stage }
+// Where a message would enter a list: at the first that it is chosen before, or that is of its sender.
+fn place_in(chosen: &[Message], message: &Message) -> usize
+    ensures { result ≡ place_in message.now chosen.now }
 {
-    match stage {
-        Stage::Waiting => {
-            if message.is_before(other) {
-                Stage::Entered
-            } else if other.peer.0 == message.peer.0 {
-                Stage::Blocked
-            } else {
-                Stage::Waiting
-            }
+    for (place, other) in chosen.iter().enumerate() {
+        if message.is_before(other) || other.peer.0 == message.peer.0 {
+            return place;
         }
-        Stage::Entered => Stage::Entered,
-        Stage::Blocked => Stage::Blocked,
+    }
+    chosen.len()
+}
+
+// At its place stands one of its sender, which it isn't chosen before.
+fn is_blocked(chosen: &[Message], place: usize, message: &Message) -> bool
+    ensures { result ≡ is_blocked message.now (slice_get chosen.now place) }
+{
+    match chosen.get(place) {
+        Some(other) => !message.is_before(other),
+        None => false,
     }
 }
 
-/// A list with a message at its place, unless one of its sender stands before it; one of its sender behind it goes.
-fn enter(alloc: Global, chosen: &[Message], message: Message) -> Result<Vec<Message>, AllocError>
-    ensures { IfOk result (λ r. r.items ≡ entered sender_of key_of message chosen.now) }
+// A message enters a list at its place, unless one of its sender stands before it; one of its sender behind it goes.
+fn enter(chosen: &mut Vec<Message>, message: Message) -> Result<(), AllocError>
+    ensures { OnOk result (chosen.new.items ≡ entered sender_of key_of message chosen.old.items) }
 {
-    let mut with = Vec::new(alloc);
-    let mut stage = Stage::Waiting;
-    for other in chosen {
-        let next = passes(&message, other, stage);
-        if enters(stage, next) {
-            with.push(message)?;
-        }
-        if stays(&message, other, next) {
-            with.push(*other)?;
-        }
-        stage = next;
+    let place = place_in(chosen, &message);
+    if is_blocked(chosen, place, &message) {
+        return Ok(());
     }
-    if enters(stage, Stage::Entered) {
-        with.push(message)?;
-    }
-    Ok(with)
-}
-
-// The message's place is here.
-fn enters(stage: Stage, next: Stage) -> bool
-    ensures { result ≡ has_entered stage next }
-{
-    match (stage, next) {
-        (Stage::Waiting, Stage::Entered) => true,
-        _ => false,
-    }
-}
-
-// One of the list stays, unless it is of the sender of a message that stands before it.
-fn stays(message: &Message, other: &Message, stage: Stage) -> bool
-    ensures { result ≡ has_stayed message.now other.now stage }
-{
-    match stage {
-        Stage::Entered => other.peer.0 != message.peer.0,
-        Stage::Waiting | Stage::Blocked => true,
-    }
+    chosen.retain(|other| other.peer.0 != message.peer.0);
+    chosen.insert(place, message)?;
+    Ok(())
 }
 
 /// Of all messages in their order, the first k with different senders.
@@ -108,7 +71,7 @@ pub fn choose(alloc: Global, messages: &[Message], k: usize) -> Result<Vec<Messa
 {
     let mut chosen = Vec::new(alloc);
     for i in 0..messages.len() {
-        chosen = enter(alloc, &chosen, messages[messages.len() - 1 - i])?;
+        enter(&mut chosen, messages[messages.len() - 1 - i])?;
         chosen.truncate(k);
     }
     Ok(chosen)

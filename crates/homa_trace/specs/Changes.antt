@@ -67,6 +67,7 @@ pub record ChangesAs (b : Beside) (change : Change) (f : spots.Spot → spots.Sp
   pub apart : IsApart b.gap change
   pub same : (k : Spot) (s : spots.Spot) → StandsFor b k s → changed b change s ≡ f s
 
+-- a change of kept spots is this one at a call, if the call was made
 abbrev pub IsChange : Trace → CallId → Change → (spots.Spot → spots.Spot) → Type 0
 IsChange t id change f = IfSome (beside_at t id) (λ b. ChangesAs b change f)
 

@@ -37,38 +37,45 @@ call_in [] cs q = None
 call_in (k ∷ ks) [] q = None
 call_in (k ∷ ks) (c ∷ cs) q = if is_call q k then Some c else call_in ks cs q
 
+-- a call, if it was made
 abbrev pub call_at : Trace → CallId → Option Call
 call_at t q = call_in t.ids.keys t.calls.items q
 
--- where it stands
+-- the call of an id stands at this place
 abbrev pub IsPlaceIn : List CallId → List Call → CallId → ℕ → Type 0
 IsPlaceIn [] cs q n = ⊥
 IsPlaceIn (k ∷ ks) [] q n = ⊥
 IsPlaceIn (k ∷ ks) (c ∷ cs) q zero = is_call q k ≡ true
 IsPlaceIn (k ∷ ks) (c ∷ cs) q (suc n) = (is_call q k ≡ false) × IsPlaceIn ks cs q n
 
+-- a call stands at this place
 abbrev pub IsPlace : Trace → CallId → ℕ → Type 0
 IsPlace t q at = IsPlaceIn t.ids.keys t.calls.items q at
 
+-- what is kept of a host, if anything is
 abbrev pub host_at : Trace → HostId → Option Host
 host_at t h = slice_get t.hosts.items h.0
 
--- what is kept of a host, if anything is
+-- by how many ticks its own clock is ahead, if a line told it
 abbrev pub lead_of : Option Host → Option ℕ
 lead_of None = None
 lead_of (Some h) = h.lead
 
+-- the incarnation of its first life, if its packets told it
 abbrev pub first_of : Option Host → Option ℕ
 first_of None = None
 first_of (Some h) = h.first
 
+-- the incarnations of its restarts
 abbrev pub restarts_in : Option Host → List ℕ
 restarts_in None = []
 restarts_in (Some h) = h.restarts.items
 
+-- in which life a host is
 abbrev pub life_in : Trace → HostId → ℕ
 life_in t h = length (restarts_in (host_at t h))
 
+-- in which lives a call's client and a server are
 abbrev pub lives_in : Trace → CallId → HostId → Lives
 lives_in t q server = record { client = life_in t q.client; server = life_in t server }
 
@@ -81,6 +88,7 @@ abbrev pub incarnation_of : Host → ℕ → Option ℕ
 incarnation_of h zero = h.first
 incarnation_of h (suc n) = slice_get h.restarts.items n
 
+-- the same of a host by its number
 abbrev pub incarnation_in : Trace → HostId → ℕ → Option ℕ
 incarnation_in t h n = option_and_then (λ host. incarnation_of host n) (host_at t h)
 
@@ -90,6 +98,7 @@ is_answer_in t server inc bytes r = option_map_or (λ i. i == inc) (incarnation_
 
 -- ---- hosts
 
+-- of a host this is kept, its messages aside
 pub record IsHost (v : View) (h : HostId) (o : Option Host) : Type 0 where
   pub lead : get v.leads h.0 ≡ lead_of o
   pub first : get v.firsts h.0 ≡ first_of o
@@ -109,6 +118,7 @@ awaited_of (Some h) q = contains call_cmp h.awaited q
 abbrev pub is_incoming_at : HostId → Option Part → Bool
 is_incoming_at h o = option_map_or (λ p. is_host p.host h && is_message p) o false
 
+-- its incoming messages are noted
 pub record IsListed (v : View) (h : HostId) (o : Option Host) : Type 0 where
   pub asked : (q : CallId) → asked_of o q ≡ is_incoming_at h (spots.spot v.now q).request
   pub awaited : (q : CallId) → awaited_of o q ≡ is_incoming_at h (spots.spot v.now q).response
@@ -135,6 +145,7 @@ pub record IsAbsent (v : View) (q : CallId) : Type 0 where
   pub runs : runs_of v q ≡ []
   pub now : spots.spot v.now q ≡ no_spot
 
+-- of a call this is kept
 abbrev pub IsCallAt : View → CallId → Option Call → Type 0
 IsCallAt v q None = IsAbsent v q
 IsCallAt v q (Some c) = IsKept v q c
@@ -147,6 +158,7 @@ IsNamed Nobody ids = ids ≡ []
 IsNamed (Only id) ids = (0 < length ids) × AllByRecursion (λ q. q ≡ id) ids
 IsNamed Several ids = (0 < length ids) × ((d : CallId) → list_all (judge.has_call (d ∷ [])) ids ≡ false)
 
+-- the calls of the block's `run`, `done` and `fail` lines are told
 pub record IsHere (k : Here) (ends : Ends) : Type 0 where
   pub runs : IsNamed k.runs ends.runs
   pub dones : IsNamed k.dones ends.dones
@@ -170,17 +182,20 @@ StandsOr (Some b) k s = StandsFor b k s
 abbrev pub AreSpots : Option Beside → Delivery → spots.Undo → Type 0
 AreSpots o d u = StandsOr o d.refused u.refused × StandsOr o d.stale u.stale
 
+-- a delivery is kept with what it may be taken back to
 pub record IsUndoOf (t : Trace) (d : Delivery) (u : spots.Undo) : Type 0 where
   pub packet : d.packet ≡ packet_of u.packet
   pub spots : AreSpots (beside_at t u.packet.id) d u
   pub due : u.due ≡ ends_of u.packet.id false false d.forgotten
 
+-- the block's delivery, if it has one, is kept so
 abbrev pub IsDelivered : Trace → Option Delivery → Option spots.Undo → Type 0
 IsDelivered t None None = Unit {0}
 IsDelivered t None (Some u) = ⊥
 IsDelivered t (Some d) None = ⊥
 IsDelivered t (Some d) (Some u) = IsUndoOf t d u
 
+-- what is kept of the block is what its lines say
 pub record IsBlock (v : View) (t : Trace) : Type 0 where
   pub undo : Option spots.Undo
   pub is : spots.IsUndo v undo

@@ -17,11 +17,11 @@ pub fn is_same_host(a: HostId, b: HostId) -> bool
     a == b
 }
 
-/// Notes that a call is in a set, or that it isn't.
-pub(crate) fn note(calls: &mut BTreeSet<CallId>, id: CallId, is: bool) -> Result<(), AllocError>
-    ensures { OnOk result ((q : ACall) → contains call_cmp calls.new q ≡ (if is_call id q then is else contains call_cmp calls.old q)) }
+/// Notes whether a call is in a set.
+pub(crate) fn note(calls: &mut BTreeSet<CallId>, id: CallId, is_in: bool) -> Result<(), AllocError>
+    ensures { OnOk result ((q : ACall) → contains call_cmp calls.new q ≡ (if is_call id q then is_in else contains call_cmp calls.old q)) }
 {
-    if is {
+    if is_in {
         calls.insert(id)?;
     } else {
         calls.remove(&id);

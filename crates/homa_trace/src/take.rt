@@ -57,15 +57,6 @@ pub fn is_last(line: &Entry<'_>) -> bool
     }
 }
 
-// A copy of bytes.
-fn copied(alloc: Global, bytes: &[u8]) -> Result<Vec<u8>, AllocError>
-    ensures { IfOk result (λ r. r.items ≡ bytes.now) }
-{
-    let mut copy = Vec::with_capacity(alloc, bytes.len())?;
-    copy.extend_from_slice(bytes)?;
-    Ok(copy)
-}
-
 // The version of the wire format, which is 1 or 2.
 fn version_of(wire: u32) -> u32
     ensures version { Between 1 2 result }
@@ -179,7 +170,7 @@ impl Trace {
             service,
             sent_last: false,
             size: bytes.len().min(u32::MAX as usize) as u32,
-            request: copied(alloc, bytes)?,
+            request: Vec::from_slice(alloc, bytes)?,
             runs: Vec::new(alloc),
             lives,
             spot: Spot::STARTED,
@@ -243,7 +234,7 @@ impl Trace {
         ensures count { OnOk result (SameCount self.old self.new) }
     {
         match self.find(packet.id) {
-            Some(at) => Ok(self.deliver_at(alloc, at, packet)?),
+            Some(at) => self.deliver_at(alloc, at, packet),
             None => {
                 self.delivery = Some(Delivery::of_none(packet));
                 Ok(())
@@ -423,7 +414,7 @@ impl Trace {
         let life = self.life(host);
         match self.find(id) {
             Some(at) => {
-                let response = copied(alloc, response)?;
+                let response = Vec::from_slice(alloc, response)?;
                 let runs = &mut self.calls[at].runs;
                 runs.reserve_exact(1)?;
                 runs.insert(0, Run { life, response })?;
@@ -501,7 +492,7 @@ impl Trace {
         ensures rest { OnOk result (SameRest self.old self.new) }
     {
         match self.find(id) {
-            Some(at) => Ok(self.keep(alloc, at, id, kept)?),
+            Some(at) => self.keep(alloc, at, id, kept),
             None => Ok(()),
         }
     }
@@ -529,7 +520,7 @@ impl Trace {
         match self.delivery {
             Some(delivery) => {
                 if delivery.is_to(host, id) {
-                    return Ok(self.refuse_this(alloc, delivery)?);
+                    return self.refuse_this(alloc, delivery);
                 }
                 Ok(())
             }
@@ -555,7 +546,7 @@ impl Trace {
         ensures count { OnOk result (SameCount self.old self.new) }
     {
         match self.delivery {
-            Some(delivery) => Ok(self.forget_this(alloc, delivery)?),
+            Some(delivery) => self.forget_this(alloc, delivery),
             None => Ok(()),
         }
     }
@@ -650,10 +641,7 @@ impl Trace {
             | Entry::Stale { .. }
             | Entry::Gaps { .. }
             | Entry::FullRows { .. }
-            | Entry::FullPages { .. } => match self.delivery {
-                Some(delivery) => Some(delivery.packet.id),
-                None => None,
-            },
+            | Entry::FullPages { .. } => self.delivery.map(|delivery| delivery.packet.id),
             _ => None,
         }
     }
@@ -680,9 +668,9 @@ impl Trace {
     {
         if is_event(line) {
             self.begin();
-            return Ok(self.take_event(alloc, line)?);
+            return self.take_event(alloc, line);
         }
-        Ok(self.take_inner(alloc, line)?)
+        self.take_inner(alloc, line)
     }
 
     // A line is taken; how many lines there were stays.
@@ -695,7 +683,7 @@ impl Trace {
                 self.settings = *settings;
                 Ok(())
             }
-            _ => Ok(self.take_other(alloc, line)?),
+            _ => self.take_other(alloc, line),
         }
     }
 

@@ -199,19 +199,19 @@ impl Trace {
         alloc: Global,
         host: HostId,
         id: CallId,
-        was: bool,
-        is: bool,
+        was_in: bool,
+        is_in: bool,
     ) -> Result<(), AllocError>
-        ensures asked { OnOk result (asked_of (host_at self.old host) id ≡ was → (h : AHost) (q : ACall) → asked_of (host_at self.new h) q ≡ noted host id is (λ h q. asked_of (host_at self.old h) q) h q) }
+        ensures asked { OnOk result (asked_of (host_at self.old host) id ≡ was_in → (h : AHost) (q : ACall) → asked_of (host_at self.new h) q ≡ noted host id is_in (λ h q. asked_of (host_at self.old h) q) h q) }
         ensures awaited { OnOk result ((h : AHost) (q : ACall) → awaited_of (host_at self.new h) q ≡ awaited_of (host_at self.old h) q) }
         ensures hosts { OnOk result (SameHosts self.old self.new) }
         ensures rest { OnOk result (self.new ≡ record self.old { hosts = self.new.hosts }) }
     {
-        if was == is {
+        if was_in == is_in {
             return Ok(());
         }
         self.know(alloc, host)?;
-        note(&mut self.hosts[host.0 as usize].asked, id, is)?;
+        note(&mut self.hosts[host.0 as usize].asked, id, is_in)?;
         Ok(())
     }
 
@@ -221,19 +221,19 @@ impl Trace {
         alloc: Global,
         host: HostId,
         id: CallId,
-        was: bool,
-        is: bool,
+        was_in: bool,
+        is_in: bool,
     ) -> Result<(), AllocError>
-        ensures awaited { OnOk result (awaited_of (host_at self.old host) id ≡ was → (h : AHost) (q : ACall) → awaited_of (host_at self.new h) q ≡ noted host id is (λ h q. awaited_of (host_at self.old h) q) h q) }
+        ensures awaited { OnOk result (awaited_of (host_at self.old host) id ≡ was_in → (h : AHost) (q : ACall) → awaited_of (host_at self.new h) q ≡ noted host id is_in (λ h q. awaited_of (host_at self.old h) q) h q) }
         ensures asked { OnOk result ((h : AHost) (q : ACall) → asked_of (host_at self.new h) q ≡ asked_of (host_at self.old h) q) }
         ensures hosts { OnOk result (SameHosts self.old self.new) }
         ensures rest { OnOk result (self.new ≡ record self.old { hosts = self.new.hosts }) }
     {
-        if was == is {
+        if was_in == is_in {
             return Ok(());
         }
         self.know(alloc, host)?;
-        note(&mut self.hosts[host.0 as usize].awaited, id, is)?;
+        note(&mut self.hosts[host.0 as usize].awaited, id, is_in)?;
         Ok(())
     }
 }

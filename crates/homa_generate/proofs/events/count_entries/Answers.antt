@@ -12,7 +12,7 @@ loop-i-preserved g c =
     let told = g.P.Playing.told c.args.world.now in
     let e = plain c.entry.result in
     let inside : c.loop-i.i < length told = omega (arith, c.entries-count.ensures, c.loop-i-test.true) in
-    counted_next c.args.counts.now c.loop-i.counts c.note.new.self told c.loop-i.i e inside (get_or_from_slice_get told c.loop-i.i e e c.entry.ensures.entry) c.loop-i.invariant c.in_ok-note.ensures
+    counted_next c.args.counts.now c.loop-i.counts c.note.new.self told c.loop-i.i e inside (get_or_from_slice_get told c.loop-i.i e e c.entry.ensures.entry) c.loop-i.invariant c.in_ok-note.ensures.ok
 
 pub returns : goal.returns
 returns g c =

@@ -1,6 +1,5 @@
 use Rattle.std.proofs.Common.{◌-◌, ◌∙◌, arith, sym, ap, take, length}
 use Rattle.plain_sets.specs.Ordered.{ordered, firsts}
-use Rattle.homa_judging.specs.Entered.{entered}
 use Rattle.homa_kept.specs.Choices.{sender_of, key_of}
 use Rattle.homa_kept.proofs.ChoiceLaws.{none_chosen, drop_all, one_chosen}
 use Rattle.homa_kept.proofs.choice.choose.Goals as goal
@@ -13,5 +12,4 @@ loop-i-init c =
 pub loop-i-preserved : goal.loop-i-preserved
 loop-i-preserved c =
     c.truncate.ensures.items
-    ∙ one_chosen c.args.k c.loop-i.i c.args.messages.now c.loop-i.chosen.items c.in_ok-chosen.chosen.items _ c.loop-i-test.true c.loop-i.invariant
-    (c.in_ok-chosen.ensures ∙ ap (entered sender_of key_of _) c.deref.ensures.value)
+    ∙ one_chosen c.args.k c.loop-i.i c.args.messages.now c.loop-i.chosen.items c.enter.new.chosen.items _ c.loop-i-test.true c.loop-i.invariant c.in_ok-enter.ensures

@@ -1,37 +1,31 @@
 -- One line more, up to the last.
-use Rattle.std.proofs.Common.{◌≡◌, ◌<◌, ◌∙◌, ap, sym, refl, List, ℕ, length, slice_index, arith}
-use Rattle.std.specs.List.{flat_map, zip}
-use Rattle.std.proofs.lemmas.List.{take_all}
+use Rattle.std.proofs.Common.{◌<◌, ◌∙◌, ap, List, ℕ, slice_index, get_or, arith}
+use Rattle.std.proofs.lemmas.List.{get_or_default}
 use Rattle.std.proofs.lemmas.Result.{MatchResult-from_err}
-use Rattle.homa_io.specs.Outside.{appended}
 use Rattle.homa_replay.proofs.Fronts.{wrote_entry, took_entry}
-use Rattle.homa_generate.specs.Counts.{names, named_line}
-use Rattle.homa_generate.proofs.CountLaws.{named_at, named_many}
+use Rattle.homa_generate.specs.declared.tally.Kind.{Kind}
+use Rattle.homa_generate.specs.declared.tally.Kind.TheVariants as kind
+use Rattle.homa_generate.specs.Counts.{kinds, count_line}
+use Rattle.homa_generate.proofs.CountLaws.{line_is}
 use Rattle.homa_generate.proofs.tally.Counts.put.Goals as goal
 
 pub returns-in_err-put_line-clause-err : goal.returns-in_err-put_line-clause-err
 returns-in_err-put_line-clause-err g c =
-    let i = c.loop-place.place in
-    let fifteen : length c.args.self.now ≡ 15 = ap length (sym c.self.view_is) ∙ c.self.told in
-    let inside : i < 15 = c.loop-place-test.true in
-    let n = slice_index c.self.inside.numbers i in
+    let i = c.loop-kind.kind-index in
+    let inside : i < 15 = omega (arith, c.loop-kind-test.true) in
+    let k : Kind = get_or kinds i kind.Call in
+    let n = slice_index c.self.inside.numbers c.place.result in
     MatchResult-from_err _ _ _ c.from_residual.ensures.0
-    (λ _. took_entry named_line (zip names c.args.self.now) i (c.name.result.now, n) (named_line (c.name.result.now, n)) _ _ _ (omega (arith, named_many c.args.self.now fifteen)) (named_at c.args.self.now i c.name.result.now n fifteen inside c.name.ensures (ap (λ (l : List ℕ). slice_index l i) c.self.view_is)) refl c.loop-place.invariant.so_far c.in_err-put_line.ensures.err)
+    (λ _. took_entry (count_line c.args.self.now) kinds i k _ _ _ _ inside (get_or_default kinds i k kind.Call inside) (line_is c.args.self.now k c.name.result.now c.place.result n c.name.ensures c.place.ensures.place (ap (λ (l : List ℕ). slice_index l c.place.result) c.self.view_is)) c.loop-kind.invariant.so_far c.in_err-put_line.ensures.err)
 
-pub loop-place-preserved : goal.loop-place-preserved
-loop-place-preserved g c =
-    let i = c.loop-place.place in
-    let fifteen : length c.args.self.now ≡ 15 = ap length (sym c.self.view_is) ∙ c.self.told in
-    let inside : i < 15 = c.loop-place-test.true in
-    let n = slice_index c.self.inside.numbers i in
+pub loop-kind-preserved : goal.loop-kind-preserved
+loop-kind-preserved g c =
+    let i = c.loop-kind.kind-index in
+    let inside : i < 15 = omega (arith, c.loop-kind-test.true) in
+    let k : Kind = get_or kinds i kind.Call in
+    let n = slice_index c.self.inside.numbers c.place.result in
     record {
-      so_far = wrote_entry named_line (zip names c.args.self.now) i (c.name.result.now, n) (named_line (c.name.result.now, n)) _ _ _ (omega (arith, named_many c.args.self.now fifteen)) (named_at c.args.self.now i c.name.result.now n fifteen inside c.name.ensures (ap (λ (l : List ℕ). slice_index l i) c.self.view_is)) refl c.loop-place.invariant.so_far c.in_ok-put_line.ensures.ok;
-      quiet = c.in_ok-put_line.ensures.quiet ∙ c.loop-place.invariant.quiet;
-      same = g.met.K.Sink.same_on _ _ _ c.loop-place.invariant.same c.in_ok-put_line.ensures.same;
+      so_far = wrote_entry (count_line c.args.self.now) kinds i k _ _ _ _ inside (get_or_default kinds i k kind.Call inside) (line_is c.args.self.now k c.name.result.now c.place.result n c.name.ensures c.place.ensures.place (ap (λ (l : List ℕ). slice_index l c.place.result) c.self.view_is)) c.loop-kind.invariant.so_far c.in_ok-put_line.ensures.ok;
+      quiet = c.in_ok-put_line.ensures.quiet ∙ c.loop-kind.invariant.quiet;
+      same = g.met.K.Sink.same_on _ _ _ c.loop-kind.invariant.same c.in_ok-put_line.ensures.same;
     }
-
-pub returns-clause-ok : goal.returns-clause-ok
-returns-clause-ok g c =
-    let fifteen : length c.args.self.now ≡ 15 = ap length (sym c.self.view_is) ∙ c.self.told in
-    c.loop-place.invariant.so_far
-    ∙ ap (λ (l : List (List ℕ × ℕ)). appended (g.K.Sink.taken c.args.sink.now) (flat_map named_line l)) (take_all c.loop-place.place (zip names c.args.self.now) (omega (arith, named_many c.args.self.now fifteen, c.loop-place-test.false)))

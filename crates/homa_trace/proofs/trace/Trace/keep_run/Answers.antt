@@ -18,7 +18,7 @@ returns-in_ok-insert-in-Some-clause-kept c v keeps server =
     let d : Call = record x { runs = c.insert.new.self } in
     let run : Run = record { life = c.life-life.result; response = c.in_ok-response-in-Some.response } in
     run_keeps v t id c.args.host c.args.response.now keeps _ at d place
-    (run_here v t id c.args.host c.args.response.now keeps x d run here server c.life-life.ensures c.in_ok-response-in-Some.ensures refl (c.in_ok-insert-in-Some.ensures.items ∙ ap (λ rs. run ∷ rs) c.reserve_exact.ensures.items)) refl refl
+    (run_here v t id c.args.host c.args.response.now keeps x d run here server c.life-life.ensures c.in_ok-response-in-Some.ensures.items refl (c.in_ok-insert-in-Some.ensures.items ∙ ap (λ rs. run ∷ rs) c.reserve_exact.ensures.items)) refl refl
 
 pub returns-in_ok-insert-in-Some-clause-sets : goal.returns-in_ok-insert-in-Some-clause-sets
 returns-in_ok-insert-in-Some-clause-sets c =

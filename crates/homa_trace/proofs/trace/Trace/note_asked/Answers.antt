@@ -15,7 +15,7 @@ pub returns-clause-asked : goal.returns-clause-asked
 returns-clause-asked c was =
     let h = c.index_mut.result.now in
     let here : slice_get c.know.new.self.hosts.items c.args.host.0 ≡ Some h = slice_get-get_or c.know.new.self.hosts.items c.args.host.0 h c.in_ok-know.ensures.known ∙ ap (λ x. Some x) (sym c.index_mut.ensures.value) in
-    noted_at asked_of c.args.self.now c.know.new.self c.args.host c.args.id c.args.is h (record h { asked = c.note.new.calls }) c.in_ok-know.ensures.lists.asked here c.in_ok-note.ensures
+    noted_at asked_of c.args.self.now c.know.new.self c.args.host c.args.id c.args.is_in h (record h { asked = c.note.new.calls }) c.in_ok-know.ensures.lists.asked here c.in_ok-note.ensures
 
 pub returns-clause-awaited : goal.returns-clause-awaited
 returns-clause-awaited c k q =

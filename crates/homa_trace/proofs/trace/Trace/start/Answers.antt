@@ -13,7 +13,7 @@ returns-clause-kept c v keeps fresh =
     let d : Call = record {
       server = c.args.server;
       service = c.args.service;
-      request = c.in_ok-copied.field-0;
+      request = c.in_ok-from_slice.field-0;
       size = c.min.result;
       sent_last = false;
       runs = c.new.result;
@@ -28,7 +28,7 @@ returns-clause-kept c v keeps fresh =
     (record {
       server_is = refl;
       service_is = refl;
-      request_is = c.in_ok-copied.ensures;
+      request_is = c.in_ok-from_slice.ensures.items;
       size = c.min.ensures;
       sent = refl;
       runs = c.new.ensures.items;

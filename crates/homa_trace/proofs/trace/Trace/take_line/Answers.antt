@@ -1,4 +1,6 @@
 use Rattle.std.proofs.Common.{◌≡◌, sym, subst, refl, true}
+use Rattle.std.proofs.lemmas.Result.{on_ok_weaker}
+use Rattle.homa_plain.specs.declared.settings.Settings.{Settings}
 use Rattle.homa_plain.specs.declared.entry.Entry.{Entry}
 use Rattle.homa_plain.specs.declared.entry.Entry.TheVariants as entry
 use Rattle.homa_plain.specs.Entries.{plain}
@@ -16,11 +18,11 @@ returns-in-Settings-clause-taken c v o r place first shape once =
     (settings_takes v o t s r first (subst (λ (x : Entry). has_shape v (plain x) ≡ true) c.in-Settings.is shape))
 
 -- it is another line
-other : (c : goal.In_ok-take_other-in_default) (x : Entry) → c.args.line.now ≡ x → IsOther (plain x)
-other c (entry.Settings s) e = absurd (c.in_default.not-Settings s e)
-other c x e = tt
+other : (line : Entry) → ((s : Settings) → line ≡ entry.Settings s → ⊥) → (x : Entry) → line ≡ x → IsOther (plain x)
+other line none (entry.Settings s) e = absurd (none s e)
+other line none x e = tt
 
-pub returns-in_ok-take_other-in_default : goal.returns-in_ok-take_other-in_default
-returns-in_ok-take_other-in_default c =
-    let e = c.in_ok-take_other-in_default.ensures in
-    record { taken = λ v o r place first shape once. e.taken v o r place (other c c.args.line.now refl) shape once; numbers = e.numbers }
+pub returns-in_default-clause-taken : goal.returns-in_default-clause-taken
+returns-in_default-clause-taken c =
+    let line = c.args.line.now in
+    on_ok_weaker c.take_other.result (λ k v o r place first shape once. k v o r place (other line c.in_default.not-Settings line refl) shape once) c.take_other.ensures.taken
