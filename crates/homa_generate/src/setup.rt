@@ -4,6 +4,7 @@ ghost use Rattle.homa_plain.specs.Script.{counting};
 ghost use Rattle.homa_plain.specs.Settings.{IsValid};
 
 use homa_plain::Settings;
+use homa_text::counting_bytes;
 use std::alloc::{AllocError, Global};
 
 /// The most bytes of a request.
@@ -25,14 +26,10 @@ impl Setup {
         requires { IsValid settings }
         ensures { IfOk result (λ setup. setup.settings ≡ settings) }
     {
-        let mut bytes = Vec::with_capacity(alloc, MOST_BYTES as usize)?;
-        for i in 0..MOST_BYTES {
-            bytes.push((i % 256) as u8)?;
-        }
         Ok(Setup {
             alloc,
             settings,
-            bytes,
+            bytes: counting_bytes(alloc, MOST_BYTES)?,
         })
     }
 }
