@@ -1,20 +1,39 @@
 -- A host that is driven by hand.
-use Rattle.std.specs.Prelude.{◌≡◌, ◌<◌, ◌≤◌, ◌*◌, ◌^◌, ℕ, List}
+use Rattle.std.specs.Prelude.{◌≡◌, ◌≢◌, ◌<◌, ◌≤◌, ◌*◌, ◌^◌, ℕ, List}
 use Rattle.homa_plain.specs.declared.id.HostId.{HostId}
 use Rattle.homa_plain.specs.Steps.{Work}
 use Rattle.homa_seen.specs.declared.outbox.SentFrame.{SentFrame}
 use Rattle.homa_seen.specs.Seen.{Seen}
 use Rattle.homa_seen.specs.Done.{IsDone, HoldsSent}
+use Rattle.homa_service.specs.Suite.{suite_answer}
 
--- a host, and what its last step left: its frames, and the message that became whole
+-- a host, how many answers its service gave, how many steps were begun, and what its last step left: its frames, and the
+-- message that became whole
 pub record Driven : Type 0 where
   pub host : Seen
+  pub served : ℕ
+  pub steps : ℕ
   pub out : List SentFrame
   pub whole : List ℕ
 
 -- the host, the entries and the frames are those of a plain step
 abbrev pub IsStep : Work → Driven → Driven → Type 0
 IsStep step old new = IsDone old.host step new.host new.out new.whole
+
+-- nothing happened to the host and its service
+pub record IsStill (old new : Driven) : Type 0 where
+  pub host : new.host.host ≡ old.host.host
+  pub settings : new.host.settings ≡ old.host.settings
+  pub served : new.served ≡ old.served
+
+-- there is another host of this name
+pub record IsOther (h : Seen) (id : HostId) : Type 0 where
+  pub known : id.0 < h.settings.hosts
+  pub other : id ≢ h.host.id
+
+-- what the suite of services may answer, after so many answers
+abbrev pub may_answer : ℕ → ℕ → List ℕ → List ℕ → ℕ → Type 0
+may_answer count number request response hold = record { bytes = response; hold = hold } ≡ suite_answer count number request
 
 -- a host that began so many steps may begin one at this tick of its own clock
 pub record MayBegin (h : Seen) (steps now : ℕ) : Type 0 where

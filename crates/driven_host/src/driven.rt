@@ -1,14 +1,15 @@
 // A host with what its steps are lent.
-ghost use Rattle.std.specs.Prelude.{◌≡◌, ◌≢◌, ◌<◌, ◌≤◌, IsTrue, ◌↔◌, Some, None, [], length, slice_get, IfOk, IfSome, IfNone};
+ghost use Rattle.std.specs.Prelude.{◌≡◌, ◌≢◌, ◌<◌, ◌≤◌, ◌+◌, ◌↔◌, true, if◌then◌else◌, IsTrue, IsSome, Some, None, [], length, slice_get, IfOk, IfSome, IfNone};
+ghost use Rattle.std.specs.List.{AllByRecursion};
 ghost use Rattle.plain_sets.specs.Maps.{empty};
 ghost use Rattle.homa_plain.specs.Settings.{IsValid};
 ghost use Rattle.homa_plain.specs.Entries.{plain};
 ghost use Rattle.homa_plain.specs.Host.{new_host};
 ghost use Rattle.homa_plain.specs.Rules.{Answer};
-ghost use Rattle.homa_plain.specs.Steps.{next_id, call_step, arrival_step, turn_step};
-ghost use Rattle.homa_seen.specs.Marks.{shown_entries};
+ghost use Rattle.homa_plain.specs.Steps.{start_fault, next_id, call_step, arrival_step, turn_step, has_run};
+ghost use Rattle.homa_seen.specs.Marks.{shown_entries, has_ran, IsAllowed};
 ghost use Rattle.homa_seen.specs.Done.{arriving};
-ghost use Rattle.driven_host.specs.Driven.{IsStep, MayBegin};
+ghost use Rattle.driven_host.specs.Driven.{IsStep, IsStill, IsOther, MayBegin, may_answer};
 
 use homa_host::Host;
 use homa_plain::{CallId, Entry, HostId, Settings};
@@ -43,7 +44,7 @@ impl Model for DrivenHost {
 
     ghost Value = { Driven };
 
-    ghost view = { λ d. record { host = d.host; out = d.out; whole = d.scratch } };
+    ghost view = { λ d. record { host = d.host; served = d.suite; steps = d.steps; out = d.out; whole = d.scratch } };
 
     ghost invariant = { λ d. IsKept d.host d.suite d.out d.id d.hosts d.steps };
 }
@@ -61,8 +62,19 @@ impl DrivenHost {
         requires id { id.0 < settings.now.hosts }
         requires inc { 1 ≤ inc }
         requires last { last ≤ 1000000002000 }
-        ensures host { IfOk result (λ d. d.host.host ≡ new_host settings.now id inc last) }
-        ensures settings { IfOk result (λ d. d.host.settings ≡ settings.now) }
+        ensures { IfOk result (λ d. d ≡ record {
+          host = record {
+            settings = settings.now;
+            host = new_host settings.now id inc last;
+            client_places = empty;
+            server_places = empty;
+            marks = [];
+          };
+          served = 0;
+          steps = 0;
+          out = [];
+          whole = [];
+        }) }
     {
         Ok(DrivenHost {
             host: Host::open_at(alloc, id, inc, last, settings)?,
@@ -75,12 +87,16 @@ impl DrivenHost {
         })
     }
 
-    /// Calls a service of another host, at tick `now` of the host's own clock. None where the call can't start, and where
-    /// this is no step of a host.
+    /// Calls a service of another host, at tick `now` of the host's own clock. None where the call can't start, where there
+    /// is no other host of this name, and where no step may begin; the request is dropped then.
     pub fn call(&mut self, server: HostId, number: u8, request: Vec<u8>, now: u64) -> Option<CallId>
+        ensures begins { MayBegin self.old.host self.old.steps now → IsOther self.old.host server
+            → start_fault self.old.host.settings self.old.host.host server request.items ≡ None → IsSome result }
         ensures id { IfSome result (λ id. id ≡ next_id self.old.host.host) }
         ensures step { IfSome result (λ _. IsStep (call_step self.old.host.settings self.old.host.host now server number request.items) self.old self.new) }
-        ensures same { IfNone result (self.new.host.host ≡ self.old.host.host) }
+        ensures served { self.new.served ≡ self.old.served }
+        ensures same { IfNone result (IsStill self.old self.new) }
+        ensures steps { self.new.steps ≤ self.old.steps + 1 }
     {
         if !is_other(self.id, self.hosts, server) || !may_begin(&self.host, self.steps, now) {
             return None;
@@ -92,11 +108,16 @@ impl DrivenHost {
         Some(id)
     }
 
-    /// A datagram comes from another host, at tick `now` of the host's own clock. None where its service finds no memory,
-    /// and where this is no step of a host.
+    /// A datagram comes from another host, at tick `now` of the host's own clock. None where its service finds no memory for
+    /// a request that the datagram makes whole, where there is no other host of this name, and where no step may begin.
     pub fn deliver(&mut self, alloc: Global, from: HostId, frame: &[u8], now: u64) -> Option<()>
+        ensures begins { MayBegin self.old.host self.old.steps now → IsOther self.old.host from → IfNone result ((a : Answer)
+            → has_run (arrival_step self.old.host.settings self.old.host.host now (arriving self.old.host from frame.now) a).told ≡ true) }
         ensures step { IfSome result (λ _. (a : Answer) × IsStep (arrival_step self.old.host.settings self.old.host.host now (arriving self.old.host from frame.now) a) self.old self.new) }
-        ensures same { IfNone result (self.new.host.host ≡ self.old.host.host) }
+        ensures allowed { IfSome result (λ _. AllByRecursion (IsAllowed self.new.host.host (may_answer self.old.served) self.new.whole) self.new.host.marks) }
+        ensures served { IfSome result (λ _. self.new.served ≡ (if has_ran self.new.host.marks then self.old.served + 1 else self.old.served)) }
+        ensures same { IfNone result (IsStill self.old self.new) }
+        ensures steps { self.new.steps ≤ self.old.steps + 1 }
     {
         if !is_other(self.id, self.hosts, from) || !may_begin(&self.host, self.steps, now) {
             return None;
@@ -116,10 +137,13 @@ impl DrivenHost {
         }
     }
 
-    /// A turn at tick `now` of the host's own clock. None where this is no step of a host.
+    /// A turn at tick `now` of the host's own clock. None where no step may begin.
     pub fn turn(&mut self, now: u64) -> Option<()>
+        ensures begins { MayBegin self.old.host self.old.steps now → IsSome result }
         ensures step { IfSome result (λ _. IsStep (turn_step self.old.host.settings self.old.host.host now) self.old self.new) }
-        ensures same { IfNone result (self.new.host.host ≡ self.old.host.host) }
+        ensures served { self.new.served ≡ self.old.served }
+        ensures same { IfNone result (IsStill self.old self.new) }
+        ensures steps { self.new.steps ≤ self.old.steps + 1 }
     {
         if !may_begin(&self.host, self.steps, now) {
             return None;
