@@ -80,9 +80,9 @@ fn hand_over<K: Sink>(
 
 // A call, up to the tick at which nothing is left of it. None where there is no memory, or a line isn't written.
 fn drive<K: Sink>(alloc: Global, sink: &mut K, hosts: &mut Vec<DrivenHost>) -> Option<()> {
-    open(alloc, hosts, HostId(0))?;
-    open(alloc, hosts, HostId(1))?;
-    call(alloc, sink, hosts, 0, HostId(1))?;
+    open(alloc, hosts, CLIENT)?;
+    open(alloc, hosts, SERVER)?;
+    call(alloc, sink, hosts, 0, SERVER)?;
     hand_over(alloc, sink, hosts, 0, 0)?;
     hand_over(alloc, sink, hosts, 1, 0)?;
     turn(sink, hosts, 1, 4)?;
