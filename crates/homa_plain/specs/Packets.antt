@@ -68,7 +68,7 @@ abbrev pub call_between : Role → HostId → HostId → ℕ → ℕ → CallId
 call_between Client from to inc seq = record { client = from; inc = inc; seq = seq }
 call_between Server from to inc seq = record { client = to; inc = inc; seq = seq }
 
--- the server of the call: the receiver of role c, and the sender of role s
+-- the server of the call: the receiver of a packet of its client, and the sender of one of its own
 abbrev pub server_between : Role → HostId → HostId → HostId
 server_between Client from to = to
 server_between Server from to = from
