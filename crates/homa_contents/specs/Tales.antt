@@ -29,6 +29,7 @@ pub record Tale : Type 0 where
   pub request : Option Part
   pub response : Option Part
 
+-- what the lines so far say of a call
 abbrev pub tale : Progress → CallId → Tale
 tale m q = record { live = get m.live q; request = get m.requests q; response = get m.responses q }
 
@@ -49,10 +50,12 @@ abbrev pub RepliesTo : View → CallId → HostId → ℕ → Body → List ℕ 
 RepliesTo v id server inc (body.Data size offset version service ack) payload = (response : List ℕ) × IsReplyOf v id server inc response × IsSlice response size offset payload
 RepliesTo v id server inc other payload = Unit {0}
 
+-- a packet of the server, if it is a piece of a response, is of what was answered; of a client's packet nothing is said
 abbrev pub CarriesReply : View → Role → CallId → HostId → ℕ → Body → List ℕ → Type 0
 CarriesReply v Client id server inc what payload = Unit {0}
 CarriesReply v Server id server inc what payload = RepliesTo v id server inc what payload
 
+-- a packet that was sent is so: a piece of a response is of what its sender answered in the life that sent it
 abbrev pub IsTruthful : View → SentPacket → Type 0
 IsTruthful v p = CarriesReply v p.packet.role p.packet.id p.packet.server p.packet.inc p.packet.body p.packet.payload
 
@@ -78,6 +81,7 @@ IsSamePiece s v q server seen None o = o ≡ None
 IsSamePiece s v q server seen (Some p) None = ⊥
 IsSamePiece s v q server seen (Some p) (Some o) = (response : List ℕ) × IsReplyOf v q server seen response × IsSamePart s q.client response p o × (o.peer ≡ server)
 
+-- a response at its client: the lines have of it what the row has; where there is no row, the lines have none
 abbrev pub IsSameResponse : Settings → View → CallId → Option ClientRow → Option Part → Type 0
 IsSameResponse s v q None o = o ≡ None
 IsSameResponse s v q (Some r) o = IsSamePiece s v q r.server r.seen r.part o
@@ -98,6 +102,7 @@ pub record IsClosed (v : View) : Type 0 where
 
 -- ---- all of it
 
+-- each call at each host is as the lines say, each piece of a response is of what was answered, and nothing is still due
 pub record IsTrue (s : Settings) (w : World) (v : View) : Type 0 where
   pub same : (q : CallId) (n : HostId) → IsSame s v q n (stand w v q n) (tale v.now q)
   pub packets : AllByRecursion (IsTruthful v) w.packets

@@ -17,21 +17,26 @@ unmoved q s = s
 abbrev pub is_undone : Option Undo → HostId → CallId → Bool
 is_undone o host id = option_map_or (λ u. is_call u.packet.id id && is_host u.packet.to host) o false
 
+-- a packet is delivered, or none: only the spot of its call changes
 abbrev pub delivered_at : View → Option Sent → CallId → Spot → Spot
 delivered_at v None = unmoved
 delivered_at v (Some p) = only p.id (delivered_spot v p)
 
+-- the block's delivery is refused: its call is as it is without the packet's bytes
 abbrev pub taken_back : Option Undo → CallId → Spot → Spot
 taken_back None = unmoved
 taken_back (Some u) = only u.packet.id (λ _. u.refused)
 
+-- the block's delivery is stale: its call is as if nothing had been delivered
 abbrev pub undone : Option Undo → CallId → Spot → Spot
 undone None = unmoved
 undone (Some u) = only u.packet.id (λ _. u.stale)
 
+-- `full` or `gaps` at a host for a call: the block's delivery is refused, if it is of this call to this host
 abbrev pub refused_at : Option Undo → HostId → CallId → CallId → Spot → Spot
 refused_at o host id q s = if is_undone o host id then taken_back o q s else s
 
+-- a host gives up a call's request: what has arrived of it goes, if the host is the call's server
 abbrev pub dropped_at : View → HostId → CallId → Spot → Spot
 dropped_at v host id s = if is_server_of v id host then dropped_spot s else s
 

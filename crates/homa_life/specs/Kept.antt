@@ -20,6 +20,7 @@ pub record PacketFits (s : Settings) (v : CallId → HostId → Stand) (p : Sent
 abbrev pub call_of : HostId → ℕ × ℕ → CallId
 call_of client c = record { client = client; inc = c.0; seq = c.1 }
 
+-- each call at each host has the invariant, each packet fits its call, and each call still to be acknowledged is over
 pub record IsKept (s : Settings) (w : World) (v : View) : Type 0 where
   pub calls : (q : CallId) (n : HostId) → Lifetime (times s) n (stand w v q n)
   pub packets : AllByRecursion (PacketFits s (stand w v)) w.packets

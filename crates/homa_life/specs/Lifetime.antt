@@ -21,6 +21,7 @@ pub record Times : Type 0 where
   pub band : ℕ  -- how far a host's own clock may be ahead of the world's
   pub patience : ℕ  -- for how long a client that hears nothing sends its request again
 
+-- these spans, by the settings
 abbrev pub times : Settings → Times
 times s = record { life = accepted_life s; band = band s; patience = patience s }
 
@@ -44,6 +45,7 @@ expiry ran last (Some (Held response release)) = None
 expiry ran last (Some (Replying response out order base count)) = None
 expiry ran last (Some (Buried until)) = Some (until + 1)
 
+-- the expiry of the call's record at the host, if the call has one there
 abbrev pub expiry_of : Stand → Option ℕ
 expiry_of v = expiry v.ran v.last v.server
 
@@ -62,6 +64,7 @@ CoversReply s v t = (r : ClientRow) (y : ℕ) → v.client ≡ Some r → expiry
 
 -- ---- what the lines say of the call
 
+-- what the `call` line of a call to this host says
 abbrev pub call_to : HostId → ℕ → List ℕ → Called
 call_to host service request = record { server = host; service = service; request = request }
 
@@ -92,6 +95,7 @@ pub record IsRequestPiece (s : Times) (h : HostId) (v : Stand) (t size offset se
   pub covered : CoversRequest s v t
   pub last : size ≤ offset + length payload → HasSentAll v
 
+-- what the client sent at this tick: DATA is a piece of the call's request; of other packets nothing is said
 abbrev pub RequestFits : Times → HostId → Stand → ℕ → Body → List ℕ → Type 0
 RequestFits s h v t (body.Data size offset version service ack) payload = IsRequestPiece s h v t size offset service payload
 RequestFits s h v t other payload = Unit {0}
@@ -103,6 +107,7 @@ ReplyFits s v t (body.Ack more) = ⊥
 ReplyFits s v t (body.Data size offset version service (Some call)) = ⊥
 ReplyFits s v t other = CoversReply s v t
 
+-- what was sent at this tick: by the client as above for requests, by the server as above for replies
 abbrev pub BodyFits : Times → HostId → Stand → ℕ → Role → Body → List ℕ → Type 0
 BodyFits s h v t Client what payload = RequestFits s h v t what payload
 BodyFits s h v t Server what payload = ReplyFits s v t what
@@ -129,12 +134,14 @@ pub record PartFits (h : HostId) (v : Stand) (service : ℕ) (part : Incoming) :
   pub some : 0 < part.length
   pub last : has_last part ≡ true → HasSentAll v
 
+-- while the request arrives, the call hasn't run, and the bytes are those of its request; in each other state it has run
 abbrev pub StateFits : HostId → Stand → State → Type 0
 StateFits h v (Receiving service part base count) = (v.ran ≡ false) × PartFits h v service part
 StateFits h v (Held response release) = v.ran ≡ true
 StateFits h v (Replying response out order base count) = (v.ran ≡ true) × outgoing.IsSound out
 StateFits h v (Buried until) = v.ran ≡ true
 
+-- so it is of the host's row of the call, if it has one
 abbrev pub RowFits : HostId → Stand → Option State → Type 0
 RowFits h v None = Unit {0}
 RowFits h v (Some state) = StateFits h v state
@@ -145,6 +152,7 @@ RowFits h v (Some state) = StateFits h v state
 abbrev pub called_by : ClientRow → Called
 called_by r = call_to r.server r.service r.request
 
+-- the client's row: its call as the line says, a sound outgoing request, and heard of no later than a host's clock can be
 pub record ClientFits (s : Times) (v : Stand) (r : ClientRow) : Type 0 where
   pub called : v.called ≡ Some (called_by r)
   pub size : r.out.length ≡ length r.request
@@ -153,6 +161,7 @@ pub record ClientFits (s : Times) (v : Stand) (r : ClientRow) : Type 0 where
 
 -- ---- the call
 
+-- what holds of a call at its client and at this host at every moment
 pub record Lifetime (s : Times) (h : HostId) (v : Stand) : Type 0 where
   pub last : v.last ≤ v.clock + s.band
   pub named : (c : Called) → v.called ≡ Some c → v.old ≡ true

@@ -20,12 +20,15 @@ pub record Stand : Type 0 where
   pub server : Option State  -- at the host
   pub ran : Bool  -- at the host, in its present life
 
+-- the call with another row at its client, or none
 abbrev pub with_client : Stand → Option ClientRow → Stand
 with_client v o = record v { client = o }
 
+-- the call with another state at the host, or none, and with whether it ran there
 abbrev pub with_server : Stand → Option State → Bool → Stand
 with_server v o ran = record v { server = o; ran = ran }
 
+-- how far a server is with a call, if it has a row of it
 abbrev pub state_of : Option ServerRow → Option State
 state_of None = None
 state_of (Some row) = Some row.state

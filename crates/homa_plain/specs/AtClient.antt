@@ -26,6 +26,7 @@ refreshed now body.NeedAck r = record r { heard = now; count = 0 }
 refreshed now (body.Cutoffs cutoffs) r = record r { heard = now; count = 0 }
 refreshed now body r = record r { heard = now; base = now; count = 0 }
 
+-- the row with what has arrived of the response
 abbrev pub with_part : ClientRow → Incoming → ClientRow
 with_part r part = record r { part = Some part }
 

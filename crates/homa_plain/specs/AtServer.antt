@@ -16,6 +16,7 @@ use Rattle.homa_plain.specs.Host.{pages_for}
 use Rattle.homa_plain.specs.AtClient.{busy_for}
 use Rattle.homa_plain.specs.Rules.{Moment, Answer, Piece, Tells, Posts, Did, leaves, keeps, says, opening, version_of}
 
+-- the row in another state
 abbrev pub with_state : ServerRow → State → ServerRow
 with_state row state = record row { state = state }
 
@@ -68,6 +69,7 @@ opens s m id piece answer =
 
 -- ---- packets, by the state of the row
 
+-- a piece of a message, by the fields of its DATA packet and by its payload
 abbrev pub piece_of : ℕ → ℕ → ℕ → ℕ → List ℕ → Piece
 piece_of size offset version service payload = record { size = size; offset = offset; version = version; service = service; payload = payload }
 
@@ -77,6 +79,7 @@ unknown_gets s m id (body.Data size offset version service ack) payload answer =
 unknown_gets s m id (body.Resend from to prio) payload answer = says m None (Posts (body.Unknown 0) ∷ [])
 unknown_gets s m id body payload answer = leaves m None
 
+-- the request still arrives: DATA brings a piece, RESEND is answered with BUSY, and BUSY begins the timer anew
 abbrev pub receiving_gets : Settings → Moment → CallId → Body → List ℕ → Answer → ServerRow → ℕ → Incoming → ℕ → Did ServerRow
 receiving_gets s m id (body.Data size offset version service' ack) payload answer row service part base =
     piece_comes s m id service part row (piece_of size offset version service' payload) answer (leaves m None)
@@ -85,6 +88,7 @@ receiving_gets s m id (body.Resend from to prio) payload answer row service part
 receiving_gets s m id body.Busy payload answer row service part base = keeps m (with_state row (Receiving service part m.now 0))
 receiving_gets s m id body payload answer row service part base = keeps m row
 
+-- the response is held back: RESEND is answered with BUSY, and nothing else does anything
 abbrev pub held_gets : Moment → Body → ServerRow → Did ServerRow
 held_gets m (body.Resend from to prio) row = says m (Some row) (Posts body.Busy ∷ [])
 held_gets m body row = keeps m row
@@ -93,20 +97,24 @@ held_gets m body row = keeps m row
 abbrev pub touched : Moment → ServerRow → List ℕ → Outgoing → ℕ → ServerRow
 touched m row response out order = with_state row (Replying response out order m.now 0)
 
+-- a RESEND of bytes of the response: the timer begins anew, and BUSY is sent where nothing was queued
 abbrev pub response_resent : Moment → ServerRow → List ℕ → ℕ → Resent → Did ServerRow
 response_resent m row response order resent = says m (Some (touched m row response resent.part order)) (busy_for resent.answer)
 
+-- the response goes out: GRANT and RESEND are for it, and every packet but ACK begins the timer anew
 abbrev pub replying_gets : Moment → Body → ServerRow → List ℕ → Outgoing → ℕ → Did ServerRow
 replying_gets m (body.Grant offset prio) row response out order = keeps m (touched m row response (grant out offset prio) order)
 replying_gets m (body.Resend from to prio) row response out order = response_resent m row response order (resend out from to prio)
 replying_gets m (body.Ack more) row response out order = keeps m row
 replying_gets m body row response out order = keeps m (touched m row response out order)
 
+-- the call is buried: DATA and RESEND are answered with UNKNOWN, which says that the call ran
 abbrev pub buried_gets : Moment → Body → ServerRow → Did ServerRow
 buried_gets m (body.Data size offset version service ack) row = says m (Some row) (Posts (body.Unknown 1) ∷ [])
 buried_gets m (body.Resend from to prio) row = says m (Some row) (Posts (body.Unknown 1) ∷ [])
 buried_gets m body row = keeps m row
 
+-- a packet comes to a row that is in this state
 abbrev pub row_gets : Settings → Moment → CallId → Body → List ℕ → Answer → ServerRow → State → Did ServerRow
 row_gets s m id body payload answer row (Receiving service part base count) = receiving_gets s m id body payload answer row service part base
 row_gets s m id body payload answer row (Held response release) = held_gets m body row
@@ -118,6 +126,7 @@ unfoldable pub server_gets : Settings → Moment → Packet → Answer → Optio
 server_gets s m p answer None = unknown_gets s m p.id p.body p.payload answer
 server_gets s m p answer (Some row) = row_gets s m p.id p.body p.payload answer row row.state
 
+-- the client has finished the call: one that ran, and isn't buried yet, is buried for a span
 abbrev pub state_acked : Settings → Moment → CallId → ServerRow → State → Did ServerRow
 state_acked s m id row (Receiving service part base count) = keeps m row
 state_acked s m id row (Held response release) = buried m id (m.now + span s) row

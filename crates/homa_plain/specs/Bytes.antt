@@ -27,6 +27,7 @@ number_at w bytes =
 abbrev pub two : ℕ × ℕ → List ℕ
 two pair = to_be_bytes w32 pair.0 ++ to_be_bytes w32 pair.1
 
+-- two numbers of four bytes are read
 unfoldable pub two_at : List ℕ → Option ((ℕ × ℕ) × List ℕ)
 two_at bytes = do
   first ← number_at w32 bytes

@@ -11,6 +11,7 @@ use Rattle.homa_plain.specs.declared.entry.Why.{Why}
 use Rattle.homa_plain.specs.declared.entry.Entry.{Entry}
 use Rattle.homa_plain.specs.declared.entry.Entry.TheVariants as entry
 
+-- an entry of a trace: the settings, an event, something that comes of it, or the end
 pub data PlainEntry : Type 0 where
   PlainSettings : (settings : TheSettings) → PlainEntry
   PlainCall : (id : CallId) (server : HostId) (service : ℕ) (bytes : List ℕ) → PlainEntry

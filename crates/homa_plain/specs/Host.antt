@@ -23,6 +23,7 @@ pub record PeerCutoffs : Type 0 where
   pub inc : ℕ
   pub cutoffs : Cutoffs
 
+-- a host: its name and incarnation, its clock and credit, what it knows of its peers, and its rows
 pub record Host : Type 0 where
   pub id : HostId
   pub inc : ℕ
@@ -62,6 +63,7 @@ peer_cutoffs s h peer = slice_index_or h.peers peer.0 (record { inc = 0; cutoffs
 abbrev pub finished_at : Host → HostId → List (ℕ × ℕ)
 finished_at h peer = slice_index_or h.finished peer.0 []
 
+-- the host with these calls done at a server and still to be told to it
 abbrev pub with_finished : HostId → List (ℕ × ℕ) → Host → Host
 with_finished peer calls h = record h { finished = slice_set h.finished peer.0 calls }
 
@@ -71,10 +73,12 @@ with_finished peer calls h = record h { finished = slice_set h.finished peer.0 c
 abbrev pub pages_for : ℕ → ℕ
 pages_for n = (n + 4095) / 4096
 
+-- the pages of a response at its client, once it was opened
 abbrev pub part_pages : Option Incoming → ℕ
 part_pages None = 0
 part_pages (Some part) = pages_for part.length
 
+-- the pages of a request at its server, while it arrives
 abbrev pub state_pages : State → ℕ
 state_pages (Receiving service part base count) = pages_for part.length
 state_pages (Held response release) = 0
@@ -114,6 +118,7 @@ counted t n = record t { lengths = noted t.lengths n; opened = t.opened + 1 }
 abbrev pub is_balance_due : Settings → Tuning → Bool
 is_balance_due s t = not (s.rebalance == 0) && t.opened % s.rebalance == 0 && nat_lt t.own.version 65535
 
+-- the cutoffs are computed anew from the last lengths, and have the next version
 abbrev pub rebalanced : Settings → Tuning → Tuning
 rebalanced s t = record t { own = balanced s.overcommit s.unsched (t.own.version + 1) t.lengths }
 
@@ -122,6 +127,7 @@ pub record Tuned : Type 0 where
   pub tuning : Tuning
   pub told : List Told
 
+-- a message of n bytes is opened: where the cutoffs are computed anew, a `balance` line tells them
 unfoldable pub tuned : Settings → HostId → Tuning → ℕ → Tuned
 tuned s host t n =
     let u = counted t n in

@@ -28,6 +28,7 @@ ends_in_feed [] = false
 ends_in_feed (b ∷ []) = b == 10
 ends_in_feed (b ∷ c ∷ bytes) = if b == 10 then false else ends_in_feed (c ∷ bytes)
 
+-- there is a byte in it
 abbrev pub has_bytes : List ℕ → Bool
 has_bytes word = not (length word == 0)
 

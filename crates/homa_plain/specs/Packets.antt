@@ -23,17 +23,21 @@ pub record Packet : Type 0 where
   pub body : Body
   pub payload : List ℕ
 
+-- the sender of a packet of this role: the call's client, or its server
 abbrev pub sender_of : Role → CallId → HostId → HostId
 sender_of Client id server = id.client
 sender_of Server id server = server
 
+-- the receiver of a packet of this role: the other of the two
 abbrev pub receiver_of : Role → CallId → HostId → HostId
 receiver_of Client id server = server
 receiver_of Server id server = id.client
 
+-- the host that sent a packet
 abbrev pub sender : Packet → HostId
 sender p = sender_of p.role p.id p.server
 
+-- the host that a packet is for
 abbrev pub receiver : Packet → HostId
 receiver p = receiver_of p.role p.id p.server
 
@@ -47,6 +51,7 @@ acks_in id (body.Data length offset version service (Some call)) = filter (λ q.
 acks_in id (body.Ack more) = id ∷ calls_of id.client more
 acks_in id body = []
 
+-- the calls that a packet acknowledges, its own among them where it is an ACK
 abbrev pub acks : Packet → List CallId
 acks p = acks_in p.id p.body
 
@@ -63,10 +68,12 @@ abbrev pub call_between : Role → HostId → HostId → ℕ → ℕ → CallId
 call_between Client from to inc seq = record { client = from; inc = inc; seq = seq }
 call_between Server from to inc seq = record { client = to; inc = inc; seq = seq }
 
+-- the server of the call: the receiver of a packet of its client, and the sender of one of its own
 abbrev pub server_between : Role → HostId → HostId → HostId
 server_between Client from to = to
 server_between Server from to = from
 
+-- a datagram's packet as the rules see it, where it comes from one host to another
 abbrev pub packet_between : HostId → HostId → WirePacket → List ℕ → Packet
 packet_between from to w payload = record {
   role = w.role;

@@ -18,11 +18,13 @@ pub record Round : Type 0 where
   pub delivered : ℕ
   pub done : Bool
 
+-- whether a call was told to be done
 abbrev pub has_done : List PlainEntry → Bool
 has_done [] = false
 has_done (PlainDone id bytes ∷ told) = true
 has_done (entry ∷ told) = has_done told
 
+-- the round that a run makes: its world, so many packets delivered, and whether the call was done in it
 abbrev pub carried_round : ℕ → Run → Round
 carried_round delivered run = record { world = run.world; delivered = delivered; done = has_done run.told }
 

@@ -17,6 +17,7 @@ pub record Happening : Type 0 where
   pub event : Event
   pub bytes : List ℕ
 
+-- an event without bytes beside it
 abbrev pub bare : Event → Happening
 bare e = record { event = e; bytes = [] }
 
@@ -65,9 +66,11 @@ pub record Replay : Type 0 where
   pub told : List PlainEntry
   pub end : End
 
+-- a replay, with what was told before it
 abbrev pub with_told : List PlainEntry → Replay → Replay
 with_told told rest = record rest { told = told ++ rest.told }
 
+-- how a replay ends behind its last event: after so many events, or at the line that its words refuse
 abbrev pub end_after : ℕ → Option Refusal → End
 end_after events None = Finished events
 end_after events (Some refusal) = RefusedAt refusal.line (Script refusal.fault)
@@ -82,6 +85,7 @@ replayed s w events (step ∷ steps) refused =
       | None ↦ with_told run.told (replayed s run.world (events + run.count) steps refused)
     ]
 
+-- the replay of an opened schedule; one that isn't opened tells nothing but its end
 abbrev pub replay_opened : Opening → List Answer → ℕ → Replay
 replay_opened (Unopened refusal) answers boxes = record { told = []; end = RefusedAt refusal.line (Script refusal.fault) }
 replay_opened (Opened s steps) answers boxes =

@@ -44,6 +44,7 @@ module _ {R : Type 0} (m : Moment) where
   abbrev pub leaves : Option R → Did R
   leaves row = record { row = row; order = m.order; opened = None; version = None; says = []; finished = false }
 
+  -- there is this row, and nothing else
   abbrev pub keeps : R → Did R
   keeps row = leaves (Some row)
 

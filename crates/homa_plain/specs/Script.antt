@@ -26,6 +26,7 @@ abbrev pub ◌>>=◌ : {A B : Type 0} → Result A ScriptFault → (A → Result
 (Err fault) >>= f = Err fault
 (Ok x) >>= f = f x
 
+-- a number that was read, where it is at most so much; else the fault
 abbrev pub number_up_to : ℕ → Option ℕ → Result ℕ ScriptFault
 number_up_to most None = Err BadNumber
 number_up_to most (Some n) = if nat_le n most then Ok n else Err BadNumber
@@ -52,9 +53,11 @@ counting i (suc n) = i % 256 ∷ counting (suc i) n
 abbrev pub most_counted : ℕ
 most_counted = 1000001
 
+-- so many counting bytes, where the number was read
 abbrev pub counted : Result ℕ ScriptFault → Result (List ℕ) ScriptFault
 counted n = n >>= λ m. Ok (counting 0 m)
 
+-- bytes that were read from hex digits, or the fault
 abbrev pub hex_bytes : Result (List ℕ) FromHexError → Result (List ℕ) ScriptFault
 hex_bytes (Ok bytes) = Ok bytes
 hex_bytes (Err fault) = Err BadHex
@@ -67,6 +70,7 @@ bytes_of_word (c ∷ cs) =
     else if bytes_eq (c ∷ cs) (codes "-") then Ok []
     else hex_bytes (decode_of (c ∷ cs))
 
+-- the bytes that the first word stands for, and the words behind it
 abbrev pub bytes_operand : List (List ℕ) → Result (List ℕ × List (List ℕ)) ScriptFault
 bytes_operand words = first_word bytes_of_word words
 
@@ -109,6 +113,7 @@ pub data EventWord : Type 0 where
   InjectWord : EventWord
   ShiftWord : EventWord
 
+-- the event that a word names, if it names one
 abbrev pub event_word : List ℕ → Option EventWord
 event_word word =
     if bytes_eq word (codes "call") then Some CallWord
@@ -192,6 +197,7 @@ phrase_before_go None (Some word) is_go words = Err NoGo
 phrase_before_go None None true words = alone (Go, words)
 phrase_before_go None None false words = Err UnknownWord
 
+-- whether a word begins a comment: its first byte is `#`
 abbrev pub is_comment : List ℕ → Bool
 is_comment [] = false
 is_comment (c ∷ cs) = c == 35
@@ -214,6 +220,7 @@ without_return (c ∷ d ∷ cs) = c ∷ without_return (d ∷ cs)
 abbrev pub longest_line : ℕ
 longest_line = 2100000
 
+-- the most bytes of an input
 abbrev pub most_bytes : ℕ
 most_bytes = 68719476736
 

@@ -24,10 +24,12 @@ pub record Arriving : Type 0 where
   pub place : Place
   pub message : Message
 
+-- the response of a call, once it was opened
 abbrev pub arriving_at_client : CallId → Option Incoming → List Arriving
 arriving_at_client id None = []
 arriving_at_client id (Some part) = record { place = OfClient id; message = seen part } ∷ []
 
+-- the request of a call, while it arrives
 abbrev pub arriving_at_server : CallId → State → List Arriving
 arriving_at_server id (Receiving service part base count) = record { place = OfServer id; message = seen part } ∷ []
 arriving_at_server id state = []
@@ -38,6 +40,7 @@ arrivals h =
     flat_map (λ (e : CallId × ClientRow). arriving_at_client e.0 e.1.part) (entries h.clients)
     ++ flat_map (λ (e : CallId × ServerRow). arriving_at_server e.0 e.1.state) (entries h.servers)
 
+-- a response that was granted up to an offset, if it was opened
 abbrev pub granted_part : ℕ → Option Incoming → Option Incoming
 granted_part offset None = None
 granted_part offset (Some part) = Some (granted_to part offset)
@@ -46,10 +49,12 @@ granted_part offset (Some part) = Some (granted_to part offset)
 abbrev pub client_granted : ℕ → ℕ → ClientRow → ClientRow
 client_granted now offset r = record r { part = granted_part offset r.part; base = now }
 
+-- a request that was granted up to an offset, while it arrives: its timer begins anew
 abbrev pub state_granted : ℕ → ℕ → State → State
 state_granted now offset (Receiving service part base count) = Receiving service (granted_to part offset) now count
 state_granted now offset state = state
 
+-- the row of a request that was granted up to an offset
 abbrev pub server_granted : ℕ → ℕ → ServerRow → ServerRow
 server_granted now offset row = record row { state = state_granted now offset row.state }
 
@@ -69,9 +74,11 @@ pub record Leaving : Type 0 where
 abbrev pub leaving_key : Leaving → ℕ × ℕ
 leaving_key l = (l.left, l.order)
 
+-- the request of a call, if it may be sent
 abbrev pub leaving_at_client : Settings → ℕ → CallId → ClientRow → List Leaving
 leaving_at_client s now id r = if may_send_request s now r then record { place = OfClient id; left = left r.out; order = r.order } ∷ [] else []
 
+-- the response of a call, if bytes of it wait
 abbrev pub leaving_at_server : CallId → State → List Leaving
 leaving_at_server id (Replying response out order base count) = if has_waiting out then record { place = OfServer id; left = left out; order = order } ∷ [] else []
 leaving_at_server id state = []
@@ -106,6 +113,7 @@ request_content s cutoffs ack r range = record {
   payload = slice r.request range;
 }
 
+-- a piece of the response; it names no service and acknowledges no call
 abbrev pub response_content : Settings → Cutoffs → List ℕ → Outgoing → Range → Content
 response_content s cutoffs response out range = record {
   level = level_at s cutoffs out range.from;

@@ -46,6 +46,7 @@ abbrev pub first_outside : List Limits → Option Name
 first_outside [] = None
 first_outside (r ∷ rest) = if nat_lt r.value r.least || nat_lt r.most r.value then Some r.name else first_outside rest
 
+-- what is wrong with settings, where this is the first one outside its range, or none is outside
 abbrev pub verdict_by : Settings → Option Name → Result (Unit {0}) SettingFault
 verdict_by s (Some name) = Err (OutOfRange name)
 verdict_by s None = if nat_lt s.window s.unsched then Err UnschedOverWindow else if nat_lt s.rate s.seg then Err RateUnderSeg else Ok tt

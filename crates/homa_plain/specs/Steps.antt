@@ -39,6 +39,7 @@ now_of w = w.host.last
 abbrev pub begun : Host → ℕ → Work
 begun h now = record { host = record h { last = now }; told = [] }
 
+-- this is told too, behind all that was told so far
 abbrev pub tells : List Told → Work → Work
 tells told w = record w { told = w.told ++ told }
 
@@ -61,6 +62,7 @@ packet_from s h role id server content = record {
 abbrev pub bare : Body → Content
 bare what = record { level = 7; body = what; payload = [] }
 
+-- a packet that says this of a call, and is no piece of a message, is sent
 abbrev pub posts : Settings → Role → CallId → HostId → Body → Work → Work
 posts s role id server what w = tells (Sends (packet_from s w.host role id server (bare what)) ∷ []) w
 
@@ -122,6 +124,7 @@ moment s id w = record { host = w.host.id; now = now_of w; order = w.host.order;
 abbrev pub is_newer : ℕ → Cutoffs → PeerCutoffs → Bool
 is_newer inc cutoffs held = nat_lt held.inc inc || (held.inc == inc && nat_lt held.cutoffs.version cutoffs.version)
 
+-- the host with these cutoffs of a peer
 abbrev pub with_peer : Settings → HostId → PeerCutoffs → Host → Host
 with_peer s peer cutoffs h = record h { peers = slice_set h.peers peer.0 cutoffs }
 
@@ -163,10 +166,12 @@ comes s (Some p) answer w =
 abbrev pub refilled : Settings → Host → Host
 refilled s h = if nat_lt h.refilled h.last then record h { credit = s.rate; refilled = h.last } else h
 
+-- the row of a call at its client acts, if there is one
 abbrev pub client_acted : Settings → CallId → Option ClientRow → Work → Work
 client_acted s id None w = w
 client_acted s id (Some r) w = asked s id r.server (client_acts s (moment s id w) id r) w
 
+-- the row of a call at its server acts, if there is one
 abbrev pub server_acted : Settings → CallId → Option ServerRow → Work → Work
 server_acted s id None w = w
 server_acted s id (Some row) w = served s id (server_acts s (moment s id w) id row) w
@@ -176,6 +181,7 @@ abbrev pub acts_at : Settings → Place → Work → Work
 acts_at s (OfClient id) w = client_acted s id (get w.host.clients id) w
 acts_at s (OfServer id) w = server_acted s id (get w.host.servers id) w
 
+-- the rows of these timers act, one after the other
 abbrev pub all_act : Settings → List Timer → Work → Work
 all_act s [] w = w
 all_act s (t ∷ ts) w = all_act s ts (acts_at s t.place w)
@@ -186,11 +192,13 @@ acts s w = all_act s (due timer_key (now_of w) (timers s w.host)) w
 
 -- ---- grants
 
+-- a GRANT for the response of a call is sent to the server, and the row has the new granted end
 abbrev pub client_is_granted : Settings → CallId → Body → ℕ → Option ClientRow → Work → Work
 client_is_granted s id grant offset None w = w
 client_is_granted s id grant offset (Some r) w =
     posts s Client id r.server grant (record w { host = record w.host { clients = insert w.host.clients id (client_granted (now_of w) offset r) } })
 
+-- a GRANT for the request of a call is sent to the client, and the row has the new granted end
 abbrev pub server_is_granted : Settings → CallId → Body → ℕ → Option ServerRow → Work → Work
 server_is_granted s id grant offset None w = w
 server_is_granted s id grant offset (Some row) w =
@@ -201,6 +209,7 @@ abbrev pub grants_at : Settings → Place → ℕ → ℕ → Work → Work
 grants_at s (OfClient id) offset prio w = client_is_granted s id (body.Grant offset prio) offset (get w.host.clients id) w
 grants_at s (OfServer id) offset prio w = server_is_granted s id (body.Grant offset prio) offset (get w.host.servers id) w
 
+-- these GRANTs are sent, one after the other
 abbrev pub all_granted : Settings → List (Granted Arriving) → Work → Work
 all_granted s [] w = w
 all_granted s (g ∷ gs) w = all_granted s gs (grants_at s g.to.place g.offset g.prio w)
@@ -215,6 +224,7 @@ gives_grants s w = all_granted s (grants (λ (a : Arriving). a.message) s.overco
 abbrev pub most_packets : ℕ
 most_packets = 64
 
+-- so many bytes of the credit are used
 abbrev pub spent : ℕ → Work → Work
 spent n w = record w { host = record w.host { credit = w.host.credit - n } }
 
@@ -223,6 +233,7 @@ abbrev pub oldest : List (ℕ × ℕ) → Option (ℕ × ℕ)
 oldest [] = None
 oldest (call ∷ calls) = Some call
 
+-- these bytes of a request are sent, and with them the oldest finished call of the server
 abbrev pub request_leaves : Settings → CallId → ClientRow → Range → Work → Work
 request_leaves s id r range w =
     let finished = finished_at w.host r.server in
@@ -230,6 +241,7 @@ request_leaves s id r range w =
     let host = with_finished r.server (drop 1 finished) (record w.host { clients = insert w.host.clients id (client_sends s (now_of w) r) }) in
     tells (Sends (packet_from s w.host Client id r.server content) ∷ []) (spent (range.to - range.from) (record w { host = host }))
 
+-- these bytes of a response are sent, in a packet with this content
 abbrev pub response_leaves : Settings → CallId → ServerRow → Content → Range → Work → Work
 response_leaves s id row content range w =
     let host = record w.host { servers = insert w.host.servers id (record row { state = state_sends s (now_of w) row.state }) } in
@@ -240,23 +252,28 @@ abbrev pub if_affordable : Option Range → Work → (Range → Work) → Option
 if_affordable None w leave = None
 if_affordable (Some range) w leave = if nat_lt w.host.credit (range.to - range.from) then None else Some (leave range)
 
+-- the next piece of a call's request is sent, if there is one and the credit is enough
 abbrev pub client_leaves : Settings → CallId → Option ClientRow → Work → Option Work
 client_leaves s id None w = None
 client_leaves s id (Some r) w = if_affordable (next_range r.out s.seg) w (λ range. request_leaves s id r range w)
 
+-- the next piece of a response that goes out is sent, if there is one and the credit is enough; no other state sends any
 abbrev pub state_leaves : Settings → CallId → ServerRow → State → Work → Option Work
 state_leaves s id row (Replying response out order base count) w =
     if_affordable (next_range out s.seg) w (λ range. response_leaves s id row (response_content s (peer_cutoffs s w.host id.client).cutoffs response out range) range w)
 state_leaves s id row state w = None
 
+-- the next piece of a call's response is sent, if there is one and the credit is enough
 abbrev pub server_leaves : Settings → CallId → Option ServerRow → Work → Option Work
 server_leaves s id None w = None
 server_leaves s id (Some row) w = state_leaves s id row row.state w
 
+-- the next piece of this row's outgoing message is sent, if there is one and the credit is enough
 abbrev pub leaves_from : Settings → Place → Work → Option Work
 leaves_from s (OfClient id) w = client_leaves s id (get w.host.clients id) w
 leaves_from s (OfServer id) w = server_leaves s id (get w.host.servers id) w
 
+-- this message sends its next piece, if the credit is enough; where there is no message, nothing is sent
 abbrev pub first_leaves : Settings → Option Leaving → Work → Option Work
 first_leaves s None w = None
 first_leaves s (Some l) w = leaves_from s l.place w
@@ -270,6 +287,7 @@ unfoldable pub pumps : Settings → ℕ → Work → Work
 pumps s zero w = w
 pumps s (suc n) w = elim (pumped_once s w) [ None ↦ w | Some after ↦ pumps s n after ]
 
+-- the pump, for as many packets as the step may still send
 abbrev pub pump : Settings → Work → Work
 pump s w = pumps s (most_packets - length (packets_in w.told)) w
 
@@ -308,6 +326,7 @@ new_call s now order server service request = record {
   part = None;
 }
 
+-- a call starts: its row is opened under the next sequence number, and its `call` line is told
 abbrev pub starts : Settings → HostId → ℕ → List ℕ → Work → Work
 starts s server service request w =
     let h = w.host in

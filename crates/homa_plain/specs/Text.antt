@@ -36,6 +36,7 @@ abbrev pub hex_word : List ℕ → List ℕ
 hex_word [] = codes "-"
 hex_word (b ∷ bytes) = encode_lower (b ∷ bytes)
 
+-- a host's number
 abbrev pub host_word : HostId → List ℕ
 host_word host = decimal host.0
 
@@ -43,6 +44,7 @@ host_word host = decimal host.0
 abbrev pub call_word : ℕ × ℕ → List ℕ
 call_word call = decimal call.0 ++ codes "." ++ decimal call.1
 
+-- a call: its client, its incarnation and its sequence number
 abbrev pub id_word : CallId → List ℕ
 id_word id = host_word id.client ++ codes "." ++ call_word (id.inc, id.seq)
 
@@ -50,14 +52,17 @@ id_word id = host_word id.client ++ codes "." ++ call_word (id.inc, id.seq)
 abbrev pub route_word : HostId → HostId → List ℕ
 route_word from to = host_word from ++ codes ">" ++ host_word to
 
+-- the role of a packet's sender: client or server
 abbrev pub role_word : Role → List ℕ
 role_word Client = codes "c"
 role_word Server = codes "s"
 
+-- the call that a piece acknowledges; a hyphen where there is none
 abbrev pub ack_word : Option (ℕ × ℕ) → List ℕ
 ack_word None = codes "-"
 ack_word (Some call) = call_word call
 
+-- the kind of a packet
 abbrev pub kind_word : Body → List ℕ
 kind_word (body.Data length offset version service ack) = codes "DATA"
 kind_word (body.Grant offset prio) = codes "GRANT"
@@ -92,9 +97,11 @@ settings_numbers s = s.hosts ∷ s.seg ∷ s.window ∷ s.unsched ∷ s.overcomm
 abbrev pub told_numbers : Settings → ℕ
 told_numbers s = if s.wire == 1 then (if s.skew == 0 then 13 else 14) else 15
 
+-- the words of the settings' line
 abbrev pub settings_words : Settings → List (List ℕ)
 settings_words s = codes "settings" ∷ map decimal (take (told_numbers s) (settings_numbers s))
 
+-- the name of a setting
 abbrev pub name_word : Name → List ℕ
 name_word name.Hosts = codes "hosts"
 name_word name.Seg = codes "seg"
@@ -112,6 +119,7 @@ name_word name.Rebalance = codes "rebalance"
 name_word name.Skew = codes "skew"
 name_word name.Wire = codes "wire"
 
+-- why a call can't start
 abbrev pub start_word : StartFault → List ℕ
 start_word Empty = codes "Empty"
 start_word TooLong = codes "TooLong"
@@ -119,11 +127,13 @@ start_word SelfCall = codes "SelfCall"
 start_word CallsFull = codes "CallsFull"
 start_word SeqSpent = codes "SeqSpent"
 
+-- why settings are refused
 abbrev pub setting_words : SettingFault → List (List ℕ)
 setting_words (OutOfRange name) = codes "OutOfRange" ∷ name_word name ∷ []
 setting_words UnschedOverWindow = codes "UnschedOverWindow" ∷ []
 setting_words RateUnderSeg = codes "RateUnderSeg" ∷ []
 
+-- why an input's line is refused before any world is asked
 abbrev pub script_words : ScriptFault → List (List ℕ)
 script_words LongLine = codes "LongLine" ∷ []
 script_words NotUtf8 = codes "NotUtf8" ∷ []
@@ -136,6 +146,7 @@ script_words (Setting fault) = codes "Setting" ∷ setting_words fault
 script_words NoGo = codes "NoGo" ∷ []
 script_words InputTooLong = codes "InputTooLong" ∷ []
 
+-- why the world refuses an event
 abbrev pub world_words : WorldFault → List (List ℕ)
 world_words NoSuchHost = codes "NoSuchHost" ∷ []
 world_words NoSuchPacket = codes "NoSuchPacket" ∷ []
@@ -148,10 +159,12 @@ world_words NoMemory = codes "NoMemory" ∷ []
 world_words (OutOfBand n most) = codes "OutOfBand" ∷ decimal n ∷ decimal most ∷ []
 world_words (Back last now) = codes "Back" ∷ decimal last ∷ decimal now ∷ []
 
+-- why a line is refused: by itself, or by the world
 abbrev pub fault_words : LineFault → List (List ℕ)
 fault_words (Script fault) = script_words fault
 fault_words (World fault) = world_words fault
 
+-- why a call failed
 abbrev pub why_word : Why → List ℕ
 why_word Timeout = codes "timeout"
 why_word Forgotten = codes "forgotten"

@@ -22,6 +22,7 @@ use Rattle.homa_plain.specs.AtServer.{with_state, replying, buried}
 abbrev pub has_no_gap : Incoming → Bool
 has_no_gap part = is_none (first_gap part)
 
+-- the response was opened, and all of it has come that may come so far
 abbrev pub is_response_at_rest : Option Incoming → Bool
 is_response_at_rest None = false
 is_response_at_rest (Some part) = has_no_gap part
@@ -34,15 +35,18 @@ is_client_at_rest r = nat_lt r.out.top r.out.length && has_waiting r.out || is_r
 abbrev pub unless : Bool → ℕ → Option ℕ
 unless rests at = if rests then None else Some at
 
+-- the deadline of a call's row at its client, unless its timer rests
 unfoldable pub client_deadline : Settings → ClientRow → Option ℕ
 client_deadline s r = unless (is_client_at_rest r) (r.base + s.resend)
 
+-- the deadline in this state: that of its timer, the end of a hold, or the tick behind the last of a buried call
 abbrev pub state_deadline : Settings → State → Option ℕ
 state_deadline s (Receiving service part base count) = unless (has_no_gap part) (base + s.resend)
 state_deadline s (Held response release) = Some release
 state_deadline s (Replying response out order base count) = unless (has_waiting out) (base + s.resend)
 state_deadline s (Buried until) = Some (until + 1)
 
+-- the deadline of a call's row at its server, unless its timer rests
 unfoldable pub server_deadline : Settings → ServerRow → Option ℕ
 server_deadline s row = state_deadline s row.state
 
@@ -80,12 +84,14 @@ replying_acts s m id row response out order count =
     then says m (Some (with_state row (Replying response out order m.now (count + 1)))) (Posts body.NeedAck ∷ [])
     else buried m id (m.now + 2 * span s + patience s) row
 
+-- what a row in this state does when it is due
 abbrev pub state_acts : Settings → Moment → CallId → ServerRow → State → Did ServerRow
 state_acts s m id row (Receiving service part base count) = receiving_acts s m id row service part count
 state_acts s m id row (Held response release) = replying s m.now response row (leaves m None)
 state_acts s m id row (Replying response out order base count) = replying_acts s m id row response out order count
 state_acts s m id row (Buried until) = says m None (Tells (PlainFree m.host id) ∷ [])
 
+-- what a call's row at its server does when it is due
 abbrev pub server_acts : Settings → Moment → CallId → ServerRow → Did ServerRow
 server_acts s m id row = state_acts s m id row row.state
 
@@ -102,9 +108,11 @@ pub record Timer : Type 0 where
   pub at : ℕ  -- its deadline
   pub order : ℕ  -- the row's
 
+-- timers come by deadline, and then by the order of their rows
 abbrev pub timer_key : Timer → ℕ × ℕ
 timer_key t = (t.at, t.order)
 
+-- the timer of a row with this deadline, or none where it rests
 abbrev pub timer : Place → ℕ → Option ℕ → List Timer
 timer place order None = []
 timer place order (Some at) = record { place = place; at = at; order = order } ∷ []

@@ -142,6 +142,7 @@ abbrev pub is_server : Role → Bool
 is_server Client = false
 is_server Server = true
 
+-- whether a role is the client's
 abbrev pub is_client : Role → Bool
 is_client Client = true
 is_client Server = false
@@ -209,24 +210,28 @@ data_at bytes = do
   ack ← ack_at service.1
   Some (body.Data range.0.0 range.0.1 version.0 service.0 ack.0, ack.1)
 
+-- the fields of a GRANT
 unfoldable pub grant_at : List ℕ → Option (Body × List ℕ)
 grant_at bytes = do
   offset ← number_at w32 bytes
   prio ← byte_at offset.1
   Some (body.Grant offset.0 prio.0, prio.1)
 
+-- the fields of a RESEND
 unfoldable pub resend_at : List ℕ → Option (Body × List ℕ)
 resend_at bytes = do
   range ← two_at bytes
   prio ← byte_at range.1
   Some (body.Resend range.0.0 range.0.1 prio.0, prio.1)
 
+-- the fields of CUTOFFS: a version, and a bound for each of the eight levels
 unfoldable pub cutoffs_at : List ℕ → Option (Body × List ℕ)
 cutoffs_at bytes = do
   version ← number_at w16 bytes
   upto ← times (number_at w32) 8 version.1
   Some (body.Cutoffs (record { version = version.0; upto = upto.0 }), upto.1)
 
+-- the field of UNKNOWN: its reason
 unfoldable pub unknown_at : List ℕ → Option (Body × List ℕ)
 unknown_at bytes = do
   reason ← byte_at bytes
@@ -237,6 +242,7 @@ unfoldable pub more_at : ℕ → List ℕ → Option (List (ℕ × ℕ) × List 
 more_at zero bytes = None
 more_at (suc n) bytes = if nat_lt 4 n then None else times two_at n bytes
 
+-- the fields of an ACK: the count, and the calls but the header's
 unfoldable pub calls_at : List ℕ → Option (Body × List ℕ)
 calls_at bytes = do
   count ← byte_at bytes

@@ -21,6 +21,7 @@ pub record SentPacket : Type 0 where
   pub tick : ℕ
   pub packet : Packet
 
+-- all hosts, the clock, the packets that were sent, and what is left of boxes and answers
 pub record World : Type 0 where
   pub clock : ℕ
   pub hosts : List Host
@@ -51,9 +52,11 @@ abbrev pub next_answer : List Answer → Answer
 next_answer [] = record { bytes = 0 ∷ []; hold = 0 }
 next_answer (answer ∷ answers) = answer
 
+-- the answers that are left behind a step: it used one if it asked a service
 abbrev pub answers_left : List Told → List Answer → List Answer
 answers_left told answers = if has_run told then drop 1 answers else answers
 
+-- the world in which this host is so
 abbrev pub with_host : World → HostId → Host → World
 with_host w id h = record w { hosts = slice_set w.hosts id.0 h }
 
@@ -80,10 +83,12 @@ stepped w id first step = Done (record {
 
 -- ---- events
 
+-- a call of a client that is there, unless there is a reason why it can't start
 abbrev pub started : Settings → World → HostId → HostId → ℕ → List ℕ → Host → Option StartFault → Outcome
 started s w client server number request h (Some fault) = Refused (Start fault)
 started s w client server number request h None = stepped w client [] (call_step s h (own_clock w client) server number request)
 
+-- a call of this client, which must be there
 abbrev pub calls_from : Settings → World → HostId → HostId → ℕ → List ℕ → Option Host → Outcome
 calls_from s w client server number request None = Refused NoSuchHost
 calls_from s w client server number request (Some h) = started s w client server number request h (start_fault s h server request)
@@ -93,6 +98,7 @@ abbrev pub call_outcome : Settings → World → HostId → HostId → ℕ → L
 call_outcome s w client server number request =
     if is_some (host_at w server) then calls_from s w client server number request (host_at w client) else Refused NoSuchHost
 
+-- a datagram comes to a host, which must be there; it is this packet, or none
 abbrev pub arrives_at : Settings → World → HostId → List PlainEntry → Option Packet → Option Host → Outcome
 arrives_at s w id first packet None = Refused NoSuchHost
 arrives_at s w id first packet (Some h) = stepped w id first (arrival_step s h (own_clock w id) packet (next_answer w.answers))
@@ -101,6 +107,7 @@ arrives_at s w id first packet (Some h) = stepped w id first (arrival_step s h (
 abbrev pub is_late : Settings → World → ℕ → Bool
 is_late s w tick = s.wire == 1 && nat_lt (tick + s.life) w.clock
 
+-- packet n is delivered: it must have been sent, and may not be late
 abbrev pub delivered : Settings → World → ℕ → Option SentPacket → Outcome
 delivered s w n None = Refused NoSuchPacket
 delivered s w n (Some sent) =
@@ -112,9 +119,11 @@ delivered s w n (Some sent) =
 abbrev pub last_tick : ℕ
 last_tick = 1000000000000
 
+-- the clock goes on by a tick, unless it has come to its last
 abbrev pub clock_outcome : World → Outcome
 clock_outcome w = if w.clock == last_tick then Refused ClockEnd else Done (record { world = record w { clock = w.clock + 1 }; told = PlainClock (w.clock + 1) ∷ [] })
 
+-- a turn of a host, which must be there
 abbrev pub turns : Settings → World → HostId → Option Host → Outcome
 turns s w id None = Refused NoSuchHost
 turns s w id (Some h) = stepped w id [] (turn_step s h (own_clock w id))
@@ -138,6 +147,7 @@ injected s w id bytes None read = Refused NoSuchHost
 injected s w id bytes (Some h) (Some read) = Refused Decodes
 injected s w id bytes (Some h) None = arrives_at s w id (PlainInject id bytes ∷ []) None (Some h)
 
+-- a host's lead becomes n ticks: at most the band, and so that its own clock isn't before that of its last step
 abbrev pub shifted : Settings → World → HostId → ℕ → Option Host → Outcome
 shifted s w id n None = Refused NoSuchHost
 shifted s w id n (Some h) =

@@ -16,6 +16,7 @@ pub record Destination : Type 0 where
   pub budget : ℕ  -- how many bytes it may still be handed in this round
   pub again : Option ℕ  -- the packet that is handed over a second time
 
+-- what is on its way to each host, and the generator of the run's draws
 pub record Fabric : Type 0 where
   pub destinations : List Destination
   pub random : Lcg
@@ -24,24 +25,31 @@ pub record Fabric : Type 0 where
 abbrev pub most_queued : ℕ
 most_queued = 256
 
+-- the most bytes that a host is handed in a round
 abbrev pub round_bytes : ℕ
 round_bytes = 16000
 
+-- nothing is on its way, and nothing may be handed over
 abbrev pub idle : Destination
 idle = record { levels = replicate 8 []; budget = 0; again = None }
 
+-- a fabric between so many hosts, with nothing on its way
 abbrev pub new_fabric : ℕ → Lcg → Fabric
 new_fabric hosts random = record { destinations = replicate hosts idle; random = random }
 
+-- what is on its way to this host
 abbrev pub destination : Fabric → ℕ → Destination
 destination f to = slice_index_or f.destinations to idle
 
+-- the fabric with this on its way to a host
 abbrev pub with_destination : Fabric → ℕ → Destination → Fabric
 with_destination f to d = record f { destinations = slice_set f.destinations to d }
 
+-- the queue of a level
 abbrev pub level_of : Destination → ℕ → List Queued
 level_of d level = slice_index_or d.levels level []
 
+-- what is on its way, with another queue at a level
 abbrev pub with_level : Destination → ℕ → List Queued → Destination
 with_level d level queue = record d { levels = slice_set d.levels level queue }
 
@@ -88,10 +96,12 @@ first_hop life now d g level (p ∷ ps) =
     else if nat_lt (p.tick + life) now then Loses rest g
     else drawn p (record rest { budget = d.budget - p.size }) (draw 64 g)
 
+-- the first packet of this level is looked at; where no level has a packet, the host's round ends
 abbrev pub level_hop : ℕ → ℕ → Destination → Lcg → Option ℕ → Hop
 level_hop life now d g None = Ends
 level_hop life now d g (Some level) = first_hop life now d g level (level_of d level)
 
+-- a packet that is to be handed over a second time comes first, and then the highest level that has a packet
 abbrev pub again_hop : ℕ → ℕ → Destination → Lcg → Option ℕ → Hop
 again_hop life now d g (Some number) = Hands number (record d { again = None }) g
 again_hop life now d g None = level_hop life now d g (highest 0 d.levels)
@@ -120,6 +130,7 @@ handed (suc n) life now d g =
 abbrev pub on_the_way : Destination → ℕ
 on_the_way d = sum_by length d.levels
 
+-- what a host is handed next, of all that is on its way to it
 abbrev pub next_of : ℕ → ℕ → Destination → Lcg → Handed
 next_of life now d g = handed (suc (on_the_way d)) life now d g
 

@@ -19,6 +19,7 @@ use Rattle.homa_traffic.specs.Rounds.{Generated, first_generated, rounds}
 abbrev pub generated_settings : Settings
 generated_settings = record usual { hosts = 32 }
 
+-- how many rounds a generated run has at most
 abbrev pub most_rounds : ℕ
 most_rounds = 100000
 
@@ -34,42 +35,52 @@ call_text (event.Call client server service) bytes =
     line_of_words (codes "call" ∷ host_word client ∷ host_word server ∷ decimal service ∷ (codes "*" ++ decimal (length bytes)) ∷ [])
 call_text e bytes = event_text e bytes
 
+-- the line of an event, or of one tick
 abbrev pub given_text : Given → List ℕ
 given_text (GivenEvent e bytes) = call_text e bytes
 given_text (GivenTicks n) = codes "tick\n"
 
+-- the schedule of a generated run: its settings, `go`, and its lines
 abbrev pub schedule_text : Settings → Generated → List ℕ
 schedule_text s g = settings_text s ++ flat_map given_text g.lines
 
 -- ---- the summary
 
+-- how many entries pass a test
 abbrev pub count_of : (PlainEntry → Bool) → List PlainEntry → ℕ
 count_of is told = length (filter is told)
 
+-- a `run` line
 abbrev pub is_run : PlainEntry → Bool
 is_run (PlainRun host id service request response hold) = true
 is_run e = false
 
+-- a `done` line
 abbrev pub is_done : PlainEntry → Bool
 is_done (PlainDone id bytes) = true
 is_done e = false
 
+-- a `fail` line of a call that wasn't answered in time
 abbrev pub is_timeout : PlainEntry → Bool
 is_timeout (PlainFail id Timeout) = true
 is_timeout e = false
 
+-- a `fail` line of a call of which its server has no record any more
 abbrev pub is_forgotten : PlainEntry → Bool
 is_forgotten (PlainFail id Forgotten) = true
 is_forgotten e = false
 
+-- a `deliver` line
 abbrev pub is_deliver : PlainEntry → Bool
 is_deliver (PlainDeliver packet) = true
 is_deliver e = false
 
+-- a `clock` line
 abbrev pub is_clock : PlainEntry → Bool
 is_clock (PlainClock tick) = true
 is_clock e = false
 
+-- a `call` line
 abbrev pub is_call : PlainEntry → Bool
 is_call (PlainCall id server service bytes) = true
 is_call e = false
@@ -85,10 +96,12 @@ kind_number (body.Unknown reason) = 5
 kind_number body.NeedAck = 6
 kind_number (body.Ack more) = 7
 
+-- a `send` line of a packet whose kind has this number
 abbrev pub is_kind : ℕ → PlainEntry → Bool
 is_kind n (PlainSend number from to inc role id level what payload) = kind_number what == n
 is_kind n e = false
 
+-- a count with its name, as a line
 abbrev pub summary_line : List ℕ → ℕ → List ℕ
 summary_line name n = line_of_words (name ∷ decimal n ∷ [])
 

@@ -23,6 +23,7 @@ pub record Generated : Type 0 where
   pub made : ℕ  -- how many calls were made; one that was skipped counts
   pub left : ℕ  -- how many are still to be made
 
+-- a run of a seed and so many calls, of which nothing has happened
 abbrev pub first_generated : Settings → ℕ → ℕ → ℕ → List Answer → Generated
 first_generated s seed calls boxes answers = record {
   world = new_world s (replicate s.hosts 1) 0 boxes answers;
@@ -57,6 +58,7 @@ with_line s line g =
 abbrev pub most_handed : ℕ
 most_handed = 32000
 
+-- a host's round, in which it is handed at most so many packets
 unfoldable pub host_round : ℕ → Settings → ℕ → Generated → Generated
 host_round zero s to g = g
 host_round (suc n) s to g =
@@ -93,9 +95,11 @@ calls_round (suc n) s g =
     else (let t = next_traffic s.hosts g.fabric.random in
     calls_round n s (with_call s t.0 (record g { fabric = record g.fabric { random = t.1 } })))
 
+-- how many calls are drawn in a round at most
 abbrev pub calls_a_round : ℕ
 calls_a_round = 20
 
+-- each host may be handed a round's bytes
 abbrev pub round_begun : Generated → Generated
 round_begun g = record g { fabric = record g.fabric { destinations = map refilled g.fabric.destinations } }
 

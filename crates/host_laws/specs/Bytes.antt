@@ -27,6 +27,7 @@ IsOwnEntry full host now (PlainFullRows h id rows limit) = h ≡ host
 IsOwnEntry full host now (PlainFullPages h id need free) = h ≡ host
 IsOwnEntry full host now entry = ⊥
 
+-- what a step tells is such an entry, or a packet
 abbrev pub IsOwnTold : Bool → HostId → ℕ → Told → Type 0
 IsOwnTold full host now (Says entry) = IsOwnEntry full host now entry
 IsOwnTold full host now (Sends packet) = Unit {0}

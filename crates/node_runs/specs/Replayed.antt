@@ -34,6 +34,7 @@ is_of_host (PlainInject host bytes) = false
 is_of_host (PlainRecv host from bytes) = false
 is_of_host entry = true
 
+-- the entries of hosts among these, in order
 abbrev pub of_hosts : List PlainEntry → List PlainEntry
 of_hosts told = filter is_of_host told
 

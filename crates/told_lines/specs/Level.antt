@@ -18,5 +18,6 @@ pub record AreLevel (m n : Progress) : Type 0 where
   pub requests : (q : CallId) → is_of n q ≡ false → get m.requests q ≡ get n.requests q
   pub responses : (q : CallId) → is_of n q ≡ false → get m.responses q ≡ get n.responses q
 
+-- a refusal of the block's delivery would change nothing but what has arrived of that delivery's call
 abbrev pub IsLevel : View → Type 0
 IsLevel v = AreLevel v.if_refused v.now

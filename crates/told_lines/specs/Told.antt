@@ -63,6 +63,7 @@ sent_of p = record { from = sender p; to = receiver p; inc = p.inc; role = p.rol
 
 -- ---- all of it
 
+-- what the lines say is so of the world: settings, clocks, packets, and the names and lives of its hosts
 pub record IsTold (s : Settings) (w : World) (v : View) : Type 0 where
   pub valid : IsValid s
   pub settings : v.settings ≡ s

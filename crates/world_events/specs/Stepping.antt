@@ -39,14 +39,18 @@ IsStepWith a s w id e bytes first step = IsStepBy (if has_run step.told then a �
 abbrev pub IsChange : Settings → World → Event → World → List PlainEntry → Type 0
 IsChange s w e next told = (later : List Answer) → outcome s (answering later w) e [] ≡ Done (record { world = answering later next; told = told })
 
+-- an event with these bytes is refused for this reason
 abbrev pub IsRefusal : Settings → World → Event → List ℕ → WorldFault → Type 0
 IsRefusal s w e bytes fault = (later : List Answer) → outcome s (answering later w) e bytes ≡ Refused fault
 
+-- the world a tick later
 abbrev pub ticked_world : World → World
 ticked_world w = record w { clock = w.clock + 1 }
 
+-- the world in which a host begins its next life, and so many boxes are spare
 abbrev pub restarted_world : Settings → World → HostId → Host → ℕ → World
 restarted_world s w id h spares = record w { hosts = slice_set w.hosts id.0 (new_host s id (h.inc + 1) h.last); spares = spares }
 
+-- the world in which a host's own clock is ahead by n ticks
 abbrev pub shifted_world : World → HostId → ℕ → World
 shifted_world w id n = record w { leads = slice_set w.leads id.0 n }

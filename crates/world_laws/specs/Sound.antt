@@ -26,6 +26,7 @@ pub record HasNumbers (h : Host) : Type 0 where
   pub inc_fits : h.inc < 2 ^ 32
   pub clock : h.last ≤ 1000000002000
 
+-- a call's incarnation and sequence number can stand in a packet
 abbrev pub IsId : CallId → Type 0
 IsId id = IsCall (id.inc, id.seq)
 
@@ -34,6 +35,7 @@ abbrev pub FitsSay : Role → Say → Type 0
 FitsSay role (Tells entry) = Unit {0}
 FitsSay role (Posts what) = FitsKind role 7 what []
 
+-- all that a rule says at this role can be sent
 abbrev pub FitSays : Role → List Say → Type 0
 FitSays role says = AllByRecursion (FitsSay role) says
 
@@ -42,6 +44,7 @@ abbrev pub FitsTold : Settings → Told → Type 0
 FitsTold s (Says entry) = Unit {0}
 FitsTold s (Sends p) = IsSent s p
 
+-- every packet among what is told is well formed
 abbrev pub FitTold : Settings → List Told → Type 0
 FitTold s told = AllByRecursion (FitsTold s) told
 
@@ -60,12 +63,14 @@ pub record IsArriving (part : Incoming) : Type 0 where
   pub sound : incoming.IsSound part
   pub size : part.length ≤ 1000000
 
+-- a client's row: its request is a message, its service is a byte, and both its parts are sound
 pub record IsClientRow (r : ClientRow) : Type 0 where
   pub message : IsMessage r.request
   pub out : IsPart r.request r.out
   pub service : r.service < 256
   pub part : IfSome r.part IsArriving
 
+-- a server's state: the request that arrives is sound, or the response is a message
 abbrev pub IsState : State → Type 0
 IsState (Receiving service part base count) = IsArriving part
 IsState (Held response release) = IsMessage response
