@@ -12,15 +12,17 @@ use Rattle.homa_books.specs.declared.books.Arrival.{Arrival}
 use Rattle.homa_books.specs.declared.books.Waiting.{Waiting}
 use Rattle.homa_books.specs.declared.books.Duties.{Duties}
 
--- a slot's timer, its message that arrives, its message that waits to be sent: none or one
+-- a slot's timer, in the book of timers: none or one
 abbrev pub timers_in : ℕ → Option Deadline → List armed.Timer
 timers_in slot None = []
 timers_in slot (Some d) = record { slot = slot; at = d.at; order = d.order } ∷ []
 
+-- a slot's message that arrives, in the book of grants: none or one
 abbrev pub entries_in : ℕ → Option Arrival → List entry.Entry
 entries_in slot None = []
 entries_in slot (Some a) = record { slot = slot; peer = a.peer.0; remaining = a.remaining; order = a.order } ∷ []
 
+-- a slot's message that waits to be sent, in the pacer's book: none or one
 abbrev pub ready_in : ℕ → Option Waiting → List pace.Ready
 ready_in slot None = []
 ready_in slot (Some w) = record { slot = slot; left = w.left; order = w.order } ∷ []

@@ -154,7 +154,8 @@ answer_of m p row told (did.Say slot what) = says m row (Posts what ∷ [])
 answer_of m p row told did.Ack = says m row (Posts (body.Ack []) ∷ [])
 answer_of m p row told (did.Forgotten slot id) = says m row (Tells (PlainFail id WhyForgotten) ∷ [])
 
--- a packet of role s was taken by the table; the answer names a place exactly where the packet is for a row, and else nothing changed
+-- A packet of a server was taken by the table. The answer names a place exactly where the packet is for a row, and else
+-- nothing changed.
 pub record Received (old : Clients) (pool : Pool) (p : Packet) (now order : ℕ) (new : Clients) (pool' : Pool) (told : List ℕ) (answer : ClientDid) : Type 0 where
   pub did : (rows : ℕ) → let m = moment_of old.host now order pool (part_at old.rows p.id) rows in
       client_gets old.settings m p (row_at pool old.rows p.id) ≡ answer_of m p (row_at pool' new.rows p.id) told answer
@@ -166,6 +167,7 @@ pub record Received (old : Clients) (pool : Pool) (p : Packet) (now order : ℕ)
 
 -- ---- a call starts
 
+-- the name of the client's next call
 abbrev pub next_call : Clients → CallId
 next_call t = record { client = t.host; inc = t.inc; seq = t.seq }
 
@@ -208,6 +210,7 @@ MayGrant rows slot offset = (id : CallId) (r : HeldRow) → StandsAt rows id slo
 
 -- ---- a row's answer as the table's
 
+-- what the table answers where the row of a call answers this
 abbrev pub told_of : ℕ → CallId → RowDid → ClientDid
 told_of slot id row.Touched = did.Touched slot
 told_of slot id row.Opened = did.Opened slot

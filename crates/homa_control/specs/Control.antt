@@ -17,6 +17,7 @@ use Rattle.homa_seen.specs.declared.outbox.SentFrame.{SentFrame}
 use Rattle.homa_seen.specs.Frames.{frames_of, IsFormed}
 use Rattle.homa_seen.specs.Marks.{marks_from}
 
+-- a host without its rows: settings, name, incarnation, clock, cutoffs, finished calls, and what its step told so far
 pub record Control : Type 0 where
   pub settings : Settings
   pub id : HostId

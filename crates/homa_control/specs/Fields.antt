@@ -9,9 +9,11 @@ use Rattle.homa_seen.specs.declared.mark.Mark.{Mark}
 use Rattle.homa_control.specs.Control.{Control}
 use Rattle.homa_control.specs.declared.control.Peer.{Peer}
 
+-- what is held of a peer: its cutoffs, and its incarnation when it told them
 abbrev pub peer_of : Peer → PeerCutoffs
 peer_of p = record { inc = p.inc; cutoffs = p.cutoffs }
 
+-- what a host has beside its rows, with these values; `lengths` and `opened` are of the messages that it opened
 abbrev pub control_by : Settings → HostId → ℕ → ℕ → Cutoffs → List ℕ → ℕ → List PeerCutoffs → List (List (ℕ × ℕ)) → List Mark → Control
 control_by s id inc last own lengths opened peers finished marks = record {
   settings = s;
@@ -24,7 +26,7 @@ control_by s id inc last own lengths opened peers finished marks = record {
   marks = marks;
 }
 
--- that of a host that has done nothing
+-- what a host has that has done nothing, at a tick of its own clock
 abbrev pub new_control : Settings → HostId → ℕ → ℕ → Control
 new_control s id inc last =
     control_by s id inc last (first_cutoffs s.overcommit) [] 0 (replicate s.hosts (record { inc = 0; cutoffs = first_cutoffs s.overcommit })) (replicate s.hosts []) []

@@ -36,28 +36,33 @@ abbrev pub HasFitCutoffs : Body → Type 0
 HasFitCutoffs (body.Cutoffs cutoffs) = AreFit cutoffs
 HasFitCutoffs what = Unit {0}
 
--- how many entries and packets are told, and how many packets are sent
+-- how many entries are told of what is said: an entry itself, or the `send` of a packet
 abbrev pub marks_said : Said → ℕ
 marks_said Nothing = 0
 marks_said (Tell mark) = 1
 marks_said (Post what) = 1
 
+-- how many packets are sent for what is said
 abbrev pub frames_said : Said → ℕ
 frames_said Nothing = 0
 frames_said (Tell mark) = 0
 frames_said (Post what) = 1
 
+-- 1 where there is a number, else 0
 abbrev pub one_of : Option ℕ → ℕ
 one_of None = 0
 one_of (Some n) = 1
 
+-- 1 for true, else 0
 abbrev pub one_if : Bool → ℕ
 one_if false = 0
 one_if true = 1
 
+-- how many entries a host tells at most for a rule's outcome
 abbrev pub outcome_marks : Outcome → ℕ
 outcome_marks o = one_of o.opened + one_of o.version + marks_said o.said + one_if o.finished
 
+-- how many packets a host sends at most for a rule's outcome
 abbrev pub outcome_frames : Outcome → ℕ
 outcome_frames o = one_of o.version + frames_said o.said + one_if o.finished
 

@@ -18,6 +18,7 @@ kind_name Unknown = codes "UNKNOWN"
 kind_name NeedAck = codes "NEED_ACK"
 kind_name Ack = codes "ACK"
 
+-- all kinds of packets
 abbrev pub kinds : List Kind
 kinds = Data ∷ Grant ∷ Resend ∷ Busy ∷ Cutoffs ∷ Unknown ∷ NeedAck ∷ Ack ∷ []
 

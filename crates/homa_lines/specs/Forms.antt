@@ -40,6 +40,7 @@ form_name Finished = codes "ok"
 form_name Refused = codes "refused"
 form_name Stalled = codes "stalled"
 
+-- all forms of lines
 abbrev pub forms : List Form
 forms = Settings ∷ Call ∷ Deliver ∷ Clock ∷ Restart ∷ Inject ∷ Shift ∷ Junk ∷ Stale ∷ Send ∷ Run ∷ Done ∷ Fail ∷ Drop ∷ Gaps ∷ Bury ∷ Free ∷ Full ∷ Balance ∷ Recv ∷ Finished ∷ Refused ∷ Stalled ∷ []
 
@@ -150,11 +151,12 @@ free_in words = whole (λ x. PlainFree x.0 x.1) (host_at ⊗ id_at) words
 unfoldable pub bury_in : List (List ℕ) → Option PlainEntry
 bury_in words = whole (λ x. PlainBury x.0 x.1.0 x.1.1) (host_at ⊗ id_at ⊗ number_at (2 ^ 64)) words
 
--- rows or pages
+-- what a host has too few of, as a word
 abbrev pub lack_name : Lack → List ℕ
 lack_name Rows = codes "rows"
 lack_name Pages = codes "pages"
 
+-- rows or pages, by their word
 unfoldable pub lack_of : List ℕ → Option Lack
 lack_of word = one_of lack_name (Rows ∷ Pages ∷ []) word
 

@@ -21,13 +21,15 @@ abbrev pub first_word : List (List ℕ) → List ℕ
 first_word [] = []
 first_word (word ∷ words) = word
 
--- the first word of a refusal
+-- the first word of a refusal by the reader of schedules
 abbrev pub script_name : ScriptFault → List ℕ
 script_name fault = first_word (script_words fault)
 
+-- the first word of a refusal by the world
 abbrev pub world_name : WorldFault → List ℕ
 world_name fault = first_word (world_words fault)
 
+-- the first word of a line's refusal
 abbrev pub fault_name : LineFault → List ℕ
 fault_name (Script fault) = script_name fault
 fault_name (World fault) = world_name fault

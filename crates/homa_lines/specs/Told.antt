@@ -55,6 +55,7 @@ FitsWorldFault NoMemory = ⊥
 FitsWorldFault (OutOfBand n most) = (n < 2 ^ 32) × (most < 2 ^ 32)
 FitsWorldFault (Back last now) = (last < 2 ^ 64) × (now < 2 ^ 64)
 
+-- a refusal that is told, with numbers that fit their types: any but the one for want of memory
 abbrev pub FitsFault : LineFault → Type 0
 FitsFault (Script fault) = Unit {0}
 FitsFault (World fault) = FitsWorldFault fault

@@ -12,6 +12,7 @@ use Rattle.homa_packets.specs.Past.{past_kept}
 abbrev pub kept_all : Packets → List KeptPacket
 kept_all p = past_kept p.past ++ flat_map kept_of p.ticks.items ++ map (WholePacket p.tick) (frames_of p.front)
 
+-- the settings of the world
 abbrev pub settings_of : Packets → Settings
 settings_of p = p.settings
 

@@ -15,6 +15,7 @@ abbrev pub frames_from : ℕ → List Rec → List ℕ → List Frame
 frames_from at [] bytes = []
 frames_from at (r ∷ recs) bytes = record { from = r.from; to = r.to; bytes = take (r.end - at) (drop at bytes) } ∷ frames_from r.end recs bytes
 
+-- the packets of a block as they were sent
 abbrev pub frames_of : Block → List Frame
 frames_of b = frames_from 0 b.recs.items b.bytes.items
 
@@ -28,7 +29,7 @@ start_at at recs zero = at
 start_at at [] (suc i) = at
 start_at at (r ∷ recs) (suc i) = start_at r.end recs i
 
--- and where it ends
+-- where the packet with this number ends
 abbrev pub end_of : List Rec → ℕ → ℕ
 end_of [] i = 0
 end_of (r ∷ recs) zero = r.end

@@ -13,6 +13,7 @@ pub data KeptPacket : Type 0 where
   LatePacket : (tick : ℕ) → KeptPacket
   StalePacket : (to : HostId) (at : ℕ) → KeptPacket
 
+-- what is kept of a packet, with the bytes of its datagram
 abbrev pub kept_seen : Kept → KeptPacket
 kept_seen (Whole tick from to bytes) = WholePacket tick (record { from = from; to = to; bytes = bytes.now })
 kept_seen (Late tick) = LatePacket tick
@@ -28,6 +29,7 @@ IsAged s now (LatePacket tick) (LatePacket later) = later ≡ tick
 IsAged s now (StalePacket to at) (StalePacket other later) = (other ≡ to) × (later ≡ at)
 IsAged s now old new = ⊥
 
+-- each of these packets is kept as before, or became too old by this tick of the world's clock
 abbrev pub AllAged : Settings → ℕ → List KeptPacket → List KeptPacket → Type 0
 AllAged s now [] [] = Unit {0}
 AllAged s now [] (new ∷ news) = ⊥

@@ -13,6 +13,6 @@ abbrev pub later_kept : ℕ → List Later → List KeptPacket
 later_kept tick [] = []
 later_kept tick (l ∷ ls) = replicate l.count (LatePacket (tick + l.gap)) ++ later_kept (tick + l.gap) ls
 
--- and before them so many of this one
+-- so many packets of a tick, and those of the ticks behind it
 abbrev pub late_kept : ℕ → ℕ → List Later → List KeptPacket
 late_kept tick many ls = replicate many (LatePacket tick) ++ later_kept tick ls

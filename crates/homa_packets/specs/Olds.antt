@@ -19,7 +19,7 @@ IsOld reach now to bytes o = (o.to ≡ to) × TellsClock bytes o.at × (o.at + r
 abbrev pub IsNotOld : ℕ → ℕ → List ℕ → Type 0
 IsNotOld reach now bytes = (at : ℕ) → TellsClock bytes at → now ≤ at + reach
 
--- one of these datagrams is such
+-- one of these datagrams has a packet that isn't certainly stale at a tick, or is no packet
 abbrev pub HasNotOld : ℕ → ℕ → List Frame → Type 0
 HasNotOld reach now frames = (i : ℕ) × (f : Frame) × (slice_get frames i ≡ Some f) × IsNotOld reach now f.bytes
 
@@ -30,7 +30,7 @@ AreOlds reach now [] (o ∷ olds) = ⊥
 AreOlds reach now (f ∷ frames) [] = ⊥
 AreOlds reach now (f ∷ frames) (o ∷ olds) = IsOld reach now f.to f.bytes o × AreOlds reach now frames olds
 
--- and it was added
+-- the packets of these datagrams are certainly stale, and what is kept of them was added
 abbrev pub AddsOlds : ℕ → ℕ → List Frame → List Old → List Old → Type 0
 AddsOlds reach now frames before after = (olds : List Old) × (after ≡ before ++ olds) × AreOlds reach now frames olds
 

@@ -8,6 +8,7 @@ use Rattle.homa_packets.specs.declared.past.Past.TheVariants.{Late, Stale}
 use Rattle.homa_packets.specs.Kept.{KeptPacket, StalePacket}
 use Rattle.homa_packets.specs.Lates.{late_of}
 
+-- what is kept of each packet that is late for good
 abbrev pub lates_kept : Lates → List KeptPacket
 lates_kept l = flat_map late_of l.full.items ++ late_of l.latest
 
@@ -15,6 +16,7 @@ lates_kept l = flat_map late_of l.full.items ++ late_of l.latest
 abbrev pub olds_kept : List Old → List KeptPacket
 olds_kept olds = map (λ (o : Old). StalePacket o.to o.at) olds
 
+-- what is kept of each packet that is too old, with either version
 abbrev pub past_kept : Past → List KeptPacket
 past_kept (Late lates) = lates_kept lates
 past_kept (Stale olds) = olds_kept olds.items

@@ -4,5 +4,6 @@ use Rattle.homa_packets.specs.declared.tick.Tick.{Tick}
 use Rattle.homa_packets.specs.Blocks.{frames_of}
 use Rattle.homa_packets.specs.Kept.{KeptPacket, WholePacket}
 
+-- what is kept of these packets: each is whole
 abbrev pub kept_of : Tick → List KeptPacket
 kept_of t = map (WholePacket t.tick) (frames_of t.block)

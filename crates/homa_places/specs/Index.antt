@@ -14,6 +14,7 @@ pub record Taken : Type 0 where
   pub room : ℕ
   pub at : RowsOf ℕ
 
+-- the places of calls are stored as the pair of these two
 abbrev pub taken_code : Coded Taken
 taken_code = code_by (ℕ × RowsOf ℕ) (coded× coded_ℕ (code (call_id.the_row.coded) coded_ℕ)) (λ t. (t.room, t.at)) (λ c. record { room = c.0; at = c.1 }) (λ _. refl)
 

@@ -31,6 +31,7 @@ module _ {R : Type 0} where
     pub within : (q : CallId) (x : Placed R) → get rows q ≡ Some x → x.place < room
     pub apart : (p q : CallId) (x y : Placed R) → get rows p ≡ Some x → get rows q ≡ Some y → x.place ≡ y.place → p ≡ q
 
+  -- the first call in a list whose row stands at a place, with that row
   abbrev pub spot_among : List (CallId × Placed R) → ℕ → Option (CallId × R)
   spot_among [] place = None
   spot_among (e ∷ es) place = if e.1.place == place then Some (e.0, e.1.row) else spot_among es place
@@ -48,13 +49,15 @@ module _ {R : Type 0} where
     pub place : (x y : Placed R) → get old id ≡ Some x → get new id ≡ Some y → y.place ≡ x.place
     pub others : (q : CallId) → (q ≡ id → ⊥) → get new q ≡ get old q
 
--- how a row at a place, rows at places, and a table are stored
+-- how a row at a place is stored
 abbrev pub placed_code : {R : Type 0} → Coded R → Coded (Placed R)
 placed_code {R} row = code_by (ℕ × R) (coded× coded_ℕ row) (λ p. (p.place, p.row)) (λ c. record { place = c.0; row = c.1 }) (λ _. refl)
 
+-- how rows at their places are stored, by their calls
 abbrev pub rows_code : {R : Type 0} → Coded R → Coded (RowsOf (Placed R))
 rows_code row = code (call_id.the_row.coded) (placed_code row)
 
+-- how a table is stored
 abbrev pub table_code : {R : Type 0} → Coded R → Coded (Table R)
 table_code {R} row =
     code_by (ℕ × RowsOf (Placed R)) (coded× coded_ℕ (rows_code row)) (λ t. (t.room, t.rows)) (λ c. record { room = c.0; rows = c.1 }) (λ _. refl)

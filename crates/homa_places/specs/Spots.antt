@@ -19,7 +19,7 @@ module _ {R : Type 0} where
   row_in Free = None
   row_in (Of id row) = Some row
 
-  -- both
+  -- the call of a spot, with its row
   abbrev pub spot_in : Spot R → Option (CallId × R)
   spot_in Free = None
   spot_in (Of id row) = Some (id, row)

@@ -26,6 +26,7 @@ given_of (Event event) bytes = GivenEvent event bytes
 given_of (Ticks n) bytes = GivenTicks n
 given_of End bytes = GivenTicks 0
 
+-- whether the end of the schedule came
 abbrev pub is_end : Next → Bool
 is_end (Event event) = false
 is_end (Ticks n) = false

@@ -3,5 +3,6 @@ use Rattle.std.specs.Prelude.{ℕ, Option}
 use Rattle.homa_replay.specs.declared.stop.Stop.{Stop}
 use Rattle.homa_replay.specs.Ahead.{Counts}
 
+-- why it stopped, if it did, and how many faults it, its source and its sink had
 abbrev pub counts : Option Stop → ℕ → ℕ → ℕ → Counts
 counts stop own source sink = record { stop = stop; own = own; source = source; sink = sink }

@@ -61,12 +61,14 @@ pub record IsStopped (whole : Whole) (bytes : List ℕ) (left old new : Option (
   pub has_left : left ≡ Some rest
   pub part : IsPart whole came rest old new before
 
--- the same of whatever the source had at first, where it can tell
+-- whatever the source had at first, where it can tell: the replay of it has come so far
 abbrev pub AreFar : Whole → Option (List ℕ) → Option (List ℕ) → Option (List ℕ) → Option (List ℕ) → (List PlainEntry → Type 0) → (List PlainEntry → Type 0) → Whole → Type 0
 AreFar whole first left old taken before after due = (bytes : List ℕ) → first ≡ Some bytes → IsFar whole bytes left old taken before after due
 
+-- whatever the source had at first, where it can tell: the replay of it was printed whole
 abbrev pub ArePrinted : Whole → Option (List ℕ) → Option (List ℕ) → Option (List ℕ) → (List PlainEntry → Type 0) → Bool → Type 0
 ArePrinted whole first old new before accepted = (bytes : List ℕ) → first ≡ Some bytes → IsPrinted whole bytes old new before accepted
 
+-- whatever the source had at first, where it can tell: a front of the replay of it was printed
 abbrev pub AreParts : Whole → Option (List ℕ) → Option (List ℕ) → Option (List ℕ) → Option (List ℕ) → (List PlainEntry → Type 0) → Type 0
 AreParts whole first left old new before = (bytes : List ℕ) → first ≡ Some bytes → IsStopped whole bytes left old new before

@@ -15,6 +15,7 @@ self_by : (a : Counts) (stop : Option Stop) → a.stop ≡ stop → IsHeeded a a
 self_by a None e = subst (IsStop a a) (sym e) (quiet_self a, refl)
 self_by a (Some stop) e = (quiet_self a, e)
 
+-- where nothing was done, the first fault is heeded
 pub heeded_self : (a : Counts) → IsHeeded a a a.stop
 heeded_self a = self_by a a.stop refl
 
@@ -41,5 +42,6 @@ on_by a b c None (Some stop) e f h k =
 on_by a b c (Some stop) None e f h k = absurd (let g : None ≡ Some stop = sym f ∙ h.1 in cc)
 on_by a b c (Some stop) (Some other) e f h k = (quiet_on a b c h.0 k.0, k.1 ∙ (sym f ∙ h.1))
 
+-- where the first fault is heeded in two calls, one after the other, it is in both together
 pub heeded_on : (a b c : Counts) → IsHeeded a b a.stop → IsHeeded b c b.stop → IsHeeded a c a.stop
 heeded_on a b c h k = on_by a b c a.stop b.stop refl refl h k

@@ -19,10 +19,12 @@ pub record IsApplied (s : Settings) (w : World) (e : Happening) (stands : World 
   pub done : IsDone s w e (shown told) next told
   pub allowed : (more : List PlainEntry) → after more → before (told ++ more)
 
+-- whether a fault is want of memory
 abbrev pub is_memory : WorldFault → Bool
 is_memory fault.NoMemory = true
 is_memory other = false
 
+-- whether an event is a step of the world's clock
 abbrev pub is_clock : Event → Bool
 is_clock event.Clock = true
 is_clock other = false

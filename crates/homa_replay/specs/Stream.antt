@@ -20,6 +20,7 @@ shown (entry ∷ told) = shown told
 abbrev pub answering : List Answer → World → World
 answering answers w = record w { answers = answers }
 
+-- the rest of a replay where a line's events ran so: it ends there at a fault, and else goes on with these steps
 abbrev pub ends_by : Settings → ℕ → ℕ → Steps → Run → Option LineFault → Replay
 ends_by s events line steps run (Some fault) = record { told = run.told; end = RefusedAt line fault }
 ends_by s events line steps run None = with_told run.told (replayed s run.world (events + run.count) steps.steps steps.refused)

@@ -20,17 +20,19 @@ hosts_of q = q.hosts.items
 abbrev pub frames_of : QuietCall → List SentFrame
 frames_of q = q.under_way.items
 
--- how many bytes a service answers with, and how many answers it gave
+-- how many bytes a service answers with
 abbrev pub size_of : Filler → ℕ
 size_of f = f.size
 
+-- how many answers a service gave
 abbrev pub served_by : Filler → ℕ
 served_by f = f.served
 
--- how many bytes are asked, and how many answered
+-- how many bytes the request has
 abbrev pub asked : QuietCall → ℕ
 asked q = q.request
 
+-- how many bytes the response has
 abbrev pub answered : QuietCall → ℕ
 answered q = size_of q.filler
 
@@ -38,6 +40,7 @@ answered q = size_of q.filler
 abbrev pub answers : QuietCall → ℕ
 answers q = served_by q.filler
 
+-- the settings of both hosts
 abbrev pub settings_of : QuietCall → Settings
 settings_of q = q.settings
 

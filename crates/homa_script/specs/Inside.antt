@@ -8,24 +8,28 @@ use Rattle.homa_script.specs.declared.reader.Reader.TheInside.{Inside}
 use Rattle.homa_script.specs.Place.{place_of, IsCounted}
 use Rattle.homa_script.specs.Script.{Script}
 
+-- whether `settings` was called
 abbrev pub is_started : Stage → Bool
 is_started Opened = false
 is_started Started = true
 is_started Ended = true
 is_started (Stopped stop) = true
 
+-- whether the end was answered
 abbrev pub is_ended : Stage → Bool
 is_ended Opened = false
 is_ended Started = false
 is_ended Ended = true
 is_ended (Stopped stop) = false
 
+-- the first stop, if there was one
 abbrev pub stop_of : Stage → Option ScriptStop
 stop_of Opened = None
 stop_of Started = None
 stop_of Ended = None
 stop_of (Stopped stop) = Some stop
 
+-- what contracts see of the fields
 abbrev pub script_of : Inside → Script
 script_of r = record {
   place = place_of (reading r.lines);

@@ -12,6 +12,7 @@ pub record Place : Type 0 where
   pub number : ℕ
   pub limit : ℕ
 
+-- where a reader of lines stands
 abbrev pub place_of : Reading → Place
 place_of r = record { pending = r.pending; read = r.read; number = r.number; limit = r.limit }
 

@@ -38,6 +38,7 @@ version_in_state piece (Held response release) = None
 version_in_state piece (Replying response out order base count) = None
 version_in_state piece (Buried until) = None
 
+-- the same where the call has a row, by the row's state
 abbrev pub version_there : Option Piece → Option ServerRow → Option ℕ
 version_there piece None = None
 version_there piece (Some row) = version_in_state piece row.state
@@ -217,6 +218,7 @@ is_data what = false
 
 -- ---- facts
 
+-- what is told of the response that is sent, if the state has one
 abbrev pub out_facts : HeldState → Option OutFacts
 out_facts (Arriving service part base count) = None
 out_facts (Keeping response release) = None

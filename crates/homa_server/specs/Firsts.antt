@@ -15,16 +15,19 @@ first_did slot (FullPages need free) = did.FullPages need free
 first_did slot (Begun row) = did.Opened slot
 first_did slot (Ran row hold) = did.Ran slot true hold
 
+-- the call's plain row after its first piece, if it has one
 abbrev pub first_row : Pool → First → Option ServerRow
 first_row pool (FullPages need free) = None
 first_row pool (Begun row) = Some (seen_server pool row)
 first_row pool (Ran row hold) = Some (seen_server pool row)
 
+-- the part of a request in that row, if it has one
 abbrev pub first_part : First → Option Part
 first_part (FullPages need free) = None
 first_part (Begun row) = state_part row.state
 first_part (Ran row hold) = state_part row.state
 
+-- the response in that row, or nothing
 abbrev pub first_response : First → List ℕ
 first_response (FullPages need free) = []
 first_response (Begun row) = response_in row.state

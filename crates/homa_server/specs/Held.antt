@@ -53,38 +53,42 @@ response_in (Keeping response release) = response
 response_in (Answering response out order base count) = response
 response_in (Gone until) = []
 
--- facts of a row in one state
+-- a fact of the request that arrives, where one does
 abbrev pub IfArriving : HeldState → (ℕ → Part → ℕ → ℕ → Type 0) → Type 0
 IfArriving (Arriving service part base count) P = P service part base count
 IfArriving (Keeping response release) P = Unit {0}
 IfArriving (Answering response out order base count) P = Unit {0}
 IfArriving (Gone until) P = Unit {0}
 
+-- a fact of the response that is held back, where one is
 abbrev pub IfKeeping : HeldState → (List ℕ → Type 0) → Type 0
 IfKeeping (Arriving service part base count) P = Unit {0}
 IfKeeping (Keeping response release) P = P response
 IfKeeping (Answering response out order base count) P = Unit {0}
 IfKeeping (Gone until) P = Unit {0}
 
+-- a fact of the response that is sent, where one is
 abbrev pub IfAnswering : HeldState → (List ℕ → Outgoing → ℕ → ℕ → ℕ → Type 0) → Type 0
 IfAnswering (Arriving service part base count) P = Unit {0}
 IfAnswering (Keeping response release) P = Unit {0}
 IfAnswering (Answering response out order base count) P = P response out order base count
 IfAnswering (Gone until) P = Unit {0}
 
--- which state it is
+-- whether a request arrives
 abbrev pub is_arriving : HeldState → Bool
 is_arriving (Arriving service part base count) = true
 is_arriving (Keeping response release) = false
 is_arriving (Answering response out order base count) = false
 is_arriving (Gone until) = false
 
+-- whether a response is held back
 abbrev pub is_keeping : HeldState → Bool
 is_keeping (Arriving service part base count) = false
 is_keeping (Keeping response release) = true
 is_keeping (Answering response out order base count) = false
 is_keeping (Gone until) = false
 
+-- whether a response is sent
 abbrev pub is_answering : HeldState → Bool
 is_answering (Arriving service part base count) = false
 is_answering (Keeping response release) = false
@@ -137,16 +141,19 @@ join (inr (inl c)) = Keeping c.0 c.1
 join (inr (inr (inl c))) = Answering c.0 c.1.0 c.1.1.0 c.1.1.1.0 c.1.1.1.1
 join (inr (inr (inr until))) = Gone until
 
+-- a state is the same after `split` and then `join`
 pub join-split : (state : HeldState) → join (split state) ≡ state
 join-split (Arriving service part base count) = refl
 join-split (Keeping response release) = refl
 join-split (Answering response out order base count) = refl
 join-split (Gone until) = refl
 
+-- a state is stored as its case, with the values that it has
 abbrev pub state_code : Coded HeldState
 state_code =
     code_by Cases (coded⊎ (coded× coded_ℕ (coded× part_code (coded× coded_ℕ coded_ℕ))) (coded⊎ (coded× (coded_list coded_ℕ) coded_ℕ)
     (coded⊎ (coded× (coded_list coded_ℕ) (coded× outgoing_code (coded× coded_ℕ (coded× coded_ℕ coded_ℕ)))) coded_ℕ))) split join join-split
 
+-- a row is stored as the pair of its order and its state
 abbrev pub server_code : Coded HeldServer
 server_code = code_by (ℕ × HeldState) (coded× coded_ℕ state_code) (λ r. (r.order, r.state)) (λ c. record { order = c.0; state = c.1 }) (λ _. refl)

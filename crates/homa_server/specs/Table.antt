@@ -84,7 +84,7 @@ server_moment t now order pool id = moment_with t.host now order (free_pages poo
 abbrev pub packet_of : CallId → Body → List ℕ → Role → HostId → ℕ → ℕ → ℕ → Packet
 packet_of id what payload role server inc at level = record { role = role; id = id; server = server; inc = inc; at = at; level = level; body = what; payload = payload }
 
--- A packet of role c was taken by the table: for each answer of the service that is the response in the row, if the
+-- A packet of a client was taken by the table: for each answer of the service that is the response in the row, if the
 -- service ran, the plain rule did what is answered. Where the service ran, it was allowed to answer so.
 pub record Served (old : Servers) (pool : Pool) (p : Packet) (now order : ℕ) (new : Servers) (pool' : Pool) (told : List ℕ) (allowed : List ℕ → List ℕ → ℕ → Type 0) (answer : ServerDid) : Type 0 where
   pub did : let m = server_moment old now order pool p.id in

@@ -3,6 +3,7 @@ use Rattle.homa_server.specs.Held.{HeldState, Arriving, Keeping, Answering, Gone
 use Rattle.homa_server.specs.declared.state.State.{State}
 use Rattle.homa_server.specs.declared.state.State.TheVariants.{Receiving, Held, Replying, Buried}
 
+-- the state with the bytes of its response
 abbrev pub held_state : State → HeldState
 held_state (Receiving service part base count) = Arriving service part base count
 held_state (Held response release) = Keeping response.items release

@@ -19,6 +19,7 @@ use Rattle.homa_books.specs.declared.books.Waiting.{Waiting}
 use Rattle.homa_books.specs.declared.books.Duties.{Duties}
 use Rattle.homa_books.specs.Duties.{timers_in, entries_in, ready_in}
 
+-- no timer, no message that arrives, and none that waits to be sent
 abbrev pub no_duties : Duties
 no_duties = record { timer = None; arrival = None; waiting = None }
 
@@ -34,35 +35,39 @@ arrival_duty part = option_map (λ (p : Incoming). record { peer = p.peer; remai
 abbrev pub waiting_duty : Outgoing → ℕ → Option Waiting
 waiting_duty out order = if has_waiting out then Some (record { left = left out; order = order }) else None
 
+-- what a client's row has in the books: its timer, the response that arrives, the request whose bytes wait
 abbrev pub client_duty : Settings → ClientRow → Duties
 client_duty s r = record { timer = timer_duty r.order (client_deadline s r); arrival = arrival_duty r.part; waiting = waiting_duty r.out r.order }
 
--- the request that arrives in a state, and the response that is sent
+-- the request that arrives in a state, if one does
 abbrev pub arriving : State → Option Incoming
 arriving (Receiving service part base count) = Some part
 arriving (Held response release) = None
 arriving (Replying response out order base count) = None
 arriving (Buried until) = None
 
+-- the response that is sent in a state, if bytes of it wait
 abbrev pub reply_duty : State → Option Waiting
 reply_duty (Receiving service part base count) = None
 reply_duty (Held response release) = None
 reply_duty (Replying response out order base count) = waiting_duty out order
 reply_duty (Buried until) = None
 
+-- what a server's row has in the books: its timer, the request that arrives, the response whose bytes wait
 abbrev pub server_duty : Settings → ServerRow → Duties
 server_duty s row = record { timer = timer_duty row.order (server_deadline s row); arrival = arrival_duty (arriving row.state); waiting = reply_duty row.state }
 
--- those of a row, if there is one
+-- what a client's row has in the books, if there is one
 abbrev pub client_duty_in : Settings → Option ClientRow → Duties
 client_duty_in s None = no_duties
 client_duty_in s (Some r) = client_duty s r
 
+-- what a server's row has in the books, if there is one
 abbrev pub server_duty_in : Settings → Option ServerRow → Duties
 server_duty_in s None = no_duties
 server_duty_in s (Some row) = server_duty s row
 
--- those of the row at a place
+-- what the row at a place has in the books
 abbrev pub duty_at : Seen → Place → Duties
 duty_at h (OfClient id) = client_duty_in h.settings (get h.host.clients id)
 duty_at h (OfServer id) = server_duty_in h.settings (get h.host.servers id)

@@ -6,15 +6,17 @@ use Rattle.homa_plain.specs.Rows.{ClientRow, ServerRow}
 use Rattle.homa_plain.specs.Host.{Host, part_pages, state_pages}
 use Rattle.homa_plain.specs.Timers.{Place, OfClient, OfServer}
 
--- those of one row, and of none
+-- the pages that the response in a client's row takes; none where there is no row
 abbrev pub client_pages : Option ClientRow → ℕ
 client_pages None = 0
 client_pages (Some r) = part_pages r.part
 
+-- the pages that a request takes which arrives in a server's row; none where there is no row
 abbrev pub server_pages : Option ServerRow → ℕ
 server_pages None = 0
 server_pages (Some r) = state_pages r.state
 
+-- the pages of the row at a place; none where no row stands there
 abbrev pub pages_at : Host → Place → ℕ
 pages_at h (OfClient id) = client_pages (get h.clients id)
 pages_at h (OfServer id) = server_pages (get h.servers id)

@@ -2,6 +2,7 @@
 use Rattle.std.specs.Prelude.{◌≡◌}
 use Rattle.homa_seen.specs.Seen.{Seen}
 
+-- the settings, the clock, the rows and their places are the same in both
 pub record SameRows (g h : Seen) : Type 0 where
   pub settings : g.settings ≡ h.settings
   pub last : g.host.last ≡ h.host.last

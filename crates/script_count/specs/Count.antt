@@ -4,14 +4,17 @@ use Rattle.homa_plain.specs.Script.{Given, GivenEvent, GivenTicks, Refusal, Step
 use Rattle.homa_script.specs.declared.stop.ScriptStop.{ScriptStop}
 use Rattle.homa_script.specs.declared.stop.ScriptStop.TheVariants.{Read, Fault}
 
+-- how many events a line stands for: `tick N` counts as N
 abbrev pub events_in : Given → ℕ
 events_in (GivenEvent event bytes) = 1
 events_in (GivenTicks n) = n
 
+-- how many events these lines stand for
 abbrev pub events_of : List Step → ℕ
 events_of [] = 0
 events_of (step ∷ steps) = events_in step.given + events_of steps
 
+-- a number, or the refusal if there is one
 abbrev pub unless_refused : Option Refusal → ℕ → Result ℕ Refusal
 unless_refused None n = Ok n
 unless_refused (Some refusal) n = Err refusal
