@@ -51,6 +51,7 @@ pub record WasShort (old : HostParts) (before : List SentFrame) (new : HostParts
   pub step : (w : Work) → Amid w old before → pumped_once old.control.settings w ≡ None
   pub same : (w : Work) → Amid w old before → Amid w new after
 
+-- what the pump did with the message that comes first: sent its next piece, found none that may be sent, or too little credit
 abbrev pub IsPumped : HostParts → List SentFrame → HostParts → List SentFrame → Pumped → Type 0
 IsPumped old before new after Sent = WasSent old before new after
 IsPumped old before new after Idle = WasIdle old before new after

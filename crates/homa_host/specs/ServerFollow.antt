@@ -41,6 +41,7 @@ server_act_change act.NeedAck place = Stays place
 server_act_change (act.Bury id until) place = Stays place
 server_act_change (act.Free id) place = Goes place
 
+-- how many messages a row's act opens: the one response that was held back
 abbrev pub server_act_orders : ServerAct → ℕ
 server_act_orders (act.Resend from to) = 0
 server_act_orders (act.Drop id) = 0

@@ -11,6 +11,7 @@ use Rattle.homa_seen.specs.declared.outbox.SentFrame.{SentFrame}
 abbrev pub frame_of : Settings → Packet → SentFrame
 frame_of s p = record { from = sender p; to = receiver p; frame = datagram s p }
 
+-- the frames of packets, in their order
 abbrev pub frames_of : Settings → List Packet → List SentFrame
 frames_of s ps = map (frame_of s) ps
 
@@ -32,5 +33,6 @@ abbrev pub line_of : Settings → ℕ → Option SentFrame → PlainEntry
 line_of s n None = PlainJunk (record { 0 = 0 })
 line_of s n (Some f) = read_line n f (packet_of s f)
 
+-- the `send` line of the frame with this number
 abbrev pub frame_line : Settings → List SentFrame → ℕ → PlainEntry
 frame_line s frames n = line_of s n (slice_get frames n)

@@ -26,6 +26,7 @@ response_in (Held response release) = response
 response_in (Replying response out order base count) = response
 response_in (Buried until) = []
 
+-- the same by the call; empty where it has no row
 abbrev pub response_of : Host → CallId → List ℕ
 response_of h id = unwrap_or (option_map (λ (r : ServerRow). response_in r.state) (get h.servers id)) []
 
@@ -63,6 +64,7 @@ abbrev pub IsReply : Host → Answer → Mark → Type 0
 IsReply h a (Ran id service hold) = a ≡ record { bytes = response_of h id; hold = hold }
 IsReply h a mark = Unit {0}
 
+-- this is what the service answered in the last step, if it was asked
 abbrev pub IsAnswer : Seen → Answer → Type 0
 IsAnswer h a = AllByRecursion (IsReply h.host a) h.marks
 
@@ -73,6 +75,7 @@ IsAllowed h allows whole mark = Unit {0}
 
 -- ---- marks of what was told
 
+-- the mark of an entry; of entries that no mark shows it is that of junk
 abbrev pub mark_of : PlainEntry → Mark
 mark_of (PlainCall id server service bytes) = Called id server service
 mark_of (PlainStale host at now) = Stale at

@@ -15,6 +15,7 @@ use Rattle.homa_timers.specs.Armed as armed
 use Rattle.homa_grants.specs.Entries as entry
 use Rattle.homa_pacer.specs.Pace as pace
 
+-- a host, its settings, where its rows stand, and what its last step told
 pub record Seen : Type 0 where
   pub settings : Settings
   pub host : Host
@@ -24,17 +25,20 @@ pub record Seen : Type 0 where
 
 -- ---- slots: those of the client's rows, and then those of the server's
 
+-- the slot of the row of a place
 abbrev pub slot_of : Seen → Place → ℕ
 slot_of h (OfClient id) = unwrap_or (get h.client_places id) 0
 slot_of h (OfServer id) = h.settings.calls + unwrap_or (get h.server_places id) 0
 
--- a row's timer, a message that arrives and a message that is sent, as the books have them
+-- a row's timer, as the timers' book has it
 abbrev pub timer_of : Seen → Timer → armed.Timer
 timer_of h t = record { slot = slot_of h t.place; at = t.at; order = t.order }
 
+-- a message that arrives, as the grants' book has it
 abbrev pub entry_of : Seen → Arriving → entry.Entry
 entry_of h a = record { slot = slot_of h a.place; peer = a.message.peer.0; remaining = a.message.length - a.message.arrived; order = a.message.order }
 
+-- a message that is sent, as the pacer has it
 abbrev pub ready_of : Seen → Leaving → pace.Ready
 ready_of h l = record { slot = slot_of h l.place; left = l.left; order = l.order }
 
@@ -48,14 +52,16 @@ AreArmed h book = book ≡ ordered armed.timer_key (map (timer_of h) (timers h.s
 abbrev pub AreEntered : Seen → List entry.Entry → Type 0
 AreEntered h book = book ≡ ordered entry.entry_key (map (entry_of h) (arrivals h.host))
 
--- the outgoing messages of which bytes wait, whether or not they may be sent now
+-- a request of which bytes wait, whether or not they may be sent now
 abbrev pub waiting_at_client : CallId → ClientRow → List Leaving
 waiting_at_client id r = if has_waiting r.out then record { place = OfClient id; left = left r.out; order = r.order } ∷ [] else []
 
+-- the same of a response
 abbrev pub waiting_at_server : CallId → State → List Leaving
 waiting_at_server id (Replying response out order base count) = if has_waiting out then record { place = OfServer id; left = left out; order = order } ∷ [] else []
 waiting_at_server id state = []
 
+-- all of them: the requests, and then the responses
 abbrev pub waiting : Host → List Leaving
 waiting h =
     flat_map (λ (e : CallId × ClientRow). waiting_at_client e.0 e.1) (entries h.clients)
