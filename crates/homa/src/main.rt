@@ -1,15 +1,12 @@
 //! The program: hands the words of the command line, standard input and standard output to `run`, and
-//! ends with its status.
+//! ends with the code of its status.
 #![tactic(auto)]
 
 use homa_io::{StdSink, StdSource};
-use homa_top::{run, suites};
+use homa_top::{ExitStatus, run, suites};
 use std::alloc::AllocError;
 use std::process::ExitCode;
 use std::{env, io};
-
-// The status where there is no memory.
-const NO_MEMORY: u8 = 5;
 
 // The command line without the program's name; no words where one of them is no text.
 fn words(rt: &HostRuntime) -> Result<Vec<String>, AllocError> {
@@ -26,7 +23,7 @@ fn words(rt: &HostRuntime) -> Result<Vec<String>, AllocError> {
 }
 
 // Hands all to `run`.
-fn status(rt: &HostRuntime) -> Result<u8, AllocError> {
+fn status(rt: &HostRuntime) -> Result<ExitStatus, AllocError> {
     let alloc = rt.alloc();
     let words = words(rt)?;
     let mut texts = Vec::new(alloc);
@@ -40,8 +37,6 @@ fn status(rt: &HostRuntime) -> Result<u8, AllocError> {
 }
 
 fn main(rt: HostRuntime) -> ExitCode {
-    match status(&rt) {
-        Ok(status) => ExitCode::from(status),
-        Err(_) => ExitCode::from(NO_MEMORY),
-    }
+    let status = status(&rt).unwrap_or(ExitStatus::NoMemory);
+    ExitCode::from(status.code())
 }

@@ -7,6 +7,7 @@ use Rattle.homa_plain.specs.Entries.{PlainEntry}
 use Rattle.homa_plain.specs.Input.{lines_of, ends_in_feed, has_no_feed}
 use Rattle.homa_plain.specs.View.{View, nothing_seen}
 use Rattle.homa_plain.specs.Judge as judge
+use Rattle.homa_text.proofs.Taking.{unread-append}
 use Rattle.homa_text.specs.Lines.{Reading, TakesLine, IsLine, IsLong, IsOver, IsEnd}
 use Rattle.homa_lines.specs.Forms.{entry_of}
 use Rattle.homa_script.proofs.NextLine.{read_line, Got}
@@ -141,3 +142,7 @@ start_left (line ∷ lines) = refl
 -- nothing was read yet
 pub start_due : (r : Reading) (bytes : List ℕ) → r ≡ record { pending = []; line = []; read = 0; number = 0; limit = 68719476736; longest = 4100000 } → plain.verdict_of bytes ≡ verdict_next nothing_seen r bytes
 start_due r bytes e = start_left (lines_of bytes) ∙ ap (λ x. verdict_next nothing_seen x bytes) (sym e)
+
+-- bytes were read, and then others
+pub read_further : (old mid new : Option (List ℕ)) → ((came : List ℕ) × (old ≡ unread came mid)) → ((came : List ℕ) × (mid ≡ unread came new)) → (came : List ℕ) × (old ≡ unread came new)
+read_further old mid new a b = (a.0 ++ b.0, a.1 ∙ (ap (unread a.0) b.1 ∙ sym (unread-append a.0 b.0 new)))

@@ -381,7 +381,7 @@ fn is_allowed_body(
                 offset: *offset,
                 prio: *prio,
             };
-            Ok(has_grant(alloc, trace, from, &grant)?)
+            has_grant(alloc, trace, from, &grant)
         }
         _ => Ok(true),
     }
@@ -399,7 +399,7 @@ fn is_allowed(alloc: Global, trace: &Trace, line: &Entry<'_>) -> Result<bool, Al
             id,
             body,
             ..
-        } => Ok(is_allowed_body(alloc, trace, *from, *to, *role, *id, body)?),
+        } => is_allowed_body(alloc, trace, *from, *to, *role, *id, body),
         _ => Ok(true),
     }
 }

@@ -51,6 +51,6 @@ pub(crate) fn step_entry(
 {
     match judge(alloc, trace, line)? {
         Some(clause) => Ok(Some(clause)),
-        None => Ok(take_judged(alloc, trace, line)?),
+        None => take_judged(alloc, trace, line),
     }
 }

@@ -7,7 +7,7 @@ ghost use Rattle.homa_trace.specs.Traces.{Follows};
 ghost use Rattle.homa_check.specs.declared.text.Next.TheVariants.{Taken};
 ghost use Rattle.homa_check.specs.declared.verdict.Clause.{Clause as AClause};
 ghost use Rattle.homa_check.specs.declared.verdict.Verdict.TheVariants.{Yes, No};
-ghost use Rattle.homa_io.specs.Outside.{HasRisen, IsAtEnd};
+ghost use Rattle.homa_io.specs.Outside.{HasRisen, unread, IsAtEnd};
 ghost use Rattle.homa_lines.specs.Forms.{entry_of};
 ghost use Rattle.homa_plain.specs.View.{View, nothing_seen};
 ghost use Rattle.homa_text.specs.Lines.{reading};
@@ -74,6 +74,7 @@ fn judge_next<S: Source>(
     ensures next { IfOk result (λ next. (v : View) → Follows v trace.old → v.place ≤ 68719476736 → IsNext v (reading lines.old) (reading lines.new) (S.left source.old) (S.left source.new) trace.new next) }
     ensures read { IfOk result (λ next. next ≡ Taken → ((reading lines.old).read < (reading lines.new).read) × ((reading lines.new).read ≤ 68719476736)) }
     ensures number { OnOk result ((reading lines.new).number ≡ min ((reading lines.old).number + 1) (2 ^ 64 - 1)) }
+    ensures read_on { (came : List ℕ) × (S.left source.old ≡ unread came (S.left source.new)) }
     ensures limit { (reading lines.new).limit ≡ (reading lines.old).limit }
     ensures longest { (reading lines.new).longest ≡ (reading lines.old).longest }
     ensures room { length room.new ≡ length room.old }
@@ -120,6 +121,9 @@ pub fn check<S: Source>(alloc: Global, source: &mut S) -> Result<Verdict, CheckS
     // No: this line is the first that hasn't its shape or breaks a law, and this clause is the first that fails there.
     ensures no { IfOk result (λ verdict. (bytes : List ℕ) (line : ℕ) (clause : AClause) → S.left source.old ≡ Some bytes → verdict ≡ No line clause → IsNoTrace bytes line (clause_of clause)) }
 
+    // Whatever the answer, the source was read from its front up to some place.
+    ensures read_on { (came : List ℕ) × (S.left source.old ≡ unread came (S.left source.new)) }
+
     // It says that reading failed exactly where the source's count of faults rose; want of memory is free.
     ensures risen { is_read result ≡ true → HasRisen (S.faults source.old) (S.faults source.new) }
     ensures quiet { is_read result ≡ false → S.faults source.new ≡ S.faults source.old }
@@ -145,6 +149,7 @@ fn judge_all<S: Source>(
     requires room { 2050000 ≤ length room.old }
     ensures verdict { IfOk result (λ verdict. (bytes : List ℕ) → S.left source.old ≡ Some bytes → verdict_of bytes ≡ plain_verdict verdict) }
     ensures end { IfOk result (λ verdict. is_yes verdict ≡ true → IsAtEnd (S.left source.new)) }
+    ensures read_on { (came : List ℕ) × (S.left source.old ≡ unread came (S.left source.new)) }
     ensures risen { is_read result ≡ true → HasRisen (S.faults source.old) (S.faults source.new) }
     ensures quiet { is_read result ≡ false → S.faults source.new ≡ S.faults source.old }
     ensures never_falls { S.faults source.old ≤ S.faults source.new }

@@ -10,6 +10,7 @@ use Rattle.homa_traffic.specs.Generated.{generated_settings, schedule_text, summ
 use Rattle.homa_generate.specs.Made.{run_of}
 use Rattle.homa_top.specs.declared.words.Command.{Command}
 use Rattle.homa_top.specs.declared.words.Command.TheVariants.{Replay, Make, Gen, Check, Quiet}
+use Rattle.homa_top.specs.declared.exit.ExitStatus.{ExitStatus}
 use Rattle.homa_top.specs.Words.{within, number_within, numbered, command_of}
 use Rattle.homa_top.specs.Commands.{HasMade}
 
@@ -75,12 +76,12 @@ quiet_sizes words n m is = subst AreSizes is (words_sizes words)
 -- ---- a command has one seed and one number of calls
 
 module _ (old new : Option (List ℕ)) (allowed : List PlainEntry → Type 0) where
-  pub same_make : (seed calls n m boxes status : ℕ) → Some (Make seed calls) ≡ Some (Make n m) → HasMade (run_of seed calls boxes) (schedule_text generated_settings) old new allowed status → HasMade (run_of n m boxes) (schedule_text generated_settings) old new allowed status
+  pub same_make : (seed calls n m boxes : ℕ) (status : ExitStatus) → Some (Make seed calls) ≡ Some (Make n m) → HasMade (run_of seed calls boxes) (schedule_text generated_settings) old new allowed status → HasMade (run_of n m boxes) (schedule_text generated_settings) old new allowed status
   same_make seed calls n m boxes status is made = subst (λ (x : ℕ × ℕ). HasMade (run_of x.0 x.1 boxes) (schedule_text generated_settings) old new allowed status) (pair is) made where
     pair : Some (Make seed calls) ≡ Some (Make n m) → ◌≡◌ {A = ℕ × ℕ} (seed, calls) (n, m)
     pair e = cc
 
-  pub same_gen : (seed calls n m boxes status : ℕ) → Some (Gen seed calls) ≡ Some (Gen n m) → HasMade (run_of seed calls boxes) (λ g. summary_text g.told) old new allowed status → HasMade (run_of n m boxes) (λ g. summary_text g.told) old new allowed status
+  pub same_gen : (seed calls n m boxes : ℕ) (status : ExitStatus) → Some (Gen seed calls) ≡ Some (Gen n m) → HasMade (run_of seed calls boxes) (λ g. summary_text g.told) old new allowed status → HasMade (run_of n m boxes) (λ g. summary_text g.told) old new allowed status
   same_gen seed calls n m boxes status is made = subst (λ (x : ℕ × ℕ). HasMade (run_of x.0 x.1 boxes) (λ (g : Generated). summary_text g.told) old new allowed status) (pair is) made where
     pair : Some (Gen seed calls) ≡ Some (Gen n m) → ◌≡◌ {A = ℕ × ℕ} (seed, calls) (n, m)
     pair e = cc

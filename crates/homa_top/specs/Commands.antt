@@ -1,5 +1,5 @@
 -- What the commands beside `replay` print, by their status.
-use Rattle.std.specs.Prelude.{◌≡◌, ◌≤◌, ◌⊎◌, ℕ, Option, List}
+use Rattle.std.specs.Prelude.{◌≡◌, ◌≤◌, ◌⊎◌, ℕ, true, Option, List}
 use Rattle.homa_io.specs.Outside.{appended, TookFront, IsAtEnd}
 use Rattle.homa_plain.specs.Settings.{usual}
 use Rattle.homa_plain.specs.Entries.{PlainEntry}
@@ -9,27 +9,22 @@ use Rattle.homa_verdict.specs.Text.{IsTrace, IsNoTrace}
 use Rattle.homa_verdict.specs.Verdict as verdict
 use Rattle.homa_verdict.specs.Verdict.{verdict_of}
 use Rattle.homa_check.specs.Checks.{verdict_text}
-use Rattle.homa_replay.specs.declared.stop.Stop.{Stop}
-use Rattle.homa_replay.specs.declared.stop.Stop.TheVariants.{Read, Write, NoMemory}
 use Rattle.homa_traffic.specs.Rounds.{Generated}
 use Rattle.homa_generate.specs.Made.{Run, IsMade, IsPartMade}
 use Rattle.homa_rounds.specs.Text.{bound, quiet_text}
-
--- the status of a command that stopped
-abbrev pub status_of : Stop → ℕ
-status_of Read = 3
-status_of Write = 4
-status_of NoMemory = 5
+use Rattle.homa_top.specs.declared.exit.ExitStatus.{ExitStatus}
+use Rattle.homa_top.specs.declared.exit.ExitStatus.TheVariants.{Done, Refused, WriteFailed, NoMemory}
+use Rattle.homa_top.specs.Exits.{is_broken_off}
 
 -- the end, a fault of the sink, or want of memory
-abbrev pub IsWritten : ℕ → Type 0
-IsWritten status = (status ≡ 0) ⊎ (status ≡ 4) ⊎ (status ≡ 5)
+abbrev pub IsWritten : ExitStatus → Type 0
+IsWritten status = (status ≡ Done) ⊎ (status ≡ WriteFailed) ⊎ (status ≡ NoMemory)
 
--- a text of a generated run was printed; with a status other than 0, a front of it
-pub record HasMade (run : Run) (text : Generated → List ℕ) (old new : Option (List ℕ)) (allowed : List PlainEntry → Type 0) (status : ℕ) : Type 0 where
+-- a text of a generated run was printed; with another status than `Done`, a front of it
+pub record HasMade (run : Run) (text : Generated → List ℕ) (old new : Option (List ℕ)) (allowed : List PlainEntry → Type 0) (status : ExitStatus) : Type 0 where
   pub written : IsWritten status
-  pub whole : status ≡ 0 → IsMade run text old new allowed
-  pub front : 3 ≤ status → IsPartMade run text old new allowed
+  pub whole : status ≡ Done → IsMade run text old new allowed
+  pub front : is_broken_off status ≡ true → IsPartMade run text old new allowed
 
 -- the quiet call is done in this round, at the latest in the round of the bound, and its line was printed
 pub record IsCounted (n m : ℕ) (old new : Option (List ℕ)) : Type 0 where
@@ -38,11 +33,11 @@ pub record IsCounted (n m : ℕ) (old new : Option (List ℕ)) : Type 0 where
   pub within : rounds ≤ bound n m
   pub printed : new ≡ appended old (quiet_text n m rounds)
 
--- the line of the quiet call was printed; with a status other than 0, a front of it
-pub record HasCounted (n m : ℕ) (old new : Option (List ℕ)) (status : ℕ) : Type 0 where
+-- the line of the quiet call was printed; with another status than `Done`, a front of it
+pub record HasCounted (n m : ℕ) (old new : Option (List ℕ)) (status : ExitStatus) : Type 0 where
   pub written : IsWritten status
-  pub whole : status ≡ 0 → IsCounted n m old new
-  pub front : 3 ≤ status → (rounds : ℕ) → IsQuiet usual n m rounds → TookFront old new (quiet_text n m rounds)
+  pub whole : status ≡ Done → IsCounted n m old new
+  pub front : is_broken_off status ≡ true → (rounds : ℕ) → IsQuiet usual n m rounds → TookFront old new (quiet_text n m rounds)
 
 -- ---- `check`
 
@@ -61,7 +56,7 @@ pub record IsNo (bytes : List ℕ) (old new : Option (List ℕ)) : Type 0 where
   pub printed : new ≡ appended old (verdict_text (verdict.No line clause))
 
 -- the verdict on these bytes was printed; with the status of a fault or of want of memory, a front of it
-pub record HasJudged (bytes : List ℕ) (left old new : Option (List ℕ)) (status : ℕ) : Type 0 where
-  pub yes : status ≡ 0 → IsYes bytes left old new
-  pub no : status ≡ 2 → IsNo bytes old new
-  pub front : 3 ≤ status → TookFront old new (verdict_text (verdict_of bytes))
+pub record HasJudged (bytes : List ℕ) (left old new : Option (List ℕ)) (status : ExitStatus) : Type 0 where
+  pub yes : status ≡ Done → IsYes bytes left old new
+  pub no : status ≡ Refused → IsNo bytes old new
+  pub front : is_broken_off status ≡ true → TookFront old new (verdict_text (verdict_of bytes))

@@ -1,6 +1,7 @@
 -- The words of a command line.
-use Rattle.std.specs.Prelude.{ℕ, Bool, true, false, ◌&&◌, nat_le, if◌then◌else◌, Option, None, Some, List, [], ◌∷◌, codes}
+use Rattle.std.specs.Prelude.{ℕ, Bool, true, false, ◌&&◌, nat_le, if◌then◌else◌, Option, None, Some, List, [], ◌∷◌, map, codes}
 use Rattle.std.specs.Str.{bytes_eq}
+use denote.Ref.{Bor}
 use Rattle.homa_plain.specs.Bytes.{◌>>=◌}
 use Rattle.homa_plain.specs.Numbers.{number_of}
 use Rattle.homa_top.specs.declared.words.Command.{Command}
@@ -10,6 +11,7 @@ use Rattle.homa_top.specs.declared.words.Command.TheVariants.{Replay, Make, Gen,
 abbrev pub within : ℕ → ℕ → Option ℕ
 within most n = if nat_le 1 n && nat_le n most then Some n else None
 
+-- a word is such a number
 abbrev pub number_within : ℕ → List ℕ → Option ℕ
 number_within most word = number_of word >>= within most
 
@@ -35,6 +37,11 @@ command_of (word ∷ []) = if bytes_eq word (codes "replay") then Some Replay el
 command_of (word ∷ first ∷ second ∷ []) = numbered word first second
 command_of words = None
 
+-- the command that a command line says, if it says one
+abbrev pub said : List (Bor (List ℕ)) → Option Command
+said words = command_of (map (λ w. w.now) words)
+
+-- the line that tells the commands
 abbrev pub usage_line : List ℕ
 usage_line = codes "usage: homa replay | make SEED CALLS | gen SEED CALLS | node | record | check | quiet N M\n"
 

@@ -5,8 +5,11 @@ ghost use Rattle.homa_traffic.specs.Generated.{generated_settings, schedule_text
 ghost use Rattle.homa_generate.specs.Made.{run_of};
 ghost use Rattle.homa_world.specs.First.{AreReady, AreAllowed};
 ghost use Rattle.homa_top.specs.Words.{usage_line};
-ghost use Rattle.homa_top.specs.Commands.{HasMade, HasCounted, HasJudged, status_of};
+ghost use Rattle.homa_top.specs.Commands.{HasMade, HasCounted, HasJudged};
+ghost use Rattle.homa_top.specs.Exits.{status_of};
+ghost use Rattle.homa_top.specs.declared.exit.ExitStatus.TheVariants as status;
 
+use crate::exit::ExitStatus;
 use homa_check::{CheckStop, Verdict, check, put_verdict};
 use homa_generate::{count, make};
 use homa_io::{Sink, Source, write_all};
@@ -21,27 +24,27 @@ const USAGE: &[u8] =
     b"usage: homa replay | make SEED CALLS | gen SEED CALLS | node | record | check | quiet N M\n";
 
 /// Prints the usage line.
-pub(crate) fn put_usage<K: Sink>(sink: &mut K) -> u8
-    ensures statuses { (result ≡ 1) ⊎ (result ≡ 4) }
-    ensures line { result ≡ 1 → K.taken sink.new ≡ appended (K.taken sink.old) usage_line }
+pub(crate) fn put_usage<K: Sink>(sink: &mut K) -> ExitStatus
+    ensures statuses { (result ≡ status.NoCommand) ⊎ (result ≡ status.WriteFailed) }
+    ensures line { result ≡ status.NoCommand → K.taken sink.new ≡ appended (K.taken sink.old) usage_line }
     ensures front { TookFront (K.taken sink.old) (K.taken sink.new) usage_line }
-    ensures write { result ≡ 4 → HasRisen (K.faults sink.old) (K.faults sink.new) }
-    ensures quiet { result ≡ 1 → K.faults sink.new ≡ K.faults sink.old }
+    ensures write { result ≡ status.WriteFailed → HasRisen (K.faults sink.old) (K.faults sink.new) }
+    ensures quiet { result ≡ status.NoCommand → K.faults sink.new ≡ K.faults sink.old }
 {
     match write_all(sink, USAGE) {
-        Ok(()) => 1,
-        Err(_) => 4,
+        Ok(()) => ExitStatus::NoCommand,
+        Err(_) => ExitStatus::WriteFailed,
     }
 }
 
 /// The status of a command that stopped.
-pub(crate) fn status_of(stop: Stop) -> u8
+pub(crate) fn status_of(stop: Stop) -> ExitStatus
     ensures { result ≡ status_of stop }
 {
     match stop {
-        Stop::Read => 3,
-        Stop::Write => 4,
-        Stop::NoMemory => 5,
+        Stop::Read => ExitStatus::ReadFailed,
+        Stop::Write => ExitStatus::WriteFailed,
+        Stop::NoMemory => ExitStatus::NoMemory,
     }
 }
 
@@ -52,14 +55,14 @@ pub(crate) fn put_schedule<V: Service, K: Sink>(
     services: Vec<V>,
     seed: u64,
     calls: u32,
-) -> u8
+) -> ExitStatus
     requires { AreReady V.served services.items }
     ensures made { HasMade (run_of seed calls (length services.items)) (schedule_text generated_settings) (K.taken sink.old) (K.taken sink.new) (AreAllowed V.served V.allows services.items) result }
-    ensures write { result ≡ 4 → HasRisen (K.faults sink.old) (K.faults sink.new) }
-    ensures quiet { result ≢ 4 → K.faults sink.new ≡ K.faults sink.old }
+    ensures write { result ≡ status.WriteFailed → HasRisen (K.faults sink.old) (K.faults sink.new) }
+    ensures quiet { result ≢ status.WriteFailed → K.faults sink.new ≡ K.faults sink.old }
 {
     match make::<Vec<V>, World<V>, K>(alloc, sink, services, seed, calls) {
-        Ok(()) => 0,
+        Ok(()) => ExitStatus::Done,
         Err(stop) => status_of(stop),
     }
 }
@@ -71,55 +74,63 @@ pub(crate) fn put_summary<V: Service, K: Sink>(
     services: Vec<V>,
     seed: u64,
     calls: u32,
-) -> u8
+) -> ExitStatus
     requires { AreReady V.served services.items }
     ensures made { HasMade (run_of seed calls (length services.items)) (λ g. summary_text g.told) (K.taken sink.old) (K.taken sink.new) (AreAllowed V.served V.allows services.items) result }
-    ensures write { result ≡ 4 → HasRisen (K.faults sink.old) (K.faults sink.new) }
-    ensures quiet { result ≢ 4 → K.faults sink.new ≡ K.faults sink.old }
+    ensures write { result ≡ status.WriteFailed → HasRisen (K.faults sink.old) (K.faults sink.new) }
+    ensures quiet { result ≢ status.WriteFailed → K.faults sink.new ≡ K.faults sink.old }
 {
     match count::<Vec<V>, World<V>, K>(alloc, sink, services, seed, calls) {
-        Ok(()) => 0,
+        Ok(()) => ExitStatus::Done,
         Err(stop) => status_of(stop),
     }
 }
 
 /// Prints in how many rounds a quiet call of so many bytes is done, with the usual settings, and the bound.
-pub(crate) fn put_rounds<K: Sink>(alloc: Global, sink: &mut K, request: u32, response: u32) -> u8
+pub(crate) fn put_rounds<K: Sink>(
+    alloc: Global,
+    sink: &mut K,
+    request: u32,
+    response: u32,
+) -> ExitStatus
     requires request { (1 ≤ request) × (request ≤ 1000000) }
     requires response { (1 ≤ response) × (response ≤ 1000000) }
     ensures counted { HasCounted request response (K.taken sink.old) (K.taken sink.new) result }
-    ensures write { result ≡ 4 → HasRisen (K.faults sink.old) (K.faults sink.new) }
-    ensures quiet { result ≢ 4 → K.faults sink.new ≡ K.faults sink.old }
+    ensures write { result ≡ status.WriteFailed → HasRisen (K.faults sink.old) (K.faults sink.new) }
+    ensures quiet { result ≢ status.WriteFailed → K.faults sink.new ≡ K.faults sink.old }
 {
     let Ok(rounds) = quiet_rounds(alloc, &Settings::usual(), request, response) else {
-        return 5;
+        return ExitStatus::NoMemory;
     };
     match put_quiet(sink, request, response, rounds) {
-        Ok(()) => 0,
-        Err(_) => 4,
+        Ok(()) => ExitStatus::Done,
+        Err(_) => ExitStatus::WriteFailed,
     }
 }
 
 /// Judges the trace that the source has, and prints the verdict.
-pub(crate) fn put_judgement<S: Source, K: Sink>(alloc: Global, source: &mut S, sink: &mut K) -> u8
+pub(crate) fn put_judgement<S: Source, K: Sink>(
+    alloc: Global,
+    source: &mut S,
+    sink: &mut K,
+) -> ExitStatus
     ensures judged { (bytes : List ℕ) → S.left source.old ≡ Some bytes → HasJudged bytes (S.left source.new) (K.taken sink.old) (K.taken sink.new) result }
-    ensures statuses { result ≤ 5 }
-    ensures no_usage { result ≢ 1 }
-    ensures read { result ≡ 3 → HasRisen (S.faults source.old) (S.faults source.new) }
-    ensures read_quiet { result ≢ 3 → S.faults source.new ≡ S.faults source.old }
-    ensures write { result ≡ 4 → HasRisen (K.faults sink.old) (K.faults sink.new) }
-    ensures write_quiet { result ≢ 4 → K.faults sink.new ≡ K.faults sink.old }
+    ensures statuses { (result ≡ status.Done) ⊎ (result ≡ status.Refused) ⊎ (result ≡ status.ReadFailed) ⊎ (result ≡ status.WriteFailed) ⊎ (result ≡ status.NoMemory) }
+    ensures read { result ≡ status.ReadFailed → HasRisen (S.faults source.old) (S.faults source.new) }
+    ensures read_quiet { result ≢ status.ReadFailed → S.faults source.new ≡ S.faults source.old }
+    ensures write { result ≡ status.WriteFailed → HasRisen (K.faults sink.old) (K.faults sink.new) }
+    ensures write_quiet { result ≢ status.WriteFailed → K.faults sink.new ≡ K.faults sink.old }
 {
     let verdict = match check(alloc, source) {
         Ok(verdict) => verdict,
-        Err(CheckStop::Read(_)) => return 3,
-        Err(CheckStop::NoMemory) => return 5,
+        Err(CheckStop::Read(_)) => return ExitStatus::ReadFailed,
+        Err(CheckStop::NoMemory) => return ExitStatus::NoMemory,
     };
     if put_verdict(sink, verdict).is_err() {
-        return 4;
+        return ExitStatus::WriteFailed;
     }
     match verdict {
-        Verdict::Yes { .. } => 0,
-        Verdict::No { .. } => 2,
+        Verdict::Yes { .. } => ExitStatus::Done,
+        Verdict::No { .. } => ExitStatus::Refused,
     }
 }

@@ -6,10 +6,12 @@
 #![tactic(auto)]
 
 mod commands;
+mod exit;
 mod many;
 mod status;
 mod words;
 
+pub use exit::ExitStatus;
 pub use homa_rounds::quiet_rounds;
 pub use many::suites;
 pub use status::run;

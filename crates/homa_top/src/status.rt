@@ -1,5 +1,5 @@
 // The top call.
-ghost use Rattle.std.specs.Prelude.{◌≡◌, ◌≢◌, ◌≤◌, ◌⊎◌, ℕ, List, None, Some, [], map, length, true, false};
+ghost use Rattle.std.specs.Prelude.{◌≡◌, ◌≢◌, ◌⊎◌, ℕ, List, None, Some, [], length, true, false};
 ghost use Rattle.homa_io.specs.Outside.{HasRisen, appended, TookFront};
 ghost use Rattle.homa_plain.specs.Rules.{Answer};
 ghost use Rattle.homa_plain.specs.Replay.{replay};
@@ -11,10 +11,13 @@ ghost use Rattle.homa_world.specs.First.{AreReady, AreAllowed};
 ghost use Rattle.every_replay.specs.Replays.{OpensWorld};
 ghost use Rattle.homa_top.specs.declared.words.Command.TheVariants as command;
 ghost use Rattle.homa_top.specs.Commands.{HasMade, HasCounted, HasJudged};
+ghost use Rattle.homa_top.specs.Exits.{is_broken_off};
+ghost use Rattle.homa_top.specs.declared.exit.ExitStatus.TheVariants as status;
 ghost use Rattle.homa_top.specs.Lawful.{TookLawful};
-ghost use Rattle.homa_top.specs.Words.{command_of, reads, usage_line};
+ghost use Rattle.homa_top.specs.Words.{said, reads, usage_line};
 
 use crate::commands::{put_judgement, put_rounds, put_schedule, put_summary, put_usage, status_of};
+use crate::exit::ExitStatus;
 use crate::words::{Command, read_words};
 use homa_io::{Sink, Source};
 use homa_replay::replay;
@@ -22,14 +25,11 @@ use homa_service::Service;
 use homa_world::World;
 use std::alloc::Global;
 
-/// Carries out a command line, `words` without the program's name, and answers the status:
+/// Carries out a command line, `words` without the program's name: `replay`, `make SEED CALLS`, `gen SEED CALLS`,
+/// `check` or `quiet N M`.
 ///
-/// 0 the end; where an input is read, it was read to its end; 1 the words are none of the commands (so far `replay`,
-/// `make SEED CALLS`, `gen SEED CALLS`, `check` and `quiet N M`); 2 a line is refused; 3 the source gave a fault; 4 the
-/// sink gave a fault; 5 there is no memory, of which no clause says when it comes.
-///
-/// `replay` reads a schedule from the source and prints its trace. `check` reads a trace and prints the verdict on it, with
-/// status 0 where it is yes and 2 where it is no. `make` prints a schedule of generated traffic, and `gen`
+/// `replay` reads a schedule from the source and prints its trace. `check` reads a trace and prints the verdict on it,
+/// `Done` where it is yes and `Refused` where it is no. `make` prints a schedule of generated traffic, and `gen`
 /// the summary of its trace. `quiet` prints in how many rounds a call is done. Service h serves host h, and the others are
 /// there for hosts that restart, the last one first. What is said of the bytes holds where the source tells what it has
 /// left, and the sink what it took, as those in memory do.
@@ -39,52 +39,51 @@ pub fn run<V: Service, S: Source, K: Sink>(
     source: &mut S,
     sink: &mut K,
     services: Vec<V>,
-) -> u8
+) -> ExitStatus
     requires { AreReady V.served services.items }
-    ensures statuses { result ≤ 5 }
 
     // The words are none of the commands: the usage line is printed.
-    ensures usage { result ≡ 1 → command_of (map (λ w. w.now) words.now) ≡ None }
-    ensures no_command { command_of (map (λ w. w.now) words.now) ≡ None → (result ≡ 1) ⊎ (result ≡ 4) }
-    ensures usage_text { result ≡ 1 → K.taken sink.new ≡ appended (K.taken sink.old) usage_line }
-    ensures usage_front { command_of (map (λ w. w.now) words.now) ≡ None → TookFront (K.taken sink.old) (K.taken sink.new) usage_line }
+    ensures usage { result ≡ status.NoCommand → said words.now ≡ None }
+    ensures no_command { said words.now ≡ None → (result ≡ status.NoCommand) ⊎ (result ≡ status.WriteFailed) }
+    ensures usage_text { result ≡ status.NoCommand → K.taken sink.new ≡ appended (K.taken sink.old) usage_line }
+    ensures usage_front { said words.now ≡ None → TookFront (K.taken sink.old) (K.taken sink.new) usage_line }
 
     // `replay` and `check` alone read, and refuse a line.
-    ensures source_stays { reads (command_of (map (λ w. w.now) words.now)) ≡ false → source.new ≡ source.old }
-    ensures reads { (result ≡ 2) ⊎ (result ≡ 3) → reads (command_of (map (λ w. w.now) words.now)) ≡ true }
+    ensures source_stays { reads (said words.now) ≡ false → source.new ≡ source.old }
+    ensures reads { (result ≡ status.Refused) ⊎ (result ≡ status.ReadFailed) → reads (said words.now) ≡ true }
 
     // `replay`: what was printed is the replay of the bytes that the source had, with the answers that its own `run` lines
     // show, of which each is allowed; it refuses no line, or its last line refuses one.
-    ensures accepted { command_of (map (λ w. w.now) words.now) ≡ Some command.Replay → result ≡ 0 → ArePrinted (replay_of (length services.items)) (S.left source.old) (K.taken sink.old) (K.taken sink.new) (AreAllowed V.served V.allows services.items) true }
-    ensures refused { command_of (map (λ w. w.now) words.now) ≡ Some command.Replay → result ≡ 2 → ArePrinted (replay_of (length services.items)) (S.left source.old) (K.taken sink.old) (K.taken sink.new) (AreAllowed V.served V.allows services.items) false }
-    ensures to_end { command_of (map (λ w. w.now) words.now) ≡ Some command.Replay → result ≡ 0 → (bytes : List ℕ) → S.left source.old ≡ Some bytes → S.left source.new ≡ Some [] }
+    ensures accepted { said words.now ≡ Some command.Replay → result ≡ status.Done → ArePrinted (replay_of (length services.items)) (S.left source.old) (K.taken sink.old) (K.taken sink.new) (AreAllowed V.served V.allows services.items) true }
+    ensures refused { said words.now ≡ Some command.Replay → result ≡ status.Refused → ArePrinted (replay_of (length services.items)) (S.left source.old) (K.taken sink.old) (K.taken sink.new) (AreAllowed V.served V.allows services.items) false }
+    ensures to_end { said words.now ≡ Some command.Replay → result ≡ status.Done → (bytes : List ℕ) → S.left source.old ≡ Some bytes → S.left source.new ≡ Some [] }
 
     // Where the schedule opens a world, each of these lines obeys all laws.
-    ensures laws { command_of (map (λ w. w.now) words.now) ≡ Some command.Replay → (result ≡ 0) ⊎ (result ≡ 2) → (bytes : List ℕ) → S.left source.old ≡ Some bytes → OpensWorld bytes → TookLawful (K.taken sink.old) (K.taken sink.new) }
+    ensures laws { said words.now ≡ Some command.Replay → (result ≡ status.Done) ⊎ (result ≡ status.Refused) → (bytes : List ℕ) → S.left source.old ≡ Some bytes → OpensWorld bytes → TookLawful (K.taken sink.old) (K.taken sink.new) }
 
     // A fault or want of memory leaves a front of it.
-    ensures front { command_of (map (λ w. w.now) words.now) ≡ Some command.Replay → 3 ≤ result → AreParts (replay_of (length services.items)) (S.left source.old) (S.left source.new) (K.taken sink.old) (K.taken sink.new) (AreAllowed V.served V.allows services.items) }
+    ensures front { said words.now ≡ Some command.Replay → is_broken_off result ≡ true → AreParts (replay_of (length services.items)) (S.left source.old) (S.left source.new) (K.taken sink.old) (K.taken sink.new) (AreAllowed V.served V.allows services.items) }
 
     // `check`: what was printed is the verdict on the bytes that the source had. Yes means that each line has its shape and
     // obeys all laws, no that the named line is the first that doesn't, by the named clause.
-    ensures judged { command_of (map (λ w. w.now) words.now) ≡ Some command.Check → (bytes : List ℕ) → S.left source.old ≡ Some bytes → HasJudged bytes (S.left source.new) (K.taken sink.old) (K.taken sink.new) result }
+    ensures judged { said words.now ≡ Some command.Check → (bytes : List ℕ) → S.left source.old ≡ Some bytes → HasJudged bytes (S.left source.new) (K.taken sink.old) (K.taken sink.new) result }
 
     // `make`, `gen` and `quiet`: what was printed is the schedule of the generated run, the summary of its trace, the line of
     // the quiet call; or a front of it.
-    ensures made { (seed calls : ℕ) → command_of (map (λ w. w.now) words.now) ≡ Some (command.Make seed calls) → HasMade (run_of seed calls (length services.items)) (schedule_text generated_settings) (K.taken sink.old) (K.taken sink.new) (AreAllowed V.served V.allows services.items) result }
-    ensures counted { (seed calls : ℕ) → command_of (map (λ w. w.now) words.now) ≡ Some (command.Gen seed calls) → HasMade (run_of seed calls (length services.items)) (λ g. summary_text g.told) (K.taken sink.old) (K.taken sink.new) (AreAllowed V.served V.allows services.items) result }
-    ensures quiet { (n m : ℕ) → command_of (map (λ w. w.now) words.now) ≡ Some (command.Quiet n m) → HasCounted n m (K.taken sink.old) (K.taken sink.new) result }
+    ensures made { (seed calls : ℕ) → said words.now ≡ Some (command.Make seed calls) → HasMade (run_of seed calls (length services.items)) (schedule_text generated_settings) (K.taken sink.old) (K.taken sink.new) (AreAllowed V.served V.allows services.items) result }
+    ensures counted { (seed calls : ℕ) → said words.now ≡ Some (command.Gen seed calls) → HasMade (run_of seed calls (length services.items)) (λ g. summary_text g.told) (K.taken sink.old) (K.taken sink.new) (AreAllowed V.served V.allows services.items) result }
+    ensures quiet { (n m : ℕ) → said words.now ≡ Some (command.Quiet n m) → HasCounted n m (K.taken sink.old) (K.taken sink.new) result }
 
     // Faults have their causes, each fault has its status, and nothing else keeps an input that is accepted, with the answers
     // that the services may give, from its end.
-    ensures read { result ≡ 3 → HasRisen (S.faults source.old) (S.faults source.new) }
-    ensures write { result ≡ 4 → HasRisen (K.faults sink.old) (K.faults sink.new) }
-    ensures read_fault { S.faults source.new ≢ S.faults source.old → result ≡ 3 }
-    ensures write_fault { K.faults sink.new ≢ K.faults sink.old → result ≡ 4 }
-    ensures complete { command_of (map (λ w. w.now) words.now) ≡ Some command.Replay → (bytes : List ℕ) → S.left source.old ≡ Some bytes
+    ensures read { result ≡ status.ReadFailed → HasRisen (S.faults source.old) (S.faults source.new) }
+    ensures write { result ≡ status.WriteFailed → HasRisen (K.faults sink.old) (K.faults sink.new) }
+    ensures read_fault { S.faults source.new ≢ S.faults source.old → result ≡ status.ReadFailed }
+    ensures write_fault { K.faults sink.new ≢ K.faults sink.old → result ≡ status.WriteFailed }
+    ensures complete { said words.now ≡ Some command.Replay → (bytes : List ℕ) → S.left source.old ≡ Some bytes
         → ((answers : List Answer) → shown (replay bytes answers (length services.items)).told ≡ answers → AreAllowed V.served V.allows services.items (replay bytes answers (length services.items)).told → is_refusal (replay bytes answers (length services.items)).end ≡ false)
-        → (HasRisen (S.faults source.old) (S.faults source.new) → ⊥) → (HasRisen (K.faults sink.old) (K.faults sink.new) → ⊥) → (result ≡ 0) ⊎ (result ≡ 5) }
-    ensures complete_check { command_of (map (λ w. w.now) words.now) ≡ Some command.Check → (HasRisen (S.faults source.old) (S.faults source.new) → ⊥) → (HasRisen (K.faults sink.old) (K.faults sink.new) → ⊥) → (result ≡ 0) ⊎ (result ≡ 2) ⊎ (result ≡ 5) }
+        → (HasRisen (S.faults source.old) (S.faults source.new) → ⊥) → (HasRisen (K.faults sink.old) (K.faults sink.new) → ⊥) → (result ≡ status.Done) ⊎ (result ≡ status.NoMemory) }
+    ensures complete_check { said words.now ≡ Some command.Check → (HasRisen (S.faults source.old) (S.faults source.new) → ⊥) → (HasRisen (K.faults sink.old) (K.faults sink.new) → ⊥) → (result ≡ status.Done) ⊎ (result ≡ status.Refused) ⊎ (result ≡ status.NoMemory) }
 {
     match read_words(words) {
         None => put_usage(sink),
@@ -94,8 +93,8 @@ pub fn run<V: Service, S: Source, K: Sink>(
         Some(Command::Quiet { request, response }) => put_rounds(alloc, sink, request, response),
         Some(Command::Replay) => {
             match replay::<Vec<V>, World<V>, S, K>(alloc, source, sink, services) {
-                Ok(true) => 0,
-                Ok(false) => 2,
+                Ok(true) => ExitStatus::Done,
+                Ok(false) => ExitStatus::Refused,
                 Err(stop) => status_of(stop),
             }
         }

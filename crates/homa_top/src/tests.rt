@@ -21,14 +21,14 @@ fn run_with(
     input: &str,
     reads: Vec<u64>,
     writes: Vec<u64>,
-) -> Result<(u8, MemSink), Fail> {
+) -> Result<(ExitStatus, MemSink), Fail> {
     let mut source = MemSource::new(input.as_bytes().to_vec(alloc)?, reads);
     let mut sink = MemSink::new(alloc, 100_000, writes)?;
     let status = run(alloc, words, &mut source, &mut sink, suites(alloc)?);
     Ok((status, sink))
 }
 
-fn replayed(alloc: Global, input: &str) -> Result<(u8, MemSink), Fail> {
+fn replayed(alloc: Global, input: &str) -> Result<(ExitStatus, MemSink), Fail> {
     run_with(alloc, &["replay"], input, Vec::new(alloc), Vec::new(alloc))
 }
 
@@ -36,7 +36,7 @@ fn replayed(alloc: Global, input: &str) -> Result<(u8, MemSink), Fail> {
 fn one_call_two_bytes(rt: HostRuntime) -> Result<(), Fail> {
     let alloc = rt.alloc();
     let (status, sink) = replayed(alloc, SCHEDULE)?;
-    assert_eq!(rt; status, 0);
+    assert_eq!(rt; status, ExitStatus::Done);
     let trace = format!(in alloc; "{SETTINGS}{CALL}ok 3\n")?;
     assert_eq!(rt; sink.bytes(), trace.as_bytes());
     Ok(())
@@ -47,7 +47,7 @@ fn delivered_three_times(rt: HostRuntime) -> Result<(), Fail> {
     let alloc = rt.alloc();
     let schedule = format!(in alloc; "{SCHEDULE}deliver 0\ndeliver 0")?;
     let (status, sink) = replayed(alloc, schedule.as_str())?;
-    assert_eq!(rt; status, 0);
+    assert_eq!(rt; status, ExitStatus::Done);
     let trace = format!(in alloc; "{SETTINGS}{CALL}deliver 0\ndeliver 0\nok 5\n")?;
     assert_eq!(rt; sink.bytes(), trace.as_bytes());
     Ok(())
@@ -60,7 +60,7 @@ fn calls_cross(rt: HostRuntime) -> Result<(), Fail> {
         alloc,
         "go\ncall 1 0 0 ff\ncall 0 1 0 00\ncall 1 0 0 A0\ndeliver 2\ndeliver 3",
     )?;
-    assert_eq!(rt; status, 0);
+    assert_eq!(rt; status, ExitStatus::Done);
     let trace = format!(in alloc;
         "{SETTINGS}call 1.1.0 0 0 ff\nsend 0 1>0 1 DATA c 1.1.0 7 1 0 0 0 - ff\ncall 0.1.0 1 0 00\nsend 1 0>1 1 DATA c 0.1.0 7 1 0 0 0 - 00\ncall 1.1.1 0 0 a0\nsend 2 1>0 1 DATA c 1.1.1 7 1 0 0 0 - a0\ndeliver 2\nrun 0 1.1.1 0 a0 a0 0\nsend 3 0>1 1 DATA s 1.1.1 7 1 0 0 0 - a0\ndeliver 3\ndone 1.1.1 a0\nok 5\n"
     )?;
@@ -86,7 +86,7 @@ fn refusals(rt: HostRuntime) -> Result<(), Fail> {
     ];
     for (schedule, last) in refused {
         let (status, sink) = replayed(alloc, schedule)?;
-        assert_eq!(rt; status, 2);
+        assert_eq!(rt; status, ExitStatus::Refused);
         let trace = format!(in alloc; "{SETTINGS}{last}")?;
         assert_eq!(rt; sink.bytes(), trace.as_bytes());
     }
@@ -97,10 +97,10 @@ fn refusals(rt: HostRuntime) -> Result<(), Fail> {
 fn first_lines(rt: HostRuntime) -> Result<(), Fail> {
     let alloc = rt.alloc();
     let (status, sink) = replayed(alloc, "")?;
-    assert_eq!(rt; status, 2);
+    assert_eq!(rt; status, ExitStatus::Refused);
     assert_eq!(rt; sink.bytes(), b"refused 1 NoGo\n".as_slice());
     let (status, sink) = replayed(alloc, "go")?;
-    assert_eq!(rt; status, 0);
+    assert_eq!(rt; status, ExitStatus::Done);
     let trace = format!(in alloc; "{SETTINGS}ok 0\n")?;
     assert_eq!(rt; sink.bytes(), trace.as_bytes());
     Ok(())
@@ -116,7 +116,7 @@ fn third_write_fails(rt: HostRuntime) -> Result<(), Fail> {
         Vec::new(alloc),
         vec![in alloc; 2]?,
     )?;
-    assert_eq!(rt; status, 4);
+    assert_eq!(rt; status, ExitStatus::WriteFailed);
     let front = format!(in alloc; "{SETTINGS}call 0.1.0 1 0 6869\n")?;
     assert_eq!(rt; sink.bytes(), front.as_bytes());
     Ok(())
@@ -132,7 +132,7 @@ fn first_read_fails(rt: HostRuntime) -> Result<(), Fail> {
         vec![in alloc; 0]?,
         Vec::new(alloc),
     )?;
-    assert_eq!(rt; status, 3);
+    assert_eq!(rt; status, ExitStatus::ReadFailed);
     assert_eq!(rt; sink.bytes(), b"".as_slice());
     Ok(())
 }
@@ -148,7 +148,7 @@ fn second_read_fails(rt: HostRuntime) -> Result<(), Fail> {
         vec![in alloc; 1]?,
         Vec::new(alloc),
     )?;
-    assert_eq!(rt; status, 3);
+    assert_eq!(rt; status, ExitStatus::ReadFailed);
     let front = format!(in alloc; "{SETTINGS}{CALL}")?;
     assert_eq!(rt; sink.bytes(), front.as_bytes());
     Ok(())
@@ -188,7 +188,7 @@ fn others_are_served(rt: HostRuntime) -> Result<(), Fail> {
     ];
     for (schedule, end) in served {
         let (status, sink) = replayed(alloc, schedule)?;
-        assert_eq!(rt; status, 0);
+        assert_eq!(rt; status, ExitStatus::Done);
         assert!(rt; sink.bytes().ends_with(end.as_bytes()));
     }
     Ok(())
@@ -198,13 +198,17 @@ fn others_are_served(rt: HostRuntime) -> Result<(), Fail> {
 // isn't made. What is printed is a front of the whole replay each time.
 fn faults_in_turn(alloc: Global, input: &str, is_read: bool) -> Result<u64, Fail> {
     let (_, whole) = replayed(alloc, input)?;
-    let wanted = if is_read { 3 } else { 4 };
+    let wanted = if is_read {
+        ExitStatus::ReadFailed
+    } else {
+        ExitStatus::WriteFailed
+    };
     for k in 0..1000u64 {
         let plan = vec![in alloc; k]?;
         let none = Vec::new(alloc);
         let (reads, writes) = if is_read { (plan, none) } else { (none, plan) };
         let (status, sink) = run_with(alloc, &["replay"], input, reads, writes)?;
-        if status == 0 {
+        if status == ExitStatus::Done {
             return Ok(k);
         }
         if status != wanted || !whole.bytes().starts_with(sink.bytes()) {
@@ -235,7 +239,7 @@ fn each_fault_in_turn(rt: HostRuntime) -> Result<(), Fail> {
 // Whether the words are no command: the status is 1, and the usage line is all that is printed.
 fn is_usage(alloc: Global, words: &[&str]) -> Result<bool, Fail> {
     let (status, sink) = run_with(alloc, words, SCHEDULE, Vec::new(alloc), Vec::new(alloc))?;
-    Ok(status == 1 && sink.bytes() == USAGE.as_bytes())
+    Ok(status == ExitStatus::NoCommand && sink.bytes() == USAGE.as_bytes())
 }
 
 #[test]
@@ -263,9 +267,9 @@ fn traces_are_judged(rt: HostRuntime) -> Result<(), Fail> {
         "{SETTINGS}call 0.1.0 1 0 6869\nsend 0 0>1 1 DATA c 0.1.0 7 2 0 0 0 - 6869\ndeliver 0\nrun 1 0.1.0 0 6869 6869 0\nsend 1 1>0 1 DATA s 0.1.0 7 2 0 0 0 - 6869\ndeliver 1\ndone 0.1.0 6868\nok 3\n"
     )?;
     let judged = [
-        (trace.as_str(), 0, "yes 9\n"),
-        (other.as_str(), 2, "no 8 returned\n"),
-        ("", 2, "no 1 shape\n"),
+        (trace.as_str(), ExitStatus::Done, "yes 9\n"),
+        (other.as_str(), ExitStatus::Refused, "no 8 returned\n"),
+        ("", ExitStatus::Refused, "no 1 shape\n"),
     ];
     for (text, wanted, line) in judged {
         let (status, sink) = run_with(alloc, &["check"], text, Vec::new(alloc), Vec::new(alloc))?;
@@ -279,7 +283,7 @@ fn traces_are_judged(rt: HostRuntime) -> Result<(), Fail> {
         vec![in alloc; 0]?,
         Vec::new(alloc),
     )?;
-    assert_eq!(rt; status, 3);
+    assert_eq!(rt; status, ExitStatus::ReadFailed);
     Ok(())
 }
 
@@ -295,7 +299,7 @@ fn quiet_calls(rt: HostRuntime) -> Result<(), Fail> {
     ];
     for (words, line) in lines {
         let (status, sink) = run_with(alloc, &words, "", Vec::new(alloc), Vec::new(alloc))?;
-        assert_eq!(rt; status, 0);
+        assert_eq!(rt; status, ExitStatus::Done);
         assert_eq!(rt; sink.bytes(), line.as_bytes());
     }
     Ok(())
@@ -312,7 +316,7 @@ fn a_schedule_that_is_not_written(rt: HostRuntime) -> Result<(), Fail> {
         Vec::new(alloc),
         vec![in alloc; 1]?,
     )?;
-    assert_eq!(rt; status, 4);
+    assert_eq!(rt; status, ExitStatus::WriteFailed);
     assert_eq!(rt; sink.bytes(), b"hosts 32\n".as_slice());
     Ok(())
 }

@@ -1,8 +1,8 @@
 // The words of a command line.
-ghost use Rattle.std.specs.Prelude.{◌≡◌, ℕ, [], ◌∷◌, map};
+ghost use Rattle.std.specs.Prelude.{◌≡◌, ℕ, [], ◌∷◌};
 ghost use Rattle.std.specs.Option.{option_map};
 ghost use Rattle.homa_top.specs.declared.words.Command.{Command};
-ghost use Rattle.homa_top.specs.Words.{number_within, seeded, sized, numbered, command_of};
+ghost use Rattle.homa_top.specs.Words.{number_within, seeded, sized, numbered, command_of, said};
 
 use homa_text::read_number;
 
@@ -86,7 +86,7 @@ fn single(word: &str) -> Option<Command>
 
 /// The command that these words are; None where they are none.
 pub(crate) fn read_words(words: &[&str]) -> Option<Command>
-    ensures { result ≡ command_of (map (λ w. w.now) words.now) }
+    ensures { result ≡ said words.now }
 {
     match words {
         [word] => single(word),

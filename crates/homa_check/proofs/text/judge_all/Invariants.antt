@@ -1,4 +1,5 @@
 use Rattle.std.proofs.Common.{◌≡◌, ◌-◌, ◌≤◌, ℕ, List, Some, length}
+use Rattle.homa_io.specs.Outside.{unread}
 use Rattle.homa_plain.specs.View.{View}
 use Rattle.homa_text.specs.Lines.{reading}
 use Rattle.homa_verdict.specs.Verdict.{verdict_of}
@@ -13,6 +14,7 @@ invariant-lines g l =
     let faults = g.S.Source.faults in
     record {
       due : (v : View) × Follows v l.trace × (v.place ≡ (reading l.lines).number) × ((bytes : List ℕ) → left l.fn.source ≡ Some bytes → (rest : List ℕ) × (left l.source ≡ Some rest) × (verdict_of bytes ≡ verdict_next v (reading l.lines) rest));
+      read_on : (came : List ℕ) × (left l.fn.source ≡ unread came (left l.source));
       counted : (reading l.lines).number ≤ (reading l.lines).read;
       within : (reading l.lines).read ≤ 68719476736;
       limit : (reading l.lines).limit ≡ 68719476736;

@@ -1,0 +1,30 @@
+-- How the program ends.
+use Rattle.std.specs.Prelude.{ℕ, Bool, true, false}
+use Rattle.homa_replay.specs.declared.stop.Stop.{Stop}
+use Rattle.homa_replay.specs.declared.stop.Stop.TheVariants as stop
+use Rattle.homa_top.specs.declared.exit.ExitStatus.{ExitStatus}
+use Rattle.homa_top.specs.declared.exit.ExitStatus.TheVariants.{Done, NoCommand, Refused, ReadFailed, WriteFailed, NoMemory}
+
+-- the code of an exit status
+abbrev pub code : ExitStatus → ℕ
+code Done = 0
+code NoCommand = 1
+code Refused = 2
+code ReadFailed = 3
+code WriteFailed = 4
+code NoMemory = 5
+
+-- the command was broken off, by a fault or for want of memory
+abbrev pub is_broken_off : ExitStatus → Bool
+is_broken_off Done = false
+is_broken_off NoCommand = false
+is_broken_off Refused = false
+is_broken_off ReadFailed = true
+is_broken_off WriteFailed = true
+is_broken_off NoMemory = true
+
+-- the status of a command that stopped
+abbrev pub status_of : Stop → ExitStatus
+status_of stop.Read = ReadFailed
+status_of stop.Write = WriteFailed
+status_of stop.NoMemory = NoMemory
