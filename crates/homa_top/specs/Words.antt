@@ -12,6 +12,7 @@ abbrev pub within : ℕ → ℕ → Option ℕ
 within most n = if nat_le 1 n && nat_le n most then Some n else None
 
 -- a word is such a number
+-- a word as a number of at least 1 and at most so much
 abbrev pub number_within : ℕ → List ℕ → Option ℕ
 number_within most word = number_of word >>= within most
 
@@ -42,6 +43,7 @@ abbrev pub said : List (Bor (List ℕ)) → Option Command
 said words = command_of (map (λ w. w.now) words)
 
 -- the line that tells the commands
+-- the line that names the commands
 abbrev pub usage_line : List ℕ
 usage_line = codes "usage: homa replay | make SEED CALLS | gen SEED CALLS | node | record | check | quiet N M\n"
 
