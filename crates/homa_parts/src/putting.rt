@@ -89,7 +89,7 @@ fn no_pages(full: PoolFull) -> Opening
     }
 }
 
-// Opens a message whose bytes are these, and takes it: no part of it is kept, and none is written.
+// Opens a message of which these are all the bytes. No part is made of it; a lease only tells whether there are pages for it.
 fn open_whole(bytes: &[u8], pool: &mut MsgPool, scratch: &mut Scratch) -> Opening
     requires some { 0 < length bytes.now }
     requires small { length bytes.now ≤ 1000000 }
