@@ -3,7 +3,7 @@
 # rows, and prints the ratios: about those of the logarithms, 2 and 1.5, or less. A walk over all rows would make each 10.
 # Filling the book alone is timed too, and taken off. From the top: bench/books.sh [ROUNDS], at most 1000000
 set -eu
-cd "$(dirname "$0")/../crates/book_mix"
+cd "$(dirname "$0")/../crates/bench_books"
 rt run -- both 4 4 > /dev/null
 python3 - "${1:-1000000}" <<'P'
 import subprocess, sys, time
@@ -11,7 +11,7 @@ def best(word, rows, rounds):
     times = []
     for _ in range(5):
         t = time.perf_counter()
-        subprocess.run(["out/book_mix", word, str(rows), str(rounds)], stdout=subprocess.DEVNULL, check=True)
+        subprocess.run(["out/bench_books", word, str(rows), str(rounds)], stdout=subprocess.DEVNULL, check=True)
         times.append(time.perf_counter() - t)
     return min(times)
 rounds = int(sys.argv[1])

@@ -2,7 +2,7 @@
 # Times 1,000,000 changes of a heap of 8192 slots over place_heap, beside the same changes over std's BTreeMap, and
 # prints the ratio. Reading the changes alone is timed too, and taken off both. From the top: bench/heap.sh [CHANGES]
 set -eu
-cd "$(dirname "$0")/../crates/heap_mix"
+cd "$(dirname "$0")/../crates/bench_heap"
 rt run -- heap < stdin > /dev/null
 mix=$(mktemp)
 trap 'rm -f "$mix"' EXIT
@@ -16,7 +16,7 @@ def run(word):
     for _ in range(5):
         with open(sys.argv[1]) as mix:
             t = time.perf_counter()
-            out = subprocess.run(["out/heap_mix", word], stdin=mix, stdout=subprocess.PIPE, check=True).stdout
+            out = subprocess.run(["out/bench_heap", word], stdin=mix, stdout=subprocess.PIPE, check=True).stdout
             t = time.perf_counter() - t
         best = t if best is None else min(best, t)
     return best, out

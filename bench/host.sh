@@ -1,16 +1,16 @@
 #!/usr/bin/env bash
-# Times a delivery of each kind at a host with 10, 100 and 1,000 rows (`host_mix`): processor time, the least of seven runs,
+# Times a delivery of each kind at a host with 10, 100 and 1,000 rows (`bench_host`): processor time, the least of seven runs,
 # less the least of as many runs with the same rows and no deliveries. It prints the ratios: those of the logarithms are 2
 # and 1.5, and a walk over all rows would make each 10. What is timed with a delivery: its frame is put together, and the
 # packets and bytes that were sent are counted. `done` is a delivery and a call: the oldest row goes and a new one is made,
 # so the index of the rows is shifted. From the top: bench/host.sh [DELIVERIES], at most 500000
 set -eu
-cd "$(dirname "$0")/../crates/host_mix"
+cd "$(dirname "$0")/../crates/bench_host"
 rt run -- all 2 4 > /dev/null
 python3 - "${1:-500000}" <<'P'
 import os, subprocess, sys
 def spent(words):
-    it = subprocess.Popen(["out/host_mix", *words], stdout=subprocess.DEVNULL)
+    it = subprocess.Popen(["out/bench_host", *words], stdout=subprocess.DEVNULL)
     _, status, used = os.wait4(it.pid, 0)
     assert status == 0, words
     return used.ru_utime + used.ru_stime

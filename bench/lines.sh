@@ -3,7 +3,7 @@
 # same run, and prints the ratios: processor time, the least of seven runs. A run without lines is timed too, and taken
 # off. From the top: bench/lines.sh [LINES]
 set -eu
-cd "$(dirname "$0")/../crates/line_mix"
+cd "$(dirname "$0")/../crates/bench_lines"
 rt run -- put clock 3 < /dev/null > /dev/null
 python3 - "${1:-1000000}" <<'P'
 import resource, subprocess, sys
@@ -15,7 +15,7 @@ def best(*words):
     times = []
     for _ in range(7):
         before = spent()
-        subprocess.run(["out/line_mix", *map(str, words)], stdout=subprocess.DEVNULL, check=True)
+        subprocess.run(["out/bench_lines", *map(str, words)], stdout=subprocess.DEVNULL, check=True)
         times.append(spent() - before)
     return min(times)
 kinds = [("clock", "clock"), ("grant", "GRANT"), ("junk", "junk"), ("inject", "inject of a byte"), ("short", "DATA of 60 bytes"),

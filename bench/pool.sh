@@ -4,7 +4,7 @@
 # processor time, the least of nine runs. Messages that are opened and closed without pieces are timed too, and taken off
 # the first. From the top: bench/pool.sh [MESSAGES]
 set -eu
-cd "$(dirname "$0")/../crates/pool_mix"
+cd "$(dirname "$0")/../crates/bench_pool"
 rt run -- accept 2 < /dev/null > /dev/null
 python3 - "${1:-1000}" <<'P'
 import resource, subprocess, sys
@@ -16,7 +16,7 @@ def best(word, count):
     found = []
     for _ in range(9):
         before = spent()
-        subprocess.run(["out/pool_mix", word, str(count)], stdout=subprocess.DEVNULL, check=True)
+        subprocess.run(["out/bench_pool", word, str(count)], stdout=subprocess.DEVNULL, check=True)
         found.append(spent() - before)
     return min(found)
 def of_one(word):

@@ -2,7 +2,7 @@
 # Times the reading of a schedule of 50 MB beside `cat` of the same bytes, prints the ratio, and the most memory that
 # reading took at 5 MB and at 50 MB. From the top: bench/script.sh [MEGABYTES]
 set -eu
-cd "$(dirname "$0")/../crates/script_count"
+cd "$(dirname "$0")/../crates/bench_script"
 rt run < stdin > /dev/null
 script=$(mktemp)
 trap 'rm -f "$script"' EXIT
@@ -29,7 +29,7 @@ def timed(words):
 def most(size):
     with open(script, "rb") as lines:
         front = lines.read(size)
-    with subprocess.Popen(["out/script_count"], stdin=subprocess.PIPE, stdout=subprocess.PIPE) as program:
+    with subprocess.Popen(["out/bench_script"], stdin=subprocess.PIPE, stdout=subprocess.PIPE) as program:
         program.stdin.write(front)
         program.stdin.flush()
         while struct.unpack("i", fcntl.ioctl(program.stdin, termios.FIONREAD, b"\0\0\0\0"))[0] > 0:
@@ -40,7 +40,7 @@ def most(size):
         program.communicate()
     return size
 cat, _ = timed(["cat"])
-read, events = timed(["out/script_count"])
+read, events = timed(["out/bench_script"])
 with open(script, "rb") as text:
     lines = sum(1 for _ in text)
 print(f"{lines} lines, {int(events)} events: read {read:.3f} s, cat {cat:.3f} s, read / cat = {read / cat:.1f}")

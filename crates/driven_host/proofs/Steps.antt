@@ -4,10 +4,10 @@ use Rattle.std.specs.Prelude.{if◌then◌else◌, OnOk, OnErr}
 use Rattle.homa_plain.specs.declared.id.HostId.{HostId}
 use Rattle.homa_plain.specs.Rules.{Answer}
 use Rattle.homa_plain.specs.Steps.{Work}
-use Rattle.homa_seen.specs.declared.outbox.SentFrame.{SentFrame}
-use Rattle.homa_seen.specs.Seen.{Seen}
-use Rattle.homa_seen.specs.Marks.{IsAnswer}
-use Rattle.homa_seen.specs.Done.{IsDone, HoldsSent}
+use Rattle.host_view.specs.declared.outbox.SentFrame.{SentFrame}
+use Rattle.host_view.specs.Seen.{Seen}
+use Rattle.host_view.specs.Marks.{IsAnswer}
+use Rattle.host_view.specs.Done.{IsDone, HoldsSent}
 use Rattle.homa_host.specs.Public.{IsSameHost}
 use Rattle.driven_host.specs.Driven.{IsKept}
 

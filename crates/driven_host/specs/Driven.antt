@@ -2,9 +2,9 @@
 use Rattle.std.specs.Prelude.{◌≡◌, ◌≢◌, ◌<◌, ◌≤◌, ◌*◌, ◌^◌, ℕ, List}
 use Rattle.homa_plain.specs.declared.id.HostId.{HostId}
 use Rattle.homa_plain.specs.Steps.{Work}
-use Rattle.homa_seen.specs.declared.outbox.SentFrame.{SentFrame}
-use Rattle.homa_seen.specs.Seen.{Seen}
-use Rattle.homa_seen.specs.Done.{IsDone, HoldsSent}
+use Rattle.host_view.specs.declared.outbox.SentFrame.{SentFrame}
+use Rattle.host_view.specs.Seen.{Seen}
+use Rattle.host_view.specs.Done.{IsDone, HoldsSent}
 use Rattle.homa_service.specs.Suite.{suite_answer}
 
 -- a host, how many answers its service gave, how many steps were begun, and what its last step left: its frames, and the

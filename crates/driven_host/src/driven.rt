@@ -7,14 +7,14 @@ ghost use Rattle.homa_plain.specs.Entries.{plain};
 ghost use Rattle.homa_plain.specs.Host.{new_host};
 ghost use Rattle.homa_plain.specs.Rules.{Answer};
 ghost use Rattle.homa_plain.specs.Steps.{start_fault, next_id, call_step, arrival_step, turn_step, has_run};
-ghost use Rattle.homa_seen.specs.Marks.{shown_entries, has_ran, IsAllowed};
-ghost use Rattle.homa_seen.specs.Done.{arriving};
+ghost use Rattle.host_view.specs.Marks.{shown_entries, has_ran, IsAllowed};
+ghost use Rattle.host_view.specs.Done.{arriving};
 ghost use Rattle.driven_host.specs.Driven.{IsStep, IsStill, IsOther, MayBegin, may_answer};
 
 use homa_host::Host;
 use homa_plain::{CallId, Entry, HostId, Settings};
-use homa_seen::Outbox;
 use homa_service::Suite;
+use host_view::Outbox;
 use msg_pool::Scratch;
 use std::alloc::{AllocError, Global};
 use std::marker::Model;

@@ -26,10 +26,10 @@ use Rattle.homa_plain.specs.Choice.{sender, choice_key, new_end, chosen, grants_
 use Rattle.homa_plain.specs.Granting.{Arriving, message, arriving, incoming, told, allowed}
 use Rattle.homa_plain.specs.Judge.{is_grant}
 use Rattle.homa_plain.specs.View.{View}
-use Rattle.homa_kept.specs.declared.choice.Message.{Message}
-use Rattle.homa_kept.specs.Choices.{sender_of, key_of}
+use Rattle.check_call.specs.declared.choice.Message.{Message}
+use Rattle.check_call.specs.Choices.{sender_of, key_of}
 use Rattle.homa_check.specs.declared.grant.Grant.{Grant}
-use Rattle.homa_trace.specs.Traces.{is_incoming_at}
+use Rattle.check_lines.specs.Traces.{is_incoming_at}
 use Rattle.homa_check.specs.Grants.{message_of, plain_grant, is_told_to, is_grant_among}
 
 -- ---- keys in order

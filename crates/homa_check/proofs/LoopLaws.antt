@@ -9,16 +9,16 @@ use Rattle.homa_plain.specs.View.{View, nothing_seen}
 use Rattle.homa_plain.specs.Judge as judge
 use Rattle.homa_text.proofs.Taking.{unread-append}
 use Rattle.homa_text.specs.Lines.{Reading, TakesLine, IsLine, IsLong, IsOver, IsEnd}
-use Rattle.homa_lines.specs.Forms.{entry_of}
+use Rattle.check_reader.specs.Forms.{entry_of}
 use Rattle.homa_script.proofs.NextLine.{read_line, Got}
 use Rattle.homa_script.proofs.ReadParts.{some_left, at_end, none_left}
 use Rattle.homa_script.proofs.LinesOf.{lines_of-front}
-use Rattle.homa_verdict.specs.Verdict as plain
-use Rattle.homa_verdict.proofs.TextLaws.{short_line, long_line, over_line, place-seen}
-use Rattle.homa_trace.specs.declared.trace.Trace.{Trace}
+use Rattle.check_text.specs.Verdict as plain
+use Rattle.check_text.proofs.TextLaws.{short_line, long_line, over_line, place-seen}
+use Rattle.check_lines.specs.declared.trace.Trace.{Trace}
 use Rattle.homa_check.specs.declared.verdict.Clause.{Clause}
 use Rattle.homa_check.specs.Clauses.{clause_of}
-use Rattle.homa_trace.specs.Traces.{Follows}
+use Rattle.check_lines.specs.Traces.{Follows}
 use Rattle.homa_check.specs.Checks.{verdict_at_end, verdict_left, verdict_next, IsTaken}
 
 -- ---- the lines that are left

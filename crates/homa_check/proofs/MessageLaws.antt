@@ -14,15 +14,15 @@ use Rattle.homa_plain.specs.Calls.{call_cmp, is_call}
 use Rattle.homa_plain.specs.Parts.{Part}
 use Rattle.homa_plain.specs.Granting.{arriving, incoming}
 use Rattle.homa_plain.specs.View.{View}
-use Rattle.homa_kept.specs.declared.call.Call.{Call}
-use Rattle.homa_kept.specs.declared.part.Part.{Part as KeptPart}
-use Rattle.homa_kept.specs.Kept.{part_of, IsCounted}
-use Rattle.homa_kept.specs.Calls.{spot_in}
-use Rattle.homa_trace.specs.declared.host.Host.{Host}
-use Rattle.homa_trace.specs.declared.trace.Trace.{Trace}
-use Rattle.homa_trace.specs.Traces.{Keeps, IsListed, call_at, host_at, lives_in, asked_of, awaited_of}
+use Rattle.check_call.specs.declared.call.Call.{Call}
+use Rattle.check_call.specs.declared.part.Part.{Part as KeptPart}
+use Rattle.check_call.specs.Kept.{part_of, IsCounted}
+use Rattle.check_call.specs.Calls.{spot_in}
+use Rattle.check_lines.specs.declared.host.Host.{Host}
+use Rattle.check_lines.specs.declared.trace.Trace.{Trace}
+use Rattle.check_lines.specs.Traces.{Keeps, IsListed, call_at, host_at, lives_in, asked_of, awaited_of}
 use Rattle.homa_check.specs.Grants.{message_of, asked_message, awaited_message}
-use Rattle.homa_trace.proofs.KeepLaws.{stands_now, absent_now}
+use Rattle.check_lines.proofs.KeepLaws.{stands_now, absent_now}
 use Rattle.homa_check.proofs.GrantLaws.{role_messages, both_roles}
 
 some_is : {A : Type 0} (x y : A) → Some x ≡ Some y → x ≡ y

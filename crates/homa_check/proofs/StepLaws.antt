@@ -19,19 +19,19 @@ use Rattle.homa_plain.specs.Settings.{verdict}
 use Rattle.homa_plain.proofs.LawTests.{granting_is}
 use Rattle.homa_plain.specs.View.{View, Sent, nothing_seen}
 use Rattle.homa_plain.specs.Seen.{seen, begun, delivery}
-use Rattle.homa_judging.specs.Spots as spots
-use Rattle.homa_judging.specs.Spots.{spot, Undo, IsUndo}
-use Rattle.homa_judging.specs.Steps.{undo_after, undo_of}
-use Rattle.homa_judging.specs.Tested.{IsWithinSpot, to_test, AtCall, IsOther}
-use Rattle.homa_judging.proofs.Within.{same_settings, within_line}
-use Rattle.homa_kept.specs.Kept.{within, is_within_spot}
-use Rattle.homa_trace.specs.declared.block.Delivery.{Delivery}
-use Rattle.homa_trace.specs.declared.trace.Trace.{Trace}
+use Rattle.check_laws.specs.Spots as spots
+use Rattle.check_laws.specs.Spots.{spot, Undo, IsUndo}
+use Rattle.check_laws.specs.Steps.{undo_after, undo_of}
+use Rattle.check_laws.specs.Tested.{IsWithinSpot, to_test, AtCall, IsOther}
+use Rattle.check_laws.proofs.Within.{same_settings, within_line}
+use Rattle.check_call.specs.Kept.{within, is_within_spot}
+use Rattle.check_lines.specs.declared.block.Delivery.{Delivery}
+use Rattle.check_lines.specs.declared.trace.Trace.{Trace}
 use Rattle.homa_check.specs.Judging.{is_allowed_line, judged_before}
-use Rattle.homa_trace.specs.Sends.{tested, keeps_window}
-use Rattle.homa_trace.specs.Traces.{Follows, IsDelivered}
-use Rattle.homa_trace.specs.Changes.{IsTaken}
-use Rattle.homa_trace.proofs.LineLaws.{both}
+use Rattle.check_lines.specs.Sends.{tested, keeps_window}
+use Rattle.check_lines.specs.Traces.{Follows, IsDelivered}
+use Rattle.check_lines.specs.Changes.{IsTaken}
+use Rattle.check_lines.proofs.LineLaws.{both}
 
 -- ---- the chain of clauses
 

@@ -7,16 +7,16 @@ use Rattle.homa_plain.specs.View.{View}
 use Rattle.homa_plain.specs.Judge.{Clause, ShapeClause, OnceClause, ReturnedClause, HandedUpClause, FailsClause, GrantingClause}
 use Rattle.homa_plain.specs.Text.{line_of_words}
 use Rattle.homa_text.specs.Lines.{Reading}
-use Rattle.homa_verdict.specs.Verdict as plain
+use Rattle.check_text.specs.Verdict as plain
 use Rattle.homa_check.specs.declared.text.Next.{Next}
 use Rattle.homa_check.specs.declared.text.Next.TheVariants.{Taken, End, Fails}
-use Rattle.homa_trace.specs.declared.trace.Trace.{Trace}
+use Rattle.check_lines.specs.declared.trace.Trace.{Trace}
 use Rattle.homa_check.specs.declared.verdict.Verdict.{Verdict}
 use Rattle.homa_check.specs.declared.verdict.Verdict.TheVariants.{Yes, No}
 use Rattle.homa_check.specs.declared.verdict.CheckStop.{CheckStop}
 use Rattle.homa_check.specs.declared.verdict.CheckStop.TheVariants.{Read, NoMemory}
 use Rattle.homa_check.specs.Clauses.{clause_of}
-use Rattle.homa_trace.specs.Traces.{Follows}
+use Rattle.check_lines.specs.Traces.{Follows}
 
 -- a verdict, as the definitions have it
 abbrev pub plain_verdict : Verdict → plain.Verdict

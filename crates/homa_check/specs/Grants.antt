@@ -7,11 +7,11 @@ use Rattle.homa_plain.specs.declared.packet.Role.TheVariants.{Client, Server}
 use Rattle.homa_plain.specs.Granting as plain
 use Rattle.homa_plain.specs.Granting.{Arriving}
 use Rattle.homa_plain.specs.Judge.{is_grant}
-use Rattle.homa_kept.specs.declared.choice.Message.{Message}
-use Rattle.homa_kept.specs.Calls.{spot_in}
+use Rattle.check_call.specs.declared.choice.Message.{Message}
+use Rattle.check_call.specs.Calls.{spot_in}
 use Rattle.homa_check.specs.declared.grant.Grant.{Grant}
-use Rattle.homa_trace.specs.declared.trace.Trace.{Trace}
-use Rattle.homa_trace.specs.Traces.{call_at, lives_in}
+use Rattle.check_lines.specs.declared.trace.Trace.{Trace}
+use Rattle.check_lines.specs.Traces.{call_at, lives_in}
 
 -- what the choice sees of a part that arrives
 abbrev pub message_of : Arriving → Message

@@ -3,9 +3,9 @@ ghost use Rattle.std.specs.Prelude.{◌≡◌, ◌+◌, ◌<◌, min, length};
 ghost use Rattle.homa_check.specs.Grants.{new_end_of, is_told_to, is_grant_to, is_grant_among};
 ghost use Rattle.homa_plain.specs.Judge.{is_role};
 
-use homa_kept::Message;
+use check_call::Message;
+use check_lines::{is_same, is_same_host};
 use homa_plain::{CallId, HostId, Role};
-use homa_trace::{is_same, is_same_host};
 
 /// A GRANT, as its line tells it.
 #[derive(Clone, Copy, Debug, PartialEq, Eq)]

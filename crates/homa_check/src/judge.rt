@@ -6,9 +6,9 @@ ghost use Rattle.std.specs.List.Sorted.{IsStrictlySortedBy};
 ghost use Rattle.homa_check.specs.Grants.{message_of, asked_message, awaited_message, plain_grant};
 ghost use Rattle.homa_check.specs.Judging.{is_allowed_line, judged_before};
 ghost use Rattle.homa_check.specs.Clauses.{clause_of};
-ghost use Rattle.homa_trace.specs.Traces.{Follows, call_at, life_in, incarnation_in, is_answer_in};
-ghost use Rattle.homa_kept.specs.Calls.{ran_in};
-ghost use Rattle.homa_kept.specs.Kept.{AreResends, piece_is_data};
+ghost use Rattle.check_lines.specs.Traces.{Follows, call_at, life_in, incarnation_in, is_answer_in};
+ghost use Rattle.check_call.specs.Calls.{ran_in};
+ghost use Rattle.check_call.specs.Kept.{AreResends, piece_is_data};
 ghost use Rattle.homa_plain.specs.Calls.{is_host, call_cmp};
 ghost use Rattle.homa_plain.specs.Entries.{plain};
 ghost use Rattle.homa_plain.specs.Granting.{incoming, allowed};
@@ -21,9 +21,9 @@ ghost use Rattle.homa_plain.specs.Wire.{is_server};
 
 use crate::grant::{Grant, is_granted};
 use crate::verdict::Clause;
-use homa_kept::{Call, Message, Packet, Resends, Run, choose};
+use check_call::{Call, Message, Packet, Resends, Run, choose};
+use check_lines::{Due, Host, Trace, is_event, is_last, is_same_host};
 use homa_plain::{Body, CallId, Entry, HostId, LineFault, Role, Why, WorldFault};
-use homa_trace::{Due, Host, Trace, is_event, is_last, is_same_host};
 use std::alloc::{AllocError, Global};
 
 // A line closes the block before it.
@@ -130,7 +130,7 @@ fn has_shape(trace: &Trace, line: &Entry<'_>) -> bool
 }
 
 // A packet with this number was sent.
-#[tactic(auto, using(homa_trace::proofs::Readings::sent_is))]
+#[tactic(auto, using(check_lines::proofs::Readings::sent_is))]
 fn has_packet(trace: &Trace, packet: u64) -> bool
     ensures { (v : View) → Follows v trace.now → result ≡ nat_lt packet (length v.packets) }
 {
@@ -138,7 +138,7 @@ fn has_packet(trace: &Trace, packet: u64) -> bool
 }
 
 // It is the number of the next packet.
-#[tactic(auto, using(homa_trace::proofs::Readings::sent_is))]
+#[tactic(auto, using(check_lines::proofs::Readings::sent_is))]
 fn is_next_packet(trace: &Trace, number: u64) -> bool
     ensures { (v : View) → Follows v trace.now → result ≡ (number == length v.packets) }
 {

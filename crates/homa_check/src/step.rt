@@ -7,13 +7,13 @@ ghost use Rattle.homa_plain.specs.Entries.{plain};
 ghost use Rattle.homa_plain.specs.Judge.{judged};
 ghost use Rattle.homa_plain.specs.Seen.{seen as seen_with};
 ghost use Rattle.homa_plain.specs.View.{View};
-ghost use Rattle.homa_trace.specs.Sends.{keeps_window};
-ghost use Rattle.homa_trace.specs.Traces.{Follows, Keeps};
+ghost use Rattle.check_lines.specs.Sends.{keeps_window};
+ghost use Rattle.check_lines.specs.Traces.{Follows, Keeps};
 
 use crate::judge::judge;
 use crate::verdict::Clause;
+use check_lines::Trace;
 use homa_plain::{CallId, Entry};
-use homa_trace::Trace;
 use std::alloc::{AllocError, Global};
 
 // The messages of two calls are within their windows.

@@ -3,23 +3,23 @@ ghost use Rattle.std.specs.Prelude.{◌≡◌, ◌+◌, ◌-◌, ◌*◌, ◌^�
 ghost use Rattle.std.specs.Option.{option_map};
 ghost use Rattle.homa_check.specs.Checks.{plain_verdict, is_yes, is_read, verdict_at_end, IsNext};
 ghost use Rattle.homa_check.specs.Clauses.{clause_of};
-ghost use Rattle.homa_trace.specs.Traces.{Follows};
+ghost use Rattle.check_lines.specs.Traces.{Follows};
 ghost use Rattle.homa_check.specs.declared.text.Next.TheVariants.{Taken};
 ghost use Rattle.homa_check.specs.declared.verdict.Clause.{Clause as AClause};
 ghost use Rattle.homa_check.specs.declared.verdict.Verdict.TheVariants.{Yes, No};
 ghost use Rattle.homa_io.specs.Outside.{HasRisen, unread, IsAtEnd};
-ghost use Rattle.homa_lines.specs.Forms.{entry_of};
+ghost use Rattle.check_reader.specs.Forms.{entry_of};
 ghost use Rattle.homa_plain.specs.View.{View, nothing_seen};
 ghost use Rattle.homa_text.specs.Lines.{reading};
-ghost use Rattle.homa_verdict.specs.Text.{IsTrace, IsNoTrace};
-ghost use Rattle.homa_verdict.specs.Verdict.{verdict_of, judged_text, seen_text};
+ghost use Rattle.check_text.specs.Text.{IsTrace, IsNoTrace};
+ghost use Rattle.check_text.specs.Verdict.{verdict_of, judged_text, seen_text};
 
 use crate::step::step_entry;
 use crate::verdict::{CheckStop, Clause, Verdict};
+use check_lines::Trace;
+use check_reader::read_entry;
 use homa_io::Source;
-use homa_lines::read_entry;
 use homa_text::{LineGot, Lines};
-use homa_trace::Trace;
 use std::alloc::{AllocError, Global};
 
 // The most bytes of an input.

@@ -15,11 +15,11 @@ use Rattle.homa_plain.specs.Rules.{Moment, Did, keeps}
 use Rattle.homa_plain.specs.AtClient.{client_gets, unasked, answered, refreshed, renewed}
 use Rattle.msg_pool.specs.Pool.{Pool}
 use Rattle.homa_in.specs.Part.{Part}
-use Rattle.homa_places.specs.Placed.{Placed, StandsAt, ArePlaced, set_at}
-use Rattle.homa_places.proofs.PlacedLaws.{changed-none, get-remove_here}
-use Rattle.homa_parts.specs.Pooled.{Moves, AreIn}
-use Rattle.homa_parts.specs.Pieces.{piece_in}
-use Rattle.homa_parts.proofs.MoveLaws.{still}
+use Rattle.host_places.specs.Placed.{Placed, StandsAt, ArePlaced, set_at}
+use Rattle.host_places.proofs.PlacedLaws.{changed-none, get-remove_here}
+use Rattle.host_incoming.specs.Pooled.{Moves, AreIn}
+use Rattle.host_incoming.specs.Pieces.{piece_in}
+use Rattle.host_incoming.proofs.MoveLaws.{still}
 use Rattle.homa_client.specs.Held.{HeldRow, seen_row}
 use Rattle.homa_client.specs.Gives.{Gave, HasNone, moment_of, did_of}
 use Rattle.homa_client.specs.AtTable.{Clients, row_at, part_at, Moved, Received, answer_of, slot_in, IfSaid, HasLeft, told_of, rows_left}

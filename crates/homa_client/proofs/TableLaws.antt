@@ -12,11 +12,11 @@ use Rattle.homa_plain.specs.Steps.{new_call}
 use Rattle.homa_plain.proofs.CallOrder.{call_total, call_same}
 use Rattle.msg_pool.specs.Pool.{Pool}
 use Rattle.homa_in.specs.Part.{Part}
-use Rattle.homa_places.specs.Placed.{Placed, Table, StandsAt, ArePlaced, Changed, spot_at, set_at}
-use Rattle.homa_places.proofs.PlacedLaws.{one_call, get-insert_here, get-insert_else, get-remove_here, get-remove_else, changed-put, set_at-insert, get-spot, spot-stands}
-use Rattle.homa_places.proofs.MappedLaws.{get-mapped, mapped-insert}
-use Rattle.homa_parts.specs.Pooled.{Moves, AreIn, IsInPool, seen_part}
-use Rattle.homa_parts.proofs.MoveLaws.{still_in, seen_others}
+use Rattle.host_places.specs.Placed.{Placed, Table, StandsAt, ArePlaced, Changed, spot_at, set_at}
+use Rattle.host_places.proofs.PlacedLaws.{one_call, get-insert_here, get-insert_else, get-remove_here, get-remove_else, changed-put, set_at-insert, get-spot, spot-stands}
+use Rattle.host_places.proofs.MappedLaws.{get-mapped, mapped-insert}
+use Rattle.host_incoming.specs.Pooled.{Moves, AreIn, IsInPool, seen_part}
+use Rattle.host_incoming.proofs.MoveLaws.{still_in, seen_others}
 use Rattle.homa_client.specs.Held.{HeldRow, seen_row, new_row}
 use Rattle.homa_client.specs.AtTable.{Clients, HeldRows, seen_rows, row_at, part_at, IsCallAt, IsTable, Moved}
 

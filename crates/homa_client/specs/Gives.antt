@@ -15,9 +15,9 @@ use Rattle.homa_plain.specs.Rules.{Moment, Piece, Tells, Posts, Did, keeps, says
 use Rattle.homa_plain.specs.Sending.{may_send_request, client_sends}
 use Rattle.msg_pool.specs.Pool.{Pool, free_pages}
 use Rattle.homa_in.specs.Part.{Part}
-use Rattle.homa_parts.specs.Pooled.{Moves, pages_of}
-use Rattle.homa_parts.specs.Pieces.{first_version, version_in, size_in, opening_if, moment_with}
-use Rattle.homa_parts.specs.Sends.{emits, is_sent}
+use Rattle.host_incoming.specs.Pooled.{Moves, pages_of}
+use Rattle.host_incoming.specs.Pieces.{first_version, version_in, size_in, opening_if, moment_with}
+use Rattle.host_incoming.specs.Sends.{emits, is_sent}
 use Rattle.homa_client.specs.Held.{HeldRow, seen_row}
 use Rattle.homa_client.specs.declared.answers.RowDid.{RowDid}
 use Rattle.homa_client.specs.declared.answers.RowDid.TheVariants.{Touched, Opened, Done, Full, Gaps, Busy, Forgotten}

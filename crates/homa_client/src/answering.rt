@@ -8,16 +8,16 @@ ghost use Rattle.homa_plain.specs.declared.id.HostId.{HostId};
 ghost use Rattle.homa_plain.specs.declared.settings.Settings.{Settings};
 ghost use Rattle.homa_plain.specs.Rules.{Moment, keeps};
 ghost use Rattle.msg_pool.specs.Pool.{Pool};
-ghost use Rattle.homa_parts.specs.Pooled.{seen_part, IsInPool, Moves};
-ghost use Rattle.homa_parts.specs.Pieces.{piece_in, IsFit};
+ghost use Rattle.host_incoming.specs.Pooled.{seen_part, IsInPool, Moves};
+ghost use Rattle.host_incoming.specs.Pieces.{piece_in, IsFit};
 ghost use Rattle.homa_client.specs.Held.{HeldRow, seen_row};
 ghost use Rattle.homa_client.specs.Gives.{Gave, HasNone, moment_of, did_of};
 
 use crate::answers::RowDid;
 use crate::row::Row;
 use homa_out::Resent;
-use homa_parts::{Opening, Put, close_part, open_part, put_piece};
 use homa_plain::{Body, CallId};
+use host_incoming::{Opening, Put, close_part, open_part, put_piece};
 use msg_pool::{MsgPool, Scratch};
 
 impl Row {

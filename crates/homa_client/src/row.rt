@@ -5,7 +5,7 @@ ghost use Rattle.homa_plain.specs.Calls.{is_host};
 ghost use Rattle.homa_plain.specs.Outgoing.{IsSound};
 ghost use Rattle.homa_plain.specs.Timers.{is_client_at_rest, client_deadline};
 ghost use Rattle.msg_pool.specs.Pool.{Pool};
-ghost use Rattle.homa_parts.specs.Pooled.{IsInPool};
+ghost use Rattle.host_incoming.specs.Pooled.{IsInPool};
 ghost use Rattle.homa_client.specs.Held.{HeldRow, seen_row, new_row, IsRow};
 ghost use Rattle.homa_client.specs.Gives.{facts};
 

@@ -8,9 +8,9 @@ ghost use Rattle.homa_plain.specs.Settings.{IsValid};
 ghost use Rattle.homa_plain.specs.Timers.{client_deadline, client_acts, wanted};
 ghost use Rattle.homa_plain.specs.Sending.{may_send_request, while_new, client_granted};
 ghost use Rattle.msg_pool.specs.Pool.{Pool};
-ghost use Rattle.homa_parts.specs.Pooled.{seen_part, IsInPool, Moves};
-ghost use Rattle.homa_parts.specs.Pieces.{moment_with};
-ghost use Rattle.homa_parts.specs.Sends.{IfSent, IsAffordable};
+ghost use Rattle.host_incoming.specs.Pooled.{seen_part, IsInPool, Moves};
+ghost use Rattle.host_incoming.specs.Pieces.{moment_with};
+ghost use Rattle.host_incoming.specs.Sends.{IfSent, IsAffordable};
 ghost use Rattle.homa_client.specs.Held.{HeldRow, seen_row};
 ghost use Rattle.homa_client.specs.Gives.{row_emits, row_sends, row_left, IsAct, IsLeft, IsAsked};
 

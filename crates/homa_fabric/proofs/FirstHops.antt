@@ -4,8 +4,8 @@ use Rattle.std.specs.List.{slice_get}
 use Rattle.std.proofs.lemmas.Bool.{lt-ltb, le-ltb}
 use Rattle.rand_pcg.specs.Lcg.{Lcg}
 use Rattle.circular_buffer.specs.Buffer.{Buffer}
-use Rattle.homa_traffic.specs.Draws.{draw}
-use Rattle.homa_traffic.specs.Fabric.{Queued, Destination, Ends, Loses, level_of, with_level, drawn, first_hop}
+use Rattle.generated_runs.specs.Draws.{draw}
+use Rattle.generated_runs.specs.Fabric.{Queued, Destination, Ends, Loses, level_of, with_level, drawn, first_hop}
 use Rattle.homa_fabric.specs.Queues.{AreQueues}
 use Rattle.homa_fabric.proofs.QueueLaws.{seen, level_seen, level_changed}
 

@@ -4,8 +4,8 @@ use Rattle.std.proofs.lemmas.List.{get_or_past}
 use Rattle.std.proofs.lemmas.List.Sums.{sum_by-set}
 use Rattle.std.proofs.lemmas.Bool.{cases_lt}
 use Rattle.rand_pcg.specs.Lcg.{Lcg}
-use Rattle.homa_traffic.specs.Draws.{draw}
-use Rattle.homa_traffic.specs.Fabric.{Queued, Destination, Hop, Ends, Loses, Hands, Handed, level_of, with_level, highest, drawn, first_hop, level_hop, again_hop, hop, handed, next_of, on_the_way}
+use Rattle.generated_runs.specs.Draws.{draw}
+use Rattle.generated_runs.specs.Fabric.{Queued, Destination, Hop, Ends, Loses, Hands, Handed, level_of, with_level, highest, drawn, first_hop, level_hop, again_hop, hop, handed, next_of, on_the_way}
 
 -- what comes of it
 abbrev after_hop : ℕ → ℕ → ℕ → Destination → Lcg → Hop → Handed

@@ -3,7 +3,7 @@ use Rattle.std.proofs.Common.{◌≡◌, refl, ap, ◌∙◌, ℕ, ◌+◌, List
 use Rattle.std.proofs.lemmas.List.{replicate-append-replicate}
 use Rattle.std.proofs.lemmas.List.Elements.{All-replicate}
 use Rattle.circular_buffer.specs.Buffer.{Buffer, buffer}
-use Rattle.homa_traffic.specs.Fabric.{Queued, most_queued}
+use Rattle.generated_runs.specs.Fabric.{Queued, most_queued}
 use Rattle.homa_fabric.specs.Queues.{AreQueues}
 
 -- one more of the same

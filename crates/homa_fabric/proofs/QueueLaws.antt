@@ -3,7 +3,7 @@ use Rattle.std.proofs.Common.{◌≡◌, ◌↔◌, refl, sym, ap, ◌∙◌, �
 use Rattle.std.proofs.lemmas.List.{get_or-map, map-set, set-get_or, get_or_past, length-map}
 use Rattle.std.proofs.lemmas.Bool.{lt-ltb, le-ltb, cases_lt, eqb-true}
 use Rattle.circular_buffer.specs.Buffer.{Buffer, buffer}
-use Rattle.homa_traffic.specs.Fabric.{Queued, Destination, most_queued, level_of, with_level}
+use Rattle.generated_runs.specs.Fabric.{Queued, Destination, most_queued, level_of, with_level}
 use Rattle.homa_fabric.specs.Queues.{AreQueues, entered}
 
 -- what a destination is seen as

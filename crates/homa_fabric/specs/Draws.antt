@@ -1,5 +1,5 @@
 -- A call that is drawn, as the definitions have it.
-use Rattle.homa_traffic.specs.Draws as draws
+use Rattle.generated_runs.specs.Draws as draws
 use Rattle.homa_fabric.specs.declared.draws.Traffic.{Traffic}
 
 -- its client, its server, the number of its service, and how many bytes its request has

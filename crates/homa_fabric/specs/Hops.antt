@@ -1,7 +1,7 @@
 -- What became of the packet that came first, as the definitions have it.
 use Rattle.rand_pcg.specs.Lcg.{Lcg}
-use Rattle.homa_traffic.specs.Fabric.{Destination}
-use Rattle.homa_traffic.specs.Fabric as fabric
+use Rattle.generated_runs.specs.Fabric.{Destination}
+use Rattle.generated_runs.specs.Fabric as fabric
 use Rattle.homa_fabric.specs.declared.inbound.Hop.{Hop}
 use Rattle.homa_fabric.specs.declared.inbound.Hop.TheVariants.{Ends, Loses, Hands}
 

@@ -2,7 +2,7 @@
 use Rattle.std.specs.Prelude.{◌≡◌, ◌++◌, [], ◌∷◌, ℕ, List, length, nat_lt, if◌then◌else◌}
 use Rattle.std.specs.List.{All}
 use Rattle.circular_buffer.specs.Buffer.{Buffer}
-use Rattle.homa_traffic.specs.Fabric.{Queued, Destination, most_queued, level_of, with_level}
+use Rattle.generated_runs.specs.Fabric.{Queued, Destination, most_queued, level_of, with_level}
 
 -- eight queues, each with its room
 pub record AreQueues (queues : List (Buffer Queued)) : Type 0 where

@@ -1,6 +1,6 @@
 //! Draws: words of the generator, taken modulo a number.
 ghost use Rattle.std.specs.Prelude.{◌≡◌, ◌+◌, ◌<◌, ◌≤◌, ◌^◌};
-ghost use Rattle.homa_traffic.specs.Draws.{draw, sized, next_traffic};
+ghost use Rattle.generated_runs.specs.Draws.{draw, sized, next_traffic};
 ghost use Rattle.homa_fabric.specs.Draws.{plain_traffic};
 
 use homa_plain::HostId;

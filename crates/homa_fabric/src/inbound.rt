@@ -1,7 +1,7 @@
 //! What is on its way to one host.
 ghost use Rattle.std.specs.Prelude.{◌≡◌, ◌≤◌, ◌<◌, length, IfOk, IfSome};
-ghost use Rattle.homa_traffic.specs.Draws.{draw};
-ghost use Rattle.homa_traffic.specs.Fabric.{idle, refilled, level_of, highest, drawn, first_hop, level_hop, hop, next_of};
+ghost use Rattle.generated_runs.specs.Draws.{draw};
+ghost use Rattle.generated_runs.specs.Fabric.{idle, refilled, level_of, highest, drawn, first_hop, level_hop, hop, next_of};
 ghost use Rattle.homa_fabric.specs.Queues.{entered};
 
 use crate::draws::draw;
@@ -42,7 +42,7 @@ pub(crate) struct Destination {
 
 impl Model for Destination {
     ghost use Rattle.std.specs.Prelude.{map};
-    ghost use Rattle.homa_traffic.specs.Fabric.{Destination};
+    ghost use Rattle.generated_runs.specs.Fabric.{Destination};
     ghost use Rattle.homa_fabric.specs.Queues.{AreQueues};
 
     ghost Value = { Destination };

@@ -3,7 +3,7 @@
 //! A `Fabric` holds what is on its way: for each host eight queues, by level, of at most 256 packets each. In each
 //! round it hands a host packets, the highest level first, within a budget of bytes; by draws of a generator it loses
 //! or repeats them. From the same generator come the calls that are to be made. Contracts see the fabric of the
-//! definitions (`homa_traffic`) beside the life of a packet.
+//! definitions (`generated_runs`) beside the life of a packet.
 //!
 //! Main promise: each call does to the fabric what its definition does, so that it all is a function of the seed. All
 //! memory is taken by `Fabric::open`.

@@ -1,8 +1,8 @@
 //! The queues of all hosts, and their generator.
 ghost use Rattle.std.specs.Prelude.{◌≡◌, ◌<◌, ◌≤◌, map, length, IfOk};
 ghost use Rattle.homa_plain.specs.Settings.{IsValid};
-ghost use Rattle.homa_traffic.specs.Draws.{seeded, next_traffic};
-ghost use Rattle.homa_traffic.specs.Fabric.{new_fabric, destination, sent, refilled, next_of, after_next};
+ghost use Rattle.generated_runs.specs.Draws.{seeded, next_traffic};
+ghost use Rattle.generated_runs.specs.Fabric.{new_fabric, destination, sent, refilled, next_of, after_next};
 ghost use Rattle.homa_fabric.specs.Draws.{plain_traffic};
 
 use crate::draws::{Traffic, next_traffic};

@@ -11,7 +11,7 @@ pub(crate) struct Queued {
 }
 
 impl Model for Queued {
-    ghost use Rattle.homa_traffic.specs.Fabric.{Queued};
+    ghost use Rattle.generated_runs.specs.Fabric.{Queued};
 
     ghost Value = { Queued };
 

@@ -4,8 +4,8 @@ use Rattle.std.specs.List.{slice_get}
 use Rattle.homa_plain.specs.declared.settings.Settings.{Settings}
 use Rattle.homa_plain.specs.Packets.{receiver, datagram}
 use Rattle.homa_plain.specs.World.{World, SentPacket}
-use Rattle.homa_traffic.specs.Fabric.{Fabric, sent}
-use Rattle.homa_traffic.specs.Rounds.{all_sent}
+use Rattle.generated_runs.specs.Fabric.{Fabric, sent}
+use Rattle.generated_runs.specs.Rounds.{all_sent}
 use Rattle.homa_world.specs.declared.shown.Passing.{Passing}
 use Rattle.homa_world.specs.Passing.{IsPassing, IsOf}
 use Rattle.homa_generate.specs.Generating.{AreNew}

@@ -4,9 +4,9 @@ use Rattle.homa_plain.specs.declared.settings.Settings.{Settings}
 use Rattle.homa_plain.specs.declared.event.Event.TheVariants as event
 use Rattle.homa_plain.specs.Script.{Given, GivenEvent, GivenTicks, counting}
 use Rattle.homa_plain.specs.World.{host_at}
-use Rattle.homa_traffic.specs.Draws.{next_traffic}
-use Rattle.homa_traffic.specs.Fabric.{Handed, destination, next_of, after_next}
-use Rattle.homa_traffic.specs.Rounds.{Generated, with_line, host_round, hosts_round, most_handed, live_at, calls_round, calls_a_round, round_begun, next_round, is_over, rounds}
+use Rattle.generated_runs.specs.Draws.{next_traffic}
+use Rattle.generated_runs.specs.Fabric.{Handed, destination, next_of, after_next}
+use Rattle.generated_runs.specs.Rounds.{Generated, with_line, host_round, hosts_round, most_handed, live_at, calls_round, calls_a_round, round_begun, next_round, is_over, rounds}
 use Rattle.homa_generate.specs.Steps.{one_call}
 use Rattle.homa_generate.proofs.Goings.{IsLonger, Extends, longer_self, longer_on}
 

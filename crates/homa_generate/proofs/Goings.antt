@@ -13,8 +13,8 @@ use Rattle.homa_plain.specs.Replay.{carried, events_of}
 use Rattle.homa_replay.specs.Stream.{shown, answering}
 use Rattle.homa_replay.proofs.Streams.{shown_parts}
 use Rattle.homa_replay.proofs.Fronts.{nothing_appended, wrote_more, front_after, front_wide, front_same}
-use Rattle.homa_traffic.specs.Rounds.{Generated, all_sent, with_line}
-use Rattle.homa_traffic.specs.Generated.{given_text}
+use Rattle.generated_runs.specs.Rounds.{Generated, all_sent, with_line}
+use Rattle.generated_runs.specs.Generated.{given_text}
 use Rattle.homa_generate.specs.Counts.{counted}
 use Rattle.homa_generate.specs.Carried.{IsCarried}
 use Rattle.homa_generate.specs.Generating.{AreNew}

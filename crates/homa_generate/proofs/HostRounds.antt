@@ -6,8 +6,8 @@ use Rattle.homa_plain.specs.Entries.{PlainEntry}
 use Rattle.homa_plain.specs.Rules.{Answer}
 use Rattle.homa_plain.specs.Script.{GivenEvent}
 use Rattle.homa_plain.specs.World.{World}
-use Rattle.homa_traffic.specs.Fabric.{Fabric, Handed, destination, next_of, after_next}
-use Rattle.homa_traffic.specs.Rounds.{Generated, with_line, host_round}
+use Rattle.generated_runs.specs.Fabric.{Fabric, Handed, destination, next_of, after_next}
+use Rattle.generated_runs.specs.Rounds.{Generated, with_line, host_round}
 use Rattle.homa_generate.specs.Going.{answered, Holds, IsAt, HasGone}
 use Rattle.homa_generate.proofs.Goings.{gone_on, gone_beside, gone_as}
 use Rattle.homa_generate.proofs.Extending.{by_number, next_handed, after_handed, host_step, host_none}

@@ -10,10 +10,10 @@ use Rattle.homa_plain.specs.World.{World}
 use Rattle.homa_replay.specs.Stream.{shown}
 use Rattle.homa_replay.specs.Opens.{IsFirst, IsOpened}
 use Rattle.homa_replay.proofs.Fronts.{wrote_more, front_after, front_wide, front_none, front_same}
-use Rattle.homa_traffic.specs.Draws.{seeded}
-use Rattle.homa_traffic.specs.Fabric.{new_fabric}
-use Rattle.homa_traffic.specs.Rounds.{Generated, rounds}
-use Rattle.homa_traffic.specs.Generated.{generated_settings, most_rounds, schedule_text, summary_text}
+use Rattle.generated_runs.specs.Draws.{seeded}
+use Rattle.generated_runs.specs.Fabric.{new_fabric}
+use Rattle.generated_runs.specs.Rounds.{Generated, rounds}
+use Rattle.generated_runs.specs.Generated.{generated_settings, most_rounds, schedule_text, summary_text}
 use Rattle.homa_generate.specs.Counts.{counted, no_counts, counts_text}
 use Rattle.homa_generate.specs.Going.{answered, Holds, IsAt, HasGone, HasStopped}
 use Rattle.homa_generate.specs.Made.{Run, run_of, HasRun, IsMade, IsPartMade}

@@ -7,9 +7,9 @@ use Rattle.homa_plain.specs.Rules.{Answer}
 use Rattle.homa_plain.specs.Script.{GivenEvent, GivenTicks, counting}
 use Rattle.homa_plain.specs.World.{World, host_at}
 use Rattle.rand_pcg.specs.Lcg.{Lcg}
-use Rattle.homa_traffic.specs.Draws.{Traffic, next_traffic}
-use Rattle.homa_traffic.specs.Fabric.{Destination, Fabric, refilled}
-use Rattle.homa_traffic.specs.Rounds.{Generated, with_line, live_at, with_call, host_round, hosts_round, most_handed, calls_round, round_begun, next_round, is_over, rounds}
+use Rattle.generated_runs.specs.Draws.{Traffic, next_traffic}
+use Rattle.generated_runs.specs.Fabric.{Destination, Fabric, refilled}
+use Rattle.generated_runs.specs.Rounds.{Generated, with_line, live_at, with_call, host_round, hosts_round, most_handed, calls_round, round_begun, next_round, is_over, rounds}
 use Rattle.homa_generate.specs.Going.{answered, Holds, IsAt, HasGone}
 use Rattle.homa_generate.specs.Steps.{one_call}
 use Rattle.homa_generate.proofs.Goings.{gone_on, gone_beside, gone_as}

@@ -5,7 +5,7 @@ use Rattle.homa_plain.specs.declared.packet.Body.{Body}
 use Rattle.homa_plain.specs.declared.packet.Body.TheVariants as body
 use Rattle.homa_plain.specs.declared.entry.Why.TheVariants.{Timeout, Forgotten}
 use Rattle.homa_plain.specs.Entries.{PlainEntry, PlainCall, PlainDeliver, PlainClock, PlainSend, PlainRun, PlainDone, PlainFail}
-use Rattle.homa_traffic.specs.Generated.{summary_line}
+use Rattle.generated_runs.specs.Generated.{summary_line}
 use Rattle.homa_generate.specs.declared.tally.Kind.{Kind}
 use Rattle.homa_generate.specs.declared.tally.Kind.TheVariants as kind
 

@@ -7,9 +7,9 @@ use Rattle.homa_plain.specs.Rules.{Answer}
 use Rattle.homa_plain.specs.Script.{Given}
 use Rattle.homa_plain.specs.World.{World}
 use Rattle.homa_replay.specs.Stream.{shown, answering}
-use Rattle.homa_traffic.specs.Fabric.{Fabric}
-use Rattle.homa_traffic.specs.Rounds.{Generated}
-use Rattle.homa_traffic.specs.Generated.{given_text}
+use Rattle.generated_runs.specs.Fabric.{Fabric}
+use Rattle.generated_runs.specs.Rounds.{Generated}
+use Rattle.generated_runs.specs.Generated.{given_text}
 use Rattle.homa_generate.specs.Counts.{counted}
 
 -- the run whose services will answer so

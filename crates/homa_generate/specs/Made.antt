@@ -4,8 +4,8 @@ use Rattle.homa_io.specs.Outside.{appended, TookFront}
 use Rattle.homa_plain.specs.Entries.{PlainEntry, PlainSettings}
 use Rattle.homa_plain.specs.Rules.{Answer}
 use Rattle.homa_replay.specs.Stream.{shown}
-use Rattle.homa_traffic.specs.Rounds.{Generated}
-use Rattle.homa_traffic.specs.Generated.{generated, generated_settings, schedule_text}
+use Rattle.generated_runs.specs.Rounds.{Generated}
+use Rattle.generated_runs.specs.Generated.{generated, generated_settings, schedule_text}
 use Rattle.homa_generate.specs.Counts.{counted, no_counts}
 use Rattle.homa_generate.specs.Going.{answered}
 

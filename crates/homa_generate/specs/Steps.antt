@@ -1,7 +1,7 @@
 -- A step of a round.
 use Rattle.homa_plain.specs.declared.settings.Settings.{Settings}
-use Rattle.homa_traffic.specs.Draws.{next_traffic}
-use Rattle.homa_traffic.specs.Rounds.{Generated, with_call}
+use Rattle.generated_runs.specs.Draws.{next_traffic}
+use Rattle.generated_runs.specs.Rounds.{Generated, with_call}
 
 -- the next call is drawn, and made where it may be
 abbrev pub one_call : Settings → Generated → Generated

@@ -2,7 +2,7 @@
 ghost use Rattle.std.specs.Prelude.{◌≡◌, ◌≤◌, ◌<◌, ◌+◌, ◌^◌, ◌∷◌, [], drop, length, false, OnOk, IfOk};
 ghost use Rattle.homa_plain.specs.World.{World};
 ghost use Rattle.homa_plain.specs.Replay.{turns_of, ticks};
-ghost use Rattle.homa_traffic.specs.Rounds.{all_sent};
+ghost use Rattle.generated_runs.specs.Rounds.{all_sent};
 ghost use Rattle.homa_replay.specs.Playing.{is_memory};
 ghost use Rattle.homa_generate.specs.Counts.{counted};
 ghost use Rattle.homa_generate.specs.Carried.{IsCarried};

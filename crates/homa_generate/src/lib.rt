@@ -1,6 +1,6 @@
 //! Generated runs over any world: what `make` prints of one, and what `gen` counts.
 //!
-//! Model: a run is the definitions' (`homa_traffic`), of a seed and a number of calls; what the services answer isn't
+//! Model: a run is the definitions' (`generated_runs`), of a seed and a number of calls; what the services answer isn't
 //! known before, so a run goes on whatever they will answer.
 //! Main promise: `make` prints the schedule of the run, `count` its summary, with the answers that its own `run` lines
 //! show, which the boxes allow; where `make` stops early, a front of the schedule was printed.

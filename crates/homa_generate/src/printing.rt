@@ -1,7 +1,7 @@
 //! The schedule of a generated run, and its summary.
 ghost use Rattle.std.specs.Prelude.{◌≡◌, ◌≤◌, OnOk, OnErr, IfOk, IsErrOf};
 ghost use Rattle.homa_io.specs.Outside.{HasRisen, appended};
-ghost use Rattle.homa_traffic.specs.Generated.{generated_settings, schedule_text, summary_text};
+ghost use Rattle.generated_runs.specs.Generated.{generated_settings, schedule_text, summary_text};
 ghost use Rattle.homa_generate.specs.Progress.{IsFaulted};
 ghost use Rattle.homa_generate.specs.Made.{run_of, HasRun, IsMade, IsPartMade};
 

@@ -4,7 +4,7 @@ ghost use Rattle.std.specs.List.{list_all};
 ghost use Rattle.plain_sets.specs.Maps.{len};
 ghost use Rattle.homa_plain.specs.Host.{Host};
 ghost use Rattle.homa_plain.specs.World.{World as PlainWorld, host_at};
-ghost use Rattle.homa_traffic.specs.Rounds.{live_at};
+ghost use Rattle.generated_runs.specs.Rounds.{live_at};
 ghost use Rattle.homa_world.specs.Passing.{IsOf};
 
 use homa_plain::HostId;

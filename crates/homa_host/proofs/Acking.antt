@@ -9,7 +9,7 @@ use Rattle.homa_plain.specs.declared.id.CallId.{CallId}
 use Rattle.homa_plain.specs.declared.settings.Settings.{Settings}
 use Rattle.homa_plain.specs.AtServer.{server_acked}
 use Rattle.homa_plain.specs.Steps.{Work, acked, served, moment}
-use Rattle.homa_seen.specs.declared.outbox.SentFrame.{SentFrame}
+use Rattle.host_view.specs.declared.outbox.SentFrame.{SentFrame}
 use Rattle.homa_host.specs.Amid.{Amid}
 use Rattle.homa_host.specs.declared.parts.HostParts.{HostParts}
 

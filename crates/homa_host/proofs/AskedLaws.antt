@@ -12,11 +12,11 @@ use Rattle.homa_plain.specs.Host.{Host, with_finished, finished_at}
 use Rattle.homa_plain.specs.Rows.{ClientRow, ServerRow, set_row}
 use Rattle.homa_plain.specs.Rules.{Did}
 use Rattle.homa_plain.specs.Steps.{Work, notes, tells, posts, tells_cutoffs, acknowledged, finishes, said, asked, served}
-use Rattle.homa_steps.specs.StepLaws.{HasOwnOrders}
-use Rattle.homa_steps.proofs.ToldBy.{asked-carried, asked-clients, asked-servers}
-use Rattle.homa_steps.proofs.OwnOrders.{Own}
-use Rattle.homa_seen.specs.declared.outbox.SentFrame.{SentFrame}
-use Rattle.homa_control.specs.Control.{Control, IsSound, IsAt}
+use Rattle.step_laws.specs.StepLaws.{HasOwnOrders}
+use Rattle.step_laws.proofs.ToldBy.{asked-carried, asked-clients, asked-servers}
+use Rattle.step_laws.proofs.OwnOrders.{Own}
+use Rattle.host_view.specs.declared.outbox.SentFrame.{SentFrame}
+use Rattle.host_state.specs.Control.{Control, IsSound, IsAt}
 use Rattle.msg_pool.specs.Pool.{Pool}
 use Rattle.homa_client.specs.AtTable.{Clients, Moved, seen_rows, place_at}
 use Rattle.homa_server.specs.Table.{seen_servers}

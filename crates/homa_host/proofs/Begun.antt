@@ -8,19 +8,19 @@ use Rattle.homa_plain.specs.declared.settings.Settings.{Settings}
 use Rattle.homa_plain.specs.Entries.{PlainEntry}
 use Rattle.homa_plain.specs.Host.{Host, Says, peer_cutoffs}
 use Rattle.homa_plain.specs.Steps.{Work, begun, tells, is_newer, hears_cutoffs}
-use Rattle.homa_seen.specs.declared.outbox.SentFrame.{SentFrame}
-use Rattle.homa_seen.proofs.Pump.{later_ready}
-use Rattle.homa_seen.specs.declared.mark.Mark.{Mark}
-use Rattle.homa_seen.specs.Marks.{mark_of}
-use Rattle.homa_control.specs.Control.{Control, IsSound, IsAt}
-use Rattle.homa_control.proofs.At.{at-told}
+use Rattle.host_view.specs.declared.outbox.SentFrame.{SentFrame}
+use Rattle.host_view.proofs.Pump.{later_ready}
+use Rattle.host_view.specs.declared.mark.Mark.{Mark}
+use Rattle.host_view.specs.Marks.{mark_of}
+use Rattle.host_state.specs.Control.{Control, IsSound, IsAt}
+use Rattle.host_state.proofs.At.{at-told}
 use Rattle.homa_plain.specs.Timers.{Place, OfClient, OfServer}
-use Rattle.homa_parts.specs.Pooled.{IsInPool, HasNumber}
-use Rattle.homa_places.specs.Placed.{ArePlaced}
+use Rattle.host_incoming.specs.Pooled.{IsInPool, HasNumber}
+use Rattle.host_places.specs.Placed.{ArePlaced}
 use Rattle.homa_client.specs.AtTable.{seen_rows}
 use Rattle.homa_server.specs.Table.{seen_servers}
-use Rattle.homa_seen.specs.Seen.{Seen}
-use Rattle.homa_books.specs.Duties.{HaveRoom, AreBooked}
+use Rattle.host_view.specs.Seen.{Seen}
+use Rattle.host_books.specs.Duties.{HaveRoom, AreBooked}
 use Rattle.host_laws.specs.Peers.{KnowsServer, KnowsClient}
 use Rattle.homa_host.specs.Parts.{host_of, seen_of, part_in, IsKept}
 use Rattle.homa_host.specs.Amid.{Amid}

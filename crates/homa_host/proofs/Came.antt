@@ -23,16 +23,16 @@ use Rattle.homa_plain.specs.AtClient.{client_gets}
 use Rattle.homa_plain.specs.Steps.{has_run, Work, begun, tells, said, served, moment, hears_cutoffs, is_newer, comes_to_row, acked, takes, is_stale, comes}
 use Rattle.homa_plain.specs.Wire.{FitsKind, latest}
 use Rattle.homa_plain.proofs.CallOrder.{calls_are}
-use Rattle.homa_steps.specs.StepLaws.{run_count}
-use Rattle.homa_steps.proofs.Places.{all-append}
-use Rattle.homa_steps.proofs.ToldBy.{Calm, calm_none, calm_then, acked_one-calm, hears_cutoffs-calm, asked-carried, served-carried, Carried, said-runs, asks, run_count-append}
-use Rattle.homa_told.proofs.Own.{AllOwn, runs_said, gets_own, gets_quiet}
-use Rattle.homa_seen.specs.declared.mark.Mark.{Mark}
-use Rattle.homa_seen.specs.declared.mark.Mark.TheVariants.{Ran}
-use Rattle.homa_seen.specs.declared.outbox.SentFrame.{SentFrame}
-use Rattle.homa_seen.specs.Marks.{mark_of, marks_from, has_ran, response_of, IsReply, IsAllowed, IsWhole}
-use Rattle.homa_control.specs.Control.{Control}
-use Rattle.homa_control.specs.Saying.{HasFitCutoffs}
+use Rattle.step_laws.specs.StepLaws.{run_count}
+use Rattle.step_laws.proofs.Places.{all-append}
+use Rattle.step_laws.proofs.ToldBy.{Calm, calm_none, calm_then, acked_one-calm, hears_cutoffs-calm, asked-carried, served-carried, Carried, said-runs, asks, run_count-append}
+use Rattle.trace_moves.proofs.Own.{AllOwn, runs_said, gets_own, gets_quiet}
+use Rattle.host_view.specs.declared.mark.Mark.{Mark}
+use Rattle.host_view.specs.declared.mark.Mark.TheVariants.{Ran}
+use Rattle.host_view.specs.declared.outbox.SentFrame.{SentFrame}
+use Rattle.host_view.specs.Marks.{mark_of, marks_from, has_ran, response_of, IsReply, IsAllowed, IsWhole}
+use Rattle.host_state.specs.Control.{Control}
+use Rattle.host_state.specs.Saying.{HasFitCutoffs}
 use Rattle.homa_host.specs.Parts.{host_of, IsKept}
 use Rattle.homa_host.specs.Amid.{Amid, HasCome}
 use Rattle.homa_host.specs.declared.parts.HostParts.{HostParts}

@@ -1,10 +1,10 @@
 -- What the books need to follow a change of a row.
 use Rattle.std.proofs.Common.{◌≡◌, ◌<◌, ◌+◌, ℕ, IsSome}
-use Rattle.homa_places.specs.Placed.{spot_at}
+use Rattle.host_places.specs.Placed.{spot_at}
 use Rattle.homa_client.specs.AtTable.{Clients}
 use Rattle.homa_server.specs.Table.{Servers}
-use Rattle.homa_books.specs.declared.books.Books.{Books}
-use Rattle.homa_books.specs.Duties.{HaveRoom}
+use Rattle.host_books.specs.declared.books.Books.{Books}
+use Rattle.host_books.specs.Duties.{HaveRoom}
 use Rattle.homa_host.specs.Outcomes.{IfStays, IfChanged, MayStayClient}
 use Rattle.homa_host.specs.ServerFollow.{MayStayServer}
 use Rattle.homa_host.specs.declared.outcome.Change.{Change}

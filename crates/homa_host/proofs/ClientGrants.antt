@@ -12,16 +12,16 @@ use Rattle.homa_plain.specs.Rows.{ClientRow}
 use Rattle.homa_plain.specs.Sending.{Arriving, client_granted}
 use Rattle.homa_plain.specs.Steps.{Work, posts, grants_at, client_is_granted}
 use Rattle.homa_plain.specs.Timers.{Place, OfClient}
-use Rattle.homa_steps.specs.StepLaws.{HasOwnOrders}
-use Rattle.homa_steps.proofs.OwnOrders.{client_granted-own}
-use Rattle.homa_places.specs.Placed.{StandsAt}
+use Rattle.step_laws.specs.StepLaws.{HasOwnOrders}
+use Rattle.step_laws.proofs.OwnOrders.{client_granted-own}
+use Rattle.host_places.specs.Placed.{StandsAt}
 use Rattle.homa_client.specs.Held.{HeldRow, seen_row}
 use Rattle.homa_client.specs.AtTable.{Clients, Moved}
-use Rattle.homa_control.specs.Control.{Control, IsSound, IsAt}
-use Rattle.homa_seen.specs.declared.outbox.SentFrame.{SentFrame}
-use Rattle.homa_books.specs.declared.books.Books.{Books}
-use Rattle.host_books.specs.Duty.{client_duty, followed}
-use Rattle.host_books.specs.Ends.{grant_to}
+use Rattle.host_state.specs.Control.{Control, IsSound, IsAt}
+use Rattle.host_view.specs.declared.outbox.SentFrame.{SentFrame}
+use Rattle.host_books.specs.declared.books.Books.{Books}
+use Rattle.host_book_laws.specs.Duty.{client_duty, followed}
+use Rattle.host_book_laws.specs.Ends.{grant_to}
 use Rattle.host_laws.specs.Peers.{KnowsServer}
 use Rattle.host_laws.proofs.Known.{client_granted-known}
 use Rattle.homa_host.specs.declared.parts.HostParts.{HostParts}

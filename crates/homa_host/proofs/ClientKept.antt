@@ -11,30 +11,30 @@ use Rattle.homa_plain.specs.Incoming.{Incoming}
 use Rattle.homa_plain.specs.Rows.{ClientRow, ServerRow, RowsOf, State, Receiving}
 use Rattle.homa_plain.specs.Timers.{Place, OfClient, OfServer}
 use Rattle.homa_plain.proofs.CallOrder.{call_total, call_same}
-use Rattle.homa_steps.specs.StepLaws.{HasOwnOrders}
-use Rattle.homa_steps.proofs.Places.{client_inject, server_inject, two_sides}
+use Rattle.step_laws.specs.StepLaws.{HasOwnOrders}
+use Rattle.step_laws.proofs.Places.{client_inject, server_inject, two_sides}
 use Rattle.msg_pool.specs.Pool.{Pool, leased_pages}
 use Rattle.homa_in.specs.Part.{Part, seen}
-use Rattle.homa_parts.specs.Pooled.{AreIn, seen_part, pages_of}
-use Rattle.homa_parts.proofs.MoveLaws.{still_in, seen_others}
-use Rattle.homa_places.specs.Mapped.{mapped}
-use Rattle.homa_places.specs.Placed.{Placed, ArePlaced}
-use Rattle.homa_places.proofs.PlacedLaws.{one_call}
-use Rattle.homa_places.proofs.MappedLaws.{get-mapped}
+use Rattle.host_incoming.specs.Pooled.{AreIn, seen_part, pages_of}
+use Rattle.host_incoming.proofs.MoveLaws.{still_in, seen_others}
+use Rattle.host_places.specs.Mapped.{mapped}
+use Rattle.host_places.specs.Placed.{Placed, ArePlaced}
+use Rattle.host_places.proofs.PlacedLaws.{one_call}
+use Rattle.host_places.proofs.MappedLaws.{get-mapped}
 use Rattle.homa_client.specs.Held.{HeldRow, seen_row}
 use Rattle.homa_client.specs.AtTable.{Clients, Moved, seen_rows, part_at, place_at}
 use Rattle.homa_server.specs.Held.{HeldServer, HeldState, Arriving, Keeping, Answering, Gone, seen_server, seen_state, state_part}
 use Rattle.homa_server.specs.Table.{seen_servers}
-use Rattle.homa_control.specs.Control.{Control, IsSound}
-use Rattle.homa_seen.specs.Seen.{Seen}
-use Rattle.homa_seen.specs.Follow.{ChangesAt, HasSlots, has_row}
-use Rattle.homa_books.specs.Duties.{AreBooked, AreOwn, HaveRoom}
-use Rattle.host_books.specs.Duty.{client_duty_in, followed}
-use Rattle.host_books.specs.Pages.{client_pages, row_pages}
-use Rattle.host_books.proofs.Changing.{client_changes, books_stay}
-use Rattle.host_books.proofs.PageSums.{pages_changed}
-use Rattle.host_books.proofs.Tables.{has_places}
-use Rattle.host_books.proofs.Rebooked.{rebooked, rebooked_own}
+use Rattle.host_state.specs.Control.{Control, IsSound}
+use Rattle.host_view.specs.Seen.{Seen}
+use Rattle.host_view.specs.Follow.{ChangesAt, HasSlots, has_row}
+use Rattle.host_books.specs.Duties.{AreBooked, AreOwn, HaveRoom}
+use Rattle.host_book_laws.specs.Duty.{client_duty_in, followed}
+use Rattle.host_book_laws.specs.Pages.{client_pages, row_pages}
+use Rattle.host_book_laws.proofs.Changing.{client_changes, books_stay}
+use Rattle.host_book_laws.proofs.PageSums.{pages_changed}
+use Rattle.host_book_laws.proofs.Tables.{has_places}
+use Rattle.host_book_laws.proofs.Rebooked.{rebooked, rebooked_own}
 use Rattle.host_laws.specs.Peers.{KnowsPeers}
 use Rattle.homa_host.specs.Parts.{host_of, seen_of, part_in, IsKept}
 use Rattle.homa_host.specs.declared.parts.HostParts.{HostParts}

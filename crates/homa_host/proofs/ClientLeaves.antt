@@ -17,22 +17,22 @@ use Rattle.homa_plain.specs.Settings.{patience}
 use Rattle.homa_plain.specs.Sending.{Leaving, may_send_request, client_sends, while_new, departures}
 use Rattle.homa_plain.specs.Steps.{Work, pumped_once, leaves_from, client_leaves, request_leaves}
 use Rattle.homa_plain.specs.Timers.{OfClient}
-use Rattle.homa_steps.specs.StepLaws.{HasOwnOrders}
-use Rattle.homa_steps.proofs.OwnOrders.{client_leaves-own}
-use Rattle.homa_parts.specs.Pooled.{IsInPool}
-use Rattle.homa_places.specs.Placed.{StandsAt, spot_at}
+use Rattle.step_laws.specs.StepLaws.{HasOwnOrders}
+use Rattle.step_laws.proofs.OwnOrders.{client_leaves-own}
+use Rattle.host_incoming.specs.Pooled.{IsInPool}
+use Rattle.host_places.specs.Placed.{StandsAt, spot_at}
 use Rattle.homa_client.specs.Held.{HeldRow, seen_row}
 use Rattle.homa_client.specs.AtTable.{Clients, Moved}
 use Rattle.homa_client.specs.Gives.{row_emits, row_sends}
-use Rattle.homa_control.specs.Control as control_laws
-use Rattle.homa_control.specs.Control.{Control, IsAt}
-use Rattle.homa_seen.specs.declared.outbox.SentFrame.{SentFrame}
-use Rattle.homa_seen.specs.Seen.{ready_of, waiting}
+use Rattle.host_state.specs.Control as control_laws
+use Rattle.host_state.specs.Control.{Control, IsAt}
+use Rattle.host_view.specs.declared.outbox.SentFrame.{SentFrame}
+use Rattle.host_view.specs.Seen.{ready_of, waiting}
 use Rattle.homa_pacer.specs.Pace as pace
-use Rattle.homa_books.specs.declared.books.Books.{Books}
-use Rattle.homa_books.specs.Duties.{ready_in}
-use Rattle.host_books.specs.Duty.{client_duty, followed}
-use Rattle.host_books.proofs.PumpOnce.{picked, idle_ready, sends_next, client_departs, client_rests, client_waits, client_sends_next, client_short, some_next, shorter, booked_length}
+use Rattle.host_books.specs.declared.books.Books.{Books}
+use Rattle.host_books.specs.Duties.{ready_in}
+use Rattle.host_book_laws.specs.Duty.{client_duty, followed}
+use Rattle.host_book_laws.proofs.PumpOnce.{picked, idle_ready, sends_next, client_departs, client_rests, client_waits, client_sends_next, client_short, some_next, shorter, booked_length}
 use Rattle.host_laws.specs.Peers.{KnowsServer}
 use Rattle.host_laws.proofs.Known.{client_sends-known}
 use Rattle.homa_host.specs.declared.parts.HostParts.{HostParts}

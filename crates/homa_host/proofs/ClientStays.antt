@@ -17,31 +17,31 @@ use Rattle.homa_plain.specs.Rows.{ClientRow, set_row}
 use Rattle.homa_plain.specs.Sending.{Arriving, arrivals, arriving_at_client}
 use Rattle.homa_plain.specs.Steps.{Work}
 use Rattle.homa_plain.specs.Timers.{Place, OfClient, OfServer}
-use Rattle.homa_steps.specs.StepLaws.{HasOwnOrders}
-use Rattle.homa_steps.proofs.Others.{get-set_row, set_row-others}
+use Rattle.step_laws.specs.StepLaws.{HasOwnOrders}
+use Rattle.step_laws.proofs.Others.{get-set_row, set_row-others}
 use Rattle.homa_in.specs.Part as part
 use Rattle.homa_in.specs.Part.{Part, IsIn}
-use Rattle.homa_parts.specs.Pooled.{IsInPool, HasNumber, AreIn, seen_part}
-use Rattle.homa_places.specs.Placed.{Placed, StandsAt, spot_at}
-use Rattle.homa_places.specs.Mapped.{mapped}
-use Rattle.homa_places.proofs.MappedLaws.{get-mapped}
-use Rattle.homa_places.proofs.PlacedLaws.{spot-stands, one_call}
+use Rattle.host_incoming.specs.Pooled.{IsInPool, HasNumber, AreIn, seen_part}
+use Rattle.host_places.specs.Placed.{Placed, StandsAt, spot_at}
+use Rattle.host_places.specs.Mapped.{mapped}
+use Rattle.host_places.proofs.MappedLaws.{get-mapped}
+use Rattle.host_places.proofs.PlacedLaws.{spot-stands, one_call}
 use Rattle.homa_client.specs.Held.{HeldRow, seen_row}
 use Rattle.homa_client.specs.AtTable.{Clients, Moved, seen_rows, place_at}
-use Rattle.homa_control.specs.Control.{Control, IsSound}
-use Rattle.homa_seen.specs.declared.mark.Mark.{Mark}
-use Rattle.homa_seen.specs.declared.outbox.SentFrame.{SentFrame}
-use Rattle.homa_seen.specs.Seen.{Seen}
-use Rattle.homa_seen.specs.Follow.{ChangesAt, client_arrival}
-use Rattle.homa_books.specs.declared.books.Arrival.{Arrival}
-use Rattle.homa_books.specs.declared.books.Books.{Books}
-use Rattle.homa_books.specs.Duties.{AreOwn, AreBooked, HaveRoom}
-use Rattle.host_books.proofs.Changing.{books_stay}
-use Rattle.host_books.specs.Duty.{client_duty, arrival_duty, followed}
-use Rattle.host_books.specs.SameRows.{SameRows}
-use Rattle.host_books.proofs.Tables.{made_of}
-use Rattle.host_books.proofs.Things.{thing_at}
-use Rattle.host_books.proofs.Books.{arrival_things}
+use Rattle.host_state.specs.Control.{Control, IsSound}
+use Rattle.host_view.specs.declared.mark.Mark.{Mark}
+use Rattle.host_view.specs.declared.outbox.SentFrame.{SentFrame}
+use Rattle.host_view.specs.Seen.{Seen}
+use Rattle.host_view.specs.Follow.{ChangesAt, client_arrival}
+use Rattle.host_books.specs.declared.books.Arrival.{Arrival}
+use Rattle.host_books.specs.declared.books.Books.{Books}
+use Rattle.host_books.specs.Duties.{AreOwn, AreBooked, HaveRoom}
+use Rattle.host_book_laws.proofs.Changing.{books_stay}
+use Rattle.host_book_laws.specs.Duty.{client_duty, arrival_duty, followed}
+use Rattle.host_book_laws.specs.SameRows.{SameRows}
+use Rattle.host_book_laws.proofs.Tables.{made_of}
+use Rattle.host_book_laws.proofs.Things.{thing_at}
+use Rattle.host_book_laws.proofs.Books.{arrival_things}
 use Rattle.host_laws.specs.Peers.{KnowsServer, KnowsPeers}
 use Rattle.host_laws.proofs.Known.{known-client}
 use Rattle.homa_host.specs.declared.outcome.Change.TheVariants.{Stays}

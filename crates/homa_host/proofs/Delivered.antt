@@ -8,13 +8,13 @@ use Rattle.homa_plain.specs.Entries.{PlainRun}
 use Rattle.homa_plain.specs.Host.{Host, Told, Says, Sends}
 use Rattle.homa_plain.specs.Rules.{Answer}
 use Rattle.homa_plain.specs.Steps.{Work, ended, has_run}
-use Rattle.homa_steps.specs.StepLaws.{run_count}
-use Rattle.homa_steps.proofs.Places.{all-append}
-use Rattle.homa_steps.proofs.StepEnd.{ended-calm}
-use Rattle.homa_seen.specs.declared.mark.Mark.{Mark}
-use Rattle.homa_seen.specs.declared.mark.Mark.TheVariants.{Ran, Sent}
-use Rattle.homa_seen.specs.declared.outbox.SentFrame.{SentFrame}
-use Rattle.homa_seen.specs.Marks.{mark_of, marks_from, has_ran, response_of, IsReply, IsAllowed}
+use Rattle.step_laws.specs.StepLaws.{run_count}
+use Rattle.step_laws.proofs.Places.{all-append}
+use Rattle.step_laws.proofs.StepEnd.{ended-calm}
+use Rattle.host_view.specs.declared.mark.Mark.{Mark}
+use Rattle.host_view.specs.declared.mark.Mark.TheVariants.{Ran, Sent}
+use Rattle.host_view.specs.declared.outbox.SentFrame.{SentFrame}
+use Rattle.host_view.specs.Marks.{mark_of, marks_from, has_ran, response_of, IsReply, IsAllowed}
 use Rattle.host_laws.proofs.Keeps.{ended-keeps}
 use Rattle.homa_host.specs.Parts.{host_of}
 use Rattle.homa_host.specs.Amid.{Amid}

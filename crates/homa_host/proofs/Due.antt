@@ -16,18 +16,18 @@ use Rattle.homa_plain.specs.Host.{Host}
 use Rattle.homa_plain.specs.Rows.{ClientRow, ServerRow}
 use Rattle.homa_plain.specs.Timers.{Place, OfClient, OfServer, Timer, timer, timer_key, timers, client_deadline, server_deadline}
 use Rattle.homa_plain.specs.Steps.{Work, now_of, acts_at}
-use Rattle.homa_steps.specs.StepLaws.{first_acts}
+use Rattle.step_laws.specs.StepLaws.{first_acts}
 use Rattle.homa_timers.specs.Armed as armed
-use Rattle.homa_places.specs.Placed.{Placed, StandsAt, spot_at}
+use Rattle.host_places.specs.Placed.{Placed, StandsAt, spot_at}
 use Rattle.homa_client.specs.Held.{HeldRow, seen_row}
 use Rattle.homa_client.specs.AtTable.{IsDueAt}
 use Rattle.homa_server.specs.Held.{HeldServer, seen_server}
-use Rattle.homa_seen.specs.declared.outbox.SentFrame.{SentFrame}
-use Rattle.homa_seen.specs.Seen.{slot_of, timer_of}
-use Rattle.homa_seen.specs.Follow.{client_timer, server_timer}
-use Rattle.homa_seen.proofs.ByBook.{first_due-book}
-use Rattle.host_books.proofs.Things.{thing_at}
-use Rattle.host_books.proofs.Books.{timer_things}
+use Rattle.host_view.specs.declared.outbox.SentFrame.{SentFrame}
+use Rattle.host_view.specs.Seen.{slot_of, timer_of}
+use Rattle.host_view.specs.Follow.{client_timer, server_timer}
+use Rattle.host_view.proofs.ByBook.{first_due-book}
+use Rattle.host_book_laws.proofs.Things.{thing_at}
+use Rattle.host_book_laws.proofs.Books.{timer_things}
 use Rattle.homa_host.specs.Parts.{host_of, seen_of, IsKept}
 use Rattle.homa_host.specs.Amid.{Amid}
 use Rattle.homa_host.specs.declared.parts.HostParts.{HostParts}

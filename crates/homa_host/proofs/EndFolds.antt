@@ -6,10 +6,10 @@ use Rattle.homa_plain.specs.Choice.{least}
 use Rattle.homa_plain.specs.Host.{Host, packets_in}
 use Rattle.homa_plain.specs.Sending.{Leaving, leaving_key, departures}
 use Rattle.homa_plain.specs.Steps.{Work, first_leaves, pumped_once, pump}
-use Rattle.homa_seen.specs.declared.outbox.SentFrame.{SentFrame}
-use Rattle.homa_seen.specs.Frames.{frame_of}
-use Rattle.homa_seen.proofs.Pump as seen_pump
-use Rattle.host_books.proofs.PumpOnce.{pump_goes, pump_ends, pump_full}
+use Rattle.host_view.specs.declared.outbox.SentFrame.{SentFrame}
+use Rattle.host_view.specs.Frames.{frame_of}
+use Rattle.host_view.proofs.Pump as seen_pump
+use Rattle.host_book_laws.proofs.PumpOnce.{pump_goes, pump_ends, pump_full}
 use Rattle.homa_host.specs.declared.parts.HostParts.{HostParts}
 use Rattle.homa_host.specs.Parts.{seen_of, IsKept}
 use Rattle.homa_host.specs.Amid.{Amid, WasSent, WasIdle, WasShort, IsPumped}

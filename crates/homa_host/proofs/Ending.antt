@@ -14,14 +14,14 @@ use Rattle.homa_plain.specs.Packets.{Packet, call_between, packet_between}
 use Rattle.homa_plain.specs.Rules.{Answer}
 use Rattle.homa_plain.specs.Timers.{Place, OfClient, OfServer}
 use Rattle.homa_plain.specs.Steps.{Work, begun, refilled, starts, comes, acts, ended, call_step, arrival_step, turn_step, has_run}
-use Rattle.homa_steps.specs.StepLaws.{IsBounded}
-use Rattle.homa_steps.proofs.Bounds.{call-bounded, arrival-bounded, turn-bounded}
-use Rattle.homa_parts.specs.Pooled.{IsInPool, HasNumber}
-use Rattle.homa_seen.specs.declared.outbox.SentFrame.{SentFrame}
-use Rattle.homa_seen.specs.Seen.{Seen, AreReady}
-use Rattle.homa_seen.specs.Marks.{IsReply, IsWhole}
-use Rattle.homa_seen.specs.Done.{IsDone, arriving}
-use Rattle.homa_control.specs.Control.{Control}
+use Rattle.step_laws.specs.StepLaws.{IsBounded}
+use Rattle.step_laws.proofs.Bounds.{call-bounded, arrival-bounded, turn-bounded}
+use Rattle.host_incoming.specs.Pooled.{IsInPool, HasNumber}
+use Rattle.host_view.specs.declared.outbox.SentFrame.{SentFrame}
+use Rattle.host_view.specs.Seen.{Seen, AreReady}
+use Rattle.host_view.specs.Marks.{IsReply, IsWhole}
+use Rattle.host_view.specs.Done.{IsDone, arriving}
+use Rattle.host_state.specs.Control.{Control}
 use Rattle.homa_pacer.specs.Pace.{Pace, refill}
 use Rattle.host_laws.proofs.Shown.{call-shown, arrival-shown, turn-shown}
 use Rattle.host_laws.proofs.OwnTold.{ended-told}

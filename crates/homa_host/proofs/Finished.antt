@@ -3,12 +3,12 @@ use Rattle.std.proofs.Common.{◌≡◌, ℕ, List, ap, subst, ◌∙◌}
 use Rattle.std.specs.List.{AllByRecursion}
 use Rattle.homa_plain.specs.Host.{packets_in}
 use Rattle.homa_plain.specs.Steps.{Work}
-use Rattle.homa_seen.specs.declared.outbox.SentFrame.{SentFrame}
-use Rattle.homa_seen.specs.Frames.{frames_of, IsFormed}
-use Rattle.homa_seen.specs.Seen.{Seen}
-use Rattle.homa_seen.specs.Marks.{IsShown}
-use Rattle.homa_seen.specs.Done.{IsDone}
-use Rattle.homa_seen.proofs.Told.{shown-told}
+use Rattle.host_view.specs.declared.outbox.SentFrame.{SentFrame}
+use Rattle.host_view.specs.Frames.{frames_of, IsFormed}
+use Rattle.host_view.specs.Seen.{Seen}
+use Rattle.host_view.specs.Marks.{IsShown}
+use Rattle.host_view.specs.Done.{IsDone}
+use Rattle.host_view.proofs.Told.{shown-told}
 use Rattle.homa_host.specs.Parts.{seen_of}
 use Rattle.homa_host.specs.Amid.{Amid}
 use Rattle.homa_host.specs.declared.parts.HostParts.{HostParts}

@@ -9,16 +9,16 @@ use Rattle.homa_plain.specs.Rows.{ClientRow}
 use Rattle.homa_plain.specs.Rules.{Did, Piece}
 use Rattle.homa_plain.specs.Steps.{Work, asked}
 use Rattle.msg_pool.specs.Pool.{Pool}
-use Rattle.homa_places.specs.Placed.{StandsAt, spot_at}
+use Rattle.host_places.specs.Placed.{StandsAt, spot_at}
 use Rattle.homa_client.specs.Held.{HeldRow, seen_row}
 use Rattle.homa_client.specs.AtTable.{Clients, slot_in, row_at, version_at}
 use Rattle.homa_client.specs.declared.answers.ClientDid.{ClientDid}
 use Rattle.homa_server.specs.Table.{seen_servers}
-use Rattle.homa_control.specs.Control.{Control, IsSound, IsAt}
-use Rattle.homa_seen.specs.declared.outbox.SentFrame.{SentFrame}
-use Rattle.homa_books.specs.declared.books.Books.{Books}
-use Rattle.homa_books.specs.Duties.{HaveRoom}
-use Rattle.host_books.specs.Duty.{client_duty_in, followed}
+use Rattle.host_state.specs.Control.{Control, IsSound, IsAt}
+use Rattle.host_view.specs.declared.outbox.SentFrame.{SentFrame}
+use Rattle.host_books.specs.declared.books.Books.{Books}
+use Rattle.host_books.specs.Duties.{HaveRoom}
+use Rattle.host_book_laws.specs.Duty.{client_duty_in, followed}
 use Rattle.homa_host.specs.Parts.{host_of, IsKept}
 use Rattle.homa_host.specs.Amid.{Amid}
 use Rattle.homa_host.specs.Outcomes.{client_change, client_orders, IfStays, IfChanged, IfTouched, MayStayClient, FollowedClient}

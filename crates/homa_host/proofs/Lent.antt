@@ -5,13 +5,13 @@ use Rattle.std.specs.Option.{option_map, option_and_then}
 use Rattle.plain_sets.specs.Maps.{get}
 use Rattle.homa_plain.specs.declared.id.CallId.{CallId}
 use Rattle.homa_plain.specs.Rows.{ClientRow, ServerRow}
-use Rattle.homa_places.specs.Placed.{Placed, StandsAt}
-use Rattle.homa_places.proofs.MappedLaws.{get-mapped}
-use Rattle.homa_places.proofs.PlacedLaws.{some_placed, none_placed}
+use Rattle.host_places.specs.Placed.{Placed, StandsAt}
+use Rattle.host_places.proofs.MappedLaws.{get-mapped}
+use Rattle.host_places.proofs.PlacedLaws.{some_placed, none_placed}
 use Rattle.homa_client.specs.Held.{HeldRow, seen_row}
 use Rattle.homa_client.specs.AtTable.{place_at}
 use Rattle.homa_server.specs.Held.{HeldServer, HeldState, Arriving, Keeping, Answering, Gone, seen_server, state_response}
-use Rattle.homa_seen.specs.Marks.{request_of, response_of, response_in}
+use Rattle.host_view.specs.Marks.{request_of, response_of, response_in}
 use Rattle.homa_host.specs.Parts.{host_of}
 use Rattle.homa_host.specs.declared.parts.HostParts.{HostParts}
 

@@ -12,28 +12,28 @@ use Rattle.homa_plain.specs.Settings.{IsValid}
 use Rattle.homa_plain.specs.Calls.{call_cmp}
 use Rattle.homa_plain.specs.Host.{Host, new_host, part_pages, state_pages}
 use Rattle.homa_plain.specs.Rows.{ClientRow, ServerRow}
-use Rattle.homa_steps.specs.StepLaws.{HasOwnOrders}
+use Rattle.step_laws.specs.StepLaws.{HasOwnOrders}
 use Rattle.homa_plain.specs.Timers.{Place, OfClient, OfServer}
-use Rattle.homa_steps.proofs.OwnOrders.{new-own}
+use Rattle.step_laws.proofs.OwnOrders.{new-own}
 use Rattle.msg_pool.specs.Pool.{Pool, leased_pages}
-use Rattle.homa_places.specs.Mapped.{mapped}
-use Rattle.homa_places.specs.Placed.{Placed}
-use Rattle.homa_places.proofs.MappedLaws.{list-mapped}
-use Rattle.homa_parts.specs.Pooled.{IsInPool, HasNumber}
+use Rattle.host_places.specs.Mapped.{mapped}
+use Rattle.host_places.specs.Placed.{Placed}
+use Rattle.host_places.proofs.MappedLaws.{list-mapped}
+use Rattle.host_incoming.specs.Pooled.{IsInPool, HasNumber}
 use Rattle.homa_client.specs.Held.{HeldRow, seen_row}
 use Rattle.homa_client.specs.AtTable.{Clients}
 use Rattle.homa_server.specs.Held.{HeldServer, seen_server, state_part}
 use Rattle.homa_server.specs.Table.{Servers}
-use Rattle.homa_control.specs.Control.{Control}
-use Rattle.homa_control.specs.Fields.{new_control}
-use Rattle.homa_control.proofs.Opening.{new-sound}
-use Rattle.homa_books.specs.declared.books.Books.{Books}
-use Rattle.homa_books.specs.Duties.{HaveRoom, AreBooked}
+use Rattle.host_state.specs.Control.{Control}
+use Rattle.host_state.specs.Fields.{new_control}
+use Rattle.host_state.proofs.Opening.{new-sound}
+use Rattle.host_books.specs.declared.books.Books.{Books}
+use Rattle.host_books.specs.Duties.{HaveRoom, AreBooked}
 use Rattle.homa_timers.specs.Armed.{timer_key}
 use Rattle.homa_grants.specs.Entries.{entry_key}
-use Rattle.host_books.specs.Pages.{row_pages}
+use Rattle.host_book_laws.specs.Pages.{row_pages}
 use Rattle.host_laws.specs.Peers.{KnowsPeers}
-use Rattle.homa_seen.specs.Seen.{Seen}
+use Rattle.host_view.specs.Seen.{Seen}
 use Rattle.homa_host.specs.Parts.{host_of, seen_of, part_in, IsKept}
 use Rattle.homa_host.specs.declared.parts.HostParts.{HostParts}
 

@@ -14,9 +14,9 @@ use Rattle.homa_plain.specs.Entries.{PlainEntry, PlainRun, PlainDone, PlainSetti
 use Rattle.homa_plain.specs.Rows.{ServerRow, set_row}
 use Rattle.homa_plain.specs.Rules.{Answer, Say, Tells, Posts, Did}
 use Rattle.homa_plain.specs.Steps.{Work, notes, posts, tells_cutoffs, said, served, is_newer, hears_cutoffs, has_run}
-use Rattle.homa_steps.proofs.Places.{all-append}
-use Rattle.homa_seen.specs.declared.mark.Mark.{Mark}
-use Rattle.homa_seen.specs.Marks.{mark_of, marks_from, has_ran, response_of, IsReply, IsAllowed, IsWhole}
+use Rattle.step_laws.proofs.Places.{all-append}
+use Rattle.host_view.specs.declared.mark.Mark.{Mark}
+use Rattle.host_view.specs.Marks.{mark_of, marks_from, has_ran, response_of, IsReply, IsAllowed, IsWhole}
 
 -- neither a service was asked nor a message was handed up
 abbrev pub IsQuietEntry : PlainEntry → Type 0

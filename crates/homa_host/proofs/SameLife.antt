@@ -20,7 +20,7 @@ use Rattle.homa_plain.specs.AtServer.{server_acked}
 use Rattle.homa_plain.specs.Timers.{Place, OfClient, OfServer, Timer, timer_key, timers, client_acts, server_acts}
 use Rattle.homa_plain.specs.Sending.{Arriving, arrivals, Leaving, leaving_key, departures, response_content}
 use Rattle.homa_plain.specs.Steps.{Work, now_of, begun, refilled, tells, notes, tells_cutoffs, acknowledged, finishes, said, asked, served, moment, is_newer, hears_cutoffs, comes_to_row, acked, takes, is_stale, comes, client_acted, server_acted, acts_at, all_act, acts, client_is_granted, server_is_granted, grants_at, all_granted, gives_grants, request_leaves, response_leaves, client_leaves, state_leaves, server_leaves, leaves_from, first_leaves, pumped_once, pumps, ended, starts, call_step, arrival_step, turn_step}
-use Rattle.homa_steps.proofs.StepEnd.{left}
+use Rattle.step_laws.proofs.StepEnd.{left}
 
 abbrev pub life : Host → HostId × ℕ × ℕ
 life h = (h.id, h.inc, h.last)

@@ -10,25 +10,25 @@ use Rattle.homa_plain.specs.Rows.{ServerRow, State, Receiving, Held, Replying, B
 use Rattle.homa_plain.specs.Rules.{Moment, Did}
 use Rattle.homa_plain.specs.AtServer.{server_acked, state_acked}
 use Rattle.homa_plain.specs.Steps.{Work, moment, served}
-use Rattle.homa_steps.specs.StepLaws.{HasOwnOrders}
-use Rattle.homa_steps.proofs.Orders.{server_acked-kept}
-use Rattle.homa_steps.proofs.OwnOrders.{Own, served-own}
-use Rattle.homa_steps.proofs.ToldBy.{served-carried, served-clients, served-servers}
+use Rattle.step_laws.specs.StepLaws.{HasOwnOrders}
+use Rattle.step_laws.proofs.Orders.{server_acked-kept}
+use Rattle.step_laws.proofs.OwnOrders.{Own, served-own}
+use Rattle.step_laws.proofs.ToldBy.{served-carried, served-clients, served-servers}
 use Rattle.msg_pool.specs.Pool.{Pool, free_pages}
-use Rattle.homa_places.specs.Placed.{Placed, StandsAt, ArePlaced, spot_at}
-use Rattle.homa_places.proofs.MappedLaws.{get-mapped}
-use Rattle.homa_places.proofs.PlacedLaws.{get-insert_else, get-remove_else}
-use Rattle.homa_parts.specs.Pieces.{moment_with}
-use Rattle.homa_parts.specs.Pooled.{AreIn, pages_of}
-use Rattle.homa_seen.specs.Marks.{response_of, response_in}
-use Rattle.homa_seen.specs.declared.outbox.SentFrame.{SentFrame}
-use Rattle.homa_control.specs.Control.{Control, IsSound, IsAt}
-use Rattle.homa_books.specs.declared.books.Books.{Books}
-use Rattle.homa_books.specs.Duties.{HaveRoom}
+use Rattle.host_places.specs.Placed.{Placed, StandsAt, ArePlaced, spot_at}
+use Rattle.host_places.proofs.MappedLaws.{get-mapped}
+use Rattle.host_places.proofs.PlacedLaws.{get-insert_else, get-remove_else}
+use Rattle.host_incoming.specs.Pieces.{moment_with}
+use Rattle.host_incoming.specs.Pooled.{AreIn, pages_of}
+use Rattle.host_view.specs.Marks.{response_of, response_in}
+use Rattle.host_view.specs.declared.outbox.SentFrame.{SentFrame}
+use Rattle.host_state.specs.Control.{Control, IsSound, IsAt}
+use Rattle.host_books.specs.declared.books.Books.{Books}
+use Rattle.host_books.specs.Duties.{HaveRoom}
 use Rattle.homa_server.specs.Held.{HeldServer, seen_server}
 use Rattle.homa_server.specs.Answers.{acked_of}
 use Rattle.homa_server.specs.Table.{Servers, ServerMoved, seen_servers, server_at, slot_at, request_at, server_moment}
-use Rattle.host_books.specs.Duty.{server_duty_in, followed}
+use Rattle.host_book_laws.specs.Duty.{server_duty_in, followed}
 use Rattle.host_laws.specs.Peers.{KnowsClient, KnowsSender}
 use Rattle.host_laws.proofs.Known.{server_acked-known}
 use Rattle.homa_host.specs.Parts.{host_of, IsKept}

@@ -19,27 +19,27 @@ use Rattle.homa_plain.specs.Rules.{Moment, Answer, Did, Piece}
 use Rattle.homa_plain.specs.AtServer.{server_gets}
 use Rattle.homa_plain.specs.Timers.{OfServer}
 use Rattle.homa_plain.specs.Steps.{Work, moment, begun, is_newer, hears_cutoffs, served}
-use Rattle.homa_steps.proofs.OwnOrders.{Own, row-own}
-use Rattle.homa_steps.proofs.ToldBy.{served-carried, served-clients, served-servers}
+use Rattle.step_laws.proofs.OwnOrders.{Own, row-own}
+use Rattle.step_laws.proofs.ToldBy.{served-carried, served-clients, served-servers}
 use Rattle.msg_pool.specs.Pool.{Pool, leased_pages, free_pages}
-use Rattle.homa_parts.specs.Pooled.{pages_of}
-use Rattle.homa_parts.specs.Pieces.{piece_in, moment_with}
-use Rattle.homa_places.specs.Placed.{Placed, StandsAt, ArePlaced, spot_at}
-use Rattle.homa_places.proofs.MappedLaws.{get-mapped, len-mapped}
-use Rattle.homa_seen.specs.declared.outbox.SentFrame.{SentFrame}
+use Rattle.host_incoming.specs.Pooled.{pages_of}
+use Rattle.host_incoming.specs.Pieces.{piece_in, moment_with}
+use Rattle.host_places.specs.Placed.{Placed, StandsAt, ArePlaced, spot_at}
+use Rattle.host_places.proofs.MappedLaws.{get-mapped, len-mapped}
+use Rattle.host_view.specs.declared.outbox.SentFrame.{SentFrame}
 use Rattle.homa_client.specs.AtTable.{seen_rows}
-use Rattle.homa_seen.specs.Marks.{response_of, response_in as mark_response}
+use Rattle.host_view.specs.Marks.{response_of, response_in as mark_response}
 use Rattle.homa_server.specs.Held.{HeldServer, HeldState, Arriving, Keeping, Answering, Gone, seen_server, seen_state, response_in as held_response}
 use Rattle.homa_server.specs.Answers.{served_of, service_in, slot_in, IsSlotOf, IsReply, version_there}
 use Rattle.homa_server.specs.Table.{Servers, ServerRows, Served, seen_servers, server_at, slot_at, request_at, response_at, server_moment}
 use Rattle.homa_server.specs.declared.answers.ServerDid.{ServerDid}
 use Rattle.homa_server.specs.declared.answers.ServerDid.TheVariants as did
-use Rattle.homa_control.specs.Control.{Control, IsSound, IsAt}
-use Rattle.homa_books.specs.declared.books.Books.{Books}
-use Rattle.host_books.specs.Pages.{client_pages, server_pages}
-use Rattle.host_books.specs.Duty.{server_duty_in, followed}
-use Rattle.host_books.specs.Stood.{Stood}
-use Rattle.host_books.proofs.PageSums.{pages_free}
+use Rattle.host_state.specs.Control.{Control, IsSound, IsAt}
+use Rattle.host_books.specs.declared.books.Books.{Books}
+use Rattle.host_book_laws.specs.Pages.{client_pages, server_pages}
+use Rattle.host_book_laws.specs.Duty.{server_duty_in, followed}
+use Rattle.host_book_laws.specs.Stood.{Stood}
+use Rattle.host_book_laws.proofs.PageSums.{pages_free}
 use Rattle.host_laws.specs.Peers.{KnowsClient, KnowsSender}
 use Rattle.host_laws.proofs.Known.{server_gets-known}
 use Rattle.homa_host.specs.Parts.{host_of, seen_of, IsKept}

@@ -9,16 +9,16 @@ use Rattle.homa_plain.specs.Rows.{ServerRow}
 use Rattle.homa_plain.specs.Sending.{Arriving, server_granted}
 use Rattle.homa_plain.specs.Steps.{Work, posts, server_is_granted}
 use Rattle.homa_plain.specs.Timers.{OfServer}
-use Rattle.homa_steps.specs.StepLaws.{HasOwnOrders}
-use Rattle.homa_steps.proofs.OwnOrders.{server_granted-own}
-use Rattle.homa_places.specs.Placed.{StandsAt}
+use Rattle.step_laws.specs.StepLaws.{HasOwnOrders}
+use Rattle.step_laws.proofs.OwnOrders.{server_granted-own}
+use Rattle.host_places.specs.Placed.{StandsAt}
 use Rattle.homa_server.specs.Held.{HeldServer, seen_server}
 use Rattle.homa_server.specs.Table.{Servers, ServerMoved}
-use Rattle.homa_control.specs.Control.{Control, IsSound, IsAt}
-use Rattle.homa_seen.specs.declared.outbox.SentFrame.{SentFrame}
-use Rattle.homa_books.specs.declared.books.Books.{Books}
-use Rattle.host_books.specs.Duty.{server_duty, followed}
-use Rattle.host_books.specs.Ends.{grant_to}
+use Rattle.host_state.specs.Control.{Control, IsSound, IsAt}
+use Rattle.host_view.specs.declared.outbox.SentFrame.{SentFrame}
+use Rattle.host_books.specs.declared.books.Books.{Books}
+use Rattle.host_book_laws.specs.Duty.{server_duty, followed}
+use Rattle.host_book_laws.specs.Ends.{grant_to}
 use Rattle.host_laws.specs.Peers.{KnowsClient}
 use Rattle.host_laws.proofs.Known.{state_granted-known}
 use Rattle.homa_host.specs.declared.parts.HostParts.{HostParts}

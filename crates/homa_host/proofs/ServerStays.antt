@@ -16,28 +16,28 @@ use Rattle.homa_plain.specs.Rows.{ServerRow, State, Receiving, Held, Replying, B
 use Rattle.homa_plain.specs.Sending.{Arriving as Arrives, arrivals, arriving_at_server}
 use Rattle.homa_plain.specs.Steps.{Work}
 use Rattle.homa_plain.specs.Timers.{Place, OfClient, OfServer}
-use Rattle.homa_steps.specs.StepLaws.{HasOwnOrders}
-use Rattle.homa_steps.proofs.Others.{get-set_row, set_row-others}
+use Rattle.step_laws.specs.StepLaws.{HasOwnOrders}
+use Rattle.step_laws.proofs.Others.{get-set_row, set_row-others}
 use Rattle.homa_in.specs.Part as part
 use Rattle.homa_in.specs.Part.{Part, IsIn}
-use Rattle.homa_parts.specs.Pooled.{IsInPool, AreIn}
-use Rattle.homa_places.specs.Placed.{Placed, ArePlaced, StandsAt, spot_at}
-use Rattle.homa_places.specs.Mapped.{mapped}
-use Rattle.homa_places.proofs.MappedLaws.{get-mapped}
-use Rattle.homa_places.proofs.PlacedLaws.{spot-stands, one_call}
+use Rattle.host_incoming.specs.Pooled.{IsInPool, AreIn}
+use Rattle.host_places.specs.Placed.{Placed, ArePlaced, StandsAt, spot_at}
+use Rattle.host_places.specs.Mapped.{mapped}
+use Rattle.host_places.proofs.MappedLaws.{get-mapped}
+use Rattle.host_places.proofs.PlacedLaws.{spot-stands, one_call}
 use Rattle.homa_server.specs.Held.{HeldServer, HeldState, Arriving, Keeping, Answering, Gone, seen_server, seen_state, state_part}
 use Rattle.homa_server.specs.Table.{Servers, ServerMoved, seen_servers, request_at}
-use Rattle.homa_control.specs.Control.{Control, IsSound}
-use Rattle.homa_seen.specs.declared.outbox.SentFrame.{SentFrame}
-use Rattle.homa_seen.specs.Follow.{ChangesAt, has_row, server_arrival}
-use Rattle.homa_books.specs.declared.books.Arrival.{Arrival}
-use Rattle.homa_books.specs.declared.books.Books.{Books}
-use Rattle.homa_books.specs.Duties.{AreOwn, AreBooked, HaveRoom}
-use Rattle.host_books.specs.Duty.{server_duty, arrival_duty, arriving, followed}
-use Rattle.host_books.proofs.Changing.{books_stay}
-use Rattle.host_books.proofs.Tables.{made_of}
-use Rattle.host_books.proofs.Things.{thing_at}
-use Rattle.host_books.proofs.Books.{arrival_things}
+use Rattle.host_state.specs.Control.{Control, IsSound}
+use Rattle.host_view.specs.declared.outbox.SentFrame.{SentFrame}
+use Rattle.host_view.specs.Follow.{ChangesAt, has_row, server_arrival}
+use Rattle.host_books.specs.declared.books.Arrival.{Arrival}
+use Rattle.host_books.specs.declared.books.Books.{Books}
+use Rattle.host_books.specs.Duties.{AreOwn, AreBooked, HaveRoom}
+use Rattle.host_book_laws.specs.Duty.{server_duty, arrival_duty, arriving, followed}
+use Rattle.host_book_laws.proofs.Changing.{books_stay}
+use Rattle.host_book_laws.proofs.Tables.{made_of}
+use Rattle.host_book_laws.proofs.Things.{thing_at}
+use Rattle.host_book_laws.proofs.Books.{arrival_things}
 use Rattle.host_laws.specs.Peers.{KnowsClient, KnowsSender, KnowsPeers}
 use Rattle.host_laws.proofs.Known.{known-server}
 use Rattle.homa_host.specs.declared.outcome.Change.TheVariants.{Stays}

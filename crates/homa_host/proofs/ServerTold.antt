@@ -14,16 +14,16 @@ use Rattle.homa_plain.specs.Rules.{Moment, Answer, Did, Piece, Say, Tells, Posts
 use Rattle.homa_plain.specs.Steps.{Work, moment, begun, comes_to_row, notes, tells_cutoffs, said, served, has_run}
 use Rattle.homa_plain.specs.Packets.{Packet, packet_between}
 use Rattle.msg_pool.specs.Pool.{Pool}
-use Rattle.homa_parts.specs.Pieces.{piece_in}
-use Rattle.homa_seen.specs.declared.mark.Mark.{Mark}
-use Rattle.homa_seen.specs.Marks.{marks_from, has_ran, response_of, IsReply as IsReplyMark, IsAllowed, IsWhole}
+use Rattle.host_incoming.specs.Pieces.{piece_in}
+use Rattle.host_view.specs.declared.mark.Mark.{Mark}
+use Rattle.host_view.specs.Marks.{marks_from, has_ran, response_of, IsReply as IsReplyMark, IsAllowed, IsWhole}
 use Rattle.homa_server.specs.Answers.{served_of, service_in, runs_said, IsReply, IfRan, has_run as did_run}
 use Rattle.homa_server.specs.Table.{Servers, response_at}
 use Rattle.homa_server.specs.declared.answers.ServerDid.{ServerDid}
 use Rattle.homa_server.specs.declared.answers.ServerDid.TheVariants as did
-use Rattle.homa_control.specs.Control.{Control, IsAt}
-use Rattle.homa_seen.specs.declared.outbox.SentFrame.{SentFrame}
-use Rattle.homa_books.specs.declared.books.Books.{Books}
+use Rattle.host_state.specs.Control.{Control, IsAt}
+use Rattle.host_view.specs.declared.outbox.SentFrame.{SentFrame}
+use Rattle.host_books.specs.declared.books.Books.{Books}
 use Rattle.homa_host.specs.Parts.{host_of}
 use Rattle.homa_host.specs.Amid.{Amid}
 use Rattle.homa_host.specs.Outcomes.{server_change, server_orders}

@@ -13,33 +13,33 @@ use Rattle.homa_plain.specs.Host.{Host}
 use Rattle.homa_plain.specs.Rows.{ClientRow}
 use Rattle.homa_plain.specs.Steps.{begun, starts, start_fault, next_id, new_call}
 use Rattle.homa_plain.specs.Timers.{Place, OfClient, OfServer}
-use Rattle.homa_steps.specs.StepLaws.{HasOwnOrders}
-use Rattle.homa_steps.proofs.Others.{get-set_row}
-use Rattle.homa_steps.proofs.OwnOrders.{starts-own, begun-own}
-use Rattle.homa_books.specs.declared.books.Arrival.{Arrival}
-use Rattle.homa_books.specs.declared.books.Duties.{Duties}
+use Rattle.step_laws.specs.StepLaws.{HasOwnOrders}
+use Rattle.step_laws.proofs.Others.{get-set_row}
+use Rattle.step_laws.proofs.OwnOrders.{starts-own, begun-own}
+use Rattle.host_books.specs.declared.books.Arrival.{Arrival}
+use Rattle.host_books.specs.declared.books.Duties.{Duties}
 use Rattle.homa_host.proofs.Begun.{kept-control, sound-begun}
 use Rattle.msg_pool.specs.Pool.{leased_pages}
 use Rattle.homa_in.specs.Part.{Part}
-use Rattle.homa_parts.specs.Pooled.{AreIn, IsInPool, HasNumber}
-use Rattle.homa_places.specs.Mapped.{mapped}
-use Rattle.homa_places.specs.Placed.{Placed, StandsAt, ArePlaced, spot_at}
-use Rattle.homa_places.proofs.PlacedLaws.{one_call, some_placed, spot-stands}
-use Rattle.homa_places.proofs.MappedLaws.{get-mapped, len-mapped}
+use Rattle.host_incoming.specs.Pooled.{AreIn, IsInPool, HasNumber}
+use Rattle.host_places.specs.Mapped.{mapped}
+use Rattle.host_places.specs.Placed.{Placed, StandsAt, ArePlaced, spot_at}
+use Rattle.host_places.proofs.PlacedLaws.{one_call, some_placed, spot-stands}
+use Rattle.host_places.proofs.MappedLaws.{get-mapped, len-mapped}
 use Rattle.homa_client.specs.Held.{HeldRow, seen_row}
 use Rattle.homa_client.specs.AtTable.{Clients, Started, seen_rows, part_at, fault_of}
 use Rattle.homa_server.specs.Held.{HeldServer, seen_server}
-use Rattle.homa_control.specs.Control.{Control, IsSound}
-use Rattle.homa_seen.specs.Seen.{Seen}
-use Rattle.homa_seen.specs.Follow.{ChangesAt, HasSlots}
-use Rattle.homa_books.specs.declared.books.Books.{Books}
-use Rattle.homa_books.specs.Duties.{AreBooked, AreOwn, HaveRoom}
-use Rattle.host_books.specs.Duty.{client_duty, client_duty_in, followed}
-use Rattle.host_books.specs.Pages.{client_pages, row_pages}
-use Rattle.host_books.proofs.Changing.{client_changes, books_stay}
-use Rattle.host_books.proofs.PageSums.{pages_changed}
-use Rattle.host_books.proofs.Tables.{has_places}
-use Rattle.host_books.proofs.Rebooked.{rebooked, rebooked_own}
+use Rattle.host_state.specs.Control.{Control, IsSound}
+use Rattle.host_view.specs.Seen.{Seen}
+use Rattle.host_view.specs.Follow.{ChangesAt, HasSlots}
+use Rattle.host_books.specs.declared.books.Books.{Books}
+use Rattle.host_books.specs.Duties.{AreBooked, AreOwn, HaveRoom}
+use Rattle.host_book_laws.specs.Duty.{client_duty, client_duty_in, followed}
+use Rattle.host_book_laws.specs.Pages.{client_pages, row_pages}
+use Rattle.host_book_laws.proofs.Changing.{client_changes, books_stay}
+use Rattle.host_book_laws.proofs.PageSums.{pages_changed}
+use Rattle.host_book_laws.proofs.Tables.{has_places}
+use Rattle.host_book_laws.proofs.Rebooked.{rebooked, rebooked_own}
 use Rattle.host_laws.specs.Peers.{KnowsPeers}
 use Rattle.host_laws.proofs.Known.{known-client}
 use Rattle.homa_host.specs.Parts.{host_of, seen_of, part_in, IsKept}

@@ -6,12 +6,12 @@ use Rattle.homa_plain.specs.declared.settings.Settings.{Settings}
 use Rattle.homa_plain.specs.Choice.{due}
 use Rattle.homa_plain.specs.Timers.{Timer, timer_key, timers}
 use Rattle.homa_plain.specs.Steps.{Work, now_of, acts}
-use Rattle.homa_steps.specs.StepLaws.{first_acts, picked_anew}
-use Rattle.homa_steps.proofs.Picking.{acts-picked}
+use Rattle.step_laws.specs.StepLaws.{first_acts, picked_anew}
+use Rattle.step_laws.proofs.Picking.{acts-picked}
 use Rattle.homa_timers.specs.Armed as armed
-use Rattle.homa_seen.specs.declared.outbox.SentFrame.{SentFrame}
-use Rattle.homa_seen.specs.Seen.{timer_of}
-use Rattle.homa_seen.proofs.ByBook.{first_due-book}
+use Rattle.host_view.specs.declared.outbox.SentFrame.{SentFrame}
+use Rattle.host_view.specs.Seen.{timer_of}
+use Rattle.host_view.proofs.ByBook.{first_due-book}
 use Rattle.homa_host.specs.Parts.{host_of, seen_of, IsKept}
 use Rattle.homa_host.specs.Amid.{Amid}
 use Rattle.homa_host.specs.declared.parts.HostParts.{HostParts}

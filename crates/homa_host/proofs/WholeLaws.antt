@@ -13,8 +13,8 @@ use Rattle.homa_plain.specs.Entries.{PlainBalance}
 use Rattle.homa_plain.specs.Rows.{ClientRow, ServerRow, set_row}
 use Rattle.homa_plain.specs.Rules.{Say, Tells, Posts, Did}
 use Rattle.homa_plain.specs.Steps.{Work, notes, tells, posts, tells_cutoffs, acknowledged, finishes, said, asked, served}
-use Rattle.homa_steps.proofs.Places.{all-append}
-use Rattle.homa_seen.specs.Marks.{IsWhole}
+use Rattle.step_laws.proofs.Places.{all-append}
+use Rattle.host_view.specs.Marks.{IsWhole}
 
 abbrev pub AreWhole : List ℕ → Work → Type 0
 AreWhole whole w = AllByRecursion (IsWhole whole) w.told

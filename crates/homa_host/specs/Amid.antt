@@ -3,9 +3,9 @@ use Rattle.std.specs.Prelude.{◌≡◌, ◌+◌, ◌≤◌, ◌<◌, ℕ, None,
 use Rattle.std.specs.List.{AllByRecursion}
 use Rattle.homa_plain.specs.Host.{packets_in}
 use Rattle.homa_plain.specs.Steps.{Work, pumped_once}
-use Rattle.homa_seen.specs.declared.outbox.SentFrame.{SentFrame}
-use Rattle.homa_seen.specs.Frames.{frames_of, IsFormed}
-use Rattle.homa_seen.specs.Marks.{marks_from}
+use Rattle.host_view.specs.declared.outbox.SentFrame.{SentFrame}
+use Rattle.host_view.specs.Frames.{frames_of, IsFormed}
+use Rattle.host_view.specs.Marks.{marks_from}
 use Rattle.homa_host.specs.Parts.{host_of}
 use Rattle.homa_host.specs.declared.parts.HostParts.{HostParts}
 use Rattle.homa_host.specs.declared.at_client.Pumped.{Pumped}

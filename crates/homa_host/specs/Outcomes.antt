@@ -2,14 +2,14 @@
 use Rattle.std.specs.Prelude.{◌≡◌, ◌+◌, ◌<◌, ◌==◌, IfSome, ℕ, Bool, true, false, if◌then◌else◌, Option, None, Some}
 use Rattle.homa_plain.specs.declared.packet.Body.{Body}
 use Rattle.homa_plain.specs.declared.packet.Body.TheVariants as body
-use Rattle.homa_books.specs.declared.books.Books.{Books}
-use Rattle.homa_books.specs.declared.books.Arrival.{Arrival}
-use Rattle.homa_books.specs.Duties.{AreOwn}
-use Rattle.host_books.specs.Duty.{no_duties, client_duty, followed}
+use Rattle.host_books.specs.declared.books.Books.{Books}
+use Rattle.host_books.specs.declared.books.Arrival.{Arrival}
+use Rattle.host_books.specs.Duties.{AreOwn}
+use Rattle.host_book_laws.specs.Duty.{no_duties, client_duty, followed}
 use Rattle.homa_plain.specs.declared.id.CallId.{CallId}
 use Rattle.msg_pool.specs.Pool.{Pool}
-use Rattle.homa_places.specs.Placed.{StandsAt}
-use Rattle.homa_parts.specs.Pooled.{IsInPool}
+use Rattle.host_places.specs.Placed.{StandsAt}
+use Rattle.host_incoming.specs.Pooled.{IsInPool}
 use Rattle.homa_client.specs.Held.{HeldRow, seen_row}
 use Rattle.homa_client.specs.AtTable.{Clients}
 use Rattle.homa_client.specs.declared.answers.ClientAct.{ClientAct}

@@ -4,20 +4,20 @@ use Rattle.plain_sets.specs.Maps.{get}
 use Rattle.homa_plain.specs.declared.id.CallId.{CallId}
 use Rattle.homa_plain.specs.Host.{Host}
 use Rattle.homa_plain.specs.Timers.{Place, OfClient, OfServer}
-use Rattle.homa_steps.specs.StepLaws.{HasOwnOrders}
+use Rattle.step_laws.specs.StepLaws.{HasOwnOrders}
 use Rattle.msg_pool.specs.Pool.{leased_pages}
 use Rattle.homa_in.specs.Part.{Part}
-use Rattle.homa_parts.specs.Pooled.{AreIn}
-use Rattle.homa_places.specs.Mapped.{mapped}
-use Rattle.homa_places.specs.Placed.{Placed, ArePlaced}
+use Rattle.host_incoming.specs.Pooled.{AreIn}
+use Rattle.host_places.specs.Mapped.{mapped}
+use Rattle.host_places.specs.Placed.{Placed, ArePlaced}
 use Rattle.homa_client.specs.Held.{HeldRow}
 use Rattle.homa_client.specs.AtTable.{seen_rows, part_at}
 use Rattle.homa_server.specs.Held.{HeldServer}
 use Rattle.homa_server.specs.Table.{seen_servers, request_at}
-use Rattle.homa_control.specs.Control.{IsSound}
-use Rattle.host_books.specs.Pages.{row_pages}
-use Rattle.homa_books.specs.Duties.{HaveRoom, AreBooked}
-use Rattle.homa_seen.specs.Seen.{Seen}
+use Rattle.host_state.specs.Control.{IsSound}
+use Rattle.host_book_laws.specs.Pages.{row_pages}
+use Rattle.host_books.specs.Duties.{HaveRoom, AreBooked}
+use Rattle.host_view.specs.Seen.{Seen}
 use Rattle.host_laws.specs.Peers.{KnowsPeers}
 use Rattle.homa_host.specs.declared.parts.HostParts.{HostParts}
 

@@ -1,11 +1,11 @@
 -- What the calls of a host leave as it was.
 use Rattle.std.specs.Prelude.{◌≡◌, ◌+◌, ◌≤◌, IsSome, List, slice_get}
 use Rattle.std.specs.Option.{option_and_then}
-use Rattle.homa_seen.specs.declared.mark.Mark.{Mark}
-use Rattle.homa_seen.specs.declared.mark.Mark.TheVariants.{Called, Junk, Stale, Balanced, Ran, Done, Failed, Dropped, TooManyGaps, Entombed, Freed, NoRow, NoPages, Sent}
-use Rattle.homa_seen.specs.declared.outbox.SentFrame.{SentFrame}
-use Rattle.homa_seen.specs.Frames.{packet_of}
-use Rattle.homa_seen.specs.Seen.{Seen}
+use Rattle.host_view.specs.declared.mark.Mark.{Mark}
+use Rattle.host_view.specs.declared.mark.Mark.TheVariants.{Called, Junk, Stale, Balanced, Ran, Done, Failed, Dropped, TooManyGaps, Entombed, Freed, NoRow, NoPages, Sent}
+use Rattle.host_view.specs.declared.outbox.SentFrame.{SentFrame}
+use Rattle.host_view.specs.Frames.{packet_of}
+use Rattle.host_view.specs.Seen.{Seen}
 
 -- the same host with the same settings in the same life; its order has risen by at most 64
 pub record IsSameHost (old new : Seen) : Type 0 where

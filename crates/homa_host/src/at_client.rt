@@ -12,16 +12,16 @@ ghost use Rattle.homa_plain.specs.Timers.{OfClient};
 ghost use Rattle.homa_plain.specs.Sending.{Arriving, arrivals};
 ghost use Rattle.homa_plain.specs.Steps.{Work, comes_to_row, acts_at};
 ghost use Rattle.msg_pool.specs.Pool.{Pool};
-ghost use Rattle.homa_parts.specs.Pieces.{piece_in};
-ghost use Rattle.homa_places.specs.Placed.{StandsAt, spot_at};
+ghost use Rattle.host_incoming.specs.Pieces.{piece_in};
+ghost use Rattle.host_places.specs.Placed.{StandsAt, spot_at};
 ghost use Rattle.homa_client.specs.Held.{HeldRow, seen_row};
 ghost use Rattle.homa_client.specs.AtTable.{version_at, IsDueAt};
 ghost use Rattle.homa_pacer.specs.Pace.{ready_key};
-ghost use Rattle.homa_seen.specs.Marks.{IsWhole};
+ghost use Rattle.host_view.specs.Marks.{IsWhole};
 ghost use Rattle.homa_host.specs.Parts.{host_of, seen_of, IsKept};
 ghost use Rattle.homa_host.specs.Amid.{Amid, Steady, HasRoom, IsPumped};
-ghost use Rattle.host_books.specs.Ends.{grant_to};
-ghost use Rattle.homa_seen.specs.Follow.{ChangesAt};
+ghost use Rattle.host_book_laws.specs.Ends.{grant_to};
+ghost use Rattle.host_view.specs.Follow.{ChangesAt};
 ghost use Rattle.homa_host.specs.Outcomes.{head_in, IfTouched};
 
 use crate::outcome::{
@@ -30,9 +30,9 @@ use crate::outcome::{
 };
 use crate::parts::{HostParts, follow_client};
 use homa_client::{ClientDid, ClientTable};
-use homa_control::Leaving;
 use homa_plain::{Body, CallId, Emitted, HostId, Packet, Role};
-use homa_seen::Outbox;
+use host_state::Leaving;
+use host_view::Outbox;
 use msg_pool::Scratch;
 
 /// What became of a message that was to be sent.

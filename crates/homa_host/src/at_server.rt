@@ -14,18 +14,18 @@ ghost use Rattle.homa_plain.specs.Timers.{OfServer, server_deadline};
 ghost use Rattle.homa_plain.specs.Sending.{Arriving, arrivals};
 ghost use Rattle.homa_plain.specs.Steps.{Work, begun, hears_cutoffs, comes_to_row, acts_at, served, moment, has_run};
 ghost use Rattle.msg_pool.specs.Pool.{Pool};
-ghost use Rattle.homa_parts.specs.Pieces.{piece_in};
-ghost use Rattle.homa_places.specs.Placed.{StandsAt, spot_at};
+ghost use Rattle.host_incoming.specs.Pieces.{piece_in};
+ghost use Rattle.host_places.specs.Placed.{StandsAt, spot_at};
 ghost use Rattle.homa_server.specs.Held.{HeldServer, seen_server, state_part};
 ghost use Rattle.homa_server.specs.Answers.{version_there, service_in, acked_of};
-ghost use Rattle.homa_control.specs.Saying.{IsOutcome, FitsSaid, outcome_marks, outcome_frames};
+ghost use Rattle.host_state.specs.Saying.{IsOutcome, FitsSaid, outcome_marks, outcome_frames};
 ghost use Rattle.homa_plain.specs.Rows.{ServerRow};
 ghost use Rattle.homa_pacer.specs.Pace.{ready_key};
-ghost use Rattle.homa_seen.specs.Marks.{has_ran, response_of, IsReply, IsAllowed, IsWhole};
+ghost use Rattle.host_view.specs.Marks.{has_ran, response_of, IsReply, IsAllowed, IsWhole};
 ghost use Rattle.homa_host.specs.Parts.{host_of, seen_of, IsKept};
 ghost use Rattle.homa_host.specs.Amid.{Amid, Steady, HasRoom, HasCome, IsPumped};
-ghost use Rattle.host_books.specs.Ends.{grant_to};
-ghost use Rattle.homa_seen.specs.Follow.{ChangesAt};
+ghost use Rattle.host_book_laws.specs.Ends.{grant_to};
+ghost use Rattle.host_view.specs.Follow.{ChangesAt};
 ghost use Rattle.homa_host.specs.ServerFollow.{server_act_change, server_act_orders, acked_change};
 ghost use Rattle.homa_host.specs.Outcomes.{head_in, IfServerTouched};
 
@@ -35,11 +35,11 @@ use crate::outcome::{
     server_outcome,
 };
 use crate::parts::{HostParts, follow_server};
-use homa_control::{Leaving, Outcome, Said};
 use homa_plain::{Body, CallId, Emitted, HostId, Packet, Role};
-use homa_seen::{Mark, Outbox};
 use homa_server::{ServerAct, ServerDid, ServerTable};
 use homa_service::Service;
+use host_state::{Leaving, Outcome, Said};
+use host_view::{Mark, Outbox};
 use msg_pool::Scratch;
 use std::alloc::{AllocError, Global};
 

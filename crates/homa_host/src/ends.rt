@@ -6,19 +6,19 @@ ghost use Rattle.homa_plain.specs.Choice.{least, due};
 ghost use Rattle.homa_plain.specs.Timers.{timers, timer_key as plain_key};
 ghost use Rattle.homa_plain.specs.Sending.{Arriving, arrivals};
 ghost use Rattle.homa_plain.specs.Steps.{Work, now_of, acts, gives_grants, pump, ended};
-ghost use Rattle.homa_steps.specs.StepLaws.{first_acts};
+ghost use Rattle.step_laws.specs.StepLaws.{first_acts};
 ghost use Rattle.homa_timers.specs.Armed.{timer_key};
 ghost use Rattle.homa_pacer.specs.Pace.{ready_key};
-ghost use Rattle.homa_seen.specs.Seen.{slot_of};
+ghost use Rattle.host_view.specs.Seen.{slot_of};
 ghost use Rattle.homa_host.specs.Parts.{host_of, seen_of, IsKept};
 ghost use Rattle.homa_host.specs.Amid.{Amid, Steady, HasRoom, IsPumped};
-ghost use Rattle.host_books.specs.Ends.{grant_to};
-ghost use Rattle.homa_seen.specs.Follow.{ChangesAt};
+ghost use Rattle.host_book_laws.specs.Ends.{grant_to};
+ghost use Rattle.host_view.specs.Follow.{ChangesAt};
 
 use crate::at_client::Pumped;
 use crate::parts::HostParts;
 use arrayvec::ArrayVec;
-use homa_seen::Outbox;
+use host_view::Outbox;
 
 /// How many rows act in a turn at most.
 const MOST_ACTS: u32 = 32;

@@ -5,25 +5,25 @@ ghost use Rattle.plain_sets.specs.Maps.{empty, len};
 ghost use Rattle.homa_plain.specs.declared.settings.Settings.{Settings};
 ghost use Rattle.homa_plain.specs.Settings.{IsValid};
 ghost use Rattle.homa_plain.specs.Wire.{Between, packet_in};
-ghost use Rattle.homa_seen.specs.declared.outbox.SentFrame.{SentFrame};
+ghost use Rattle.host_view.specs.declared.outbox.SentFrame.{SentFrame};
 ghost use Rattle.homa_plain.specs.Entries.{plain};
 ghost use Rattle.homa_plain.specs.Host.{new_host};
 ghost use Rattle.homa_plain.specs.Rules.{Answer};
 ghost use Rattle.homa_plain.specs.Steps.{start_fault, next_id, call_step, arrival_step, turn_step, has_run};
-ghost use Rattle.homa_seen.specs.Seen.{AreArmed, AreEntered, AreReady};
-ghost use Rattle.homa_seen.specs.Frames.{frame_line};
-ghost use Rattle.homa_seen.specs.Marks.{request_of, response_of, shown, shown_entries, has_ran, IsAnswer, IsAllowed};
-ghost use Rattle.homa_seen.specs.Done.{IsDone, HoldsSent, arriving};
+ghost use Rattle.host_view.specs.Seen.{AreArmed, AreEntered, AreReady};
+ghost use Rattle.host_view.specs.Frames.{frame_line};
+ghost use Rattle.host_view.specs.Marks.{request_of, response_of, shown, shown_entries, has_ran, IsAnswer, IsAllowed};
+ghost use Rattle.host_view.specs.Done.{IsDone, HoldsSent, arriving};
 ghost use Rattle.homa_host.specs.Public.{IsSameHost, IsHeld};
 
 use crate::parts::HostParts;
 use homa_grants::GrantBook;
 use homa_pacer::Pacer;
 use homa_plain::{CallId, Entry, HostId, Role, Settings, StartFault};
-use homa_seen::{Mark, Outbox};
 use homa_service::Service;
 use homa_timers::Timers;
 use homa_wire::decode;
+use host_view::{Mark, Outbox};
 use msg_pool::Scratch;
 use std::alloc::{AllocError, Global};
 use std::marker::Model;
@@ -35,7 +35,7 @@ pub struct Host {
 }
 
 impl Model for Host {
-    ghost use Rattle.homa_seen.specs.Seen.{Seen};
+    ghost use Rattle.host_view.specs.Seen.{Seen};
     ghost use Rattle.homa_host.specs.Parts.{seen_of, IsKept};
 
     ghost Value = { Seen };

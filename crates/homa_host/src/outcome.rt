@@ -10,26 +10,26 @@ ghost use Rattle.homa_plain.specs.Rows.{ClientRow, ServerRow};
 ghost use Rattle.homa_plain.specs.Rules.{Moment, Answer, Did};
 ghost use Rattle.msg_pool.specs.Pool.{Pool};
 ghost use Rattle.homa_in.specs.Part.{IsIn, seen};
-ghost use Rattle.homa_parts.specs.Pooled.{IsInPool, AreIn, seen_part};
-ghost use Rattle.homa_parts.specs.Pieces.{piece_in};
-ghost use Rattle.homa_places.specs.Placed.{StandsAt, spot_at};
+ghost use Rattle.host_incoming.specs.Pooled.{IsInPool, AreIn, seen_part};
+ghost use Rattle.host_incoming.specs.Pieces.{piece_in};
+ghost use Rattle.host_places.specs.Placed.{StandsAt, spot_at};
 ghost use Rattle.homa_client.specs.Held.{HeldRow, seen_row};
 ghost use Rattle.homa_client.specs.Gives.{IsAct, IsAsked};
 ghost use Rattle.homa_client.specs.AtTable.{version_at, answer_of, IfSaid};
 ghost use Rattle.homa_server.specs.Held.{HeldServer, seen_server};
 ghost use Rattle.homa_server.specs.Answers.{version_there, service_in, served_of, acted_of, IfSaid as IfServerSaid, IsAnswerBody, IfResend};
 ghost use Rattle.homa_server.specs.Table.{request_at};
-ghost use Rattle.homa_control.specs.Saying.{IsOutcome, FitsSaid, outcome_marks, outcome_frames, one_of};
-ghost use Rattle.host_books.specs.Duty.{client_duty, server_duty, timer_duty, arrival_duty};
+ghost use Rattle.host_state.specs.Saying.{IsOutcome, FitsSaid, outcome_marks, outcome_frames, one_of};
+ghost use Rattle.host_book_laws.specs.Duty.{client_duty, server_duty, timer_duty, arrival_duty};
 ghost use Rattle.homa_host.specs.Outcomes.{IfServerTouched, head_in, length_in, version_in, client_change, server_change, client_orders, server_orders, client_act_change, IfTouched};
 
-use homa_books::{Arrival, Deadline, Duties, Waiting};
 use homa_client::{ClientAct, ClientDid, ClientTable};
-use homa_control::{Outcome, Said};
 use homa_in::Incoming;
 use homa_plain::{Body, CallId, More, RowFacts, Why};
-use homa_seen::Mark;
 use homa_server::{ServerAct, ServerDid, ServerTable};
+use host_books::{Arrival, Deadline, Duties, Waiting};
+use host_state::{Outcome, Said};
+use host_view::Mark;
 
 /// What became of the row at a place.
 #[derive(Clone, Copy, Debug, PartialEq, Eq)]

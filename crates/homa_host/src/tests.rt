@@ -1,7 +1,7 @@
 // A call of one host.
 use crate::Host;
 use homa_plain::{HostId, Settings};
-use homa_seen::Outbox;
+use host_view::Outbox;
 use std::test::Fail;
 
 #[test]

@@ -14,11 +14,11 @@ use Rattle.homa_plain.specs.Rules.{Moment, Answer}
 use Rattle.homa_plain.specs.AtServer.{server_gets, row_gets}
 use Rattle.homa_plain.proofs.CallOrder.{call_total, call_same}
 use Rattle.msg_pool.specs.Pool.{Pool}
-use Rattle.homa_places.specs.Placed.{Placed, StandsAt, ArePlaced, set_at}
-use Rattle.homa_places.proofs.PlacedLaws.{one_call, set_at-insert, get-insert_here, get-insert_else}
-use Rattle.homa_parts.specs.Pooled.{Moves, AreIn}
+use Rattle.host_places.specs.Placed.{Placed, StandsAt, ArePlaced, set_at}
+use Rattle.host_places.proofs.PlacedLaws.{one_call, set_at-insert, get-insert_here, get-insert_else}
+use Rattle.host_incoming.specs.Pooled.{Moves, AreIn}
 use Rattle.homa_server.specs.Held.{HeldServer, seen_state, seen_server, state_part, response_in}
-use Rattle.homa_parts.specs.Pieces.{piece_in, moment_with}
+use Rattle.host_incoming.specs.Pieces.{piece_in, moment_with}
 use Rattle.homa_server.specs.Answers.{IsAnswered, IsAnswerBody, IsReply, IsSlotOf, slot_in, IfRan, IfSaid, served_of, runs_said}
 use Rattle.homa_server.specs.Table.{Servers, ServerRows, Served, packet_of, request_at, response_at, server_at, server_moment}
 use Rattle.homa_server.specs.declared.answers.ServerDid.{ServerDid}

@@ -10,10 +10,10 @@ use Rattle.homa_plain.specs.declared.settings.Settings.{Settings}
 use Rattle.homa_plain.specs.Rows.{ServerRow}
 use Rattle.msg_pool.specs.Pool.{Pool}
 use Rattle.homa_in.specs.Part.{Part}
-use Rattle.homa_places.specs.Placed.{Placed, StandsAt, ArePlaced, Changed, spot_at, set_at}
-use Rattle.homa_places.proofs.PlacedLaws.{one_call, spot-stands, set_at-insert, changed-put, changed-none, get-spot, get-insert_here, get-insert_else, get-remove_here, get-remove_else}
-use Rattle.homa_parts.specs.Pooled.{Moves, AreIn, IsInPool}
-use Rattle.homa_parts.proofs.MoveLaws.{still}
+use Rattle.host_places.specs.Placed.{Placed, StandsAt, ArePlaced, Changed, spot_at, set_at}
+use Rattle.host_places.proofs.PlacedLaws.{one_call, spot-stands, set_at-insert, changed-put, changed-none, get-spot, get-insert_here, get-insert_else, get-remove_here, get-remove_else}
+use Rattle.host_incoming.specs.Pooled.{Moves, AreIn, IsInPool}
+use Rattle.host_incoming.proofs.MoveLaws.{still}
 use Rattle.homa_server.specs.Held.{HeldServer, state_part, seen_state, seen_server}
 use Rattle.homa_server.specs.Answers.{acked_of}
 use Rattle.homa_plain.specs.AtServer.{server_acked, state_acked}

@@ -15,10 +15,10 @@ use Rattle.homa_plain.specs.Rules.{Moment, Answer, Piece, Say, Tells, Posts, Did
 use Rattle.homa_plain.specs.Timers.{state_deadline}
 use Rattle.homa_plain.specs.Sending.{state_sends}
 use Rattle.msg_pool.specs.Pool.{Pool}
-use Rattle.homa_parts.specs.Pooled.{IsInPool}
+use Rattle.host_incoming.specs.Pooled.{IsInPool}
 use Rattle.homa_server.specs.Held.{HeldState, HeldServer, Arriving, Keeping, Answering, Gone, state_part, seen_state, seen_server}
-use Rattle.homa_parts.specs.Pieces.{first_version, size_in, opening_if}
-use Rattle.homa_parts.specs.Sends.{emits, is_sent}
+use Rattle.host_incoming.specs.Pieces.{first_version, size_in, opening_if}
+use Rattle.host_incoming.specs.Sends.{emits, is_sent}
 use Rattle.homa_server.specs.declared.answers.ServerDid.{ServerDid}
 use Rattle.homa_server.specs.declared.answers.ServerDid.TheVariants as did
 use Rattle.homa_server.specs.declared.answers.ServerAct.{ServerAct}

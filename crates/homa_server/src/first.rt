@@ -7,15 +7,15 @@ ghost use Rattle.homa_plain.specs.Rules.{Moment, Answer};
 ghost use Rattle.homa_plain.specs.AtServer.{piece_of, opens};
 ghost use Rattle.homa_plain.specs.Host.{pages_for};
 ghost use Rattle.msg_pool.specs.Pool.{Pool, free_pages};
-ghost use Rattle.homa_parts.specs.Pooled.{Moves};
-ghost use Rattle.homa_parts.specs.Pieces.{moment_with};
+ghost use Rattle.host_incoming.specs.Pooled.{Moves};
+ghost use Rattle.host_incoming.specs.Pieces.{moment_with};
 ghost use Rattle.homa_server.specs.Answers.{IsAnswered, IfRan, has_run, slot_in, runs_said};
 ghost use Rattle.homa_server.specs.Firsts.{first_did, first_row, first_part, first_response};
 
 use crate::row::Row;
-use homa_parts::{Opening, open_part};
 use homa_plain::{HostId, Settings};
 use homa_service::Service;
+use host_incoming::{Opening, open_part};
 use msg_pool::{MsgPool, Scratch};
 use std::alloc::{AllocError, Global};
 

@@ -14,11 +14,11 @@ ghost use Rattle.homa_plain.specs.AtServer.{server_gets, server_acked, unknown_g
 ghost use Rattle.homa_plain.specs.Timers.{server_deadline, server_acts};
 ghost use Rattle.homa_plain.specs.Sending.{server_granted};
 ghost use Rattle.msg_pool.specs.Pool.{Pool};
-ghost use Rattle.homa_parts.specs.Pooled.{AreIn};
-ghost use Rattle.homa_places.specs.Placed.{Placed, StandsAt, ArePlaced, spot_at};
+ghost use Rattle.host_incoming.specs.Pooled.{AreIn};
+ghost use Rattle.host_places.specs.Placed.{Placed, StandsAt, ArePlaced, spot_at};
 ghost use Rattle.homa_server.specs.Held.{HeldServer, IsKept, seen_server, state_part, state_response, response_in};
-ghost use Rattle.homa_parts.specs.Pieces.{piece_in, IsFit, moment_with};
-ghost use Rattle.homa_parts.specs.Sends.{IfSent, IsAffordable};
+ghost use Rattle.host_incoming.specs.Pieces.{piece_in, IsFit, moment_with};
+ghost use Rattle.host_incoming.specs.Sends.{IfSent, IsAffordable};
 ghost use Rattle.homa_server.specs.Answers.{IsAnswered, IsAnswerBody, IsSlotOf, IfSaid, is_data, has_run, service_in, runs_said, acked_of, acted_of, IfResend, HasServerActed, IsGrantable, state_emits, server_sends, server_facts};
 ghost use Rattle.homa_server.specs.Table.{packet_of, Servers, Served, ServerMoved, server_at, request_at, slot_at, server_moment};
 
@@ -26,9 +26,9 @@ use crate::first::{First, open_row};
 use crate::row::Row;
 use crate::{ServerAct, ServerDid};
 use homa_in::Incoming;
-use homa_places::Rows;
 use homa_plain::{Body, CallId, Emitted, HostId, Packet, RowFacts, Settings};
 use homa_service::Service;
+use host_places::Rows;
 use msg_pool::{MsgPool, Scratch};
 use std::alloc::{AllocError, Global};
 use std::marker::Model;

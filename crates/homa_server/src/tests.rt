@@ -1,9 +1,9 @@
 ghost use Rattle.std.specs.Prelude.{◌≡◌, ◌<◌, ◌≤◌, ◌+◌, ◌^◌, IfOk, IsSome, length};
 ghost use Rattle.msg_pool.specs.Pool.{Pool};
-ghost use Rattle.homa_places.specs.Placed.{spot_at};
+ghost use Rattle.host_places.specs.Placed.{spot_at};
 ghost use Rattle.homa_plain.specs.Settings.{IsValid};
-ghost use Rattle.homa_parts.specs.Pooled.{AreIn};
-ghost use Rattle.homa_parts.specs.Pieces.{IsFit};
+ghost use Rattle.host_incoming.specs.Pooled.{AreIn};
+ghost use Rattle.host_incoming.specs.Pieces.{IsFit};
 ghost use Rattle.homa_server.specs.Table.{request_at};
 
 use super::*;

@@ -2,10 +2,10 @@
 use Rattle.std.proofs.Common.{◌≡◌, ◌≤◌, ℕ, Bool, Option, Some, List, arith}
 use Rattle.homa_plain.specs.Entries.{PlainEntry}
 use Rattle.homa_plain.specs.Replay.{replay, lines}
-use Rattle.homa_moves.specs.Always.{last_incarnation}
+use Rattle.trace_induction.specs.Always.{last_incarnation}
 use Rattle.homa_replay.specs.Far.{replay_of, ArePrinted}
-use Rattle.every_replay.specs.Replays.{OpensWorld}
-use Rattle.every_replay.proofs.Obeyed.{obeyed}
+use Rattle.replay_laws.specs.Replays.{OpensWorld}
+use Rattle.replay_laws.proofs.Obeyed.{obeyed}
 use Rattle.homa_top.specs.Lawful.{TookLawful}
 
 pub lawful : (boxes : ℕ) → boxes ≤ 1000000 → (left old new : Option (List ℕ)) (allowed : List PlainEntry → Type 0) (accepted : Bool) → ArePrinted (replay_of boxes) left old new allowed accepted

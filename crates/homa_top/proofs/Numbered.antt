@@ -5,8 +5,8 @@ use Rattle.std.specs.Str.{bytes_eq}
 use Rattle.homa_plain.specs.Bytes.{◌>>=◌}
 use Rattle.homa_plain.specs.Entries.{PlainEntry}
 use Rattle.homa_plain.specs.Numbers.{number_of}
-use Rattle.homa_traffic.specs.Rounds.{Generated}
-use Rattle.homa_traffic.specs.Generated.{generated_settings, schedule_text, summary_text}
+use Rattle.generated_runs.specs.Rounds.{Generated}
+use Rattle.generated_runs.specs.Generated.{generated_settings, schedule_text, summary_text}
 use Rattle.homa_generate.specs.Made.{run_of}
 use Rattle.homa_top.specs.declared.words.Command.{Command}
 use Rattle.homa_top.specs.declared.words.Command.TheVariants.{Replay, Make, Gen, Check, Quiet}

@@ -5,13 +5,13 @@ use Rattle.homa_plain.specs.Settings.{usual}
 use Rattle.homa_plain.specs.Entries.{PlainEntry}
 use Rattle.homa_plain.specs.Judge.{Clause}
 use Rattle.homa_plain.specs.Quiet.{IsQuiet}
-use Rattle.homa_verdict.specs.Text.{IsTrace, IsNoTrace}
-use Rattle.homa_verdict.specs.Verdict as verdict
-use Rattle.homa_verdict.specs.Verdict.{verdict_of}
+use Rattle.check_text.specs.Text.{IsTrace, IsNoTrace}
+use Rattle.check_text.specs.Verdict as verdict
+use Rattle.check_text.specs.Verdict.{verdict_of}
 use Rattle.homa_check.specs.Checks.{verdict_text}
-use Rattle.homa_traffic.specs.Rounds.{Generated}
+use Rattle.generated_runs.specs.Rounds.{Generated}
 use Rattle.homa_generate.specs.Made.{Run, IsMade, IsPartMade}
-use Rattle.homa_rounds.specs.Text.{bound, quiet_text}
+use Rattle.quiet_call.specs.Text.{bound, quiet_text}
 use Rattle.homa_top.specs.declared.exit.ExitStatus.{ExitStatus}
 use Rattle.homa_top.specs.declared.exit.ExitStatus.TheVariants.{Done, Refused, WriteFailed, NoMemory}
 use Rattle.homa_top.specs.Exits.{is_broken_off}

@@ -1,7 +1,7 @@
 // What each command does, with its status.
 ghost use Rattle.std.specs.Prelude.{◌≡◌, ◌≢◌, ◌≤◌, ◌⊎◌, ℕ, List, Some, length};
 ghost use Rattle.homa_io.specs.Outside.{HasRisen, appended, TookFront};
-ghost use Rattle.homa_traffic.specs.Generated.{generated_settings, schedule_text, summary_text};
+ghost use Rattle.generated_runs.specs.Generated.{generated_settings, schedule_text, summary_text};
 ghost use Rattle.homa_generate.specs.Made.{run_of};
 ghost use Rattle.homa_world.specs.First.{AreReady, AreAllowed};
 ghost use Rattle.homa_top.specs.Words.{usage_line};
@@ -15,9 +15,9 @@ use homa_generate::{count, make};
 use homa_io::{Sink, Source, write_all};
 use homa_plain::Settings;
 use homa_replay::Stop;
-use homa_rounds::{put_quiet, quiet_rounds};
 use homa_service::Service;
 use homa_world::World;
+use quiet_call::{put_quiet, quiet_rounds};
 use std::alloc::Global;
 
 const USAGE: &[u8] =

@@ -12,8 +12,8 @@ mod status;
 mod words;
 
 pub use exit::ExitStatus;
-pub use homa_rounds::quiet_rounds;
 pub use many::suites;
+pub use quiet_call::quiet_rounds;
 pub use status::run;
 pub use words::Command;
 

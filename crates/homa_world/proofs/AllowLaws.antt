@@ -5,7 +5,7 @@ use Rattle.std.specs.Option.{option_map}
 use Rattle.std.proofs.lemmas.List.{map-set}
 use Rattle.homa_plain.specs.declared.id.HostId.{HostId}
 use Rattle.homa_service.specs.Table.{place_of}
-use Rattle.homa_stage.specs.Staged.{seats_of, spares_of, HasNotCome}
+use Rattle.host_table.specs.Staged.{seats_of, spares_of, HasNotCome}
 use Rattle.homa_world.specs.declared.parts.WorldParts.{WorldParts}
 use Rattle.homa_world.specs.Boxes.{Allows, counted, all_counted, may_tell}
 use Rattle.homa_world.specs.Standing.{AllowsNoMore}

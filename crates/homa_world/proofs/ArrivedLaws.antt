@@ -5,7 +5,7 @@ use Rattle.std.specs.List.{AllByRecursion}
 use Rattle.std.specs.Option.{option_map}
 use Rattle.std.proofs.lemmas.List.{length-map}
 use Rattle.std.proofs.lemmas.Bool.{eq-eqb}
-use Rattle.homa_moves.proofs.Hosts.{length-set, within}
+use Rattle.trace_induction.proofs.Hosts.{length-set, within}
 use Rattle.homa_plain.specs.declared.id.HostId.{HostId}
 use Rattle.homa_plain.specs.declared.packet.Packet.{Packet as WirePacket}
 use Rattle.homa_plain.specs.declared.packet.Role.{Role}
@@ -21,25 +21,25 @@ use Rattle.homa_plain.specs.Packets.{Packet, sender, receiver, datagram, wire_pa
 use Rattle.homa_plain.specs.Rules.{Answer}
 use Rattle.homa_plain.specs.Steps.{Work, arrival_step, is_stale}
 use Rattle.homa_plain.specs.World.{World as PlainWorld, SentPacket, Refused, host_at, own_clock, is_late, delivered, arrives_at, outcome, stranger}
-use Rattle.homa_seen.specs.Seen.{Seen}
-use Rattle.homa_seen.specs.Done.{arriving}
+use Rattle.host_view.specs.Seen.{Seen}
+use Rattle.host_view.specs.Done.{arriving}
 use Rattle.homa_service.specs.Table.{place_of}
-use Rattle.homa_packets.specs.Blocks.{Frame}
-use Rattle.homa_packets.specs.Kept.{WholePacket, LatePacket, StalePacket}
-use Rattle.homa_packets.specs.Olds.{TellsClock}
-use Rattle.homa_packets.specs.All.{kept_all, settings_of}
+use Rattle.world_packets.specs.Blocks.{Frame}
+use Rattle.world_packets.specs.Kept.{WholePacket, LatePacket, StalePacket}
+use Rattle.world_packets.specs.Olds.{TellsClock}
+use Rattle.world_packets.specs.All.{kept_all, settings_of}
 use Rattle.homa_replay.specs.Playing.{IsApplied, IsNotApplied}
 use Rattle.world_laws.proofs.Sent.{read, between}
 use Rattle.world_laws.proofs.Old as old_packets
-use Rattle.world_events.proofs.Names.{arrival_named}
-use Rattle.world_events.proofs.Apart.{arrival_apart}
-use Rattle.world_events.proofs.Events as events
-use Rattle.world_events.specs.Named.{IsOwnStep}
-use Rattle.world_events.specs.Apart.{IsApartStep}
-use Rattle.world_events.specs.Stepping.{answering, IsStepWith, IsRefusal}
-use Rattle.homa_stage.specs.declared.stage.Stage.{Stage}
-use Rattle.homa_stage.specs.Staged.{Known, known, hosts_of, seats_of, spares_of, HasCome, HasNotCome}
-use Rattle.homa_stage.proofs.StageLaws.{map_at}
+use Rattle.event_laws.proofs.Names.{arrival_named}
+use Rattle.event_laws.proofs.Apart.{arrival_apart}
+use Rattle.event_laws.proofs.Events as events
+use Rattle.event_laws.specs.Named.{IsOwnStep}
+use Rattle.event_laws.specs.Apart.{IsApartStep}
+use Rattle.event_laws.specs.Stepping.{answering, IsStepWith, IsRefusal}
+use Rattle.host_table.specs.declared.stage.Stage.{Stage}
+use Rattle.host_table.specs.Staged.{Known, known, hosts_of, seats_of, spares_of, HasCome, HasNotCome}
+use Rattle.host_table.proofs.StageLaws.{map_at}
 use Rattle.homa_world.specs.declared.parts.First.{First}
 use Rattle.homa_world.specs.declared.parts.First.TheVariants as first
 use Rattle.homa_world.specs.declared.parts.Last.TheVariants as last

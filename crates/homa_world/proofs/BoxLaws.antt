@@ -4,7 +4,7 @@ use Rattle.std.specs.List.{AllByRecursion}
 use Rattle.homa_plain.specs.Entries.{PlainEntry, PlainRun, PlainRestart}
 use Rattle.homa_plain.specs.Host.{Told, Says, Sends, entries_from}
 use Rattle.homa_plain.specs.Steps.{has_run}
-use Rattle.world_events.specs.Named.{IsOfStep}
+use Rattle.event_laws.specs.Named.{IsOfStep}
 use Rattle.homa_world.specs.Boxes.{Allows, may_tell}
 
 module _ {A : Type 0} (allows : Allows A) (spares : List (A × ℕ)) where

@@ -12,33 +12,33 @@ use Rattle.homa_plain.specs.Host.{Told, Says, Sends, entries_from}
 use Rattle.homa_plain.specs.Rules.{Answer}
 use Rattle.homa_plain.specs.Steps.{Work, arrival_step}
 use Rattle.homa_plain.specs.World.{World as PlainWorld, Outcome, Done, outcome}
-use Rattle.homa_seen.specs.Seen.{Seen}
-use Rattle.homa_seen.specs.Marks.{has_ran, shown_entries}
+use Rattle.host_view.specs.Seen.{Seen}
+use Rattle.host_view.specs.Marks.{has_ran, shown_entries}
 use Rattle.homa_service.specs.Table.{place_of}
-use Rattle.homa_packets.specs.declared.packets.Packets.{Packets}
-use Rattle.homa_packets.specs.All.{kept_all, settings_of}
+use Rattle.world_packets.specs.declared.packets.Packets.{Packets}
+use Rattle.world_packets.specs.All.{kept_all, settings_of}
 use Rattle.homa_replay.specs.Stream.{shown}
 use Rattle.homa_replay.specs.Playing.{IsApplied}
-use Rattle.homa_steps.specs.StepLaws.{run_count}
-use Rattle.homa_steps.proofs.OneAnswer as one
-use Rattle.homa_moves.proofs.Hosts.{length-set}
-use Rattle.world_events.specs.Named.{IsOwnStep}
-use Rattle.world_events.specs.Apart.{IsApartStep}
-use Rattle.world_events.specs.Stepping.{answering, stepped_world, step_told, IsStepWith}
-use Rattle.homa_stage.specs.declared.stage.Stage.{Stage}
+use Rattle.step_laws.specs.StepLaws.{run_count}
+use Rattle.step_laws.proofs.OneAnswer as one
+use Rattle.trace_induction.proofs.Hosts.{length-set}
+use Rattle.event_laws.specs.Named.{IsOwnStep}
+use Rattle.event_laws.specs.Apart.{IsApartStep}
+use Rattle.event_laws.specs.Stepping.{answering, stepped_world, step_told, IsStepWith}
+use Rattle.host_table.specs.declared.stage.Stage.{Stage}
 use Rattle.homa_world.specs.declared.parts.First.{First}
 use Rattle.homa_world.specs.declared.parts.First.TheVariants as first
 use Rattle.homa_world.specs.declared.parts.Last.TheVariants as last
 use Rattle.homa_world.specs.declared.parts.WorldParts.{WorldParts}
 use Rattle.homa_world.specs.Boxes.{Allows, all_counted, counted, may_tell}
-use Rattle.homa_stage.specs.Staged.{known, hosts_of, seats_of, spares_of, HasCome}
+use Rattle.host_table.specs.Staged.{known, hosts_of, seats_of, spares_of, HasCome}
 use Rattle.homa_world.specs.Packed.{frame_kept}
 use Rattle.homa_world.specs.Standing.{StandsFor, IsKept, SeatFits, told_of, may_tell_of, first_told}
 use Rattle.homa_world.proofs.StepLaws.{stands_after, told_after, kept_after}
 use Rattle.homa_world.proofs.ShownLaws.{one_shown, all_show}
 use Rattle.homa_world.proofs.AskedLaws.{MayRun, runs_in, some_in, marks_may, marks_ran, told_runs, AreUnder, all_under, set_under, under_tell, one_entry}
 use Rattle.homa_world.proofs.KeptLaws.{seat_later, set_fits}
-use Rattle.homa_stage.proofs.StageLaws.{map_at}
+use Rattle.host_table.proofs.StageLaws.{map_at}
 
 first_shown : (id : HostId) (f : First) (bytes : List ℕ) (es : List PlainEntry) → shown (first_told id f bytes ++ es) ≡ shown es
 first_shown id first.Nothing bytes es = refl

@@ -16,29 +16,29 @@ use Rattle.homa_plain.proofs.CallOrder.{hosts_are}
 use Rattle.homa_plain.specs.Host.{Host}
 use Rattle.homa_plain.specs.Steps.{Work, has_run, turn_step, call_step, start_fault}
 use Rattle.homa_plain.specs.World.{World as PlainWorld, host_at, own_clock}
-use Rattle.homa_seen.specs.Seen.{Seen}
+use Rattle.host_view.specs.Seen.{Seen}
 use Rattle.homa_service.specs.Table.{place_of}
-use Rattle.homa_packets.specs.All.{kept_all, settings_of, open_tick}
-use Rattle.homa_packets.specs.declared.packets.Packets.{Packets}
+use Rattle.world_packets.specs.All.{kept_all, settings_of, open_tick}
+use Rattle.world_packets.specs.declared.packets.Packets.{Packets}
 use Rattle.homa_replay.specs.Playing.{IsApplied}
-use Rattle.homa_moves.proofs.Timed.{resend_of}
-use Rattle.homa_steps.proofs.OneAnswer as one
-use Rattle.world_events.proofs.Names.{call_named, turn_named}
-use Rattle.world_events.proofs.Apart.{call_apart, turn_apart}
-use Rattle.world_events.proofs.Events as events
-use Rattle.world_events.specs.Named.{IsOwnStep}
-use Rattle.world_events.specs.Apart.{IsApartStep}
-use Rattle.world_events.specs.Stepping.{IsStepBy, IsRefusal}
-use Rattle.homa_stage.specs.declared.stage.Stage.{Stage}
+use Rattle.trace_induction.proofs.Timed.{resend_of}
+use Rattle.step_laws.proofs.OneAnswer as one
+use Rattle.event_laws.proofs.Names.{call_named, turn_named}
+use Rattle.event_laws.proofs.Apart.{call_apart, turn_apart}
+use Rattle.event_laws.proofs.Events as events
+use Rattle.event_laws.specs.Named.{IsOwnStep}
+use Rattle.event_laws.specs.Apart.{IsApartStep}
+use Rattle.event_laws.specs.Stepping.{IsStepBy, IsRefusal}
+use Rattle.host_table.specs.declared.stage.Stage.{Stage}
 use Rattle.homa_world.specs.declared.parts.First.TheVariants as first
 use Rattle.homa_world.specs.declared.parts.Last.TheVariants as last
 use Rattle.homa_world.specs.declared.parts.WorldParts.{WorldParts}
 use Rattle.homa_world.specs.Boxes.{Allows}
-use Rattle.homa_stage.specs.Staged.{Known, known, known_of, hosts_of, seats_of, spares_of, MayStep, HasStepped}
+use Rattle.host_table.specs.Staged.{Known, known, known_of, hosts_of, seats_of, spares_of, MayStep, HasStepped}
 use Rattle.homa_world.specs.Packed.{frame_kept, IsShort}
 use Rattle.homa_world.specs.Standing.{StandsFor, HostFits, IsKept, IsLast, SeatFits, Applies, StillStands, told_of, may_tell_of}
 use Rattle.homa_world.proofs.StepLaws.{kept_after, short_frames}
-use Rattle.homa_stage.proofs.StageLaws.{map_at}
+use Rattle.host_table.proofs.StageLaws.{map_at}
 use Rattle.homa_world.proofs.KeptLaws.{seat_later}
 use Rattle.homa_world.proofs.QuietLaws.{quiet_applies}
 

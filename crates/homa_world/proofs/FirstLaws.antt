@@ -11,8 +11,8 @@ use Rattle.homa_plain.specs.Host.{Host, new_host}
 use Rattle.homa_plain.specs.Entries.{PlainEntry, PlainSettings}
 use Rattle.homa_plain.specs.World.{new_world, new_hosts}
 use Rattle.homa_service.specs.Table.{place_of}
-use Rattle.homa_packets.specs.All.{kept_all, settings_of}
-use Rattle.homa_stage.specs.Staged.{Known, known_of, known_in, first_known, seats_of, spares_of}
+use Rattle.world_packets.specs.All.{kept_all, settings_of}
+use Rattle.host_table.specs.Staged.{Known, known_of, known_in, first_known, seats_of, spares_of}
 use Rattle.homa_world.specs.declared.parts.Last.TheVariants as last
 use Rattle.homa_world.specs.declared.parts.WorldParts.{WorldParts}
 use Rattle.homa_world.specs.First.{IsFirstAt, AreAllowed}

@@ -8,16 +8,16 @@ use Rattle.homa_plain.specs.declared.event.Event.{Event}
 use Rattle.homa_plain.specs.declared.fault.WorldFault.{WorldFault}
 use Rattle.homa_plain.specs.declared.fault.WorldFault.TheVariants as fault
 use Rattle.homa_replay.specs.Playing.{IsNotApplied, is_memory, is_clock}
-use Rattle.world_events.specs.Stepping.{IsRefusal}
+use Rattle.event_laws.specs.Stepping.{IsRefusal}
 use Rattle.homa_plain.specs.World.{World as PlainWorld, last_tick}
 use Rattle.homa_service.specs.Table.{place_of}
-use Rattle.homa_packets.specs.declared.packets.Packets.{Packets}
-use Rattle.homa_packets.specs.Kept.{AllAged}
-use Rattle.homa_packets.specs.All.{kept_all, settings_of}
+use Rattle.world_packets.specs.declared.packets.Packets.{Packets}
+use Rattle.world_packets.specs.Kept.{AllAged}
+use Rattle.world_packets.specs.All.{kept_all, settings_of}
 use Rattle.world_laws.proofs.Sent.{read}
 use Rattle.homa_world.specs.declared.parts.Last.TheVariants as last
 use Rattle.homa_world.specs.declared.parts.WorldParts.{WorldParts}
-use Rattle.homa_stage.specs.Staged.{Known, seats_of, spares_of}
+use Rattle.host_table.specs.Staged.{Known, seats_of, spares_of}
 use Rattle.homa_world.specs.Standing.{StandsFor, HostFits, SeatFits, IsKept}
 use Rattle.homa_world.proofs.PackedLaws.{shown_later, shown_aged, froms_aged, aged_length}
 

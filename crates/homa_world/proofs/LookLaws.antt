@@ -11,16 +11,16 @@ use Rattle.homa_plain.specs.Host.{Host}
 use Rattle.homa_plain.specs.Packets.{wire_packet, datagram}
 use Rattle.homa_plain.specs.World.{World as PlainWorld, SentPacket}
 use Rattle.homa_plain.proofs.WireLengths.{spelling_fits, longest_fits}
-use Rattle.homa_packets.specs.Kept.{WholePacket, LatePacket, StalePacket}
-use Rattle.homa_packets.specs.All.{kept_all}
-use Rattle.homa_packets.specs.Blocks.{Frame}
+use Rattle.world_packets.specs.Kept.{WholePacket, LatePacket, StalePacket}
+use Rattle.world_packets.specs.All.{kept_all}
+use Rattle.world_packets.specs.Blocks.{Frame}
 use Rattle.homa_world.specs.declared.parts.WorldParts.{WorldParts}
 use Rattle.homa_world.specs.declared.shown.Passing.{Passing}
 use Rattle.homa_world.specs.Passing.{IsOf}
 use Rattle.homa_world.specs.Packed.{IsShownBy}
-use Rattle.homa_seen.specs.Seen.{Seen}
-use Rattle.homa_stage.specs.Staged.{Known, hosts_of, known, known_of}
-use Rattle.homa_stage.proofs.StageLaws.{map_at}
+use Rattle.host_view.specs.Seen.{Seen}
+use Rattle.host_table.specs.Staged.{Known, hosts_of, known, known_of}
+use Rattle.host_table.proofs.StageLaws.{map_at}
 use Rattle.homa_world.specs.Standing.{StandsFor, IsKept}
 use Rattle.homa_world.proofs.EventLaws.{host_there}
 use Rattle.homa_world.proofs.PackedLaws.{seen_as, shown_length}

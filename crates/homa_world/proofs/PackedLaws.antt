@@ -8,8 +8,8 @@ use Rattle.homa_plain.specs.declared.settings.Settings.{Settings}
 use Rattle.homa_plain.specs.Wire.{packet_in}
 use Rattle.homa_plain.specs.Packets.{Packet, sender, receiver, datagram, wire_packet}
 use Rattle.homa_plain.specs.World.{SentPacket, stamped}
-use Rattle.homa_seen.specs.Frames.{frames_of, IsFormed}
-use Rattle.homa_packets.specs.Kept.{KeptPacket, WholePacket, LatePacket, StalePacket, IsAged, AllAged}
+use Rattle.host_view.specs.Frames.{frames_of, IsFormed}
+use Rattle.world_packets.specs.Kept.{KeptPacket, WholePacket, LatePacket, StalePacket, IsAged, AllAged}
 use Rattle.homa_world.specs.Packed.{IsShownBy, AreShownBy, IsFromHost, frame_kept}
 
 some_is : {A : Type 0} (x y : A) → Some x ≡ Some y → x ≡ y

@@ -6,19 +6,19 @@ use Rattle.homa_plain.specs.declared.event.Event.{Event}
 use Rattle.homa_plain.specs.Rules.{Answer}
 use Rattle.homa_plain.specs.Steps.{Work, has_run}
 use Rattle.homa_plain.specs.World.{World as PlainWorld, Outcome, Done, outcome}
-use Rattle.homa_seen.specs.Seen.{Seen}
-use Rattle.homa_packets.specs.declared.packets.Packets.{Packets}
-use Rattle.homa_packets.specs.All.{kept_all, settings_of}
+use Rattle.host_view.specs.Seen.{Seen}
+use Rattle.world_packets.specs.declared.packets.Packets.{Packets}
+use Rattle.world_packets.specs.All.{kept_all, settings_of}
 use Rattle.homa_replay.specs.Stream.{shown}
 use Rattle.homa_replay.specs.Playing.{IsApplied}
-use Rattle.world_events.specs.Named.{IsOwnStep}
-use Rattle.world_events.specs.Stepping.{answering, stepped_world, step_told, IsStepBy}
-use Rattle.homa_stage.specs.declared.stage.Stage.{Stage}
+use Rattle.event_laws.specs.Named.{IsOwnStep}
+use Rattle.event_laws.specs.Stepping.{answering, stepped_world, step_told, IsStepBy}
+use Rattle.host_table.specs.declared.stage.Stage.{Stage}
 use Rattle.homa_world.specs.declared.parts.First.TheVariants as first
 use Rattle.homa_world.specs.declared.parts.Last.TheVariants as last
 use Rattle.homa_world.specs.declared.parts.WorldParts.{WorldParts}
 use Rattle.homa_world.specs.Boxes.{Allows, all_counted, counted, may_tell}
-use Rattle.homa_stage.specs.Staged.{hosts_of, seats_of, spares_of, HasStepped}
+use Rattle.host_table.specs.Staged.{hosts_of, seats_of, spares_of, HasStepped}
 use Rattle.homa_world.specs.Packed.{frame_kept}
 use Rattle.homa_world.specs.Standing.{StandsFor, IsKept, told_of, may_tell_of}
 use Rattle.homa_world.proofs.StepLaws.{stands_after, told_after}

@@ -13,21 +13,21 @@ use Rattle.homa_plain.specs.Settings.{band}
 use Rattle.homa_plain.specs.Calls.{is_host}
 use Rattle.homa_plain.specs.Host.{new_host}
 use Rattle.homa_plain.proofs.CallOrder.{hosts_are}
-use Rattle.homa_moves.proofs.Hosts.{there, elsewhere, length-set, within, apart as apart_of}
-use Rattle.homa_seen.specs.Seen.{Seen}
+use Rattle.trace_induction.proofs.Hosts.{there, elsewhere, length-set, within, apart as apart_of}
+use Rattle.host_view.specs.Seen.{Seen}
 use Rattle.homa_service.specs.Table.{place_of, last_of, front_of}
 use Rattle.homa_replay.specs.Playing.{IsNotApplied, is_memory}
 use Rattle.plain_sets.proofs.MapLaws.{get-empty}
-use Rattle.world_events.specs.Stepping.{IsRefusal, restarted_world, shifted_world}
-use Rattle.world_events.proofs.Events as events
-use Rattle.homa_stage.specs.declared.stage.Stage.{Stage}
+use Rattle.event_laws.specs.Stepping.{IsRefusal, restarted_world, shifted_world}
+use Rattle.event_laws.proofs.Events as events
+use Rattle.host_table.specs.declared.stage.Stage.{Stage}
 use Rattle.homa_world.specs.declared.parts.Last.TheVariants as last
 use Rattle.homa_world.specs.declared.parts.WorldParts.{WorldParts}
 use Rattle.homa_world.specs.Boxes.{Allows, counted, all_counted, may_tell}
-use Rattle.homa_stage.specs.Staged.{Known, known, known_of, hosts_of, seats_of, spares_of}
-use Rattle.homa_stage.specs.Restarted.{IsAny, HasRestarted, HasNoSpare}
+use Rattle.host_table.specs.Staged.{Known, known, known_of, hosts_of, seats_of, spares_of}
+use Rattle.host_table.specs.Restarted.{IsAny, HasRestarted, HasNoSpare}
 use Rattle.homa_world.specs.Standing.{HostFits, SeatFits, IsKept, Applies, Refuses}
-use Rattle.homa_stage.proofs.StageLaws.{map_at}
+use Rattle.host_table.proofs.StageLaws.{map_at}
 use Rattle.homa_world.proofs.KeptLaws.{fits_later, seat_later, spares_later, refused_by}
 use Rattle.homa_world.proofs.EventLaws.{host_there}
 

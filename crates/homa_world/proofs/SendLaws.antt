@@ -3,10 +3,10 @@ use Rattle.std.proofs.Common.{◌≡◌, ◌<◌, ◌≤◌, ℕ, zero, suc, ◌
 use Rattle.std.specs.Prelude.{map, take, slice_get, IfSome}
 use Rattle.std.specs.List.{AllByRecursion}
 use Rattle.homa_plain.specs.declared.id.HostId.{HostId}
-use Rattle.homa_seen.specs.declared.outbox.SentFrame.{SentFrame}
-use Rattle.homa_packets.specs.declared.packets.Packets.{Packets}
-use Rattle.homa_packets.specs.Kept.{WholePacket}
-use Rattle.homa_packets.specs.All.{kept_all, settings_of, open_tick, HasRoomFor}
+use Rattle.host_view.specs.declared.outbox.SentFrame.{SentFrame}
+use Rattle.world_packets.specs.declared.packets.Packets.{Packets}
+use Rattle.world_packets.specs.Kept.{WholePacket}
+use Rattle.world_packets.specs.All.{kept_all, settings_of, open_tick, HasRoomFor}
 use Rattle.homa_world.specs.Packed.{frame_kept, IsShort}
 
 -- the first frames were sent

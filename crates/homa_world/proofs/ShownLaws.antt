@@ -9,7 +9,7 @@ use Rattle.homa_plain.specs.Entries.{PlainEntry, PlainRun}
 use Rattle.homa_plain.specs.Host.{Told, Says, Sends, entries_from}
 use Rattle.homa_plain.specs.Rules.{Answer}
 use Rattle.homa_plain.specs.Steps.{has_run}
-use Rattle.homa_steps.specs.StepLaws.{run_count}
+use Rattle.step_laws.specs.StepLaws.{run_count}
 use Rattle.homa_replay.specs.Stream.{shown}
 
 -- where no service was asked, no answer is shown

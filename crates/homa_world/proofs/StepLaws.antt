@@ -11,29 +11,29 @@ use Rattle.homa_plain.specs.Host.{Told, Says, Sends, packets_in, entries_from}
 use Rattle.homa_plain.specs.Steps.{Work}
 use Rattle.homa_plain.specs.World.{World as PlainWorld, stamped}
 use Rattle.homa_plain.proofs.WireLengths.{spelling_fits, longest_fits}
-use Rattle.homa_seen.specs.Seen.{Seen}
-use Rattle.homa_seen.specs.Frames.{frames_of, IsFormed}
+use Rattle.host_view.specs.Seen.{Seen}
+use Rattle.host_view.specs.Frames.{frames_of, IsFormed}
 use Rattle.homa_service.specs.Table.{place_of}
-use Rattle.homa_packets.specs.declared.packets.Packets.{Packets}
-use Rattle.homa_packets.specs.All.{kept_all, settings_of}
-use Rattle.homa_steps.proofs.Places.{all-append}
-use Rattle.homa_moves.proofs.Hosts.{there, elsewhere, length-set, apart as apart_of}
+use Rattle.world_packets.specs.declared.packets.Packets.{Packets}
+use Rattle.world_packets.specs.All.{kept_all, settings_of}
+use Rattle.step_laws.proofs.Places.{all-append}
+use Rattle.trace_induction.proofs.Hosts.{there, elsewhere, length-set, apart as apart_of}
 use Rattle.homa_plain.proofs.CallOrder.{hosts_are}
 use Rattle.homa_plain.specs.Calls.{is_host}
-use Rattle.told_lines.specs.Told.{HasOwnName}
-use Rattle.world_events.specs.Named.{IsOwnStep, IsOfStep, numbered}
-use Rattle.world_events.specs.Apart.{IsApart, IsApartStep}
-use Rattle.world_events.specs.Stepping.{stepped_world, step_told}
-use Rattle.world_events.proofs.Names.{renumber}
-use Rattle.homa_stage.specs.declared.stage.Stage.{Stage}
+use Rattle.trace_lines.specs.Told.{HasOwnName}
+use Rattle.event_laws.specs.Named.{IsOwnStep, IsOfStep, numbered}
+use Rattle.event_laws.specs.Apart.{IsApart, IsApartStep}
+use Rattle.event_laws.specs.Stepping.{stepped_world, step_told}
+use Rattle.event_laws.proofs.Names.{renumber}
+use Rattle.host_table.specs.declared.stage.Stage.{Stage}
 use Rattle.homa_world.specs.declared.parts.First.{First}
 use Rattle.homa_world.specs.declared.parts.Last.TheVariants as last
 use Rattle.homa_world.specs.declared.parts.WorldParts.{WorldParts}
-use Rattle.homa_stage.specs.Staged.{Known, known, known_of, hosts_of, seats_of, spares_of, HasStepped}
+use Rattle.host_table.specs.Staged.{Known, known, known_of, hosts_of, seats_of, spares_of, HasStepped}
 use Rattle.homa_world.specs.Packed.{frame_kept, IsShort, IsFromHost, AreShownBy}
-use Rattle.homa_stage.specs.Left.{IsFew, HasLeft, entries_of}
+use Rattle.host_table.specs.Left.{IsFew, HasLeft, entries_of}
 use Rattle.homa_world.specs.Standing.{StandsFor, HostFits, SeatFits, IsKept, first_told, told_of}
-use Rattle.homa_stage.proofs.StageLaws.{map_at}
+use Rattle.host_table.proofs.StageLaws.{map_at}
 use Rattle.homa_world.proofs.PackedLaws.{shown_more, shown_sent, shown_length, froms_sent}
 use Rattle.homa_world.proofs.KeptLaws.{fits_later, spares_later}
 

@@ -6,10 +6,10 @@ use Rattle.homa_plain.specs.Entries.{PlainEntry}
 use Rattle.homa_plain.specs.Packets.{Packet, sender, receiver}
 use Rattle.homa_plain.specs.Steps.{arrival_step}
 use Rattle.homa_plain.specs.World.{World as PlainWorld}
-use Rattle.homa_seen.specs.Seen.{Seen}
-use Rattle.world_events.specs.Stepping.{IsStepWith}
-use Rattle.homa_stage.specs.declared.stage.Stage.{Stage}
-use Rattle.homa_stage.specs.Staged.{hosts_of, HasCome}
+use Rattle.host_view.specs.Seen.{Seen}
+use Rattle.event_laws.specs.Stepping.{IsStepWith}
+use Rattle.host_table.specs.declared.stage.Stage.{Stage}
+use Rattle.host_table.specs.Staged.{hosts_of, HasCome}
 use Rattle.homa_world.specs.declared.parts.WorldParts.{WorldParts}
 use Rattle.homa_world.specs.Boxes.{Allows}
 use Rattle.homa_world.specs.Standing.{StandsFor}

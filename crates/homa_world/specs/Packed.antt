@@ -3,9 +3,9 @@ use Rattle.std.specs.Prelude.{◌≡◌, ◌≢◌, ◌<◌, ◌≤◌, length, 
 use Rattle.homa_plain.specs.declared.settings.Settings.{Settings}
 use Rattle.homa_plain.specs.Packets.{sender, receiver, datagram}
 use Rattle.homa_plain.specs.World.{SentPacket}
-use Rattle.homa_seen.specs.Frames.{IsFormed}
-use Rattle.homa_seen.specs.declared.outbox.SentFrame.{SentFrame}
-use Rattle.homa_packets.specs.Kept.{KeptPacket, WholePacket, LatePacket, StalePacket}
+use Rattle.host_view.specs.Frames.{IsFormed}
+use Rattle.host_view.specs.declared.outbox.SentFrame.{SentFrame}
+use Rattle.world_packets.specs.Kept.{KeptPacket, WholePacket, LatePacket, StalePacket}
 
 -- what is kept of a packet, at a tick: its datagram; or that it is late for good, or certainly stale
 abbrev pub IsShownBy : Settings → ℕ → SentPacket → KeptPacket → Type 0

@@ -9,18 +9,18 @@ use Rattle.homa_plain.specs.World.{World as PlainWorld, last_tick}
 use Rattle.homa_plain.specs.Replay.{Happening}
 use Rattle.homa_plain.specs.declared.fault.WorldFault.{WorldFault}
 use Rattle.homa_replay.specs.Playing.{IsApplied, IsNotApplied}
-use Rattle.told_lines.specs.Told.{HasOwnName}
+use Rattle.trace_lines.specs.Told.{HasOwnName}
 use Rattle.homa_service.specs.Table.{place_of}
-use Rattle.homa_packets.specs.All.{kept_all, settings_of}
-use Rattle.world_events.specs.Named.{numbered}
-use Rattle.world_events.specs.Apart.{IsApart}
+use Rattle.world_packets.specs.All.{kept_all, settings_of}
+use Rattle.event_laws.specs.Named.{numbered}
+use Rattle.event_laws.specs.Apart.{IsApart}
 use Rattle.homa_world.specs.declared.parts.First.{First}
 use Rattle.homa_world.specs.declared.parts.First.TheVariants as first
 use Rattle.homa_world.specs.declared.parts.Last.{Last}
 use Rattle.homa_world.specs.declared.parts.Last.TheVariants as last
 use Rattle.homa_world.specs.declared.parts.WorldParts.{WorldParts}
-use Rattle.homa_stage.specs.Left.{entries_of, HasLeft}
-use Rattle.homa_stage.specs.Staged.{hosts_of, Known, known_of, seats_of, spares_of}
+use Rattle.host_table.specs.Left.{entries_of, HasLeft}
+use Rattle.host_table.specs.Staged.{hosts_of, Known, known_of, seats_of, spares_of}
 use Rattle.homa_world.specs.Packed.{AreShownBy, IsFromHost}
 use Rattle.homa_world.specs.Boxes.{Allows, counted, all_counted, may_tell}
 

@@ -3,19 +3,19 @@ ghost use Rattle.std.specs.Prelude.{◌≡◌, ◌≤◌, ◌<◌, ◌+◌, ◌^
 ghost use Rattle.homa_plain.specs.Entries.{PlainDeliver};
 ghost use Rattle.homa_plain.specs.World.{stranger as plain_stranger};
 ghost use Rattle.homa_plain.specs.declared.event.Event.TheVariants as event;
-ghost use Rattle.homa_packets.specs.All.{kept_all, open_tick, HasRoomFor};
-ghost use Rattle.homa_packets.specs.Kept.{StalePacket};
-ghost use Rattle.homa_packets.specs.Olds.{TellsClock};
+ghost use Rattle.world_packets.specs.All.{kept_all, open_tick, HasRoomFor};
+ghost use Rattle.world_packets.specs.Kept.{StalePacket};
+ghost use Rattle.world_packets.specs.Olds.{TellsClock};
 ghost use Rattle.homa_world.specs.declared.parts.Last.TheVariants as last;
 ghost use Rattle.homa_world.specs.Arrived.{HasArrived};
 ghost use Rattle.homa_world.specs.Standing.{IsKept, Applies, Refuses, StillStands, AllowsNoMore};
 
 use crate::parts::{First, WorldParts, clock_of};
-use homa_packets::Kept;
 use homa_plain::{Body, Frame, HostId, Packet, Role, Settings, WorldFault};
 use homa_service::Service;
 use homa_wire::{decode, encode};
 use std::alloc::{AllocError, Global};
+use world_packets::Kept;
 
 impl<S: Service> WorldParts<S> {
     /// The packet with this number comes to its receiver.

@@ -2,8 +2,8 @@
 ghost use Rattle.std.specs.Prelude.{◌≡◌, ◌≤◌, ◌<◌, ◌+◌, ◌^◌, ℕ, Some, List, length, slice_get};
 ghost use Rattle.homa_plain.specs.Entries.{plain};
 ghost use Rattle.homa_text.specs.Told.{HasLine};
-ghost use Rattle.world_events.specs.Named.{numbered as plain_numbered};
-ghost use Rattle.homa_stage.specs.Left.{IsFew};
+ghost use Rattle.event_laws.specs.Named.{numbered as plain_numbered};
+ghost use Rattle.host_table.specs.Left.{IsFew};
 ghost use Rattle.homa_world.specs.Standing.{first_told, told_of, IsKept};
 
 use crate::parts::{First, Last, WorldParts};

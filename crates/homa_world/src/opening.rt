@@ -2,16 +2,16 @@
 ghost use Rattle.std.specs.Prelude.{◌≡◌, ◌≤◌, IfOk, map, take, drop, length};
 ghost use Rattle.std.specs.List.{AllByRecursion};
 ghost use Rattle.homa_plain.specs.Settings.{IsValid};
-ghost use Rattle.homa_stage.specs.Staged.{seats_of, spares_of};
+ghost use Rattle.host_table.specs.Staged.{seats_of, spares_of};
 ghost use Rattle.homa_world.specs.First.{IsFirstAt};
 ghost use Rattle.homa_world.specs.Standing.{StandsFor, IsKept};
 
 use crate::parts::{Last, WorldParts};
-use homa_packets::Packets;
 use homa_plain::Settings;
 use homa_service::Service;
-use homa_stage::Stage;
+use host_table::Stage;
 use std::alloc::{AllocError, Global};
+use world_packets::Packets;
 
 impl<S: Service> WorldParts<S> {
     /// So many hosts as the settings say, each in its first life, at tick `start` of the clock, with an own clock that is `skew`

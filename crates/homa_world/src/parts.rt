@@ -3,21 +3,21 @@ ghost use Rattle.std.specs.Prelude.{◌≡◌, ◌≤◌, ◌<◌, ◌+◌, ◌^
 ghost use Rattle.std.specs.List.{AllByRecursion};
 ghost use Rattle.homa_plain.specs.declared.event.Event.TheVariants as event;
 ghost use Rattle.homa_plain.specs.Entries.{plain};
-ghost use Rattle.homa_seen.specs.declared.outbox.SentFrame.{SentFrame};
-ghost use Rattle.homa_packets.specs.Kept.{WholePacket};
-ghost use Rattle.homa_packets.specs.All.{kept_all, settings_of, open_tick, HasRoomFor};
+ghost use Rattle.host_view.specs.declared.outbox.SentFrame.{SentFrame};
+ghost use Rattle.world_packets.specs.Kept.{WholePacket};
+ghost use Rattle.world_packets.specs.All.{kept_all, settings_of, open_tick, HasRoomFor};
 ghost use Rattle.homa_text.specs.Told.{HasLine};
 ghost use Rattle.homa_world.specs.declared.parts.Last.TheVariants as last;
-ghost use Rattle.homa_stage.specs.Staged.{hosts_of, frames_of};
+ghost use Rattle.host_table.specs.Staged.{hosts_of, frames_of};
 ghost use Rattle.homa_world.specs.Packed.{frame_kept, IsShort};
 ghost use Rattle.homa_world.specs.Standing.{told_of, IsKept, Applies, Refuses, StillStands, AllowsNoMore};
 
-use homa_packets::Packets;
 use homa_plain::{HostId, Settings, WorldFault};
-use homa_seen::Outbox;
 use homa_service::Service;
-use homa_stage::Stage;
+use host_table::Stage;
+use host_view::Outbox;
 use std::alloc::{AllocError, Global};
+use world_packets::Packets;
 
 /// The last tick of the clock.
 const LAST_TICK: u64 = 1_000_000_000_000;

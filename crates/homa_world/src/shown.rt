@@ -8,9 +8,9 @@ ghost use Rattle.homa_world.specs.Passing.{IsOf};
 ghost use Rattle.homa_world.specs.Standing.{StandsFor, IsKept};
 
 use crate::parts::WorldParts;
-use homa_packets::Kept;
 use homa_plain::HostId;
 use homa_service::Service;
+use world_packets::Kept;
 
 /// What is shown of a packet on its way: its receiver, its level, how many bytes its datagram has, and the tick of its
 /// sending.

@@ -36,7 +36,7 @@ impl<S: Service> World<S> {
     ghost use Rattle.std.specs.Prelude.{IfOk, List, ◌∷◌};
     ghost use Rattle.homa_plain.specs.Entries.{PlainEntry, PlainSettings};
     ghost use Rattle.homa_plain.specs.Settings.{IsValid};
-    ghost use Rattle.homa_stage.specs.Staged.{hosts_of};
+    ghost use Rattle.host_table.specs.Staged.{hosts_of};
     ghost use Rattle.homa_world.specs.First.{IsFirstAt, AreAllowed};
     ghost use Rattle.homa_world.specs.Standing.{StandsFor, may_tell_of};
 

@@ -1,5 +1,1 @@
-pub mod Stood
-pub mod Pages
-pub mod Duty
-pub mod Ends
-pub mod SameRows
+pub mod Duties

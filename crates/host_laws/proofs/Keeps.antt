@@ -18,9 +18,9 @@ use Rattle.homa_plain.specs.Timers.{Place, OfClient, OfServer}
 use Rattle.homa_plain.specs.Sending.{Arriving, arrivals, Leaving, leaving_key, departures, client_granted, server_granted, state_granted, while_new, client_sends, state_sends, response_content}
 use Rattle.homa_plain.specs.Steps.{Work, now_of, client_is_granted, server_is_granted, grants_at, all_granted, gives_grants, request_leaves, response_leaves, client_leaves, state_leaves, server_leaves, leaves_from, first_leaves, pumped_once, pumps, pump, ended}
 use Rattle.homa_plain.proofs.CallOrder.{calls_are}
-use Rattle.homa_steps.proofs.Others.{get-set_row, set_row-others}
-use Rattle.homa_steps.proofs.StepEnd.{left}
-use Rattle.homa_seen.specs.Marks.{request_of, response_of, response_in}
+use Rattle.step_laws.proofs.Others.{get-set_row, set_row-others}
+use Rattle.step_laws.proofs.StepEnd.{left}
+use Rattle.host_view.specs.Marks.{request_of, response_of, response_in}
 use Rattle.host_laws.specs.Bytes.{KeepsBytes}
 
 abbrev KeepsTo : Work → Work → Type 0

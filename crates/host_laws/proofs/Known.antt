@@ -20,7 +20,7 @@ use Rattle.homa_plain.specs.AtClient as client
 use Rattle.homa_plain.specs.AtServer.{piece_comes, runs, opens, piece_of, unknown_gets, receiving_gets, held_gets, replying_gets, buried_gets, row_gets, server_gets, state_acked, server_acked}
 use Rattle.homa_plain.specs.Timers.{client_acts, server_acts, state_acts}
 use Rattle.homa_plain.specs.Sending.{client_granted, granted_part, while_new, client_sends, state_granted, state_sends}
-use Rattle.homa_steps.proofs.Others.{get-set_row, set_row-others}
+use Rattle.step_laws.proofs.Others.{get-set_row, set_row-others}
 use Rattle.homa_plain.proofs.CallOrder.{calls_are}
 use Rattle.host_laws.specs.Peers.{KnowsServer, KnowsSender, KnowsClient, KnowsPeers}
 

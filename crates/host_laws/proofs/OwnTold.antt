@@ -24,10 +24,10 @@ use Rattle.homa_plain.specs.AtServer.{piece_comes, runs, opens, piece_of, unknow
 use Rattle.homa_plain.specs.Timers.{Place, OfClient, OfServer, resend_of, wanted, client_acts, server_acts, state_acts}
 use Rattle.homa_plain.specs.Choice.{Granted, grants, least}
 use Rattle.homa_plain.specs.Sending.{Arriving, arrivals, Leaving, leaving_key, departures, response_content}
-use Rattle.homa_steps.proofs.StepEnd.{left}
+use Rattle.step_laws.proofs.StepEnd.{left}
 use Rattle.plain_sets.specs.Ranges.{Range}
 use Rattle.homa_plain.specs.Steps.{Work, now_of, tells, notes, tells_cutoffs, acknowledged, finishes, said, asked, served, moment, is_newer, hears_cutoffs, comes_to_row, client_acted, server_acted, acts_at, client_is_granted, server_is_granted, grants_at, all_granted, gives_grants, request_leaves, response_leaves, client_leaves, state_leaves, server_leaves, leaves_from, first_leaves, pumped_once, pumps, ended}
-use Rattle.homa_steps.proofs.Places.{all-append}
+use Rattle.step_laws.proofs.Places.{all-append}
 use Rattle.host_laws.specs.Bytes.{IsOwnEntry, IsOwnTold}
 
 -- what a rule says is told of the host at its clock

@@ -4,7 +4,7 @@ use Rattle.std.specs.Prelude.{◌==◌, nat_lt, IfSome, unwrap_or}
 use Rattle.std.specs.List.{AllByRecursion, Contains}
 use Rattle.std.proofs.lemmas.Bool.{cond_both}
 use Rattle.plain_sets.specs.Maps.{get}
-use Rattle.homa_steps.proofs.Places.{all-append}
+use Rattle.step_laws.proofs.Places.{all-append}
 use Rattle.homa_plain.specs.declared.id.CallId.{CallId}
 use Rattle.homa_plain.specs.declared.id.HostId.{HostId}
 use Rattle.homa_plain.specs.declared.packet.Role.{Role}
@@ -22,12 +22,12 @@ use Rattle.homa_plain.specs.AtServer.{server_acked}
 use Rattle.homa_plain.specs.Timers.{Place, OfClient, OfServer, Timer, timer_key, timers, client_acts, server_acts}
 use Rattle.homa_plain.specs.Steps.{Work, now_of, begun, refilled, tells, notes, tells_cutoffs, acknowledged, finishes, said, asked, served, moment, is_newer, hears_cutoffs, comes_to_row, acked, takes, is_stale, comes, client_acted, server_acted, acts_at, all_act, acts, next_id, starts, call_step, arrival_step, turn_step, new_call}
 use Rattle.homa_plain.specs.Host.{peer_cutoffs}
-use Rattle.homa_seen.specs.declared.outbox.SentFrame.{SentFrame}
-use Rattle.homa_seen.specs.Seen.{Seen}
-use Rattle.homa_seen.specs.Marks.{shown, mark_of, marks_from, request_of, response_of, IsReply, IsWhole, IsShown}
+use Rattle.host_view.specs.declared.outbox.SentFrame.{SentFrame}
+use Rattle.host_view.specs.Seen.{Seen}
+use Rattle.host_view.specs.Marks.{shown, mark_of, marks_from, request_of, response_of, IsReply, IsWhole, IsShown}
 use Rattle.host_laws.proofs.Keeps.{ended-keeps}
-use Rattle.homa_steps.proofs.Others.{get-set_row}
-use Rattle.homa_steps.proofs.OneAnswer.{answer_told}
+use Rattle.step_laws.proofs.Others.{get-set_row}
+use Rattle.step_laws.proofs.OneAnswer.{answer_told}
 use Rattle.plain_sets.proofs.OrderFirst.{all_from}
 use Rattle.std.specs.Option.{option_map}
 use Rattle.host_laws.specs.Bytes.{IsOwnEntry, IsOwnTold}

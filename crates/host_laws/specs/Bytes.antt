@@ -4,7 +4,7 @@ use Rattle.homa_plain.specs.declared.id.CallId.{CallId}
 use Rattle.homa_plain.specs.declared.id.HostId.{HostId}
 use Rattle.homa_plain.specs.Entries.{PlainEntry, PlainJunk, PlainStale, PlainBalance, PlainRun, PlainDone, PlainFail, PlainDrop, PlainGaps, PlainBury, PlainFree, PlainFullRows, PlainFullPages}
 use Rattle.homa_plain.specs.Host.{Host, Told, Says, Sends}
-use Rattle.homa_seen.specs.Marks.{request_of, response_of}
+use Rattle.host_view.specs.Marks.{request_of, response_of}
 
 -- the requests of the calls that a host made, and the responses of those that it serves, stay
 pub record KeepsBytes (old new : Host) : Type 0 where

@@ -13,8 +13,8 @@ ghost use Rattle.homa_plain.specs.Sending.{client_granted, client_sends, state_g
 ghost use Rattle.std.specs.List.{AllByRecursion};
 ghost use Rattle.homa_plain.specs.declared.packet.Role.TheVariants.{Server as OfServer};
 ghost use Rattle.homa_plain.specs.Steps.{Work, ended, call_step, arrival_step, turn_step};
-ghost use Rattle.homa_seen.specs.Seen.{Seen};
-ghost use Rattle.homa_seen.specs.Marks.{marks_from, IsAnswer, IsWhole, IsShown};
+ghost use Rattle.host_view.specs.Seen.{Seen};
+ghost use Rattle.host_view.specs.Marks.{marks_from, IsAnswer, IsWhole, IsShown};
 ghost use Rattle.host_laws.specs.Bytes.{KeepsBytes};
 ghost use Rattle.host_laws.specs.Peers.{KnowsServer, KnowsSender, KnowsClient, KnowsPeers};
 

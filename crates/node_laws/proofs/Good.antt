@@ -29,9 +29,9 @@ use Rattle.homa_plain.specs.Sending.{Content, granted_part, state_granted, clien
 use Rattle.homa_plain.specs.Steps.{Work, now_of, tells, packet_from, bare, posts, said, notes, tells_cutoffs, acknowledged, finishes, asked, served, client_is_granted, server_is_granted, spent, oldest, request_leaves, response_leaves}
 use Rattle.homa_plain.proofs.CallOrder.{calls_are}
 use Rattle.homa_plain.proofs.CutoffLaws.{length-balanced, high-balanced}
-use Rattle.homa_steps.proofs.Others.{get-set_row, set_row-others}
-use Rattle.homa_steps.proofs.ToldBy.{packets_in-append}
-use Rattle.homa_steps.proofs.Places.{all-append}
+use Rattle.step_laws.proofs.Others.{get-set_row, set_row-others}
+use Rattle.step_laws.proofs.ToldBy.{packets_in-append}
+use Rattle.step_laws.proofs.Places.{all-append}
 use Rattle.world_laws.specs.Sound.{IsSent, HasNumbers, IsId, FitSays, IsArriving, IsClientRow, IsState, AreCutoffs}
 use Rattle.world_laws.proofs.Sent.{content_sent, request_sent, response_sent}
 use Rattle.node_laws.proofs.Parts.{part_sent, arriving_granted}

@@ -31,9 +31,9 @@ use Rattle.homa_plain.specs.Timers.{Place, OfClient, OfServer}
 use Rattle.homa_plain.specs.Sending.{Arriving, arrivals}
 use Rattle.homa_plain.specs.Steps.{Work, now_of, begun, is_newer, hears_cutoffs, comes_to_row, acked, takes, is_stale, comes, moment, refilled, client_acted, server_acted, acts_at, acts, grants_at, gives_grants, client_is_granted, server_is_granted, ended, next_id, new_call, starts, start_fault, call_step, arrival_step, turn_step}
 use Rattle.homa_plain.proofs.ChoiceLaws.{grant-chosen, few-chosen}
-use Rattle.homa_moves.proofs.Hosts.{none_some}
-use Rattle.homa_moves.proofs.Chosen.{IsTimerAt, IsArrivingAt, IsGrantAt, grants_of, message_of}
-use Rattle.homa_moves.proofs.Folds.{turn_kept, grants_kept, pump_kept, PieceKeeps}
+use Rattle.trace_induction.proofs.Hosts.{none_some}
+use Rattle.trace_induction.proofs.Chosen.{IsTimerAt, IsArrivingAt, IsGrantAt, grants_of, message_of}
+use Rattle.trace_induction.proofs.Folds.{turn_kept, grants_kept, pump_kept, PieceKeeps}
 use Rattle.world_laws.specs.Sound.{IsSent, IsId, IsMessage, IsClientRow}
 use Rattle.node_runs.specs.Replayed.{IsAnswer}
 use Rattle.node_laws.proofs.Parts.{part_opened}

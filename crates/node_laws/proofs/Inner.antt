@@ -19,16 +19,16 @@ use Rattle.homa_plain.specs.Rules.{Answer, Did}
 use Rattle.homa_plain.specs.Timers.{Place, OfClient, OfServer, client_acts, server_acts}
 use Rattle.homa_plain.specs.Sending.{client_granted, client_sends}
 use Rattle.homa_plain.specs.Steps.{Work, begun, now_of, moment, asked, served, hears_cutoffs, comes_to_row, takes, is_stale, comes, client_acted, server_acted, acts_at, acts, ended, next_id, new_call, starts, refilled, call_step, arrival_step, turn_step}
-use Rattle.told_lines.specs.Told.{HasOwnName}
-use Rattle.told_lines.proofs.Lines.{AllInner, inner-append}
-use Rattle.homa_told.proofs.Own.{AllOwn, gets_own, acked_own, server_acts_own, gets_quiet, client_acts_quiet}
-use Rattle.homa_told.proofs.Moves.{IsMove, served_told, served-move}
-use Rattle.homa_told.proofs.AskedMove.{asked_told, asked-move}
-use Rattle.homa_told.proofs.SendMoves.{server_granted-move, client_granted-move, response_leaves-move, request_leaves-move, says-move, hears-move}
-use Rattle.homa_moves.proofs.Hosts.{none_some}
-use Rattle.homa_moves.proofs.ToldMoves.{own_set}
-use Rattle.homa_moves.proofs.Chosen.{IsTimerAt}
-use Rattle.homa_moves.proofs.Folds.{acked_kept, turn_kept, ended_kept, GrantKeeps, PieceKeeps}
+use Rattle.trace_lines.specs.Told.{HasOwnName}
+use Rattle.trace_lines.proofs.Lines.{AllInner, inner-append}
+use Rattle.trace_moves.proofs.Own.{AllOwn, gets_own, acked_own, server_acts_own, gets_quiet, client_acts_quiet}
+use Rattle.trace_moves.proofs.Moves.{IsMove, served_told, served-move}
+use Rattle.trace_moves.proofs.AskedMove.{asked_told, asked-move}
+use Rattle.trace_moves.proofs.SendMoves.{server_granted-move, client_granted-move, response_leaves-move, request_leaves-move, says-move, hears-move}
+use Rattle.trace_induction.proofs.Hosts.{none_some}
+use Rattle.trace_induction.proofs.ToldMoves.{own_set}
+use Rattle.trace_induction.proofs.Chosen.{IsTimerAt}
+use Rattle.trace_induction.proofs.Folds.{acked_kept, turn_kept, ended_kept, GrantKeeps, PieceKeeps}
 
 -- ---- what a step tells: some lines first, and inner lines behind them
 

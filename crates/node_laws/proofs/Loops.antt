@@ -19,8 +19,8 @@ use Rattle.homa_plain.specs.Rules.{Answer}
 use Rattle.homa_plain.specs.Steps.{Work, start_fault, call_step, arrival_step, turn_step}
 use Rattle.homa_plain.specs.World.{World, After, Outcome, Refused, Done, outcome, host_at, own_clock, next_answer, stepped, started, calls_from, turns, arrives_at, new_world, last_tick, new_hosts}
 use Rattle.homa_plain.specs.Replay.{Happening, carried}
-use Rattle.told_lines.specs.Told.{HasOwnName}
-use Rattle.homa_moves.proofs.Always.{hosts_new}
+use Rattle.trace_lines.specs.Told.{HasOwnName}
+use Rattle.trace_induction.proofs.Always.{hosts_new}
 use Rattle.node_laws.proofs.Inner.{new_named}
 use Rattle.node_runs.specs.Script.{Place, Local, Remote, Setup, TimedCall, Refusal, Calls, Opening, Opened, opening}
 use Rattle.node_runs.specs.Course.{AreTicks, Report, Tells, Turning, Arrival, RefusedAt, Node, Course, GoesOn, Stops, ◌>>=◌, goes, follows, starts, packet_from, arrival_outcome, most_received, hears, has_turn, hosts_act, locals, clock_stands, ends, loop_turn, loop_turns, first_inc, new_node, run_of, run_opened, node_run}
@@ -31,7 +31,7 @@ use Rattle.node_laws.proofs.OfNode.{node_of}
 use Rattle.node_laws.proofs.Opening.{IsCallGiven, opening_is}
 use Rattle.node_laws.proofs.Good.{IsGoodHost}
 use Rattle.node_laws.proofs.GoodSteps.{new_good}
-use Rattle.homa_moves.proofs.Hosts.{within, some_is}
+use Rattle.trace_induction.proofs.Hosts.{within, some_is}
 use Rattle.homa_plain.specs.Script.{most_bytes}
 use Rattle.node_laws.proofs.Carried.{respared, IsRun, run_none, run_clocks, clock_lines}
 use Rattle.node_laws.proofs.Noted.{kept_all, usual-append, events_first, events_none, usual_first, AreNotes, clock_notes}

@@ -17,8 +17,8 @@ use Rattle.homa_plain.specs.Host.{Told, Says, Sends, packets_in, entries_from}
 use Rattle.homa_plain.specs.World.{SentPacket, stamped}
 use Rattle.homa_plain.specs.Replay.{Happening}
 use Rattle.homa_plain.proofs.CallOrder.{hosts_are}
-use Rattle.homa_steps.proofs.Places.{all-append}
-use Rattle.told_lines.proofs.Lines.{IsSaid, AllInner}
+use Rattle.step_laws.proofs.Places.{all-append}
+use Rattle.trace_lines.proofs.Lines.{IsSaid, AllInner}
 use Rattle.node_runs.specs.Course.{Report, Tells}
 use Rattle.node_runs.specs.Recorder.{Kept, Notes, Kind, Sent, Junk, Strange, is_same, greatest, kind_by, kind_of, kind_in, strange, events, in_life, still, sent_packet, keeps, kept}
 use Rattle.node_runs.specs.Replayed.{recorded_events, NoneStrange}

@@ -21,16 +21,16 @@ use Rattle.homa_plain.specs.Host.{Host, Told, packets_in, entries_from}
 use Rattle.homa_plain.specs.Steps.{Work, start_fault, next_id, call_step, arrival_step, turn_step, has_run}
 use Rattle.homa_plain.specs.World.{World, SentPacket, After, Refused, Done, outcome, host_at, own_clock, next_answer, answers_left, stamped, stepped, started, calls_from, turns, arrives_at, last_tick}
 use Rattle.homa_plain.specs.Replay.{Happening, bare}
-use Rattle.homa_moves.proofs.Hosts.{there, elsewhere, within, some_is, number_of, apart}
+use Rattle.trace_induction.proofs.Hosts.{there, elsewhere, within, some_is, number_of, apart}
 use Rattle.homa_plain.specs.Bytes.{IsBytes}
 use Rattle.homa_plain.specs.Settings.{IsValid}
 use Rattle.homa_plain.specs.Rules.{Answer}
-use Rattle.homa_steps.proofs.Places.{all-append}
+use Rattle.step_laws.proofs.Places.{all-append}
 use Rattle.world_laws.specs.Sound.{IsSent}
 use Rattle.node_laws.proofs.Good.{IsGoodHost, IsGoodWork, IsSentNow}
 use Rattle.node_laws.proofs.GoodSteps.{call_good, arrival_good, turn_good}
-use Rattle.told_lines.specs.Told.{HasOwnName}
-use Rattle.told_lines.proofs.Lines.{AllInner}
+use Rattle.trace_lines.specs.Told.{HasOwnName}
+use Rattle.trace_lines.proofs.Lines.{AllInner}
 use Rattle.world_laws.proofs.Sent.{read, between}
 use Rattle.node_runs.specs.Course.{Report, Tells, Turning, Arrival, packet_from, arrival_outcome}
 use Rattle.node_runs.specs.Recorder.{Notes, no_notes, Kind, Sent, Junk, Strange, kind_of, kind_in, kind_events, is_strange, strange, events, kept}

@@ -1,5 +1,5 @@
 use Rattle.std.proofs.Common.{refl}
-use Rattle.homa_seen.specs.Marks.{has_ran}
+use Rattle.host_view.specs.Marks.{has_ran}
 use Rattle.driven_host.proofs.Steps.{stepped, delivered, asked_once}
 use Rattle.driven_host.proofs.tests.comes.Goals as goal
 

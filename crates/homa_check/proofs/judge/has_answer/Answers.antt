@@ -1,5 +1,5 @@
 use Rattle.std.proofs.Common.{◌∙◌}
-use Rattle.homa_trace.proofs.RunLaws.{answers_is, no_answers}
+use Rattle.check_lines.proofs.RunLaws.{answers_is, no_answers}
 use Rattle.homa_check.proofs.judge.has_answer.Goals as goal
 
 pub returns-in-Some : goal.returns-in-Some

@@ -1,7 +1,7 @@
 use Rattle.std.proofs.Common.{◌∙◌, ap, List, length, take}
 use Rattle.plain_sets.specs.Ordered.{ordered, firsts}
-use Rattle.homa_kept.specs.declared.choice.Message.{Message}
-use Rattle.homa_kept.specs.Choices.{sender_of, key_of}
+use Rattle.check_call.specs.declared.choice.Message.{Message}
+use Rattle.check_call.specs.Choices.{sender_of, key_of}
 use Rattle.homa_check.specs.Grants.{is_grant_among}
 use Rattle.homa_check.proofs.GrantLaws.{granted_is}
 use Rattle.homa_check.proofs.judge.has_grant.Goals as goal

@@ -1,6 +1,6 @@
 use Rattle.std.proofs.Common.{◌∙◌, sym, ap}
 use Rattle.homa_plain.specs.Judge as tests
-use Rattle.homa_trace.proofs.Readings.{made_is}
+use Rattle.check_lines.proofs.Readings.{made_is}
 use Rattle.homa_check.proofs.judge.is_made.Goals as goal
 
 pub returns-in-Some : goal.returns-in-Some

@@ -1,9 +1,9 @@
 use Rattle.std.proofs.Common.{◌≡◌, ◌∙◌, sym, ap, Some, None, subst, List}
 use Rattle.std.specs.Prelude.{slice_get}
 use Rattle.std.proofs.lemmas.Option.{slice_get-get_or}
-use Rattle.homa_trace.specs.declared.host.Host.{Host}
-use Rattle.homa_trace.specs.Traces.{host_at}
-use Rattle.homa_trace.proofs.Hosts.{none_beyond}
+use Rattle.check_lines.specs.declared.host.Host.{Host}
+use Rattle.check_lines.specs.Traces.{host_at}
+use Rattle.check_lines.proofs.Hosts.{none_beyond}
 use Rattle.homa_check.proofs.MessageLaws.{known_messages, no_messages}
 use Rattle.homa_check.proofs.judge.messages_at.Goals as goal
 

@@ -1,7 +1,7 @@
 use Rattle.std.proofs.Common.{◌∙◌, sym, ap}
 use Rattle.homa_plain.specs.Judge as tests
 use Rattle.homa_plain.specs.Entries.{plain}
-use Rattle.homa_trace.proofs.RunLaws.{once_is, and_then, and_else}
+use Rattle.check_lines.proofs.RunLaws.{once_is, and_then, and_else}
 use Rattle.homa_check.proofs.judge.runs_once.Goals as goal
 
 pub returns-then-may_run : goal.returns-then-may_run

@@ -1,9 +1,9 @@
 use Rattle.std.proofs.Common.{◌∙◌, sym, ap}
 use Rattle.homa_plain.specs.Entries.{plain}
 use Rattle.homa_plain.specs.Seen.{seen}
-use Rattle.homa_trace.specs.Sends.{keeps_window}
+use Rattle.check_lines.specs.Sends.{keeps_window}
 use Rattle.homa_check.proofs.StepLaws.{windows_kept, window_left, shape_and_once}
-use Rattle.homa_trace.proofs.LineLaws.{both}
+use Rattle.check_lines.proofs.LineLaws.{both}
 use Rattle.homa_check.proofs.step.take_judged.Goals as goal
 
 pub returns-then-are_within-clause-judged : goal.returns-then-are_within-clause-judged

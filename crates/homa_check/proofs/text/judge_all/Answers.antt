@@ -4,7 +4,7 @@ use Rattle.homa_io.specs.Outside.{HasRisen}
 use Rattle.homa_plain.specs.View.{nothing_seen}
 use Rattle.homa_text.proofs.Taking.{unread-nil}
 use Rattle.homa_text.specs.Lines.{reading}
-use Rattle.homa_verdict.specs.Verdict as plain
+use Rattle.check_text.specs.Verdict as plain
 use Rattle.homa_check.specs.Clauses.{clause_of}
 use Rattle.homa_check.proofs.LoopLaws.{start_due, read_further}
 use Rattle.homa_check.proofs.text.judge_all.Goals as goal

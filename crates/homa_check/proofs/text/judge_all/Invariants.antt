@@ -2,8 +2,8 @@ use Rattle.std.proofs.Common.{◌≡◌, ◌-◌, ◌≤◌, ℕ, List, Some, le
 use Rattle.homa_io.specs.Outside.{unread}
 use Rattle.homa_plain.specs.View.{View}
 use Rattle.homa_text.specs.Lines.{reading}
-use Rattle.homa_verdict.specs.Verdict.{verdict_of}
-use Rattle.homa_trace.specs.Traces.{Follows}
+use Rattle.check_text.specs.Verdict.{verdict_of}
+use Rattle.check_lines.specs.Traces.{Follows}
 use Rattle.homa_check.specs.Checks.{verdict_next}
 use Rattle.homa_check.proofs.text.judge_all.Given as goal
 

@@ -2,7 +2,7 @@
 use Rattle.std.proofs.Common.{◌≤◌, ◌∙◌, refl, sym, ap, List, length, arith}
 use Rattle.std.proofs.lemmas.List.{drop_all}
 use Rattle.homa_plain.specs.World.{SentPacket}
-use Rattle.homa_traffic.specs.Rounds.{all_sent}
+use Rattle.generated_runs.specs.Rounds.{all_sent}
 use Rattle.homa_generate.proofs.Entering.{entered_next, all_shown}
 use Rattle.homa_generate.proofs.events.enter.Goals as goal
 use Rattle.homa_generate.proofs.events.enter.Goals.{in-Some, in_default}

@@ -1,7 +1,7 @@
 -- The packets up to here entered.
 use Rattle.std.proofs.Common.{◌≡◌, drop, length}
 use Rattle.homa_plain.specs.World.{World}
-use Rattle.homa_traffic.specs.Rounds.{all_sent}
+use Rattle.generated_runs.specs.Rounds.{all_sent}
 use Rattle.homa_generate.specs.Generating.{AreNew}
 use Rattle.homa_generate.proofs.events.enter.Given as goal
 

@@ -2,7 +2,7 @@
 use Rattle.std.proofs.Common.{◌∙◌, ap, refl, sym, subst, drop}
 use Rattle.std.proofs.lemmas.Result.{MatchResult-from_err}
 use Rattle.homa_plain.specs.declared.settings.Settings.{Settings}
-use Rattle.homa_traffic.specs.Rounds.{all_sent}
+use Rattle.generated_runs.specs.Rounds.{all_sent}
 use Rattle.homa_replay.proofs.Fronts.{front_whole}
 use Rattle.homa_generate.specs.Generating.{AreNew}
 use Rattle.homa_generate.specs.Lines.{given_of}

@@ -1,8 +1,8 @@
 -- The summary of the run, whose schedule went nowhere.
 use Rattle.std.proofs.Common.{refl}
 use Rattle.std.proofs.lemmas.Result.{MatchResult-from_err}
-use Rattle.homa_traffic.specs.Rounds.{Generated}
-use Rattle.homa_traffic.specs.Generated.{summary_text}
+use Rattle.generated_runs.specs.Rounds.{Generated}
+use Rattle.generated_runs.specs.Generated.{summary_text}
 use Rattle.homa_generate.proofs.Making.{nothing_part, summary_made, summary_part}
 use Rattle.homa_generate.proofs.printing.count.Goals as goal
 

@@ -4,7 +4,7 @@ use Rattle.std.proofs.lemmas.Result.{MatchResult-from_err}
 use Rattle.homa_io.specs.Outside.{TookFront}
 use Rattle.homa_plain.specs.declared.settings.Settings.{Settings}
 use Rattle.homa_plain.specs.Script.{settings_text}
-use Rattle.homa_traffic.specs.Generated.{generated_settings, schedule_text}
+use Rattle.generated_runs.specs.Generated.{generated_settings, schedule_text}
 use Rattle.homa_generate.specs.Progress.{holds_of}
 use Rattle.homa_generate.proofs.Making.{settings_part, nothing_part, made_here, stopped_here}
 use Rattle.homa_generate.proofs.printing.generate.Goals as goal

@@ -2,7 +2,7 @@
 use Rattle.std.proofs.Common.{◌*◌, ◌≡◌, ◌∙◌, ◌+◌, ◌-◌, suc, refl, arith}
 use Rattle.std.proofs.lemmas.Bool.{eq-eqb, ne_eqb}
 use Rattle.std.proofs.lemmas.Result.{MatchResult-from_err}
-use Rattle.homa_traffic.specs.Rounds.{calls_round, calls_a_round}
+use Rattle.generated_runs.specs.Rounds.{calls_round, calls_a_round}
 use Rattle.homa_generate.specs.Steps.{one_call}
 use Rattle.homa_generate.proofs.Goings.{gone_none, then_gone, then_stopped}
 use Rattle.homa_generate.proofs.Steadiness.{steady_none, steady_on}

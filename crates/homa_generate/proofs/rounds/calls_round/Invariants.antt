@@ -1,6 +1,6 @@
 -- The calls that are left.
 use Rattle.std.proofs.Common.{◌≡◌, ◌-◌, ◌*◌}
-use Rattle.homa_traffic.specs.Rounds.{Generated, calls_round, calls_a_round}
+use Rattle.generated_runs.specs.Rounds.{Generated, calls_round, calls_a_round}
 use Rattle.homa_generate.specs.Progress.{holds_of, IsSteady}
 use Rattle.homa_generate.specs.Going.{IsAt, HasGone}
 use Rattle.homa_generate.proofs.rounds.calls_round.Given as goal

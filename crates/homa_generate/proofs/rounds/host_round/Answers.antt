@@ -1,7 +1,7 @@
 -- One packet after the other.
 use Rattle.std.proofs.Common.{◌*◌, ◌≡◌, ◌∙◌, ◌+◌, ◌-◌, suc, refl, sym, arith}
 use Rattle.std.proofs.lemmas.Result.{MatchResult-from_err}
-use Rattle.homa_traffic.specs.Rounds.{host_round, most_handed}
+use Rattle.generated_runs.specs.Rounds.{host_round, most_handed}
 use Rattle.homa_generate.proofs.Goings.{gone_none, then_gone, then_stopped}
 use Rattle.homa_generate.proofs.Steadiness.{steady_none, steady_on}
 use Rattle.homa_generate.proofs.Extending.{line_extends, host_extends}

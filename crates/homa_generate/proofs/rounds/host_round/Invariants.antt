@@ -1,6 +1,6 @@
 -- What is left of the host's round.
 use Rattle.std.proofs.Common.{◌≡◌, ◌-◌, ◌*◌}
-use Rattle.homa_traffic.specs.Rounds.{Generated, host_round, most_handed}
+use Rattle.generated_runs.specs.Rounds.{Generated, host_round, most_handed}
 use Rattle.homa_generate.specs.Progress.{holds_of, IsSteady}
 use Rattle.homa_generate.specs.Going.{IsAt, HasGone}
 use Rattle.homa_generate.proofs.rounds.host_round.Given as goal

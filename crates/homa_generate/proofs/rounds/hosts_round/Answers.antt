@@ -2,7 +2,7 @@
 use Rattle.std.proofs.Common.{◌*◌, ◌≡◌, ◌∙◌, ◌+◌, ◌-◌, suc, refl, ap, arith}
 use Rattle.std.proofs.lemmas.Result.{MatchResult-from_err}
 use Rattle.homa_plain.specs.declared.settings.Settings.{Settings}
-use Rattle.homa_traffic.specs.Rounds.{host_round, hosts_round, most_handed}
+use Rattle.generated_runs.specs.Rounds.{host_round, hosts_round, most_handed}
 use Rattle.homa_generate.proofs.Goings.{then_gone, then_stopped}
 use Rattle.homa_generate.proofs.Steadiness.{steady_none, steady_on}
 use Rattle.homa_generate.proofs.Extending.{host_extends, hosts_extend}

@@ -1,6 +1,6 @@
 -- The hosts that are left.
 use Rattle.std.proofs.Common.{◌≡◌, ◌-◌, ◌*◌}
-use Rattle.homa_traffic.specs.Rounds.{Generated, hosts_round}
+use Rattle.generated_runs.specs.Rounds.{Generated, hosts_round}
 use Rattle.homa_generate.specs.Progress.{holds_of, IsSteady}
 use Rattle.homa_generate.specs.Going.{IsAt, HasGone}
 use Rattle.homa_generate.proofs.rounds.hosts_round.Given as goal

@@ -1,8 +1,8 @@
 -- One round after the other.
 use Rattle.std.proofs.Common.{◌*◌, ◌≡◌, ◌∙◌, ◌+◌, ◌-◌, suc, refl, sym, arith}
 use Rattle.std.proofs.lemmas.Result.{MatchResult-from_err}
-use Rattle.homa_traffic.specs.Rounds.{next_round, is_over}
-use Rattle.homa_traffic.specs.Generated.{most_rounds}
+use Rattle.generated_runs.specs.Rounds.{next_round, is_over}
+use Rattle.generated_runs.specs.Generated.{most_rounds}
 use Rattle.homa_generate.proofs.Goings.{gone_none, then_gone, then_stopped}
 use Rattle.homa_generate.proofs.Steadiness.{steady_none, steady_on}
 use Rattle.homa_generate.proofs.Extending.{by_end, end_extends, round_extends, rounds_extend}

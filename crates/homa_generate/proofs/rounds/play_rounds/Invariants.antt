@@ -1,7 +1,7 @@
 -- The rounds that are left.
 use Rattle.std.proofs.Common.{◌≡◌, ◌-◌, ◌*◌}
-use Rattle.homa_traffic.specs.Rounds.{Generated, rounds}
-use Rattle.homa_traffic.specs.Generated.{most_rounds}
+use Rattle.generated_runs.specs.Rounds.{Generated, rounds}
+use Rattle.generated_runs.specs.Generated.{most_rounds}
 use Rattle.homa_generate.specs.Progress.{holds_of, IsSteady}
 use Rattle.homa_generate.specs.Going.{IsAt, HasGone}
 use Rattle.homa_generate.proofs.rounds.play_rounds.Given as goal

@@ -3,7 +3,7 @@ use Rattle.std.proofs.Common.{◌∙◌, refl}
 use Rattle.std.proofs.lemmas.Result.{MatchResult-from_err}
 use Rattle.homa_plain.specs.declared.settings.Settings.{Settings}
 use Rattle.homa_plain.specs.Script.{GivenTicks}
-use Rattle.homa_traffic.specs.Rounds.{with_line, hosts_round, calls_round, calls_a_round}
+use Rattle.generated_runs.specs.Rounds.{with_line, hosts_round, calls_round, calls_a_round}
 use Rattle.homa_generate.proofs.Goings.{then_gone, then_stopped, id_extends}
 use Rattle.homa_generate.proofs.Extending.{line_extends, hosts_extend, calls_extend, after_tick, ticked_extends}
 use Rattle.homa_generate.proofs.MoreRounds.{round_opens, budgets_set}

@@ -5,7 +5,7 @@ use Rattle.homa_plain.specs.declared.packet.Body.TheVariants as body
 use Rattle.homa_plain.specs.Rules.{Piece}
 use Rattle.msg_pool.specs.Pool.{Pool}
 use Rattle.homa_in.specs.Part.{Part}
-use Rattle.homa_parts.specs.Pieces.{piece_in, first_version}
+use Rattle.host_incoming.specs.Pieces.{piece_in, first_version}
 use Rattle.homa_server.specs.Held.{HeldState, Arriving, Keeping, Answering, Gone, state_part, seen_state}
 use Rattle.homa_server.specs.Answers.{version_in_state}
 use Rattle.homa_server.specs.declared.answers.ServerDid.{ServerDid}

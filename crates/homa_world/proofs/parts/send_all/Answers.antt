@@ -1,7 +1,7 @@
 use Rattle.std.proofs.Common.{refl, sym, ap, ◌∙◌, arith, ◌++◌}
 use Rattle.std.specs.Prelude.{map}
 use Rattle.std.proofs.lemmas.List.{append-nil, take_all}
-use Rattle.homa_packets.specs.All.{kept_all, open_tick}
+use Rattle.world_packets.specs.All.{kept_all, open_tick}
 use Rattle.homa_world.specs.Packed.{frame_kept}
 use Rattle.homa_world.proofs.SendLaws.{room_one, short_at, sent_at}
 use Rattle.homa_world.proofs.parts.send_all.Goals as goal

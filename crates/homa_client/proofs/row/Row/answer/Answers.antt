@@ -4,8 +4,8 @@ use Rattle.homa_plain.specs.Incoming.{Incoming}
 use Rattle.homa_plain.specs.AtClient.{response_piece}
 use Rattle.homa_plain.specs.AtServer.{piece_of}
 use Rattle.homa_in.specs.Part.{Part}
-use Rattle.homa_parts.specs.Pooled.{Moves, seen_part}
-use Rattle.homa_parts.proofs.MoveLaws.{still}
+use Rattle.host_incoming.specs.Pooled.{Moves, seen_part}
+use Rattle.host_incoming.proofs.MoveLaws.{still}
 use Rattle.homa_client.specs.Held.{HeldRow, seen_row}
 use Rattle.homa_client.specs.Gives.{Gave, moment_of}
 use Rattle.homa_client.proofs.ReceiveLaws.{put_case, part_there, part_gone}

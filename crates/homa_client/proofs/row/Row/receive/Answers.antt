@@ -1,8 +1,8 @@
 use Rattle.std.proofs.Common.{◌∙◌, ap, sym, subst, Option}
 use Rattle.homa_plain.specs.AtClient.{refreshed}
 use Rattle.homa_in.specs.Part.{Part}
-use Rattle.homa_parts.specs.Pooled.{Moves}
-use Rattle.homa_parts.specs.Pieces.{piece_in}
+use Rattle.host_incoming.specs.Pooled.{Moves}
+use Rattle.host_incoming.specs.Pieces.{piece_in}
 use Rattle.homa_client.proofs.ReceiveLaws.{gave_after}
 use Rattle.homa_client.proofs.row.Row.receive.Goals as goal
 

@@ -1,7 +1,7 @@
 -- The call at the place is one of the table's.
 use Rattle.std.proofs.Common.{◌∙◌, sym, ap}
 use Rattle.std.specs.Option.{option_map}
-use Rattle.homa_places.proofs.PlacedLaws.{get-spot}
+use Rattle.host_places.proofs.PlacedLaws.{get-spot}
 use Rattle.homa_client.proofs.table.ClientTable.call_at.Goals as goal
 
 pub returns-clause-own : goal.returns-clause-own

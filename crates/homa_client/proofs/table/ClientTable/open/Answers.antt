@@ -3,7 +3,7 @@ use Rattle.std.proofs.Common.{◌≡◌, ◌∙◌, sym, ap, None, Some}
 use Rattle.plain_sets.specs.Maps.{get}
 use Rattle.plain_sets.proofs.MapLaws.{get-empty}
 use Rattle.homa_plain.specs.Calls.{call_cmp}
-use Rattle.homa_places.specs.Placed.{Placed, Table}
+use Rattle.host_places.specs.Placed.{Placed, Table}
 use Rattle.homa_client.specs.Held.{HeldRow}
 use Rattle.homa_client.proofs.table.ClientTable.open.Goals as goal
 

@@ -4,9 +4,9 @@ use Rattle.std.specs.Option.{option_map}
 use Rattle.plain_sets.specs.Maps.{get}
 use Rattle.homa_plain.specs.declared.id.CallId.{CallId}
 use Rattle.homa_plain.specs.Calls.{is_host}
-use Rattle.homa_places.specs.Placed.{StandsAt}
-use Rattle.homa_places.proofs.PlacedLaws.{some_placed}
-use Rattle.homa_parts.specs.Pooled.{AreIn}
+use Rattle.host_places.specs.Placed.{StandsAt}
+use Rattle.host_places.proofs.PlacedLaws.{some_placed}
+use Rattle.host_incoming.specs.Pooled.{AreIn}
 use Rattle.homa_client.specs.Held.{HeldRow}
 use Rattle.homa_client.specs.AtTable.{Clients, part_at}
 use Rattle.homa_client.specs.contracts.table.ClientTable.{the_view}

@@ -3,7 +3,7 @@ use Rattle.std.proofs.Common.{◌≡◌, ◌∙◌, sym, ap, subst}
 use Rattle.std.specs.Option.{option_map}
 use Rattle.plain_sets.proofs.MapMembers.{same_some}
 use Rattle.homa_plain.specs.declared.id.CallId.{CallId}
-use Rattle.homa_places.proofs.PlacedLaws.{spot-stands}
+use Rattle.host_places.proofs.PlacedLaws.{spot-stands}
 use Rattle.homa_client.specs.Held.{HeldRow}
 use Rattle.homa_client.specs.Gives.{facts}
 use Rattle.homa_client.specs.AtTable.{IsOwnCall}

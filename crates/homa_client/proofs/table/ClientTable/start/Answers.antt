@@ -2,8 +2,8 @@
 use Rattle.std.proofs.Common.{◌∙◌, ◌<◌, ap, subst, refl}
 use Rattle.std.specs.Option.{option_map, option_and_then}
 use Rattle.homa_plain.specs.declared.id.CallId.{CallId}
-use Rattle.homa_places.specs.Placed.{Placed}
-use Rattle.homa_places.proofs.PlacedLaws.{get-insert_here, changed-new}
+use Rattle.host_places.specs.Placed.{Placed}
+use Rattle.host_places.proofs.PlacedLaws.{get-insert_here, changed-new}
 use Rattle.homa_client.specs.Held.{HeldRow}
 use Rattle.homa_client.specs.contracts.table.ClientTable.{the_view}
 use Rattle.homa_client.proofs.TableLaws.{next_none, table_insert, rows_started}

@@ -5,9 +5,9 @@ use Rattle.homa_plain.specs.declared.id.CallId.{CallId}
 use Rattle.homa_plain.specs.Calls.{call_cmp}
 use Rattle.std.specs.Option.{option_and_then}
 use Rattle.homa_in.specs.Part.{Part}
-use Rattle.homa_places.specs.Placed.{Placed}
+use Rattle.host_places.specs.Placed.{Placed}
 use Rattle.msg_pool.specs.Pool.{Pool}
-use Rattle.homa_parts.specs.Pooled.{AreIn, IsInPool, HasNumber}
+use Rattle.host_incoming.specs.Pooled.{AreIn, IsInPool, HasNumber}
 use Rattle.homa_client.specs.Held.{HeldRow}
 use Rattle.homa_client.specs.AtTable.{Clients, part_at}
 use Rattle.homa_client.proofs.tests.Client.open.Goals as goal

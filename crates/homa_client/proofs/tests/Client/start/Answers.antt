@@ -4,11 +4,11 @@ use Rattle.std.specs.Prelude.{IfOk, OnErr}
 use Rattle.homa_plain.specs.declared.id.CallId.{CallId}
 use Rattle.homa_plain.specs.declared.id.HostId.{HostId}
 use Rattle.std.specs.Option.{option_and_then}
-use Rattle.homa_places.specs.Placed.{Placed}
+use Rattle.host_places.specs.Placed.{Placed}
 use Rattle.homa_in.specs.Part.{Part}
 use Rattle.msg_pool.specs.Pool.{Pool}
-use Rattle.homa_parts.specs.Pooled.{AreIn, Moves}
-use Rattle.homa_parts.proofs.MoveLaws.{still}
+use Rattle.host_incoming.specs.Pooled.{AreIn, Moves}
+use Rattle.host_incoming.proofs.MoveLaws.{still}
 use Rattle.homa_client.specs.Held.{HeldRow}
 use Rattle.homa_client.specs.AtTable.{Clients, Started, part_at}
 use Rattle.homa_client.proofs.TableLaws.{in_after}

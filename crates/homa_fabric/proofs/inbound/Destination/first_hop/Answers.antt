@@ -2,8 +2,8 @@
 use Rattle.std.proofs.Common.{◌≡◌, ◌-◌, ap, sym, ◌∙◌, ℕ, Some, set, arith}
 use Rattle.std.specs.List.{slice_get}
 use Rattle.circular_buffer.specs.Buffer.{Buffer}
-use Rattle.homa_traffic.specs.Draws.{draw}
-use Rattle.homa_traffic.specs.Fabric.{Queued, drawn}
+use Rattle.generated_runs.specs.Draws.{draw}
+use Rattle.generated_runs.specs.Fabric.{Queued, drawn}
 use Rattle.homa_fabric.proofs.QueueLaws.{seen}
 use Rattle.homa_fabric.proofs.FirstHops.{old_lost, timely_drawn}
 use Rattle.homa_fabric.proofs.inbound.Destination.first_hop.Goals as goal

@@ -1,7 +1,7 @@
 -- The first level from above that has a packet is the highest.
 use Rattle.std.proofs.Common.{ℕ, ◌-◌, ◌<◌, sym, ap, ◌∙◌, Some, zero-add, inl, inr, arith}
 use Rattle.std.proofs.Math.Nat.{eq-or-lt_of_le}
-use Rattle.homa_traffic.specs.Fabric.{Destination, level_of}
+use Rattle.generated_runs.specs.Fabric.{Destination, level_of}
 use Rattle.homa_fabric.proofs.QueueLaws.{levels_past, none_at, some_at}
 use Rattle.homa_fabric.proofs.HandedLaws.{highest_none, highest_some}
 use Rattle.homa_fabric.proofs.inbound.Destination.highest.Goals as goal

@@ -1,6 +1,6 @@
 -- No level from here on has a packet.
 use Rattle.std.proofs.Common.{◌≡◌, ℕ, ◌≤◌, []}
-use Rattle.homa_traffic.specs.Fabric.{level_of}
+use Rattle.generated_runs.specs.Fabric.{level_of}
 use Rattle.homa_fabric.proofs.inbound.Destination.highest.Given as goal
 
 abbrev pub invariant-loop-level : goal.invariant-loop-level

@@ -1,6 +1,6 @@
 -- Each packet that is lost leaves one less on its way; the last one, or the end, is the answer.
 use Rattle.std.proofs.Common.{◌≡◌, refl, sym, ap, ◌∙◌, Some, None, arith}
-use Rattle.homa_traffic.specs.Fabric.{Handed, next_of}
+use Rattle.generated_runs.specs.Fabric.{Handed, next_of}
 use Rattle.homa_fabric.proofs.HandedLaws.{next_ends, next_hands, next_loses, loses_less}
 use Rattle.homa_fabric.proofs.inbound.Destination.next.Goals as goal
 

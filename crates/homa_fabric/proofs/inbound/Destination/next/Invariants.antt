@@ -1,6 +1,6 @@
 -- Packets that were lost make no difference to what comes next.
 use Rattle.std.proofs.Common.{◌≡◌}
-use Rattle.homa_traffic.specs.Fabric.{next_of, on_the_way}
+use Rattle.generated_runs.specs.Fabric.{next_of, on_the_way}
 use Rattle.homa_fabric.proofs.inbound.Destination.next.Given as goal
 
 abbrev pub invariant-loop-number : goal.invariant-loop-number

@@ -1,7 +1,7 @@
 -- After eight turns there are eight empty queues.
 use Rattle.std.proofs.Common.{◌≡◌, ℕ, None, ap, ◌∙◌, sym, subst, [], ◌∷◌, ◌++◌, List, map, replicate, arith}
 use Rattle.circular_buffer.specs.Buffer.{Buffer, buffer}
-use Rattle.homa_traffic.specs.Fabric.{Queued, most_queued}
+use Rattle.generated_runs.specs.Fabric.{Queued, most_queued}
 use Rattle.homa_fabric.specs.Queues.{AreQueues}
 use Rattle.homa_fabric.proofs.Opened.{one_more, empty_queues}
 use Rattle.homa_fabric.proofs.inbound.Destination.open.Goals as goal

@@ -3,7 +3,7 @@ use Rattle.std.proofs.Common.{◌≡◌, ◌≤◌, ℕ, refl, ap, ◌∙◌, sy
 use Rattle.std.proofs.lemmas.List.{append-nil, take_all, drop_all}
 use Rattle.std.proofs.lemmas.List.Edits.{map_over_more}
 use Rattle.std.proofs.Math.Seq.{take-append_seam}
-use Rattle.homa_traffic.specs.Fabric.{Destination, refilled}
+use Rattle.generated_runs.specs.Fabric.{Destination, refilled}
 use Rattle.homa_fabric.specs.Seen.{Seen}
 use Rattle.homa_fabric.proofs.network.Fabric.begin.Goals as goal
 

@@ -1,6 +1,6 @@
 -- The destinations that were gone over have their budget.
 use Rattle.std.proofs.Common.{◌≡◌, ◌++◌, map, take, drop}
-use Rattle.homa_traffic.specs.Fabric.{refilled}
+use Rattle.generated_runs.specs.Fabric.{refilled}
 use Rattle.homa_fabric.proofs.network.Fabric.begin.Given as goal
 
 abbrev pub invariant-loop-destination : goal.invariant-loop-destination

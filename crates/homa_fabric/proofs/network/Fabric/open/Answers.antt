@@ -1,7 +1,7 @@
 -- After the last turn there is an idle destination for each host.
 use Rattle.std.proofs.Common.{◌≡◌, ℕ, refl, ap, ◌∙◌, [], ◌∷◌, ◌++◌, length, replicate, arith}
 use Rattle.std.proofs.lemmas.List.{length-replicate}
-use Rattle.homa_traffic.specs.Fabric.{Destination, idle}
+use Rattle.generated_runs.specs.Fabric.{Destination, idle}
 use Rattle.homa_fabric.proofs.Opened.{one_more}
 use Rattle.homa_fabric.proofs.network.Fabric.open.Goals as goal
 

@@ -1,8 +1,8 @@
 use Rattle.std.proofs.Common.{◌≡◌, ◌<◌, ◌≤◌, None, Some, List, length, ap, sym, subst, ◌∙◌, arith}
 use Rattle.homa_plain.specs.Steps.{begun, starts, call_step, start_fault, next_id}
-use Rattle.homa_seen.specs.declared.outbox.SentFrame.{SentFrame}
-use Rattle.homa_seen.specs.Seen.{Seen}
-use Rattle.homa_seen.specs.Done.{IsDone}
+use Rattle.host_view.specs.declared.outbox.SentFrame.{SentFrame}
+use Rattle.host_view.specs.Seen.{Seen}
+use Rattle.host_view.specs.Done.{IsDone}
 use Rattle.homa_host.specs.Parts.{host_of, seen_of}
 use Rattle.homa_host.specs.Amid.{Amid}
 use Rattle.homa_host.specs.Public.{IsSameHost}

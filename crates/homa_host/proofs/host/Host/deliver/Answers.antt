@@ -2,8 +2,8 @@ use Rattle.std.proofs.Common.{◌≡◌, ◌<◌, ◌≤◌, ◌+◌, Bool, true
 use Rattle.homa_plain.specs.Rules.{Answer}
 use Rattle.homa_plain.specs.Steps.{begun, comes, arrival_step, has_run, ended as ended_step}
 use Rattle.homa_host.specs.Amid.{Amid}
-use Rattle.homa_seen.specs.Seen.{Seen}
-use Rattle.homa_seen.specs.Done.{IsDone, arriving}
+use Rattle.host_view.specs.Seen.{Seen}
+use Rattle.host_view.specs.Done.{IsDone, arriving}
 use Rattle.homa_host.specs.Parts.{host_of, seen_of}
 use Rattle.homa_host.specs.Public.{IsSameHost}
 use Rattle.homa_host.proofs.Ending.{ended_through, arrival_done, arrival_same, arrival_last, arrival_whole, arrival_run, arriving_of_host, quiet_kept, quiet_seen, quiet_same}

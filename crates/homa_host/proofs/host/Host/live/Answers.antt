@@ -1,8 +1,8 @@
 use Rattle.std.proofs.Common.{sym, ap, ◌∙◌}
 use Rattle.plain_sets.specs.Maps.{len}
-use Rattle.homa_seen.specs.Seen.{Seen}
-use Rattle.homa_places.specs.Placed.{Placed}
-use Rattle.homa_places.proofs.MappedLaws.{len-mapped}
+use Rattle.host_view.specs.Seen.{Seen}
+use Rattle.host_places.specs.Placed.{Placed}
+use Rattle.host_places.proofs.MappedLaws.{len-mapped}
 use Rattle.homa_client.specs.Held.{HeldRow, seen_row}
 use Rattle.homa_host.proofs.host.Host.live.Goals as goal
 

@@ -1,6 +1,6 @@
 use Rattle.std.proofs.Common.{sym, ap, ◌∙◌}
-use Rattle.homa_seen.specs.Seen.{Seen}
-use Rattle.homa_seen.specs.Marks.{request_of}
+use Rattle.host_view.specs.Seen.{Seen}
+use Rattle.host_view.specs.Marks.{request_of}
 use Rattle.homa_host.proofs.Lent.{request-there, request-none}
 use Rattle.homa_host.proofs.host.Host.request.Goals as goal
 

@@ -1,7 +1,7 @@
 use Rattle.std.proofs.Common.{◌≡◌, [], subst, ap, ◌∙◌}
 use Rattle.std.specs.Prelude.{option_copied, unwrap_or}
-use Rattle.homa_seen.specs.Seen.{Seen}
-use Rattle.homa_seen.specs.Marks.{response_of}
+use Rattle.host_view.specs.Seen.{Seen}
+use Rattle.host_view.specs.Marks.{response_of}
 use Rattle.homa_host.specs.Parts.{host_of}
 use Rattle.homa_host.proofs.Lent.{response-there}
 use Rattle.homa_host.proofs.host.Host.response.Goals as goal

@@ -1,8 +1,8 @@
 use Rattle.std.proofs.Common.{◌<◌, ◌≤◌, length, ap, sym, subst, ◌∙◌, arith}
 use Rattle.homa_plain.specs.Steps.{turn_step}
-use Rattle.homa_control.specs.Control.{Control}
-use Rattle.homa_seen.specs.Seen.{Seen}
-use Rattle.homa_seen.specs.Done.{IsDone}
+use Rattle.host_state.specs.Control.{Control}
+use Rattle.host_view.specs.Seen.{Seen}
+use Rattle.host_view.specs.Done.{IsDone}
 use Rattle.homa_host.specs.Parts.{seen_of}
 use Rattle.homa_host.specs.Public.{IsSameHost}
 use Rattle.homa_host.proofs.Ending.{filled_kept, turn_through, turn_done, turn_same, turn_last}

@@ -1,7 +1,7 @@
 use Rattle.std.proofs.Common.{◌≡◌, drop}
 use Rattle.std.specs.List.{AllByRecursion}
 use Rattle.homa_plain.specs.declared.id.CallId.{CallId}
-use Rattle.homa_seen.specs.Marks.{response_of}
+use Rattle.host_view.specs.Marks.{response_of}
 use Rattle.homa_plain.specs.Packets.{calls_of}
 use Rattle.homa_host.specs.Parts.{host_of, IsKept}
 use Rattle.homa_host.specs.Amid.{Steady}

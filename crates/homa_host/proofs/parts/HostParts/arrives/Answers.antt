@@ -11,9 +11,9 @@ use Rattle.homa_plain.specs.Packets.{Packet, packet_between}
 use Rattle.homa_plain.specs.Steps.{begun, tells, comes, has_run}
 use Rattle.homa_plain.specs.Wire.{packet_in}
 use Rattle.homa_wire.specs.Part.{part}
-use Rattle.homa_control.specs.Control.{Control}
-use Rattle.homa_seen.specs.Marks.{IsReply, IsWhole}
-use Rattle.homa_seen.specs.Done.{arriving}
+use Rattle.host_state.specs.Control.{Control}
+use Rattle.host_view.specs.Marks.{IsReply, IsWhole}
+use Rattle.host_view.specs.Done.{arriving}
 use Rattle.homa_host.specs.Parts.{host_of, seen_of}
 use Rattle.homa_host.specs.Amid.{Amid}
 use Rattle.homa_host.proofs.Delivered.{none_allowed, served_none, answered_none}

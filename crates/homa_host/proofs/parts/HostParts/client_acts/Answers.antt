@@ -6,10 +6,10 @@ use Rattle.homa_plain.specs.declared.settings.Settings.{Settings}
 use Rattle.homa_plain.specs.Rules.{Did}
 use Rattle.homa_plain.specs.Rows.{ClientRow}
 use Rattle.homa_plain.specs.Steps.{asked, moment}
-use Rattle.homa_places.specs.Placed.{StandsAt}
+use Rattle.host_places.specs.Placed.{StandsAt}
 use Rattle.homa_client.specs.Held.{HeldRow}
-use Rattle.homa_control.specs.Control.{IsAt}
-use Rattle.homa_control.specs.Saying.{one_of}
+use Rattle.host_state.specs.Control.{IsAt}
+use Rattle.host_state.specs.Saying.{one_of}
 use Rattle.homa_host.proofs.Begun.{at-amid}
 use Rattle.homa_host.proofs.Emits.{at_spot}
 use Rattle.homa_host.proofs.CanFollow.{CanFollowClient}

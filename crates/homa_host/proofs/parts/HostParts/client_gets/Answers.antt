@@ -7,13 +7,13 @@ use Rattle.plain_sets.specs.Maps.{get}
 use Rattle.homa_plain.specs.declared.id.HostId.{HostId}
 use Rattle.homa_plain.specs.Rows.{ClientRow}
 use Rattle.homa_plain.specs.AtClient.{client_gets}
-use Rattle.homa_parts.specs.Pieces.{piece_in}
+use Rattle.host_incoming.specs.Pieces.{piece_in}
 use Rattle.homa_client.specs.AtTable.{row_at}
-use Rattle.homa_control.specs.Control.{IsAt}
-use Rattle.homa_seen.specs.Marks.{IsWhole}
+use Rattle.host_state.specs.Control.{IsAt}
+use Rattle.host_view.specs.Marks.{IsWhole}
 use Rattle.homa_plain.specs.Rules.{Did}
 use Rattle.homa_plain.specs.Steps.{asked, moment}
-use Rattle.homa_control.specs.Saying.{IsOutcome, one_of}
+use Rattle.host_state.specs.Saying.{IsOutcome, one_of}
 use Rattle.homa_host.specs.Amid.{Amid}
 use Rattle.homa_host.proofs.Begun.{at-amid}
 use Rattle.homa_host.proofs.ClientKept.{client_parts}

@@ -9,11 +9,11 @@ use Rattle.homa_plain.specs.Choice.{new_end}
 use Rattle.homa_plain.specs.Sending.{Arriving, arrivals, client_granted}
 use Rattle.homa_plain.specs.Steps.{Work, posts}
 use Rattle.homa_plain.specs.Timers.{OfClient}
-use Rattle.homa_places.specs.Placed.{StandsAt}
+use Rattle.host_places.specs.Placed.{StandsAt}
 use Rattle.homa_client.specs.Held.{HeldRow, seen_row}
 use Rattle.homa_client.specs.AtTable.{Moved}
 use Rattle.homa_client.specs.Gives.{facts}
-use Rattle.homa_control.specs.Control.{IsAt}
+use Rattle.host_state.specs.Control.{IsAt}
 use Rattle.homa_host.specs.Parts.{host_of}
 use Rattle.homa_host.specs.Amid.{Amid}
 use Rattle.homa_host.specs.declared.outcome.Change.TheVariants.{Stays}

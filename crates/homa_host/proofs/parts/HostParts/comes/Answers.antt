@@ -10,10 +10,10 @@ use Rattle.homa_plain.specs.declared.id.CallId.{CallId}
 use Rattle.homa_plain.specs.Entries.{PlainStale}
 use Rattle.homa_plain.specs.Host.{Says}
 use Rattle.homa_plain.specs.Settings.{IsValid}
-use Rattle.homa_control.specs.Control.{Control}
+use Rattle.host_state.specs.Control.{Control}
 use Rattle.homa_plain.specs.Steps.{Work, begun, tells, acked, comes_to_row, has_run}
 use Rattle.homa_plain.specs.Wire.{IsWellFormed}
-use Rattle.homa_seen.specs.Marks.{has_ran, response_of, IsWhole}
+use Rattle.host_view.specs.Marks.{has_ran, response_of, IsWhole}
 use Rattle.homa_host.specs.Parts.{host_of}
 use Rattle.homa_host.specs.Amid.{Amid}
 use Rattle.homa_host.proofs.Delivered.{TellsAlike, none_allowed, served_none, answered_none}

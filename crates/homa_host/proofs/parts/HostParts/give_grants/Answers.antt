@@ -1,6 +1,6 @@
 use Rattle.std.proofs.Common.{◌≡◌, ◌+◌, ◌-◌, length, drop, get_or, ap, subst, ◌∙◌, refl, arith}
 use Rattle.homa_plain.specs.Sending.{Arriving}
-use Rattle.homa_seen.specs.Seen.{slot_of}
+use Rattle.host_view.specs.Seen.{slot_of}
 use Rattle.homa_host.specs.Parts.{seen_of}
 use Rattle.homa_host.proofs.GrantFolds.{chosen_now, IsGranting, chosen_slots, granting_first, granting_on, granting_done, next_grant, none_left, left_of}
 use Rattle.homa_host.proofs.parts.HostParts.give_grants.Goals as goal

@@ -1,5 +1,5 @@
 use Rattle.std.proofs.Common.{◌≡◌, ◌≤◌, ◌+◌, length, map, drop}
-use Rattle.homa_seen.specs.Seen.{slot_of}
+use Rattle.host_view.specs.Seen.{slot_of}
 use Rattle.homa_host.specs.Parts.{seen_of, IsKept}
 use Rattle.homa_host.specs.Amid.{Steady}
 use Rattle.homa_host.proofs.GrantFolds.{chosen_now, IsGranting}

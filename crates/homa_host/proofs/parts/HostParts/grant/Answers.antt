@@ -1,7 +1,7 @@
 use Rattle.std.proofs.Common.{◌≡◌, ◌<◌, ◌≤◌, ◌+◌, ◌-◌, ℕ, ap, sym, subst, ◌∙◌, arith}
 use Rattle.homa_plain.specs.Timers.{Place}
-use Rattle.homa_seen.specs.Seen.{slot_of}
-use Rattle.homa_seen.specs.Follow.{ChangesAt}
+use Rattle.host_view.specs.Seen.{slot_of}
+use Rattle.host_view.specs.Follow.{ChangesAt}
 use Rattle.homa_host.specs.Parts.{seen_of}
 use Rattle.homa_host.proofs.SlotRows.{arrives_at_client, arrives_at_server, arriving_client, arriving_server}
 use Rattle.homa_host.proofs.parts.HostParts.grant.Goals as goal

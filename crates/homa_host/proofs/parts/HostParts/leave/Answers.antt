@@ -1,6 +1,6 @@
 use Rattle.std.proofs.Common.{◌≡◌, ◌-◌, ap, sym, subst, arith}
 use Rattle.std.specs.Prelude.{IsSome}
-use Rattle.homa_places.specs.Placed.{spot_at}
+use Rattle.host_places.specs.Placed.{spot_at}
 use Rattle.homa_host.proofs.SlotRows.{picked_client, picked_server}
 use Rattle.homa_host.proofs.parts.HostParts.leave.Goals as goal
 

@@ -7,10 +7,10 @@ use Rattle.homa_plain.specs.declared.row.RowFacts.{RowFacts}
 use Rattle.homa_plain.specs.declared.row.Emitted.{Emitted}
 use Rattle.homa_plain.specs.declared.row.Emitted.TheVariants.{Sent, Short, Rests}
 use Rattle.homa_plain.specs.Steps.{Work, request_leaves}
-use Rattle.homa_parts.specs.Sends.{IfSent, IsAffordable}
+use Rattle.host_incoming.specs.Sends.{IfSent, IsAffordable}
 use Rattle.homa_client.specs.Held.{seen_row}
 use Rattle.homa_client.specs.Gives.{facts}
-use Rattle.homa_control.specs.Control.{IsAt}
+use Rattle.host_state.specs.Control.{IsAt}
 use Rattle.homa_pacer.specs.Pace.{Pace}
 use Rattle.homa_host.specs.declared.outcome.Change.TheVariants.{Stays}
 use Rattle.homa_host.proofs.Emits.{at_spot}

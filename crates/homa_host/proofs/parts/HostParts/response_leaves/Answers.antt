@@ -13,12 +13,12 @@ use Rattle.homa_plain.specs.declared.settings.Settings.{Settings}
 use Rattle.homa_plain.specs.Host.{peer_cutoffs}
 use Rattle.homa_plain.specs.Sending.{response_content}
 use Rattle.homa_plain.specs.Steps.{Work, response_leaves}
-use Rattle.homa_parts.specs.Sends.{IfSent, IsAffordable}
-use Rattle.homa_places.specs.Placed.{Placed}
+use Rattle.host_incoming.specs.Sends.{IfSent, IsAffordable}
+use Rattle.host_places.specs.Placed.{Placed}
 use Rattle.homa_server.specs.Held.{HeldServer, HeldState, Answering, seen_server, state_response, response_in, IsReplied}
 use Rattle.homa_server.specs.Held as held
 use Rattle.homa_server.specs.Answers.{out_facts, server_facts}
-use Rattle.homa_control.specs.Control.{IsAt}
+use Rattle.host_state.specs.Control.{IsAt}
 use Rattle.homa_pacer.specs.Pace.{Pace, without}
 use Rattle.homa_host.specs.declared.outcome.Change.TheVariants.{Stays}
 use Rattle.homa_host.proofs.Emits.{at_spot}

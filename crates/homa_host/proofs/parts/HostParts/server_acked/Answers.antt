@@ -4,7 +4,7 @@ use Rattle.homa_plain.specs.declared.settings.Settings.{Settings}
 use Rattle.homa_plain.specs.Rules.{Did}
 use Rattle.homa_plain.specs.Rows.{ServerRow}
 use Rattle.homa_plain.specs.Steps.{moment}
-use Rattle.homa_control.specs.Saying.{one_of, IsOutcome}
+use Rattle.host_state.specs.Saying.{one_of, IsOutcome}
 use Rattle.homa_host.specs.Parts.{host_of}
 use Rattle.homa_host.specs.ServerFollow.{FollowedServer, acked_change}
 use Rattle.homa_host.proofs.Begun.{at-amid}

@@ -6,9 +6,9 @@ use Rattle.homa_plain.specs.declared.settings.Settings.{Settings}
 use Rattle.homa_plain.specs.Rules.{Did}
 use Rattle.homa_plain.specs.Rows.{ServerRow}
 use Rattle.homa_plain.specs.Steps.{served, moment}
-use Rattle.homa_places.specs.Placed.{StandsAt}
-use Rattle.homa_control.specs.Control.{IsAt}
-use Rattle.homa_control.specs.Saying.{one_of, IsOutcome}
+use Rattle.host_places.specs.Placed.{StandsAt}
+use Rattle.host_state.specs.Control.{IsAt}
+use Rattle.host_state.specs.Saying.{one_of, IsOutcome}
 use Rattle.homa_server.specs.Held.{HeldServer}
 use Rattle.homa_server.specs.Table.{server_at}
 use Rattle.homa_host.proofs.Emits.{at_spot}

@@ -1,7 +1,7 @@
 -- A packet of a client comes to a call's server.
 use Rattle.std.proofs.Common.{true, Result, Ok, Err, OnErr, ◌≡◌, ◌+◌, refl, sym, subst, ap, arith, ℕ}
 use Rattle.homa_plain.specs.declared.settings.Settings.{Settings}
-use Rattle.homa_control.specs.Saying.{one_of, IsOutcome}
+use Rattle.host_state.specs.Saying.{one_of, IsOutcome}
 use Rattle.homa_host.specs.Parts.{IsKept}
 use Rattle.homa_host.specs.Outcomes.{IfStays, server_change}
 use Rattle.homa_host.specs.ServerFollow.{MayStayServer, FollowedServer}
@@ -16,7 +16,7 @@ use Rattle.homa_plain.specs.AtServer.{server_gets}
 use Rattle.homa_plain.specs.Rows.{ServerRow}
 use Rattle.homa_plain.specs.Rules.{Did}
 use Rattle.homa_plain.specs.Steps.{moment}
-use Rattle.homa_parts.specs.Pieces.{piece_in}
+use Rattle.host_incoming.specs.Pieces.{piece_in}
 use Rattle.homa_server.specs.Answers.{runs_said}
 use Rattle.homa_host.specs.Amid.{Amid}
 use Rattle.homa_host.proofs.Begun.{at-amid}

@@ -11,11 +11,11 @@ use Rattle.homa_plain.specs.Choice.{new_end}
 use Rattle.homa_plain.specs.Sending.{Arriving, arrivals, server_granted}
 use Rattle.homa_plain.specs.Steps.{Work, posts}
 use Rattle.homa_plain.specs.Timers.{OfServer}
-use Rattle.homa_places.specs.Placed.{StandsAt}
+use Rattle.host_places.specs.Placed.{StandsAt}
 use Rattle.homa_server.specs.Held.{HeldServer, seen_server, state_part}
 use Rattle.homa_server.specs.Answers.{server_facts}
 use Rattle.homa_server.specs.Table.{ServerMoved}
-use Rattle.homa_control.specs.Control.{IsAt}
+use Rattle.host_state.specs.Control.{IsAt}
 use Rattle.homa_host.specs.Parts.{host_of}
 use Rattle.homa_host.specs.Amid.{Amid}
 use Rattle.homa_host.specs.declared.outcome.Change.TheVariants.{Stays}

@@ -1,6 +1,6 @@
 use Rattle.std.proofs.Common.{◌≡◌, ap, subst}
 use Rattle.homa_plain.specs.declared.id.CallId.{CallId}
-use Rattle.homa_places.specs.Placed.{StandsAt}
+use Rattle.host_places.specs.Placed.{StandsAt}
 use Rattle.homa_server.specs.Held.{HeldServer}
 use Rattle.homa_server.specs.Table.{Servers}
 use Rattle.homa_server.proofs.StandLaws.{found_spot}

@@ -3,8 +3,8 @@ use Rattle.homa_plain.specs.declared.id.CallId.{CallId}
 use Rattle.homa_plain.specs.Rows.{ServerRow}
 use Rattle.homa_plain.specs.Sending.{server_granted}
 use Rattle.msg_pool.specs.Pool.{Pool}
-use Rattle.homa_parts.specs.Pooled.{AreIn, Moves, IsInPool}
-use Rattle.homa_places.specs.Placed.{StandsAt, set_at}
+use Rattle.host_incoming.specs.Pooled.{AreIn, Moves, IsInPool}
+use Rattle.host_places.specs.Placed.{StandsAt, set_at}
 use Rattle.homa_server.specs.Held.{HeldServer, seen_server, state_part}
 use Rattle.homa_server.specs.Answers.{IsGrantable}
 use Rattle.homa_server.specs.Table.{Servers, ServerMoved, request_at}

@@ -5,10 +5,10 @@ use Rattle.homa_plain.specs.declared.packet.Role.{Role}
 use Rattle.homa_plain.specs.Rules.{Answer}
 use Rattle.homa_plain.specs.AtServer.{server_gets}
 use Rattle.msg_pool.specs.Pool.{Pool}
-use Rattle.homa_parts.specs.Pooled.{AreIn, Moves}
-use Rattle.homa_places.specs.Placed.{ArePlaced, set_at}
+use Rattle.host_incoming.specs.Pooled.{AreIn, Moves}
+use Rattle.host_places.specs.Placed.{ArePlaced, set_at}
 use Rattle.homa_server.specs.Held.{HeldServer, state_part}
-use Rattle.homa_parts.specs.Pieces.{piece_in}
+use Rattle.host_incoming.specs.Pieces.{piece_in}
 use Rattle.homa_server.specs.Answers.{service_in, runs_said}
 use Rattle.homa_server.specs.Table.{Servers, ServerRows, Served, packet_of, request_at, server_at, server_moment, slot_at}
 use Rattle.homa_server.proofs.StandLaws.{in_pool, still_at}

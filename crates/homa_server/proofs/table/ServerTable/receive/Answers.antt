@@ -1,6 +1,6 @@
 use Rattle.std.proofs.Common.{subst}
 use Rattle.homa_plain.specs.Packets.{Packet, server_between}
-use Rattle.homa_parts.specs.Pieces.{piece_in}
+use Rattle.host_incoming.specs.Pieces.{piece_in}
 use Rattle.homa_server.specs.Answers.{service_in}
 use Rattle.homa_server.specs.Table.{Served}
 use Rattle.homa_server.proofs.ArrivingLaws.{if_ok}

@@ -1,6 +1,6 @@
 use Rattle.std.proofs.Common.{◌≡◌, Some, sym, ap, ◌∙◌}
 use Rattle.std.specs.Option.{option_and_then}
-use Rattle.homa_places.specs.Placed.{Placed}
+use Rattle.host_places.specs.Placed.{Placed}
 use Rattle.homa_server.specs.Held.{HeldServer, state_response}
 use Rattle.homa_server.specs.Table.{Servers, slot_at}
 use Rattle.homa_server.proofs.StandLaws.{stands-slot}

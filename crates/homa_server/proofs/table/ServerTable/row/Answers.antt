@@ -1,7 +1,7 @@
 use Rattle.std.proofs.Common.{◌≡◌, ap, subst, ◌∙◌}
 use Rattle.homa_plain.specs.declared.id.CallId.{CallId}
 use Rattle.homa_plain.specs.declared.row.RowFacts.{RowFacts}
-use Rattle.homa_places.specs.Placed.{StandsAt}
+use Rattle.host_places.specs.Placed.{StandsAt}
 use Rattle.homa_server.specs.Held.{HeldServer, IsKept}
 use Rattle.homa_server.specs.Answers.{server_facts}
 use Rattle.homa_server.specs.Table.{Servers}

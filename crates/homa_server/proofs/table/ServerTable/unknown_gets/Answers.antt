@@ -2,9 +2,9 @@ use Rattle.std.proofs.Common.{◌<◌, ℕ, true, refl, ap, subst, None, []}
 use Rattle.plain_sets.specs.Maps.{len}
 use Rattle.homa_plain.specs.declared.packet.Body.TheVariants as body
 use Rattle.msg_pool.specs.Pool.{free_pages}
-use Rattle.homa_parts.specs.Pieces.{moment_with}
-use Rattle.homa_parts.proofs.MoveLaws.{still}
-use Rattle.homa_places.specs.Placed.{Table}
+use Rattle.host_incoming.specs.Pieces.{moment_with}
+use Rattle.host_incoming.proofs.MoveLaws.{still}
+use Rattle.host_places.specs.Placed.{Table}
 use Rattle.homa_server.specs.Held.{HeldServer}
 use Rattle.homa_server.specs.contracts.table.ServerTable.{the_view}
 use Rattle.homa_server.specs.declared.answers.ServerDid.TheVariants.{Opened, Ran, FullRows, FullPages}

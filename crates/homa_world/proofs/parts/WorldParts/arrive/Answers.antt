@@ -2,10 +2,10 @@ use Rattle.std.proofs.Common.{sym, ap, ◌∙◌, ◌+◌, length, [], ◌∷◌
 use Rattle.std.specs.Prelude.{slice_index_or}
 use Rattle.homa_plain.specs.declared.event.Event.TheVariants as event
 use Rattle.homa_plain.specs.Entries.{PlainDeliver}
-use Rattle.homa_packets.specs.All.{kept_all}
-use Rattle.homa_packets.specs.Kept.{WholePacket, StalePacket, kept_seen}
-use Rattle.homa_stage.specs.Staged.{hosts_of}
-use Rattle.homa_stage.proofs.EntryLaws.{at_index}
+use Rattle.world_packets.specs.All.{kept_all}
+use Rattle.world_packets.specs.Kept.{WholePacket, StalePacket, kept_seen}
+use Rattle.host_table.specs.Staged.{hosts_of}
+use Rattle.host_table.proofs.EntryLaws.{at_index}
 use Rattle.homa_world.specs.Packed.{IsFromHost}
 use Rattle.homa_world.proofs.EventLaws.{may_step, is_there, not_there}
 use Rattle.homa_world.proofs.ArrivedLaws.{below_hosts, is_other, no_packet, late_whole, late_for_good, fresh_by, no_receiver, has_arrived, makes_delivery, not_came_kept}

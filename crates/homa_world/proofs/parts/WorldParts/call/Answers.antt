@@ -2,11 +2,11 @@ use Rattle.std.proofs.Common.{refl, sym, ap, subst, ◌<◌, length, arith}
 use Rattle.homa_plain.specs.declared.event.Event.TheVariants as event
 use Rattle.homa_plain.specs.declared.fault.WorldFault.TheVariants as fault
 use Rattle.homa_plain.specs.Steps.{call_step}
-use Rattle.world_events.proofs.Events as events
-use Rattle.world_events.specs.Stepping.{IsRefusal}
-use Rattle.homa_stage.specs.Staged.{hosts_of}
+use Rattle.event_laws.proofs.Events as events
+use Rattle.event_laws.specs.Stepping.{IsRefusal}
+use Rattle.host_table.specs.Staged.{hosts_of}
 use Rattle.homa_world.proofs.KeptLaws.{refused_by}
-use Rattle.homa_stage.proofs.StageLaws.{where_ok}
+use Rattle.host_table.proofs.StageLaws.{where_ok}
 use Rattle.homa_world.proofs.EventLaws.{may_step, is_there, not_there, no_host, short_there, known_there, start_refused, failed_kept, sent_now, called}
 use Rattle.homa_world.proofs.parts.WorldParts.call.Goals as goal
 

@@ -1,8 +1,8 @@
 use Rattle.std.proofs.Common.{ap, ◌∙◌, ◌+◌, ◌++◌, length, arith, []}
 use Rattle.std.specs.Prelude.{map}
 use Rattle.homa_plain.specs.declared.event.Event.TheVariants as event
-use Rattle.homa_packets.specs.All.{kept_all, settings_of, open_tick}
-use Rattle.homa_stage.proofs.StageLaws.{where_ok}
+use Rattle.world_packets.specs.All.{kept_all, settings_of, open_tick}
+use Rattle.host_table.proofs.StageLaws.{where_ok}
 use Rattle.homa_world.specs.declared.parts.First.TheVariants as first
 use Rattle.homa_world.specs.declared.parts.Last.TheVariants as last
 use Rattle.homa_world.specs.declared.parts.WorldParts.{WorldParts}

@@ -1,11 +1,11 @@
 use Rattle.std.proofs.Common.{refl, sym, ap, subst, ◌∙◌, ◌<◌, length, arith}
 use Rattle.homa_plain.specs.declared.event.Event.TheVariants as event
 use Rattle.homa_plain.specs.declared.fault.WorldFault.TheVariants as fault
-use Rattle.world_events.proofs.Events as events
+use Rattle.event_laws.proofs.Events as events
 use Rattle.homa_world.specs.declared.parts.First.TheVariants as first
-use Rattle.homa_stage.specs.Staged.{hosts_of}
+use Rattle.host_table.specs.Staged.{hosts_of}
 use Rattle.homa_plain.specs.Wire.{packet_in}
-use Rattle.homa_stage.proofs.StageLaws.{where_ok, where_err}
+use Rattle.host_table.proofs.StageLaws.{where_ok, where_err}
 use Rattle.homa_world.proofs.KeptLaws.{refused_by}
 use Rattle.homa_world.proofs.EventLaws.{found, may_step, is_there, not_there, no_host, host_there, sent_now}
 use Rattle.homa_world.proofs.ArrivedLaws.{below_hosts, is_other, stranger_in, stranger_other, read_some, read_none, injection, arrived, short_arrived, not_came_kept}

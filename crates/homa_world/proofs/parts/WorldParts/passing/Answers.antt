@@ -1,6 +1,6 @@
 -- A packet that is kept whole is shown, and no other.
 use Rattle.std.proofs.Common.{◌∙◌, ap, Some}
-use Rattle.homa_packets.specs.Kept.{kept_seen}
+use Rattle.world_packets.specs.Kept.{kept_seen}
 use Rattle.homa_world.proofs.LookLaws.{shown_whole, late_passing, stale_passing, no_passing}
 use Rattle.homa_world.proofs.parts.WorldParts.passing.Goals as goal
 

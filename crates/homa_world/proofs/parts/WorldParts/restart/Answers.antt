@@ -2,8 +2,8 @@ use Rattle.std.proofs.Common.{Result, Ok, Err, refl, sym, subst, ap, ◌+◌, le
 use Rattle.std.specs.Prelude.{IfErr, IsErrAnd}
 use Rattle.homa_plain.specs.declared.event.Event.TheVariants as event
 use Rattle.homa_plain.specs.declared.fault.WorldFault.TheVariants as fault
-use Rattle.world_events.proofs.Events as events
-use Rattle.homa_stage.specs.Staged.{hosts_of}
+use Rattle.event_laws.proofs.Events as events
+use Rattle.host_table.specs.Staged.{hosts_of}
 use Rattle.homa_world.specs.Standing.{Refuses}
 use Rattle.homa_world.proofs.KeptLaws.{refused_by}
 use Rattle.homa_world.proofs.EventLaws.{not_there, no_host}

@@ -1,8 +1,8 @@
 use Rattle.std.proofs.Common.{sym, subst, ◌∙◌, ◌<◌, length, [], ◌∷◌}
 use Rattle.homa_plain.specs.declared.event.Event.TheVariants as event
-use Rattle.homa_stage.specs.Staged.{hosts_of}
+use Rattle.host_table.specs.Staged.{hosts_of}
 use Rattle.homa_plain.specs.Entries.{PlainDeliver}
-use Rattle.homa_packets.specs.Olds.{TellsClock}
+use Rattle.world_packets.specs.Olds.{TellsClock}
 use Rattle.homa_world.proofs.EventLaws.{may_step, is_there, not_there}
 use Rattle.homa_world.proofs.ArrivedLaws.{below_hosts, is_other, stranger_in, stranger_other, no_stale_receiver, has_arrived, makes_stale, not_came_kept}
 use Rattle.homa_world.proofs.AllowLaws.{not_came_tells}

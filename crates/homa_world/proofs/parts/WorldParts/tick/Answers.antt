@@ -3,8 +3,8 @@ use Rattle.homa_plain.specs.declared.fault.WorldFault.TheVariants as fault
 use Rattle.homa_plain.specs.declared.event.Event.TheVariants as event
 use Rattle.homa_plain.specs.Entries.{PlainClock}
 use Rattle.homa_plain.specs.World.{Done}
-use Rattle.world_events.proofs.Events as events
-use Rattle.world_events.specs.Stepping.{answering}
+use Rattle.event_laws.proofs.Events as events
+use Rattle.event_laws.specs.Stepping.{answering}
 use Rattle.homa_world.proofs.KeptLaws.{tick_kept, tick_stands, refused_by}
 use Rattle.homa_world.proofs.parts.WorldParts.tick.Goals as goal
 

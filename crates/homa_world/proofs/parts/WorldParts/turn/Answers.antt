@@ -2,10 +2,10 @@ use Rattle.std.proofs.Common.{refl, sym, ap, subst, [], ◌<◌, length, arith}
 use Rattle.homa_plain.specs.declared.event.Event.TheVariants as event
 use Rattle.homa_plain.specs.declared.fault.WorldFault.TheVariants as fault
 use Rattle.homa_plain.specs.Steps.{turn_step}
-use Rattle.world_events.proofs.Events as events
-use Rattle.homa_stage.specs.Staged.{hosts_of}
+use Rattle.event_laws.proofs.Events as events
+use Rattle.host_table.specs.Staged.{hosts_of}
 use Rattle.homa_world.proofs.KeptLaws.{refused_by}
-use Rattle.homa_stage.proofs.StageLaws.{where_ok}
+use Rattle.host_table.proofs.StageLaws.{where_ok}
 use Rattle.homa_world.proofs.EventLaws.{may_step, is_there, not_there, no_host, short_there, sent_now, turned}
 use Rattle.homa_world.proofs.parts.WorldParts.turn.Goals as goal
 

@@ -1,7 +1,7 @@
 use Rattle.std.proofs.Common.{refl}
 use Rattle.std.proofs.lemmas.Result.{on_ok_weaker}
 use Rattle.homa_plain.specs.declared.event.Event.TheVariants as event
-use Rattle.homa_stage.proofs.StageLaws.{if_err_weaker}
+use Rattle.host_table.proofs.StageLaws.{if_err_weaker}
 use Rattle.homa_world.proofs.BytesLaws.{applies_with, refuses_with}
 use Rattle.homa_world.proofs.world.WorldPlaying.apply.Goals as goal
 

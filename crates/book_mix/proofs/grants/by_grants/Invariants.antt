@@ -1,8 +1,0 @@
-use Rattle.book_mix.specs.Filled.{IsFilled}
-use Rattle.book_mix.proofs.grants.by_grants.Given as goal
-
-abbrev pub invariant-fills : goal.invariant-fills
-invariant-fills l = IsFilled l.book
-
-abbrev pub invariant-rounds : goal.invariant-rounds
-invariant-rounds l = IsFilled l.book

@@ -1,0 +1,6 @@
+use Rattle.homa_plain.specs.Choice.{sender, choice_key}
+use Rattle.check_laws.proofs.Entering.{chosen-more}
+use Rattle.check_laws.proofs.choice_by_entering.Goals as goal
+
+pub returns : goal.returns
+returns c = chosen-more sender choice_key

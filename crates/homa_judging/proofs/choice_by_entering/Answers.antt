@@ -1,6 +1,0 @@
-use Rattle.homa_plain.specs.Choice.{sender, choice_key}
-use Rattle.homa_judging.proofs.Entering.{chosen-more}
-use Rattle.homa_judging.proofs.choice_by_entering.Goals as goal
-
-pub returns : goal.returns
-returns c = chosen-more sender choice_key

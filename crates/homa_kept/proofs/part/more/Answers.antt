@@ -1,8 +1,0 @@
-use Rattle.std.proofs.Common.{◌∙◌, ap, ◌+◌}
-use Rattle.homa_plain.specs.Parts as plain
-use Rattle.homa_kept.proofs.part.more.Goals as goal
-
-pub returns-clause-part : goal.returns-clause-part
-returns-clause-part c host peer h =
-    c.grown.ensures.part host peer (c.part_or.ensures.counted c.args.set.now h)
-    ∙ ap (plain.grown c.args.arrival.place c.args.arrival.offset (c.args.arrival.offset + c.args.arrival.len)) (c.part_or.ensures.part host peer c.args.set.now)

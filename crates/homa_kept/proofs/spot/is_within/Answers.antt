@@ -1,4 +1,0 @@
-use Rattle.homa_kept.proofs.spot.is_within.Goals as goal
-
-pub returns-in-Some : goal.returns-in-Some
-returns-in-Some c host peer set h = rw c.in-Some.is (c.is_within.ensures host peer set (rw c.in-Some.is at h))

@@ -1,5 +1,0 @@
-use Rattle.homa_lines.proofs.Cuts.{is_empty-left}
-use Rattle.homa_lines.proofs.fields.Fields.is_empty.Goals as goal
-
-pub returns : goal.returns
-returns c = is_empty-left c.args.self.separator (λ text. text.now) c.args.self.rest c.is_none.result c.is_none.ensures

@@ -1,8 +1,0 @@
-use Rattle.homa_lines.proofs.EntryLaws.{one_entry, one_line}
-use Rattle.homa_lines.proofs.laws.entry_lines.Goals as goal
-
-pub returns-clause-one_entry : goal.returns-clause-one_entry
-returns-clause-one_entry c = one_entry
-
-pub returns-clause-one_line : goal.returns-clause-one_line
-returns-clause-one_line c = one_line

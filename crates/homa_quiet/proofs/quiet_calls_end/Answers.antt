@@ -1,5 +1,0 @@
-use Rattle.homa_quiet.proofs.Unrefused.{comes_to_its_end}
-use Rattle.homa_quiet.proofs.quiet_calls_end.Goals as goal
-
-pub returns : goal.returns
-returns c = comes_to_its_end

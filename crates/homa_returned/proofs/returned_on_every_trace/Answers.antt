@@ -1,5 +1,0 @@
-use Rattle.homa_returned.proofs.Laws.{returned_always}
-use Rattle.homa_returned.proofs.returned_on_every_trace.Goals as goal
-
-pub returns : goal.returns
-returns c = returned_always

@@ -1,5 +1,0 @@
-use Rattle.homa_seen.proofs.Pump.{picked, idle, later_ready}
-use Rattle.homa_seen.proofs.laws.pump_by_picking.Goals as goal
-
-pub returns : goal.returns
-returns c = record { first = picked; none = idle; later = later_ready }

@@ -1,8 +1,0 @@
-use Rattle.std.proofs.Common.{ap, ◌∙◌}
-use Rattle.std.specs.Prelude.{map}
-use Rattle.homa_stage.specs.Staged.{known}
-use Rattle.homa_stage.proofs.FirstLaws.{first_more}
-use Rattle.homa_stage.proofs.stage.first_hosts.Goals as goal
-
-pub loop-id-preserved : goal.loop-id-preserved
-loop-id-preserved c = ap (map known) c.in_ok-push.ensures.items ∙ first_more c.args.settings.now c.loop-id.id c.loop-id.hosts.items c.in_ok-open.field-0 c.loop-id.invariant (ap known c.in_ok-open.ensures)

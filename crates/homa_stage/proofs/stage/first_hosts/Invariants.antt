@@ -1,6 +1,0 @@
-use Rattle.std.specs.Prelude.{◌≡◌, map}
-use Rattle.homa_stage.specs.Staged.{known, first_known}
-use Rattle.homa_stage.proofs.stage.first_hosts.Given as goal
-
-abbrev pub invariant-loop-id : goal.invariant-loop-id
-invariant-loop-id l = map known l.hosts.items ≡ first_known l.fn.settings l.id

@@ -1,0 +1,5 @@
+pub mod Stood
+pub mod Pages
+pub mod Duty
+pub mod Ends
+pub mod SameRows

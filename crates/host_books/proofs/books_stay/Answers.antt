@@ -1,5 +1,0 @@
-use Rattle.host_books.proofs.Changing.{books_stay}
-use Rattle.host_books.proofs.books_stay.Goals as goal
-
-pub returns : goal.returns
-returns c = books_stay

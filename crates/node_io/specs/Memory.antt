@@ -1,0 +1,56 @@
+-- What a net in memory holds and has told.
+use Rattle.std.specs.Prelude.{ℕ, ◌-◌, Bool, if◌then◌else◌, Option, Some, List, [], ◌∷◌, ◌++◌, length, map}
+use Rattle.homa_plain.specs.declared.id.HostId.{HostId}
+use Rattle.node_runs.specs.Course.{Datagram, Arrival}
+use Rattle.node_io.specs.declared.memory.MemNet.{MemNet}
+use Rattle.node_io.specs.Net.{datagram_of}
+use Rattle.node_io.specs.Hosts.{set_has}
+use Rattle.node_io.specs.Given.{given}
+
+-- the hosts that were bound
+abbrev pub net_bound : MemNet → HostId → Bool
+net_bound net host = set_has net.bound host
+
+-- the hosts that were bound or routed
+abbrev pub net_known : MemNet → HostId → Bool
+net_known net host = set_has net.known host
+
+-- the datagrams that are queued
+abbrev pub net_queue : MemNet → List Datagram
+net_queue net = map datagram_of net.queued.items
+
+-- the same, as a net tells it
+abbrev pub net_queued : MemNet → Option (List Datagram)
+net_queued net = Some (net_queue net)
+
+-- what is queued after a datagram was sent: it goes to a host that was bound
+abbrev pub queue_with : MemNet → Datagram → List Datagram
+queue_with net d = if net_bound net d.to then net_queue net ++ d ∷ [] else net_queue net
+
+-- the datagrams that it took
+abbrev pub net_sent : MemNet → Option (List Datagram)
+net_sent net = Some (map datagram_of net.sent.items)
+
+-- what its receives gave
+abbrev pub net_gave : MemNet → Option (List (Option Arrival))
+net_gave net = Some (map given net.gave.items)
+
+-- how many faults it had
+abbrev pub net_faults : MemNet → ℕ
+net_faults net = net.calls.faults.0
+
+-- the numbers of the calls that are to fail
+abbrev pub net_fails : MemNet → List ℕ
+net_fails net = net.calls.fails.items
+
+-- the number of the next call
+abbrev pub net_calls : MemNet → ℕ
+net_calls net = net.calls.next
+
+-- for how many sends it still has room
+abbrev pub net_sends : MemNet → ℕ
+net_sends net = net.room - length net.sent.items
+
+-- for how many receives it still has room
+abbrev pub net_receives : MemNet → ℕ
+net_receives net = net.room - length net.gave.items

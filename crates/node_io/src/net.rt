@@ -1,0 +1,90 @@
+// What datagrams are sent to and received from.
+ghost use Rattle.std.specs.Prelude.{◌≡◌, ◌≤◌, ◌||◌, ℕ, Bool, true, Option, Some, List, OnOk, OnErr, IfOk, IfSome};
+ghost use Rattle.homa_io.specs.Outside.{HasRisen};
+ghost use Rattle.homa_plain.specs.declared.id.HostId.{HostId as Host};
+ghost use Rattle.homa_plain.specs.Calls.{is_host};
+ghost use Rattle.node_runs.specs.Course.{Datagram, Arrival};
+ghost use Rattle.node_io.specs.Net.{arrival_of, IfFrom, is_welcome, next_arrival, if_queued, added};
+
+use homa_plain::{Frame, HostId};
+
+/// A call of a net failed. Nothing was sent or given, and the net counted a fault.
+#[derive(Clone, Copy, Debug, PartialEq, Eq)]
+pub struct NetFailed;
+
+/// What a receive gave.
+#[derive(Clone, Copy, Debug, PartialEq, Eq)]
+pub enum Got {
+    /// A datagram from this host, which the frame holds.
+    Frame { from: HostId },
+    /// No datagram.
+    Nothing,
+}
+
+/// What datagrams go to and come from, between hosts. Its calls take no memory.
+pub trait Net {
+    /// The hosts that were bound or routed.
+    ghost known: { Self → Host → Bool };
+
+    /// The datagrams that are queued, the oldest first, where the net can tell.
+    ghost queued: { Self → Option (List Datagram) };
+
+    /// The datagrams that it took, in order, where it can tell.
+    ghost sent: { Self → Option (List Datagram) };
+
+    /// What each receive gave that didn't fail, in order, where it can tell.
+    ghost gave: { Self → Option (List (Option Arrival)) };
+
+    /// How many faults there were; the count stays at its last value, 2^64 - 1.
+    ghost faults: { Self → ℕ };
+
+    /// Makes a host one that sends and receives here, at this port. Only an error counts a fault.
+    fn bind(&mut self, host: HostId, port: u16) -> Result<(), NetFailed>
+        ensures known { OnOk result ((h : Host) → known self.new h ≡ (known self.old h || is_host h host)) }
+        ensures err { OnErr result (known self.new ≡ known self.old) }
+        ensures queued { queued self.new ≡ queued self.old }
+        ensures sent { sent self.new ≡ sent self.old }
+        ensures gave { gave self.new ≡ gave self.old }
+        ensures risen { OnErr result (HasRisen (faults self.old) (faults self.new)) }
+        ensures quiet { OnOk result (faults self.new ≡ faults self.old) }
+        ensures never_falls { faults self.old ≤ faults self.new };
+
+    /// Says at which port a host is that isn't bound here. Only an error counts a fault.
+    fn route(&mut self, host: HostId, port: u16) -> Result<(), NetFailed>
+        ensures known { OnOk result ((h : Host) → known self.new h ≡ (known self.old h || is_host h host)) }
+        ensures err { OnErr result (known self.new ≡ known self.old) }
+        ensures queued { queued self.new ≡ queued self.old }
+        ensures sent { sent self.new ≡ sent self.old }
+        ensures gave { gave self.new ≡ gave self.old }
+        ensures risen { OnErr result (HasRisen (faults self.old) (faults self.new)) }
+        ensures quiet { OnOk result (faults self.new ≡ faults self.old) }
+        ensures never_falls { faults self.old ≤ faults self.new };
+
+    /// Sends a datagram. Only an error counts a fault, and then nothing was taken.
+    fn send(&mut self, from: HostId, to: HostId, bytes: &[u8]) -> Result<(), NetFailed>
+        ensures sent { OnOk result (sent self.new ≡ added (sent self.old) (record { from = from; to = to; bytes = bytes.now })) }
+        ensures err { OnErr result (sent self.new ≡ sent self.old) }
+        ensures queued { OnErr result (queued self.new ≡ queued self.old) }
+        ensures known { known self.new ≡ known self.old }
+        ensures gave { gave self.new ≡ gave self.old }
+        ensures risen { OnErr result (HasRisen (faults self.old) (faults self.new)) }
+        ensures quiet { OnOk result (faults self.new ≡ faults self.old) }
+        ensures never_falls { faults self.old ≤ faults self.new };
+
+    /// Receives a datagram for a host: the oldest from another host that was bound or routed. What others sent is passed
+    /// over. A datagram of more than 1,500 bytes is cut to these. Only an error counts a fault, and then nothing was
+    /// given.
+    fn recv(&mut self, host: HostId, frame: &mut Frame) -> Result<Got, NetFailed>
+        ensures from { IfOk result (λ got. IfFrom got (λ from. is_welcome (known self.old) host from ≡ true)) }
+        ensures oldest { IfOk result (λ got. IfSome (queued self.old) (λ queue.
+            arrival_of got frame.new ≡ next_arrival (known self.old) host queue)) }
+        ensures passed { OnOk result (queued self.new ≡ if_queued (known self.old) host (queued self.old)) }
+        ensures gave { IfOk result (λ got. gave self.new ≡ added (gave self.old) (arrival_of got frame.new)) }
+        ensures err_queued { OnErr result (queued self.new ≡ queued self.old) }
+        ensures err_gave { OnErr result (gave self.new ≡ gave self.old) }
+        ensures known { known self.new ≡ known self.old }
+        ensures sent { sent self.new ≡ sent self.old }
+        ensures risen { OnErr result (HasRisen (faults self.old) (faults self.new)) }
+        ensures quiet { OnOk result (faults self.new ≡ faults self.old) }
+        ensures never_falls { faults self.old ≤ faults self.new };
+}

@@ -1,5 +1,0 @@
-use Rattle.std.proofs.Common.{◌≡◌, length}
-use Rattle.pool_mix.proofs.copies.copy_times.Given as goal
-
-abbrev pub invariant-times : goal.invariant-times
-invariant-times l = record { to : length l.to ≡ 1000000; from : length l.from ≡ 1000000 }

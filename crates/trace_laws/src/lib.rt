@@ -1,0 +1,36 @@
+//! The laws of every trace of the plain world, joined, and its shape.
+//!
+//! The model: each law holds of every trace by the crates below (`trace_once`, `trace_returned`, `trace_fails`,
+//! `trace_granting`); here they are put together. The shape is proved here: which lines stand where, how packets are
+//! numbered, and that a line names only calls that were made.
+//! Main promise: `laws_on_every_trace`.
+#![tactic(auto)]
+
+ghost use Rattle.homa_plain.specs.Laws.{Fails};
+ghost use Rattle.homa_plain.specs.Shape.{Shape};
+ghost use Rattle.homa_plain.specs.Judge.{Obeys};
+ghost use Rattle.trace_induction.specs.Always.{HoldsAlways};
+ghost use Rattle.trace_laws.specs.Shaped.{HoldsWithCause};
+
+/// A call times out only when it is unanswered, and in a closed block exactly the call fails as forgotten of which an
+/// UNKNOWN that counts says so. It is so of every trace of the plain world: for all valid settings, first incarnations of
+/// at least 1 that stay at most 4,294,967,295 with the number of spares added, first ticks up to 1,000,000,000,000,
+/// numbers of boxes and answers, and lists of events of any length; at each line of the trace, also with a last line
+/// behind it.
+pub fn fails_on_every_trace()
+    ensures { HoldsAlways Fails }
+{}
+
+/// The first line of a trace and no other is that of the settings, which are valid; packets are numbered from 0, and none is
+/// delivered before it was sent; a call is new, of a message between two hosts of the run; and a line names only a call
+/// that was made. It is so of every trace, as `fails_on_every_trace` says; of the last lines that refuse one, with those
+/// that have a cause that may refuse one.
+pub fn shape_on_every_trace()
+    ensures { HoldsWithCause Shape }
+{}
+
+/// Each line of a trace has the shape and obeys all five laws: once, returned, handed up, fails and granting. It is so of
+/// every trace of the plain world, as `shape_on_every_trace` says.
+pub fn laws_on_every_trace()
+    ensures { HoldsWithCause Obeys }
+{}

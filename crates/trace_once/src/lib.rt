@@ -1,0 +1,18 @@
+//! Once, of every trace of the plain world: a call runs at most once in each life of its server, as it was made.
+//!
+//! The model: a world and the lines that were told of it. The lifetime invariant of `trace_lifetime` is carried through each
+//! move of a host's step, each event and every list of events, whatever is lost, repeated, late, restarted or shifted;
+//! and once is judged at each line on the way.
+//! Main promise: `once_on_every_trace`.
+#![tactic(auto)]
+
+ghost use Rattle.homa_plain.specs.Laws.{Once};
+ghost use Rattle.trace_induction.specs.Always.{HoldsAlways};
+
+/// A call runs at most once in each life of its server, with the service and on the request of its `call` line. It is so
+/// of every trace of the plain world: for all valid settings, first incarnations of at least 1 that stay at most
+/// 4,294,967,295 with the number of spares added, first ticks up to 1,000,000,000,000, numbers of boxes and answers,
+/// and lists of events of any length; at each line of the trace, also with a last line behind it.
+pub fn once_on_every_trace()
+    ensures { HoldsAlways Once }
+{}

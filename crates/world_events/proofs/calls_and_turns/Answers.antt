@@ -1,5 +1,0 @@
-use Rattle.world_events.proofs.Events.{call_done, turn_done}
-use Rattle.world_events.proofs.calls_and_turns.Goals as goal
-
-pub returns : goal.returns
-returns c = record { call = call_done; turn = turn_done }

@@ -1,5 +1,0 @@
-use Rattle.world_events.proofs.Events.{deliver_done, inject_done}
-use Rattle.world_events.proofs.deliveries_and_injections.Goals as goal
-
-pub returns : goal.returns
-returns c = record { deliver = deliver_done; inject = inject_done }

@@ -1,0 +1,25 @@
+use Rattle.std.proofs.Common.{length, arith, rules}
+use Rattle.std.specs.Prelude.{nat_le}
+use Rattle.std.proofs.lemmas.List.Sorted.{IsPartitionPoint-from_clause}
+use Rattle.world_packets.specs.declared.tick.Tick.{Tick}
+use Rattle.world_packets.specs.Ticks.{kept_of}
+use Rattle.world_packets.specs.Past.{past_kept}
+use Rattle.world_packets.proofs.Parts.{parted, some_before, is_in}
+use Rattle.world_packets.proofs.packets.Packets.find.Goals as goal
+
+pub overflow_sub-place : goal.overflow_sub-place
+overflow_sub-place c =
+    let p = c.args.self.now in
+    let m = length (past_kept p.past) in
+    let point = IsPartitionPoint-from_clause (λ (t : Tick). nat_le t.first c.args.n) p.ticks.items c.partition_point-place.result c.partition_point-place.ensures.partitioned
+    (parted (λ (t : Tick). t.first) kept_of m c.args.n p.ticks.items p.first p.firsts) (λ a r q k. search rules) in
+    some_before (λ (t : Tick). t.first) kept_of m c.args.n p.ticks.items p.first c.partition_point-place.result p.firsts c.requires.from c.requires.to point.1
+
+pub returns : goal.returns
+returns c =
+    let p = c.args.self.now in
+    let m = length (past_kept p.past) in
+    let point = IsPartitionPoint-from_clause (λ (t : Tick). nat_le t.first c.args.n) p.ticks.items c.partition_point-place.result c.partition_point-place.ensures.partitioned
+    (parted (λ (t : Tick). t.first) kept_of m c.args.n p.ticks.items p.first p.firsts) (λ a r q k. search rules) in
+    is_in (λ (t : Tick). t.first) kept_of m c.args.n p.ticks.items p.first c.partition_point-place.result c.index.result.now p.firsts c.requires.from c.requires.to
+    (omega (arith, c.partition_point-place.ensures.bound)) point.0 point.1 c.index.ensures

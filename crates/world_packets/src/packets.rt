@@ -1,0 +1,210 @@
+// All packets of a world, by their numbers.
+ghost use Rattle.std.specs.Prelude.{◌≡◌, ◌≤◌, ◌<◌, ◌+◌, ◌*◌, ◌^◌, ◌++◌, ◌∷◌, [], ℕ, true, Some, None, length, slice_get, nat_le, nat_lt, IfOk, IfSome, OnOk, OnErr, MatchOption};
+ghost use Rattle.std.specs.List.{list_all, flat_map};
+ghost use Rattle.homa_plain.specs.declared.settings.Settings.{Settings};
+ghost use Rattle.homa_plain.specs.Settings.{IsValid};
+ghost use Rattle.world_packets.specs.declared.tick.Tick.{Tick};
+ghost use Rattle.world_packets.specs.Firsts.{firsts_at};
+ghost use Rattle.world_packets.specs.Ticks.{kept_of};
+ghost use Rattle.world_packets.specs.Past.{past_kept, wire_of};
+ghost use Rattle.world_packets.specs.Blocks.{frames_of, size_of};
+
+use crate::block::Block;
+use crate::past::Past;
+use crate::tick::Tick;
+use homa_plain::{HostId, Settings};
+use std::alloc::{AllocError, Global};
+use std::collections::VecDeque;
+
+/// What is kept of a packet.
+#[derive(Clone, Copy, Debug, PartialEq, Eq)]
+pub enum Kept<'a> {
+    /// The tick of its sending, and its datagram, with its sender and its receiver.
+    Whole {
+        tick: u64,
+        from: HostId,
+        to: HostId,
+        bytes: &'a [u8],
+    },
+    /// The tick of its sending: it is late for good.
+    Late {
+        tick: u64,
+    },
+    /// Its receiver and its sender's clock: it is certainly stale.
+    Stale {
+        to: HostId,
+        at: u64,
+    },
+}
+
+/// The most bytes of a block, beside those of a step.
+const MOST_SIZE: usize = 1 << 30;
+
+/// Every packet that was sent, by its number, counted from 0.
+#[derive(Drop)]
+pub struct Packets {
+    settings: Settings,
+    // The first packets, which are too old, and behind them those of earlier ticks.
+    past: Past,
+    ticks: VecDeque<Tick>,
+    // The packets of the last tick, from number `first` on.
+    front: Block,
+    tick: u64,
+    first: u64,
+    ghost valid: { IsValid settings },
+    ghost firsts: { firsts_at (λ (t : Tick). t.first) kept_of (length (past_kept past)) ticks.items first ≡ true },
+    ghost few: { first + length (frames_of front) < 2 ^ 64 },
+    ghost wire: { wire_of past ≡ settings.wire },
+    ghost filled: { list_all (λ (t : Tick). nat_lt 0 (length (kept_of t))) ticks.items ≡ true },
+}
+
+impl Packets {
+    ghost use Rattle.world_packets.specs.Kept.{WholePacket, kept_seen, AllAged, HasNoOld};
+    ghost use Rattle.world_packets.specs.Firsts.{IsIn};
+    ghost use Rattle.world_packets.specs.All.{kept_all, settings_of, open_tick, HasRoomFor};
+
+    /// No packet was sent yet. It takes no memory.
+    pub fn open(alloc: Global, settings: &Settings) -> Packets
+        requires { IsValid settings.now }
+        ensures none { kept_all result ≡ [] }
+        ensures settings { settings_of result ≡ settings.now }
+    {
+        Packets {
+            settings: *settings,
+            past: Past::open(alloc, settings.wire),
+            ticks: VecDeque::new(alloc),
+            front: Block::open(alloc),
+            tick: 0,
+            first: 0,
+        }
+    }
+
+    /// How many packets were sent.
+    pub fn count(&self) -> u64
+        ensures { result ≡ length (kept_all self.now) }
+    {
+        self.first + self.front.len() as u64
+    }
+
+    // The packets of the last tick, if there are any, get room of their own, as much as they need.
+    fn close(&mut self, alloc: Global) -> Result<(), AllocError>
+        ensures kept { kept_all self.new ≡ kept_all self.old }
+        ensures closed { OnOk result (frames_of self.new.front ≡ []) }
+        ensures size { OnOk result (size_of self.new.front ≡ 0) }
+        ensures settings { settings_of self.new ≡ settings_of self.old }
+    {
+        let count = self.front.len() as u64;
+        if count == 0 {
+            self.front.clear();
+            return Ok(());
+        }
+        let block = self.front.copy(alloc)?;
+        self.ticks.push_back(Tick {
+            tick: self.tick,
+            first: self.first,
+            block,
+        })?;
+        self.front.clear();
+        self.first += count;
+        Ok(())
+    }
+
+    // The next packets are sent in this tick.
+    fn turn_over(&mut self, alloc: Global, now: u64) -> Result<(), AllocError>
+        ensures kept { kept_all self.new ≡ kept_all self.old }
+        ensures tick { OnOk result (self.new.tick ≡ now) }
+        ensures small { OnOk result (size_of self.new.front ≤ 2 ^ 30) }
+        ensures settings { settings_of self.new ≡ settings_of self.old }
+    {
+        if self.tick == now && self.front.size() <= MOST_SIZE {
+            return Ok(());
+        }
+        self.close(alloc)?;
+        self.tick = now;
+        Ok(())
+    }
+
+    // Gives up the datagrams of the ticks whose packets are too old, the oldest first.
+    fn expire(&mut self, now: u64) -> Result<(), AllocError>
+        ensures aged { AllAged (settings_of self.old) now (kept_all self.old) (kept_all self.new) }
+        ensures settings { settings_of self.new ≡ settings_of self.old }
+        ensures no_old { OnOk result (HasNoOld (settings_of self.old) now (flat_map kept_of self.new.ticks.items)) }
+        ensures front { self.new.front ≡ self.old.front }
+        ensures tick { self.new.tick ≡ self.old.tick }
+    {
+        while !self.ticks.is_empty() {
+            if !self.past.take(&self.settings, &self.ticks[0], now)? {
+                break;
+            }
+            self.ticks.pop_front();
+        }
+        Ok(())
+    }
+
+    /// The packets that are pushed next are sent in the tick `now`, which isn't below the last one; there is room for 64 of them.
+    /// Gives up the datagrams of each tick whose packets are all too old, the oldest first, up to one that has a packet that isn't.
+    /// Only this takes memory; after an error the packets are the same but for those that became too old.
+    pub fn reserve(&mut self, alloc: Global, now: u64) -> Result<(), AllocError>
+        requires { length (kept_all self.old) + 64 < 2 ^ 64 }
+        ensures aged { AllAged (settings_of self.old) now (kept_all self.old) (kept_all self.new) }
+        ensures no_old { OnOk result (HasNoOld (settings_of self.old) now (kept_all self.new)) }
+        ensures room { OnOk result (HasRoomFor self.new 64) }
+        ensures tick { OnOk result (open_tick self.new ≡ now) }
+        ensures settings { settings_of self.new ≡ settings_of self.old }
+    {
+        self.turn_over(alloc, now)?;
+        self.expire(now)?;
+        self.front.reserve()?;
+        Ok(())
+    }
+
+    /// Adds a packet, of at most 1,444 bytes, in room that was taken before.
+    pub fn push(&mut self, from: HostId, to: HostId, bytes: &[u8])
+        requires room { HasRoomFor self.old 1 }
+        requires short { length bytes.now ≤ 1444 }
+        ensures kept { kept_all self.new ≡ kept_all self.old ++ WholePacket (open_tick self.old) (record { from = from; to = to; bytes = bytes.now }) ∷ [] }
+        ensures room { (n : ℕ) → HasRoomFor self.old (n + 1) → HasRoomFor self.new n }
+        ensures tick { open_tick self.new ≡ open_tick self.old }
+        ensures settings { settings_of self.new ≡ settings_of self.old }
+    {
+        self.front.push(from, to, bytes);
+    }
+
+    // The tick in which the packet with this number was sent.
+    fn find(&self, n: u64) -> &Tick
+        requires from { length (past_kept self.now.past) ≤ n }
+        requires to { n < self.now.first }
+        ensures { IsIn (λ (t : Tick). t.first) kept_of self.now.ticks.items (length (past_kept self.now.past)) n result.now }
+    {
+        let place = self.ticks.partition_point(
+            |tick: &Tick| -> bool
+                ensures { result ≡ nat_le tick.now.first n }
+            { tick.first <= n },
+        );
+        &self.ticks[place - 1]
+    }
+
+    /// What is kept of the packet with this number, if so many were sent.
+    pub fn get(&self, n: u64) -> Option<Kept<'_>>
+        ensures { MatchOption result (length (kept_all self.now) ≤ n) (λ kept. slice_get (kept_all self.now) n ≡ Some (kept_seen kept)) }
+    {
+        if n < self.past.len() {
+            return Some(self.past.get(n));
+        }
+        if n < self.first {
+            let tick = self.find(n);
+            return Some(tick.get((n - tick.first) as usize));
+        }
+        let i = (n - self.first) as usize;
+        if i < self.front.len() {
+            let (from, to, bytes) = self.front.get(i);
+            return Some(Kept::Whole {
+                tick: self.tick,
+                from,
+                to,
+                bytes,
+            });
+        }
+        None
+    }
+}
