@@ -20,7 +20,8 @@ const MOST_BYTES: u64 = 68_719_476_736;
 fn count_events<S: Source>(reader: &mut Reader, source: &mut S) -> Result<u64, ScriptStop>
     requires { reader.old ≡ opened MOST_BYTES }
     ensures count { IfOk result (λ events. (bytes : List ℕ) → S.left source.old ≡ Some bytes → count_of (opening MOST_BYTES bytes) ≡ Ok events) }
-    ensures stop { IfErr result (λ stop. (bytes : List ℕ) → S.left source.old ≡ Some bytes → IsStop (count_of (opening MOST_BYTES bytes)) reader.new.place.number stop) }
+    ensures stop { IfErr result (λ stop. (bytes : List ℕ) → S.left source.old ≡ Some bytes
+        → IsStop (count_of (opening MOST_BYTES bytes)) reader.new.place.number stop) }
 {
     reader.settings(source)?;
     let mut events: u64 = 0;

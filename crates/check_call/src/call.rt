@@ -72,7 +72,8 @@ pub struct Delivered {
 
 // Whether a part, if there is one, is whole.
 fn is_whole(part: Option<Part>) -> bool
-    ensures { (host peer : AHost) (set : Numbers) → IfSome part (IsCounted set) → result ≡ option_map_or plain.is_whole (option_map (part_of host peer set) part) false }
+    ensures { (host peer : AHost) (set : Numbers) → IfSome part (IsCounted set)
+        → result ≡ option_map_or plain.is_whole (option_map (part_of host peer set) part) false }
 {
     match part {
         Some(part) => part.is_whole(),
@@ -82,7 +83,8 @@ fn is_whole(part: Option<Part>) -> bool
 
 /// Whether a part becomes whole.
 fn becomes_whole(before: Option<Part>, after: Part) -> bool
-    ensures { (host peer : AHost) (set : Numbers) (id : ACall) → IfSome before (IsCounted set) → IsCounted set after → plain.made_whole id (option_map (part_of host peer set) before) (part_of host peer set after) ≡ (if result then id ∷ [] else []) }
+    ensures { (host peer : AHost) (set : Numbers) (id : ACall) → IfSome before (IsCounted set) → IsCounted set after
+        → plain.made_whole id (option_map (part_of host peer set) before) (part_of host peer set after) ≡ (if result then id ∷ [] else []) }
 {
     !is_whole(before) && after.is_whole()
 }
@@ -141,7 +143,8 @@ impl Call {
     /// Puts the bytes that came last into the set beside the part that they belong to: of what the client sends that of the
     /// request, and of what the server sends that of the response.
     pub fn settle(&mut self, alloc: Global, lives: Lives, role: Role) -> Result<(), AllocError>
-        ensures spot { OnOk result ((client : AHost) (gap : ℕ) (s : spots.Spot) → StandsFor (beside client gap self.old) (spot_in self.old lives) s → StandsFor (beside client gap self.new) (spot_in self.new lives) s) }
+        ensures spot { OnOk result ((client : AHost) (gap : ℕ) (s : spots.Spot) → StandsFor (beside client gap self.old) (spot_in self.old lives) s
+            → StandsFor (beside client gap self.new) (spot_in self.new lives) s) }
         ensures settled { OnOk result (IsSettled role (spot_in self.new lives)) }
         ensures rest { OnOk result (self.new ≡ record self.old { lives = lives; spot = self.new.spot; asked = self.new.asked; answered = self.new.answered }) }
     {
@@ -153,7 +156,8 @@ impl Call {
 
     // Puts the bytes of the request that came last into the set beside its part.
     fn settle_request(&mut self, alloc: Global, lives: Lives) -> Result<(), AllocError>
-        ensures spot { OnOk result ((client : AHost) (gap : ℕ) (s : spots.Spot) → StandsFor (beside client gap self.old) (spot_in self.old lives) s → StandsFor (beside client gap self.new) (spot_in self.new lives) s) }
+        ensures spot { OnOk result ((client : AHost) (gap : ℕ) (s : spots.Spot) → StandsFor (beside client gap self.old) (spot_in self.old lives) s
+            → StandsFor (beside client gap self.new) (spot_in self.new lives) s) }
         ensures settled { OnOk result (IfSome (spot_in self.new lives).request IsPlain) }
         ensures rest { OnOk result (self.new ≡ record self.old { lives = lives; spot = self.new.spot; asked = self.new.asked }) }
     {
@@ -165,7 +169,8 @@ impl Call {
 
     // Puts the bytes of the response that came last into the set beside its part.
     fn settle_response(&mut self, alloc: Global, lives: Lives) -> Result<(), AllocError>
-        ensures spot { OnOk result ((client : AHost) (gap : ℕ) (s : spots.Spot) → StandsFor (beside client gap self.old) (spot_in self.old lives) s → StandsFor (beside client gap self.new) (spot_in self.new lives) s) }
+        ensures spot { OnOk result ((client : AHost) (gap : ℕ) (s : spots.Spot) → StandsFor (beside client gap self.old) (spot_in self.old lives) s
+            → StandsFor (beside client gap self.new) (spot_in self.new lives) s) }
         ensures settled { OnOk result (IfSome (spot_in self.new lives).response IsPlain) }
         ensures rest { OnOk result (self.new ≡ record self.old { lives = lives; spot = self.new.spot; answered = self.new.answered }) }
     {
@@ -192,8 +197,10 @@ impl Call {
     /// settled.
     pub fn delivered(&self, packet: &Packet, place: u64, lives: Lives, unsched: u32) -> Delivered
         requires { IsSettled packet.now.role (spot_in self.now lives) }
-        ensures { (v : View) (p : Sent) (s : spots.Spot) (gap : ℕ) → IsDelivery v self.now packet.now p place lives unsched → StandsFor (beside p.id.client gap self.now) (spot_in self.now lives) s
-            → Leaves (beside p.id.client gap self.now) p.id result (spots.delivered_spot v p s) (spots.counted_spot v p s) (spots.due_spot v p s) (spots.due_if_refused v p s) }
+        ensures { (v : View) (p : Sent) (s : spots.Spot) (gap : ℕ) → IsDelivery v self.now packet.now p place lives unsched
+            → StandsFor (beside p.id.client gap self.now) (spot_in self.now lives) s
+            → Leaves (beside p.id.client gap self.now) p.id result (spots.delivered_spot v p s) (spots.counted_spot v p s) (spots.due_spot v p s)
+            (spots.due_if_refused v p s) }
     {
         let before = self.spot_in(lives);
         let counts = self.counts(packet, before);
@@ -235,8 +242,11 @@ impl Call {
         delivered: Delivered,
     ) -> Delivered
         requires { IfSome delivered.now.request IsPlain }
-        ensures { (v : View) (p : Sent) (b : Beside) (s t : spots.Spot) (due later : Ends) → IsDelivery v self.now packet.now p arrival.place lives arrival.unsched → b ≡ beside p.id.client b.gap self.now → arrival.len ≡ length p.payload
-            → Leaves b p.id delivered s t due later → Leaves b p.id result (spots.request_spot v p arrival.offset (get v.calls p.id) s) t (spots.due_request v p arrival.offset (get v.calls p.id) due s) later }
+        ensures { (v : View) (p : Sent) (b : Beside) (s t : spots.Spot) (due later : Ends)
+            → IsDelivery v self.now packet.now p arrival.place lives arrival.unsched → b ≡ beside p.id.client b.gap self.now → arrival.len ≡ length p.payload
+            → Leaves b p.id delivered s t due later
+            → Leaves b p.id result (spots.request_spot v p arrival.offset (get v.calls p.id) s) t
+            (spots.due_request v p arrival.offset (get v.calls p.id) due s) later }
     {
         if !self.takes(packet, lives) {
             return delivered;
@@ -255,8 +265,10 @@ impl Call {
     // Bytes of the response come.
     fn answered_more(&self, size: u32, arrival: Arrival, delivered: Delivered) -> Delivered
         requires { IfSome delivered.now.response IsPlain }
-        ensures { (v : View) (p : Sent) (b : Beside) (s t : spots.Spot) (due later : Ends) → v.place ≡ arrival.place → v.settings.unsched ≡ arrival.unsched → b ≡ beside p.id.client b.gap self.now → p.to ≡ b.client → p.from ≡ b.server → arrival.len ≡ length p.payload → spots.counts_at v p s ≡ true
-            → Leaves b p.id delivered s t due later → Leaves b p.id result (spots.response_spot v p size arrival.offset s) t (spots.due_response v p size arrival.offset due s) later }
+        ensures { (v : View) (p : Sent) (b : Beside) (s t : spots.Spot) (due later : Ends) → v.place ≡ arrival.place → v.settings.unsched ≡ arrival.unsched
+            → b ≡ beside p.id.client b.gap self.now → p.to ≡ b.client → p.from ≡ b.server → arrival.len ≡ length p.payload → spots.counts_at v p s ≡ true
+            → Leaves b p.id delivered s t due later
+            → Leaves b p.id result (spots.response_spot v p size arrival.offset s) t (spots.due_response v p size arrival.offset due s) later }
     {
         let after = more(delivered.now.response, &self.answered, size, arrival);
         Delivered {
@@ -306,7 +318,8 @@ fn heard(packet: &Packet, counts: bool, spot: Spot) -> Delivered
 
 // What rests on deliveries, with a packet that may count.
 fn counted(packet: &Packet, counts: bool, spot: Spot) -> Spot
-    ensures stands { (b : Beside) (s : spots.Spot) (p : Sent) → packet.now ≡ packet_of p → StandsFor b spot s → StandsFor b result (if counts then spots.heard_spot p s else s) }
+    ensures stands { (b : Beside) (s : spots.Spot) (p : Sent) → packet.now ≡ packet_of p → StandsFor b spot s
+        → StandsFor b result (if counts then spots.heard_spot p s else s) }
     ensures request { IfSome spot.request IsPlain → IfSome result.request IsPlain }
     ensures response { IfSome spot.response IsPlain → IfSome result.response IsPlain }
 {

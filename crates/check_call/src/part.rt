@@ -60,7 +60,8 @@ impl Part {
     /// The part with so many bytes from number `a` on, as far as they belong to the message.
     pub fn grown(self, set: &OpenRanges, place: u64, a: u32, len: u64) -> Part
         requires { IsPlain self }
-        ensures part { (host peer : HostId) → IsCounted set.now self → part_of host peer set.now result ≡ plain.grown place a (a + len) (part_of host peer set.now self) }
+        ensures part { (host peer : HostId) → IsCounted set.now self
+            → part_of host peer set.now result ≡ plain.grown place a (a + len) (part_of host peer set.now self) }
         ensures counted { IsCounted set.now self → IsCounted set.now result }
     {
         let order = self.order_at(place);
@@ -87,7 +88,8 @@ impl Part {
 
     /// A GRANT raises the granted end of a message.
     pub fn raised(self, offset: u32) -> Part
-        ensures part { (host peer : HostId) (set : Numbers) → IsCounted set self → part_of host peer set result ≡ plain.raised host peer offset (part_of host peer set self) }
+        ensures part { (host peer : HostId) (set : Numbers) → IsCounted set self
+            → part_of host peer set result ≡ plain.raised host peer offset (part_of host peer set self) }
         ensures counted { (set : Numbers) → IsCounted set self → IsCounted set result }
     {
         if !self.is_message() {
@@ -120,7 +122,8 @@ pub struct Arrival {
 /// A part of a message of this length with the bytes that come; it is opened with its first bytes.
 pub fn more(before: Option<Part>, set: &OpenRanges, length: u32, arrival: Arrival) -> Part
     requires { IfSome before IsPlain }
-    ensures part { (host peer : HostId) → IfSome before (IsCounted set.now) → part_of host peer set.now result ≡ more_of host peer arrival length (option_map (part_of host peer set.now) before) }
+    ensures part { (host peer : HostId) → IfSome before (IsCounted set.now)
+        → part_of host peer set.now result ≡ more_of host peer arrival length (option_map (part_of host peer set.now) before) }
     ensures counted { IfSome before (IsCounted set.now) → IsCounted set.now result }
 {
     part_or(before, length, arrival.unsched).grown(set, arrival.place, arrival.offset, arrival.len)
@@ -128,7 +131,8 @@ pub fn more(before: Option<Part>, set: &OpenRanges, length: u32, arrival: Arriva
 
 // A part, which is opened where there is none.
 fn part_or(before: Option<Part>, length: u32, unsched: u32) -> Part
-    ensures part { (host peer : HostId) (set : Numbers) → part_of host peer set result ≡ unwrap_or (option_map (part_of host peer set) before) (plain.opened host peer length unsched) }
+    ensures part { (host peer : HostId) (set : Numbers)
+        → part_of host peer set result ≡ unwrap_or (option_map (part_of host peer set) before) (plain.opened host peer length unsched) }
     ensures counted { (set : Numbers) → IfSome before (IsCounted set) → IsCounted set result }
     ensures plain { IfSome before IsPlain → IsPlain result }
 {

@@ -36,7 +36,8 @@ pub enum Change {
 
 // A part, if there is one, whose granted end is raised.
 fn raised(part: Option<Part>, offset: u32) -> Option<Part>
-    ensures part { (host peer : HostId) (set : Numbers) → IfSome part (IsCounted set) → option_map (plain.raised host peer offset) (option_map (part_of host peer set) part) ≡ option_map (part_of host peer set) result }
+    ensures part { (host peer : HostId) (set : Numbers) → IfSome part (IsCounted set)
+        → option_map (plain.raised host peer offset) (option_map (part_of host peer set) part) ≡ option_map (part_of host peer set) result }
     ensures counted { (set : Numbers) → IfSome part (IsCounted set) → IfSome result (IsCounted set) }
 {
     match part {
@@ -99,7 +100,8 @@ impl Spot {
     /// A packet of this incarnation counts: one of a later incarnation ends the response part, and every one but
     /// UNKNOWN renews the call.
     pub fn heard(self, inc: u32, is_unknown: bool) -> Spot
-        ensures stands { (b : Beside) (s : spots.Spot) (p : Sent) → p.inc ≡ inc → seen.is_unknown p.body ≡ is_unknown → StandsFor b self s → StandsFor b result (spots.heard_spot p s) }
+        ensures stands { (b : Beside) (s : spots.Spot) (p : Sent) → p.inc ≡ inc → seen.is_unknown p.body ≡ is_unknown → StandsFor b self s
+            → StandsFor b result (spots.heard_spot p s) }
         ensures request { IfSome self.request IsPlain → IfSome result.request IsPlain }
         ensures response { IfSome self.response IsPlain → IfSome result.response IsPlain }
     {

@@ -123,7 +123,8 @@ impl Delivery {
 
     /// With a change of a call.
     pub(crate) fn changed(self, id: CallId, change: Change) -> Delivery
-        ensures undo { (t : ATrace) (u : Undo) (f : ASpot → ASpot) → IsChange t id change f → IsMade t id → IsUndoOf t self u → IsUndoOf t result (undo_each (only id f) u) }
+        ensures undo { (t : ATrace) (u : Undo) (f : ASpot → ASpot) → IsChange t id change f → IsMade t id → IsUndoOf t self u
+            → IsUndoOf t result (undo_each (only id f) u) }
         ensures due { due_of (Some result) ≡ due_of (Some self) }
     {
         if !is_same(self.packet.id, id) {

@@ -1,9 +1,12 @@
 // A line that is taken.
-ghost use Rattle.std.specs.Prelude.{ℕ, List, Option, Some, None, [], ◌∷◌, ◌++◌, length, slice_get, ◌≡◌, ◌+◌, ◌-◌, ◌^◌, ◌<◌, ◌&&◌, ◌||◌, true, false, if◌then◌else◌, IfOk, OnOk, IfSome};
+ghost use Rattle.std.specs.Prelude.{ℕ, List, Option, Some, None, [], ◌∷◌, ◌++◌, length, slice_get, ◌≡◌, ◌+◌, ◌-◌, ◌^◌, ◌<◌, ◌&&◌, ◌||◌, true, false};
+ghost use Rattle.std.specs.Prelude.{if◌then◌else◌, IfOk, OnOk, IfSome};
 ghost use Rattle.std.specs.Option.{option_map};
-ghost use Rattle.check_lines.specs.Changes.{SameLists, SameSets, SameCount, SameNumbers, SameRest, IsChange, IsMade, IsAfter, IsTaken, Changes, Ready, Takes, call_or};
+ghost use Rattle.check_lines.specs.Changes.{SameLists, SameSets, SameCount, SameNumbers, SameRest, IsChange, IsMade, IsAfter, IsTaken, Changes};
+ghost use Rattle.check_lines.specs.Changes.{Ready, Takes, call_or};
 ghost use Rattle.check_lines.specs.Sends.{change_by, granted_by, first_after, sent_with, tested, keeps_window};
-ghost use Rattle.check_lines.specs.Traces.{Follows, Keeps, StandsOr, IsUndoOf, IsDelivered, beside_at, IsPlace, call_at, host_at, lives_in, lead_of, first_of, restarts_in, asked_of, awaited_of, due_of};
+ghost use Rattle.check_lines.specs.Traces.{Follows, Keeps, StandsOr, IsUndoOf, IsDelivered, beside_at, IsPlace, call_at, host_at, lives_in, lead_of};
+ghost use Rattle.check_lines.specs.Traces.{first_of, restarts_in, asked_of, awaited_of, due_of};
 ghost use Rattle.check_lines.specs.declared.block.Named.TheVariants.{Nobody};
 ghost use Rattle.check_laws.specs.Spots.{Spot as ASpot, Undo, IsUndo, spot, only, undo_each, said_spot, counted_spot, delivered_spot, due_spot, due_if_refused};
 ghost use Rattle.check_laws.specs.Tested.{IsOther};
@@ -160,7 +163,8 @@ impl Trace {
         service: u8,
         bytes: &[u8],
     ) -> Result<(), AllocError>
-        ensures kept { OnOk result ((v : View) → Keeps v self.old → is_new_call v id server bytes.now ≡ true → Keeps (seen_with v (PlainCall id server service bytes.now)) self.new) }
+        ensures kept { OnOk result ((v : View) → Keeps v self.old → is_new_call v id server bytes.now ≡ true
+            → Keeps (seen_with v (PlainCall id server service bytes.now)) self.new) }
         ensures count { OnOk result (SameCount self.old self.new) }
         ensures delivery { OnOk result (self.new.delivery ≡ self.old.delivery) }
     {
@@ -199,8 +203,10 @@ impl Trace {
     fn delivered(&self, at: usize, packet: &Packet) -> Delivered
         requires place { IsPlace self.now packet.now.id at }
         requires settled { IfSome (call_at self.now packet.now.id) (λ c. IsSettled packet.now.role (spot_in c (lives_in self.now packet.now.id c.server))) }
-        ensures { (v : View) (p : Sent) (c : ACall) → Keeps v self.now → v.place ≡ self.now.place → packet.now ≡ packet_of p → call_at self.now packet.now.id ≡ Some c
-            → Leaves (beside p.id.client self.now.settings.resend c) p.id result (delivered_spot v p (spot v.now p.id)) (counted_spot v p (spot v.now p.id)) (due_spot v p (spot v.now p.id)) (due_if_refused v p (spot v.now p.id)) }
+        ensures { (v : View) (p : Sent) (c : ACall) → Keeps v self.now → v.place ≡ self.now.place → packet.now ≡ packet_of p
+            → call_at self.now packet.now.id ≡ Some c
+            → Leaves (beside p.id.client self.now.settings.resend c) p.id result (delivered_spot v p (spot v.now p.id)) (counted_spot v p (spot v.now p.id))
+            (due_spot v p (spot v.now p.id)) (due_if_refused v p (spot v.now p.id)) }
     {
         let call = &self.calls[at];
         let lives = self.lives(packet.id, call.server);
@@ -210,7 +216,8 @@ impl Trace {
     // A packet of a call that was made reaches its host.
     fn deliver_at(&mut self, alloc: Global, at: usize, packet: Packet) -> Result<(), AllocError>
         requires { IsPlace self.old packet.id at }
-        ensures taken { OnOk result ((v : View) (p : Sent) → Keeps v self.old → v.place ≡ self.old.place → v.now.due ≡ no_ends → packet ≡ packet_of p → IsAfter v (Some p) self.new) }
+        ensures taken { OnOk result ((v : View) (p : Sent) → Keeps v self.old → v.place ≡ self.old.place → v.now.due ≡ no_ends → packet ≡ packet_of p
+            → IsAfter v (Some p) self.new) }
         ensures count { OnOk result (SameCount self.old self.new) }
     {
         self.settle(alloc, at, packet.id, packet.role)?;
@@ -230,7 +237,8 @@ impl Trace {
 
     // A packet reaches its host.
     fn deliver(&mut self, alloc: Global, packet: Packet) -> Result<(), AllocError>
-        ensures taken { OnOk result ((v : View) (p : Sent) → Keeps v self.old → v.place ≡ self.old.place → v.now.due ≡ no_ends → packet ≡ packet_of p → IsAfter v (Some p) self.new) }
+        ensures taken { OnOk result ((v : View) (p : Sent) → Keeps v self.old → v.place ≡ self.old.place → v.now.due ≡ no_ends → packet ≡ packet_of p
+            → IsAfter v (Some p) self.new) }
         ensures count { OnOk result (SameCount self.old self.new) }
     {
         match self.find(packet.id) {
@@ -252,7 +260,8 @@ impl Trace {
     // A packet reaches its host, if there is one, where none did in this block.
     fn deliver_some(&mut self, alloc: Global, packet: Option<Packet>) -> Result<(), AllocError>
         requires { self.old.delivery ≡ None }
-        ensures taken { OnOk result ((v : View) (o : Option Sent) → Keeps v self.old → v.place ≡ self.old.place → v.now.due ≡ no_ends → packet ≡ option_map packet_of o → IsAfter v o self.new) }
+        ensures taken { OnOk result ((v : View) (o : Option Sent) → Keeps v self.old → v.place ≡ self.old.place → v.now.due ≡ no_ends
+            → packet ≡ option_map packet_of o → IsAfter v o self.new) }
         ensures count { OnOk result (SameCount self.old self.new) }
     {
         if let Some(packet) = packet {
@@ -263,11 +272,15 @@ impl Trace {
 
     // A host restarts.
     fn restart(&mut self, alloc: Global, host: HostId, inc: u32) -> Result<(), AllocError>
-        ensures restarts { OnOk result ((h : AHost) → restarts_in (host_at self.new h) ≡ (if is_host h host then restarts_in (host_at self.old h) ++ inc ∷ [] else restarts_in (host_at self.old h))) }
+        ensures restarts { OnOk result ((h : AHost)
+            → restarts_in (host_at self.new h)
+            ≡ (if is_host h host then restarts_in (host_at self.old h) ++ inc ∷ [] else restarts_in (host_at self.old h))) }
         ensures lead { OnOk result ((h : AHost) → lead_of (host_at self.new h) ≡ lead_of (host_at self.old h)) }
         ensures first { OnOk result ((h : AHost) → first_of (host_at self.new h) ≡ first_of (host_at self.old h)) }
-        ensures asked { OnOk result ((h : AHost) (q : AnId) → asked_of (host_at self.new h) q ≡ (if is_host h host then false else asked_of (host_at self.old h) q)) }
-        ensures awaited { OnOk result ((h : AHost) (q : AnId) → awaited_of (host_at self.new h) q ≡ (if is_host h host then false else awaited_of (host_at self.old h) q)) }
+        ensures asked { OnOk result ((h : AHost) (q : AnId)
+            → asked_of (host_at self.new h) q ≡ (if is_host h host then false else asked_of (host_at self.old h) q)) }
+        ensures awaited { OnOk result ((h : AHost) (q : AnId)
+            → awaited_of (host_at self.new h) q ≡ (if is_host h host then false else awaited_of (host_at self.old h) q)) }
         ensures rest { OnOk result (self.new ≡ record self.old { hosts = self.new.hosts }) }
     {
         self.know(alloc, host)?;
@@ -293,7 +306,8 @@ impl Trace {
 
     // The block's delivery, with a change of a call.
     fn change_delivery(&mut self, id: CallId, change: Change)
-        ensures block { (o : Option Undo) (f : ASpot → ASpot) → IsChange self.old id change f → IsMade self.old id → IsDelivered self.old self.old.delivery o → IsDelivered self.new self.new.delivery (option_map (undo_each (only id f)) o) }
+        ensures block { (o : Option Undo) (f : ASpot → ASpot) → IsChange self.old id change f → IsMade self.old id → IsDelivered self.old self.old.delivery o
+            → IsDelivered self.new self.new.delivery (option_map (undo_each (only id f)) o) }
         ensures due { due_of self.new.delivery ≡ due_of self.old.delivery }
         ensures rest { self.new ≡ record self.old { delivery = self.new.delivery } }
     {
@@ -304,8 +318,10 @@ impl Trace {
 
     // A change of a call, whether the block's delivery is taken back or not.
     fn change(&mut self, alloc: Global, id: CallId, change: Change) -> Result<(), AllocError>
-        ensures kept { OnOk result ((v w : View) (f : ASpot → ASpot) → Keeps v self.old → IsMade self.old id → IsChange self.old id change f → Changes v w id f → Keeps w self.new) }
-        ensures block { OnOk result ((o : Option Undo) (f : ASpot → ASpot) → IsChange self.old id change f → IsMade self.old id → IsDelivered self.old self.old.delivery o → IsDelivered self.new self.new.delivery (option_map (undo_each (only id f)) o)) }
+        ensures kept { OnOk result ((v w : View) (f : ASpot → ASpot) → Keeps v self.old → IsMade self.old id → IsChange self.old id change f
+            → Changes v w id f → Keeps w self.new) }
+        ensures block { OnOk result ((o : Option Undo) (f : ASpot → ASpot) → IsChange self.old id change f → IsMade self.old id
+            → IsDelivered self.old self.old.delivery o → IsDelivered self.new self.new.delivery (option_map (undo_each (only id f)) o)) }
         ensures due { OnOk result (due_of self.new.delivery ≡ due_of self.old.delivery) }
         ensures sets { OnOk result (SameSets self.old self.new) }
         ensures count { OnOk result (SameCount self.old self.new) }
@@ -345,7 +361,8 @@ impl Trace {
 
     // The incarnation of a host's first life, if this is its first packet and it hasn't restarted.
     fn note_first(&mut self, alloc: Global, host: HostId, inc: u32) -> Result<(), AllocError>
-        ensures first { OnOk result ((h : AHost) → first_of (host_at self.new h) ≡ (if is_host h host then first_after (host_at self.old h) inc else first_of (host_at self.old h))) }
+        ensures first { OnOk result ((h : AHost)
+            → first_of (host_at self.new h) ≡ (if is_host h host then first_after (host_at self.old h) inc else first_of (host_at self.old h))) }
         ensures lead { OnOk result ((h : AHost) → lead_of (host_at self.new h) ≡ lead_of (host_at self.old h)) }
         ensures restarts { OnOk result ((h : AHost) → restarts_in (host_at self.new h) ≡ restarts_in (host_at self.old h)) }
         ensures lists { OnOk result (SameLists self.old self.new) }
@@ -373,7 +390,8 @@ impl Trace {
 
     // A packet is kept, and noted at its sender and its call.
     fn keep_packet(&mut self, alloc: Global, packet: Packet) -> Result<(), AllocError>
-        ensures kept { OnOk result ((v : View) (p : Sent) → Keeps v self.old → IsMade self.old packet.id → packet ≡ packet_of p → Keeps (record v { firsts = with_first v p; packets = v.packets ++ p ∷ [] }) self.new) }
+        ensures kept { OnOk result ((v : View) (p : Sent) → Keeps v self.old → IsMade self.old packet.id → packet ≡ packet_of p
+            → Keeps (record v { firsts = with_first v p; packets = v.packets ++ p ∷ [] }) self.new) }
         ensures sets { OnOk result (SameSets self.old self.new) }
         ensures count { OnOk result (SameCount self.old self.new) }
         ensures delivery { OnOk result (self.new.delivery ≡ self.old.delivery) }
@@ -386,8 +404,10 @@ impl Trace {
 
     // A packet is sent.
     fn send(&mut self, alloc: Global, packet: Packet, body: &Body) -> Result<(), AllocError>
-        ensures kept { OnOk result ((v : View) (p : Sent) → Keeps v self.old → IsMade self.old packet.id → packet ≡ packet_of p → body.now ≡ p.body → Keeps (sent v p) self.new) }
-        ensures block { OnOk result ((v : View) (p : Sent) (o : Option Undo) → Keeps v self.old → IsMade self.old packet.id → packet ≡ packet_of p → body.now ≡ p.body
+        ensures kept { OnOk result ((v : View) (p : Sent) → Keeps v self.old → IsMade self.old packet.id → packet ≡ packet_of p → body.now ≡ p.body
+            → Keeps (sent v p) self.new) }
+        ensures block { OnOk result ((v : View) (p : Sent) (o : Option Undo) → Keeps v self.old → IsMade self.old packet.id → packet ≡ packet_of p
+            → body.now ≡ p.body
             → IsDelivered self.old self.old.delivery o → IsDelivered self.new self.new.delivery (option_map (undo_each (only p.id (said_spot v p p.body))) o)) }
         ensures due { OnOk result (due_of self.new.delivery ≡ due_of self.old.delivery) }
         ensures count { OnOk result (SameCount self.old self.new) }
@@ -406,7 +426,8 @@ impl Trace {
         id: CallId,
         response: &[u8],
     ) -> Result<(), AllocError>
-        ensures kept { OnOk result ((v : View) → Keeps v self.old → is_server_of v id host ≡ true → Keeps (record v { runs = record { host = host; life = life v host; id = id; response = response.now } ∷ v.runs }) self.new) }
+        ensures kept { OnOk result ((v : View) → Keeps v self.old → is_server_of v id host ≡ true
+            → Keeps (record v { runs = record { host = host; life = life v host; id = id; response = response.now } ∷ v.runs }) self.new) }
         ensures sets { OnOk result (SameSets self.old self.new) }
         ensures count { OnOk result (SameCount self.old self.new) }
         ensures delivery { OnOk result (self.new.delivery ≡ self.old.delivery) }
@@ -432,7 +453,8 @@ impl Trace {
         id: CallId,
         response: &[u8],
     ) -> Result<(), AllocError>
-        ensures taken { OnOk result ((v : View) (o : Option Undo) (service : ℕ) (request : List ℕ) (hold : ℕ) → Ready v o self.old → is_server_of v id host ≡ true → Takes v o (PlainRun host id service request response.now hold) self.new) }
+        ensures taken { OnOk result ((v : View) (o : Option Undo) (service : ℕ) (request : List ℕ) (hold : ℕ) → Ready v o self.old
+            → is_server_of v id host ≡ true → Takes v o (PlainRun host id service request response.now hold) self.new) }
         ensures numbers { OnOk result (SameNumbers self.old self.new) }
     {
         self.keep_run(alloc, host, id, response)?;
@@ -442,7 +464,8 @@ impl Trace {
 
     // A call is done.
     fn done(&mut self, alloc: Global, id: CallId) -> Result<(), AllocError>
-        ensures taken { OnOk result ((v : View) (o : Option Undo) (bytes : List ℕ) → Ready v o self.old → IsMade self.old id → Takes v o (PlainDone id bytes) self.new) }
+        ensures taken { OnOk result ((v : View) (o : Option Undo) (bytes : List ℕ) → Ready v o self.old → IsMade self.old id
+            → Takes v o (PlainDone id bytes) self.new) }
         ensures numbers { OnOk result (SameNumbers self.old self.new) }
     {
         self.change(alloc, id, Change::Finished)?;
@@ -487,7 +510,8 @@ impl Trace {
 
     // Of a call, if it was made, this is kept again.
     fn take_back(&mut self, alloc: Global, id: CallId, kept: Spot) -> Result<(), AllocError>
-        ensures kept { OnOk result ((v w : View) (f : ASpot → ASpot) → Keeps v self.old → Changes v w id f → StandsOr (beside_at self.old id) kept (f (spot v.now id)) → Keeps w self.new) }
+        ensures kept { OnOk result ((v w : View) (f : ASpot → ASpot) → Keeps v self.old → Changes v w id f
+            → StandsOr (beside_at self.old id) kept (f (spot v.now id)) → Keeps w self.new) }
         ensures sets { OnOk result (SameSets self.old self.new) }
         ensures rest { OnOk result (SameRest self.old self.new) }
     {
@@ -500,7 +524,8 @@ impl Trace {
     // The bytes of the block's delivery, which is this, aren't admitted.
     fn refuse_this(&mut self, alloc: Global, delivery: Delivery) -> Result<(), AllocError>
         requires { self.old.delivery ≡ Some delivery }
-        ensures kept { OnOk result ((v : View) (u : Undo) → Keeps v self.old → IsUndo v (Some u) → IsUndoOf self.old delivery u → Keeps (record v { now = v.if_refused }) self.new) }
+        ensures kept { OnOk result ((v : View) (u : Undo) → Keeps v self.old → IsUndo v (Some u) → IsUndoOf self.old delivery u
+            → Keeps (record v { now = v.if_refused }) self.new) }
         ensures delivered { OnOk result ((u : Undo) → IsUndoOf self.old delivery u → IsDelivered self.new self.new.delivery (Some u)) }
         ensures due { OnOk result (due_of self.new.delivery ≡ ends_of delivery.packet.id false false delivery.forgotten) }
         ensures count { OnOk result (SameCount self.old self.new) }
@@ -530,7 +555,8 @@ impl Trace {
 
     // The block's delivery, which is this, is taken back: nothing was delivered.
     fn forget_this(&mut self, alloc: Global, delivery: Delivery) -> Result<(), AllocError>
-        ensures kept { OnOk result ((v : View) (u : Undo) → Keeps v self.old → IsUndo v (Some u) → IsUndoOf self.old delivery u → Keeps (seen.stale v) self.new) }
+        ensures kept { OnOk result ((v : View) (u : Undo) → Keeps v self.old → IsUndo v (Some u) → IsUndoOf self.old delivery u
+            → Keeps (seen.stale v) self.new) }
         ensures delivery { OnOk result (self.new.delivery ≡ None) }
         ensures count { OnOk result (SameCount self.old self.new) }
     {
@@ -558,7 +584,8 @@ impl Trace {
         requires begun { self.old.delivery ≡ None }
         requires here { self.old.here ≡ record { runs = Nobody; dones = Nobody; forgotten = Nobody } }
         requires event { lines.is_event (plain line.now) ≡ true }
-        ensures taken { OnOk result ((v : View) (o : Option Undo) → Keeps v self.old → v.place ≡ self.old.place → has_shape v (plain line.now) ≡ true → IsUndo v o → Takes v o (plain line.now) self.new) }
+        ensures taken { OnOk result ((v : View) (o : Option Undo) → Keeps v self.old → v.place ≡ self.old.place → has_shape v (plain line.now) ≡ true
+            → IsUndo v o → Takes v o (plain line.now) self.new) }
         ensures numbers { OnOk result (SameNumbers self.old self.new) }
     {
         match line {
@@ -589,7 +616,8 @@ impl Trace {
     // A line within a block is taken.
     fn take_inner(&mut self, alloc: Global, line: &Entry<'_>) -> Result<(), AllocError>
         requires { lines.is_event (plain line.now) ≡ false }
-        ensures taken { OnOk result ((v : View) (o : Option Undo) → Ready v o self.old → IsOther (plain line.now) → has_shape v (plain line.now) ≡ true → runs_once v (plain line.now) ≡ true → Takes v o (plain line.now) self.new) }
+        ensures taken { OnOk result ((v : View) (o : Option Undo) → Ready v o self.old → IsOther (plain line.now) → has_shape v (plain line.now) ≡ true
+            → runs_once v (plain line.now) ≡ true → Takes v o (plain line.now) self.new) }
         ensures numbers { OnOk result (SameNumbers self.old self.new) }
     {
         match line {
@@ -663,7 +691,8 @@ impl Trace {
 
     // A line behind the first one is taken; how many lines there were stays.
     fn take_other(&mut self, alloc: Global, line: &Entry<'_>) -> Result<(), AllocError>
-        ensures taken { OnOk result ((v : View) (o : Option Undo) → Ready v o self.old → v.place ≡ self.old.place → IsOther (plain line.now) → has_shape v (plain line.now) ≡ true → runs_once v (plain line.now) ≡ true → Takes v o (plain line.now) self.new) }
+        ensures taken { OnOk result ((v : View) (o : Option Undo) → Ready v o self.old → v.place ≡ self.old.place → IsOther (plain line.now)
+            → has_shape v (plain line.now) ≡ true → runs_once v (plain line.now) ≡ true → Takes v o (plain line.now) self.new) }
         ensures numbers { OnOk result (SameNumbers self.old self.new) }
     {
         if is_event(line) {
@@ -675,7 +704,8 @@ impl Trace {
 
     // A line is taken; how many lines there were stays.
     fn take_line(&mut self, alloc: Global, line: &Entry<'_>) -> Result<(), AllocError>
-        ensures taken { OnOk result ((v : View) (o : Option Undo) → Ready v o self.old → v.place ≡ self.old.place → (v.place ≡ 0 → v ≡ nothing_seen) → has_shape v (plain line.now) ≡ true → runs_once v (plain line.now) ≡ true → Takes v o (plain line.now) self.new) }
+        ensures taken { OnOk result ((v : View) (o : Option Undo) → Ready v o self.old → v.place ≡ self.old.place → (v.place ≡ 0 → v ≡ nothing_seen)
+            → has_shape v (plain line.now) ≡ true → runs_once v (plain line.now) ≡ true → Takes v o (plain line.now) self.new) }
         ensures numbers { OnOk result (SameNumbers self.old self.new) }
     {
         match line {
@@ -689,7 +719,8 @@ impl Trace {
 
     /// A line that has its shape is taken, and of `run` lines one that runs its call once.
     pub fn take(&mut self, alloc: Global, line: &Entry<'_>) -> Result<(), AllocError>
-        ensures { OnOk result ((v : View) → Follows v self.old → v.place < 2 ^ 64 - 1 → has_shape v (plain line.now) ≡ true → runs_once v (plain line.now) ≡ true → IsTaken v self.old (plain line.now) self.new) }
+        ensures { OnOk result ((v : View) → Follows v self.old → v.place < 2 ^ 64 - 1 → has_shape v (plain line.now) ≡ true
+            → runs_once v (plain line.now) ≡ true → IsTaken v self.old (plain line.now) self.new) }
     {
         self.take_line(alloc, line)?;
         self.place = self.place.saturating_add(1);

@@ -160,7 +160,8 @@ impl Trace {
     // Keeps what rests on deliveries for a call.
     fn put(&mut self, at: usize, id: CallId, spot: Spot)
         requires { IsPlace self.old id at }
-        ensures calls { (q : ACall) → call_at self.new q ≡ call_or id (λ c. record c { lives = lives_in self.old id c.server; spot = spot }) (call_at self.old) q }
+        ensures calls { (q : ACall) → call_at self.new q
+            ≡ call_or id (λ c. record c { lives = lives_in self.old id c.server; spot = spot }) (call_at self.old) q }
         ensures len { length self.new.calls.items ≡ length self.old.calls.items }
         ensures rest { self.new ≡ record self.old { calls = self.new.calls } }
     {
@@ -202,7 +203,8 @@ impl Trace {
         was_in: bool,
         is_in: bool,
     ) -> Result<(), AllocError>
-        ensures asked { OnOk result (asked_of (host_at self.old host) id ≡ was_in → (h : AHost) (q : ACall) → asked_of (host_at self.new h) q ≡ noted host id is_in (λ h q. asked_of (host_at self.old h) q) h q) }
+        ensures asked { OnOk result (asked_of (host_at self.old host) id ≡ was_in → (h : AHost) (q : ACall)
+            → asked_of (host_at self.new h) q ≡ noted host id is_in (λ h q. asked_of (host_at self.old h) q) h q) }
         ensures awaited { OnOk result ((h : AHost) (q : ACall) → awaited_of (host_at self.new h) q ≡ awaited_of (host_at self.old h) q) }
         ensures hosts { OnOk result (SameHosts self.old self.new) }
         ensures rest { OnOk result (self.new ≡ record self.old { hosts = self.new.hosts }) }
@@ -224,7 +226,8 @@ impl Trace {
         was_in: bool,
         is_in: bool,
     ) -> Result<(), AllocError>
-        ensures awaited { OnOk result (awaited_of (host_at self.old host) id ≡ was_in → (h : AHost) (q : ACall) → awaited_of (host_at self.new h) q ≡ noted host id is_in (λ h q. awaited_of (host_at self.old h) q) h q) }
+        ensures awaited { OnOk result (awaited_of (host_at self.old host) id ≡ was_in → (h : AHost) (q : ACall)
+            → awaited_of (host_at self.new h) q ≡ noted host id is_in (λ h q. awaited_of (host_at self.old h) q) h q) }
         ensures asked { OnOk result ((h : AHost) (q : ACall) → asked_of (host_at self.new h) q ≡ asked_of (host_at self.old h) q) }
         ensures hosts { OnOk result (SameHosts self.old self.new) }
         ensures rest { OnOk result (self.new ≡ record self.old { hosts = self.new.hosts }) }

@@ -4,7 +4,9 @@ ghost use Rattle.std.specs.Option.{option_map};
 ghost use Rattle.homa_plain.specs.Entries.{PlainEntry, plain};
 ghost use Rattle.homa_plain.specs.Text.{line_text};
 ghost use Rattle.check_reader.specs.FieldsLeft.{left, size};
-ghost use Rattle.check_reader.specs.Forms.{form_name, form_of, last_two_in, settings_in, call_in, deliver_in, clock_in, restart_in, inject_in, shift_in, stale_in, send_in, run_in, done_in, fail_in, drop_in, gaps_in, free_in, bury_in, junk_in, lack_of, lack_in, full_in, balance_in, recv_in, finished_in, refused_in, stalled_in, form_in, entry_of};
+ghost use Rattle.check_reader.specs.Forms.{form_name, form_of, last_two_in, settings_in, call_in, deliver_in, clock_in, restart_in, inject_in};
+ghost use Rattle.check_reader.specs.Forms.{shift_in, stale_in, send_in, run_in, done_in, fail_in, drop_in, gaps_in, free_in, bury_in, junk_in};
+ghost use Rattle.check_reader.specs.Forms.{lack_of, lack_in, full_in, balance_in, recv_in, finished_in, refused_in, stalled_in, form_in, entry_of};
 ghost use Rattle.check_reader.specs.Told.{Fits, IsUsual};
 
 use crate::bodies::{read_body, read_cutoffs, read_kind, read_numbers};

@@ -13,8 +13,6 @@ mod entries;
 mod faults;
 mod fields;
 mod laws;
-#[cfg(test)]
-mod tests;
 
 pub use entries::read_entry;
 pub use laws::entry_lines;

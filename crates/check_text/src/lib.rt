@@ -10,7 +10,8 @@
 ghost use Rattle.std.specs.Prelude.{◌≡◌, ◌↔◌, ℕ, List, codes};
 ghost use Rattle.homa_plain.specs.Judge.{Clause, ShapeClause, OnceClause, ReturnedClause, HandedUpClause, FailsClause, GrantingClause};
 ghost use Rattle.check_text.specs.Verdict.{verdict_of, Yes, No};
-ghost use Rattle.check_text.specs.Rows.{nothing, one_call, no_settings, run_twice, another_answer, done_is_missing, grant_too_far, timeout_too_early, late_packet, burial_to_its_end, server_restarts, server_is_full, node, stale_packet};
+ghost use Rattle.check_text.specs.Rows.{nothing, one_call, no_settings, run_twice, another_answer, done_is_missing, grant_too_far, timeout_too_early};
+ghost use Rattle.check_text.specs.Rows.{late_packet, burial_to_its_end, server_restarts, server_is_full, node, stale_packet};
 ghost use Rattle.check_text.specs.Text.{IsTrace, IsNoTrace};
 
 /// The verdict says what the laws say.

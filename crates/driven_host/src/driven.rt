@@ -113,7 +113,8 @@ impl DrivenHost {
     pub fn deliver(&mut self, alloc: Global, from: HostId, frame: &[u8], now: u64) -> Option<()>
         ensures begins { MayBegin self.old.host self.old.steps now → IsOther self.old.host from → IfNone result ((a : Answer)
             → has_run (arrival_step self.old.host.settings self.old.host.host now (arriving self.old.host from frame.now) a).told ≡ true) }
-        ensures step { IfSome result (λ _. (a : Answer) × IsStep (arrival_step self.old.host.settings self.old.host.host now (arriving self.old.host from frame.now) a) self.old self.new) }
+        ensures step { IfSome result (λ _. (a : Answer)
+            × IsStep (arrival_step self.old.host.settings self.old.host.host now (arriving self.old.host from frame.now) a) self.old self.new) }
         ensures allowed { IfSome result (λ _. AllByRecursion (IsAllowed self.new.host.host (may_answer self.old.served) self.new.whole) self.new.host.marks) }
         ensures served { IfSome result (λ _. self.new.served ≡ (if has_ran self.new.host.marks then self.old.served + 1 else self.old.served)) }
         ensures same { IfNone result (IsStill self.old self.new) }

@@ -8,7 +8,5 @@
 #![tactic(auto)]
 
 mod driven;
-#[cfg(test)]
-mod tests;
 
 pub use driven::DrivenHost;

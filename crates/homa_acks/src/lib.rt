@@ -8,8 +8,6 @@
 #![tactic(auto)]
 
 mod book;
-#[cfg(test)]
-mod tests;
 mod waiting;
 
 pub use book::AckBook;

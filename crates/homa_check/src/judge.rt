@@ -332,7 +332,8 @@ fn responses_at(alloc: Global, trace: &Trace, host: &Host) -> Result<Vec<Message
 
 // The requests and then the responses that are.
 fn messages_of(alloc: Global, trace: &Trace, host: &Host) -> Result<Vec<Message>, AllocError>
-    ensures items { IfOk result (λ r. r.items ≡ filter_map (asked_message trace.now) host.now.asked.keys ++ filter_map (awaited_message trace.now) host.now.awaited.keys) }
+    ensures items { IfOk result (λ r. r.items ≡ filter_map (asked_message trace.now) host.now.asked.keys
+        ++ filter_map (awaited_message trace.now) host.now.awaited.keys) }
     ensures asked { IfOk result (λ r. IsStrictlySortedBy call_cmp host.now.asked.keys) }
     ensures awaited { IfOk result (λ r. IsStrictlySortedBy call_cmp host.now.awaited.keys) }
 {

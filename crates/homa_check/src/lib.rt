@@ -11,8 +11,6 @@ mod grant;
 mod judge;
 mod print;
 mod step;
-#[cfg(test)]
-mod tests;
 mod text;
 mod verdict;
 

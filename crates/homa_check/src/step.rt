@@ -29,8 +29,10 @@ fn take_judged(
     trace: &mut Trace,
     line: &Entry<'_>,
 ) -> Result<Option<Clause>, AllocError>
-    ensures judged { IfOk result (λ r. (v : View) → Follows v trace.old → v.place < 2 ^ 64 - 1 → judged_before v (plain line.now) ≡ None → option_map clause_of r ≡ judged v (plain line.now)) }
-    ensures next { IfOk result (λ r. (v : View) → Follows v trace.old → v.place < 2 ^ 64 - 1 → judged_before v (plain line.now) ≡ None → r ≡ None → Follows (seen_with v (plain line.now)) trace.new) }
+    ensures judged { IfOk result (λ r. (v : View) → Follows v trace.old → v.place < 2 ^ 64 - 1 → judged_before v (plain line.now) ≡ None
+        → option_map clause_of r ≡ judged v (plain line.now)) }
+    ensures next { IfOk result (λ r. (v : View) → Follows v trace.old → v.place < 2 ^ 64 - 1 → judged_before v (plain line.now) ≡ None → r ≡ None
+        → Follows (seen_with v (plain line.now)) trace.new) }
 {
     let before = trace.to_test(line);
     trace.take(alloc, line)?;

@@ -71,7 +71,8 @@ fn judge_next<S: Source>(
     requires limit { (reading lines.old).limit ≡ 68719476736 }
     requires within { (reading lines.old).read ≤ 68719476736 }
     requires room { 2050000 ≤ length room.old }
-    ensures next { IfOk result (λ next. (v : View) → Follows v trace.old → v.place ≤ 68719476736 → IsNext v (reading lines.old) (reading lines.new) (S.left source.old) (S.left source.new) trace.new next) }
+    ensures next { IfOk result (λ next. (v : View) → Follows v trace.old → v.place ≤ 68719476736
+        → IsNext v (reading lines.old) (reading lines.new) (S.left source.old) (S.left source.new) trace.new next) }
     ensures read { IfOk result (λ next. next ≡ Taken → ((reading lines.old).read < (reading lines.new).read) × ((reading lines.new).read ≤ 68719476736)) }
     ensures number { OnOk result ((reading lines.new).number ≡ min ((reading lines.old).number + 1) (2 ^ 64 - 1)) }
     ensures read_on { (came : List ℕ) × (S.left source.old ≡ unread came (S.left source.new)) }
@@ -119,7 +120,8 @@ pub fn check<S: Source>(alloc: Global, source: &mut S) -> Result<Verdict, CheckS
     ensures end { IfOk result (λ verdict. is_yes verdict ≡ true → IsAtEnd (S.left source.new)) }
 
     // No: this line is the first that hasn't its shape or breaks a law, and this clause is the first that fails there.
-    ensures no { IfOk result (λ verdict. (bytes : List ℕ) (line : ℕ) (clause : AClause) → S.left source.old ≡ Some bytes → verdict ≡ No line clause → IsNoTrace bytes line (clause_of clause)) }
+    ensures no { IfOk result (λ verdict. (bytes : List ℕ) (line : ℕ) (clause : AClause) → S.left source.old ≡ Some bytes → verdict ≡ No line clause
+        → IsNoTrace bytes line (clause_of clause)) }
 
     // Whatever the answer, the source was read from its front up to some place.
     ensures read_on { (came : List ℕ) × (S.left source.old ≡ unread came (S.left source.new)) }

@@ -41,7 +41,8 @@ impl Row {
         ensures { (s : Settings) (host : HostId) (rows : ℕ) → s.unsched ≡ unsched
             → let r = seen_row pool.old self.old in
             let m = moment_of host now order pool.old self.old.part rows in
-            Gave m id (piece_in body.now payload.now) (answered s m id body.now payload.now (refreshed now body.now (renewed inc r))) pool.old self.old pool.new self.new scratch.new result }
+            Gave m id (piece_in body.now payload.now)
+            (answered s m id body.now payload.now (refreshed now body.now (renewed inc r))) pool.old self.old pool.new self.new scratch.new result }
     {
         self.renew(inc, pool);
         self.refresh(now, body);

@@ -12,8 +12,6 @@ mod answers;
 mod row;
 mod sending;
 mod table;
-#[cfg(test)]
-mod tests;
 
 pub use answers::{ClientAct, ClientDid};
 pub use table::ClientTable;

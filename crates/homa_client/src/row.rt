@@ -37,9 +37,32 @@ impl Model for Row {
 
     ghost coded = { row_code };
 
-    ghost view = { λ r. record { server = r.server; service = r.service; request = r.request.items; order = r.order; out = r.out; heard = r.heard; base = r.base; count = r.count; seen = r.seen; part = r.part } };
+    ghost view = { λ r. record {
+      server = r.server;
+      service = r.service;
+      request = r.request.items;
+      order = r.order;
+      out = r.out;
+      heard = r.heard;
+      base =
+          r.base;
+      count = r.count;
+      seen = r.seen;
+      part = r.part;
+    } };
 
-    ghost invariant = { λ r. IsRow (record { server = r.server; service = r.service; request = r.request.items; order = r.order; out = r.out; heard = r.heard; base = r.base; count = r.count; seen = r.seen; part = r.part }) };
+    ghost invariant = { λ r. IsRow (record {
+      server = r.server;
+      service = r.service;
+      request = r.request.items;
+      order = r.order;
+      out = r.out;
+      heard = r.heard;
+      base = r.base;
+      count = r.count;
+      seen = r.seen;
+      part = r.part;
+    }) };
 }
 
 impl Row {

@@ -19,7 +19,8 @@ ghost use Rattle.host_incoming.specs.Pieces.{moment_with};
 ghost use Rattle.host_incoming.specs.Sends.{IfSent, IsAffordable};
 ghost use Rattle.homa_client.specs.Held.{HeldRow, seen_row, IsRow};
 ghost use Rattle.homa_client.specs.Gives.{row_emits, row_sends, facts, IsAct, IsAsked};
-ghost use Rattle.homa_client.specs.AtTable.{Clients, part_at, place_at, IsOwnCall, IsCallAt, Received, Moved, Started, fault_of, slot_in, IfSaid, answer_of, told_of, rows_left, IsDueAt, HasActed, row_at, MayGrant};
+ghost use Rattle.homa_client.specs.AtTable.{Clients, part_at, place_at, IsOwnCall, IsCallAt, Received, Moved, Started, fault_of, slot_in, IfSaid};
+ghost use Rattle.homa_client.specs.AtTable.{answer_of, told_of, rows_left, IsDueAt, HasActed, row_at, MayGrant};
 
 use crate::answers::{ClientAct, ClientDid, RowDid};
 use crate::row::Row;
@@ -144,7 +145,8 @@ impl ClientTable {
         requires fits { FitsKind packet.now.role packet.now.level packet.now.body payload.now }
         requires now { now ≤ 1000000002000 }
         requires pool { AreIn pool.old (part_at self.old.rows) }
-        ensures received { Received self.old pool.old (packet_between from self.old.host packet.now payload.now) now order self.new pool.new scratch.new result }
+        ensures received { Received self.old pool.old
+            (packet_between from self.old.host packet.now payload.now) now order self.new pool.new scratch.new result }
         ensures pool { AreIn pool.new (part_at self.new.rows) }
     {
         let id = CallId {

@@ -91,7 +91,8 @@ impl Fabric {
     pub fn next(&mut self, to: HostId, now: u64) -> Option<u64>
         requires { to.0 < length self.old.fabric.destinations }
         ensures number { let h = next_of self.old.life now (destination self.old.fabric to.0) self.old.fabric.random in result ≡ h.number }
-        ensures fabric { let h = next_of self.old.life now (destination self.old.fabric to.0) self.old.fabric.random in self.new.fabric ≡ after_next self.old.fabric to.0 h }
+        ensures fabric { let h = next_of self.old.life now (destination self.old.fabric to.0) self.old.fabric.random in self.new.fabric
+            ≡ after_next self.old.fabric to.0 h }
         ensures life { self.new.life ≡ self.old.life }
         ensures hosts { length self.new.fabric.destinations ≡ length self.old.fabric.destinations }
     {

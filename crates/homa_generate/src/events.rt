@@ -44,7 +44,9 @@ pub(crate) fn happen<P: Playing>(
     bytes: &[u8],
 ) -> Result<bool, AllocError>
     requires few { P.events world.old < 2 ^ 57 }
-    ensures carried { IfOk result (λ done. (w : World) → P.stands world.old w → IsCarried (P.settings world.old) w (record { event = event.now; bytes = bytes.now } ∷ []) (P.stands world.new) counts.old counts.new (P.allows world.old) (P.allows world.new) done) }
+    ensures carried { IfOk result (λ done. (w : World) → P.stands world.old w
+        → IsCarried (P.settings world.old) w (record { event = event.now; bytes = bytes.now } ∷ []) (P.stands world.new) counts.old counts.new
+        (P.allows world.old) (P.allows world.new) done) }
     ensures settings { P.settings world.new ≡ P.settings world.old }
     ensures counted { P.events world.new ≤ P.events world.old + 1 }
 {
@@ -65,7 +67,8 @@ fn turns<P: Playing>(
 ) -> Result<bool, AllocError>
     requires hosts { hosts ≤ 32 }
     requires few { P.events world.old + hosts ≤ 2 ^ 57 }
-    ensures carried { IfOk result (λ done. (w : World) → P.stands world.old w → IsCarried (P.settings world.old) w (turns_of 0 hosts) (P.stands world.new) counts.old counts.new (P.allows world.old) (P.allows world.new) done) }
+    ensures carried { IfOk result (λ done. (w : World) → P.stands world.old w
+        → IsCarried (P.settings world.old) w (turns_of 0 hosts) (P.stands world.new) counts.old counts.new (P.allows world.old) (P.allows world.new) done) }
     ensures settings { P.settings world.new ≡ P.settings world.old }
     ensures counted { P.events world.new ≤ P.events world.old + hosts }
 {
@@ -89,7 +92,8 @@ pub(crate) fn tick<P: Playing>(
 ) -> Result<bool, AllocError>
     requires hosts { hosts ≤ 32 }
     requires few { P.events world.old + hosts < 2 ^ 57 }
-    ensures carried { IfOk result (λ done. (w : World) → P.stands world.old w → IsCarried (P.settings world.old) w (ticks hosts 1) (P.stands world.new) counts.old counts.new (P.allows world.old) (P.allows world.new) done) }
+    ensures carried { IfOk result (λ done. (w : World) → P.stands world.old w
+        → IsCarried (P.settings world.old) w (ticks hosts 1) (P.stands world.new) counts.old counts.new (P.allows world.old) (P.allows world.new) done) }
     ensures settings { P.settings world.new ≡ P.settings world.old }
     ensures counted { P.events world.new ≤ P.events world.old + hosts + 1 }
 {
@@ -101,7 +105,8 @@ pub(crate) fn tick<P: Playing>(
 
 /// The packets with numbers from `first` on enter the fabric; one that the world doesn't show any more doesn't.
 pub(crate) fn enter<P: Generating>(world: &P, fabric: &mut Fabric, first: u64)
-    ensures entered { (w : World) → P.stands world.now w → AreNew (P.settings world.now) w first → fabric.new.fabric ≡ all_sent (P.settings world.now) first (drop first w.packets) fabric.old.fabric }
+    ensures entered { (w : World) → P.stands world.now w → AreNew (P.settings world.now) w first
+        → fabric.new.fabric ≡ all_sent (P.settings world.now) first (drop first w.packets) fabric.old.fabric }
     ensures life { fabric.new.life ≡ fabric.old.life }
     ensures hosts { length fabric.new.fabric.destinations ≡ length fabric.old.fabric.destinations }
 {

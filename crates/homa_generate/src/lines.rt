@@ -98,7 +98,9 @@ fn carry<P: Playing>(
     requires setup { setup.now.settings ≡ P.settings world.old }
     requires short { IsShort line.now }
     requires few { P.events world.old + 33 ≤ 2 ^ 57 }
-    ensures carried { IfOk result (λ done. (w : World) → P.stands world.old w → IsCarried (P.settings world.old) w (events_of (P.settings world.old).hosts (given_of line.now)) (P.stands world.new) counts.old counts.new (P.allows world.old) (P.allows world.new) done) }
+    ensures carried { IfOk result (λ done. (w : World) → P.stands world.old w
+        → IsCarried (P.settings world.old) w (events_of (P.settings world.old).hosts (given_of line.now)) (P.stands world.new) counts.old counts.new
+        (P.allows world.old) (P.allows world.new) done) }
     ensures settings { P.settings world.new ≡ P.settings world.old }
     ensures counted { P.events world.new ≤ P.events world.old + 33 }
 {
@@ -129,8 +131,11 @@ pub(crate) fn play<P: Generating, K: Sink>(
 ) -> Result<(), Stop>
     requires ready { IsReady setup.now.settings (P.settings world.old) progress.old (P.events world.old) 33 }
     requires short { IsShort line.now }
-    ensures gone { OnOk result ((g : Generated) → IsAt (holds_of progress.old (K.taken sink.old)) (P.stands world.old) g → HasGone (with_line (P.settings world.old) (given_of line.now)) (λ x. x) g (holds_of progress.old (K.taken sink.old)) (holds_of progress.new (K.taken sink.new)) (P.stands world.new) (P.allows world.old) (P.allows world.new)) }
-    ensures stopped { OnErr result ((g : Generated) → IsAt (holds_of progress.old (K.taken sink.old)) (P.stands world.old) g → HasStopped (with_line (P.settings world.old) (given_of line.now)) g (K.taken sink.old) (K.taken sink.new) (P.allows world.old)) }
+    ensures gone { OnOk result ((g : Generated) → IsAt (holds_of progress.old (K.taken sink.old)) (P.stands world.old) g
+        → HasGone (with_line (P.settings world.old) (given_of line.now)) (λ x. x) g (holds_of progress.old (K.taken sink.old))
+        (holds_of progress.new (K.taken sink.new)) (P.stands world.new) (P.allows world.old) (P.allows world.new)) }
+    ensures stopped { OnErr result ((g : Generated) → IsAt (holds_of progress.old (K.taken sink.old)) (P.stands world.old) g
+        → HasStopped (with_line (P.settings world.old) (given_of line.now)) g (K.taken sink.old) (K.taken sink.new) (P.allows world.old)) }
     ensures steady { IsSteady (P.settings world.old) (P.settings world.new) progress.old progress.new (P.events world.old) (P.events world.new) 33 }
     ensures left { progress.new.left ≡ progress.old.left }
     ensures faulted { IsFaulted result (K.faults sink.old) (K.faults sink.new) }

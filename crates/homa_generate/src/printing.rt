@@ -35,7 +35,8 @@ fn generate<B: Drop, P: Generating + Opens<B> + Drop, K: Sink>(
 ) -> Result<Counts, Stop>
     requires { P.are_ready boxes }
     ensures ran { IfOk result (HasRun (run_of seed calls (P.many boxes)) (K.taken sink.old) (K.taken sink.new) (P.are_allowed boxes)) }
-    ensures part { OnErr result (IsPartMade (run_of seed calls (P.many boxes)) (schedule_text generated_settings) (K.taken sink.old) (K.taken sink.new) (P.are_allowed boxes)) }
+    ensures part { OnErr result (IsPartMade (run_of seed calls (P.many boxes)) (schedule_text generated_settings) (K.taken sink.old) (K.taken sink.new)
+        (P.are_allowed boxes)) }
     ensures faulted { IsFaulted result (K.faults sink.old) (K.faults sink.new) }
     ensures same { K.is_same sink.old sink.new }
 {
@@ -60,8 +61,10 @@ pub fn make<B: Drop, P: Generating + Opens<B> + Drop, K: Sink>(
     calls: u32,
 ) -> Result<(), Stop>
     requires { P.are_ready boxes }
-    ensures made { OnOk result (IsMade (run_of seed calls (P.many boxes)) (schedule_text generated_settings) (K.taken sink.old) (K.taken sink.new) (P.are_allowed boxes)) }
-    ensures part { OnErr result (IsPartMade (run_of seed calls (P.many boxes)) (schedule_text generated_settings) (K.taken sink.old) (K.taken sink.new) (P.are_allowed boxes)) }
+    ensures made { OnOk result (IsMade (run_of seed calls (P.many boxes)) (schedule_text generated_settings) (K.taken sink.old) (K.taken sink.new)
+        (P.are_allowed boxes)) }
+    ensures part { OnErr result (IsPartMade (run_of seed calls (P.many boxes)) (schedule_text generated_settings) (K.taken sink.old) (K.taken sink.new)
+        (P.are_allowed boxes)) }
     ensures faulted { IsFaulted result (K.faults sink.old) (K.faults sink.new) }
     ensures same { K.is_same sink.old sink.new }
 {
@@ -79,8 +82,10 @@ pub fn count<B: Drop, P: Generating + Opens<B> + Drop, K: Sink>(
     calls: u32,
 ) -> Result<(), Stop>
     requires { P.are_ready boxes }
-    ensures made { OnOk result (IsMade (run_of seed calls (P.many boxes)) (λ g. summary_text g.told) (K.taken sink.old) (K.taken sink.new) (P.are_allowed boxes)) }
-    ensures part { OnErr result (IsPartMade (run_of seed calls (P.many boxes)) (λ g. summary_text g.told) (K.taken sink.old) (K.taken sink.new) (P.are_allowed boxes)) }
+    ensures made { OnOk result (IsMade (run_of seed calls (P.many boxes)) (λ g. summary_text g.told) (K.taken sink.old) (K.taken sink.new)
+        (P.are_allowed boxes)) }
+    ensures part { OnErr result (IsPartMade (run_of seed calls (P.many boxes)) (λ g. summary_text g.told) (K.taken sink.old) (K.taken sink.new)
+        (P.are_allowed boxes)) }
     ensures faulted { IsFaulted result (K.faults sink.old) (K.faults sink.new) }
     ensures same { K.is_same sink.old sink.new }
 {

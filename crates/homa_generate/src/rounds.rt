@@ -34,8 +34,11 @@ fn host_round<P: Generating, K: Sink>(
 ) -> Result<(), Stop>
     requires ready { IsReady setup.now.settings (P.settings world.old) progress.old (P.events world.old) 1056000 }
     requires inside { to.0 < (P.settings world.old).hosts }
-    ensures gone { OnOk result ((g : Generated) → IsAt (holds_of progress.old (K.taken sink.old)) (P.stands world.old) g → HasGone (host_round most_handed (P.settings world.old) to.0) (λ x. x) g (holds_of progress.old (K.taken sink.old)) (holds_of progress.new (K.taken sink.new)) (P.stands world.new) (P.allows world.old) (P.allows world.new)) }
-    ensures stopped { OnErr result ((g : Generated) → IsAt (holds_of progress.old (K.taken sink.old)) (P.stands world.old) g → HasStopped (host_round most_handed (P.settings world.old) to.0) g (K.taken sink.old) (K.taken sink.new) (P.allows world.old)) }
+    ensures gone { OnOk result ((g : Generated) → IsAt (holds_of progress.old (K.taken sink.old)) (P.stands world.old) g
+        → HasGone (host_round most_handed (P.settings world.old) to.0) (λ x. x) g (holds_of progress.old (K.taken sink.old))
+        (holds_of progress.new (K.taken sink.new)) (P.stands world.new) (P.allows world.old) (P.allows world.new)) }
+    ensures stopped { OnErr result ((g : Generated) → IsAt (holds_of progress.old (K.taken sink.old)) (P.stands world.old) g
+        → HasStopped (host_round most_handed (P.settings world.old) to.0) g (K.taken sink.old) (K.taken sink.new) (P.allows world.old)) }
     ensures steady { IsSteady (P.settings world.old) (P.settings world.new) progress.old progress.new (P.events world.old) (P.events world.new) 1056000 }
     ensures faulted { IsFaulted result (K.faults sink.old) (K.faults sink.new) }
     ensures same { K.is_same sink.old sink.new }
@@ -57,8 +60,11 @@ fn hosts_round<P: Generating, K: Sink>(
     progress: &mut Progress,
 ) -> Result<(), Stop>
     requires ready { IsReady setup.now.settings (P.settings world.old) progress.old (P.events world.old) 33792000 }
-    ensures gone { OnOk result ((g : Generated) → IsAt (holds_of progress.old (K.taken sink.old)) (P.stands world.old) g → HasGone (hosts_round (P.settings world.old) 0 (P.settings world.old).hosts) (λ x. x) g (holds_of progress.old (K.taken sink.old)) (holds_of progress.new (K.taken sink.new)) (P.stands world.new) (P.allows world.old) (P.allows world.new)) }
-    ensures stopped { OnErr result ((g : Generated) → IsAt (holds_of progress.old (K.taken sink.old)) (P.stands world.old) g → HasStopped (hosts_round (P.settings world.old) 0 (P.settings world.old).hosts) g (K.taken sink.old) (K.taken sink.new) (P.allows world.old)) }
+    ensures gone { OnOk result ((g : Generated) → IsAt (holds_of progress.old (K.taken sink.old)) (P.stands world.old) g
+        → HasGone (hosts_round (P.settings world.old) 0 (P.settings world.old).hosts) (λ x. x) g (holds_of progress.old (K.taken sink.old))
+        (holds_of progress.new (K.taken sink.new)) (P.stands world.new) (P.allows world.old) (P.allows world.new)) }
+    ensures stopped { OnErr result ((g : Generated) → IsAt (holds_of progress.old (K.taken sink.old)) (P.stands world.old) g
+        → HasStopped (hosts_round (P.settings world.old) 0 (P.settings world.old).hosts) g (K.taken sink.old) (K.taken sink.new) (P.allows world.old)) }
     ensures steady { IsSteady (P.settings world.old) (P.settings world.new) progress.old progress.new (P.events world.old) (P.events world.new) 33792000 }
     ensures faulted { IsFaulted result (K.faults sink.old) (K.faults sink.new) }
     ensures same { K.is_same sink.old sink.new }
@@ -78,8 +84,11 @@ fn call<P: Generating, K: Sink>(
 ) -> Result<(), Stop>
     requires ready { IsReady setup.now.settings (P.settings world.old) progress.old (P.events world.old) 33 }
     requires some { 0 < progress.old.left }
-    ensures gone { OnOk result ((g : Generated) → IsAt (holds_of progress.old (K.taken sink.old)) (P.stands world.old) g → HasGone (one_call (P.settings world.old)) (λ x. x) g (holds_of progress.old (K.taken sink.old)) (holds_of progress.new (K.taken sink.new)) (P.stands world.new) (P.allows world.old) (P.allows world.new)) }
-    ensures stopped { OnErr result ((g : Generated) → IsAt (holds_of progress.old (K.taken sink.old)) (P.stands world.old) g → HasStopped (one_call (P.settings world.old)) g (K.taken sink.old) (K.taken sink.new) (P.allows world.old)) }
+    ensures gone { OnOk result ((g : Generated) → IsAt (holds_of progress.old (K.taken sink.old)) (P.stands world.old) g
+        → HasGone (one_call (P.settings world.old)) (λ x. x) g (holds_of progress.old (K.taken sink.old)) (holds_of progress.new (K.taken sink.new))
+        (P.stands world.new) (P.allows world.old) (P.allows world.new)) }
+    ensures stopped { OnErr result ((g : Generated) → IsAt (holds_of progress.old (K.taken sink.old)) (P.stands world.old) g
+        → HasStopped (one_call (P.settings world.old)) g (K.taken sink.old) (K.taken sink.new) (P.allows world.old)) }
     ensures steady { IsSteady (P.settings world.old) (P.settings world.new) progress.old progress.new (P.events world.old) (P.events world.new) 33 }
     ensures faulted { IsFaulted result (K.faults sink.old) (K.faults sink.new) }
     ensures same { K.is_same sink.old sink.new }
@@ -101,8 +110,11 @@ fn calls_round<P: Generating, K: Sink>(
     progress: &mut Progress,
 ) -> Result<(), Stop>
     requires ready { IsReady setup.now.settings (P.settings world.old) progress.old (P.events world.old) 660 }
-    ensures gone { OnOk result ((g : Generated) → IsAt (holds_of progress.old (K.taken sink.old)) (P.stands world.old) g → HasGone (calls_round calls_a_round (P.settings world.old)) (λ x. x) g (holds_of progress.old (K.taken sink.old)) (holds_of progress.new (K.taken sink.new)) (P.stands world.new) (P.allows world.old) (P.allows world.new)) }
-    ensures stopped { OnErr result ((g : Generated) → IsAt (holds_of progress.old (K.taken sink.old)) (P.stands world.old) g → HasStopped (calls_round calls_a_round (P.settings world.old)) g (K.taken sink.old) (K.taken sink.new) (P.allows world.old)) }
+    ensures gone { OnOk result ((g : Generated) → IsAt (holds_of progress.old (K.taken sink.old)) (P.stands world.old) g
+        → HasGone (calls_round calls_a_round (P.settings world.old)) (λ x. x) g (holds_of progress.old (K.taken sink.old))
+        (holds_of progress.new (K.taken sink.new)) (P.stands world.new) (P.allows world.old) (P.allows world.new)) }
+    ensures stopped { OnErr result ((g : Generated) → IsAt (holds_of progress.old (K.taken sink.old)) (P.stands world.old) g
+        → HasStopped (calls_round calls_a_round (P.settings world.old)) g (K.taken sink.old) (K.taken sink.new) (P.allows world.old)) }
     ensures steady { IsSteady (P.settings world.old) (P.settings world.new) progress.old progress.new (P.events world.old) (P.events world.new) 660 }
     ensures faulted { IsFaulted result (K.faults sink.old) (K.faults sink.new) }
     ensures same { K.is_same sink.old sink.new }
@@ -124,8 +136,11 @@ fn round<P: Generating, K: Sink>(
     progress: &mut Progress,
 ) -> Result<(), Stop>
     requires ready { IsReady setup.now.settings (P.settings world.old) progress.old (P.events world.old) 40000000 }
-    ensures gone { OnOk result ((g : Generated) → IsAt (holds_of progress.old (K.taken sink.old)) (P.stands world.old) g → HasGone (next_round (P.settings world.old)) (λ x. x) g (holds_of progress.old (K.taken sink.old)) (holds_of progress.new (K.taken sink.new)) (P.stands world.new) (P.allows world.old) (P.allows world.new)) }
-    ensures stopped { OnErr result ((g : Generated) → IsAt (holds_of progress.old (K.taken sink.old)) (P.stands world.old) g → HasStopped (next_round (P.settings world.old)) g (K.taken sink.old) (K.taken sink.new) (P.allows world.old)) }
+    ensures gone { OnOk result ((g : Generated) → IsAt (holds_of progress.old (K.taken sink.old)) (P.stands world.old) g
+        → HasGone (next_round (P.settings world.old)) (λ x. x) g (holds_of progress.old (K.taken sink.old)) (holds_of progress.new (K.taken sink.new))
+        (P.stands world.new) (P.allows world.old) (P.allows world.new)) }
+    ensures stopped { OnErr result ((g : Generated) → IsAt (holds_of progress.old (K.taken sink.old)) (P.stands world.old) g
+        → HasStopped (next_round (P.settings world.old)) g (K.taken sink.old) (K.taken sink.new) (P.allows world.old)) }
     ensures steady { IsSteady (P.settings world.old) (P.settings world.new) progress.old progress.new (P.events world.old) (P.events world.new) 40000000 }
     ensures faulted { IsFaulted result (K.faults sink.old) (K.faults sink.new) }
     ensures same { K.is_same sink.old sink.new }
@@ -152,8 +167,11 @@ pub(crate) fn play_rounds<P: Generating, K: Sink>(
     progress: &mut Progress,
 ) -> Result<(), Stop>
     requires ready { IsReady setup.now.settings (P.settings world.old) progress.old (P.events world.old) 4000000000000 }
-    ensures gone { OnOk result ((g : Generated) → IsAt (holds_of progress.old (K.taken sink.old)) (P.stands world.old) g → HasGone (rounds most_rounds (P.settings world.old)) (λ x. x) g (holds_of progress.old (K.taken sink.old)) (holds_of progress.new (K.taken sink.new)) (P.stands world.new) (P.allows world.old) (P.allows world.new)) }
-    ensures stopped { OnErr result ((g : Generated) → IsAt (holds_of progress.old (K.taken sink.old)) (P.stands world.old) g → HasStopped (rounds most_rounds (P.settings world.old)) g (K.taken sink.old) (K.taken sink.new) (P.allows world.old)) }
+    ensures gone { OnOk result ((g : Generated) → IsAt (holds_of progress.old (K.taken sink.old)) (P.stands world.old) g
+        → HasGone (rounds most_rounds (P.settings world.old)) (λ x. x) g (holds_of progress.old (K.taken sink.old)) (holds_of progress.new (K.taken sink.new))
+        (P.stands world.new) (P.allows world.old) (P.allows world.new)) }
+    ensures stopped { OnErr result ((g : Generated) → IsAt (holds_of progress.old (K.taken sink.old)) (P.stands world.old) g
+        → HasStopped (rounds most_rounds (P.settings world.old)) g (K.taken sink.old) (K.taken sink.new) (P.allows world.old)) }
     ensures steady { IsSteady (P.settings world.old) (P.settings world.new) progress.old progress.new (P.events world.old) (P.events world.new) 4000000000000 }
     ensures faulted { IsFaulted result (K.faults sink.old) (K.faults sink.new) }
     ensures same { K.is_same sink.old sink.new }

@@ -40,7 +40,8 @@ impl Model for GrantBook {
 
     ghost view = { λ b. record { slots = length b.peer_of.items; hosts = length b.heaps.items; most = b.most; entries = messages b.heaps.items } };
 
-    ghost invariant = { λ b. AreKept b.heaps.items b.peers b.peer_of.items (record { slots = length b.peer_of.items; hosts = length b.heaps.items; most = b.most; entries = messages b.heaps.items }) };
+    ghost invariant = { λ b. AreKept b.heaps.items b.peers b.peer_of.items
+        (record { slots = length b.peer_of.items; hosts = length b.heaps.items; most = b.most; entries = messages b.heaps.items }) };
 }
 
 impl GrantBook {

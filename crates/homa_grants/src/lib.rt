@@ -8,7 +8,5 @@
 #![tactic(auto)]
 
 mod book;
-#[cfg(test)]
-mod tests;
 
 pub use book::GrantBook;

@@ -66,7 +66,8 @@ impl HostParts {
         ensures step { (w : Work) (a : Answer) → Amid w self.old out.old
             → Amid (comes_to_row self.old.control.settings (packet_between from self.old.control.id packet.now payload.now) a OfServerRole w) self.new out.new }
         ensures whole { (w : Work) (a : Answer) → Amid w self.old out.old → w.told ≡ []
-            → AllByRecursion (IsWhole scratch.new) (comes_to_row self.old.control.settings (packet_between from self.old.control.id packet.now payload.now) a OfServerRole w).told }
+            → AllByRecursion (IsWhole scratch.new)
+            (comes_to_row self.old.control.settings (packet_between from self.old.control.id packet.now payload.now) a OfServerRole w).told }
         ensures steady { Steady 4 3 1 self.old out.old self.new out.new }
     {
         let id = CallId {

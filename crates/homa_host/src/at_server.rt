@@ -1,5 +1,6 @@
 // The moves of the calls that a host serves.
-ghost use Rattle.std.specs.Prelude.{◌≡◌, ◌≢◌, ℕ, Option, None, ◌+◌, ◌<◌, ◌≤◌, ◌^◌, true, Some, [], List, OnOk, OnErr, IsSome, IsSomeAnd, Contains, if◌then◌else◌};
+ghost use Rattle.std.specs.Prelude.{◌≡◌, ◌≢◌, ℕ, Option, None, ◌+◌, ◌<◌, ◌≤◌, ◌^◌, true, Some, [], List, OnOk, OnErr, IsSome, IsSomeAnd, Contains};
+ghost use Rattle.std.specs.Prelude.{if◌then◌else◌};
 ghost use Rattle.std.specs.List.{AllByRecursion};
 ghost use Rattle.std.specs.Option.{option_map};
 ghost use Rattle.plain_sets.specs.Maps.{get};
@@ -75,14 +76,16 @@ impl HostParts {
         ensures steady { OnOk result (HasCome now 3 2 2 self.old self.new out.new) }
         ensures served { OnOk result (V.served service.new ≡ (if has_ran self.new.control.marks then V.served service.old + 1 else V.served service.old)) }
         ensures answered { OnOk result ((a : Answer) × AllByRecursion (IsReply (host_of self.new) a) self.new.control.marks) }
-        ensures allowed { OnOk result (AllByRecursion (IsAllowed (host_of self.new) (V.allows service.old (V.served service.old)) scratch.new) self.new.control.marks) }
+        ensures allowed { OnOk result (AllByRecursion
+            (IsAllowed (host_of self.new) (V.allows service.old (V.served service.old)) scratch.new) self.new.control.marks) }
         ensures whole { OnErr result ((a : Answer) → let p = packet_between from self.old.control.id packet.now payload.now in
             let s = self.old.control.settings in
             has_run (comes_to_row s p a OfClientRole (hears_cutoffs s from packet.now.sender packet.now.body (begun (host_of self.old) now))).told ≡ true) }
         ensures same { OnErr result (self.new ≡ self.old) }
         ensures none { OnErr result (out.new ≡ []) }
         ensures not_served { OnErr result (V.served service.new ≡ V.served service.old) }
-        ensures allows_before { (count number hold : ℕ) (q r : List ℕ) → V.allows service.new count number q r hold → V.allows service.old count number q r hold }
+        ensures allows_before { (count number hold : ℕ) (q r : List ℕ) → V.allows service.new count number q r hold
+            → V.allows service.old count number q r hold }
     {
         let id = CallId {
             client: from,

@@ -1,5 +1,6 @@
 // One host.
-ghost use Rattle.std.specs.Prelude.{◌≡◌, ◌≢◌, ℕ, ◌+◌, ◌<◌, ◌≤◌, ◌^◌, true, Some, None, [], List, length, IfOk, IfErr, OnOk, OnErr, IsSome, slice_get, if◌then◌else◌};
+ghost use Rattle.std.specs.Prelude.{◌≡◌, ◌≢◌, ℕ, ◌+◌, ◌<◌, ◌≤◌, ◌^◌, true, Some, None, [], List, length, IfOk, IfErr, OnOk, OnErr, IsSome, slice_get};
+ghost use Rattle.std.specs.Prelude.{if◌then◌else◌};
 ghost use Rattle.std.specs.List.{AllByRecursion};
 ghost use Rattle.plain_sets.specs.Maps.{empty, len};
 ghost use Rattle.homa_plain.specs.declared.settings.Settings.{Settings};
@@ -160,7 +161,8 @@ impl Host {
         ensures same { OnErr result (self.new ≡ record self.old { marks = [] }) }
         ensures none { OnErr result (out.new ≡ []) }
         ensures not_served { OnErr result (V.served service.new ≡ V.served service.old) }
-        ensures allows_before { (count number hold : ℕ) (q r : List ℕ) → V.allows service.new count number q r hold → V.allows service.old count number q r hold }
+        ensures allows_before { (count number hold : ℕ) (q r : List ℕ) → V.allows service.new count number q r hold
+            → V.allows service.old count number q r hold }
         ensures steady { IsSameHost self.old self.new }
         ensures last { OnOk result (self.new.host.last ≡ now) }
     {

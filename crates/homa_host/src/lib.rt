@@ -12,7 +12,5 @@ mod ends;
 mod host;
 mod outcome;
 mod parts;
-#[cfg(test)]
-mod tests;
 
 pub use host::Host;

@@ -21,7 +21,8 @@ ghost use Rattle.homa_server.specs.Answers.{version_there, service_in, served_of
 ghost use Rattle.homa_server.specs.Table.{request_at};
 ghost use Rattle.host_state.specs.Saying.{IsOutcome, FitsSaid, outcome_marks, outcome_frames, one_of};
 ghost use Rattle.host_book_laws.specs.Duty.{client_duty, server_duty, timer_duty, arrival_duty};
-ghost use Rattle.homa_host.specs.Outcomes.{IfServerTouched, head_in, length_in, version_in, client_change, server_change, client_orders, server_orders, client_act_change, IfTouched};
+ghost use Rattle.homa_host.specs.Outcomes.{IfServerTouched, head_in, length_in, version_in, client_change, server_change, client_orders};
+ghost use Rattle.homa_host.specs.Outcomes.{server_orders, client_act_change, IfTouched};
 
 use homa_client::{ClientAct, ClientDid, ClientTable};
 use homa_in::Incoming;
@@ -184,7 +185,8 @@ pub(crate) fn server_outcome(
     touched: Option<u16>,
 ) -> Outcome
     ensures outcome { (s : Settings) (m : Moment) (p : PlainPacket) (row : Option ServerRow) (told : List ℕ) (a : Answer) → head ≡ head_in p.body
-        → s.served ≡ limit → service ≡ service_in (piece_in p.body p.payload) → IfServerTouched did (λ _. touched ≡ version_there (piece_in p.body p.payload) row) → p.id ≡ id
+        → s.served ≡ limit → service ≡ service_in (piece_in p.body p.payload)
+        → IfServerTouched did (λ _. touched ≡ version_there (piece_in p.body p.payload) row) → p.id ≡ id
         → IsOutcome (served_of s m id (piece_in p.body p.payload) row told a did) result }
     ensures fits { IfServerSaid did IsAnswerBody → FitsSaid AsServer result.said }
     ensures len { length_in head ≤ 1000000 → IfSome result.opened (λ len. len ≤ 1000000) }

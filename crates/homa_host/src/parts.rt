@@ -1,5 +1,6 @@
 // The parts of a host, and the moves of its steps beside those of one row.
-ghost use Rattle.std.specs.Prelude.{◌≡◌, ◌≢◌, ℕ, ◌+◌, ◌<◌, ◌≤◌, ◌^◌, true, Some, None, [], List, length, IfOk, IfErr, IfSome, OnOk, OnErr, IsSome, if◌then◌else◌};
+ghost use Rattle.std.specs.Prelude.{◌≡◌, ◌≢◌, ℕ, ◌+◌, ◌<◌, ◌≤◌, ◌^◌, true, Some, None, [], List, length, IfOk, IfErr, IfSome, OnOk, OnErr, IsSome};
+ghost use Rattle.std.specs.Prelude.{if◌then◌else◌};
 ghost use Rattle.std.specs.List.{AllByRecursion};
 ghost use Rattle.plain_sets.specs.Maps.{empty};
 ghost use Rattle.homa_plain.specs.declared.id.CallId.{CallId};
@@ -148,13 +149,15 @@ impl HostParts {
         ensures kept { IsKept self.new }
         ensures served { OnOk result (V.served service.new ≡ (if has_ran self.new.control.marks then V.served service.old + 1 else V.served service.old)) }
         ensures answered { OnOk result ((a : Answer) × AllByRecursion (IsReply (host_of self.new) a) self.new.control.marks) }
-        ensures allowed { OnOk result (AllByRecursion (IsAllowed (host_of self.new) (V.allows service.old (V.served service.old)) scratch.new) self.new.control.marks) }
+        ensures allowed { OnOk result (AllByRecursion
+            (IsAllowed (host_of self.new) (V.allows service.old (V.served service.old)) scratch.new) self.new.control.marks) }
         ensures whole { OnErr result ((a : Answer) → let p = packet_between from self.old.control.id packet.now payload.now in
             has_run (comes self.old.control.settings (Some p) a (begun (host_of self.old) now)).told ≡ true) }
         ensures same { OnErr result (self.new ≡ self.old) }
         ensures none { OnErr result (out.new ≡ []) }
         ensures not_served { OnErr result (V.served service.new ≡ V.served service.old) }
-        ensures allows_before { (count number hold : ℕ) (q r : List ℕ) → V.allows service.new count number q r hold → V.allows service.old count number q r hold }
+        ensures allows_before { (count number hold : ℕ) (q r : List ℕ) → V.allows service.new count number q r hold
+            → V.allows service.old count number q r hold }
     {
         if is_stale(self.control.settings(), packet.at, now) {
             self.control.begin(now);
@@ -208,12 +211,15 @@ impl HostParts {
         ensures kept { IsKept self.new }
         ensures served { OnOk result (V.served service.new ≡ (if has_ran self.new.control.marks then V.served service.old + 1 else V.served service.old)) }
         ensures answered { OnOk result ((a : Answer) × AllByRecursion (IsReply (host_of self.new) a) self.new.control.marks) }
-        ensures allowed { OnOk result (AllByRecursion (IsAllowed (host_of self.new) (V.allows service.old (V.served service.old)) scratch.new) self.new.control.marks) }
-        ensures whole { OnErr result ((a : Answer) → has_run (comes self.old.control.settings (arriving (seen_of self.old) from frame.now) a (begun (host_of self.old) now)).told ≡ true) }
+        ensures allowed { OnOk result (AllByRecursion
+            (IsAllowed (host_of self.new) (V.allows service.old (V.served service.old)) scratch.new) self.new.control.marks) }
+        ensures whole { OnErr result ((a : Answer)
+            → has_run (comes self.old.control.settings (arriving (seen_of self.old) from frame.now) a (begun (host_of self.old) now)).told ≡ true) }
         ensures same { OnErr result (self.new ≡ self.old) }
         ensures none { OnErr result (out.new ≡ []) }
         ensures not_served { OnErr result (V.served service.new ≡ V.served service.old) }
-        ensures allows_before { (count number hold : ℕ) (q r : List ℕ) → V.allows service.new count number q r hold → V.allows service.old count number q r hold }
+        ensures allows_before { (count number hold : ℕ) (q r : List ℕ) → V.allows service.new count number q r hold
+            → V.allows service.old count number q r hold }
     {
         match decode(frame, self.control.settings().wire) {
             None => {
@@ -281,7 +287,8 @@ impl HostParts {
         ensures kept { IsKept self.new }
         ensures step { (w : Work) → Amid w self.old out.old
             → Amid (acked self.old.control.settings (calls_of client calls.now) w) self.new out.new }
-        ensures others { (q : CallId) → AllByRecursion (λ id. q ≡ id → ⊥) (calls_of client calls.now) → response_of (host_of self.new) q ≡ response_of (host_of self.old) q }
+        ensures others { (q : CallId) → AllByRecursion (λ id. q ≡ id → ⊥) (calls_of client calls.now)
+            → response_of (host_of self.new) q ≡ response_of (host_of self.old) q }
         ensures steady { Steady (length calls.now) 0 0 self.old out.old self.new out.new }
     {
         for (inc, seq) in calls {

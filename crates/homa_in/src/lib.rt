@@ -8,7 +8,5 @@
 
 mod arriving;
 mod pieces;
-#[cfg(test)]
-mod tests;
 
 pub use arriving::{Accepted, Incoming};

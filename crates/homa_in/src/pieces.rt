@@ -67,7 +67,8 @@ pub(crate) fn place(
     ensures unchanged { result ≡ Changed.TooMany → missing.new ≡ missing.old }
     ensures same_pool { result ≡ Changed.TooMany → pool.new ≡ pool.old }
     ensures removed { IfCount result (RemovesRange missing.old missing.new offset (offset + length bytes.now)) }
-    ensures bytes { IfCount result (λ _. IsFilled missing.old offset (offset + length bytes.now) bytes.now (bytes_of pool.old lease.now) (bytes_of pool.new lease.now)) }
+    ensures bytes { IfCount result (λ _. IsFilled missing.old offset (offset + length bytes.now) bytes.now (bytes_of pool.old lease.now)
+        (bytes_of pool.new lease.now)) }
     ensures pool { IfCount result (λ _. pool.new ≡ with_bytes pool.old lease.now (bytes_of pool.new lease.now)) }
     ensures fits { FitsRangeSet missing.new }
 {

@@ -110,7 +110,8 @@ impl<K: Sink + Drop> HeldSink<K> {
         ensures taken { IfOk result (λ n. K.taken (sink_below self.new) ≡ appended (K.taken (sink_below self.old)) (take n bytes.now)) }
         ensures err { OnErr result (K.taken (sink_below self.new) ≡ K.taken (sink_below self.old)) }
         ensures none { held_bytes self.new ≡ [] }
-        ensures counted { IfOk result (λ n. direct_lines self.new ≡ (if nat_eq n (length bytes.now) then direct_lines self.old - 1 else direct_lines self.old)) }
+        ensures counted { IfOk result (λ n. direct_lines self.new
+            ≡ (if nat_eq n (length bytes.now) then direct_lines self.old - 1 else direct_lines self.old)) }
         ensures uncounted { OnErr result (direct_lines self.new ≡ direct_lines self.old) }
         ensures grows { Grows (K.taken (sink_below self.old)) (K.taken (sink_below self.new)) }
         ensures risen { OnErr result (HasRisen (K.faults (sink_below self.old)) (K.faults (sink_below self.new))) }
@@ -170,7 +171,10 @@ impl<K: Sink + Drop> Sink for HeldSink<K> {
 
     ghost same_self = { λ a. (K.same_self (sink_below a), grows_none (K.taken (sink_below a))) };
 
-    ghost same_on = { λ a b c p q. (K.same_on (sink_below a) (sink_below b) (sink_below c) p.0 q.0, grows_on (K.taken (sink_below a)) (K.taken (sink_below b)) (K.taken (sink_below c)) p.1 q.1) };
+    ghost same_on = { λ a b c p q. (
+      K.same_on (sink_below a) (sink_below b) (sink_below c) p.0 q.0,
+      grows_on (K.taken (sink_below a)) (K.taken (sink_below b)) (K.taken (sink_below c)) p.1 q.1,
+    ) };
 
     /// Takes all of the bytes, or as many as the sink below takes of one of the first lines and of
     /// what is longer than 65,536 bytes. A line is a call of which all bytes were taken.

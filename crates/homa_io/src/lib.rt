@@ -16,8 +16,6 @@ mod real;
 mod sink;
 mod source;
 mod sure;
-#[cfg(test)]
-mod tests;
 
 pub use held::{HeldSink, Room};
 pub use memory::{MemSink, MemSource};

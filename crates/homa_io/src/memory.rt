@@ -1,5 +1,6 @@
 // A source and a sink in memory, whose faults are planned.
-ghost use Rattle.std.specs.Prelude.{◌≡◌, ◌≤◌, ◌<◌, ◌+◌, ◌-◌, ◌^◌, ◌↔◌, ◌⊎◌, Some, [], length, take, min, vec_capacity, Contains, IsErr, OnOk, OnErr, IfOk, IfSome};
+ghost use Rattle.std.specs.Prelude.{◌≡◌, ◌≤◌, ◌<◌, ◌+◌, ◌-◌, ◌^◌, ◌↔◌, ◌⊎◌, Some, [], length, take, min, vec_capacity, Contains, IsErr, OnOk, OnErr};
+ghost use Rattle.std.specs.Prelude.{IfOk, IfSome};
 ghost use Rattle.homa_io.specs.Outside.{HasRisen, unread, appended, IsAtEnd};
 
 use crate::faults::{FaultCount, FaultPlan};

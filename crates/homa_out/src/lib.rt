@@ -189,6 +189,3 @@ fn add(waiting: &mut RangeSet, a: u32, b: u32)
 {
     waiting.insert(a, b, 64);
 }
-
-#[cfg(test)]
-mod tests;

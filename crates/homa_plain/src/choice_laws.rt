@@ -1,5 +1,6 @@
 // Laws of choices and of cutoffs. No function here does anything: each states laws, and its body is empty.
-ghost use Rattle.std.specs.Prelude.{◌≡◌, ◌⊎◌, ◌==◌, Bool, true, ℕ, ◌+◌, ◌-◌, ◌<◌, ◌≤◌, Some, List, [], ◌∷◌, ◌++◌, length, map, slice_get, slice_index, Contains, IsPermutation};
+ghost use Rattle.std.specs.Prelude.{◌≡◌, ◌⊎◌, ◌==◌, Bool, true, ℕ, ◌+◌, ◌-◌, ◌<◌, ◌≤◌, Some, List, [], ◌∷◌, ◌++◌, length, map, slice_get};
+ghost use Rattle.std.specs.Prelude.{slice_index, Contains, IsPermutation};
 ghost use Rattle.std.specs.List.{AllByRecursion, list_any};
 ghost use Rattle.plain_sets.specs.Ordered.{KeysDiffer, SendersDiffer};
 ghost use Rattle.homa_plain.specs.declared.packet.Cutoffs.{Cutoffs};

@@ -5,7 +5,8 @@ ghost use Rattle.plain_sets.specs.Maps.{get, len, IsPartOf};
 ghost use Rattle.plain_sets.specs.Ranges.{is_between, width_of, NoneIn, IsFirstIn};
 ghost use Rattle.plain_sets.specs.Numbers.{with_range, without_range, IsBelow, missing};
 ghost use Rattle.homa_plain.specs.declared.id.HostId.{HostId};
-ghost use Rattle.homa_plain.specs.Incoming.{Incoming, opened, arrived, remaining, missing_ranges, is_missing, first_gap, with_bytes, new_bytes, leaves_too_many_gaps, is_whole, message, granted_to, IsSound};
+ghost use Rattle.homa_plain.specs.Incoming.{Incoming, opened, arrived, remaining, missing_ranges, is_missing, first_gap, with_bytes, new_bytes};
+ghost use Rattle.homa_plain.specs.Incoming.{leaves_too_many_gaps, is_whole, message, granted_to, IsSound};
 
 /// What a piece that arrives does: bytes that had arrived keep their values, and exactly the others that it
 /// brings are new.

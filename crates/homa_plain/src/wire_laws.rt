@@ -7,12 +7,14 @@ ghost use Rattle.homa_plain.specs.Wire.{IsWellFormed, Spells, spelling, packet_i
 
 /// Reading is exact: bytes are read as a packet exactly where it is well formed and they are its spelling.
 pub fn one_spelling()
-    ensures { (wire : ℕ) (bytes : List ℕ) (p : Packet) (payload : List ℕ) → IsBytes bytes → (packet_in wire bytes ≡ Some (p, payload)) ↔ Spells wire bytes p payload }
+    ensures { (wire : ℕ) (bytes : List ℕ) (p : Packet) (payload : List ℕ) → IsBytes bytes
+        → (packet_in wire bytes ≡ Some (p, payload)) ↔ Spells wire bytes p payload }
 {}
 
 /// Bytes are read as no packet exactly where they spell none.
 pub fn no_packet()
-    ensures { (wire : ℕ) (bytes : List ℕ) → IsBytes bytes → (packet_in wire bytes ≡ None) ↔ ((p : Packet) (payload : List ℕ) → Spells wire bytes p payload → ⊥) }
+    ensures { (wire : ℕ) (bytes : List ℕ) → IsBytes bytes
+        → (packet_in wire bytes ≡ None) ↔ ((p : Packet) (payload : List ℕ) → Spells wire bytes p payload → ⊥) }
 {}
 
 /// Bytes spell at most one packet, of at most one version.
@@ -24,12 +26,14 @@ pub fn one_packet()
 /// most 1,436 in version 1 and 1,444 in version 2.
 pub fn spelled_length()
     ensures bytes { (wire : ℕ) (p : Packet) (payload : List ℕ) → IsWellFormed wire p payload → IsBytes (spelling wire p payload) }
-    ensures exact { (wire : ℕ) (p : Packet) (payload : List ℕ) → IsWellFormed wire p payload → length (spelling wire p payload) ≡ header_len wire + body_len p.body + length payload }
+    ensures exact { (wire : ℕ) (p : Packet) (payload : List ℕ) → IsWellFormed wire p payload
+        → length (spelling wire p payload) ≡ header_len wire + body_len p.body + length payload }
     ensures most { (wire : ℕ) (p : Packet) (payload : List ℕ) → IsWellFormed wire p payload → length (spelling wire p payload) ≤ longest wire }
     ensures longest { (longest 1 ≡ 1436) × (longest 2 ≡ 1444) }
 {}
 
 /// A payload is the end of its datagram: what stands behind the header and the fields.
 pub fn payload_is_last()
-    ensures { (wire : ℕ) (bytes : List ℕ) (p : Packet) (payload : List ℕ) → Spells wire bytes p payload → payload ≡ drop (header_len wire + body_len p.body) bytes }
+    ensures { (wire : ℕ) (bytes : List ℕ) (p : Packet) (payload : List ℕ) → Spells wire bytes p payload
+        → payload ≡ drop (header_len wire + body_len p.body) bytes }
 {}

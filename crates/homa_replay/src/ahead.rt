@@ -64,11 +64,30 @@ impl<'a, S: Source, K: Holding> Source for Ahead<'a, S, K> {
     ghost faults = { λ a. a.faults };
 
     // It refers to the same two. After the first fault nothing changes.
-    ghost is_same = { λ a b. (a.source.ghost_name ≡ b.source.ghost_name) × (a.sink.ghost_name ≡ b.sink.ghost_name) × S.is_same a.source.now b.source.now × K.is_same a.sink.now b.sink.now × (K.taken b.sink.now ≡ K.taken a.sink.now) × IsHeeded (counts a.stop a.faults (S.faults a.source.now) (K.faults a.sink.now)) (counts b.stop b.faults (S.faults b.source.now) (K.faults b.sink.now)) a.stop };
+    ghost is_same = { λ a b. (a.source.ghost_name ≡ b.source.ghost_name) × (a.sink.ghost_name ≡ b.sink.ghost_name) × S.is_same a.source.now b.source.now
+        × K.is_same a.sink.now b.sink.now × (K.taken b.sink.now ≡ K.taken a.sink.now)
+        × IsHeeded (counts a.stop a.faults (S.faults a.source.now) (K.faults a.sink.now))
+        (counts b.stop b.faults (S.faults b.source.now) (K.faults b.sink.now)) a.stop };
 
-    ghost same_self = { λ a. (refl, refl, S.same_self a.source.now, K.same_self a.sink.now, refl, heeded_self (counts a.stop a.faults (S.faults a.source.now) (K.faults a.sink.now))) };
+    ghost same_self = { λ a. (
+      refl,
+      refl,
+      S.same_self a.source.now,
+      K.same_self a.sink.now,
+      refl,
+      heeded_self (counts a.stop a.faults (S.faults a.source.now) (K.faults a.sink.now)),
+    ) };
 
-    ghost same_on = { λ a b c p q. (p.0 ∙ q.0, p.1 ∙ q.1, S.same_on a.source.now b.source.now c.source.now p.2 q.2, K.same_on a.sink.now b.sink.now c.sink.now p.3 q.3, q.4 ∙ p.4, heeded_on (counts a.stop a.faults (S.faults a.source.now) (K.faults a.sink.now)) (counts b.stop b.faults (S.faults b.source.now) (K.faults b.sink.now)) (counts c.stop c.faults (S.faults c.source.now) (K.faults c.sink.now)) p.5 q.5) };
+    ghost same_on = { λ a b c p q. (
+      p.0 ∙ q.0,
+      p.1 ∙ q.1,
+      S.same_on a.source.now b.source.now c.source.now p.2 q.2,
+      K.same_on a.sink.now b.sink.now c.sink.now p.3 q.3,
+      q.4 ∙ p.4,
+      heeded_on (counts a.stop a.faults (S.faults a.source.now) (K.faults a.sink.now))
+          (counts b.stop b.faults (S.faults b.source.now) (K.faults b.sink.now))
+          (counts c.stop c.faults (S.faults c.source.now) (K.faults c.sink.now)) p.5 q.5,
+    ) };
 
     fn read(&mut self, buf: &mut [u8]) -> Result<usize, ReadFailed> {
         if self.stop.is_some() {
@@ -93,7 +112,8 @@ pub(crate) fn read_settings<S: Source, K: Holding>(
     sink: &mut K,
 ) -> Result<Result<Settings, ScriptFault>, Stop>
     requires first { reader.old ≡ opened reader.old.place.limit }
-    ensures settings { IfOk result (λ answer. (bytes : List ℕ) → S.left source.old ≡ Some bytes → IsOpening reader.old.place.limit reader.new.place bytes (S.left source.new) (opening_of answer)) }
+    ensures settings { IfOk result (λ answer. (bytes : List ℕ) → S.left source.old ≡ Some bytes
+        → IsOpening reader.old.place.limit reader.new.place bytes (S.left source.new) (opening_of answer)) }
     ensures cut { OnErr result ((bytes : List ℕ) → S.left source.old ≡ Some bytes → IsCut bytes (S.left source.new)) }
     ensures valid { IfOk result (λ answer. IfOk answer IsValid) }
     ensures started { reader.new.started ≡ true }
@@ -144,7 +164,8 @@ pub(crate) fn read_next<S: Source, K: Holding>(
     requires started { reader.old.started ≡ true }
     requires not_ended { reader.old.ended ≡ false }
     requires running { reader.old.stopped ≡ None }
-    ensures next { IfOk result (λ came. (bytes : List ℕ) → S.left source.old ≡ Some bytes → IsNext reader.old.place reader.new.place reader.new.operand bytes (S.left source.new) (answer_of came)) }
+    ensures next { IfOk result (λ came. (bytes : List ℕ) → S.left source.old ≡ Some bytes
+        → IsNext reader.old.place reader.new.place reader.new.operand bytes (S.left source.new) (answer_of came)) }
     ensures cut { OnErr result ((bytes : List ℕ) → S.left source.old ≡ Some bytes → IsCut bytes (S.left source.new)) }
     ensures started { reader.new.started ≡ true }
     ensures ended { IfOk result (λ came. reader.new.ended ≡ is_end (answer_of came)) }

@@ -21,6 +21,3 @@ pub use opens::{Opens, replay};
 pub use playing::Playing;
 pub use schedule::{MOST_BYTES, begin, carry_on};
 pub use stop::Stop;
-
-#[cfg(test)]
-mod tests;

@@ -29,10 +29,15 @@ pub(crate) fn play<P: Playing, K: Sink>(
     bytes: &[u8],
 ) -> Result<Option<WorldFault>, Stop>
     requires few { P.events world.old < 2 ^ 57 }
-    ensures played { result ≡ Ok None → (w : World) → P.stands world.old w → ArePlayed (P.settings world.old) w (record { event = event.now; bytes = bytes.now } ∷ []) (P.stands world.new) (K.taken sink.old) (K.taken sink.new) (P.allows world.old) (P.allows world.new) }
-    ensures refused { IfOk result (λ r. IfSome r (λ fault. (w : World) → P.stands world.old w → AreRefused (P.settings world.old) w (record { event = event.now; bytes = bytes.now } ∷ []) (K.taken sink.old) (K.taken sink.new) (P.allows world.old) fault)) }
+    ensures played { result ≡ Ok None → (w : World) → P.stands world.old w
+        → ArePlayed (P.settings world.old) w (record { event = event.now; bytes = bytes.now } ∷ []) (P.stands world.new) (K.taken sink.old) (K.taken sink.new)
+        (P.allows world.old) (P.allows world.new) }
+    ensures refused { IfOk result (λ r. IfSome r (λ fault. (w : World) → P.stands world.old w
+        → AreRefused (P.settings world.old) w (record { event = event.now; bytes = bytes.now } ∷ []) (K.taken sink.old) (K.taken sink.new)
+        (P.allows world.old) fault)) }
     ensures real { IfOk result (λ r. IfSome r (λ fault. is_memory fault ≡ false)) }
-    ensures cut { OnErr result ((w : World) → P.stands world.old w → AreCut (P.settings world.old) w (record { event = event.now; bytes = bytes.now } ∷ []) (K.taken sink.old) (K.taken sink.new) (P.allows world.old)) }
+    ensures cut { OnErr result ((w : World) → P.stands world.old w
+        → AreCut (P.settings world.old) w (record { event = event.now; bytes = bytes.now } ∷ []) (K.taken sink.old) (K.taken sink.new) (P.allows world.old)) }
     ensures settings { P.settings world.new ≡ P.settings world.old }
     ensures counted { P.events world.new ≤ P.events world.old + 1 }
     ensures write { IsErrOf result Stop.Write → HasRisen (K.faults sink.old) (K.faults sink.new) }
@@ -60,10 +65,14 @@ fn play_turns<P: Playing, K: Sink>(
 ) -> Result<Option<WorldFault>, Stop>
     requires hosts { hosts ≤ 32 }
     requires few { P.events world.old + hosts ≤ 2 ^ 57 }
-    ensures played { result ≡ Ok None → (w : World) → P.stands world.old w → ArePlayed (P.settings world.old) w (turns_of 0 hosts) (P.stands world.new) (K.taken sink.old) (K.taken sink.new) (P.allows world.old) (P.allows world.new) }
-    ensures refused { IfOk result (λ r. IfSome r (λ fault. (w : World) → P.stands world.old w → AreRefused (P.settings world.old) w (turns_of 0 hosts) (K.taken sink.old) (K.taken sink.new) (P.allows world.old) fault)) }
+    ensures played { result ≡ Ok None → (w : World) → P.stands world.old w
+        → ArePlayed (P.settings world.old) w (turns_of 0 hosts) (P.stands world.new) (K.taken sink.old) (K.taken sink.new) (P.allows world.old)
+        (P.allows world.new) }
+    ensures refused { IfOk result (λ r. IfSome r (λ fault. (w : World) → P.stands world.old w
+        → AreRefused (P.settings world.old) w (turns_of 0 hosts) (K.taken sink.old) (K.taken sink.new) (P.allows world.old) fault)) }
     ensures real { IfOk result (λ r. IfSome r (λ fault. is_memory fault ≡ false)) }
-    ensures cut { OnErr result ((w : World) → P.stands world.old w → AreCut (P.settings world.old) w (turns_of 0 hosts) (K.taken sink.old) (K.taken sink.new) (P.allows world.old)) }
+    ensures cut { OnErr result ((w : World) → P.stands world.old w
+        → AreCut (P.settings world.old) w (turns_of 0 hosts) (K.taken sink.old) (K.taken sink.new) (P.allows world.old)) }
     ensures settings { P.settings world.new ≡ P.settings world.old }
     ensures counted { P.events world.new ≤ P.events world.old + hosts }
     ensures write { IsErrOf result Stop.Write → HasRisen (K.faults sink.old) (K.faults sink.new) }
@@ -93,10 +102,14 @@ fn play_tick<P: Playing, K: Sink>(
 ) -> Result<Option<WorldFault>, Stop>
     requires hosts { hosts ≤ 32 }
     requires few { P.events world.old + hosts < 2 ^ 57 }
-    ensures played { result ≡ Ok None → (w : World) → P.stands world.old w → ArePlayed (P.settings world.old) w (tick_of hosts) (P.stands world.new) (K.taken sink.old) (K.taken sink.new) (P.allows world.old) (P.allows world.new) }
-    ensures refused { IfOk result (λ r. IfSome r (λ fault. (w : World) → P.stands world.old w → AreRefused (P.settings world.old) w (tick_of hosts) (K.taken sink.old) (K.taken sink.new) (P.allows world.old) fault)) }
+    ensures played { result ≡ Ok None → (w : World) → P.stands world.old w
+        → ArePlayed (P.settings world.old) w (tick_of hosts) (P.stands world.new) (K.taken sink.old) (K.taken sink.new) (P.allows world.old)
+        (P.allows world.new) }
+    ensures refused { IfOk result (λ r. IfSome r (λ fault. (w : World) → P.stands world.old w
+        → AreRefused (P.settings world.old) w (tick_of hosts) (K.taken sink.old) (K.taken sink.new) (P.allows world.old) fault)) }
     ensures real { IfOk result (λ r. IfSome r (λ fault. is_memory fault ≡ false)) }
-    ensures cut { OnErr result ((w : World) → P.stands world.old w → AreCut (P.settings world.old) w (tick_of hosts) (K.taken sink.old) (K.taken sink.new) (P.allows world.old)) }
+    ensures cut { OnErr result ((w : World) → P.stands world.old w
+        → AreCut (P.settings world.old) w (tick_of hosts) (K.taken sink.old) (K.taken sink.new) (P.allows world.old)) }
     ensures settings { P.settings world.new ≡ P.settings world.old }
     ensures counted { P.events world.new ≤ P.events world.old + hosts + 1 }
     ensures write { IsErrOf result Stop.Write → HasRisen (K.faults sink.old) (K.faults sink.new) }
@@ -123,10 +136,14 @@ pub(crate) fn play_ticks<P: Playing, K: Sink>(
 ) -> Result<Option<WorldFault>, Stop>
     requires hosts { hosts ≤ 32 }
     requires few { P.events world.old + n * (hosts + 1) ≤ 2 ^ 57 }
-    ensures played { result ≡ Ok None → (w : World) → P.stands world.old w → ArePlayed (P.settings world.old) w (ticks hosts n) (P.stands world.new) (K.taken sink.old) (K.taken sink.new) (P.allows world.old) (P.allows world.new) }
-    ensures refused { IfOk result (λ r. IfSome r (λ fault. (w : World) → P.stands world.old w → AreRefused (P.settings world.old) w (ticks hosts n) (K.taken sink.old) (K.taken sink.new) (P.allows world.old) fault)) }
+    ensures played { result ≡ Ok None → (w : World) → P.stands world.old w
+        → ArePlayed (P.settings world.old) w (ticks hosts n) (P.stands world.new) (K.taken sink.old) (K.taken sink.new) (P.allows world.old)
+        (P.allows world.new) }
+    ensures refused { IfOk result (λ r. IfSome r (λ fault. (w : World) → P.stands world.old w
+        → AreRefused (P.settings world.old) w (ticks hosts n) (K.taken sink.old) (K.taken sink.new) (P.allows world.old) fault)) }
     ensures real { IfOk result (λ r. IfSome r (λ fault. is_memory fault ≡ false)) }
-    ensures cut { OnErr result ((w : World) → P.stands world.old w → AreCut (P.settings world.old) w (ticks hosts n) (K.taken sink.old) (K.taken sink.new) (P.allows world.old)) }
+    ensures cut { OnErr result ((w : World) → P.stands world.old w
+        → AreCut (P.settings world.old) w (ticks hosts n) (K.taken sink.old) (K.taken sink.new) (P.allows world.old)) }
     ensures settings { P.settings world.new ≡ P.settings world.old }
     ensures counted { P.events world.new ≤ P.events world.old + n * (hosts + 1) }
     ensures write { IsErrOf result Stop.Write → HasRisen (K.faults sink.old) (K.faults sink.new) }

@@ -47,7 +47,8 @@ fn replay_held<B: Drop, P: Opens<B> + Drop, S: Source, K: Holding>(
     boxes: B,
 ) -> Result<bool, Stop>
     requires { P.are_ready boxes }
-    ensures printed { IfOk result (λ accepted. ArePrinted (replay_of (P.many boxes)) (S.left source.old) (K.taken sink.old) (K.taken sink.new) (P.are_allowed boxes) accepted) }
+    ensures printed { IfOk result (λ accepted. ArePrinted (replay_of (P.many boxes)) (S.left source.old) (K.taken sink.old) (K.taken sink.new)
+        (P.are_allowed boxes) accepted) }
     ensures to_end { result ≡ Ok true → (bytes : List ℕ) → S.left source.old ≡ Some bytes → S.left source.new ≡ Some [] }
     ensures part { AreParts (replay_of (P.many boxes)) (S.left source.old) (S.left source.new) (K.taken sink.old) (K.taken sink.new) (P.are_allowed boxes) }
 
@@ -98,9 +99,11 @@ fn replay_through<B: Drop, P: Opens<B> + Drop, S: Source, K: Sink + Drop>(
 ) -> Result<bool, Stop>
     requires ready { P.are_ready boxes }
     requires none { held_bytes held.old ≡ [] }
-    ensures printed { IfOk result (λ accepted. ArePrinted (replay_of (P.many boxes)) (S.left source.old) (K.taken (sink_below held.old)) (K.taken (sink_below held.new)) (P.are_allowed boxes) accepted) }
+    ensures printed { IfOk result (λ accepted. ArePrinted (replay_of (P.many boxes)) (S.left source.old) (K.taken (sink_below held.old))
+        (K.taken (sink_below held.new)) (P.are_allowed boxes) accepted) }
     ensures to_end { result ≡ Ok true → (bytes : List ℕ) → S.left source.old ≡ Some bytes → S.left source.new ≡ Some [] }
-    ensures part { OnErr result (AreParts (replay_of (P.many boxes)) (S.left source.old) (S.left source.new) (K.taken (sink_below held.old)) (K.taken (sink_below held.new)) (P.are_allowed boxes)) }
+    ensures part { OnErr result (AreParts (replay_of (P.many boxes)) (S.left source.old) (S.left source.new) (K.taken (sink_below held.old))
+        (K.taken (sink_below held.new)) (P.are_allowed boxes)) }
     ensures same { K.is_same (sink_below held.old) (sink_below held.new) }
     ensures quiet_source { OnOk result (S.faults source.new ≡ S.faults source.old) }
     ensures quiet_sink { OnOk result (K.faults (sink_below held.new) ≡ K.faults (sink_below held.old)) }
@@ -131,11 +134,13 @@ pub fn replay<B: Drop, P: Opens<B> + Drop, S: Source, K: Sink>(
     requires { P.are_ready boxes }
 
     // What was printed is the replay of the bytes that the source had, with the answers that its own `run` lines show.
-    ensures printed { IfOk result (λ accepted. ArePrinted (replay_of (P.many boxes)) (S.left source.old) (K.taken sink.old) (K.taken sink.new) (P.are_allowed boxes) accepted) }
+    ensures printed { IfOk result (λ accepted. ArePrinted (replay_of (P.many boxes)) (S.left source.old) (K.taken sink.old) (K.taken sink.new)
+        (P.are_allowed boxes) accepted) }
     ensures to_end { result ≡ Ok true → (bytes : List ℕ) → S.left source.old ≡ Some bytes → S.left source.new ≡ Some [] }
 
     // Otherwise it is a front of that.
-    ensures part { OnErr result (AreParts (replay_of (P.many boxes)) (S.left source.old) (S.left source.new) (K.taken sink.old) (K.taken sink.new) (P.are_allowed boxes)) }
+    ensures part { OnErr result (AreParts (replay_of (P.many boxes)) (S.left source.old) (S.left source.new) (K.taken sink.old) (K.taken sink.new)
+        (P.are_allowed boxes)) }
 
     // Each count changes only with its own fault.
     ensures quiet_source { OnOk result (S.faults source.new ≡ S.faults source.old) }

@@ -31,8 +31,11 @@ pub trait Playing {
     /// more.
     fn apply(&mut self, alloc: Global, event: &Event, bytes: &[u8]) -> Result<(), WorldFault>
         requires few { events self.old < 2 ^ 57 }
-        ensures done { OnOk result ((w : World) → stands self.old w → IsApplied (settings self.old) w (record { event = event.now; bytes = bytes.now }) (stands self.new) (told self.new) (allows self.old) (allows self.new)) }
-        ensures fault { IfErr result (λ fault. (w : World) → stands self.old w → IsNotApplied (settings self.old) w (record { event = event.now; bytes = bytes.now }) fault) }
+        ensures done { OnOk result ((w : World) → stands self.old w
+            → IsApplied (settings self.old) w (record { event = event.now; bytes = bytes.now }) (stands self.new) (told self.new) (allows self.old)
+            (allows self.new)) }
+        ensures fault { IfErr result (λ fault. (w : World) → stands self.old w
+            → IsNotApplied (settings self.old) w (record { event = event.now; bytes = bytes.now }) fault) }
         ensures kept { OnErr result ((w : World) → stands self.old w → stands self.new w) }
         ensures allows { OnErr result ((told : List PlainEntry) → allows self.new told → allows self.old told) }
         ensures settings { settings self.new ≡ settings self.old }

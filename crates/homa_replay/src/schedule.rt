@@ -40,10 +40,15 @@ fn play_line<P: Playing, K: Sink>(
 ) -> Result<Option<WorldFault>, Stop>
     requires hosts { hosts ≤ 32 }
     requires few { P.events world.old + line_events hosts next.now ≤ 2 ^ 57 }
-    ensures played { result ≡ Ok None → (w : World) → P.stands world.old w → ArePlayed (P.settings world.old) w (events_of hosts (given_of next.now bytes.now)) (P.stands world.new) (K.taken sink.old) (K.taken sink.new) (P.allows world.old) (P.allows world.new) }
-    ensures refused { IfOk result (λ r. IfSome r (λ fault. (w : World) → P.stands world.old w → AreRefused (P.settings world.old) w (events_of hosts (given_of next.now bytes.now)) (K.taken sink.old) (K.taken sink.new) (P.allows world.old) fault)) }
+    ensures played { result ≡ Ok None → (w : World) → P.stands world.old w
+        → ArePlayed (P.settings world.old) w (events_of hosts (given_of next.now bytes.now)) (P.stands world.new) (K.taken sink.old) (K.taken sink.new)
+        (P.allows world.old) (P.allows world.new) }
+    ensures refused { IfOk result (λ r. IfSome r (λ fault. (w : World) → P.stands world.old w
+        → AreRefused (P.settings world.old) w (events_of hosts (given_of next.now bytes.now)) (K.taken sink.old) (K.taken sink.new)
+        (P.allows world.old) fault)) }
     ensures real { IfOk result (λ r. IfSome r (λ fault. is_memory fault ≡ false)) }
-    ensures cut { OnErr result ((w : World) → P.stands world.old w → AreCut (P.settings world.old) w (events_of hosts (given_of next.now bytes.now)) (K.taken sink.old) (K.taken sink.new) (P.allows world.old)) }
+    ensures cut { OnErr result ((w : World) → P.stands world.old w
+        → AreCut (P.settings world.old) w (events_of hosts (given_of next.now bytes.now)) (K.taken sink.old) (K.taken sink.new) (P.allows world.old)) }
     ensures settings { P.settings world.new ≡ P.settings world.old }
     ensures counted { P.events world.new ≤ P.events world.old + line_events hosts next.now }
     ensures write { IsErrOf result Stop.Write → HasRisen (K.faults sink.old) (K.faults sink.new) }
@@ -103,12 +108,15 @@ pub fn begin<S: Source, K: Holding>(
     sink: &mut K,
 ) -> Result<Option<Settings>, Stop>
     requires { reader.old ≡ opened MOST_BYTES }
-    ensures opened { IfOk result (λ r. IfSome r (λ s. (bytes : List ℕ) → S.left source.old ≡ Some bytes → IsRead bytes (S.left source.new) (opening MOST_BYTES) (λ more. Opened s (steps_left reader.new.place more)))) }
+    ensures opened { IfOk result (λ r. IfSome r (λ s. (bytes : List ℕ) → S.left source.old ≡ Some bytes
+        → IsRead bytes (S.left source.new) (opening MOST_BYTES) (λ more. Opened s (steps_left reader.new.place more)))) }
     ensures line { IfOk result (λ r. IfSome r (λ s. K.taken sink.new ≡ appended (K.taken sink.old) (line_text (PlainSettings s)))) }
     ensures valid { IfOk result (λ r. IfSome r IsValid) }
     ensures refused { result ≡ Ok None → (boxes : ℕ) → ArePrinted (replay_of boxes) (S.left source.old) (K.taken sink.old) (K.taken sink.new) is_unasked false }
-    ensures part { OnErr result ((boxes : ℕ) → AreParts (replay_of boxes) (S.left source.old) (S.left source.new) (K.taken sink.old) (K.taken sink.new) is_unasked) }
-    ensures front { result ≡ Ok None → (boxes : ℕ) → AreParts (replay_of boxes) (S.left source.old) (S.left source.new) (K.taken sink.old) (K.taken sink.new) is_unasked }
+    ensures part { OnErr result ((boxes : ℕ)
+        → AreParts (replay_of boxes) (S.left source.old) (S.left source.new) (K.taken sink.old) (K.taken sink.new) is_unasked) }
+    ensures front { result ≡ Ok None → (boxes : ℕ)
+        → AreParts (replay_of boxes) (S.left source.old) (S.left source.new) (K.taken sink.old) (K.taken sink.new) is_unasked }
 
     ensures started { reader.new.started ≡ true }
     ensures not_ended { reader.new.ended ≡ false }
@@ -156,10 +164,16 @@ pub fn carry_on<P: Playing, S: Source, K: Holding>(
     requires first { P.events world.old ≡ 0 }
     requires hosts { hosts ≡ (P.settings world.old).hosts }
     requires few { hosts ≤ 32 }
-    ensures printed { IfOk result (λ accepted. (w : World) → P.stands world.old w → ArePrinted (left_at (P.settings world.old) w 0 reader.old.place) (S.left source.old) (K.taken sink.old) (K.taken sink.new) (P.allows world.old) accepted) }
+    ensures printed { IfOk result (λ accepted. (w : World) → P.stands world.old w
+        → ArePrinted (left_at (P.settings world.old) w 0 reader.old.place) (S.left source.old) (K.taken sink.old) (K.taken sink.new)
+        (P.allows world.old) accepted) }
     ensures to_end { result ≡ Ok true → (w : World) → P.stands world.old w → (bytes : List ℕ) → S.left source.old ≡ Some bytes → S.left source.new ≡ Some [] }
-    ensures part { OnErr result ((w : World) → P.stands world.old w → AreParts (left_at (P.settings world.old) w 0 reader.old.place) (S.left source.old) (S.left source.new) (K.taken sink.old) (K.taken sink.new) (P.allows world.old)) }
-    ensures front { OnOk result ((w : World) → P.stands world.old w → AreParts (left_at (P.settings world.old) w 0 reader.old.place) (S.left source.old) (S.left source.new) (K.taken sink.old) (K.taken sink.new) (P.allows world.old)) }
+    ensures part { OnErr result ((w : World) → P.stands world.old w
+        → AreParts (left_at (P.settings world.old) w 0 reader.old.place) (S.left source.old) (S.left source.new) (K.taken sink.old) (K.taken sink.new)
+        (P.allows world.old)) }
+    ensures front { OnOk result ((w : World) → P.stands world.old w
+        → AreParts (left_at (P.settings world.old) w 0 reader.old.place) (S.left source.old) (S.left source.new) (K.taken sink.old) (K.taken sink.new)
+        (P.allows world.old)) }
 
     ensures quiet_source { OnOk result (S.faults source.new ≡ S.faults source.old) }
     ensures quiet_sink { OnOk result (K.faults sink.new ≡ K.faults sink.old) }

@@ -2,7 +2,8 @@
 ghost use Rattle.std.specs.Prelude.{◌≡◌, ◌≤◌, [], true, length, IfOk, IfSome};
 ghost use Rattle.std.specs.Option.{option_map};
 ghost use Rattle.homa_plain.specs.Input.{words_of};
-ghost use Rattle.homa_plain.specs.Script.{GivenEvent, is_comment, event_word, alone, call_given, deliver_given, host_given, tick_given, inject_given, shift_given, event_given, phrase_of};
+ghost use Rattle.homa_plain.specs.Script.{GivenEvent, is_comment, event_word, alone, call_given, deliver_given, host_given, tick_given, inject_given};
+ghost use Rattle.homa_plain.specs.Script.{shift_given, event_given, phrase_of};
 ghost use Rattle.homa_script.specs.Given.{word_seen, given_of, bare_of, ticks_of, phrase_given, IsWithin};
 
 use crate::words::{Words, read_up_to};

@@ -17,8 +17,6 @@ mod put;
 mod read;
 mod reader;
 mod stop;
-#[cfg(test)]
-mod tests;
 mod words;
 
 pub use laws::reads_back;

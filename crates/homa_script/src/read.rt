@@ -25,7 +25,8 @@ pub(crate) fn read_settings<S: Source>(
     requires longest { (reading lines.old).longest ≡ 2100000 }
     requires counted { IsCounted (place_of (reading lines.old)) }
     requires first { place_of (reading lines.old) ≡ (opened (reading lines.old).limit).place }
-    ensures settings { (bytes : List ℕ) → S.left source.old ≡ Some bytes → IsOpening (reading lines.old).limit (place_of (reading lines.new)) bytes (S.left source.new) result }
+    ensures settings { (bytes : List ℕ) → S.left source.old ≡ Some bytes
+        → IsOpening (reading lines.old).limit (place_of (reading lines.new)) bytes (S.left source.new) result }
     ensures valid { IfOk result IsValid }
     ensures counted { IfOk result (λ settings. IsCounted (place_of (reading lines.new))) }
     ensures limit { (reading lines.new).limit ≡ (reading lines.old).limit }
@@ -58,7 +59,8 @@ pub(crate) fn next_given<S: Source>(
     requires room { 1050000 ≤ length out.old }
     requires longest { (reading lines.old).longest ≡ 2100000 }
     requires counted { IsCounted (place_of (reading lines.old)) }
-    ensures given { (bytes : List ℕ) → S.left source.old ≡ Some bytes → IsNextGiven (place_of (reading lines.old)) (place_of (reading lines.new)) out.new bytes (S.left source.new) result }
+    ensures given { (bytes : List ℕ) → S.left source.old ≡ Some bytes
+        → IsNextGiven (place_of (reading lines.old)) (place_of (reading lines.new)) out.new bytes (S.left source.new) result }
     ensures within { IfOk result (λ given. IfSome given (λ g. IsWithin g (length out.new))) }
     ensures on { IfOk result (IsGivenOn (place_of (reading lines.old)) (place_of (reading lines.new))) }
     ensures limit { (reading lines.new).limit ≡ (reading lines.old).limit }

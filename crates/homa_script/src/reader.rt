@@ -107,7 +107,8 @@ impl Reader {
         requires not_ended { self.old.ended ≡ false }
 
         // It is the next step of the definition, or its refusal or end, whatever stands behind.
-        ensures next { self.old.stopped ≡ None → (bytes : List ℕ) → S.left source.old ≡ Some bytes → IsNext self.old.place self.new.place self.new.operand bytes (S.left source.new) result }
+        ensures next { self.old.stopped ≡ None → (bytes : List ℕ) → S.left source.old ≡ Some bytes
+            → IsNext self.old.place self.new.place self.new.operand bytes (S.left source.new) result }
 
         ensures started { self.new.started ≡ true }
         ensures ended { self.new.ended ≡ is_end result }

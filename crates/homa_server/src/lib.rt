@@ -14,8 +14,6 @@ mod row;
 mod spans;
 mod state;
 mod table;
-#[cfg(test)]
-mod tests;
 
 pub use answers::{ServerAct, ServerDid};
 pub use table::ServerTable;

@@ -1,5 +1,6 @@
 // A call at its server.
-ghost use Rattle.std.specs.Prelude.{◌≡◌, ℕ, List, ◌+◌, ◌==◌, ◌<◌, ◌≤◌, ◌^◌, length, true, false, Some, None, IfSome, IsSome, IfOk, OnOk, OnErr, option_copied, if◌then◌else◌, IfNone};
+ghost use Rattle.std.specs.Prelude.{◌≡◌, ℕ, List, ◌+◌, ◌==◌, ◌<◌, ◌≤◌, ◌^◌, length, true, false, Some, None, IfSome, IsSome, IfOk, OnOk, OnErr};
+ghost use Rattle.std.specs.Prelude.{option_copied, if◌then◌else◌, IfNone};
 ghost use Rattle.homa_plain.specs.declared.id.CallId.{CallId};
 ghost use Rattle.homa_plain.specs.declared.id.HostId.{HostId};
 ghost use Rattle.homa_plain.specs.Settings.{IsValid};
@@ -16,10 +17,12 @@ ghost use Rattle.plain_sets.specs.Maps.{len};
 ghost use Rattle.msg_pool.specs.Pool.{Pool};
 ghost use Rattle.homa_in.specs.Part.{Part, IsIn, seen};
 ghost use Rattle.host_incoming.specs.Pooled.{Moves, IsInPool};
-ghost use Rattle.homa_server.specs.Held.{HeldServer, HeldState, Arriving, Keeping, Answering, Gone, IfArriving, IfKeeping, IfAnswering, is_arriving, is_keeping, is_answering, IsKept, state_part, state_response, response_in, seen_state, seen_server};
+ghost use Rattle.homa_server.specs.Held.{HeldServer, HeldState, Arriving, Keeping, Answering, Gone, IfArriving, IfKeeping, IfAnswering, is_arriving};
+ghost use Rattle.homa_server.specs.Held.{is_keeping, is_answering, IsKept, state_part, state_response, response_in, seen_state, seen_server};
 ghost use Rattle.host_incoming.specs.Pieces.{piece_in, IsFit, moment_with};
 ghost use Rattle.host_incoming.specs.Sends.{IsAffordable, IfSent};
-ghost use Rattle.homa_server.specs.Answers.{IsAnswered, HasTimer, IsGrantable, after_act, IfRan, has_run, IsSlotOf, slot_in, service_in, runs_said, acked_of, acted_of, goes, IfSaid, IsAnswerBody, IfResend, IsAsking, state_emits, server_sends, out_facts};
+ghost use Rattle.homa_server.specs.Answers.{IsAnswered, HasTimer, IsGrantable, after_act, IfRan, has_run, IsSlotOf, slot_in, service_in, runs_said};
+ghost use Rattle.homa_server.specs.Answers.{acked_of, acted_of, goes, IfSaid, IsAnswerBody, IfResend, IsAsking, state_emits, server_sends, out_facts};
 
 use crate::spans::{patience_of, span_of};
 use crate::state::{State, answered, replying};
@@ -235,7 +238,8 @@ impl Row {
         ensures served { IfOk result (λ did.
             V.served service.new ≡ (if has_run did then V.served service.old + 1 else V.served service.old)) }
         ensures whole { OnErr result (IfArriving self.old.state (λ wanted part base count. (id : CallId) (m : Moment) (a : Answer)
-            → runs_said (receiving_gets settings.now m id body.now payload.now a (seen_server pool.old self.old) wanted (seen pool.old part) base).says ≡ true)) }
+            → runs_said (receiving_gets settings.now m id body.now payload.now a (seen_server pool.old self.old) wanted (seen pool.old part) base).says
+            ≡ true)) }
         ensures same { OnErr result (self.new ≡ self.old) }
         ensures same_pool { OnErr result (pool.new ≡ pool.old) }
         ensures not_served { OnErr result (V.served service.new ≡ V.served service.old) }
@@ -292,7 +296,8 @@ impl Row {
         requires answering { is_answering self.old.state ≡ true }
         requires fits { IsAsking body.now }
         requires now { now ≤ 1000000002000 }
-        ensures did { IfAnswering self.old.state (λ response out sent base count. (s : Settings) (id : CallId) (host : HostId) (order free rows : ℕ) (payload told : List ℕ) (pool : Pool)
+        ensures did { IfAnswering self.old.state
+            (λ response out sent base count. (s : Settings) (id : CallId) (host : HostId) (order free rows : ℕ) (payload told : List ℕ) (pool : Pool)
             → let m = moment_with host now order free rows in
             IsAnswered s m id (piece_in body.now payload) (λ a. replying_gets m body.now (seen_server pool self.old) response out sent)
             (Some (seen_server pool self.new)) (response_in self.new.state) told result) }
@@ -387,7 +392,8 @@ impl Row {
         requires now { now ≤ 1000000002000 }
         ensures did { (id : CallId) (host : HostId) (order free rows : ℕ) (pool : Pool)
             → let m = moment_with host now order free rows in
-            state_acked settings.now m id (seen_server pool self.old) (seen_state pool self.old.state) ≡ acked_of m id (Some (seen_server pool self.new)) result }
+            state_acked settings.now m id (seen_server pool self.old) (seen_state pool self.old.state)
+            ≡ acked_of m id (Some (seen_server pool self.new)) result }
         ensures same { IfNone result (self.new ≡ self.old) }
         ensures part { state_part self.new.state ≡ state_part self.old.state }
     {

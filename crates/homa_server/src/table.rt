@@ -1,5 +1,6 @@
 // The calls that a host serves, at their places.
-ghost use Rattle.std.specs.Prelude.{◌≡◌, ℕ, ◌+◌, ◌<◌, ◌≤◌, ◌^◌, true, false, List, Some, None, IfOk, IfSome, IsSome, IsSomeAnd, OnOk, OnErr, length, option_copied, if◌then◌else◌, IfNone};
+ghost use Rattle.std.specs.Prelude.{◌≡◌, ℕ, ◌+◌, ◌<◌, ◌≤◌, ◌^◌, true, false, List, Some, None, IfOk, IfSome, IsSome, IsSomeAnd, OnOk, OnErr, length};
+ghost use Rattle.std.specs.Prelude.{option_copied, if◌then◌else◌, IfNone};
 ghost use Rattle.std.specs.Option.{option_map, option_and_then};
 ghost use Rattle.plain_sets.specs.Maps.{empty, get, len};
 ghost use Rattle.homa_plain.specs.declared.id.CallId.{CallId};
@@ -19,7 +20,8 @@ ghost use Rattle.host_places.specs.Placed.{Placed, StandsAt, ArePlaced, spot_at}
 ghost use Rattle.homa_server.specs.Held.{HeldServer, IsKept, seen_server, state_part, state_response, response_in};
 ghost use Rattle.host_incoming.specs.Pieces.{piece_in, IsFit, moment_with};
 ghost use Rattle.host_incoming.specs.Sends.{IfSent, IsAffordable};
-ghost use Rattle.homa_server.specs.Answers.{IsAnswered, IsAnswerBody, IsSlotOf, IfSaid, is_data, has_run, service_in, runs_said, acked_of, acted_of, IfResend, HasServerActed, IsGrantable, state_emits, server_sends, server_facts};
+ghost use Rattle.homa_server.specs.Answers.{IsAnswered, IsAnswerBody, IsSlotOf, IfSaid, is_data, has_run, service_in, runs_said, acked_of, acted_of};
+ghost use Rattle.homa_server.specs.Answers.{IfResend, HasServerActed, IsGrantable, state_emits, server_sends, server_facts};
 ghost use Rattle.homa_server.specs.Table.{packet_of, Servers, Served, ServerMoved, server_at, request_at, slot_at, server_moment};
 
 use crate::first::{First, open_row};
@@ -90,12 +92,14 @@ impl ServerTable {
         requires pool { AreIn pool.old (request_at self.old.rows) }
         ensures received { IfOk result (λ did. Served self.old pool.old (packet_between from self.old.host packet.now payload.now) now order
             self.new pool.new scratch.new
-            (λ request response hold. V.allows service.old (V.served service.old) (service_in (piece_in packet.now.body payload.now)) request response hold) did) }
+            (λ request response hold. V.allows service.old (V.served service.old)
+            (service_in (piece_in packet.now.body payload.now)) request response hold) did) }
         ensures served { IfOk result (λ did.
             V.served service.new ≡ (if has_run did then V.served service.old + 1 else V.served service.old)) }
         ensures pool { AreIn pool.new (request_at self.new.rows) }
         ensures whole { OnErr result ((a : Answer) → let p = packet_between from self.old.host packet.now payload.now in
-            runs_said (server_gets self.old.settings (server_moment self.old now order pool.old p.id) p a (server_at pool.old self.old.rows p.id)).says ≡ true) }
+            runs_said (server_gets self.old.settings (server_moment self.old now order pool.old p.id) p a (server_at pool.old self.old.rows p.id)).says
+            ≡ true) }
         ensures same { OnErr result (self.new ≡ self.old) }
         ensures same_pool { OnErr result (pool.new ≡ pool.old) }
         ensures not_served { OnErr result (V.served service.new ≡ V.served service.old) }
@@ -162,7 +166,8 @@ impl ServerTable {
         ensures pool { AreIn pool.new (request_at self.new.rows) }
         ensures whole { OnErr result ((role : Role) (server : HostId) (inc at level : ℕ) (a : Answer)
             → let p = packet_of id body.now payload.now role server inc at level in
-            runs_said (server_gets self.old.settings (server_moment self.old now order pool.old p.id) p a (server_at pool.old self.old.rows p.id)).says ≡ true) }
+            runs_said (server_gets self.old.settings (server_moment self.old now order pool.old p.id) p a (server_at pool.old self.old.rows p.id)).says
+            ≡ true) }
         ensures same { OnErr result (self.new ≡ self.old) }
         ensures same_pool { OnErr result (pool.new ≡ pool.old) }
         ensures not_served { OnErr result (V.served service.new ≡ V.served service.old) }
@@ -203,7 +208,8 @@ impl ServerTable {
         ensures pool { AreIn pool.new (request_at self.new.rows) }
         ensures whole { OnErr result ((role : Role) (server : HostId) (inc at level : ℕ) (a : Answer)
             → let p = packet_of id body.now payload.now role server inc at level in
-            runs_said (server_gets self.old.settings (server_moment self.old now order pool.old p.id) p a (server_at pool.old self.old.rows p.id)).says ≡ true) }
+            runs_said (server_gets self.old.settings (server_moment self.old now order pool.old p.id) p a (server_at pool.old self.old.rows p.id)).says
+            ≡ true) }
         ensures same { OnErr result (self.new ≡ self.old) }
         ensures same_pool { OnErr result (pool.new ≡ pool.old) }
         ensures not_served { OnErr result (V.served service.new ≡ V.served service.old) }

@@ -13,8 +13,6 @@ mod seat;
 mod service;
 mod suite;
 mod table;
-#[cfg(test)]
-mod tests;
 
 pub use reply::Reply;
 pub use seat::Seat;

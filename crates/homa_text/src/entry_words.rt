@@ -2,7 +2,8 @@
 ghost use Rattle.std.specs.Prelude.{◌≡◌, ◌+◌, ◌≤◌, ◌++◌, [], ◌∷◌, length, map, codes, decimal};
 ghost use Rattle.arrayvec.specs.ArrayVec.{array_vec_len};
 ghost use Rattle.homa_plain.specs.Entries.{plain};
-ghost use Rattle.homa_plain.specs.Text.{settings_words, cutoffs_words, call_word, host_word, id_word, hex_word, fault_words, ack_word, role_word, kind_word, body_words, why_word, entry_words};
+ghost use Rattle.homa_plain.specs.Text.{settings_words, cutoffs_words, call_word, host_word, id_word, hex_word, fault_words, ack_word, role_word};
+ghost use Rattle.homa_plain.specs.Text.{kind_word, body_words, why_word, entry_words};
 ghost use Rattle.homa_text.specs.Written.{word_text};
 
 use crate::Word::{self, Call, Hex, Host, Id, Number, Route, Text};
@@ -209,7 +210,8 @@ fn words_of_run<'a>(
     response: &'a [u8],
     hold: u32,
 ) -> WordList<'a>
-    ensures { map word_text result.items ≡ codes "run" ∷ host_word host ∷ id_word id ∷ decimal service ∷ hex_word request.now ∷ hex_word response.now ∷ decimal hold ∷ [] }
+    ensures { map word_text result.items ≡ codes "run" ∷ host_word host ∷ id_word id ∷ decimal service ∷ hex_word request.now
+        ∷ hex_word response.now ∷ decimal hold ∷ [] }
 {
     let mut list = list_of(b"run", &[Host(host), Id(id), Number(u64::from(service))]);
     push_all(

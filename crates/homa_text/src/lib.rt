@@ -21,8 +21,6 @@ mod put;
 mod quick;
 mod quick_calls;
 mod scan;
-#[cfg(test)]
-mod tests;
 mod words;
 mod written;
 

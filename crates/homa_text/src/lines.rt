@@ -59,7 +59,8 @@ impl Lines {
     /// Reads the next line. The source is read in parts of up to 64 KiB, and only where no byte is
     /// pending. After an error the bytes of the line that came are lost, and nothing is counted.
     pub fn next<S: Source>(&mut self, source: &mut S) -> Result<LineGot, ReadFailed>
-        ensures next { IfOk result (λ got. (came : List ℕ) × (S.left source.old ≡ unread came (S.left source.new)) × IsNext (reading self.old) (reading self.new) came (IsAtEnd (S.left source.new)) got) }
+        ensures next { IfOk result (λ got. (came : List ℕ) × (S.left source.old ≡ unread came (S.left source.new))
+            × IsNext (reading self.old) (reading self.new) came (IsAtEnd (S.left source.new)) got) }
         ensures number { OnOk result ((reading self.new).number ≡ min ((reading self.old).number + 1) (2 ^ 64 - 1)) }
 
         // The two limits stay.

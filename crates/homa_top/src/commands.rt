@@ -57,7 +57,8 @@ pub(crate) fn put_schedule<V: Service, K: Sink>(
     calls: u32,
 ) -> ExitStatus
     requires { AreReady V.served services.items }
-    ensures made { HasMade (run_of seed calls (length services.items)) (schedule_text generated_settings) (K.taken sink.old) (K.taken sink.new) (AreAllowed V.served V.allows services.items) result }
+    ensures made { HasMade (run_of seed calls (length services.items)) (schedule_text generated_settings) (K.taken sink.old) (K.taken sink.new)
+        (AreAllowed V.served V.allows services.items) result }
     ensures write { result ≡ status.WriteFailed → HasRisen (K.faults sink.old) (K.faults sink.new) }
     ensures quiet { result ≢ status.WriteFailed → K.faults sink.new ≡ K.faults sink.old }
 {
@@ -76,7 +77,8 @@ pub(crate) fn put_summary<V: Service, K: Sink>(
     calls: u32,
 ) -> ExitStatus
     requires { AreReady V.served services.items }
-    ensures made { HasMade (run_of seed calls (length services.items)) (λ g. summary_text g.told) (K.taken sink.old) (K.taken sink.new) (AreAllowed V.served V.allows services.items) result }
+    ensures made { HasMade (run_of seed calls (length services.items)) (λ g. summary_text g.told) (K.taken sink.old) (K.taken sink.new)
+        (AreAllowed V.served V.allows services.items) result }
     ensures write { result ≡ status.WriteFailed → HasRisen (K.faults sink.old) (K.faults sink.new) }
     ensures quiet { result ≢ status.WriteFailed → K.faults sink.new ≡ K.faults sink.old }
 {
@@ -115,7 +117,8 @@ pub(crate) fn put_judgement<S: Source, K: Sink>(
     sink: &mut K,
 ) -> ExitStatus
     ensures judged { (bytes : List ℕ) → S.left source.old ≡ Some bytes → HasJudged bytes (S.left source.new) (K.taken sink.old) (K.taken sink.new) result }
-    ensures statuses { (result ≡ status.Done) ⊎ (result ≡ status.Refused) ⊎ (result ≡ status.ReadFailed) ⊎ (result ≡ status.WriteFailed) ⊎ (result ≡ status.NoMemory) }
+    ensures statuses { (result ≡ status.Done) ⊎ (result ≡ status.Refused) ⊎ (result ≡ status.ReadFailed) ⊎ (result ≡ status.WriteFailed)
+        ⊎ (result ≡ status.NoMemory) }
     ensures read { result ≡ status.ReadFailed → HasRisen (S.faults source.old) (S.faults source.new) }
     ensures read_quiet { result ≢ status.ReadFailed → S.faults source.new ≡ S.faults source.old }
     ensures write { result ≡ status.WriteFailed → HasRisen (K.faults sink.old) (K.faults sink.new) }

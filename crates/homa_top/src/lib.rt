@@ -16,6 +16,3 @@ pub use many::suites;
 pub use quiet_call::quiet_rounds;
 pub use status::run;
 pub use words::Command;
-
-#[cfg(test)]
-mod tests;

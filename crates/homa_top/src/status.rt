@@ -54,24 +54,37 @@ pub fn run<V: Service, S: Source, K: Sink>(
 
     // `replay`: what was printed is the replay of the bytes that the source had, with the answers that its own `run` lines
     // show, of which each is allowed; it refuses no line, or its last line refuses one.
-    ensures accepted { said words.now ≡ Some command.Replay → result ≡ status.Done → ArePrinted (replay_of (length services.items)) (S.left source.old) (K.taken sink.old) (K.taken sink.new) (AreAllowed V.served V.allows services.items) true }
-    ensures refused { said words.now ≡ Some command.Replay → result ≡ status.Refused → ArePrinted (replay_of (length services.items)) (S.left source.old) (K.taken sink.old) (K.taken sink.new) (AreAllowed V.served V.allows services.items) false }
-    ensures to_end { said words.now ≡ Some command.Replay → result ≡ status.Done → (bytes : List ℕ) → S.left source.old ≡ Some bytes → S.left source.new ≡ Some [] }
+    ensures accepted { said words.now ≡ Some command.Replay → result ≡ status.Done
+        → ArePrinted (replay_of (length services.items)) (S.left source.old) (K.taken sink.old) (K.taken sink.new)
+        (AreAllowed V.served V.allows services.items) true }
+    ensures refused { said words.now ≡ Some command.Replay → result ≡ status.Refused
+        → ArePrinted (replay_of (length services.items)) (S.left source.old) (K.taken sink.old) (K.taken sink.new)
+        (AreAllowed V.served V.allows services.items) false }
+    ensures to_end { said words.now ≡ Some command.Replay → result ≡ status.Done → (bytes : List ℕ) → S.left source.old ≡ Some bytes
+        → S.left source.new ≡ Some [] }
 
     // Where the schedule opens a world, each of these lines obeys all laws.
-    ensures laws { said words.now ≡ Some command.Replay → (result ≡ status.Done) ⊎ (result ≡ status.Refused) → (bytes : List ℕ) → S.left source.old ≡ Some bytes → OpensWorld bytes → TookLawful (K.taken sink.old) (K.taken sink.new) }
+    ensures laws { said words.now ≡ Some command.Replay → (result ≡ status.Done) ⊎ (result ≡ status.Refused) → (bytes : List ℕ)
+        → S.left source.old ≡ Some bytes → OpensWorld bytes → TookLawful (K.taken sink.old) (K.taken sink.new) }
 
     // A fault or want of memory leaves a front of it.
-    ensures front { said words.now ≡ Some command.Replay → is_broken_off result ≡ true → AreParts (replay_of (length services.items)) (S.left source.old) (S.left source.new) (K.taken sink.old) (K.taken sink.new) (AreAllowed V.served V.allows services.items) }
+    ensures front { said words.now ≡ Some command.Replay → is_broken_off result ≡ true
+        → AreParts (replay_of (length services.items)) (S.left source.old) (S.left source.new) (K.taken sink.old) (K.taken sink.new)
+        (AreAllowed V.served V.allows services.items) }
 
     // `check`: what was printed is the verdict on the bytes that the source had. Yes means that each line has its shape and
     // obeys all laws, no that the named line is the first that doesn't, by the named clause.
-    ensures judged { said words.now ≡ Some command.Check → (bytes : List ℕ) → S.left source.old ≡ Some bytes → HasJudged bytes (S.left source.new) (K.taken sink.old) (K.taken sink.new) result }
+    ensures judged { said words.now ≡ Some command.Check → (bytes : List ℕ) → S.left source.old ≡ Some bytes
+        → HasJudged bytes (S.left source.new) (K.taken sink.old) (K.taken sink.new) result }
 
     // `make`, `gen` and `quiet`: what was printed is the schedule of the generated run, the summary of its trace, the line of
     // the quiet call; or a front of it.
-    ensures made { (seed calls : ℕ) → said words.now ≡ Some (command.Make seed calls) → HasMade (run_of seed calls (length services.items)) (schedule_text generated_settings) (K.taken sink.old) (K.taken sink.new) (AreAllowed V.served V.allows services.items) result }
-    ensures counted { (seed calls : ℕ) → said words.now ≡ Some (command.Gen seed calls) → HasMade (run_of seed calls (length services.items)) (λ g. summary_text g.told) (K.taken sink.old) (K.taken sink.new) (AreAllowed V.served V.allows services.items) result }
+    ensures made { (seed calls : ℕ) → said words.now ≡ Some (command.Make seed calls)
+        → HasMade (run_of seed calls (length services.items)) (schedule_text generated_settings) (K.taken sink.old) (K.taken sink.new)
+        (AreAllowed V.served V.allows services.items) result }
+    ensures counted { (seed calls : ℕ) → said words.now ≡ Some (command.Gen seed calls)
+        → HasMade (run_of seed calls (length services.items)) (λ g. summary_text g.told) (K.taken sink.old) (K.taken sink.new)
+        (AreAllowed V.served V.allows services.items) result }
     ensures quiet { (n m : ℕ) → said words.now ≡ Some (command.Quiet n m) → HasCounted n m (K.taken sink.old) (K.taken sink.new) result }
 
     // Faults have their causes, each fault has its status, and nothing else keeps an input that is accepted, with the answers
@@ -81,9 +94,13 @@ pub fn run<V: Service, S: Source, K: Sink>(
     ensures read_fault { S.faults source.new ≢ S.faults source.old → result ≡ status.ReadFailed }
     ensures write_fault { K.faults sink.new ≢ K.faults sink.old → result ≡ status.WriteFailed }
     ensures complete { said words.now ≡ Some command.Replay → (bytes : List ℕ) → S.left source.old ≡ Some bytes
-        → ((answers : List Answer) → shown (replay bytes answers (length services.items)).told ≡ answers → AreAllowed V.served V.allows services.items (replay bytes answers (length services.items)).told → is_refusal (replay bytes answers (length services.items)).end ≡ false)
-        → (HasRisen (S.faults source.old) (S.faults source.new) → ⊥) → (HasRisen (K.faults sink.old) (K.faults sink.new) → ⊥) → (result ≡ status.Done) ⊎ (result ≡ status.NoMemory) }
-    ensures complete_check { said words.now ≡ Some command.Check → (HasRisen (S.faults source.old) (S.faults source.new) → ⊥) → (HasRisen (K.faults sink.old) (K.faults sink.new) → ⊥) → (result ≡ status.Done) ⊎ (result ≡ status.Refused) ⊎ (result ≡ status.NoMemory) }
+        → ((answers : List Answer) → shown (replay bytes answers (length services.items)).told ≡ answers
+        → AreAllowed V.served V.allows services.items (replay bytes answers (length services.items)).told
+        → is_refusal (replay bytes answers (length services.items)).end ≡ false)
+        → (HasRisen (S.faults source.old) (S.faults source.new) → ⊥) → (HasRisen (K.faults sink.old) (K.faults sink.new) → ⊥) → (result ≡ status.Done)
+        ⊎ (result ≡ status.NoMemory) }
+    ensures complete_check { said words.now ≡ Some command.Check → (HasRisen (S.faults source.old) (S.faults source.new) → ⊥)
+        → (HasRisen (K.faults sink.old) (K.faults sink.new) → ⊥) → (result ≡ status.Done) ⊎ (result ≡ status.Refused) ⊎ (result ≡ status.NoMemory) }
 {
     match read_words(words) {
         None => put_usage(sink),

@@ -12,8 +12,6 @@ mod bodies;
 mod fields;
 mod fits;
 mod reading;
-#[cfg(test)]
-mod tests;
 mod writing;
 
 pub use reading::{Span, decode};

@@ -3,7 +3,8 @@ ghost use Rattle.std.specs.Prelude.{◌≡◌, ◌+◌, ◌≤◌, ◌<◌, ◌+
 ghost use Rattle.std.specs.Int.{w16, w32, to_be_bytes};
 ghost use Rattle.std.specs.List.{flat_map};
 ghost use Rattle.homa_plain.specs.Bytes.{two};
-ghost use Rattle.homa_plain.specs.Wire.{Between, IsWellFormed, spelling, header_bytes, header_len, body_bytes, body_len, tick_bytes, ack_bytes, kind, role_byte};
+ghost use Rattle.homa_plain.specs.Wire.{Between, IsWellFormed, spelling, header_bytes, header_len, body_bytes, body_len, tick_bytes, ack_bytes, kind};
+ghost use Rattle.homa_plain.specs.Wire.{role_byte};
 
 use homa_plain::{Body, Cutoffs, Frame, More, Packet, Role};
 

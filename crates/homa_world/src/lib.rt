@@ -17,6 +17,3 @@ mod world;
 pub use parts::{First, Last, WorldParts};
 pub use shown::Passing;
 pub use world::World;
-
-#[cfg(test)]
-mod tests;

@@ -124,7 +124,12 @@ impl<S: Service> WorldParts<S> {
         requires room { HasRoomFor self.old.packets 64 }
         requires short { AllByRecursion IsShort (frames_of self.old.stage) }
         requires few { self.old.applied < 2 ^ 57 }
-        ensures same { self.new ≡ record self.old { packets = self.new.packets; last = last.Stepped host first (length (kept_all self.old.packets)); applied = self.old.applied + 1 } }
+        ensures same { self.new ≡ record self.old {
+          packets = self.new.packets;
+          last = last.Stepped host first
+              (length (kept_all self.old.packets));
+          applied = self.old.applied + 1;
+        } }
         ensures sent { kept_all self.new.packets ≡ kept_all self.old.packets ++ map (frame_kept (open_tick self.old.packets)) (frames_of self.old.stage) }
         ensures settings { settings_of self.new.packets ≡ settings_of self.old.packets }
         ensures few { length (frames_of self.old.stage) ≤ 64 }

@@ -71,7 +71,8 @@ impl<S: Service> WorldParts<S> {
 
 // What is shown of a datagram; None where it is too short or too long to be one.
 fn passing_of(tick: u64, to: HostId, bytes: &[u8]) -> Option<Passing>
-    ensures { MatchOption result ((slice_get bytes.now 3 ≡ None) ⊎ (2 ^ 32 ≤ length bytes.now)) (λ p. (p.to ≡ to) × (slice_get bytes.now 3 ≡ Some p.level) × (p.len ≡ length bytes.now) × (p.tick ≡ tick)) }
+    ensures { MatchOption result ((slice_get bytes.now 3 ≡ None) ⊎ (2 ^ 32 ≤ length bytes.now)) (λ p. (p.to ≡ to) × (slice_get bytes.now 3 ≡ Some p.level)
+        × (p.len ≡ length bytes.now) × (p.tick ≡ tick)) }
 {
     let level = *bytes.get(LEVEL)?;
     let len = u32::try_from(bytes.len()).ok()?;

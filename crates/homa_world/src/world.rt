@@ -56,7 +56,8 @@ impl<S: Service> World<S> {
         ensures first { IfOk result (λ w. IsFirstAt settings.now start (length services.items) (StandsFor w)) }
         ensures settings { IfOk result (λ w. w.settings ≡ settings.now) }
         ensures applied { IfOk result (λ w. w.applied ≡ 0) }
-        ensures allows { IfOk result (λ w. (told : List PlainEntry) → may_tell_of S.served S.allows w told → AreAllowed S.served S.allows services.items (PlainSettings settings.now ∷ told)) }
+        ensures allows { IfOk result (λ w. (told : List PlainEntry) → may_tell_of S.served S.allows w told
+            → AreAllowed S.served S.allows services.items (PlainSettings settings.now ∷ told)) }
     {
         Ok(World {
             parts: WorldParts::open(alloc, settings, services, start)?,

@@ -8,7 +8,5 @@
 #![tactic(auto)]
 
 mod putting;
-#[cfg(test)]
-mod tests;
 
 pub use putting::{Opening, Put, close_part, open_part, put_piece};

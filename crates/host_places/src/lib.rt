@@ -9,7 +9,5 @@
 
 mod index;
 mod table;
-#[cfg(test)]
-mod tests;
 
 pub use table::Rows;

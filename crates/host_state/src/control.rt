@@ -9,13 +9,15 @@ ghost use Rattle.homa_plain.specs.Rows.{ClientRow, ServerRow};
 ghost use Rattle.homa_plain.specs.Rules.{Say, Did};
 ghost use Rattle.homa_plain.specs.Host.{Host, is_balance_due, rebalanced, peer_cutoffs};
 ghost use Rattle.homa_plain.specs.Sending.{level_at, response_content};
-ghost use Rattle.homa_plain.specs.Steps.{Work, tells, posts, notes, tells_cutoffs, finishes, is_newer, hears_cutoffs, said as said_by, asked, served, request_leaves, response_leaves};
+ghost use Rattle.homa_plain.specs.Steps.{Work, tells, posts, notes, tells_cutoffs, finishes, is_newer, hears_cutoffs, said as said_by, asked, served};
+ghost use Rattle.homa_plain.specs.Steps.{request_leaves, response_leaves};
 ghost use Rattle.host_view.specs.declared.mark.Mark.TheVariants.{Sent, Balanced};
 ghost use Rattle.host_view.specs.declared.outbox.SentFrame.{SentFrame};
 ghost use Rattle.host_view.specs.Frames.{frame_of, IsFormed};
 ghost use Rattle.host_state.specs.Control.{IsAt, IsSound, sent_by};
 ghost use Rattle.host_state.specs.Fields.{new_control, peer_of};
-ghost use Rattle.host_state.specs.Saying.{AreSays, FitsSaid, IsOutcome, HasFitCutoffs, IsPieceOf, marks_said, frames_said, one_of, outcome_marks, outcome_frames};
+ghost use Rattle.host_state.specs.Saying.{AreSays, FitsSaid, IsOutcome, HasFitCutoffs, IsPieceOf, marks_said, frames_said, one_of, outcome_marks};
+ghost use Rattle.host_state.specs.Saying.{outcome_frames};
 
 use crate::marks::Marks;
 use crate::saying::{Outcome, Said};
@@ -229,7 +231,8 @@ impl Control {
         requires frames { length out.old < 64 }
         ensures formed { IsFormed self.old.settings (sent_by self.old role id server (record { level = level; body = body; payload = payload.now })) }
         ensures marks { self.new ≡ record self.old { marks = self.old.marks ++ Sent (length out.old) ∷ [] } }
-        ensures frames { out.new ≡ out.old ++ frame_of self.old.settings (sent_by self.old role id server (record { level = level; body = body; payload = payload.now })) ∷ [] }
+        ensures frames { out.new ≡ out.old
+            ++ frame_of self.old.settings (sent_by self.old role id server (record { level = level; body = body; payload = payload.now })) ∷ [] }
     {
         let packet = Packet {
             role,

@@ -1,5 +1,6 @@
 // The hosts and their services, with the room that a step needs.
-ghost use Rattle.std.specs.Prelude.{◌≡◌, ◌≢◌, ◌<◌, ◌≤◌, ◌+◌, ◌^◌, ◌↔◌, ℕ, true, IsTrue, IsSome, IfSome, IfOk, IfErr, OnOk, OnErr, Some, [], List, map, take, drop, length, slice_get, slice_set};
+ghost use Rattle.std.specs.Prelude.{◌≡◌, ◌≢◌, ◌<◌, ◌≤◌, ◌+◌, ◌^◌, ◌↔◌, ℕ, true, IsTrue, IsSome, IfSome, IfOk, IfErr, OnOk, OnErr, Some, [], List};
+ghost use Rattle.std.specs.Prelude.{map, take, drop, length, slice_get, slice_set};
 ghost use Rattle.homa_plain.specs.Settings.{IsValid};
 ghost use Rattle.homa_plain.specs.Host.{new_host};
 ghost use Rattle.homa_plain.specs.Rules.{Answer};
@@ -11,7 +12,8 @@ ghost use Rattle.homa_plain.specs.Entries.{plain};
 ghost use Rattle.homa_service.specs.Table.{places, place_of, last_of, front_of};
 ghost use Rattle.homa_text.specs.Told.{HasLine};
 ghost use Rattle.host_table.specs.Left.{entries_of, HasLeft, IsFew};
-ghost use Rattle.host_table.specs.Staged.{hosts_of, frames_of, known, known_of, known_in, first_known, seats_of, spares_of, MayStep, HasStepped, HasCome, HasNotCome};
+ghost use Rattle.host_table.specs.Staged.{hosts_of, frames_of, known, known_of, known_in, first_known, seats_of, spares_of, MayStep, HasStepped};
+ghost use Rattle.host_table.specs.Staged.{HasCome, HasNotCome};
 ghost use Rattle.host_table.specs.Restarted.{HasRestarted, HasNoSpare};
 
 use homa_host::Host;
@@ -88,7 +90,8 @@ impl<S: Service> Stage<S> {
         requires server { IfSome (slice_get (hosts_of self.old) client.0) (λ h. server.0 < h.settings.hosts) }
         requires may { IfSome (slice_get (hosts_of self.old) client.0) (MayStep now) }
         requires now { now ≤ 1000000002000 }
-        ensures step { OnOk result (IfSome (slice_get (hosts_of self.old) client.0) (λ h. HasStepped now client h (call_step h.settings h.host now server number request.items) self.old self.new)) }
+        ensures step { OnOk result (IfSome (slice_get (hosts_of self.old) client.0)
+            (λ h. HasStepped now client h (call_step h.settings h.host now server number request.items) self.old self.new)) }
         ensures no_fault { OnOk result (IfSome (slice_get (hosts_of self.old) client.0) (λ h. start_fault h.settings h.host server request.items ≡ None)) }
         ensures fault { IfErr result (λ e. IfSome (slice_get (hosts_of self.old) client.0) (λ h. start_fault h.settings h.host server request.items ≡ Some e)) }
         ensures known { OnErr result (known_of self.new ≡ known_of self.old) }

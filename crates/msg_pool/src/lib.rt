@@ -10,8 +10,6 @@ mod block;
 mod pages;
 mod pool;
 mod scratch;
-#[cfg(test)]
-mod tests;
 
 pub use pool::{Lease, MsgPool, PoolFull};
 pub use scratch::Scratch;

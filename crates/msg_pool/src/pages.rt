@@ -97,8 +97,10 @@ pub(crate) fn write_chain(
     requires near { IsNear next.now near.old }
     ensures near { IsNear next.now near.new }
     ensures len { length block.new ≡ length block.old }
-    ensures written { (i k : ℕ) → k < 4096 → offset ≤ i * 4096 + k → i * 4096 + k < offset + length bytes.now → byte_at block.new (page_at next.now first i) k ≡ slice_index bytes.now (i * 4096 + k - offset) }
-    ensures kept { (q k : ℕ) → k < 4096 → ((i : ℕ) → offset ≤ i * 4096 + k → i * 4096 + k < offset + length bytes.now → q ≢ page_at next.now first i) → byte_at block.new q k ≡ byte_at block.old q k }
+    ensures written { (i k : ℕ) → k < 4096 → offset ≤ i * 4096 + k → i * 4096 + k < offset + length bytes.now
+        → byte_at block.new (page_at next.now first i) k ≡ slice_index bytes.now (i * 4096 + k - offset) }
+    ensures kept { (q k : ℕ) → k < 4096 → ((i : ℕ) → offset ≤ i * 4096 + k → i * 4096 + k < offset + length bytes.now → q ≢ page_at next.now first i)
+        → byte_at block.new q k ≡ byte_at block.old q k }
 {
     let end = offset + bytes.len() as u32;
     let mut page = near_page(next, near, first, offset / PAGE);

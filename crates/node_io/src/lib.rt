@@ -17,8 +17,6 @@ mod observer;
 mod printer;
 mod real;
 mod sure;
-#[cfg(test)]
-mod tests;
 
 pub use clock::{Clock, MemClock};
 pub use memory::MemNet;

@@ -1,5 +1,6 @@
 // A net in memory, whose faults are planned.
-ghost use Rattle.std.specs.Prelude.{◌≡◌, ◌≤◌, ◌<◌, ◌+◌, ◌-◌, ◌^◌, ◌↔◌, ◌⊎◌, ◌||◌, ℕ, false, true, Some, None, [], ◌∷◌, ◌++◌, length, map, min, vec_capacity, Contains, IsErr, OnOk, OnErr, IfOk, IfSome, if◌then◌else◌};
+ghost use Rattle.std.specs.Prelude.{◌≡◌, ◌≤◌, ◌<◌, ◌+◌, ◌-◌, ◌^◌, ◌↔◌, ◌⊎◌, ◌||◌, ℕ, false, true, Some, None, [], ◌∷◌, ◌++◌, length, map, min};
+ghost use Rattle.std.specs.Prelude.{vec_capacity, Contains, IsErr, OnOk, OnErr, IfOk, IfSome, if◌then◌else◌};
 ghost use Rattle.homa_io.specs.Outside.{HasRisen};
 ghost use Rattle.homa_plain.specs.declared.id.HostId.{HostId as Host};
 ghost use Rattle.homa_plain.specs.Calls.{is_host};
@@ -45,7 +46,8 @@ fn put_if(
 )
     requires fits { length bytes.now ≤ 1500 }
     requires room { length list.old.items < vec_capacity list.old }
-    ensures items { map datagram_of list.new.items ≡ (if is_put then map datagram_of list.old.items ++ record { from = from; to = to; bytes = bytes.now } ∷ [] else map datagram_of list.old.items) }
+    ensures items { map datagram_of list.new.items
+        ≡ (if is_put then map datagram_of list.old.items ++ record { from = from; to = to; bytes = bytes.now } ∷ [] else map datagram_of list.old.items) }
     ensures len { length list.new.items ≤ length list.old.items + 1 }
     ensures capacity { vec_capacity list.old ≤ vec_capacity list.new }
 {
@@ -149,7 +151,8 @@ impl MemNet {
 }
 
 impl Net for MemNet {
-    ghost use Rattle.node_io.specs.Memory.{net_bound, net_known, net_queue, net_queued, queue_with, net_sent, net_gave, net_faults, net_fails, net_calls, net_sends, net_receives};
+    ghost use Rattle.node_io.specs.Memory.{net_bound, net_known, net_queue, net_queued, queue_with, net_sent, net_gave, net_faults, net_fails};
+    ghost use Rattle.node_io.specs.Memory.{net_calls, net_sends, net_receives};
 
     ghost known = { net_known };
 

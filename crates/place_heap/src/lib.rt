@@ -12,8 +12,6 @@ mod heap;
 mod key;
 mod sift;
 mod steps;
-#[cfg(test)]
-mod tests;
 
 pub use cells::{Cell, Cells};
 pub use heap::PlaceHeap;

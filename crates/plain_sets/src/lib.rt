@@ -10,13 +10,17 @@
 //! hand. The lemmas are in `proofs/`, under the names of what they are about.
 #![tactic(auto)]
 
-ghost use Rattle.std.specs.Prelude.{◌≡◌, ◌≢◌, ◌⊎◌, ◌↔◌, ℕ, ◌+◌, ◌-◌, ◌<◌, ◌≤◌, ◌==◌, Bool, true, false, not, ◌&&◌, ◌||◌, nat_lt, if◌then◌else◌, Option, Some, None, is_some, List, [], ◌∷◌, ◌++◌, length, map, filter, take, Contains, IsPermutation, MatchOption, IfSome};
+ghost use Rattle.std.specs.Prelude.{◌≡◌, ◌≢◌, ◌⊎◌, ◌↔◌, ℕ, ◌+◌, ◌-◌, ◌<◌, ◌≤◌, ◌==◌, Bool, true, false, not, ◌&&◌, ◌||◌, nat_lt, if◌then◌else◌};
+ghost use Rattle.std.specs.Prelude.{Option, Some, None, is_some, List, [], ◌∷◌, ◌++◌, length, map, filter, take, Contains, IsPermutation};
+ghost use Rattle.std.specs.Prelude.{MatchOption, IfSome};
 ghost use Rattle.std.specs.List.{slice_get, slice_range};
 ghost use Rattle.std.specs.Ordering.{eq_by_cmp, nat_cmp};
 ghost use Rattle.std.specs.FinMap.{IsAntisymmetric, find};
-ghost use Rattle.plain_sets.specs.Maps.{Map, entries, empty, get, contains_key, insert, insert_all, remove, len, keys, values, key_set, from_entries, AreDistinct, IsPartOf};
+ghost use Rattle.plain_sets.specs.Maps.{Map, entries, empty, get, contains_key, insert, insert_all, remove, len, keys, values, key_set, from_entries};
+ghost use Rattle.plain_sets.specs.Maps.{AreDistinct, IsPartOf};
 ghost use Rattle.plain_sets.specs.Ranges.{Range, range, is_between, in_ranges, AreApart, width_of, joined, parted, NoneIn, IsFirstIn};
-ghost use Rattle.plain_sets.specs.Numbers.{Numbers, has, with_number, without_number, with_range, without_range, within, set_of_range, with_all, union, IsSubset, is_subset, IsBelow, ranges, set_of_ranges, first_in, first_below, missing, gaps};
+ghost use Rattle.plain_sets.specs.Numbers.{Numbers, has, with_number, without_number, with_range, without_range, within, set_of_range, with_all};
+ghost use Rattle.plain_sets.specs.Numbers.{union, IsSubset, is_subset, IsBelow, ranges, set_of_ranges, first_in, first_below, missing, gaps};
 ghost use Rattle.plain_sets.specs.Ordered.{placed, ordered, IsInOrder, IsLeast, KeysDiffer, first_of, firsts, has_sender, SendersDiffer};
 
 /// What a look-up answers, at keys of any order.

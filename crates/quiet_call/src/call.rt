@@ -10,7 +10,8 @@ ghost use Rattle.host_view.specs.Marks.{shown_entries};
 ghost use Rattle.host_view.specs.Done.{HoldsSent, arriving};
 ghost use Rattle.quiet_laws.specs.Ends.{IsCalm};
 ghost use Rattle.quiet_call.specs.Stepped.{filled, HasStepped, MayStep};
-ghost use Rattle.quiet_call.specs.Standing.{settings_of, rounds_of, hosts_of, frames_of, asked, answered, answers, own_clock, round_of, IsSameCall, CallGoesOn, opened, IsOpened};
+ghost use Rattle.quiet_call.specs.Standing.{settings_of, rounds_of, hosts_of, frames_of, asked, answered, answers, own_clock, round_of, IsSameCall};
+ghost use Rattle.quiet_call.specs.Standing.{CallGoesOn, opened, IsOpened};
 ghost use Rattle.quiet_laws.specs.Hosts.{client_id, server_id};
 
 use crate::filler::Filler;
@@ -154,7 +155,9 @@ impl QuietCall {
         requires from { IfSome (slice_get (hosts_of self.old) frame.now.to.0) (λ h. frame.now.from.0 < h.settings.hosts) }
         requires other { IfSome (slice_get (hosts_of self.old) frame.now.to.0) (λ h. frame.now.from ≢ h.host.id) }
         requires served { answers self.old < 2 ^ 63 }
-        ensures came { IfOk result (λ done. HasStepped (own_clock self.old) frame.now.to (λ h. arrival_step h.settings h.host (own_clock self.old) (arriving h frame.now.from frame.now.frame) (filled (answered self.old))) done (hosts_of self.old) (hosts_of self.new) (frames_of self.old) (frames_of self.new)) }
+        ensures came { IfOk result (λ done. HasStepped (own_clock self.old) frame.now.to
+            (λ h. arrival_step h.settings h.host (own_clock self.old) (arriving h frame.now.from frame.now.frame) (filled (answered self.old))) done
+            (hosts_of self.old) (hosts_of self.new) (frames_of self.old) (frames_of self.new)) }
         ensures served { OnOk result (answers self.new ≤ answers self.old + 1) }
         ensures clock { rounds_of self.new ≡ rounds_of self.old }
         ensures same { IsSameCall self.old self.new }
@@ -177,7 +180,8 @@ impl QuietCall {
         requires clock { own_clock self.old ≤ 1000000002000 }
         requires host { host.0 < length (hosts_of self.old) }
         requires may { IfSome (slice_get (hosts_of self.old) host.0) (MayStep (own_clock self.old)) }
-        ensures turned { IfOk result (λ done. HasStepped (own_clock self.old) host (λ h. turn_step h.settings h.host (own_clock self.old)) done (hosts_of self.old) (hosts_of self.new) (frames_of self.old) (frames_of self.new)) }
+        ensures turned { IfOk result (λ done. HasStepped (own_clock self.old) host (λ h. turn_step h.settings h.host (own_clock self.old)) done
+            (hosts_of self.old) (hosts_of self.new) (frames_of self.old) (frames_of self.new)) }
         ensures served { answers self.new ≡ answers self.old }
         ensures clock { rounds_of self.new ≡ rounds_of self.old }
         ensures same { IsSameCall self.old self.new }
@@ -193,7 +197,8 @@ impl QuietCall {
         requires sent { IfSome (slice_get (hosts_of self.old) host.0) (λ h. HoldsSent h self.old.outbox) }
         ensures kept { OnOk result (frames_of self.new ≡ frames_of self.old ++ self.old.outbox) }
         ensures few { OnOk result (length (frames_of self.new) ≤ 2 ^ 32) }
-        ensures done { IfOk result (λ done. IfSome (slice_get (hosts_of self.old) host.0) (λ h. done ≡ has_done (shown_entries h self.old.outbox self.old.scratch))) }
+        ensures done { IfOk result (λ done. IfSome (slice_get (hosts_of self.old) host.0) (λ h. done
+            ≡ has_done (shown_entries h self.old.outbox self.old.scratch))) }
         ensures same { self.new ≡ record self.old { under_way = self.new.under_way } }
     {
         keep(&mut self.under_way, alloc, &self.outbox)?;

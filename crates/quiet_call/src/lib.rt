@@ -11,8 +11,6 @@ mod call;
 mod filler;
 mod frames;
 mod rounds;
-#[cfg(test)]
-mod tests;
 
 pub use call::{QuietCall, bound};
 pub use filler::Filler;

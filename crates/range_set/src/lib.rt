@@ -158,6 +158,3 @@ impl RangeSet {
         self.kept.is_empty()
     }
 }
-
-#[cfg(test)]
-mod tests;

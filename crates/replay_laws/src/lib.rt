@@ -38,5 +38,6 @@ pub fn every_replay_obeys()
     ensures obeys { OfEveryReplay (Holds Obeys nothing_seen) }
     ensures fronts { OfEveryReplay (λ lines. (n : ℕ) → Holds Obeys nothing_seen (take n lines)) }
     ensures judged { OfEveryReplay (λ lines. first_broken lines ≡ None) }
-    ensures told { (bytes : List ℕ) (answers : List Answer) (boxes : ℕ) → boxes ≤ last_incarnation → Holds Obeys nothing_seen (replay bytes answers boxes).told }
+    ensures told { (bytes : List ℕ) (answers : List Answer) (boxes : ℕ) → boxes ≤ last_incarnation
+        → Holds Obeys nothing_seen (replay bytes answers boxes).told }
 {}

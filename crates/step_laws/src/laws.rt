@@ -14,7 +14,8 @@ ghost use Rattle.homa_plain.specs.Host.{Host, new_host, Says};
 ghost use Rattle.homa_plain.specs.Rules.{Answer, Did};
 ghost use Rattle.homa_plain.specs.Timers.{Place, OfClient, OfServer, timer_key, timers};
 ghost use Rattle.homa_plain.specs.Sending.{arrivals, leaving_key, departures};
-ghost use Rattle.homa_plain.specs.Steps.{Work, notes, tells_cutoffs, finishes, asked, served, hears_cutoffs, acts_at, acts, grants_at, leaves_from, next_id, starts, call_step, arrival_step, turn_step, has_run, arrival_or_none};
+ghost use Rattle.homa_plain.specs.Steps.{Work, notes, tells_cutoffs, finishes, asked, served, hears_cutoffs, acts_at, acts, grants_at, leaves_from};
+ghost use Rattle.homa_plain.specs.Steps.{next_id, starts, call_step, arrival_step, turn_step, has_run, arrival_or_none};
 ghost use Rattle.step_laws.specs.StepLaws.{run_count, LeavesOthers, LeavesRows, IsBounded, HasOwnOrders, picked_anew};
 
 /// The rows that are due act as if the first of them were picked anew before each act: a row that acted isn't due

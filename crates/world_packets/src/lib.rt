@@ -14,8 +14,6 @@ mod late;
 mod late_ticks;
 mod packets;
 mod past;
-#[cfg(test)]
-mod tests;
 mod tick;
 
 pub use packets::{Kept, Packets};

@@ -124,7 +124,8 @@ impl Past {
     pub(crate) fn take(&mut self, s: &Settings, tick: &Tick, now: u64) -> Result<bool, AllocError>
         requires valid { IsValid s.now }
         requires few { length (past_kept self.old) + length (kept_of tick.now) < 2 ^ 64 }
-        ensures aged { IfTaken result (AllAged s.now now (past_kept self.old ++ kept_of tick.now) (past_kept self.new)) (past_kept self.new ≡ past_kept self.old) }
+        ensures aged { IfTaken result (AllAged s.now now (past_kept self.old ++ kept_of tick.now) (past_kept self.new)) (past_kept self.new
+            ≡ past_kept self.old) }
         ensures left { wire_of self.old ≡ s.now.wire → IfOk result (λ taken. taken ≡ false → HasNoOld s.now now (kept_of tick.now)) }
         ensures wire { wire_of self.new ≡ wire_of self.old }
     {

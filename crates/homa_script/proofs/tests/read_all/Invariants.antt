@@ -1,6 +1,0 @@
-use Rattle.std.proofs.Common.{◌≡◌, true, false}
-use Rattle.homa_script.proofs.tests.read_all.Given as goal
-
--- the reader goes on
-abbrev pub invariant-loop-events : goal.invariant-loop-events
-invariant-loop-events l = record { started : l.reader.started ≡ true; not_ended : l.reader.ended ≡ false }

@@ -1,0 +1,158 @@
+// The five kinds of numbers, want of memory, and boxes that move.
+ghost use Rattle.std.specs.Prelude.{◌≡◌, ◌+◌, ◌<◌, ◌^◌, OnOk, IfOk};
+
+use homa_plain::HostId;
+use homa_service::{NoSpare, Reply, Seat, Service, ServiceTable, Suite};
+use std::alloc::{AllocError, Global};
+use std::test::Fail;
+
+/// A service that finds no memory at its first call, and answers its letter afterwards.
+#[derive(Drop)]
+struct Fickle {
+    letter: u8,
+    is_ready: bool,
+    served: u64,
+}
+
+impl Service for Fickle {
+    ghost use Rattle.std.specs.Prelude.{◌≡◌, [], ◌∷◌};
+
+    ghost served = { λ fickle. fickle.served };
+
+    ghost allows = { λ fickle count number q r hold. (r ≡ fickle.letter ∷ []) × (hold ≡ 0) };
+
+    fn serve(&mut self, alloc: Global, _number: u8, _request: &[u8]) -> Result<Reply, AllocError> {
+        if !self.is_ready {
+            self.is_ready = true;
+            return Err(AllocError);
+        }
+        let bytes = vec![in alloc; self.letter]?;
+        self.served += 1;
+        Ok(Reply::new(bytes, 0))
+    }
+}
+
+fn is_answer(reply: &Reply, bytes: &[u8], hold: u32) -> bool {
+    reply.bytes() == bytes && reply.hold() == hold
+}
+
+/// Calls any service twice.
+fn ask_twice<V: Service>(
+    alloc: Global,
+    service: &mut V,
+    request: &[u8],
+) -> Result<(Reply, Reply), AllocError>
+    requires { V.served service.old + 2 < 2 ^ 63 }
+    ensures served { OnOk result (V.served service.new ≡ V.served service.old + 2) }
+    ensures second { IfOk result (λ both.
+        V.allows service.old (V.served service.old + 1) 1 request.now both.1.bytes both.1.hold) }
+{
+    let first = service.serve(alloc, 0, request)?;
+    let second = service.serve(alloc, 1, request)?;
+    Ok((first, second))
+}
+
+#[test]
+fn each_number_answers_its_own(rt: HostRuntime) -> Result<(), Fail> {
+    let mut suite = Suite::new();
+    let echo = suite.serve(rt.alloc(), 0, b"abc")?;
+    assert!(rt; is_answer(&echo, b"abc", 0));
+    let count = suite.serve(rt.alloc(), 1, b"abc")?;
+    assert!(rt; is_answer(&count, &[0, 0, 0, 0, 0, 0, 0, 2], 0));
+    let reversed = suite.serve(rt.alloc(), 2, b"abc")?;
+    assert!(rt; is_answer(&reversed, b"cba", 0));
+    let held = suite.serve(rt.alloc(), 3, b"abc")?;
+    assert!(rt; is_answer(&held, b"abc", 10));
+    let other = suite.serve(rt.alloc(), 4, b"abc")?;
+    assert!(rt; is_answer(&other, &[0], 0));
+    let last = suite.serve(rt.alloc(), 255, b"abc")?;
+    assert_eq!(rt; last.into_bytes().as_slice(), [0].as_slice());
+
+    // No bytes are no message, and the count goes on.
+    let none = suite.serve(rt.alloc(), 3, b"")?;
+    assert!(rt; is_answer(&none, &[0], 0));
+    let count = suite.serve(rt.alloc(), 1, b"abc")?;
+    assert!(rt; is_answer(&count, &[0, 0, 0, 0, 0, 0, 0, 8], 0));
+    Ok(())
+}
+
+#[test]
+fn want_of_memory_is_no_answer(rt: HostRuntime) -> Result<(), Fail> {
+    let mut fickle = Fickle {
+        letter: b'f',
+        is_ready: false,
+        served: 0,
+    };
+    assert!(rt; fickle.serve(rt.alloc(), 1, b"abc").is_err());
+    assert_eq!(rt; fickle.served, 0);
+    let (first, second) = ask_twice(rt.alloc(), &mut fickle, b"abc")?;
+    assert!(rt; is_answer(&first, b"f", 0));
+    assert!(rt; is_answer(&second, b"f", 0));
+    assert_eq!(rt; fickle.served, 2);
+    Ok(())
+}
+
+/// A box that answers this letter.
+fn letter_box(alloc: Global, letter: u8) -> Result<Box<Fickle>, AllocError>
+    ensures { IfOk result (λ b. b.value.served ≡ 0) }
+{
+    Ok(Box::new(
+        alloc,
+        Fickle {
+            letter,
+            is_ready: true,
+            served: 0,
+        },
+    )?)
+}
+
+#[test]
+fn a_seat_is_taken_and_put_back(rt: HostRuntime) -> Result<(), Fail> {
+    let mut boxes: Vec<Box<dyn Service>> = Vec::new(rt.alloc());
+    boxes.push(letter_box(rt.alloc(), b'a')?)?;
+    boxes.push(Box::new(rt.alloc(), Suite::new())?)?;
+    boxes.push(letter_box(rt.alloc(), b'b')?)?;
+    let mut table = ServiceTable::open(rt.alloc(), Seat::each(rt.alloc(), boxes)?, 2)?;
+
+    let other = table.take(HostId(0));
+    let seat = table.take(HostId(1));
+    table.put_back(HostId(1), seat);
+    table.put_back(HostId(0), other);
+    let mut seat = table.take(HostId(1));
+    let (echo, count) = ask_twice(rt.alloc(), &mut seat, b"xyz")?;
+    assert!(rt; is_answer(&echo, b"xyz", 0));
+    assert!(rt; is_answer(&count, &[0, 0, 0, 0, 0, 0, 0, 2], 0));
+    Ok(())
+}
+
+#[test]
+fn the_last_spare_is_seated(rt: HostRuntime) -> Result<(), Fail> {
+    let mut boxes: Vec<Box<dyn Service>> = Vec::new(rt.alloc());
+    boxes.push(letter_box(rt.alloc(), b'a')?)?;
+    boxes.push(letter_box(rt.alloc(), b'b')?)?;
+    boxes.push(letter_box(rt.alloc(), b'c')?)?;
+    let mut table = ServiceTable::open(rt.alloc(), Seat::each(rt.alloc(), boxes)?, 2)?;
+    assert_eq!(rt; table.replace(HostId(0)), Ok(()));
+    assert_eq!(rt; table.replace(HostId(0)), Err(NoSpare));
+    let mut seat = table.take(HostId(0));
+    let reply = seat.serve(rt.alloc(), 0, b"xyz")?;
+    assert!(rt; is_answer(&reply, b"c", 0));
+    let mut other = table.take(HostId(1));
+    let reply = other.serve(rt.alloc(), 0, b"xyz")?;
+    assert!(rt; is_answer(&reply, b"b", 0));
+    Ok(())
+}
+
+#[test]
+fn each_box_is_in_the_table(rt: HostRuntime) -> Result<(), Fail> {
+    let mut boxes: Vec<Box<dyn Service>> = Vec::new(rt.alloc());
+    for _made in 0..96u32 {
+        boxes.push(Box::new(rt.alloc(), Suite::new())?)?;
+    }
+    let mut table = ServiceTable::open(rt.alloc(), Seat::each(rt.alloc(), boxes)?, 2)?;
+    for _left in 0..94u32 {
+        assert_eq!(rt; table.replace(HostId(1)), Ok(()));
+    }
+    assert_eq!(rt; table.replace(HostId(1)), Err(NoSpare));
+    Ok(())
+}

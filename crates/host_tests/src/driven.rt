@@ -1,0 +1,259 @@
+// What a host's heaps hold, with values that were worked out by hand, a front of a frame that is a packet, and a service
+// that finds no memory.
+ghost use Rattle.std.specs.Prelude.{◌≡◌, ◌+◌, ◌<◌, ◌^◌, IfOk};
+ghost use Rattle.driven_host.specs.Driven.{IsKept};
+
+use driven_host::DrivenHost;
+use homa_host::Host;
+use homa_plain::{CallId, Entry, HostId, Settings};
+use homa_service::{Reply, Service};
+use host_view::Outbox;
+use msg_pool::Scratch;
+use place_books::first;
+use place_heap::Key;
+use std::alloc::{AllocError, Global};
+use std::process::Abort;
+use std::test::*;
+
+const CLIENT: HostId = HostId(0);
+
+const SERVER: HostId = HostId(1);
+
+// The first slot of a host's rows as a client, and the first of those as a server.
+const CLIENT_SLOT: u32 = 0;
+
+const SERVER_SLOT: u32 = 256;
+
+// A request's whole: two bytes, "hi".
+const DATA: [u8; 38] = [
+    1, 1, 0, 7, 0, 0, 0, 1, 0, 0, 0, 1, 0, 0, 0, 0, 0, 0, 0, 2, 0, 0, 0, 0, 0, 0, 0, 0, 0, 0, 0, 0,
+    0, 0, 0, 0, 104, 105,
+];
+
+fn key(first: u64, second: u64) -> Key
+    ensures { result ≡ record { first = first; second = second } }
+{
+    Key { first, second }
+}
+
+// The call's only host has asked the server in vain.
+#[test]
+fn the_heaps_of_a_call_that_is_lost(rt: HostRuntime) -> Result<(), Fail> {
+    let request = Vec::from_slice(rt.alloc(), b"hi")?;
+    let mut client = DrivenHost::open(rt.alloc(), CLIENT, 1, 0, &Settings::usual())?;
+    is_lost(&rt, &mut client, request);
+    Ok(())
+}
+
+// A call of two bytes, of which nothing comes back.
+fn is_lost(rt: &impl Abort, client: &mut DrivenHost, request: Vec<u8>) {
+    assert!(rt; client.call(SERVER, 0, request, 0).is_some());
+
+    // It asks for the response when 4 ticks have gone. All of the request is sent, and nothing comes yet.
+    assert_eq!(rt;
+        first(client.host().timers().heap()),
+        Some((CLIENT_SLOT, key(4, 0)))
+    );
+    assert_eq!(rt; client.host().timers().heap().len(), 1);
+    assert_eq!(rt; client.host().grants().peers().len(), 0);
+    assert_eq!(rt; client.host().pacer().heap().len(), 0);
+    assert_eq!(rt; client.host().pacer().credit(), 13_998);
+
+    // It has asked, and asks again 4 ticks later.
+    assert!(rt; client.turn(4).is_some());
+    assert_eq!(rt;
+        first(client.host().timers().heap()),
+        Some((CLIENT_SLOT, key(8, 0)))
+    );
+
+    // It has asked five times, and gives up.
+    for now in 5..25 {
+        assert!(rt; client.turn(now).is_some());
+    }
+    assert_eq!(rt; client.host().live(), 0);
+    assert_eq!(rt; client.host().timers().heap().len(), 0);
+}
+
+#[test]
+fn a_piece_without_its_last_byte(rt: HostRuntime) -> Result<(), Fail> {
+    let mut server = DrivenHost::open(rt.alloc(), SERVER, 1, 0, &Settings::usual())?;
+    is_whole_later(&rt, rt.alloc(), &mut server);
+    Ok(())
+}
+
+// One byte of two comes, 68, and then both.
+fn is_whole_later(rt: &impl Abort, alloc: Global, server: &mut DrivenHost) {
+    assert!(rt; server.deliver(alloc, CLIENT, &DATA[..37], 0).is_some());
+    assert_eq!(rt; server.host().entries(), 0);
+    let entered = first(server.host().grants().peers());
+    assert_eq!(rt; entered, Some((u32::from(CLIENT.0), key(1, 0))));
+    assert_eq!(rt;
+        first(server.host().timers().heap()),
+        Some((SERVER_SLOT, key(4, 0)))
+    );
+
+    assert!(rt; server.deliver(alloc, CLIENT, &DATA, 0).is_some());
+    assert_eq!(rt; server.host().entries(), 2);
+    if server.host().entries() > 0 {
+        assert_eq!(rt; server.entry(0), answered(b"hi"));
+    }
+    assert_eq!(rt; server.host().grants().peers().len(), 0);
+}
+
+// A service answers "hi" by these bytes.
+fn answered(response: &[u8]) -> Entry<'_> {
+    Entry::Run {
+        host: SERVER,
+        id: CallId {
+            client: CLIENT,
+            inc: 1,
+            seq: 0,
+        },
+        service: 0,
+        request: b"hi",
+        response,
+        hold: 0,
+    }
+}
+
+// The first of two bytes of another call's request.
+const OTHER: [u8; 37] = [
+    1, 1, 0, 7, 0, 0, 0, 1, 0, 0, 0, 1, 0, 0, 0, 1, 0, 0, 0, 2, 0, 0, 0, 0, 0, 0, 0, 0, 0, 0, 0, 0,
+    0, 0, 0, 0, 104,
+];
+
+// A RESEND of the first byte of the response to `DATA`, and its answer where there is no row of that call: an UNKNOWN.
+const RESEND: [u8; 25] = [
+    1, 3, 0, 7, 0, 0, 0, 1, 0, 0, 0, 1, 0, 0, 0, 0, 0, 0, 0, 0, 0, 0, 0, 1, 3,
+];
+
+const UNKNOWN: [u8; 17] = [1, 6, 1, 7, 0, 0, 0, 1, 0, 0, 0, 1, 0, 0, 0, 0, 0];
+
+// The response to `DATA`: the byte 7.
+const RESPONSE: [u8; 37] = [
+    1, 1, 1, 7, 0, 0, 0, 1, 0, 0, 0, 1, 0, 0, 0, 0, 0, 0, 0, 1, 0, 0, 0, 0, 0, 0, 0, 0, 0, 0, 0, 0,
+    0, 0, 0, 0, 7,
+];
+
+/// A service that finds no memory at its first call, and answers one byte afterwards.
+#[derive(Drop)]
+struct Fickle {
+    is_ready: bool,
+    served: u64,
+}
+
+impl Service for Fickle {
+    ghost use Rattle.std.specs.Prelude.{◌≡◌, [], ◌∷◌};
+
+    ghost served = { λ fickle. fickle.served };
+
+    ghost allows = { λ fickle count number q r hold. (r ≡ 7 ∷ []) × (hold ≡ 0) };
+
+    fn serve(&mut self, alloc: Global, _number: u8, _request: &[u8]) -> Result<Reply, AllocError> {
+        if !self.is_ready {
+            self.is_ready = true;
+            return Err(AllocError);
+        }
+        let bytes = vec![in alloc; 7]?;
+        self.served += 1;
+        Ok(Reply::new(bytes, 0))
+    }
+}
+
+// A host with such a service.
+#[derive(Drop)]
+struct Lent {
+    host: Host,
+    service: Fickle,
+    out: Outbox,
+    scratch: Scratch,
+}
+
+fn opened(alloc: Global) -> Result<Lent, AllocError>
+    ensures kept { IfOk result (λ it. IsKept it.host it.service.served it.out it.host.host.id 2 0) }
+    ensures id { IfOk result (λ it. it.host.host.id.0 ≡ 1) }
+{
+    Ok(Lent {
+        host: Host::open(alloc, SERVER, 1, &Settings::usual())?,
+        service: Fickle {
+            is_ready: false,
+            served: 0,
+        },
+        out: Outbox::new(alloc)?,
+        scratch: Scratch::new(alloc)?,
+    })
+}
+
+// A datagram comes from the client at tick 0, after so many steps. Tells whether there was memory.
+fn comes(rt: &impl Abort, alloc: Global, it: &mut Lent, steps: u64, frame: &[u8]) -> bool
+    requires few { steps < 2 ^ 32 }
+    requires kept { IsKept it.old.host it.old.service.served it.old.out it.old.host.host.id 2 steps }
+    requires id { it.old.host.host.id.0 ≡ 1 }
+    ensures kept { IsKept it.new.host it.new.service.served it.new.out it.new.host.host.id 2 (steps + 1) }
+    ensures id { it.new.host.host.id.0 ≡ 1 }
+{
+    assert_eq!(rt; it.host.last(), 0);
+    it.host
+        .deliver(
+            alloc,
+            CLIENT,
+            frame,
+            0,
+            &mut it.service,
+            &mut it.out,
+            &mut it.scratch,
+        )
+        .is_ok()
+}
+
+#[test]
+fn want_of_memory_is_no_delivery(rt: HostRuntime) -> Result<(), Fail> {
+    let mut it = opened(rt.alloc())?;
+    is_served_later(&rt, rt.alloc(), &mut it);
+    Ok(())
+}
+
+// Beside the other call's row a request comes twice, of which the service finds no memory first.
+fn is_served_later(rt: &impl Abort, alloc: Global, it: &mut Lent)
+    requires kept { IsKept it.old.host it.old.service.served it.old.out it.old.host.host.id 2 0 }
+    requires id { it.old.host.host.id.0 ≡ 1 }
+{
+    assert!(rt; comes(rt, alloc, it, 0, &OTHER));
+    has_the_other(rt, &it.host);
+
+    // Nothing happens: no entry, no packet, no row but the one that there was.
+    assert!(rt; !comes(rt, alloc, it, 1, &DATA));
+    assert_eq!(rt; it.host.entries(), 0);
+    assert!(rt; it.out.is_empty());
+    assert_eq!(rt; it.service.served, 0);
+    has_the_other(rt, &it.host);
+    assert!(rt; comes(rt, alloc, it, 2, &RESEND));
+    has_sent(rt, &it.out, &UNKNOWN);
+
+    // The same packet again: the service answers, and its response is sent.
+    assert!(rt; comes(rt, alloc, it, 3, &DATA));
+    assert_eq!(rt; it.service.served, 1);
+    has_sent(rt, &it.out, &RESPONSE);
+    assert_eq!(rt; it.host.entries(), 2);
+    if it.host.entries() > 0 {
+        assert_eq!(rt; it.host.entry(0, &it.out, &it.scratch), answered(&[7]));
+    }
+}
+
+// A host whose only row is that of a request of which one byte is missing.
+fn has_the_other(rt: &impl Abort, host: &Host) {
+    assert_eq!(rt; first(host.timers().heap()), Some((SERVER_SLOT, key(4, 0))));
+    assert_eq!(rt; host.timers().heap().len(), 1);
+    assert_eq!(rt; first(host.grants().peers()), Some((0, key(1, 0))));
+    assert_eq!(rt; host.grants().peers().len(), 1);
+    assert_eq!(rt; host.pacer().heap().len(), 0);
+    assert_eq!(rt; host.live(), 0);
+}
+
+// One frame, of these bytes.
+fn has_sent(rt: &impl Abort, out: &Outbox, frame: &[u8]) {
+    assert_eq!(rt; out.len(), 1);
+    if !out.is_empty() {
+        assert_eq!(rt; out.bytes(0), frame);
+    }
+}

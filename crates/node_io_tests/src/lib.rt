@@ -1,0 +1,5 @@
+//! Tests of nets, clocks and observers.
+#![tactic(auto)]
+
+#[cfg(test)]
+mod outside;

@@ -1,4 +1,0 @@
-use Rattle.place_heap.proofs.tests.lists_by_key_and_slot.Given as goal
-
-abbrev pub ghosts-changed : goal.ghosts-changed
-ghosts-changed g a = record { name = a.blank.name; parts = a.blank.parts }

@@ -1,0 +1,5 @@
+//! Tests of schedules, read and printed.
+#![tactic(auto)]
+
+#[cfg(test)]
+mod schedules;

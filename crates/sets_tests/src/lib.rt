@@ -1,0 +1,9 @@
+//! Tests of the heap, of sets of ranges and of pooled pages.
+#![tactic(auto)]
+
+#[cfg(test)]
+mod heap;
+#[cfg(test)]
+mod pool;
+#[cfg(test)]
+mod ranges;

@@ -1,7 +1,0 @@
-use Rattle.std.proofs.Common.{◌≡◌, length}
-use Rattle.world_packets.specs.All.{kept_all}
-use Rattle.world_packets.proofs.tests.late_by_its_number.Given as goal
-
--- one packet was sent in each tick
-abbrev pub invariant-loop-number : goal.invariant-loop-number
-invariant-loop-number g l = length (kept_all l.packets) ≡ l.number
