@@ -17,7 +17,8 @@ use Rattle.homa_plain.specs.Rules.{Answer}
 use Rattle.homa_plain.specs.Steps.{Work, has_run, call_step, arrival_step, turn_step, start_fault}
 use Rattle.homa_plain.specs.World.{World, SentPacket, Outcome, Done, Refused, outcome, host_at, own_clock, is_late, last_tick, next_answer, answers_left, stepped, started, calls_from, arrives_at, delivered, turns, restarts, injected, shifted}
 use Rattle.step_laws.proofs.OneAnswer as one
-use Rattle.event_laws.specs.Stepping.{answering, stepped_world, step_told, IsStep, IsStepWith, IsChange, IsRefusal, ticked_world, restarted_world, shifted_world}
+use Rattle.homa_plain.specs.Answers.{answering}
+use Rattle.event_laws.specs.Stepping.{stepped_world, step_told, IsStep, IsStepWith, IsChange, IsRefusal, ticked_world, restarted_world, shifted_world}
 
 -- the step of a host in a world whose services will answer so, where that leaves these
 step_of : (w : World) (id : HostId) (first : List PlainEntry) (step : Work) (given later : List Answer) → answers_left step.told given ≡ later

@@ -9,10 +9,7 @@ use Rattle.homa_plain.specs.Host.{Host, new_host, packets_in, entries_from}
 use Rattle.homa_plain.specs.Rules.{Answer}
 use Rattle.homa_plain.specs.Steps.{Work, has_run}
 use Rattle.homa_plain.specs.World.{World, Done, Refused, outcome, stamped}
-
--- the world whose services will answer so
-abbrev pub answering : List Answer → World → World
-answering answers w = record w { answers = answers }
+use Rattle.homa_plain.specs.Answers.{answering}
 
 -- the world after a step of a host
 abbrev pub stepped_world : World → HostId → Work → World

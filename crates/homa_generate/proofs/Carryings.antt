@@ -8,7 +8,7 @@ use Rattle.homa_plain.specs.Entries.{PlainEntry}
 use Rattle.homa_plain.specs.Rules.{Answer}
 use Rattle.homa_plain.specs.World.{World, Outcome, Refused, Done, outcome}
 use Rattle.homa_plain.specs.Replay.{Happening, Run, after_event, carried}
-use Rattle.homa_replay.specs.Stream.{shown, answering}
+use Rattle.homa_plain.specs.Answers.{shown, answering}
 use Rattle.homa_replay.specs.Playing.{IsApplied, IsNotApplied, is_memory}
 use Rattle.homa_replay.proofs.Streams.{shown_parts}
 use Rattle.homa_generate.specs.Counts.{counted}

@@ -10,7 +10,7 @@ use Rattle.homa_plain.specs.Rules.{Answer}
 use Rattle.homa_plain.specs.Script.{Given}
 use Rattle.homa_plain.specs.World.{World, SentPacket}
 use Rattle.homa_plain.specs.Replay.{carried, events_of}
-use Rattle.homa_replay.specs.Stream.{shown, answering}
+use Rattle.homa_plain.specs.Answers.{shown, answering}
 use Rattle.homa_replay.proofs.Streams.{shown_parts}
 use Rattle.homa_replay.proofs.Fronts.{nothing_appended, wrote_more, front_after, front_wide, front_same}
 use Rattle.generated_runs.specs.Rounds.{Generated, all_sent, with_line}

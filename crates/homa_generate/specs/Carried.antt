@@ -5,7 +5,7 @@ use Rattle.homa_plain.specs.Entries.{PlainEntry}
 use Rattle.homa_plain.specs.Rules.{Answer}
 use Rattle.homa_plain.specs.World.{World}
 use Rattle.homa_plain.specs.Replay.{Happening, carried}
-use Rattle.homa_replay.specs.Stream.{shown, answering}
+use Rattle.homa_plain.specs.Answers.{shown, answering}
 use Rattle.homa_generate.specs.Counts.{counted}
 
 -- This was told and counted of them, with the answers that it shows; it is known whether none was refused.

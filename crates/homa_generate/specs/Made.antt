@@ -3,7 +3,7 @@ use Rattle.std.specs.Prelude.{◌≡◌, ℕ, Option, List, ◌++◌, ◌∷◌}
 use Rattle.homa_io.specs.Outside.{appended, TookFront}
 use Rattle.homa_plain.specs.Entries.{PlainEntry, PlainSettings}
 use Rattle.homa_plain.specs.Rules.{Answer}
-use Rattle.homa_replay.specs.Stream.{shown}
+use Rattle.homa_plain.specs.Answers.{shown}
 use Rattle.generated_runs.specs.Rounds.{Generated}
 use Rattle.generated_runs.specs.Generated.{generated, generated_settings, schedule_text}
 use Rattle.homa_generate.specs.Counts.{counted, no_counts}

@@ -22,6 +22,7 @@ pub mod Timers
 pub mod Sending
 pub mod Steps
 pub mod World
+pub mod Answers
 pub mod Replay
 pub mod Quiet
 pub mod Lines

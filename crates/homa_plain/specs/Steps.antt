@@ -351,6 +351,18 @@ has_run [] = false
 has_run (Says (PlainRun host id service request response hold) ∷ told) = true
 has_run (t ∷ told) = has_run told
 
+-- what a service is asked: for which call, by which number, and with which request
+pub record Asked : Type 0 where
+  pub id : CallId
+  pub service : ℕ
+  pub request : List ℕ
+
+-- what the service of a step is asked, if it is: what its first `run` line says
+abbrev pub asked_in : List Told → Option Asked
+asked_in [] = None
+asked_in (Says (PlainRun host id service request response hold) ∷ told) = Some (record { id = id; service = service; request = request })
+asked_in (t ∷ told) = asked_in told
+
 -- the step of an arrival, where the service answers, or finds no memory; then nothing of the step happens
 abbrev pub arrival_or_none : Settings → Host → ℕ → Option Packet → Option Answer → Option Work
 arrival_or_none s h now packet (Some answer) = Some (arrival_step s h now packet answer)

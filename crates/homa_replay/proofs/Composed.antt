@@ -14,7 +14,8 @@ use Rattle.homa_plain.specs.Replay.{Replay, replay, replay_opened, replayed, wit
 use Rattle.homa_script.specs.Place.{Place, steps_left}
 use Rattle.homa_script.specs.Read.{IsRead}
 use Rattle.homa_script.proofs.ReadParts.{none_left}
-use Rattle.homa_replay.specs.Stream.{shown, is_refusal}
+use Rattle.homa_plain.specs.Answers.{shown}
+use Rattle.homa_replay.specs.Stream.{is_refusal}
 use Rattle.homa_replay.specs.Opens.{IsFirst}
 use Rattle.homa_replay.specs.Lines.{text_of}
 use Rattle.homa_replay.specs.Far.{Whole, replay_of, left_at, ArePrinted, AreParts}

@@ -10,7 +10,8 @@ use Rattle.homa_plain.specs.Rules.{Answer}
 use Rattle.homa_plain.specs.Replay.{Replay, End, with_told, last_entry}
 use Rattle.homa_script.specs.Read.{IsRead, IsCut}
 use Rattle.homa_script.proofs.ReadParts.{none_left, read_start, read_on, read_map, read_whole}
-use Rattle.homa_replay.specs.Stream.{shown, ending, is_refusal}
+use Rattle.homa_plain.specs.Answers.{shown}
+use Rattle.homa_replay.specs.Stream.{ending, is_refusal}
 use Rattle.homa_replay.specs.Lines.{text_of}
 use Rattle.homa_replay.specs.Far.{Whole, IsFar, IsPrinted, IsStopped, AreFar, ArePrinted, AreParts}
 use Rattle.homa_replay.proofs.Fronts.{nothing_appended, wrote_more, front_after, front_same}

@@ -22,7 +22,8 @@ use Rattle.homa_script.specs.Place.{Place, IsCounted, steps_left, step_first, no
 use Rattle.homa_script.specs.Read.{IsRead, IsCut}
 use Rattle.homa_script.specs.Script.{IsNext, IsInRange, IsOn}
 use Rattle.homa_script.specs.Script.{is_end as script_end}
-use Rattle.homa_replay.specs.Stream.{shown, answering, goes_on, ending, refused_line}
+use Rattle.homa_plain.specs.Answers.{shown, answering}
+use Rattle.homa_replay.specs.Stream.{goes_on, ending, refused_line}
 use Rattle.homa_replay.specs.Lines.{text_of, ArePlayed, AreRefused, AreCut}
 use Rattle.homa_replay.specs.Came.{given_of, line_events, is_end}
 use Rattle.homa_replay.specs.Far.{Whole, left_at, AreFar, AreParts}

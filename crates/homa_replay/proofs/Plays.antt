@@ -12,7 +12,8 @@ use Rattle.homa_plain.specs.Script.{Steps}
 use Rattle.homa_plain.specs.Rules.{Answer}
 use Rattle.homa_plain.specs.World.{World}
 use Rattle.homa_plain.specs.Replay.{Happening, Replay, with_told, last_entry}
-use Rattle.homa_replay.specs.Stream.{shown, answering, goes_on, refused_line, IsRefused}
+use Rattle.homa_plain.specs.Answers.{shown, answering}
+use Rattle.homa_replay.specs.Stream.{goes_on, refused_line, IsRefused}
 use Rattle.homa_replay.specs.Playing.{IsApplied}
 use Rattle.homa_replay.specs.Lines.{text_of, ArePlayed, AreRefused, AreCut}
 use Rattle.homa_replay.proofs.Fronts.{nothing_appended, wrote_more, front_after, front_wide, front_none, front_same}

@@ -9,7 +9,8 @@ use Rattle.homa_plain.specs.Script.{Step, Steps}
 use Rattle.homa_plain.specs.Rules.{Answer}
 use Rattle.homa_plain.specs.World.{World, Outcome, Refused, Done, outcome}
 use Rattle.homa_plain.specs.Replay.{Happening, Run, Replay, RefusedAt, after_event, carried, events_of, replayed, with_told}
-use Rattle.homa_replay.specs.Stream.{shown, answering, ends_by, goes_on, refused_line, IsDone, IsRefused}
+use Rattle.homa_plain.specs.Answers.{shown, answering}
+use Rattle.homa_replay.specs.Stream.{ends_by, goes_on, refused_line, IsDone, IsRefused}
 
 -- ---- lines
 

@@ -10,7 +10,8 @@ use Rattle.homa_plain.specs.World.{World}
 use Rattle.homa_plain.specs.Replay.{Replay, replay, replayed, with_told}
 use Rattle.homa_script.specs.Place.{Place, steps_left}
 use Rattle.homa_script.specs.Read.{IsRead}
-use Rattle.homa_replay.specs.Stream.{shown, answering, is_refusal}
+use Rattle.homa_plain.specs.Answers.{shown, answering}
+use Rattle.homa_replay.specs.Stream.{is_refusal}
 use Rattle.homa_replay.specs.Lines.{text_of}
 
 -- the replay of the bytes that come, with these answers

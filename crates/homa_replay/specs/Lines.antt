@@ -11,7 +11,8 @@ use Rattle.homa_plain.specs.Rules.{Answer}
 use Rattle.homa_plain.specs.World.{World}
 use Rattle.homa_plain.specs.declared.event.Event.TheVariants as event
 use Rattle.homa_plain.specs.Replay.{Happening, Replay, bare, turns_of, with_told, lines}
-use Rattle.homa_replay.specs.Stream.{shown, answering, goes_on, refused_line}
+use Rattle.homa_plain.specs.Answers.{shown, answering}
+use Rattle.homa_replay.specs.Stream.{goes_on, refused_line}
 
 -- what a replay prints
 abbrev pub text_of : Replay → List ℕ

@@ -5,7 +5,7 @@ use Rattle.homa_plain.specs.Rules.{Answer}
 use Rattle.homa_plain.specs.World.{World, new_world}
 use Rattle.homa_replay.specs.declared.stop.Stop.{Stop}
 use Rattle.homa_replay.specs.declared.stop.Stop.TheVariants.{Read, Write, NoMemory}
-use Rattle.homa_replay.specs.Stream.{answering}
+use Rattle.homa_plain.specs.Answers.{answering}
 
 -- a world in which nothing has happened, with so many boxes, whatever its services will answer
 abbrev pub IsFirst : Settings → ℕ → World → Type 0

@@ -8,7 +8,8 @@ use Rattle.homa_plain.specs.declared.fault.WorldFault.TheVariants as fault
 use Rattle.homa_plain.specs.Entries.{PlainEntry}
 use Rattle.homa_plain.specs.World.{World}
 use Rattle.homa_plain.specs.Replay.{Happening}
-use Rattle.homa_replay.specs.Stream.{shown, IsDone, IsRefused}
+use Rattle.homa_plain.specs.Answers.{shown}
+use Rattle.homa_replay.specs.Stream.{IsDone, IsRefused}
 
 -- An event was applied, and this is told of it: it is the plain world's outcome with the answers that its `run` line shows, which
 -- the boxes allow. `stands` says which plain worlds the code's world may be afterwards; `before` and `after` say which entries the

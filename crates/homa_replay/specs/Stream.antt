@@ -8,17 +8,8 @@ use Rattle.homa_plain.specs.Entries.{PlainEntry, PlainRun}
 use Rattle.homa_plain.specs.Script.{Steps}
 use Rattle.homa_plain.specs.Rules.{Answer}
 use Rattle.homa_plain.specs.World.{World, Refused, Done, outcome}
+use Rattle.homa_plain.specs.Answers.{answering}
 use Rattle.homa_plain.specs.Replay.{Happening, Run, Replay, End, Finished, RefusedAt, carried, replayed, with_told}
-
--- the answers that the `run` lines show
-abbrev pub shown : List PlainEntry → List Answer
-shown [] = []
-shown (PlainRun host id service request response hold ∷ told) = record { bytes = response; hold = hold } ∷ shown told
-shown (entry ∷ told) = shown told
-
--- the world whose services will answer so
-abbrev pub answering : List Answer → World → World
-answering answers w = record w { answers = answers }
 
 -- the rest of a replay where a line's events ran so: it ends there at a fault, and else goes on with these steps
 abbrev pub ends_by : Settings → ℕ → ℕ → Steps → Run → Option LineFault → Replay

@@ -5,7 +5,7 @@ ghost use Rattle.homa_io.specs.Held.{sink_below, held_bytes};
 ghost use Rattle.homa_plain.specs.Entries.{PlainEntry, PlainSettings};
 ghost use Rattle.homa_plain.specs.Settings.{IsValid};
 ghost use Rattle.homa_plain.specs.World.{World};
-ghost use Rattle.homa_replay.specs.Stream.{shown};
+ghost use Rattle.homa_plain.specs.Answers.{shown};
 ghost use Rattle.homa_replay.specs.Opens.{IsOpened, may_write};
 ghost use Rattle.homa_replay.specs.Far.{replay_of, ArePrinted, AreParts};
 

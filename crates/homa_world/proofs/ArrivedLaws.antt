@@ -36,7 +36,8 @@ use Rattle.event_laws.proofs.Apart.{arrival_apart}
 use Rattle.event_laws.proofs.Events as events
 use Rattle.event_laws.specs.Named.{IsOwnStep}
 use Rattle.event_laws.specs.Apart.{IsApartStep}
-use Rattle.event_laws.specs.Stepping.{answering, IsStepWith, IsRefusal}
+use Rattle.homa_plain.specs.Answers.{answering}
+use Rattle.event_laws.specs.Stepping.{IsStepWith, IsRefusal}
 use Rattle.host_table.specs.declared.stage.Stage.{Stage}
 use Rattle.host_table.specs.Staged.{Known, known, hosts_of, seats_of, spares_of, HasCome, HasNotCome}
 use Rattle.host_table.proofs.StageLaws.{map_at}

@@ -6,7 +6,7 @@ use Rattle.homa_plain.specs.declared.event.Event.TheVariants as event
 use Rattle.homa_plain.specs.declared.fault.WorldFault.{WorldFault}
 use Rattle.homa_plain.specs.Entries.{PlainEntry}
 use Rattle.homa_plain.specs.World.{World as PlainWorld, outcome}
-use Rattle.homa_replay.specs.Stream.{shown, answering}
+use Rattle.homa_plain.specs.Answers.{shown, answering}
 use Rattle.homa_replay.specs.Playing.{IsApplied, IsNotApplied}
 use Rattle.homa_world.specs.declared.parts.WorldParts.{WorldParts}
 use Rattle.homa_world.specs.Boxes.{Allows}

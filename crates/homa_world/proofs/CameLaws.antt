@@ -17,14 +17,14 @@ use Rattle.host_view.specs.Marks.{has_ran, shown_entries}
 use Rattle.homa_service.specs.Table.{place_of}
 use Rattle.world_packets.specs.declared.packets.Packets.{Packets}
 use Rattle.world_packets.specs.All.{kept_all, settings_of}
-use Rattle.homa_replay.specs.Stream.{shown}
+use Rattle.homa_plain.specs.Answers.{shown, answering}
 use Rattle.homa_replay.specs.Playing.{IsApplied}
 use Rattle.step_laws.specs.StepLaws.{run_count}
 use Rattle.step_laws.proofs.OneAnswer as one
 use Rattle.trace_induction.proofs.Hosts.{length-set}
 use Rattle.event_laws.specs.Named.{IsOwnStep}
 use Rattle.event_laws.specs.Apart.{IsApartStep}
-use Rattle.event_laws.specs.Stepping.{answering, stepped_world, step_told, IsStepWith}
+use Rattle.event_laws.specs.Stepping.{stepped_world, step_told, IsStepWith}
 use Rattle.host_table.specs.declared.stage.Stage.{Stage}
 use Rattle.homa_world.specs.declared.parts.First.{First}
 use Rattle.homa_world.specs.declared.parts.First.TheVariants as first

@@ -9,10 +9,10 @@ use Rattle.homa_plain.specs.World.{World as PlainWorld, Outcome, Done, outcome}
 use Rattle.host_view.specs.Seen.{Seen}
 use Rattle.world_packets.specs.declared.packets.Packets.{Packets}
 use Rattle.world_packets.specs.All.{kept_all, settings_of}
-use Rattle.homa_replay.specs.Stream.{shown}
+use Rattle.homa_plain.specs.Answers.{shown, answering}
 use Rattle.homa_replay.specs.Playing.{IsApplied}
 use Rattle.event_laws.specs.Named.{IsOwnStep}
-use Rattle.event_laws.specs.Stepping.{answering, stepped_world, step_told, IsStepBy}
+use Rattle.event_laws.specs.Stepping.{stepped_world, step_told, IsStepBy}
 use Rattle.host_table.specs.declared.stage.Stage.{Stage}
 use Rattle.homa_world.specs.declared.parts.First.TheVariants as first
 use Rattle.homa_world.specs.declared.parts.Last.TheVariants as last

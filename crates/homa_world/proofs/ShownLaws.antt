@@ -10,7 +10,7 @@ use Rattle.homa_plain.specs.Host.{Told, Says, Sends, entries_from}
 use Rattle.homa_plain.specs.Rules.{Answer}
 use Rattle.homa_plain.specs.Steps.{has_run}
 use Rattle.step_laws.specs.StepLaws.{run_count}
-use Rattle.homa_replay.specs.Stream.{shown}
+use Rattle.homa_plain.specs.Answers.{shown}
 
 -- where no service was asked, no answer is shown
 pub none_shown : (n : ℕ) (told : List Told) → has_run told ≡ false → shown (entries_from n told) ≡ []

@@ -5,7 +5,7 @@ use Rattle.homa_plain.specs.declared.settings.Settings.{Settings}
 use Rattle.homa_plain.specs.Entries.{PlainEntry, PlainSettings}
 use Rattle.homa_plain.specs.Rules.{Answer}
 use Rattle.homa_plain.specs.World.{World as PlainWorld, new_world}
-use Rattle.homa_replay.specs.Stream.{answering, shown}
+use Rattle.homa_plain.specs.Answers.{answering, shown}
 use Rattle.homa_world.specs.Boxes.{Allows, counted, all_counted, may_tell}
 
 -- one of these plain worlds is one in which nothing has happened, with so many boxes, whatever its services will answer

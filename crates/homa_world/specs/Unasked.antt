@@ -2,7 +2,7 @@
 use Rattle.std.specs.Prelude.{◌≡◌, ℕ, Option, Some, List, [], ◌∷◌, map, take, drop, slice_set}
 use Rattle.homa_plain.specs.Entries.{PlainEntry, PlainSettings, PlainRun, PlainRestart}
 use Rattle.homa_service.specs.Table.{last_of, front_of}
-use Rattle.homa_replay.specs.Stream.{shown}
+use Rattle.homa_plain.specs.Answers.{shown}
 use Rattle.homa_world.specs.Boxes.{Allows, counted, all_counted, may_tell}
 use Rattle.homa_world.specs.First.{AreAllowed}
 

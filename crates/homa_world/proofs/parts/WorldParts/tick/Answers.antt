@@ -4,7 +4,7 @@ use Rattle.homa_plain.specs.declared.event.Event.TheVariants as event
 use Rattle.homa_plain.specs.Entries.{PlainClock}
 use Rattle.homa_plain.specs.World.{Done}
 use Rattle.event_laws.proofs.Events as events
-use Rattle.event_laws.specs.Stepping.{answering}
+use Rattle.homa_plain.specs.Answers.{answering}
 use Rattle.homa_world.proofs.KeptLaws.{tick_kept, tick_stands, refused_by}
 use Rattle.homa_world.proofs.parts.WorldParts.tick.Goals as goal
 
