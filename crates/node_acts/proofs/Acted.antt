@@ -1,5 +1,5 @@
 -- Parts of a course one after the other.
-use Rattle.std.proofs.Common.{◌≡◌, ℕ, suc, Option, None, Some, List, [], ◌∷◌, ◌++◌, refl, sym, ap, ◌∙◌, subst, append_assoc}
+use Rattle.std.proofs.Common.{◌≡◌, ℕ, suc, Option, None, Some, List, [], ◌∷◌, ◌++◌, sym, ap, ◌∙◌, subst, append_assoc}
 use Rattle.std.specs.Prelude.{map}
 use Rattle.std.proofs.lemmas.List.{append-nil}
 use Rattle.homa_plain.specs.declared.settings.Settings.{Settings}
@@ -7,11 +7,10 @@ use Rattle.homa_plain.specs.declared.id.HostId.{HostId}
 use Rattle.homa_plain.specs.declared.event.Event.TheVariants as event
 use Rattle.homa_plain.specs.Entries.{PlainEntry, PlainRecv}
 use Rattle.homa_plain.specs.Rules.{Answer}
-use Rattle.homa_plain.specs.World.{World, Outcome, Done, outcome}
+use Rattle.homa_plain.specs.World.{World, outcome}
 use Rattle.homa_plain.specs.Answers.{shown, answering}
 use Rattle.host_view.specs.declared.outbox.SentFrame.{SentFrame}
-use Rattle.node_runs.specs.Script.{Calls}
-use Rattle.node_runs.specs.Course.{Report, Tells, Turning, Datagram, Arrival, Node, Course, GoesOn, ◌>>=◌, datagrams, follows, goes, has_turn, hears}
+use Rattle.node_runs.specs.Course.{Report, Tells, Turning, Datagram, Arrival, Node, Course, GoesOn, ◌>>=◌, datagrams, follows, has_turn, hears}
 use Rattle.node_runs.specs.Course.{arrival_outcome}
 use Rattle.node_runs.specs.Texts.{entries}
 use Rattle.node_acts.specs.Told.{listed}

@@ -1,5 +1,5 @@
 -- Frames that are sent one after another.
-use Rattle.std.proofs.Common.{◌≡◌, ◌<◌, ◌+◌, ℕ, zero, suc, arith, Option, None, Some, List, [], ◌∷◌, ◌++◌, length, take, refl, sym, ap, ◌∙◌, subst}
+use Rattle.std.proofs.Common.{◌≡◌, ◌<◌, ◌+◌, ℕ, zero, suc, arith, Option, None, Some, List, [], ◌∷◌, length, take, refl, sym, ap, ◌∙◌, subst}
 use Rattle.std.specs.Prelude.{map, slice_get, IfSome}
 use Rattle.homa_plain.specs.declared.id.HostId.{HostId}
 use Rattle.host_view.specs.declared.outbox.SentFrame.{SentFrame}

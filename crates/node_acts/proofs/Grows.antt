@@ -8,9 +8,9 @@ use Rattle.homa_plain.specs.Entries.{PlainEntry, PlainRecv}
 use Rattle.homa_plain.specs.Host.{Host, packets_in}
 use Rattle.homa_plain.specs.Packets.{Packet, sender, receiver, datagram}
 use Rattle.homa_plain.specs.Steps.{arrival_step, turn_step}
-use Rattle.homa_plain.specs.World.{World, SentPacket, host_at, own_clock, next_answer, stamped, arrives_at, turns, outcome}
+use Rattle.homa_plain.specs.World.{SentPacket, host_at, own_clock, next_answer, stamped, arrives_at, turns, outcome}
 use Rattle.homa_plain.specs.Wire.{packet_in}
-use Rattle.node_runs.specs.Course.{Report, Tells, Turning, Datagram, Arrival, Node, Course, GoesOn, Stops, ◌>>=◌, End, datagrams, follows, hears}
+use Rattle.node_runs.specs.Course.{Report, Turning, Datagram, Arrival, Node, Course, GoesOn, Stops, ◌>>=◌, datagrams, follows, hears}
 use Rattle.node_runs.specs.Course.{has_turn, hosts_act, most_received, arrival_outcome, packet_from}
 use Rattle.node_acts.specs.Acting.{node_of, Begins}
 

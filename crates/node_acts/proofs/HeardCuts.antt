@@ -1,5 +1,5 @@
 -- The hosts stopped while one of them received.
-use Rattle.std.proofs.Common.{◌≡◌, ℕ, suc, Option, None, Some, List, [], ◌∷◌, ◌++◌, refl, sym, ap, ◌∙◌, subst, append_assoc}
+use Rattle.std.proofs.Common.{◌≡◌, ℕ, suc, Option, Some, List, [], ◌∷◌, ◌++◌, refl, sym, ap, ◌∙◌, subst, append_assoc}
 use Rattle.std.specs.Prelude.{map}
 use Rattle.std.proofs.lemmas.List.{append-nil}
 use Rattle.homa_plain.specs.declared.settings.Settings.{Settings}
@@ -11,13 +11,12 @@ use Rattle.host_view.specs.declared.outbox.SentFrame.{SentFrame}
 use Rattle.node_io.specs.declared.net.Got.{Got}
 use Rattle.node_io.specs.declared.net.Got.TheVariants as got
 use Rattle.node_io.specs.Net.{arrival_of, added}
-use Rattle.node_runs.specs.Course.{Report, Tells, Datagram, Arrival, Node, datagrams, follows, hears, arrival_outcome}
-use Rattle.node_runs.specs.Texts.{entries}
+use Rattle.node_runs.specs.Course.{Report, Tells, Datagram, Arrival, datagrams, follows, hears, arrival_outcome}
 use Rattle.homa_plain.specs.Answers.{shown, answering}
 use Rattle.node_acts.specs.Told.{listed, ListedFront}
-use Rattle.node_acts.specs.Acting.{node_at, node_of, frame_datagram, IsStep, IsBegun, IsCut, Begins}
+use Rattle.node_acts.specs.Acting.{node_at, node_of, frame_datagram, IsStep, IsBegun, IsCut}
 use Rattle.node_acts.proofs.Lists.{added_is, listed_none, entries_tells}
-use Rattle.node_acts.proofs.Grows.{Grown, grown_on, hears_grows}
+use Rattle.node_acts.proofs.Grows.{hears_grows}
 
 module _ (s : Settings) (id : HostId) where
   -- a receive failed

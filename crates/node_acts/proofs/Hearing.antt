@@ -11,7 +11,7 @@ use Rattle.host_view.specs.declared.outbox.SentFrame.{SentFrame}
 use Rattle.node_io.specs.declared.net.Got.{Got}
 use Rattle.node_io.specs.declared.net.Got.TheVariants as got
 use Rattle.node_io.specs.Net.{arrival_of, added}
-use Rattle.node_runs.specs.Course.{Report, Tells, Datagram, Arrival, Node, Course, GoesOn, ◌>>=◌, datagrams, has_turn, hears, hosts_act, arrival_outcome}
+use Rattle.node_runs.specs.Course.{Report, Tells, Datagram, Arrival, GoesOn, ◌>>=◌, datagrams, has_turn, hears, hosts_act, arrival_outcome}
 use Rattle.node_runs.specs.Texts.{entries}
 use Rattle.homa_plain.specs.Answers.{shown, answering}
 use Rattle.node_acts.specs.Told.{listed}

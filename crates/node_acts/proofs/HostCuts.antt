@@ -1,5 +1,5 @@
 -- The hosts stopped while they acted one after the other.
-use Rattle.std.proofs.Common.{◌≡◌, ◌+◌, ℕ, Option, List, [], ◌∷◌, ◌++◌, drop, sym, ap, subst}
+use Rattle.std.proofs.Common.{◌≡◌, ◌+◌, ℕ, Option, List, ◌∷◌, ◌++◌, drop, sym, ap, subst}
 use Rattle.homa_plain.specs.declared.settings.Settings.{Settings}
 use Rattle.homa_plain.specs.declared.id.HostId.{HostId}
 use Rattle.homa_plain.specs.Entries.{PlainEntry}
@@ -7,7 +7,7 @@ use Rattle.homa_plain.specs.World.{World}
 use Rattle.node_runs.specs.Course.{Report, Datagram, Arrival, Node, Course, GoesOn, ◌>>=◌, datagrams, has_turn, hears, hosts_act}
 use Rattle.node_runs.specs.Texts.{entries}
 use Rattle.homa_plain.specs.Answers.{shown, answering}
-use Rattle.node_acts.specs.Acting.{Part, node_at, HasActed, IsCut, with_left, goes_on}
+use Rattle.node_acts.specs.Acting.{node_at, HasActed, IsCut, with_left, goes_on}
 use Rattle.node_acts.proofs.Grows.{grown_on, turn_grows, begins_then, hosts_grow}
 use Rattle.node_acts.proofs.Cuts.{cut_on}
 

@@ -1,5 +1,5 @@
 -- Lists that grow at their ends, and what the entries of reports show.
-use Rattle.std.proofs.Common.{◌≡◌, ◌≤◌, ◌+◌, ℕ, zero, suc, arith, Option, None, Some, List, [], ◌∷◌, ◌++◌, refl, sym, ap, ◌∙◌, subst, append_assoc}
+use Rattle.std.proofs.Common.{◌≡◌, ◌≤◌, ◌+◌, ℕ, zero, suc, arith, Option, None, Some, List, [], ◌∷◌, ◌++◌, refl, sym, ap, ◌∙◌, append_assoc}
 use Rattle.std.specs.Prelude.{map, take, drop, length, slice_get}
 use Rattle.std.proofs.lemmas.List.{append-nil}
 use Rattle.homa_plain.specs.Entries.{PlainEntry, PlainRun}

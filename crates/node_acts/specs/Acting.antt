@@ -1,6 +1,5 @@
 -- What the hosts of a node do, as parts of the plain course, whatever is answered, received and called later.
-use Rattle.std.specs.Prelude.{◌≡◌, ℕ, Option, None, Some, Result, Ok, Err, List, [], ◌∷◌, ◌++◌, map, if◌then◌else◌, ◌==◌, ◌||◌, nat_lt}
-use Rattle.homa_io.specs.Outside.{TookFront}
+use Rattle.std.specs.Prelude.{◌≡◌, ℕ, Option, Result, Err, List, [], ◌∷◌, ◌++◌, map, if◌then◌else◌, ◌==◌, ◌||◌, nat_lt}
 use Rattle.homa_plain.specs.declared.settings.Settings.{Settings}
 use Rattle.homa_plain.specs.Entries.{PlainEntry, PlainClock}
 use Rattle.homa_plain.specs.Rules.{Answer}

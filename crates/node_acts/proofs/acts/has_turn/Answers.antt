@@ -3,7 +3,7 @@ use Rattle.std.specs.Prelude.{map}
 use Rattle.node_runs.specs.Course.{Tells, Turning}
 use Rattle.node_acts.proofs.Tellings.{told_one, told_more}
 use Rattle.node_acts.proofs.Acted.{acted_turn}
-use Rattle.std.proofs.Common.{refl, ◌∙◌, sym, ap}
+use Rattle.std.proofs.Common.{refl}
 use Rattle.std.proofs.lemmas.Result.{MatchResult-from_err, err_from_is_err_and}
 use Rattle.node_acts.proofs.Tellings.{front_first, front_rest, front_more, strange_more, on_seen, on_seen_never}
 use Rattle.node_acts.proofs.Lists.{whole_listed}

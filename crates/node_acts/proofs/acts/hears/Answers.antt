@@ -1,4 +1,4 @@
-use Rattle.std.proofs.Common.{◌≡◌, ◌≤◌, ◌<◌, ◌+◌, ◌-◌, ℕ, zero, suc, refl, ◌∙◌, sym, ap, subst, ◌∷◌, [], arith}
+use Rattle.std.proofs.Common.{◌≡◌, ◌<◌, ◌+◌, ◌-◌, zero, suc, refl, ◌∙◌, sym, ap, subst, ◌∷◌, [], arith}
 use Rattle.std.specs.Prelude.{map}
 use Rattle.homa_plain.specs.Entries.{PlainRecv}
 use Rattle.node_runs.specs.Course.{Tells, hears}

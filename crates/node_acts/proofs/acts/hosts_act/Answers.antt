@@ -1,4 +1,4 @@
-use Rattle.std.proofs.Common.{◌≡◌, ◌≤◌, ◌<◌, ◌+◌, ◌-◌, ◌*◌, ℕ, zero, suc, refl, drop, get_or, ◌∙◌, sym, ap, subst, ◌∷◌, [], arith}
+use Rattle.std.proofs.Common.{◌+◌, refl, drop, get_or, ◌∙◌, ap, arith}
 use Rattle.node_runs.specs.Course.{hosts_act}
 use Rattle.node_acts.specs.Acting.{with_left}
 use Rattle.node_acts.proofs.Tellings.{told_none, told_more}

@@ -1,4 +1,4 @@
-use Rattle.std.proofs.Common.{◌<◌, length, arith, ◌∙◌, refl}
+use Rattle.std.proofs.Common.{◌<◌, length, arith, ◌∙◌}
 use Rattle.std.proofs.lemmas.Result.{MatchResult-from_err}
 use Rattle.node_acts.specs.Acting.{frame_datagram}
 use Rattle.node_acts.proofs.Lists.{front_sent}

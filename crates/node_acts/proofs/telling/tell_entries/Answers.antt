@@ -1,4 +1,4 @@
-use Rattle.std.proofs.Common.{refl, Err, ◌∙◌, subst, suc, take, drop, ◌∷◌, [], sym, ap}
+use Rattle.std.proofs.Common.{refl, Err, ◌∙◌, subst, suc, take, drop, ◌∷◌, [], sym}
 use Rattle.std.specs.Prelude.{map}
 use Rattle.std.proofs.lemmas.Result.{MatchResult-from_err, err_from_is_err_and}
 use Rattle.homa_plain.specs.Entries.{plain}
