@@ -26,7 +26,7 @@ use Rattle.node_runs.specs.Script.{Place, Local, Remote, Setup, TimedCall, Refus
 use Rattle.node_runs.specs.Course.{AreTicks, Report, Tells, Turning, Arrival, RefusedAt, Node, Course, GoesOn, Stops, ◌>>=◌, goes, follows, starts, packet_from, arrival_outcome, most_received, hears, has_turn, hosts_act, locals, clock_stands, ends, loop_turn, loop_turns, first_inc, new_node, run_of, run_opened, node_run}
 use Rattle.node_runs.specs.Recorder.{Notes, no_notes, clocks, kept}
 use Rattle.node_runs.specs.Texts.{entries}
-use Rattle.node_runs.specs.Replayed.{recorded_events, NoneStrange, of_hosts, IsHere, IsAnswer, RepeatsBy, RecordingsRepeat}
+use Rattle.node_runs.specs.Replayed.{recorded_events, NoneStrange, of_hosts, IsHere, IsAnswer, RepeatsBy, RecordingsRepeat, BeginsWith, SettingsFirst}
 use Rattle.node_laws.proofs.OfNode.{node_of}
 use Rattle.node_laws.proofs.Opening.{IsCallGiven, opening_is}
 use Rattle.node_laws.proofs.Good.{IsGoodHost}
@@ -181,7 +181,8 @@ module _ (s : Settings) (valid : IsValid s) (k : ℕ) (v : World) where
             (subst (λ (c : ℕ). IsRun s (respared k w) (clocks (now - w.clock)) (respared k (record w { clock = c })) (clock_lines s w.clock (now - w.clock))) there
             (run_clocks s (now - w.clock) (respared k w) (omega (arith, there, most))));
         told = clock_aside w.clock (now - w.clock);
-        notes = clock_notes s n w.clock now w.packets notes;
+        notes = clock_notes s n w.clock now w.packets onward notes;
+        only = (refl, tt);
       }
 
   clock_goes : (n old now : ℕ) (node : Node) → old ≤ now → now ≤ last_tick → Stands old node → Stands now (clock_stands n now node)
@@ -291,6 +292,7 @@ module _ (s : Settings) (incs : List ℕ) (boxes : ℕ) (answers : List Answer) 
         (sym (events_first no_notes (Tells (PlainSettings s)) [] ∙ events_none (kept no_notes (Tells (PlainSettings s))))) run_first;
     told = refl;
     notes = notes_first;
+    begins = record { later = []; first = refl; only = tt };
   }
 
   clock_first : (new_world s incs 0 0 answers).clock ≡ 0
@@ -318,6 +320,17 @@ run_repeats setup calls answers ticks receives boxes here given fair rises usual
     subst (λ (l : List ℕ). RepeatsBy (carried s (new_world s l 0 boxes answers) (recorded_events no_notes node.reports)) s (entries node.reports)) same
     (j.run.fault, ap (λ (l : List PlainEntry). of_hosts (PlainSettings s ∷ l)) j.run.told ∙ j.told)
 
+-- the settings are told first
+run_begins : (setup : Setup) (calls : Calls) (answers : List Answer) (ticks : List ℕ) (receives : List (Option Arrival)) → IsHereAll setup → AllByRecursion IsCallGiven calls.calls → AllByRecursion IsAnswer answers → AreTicks 0 ticks
+    → let node = node_of (loop_turns setup 1 ticks (new_node setup calls answers receives)) in
+    NoneStrange no_notes node.reports → BeginsWith setup.settings node.reports
+run_begins setup calls answers ticks receives here given fair rises usual =
+    let s = setup.settings in
+    let incs = map first_inc setup.places in
+    let start = new_node setup calls answers receives in
+    let first = first_repeats s incs 0 answers (all_one setup.places here.here) fair in
+    (turns_all s here.valid (0 - length incs) (new_world s incs 0 0 answers) setup refl 1 0 ticks start rises (clock_first s incs 0 answers, (λ u. first), given) usual).begins
+
 -- the reports of a run are those of its node
 reports_of : (s : Settings) (course : Course) → (run_of s course).reports ≡ (node_of course).reports
 reports_of s (GoesOn node) = refl
@@ -336,3 +349,10 @@ recordings_repeat bytes setup calls answers ticks receives boxes e here fair ris
     let opened = opening_is most_bytes bytes setup calls e in
     subst (λ (rs : List Report). RepeatsBy (carried s (new_world s (replicate s.hosts 1) 0 boxes answers) (recorded_events no_notes rs)) s (entries rs)) (sym is)
     (run_repeats setup calls answers ticks receives boxes (record { valid = opened.is.valid; each = opened.is.each; here = here }) opened.given fair rises (subst (NoneStrange no_notes) is usual))
+
+pub settings_first : SettingsFirst
+settings_first bytes setup calls answers ticks receives e here fair rises usual =
+    let is = run_is bytes setup calls answers ticks receives e in
+    let opened = opening_is most_bytes bytes setup calls e in
+    subst (BeginsWith setup.settings) (sym is)
+    (run_begins setup calls answers ticks receives (record { valid = opened.is.valid; each = opened.is.each; here = here }) opened.given fair rises (subst (NoneStrange no_notes) is usual))

@@ -17,7 +17,7 @@ use Rattle.homa_plain.specs.Entries.{PlainEntry, PlainSettings, PlainCall, Plain
 use Rattle.homa_plain.specs.declared.packet.Role.{Role}
 use Rattle.homa_plain.specs.declared.packet.Role.TheVariants.{Client, Server}
 use Rattle.homa_plain.specs.Packets.{Packet, sender, receiver, receiver_of, call_between, server_between, wire_packet, packet_between}
-use Rattle.homa_plain.specs.Host.{Host, Told, packets_in, entries_from}
+use Rattle.homa_plain.specs.Host.{Host, Told, Says, Sends, packets_in, entries_from}
 use Rattle.homa_plain.specs.Steps.{Work, start_fault, next_id, call_step, arrival_step, turn_step, has_run}
 use Rattle.homa_plain.specs.World.{World, SentPacket, After, Refused, Done, outcome, host_at, own_clock, next_answer, answers_left, stamped, stepped, started, calls_from, turns, arrives_at, last_tick}
 use Rattle.homa_plain.specs.Replay.{Happening, bare}
@@ -30,12 +30,12 @@ use Rattle.world_laws.specs.Sound.{IsSent}
 use Rattle.node_laws.proofs.Good.{IsGoodHost, IsGoodWork, IsSentNow}
 use Rattle.node_laws.proofs.GoodSteps.{call_good, arrival_good, turn_good}
 use Rattle.trace_lines.specs.Told.{HasOwnName}
-use Rattle.trace_lines.proofs.Lines.{AllInner}
+use Rattle.trace_lines.proofs.Lines.{IsSaid, AllInner}
 use Rattle.world_laws.proofs.Sent.{read, between}
 use Rattle.node_runs.specs.Course.{Report, Tells, Turning, Arrival, packet_from, arrival_outcome}
 use Rattle.node_runs.specs.Recorder.{Notes, no_notes, Kind, Sent, Junk, Strange, kind_of, kind_in, kind_events, is_strange, strange, events, kept}
 use Rattle.node_runs.specs.Texts.{entries}
-use Rattle.node_runs.specs.Replayed.{recorded_events, is_of_host, of_hosts, IsAnswer}
+use Rattle.node_runs.specs.Replayed.{recorded_events, is_of_host, of_hosts, IsAnswer, is_settings, NoSettings, BeginsWith}
 use Rattle.node_laws.proofs.OfNode.{IsOfNode}
 use Rattle.node_laws.proofs.Inner.{call_inside, arrival_inside, turn_inside}
 use Rattle.node_laws.proofs.Carried.{respared, respare, call_respared, turn_respared, deliver_is, inject_is, IsRun, run_one, run_more}
@@ -87,6 +87,29 @@ all_but_one : {X : Type 0} (P : X → Type 0) (xs : List X) → AllByRecursion P
 all_but_one P [] all = tt
 all_but_one P (x ∷ xs) all = all.1
 
+-- ---- where settings are told
+
+only-append : (a b : List Report) → NoSettings a → NoSettings b → NoSettings (a ++ b)
+only-append [] b x y = y
+only-append (r ∷ a) b x y = (x.0, only-append a b x.1 y)
+
+begins_more : (s : Settings) (reports added : List Report) → BeginsWith s reports → NoSettings added → BeginsWith s (reports ++ added)
+begins_more s reports added k only = record {
+  later = k.later ++ added;
+  first = ap (λ (rs : List Report). rs ++ added) k.first;
+  only = only-append k.later added k.only only;
+}
+
+said_not : (e : PlainEntry) → IsSaid e → is_settings (Tells e) ≡ false
+said_not (PlainSettings settings) said = absurd said
+said_not e said = refl
+
+-- not within a step
+only_inner : (k : ℕ) (told : List Told) → AllInner told → NoSettings (map Tells (entries_from k told))
+only_inner k [] inner = tt
+only_inner k (Says e ∷ told) inner = (said_not e inner.0, only_inner k told inner.1)
+only_inner k (Sends p ∷ told) inner = (refl, only_inner (suc k) told inner)
+
 -- ---- what is so between two parts
 
 module _ (s : Settings) (k : ℕ) (v : World) where
@@ -98,6 +121,7 @@ module _ (s : Settings) (k : ℕ) (v : World) where
     pub run : IsRun s v (recorded_events no_notes reports) (respared k w) lines
     pub told : of_hosts (PlainSettings s ∷ lines) ≡ of_hosts (entries reports)
     pub notes : AreNotes s (kept_all no_notes reports) w.clock w.packets
+    pub begins : BeginsWith s reports
 
   -- what some reports add, from a world to another one
   pub record IsAdded (n : Notes) (w x : World) (added : List Report) : Type 0 where
@@ -107,6 +131,7 @@ module _ (s : Settings) (k : ℕ) (v : World) where
     pub run : IsRun s (respared k w) (recorded_events n added) (respared k x) lines
     pub told : of_hosts lines ≡ of_hosts (entries added)
     pub notes : AreNotes s (kept_all n added) x.clock x.packets
+    pub only : NoSettings added
 
   pub goes_on : (w x : World) (reports added : List Report) → IsRepeated w reports → IsAdded (kept_all no_notes reports) w x added → IsRepeated x (reports ++ added)
   goes_on w x reports added j a = record {
@@ -119,6 +144,7 @@ module _ (s : Settings) (k : ℕ) (v : World) where
         ∙ ap (λ (l : List PlainEntry). l ++ of_hosts a.lines) j.told ∙ ap (λ (l : List PlainEntry). of_hosts (entries reports) ++ l) a.told
         ∙ sym (hosts-append (entries reports) (entries added)) ∙ ap of_hosts (sym (entries-append reports added));
     notes = subst (λ (m : Notes). AreNotes s m x.clock x.packets) (sym (kept-append no_notes reports added)) a.notes;
+    begins = begins_more s reports added j.begins a.only;
   }
 
   -- ---- the steps of hosts
@@ -198,10 +224,10 @@ module _ (s : Settings) (k : ℕ) (v : World) where
 
     -- such reports are added, where the replay carries the event out
     added : (id : HostId) (h : Host) (step : Work) (after : After) (r : Report) (e : Happening) (first : List PlainEntry) (told : List Told) → host_at w id ≡ Some h → HasOwnName id step.host → behind id step after → packets_in step.told ≡ packets_in told
-        → AllInner told → IsGoodWorld s after.world → events n r ≡ e ∷ [] → kept n r ≡ n → of_hosts first ≡ of_hosts (entries (r ∷ []))
+        → AllInner told → IsGoodWorld s after.world → events n r ≡ e ∷ [] → kept n r ≡ n → of_hosts first ≡ of_hosts (entries (r ∷ [])) → is_settings r ≡ false
         → outcome s (respared k w) e.event e.bytes ≡ Done (record { world = respared k after.world; told = first ++ entries_from (length w.packets) told })
         → IsAdded n w after.world (r ∷ numbered told)
-    added id h step after r e first told at name b packets inner sound is keeps same done = record {
+    added id h step after r e first told at name b packets inner sound is keeps same other done = record {
       names = names_behind id step after h at name b;
       good = sound;
       lines = first ++ entries_from (length w.packets) told;
@@ -210,6 +236,7 @@ module _ (s : Settings) (k : ℕ) (v : World) where
           ∙ ap (λ (l : List PlainEntry). of_hosts (entries (r ∷ [])) ++ of_hosts l) (sym (entries-told (entries_from (length w.packets) told)))
           ∙ sym (hosts-append (entries (r ∷ [])) (entries (numbered told))) ∙ ap of_hosts (sym (entries-append (r ∷ []) (numbered told)));
       notes = subst (λ (m : Notes). AreNotes s (kept_all m (numbered told)) after.world.clock after.world.packets) (sym keeps) (notes_behind id step after n told packets inner b sound.packets notes);
+      only = (other, only_inner (length w.packets) told inner);
     }
 
     -- ---- a turn
@@ -226,7 +253,7 @@ module _ (s : Settings) (k : ℕ) (v : World) where
           let sound = good_behind id h at step after (turn_good s valid (own_clock w id) (in_time id h at) h (good.hosts id h at)) b.0 in
           let told : after.told ≡ entries_from (length w.packets) inside.rest = b.1 ∙ ap (entries_from (length w.packets)) inside.told in
           subst (λ (es : List PlainEntry). IsAdded n w after.world (Turning id ∷ map Tells es)) (sym told)
-          (added id h step after (Turning id) (bare (event.Turn id)) [] inside.rest at inside.name b.0 (ap packets_in inside.told) inside.inner sound refl (turning_keeps id) refl
+          (added id h step after (Turning id) (bare (event.Turn id)) [] inside.rest at inside.name b.0 (ap packets_in inside.told) inside.inner sound refl (turning_keeps id) refl refl
           (turn_respared s k w id ∙ ap (respare k) is ∙ ap (λ (es : List PlainEntry). Done (record { world = respared k after.world; told = es })) told))
 
     -- ---- a call
@@ -246,7 +273,7 @@ module _ (s : Settings) (k : ℕ) (v : World) where
           let caller : HostId → List Happening = λ (c : HostId). record { event = event.Call c server service; bytes = request } ∷ [] in
           subst (λ (es : List PlainEntry). IsAdded n w after.world (map Tells es)) (sym told)
           (added client h step after (Tells (PlainCall q server service request)) (record { event = event.Call client server service; bytes = request }) (PlainCall q server service request ∷ []) inside.rest at inside.name b.0 (ap packets_in inside.told) inside.inner sound
-          (ap caller (names client h at).name) (call_keeps q server service request) refl
+          (ap caller (names client h at).name) (call_keeps q server service request) refl refl
           (call_respared s k w client server service request ∙ ap (respare k) is ∙ ap (λ (es : List PlainEntry). Done (record { world = respared k after.world; told = es })) told))
 
       by_client : (o : Option Host) → host_at w client ≡ o → calls_from s w client server service request o ≡ Done after → IsAdded n w after.world (map Tells after.told)
@@ -295,7 +322,7 @@ module _ (s : Settings) (k : ℕ) (v : World) where
           let same : entries_from (length w.packets) step.told ≡ entries_from (length w.packets) inside.rest = ap (entries_from (length w.packets)) inside.told in
           let told : after.told ≡ PlainRecv id a.from a.bytes ∷ entries_from (length w.packets) inside.rest = b.1 ∙ ap (λ (es : List PlainEntry). PlainRecv id a.from a.bytes ∷ es) same in
           subst (λ (es : List PlainEntry). IsAdded n w after.world (map Tells es)) (sym told)
-          (added id h step after (Tells (PlainRecv id a.from a.bytes)) e (first ∷ []) inside.rest at inside.name b.0 (ap packets_in inside.told) inside.inner sound is_event (recv_keeps id a.from a.bytes) aside
+          (added id h step after (Tells (PlainRecv id a.from a.bytes)) e (first ∷ []) inside.rest at inside.name b.0 (ap packets_in inside.told) inside.inner sound is_event (recv_keeps id a.from a.bytes) aside refl
           (is_arrival ∙ subst (λ (x : After). arrives_at s (respared k w) id (first ∷ []) packet (Some h) ≡ Done (record { world = respared k x.world; told = first ∷ entries_from (length w.packets) inside.rest })) (done_is _ after done)
           (ap (λ (es : List PlainEntry). Done (record { world = respared k (record w { hosts = slice_set w.hosts id.0 step.host; packets = w.packets ++ stamped w.clock (packets_in step.told); answers = answers_left step.told w.answers }); told = first ∷ es })) same)))
 

@@ -7,10 +7,15 @@
 //! its datagram gives it back.
 #![tactic(auto)]
 
-ghost use Rattle.node_runs.specs.Replayed.{RecordingsRepeat};
+ghost use Rattle.node_runs.specs.Replayed.{RecordingsRepeat, SettingsFirst};
 
 /// Where all hosts of a node are local with incarnation 1, and nothing of its run is strange, the replay of what a
 /// recorder tells of the run gives the run's entries, those of the clock and of datagrams that come aside.
 pub fn recordings_repeat()
     ensures { RecordingsRepeat }
+{}
+
+/// The reports of such a run tell the settings first, and only there.
+pub fn settings_first()
+    ensures { SettingsFirst }
 {}
