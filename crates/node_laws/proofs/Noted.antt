@@ -85,12 +85,12 @@ inner_no_event n k (Sends p ∷ told) inner =
 
 -- ---- notes of a world
 
-get-append : {A : Type 0} (xs ys : List A) (i : ℕ) (x : A) → slice_get xs i ≡ Some x → slice_get (xs ++ ys) i ≡ Some x
+pub get-append : {A : Type 0} (xs ys : List A) (i : ℕ) (x : A) → slice_get xs i ≡ Some x → slice_get (xs ++ ys) i ≡ Some x
 get-append [] ys i x e = absurd (let z : None ≡ Some x = e in cc)
 get-append (y ∷ xs) ys zero x e = e
 get-append (y ∷ xs) ys (suc i) x e = get-append xs ys i x e
 
-get_last : {A : Type 0} (xs : List A) (x : A) → slice_get (xs ++ x ∷ []) (length xs) ≡ Some x
+pub get_last : {A : Type 0} (xs : List A) (x : A) → slice_get (xs ++ x ∷ []) (length xs) ≡ Some x
 get_last [] x = refl
 get_last (y ∷ xs) x = get_last xs x
 
@@ -120,7 +120,7 @@ module _ (s : Settings) where
       )
 
   -- the packet of a `send` line is the one that was sent
-  same_packet : (clock : ℕ) (p : Packet) (tick : ℕ) → tick ≡ clock → p.at ≡ (if s.wire == 1 then 0 else clock + s.skew) → sent_packet s tick p.inc p.role p.id p.level p.body ≡ wire_packet p
+  pub same_packet : (clock : ℕ) (p : Packet) (tick : ℕ) → tick ≡ clock → p.at ≡ (if s.wire == 1 then 0 else clock + s.skew) → sent_packet s tick p.inc p.role p.id p.level p.body ≡ wire_packet p
   same_packet clock p tick same dated =
       let at : (if s.wire == 1 then 0 else tick + s.skew) ≡ p.at = ap (λ (t : ℕ). if s.wire == 1 then 0 else t + s.skew) same ∙ sym dated in
       let packet : ℕ → WirePacket = λ (t : ℕ). record { role = p.role; level = p.level; sender = p.inc; inc = p.id.inc; seq = p.id.seq; at = t; body = p.body } in
@@ -205,7 +205,7 @@ module _ (s : Settings) where
     pub spelled : bytes ≡ datagram s sent.packet
     pub life : clock ≤ sent.tick + s.life
 
-  both_true : (a b : Bool) → (a && b) ≡ true → (a ≡ true) × (b ≡ true)
+  pub both_true : (a b : Bool) → (a && b) ≡ true → (a ≡ true) × (b ≡ true)
   both_true true b e = (refl, e)
   both_true false b e = absurd (true≢false (sym e))
 
