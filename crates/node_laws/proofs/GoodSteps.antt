@@ -161,7 +161,7 @@ module _ (s : Settings) (v : IsValid s) (now : ℕ) (soon : now ≤ 100000000200
   arrival_good h o answer k sent a = ended_good (comes s o answer (begun h now)) (comes_good o answer (begun h now) sent a (begun_good h k))
 
   -- a call that can start
-  record CanStart (h : Host) (request : List ℕ) : Type 0 where
+  pub record CanStart (h : Host) (request : List ℕ) : Type 0 where
     pub some : 1 ≤ length request
     pub most : length request ≤ 1000000
     pub seq : h.seq < 4294967295
@@ -170,7 +170,7 @@ module _ (s : Settings) (v : IsValid s) (now : ℕ) (soon : now ≤ 100000000200
   by_if true fault o e = absurd (let z : Some fault ≡ None = e in cc)
   by_if false fault o e = (refl, e)
 
-  can_start : (h : Host) (server : HostId) (request : List ℕ) → start_fault s h server request ≡ None → CanStart h request
+  pub can_start : (h : Host) (server : HostId) (request : List ℕ) → start_fault s h server request ≡ None → CanStart h request
   unfolding start_fault
   can_start h server request e =
       let a = by_if (length request == 0) Empty _ e in

@@ -7,5 +7,9 @@ pub mod Ruled
 pub mod Good
 pub mod GoodSteps
 pub mod Repeated
+pub mod Operands
+pub mod Places
 pub mod Opening
+pub mod Courses
 pub mod Loops
+pub mod Turns

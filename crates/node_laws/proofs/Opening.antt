@@ -1,72 +1,67 @@
--- What is so of the setup of a script that is opened.
-use Rattle.std.proofs.Common.{◌≡◌, ℕ, suc, zero, ◌+◌, Bool, true, false, Option, None, Some, Result, Ok, Err, List, [], ◌∷◌, ◌++◌, length, refl, sym, ap, ◌∙◌, subst, ◌-◌, ◌≤◌, ◌<◌, arith}
-use Rattle.std.specs.Prelude.{◌==◌, if◌then◌else◌, ◌&&◌, nat_le, codes, is_some}
-use Rattle.homa_plain.specs.declared.settings.Settings.{Settings}
-use Rattle.homa_plain.specs.declared.settings.SettingFault.{SettingFault}
-use Rattle.homa_plain.specs.declared.fault.ScriptFault.{ScriptFault}
-use Rattle.homa_plain.specs.declared.fault.ScriptFault.TheVariants.{Missing, Setting, NoGo, BadHex, BadNumber, Extra, UnknownWord}
-use Rattle.homa_plain.specs.Settings.{IsValid, verdict}
-use Rattle.homa_plain.specs.Input.{lines_of}
-use Rattle.homa_plain.specs.Script.{◌>>=◌, with_setting, first_word, number_up_to, number_at_most, host_operand, counting, most_counted, counted, hex_bytes, bytes_of_word, bytes_operand, alone}
-use Rattle.homa_plain.proofs.SettingsLemmas.{ok_is_valid}
+-- What is so of a script that is opened: of its setup, of its calls, and of the line behind `go` that is refused, if there is one.
+use Rattle.std.proofs.Common.{◌≡◌, ℕ, suc, zero, ◌+◌, Bool, true, false, Option, None, Some, Result, Ok, Err, List, [], ◌∷◌, ◌++◌, length, refl, sym, ap, ◌∙◌, subst, ◌-◌, ◌<◌, ◌≤◌, arith}
+use Rattle.std.specs.Prelude.{if◌then◌else◌, ◌&&◌, codes, is_some}
 use Rattle.std.specs.Str.{bytes_eq}
 use Rattle.std.specs.List.{AllByRecursion}
-use Rattle.std.proofs.lemmas.Bool.{leb-true}
-use Rattle.hex.specs.Hex.{decode_of}
-use Rattle.hex.specs.declared.error.FromHexError.{FromHexError}
-use Rattle.hex.proofs.HexLemmas.{decode_of-ok}
-use Rattle.homa_plain.specs.Bytes.{IsBytes}
-use Rattle.homa_plain.specs.Numbers.{number_of}
+use Rattle.std.specs.Option.{IfSome}
+use Rattle.homa_plain.specs.declared.settings.Settings.{Settings}
+use Rattle.homa_plain.specs.declared.settings.SettingFault.{SettingFault}
 use Rattle.homa_plain.specs.declared.fault.LineFault.{LineFault}
 use Rattle.homa_plain.specs.declared.fault.LineFault.TheVariants.{Script as ByWords, World as ByWorld}
+use Rattle.homa_plain.specs.declared.fault.ScriptFault.{ScriptFault}
+use Rattle.homa_plain.specs.declared.fault.ScriptFault.TheVariants.{Missing, Setting, NoGo, UnknownWord}
 use Rattle.homa_plain.specs.declared.fault.WorldFault.TheVariants.{NoSuchHost}
-use Rattle.node_runs.specs.Script.{Place, Naming, Heading, Blank, SettingIs, Names, EndIs, TurnsAre, Go, Head, Setup, given_to, single, onto, places_from, places_in, setup_by, setup_of, Calls, Opening, Opened, unopened, opened_by, words_in, heading_of, opening_from, opening, TimedCall, number_between, call_word, timed_given, between_hosts, timed_of, is_local, place_of, with_call, calls_from}
+use Rattle.homa_plain.specs.Bytes.{IsBytes}
+use Rattle.homa_plain.specs.Settings.{IsValid, verdict}
+use Rattle.homa_plain.specs.Input.{lines_of}
+use Rattle.homa_plain.specs.Script.{◌>>=◌, with_setting, first_word, number_at_most, host_operand, bytes_operand}
+use Rattle.homa_plain.specs.Shape.{IsCause}
+use Rattle.homa_plain.proofs.SettingsLemmas.{ok_is_valid}
+use Rattle.step_laws.proofs.Places.{all-append}
+use Rattle.node_runs.specs.Script.{Place, Naming, Heading, Blank, SettingIs, Names, EndIs, TurnsAre, Go, Head, Setup, places_in, setup_by, setup_of, Calls, Opening, Opened, Refusal, unopened, opened_by, words_in, heading_of, opening_from, opening, TimedCall, number_between, call_word, timed_given, between_hosts, timed_of, is_local, place_of, with_call, calls_from}
+use Rattle.node_laws.proofs.Operands.{bound, alone_is, operand_small, operand_bytes}
+use Rattle.node_laws.proofs.Places.{IsPlace, AreNamed, IsHeading, heading_is, at_places, in_places}
 
--- its settings are valid, and each host has its place
+-- its settings are valid, and each host has its place, where it may begin
 pub record IsSetup (setup : Setup) : Type 0 where
   pub valid : IsValid setup.settings
   pub each : length setup.places ≡ setup.settings.hosts
+  pub places : AllByRecursion IsPlace setup.places
+  pub turns : setup.turns ≤ 1000000000
 
 -- a call that is to be made has bytes, and a service's number
 abbrev pub IsCallGiven : TimedCall → Type 0
 IsCallGiven c = IsBytes c.bytes × (c.service < 256)
 
+-- the line that is refused, if there is one, may be: no line is refused for want of memory
+abbrev pub MayRefuse : Option Refusal → Type 0
+MayRefuse o = IfSome o (λ (r : Refusal). IsCause r.fault)
+
 -- a script that is opened
 pub record IsScript (setup : Setup) (calls : Calls) : Type 0 where
   pub is : IsSetup setup
   pub given : AllByRecursion IsCallGiven calls.calls
-
--- ---- places
-
-onto_length : {A : Type 0} (x : Option A) (xs : Option (List A)) (n : ℕ) (ys : List A) → ((zs : List A) → xs ≡ Some zs → length zs ≡ n) → onto x xs ≡ Some ys → length ys ≡ suc n
-onto_length None xs n ys h e = absurd (let z : None ≡ Some ys = e in cc)
-onto_length (Some x) None n ys h e = absurd (let z : None ≡ Some ys = e in cc)
-onto_length (Some x) (Some xs) n ys h e = let it : x ∷ xs ≡ ys = cc in ap length (sym it) ∙ ap suc (h xs refl)
-
-places_length : (hosts n : ℕ) (named : List Naming) (places : List Place) → places_from n hosts named ≡ Some places → length places ≡ hosts
-places_length zero n named places e = let it : [] ≡ places = cc in ap length (sym it)
-places_length (suc hosts) n named places e = onto_length (single (given_to n named)) (places_from (suc n) hosts named) hosts places (λ zs h. places_length hosts (suc n) named zs h) e
+  pub refused : MayRefuse calls.refused
 
 -- ---- a setup
 
-by_parts : (s : Settings) (places : Option (List Place)) (end turns : Option ℕ) (setup : Setup) → setup_by s places end turns ≡ Ok setup → (setup.settings ≡ s) × (places ≡ Some setup.places)
+by_parts : (s : Settings) (places : Option (List Place)) (end turns : Option ℕ) (setup : Setup) → setup_by s places end turns ≡ Ok setup → (setup.settings ≡ s) × (places ≡ Some setup.places) × (turns ≡ Some setup.turns)
 by_parts s None end turns setup e = absurd (let z : Err Missing ≡ Ok setup = e in cc)
 by_parts s (Some p) None turns setup e = absurd (let z : Err Missing ≡ Ok setup = e in cc)
 by_parts s (Some p) (Some end) None setup e = absurd (let z : Err Missing ≡ Ok setup = e in cc)
-by_parts s (Some p) (Some end) (Some turns) setup e = let it : record { settings = s; places = p; end = end; turns = turns } ≡ setup = cc in (ap (λ (x : Setup). x.settings) (sym it), ap (λ (x : Setup). Some x.places) it)
+by_parts s (Some p) (Some end) (Some turns) setup e = let it : record { settings = s; places = p; end = end; turns = turns } ≡ setup = cc in (ap (λ (x : Setup). x.settings) (sym it), ap (λ (x : Setup). Some x.places) it, ap (λ (x : Setup). Some x.turns) it)
 
-in_places : (hosts : ℕ) (named : List Naming) (places : List Place) → places_in hosts named ≡ Some places → length places ≡ hosts
-in_places hosts named places e = by_test (length named == hosts) e where
-  by_test : (b : Bool) → (if b then places_from 0 hosts named else None) ≡ Some places → length places ≡ hosts
-  by_test true h = places_length hosts 0 named places h
-  by_test false h = absurd (let z : None ≡ Some places = h in cc)
+-- what the lines before `go` said so far
+record IsHead (head : Head) : Type 0 where
+  pub named : AreNamed head.named
+  pub turns : IfSome head.turns (λ n. n ≤ 1000000000)
 
 abbrev after_verdict : Head → Result (Unit {0}) SettingFault → Result Setup ScriptFault
 after_verdict head (Err fault) = Err (Setting fault)
 after_verdict head (Ok u) = setup_by head.settings (places_in head.settings.hosts head.named) head.end head.turns
 
-setup_is : (head : Head) (setup : Setup) → setup_of head ≡ Ok setup → IsSetup setup
-setup_is head setup e = by_verdict (verdict head.settings) refl e where
+setup_is : (head : Head) (setup : Setup) → IsHead head → setup_of head ≡ Ok setup → IsSetup setup
+setup_is head setup all e = by_verdict (verdict head.settings) refl e where
   by_verdict : (r : Result (Unit {0}) SettingFault) → r ≡ verdict head.settings → after_verdict head r ≡ Ok setup → IsSetup setup
   by_verdict (Err fault) is h = absurd (let z : Err (Setting fault) ≡ Ok setup = h in cc)
   by_verdict (Ok u) is h =
@@ -75,65 +70,11 @@ setup_is head setup e = by_verdict (verdict head.settings) refl e where
       record {
         valid = subst IsValid (sym parts.0) valid;
         each = in_places head.settings.hosts head.named setup.places parts.1 ∙ ap (λ (s : Settings). s.hosts) (sym parts.0);
+        places = at_places head.settings.hosts head.named setup.places all.named parts.1;
+        turns = subst (λ (o : Option ℕ). IfSome o (λ n. n ≤ 1000000000)) parts.2 all.turns;
       }
 
 -- ---- the calls behind `go`
-
--- what comes of two readers one behind the other
-record IsBound {A B : Type 0} (r : Result A ScriptFault) (f : A → Result B ScriptFault) (y : B) : Type 0 where
-  pub value : A
-  pub first : r ≡ Ok value
-  pub second : f value ≡ Ok y
-
-bound : {A B : Type 0} (r : Result A ScriptFault) (f : A → Result B ScriptFault) (y : B) → (r >>= f) ≡ Ok y → IsBound r f y
-bound (Err fault) f y e = absurd (let z : Err fault ≡ Ok y = e in cc)
-bound (Ok x) f y e = record { value = x; first = refl; second = e }
-
-counted_bytes : (i n : ℕ) → IsBytes (counting i n)
-counted_bytes i zero j = omega arith
-counted_bytes i (suc n) zero = omega arith
-counted_bytes i (suc n) (suc j) = counted_bytes (suc i) n j
-
-word_bytes : (word bytes : List ℕ) → bytes_of_word word ≡ Ok bytes → IsBytes bytes
-unfolding bytes_of_word
-word_bytes [] bytes e = let it : [] ≡ bytes = cc in subst IsBytes it (λ j. omega arith)
-word_bytes (c ∷ cs) bytes e = by_first (c == 42) (bytes_eq (c ∷ cs) (codes "-")) e where
-  by_hex : (r : Result (List ℕ) FromHexError) → decode_of (c ∷ cs) ≡ r → hex_bytes r ≡ Ok bytes → IsBytes bytes
-  by_hex (Err fault) is h = absurd (let z : Err BadHex ≡ Ok bytes = h in cc)
-  by_hex (Ok xs) is h = let it : xs ≡ bytes = cc in subst IsBytes it (decode_of-ok (c ∷ cs) xs is).3
-
-  by_first : (a b : Bool) → (if a then counted (number_up_to most_counted (number_of cs)) else if b then Ok [] else hex_bytes (decode_of (c ∷ cs))) ≡ Ok bytes → IsBytes bytes
-  by_first true b h =
-      let n = bound (number_up_to most_counted (number_of cs)) (λ m. Ok (counting 0 m)) bytes h in
-      let it : counting 0 n.value ≡ bytes = (let z = n.second in cc) in
-      subst IsBytes it (counted_bytes 0 n.value)
-  by_first false true h = let it : [] ≡ bytes = cc in subst IsBytes it (λ j. omega arith)
-  by_first false false h = by_hex (decode_of (c ∷ cs)) refl h
-
-operand_bytes : (words : List (List ℕ)) (x : List ℕ × List (List ℕ)) → bytes_operand words ≡ Ok x → IsBytes x.0
-operand_bytes [] x e = absurd (let z : Err Missing ≡ Ok x = e in cc)
-operand_bytes (word ∷ words) x e =
-    let b = bound (bytes_of_word word) (λ y. Ok (y, words)) x e in
-    let it : (b.value, words) ≡ x = (let z = b.second in cc) in
-    subst (λ (y : List ℕ × List (List ℕ)). IsBytes y.0) it (word_bytes word b.value b.first)
-
-number_small : (most : ℕ) (o : Option ℕ) (n : ℕ) → number_up_to most o ≡ Ok n → n ≤ most
-number_small most None n e = absurd (let z : Err BadNumber ≡ Ok n = e in cc)
-number_small most (Some m) n e = by_test (nat_le m most) refl e where
-  by_test : (b : Bool) → nat_le m most ≡ b → (if b then Ok m else Err BadNumber) ≡ Ok n → n ≤ most
-  by_test true t h = let it : m ≡ n = cc in omega (arith, leb-true m most t, it)
-  by_test false t h = absurd (let z : Err BadNumber ≡ Ok n = h in cc)
-
-operand_small : (most : ℕ) (words : List (List ℕ)) (x : ℕ × List (List ℕ)) → number_at_most most words ≡ Ok x → x.0 ≤ most
-operand_small most [] x e = absurd (let z : Err Missing ≡ Ok x = e in cc)
-operand_small most (word ∷ words) x e =
-    let b = bound (number_up_to most (number_of word)) (λ y. Ok (y, words)) x e in
-    let it : (b.value, words) ≡ x = (let z = b.second in cc) in
-    subst (λ (y : ℕ × List (List ℕ)). y.0 ≤ most) it (number_small most (number_of word) b.value b.first)
-
-alone_is : {A : Type 0} (x : A) (words : List (List ℕ)) (y : A) → alone (x, words) ≡ Ok y → x ≡ y
-alone_is x [] y e = cc
-alone_is x (word ∷ words) y e = absurd (let z : Err Extra ≡ Ok y = e in cc)
 
 timed_is_given : (setup : Setup) (least n : ℕ) (words : List (List ℕ)) (c : TimedCall) → timed_given setup least n words ≡ Ok c → IsCallGiven c
 timed_is_given setup least n words c e =
@@ -145,9 +86,9 @@ timed_is_given setup least n words c e =
     let bytes = bound (bytes_operand service.value.1) _ c service.second in
     subst IsCallGiven (alone_is _ bytes.value.1 c bytes.second) (operand_bytes service.value.1 bytes.value bytes.first, omega (arith, operand_small 255 server.value.1 service.value service.first))
 
-between_is : (setup : Setup) (r : Result TimedCall ScriptFault) (c : TimedCall) → between_hosts setup r ≡ Ok (Some c) → r ≡ Ok c
-between_is setup (Err fault) c e = absurd (let z : Err (ByWords fault) ≡ Ok (Some c) = e in cc)
-between_is setup (Ok x) c e = ap Ok (by_test (is_local (place_of setup x.client) && is_some (place_of setup x.server)) e) where
+between_given : (setup : Setup) (r : Result TimedCall ScriptFault) (c : TimedCall) → between_hosts setup r ≡ Ok (Some c) → r ≡ Ok c
+between_given setup (Err fault) c e = absurd (let z : Err (ByWords fault) ≡ Ok (Some c) = e in cc)
+between_given setup (Ok x) c e = ap Ok (by_test (is_local (place_of setup x.client) && is_some (place_of setup x.server)) e) where
   by_test : (b : Bool) → (if b then Ok (Some x) else Err (ByWorld NoSuchHost)) ≡ Ok (Some c) → x ≡ c
   by_test true h = cc
   by_test false h = absurd (let z : Err (ByWorld NoSuchHost) ≡ Ok (Some c) = h in cc)
@@ -157,15 +98,32 @@ line_given setup least n (Err fault) c e = absurd (let z : Err (ByWords fault) �
 line_given setup least n (Ok []) c e = absurd (let z : Ok None ≡ Ok (Some c) = e in cc)
 line_given setup least n (Ok (word ∷ words)) c e = by_test (bytes_eq word (codes "at")) e where
   by_test : (b : Bool) → (if b then between_hosts setup (timed_given setup least n words) else Err (ByWords UnknownWord)) ≡ Ok (Some c) → IsCallGiven c
-  by_test true h = timed_is_given setup least n words c (between_is setup (timed_given setup least n words) c h)
+  by_test true h = timed_is_given setup least n words c (between_given setup (timed_given setup least n words) c h)
   by_test false h = absurd (let z : Err (ByWords UnknownWord) ≡ Ok (Some c) = h in cc)
 
-abbrev AreGiven : Calls → Type 0
-AreGiven calls = AllByRecursion IsCallGiven calls.calls
+between_cause : (setup : Setup) (r : Result TimedCall ScriptFault) (fault : LineFault) → between_hosts setup r ≡ Err fault → IsCause fault
+between_cause setup (Err f) fault e = subst IsCause (let it : ByWords f ≡ fault = cc in it) tt
+between_cause setup (Ok c) fault e = by_test (is_local (place_of setup c.client) && is_some (place_of setup c.server)) e where
+  by_test : (b : Bool) → (if b then Ok (Some c) else Err (ByWorld NoSuchHost)) ≡ Err fault → IsCause fault
+  by_test true h = absurd (let z : Ok (Some c) ≡ Err fault = h in cc)
+  by_test false h = subst IsCause (let it : ByWorld NoSuchHost ≡ fault = cc in it) tt
+
+line_cause : (setup : Setup) (least n : ℕ) (r : Result (List (List ℕ)) ScriptFault) (fault : LineFault) → timed_of setup least n r ≡ Err fault → IsCause fault
+line_cause setup least n (Err f) fault e = subst IsCause (let it : ByWords f ≡ fault = cc in it) tt
+line_cause setup least n (Ok []) fault e = absurd (let z : Ok None ≡ Err fault = e in cc)
+line_cause setup least n (Ok (word ∷ words)) fault e = by_test (bytes_eq word (codes "at")) e where
+  by_test : (b : Bool) → (if b then between_hosts setup (timed_given setup least n words) else Err (ByWords UnknownWord)) ≡ Err fault → IsCause fault
+  by_test true h = between_cause setup (timed_given setup least n words) fault h
+  by_test false h = subst IsCause (let it : ByWords UnknownWord ≡ fault = cc in it) tt
+
+-- the calls, and the line that is refused behind them
+record AreGiven (calls : Calls) : Type 0 where
+  pub given : AllByRecursion IsCallGiven calls.calls
+  pub refused : MayRefuse calls.refused
 
 from_given : (limit : ℕ) (setup : Setup) (read n least : ℕ) (lines : List (List ℕ)) → AreGiven (calls_from limit setup read n least lines)
 unfolding calls_from
-from_given limit setup read n least [] = tt
+from_given limit setup read n least [] = record { given = tt; refused = tt }
 from_given limit setup read n least (line ∷ lines) = by_line (timed_of setup least n (words_in limit read line)) refl (λ l. from_given limit setup (read + length line) (suc n) l lines) where
   by_line : (r : Result (Option TimedCall) LineFault) → timed_of setup least n (words_in limit read line) ≡ r → ((l : ℕ) → AreGiven (calls_from limit setup (read + length line) (suc n) l lines)) → AreGiven (elim r [
     | Err fault ↦ record { calls = []; refused = Some (record { line = n; fault = fault }) }
@@ -174,9 +132,9 @@ from_given limit setup read n least (line ∷ lines) = by_line (timed_of setup l
       | Some c ↦ with_call c (calls_from limit setup (read + length line) (suc n) c.tick lines)
     ]
   ])
-  by_line (Err fault) is next = tt
+  by_line (Err fault) is next = record { given = tt; refused = line_cause setup least n (words_in limit read line) fault is }
   by_line (Ok None) is next = next least
-  by_line (Ok (Some c)) is next = (line_given setup least n (words_in limit read line) c is, next c.tick)
+  by_line (Ok (Some c)) is next = let rest = next c.tick in record { given = (line_given setup least n (words_in limit read line) c is, rest.given); refused = rest.refused }
 
 -- ---- a script
 
@@ -204,25 +162,29 @@ abbrev after_line : ℕ → ℕ → ℕ → Head → List (List ℕ) → Result 
 after_line limit after n head lines (Err fault) = unopened n fault
 after_line limit after n head lines (Ok heading) = after_heading limit after n head lines heading
 
-module _ (limit after n : ℕ) (head : Head) (lines : List (List ℕ)) (setup : Setup) (calls : Calls) (next : (h : Head) → opening_from limit after (suc n) h lines ≡ Opened setup calls → IsScript setup calls) where
-  heading_then : (heading : Heading) → after_heading limit after n head lines heading ≡ Opened setup calls → IsScript setup calls
-  heading_then Blank e = next _ e
-  heading_then (SettingIs name m) e = next _ e
-  heading_then (Names naming) e = next _ e
-  heading_then (EndIs tick) e = next _ e
-  heading_then (TurnsAre m) e = next _ e
-  heading_then Go e = let g = at_go limit (setup_of head) after n lines setup calls e in record { is = setup_is head setup g.setup_is; given = g.given }
+module _ (limit after n : ℕ) (head : Head) (lines : List (List ℕ)) (setup : Setup) (calls : Calls) (all : IsHead head) (next : (h : Head) → IsHead h → opening_from limit after (suc n) h lines ≡ Opened setup calls → IsScript setup calls) where
+  heading_then : (heading : Heading) → IsHeading heading → after_heading limit after n head lines heading ≡ Opened setup calls → IsScript setup calls
+  heading_then Blank k e = next _ all e
+  heading_then (SettingIs name m) k e = next _ (record { named = all.named; turns = all.turns }) e
+  heading_then (Names naming) k e = next _ (record { named = all-append (λ (m : Naming). IsPlace m.place) head.named (naming ∷ []) all.named (k, tt); turns = all.turns }) e
+  heading_then (EndIs tick) k e = next _ (record { named = all.named; turns = all.turns }) e
+  heading_then (TurnsAre m) k e = next _ (record { named = all.named; turns = k }) e
+  heading_then Go k e = let g = at_go limit (setup_of head) after n lines setup calls e in record { is = setup_is head setup all g.setup_is; given = g.given.given; refused = g.given.refused }
 
-  line_then : (r : Result Heading ScriptFault) → after_line limit after n head lines r ≡ Opened setup calls → IsScript setup calls
-  line_then (Err fault) e = absurd (let z : unopened n fault ≡ Opened setup calls = e in cc)
-  line_then (Ok heading) e = heading_then heading e
+  line_then : (words : List (List ℕ)) (r : Result Heading ScriptFault) → heading_of words ≡ r → after_line limit after n head lines r ≡ Opened setup calls → IsScript setup calls
+  line_then words (Err fault) is e = absurd (let z : unopened n fault ≡ Opened setup calls = e in cc)
+  line_then words (Ok heading) is e = heading_then heading (heading_is words heading is) e
 
-from_is : (limit read n : ℕ) (head : Head) (lines : List (List ℕ)) (setup : Setup) (calls : Calls) → opening_from limit read n head lines ≡ Opened setup calls → IsScript setup calls
+  words_then : (r : Result (List (List ℕ)) ScriptFault) → after_line limit after n head lines (r >>= heading_of) ≡ Opened setup calls → IsScript setup calls
+  words_then (Err fault) e = absurd (let z : unopened n fault ≡ Opened setup calls = e in cc)
+  words_then (Ok words) e = line_then words (heading_of words) refl e
+
+from_is : (limit read n : ℕ) (head : Head) (lines : List (List ℕ)) (setup : Setup) (calls : Calls) → IsHead head → opening_from limit read n head lines ≡ Opened setup calls → IsScript setup calls
 unfolding opening_from
-from_is limit read n head [] setup calls e = absurd (let z : unopened n NoGo ≡ Opened setup calls = e in cc)
-from_is limit read n head (line ∷ lines) setup calls e =
-    line_then limit (read + length line) n head lines setup calls (λ h g. from_is limit (read + length line) (suc n) h lines setup calls g) (words_in limit read line >>= heading_of) e
+from_is limit read n head [] setup calls all e = absurd (let z : unopened n NoGo ≡ Opened setup calls = e in cc)
+from_is limit read n head (line ∷ lines) setup calls all e =
+    words_then limit (read + length line) n head lines setup calls all (λ h k g. from_is limit (read + length line) (suc n) h lines setup calls k g) (words_in limit read line) e
 
 pub opening_is : (limit : ℕ) (bytes : List ℕ) (setup : Setup) (calls : Calls) → opening limit bytes ≡ Opened setup calls → IsScript setup calls
 unfolding opening
-opening_is limit bytes setup calls e = from_is limit 0 1 _ (lines_of bytes) setup calls e
+opening_is limit bytes setup calls e = from_is limit 0 1 _ (lines_of bytes) setup calls (record { named = tt; turns = tt }) e
