@@ -2,7 +2,7 @@
 use Rattle.std.proofs.Common.{◌≡◌, ◌⊎◌, inl, inr, ℕ, Bool, true, false, Option, None, Some, List, [], ◌∷◌, ◌++◌, refl, sym, ap, ◌∙◌, subst, append_assoc}
 use Rattle.std.specs.Prelude.{◌||◌}
 use Rattle.homa_io.specs.Outside.{unread, IsAtEnd}
-use Rattle.homa_script.specs.Read.{IsRead, IsCut}
+use Rattle.script_lines.specs.Read.{IsRead, IsCut}
 
 some_same : (a b : List ℕ) → Some a ≡ Some b → a ≡ b
 some_same a b e = cc
@@ -16,7 +16,8 @@ left_of bytes came None e = absurd cc
 left_of bytes came (Some rest) e = (rest, some_same bytes (came ++ rest) e, refl)
 
 -- what is left of these bytes, where some came
-pub some_left : (bytes came : List ℕ) (left left2 : Option (List ℕ)) → left ≡ Some bytes → left ≡ unread came left2 → (rest : List ℕ) × (bytes ≡ came ++ rest) × (left2 ≡ Some rest)
+pub some_left : (bytes came : List ℕ) (left left2 : Option (List ℕ)) → left ≡ Some bytes → left ≡ unread came left2 → (rest : List ℕ)
+    × (bytes ≡ came ++ rest) × (left2 ≡ Some rest)
 some_left bytes came left left2 e h = left_of bytes came left2 (sym e ∙ h)
 
 pub at_end : (left : Option (List ℕ)) (rest : List ℕ) → left ≡ Some rest → IsAtEnd left → rest ≡ []
@@ -47,7 +48,8 @@ module _ {A : Type 0} where
   read_start bytes left due e = record { came = []; rest = bytes; split = refl; has_left = e; ended = false; nothing = λ k. absurd cc; same = λ more k. refl }
 
   -- what was due is also this, for all that may follow
-  pub read_to : (bytes : List ℕ) (left : Option (List ℕ)) (due now then : List ℕ → A) → IsRead bytes left due now → ((more : List ℕ) → now more ≡ then more) → IsRead bytes left due then
+  pub read_to : (bytes : List ℕ) (left : Option (List ℕ)) (due now then : List ℕ → A) → IsRead bytes left due now → ((more : List ℕ) → now more ≡ then more)
+      → IsRead bytes left due then
   read_to bytes left due now then d f = record {
     came = d.came;
     rest = d.rest;
@@ -59,7 +61,8 @@ module _ {A : Type 0} where
   }
 
   -- more was read
-  pub read_on : (bytes : List ℕ) (left left2 : Option (List ℕ)) (due now then : List ℕ → A) → IsRead bytes left due now → ((rest : List ℕ) → left ≡ Some rest → IsRead rest left2 now then) → IsRead bytes left2 due then
+  pub read_on : (bytes : List ℕ) (left left2 : Option (List ℕ)) (due now then : List ℕ → A) → IsRead bytes left due now
+      → ((rest : List ℕ) → left ≡ Some rest → IsRead rest left2 now then) → IsRead bytes left2 due then
   read_on bytes left left2 due now then d f =
       let e = f d.rest d.has_left in
       let none = λ (k : d.ended ≡ true). sym e.split ∙ d.nothing k in
@@ -75,7 +78,8 @@ module _ {A : Type 0} where
       }
 
   -- more was read, and then reading failed
-  pub cut_on : (bytes : List ℕ) (left left2 : Option (List ℕ)) (due now : List ℕ → A) → IsRead bytes left due now → ((rest : List ℕ) → left ≡ Some rest → IsCut rest left2) → IsCut bytes left2
+  pub cut_on : (bytes : List ℕ) (left left2 : Option (List ℕ)) (due now : List ℕ → A) → IsRead bytes left due now
+      → ((rest : List ℕ) → left ≡ Some rest → IsCut rest left2) → IsCut bytes left2
   cut_on bytes left left2 due now d f =
       let e = f d.rest d.has_left in
       record {
@@ -90,7 +94,8 @@ module _ {A : Type 0} where
   read_whole bytes left due now d = ap due d.split ∙ d.same d.rest d.nothing
 
 -- what is made of what was due
-pub read_map : {A B : Type 0} (bytes : List ℕ) (left : Option (List ℕ)) (due now : List ℕ → A) (f : A → B) → IsRead bytes left due now → IsRead bytes left (λ more. f (due more)) (λ more. f (now more))
+pub read_map : {A B : Type 0} (bytes : List ℕ) (left : Option (List ℕ)) (due now : List ℕ → A) (f : A → B) → IsRead bytes left due now
+    → IsRead bytes left (λ more. f (due more)) (λ more. f (now more))
 read_map bytes left due now f d = record {
   came = d.came;
   rest = d.rest;

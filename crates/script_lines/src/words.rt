@@ -3,8 +3,8 @@ ghost use Rattle.std.specs.Prelude.{◌≡◌, ◌≤◌, ◌+◌, ◌==◌, ◌
 ghost use Rattle.std.specs.List.{position_or_len};
 ghost use Rattle.homa_plain.specs.Input.{words_of};
 ghost use Rattle.homa_plain.specs.Numbers.{number_of};
-ghost use Rattle.homa_plain.specs.Script.{number_up_to, number_at_most, host_operand, bytes_operand};
-ghost use Rattle.homa_script.specs.Operands.{with_words, taken, end_of};
+ghost use Rattle.homa_plain.specs.Script.{is_comment, number_up_to, number_at_most, host_operand, bytes_operand};
+ghost use Rattle.script_lines.specs.Operands.{with_words, taken, end_of};
 
 use homa_plain::{HostId, ScriptFault};
 use homa_text::{read_bytes, read_number};
@@ -33,8 +33,15 @@ fn split_word(line: &[u8]) -> Option<(&[u8], &[u8])>
     None
 }
 
+/// Tells whether a word begins a comment: its first byte is `#`.
+pub fn is_comment(word: &[u8]) -> bool
+    ensures { result ≡ is_comment word.now }
+{
+    matches!(word, [b'#', ..])
+}
+
 /// A word as a number of at most `most`.
-pub(crate) fn read_up_to(word: &[u8], most: u64) -> Result<u64, ScriptFault>
+pub fn read_up_to(word: &[u8], most: u64) -> Result<u64, ScriptFault>
     ensures value { result ≡ number_up_to most (number_of word.now) }
     ensures within { IfOk result (λ n. n ≤ most) }
 {
@@ -46,7 +53,7 @@ pub(crate) fn read_up_to(word: &[u8], most: u64) -> Result<u64, ScriptFault>
 
 /// What is left of a line of at most 2,100,000 bytes. Contracts see the list of its words.
 #[derive(Drop)]
-pub(crate) struct Words<'a> {
+pub struct Words<'a> {
     rest: &'a [u8],
 }
 
@@ -63,7 +70,7 @@ impl<'a> Model for Words<'a> {
 
 impl<'a> Words<'a> {
     /// The words of this line.
-    pub(crate) fn new(line: &'a [u8]) -> Words<'a>
+    pub fn new(line: &'a [u8]) -> Words<'a>
         requires { length line.now ≤ 2100000 }
         ensures { result ≡ words_of line.now }
     {
@@ -71,7 +78,7 @@ impl<'a> Words<'a> {
     }
 
     /// The next word.
-    pub(crate) fn next(&mut self) -> Option<&'a [u8]>
+    pub fn next(&mut self) -> Option<&'a [u8]>
         ensures some { IfSome result (λ word. self.old ≡ word.now ∷ self.new) }
         ensures none { IfNone result (self.old ≡ []) }
         ensures short { IfSome result (λ word. length word.now ≤ 2100000) }
@@ -82,7 +89,7 @@ impl<'a> Words<'a> {
     }
 
     /// The next word as a number of at most `most`.
-    pub(crate) fn number(&mut self, most: u64) -> Result<u64, ScriptFault>
+    pub fn number(&mut self, most: u64) -> Result<u64, ScriptFault>
         ensures operand { number_at_most most self.old ≡ with_words result self.new }
         ensures within { IfOk result (λ n. n ≤ most) }
     {
@@ -93,14 +100,14 @@ impl<'a> Words<'a> {
     }
 
     /// The next word as a host's number, at most 65,535.
-    pub(crate) fn host(&mut self) -> Result<HostId, ScriptFault>
+    pub fn host(&mut self) -> Result<HostId, ScriptFault>
         ensures { host_operand self.old ≡ with_words result self.new }
     {
         Ok(HostId(self.number(65535)? as u16))
     }
 
     /// The next word as bytes, which go to the front of `out`, and how many they are.
-    pub(crate) fn bytes(&mut self, out: &mut [u8]) -> Result<usize, ScriptFault>
+    pub fn bytes(&mut self, out: &mut [u8]) -> Result<usize, ScriptFault>
         requires room { 1050000 ≤ length out.old }
         ensures operand { bytes_operand self.old ≡ with_words (taken result out.new) self.new }
         ensures fits { IfOk result (λ n. n ≤ length out.new) }
@@ -112,7 +119,7 @@ impl<'a> Words<'a> {
     }
 
     /// That no word is left.
-    pub(crate) fn end(&mut self) -> Result<(), ScriptFault>
+    pub fn end(&mut self) -> Result<(), ScriptFault>
         ensures { result ≡ end_of self.old }
     {
         match self.next() {

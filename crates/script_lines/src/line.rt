@@ -1,11 +1,11 @@
-// The lines of a schedule.
+// The lines of a script.
 ghost use Rattle.std.specs.Prelude.{◌≡◌, ◌≤◌, ◌+◌, ℕ, List, Some, true, false, length, IfOk, IfErr};
 ghost use Rattle.homa_io.specs.Outside.{HasRisen};
 ghost use Rattle.homa_plain.specs.Script.{without_return};
 ghost use Rattle.homa_text.specs.Lines.{reading};
-ghost use Rattle.homa_script.specs.Place.{place_of, IsCounted};
-ghost use Rattle.homa_script.specs.Script.{is_read, has_failed_read};
-ghost use Rattle.homa_script.specs.Lines.{IsNextLine, IsNumbered};
+ghost use Rattle.script_lines.specs.Place.{place_of, IsCounted};
+ghost use Rattle.script_lines.specs.Stops.{is_read, has_failed_read};
+ghost use Rattle.script_lines.specs.Lines.{IsNextLine, IsNumbered};
 
 use crate::ScriptStop;
 use homa_io::Source;
@@ -15,7 +15,7 @@ use std::str::from_utf8;
 
 /// Reads the next line, and answers whether there is one. A line that isn't refused by what it is
 /// made of is then the last line of `lines`.
-pub(crate) fn next_line<S: Source>(lines: &mut Lines, source: &mut S) -> Result<bool, ScriptStop>
+pub fn next_line<S: Source>(lines: &mut Lines, source: &mut S) -> Result<bool, ScriptStop>
     requires longest { (reading lines.old).longest ≡ 2100000 }
     requires counted { IsCounted (place_of (reading lines.old)) }
     ensures line { (bytes : List ℕ) → S.left source.old ≡ Some bytes → IsNextLine (reading lines.old) (reading lines.new) bytes (S.left source.new) result }
@@ -41,7 +41,7 @@ pub(crate) fn next_line<S: Source>(lines: &mut Lines, source: &mut S) -> Result<
 }
 
 /// The last line without its line feed, and without the one carriage return at its end.
-pub(crate) fn last_line(lines: &Lines) -> &[u8]
+pub fn last_line(lines: &Lines) -> &[u8]
     ensures value { result.now ≡ without_return (reading lines.now).line }
     ensures short { length result.now ≤ length (reading lines.now).line }
 {
