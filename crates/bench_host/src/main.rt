@@ -6,14 +6,14 @@
 //! have. Of each kind but `done` one packet a row is handed over before, which isn't counted: so a response is there of
 //! which bytes come, and calls are acknowledged that are to be so already. A delivery comes a tick after the one before;
 //! no turn does.
-//!
-//! With two rows and four deliveries, as the gate runs it, two more bytes of each message come. Each makes its message
-//! the one with the fewest missing bytes, or the oldest of the two, and it is granted one more: a GRANT has 16 + 5 bytes.
-//! A GRANT, a RESEND and an UNKNOWN each have one byte of a request sent, in 16 + 20 + 1 bytes, and a NEED_ACK a BUSY, in
-//! 16. A datagram that is no packet is told; a repeat of a piece, of CUTOFFS and of an ACK, and a BUSY, tell nothing. Each
-//! `done` tells that a call is done, that another is made, and that its first byte is sent, in 16 + 20 + 1 bytes; no
-//! server has five calls that are done, of which it would be told by an ACK.
 #![tactic(auto)]
+
+// With two rows and four deliveries, as the gate runs it, two more bytes of each message come. Each makes its message
+// the one with the fewest missing bytes, or the oldest of the two, and it is granted one more: a GRANT has 16 + 5 bytes.
+// A GRANT, a RESEND and an UNKNOWN each have one byte of a request sent, in 16 + 20 + 1 bytes, and a NEED_ACK a BUSY, in
+// 16. A datagram that is no packet is told; a repeat of a piece, of CUTOFFS and of an ACK, and a BUSY, tell nothing. Each
+// `done` tells that a call is done, that another is made, and that its first byte is sent, in 16 + 20 + 1 bytes; no
+// server has five calls that are done, of which it would be told by an ACK.
 
 mod frames;
 mod kind;

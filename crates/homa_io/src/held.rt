@@ -202,10 +202,13 @@ impl<K: Sink + Drop> Sink for HeldSink<K> {
             0 < direct_lines self.old → direct_lines self.new + 1 ≡ direct_lines self.old) }
         ensures never_more { direct_lines self.new ≤ direct_lines self.old }
 
-        // What comes later is held as long as it fits. Of what doesn't fit, up to 65,536 bytes are
-        // held alone, after what was held went out.
+        // What comes later is held as long as it fits, and then nothing goes out. Of what doesn't fit, up
+        // to 65,536 bytes are held alone, after what was held went out; what is longer goes out too.
         ensures waits { direct_lines self.old ≡ 0 → length bytes.now ≤ space_left self.old →
             sink_below self.new ≡ sink_below self.old }
+        ensures joins { OnOk result (direct_lines self.old ≡ 0 → length bytes.now ≤ space_left self.old →
+            held_bytes self.new ≡ held_bytes self.old ++ bytes.now) }
+        ensures passed { OnOk result (65536 < length bytes.now → held_bytes self.new ≡ []) }
         ensures held { OnOk result
             (direct_lines self.old ≡ 0 → space_left self.old < length bytes.now → length bytes.now ≤ 65536 →
             (K.taken (sink_below self.new) ≡ appended (K.taken (sink_below self.old)) (held_bytes self.old))

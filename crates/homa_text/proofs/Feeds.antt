@@ -1,5 +1,5 @@
 -- Lines with and without their feed.
-use Rattle.std.proofs.Common.{◌≡◌, ◌<◌, ℕ, suc, Bool, true, false, List, [], ◌∷◌, ◌++◌, length, get_or, refl, ap, ◌⊎◌, inl, inr, arith}
+use Rattle.std.proofs.Common.{◌≡◌, ◌<◌, ℕ, zero, suc, Bool, true, false, List, [], ◌∷◌, ◌++◌, length, take, drop, get_or, refl, sym, ap, ◌∙◌, ◌⊎◌, inl, inr, arith}
 use Rattle.std.specs.Prelude.{◌==◌, if◌then◌else◌}
 use Rattle.std.proofs.lemmas.Bool.Decides.{nat_tests}
 use Rattle.homa_plain.specs.Input.{without_feed, has_no_feed, ends_in_feed}
@@ -62,3 +62,19 @@ either bytes b false e h = inr (has_no_feed-push bytes b h (λ is_feed. absurd (
 -- any byte behind a line without a feed
 pub ends_or_not : (bytes : List ℕ) (b : ℕ) → has_no_feed bytes ≡ true → (ends_in_feed (bytes ++ b ∷ []) ≡ true) ⊎ (has_no_feed (bytes ++ b ∷ []) ≡ true)
 ends_or_not bytes b h = either bytes b (b == 10) refl h
+
+behind_step : (t : Bool) (front xs rest : List ℕ) → (if t then false else has_no_feed xs) ≡ false → (if t then false else has_no_feed front) ≡ true
+    → (has_no_feed xs ≡ false → has_no_feed front ≡ true → has_no_feed rest ≡ false) → has_no_feed rest ≡ false
+behind_step true front xs rest h k f = cc
+behind_step false front xs rest h k f = f h k
+
+-- a feed that doesn't stand among the first n bytes stands behind them
+pub feed_behind : (n : ℕ) (xs : List ℕ) → has_no_feed xs ≡ false → has_no_feed (take n xs) ≡ true → has_no_feed (drop n xs) ≡ false
+feed_behind zero xs h k = h
+feed_behind (suc n) [] h k = h
+feed_behind (suc n) (x ∷ xs) h k = behind_step (x == 10) (take n xs) xs (drop n xs) h k (feed_behind n xs)
+
+-- where a feed stands there is a byte
+pub feed_is_byte : (xs : List ℕ) → has_no_feed xs ≡ false → xs ≡ [] → ⊥
+feed_is_byte [] h e = absurd cc
+feed_is_byte (x ∷ xs) h e = absurd cc

@@ -5,7 +5,7 @@ use Rattle.std.proofs.lemmas.List.{length-take-le, take-append-le, take_all, app
 use Rattle.std.proofs.Math.Seq.{take-nil, take-append-add}
 use Rattle.homa_io.specs.Outside.{IsAtEnd}
 use Rattle.homa_plain.specs.Input.{has_no_feed}
-use Rattle.homa_text.specs.Rest.{Rest, Takes, TakesSome}
+use Rattle.homa_text.specs.Rest.{Rest, Takes, StopsInLine}
 use Rattle.homa_text.specs.Scan.{IsInLine, IsWhole}
 use Rattle.homa_text.proofs.Feeds.{has_no_feed-append}
 use Rattle.homa_text.proofs.Taking.{takes_none, takes_on, takes_front, takes_behind, takes_first}
@@ -50,8 +50,14 @@ in_line_more old mid room line n k more so_far none fits is =
     }
 
 -- a read failed behind these bytes
-pub in_line_stops : (old mid new : Rest) (room : ℕ) (line : List ℕ) (n : ℕ) → IsInLine old mid room line n [] → Takes mid new [] → TakesSome old new
-in_line_stops old mid new room line n so_far next = let stopped = in_line_then old mid new room line n [] so_far next in (stopped.bytes ++ [], stopped.taken)
+pub in_line_stops : (old mid new : Rest) (room : ℕ) (line : List ℕ) (n : ℕ) → IsInLine old mid room line n [] → Takes mid new [] → new.pending ≡ [] → StopsInLine old new
+in_line_stops old mid new room line n so_far next none =
+    let stopped = in_line_then old mid new room line n [] so_far next in record {
+      taken = stopped.bytes;
+      takes = subst (λ (xs : List ℕ). Takes old new xs) (append-nil stopped.bytes) stopped.taken;
+      one_line = stopped.one_line;
+      none_pending = none;
+    }
 
 -- the input ends behind them
 pub whole_end : (old mid new : Rest) (room : ℕ) (line : List ℕ) (n most : ℕ) → IsInLine old mid room line n [] → Takes mid new [] → new.pending ≡ [] → IsAtEnd new.left → n ≤ most → IsWhole old new room line n n × (n ≤ most)

@@ -1,6 +1,7 @@
 -- What a buffered source still has to give.
-use Rattle.std.specs.Prelude.{◌≡◌, ℕ, Option, List, ◌++◌}
+use Rattle.std.specs.Prelude.{◌≡◌, ℕ, true, Option, List, [], ◌++◌}
 use Rattle.homa_io.specs.Outside.{unread}
+use Rattle.homa_plain.specs.Input.{has_no_feed}
 
 -- the bytes that are pending in the buffer, and what the source has left, where it can tell
 pub record Rest : Type 0 where
@@ -13,6 +14,9 @@ pub record Takes (old new : Rest) (taken : List ℕ) : Type 0 where
   pub source : old.left ≡ unread came new.left
   pub bytes : old.pending ++ came ≡ taken ++ new.pending
 
--- some bytes were taken
-abbrev pub TakesSome : Rest → Rest → Type 0
-TakesSome old new = (taken : List ℕ) × Takes old new taken
+-- bytes without a line feed were taken, and none is pending
+pub record StopsInLine (old new : Rest) : Type 0 where
+  pub taken : List ℕ
+  pub takes : Takes old new taken
+  pub one_line : has_no_feed taken ≡ true
+  pub none_pending : new.pending ≡ []

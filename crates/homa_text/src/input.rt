@@ -1,5 +1,5 @@
 // A source that is read through a buffer.
-ghost use Rattle.std.specs.Prelude.{◌≡◌, ◌<◌, ◌≤◌, [], length, drop, OnOk, OnErr, IfOk};
+ghost use Rattle.std.specs.Prelude.{◌≡◌, ◌≢◌, ◌<◌, ◌≤◌, [], length, drop, OnOk, OnErr, IfOk};
 ghost use Rattle.homa_io.specs.Outside.{HasRisen, IsAtEnd};
 ghost use Rattle.homa_text.specs.Rest.{Takes};
 
@@ -17,7 +17,7 @@ pub(crate) struct Input {
     end: usize,
     ghost ordered: { start ≤ end },
     ghost within: { end ≤ length buf.items },
-    ghost has_room: { 0 < length buf.items },
+    ghost sized: { length buf.items ≡ 65536 },
 }
 
 impl Input {
@@ -37,7 +37,9 @@ impl Input {
     /// Reads the source where no byte is pending. None is pending then only at the end.
     pub(crate) fn fill<S: Source>(&mut self, source: &mut S) -> Result<(), ReadFailed>
         ensures taken { Takes (rest_of self.old (S.left source.old)) (rest_of self.new (S.left source.new)) [] }
+        ensures pending { pending_of self.old ≢ [] → (self.new ≡ self.old) × (source.new ≡ source.old) }
         ensures end { OnOk result (pending_of self.new ≡ [] → IsAtEnd (S.left source.new)) }
+        ensures none { OnErr result (pending_of self.new ≡ []) }
         ensures risen { OnErr result (HasRisen (S.faults source.old) (S.faults source.new)) }
         ensures quiet { OnOk result (S.faults source.new ≡ S.faults source.old) }
         ensures never_falls { S.faults source.old ≤ S.faults source.new }

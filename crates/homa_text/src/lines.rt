@@ -1,6 +1,7 @@
 // The lines of an input, one at a time.
-ghost use Rattle.std.specs.Prelude.{◌≡◌, ◌+◌, ◌-◌, ◌^◌, ◌<◌, ◌≤◌, [], ℕ, List, min, IfOk, OnOk, OnErr};
+ghost use Rattle.std.specs.Prelude.{◌≡◌, ◌+◌, ◌-◌, ◌^◌, ◌<◌, ◌≤◌, ◌++◌, [], ℕ, List, true, false, length, min, IfOk, OnOk, OnErr};
 ghost use Rattle.homa_io.specs.Outside.{HasRisen, unread, IsAtEnd};
+ghost use Rattle.homa_plain.specs.Input.{has_no_feed};
 ghost use Rattle.homa_text.specs.LineRoom.{room};
 
 use crate::input::Input;
@@ -57,7 +58,8 @@ impl Lines {
     }
 
     /// Reads the next line. The source is read in parts of up to 64 KiB, and only where no byte is
-    /// pending. After an error the bytes of the line that came are lost, and nothing is counted.
+    /// pending, so not where the line is pending whole. After an error the bytes of the line that came are
+    /// lost, and nothing is counted.
     pub fn next<S: Source>(&mut self, source: &mut S) -> Result<LineGot, ReadFailed>
         ensures next { IfOk result (λ got. (came : List ℕ) × (S.left source.old ≡ unread came (S.left source.new))
             × IsNext (reading self.old) (reading self.new) came (IsAtEnd (S.left source.new)) got) }
@@ -72,6 +74,13 @@ impl Lines {
         ensures uncounted { OnErr result ((reading self.new).number ≡ (reading self.old).number) }
 
         ensures err { OnErr result ((came : List ℕ) × (S.left source.old ≡ unread came (S.left source.new))) }
+
+        // Where a line feed is pending nothing is read. An error comes in the midst of a line.
+        ensures stays { has_no_feed (reading self.old).pending ≡ false → source.new ≡ source.old }
+        ensures unended { OnErr result ((came : List ℕ) × (S.left source.old ≡ unread came (S.left source.new))
+            × (has_no_feed ((reading self.old).pending ++ came) ≡ true)) }
+        ensures ahead { length (reading self.new).pending ≤ 65536 }
+
         ensures risen { OnErr result (HasRisen (S.faults source.old) (S.faults source.new)) }
         ensures quiet { OnOk result (S.faults source.new ≡ S.faults source.old) }
         ensures never_falls { S.faults source.old ≤ S.faults source.new }

@@ -1,8 +1,8 @@
 // A scan for the next line feed.
 ghost use Rattle.std.specs.Prelude.{◌≡◌, ◌≤◌, ◌<◌, ◌+◌, ◌∷◌, true, false, length, take, drop, min, OnOk, OnErr, IfOk};
 ghost use Rattle.homa_io.specs.Outside.{HasRisen};
-ghost use Rattle.homa_text.specs.Rest.{TakesSome};
-ghost use Rattle.homa_text.specs.Input.{rest_of};
+ghost use Rattle.homa_text.specs.Rest.{StopsInLine};
+ghost use Rattle.homa_text.specs.Input.{pending_of, rest_of};
 ghost use Rattle.homa_text.specs.Scan.{IsScan};
 ghost use Rattle.homa_text.specs.LineRoom.{kept, room};
 ghost use Rattle.homa_plain.specs.Input.{has_no_feed};
@@ -37,7 +37,7 @@ fn before_feed(bytes: &[u8], most: usize) -> (usize, bool)
 }
 
 // Reads up to the next line feed, over at most `most` bytes with it. `line` gets as many of the
-// bytes before it as it has room for.
+// bytes before it as it has room for. Where a line feed is pending the source isn't read.
 pub(crate) fn find_feed<S: Source>(
     input: &mut Input,
     source: &mut S,
@@ -46,7 +46,8 @@ pub(crate) fn find_feed<S: Source>(
 ) -> Result<Found, ReadFailed>
     ensures found { IfOk result (IsScan (rest_of input.old (S.left source.old)) (rest_of input.new (S.left source.new)) (room line.new) (kept line.new) most) }
     ensures room { room line.new ≡ room line.old }
-    ensures err { OnErr result (TakesSome (rest_of input.old (S.left source.old)) (rest_of input.new (S.left source.new))) }
+    ensures stays { has_no_feed (pending_of input.old) ≡ false → source.new ≡ source.old }
+    ensures err { OnErr result (StopsInLine (rest_of input.old (S.left source.old)) (rest_of input.new (S.left source.new))) }
     ensures risen { OnErr result (HasRisen (S.faults source.old) (S.faults source.new)) }
     ensures quiet { OnOk result (S.faults source.new ≡ S.faults source.old) }
     ensures never_falls { S.faults source.old ≤ S.faults source.new }

@@ -1,5 +1,5 @@
 // An observer that prints the entries of a run.
-ghost use Rattle.std.specs.Prelude.{◌≡◌, false};
+ghost use Rattle.std.specs.Prelude.{◌≡◌};
 ghost use Rattle.node_runs.specs.Recorder.{no_notes};
 
 use crate::{Observer, SeenFault};
@@ -33,7 +33,9 @@ impl<K: Sink> Printer<K> {
 
 impl<K: Sink> Observer for Printer<K> {
     ghost use Rattle.node_runs.specs.Recorder.{no_notes};
-    ghost use Rattle.node_io.specs.Printer.{sink_of, printed};
+    ghost use Rattle.node_runs.specs.Observed.{same_notes, never};
+    ghost use Rattle.node_runs.specs.Texts.{printed};
+    ghost use Rattle.node_io.specs.Printer.{sink_of};
 
     ghost taken = { λ p. K.taken (sink_of p) };
 
@@ -45,9 +47,9 @@ impl<K: Sink> Observer for Printer<K> {
 
     ghost told = { λ _ report. printed report };
 
-    ghost kept = { λ notes _. notes };
+    ghost kept = { same_notes };
 
-    ghost strange = { λ _ _. false };
+    ghost strange = { never };
 
     fn seen(&mut self, entry: &Entry<'_>) -> Result<(), SeenFault> {
         put_entry(&mut self.sink, entry).map_err(SeenFault::Write)

@@ -1,3 +1,4 @@
+pub mod Observing
 pub mod WorkedRuns
 pub mod WorkedTicks
 pub mod WorkedRefused

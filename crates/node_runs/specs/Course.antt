@@ -1,12 +1,14 @@
 -- The run of a node, from its script, what the services answer, the ticks that the clock gave, and what each receive gave.
 -- A node is a plain world of which only the local hosts act: its clock is read outside, and its packets go to a net.
-use Rattle.std.specs.Prelude.{◌≤◌, ℕ, zero, suc, ◌==◌, ◌||◌, nat_lt, nat_le, if◌then◌else◌, Option, None, Some, List, [], ◌∷◌, ◌++◌, map}
+use Rattle.std.specs.Prelude.{◌≤◌, ℕ, zero, suc, ◌==◌, ◌||◌, nat_lt, nat_le, if◌then◌else◌, Option, None, Some, List, [], ◌∷◌, ◌++◌, map, length, IfSome}
+use Rattle.std.specs.List.{AllByRecursion}
 use Rattle.homa_plain.specs.declared.id.HostId.{HostId}
 use Rattle.homa_plain.specs.declared.packet.Packet.{Packet as WirePacket}
 use Rattle.homa_plain.specs.declared.settings.Settings.{Settings}
 use Rattle.homa_plain.specs.declared.event.Event.TheVariants as event
 use Rattle.homa_plain.specs.declared.fault.LineFault.{LineFault}
 use Rattle.homa_plain.specs.declared.fault.LineFault.TheVariants.{World as ByWorld}
+use Rattle.homa_plain.specs.Bytes.{IsBytes}
 use Rattle.homa_plain.specs.Wire.{packet_in}
 use Rattle.homa_plain.specs.Entries.{PlainEntry, PlainSettings, PlainClock, PlainRecv}
 use Rattle.homa_plain.specs.Packets.{Packet, packet_between, sender, receiver, datagram}
@@ -37,6 +39,15 @@ pub record Datagram : Type 0 where
 pub record Arrival : Type 0 where
   pub from : HostId
   pub bytes : List ℕ
+
+-- a net hands up bytes, and at most 1,500 of them
+pub record IsReceived (a : Arrival) : Type 0 where
+  pub bytes : IsBytes a.bytes
+  pub few : length a.bytes ≤ 1500
+
+-- so does each of these receives that gave something
+abbrev pub AreReceived : List (Option Arrival) → Type 0
+AreReceived receives = AllByRecursion (λ (given : Option Arrival). IfSome given IsReceived) receives
 
 -- how a run ends: at its last tick after so many loop turns, at a line that is refused, or after the most loop turns that it may take
 pub data End : Type 0 where

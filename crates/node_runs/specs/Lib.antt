@@ -1,5 +1,6 @@
 pub mod Script
 pub mod Course
 pub mod Recorder
+pub mod Observed
 pub mod Texts
 pub mod Replayed

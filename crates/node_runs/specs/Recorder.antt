@@ -144,7 +144,7 @@ keeps (Some s) number from to bytes notes =
 -- what a recorder keeps after a report
 unfoldable pub kept : Notes → Report → Notes
 kept notes (Tells (PlainSettings s)) = record notes { settings = Some s }
-kept notes (Tells (PlainClock now)) = record notes { tick = now; datagrams = still notes.settings now notes.datagrams }
+kept notes (Tells (PlainClock now)) = let tick = max notes.tick now in record notes { tick = tick; datagrams = still notes.settings tick notes.datagrams }
 kept notes (Tells (PlainSend number from to inc role id level body payload)) =
     keeps notes.settings number from to (λ (s : Settings). spelling s.wire (sent_packet s notes.tick inc role id level body) payload) notes
 kept notes report = notes

@@ -1,5 +1,5 @@
 -- What the replay of a recording gives: its law, stated; it is proved in node_laws.
-use Rattle.std.specs.Prelude.{◌≡◌, ◌≤◌, ℕ, Bool, true, false, Option, None, List, [], ◌∷◌, ◌++◌, filter, replicate, length}
+use Rattle.std.specs.Prelude.{◌≡◌, ◌≤◌, ℕ, Bool, true, false, Option, None, List, [], ◌∷◌, filter, replicate, length}
 use Rattle.std.specs.List.{AllByRecursion}
 use Rattle.homa_plain.specs.declared.settings.Settings.{Settings}
 use Rattle.homa_plain.specs.Bytes.{IsBytes}
@@ -10,21 +10,20 @@ use Rattle.homa_plain.specs.World.{new_world}
 use Rattle.homa_plain.specs.Replay.{Happening, Run, carried}
 use Rattle.homa_plain.specs.Script.{most_bytes}
 use Rattle.node_runs.specs.Script.{Place, Local, Remote, Setup, Calls, Opened, opening}
-use Rattle.node_runs.specs.Course.{Report, Arrival, AreTicks, node_run}
-use Rattle.node_runs.specs.Recorder.{Notes, no_notes, events, strange, kept}
-use Rattle.node_runs.specs.Texts.{entries}
+use Rattle.node_runs.specs.Course.{Report, Tells, Arrival, AreTicks, node_run}
+use Rattle.node_runs.specs.Recorder.{Notes, no_notes, events, kept}
+use Rattle.node_runs.specs.Observed.{observed, never}
+use Rattle.node_runs.specs.Texts.{entries, recorded}
 
 -- ---- what is compared
 
 -- the events that reports stand for
-unfoldable pub recorded_events : Notes → List Report → List Happening
-recorded_events notes [] = []
-recorded_events notes (report ∷ reports) = events notes report ++ recorded_events (kept notes report) reports
+abbrev pub recorded_events : Notes → List Report → List Happening
+recorded_events notes reports = (observed events kept never notes reports).told
 
 -- none of the reports is strange
-unfoldable pub NoneStrange : Notes → List Report → Type 0
-NoneStrange notes [] = Unit {0}
-NoneStrange notes (report ∷ reports) = (strange notes report ≡ false) × NoneStrange (kept notes report) reports
+abbrev pub NoneStrange : Notes → List Report → Type 0
+NoneStrange notes reports = (recorded notes reports).is_cut ≡ false
 
 -- an entry of a host: a recording has the clock's ticks one by one, and tells otherwise how a datagram comes
 abbrev pub is_of_host : PlainEntry → Bool
@@ -37,6 +36,22 @@ is_of_host entry = true
 -- the entries of hosts among these, in order
 abbrev pub of_hosts : List PlainEntry → List PlainEntry
 of_hosts told = filter is_of_host told
+
+-- a report that tells settings
+abbrev pub is_settings : Report → Bool
+is_settings (Tells (PlainSettings s)) = true
+is_settings report = false
+
+-- none of the reports tells settings
+abbrev pub NoSettings : List Report → Type 0
+NoSettings [] = Unit {0}
+NoSettings (report ∷ reports) = (is_settings report ≡ false) × NoSettings reports
+
+-- the settings are told first, and only there
+pub record BeginsWith (s : Settings) (reports : List Report) : Type 0 where
+  pub later : List Report
+  pub first : reports ≡ Tells (PlainSettings s) ∷ later
+  pub only : NoSettings later
 
 -- ---- the law
 
@@ -63,3 +78,12 @@ RecordingsRepeat =
     let reports = (node_run bytes answers ticks receives).reports in
     NoneStrange no_notes reports
     → RepeatsBy (carried s (new_world s (replicate s.hosts 1) 0 boxes answers) (recorded_events no_notes reports)) s (entries reports)
+
+-- the reports of such a run tell the settings first, and only there
+abbrev pub SettingsFirst : Type 0
+SettingsFirst =
+    (bytes : List ℕ) (setup : Setup) (calls : Calls) (answers : List Answer) (ticks : List ℕ) (receives : List (Option Arrival))
+    → opening most_bytes bytes ≡ Opened setup calls → AllByRecursion IsHere setup.places
+    → AllByRecursion IsAnswer answers → AreTicks 0 ticks
+    → let reports = (node_run bytes answers ticks receives).reports in
+    NoneStrange no_notes reports → BeginsWith setup.settings reports

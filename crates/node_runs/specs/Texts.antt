@@ -1,11 +1,12 @@
 -- What a node prints of its run, and what a recorder prints of it.
-use Rattle.std.specs.Prelude.{ℕ, Bool, true, false, if◌then◌else◌, Option, None, Some, List, [], ◌∷◌, ◌++◌, codes}
-use Rattle.std.specs.List.{flat_map}
+use Rattle.std.specs.Prelude.{ℕ, Bool, if◌then◌else◌, Option, None, Some, List, [], ◌∷◌, ◌++◌, codes, length, take}
 use Rattle.std.specs.Fmt.{decimal}
-use Rattle.homa_plain.specs.Entries.{PlainEntry, PlainFinished, PlainRefused, PlainStalled}
+use Rattle.std.specs.Option.{option_map}
+use Rattle.homa_plain.specs.Entries.{PlainEntry, PlainSend, PlainFinished, PlainRefused, PlainStalled}
 use Rattle.homa_plain.specs.Text.{line_of_words, line_text}
-use Rattle.node_runs.specs.Course.{Report, Tells, Turning, End, Ended, RefusedAt, StalledAt, Run}
+use Rattle.node_runs.specs.Course.{Report, Tells, Turning, Datagram, End, Ended, RefusedAt, StalledAt, Run}
 use Rattle.node_runs.specs.Recorder.{Notes, no_notes, strange, told, kept}
+use Rattle.node_runs.specs.Observed.{Observed, observed, never, same_notes}
 
 -- ---- a node
 
@@ -26,27 +27,22 @@ abbrev pub last_text : (End → List ℕ) → Option End → List ℕ
 last_text text None = []
 last_text text (Some end) = text end
 
+-- what a node prints of a report: the line of an entry; a turning has none
+abbrev pub printed : Report → List ℕ
+printed (Tells entry) = line_text entry
+printed (Turning host) = []
+
 -- what a node prints of its run
 unfoldable pub node_text : Run → List ℕ
-node_text run = flat_map line_text (entries run.reports) ++ last_text (λ (end : End). line_text (end_entry end)) run.end
+node_text run =
+    (observed (λ (notes : Notes) (report : Report). printed report) same_notes never no_notes run.reports).told
+    ++ last_text (λ (end : End). line_text (end_entry end)) run.end
 
 -- ---- a recording
 
--- what is printed of reports, and whether the last of them was strange
-pub record Recording : Type 0 where
-  pub text : List ℕ
-  pub is_cut : Bool
-
--- a text in front of what is printed behind it
-abbrev pub behind : List ℕ → Recording → Recording
-behind text rest = record rest { text = text ++ rest.text }
-
--- the reports are printed up to the first that is strange, which is printed too
-unfoldable pub recorded : Notes → List Report → Recording
-recorded notes [] = record { text = []; is_cut = false }
-recorded notes (report ∷ reports) =
-    if strange notes report then record { text = told notes report; is_cut = true }
-    else behind (told notes report) (recorded (kept notes report) reports)
+-- what a recorder prints of reports, up to the first that is strange, which is printed too
+abbrev pub recorded : Notes → List Report → Observed ℕ
+recorded notes reports = observed told kept strange notes reports
 
 -- the last line of a recording: a comment where the run ended, else as a node prints it
 abbrev pub recorded_end : End → List ℕ
@@ -54,9 +50,38 @@ recorded_end (Ended turns) = line_of_words (codes "#" ∷ codes "ok" ∷ decimal
 recorded_end end = line_text (end_entry end)
 
 -- a recording with its last line, unless it was cut
-abbrev pub with_end : Recording → Option End → List ℕ
-with_end recording end = if recording.is_cut then recording.text else recording.text ++ last_text recorded_end end
+abbrev pub with_end : Observed ℕ → Option End → List ℕ
+with_end recording end = if recording.is_cut then recording.told else recording.told ++ last_text recorded_end end
 
 -- what a recorder prints of a run
 unfoldable pub recording_text : Run → List ℕ
 recording_text run = with_end (recorded no_notes run.reports) run.end
+
+-- ---- what the net takes, and the status
+
+-- the number of the packet that a report tells as sent
+abbrev pub sent_number : Report → List ℕ
+sent_number (Tells (PlainSend number from to inc role id level body payload)) = number ∷ []
+sent_number report = []
+
+-- the datagrams that the net took when so many reports were told: all of the run, or those up to the first report that is strange
+unfoldable pub sent_by : (Notes → Report → Notes) → (Notes → Report → Bool) → Notes → Run → List Datagram
+sent_by kept strange notes run = take (length (observed (λ (n : Notes) (report : Report). sent_number report) kept strange notes run.reports).told) run.sent
+
+-- those of a run that is recorded
+abbrev pub recorded_sent : Run → List Datagram
+recorded_sent run = sent_by kept strange no_notes run
+
+-- the status of an end
+abbrev pub end_status : End → ℕ
+end_status (Ended turns) = 0
+end_status (RefusedAt line fault) = 2
+end_status (StalledAt turns now) = 7
+
+-- the status of a run, where it has an end
+abbrev pub node_status : Run → Option ℕ
+node_status run = option_map end_status run.end
+
+-- the status of a recording: 8 where a datagram was strange
+abbrev pub recording_status : Run → Option ℕ
+recording_status run = if (recorded no_notes run.reports).is_cut then Some 8 else node_status run

@@ -1,4 +1,4 @@
-ghost use Rattle.std.specs.Prelude.{◌≡◌, ◌<◌, ◌≤◌, ◌+◌, ◌^◌, IfOk, IsSome, length};
+ghost use Rattle.std.specs.Prelude.{◌≡◌, ◌<◌, ◌≤◌, ◌+◌, ◌^◌, ◌∷◌, [], IfOk, IsSome, length};
 ghost use Rattle.msg_pool.specs.Pool.{Pool};
 ghost use Rattle.host_places.specs.Placed.{spot_at};
 ghost use Rattle.homa_plain.specs.Settings.{IsValid};
@@ -11,6 +11,7 @@ use homa_server::*;
 use homa_service::{Reply, Service, Suite};
 use msg_pool::{MsgPool, Scratch};
 use std::alloc::{AllocError, Global};
+use std::process::Abort;
 use std::test::Fail;
 
 const FROM: HostId = HostId(0);
@@ -162,106 +163,189 @@ impl Server {
     }
 }
 
-#[test]
-fn one_call(rt: HostRuntime) -> Result<(), Fail> {
-    let mut server = Server::open(rt.alloc(), &Settings::usual(), 2)?;
-    let first = server.get(rt.alloc(), FROM, &piece(5, 0, 2), b"ab", 10, 0)?;
-    let slot = server.table.find(ID).expect(&rt, "a row");
-    assert_eq!(rt; first, ServerDid::Opened(slot));
-    assert_eq!(rt; server.table.rows(), 1);
-    let last = server.get(rt.alloc(), FROM, &piece(5, 2, 2), b"cde", 11, 1)?;
+// A request that comes in two pieces runs.
+fn runs(rt: &impl Abort, alloc: Global, server: &mut Server) -> Result<(), AllocError>
+    requires { AreIn server.old.pool (request_at server.old.table.rows) }
+{
+    opens(rt, alloc, server, piece(5, 0, 2), 10, 0)?;
+    assert!(rt; server.table.rows() == 1);
+    let last = server.get(alloc, FROM, &piece(5, 2, 2), b"cde", 11, 1)?;
     let ran = ServerDid::Ran {
-        slot,
+        slot: slot(rt, &server.table),
         opened: false,
         hold: 0,
     };
-    assert_eq!(rt; last, ran);
-    assert_eq!(rt; server.scratch.bytes(), b"abcde".as_slice());
-    assert_eq!(rt; server.table.response(ID), Some(b"edcba".as_slice()));
-    assert_eq!(rt; server.pool.free(), 2);
-    let slot = server.table.find(ID).expect(&rt, "a row");
-    let facts = server.table.row(slot);
-    assert_eq!(rt; (facts.id, facts.peer, facts.order), (ID, FROM, 0));
-    assert!(rt; server.table.incoming(slot).is_none());
-    assert_eq!(rt; server.table.deadline(slot), None);
-    assert_eq!(rt; server.table.emit(slot, 12, 4), Emitted::Short);
-    let slot = server.table.find(ID).expect(&rt, "a row");
-    assert_eq!(rt; server.table.emit(slot, 12, 5), Emitted::Sent(0, 5));
-    assert_eq!(rt; server.table.ack(ID, 13), Some((slot, 33)));
-    assert_eq!(rt; server.table.response(ID), None);
-    assert_eq!(rt; server.table.rows(), 1);
+    assert!(rt; last == ran);
+    assert!(rt; server.scratch.bytes() == b"abcde".as_slice());
+    assert!(rt; server.pool.free() == 2);
     Ok(())
+}
+
+// The slot of the call's row.
+fn slot(rt: &impl Abort, table: &ServerTable) -> u32
+    ensures { IsSome (spot_at table.now.rows result) }
+{
+    table.find(ID).expect(rt, "a row")
+}
+
+// A request's piece with the bytes "ab" opens it.
+fn opens(
+    rt: &impl Abort,
+    alloc: Global,
+    server: &mut Server,
+    packet: Packet,
+    now: u64,
+    order: u64,
+) -> Result<(), AllocError>
+    requires role { packet.role ≡ Role.Client }
+    requires fits { IsFit packet.body (97 ∷ 98 ∷ []) }
+    requires now { now ≤ 1000000002000 }
+    requires order { order < 2 ^ 63 }
+    requires pool { AreIn server.old.pool (request_at server.old.table.rows) }
+    ensures { AreIn server.new.pool (request_at server.new.table.rows) }
+{
+    let first = server.get(alloc, FROM, &packet, b"ab", now, order)?;
+    let opened = ServerDid::Opened(slot(rt, &server.table));
+    assert!(rt; first == opened);
+    Ok(())
+}
+
+// The call's row acts at a tick, if it is due, and does this.
+fn acts(rt: &impl Abort, server: &mut Server, now: u64, wanted: Option<ServerAct>)
+    requires now { now ≤ 1000000002000 }
+    requires pool { AreIn server.old.pool (request_at server.old.table.rows) }
+    ensures { AreIn server.new.pool (request_at server.new.table.rows) }
+{
+    let slot = slot(rt, &server.table);
+    let act = act_if_due(&mut server.table, slot, now, 1, &mut server.pool);
+    assert!(rt; act == wanted);
+}
+
+// What the table says of the call that ran.
+fn stands(rt: &impl Abort, table: &ServerTable) {
+    let answer = table.response(ID);
+    assert!(rt; answer == Some(b"edcba".as_slice()));
+    let slot = slot(rt, table);
+    let facts = table.row(slot);
+    assert!(rt; facts.id == ID && facts.peer == FROM && facts.order == 0);
+    assert!(rt; table.incoming(slot).is_none());
+    assert!(rt; table.deadline(slot).is_none());
+}
+
+// The response leaves, and is acknowledged.
+fn leaves(rt: &impl Abort, table: &mut ServerTable) {
+    let at = slot(rt, table);
+    assert!(rt; table.emit(at, 12, 4) == Emitted::Short);
+    let at = slot(rt, table);
+    assert!(rt; table.emit(at, 12, 5) == Emitted::Sent(0, 5));
+    assert!(rt; table.ack(ID, 13) == Some((at, 33)));
+    assert!(rt; table.response(ID).is_none());
+    assert!(rt; table.rows() == 1);
+}
+
+#[test]
+fn one_call(rt: HostRuntime) -> Result<(), Fail> {
+    let mut server = Server::open(rt.alloc(), &Settings::usual(), 2)?;
+    runs(&rt, rt.alloc(), &mut server)?;
+    stands(&rt, &server.table);
+    leaves(&rt, &mut server.table);
+    Ok(())
+}
+
+// A request of 12,000 bytes is granted.
+fn is_granted(rt: &impl Abort, table: &mut ServerTable) {
+    let at = slot(rt, table);
+    assert!(rt; table.deadline(at) == Some(14));
+    assert!(rt; grant_if_more(table, at, 12000, 11));
+    let at = slot(rt, table);
+    assert!(rt; table.deadline(at) == Some(15));
+    let granted = table.incoming(at).map(|part| part.granted());
+    assert!(rt; granted == Some(12000));
 }
 
 #[test]
 fn a_grant(rt: HostRuntime) -> Result<(), Fail> {
     let mut server = Server::open(rt.alloc(), &Settings::usual(), 8)?;
-    let first = server.get(rt.alloc(), FROM, &piece(12000, 0, 0), b"ab", 10, 0)?;
-    let slot = server.table.find(ID).expect(&rt, "a row");
-    assert_eq!(rt; first, ServerDid::Opened(slot));
-    assert_eq!(rt; server.table.deadline(slot), Some(14));
-    assert!(rt; grant_if_more(&mut server.table, slot, 12000, 11));
-    let slot = server.table.find(ID).expect(&rt, "a row");
-    assert_eq!(rt; server.table.deadline(slot), Some(15));
-    let granted = server.table.incoming(slot).map(|part| part.granted());
-    assert_eq!(rt; granted, Some(12000));
+    opens(&rt, rt.alloc(), &mut server, piece(12000, 0, 0), 10, 0)?;
+    is_granted(&rt, &mut server.table);
     Ok(())
+}
+
+// A service that holds its reply back is asked once.
+fn runs_and_waits(rt: &impl Abort, alloc: Global, server: &mut Server) -> Result<(), AllocError>
+    requires { AreIn server.old.pool (request_at server.old.table.rows) }
+    ensures { AreIn server.new.pool (request_at server.new.table.rows) }
+{
+    let first = server.get(alloc, FROM, &piece(2, 0, 3), b"hi", 10, 0)?;
+    let at = slot(rt, &server.table);
+    let ran = ServerDid::Ran {
+        slot: at,
+        opened: true,
+        hold: 10,
+    };
+    assert!(rt; first == ran);
+    let again = server.get(alloc, FROM, &piece(2, 0, 3), b"hi", 11, 1)?;
+    assert!(rt; again == ServerDid::Nothing);
+    Ok(())
+}
+
+// The reply goes out when it has been held for 10 ticks.
+fn is_released(rt: &impl Abort, server: &mut Server)
+    requires { AreIn server.old.pool (request_at server.old.table.rows) }
+{
+    let at = slot(rt, &server.table);
+    assert!(rt; server.table.deadline(at) == Some(20));
+    acts(rt, server, 19, None);
+    acts(rt, server, 20, Some(ServerAct::Release));
+    let at = slot(rt, &server.table);
+    assert!(rt; server.table.emit(at, 20, 1400) == Emitted::Sent(0, 2));
 }
 
 #[test]
 fn a_held_reply(rt: HostRuntime) -> Result<(), Fail> {
     let mut server = Server::open(rt.alloc(), &Settings::usual(), 2)?;
-    let first = server.get(rt.alloc(), FROM, &piece(2, 0, 3), b"hi", 10, 0)?;
-    let slot = server.table.find(ID).expect(&rt, "a row");
-    let ran = ServerDid::Ran {
-        slot,
-        opened: true,
-        hold: 10,
-    };
-    assert_eq!(rt; first, ran);
-    let again = server.get(rt.alloc(), FROM, &piece(2, 0, 3), b"hi", 11, 1)?;
-    assert_eq!(rt; again, ServerDid::Nothing);
-    let slot = server.table.find(ID).expect(&rt, "a row");
-    assert_eq!(rt; server.table.deadline(slot), Some(20));
-    let early = act_if_due(&mut server.table, slot, 19, 1, &mut server.pool);
-    assert_eq!(rt; early, None);
-    let slot = server.table.find(ID).expect(&rt, "a row");
-    let acted = act_if_due(&mut server.table, slot, 20, 1, &mut server.pool);
-    assert_eq!(rt; acted, Some(ServerAct::Release));
-    let slot = server.table.find(ID).expect(&rt, "a row");
-    assert_eq!(rt; server.table.emit(slot, 20, 1400), Emitted::Sent(0, 2));
+    runs_and_waits(&rt, rt.alloc(), &mut server)?;
+    is_released(&rt, &mut server);
+    Ok(())
+}
+
+// Too few pages for the first request, and too few rows for the third.
+fn fills(rt: &impl Abort, alloc: Global, server: &mut Server) -> Result<(), AllocError>
+    requires { AreIn server.old.pool (request_at server.old.table.rows) }
+{
+    let full = server.get(alloc, FROM, &piece(5000, 0, 0), b"ab", 10, 0)?;
+    assert!(rt; full == (ServerDid::FullPages { need: 2, free: 1 }));
+    opens(rt, alloc, server, piece(50, 10, 0), 10, 0)?;
+    let other = server.get(alloc, HostId(2), &piece(5, 0, 0), b"ab", 11, 1)?;
+    assert!(rt; other == (ServerDid::FullRows { rows: 1 }));
     Ok(())
 }
 
 #[test]
 fn too_little_room(rt: HostRuntime) -> Result<(), Fail> {
     let mut server = Server::open(rt.alloc(), &one_row(), 1)?;
-    let full = server.get(rt.alloc(), FROM, &piece(5000, 0, 0), b"ab", 10, 0)?;
-    assert_eq!(rt; full, ServerDid::FullPages { need: 2, free: 1 });
-    let first = server.get(rt.alloc(), FROM, &piece(50, 10, 0), b"ab", 10, 0)?;
-    let slot = server.table.find(ID).expect(&rt, "a row");
-    assert_eq!(rt; first, ServerDid::Opened(slot));
-    let other = server.get(rt.alloc(), HostId(2), &piece(5, 0, 0), b"ab", 11, 1)?;
-    assert_eq!(rt; other, ServerDid::FullRows { rows: 1 });
+    fills(&rt, rt.alloc(), &mut server)?;
     Ok(())
+}
+
+// The client is asked once, and then the request is given up.
+fn gives_up(rt: &impl Abort, server: &mut Server)
+    requires { AreIn server.old.pool (request_at server.old.table.rows) }
+    ensures { AreIn server.new.pool (request_at server.new.table.rows) }
+{
+    acts(rt, server, 14, Some(ServerAct::Resend(0, 10)));
+    acts(rt, server, 18, Some(ServerAct::Drop(ID)));
+    assert!(rt; server.table.rows() == 0);
+    assert!(rt; server.table.find(ID).is_none());
+    assert!(rt; server.pool.free() == 1);
 }
 
 #[test]
 fn a_drop_and_its_reopening(rt: HostRuntime) -> Result<(), Fail> {
     let mut server = Server::open(rt.alloc(), &one_row(), 1)?;
-    let first = server.get(rt.alloc(), FROM, &piece(50, 10, 0), b"ab", 10, 0)?;
-    let slot = server.table.find(ID).expect(&rt, "a row");
-    assert_eq!(rt; first, ServerDid::Opened(slot));
-    let asked = act_if_due(&mut server.table, slot, 14, 1, &mut server.pool);
-    assert_eq!(rt; asked, Some(ServerAct::Resend(0, 10)));
-    let slot = server.table.find(ID).expect(&rt, "a row");
-    let gone = act_if_due(&mut server.table, slot, 18, 1, &mut server.pool);
-    assert_eq!(rt; gone, Some(ServerAct::Drop(ID)));
-    assert_eq!(rt; (server.table.rows(), server.table.find(ID)), (0, None));
-    assert_eq!(rt; server.pool.free(), 1);
-    let second = server.get(rt.alloc(), FROM, &piece(50, 10, 0), b"ab", 19, 1)?;
-    let slot = server.table.find(ID).expect(&rt, "a row");
-    assert_eq!(rt; second, ServerDid::Opened(slot));
+    opens(&rt, rt.alloc(), &mut server, piece(50, 10, 0), 10, 0)?;
+    gives_up(&rt, &mut server);
+    opens(&rt, rt.alloc(), &mut server, piece(50, 10, 0), 19, 1)?;
     Ok(())
 }
 
@@ -281,24 +365,31 @@ impl Service for Poor {
     }
 }
 
-#[test]
-fn no_memory_in_the_service(rt: HostRuntime) -> Result<(), Fail> {
-    let mut server = Server::open(rt.alloc(), &Settings::usual(), 2)?;
-    let mut poor = Poor;
+// A request of one packet comes, and the service finds no memory.
+fn finds_no_memory(rt: &impl Abort, alloc: Global, server: &mut Server)
+    requires { AreIn server.old.pool (request_at server.old.table.rows) }
+{
     let none = server.table.receive(
-        rt.alloc(),
+        alloc,
         FROM,
         &piece(2, 0, 0),
         b"hi",
         10,
         0,
         &mut server.pool,
-        &mut poor,
+        &mut Poor,
         &mut server.scratch,
     );
     assert!(rt; none.is_err());
-    assert_eq!(rt; (server.table.rows(), server.table.find(ID)), (0, None));
-    assert_eq!(rt; server.pool.free(), 2);
-    assert_eq!(rt; server.scratch.bytes(), b"hi".as_slice());
+    assert!(rt; server.table.rows() == 0);
+    assert!(rt; server.table.find(ID).is_none());
+    assert!(rt; server.pool.free() == 2);
+    assert!(rt; server.scratch.bytes() == b"hi".as_slice());
+}
+
+#[test]
+fn no_memory_in_the_service(rt: HostRuntime) -> Result<(), Fail> {
+    let mut server = Server::open(rt.alloc(), &Settings::usual(), 2)?;
+    finds_no_memory(&rt, rt.alloc(), &mut server);
     Ok(())
 }

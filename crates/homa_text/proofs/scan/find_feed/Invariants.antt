@@ -1,10 +1,11 @@
-use Rattle.std.proofs.Common.{◌≡◌, ◌-◌, ◌≤◌, []}
-use Rattle.homa_text.specs.Input.{rest_of}
+use Rattle.std.proofs.Common.{◌≡◌, ◌-◌, ◌≤◌, [], false}
+use Rattle.homa_plain.specs.Input.{has_no_feed}
+use Rattle.homa_text.specs.Input.{pending_of, rest_of}
 use Rattle.homa_text.specs.LineRoom.{kept, room}
 use Rattle.homa_text.specs.Scan.{IsInLine}
 use Rattle.homa_text.proofs.scan.find_feed.Given as goal
 
--- n bytes of the line were taken, and no line feed
+-- n bytes of the line were taken, and no line feed; where one is pending nothing was read
 abbrev pub invariant-loop-n : goal.invariant-loop-n
 invariant-loop-n g l =
     let left = g.S.Source.left in
@@ -13,6 +14,7 @@ invariant-loop-n g l =
       line : IsInLine (rest_of l.fn.input (left l.fn.source)) (rest_of l.input (left l.source)) (room l.line) (kept l.line) l.n [];
       room : room l.line ≡ room l.fn.line;
       within : l.n ≤ l.most;
+      stays : has_no_feed (pending_of l.fn.input) ≡ false → (l.source ≡ l.fn.source) × (has_no_feed (pending_of l.input) ≡ false);
       quiet : faults l.source ≡ faults l.fn.source;
       same : g.S.Source.is_same l.fn.source l.source;
     }

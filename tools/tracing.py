@@ -1,0 +1,86 @@
+"""What the tools share: a trace's lines, whole or thinned, and sums over its calls and packets."""
+import math
+import re
+import sys
+
+# A word of bytes, whole or as `*LENGTH`, as thin-trace writes it.
+BYTES = re.compile(r"-|\*\d+|(?:[0-9a-f]{2})+")
+# The lines that begin a block: an event each.
+EVENTS = ("call", "deliver", "recv", "clock", "restart", "inject", "shift")
+LAST_LINES = ("ok", "refused", "stalled", "stranger")
+SETTINGS = ("hosts", "seg", "window", "unsched", "overcommit", "rate", "resend", "tries", "life", "pages", "calls", "served", "rebalance", "skew", "wire")
+USUAL = dict(zip(SETTINGS, (2, 1400, 10000, 10000, 4, 14000, 4, 5, 20, 1024, 256, 1024, 0, 0, 1)))
+RANGES = dict(
+    hosts=(2, 32), seg=(1, 1400), window=(1, 1000000), unsched=(1, 1000000), overcommit=(1, 7), rate=(1, 1000000), resend=(1, 1000), tries=(1, 100),
+    life=(1, 100000), pages=(1, 4096), calls=(1, 1024), served=(1, 4096), rebalance=(0, 1024), skew=(0, 1000), wire=(1, 2),
+)
+# How many bytes each kind of packet has beside its header of 16 (an ACK: one, and eight for each call behind the first).
+BODIES = {"DATA": 20, "GRANT": 5, "RESEND": 9, "BUSY": 0, "CUTOFFS": 34, "UNKNOWN": 1, "NEED_ACK": 0}
+
+
+class NoTrace(Exception):
+    """A line that no trace has."""
+
+
+def size_of(word):
+    """How many bytes a word of a trace has."""
+    if word == "-":
+        return 0
+    if word[:1] == "*" and word[1:].isdecimal():
+        return int(word[1:])
+    return len(word) // 2
+
+
+def settings_of(words):
+    """The settings of a `settings` line; those that it leaves out are as usual."""
+    return {**USUAL, **dict(zip(SETTINGS, (int(word) for word in words[1:])))}
+
+
+class Sent:
+    """A packet, as its `send` line tells it."""
+
+    def __init__(self, words, tick):
+        self.number, self.tick, self.inc, self.kind, self.role, self.id = int(words[1]), tick, words[3], words[4], words[5], words[6]
+        self.sender, self.receiver = (int(word) for word in words[2].split(">"))
+        self.level, self.offset, self.size, self.length = 7, 0, 0, 0
+        self.words = words
+        if self.kind == "DATA":
+            self.level, self.length, self.offset = (int(word) for word in words[7:10])
+            self.size = size_of(words[13])
+
+    def frame(self, wire=1):
+        """How many bytes its datagram has."""
+        more = 8 if wire == 2 else 0
+        return 16 + more + BODIES.get(self.kind, 1 + 8 * (len(self.words) - 7)) + self.size
+
+    def message(self):
+        """The message of which a DATA packet is a piece; of a response, that of this life of its server."""
+        return (self.id, self.role, self.inc if self.role == "s" else "")
+
+
+def lines_of(source):
+    """The words of each line with its number, as long as the lines are those of a trace."""
+    for number, line in enumerate(source, 1):
+        words = line.rstrip("\n").split(" ")
+        if not words[0].islower() or number == 1 and words[0] not in ("settings", "refused"):
+            raise NoTrace(f"line {number} is no line of a trace: {line[:80].rstrip()}")
+        yield number, words
+
+
+def read_trace(name):
+    """The lines of a file, or of standard input where the name is `-`."""
+    if name == "-":
+        yield from lines_of(sys.stdin)
+        return
+    with open(name, encoding="utf-8") as source:
+        yield from lines_of(source)
+
+
+def share_of(values, share):
+    """Of values in order the least that this share of them doesn't exceed."""
+    return values[max(0, min(len(values), math.ceil(share * len(values))) - 1)]
+
+
+def stop(tool, why, status=2):
+    print(f"{tool}: {why}", file=sys.stderr)
+    sys.exit(status)
