@@ -10,7 +10,7 @@ use Rattle.msg_pool.specs.Pool.{Pool}
 use Rattle.host_incoming.specs.Pooled.{AreIn, IsInPool, HasNumber}
 use Rattle.homa_client.specs.Held.{HeldRow}
 use Rattle.homa_client.specs.AtTable.{Clients, part_at}
-use Rattle.tables_tests.proofs.client.Client.open.Goals as goal
+use Rattle.client_tests.proofs.client.Client.open.Goals as goal
 
 abbrev part_in : Option (Placed HeldRow) → Option Part
 part_in o = option_and_then (λ (x : Placed HeldRow). x.row.part) o

@@ -9,7 +9,7 @@ use Rattle.host_incoming.specs.Pooled.{AreIn, IsInPool}
 use Rattle.homa_client.specs.Held.{HeldRow}
 use Rattle.homa_client.specs.AtTable.{Clients, HeldRows, Moved, part_at}
 use Rattle.homa_client.proofs.TableLaws.{in_after, part_stands}
-use Rattle.tables_tests.proofs.client.Client.emit.Goals as goal
+use Rattle.client_tests.proofs.client.Client.emit.Goals as goal
 
 at_spot : (rows : HeldRows) (n : ℕ) → IsSome (spot_at rows n) → (id : CallId) × (r : HeldRow) × StandsAt rows id n r
 at_spot rows n some = by_spot (spot_at rows n) refl some where

@@ -4,7 +4,7 @@ use Rattle.host_incoming.specs.Pooled.{AreIn}
 use Rattle.homa_server.specs.Table.{Servers, request_at}
 use Rattle.homa_server.proofs.ArrivingLaws.{if_ok}
 use Rattle.homa_server.proofs.TableLaws.{requests-empty}
-use Rattle.tables_tests.proofs.server.new_table.Goals as goal
+use Rattle.server_tests.proofs.server.new_table.Goals as goal
 
 pub returns : goal.returns
 returns c = if_ok c.open.result _ _ (λ t e pool. subst (λ (v : Servers). AreIn pool (request_at v.rows)) (sym e) (requests-empty pool)) c.open.ensures

@@ -12,7 +12,7 @@ use Rattle.host_incoming.proofs.MoveLaws.{still}
 use Rattle.homa_client.specs.Held.{HeldRow}
 use Rattle.homa_client.specs.AtTable.{Clients, Started, part_at}
 use Rattle.homa_client.proofs.TableLaws.{in_after}
-use Rattle.tables_tests.proofs.client.Client.start.Goals as goal
+use Rattle.client_tests.proofs.client.Client.start.Goals as goal
 
 abbrev part_in : Option (Placed HeldRow) → Option Part
 part_in o = option_and_then (λ (x : Placed HeldRow). x.row.part) o

@@ -1,6 +1,6 @@
 use Rattle.std.proofs.Common.{◌≡◌, rules, arith}
 use Rattle.homa_server.proofs.TableLaws.{grantable_of}
-use Rattle.tables_tests.proofs.server.grant_if_more.Goals as goal
+use Rattle.server_tests.proofs.server.grant_if_more.Goals as goal
 
 pub granted-requires-2-clause-up : goal.granted-requires-2-clause-up
 granted-requires-2-clause-up c id r stands =
