@@ -3,6 +3,7 @@ pub mod Inner
 pub mod Carried
 pub mod Noted
 pub mod Parts
+pub mod Told
 pub mod Ruled
 pub mod Good
 pub mod GoodSteps

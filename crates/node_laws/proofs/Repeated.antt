@@ -137,6 +137,14 @@ there_by [] i e = absurd (true≢false (sym e))
 there_by (x ∷ xs) zero e = omega arith
 there_by (x ∷ xs) (suc i) e = omega (arith, there_by xs i e)
 
+-- a datagram is a packet to its receiver
+pub receiver_is : (from to : HostId) (o : Option (WirePacket × List ℕ)) → IfSome (packet_from from to o) (λ p. receiver p ≡ to)
+receiver_is from to None = tt
+receiver_is from to (Some (p, payload)) = by_role p.role where
+  by_role : (role : Role) → receiver_of role (call_between role from to p.inc p.seq) (server_between role from to) ≡ to
+  by_role Client = refl
+  by_role Server = refl
+
 -- ---- what is so between two parts
 
 module _ (s : Settings) (k : ℕ) (v : World) (such : Arrival → Type 0) where
@@ -343,13 +351,6 @@ module _ (s : Settings) (k : ℕ) (v : World) (such : Arrival → Type 0) where
       by_server false is_there e = absurd (let z : Refused NoSuchHost ≡ Done after = e in cc)
 
     -- ---- a datagram
-
-    pub receiver_is : (from to : HostId) (o : Option (WirePacket × List ℕ)) → IfSome (packet_from from to o) (λ p. receiver p ≡ to)
-    receiver_is from to None = tt
-    receiver_is from to (Some (p, payload)) = by_role p.role where
-      by_role : (role : Role) → receiver_of role (call_between role from to p.inc p.seq) (server_between role from to) ≡ to
-      by_role Client = refl
-      by_role Server = refl
 
     of_packets : (packets : List SentPacket) (i : ℕ) (sent : SentPacket) → slice_get packets i ≡ Some sent → AllByRecursion (IsOfNode s) packets → IsOfNode s sent
     of_packets [] i sent at all = absurd (let z : None ≡ Some sent = at in cc)
