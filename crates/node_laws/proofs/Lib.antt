@@ -7,6 +7,7 @@ pub mod Told
 pub mod Ruled
 pub mod Good
 pub mod GoodSteps
+pub mod Behind
 pub mod Repeated
 pub mod Operands
 pub mod Places

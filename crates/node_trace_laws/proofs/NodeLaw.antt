@@ -43,7 +43,8 @@ use Rattle.node_laws.proofs.Opening.{IsCallGiven, IsScript, opening_is}
 use Rattle.node_laws.proofs.Places.{IsPlace}
 use Rattle.node_laws.proofs.Good.{IsGoodHost}
 use Rattle.node_laws.proofs.GoodSteps.{new_good}
-use Rattle.node_laws.proofs.Repeated.{IsGoodWorld, entries-append, entries-told}
+use Rattle.node_laws.proofs.Behind.{IsGoodWorld}
+use Rattle.node_laws.proofs.Repeated.{entries-append, entries-told}
 use Rattle.node_laws.proofs.Loops.{call_steady, turn_steady, recv_steady, hosts_length, lead_at, run_is}
 use Rattle.node_trace_laws.specs.Honest.{noted, is_honest, AreHonest, last_line, lines, OfEveryRun, NodeTracesObey, NoneIsBroken, UsualIsHonest}
 use Rattle.node_trace_laws.proofs.Lawful.{IsLawful, IsObeyed, obeys, event_obeyed, first_lawful, first_obeyed, last_obeyed}
@@ -143,11 +144,8 @@ module _ (s : Settings) (valid : IsValid s) where
     pub names : (id : HostId) (h : Host) → host_at w id ≡ Some h → HasOwnName id h
     names id h at = (k.lawful.so.0).names id h at
 
-    pub count : length w.hosts ≤ 32
-    count = omega (arith, k.lawful.many, valid.in_range.1)
-
     -- a step that the net has no part in
-    own_step : (after : After) → Obeyed s v after → IsGoodAfter s valid w k.good names count n after → Adds after.world n v after.told
+    own_step : (after : After) → Obeyed s v after → IsGoodAfter s valid w k.good names n after → Adds after.world n v after.told
     own_step after o g = record {
       holds = while_holds IsFine n v after.told (fine v after.told o.0 o.1.behind.last).0;
       so = λ honest. record { lawful = o.1; good = g.sound; noted = g.noted };
@@ -157,12 +155,12 @@ module _ (s : Settings) (valid : IsValid s) where
     call_adds : (c : TimedCall) (after : After) → IsCallGiven c → outcome s w (event.Call c.client c.server c.service) c.bytes ≡ Done after
         → Adds after.world n v after.told
     call_adds c after given done =
-        let g = call_after s valid w k.good names count n c.client c.server c.service c.bytes after given.0 given.1 k.noted done in
+        let g = call_after s valid w k.good names n c.client c.server c.service c.bytes after given.0 given.1 k.noted done in
         own_step after (event_obeyed s w v (record { event = event.Call c.client c.server c.service; bytes = c.bytes }) after k.lawful done) g
 
     turn_adds : (id : HostId) (after : After) → outcome s w (event.Turn id) [] ≡ Done after → Adds after.world n v after.told
     turn_adds id after done =
-        let g = turn_after s valid w k.good names count n id after k.noted done in
+        let g = turn_after s valid w k.good names n id after k.noted done in
         own_step after (event_obeyed s w v (bare (event.Turn id)) after k.lawful done) g
 
     clock_adds : (now : ℕ) → w.clock ≤ now → now ≤ last_tick → Adds (record w { clock = now }) n v (PlainClock now ∷ [])
@@ -202,17 +200,17 @@ module _ (s : Settings) (valid : IsValid s) where
         holds = while_first IsFine n v (PlainRecv id a.from a.bytes) _ (λ honest. let b = both h at honest in
             (fine v (after_recv id a h).told b.0.0 b.0.1.behind.last).0);
         so = λ honest. let b = both h at honest.0 in record { lawful = b.0.1; good = b.1.sound; noted = b.1.noted };
-        in_order = recv_in_order s valid w k.good names count n id a h at;
+        in_order = recv_in_order s valid w k.good names n id a h at;
       } where
         obeyed : (h : Host) → host_at w id ≡ Some h → IsPacket s w id a ⊎ IsJunk s a → Obeyed s v (after_recv id a h)
         obeyed h at (inl p) = packet_comes s w v id a k.lawful h at p
         obeyed h at (inr e) = junk_comes s w v id a k.lawful h at e
 
         both : (h : Host) → host_at w id ≡ Some h → is_honest n (PlainRecv id a.from a.bytes) ≡ true
-            → Obeyed s v (after_recv id a h) × IsGoodAfter s valid w k.good names count n (after_recv id a h)
+            → Obeyed s v (after_recv id a h) × IsGoodAfter s valid w k.good names n (after_recv id a h)
         both h at honest =
             let kind = comes_from s n w id a k.noted k.good.packets honest in
-            (obeyed h at kind, recv_after s valid w k.good names count n id a h at (formed id a kind) k.noted)
+            (obeyed h at kind, recv_after s valid w k.good names n id a h at (formed id a kind) k.noted)
 
       by_host : (o : Option Host) → host_at w id ≡ o
           → arrives_at s w id (PlainRecv id a.from a.bytes ∷ []) (packet_from a.from id (packet_in s.wire a.bytes)) o ≡ Done after

@@ -22,10 +22,8 @@ use Rattle.node_runs.specs.Recorder.{Notes}
 use Rattle.node_laws.proofs.OfNode.{IsOfNode}
 use Rattle.node_laws.proofs.Good.{IsGoodWork}
 use Rattle.node_laws.proofs.GoodSteps.{call_good, arrival_good, turn_good}
-use Rattle.node_laws.proofs.Noted.{AreNotes}
-use Rattle.node_laws.proofs.Courses.{AnyComes}
 use Rattle.node_laws.proofs.Inner.{call_inside, arrival_inside, turn_inside}
-use Rattle.node_laws.proofs.Repeated.{IsGoodWorld, all_second, next_is_answer, in_time, good_behind, receiver_is}
+use Rattle.node_laws.proofs.Behind.{IsGoodWorld, all_second, next_is_answer, in_time, good_behind, receiver_is}
 use Rattle.node_trace_laws.specs.Honest.{noted}
 use Rattle.node_trace_laws.proofs.Sent.{noted_all, AreNoted, inner_noted, call_noted, recv_noted}
 use Rattle.node_trace_laws.proofs.Usual.{AreInOrder, inner_next}
@@ -38,24 +36,15 @@ same_done a b e = cc
 
 -- ---- what is so behind an event
 
-module _ (s : Settings) (valid : IsValid s) (w : World) (good : IsGoodWorld s w) (names : (id : HostId) (h : Host) → host_at w id ≡ Some h → HasOwnName id h)
-    (count : length w.hosts ≤ 32) where
+module _ (s : Settings) (valid : IsValid s) (w : World) (good : IsGoodWorld s w) (names : (id : HostId) (h : Host) → host_at w id ≡ Some h → HasOwnName id h) where
   -- ---- packets that are well formed
 
-  -- what a recorder would keep that has forgotten all datagrams
-  abbrev forgotten : Notes
-  forgotten = record { tick = w.clock; settings = Some s; datagrams = [] }
-
-  forgets : AreNotes s forgotten w.clock w.packets
-  forgets = record { tick = refl; settings = refl; kept = tt }
-
   abbrev in_range : (id : HostId) (h : Host) → host_at w id ≡ Some h → own_clock w id ≤ 1000000002000
-  in_range id h at = in_time s 0 w AnyComes forgotten w names forgets valid good count id h at
+  in_range id h at = in_time s w valid good id h at
 
   good_after : (id : HostId) (h : Host) (at : host_at w id ≡ Some h) (first : List PlainEntry) (step : Work)
       → IsGoodWork s valid (own_clock w id) (in_range id h at) step → IsGoodWorld s (after_step w id first step).world
-  good_after id h at first step g =
-      good_behind s 0 w AnyComes forgotten w names forgets valid good count id h at step (after_step w id first step) g (refl, refl, refl, refl, refl)
+  good_after id h at first step g = good_behind s w valid good id h at step (after_step w id first step) g (refl, refl, refl, refl, refl)
 
   -- ---- what was sent
 
