@@ -34,7 +34,8 @@ use Rattle.trace_induction.proofs.Hosts.{within, some_is}
 use Rattle.homa_plain.specs.Script.{most_bytes}
 use Rattle.node_laws.proofs.Carried.{respared, IsRun, run_none, run_clocks, clock_lines}
 use Rattle.node_laws.proofs.Noted.{kept_all, usual-append, events_first, events_none, usual_first, AreNotes, clock_notes}
-use Rattle.node_laws.proofs.Repeated.{IsGoodWorld, AreFit, all_later, IsRepeated, IsAdded, goes_on, done_is, turn_added, call_added, recv_added}
+use Rattle.node_laws.proofs.Behind.{done_is, IsGoodWorld}
+use Rattle.node_laws.proofs.Repeated.{all_later, IsRepeated, IsAdded, goes_on, turn_added, call_added, recv_added}
 
 -- ---- no step moves the clock
 

@@ -49,7 +49,8 @@ pub between_is : (least most : ℕ) (words : List (List ℕ)) (x : ℕ × List (
 between_is least most words x e =
     let b = bound (number_at_most most words) (λ n. if nat_lt n.0 least then Err BadNumber else Ok n) x e in
     by_test b.value (operand_small most words b.value b.first) (nat_lt (b.value).0 least) refl b.second where
-      by_test : (y : ℕ × List (List ℕ)) → y.0 ≤ most → (t : Bool) → nat_lt y.0 least ≡ t → (if t then Err BadNumber else Ok y) ≡ Ok x → (least ≤ x.0) × (x.0 ≤ most)
+      by_test : (y : ℕ × List (List ℕ)) → y.0 ≤ most → (t : Bool) → nat_lt y.0 least ≡ t → (if t then Err BadNumber else Ok y) ≡ Ok x
+          → (least ≤ x.0) × (x.0 ≤ most)
       by_test y small true f h = absurd (let z : Err BadNumber ≡ Ok x = h in cc)
       by_test y small false f h = let it : y ≡ x = cc in subst (λ (z : ℕ × List (List ℕ)). (least ≤ z.0) × (z.0 ≤ most)) it (ltb-false y.0 least f, small)
 
@@ -68,7 +69,8 @@ word_bytes (c ∷ cs) bytes e = by_first (c == 42) (bytes_eq (c ∷ cs) (codes "
   by_hex (Err fault) is h = absurd (let z : Err BadHex ≡ Ok bytes = h in cc)
   by_hex (Ok xs) is h = let it : xs ≡ bytes = cc in subst IsBytes it (decode_of-ok (c ∷ cs) xs is).3
 
-  by_first : (a b : Bool) → (if a then counted (number_up_to most_counted (number_of cs)) else if b then Ok [] else hex_bytes (decode_of (c ∷ cs))) ≡ Ok bytes → IsBytes bytes
+  by_first : (a b : Bool)
+      → (if a then counted (number_up_to most_counted (number_of cs)) else if b then Ok [] else hex_bytes (decode_of (c ∷ cs))) ≡ Ok bytes → IsBytes bytes
   by_first true b h =
       let n = bound (number_up_to most_counted (number_of cs)) (λ m. Ok (counting 0 m)) bytes h in
       let it : counting 0 n.value ≡ bytes = (let z = n.second in cc) in

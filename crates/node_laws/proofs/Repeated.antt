@@ -1,10 +1,10 @@
 -- What a part of a node's run adds to what the replay of its recording has carried out.
-use Rattle.std.proofs.Common.{◌≡◌, ℕ, suc, zero, ◌+◌, ◌≤◌, Bool, true, false, Option, None, Some, List, [], ◌∷◌, ◌++◌, length, map, refl, sym, ap, ◌∙◌, subst, arith, drop, ◌<◌, ◌*◌, length-append}
-use Rattle.std.specs.Prelude.{is_some, if◌then◌else◌, slice_get, slice_set, ◌==◌, ◌&&◌, nat_lt, slice_index_or}
+use Rattle.std.proofs.Common.{◌≡◌, ℕ, suc, zero, ◌+◌, ◌≤◌, Bool, true, false, Option, None, Some, List, [], ◌∷◌, ◌++◌, length, map, refl, sym, ap, ◌∙◌, subst, arith, ◌<◌, ◌*◌, length-append}
+use Rattle.std.specs.Prelude.{is_some, if◌then◌else◌, slice_get, slice_set, ◌==◌, ◌&&◌, nat_lt}
 use Rattle.std.specs.List.{AllByRecursion}
 use Rattle.std.specs.Option.{IfSome}
 use Rattle.std.proofs.lemmas.List.{length-set, length-map}
-use Rattle.std.proofs.lemmas.Bool.{cond_both, ltb-true, true≢false}
+use Rattle.std.proofs.lemmas.Bool.{ltb-true, true≢false}
 use Rattle.homa_plain.specs.declared.id.CallId.{CallId}
 use Rattle.homa_plain.specs.declared.id.HostId.{HostId}
 use Rattle.homa_plain.specs.declared.packet.Packet.{Packet as WirePacket}
@@ -13,23 +13,18 @@ use Rattle.homa_plain.specs.declared.event.Event.{Event}
 use Rattle.homa_plain.specs.declared.event.Event.TheVariants as event
 use Rattle.homa_plain.specs.declared.fault.StartFault.{StartFault}
 use Rattle.homa_plain.specs.declared.fault.WorldFault.TheVariants.{NoSuchHost, Start}
-use Rattle.homa_plain.specs.Calls.{is_host}
 use Rattle.homa_plain.specs.Wire.{packet_in}
 use Rattle.homa_plain.specs.Entries.{PlainEntry, PlainSettings, PlainCall, PlainRecv, PlainDeliver, PlainInject}
-use Rattle.homa_plain.specs.declared.packet.Role.{Role}
-use Rattle.homa_plain.specs.declared.packet.Role.TheVariants.{Client, Server}
-use Rattle.homa_plain.specs.Packets.{Packet, sender, receiver, receiver_of, call_between, server_between, wire_packet, packet_between}
+use Rattle.homa_plain.specs.Packets.{Packet, sender, wire_packet, packet_between}
 use Rattle.homa_plain.specs.Host.{Host, Told, Says, Sends, packets_in, entries_from}
-use Rattle.homa_plain.specs.Steps.{Work, start_fault, next_id, call_step, arrival_step, turn_step, has_run}
-use Rattle.homa_plain.specs.World.{World, SentPacket, After, Refused, Done, outcome, host_at, own_clock, next_answer, answers_left, stamped, stepped, started, calls_from, turns, arrives_at, last_tick}
+use Rattle.homa_plain.specs.Steps.{Work, start_fault, next_id, call_step, arrival_step, turn_step}
+use Rattle.homa_plain.specs.World.{World, SentPacket, After, Refused, Done, outcome, host_at, own_clock, next_answer, answers_left, stamped, started, calls_from, turns, arrives_at}
 use Rattle.homa_plain.specs.Replay.{Happening, bare}
-use Rattle.trace_induction.proofs.Hosts.{there, elsewhere, within, some_is, number_of, apart}
+use Rattle.trace_induction.proofs.Hosts.{there, within, some_is}
 use Rattle.homa_plain.specs.Bytes.{IsBytes}
 use Rattle.homa_plain.specs.Settings.{IsValid}
-use Rattle.homa_plain.specs.Rules.{Answer}
 use Rattle.step_laws.proofs.Places.{all-append}
 use Rattle.world_laws.specs.Sound.{IsSent}
-use Rattle.node_laws.proofs.Good.{IsGoodHost, IsGoodWork, IsSentNow}
 use Rattle.node_laws.proofs.GoodSteps.{can_start, call_good, arrival_good, turn_good}
 use Rattle.step_laws.proofs.Bounds.{call-bounded, arrival-bounded, turn-bounded}
 use Rattle.trace_lines.specs.Told.{HasOwnName}
@@ -38,8 +33,9 @@ use Rattle.world_laws.proofs.Sent.{read, between}
 use Rattle.node_runs.specs.Course.{Report, Tells, Turning, Arrival, IsReceived, packet_from, arrival_outcome}
 use Rattle.node_runs.specs.Recorder.{Notes, no_notes, Kind, Sent, Junk, Strange, kind_of, kind_in, kind_events, is_strange, strange, events, kept}
 use Rattle.node_runs.specs.Texts.{entries}
-use Rattle.node_runs.specs.Replayed.{recorded_events, is_of_host, of_hosts, IsAnswer, is_settings, NoSettings, BeginsWith, IsRecorded, AreRecorded}
+use Rattle.node_runs.specs.Replayed.{recorded_events, is_of_host, of_hosts, is_settings, NoSettings, BeginsWith, IsRecorded, AreRecorded}
 use Rattle.node_laws.proofs.OfNode.{IsOfNode}
+use Rattle.node_laws.proofs.Behind.{all_second, done_is, IsGoodWorld, next_is_answer, receiver_is, behind, stepped_behind, each_behind, in_time, good_behind}
 use Rattle.node_laws.proofs.Inner.{call_inside, arrival_inside, turn_inside}
 use Rattle.node_laws.proofs.Carried.{respared, respare, call_respared, turn_respared, deliver_is, inject_is, IsRun, run_one, run_more}
 use Rattle.node_laws.proofs.Noted.{kept_all, kept-append, events-append, events_first, inner_no_event, AreNotes, inner_notes, found_sent, found_junk, found_some}
@@ -61,34 +57,6 @@ hosts-append (e ∷ a) b = by_test (is_of_host e) (hosts-append a b) where
   by_test : (t : Bool) → of_hosts (a ++ b) ≡ of_hosts a ++ of_hosts b → (if t then e ∷ of_hosts (a ++ b) else of_hosts (a ++ b)) ≡ (if t then e ∷ of_hosts a else of_hosts a) ++ of_hosts b
   by_test true h = ap (λ (l : List PlainEntry). e ∷ l) h
   by_test false h = h
-
-pub all_second : {X : Type 0} (P : X → Type 0) (xs ys : List X) → AllByRecursion P (xs ++ ys) → AllByRecursion P ys
-all_second P [] ys all = all
-all_second P (x ∷ xs) ys all = all_second P xs ys all.1
-
-pub done_is : (a b : After) → Done a ≡ Done b → a ≡ b
-done_is a b e = cc
-
--- ---- a world whose packets are all well formed
-
-pub record IsGoodWorld (s : Settings) (w : World) : Type 0 where
-  pub hosts : (id : HostId) (h : Host) → host_at w id ≡ Some h → IsGoodHost h
-  pub leads : (id : HostId) (h : Host) → host_at w id ≡ Some h → slice_index_or w.leads id.0 0 ≡ s.skew
-  pub packets : AllByRecursion (IsOfNode s) w.packets
-  pub answers : AllByRecursion IsAnswer w.answers
-  pub clock : w.clock ≤ last_tick
-
--- where no answer is left, there is one byte
-pub next_is_answer : (answers : List Answer) → AllByRecursion IsAnswer answers → IsAnswer (next_answer answers)
-next_is_answer [] all = ((omega arith, omega arith), one_byte, omega arith) where
-  one_byte : IsBytes (0 ∷ [])
-  one_byte zero = omega arith
-  one_byte (suc i) = omega arith
-next_is_answer (a ∷ answers) all = all.0
-
-all_but_one : {X : Type 0} (P : X → Type 0) (xs : List X) → AllByRecursion P xs → AllByRecursion P (drop 1 xs)
-all_but_one P [] all = tt
-all_but_one P (x ∷ xs) all = all.1
 
 -- ---- where settings are told
 
@@ -192,50 +160,11 @@ module _ (s : Settings) (k : ℕ) (v : World) (such : Arrival → Type 0) where
   -- ---- the steps of hosts
 
   module _ (n : Notes) (w : World) (names : (id : HostId) (h : Host) → host_at w id ≡ Some h → HasOwnName id h) (notes : AreNotes s n w.clock w.packets) (valid : IsValid s) (good : IsGoodWorld s w) (count : length w.hosts ≤ 32) where
-    -- the world behind a step
-    abbrev behind : HostId → Work → After → Type 0
-    behind id step after = (after.world.hosts ≡ slice_set w.hosts id.0 step.host) × (after.world.packets ≡ w.packets ++ stamped w.clock (packets_in step.told)) × (after.world.clock ≡ w.clock) × (after.world.leads ≡ w.leads) × (after.world.answers ≡ answers_left step.told w.answers)
-
-    stepped_behind : (id : HostId) (first : List PlainEntry) (step : Work) (after : After) → stepped w id first step ≡ Done after → behind id step after × (after.told ≡ first ++ entries_from (length w.packets) step.told)
-    stepped_behind id first step after is = subst (λ (a : After). behind id step a × (a.told ≡ first ++ entries_from (length w.packets) step.told)) (done_is _ after is) ((refl, refl, refl, refl, refl), refl)
-
-    each_behind : (P : HostId → Host → Type 0) → ((q : HostId) (g : Host) → host_at w q ≡ Some g → P q g) → (id : HostId) (step : Work) (after : After) (h : Host) → host_at w id ≡ Some h → P id step.host → behind id step after → (q : HostId) (g : Host) → host_at after.world q ≡ Some g → P q g
-    each_behind P each id step after h at here b q g is = by_host (is_host id q) refl where
-      set : slice_get (slice_set w.hosts id.0 step.host) q.0 ≡ Some g
-      set = ap (λ (hs : List Host). slice_get hs q.0) (sym b.0) ∙ is
-
-      by_host : (t : Bool) → is_host id q ≡ t → P q g
-      by_host true e =
-          let same : id.0 ≡ q.0 = number_of id q e in
-          let host : id ≡ q = ap (λ (m : ℕ). let i : HostId = record { 0 = m } in i) same in
-          let it : step.host ≡ g = some_is step.host g (sym (there w.hosts id.0 step.host (within w.hosts id.0 h at)) ∙ ap (slice_get (slice_set w.hosts id.0 step.host)) same ∙ set) in
-          subst (λ (x : Host). P q x) it (subst (λ (x : HostId). P x step.host) host here)
-      by_host false e = each q g (sym (elsewhere w.hosts id.0 q.0 step.host (apart id q e)) ∙ set)
-
-    names_behind : (id : HostId) (step : Work) (after : After) (h : Host) → host_at w id ≡ Some h → HasOwnName id step.host → behind id step after → (q : HostId) (g : Host) → host_at after.world q ≡ Some g → HasOwnName q g
-    names_behind id step after h at name b = each_behind HasOwnName names id step after h at name b
-
-    -- the host's own clock is in its range
-    pub in_time : (id : HostId) (h : Host) → host_at w id ≡ Some h → own_clock w id ≤ 1000000002000
-    in_time id h at = let skew = valid.in_range.2.2.2.2.2.2.2.2.2.2.2.2.2.1 in omega (arith, good.leads id h at, good.clock, skew)
-
-    stamped_good : (id : HostId) (h : Host) (at : host_at w id ≡ Some h) (ps : List Packet) → AllByRecursion (IsSentNow s valid (own_clock w id) (in_time id h at)) ps → AllByRecursion (IsOfNode s) (stamped w.clock ps)
-    stamped_good id h at [] all = tt
-    stamped_good id h at (p ∷ ps) all =
-        let clock : own_clock w id ≡ w.clock + s.skew = ap (λ (n : ℕ). w.clock + n) (good.leads id h at) in
-        (record { formed = all.0.formed; dated = all.0.dated ∙ ap (λ (t : ℕ). if s.wire == 1 then 0 else t) clock }, stamped_good id h at ps all.1)
-
-    pub good_behind : (id : HostId) (h : Host) (at : host_at w id ≡ Some h) (step : Work) (after : After) → IsGoodWork s valid (own_clock w id) (in_time id h at) step → behind id step after → IsGoodWorld s after.world
-    good_behind id h at step after g b = record {
-      hosts = each_behind (λ (q : HostId) (x : Host). IsGoodHost x) good.hosts id step after h at g.host b;
-      leads = λ q x is. ap (λ (l : List ℕ). slice_index_or l q.0 0) b.3 ∙ each_behind (λ (q : HostId) (x : Host). slice_index_or w.leads q.0 0 ≡ s.skew) good.leads id step after h at (good.leads id h at) b q x is;
-      packets = subst (AllByRecursion (IsOfNode s)) (sym b.1) (all-append (IsOfNode s) w.packets (stamped w.clock (packets_in step.told)) good.packets (stamped_good id h at (packets_in step.told) g.sent));
-      answers = subst (AllByRecursion IsAnswer) (sym b.4) (cond_both (has_run step.told) (drop 1 w.answers) w.answers (AllByRecursion IsAnswer) (λ _. all_but_one IsAnswer w.answers good.answers) (λ _. good.answers));
-      clock = subst (λ (c : ℕ). c ≤ last_tick) (sym b.2) good.clock;
-    }
+    names_behind : (id : HostId) (step : Work) (after : After) (h : Host) → host_at w id ≡ Some h → HasOwnName id step.host → behind w id step after → (q : HostId) (g : Host) → host_at after.world q ≡ Some g → HasOwnName q g
+    names_behind id step after h at name b = each_behind w HasOwnName names id step after h at name b
 
     -- its packets and its lines
-    notes_behind : (id : HostId) (step : Work) (after : After) (m : Notes) (told : List Told) → packets_in step.told ≡ packets_in told → AllInner told → behind id step after → AllByRecursion (IsOfNode s) after.world.packets → AreNotes s m w.clock w.packets
+    notes_behind : (id : HostId) (step : Work) (after : After) (m : Notes) (told : List Told) → packets_in step.told ≡ packets_in told → AllInner told → behind w id step after → AllByRecursion (IsOfNode s) after.world.packets → AreNotes s m w.clock w.packets
         → AreNotes s (kept_all m (map Tells (entries_from (length w.packets) told))) after.world.clock after.world.packets
     notes_behind id step after m told same inner b all a =
         let packets : after.world.packets ≡ w.packets ++ stamped w.clock (packets_in told) = b.1 ∙ ap (λ (ps : List Packet). w.packets ++ stamped w.clock ps) same in
@@ -265,7 +194,7 @@ module _ (s : Settings) (k : ℕ) (v : World) (such : Arrival → Type 0) where
         events_first n r (numbered told) ∙ ap (λ (es : List Happening). es ++ recorded_events (kept n r) (numbered told)) is ∙ ap (λ (es : List Happening). e ∷ es) (inner_no_event (kept n r) (length w.packets) told inner)
 
     -- such reports are added, where the replay carries the event out
-    added : (id : HostId) (h : Host) (step : Work) (after : After) (r : Report) (e : Happening) (first : List PlainEntry) (told : List Told) → host_at w id ≡ Some h → HasOwnName id step.host → behind id step after → packets_in step.told ≡ packets_in told
+    added : (id : HostId) (h : Host) (step : Work) (after : After) (r : Report) (e : Happening) (first : List PlainEntry) (told : List Told) → host_at w id ≡ Some h → HasOwnName id step.host → behind w id step after → packets_in step.told ≡ packets_in told
         → AllInner told → IsGoodWorld s after.world → events n r ≡ e ∷ [] → kept n r ≡ n → of_hosts first ≡ of_hosts (entries (r ∷ [])) → is_settings r ≡ false
         → length (packets_in step.told) ≤ 64 → (AreFit such → IsRecorded (length w.packets) e.event e.bytes)
         → outcome s (respared k w) e.event e.bytes ≡ Done (record { world = respared k after.world; told = first ++ entries_from (length w.packets) told })
@@ -306,8 +235,8 @@ module _ (s : Settings) (k : ℕ) (v : World) (such : Arrival → Type 0) where
       by_host (Some h) at e =
           let step = turn_step s h (own_clock w id) in
           let inside = turn_inside s id valid.in_range.2.2.2.2.2.2.0 h (own_clock w id) (names id h at) in
-          let b = stepped_behind id [] step after e in
-          let sound = good_behind id h at step after (turn_good s valid (own_clock w id) (in_time id h at) h (good.hosts id h at)) b.0 in
+          let b = stepped_behind s w id [] step after e in
+          let sound = good_behind s w valid good id h at step after (turn_good s valid (own_clock w id) (in_time s w valid good id h at) h (good.hosts id h at)) b.0 in
           let told : after.told ≡ entries_from (length w.packets) inside.rest = b.1 ∙ ap (entries_from (length w.packets)) inside.told in
           subst (λ (es : List PlainEntry). IsAdded n w after.world (Turning id ∷ map Tells es)) (sym told)
           (added id h step after (Turning id) (bare (event.Turn id)) [] inside.rest at inside.name b.0 (ap packets_in inside.told) inside.inner sound refl (turning_keeps id) refl refl (turn-bounded s chosen h (own_clock w id)).packets (λ fits. (small_id id h at, refl))
@@ -323,15 +252,15 @@ module _ (s : Settings) (k : ℕ) (v : World) (such : Arrival → Type 0) where
       by_fault there h at None free e =
           let step = call_step s h (own_clock w client) server service request in
           let inside = call_inside s client h (own_clock w client) server service request (names client h at) in
-          let b = stepped_behind client [] step after e in
-          let sound = good_behind client h at step after (call_good s valid (own_clock w client) (in_time client h at) h server service request (good.hosts client h at) free bytes small) b.0 in
+          let b = stepped_behind s w client [] step after e in
+          let sound = good_behind s w valid good client h at step after (call_good s valid (own_clock w client) (in_time s w valid good client h at) h server service request (good.hosts client h at) free bytes small) b.0 in
           let q = next_id h in
           let told : after.told ≡ PlainCall q server service request ∷ entries_from (length w.packets) inside.rest = b.1 ∙ ap (entries_from (length w.packets)) inside.told in
           let caller : HostId → List Happening = λ (c : HostId). record { event = event.Call c server service; bytes = request } ∷ [] in
           subst (λ (es : List PlainEntry). IsAdded n w after.world (map Tells es)) (sym told)
           (added client h step after (Tells (PlainCall q server service request)) (record { event = event.Call client server service; bytes = request }) (PlainCall q server service request ∷ []) inside.rest at inside.name b.0 (ap packets_in inside.told) inside.inner sound
           (ap caller (names client h at).name) (call_keeps q server service request) refl refl (call-bounded s chosen h (own_clock w client) server service request).packets
-          (λ fits. (small_id client h at, omega (arith, count, there), small, bytes, (can_start s valid (own_clock w client) (in_time client h at) h server request free).most))
+          (λ fits. (small_id client h at, omega (arith, count, there), small, bytes, (can_start s valid (own_clock w client) (in_time s w valid good client h at) h server request free).most))
           (call_respared s k w client server service request ∙ ap (respare k) is ∙ ap (λ (es : List PlainEntry). Done (record { world = respared k after.world; told = es })) told))
 
       by_client : server.0 < length w.hosts → (o : Option Host) → host_at w client ≡ o → calls_from s w client server service request o ≡ Done after → IsAdded n w after.world (map Tells after.told)
@@ -343,13 +272,6 @@ module _ (s : Settings) (k : ℕ) (v : World) (such : Arrival → Type 0) where
       by_server false is_there e = absurd (let z : Refused NoSuchHost ≡ Done after = e in cc)
 
     -- ---- a datagram
-
-    pub receiver_is : (from to : HostId) (o : Option (WirePacket × List ℕ)) → IfSome (packet_from from to o) (λ p. receiver p ≡ to)
-    receiver_is from to None = tt
-    receiver_is from to (Some (p, payload)) = by_role p.role where
-      by_role : (role : Role) → receiver_of role (call_between role from to p.inc p.seq) (server_between role from to) ≡ to
-      by_role Client = refl
-      by_role Server = refl
 
     of_packets : (packets : List SentPacket) (i : ℕ) (sent : SentPacket) → slice_get packets i ≡ Some sent → AllByRecursion (IsOfNode s) packets → IsOfNode s sent
     of_packets [] i sent at all = absurd (let z : None ≡ Some sent = at in cc)
@@ -375,8 +297,8 @@ module _ (s : Settings) (k : ℕ) (v : World) (such : Arrival → Type 0) where
           let step = arrival_step s h (own_clock w id) packet (next_answer w.answers) in
           let inside = arrival_inside s id h (own_clock w id) packet (next_answer w.answers) (names id h at) (receiver_is a.from id (packet_in s.wire a.bytes)) in
           let recv : List PlainEntry = PlainRecv id a.from a.bytes ∷ [] in
-          let b = stepped_behind id recv step after done in
-          let sound = good_behind id h at step after (arrival_good s valid (own_clock w id) (in_time id h at) h packet (next_answer w.answers) (good.hosts id h at) formed (next_is_answer w.answers good.answers)) b.0 in
+          let b = stepped_behind s w id recv step after done in
+          let sound = good_behind s w valid good id h at step after (arrival_good s valid (own_clock w id) (in_time s w valid good id h at) h packet (next_answer w.answers) (good.hosts id h at) formed (next_is_answer w.answers good.answers)) b.0 in
           let same : entries_from (length w.packets) step.told ≡ entries_from (length w.packets) inside.rest = ap (entries_from (length w.packets)) inside.told in
           let told : after.told ≡ PlainRecv id a.from a.bytes ∷ entries_from (length w.packets) inside.rest = b.1 ∙ ap (λ (es : List PlainEntry). PlainRecv id a.from a.bytes ∷ es) same in
           subst (λ (es : List PlainEntry). IsAdded n w after.world (map Tells es)) (sym told)

@@ -26,17 +26,21 @@ all_get P (y ∷ xs) (suc n) x all e = all_get P xs n x all.1 e
 
 -- ---- the same view
 
-pub seen_packet : (v : View) (host from : HostId) (bytes : List ℕ) (n : ℕ) → delivery v (PlainRecv host from bytes) ≡ delivery v (PlainDeliver n) → seen v (PlainRecv host from bytes) ≡ seen v (PlainDeliver n)
+pub seen_packet : (v : View) (host from : HostId) (bytes : List ℕ) (n : ℕ) → delivery v (PlainRecv host from bytes) ≡ delivery v (PlainDeliver n)
+    → seen v (PlainRecv host from bytes) ≡ seen v (PlainDeliver n)
 unfolding seen
 seen_packet v host from bytes n e = ap (λ (o : Option Sent). record (delivered (begun v) o) { place = v.place + 1; ended = v.ended || false }) e
 
-pub seen_junk : (v : View) (host from : HostId) (bytes : List ℕ) → packet_in v.settings.wire bytes ≡ None → seen v (PlainRecv host from bytes) ≡ seen v (PlainInject host bytes)
+pub seen_junk : (v : View) (host from : HostId) (bytes : List ℕ) → packet_in v.settings.wire bytes ≡ None
+    → seen v (PlainRecv host from bytes) ≡ seen v (PlainInject host bytes)
 unfolding seen
-seen_junk v host from bytes e = ap (λ (o : Option (WirePacket × List ℕ)). record (delivered (begun v) (received host from o)) { place = v.place + 1; ended = v.ended || false }) e
+seen_junk v host from bytes e =
+    ap (λ (o : Option (WirePacket × List ℕ)). record (delivered (begun v) (received host from o)) { place = v.place + 1; ended = v.ended || false }) e
 
 -- a datagram's packet by its bytes, and by the rules
 received_of : (role : Role) (level sender inc seq at : ℕ) (what : Body) (payload : List ℕ) (from to : HostId)
-    → let w : WirePacket = record { role = role; level = level; sender = sender; inc = inc; seq = seq; at = at; body = what } in received to from (Some (w, payload)) ≡ Some (sent_of (packet_between from to w payload))
+    → let w : WirePacket = record { role = role; level = level; sender = sender; inc = inc; seq = seq; at = at; body = what } in
+    received to from (Some (w, payload)) ≡ Some (sent_of (packet_between from to w payload))
 received_of Client level sender inc seq at what payload from to = refl
 received_of Server level sender inc seq at what payload from to = refl
 

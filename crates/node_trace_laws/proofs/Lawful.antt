@@ -59,7 +59,8 @@ obeys v line cause k = record {
 
 -- ---- each event keeps it
 
-joined : (v : View) (lines : List PlainEntry) → Holds IsShapedLine v lines → Holds Once v lines → Holds Returned v lines → Holds Closed v lines → Holds TimesOut v lines → Holds Granting v lines → Holds IsObeyed v lines
+joined : (v : View) (lines : List PlainEntry) → Holds IsShapedLine v lines → Holds Once v lines → Holds Returned v lines → Holds Closed v lines
+    → Holds TimesOut v lines → Holds Granting v lines → Holds IsObeyed v lines
 joined v [] a b c d e f = tt
 joined v (line ∷ lines) a b c d e f = (
   record { shape = a.0; once = b.0; returned = c.0; closed = d.0; times_out = e.0; granting = f.0 },

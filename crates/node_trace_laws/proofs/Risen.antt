@@ -50,7 +50,8 @@ module _ (s : Settings) (w : World) (v : View) (t : ℕ) (onward : w.clock ≤ t
   kept : IsKept s w v → IsKept s (record w { clock = t }) (seen v (PlainClock t))
   kept k = kept_later s w v (record w { clock = t }) (seen v (PlainClock t)) k goes refl (λ n m. inl refl) where
     now : (q : CallId) (n : HostId) → stand (record w { clock = t }) (seen v (PlainClock t)) q n ≡ at (stand w v q n) t (stand w v q n).last (stand w v q n).old
-    now q n = stand_is _ _ refl refl refl (ap (λ c. get c q) (clock_calls v t)) refl refl (ran_same v (seen v (PlainClock t)) n q (unrun_same v (PlainClock t) tt))
+    now q n = stand_is _ _ refl refl refl (ap (λ c. get c q) (clock_calls v t)) refl refl
+        (ran_same v (seen v (PlainClock t)) n q (unrun_same v (PlainClock t) tt))
 
     goes : AllGo s (stand w v) (stand (record w { clock = t }) (seen v (PlainClock t)))
     goes q n =
@@ -66,11 +67,18 @@ module _ (s : Settings) (w : World) (v : View) (t : ℕ) (onward : w.clock ≤ t
       told k.so.0,
       kept k.so.1,
       line_true s w (record w { clock = t }) v (PlainClock t) tt tt (clock_fresh v t) refl
-          (λ q m. (t, (stand w v q m).last, (stand w v q m).old, ap (λ (x : Stand). at x t x.last x.old) (still_stand w v (PlainClock t) tt (clock_calls v t) q m))) k.so.2,
+          (λ q m. (
+            t,
+            (stand w v q m).last,
+            (stand w v q m).old,
+            ap (λ (x : Stand). at x t x.last x.old)
+                (still_stand w v (PlainClock t) tt (clock_calls v t) q m),
+          )) k.so.2,
       λ q c f. k.so.3 q c (ap (λ m. get m q) (sym (clock_calls v t)) ∙ f),
     );
     fair = ticked_fair s w v t k.fair;
-    grants = line_has s w (record w { clock = t }) v (seen v (PlainClock t)) refl (clock_parts v t) (let next : (seen v (PlainClock t)).place ≡ v.place + 1 = line_place v (PlainClock t) in omega (arith, next)) k.grants;
+    grants = line_has s w (record w { clock = t }) v (seen v (PlainClock t)) refl (clock_parts v t) (let next : (seen v (PlainClock t)).place ≡ v.place + 1 =
+        line_place v (PlainClock t) in omega (arith, next)) k.grants;
     many = k.many;
     behind = line_behind v (PlainClock t) refl k.behind;
   }
@@ -82,5 +90,6 @@ module _ (s : Settings) (w : World) (v : View) (t : ℕ) (onward : w.clock ≤ t
     returned = tt;
     closed = closed_line v (PlainClock t) k.so.2.closed;
     times_out = tt;
-    granting = parts_within s.window (seen v (PlainClock t)) (ap (λ (x : Settings). x.window) ((line_settings v).2 t ∙ (k.so.0).settings)) (risen_lawful k).grants.within_all;
+    granting = parts_within s.window (seen v (PlainClock t)) (ap (λ (x : Settings). x.window) ((line_settings v).2 t ∙ (k.so.0).settings))
+        (risen_lawful k).grants.within_all;
   }

@@ -82,7 +82,8 @@ module _ (s : Settings) where
         still_of packets more ds all.1,
       )
 
-  sent_noted : (n : Notes) (clock : ℕ) (packets : List SentPacket) (k : ℕ) (p : Packet) → k ≡ length packets → IsOfNode s (record { tick = clock; packet = p }) → AreNoted n clock packets
+  sent_noted : (n : Notes) (clock : ℕ) (packets : List SentPacket) (k : ℕ) (p : Packet) → k ≡ length packets
+      → IsOfNode s (record { tick = clock; packet = p }) → AreNoted n clock packets
       → AreNoted (noted n (send_line k p)) clock (packets ++ record { tick = clock; packet = p } ∷ [])
   unfolding noted
   sent_noted n clock packets k p number of_node a =
@@ -112,7 +113,8 @@ module _ (s : Settings) where
         }
 
   -- the lines within a step, whose packets have the numbers from k on
-  pub inner_noted : (n : Notes) (clock : ℕ) (packets : List SentPacket) (k : ℕ) (told : List Told) → k ≡ length packets → AllInner told → AllByRecursion (IsOfNode s) (stamped clock (packets_in told)) → AreNoted n clock packets
+  pub inner_noted : (n : Notes) (clock : ℕ) (packets : List SentPacket) (k : ℕ) (told : List Told) → k ≡ length packets → AllInner told
+      → AllByRecursion (IsOfNode s) (stamped clock (packets_in told)) → AreNoted n clock packets
       → AreNoted (noted_all n (entries_from k told)) clock (packets ++ stamped clock (packets_in told))
   inner_noted n clock packets k [] number inner sent a = subst (AreNoted n clock) (sym (append-nil packets)) a
   inner_noted n clock packets k (Says e ∷ told) number inner sent a =
@@ -120,8 +122,10 @@ module _ (s : Settings) where
       (inner_noted n clock packets k told number inner.1 sent a)
   inner_noted n clock packets k (Sends p ∷ told) number inner sent a =
       let new : SentPacket = record { tick = clock; packet = p } in
-      subst (AreNoted (noted_all (noted n (send_line k p)) (entries_from (suc k) told)) clock) (append_assoc packets (new ∷ []) (stamped clock (packets_in told)))
-      (inner_noted (noted n (send_line k p)) clock (packets ++ new ∷ []) (suc k) told (ap suc number ∙ sym (longer packets new)) inner sent.1 (sent_noted n clock packets k p number sent.0 a)) where
+      subst (AreNoted (noted_all (noted n (send_line k p)) (entries_from (suc k) told)) clock)
+      (append_assoc packets (new ∷ []) (stamped clock (packets_in told)))
+      (inner_noted (noted n (send_line k p)) clock (packets ++ new ∷ []) (suc k) told (ap suc number ∙ sym (longer packets new)) inner sent.1
+      (sent_noted n clock packets k p number sent.0 a)) where
         longer : (ps : List SentPacket) (x : SentPacket) → length (ps ++ x ∷ []) ≡ suc (length ps)
         longer [] x = refl
         longer (p ∷ ps) x = ap suc (longer ps x)
@@ -156,12 +160,14 @@ module _ (s : Settings) where
     by_wire true e = by_test (nat_lt (tick + s.life) clock) refl e
     by_wire false e = refl
 
-  pub comes_from : (n : Notes) (w : World) (id : HostId) (a : Arrival) → AreNoted n w.clock w.packets → AllByRecursion (IsOfNode s) w.packets → is_honest n (PlainRecv id a.from a.bytes) ≡ true → IsPacket s w id a ⊎ IsJunk s a
+  pub comes_from : (n : Notes) (w : World) (id : HostId) (a : Arrival) → AreNoted n w.clock w.packets → AllByRecursion (IsOfNode s) w.packets
+      → is_honest n (PlainRecv id a.from a.bytes) ≡ true → IsPacket s w id a ⊎ IsJunk s a
   comes_from n w id a noted all honest = by_read (packet_in s.wire a.bytes) refl here where
     here : (not (is_some (packet_in s.wire a.bytes)) || was_sent s n id a.from a.bytes) ≡ true
     here = sym (ap (λ (o : Option Settings). is_honest_by o n id a.from a.bytes) noted.settings) ∙ honest
 
-    by_read : (o : Option (WirePacket × List ℕ)) → packet_in s.wire a.bytes ≡ o → (not (is_some o) || was_sent s n id a.from a.bytes) ≡ true → IsPacket s w id a ⊎ IsJunk s a
+    by_read : (o : Option (WirePacket × List ℕ)) → packet_in s.wire a.bytes ≡ o → (not (is_some o) || was_sent s n id a.from a.bytes) ≡ true
+        → IsPacket s w id a ⊎ IsJunk s a
     by_read None e h = inr e
     by_read (Some r) e h =
         let found = any_of (IsOf w.packets) (λ (d : Kept). is_same id a.from a.bytes d && may_come s n.tick d) n.datagrams noted.kept h in
@@ -175,13 +181,17 @@ module _ (s : Settings) where
         let spelled : a.bytes ≡ datagram s sent.packet = sym ((bytes_eq-Decides d.bytes a.bytes).0 same.1) ∙ k.bytes in
         let is_from : a.from ≡ sender sent.packet = sym ((hosts_are d.from a.from).0 ends.1) ∙ k.from in
         let is_to : id ≡ receiver sent.packet = sym ((hosts_are d.to id).0 ends.0) ∙ k.to in
-        let reads : packet_in s.wire a.bytes ≡ Some (wire_packet sent.packet, sent.packet.payload) = ap (packet_in s.wire) spelled ∙ read s sent.packet formed in
+        let reads : packet_in s.wire a.bytes ≡ Some (wire_packet sent.packet, sent.packet.payload) =
+        ap (packet_in s.wire) spelled ∙ read s sent.packet formed in
         inl (record {
           number = d.number;
           sent = sent;
           at = k.stands;
-          early = timely sent.tick w.clock (sym (ap (λ (t : ℕ). not (s.wire == 1) || nat_le n.tick (t + s.life)) k.tick ∙ ap (λ (t : ℕ). not (s.wire == 1) || nat_le t (sent.tick + s.life)) noted.tick) ∙ tests.1);
+          early = timely sent.tick w.clock
+              (sym (ap (λ (t : ℕ). not (s.wire == 1) || nat_le n.tick (t + s.life)) k.tick
+              ∙ ap (λ (t : ℕ). not (s.wire == 1) || nat_le t (sent.tick + s.life)) noted.tick) ∙ tests.1);
           is = ap (packet_from a.from id) reads ∙ ap (λ (x : HostId). Some (packet_between x id (wire_packet sent.packet) sent.packet.payload)) is_from
-              ∙ ap (λ (x : HostId). Some (packet_between (sender sent.packet) x (wire_packet sent.packet) sent.packet.payload)) is_to ∙ ap Some (between sent.packet);
+              ∙ ap (λ (x : HostId). Some (packet_between (sender sent.packet) x (wire_packet sent.packet) sent.packet.payload)) is_to
+              ∙ ap Some (between sent.packet);
           to = sym is_to;
         })

@@ -19,7 +19,8 @@ use Rattle.node_trace_laws.proofs.NodeLaw.{traces_obey, all_obey}
 
 texts-append : (a b : List PlainEntry) → flat_map line_text (a ++ b) ≡ flat_map line_text a ++ flat_map line_text b
 texts-append [] b = refl
-texts-append (line ∷ a) b = ap (λ (bytes : List ℕ). line_text line ++ bytes) (texts-append a b) ∙ sym (append_assoc (line_text line) (flat_map line_text a) (flat_map line_text b))
+texts-append (line ∷ a) b =
+    ap (λ (bytes : List ℕ). line_text line ++ bytes) (texts-append a b) ∙ sym (append_assoc (line_text line) (flat_map line_text a) (flat_map line_text b))
 
 last_is : (o : Option End) → flat_map line_text (last_line o) ≡ last_text (λ (end : End). line_text (end_entry end)) o
 last_is None = refl
@@ -29,7 +30,8 @@ pub text_is : (run : Run) → node_text run ≡ flat_map line_text (lines run)
 unfolding node_text
 text_is run =
     ap (λ (bytes : List ℕ). bytes ++ last_text (λ (end : End). line_text (end_entry end)) run.end) (printed-entries no_notes run.reports)
-    ∙ sym (texts-append (entries run.reports) (last_line run.end) ∙ ap (λ (bytes : List ℕ). flat_map line_text (entries run.reports) ++ bytes) (last_is run.end))
+    ∙ sym (texts-append (entries run.reports) (last_line run.end)
+    ∙ ap (λ (bytes : List ℕ). flat_map line_text (entries run.reports) ++ bytes) (last_is run.end))
 
 -- ---- a front of it
 
@@ -56,7 +58,8 @@ front_lines : (es : List PlainEntry) (front rest : List ℕ) → front ++ rest �
 front_lines [] [] rest e = record { many = 0; most = omega arith; part = []; of_next = refl; is = refl }
 front_lines [] (x ∷ front) rest e = absurd (let z : x ∷ (front ++ rest) ≡ [] = e in cc)
 front_lines (line ∷ es) front rest e = by_length (nat_le (length (line_text line)) (length front)) refl (front_lines es) where
-  by_length : (b : Bool) → nat_le (length (line_text line)) (length front) ≡ b → ((f r : List ℕ) → f ++ r ≡ flat_map line_text es → AreLines es f) → AreLines (line ∷ es) front
+  by_length : (b : Bool) → nat_le (length (line_text line)) (length front) ≡ b → ((f r : List ℕ) → f ++ r ≡ flat_map line_text es → AreLines es f)
+      → AreLines (line ∷ es) front
   by_length true le next =
       let s = split (line_text line) (flat_map line_text es) front rest (sym e) (leb-true (length (line_text line)) (length front) le) in
       let l = next s.0 rest (sym s.2) in

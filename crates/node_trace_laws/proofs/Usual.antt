@@ -78,14 +78,16 @@ module _ (number : ℕ) (from to : HostId) (bytes : ℕ → Settings → List �
   abbrev new : Settings → ℕ → Kept
   new s tick = record { number = number; from = from; to = to; tick = tick; bytes = bytes tick s }
 
-  sent_now : (s : Settings) (now : ℕ) (kept sent : List Kept) → kept ≡ filter (in_life s now) sent → kept ++ new s now ∷ [] ≡ filter (in_life s now) (sent ++ new s now ∷ [])
+  sent_now : (s : Settings) (now : ℕ) (kept sent : List Kept) → kept ≡ filter (in_life s now) sent
+      → kept ++ new s now ∷ [] ≡ filter (in_life s now) (sent ++ new s now ∷ [])
   sent_now s now kept sent e =
       let here : nat_le now (now + s.life) ≡ true = grind (arith, nat_tests) in
       ap (λ (ds : List Kept). ds ++ new s now ∷ []) e
       ∙ ap (λ (b : Bool). filter (in_life s now) sent ++ (if b then new s now ∷ [] else [])) (sym here)
       ∙ sym (filter-append (in_life s now) sent (new s now ∷ []))
 
-  keeps_matched : (k n : Notes) → AreMatched k n → AreMatched (keeps k.settings number from to (bytes k.tick) k) (keeps n.settings number from to (bytes n.tick) n)
+  keeps_matched : (k n : Notes) → AreMatched k n
+      → AreMatched (keeps k.settings number from to (bytes k.tick) k) (keeps n.settings number from to (bytes n.tick) n)
   keeps_matched k n m =
       subst (λ (o : Option Settings). AreMatched (keeps o number from to (bytes k.tick) k) (keeps n.settings number from to (bytes n.tick) n)) (sym m.settings)
       (by_settings n.settings refl m.datagrams) where
@@ -100,11 +102,13 @@ module _ (number : ℕ) (from to : HostId) (bytes : ℕ → Settings → List �
         }
 
 -- the clock goes on
-risen_matched : (k n : Notes) (now : ℕ) → n.tick ≤ now → AreMatched k n → AreMatched (record k { tick = now; datagrams = still k.settings now k.datagrams }) (record n { tick = now })
+risen_matched : (k n : Notes) (now : ℕ) → n.tick ≤ now → AreMatched k n
+    → AreMatched (record k { tick = now; datagrams = still k.settings now k.datagrams }) (record n { tick = now })
 risen_matched k n now onward m = record {
   tick = refl;
   settings = m.settings;
-  datagrams = subst (λ (o : Option Settings). AreKept n.settings now (still o now k.datagrams) n.datagrams) (sym m.settings) (by_settings n.settings m.datagrams);
+  datagrams = subst (λ (o : Option Settings). AreKept n.settings now (still o now k.datagrams) n.datagrams) (sym m.settings)
+      (by_settings n.settings m.datagrams);
 } where
   by_settings : (o : Option Settings) → AreKept o n.tick k.datagrams n.datagrams → AreKept o now (still o now k.datagrams) n.datagrams
   by_settings None d = d
@@ -117,7 +121,8 @@ next_matched k n (PlainSettings s) next m =
     record { tick = m.tick; settings = refl; datagrams = none.0 ∙ ap (filter (in_life s n.tick)) (sym none.1) }
 next_matched k n (PlainClock now) next m =
     let later : max k.tick now ≡ now = omega (arith, m.tick, next) in
-    subst (λ (t : ℕ). AreMatched (record k { tick = t; datagrams = still k.settings t k.datagrams }) (record n { tick = now })) (sym later) (risen_matched k n now next m)
+    subst (λ (t : ℕ). AreMatched (record k { tick = t; datagrams = still k.settings t k.datagrams }) (record n { tick = now })) (sym later)
+    (risen_matched k n now next m)
 next_matched k n (PlainSend number from to inc role id level body payload) next m =
     keeps_matched number from to (λ (t : ℕ) (s : Settings). spelling s.wire (sent_packet s t inc role id level body) payload) k n m
 next_matched k n e next m = m
@@ -151,12 +156,14 @@ module _ (s : Settings) (now : ℕ) (host from : HostId) (bytes : List ℕ) wher
     in_time false b = refl
 
     by_same : (b : Bool) → greatest (numbers (if b then d ∷ filter same (filter (in_life s now) ds) else filter same (filter (in_life s now) ds))) ≡ Some number
-        → ((m : ℕ) → greatest (numbers (filter same (filter (in_life s now) ds))) ≡ Some m → sent ds ≡ true) → ((b && (not (s.wire == 1) || true)) || sent ds) ≡ true
+        → ((m : ℕ) → greatest (numbers (filter same (filter (in_life s now) ds))) ≡ Some m → sent ds ≡ true)
+        → ((b && (not (s.wire == 1) || true)) || sent ds) ≡ true
     by_same true e next = in_time (s.wire == 1) (sent ds)
     by_same false e next = next number e
 
     by_life : (a : Bool) → greatest (numbers (filter same (if a then d ∷ filter (in_life s now) ds else filter (in_life s now) ds))) ≡ Some number
-        → ((m : ℕ) → greatest (numbers (filter same (filter (in_life s now) ds))) ≡ Some m → sent ds ≡ true) → ((same d && (not (s.wire == 1) || a)) || sent ds) ≡ true
+        → ((m : ℕ) → greatest (numbers (filter same (filter (in_life s now) ds))) ≡ Some m → sent ds ≡ true)
+        → ((same d && (not (s.wire == 1) || a)) || sent ds) ≡ true
     by_life true e next = by_same (same d) e next
     by_life false e next = or_right (same d && (not (s.wire == 1) || false)) (sent ds) (next number e)
 
@@ -168,14 +175,17 @@ honest_here k n (PlainRecv host from bytes) m usual = by_settings n.settings m.d
 
   by_settings : (o : Option Settings) → AreKept o n.tick k.datagrams n.datagrams → of_kind o ≡ false → is_honest_by o n host from bytes ≡ true
   by_settings None d e = refl
-  by_settings (Some s) d e = by_kind (greatest (map (λ (x : Kept). x.number) (filter (is_same host from bytes) k.datagrams))) (is_some (packet_in s.wire bytes)) refl e where
-    by_kind : (g : Option ℕ) (b : Bool) → greatest (map (λ (x : Kept). x.number) (filter (is_same host from bytes) k.datagrams)) ≡ g → is_strange (Some (kind_by g b)) ≡ false
-        → (not b || was_sent s n host from bytes) ≡ true
-    by_kind (Some number) b is h =
-        or_right (not b) (was_sent s n host from bytes)
-        (found s n.tick host from bytes n.datagrams number (sym (ap (λ (ds : List Kept). greatest (map (λ (x : Kept). x.number) (filter (is_same host from bytes) ds))) d) ∙ is))
-    by_kind None true is h = absurd (true≢false h)
-    by_kind None false is h = refl
+  by_settings (Some s) d e =
+      by_kind (greatest (map (λ (x : Kept). x.number) (filter (is_same host from bytes) k.datagrams))) (is_some (packet_in s.wire bytes)) refl e where
+        by_kind : (g : Option ℕ) (b : Bool) → greatest (map (λ (x : Kept). x.number) (filter (is_same host from bytes) k.datagrams)) ≡ g
+            → is_strange (Some (kind_by g b)) ≡ false
+            → (not b || was_sent s n host from bytes) ≡ true
+        by_kind (Some number) b is h =
+            or_right (not b) (was_sent s n host from bytes)
+            (found s n.tick host from bytes n.datagrams number
+            (sym (ap (λ (ds : List Kept). greatest (map (λ (x : Kept). x.number) (filter (is_same host from bytes) ds))) d) ∙ is))
+        by_kind None true is h = absurd (true≢false h)
+        by_kind None false is h = refl
 honest_here k n e m usual = refl
 
 -- ---- reports one after the other
