@@ -1,5 +1,5 @@
 -- A packet of a call that has a row.
-use Rattle.std.proofs.Common.{◌≡◌, ℕ, inl, inr, true, sym, ap, subst, ◌∙◌, Option, None, Some, List, [], Result, Ok, Err}
+use Rattle.std.proofs.Common.{◌≡◌, ℕ, inl, inr, sym, ap, subst, ◌∙◌, Option, None, Some, List, [], Result, Ok, Err}
 use Rattle.std.specs.Option.{option_map_or, option_and_then}
 use Rattle.std.specs.Result.{IfOk, OnErr}
 use Rattle.plain_sets.specs.Maps.{get, insert}
@@ -19,7 +19,7 @@ use Rattle.host_places.proofs.PlacedLaws.{one_call, set_at-insert, get-insert_he
 use Rattle.host_incoming.specs.Pooled.{Moves, AreIn}
 use Rattle.homa_server.specs.Held.{HeldServer, seen_state, seen_server, state_part, response_in}
 use Rattle.host_incoming.specs.Pieces.{piece_in, moment_with}
-use Rattle.homa_server.specs.Answers.{IsAnswered, IsAnswerBody, IsReply, IsSlotOf, slot_in, slot_if, is_for, IfRan, IfSaid, served_of, runs_said}
+use Rattle.homa_server.specs.Answers.{IsAnswered, IsAnswerBody, IsReply, IsSlotOf, slot_in, slot_if, is_for, IfRan, IfSaid, served_of, IsAsked}
 use Rattle.homa_server.specs.Table.{Servers, ServerRows, Served, packet_of, request_at, response_at, server_at, server_moment}
 use Rattle.homa_server.specs.declared.answers.ServerDid.{ServerDid}
 use Rattle.homa_server.proofs.StandLaws.{server_is, new_is, slot_new, server_new, moved_new}
@@ -55,13 +55,13 @@ module _ (room : ℕ) (rows : ServerRows) (slot : ℕ) (placed : ArePlaced room 
     abbrev v : Servers
     v = record { host = host; settings = s; rows = rows }
 
-    -- what the rule of the row says is said
-    pub said_at : ((m : Moment) (a : Answer) → runs_said (row_gets s m id body payload a (seen_server pool r) (seen_state pool r.state)).says ≡ true) → (a : Answer)
-        → runs_said (server_gets s (server_moment v now order pool id) (packet_of id body payload role server inc at level) a (server_at pool rows id)).says ≡ true
+    -- what the rule of the row asks is asked
+    pub asked_at : (number : ℕ) (request : List ℕ) → ((m : Moment) (a : Answer) → IsAsked id number request (row_gets s m id body payload a (seen_server pool r) (seen_state pool r.state))) → (a : Answer)
+        → IsAsked id number request (server_gets s (server_moment v now order pool id) (packet_of id body payload role server inc at level) a (server_at pool rows id))
     unfolding server_gets
-    said_at said a =
-        ap (λ (o : Option ServerRow). runs_said (server_gets s (server_moment v now order pool id) (packet_of id body payload role server inc at level) a o).says) (server_is rows slot id r stands pool)
-        ∙ said (server_moment v now order pool id) a
+    asked_at number request asked a =
+        subst (λ (o : Option ServerRow). IsAsked id number request (server_gets s (server_moment v now order pool id) (packet_of id body payload role server inc at level) a o)) (sym (server_is rows slot id r stands pool))
+        (asked (server_moment v now order pool id) a)
 
     module _ (pool' : Pool) (after : HeldServer) (are : AreIn pool (request_at rows)) (moves : Moves pool (state_part r.state) pool' (state_part after.state)) where
       abbrev w : ServerRows

@@ -12,6 +12,7 @@ use Rattle.homa_plain.specs.Entries.{PlainRun, PlainBury, PlainFullRows, PlainFu
 use Rattle.homa_plain.specs.Outgoing.{next_range, left, has_waiting}
 use Rattle.homa_plain.specs.Rows.{ServerRow, State, Receiving, Held, Replying, Buried}
 use Rattle.homa_plain.specs.Rules.{Moment, Answer, Piece, Say, Tells, Posts, Did, leaves, says, opening}
+use Rattle.homa_plain.specs.Steps.{Asked}
 use Rattle.homa_plain.specs.Timers.{state_deadline}
 use Rattle.homa_plain.specs.Sending.{state_sends}
 use Rattle.msg_pool.specs.Pool.{Pool}
@@ -161,11 +162,15 @@ IsAnswerBody what = ⊥
 abbrev pub IsAnswered : Settings → Moment → CallId → Option Piece → (Answer → Did ServerRow) → Option ServerRow → List ℕ → List ℕ → ServerDid → Type 0
 IsAnswered s m id piece plain row response told answer = (a : Answer) → IsReply response a answer → plain a ≡ served_of s m id piece row told a answer
 
--- whether a rule says that the service ran
-abbrev pub runs_said : List Say → Bool
-runs_said [] = false
-runs_said (Tells (PlainRun host id service request response hold) ∷ said) = true
-runs_said (say ∷ said) = runs_said said
+-- what the service is asked by what a rule says, if it is: what its first `run` line says
+abbrev pub asked_said : List Say → Option Asked
+asked_said [] = None
+asked_said (Tells (PlainRun host id service request response hold) ∷ said) = Some (record { id = id; service = service; request = request })
+asked_said (say ∷ said) = asked_said said
+
+-- a rule asks the service with this number for a call, with this request
+abbrev pub IsAsked : CallId → ℕ → List ℕ → Did ServerRow → Type 0
+IsAsked id number request d = asked_said d.says ≡ Some (record { id = id; service = number; request = request })
 
 -- what the plain rule did at an ACK, where the call was buried up to a tick, or wasn't
 abbrev pub acked_of : Moment → CallId → Option ServerRow → Option ℕ → Did ServerRow

@@ -22,7 +22,7 @@ ghost use Rattle.homa_server.specs.Held.{is_keeping, is_answering, IsKept, state
 ghost use Rattle.host_incoming.specs.Pieces.{piece_in, IsFit, moment_with};
 ghost use Rattle.host_incoming.specs.Sends.{IsAffordable, IfSent};
 ghost use Rattle.homa_server.specs.Answers.{IsAnswered, HasTimer, IsGrantable, after_act, IfRan, has_run, IsSlotOf, slot_in, slot_if, is_for, is_for_request};
-ghost use Rattle.homa_server.specs.Answers.{is_data, is_resend, is_ack, service_in, runs_said, acked_of, acted_of, goes, IfSaid, IsAnswerBody, IfResend};
+ghost use Rattle.homa_server.specs.Answers.{is_data, is_resend, is_ack, service_in, IsAsked, acked_of, acted_of, goes, IfSaid, IsAnswerBody, IfResend};
 ghost use Rattle.homa_server.specs.Answers.{IsAsking, state_emits, server_sends, out_facts};
 
 use crate::spans::{patience_of, span_of};
@@ -162,10 +162,11 @@ impl Row {
             V.allows service.old (V.served service.old) number scratch.new (response_in self.new.state) hold)) }
         ensures served { IfOk result (λ did.
             V.served service.new ≡ (if has_run did then V.served service.old + 1 else V.served service.old)) }
-        ensures whole { OnErr result (IfArriving self.old.state (λ wanted part base count.
+        ensures asks { OnErr result (IfArriving self.old.state (λ wanted part base count.
             (id : CallId) (m : Moment) (version : ℕ) (a : Answer)
             → let piece = piece_of size offset version number bytes.now in
-            runs_said (piece_comes settings.now m id wanted (seen pool.old part) (seen_server pool.old self.old) piece a (leaves m None)).says ≡ true)) }
+            IsAsked id number scratch.new
+            (piece_comes settings.now m id wanted (seen pool.old part) (seen_server pool.old self.old) piece a (leaves m None)))) }
         ensures same { OnErr result (self.new ≡ self.old) }
         ensures same_pool { OnErr result (pool.new ≡ pool.old) }
         ensures not_served { OnErr result (V.served service.new ≡ V.served service.old) }
@@ -242,9 +243,9 @@ impl Row {
             V.allows service.old (V.served service.old) (service_in (piece_in body.now payload.now)) scratch.new (response_in self.new.state) hold)) }
         ensures served { IfOk result (λ did.
             V.served service.new ≡ (if has_run did then V.served service.old + 1 else V.served service.old)) }
-        ensures whole { OnErr result (IfArriving self.old.state (λ wanted part base count. (id : CallId) (m : Moment) (a : Answer)
-            → runs_said (receiving_gets settings.now m id body.now payload.now a (seen_server pool.old self.old) wanted (seen pool.old part) base).says
-            ≡ true)) }
+        ensures asks { OnErr result (IfArriving self.old.state (λ wanted part base count. (id : CallId) (m : Moment) (a : Answer)
+            → IsAsked id (service_in (piece_in body.now payload.now)) scratch.new
+            (receiving_gets settings.now m id body.now payload.now a (seen_server pool.old self.old) wanted (seen pool.old part) base))) }
         ensures same { OnErr result (self.new ≡ self.old) }
         ensures same_pool { OnErr result (pool.new ≡ pool.old) }
         ensures not_served { OnErr result (V.served service.new ≡ V.served service.old) }
@@ -375,8 +376,8 @@ impl Row {
             V.allows service.old (V.served service.old) (service_in (piece_in body.now payload.now)) scratch.new (response_in self.new.state) hold)) }
         ensures served { IfOk result (λ did.
             V.served service.new ≡ (if has_run did then V.served service.old + 1 else V.served service.old)) }
-        ensures whole { OnErr result ((id : CallId) (m : Moment) (a : Answer)
-            → runs_said (row_gets settings.now m id body.now payload.now a (seen_server pool.old self.old) (seen_state pool.old self.old.state)).says ≡ true) }
+        ensures asks { OnErr result ((id : CallId) (m : Moment) (a : Answer) → IsAsked id (service_in (piece_in body.now payload.now)) scratch.new
+            (row_gets settings.now m id body.now payload.now a (seen_server pool.old self.old) (seen_state pool.old self.old.state))) }
         ensures same { OnErr result (self.new ≡ self.old) }
         ensures same_pool { OnErr result (pool.new ≡ pool.old) }
         ensures not_served { OnErr result (V.served service.new ≡ V.served service.old) }

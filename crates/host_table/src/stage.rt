@@ -12,12 +12,13 @@ ghost use Rattle.host_view.specs.Marks.{shown_entries};
 ghost use Rattle.homa_plain.specs.Entries.{plain};
 ghost use Rattle.homa_service.specs.Table.{places, place_of, last_of, front_of};
 ghost use Rattle.homa_text.specs.Told.{HasLine};
+ghost use Rattle.homa_host.specs.Asking.{HasAsked};
 ghost use Rattle.host_table.specs.Left.{entries_of, HasLeft, IsFew};
-ghost use Rattle.host_table.specs.Staged.{hosts_of, frames_of, known, known_of, known_in, first_known, known_first, seats_of, spares_of};
+ghost use Rattle.host_table.specs.Staged.{hosts_of, frames_of, known, known_of, known_in, first_known, known_first, whole_of, seats_of, spares_of};
 ghost use Rattle.host_table.specs.Staged.{MayStep, HasStepped, HasCome, HasNotCome};
 ghost use Rattle.host_table.specs.Restarted.{HasRestarted, HasNoSpare};
 
-use homa_host::Host;
+use homa_host::{Asked, Host};
 use homa_plain::{Entry, HostId, Settings, StartFault, WorldFault};
 use homa_service::{Service, ServiceTable};
 use host_view::Outbox;
@@ -127,7 +128,7 @@ impl<S: Service> Stage<S> {
     }
 
     /// A datagram comes to a host from another one, at tick `now` of its own clock. Where its service finds no memory for a
-    /// request that the datagram makes whole, nothing happens.
+    /// request that the datagram makes whole, the answer is the call and the service, and nothing happens.
     pub fn deliver(
         &mut self,
         alloc: Global,
@@ -135,7 +136,7 @@ impl<S: Service> Stage<S> {
         to: HostId,
         frame: &[u8],
         now: u64,
-    ) -> Result<(), AllocError>
+    ) -> Result<(), Asked>
         requires to { to.0 < length (hosts_of self.old) }
         requires from { IfSome (slice_get (hosts_of self.old) to.0) (λ h. from.0 < h.settings.hosts) }
         requires other { IfSome (slice_get (hosts_of self.old) to.0) (λ h. from ≢ h.host.id) }
@@ -145,6 +146,8 @@ impl<S: Service> Stage<S> {
         requires served { IfSome (place_of (seats_of self.old) to.0) (λ service. S.served service < 2 ^ 63) }
         ensures step { OnOk result (IfSome (slice_get (hosts_of self.old) to.0) (λ h.
             HasCome S.served S.allows now to h (arriving h from frame.now) self.old self.new)) }
+        ensures asks { IfErr result (λ e. IfSome (slice_get (hosts_of self.old) to.0) (λ h. (a : Answer)
+            → HasAsked e.id e.number (whole_of self.new) (arrival_step h.settings h.host now (arriving h from frame.now) a).told)) }
         ensures whole { OnErr result (IfSome (slice_get (hosts_of self.old) to.0) (λ h. (a : Answer)
             → has_run (arrival_step h.settings h.host now (arriving h from frame.now) a).told ≡ true)) }
         ensures none { OnErr result (HasNotCome S.served S.allows to self.old self.new) }
