@@ -20,7 +20,7 @@ use Rattle.homa_plain.specs.Rows.{ServerRow, State, Receiving, Held, Replying, B
 use Rattle.homa_plain.specs.Rules.{Answer, Moment, Say, Tells, Posts}
 use Rattle.homa_plain.specs.AtServer.{server_gets, server_acked, state_acked, row_gets, unknown_gets}
 use Rattle.homa_plain.specs.AtClient.{client_gets}
-use Rattle.homa_plain.specs.Steps.{has_run, Work, begun, tells, said, served, moment, hears_cutoffs, is_newer, comes_to_row, acked, takes, is_stale, comes}
+use Rattle.homa_plain.specs.Steps.{Asked, asked_in, Work, begun, tells, said, served, moment, hears_cutoffs, is_newer, comes_to_row, acked, takes, is_stale, comes}
 use Rattle.homa_plain.specs.Wire.{FitsKind, latest}
 use Rattle.homa_plain.proofs.CallOrder.{calls_are}
 use Rattle.step_laws.specs.StepLaws.{run_count}
@@ -37,7 +37,7 @@ use Rattle.homa_host.specs.Parts.{host_of, IsKept}
 use Rattle.homa_host.specs.Amid.{Amid, HasCome}
 use Rattle.homa_host.specs.declared.parts.HostParts.{HostParts}
 use Rattle.homa_host.proofs.WholeLaws.{SayWhole, served-whole}
-use Rattle.homa_host.proofs.Delivered.{TellsAlike, quiet_ran, no_replies, none_allowed, ran_append, run_append, marks_append, left_of_all}
+use Rattle.homa_host.proofs.Delivered.{TellsAlike, quiet_ran, no_replies, none_allowed, ran_append, asked_append, marks_append, left_of_all}
 use Rattle.homa_host.proofs.Begun.{kept-control, sound-begun, amid-begun, amid-told}
 
 -- ---- the plain packet
@@ -232,8 +232,8 @@ acked_calm s (id ∷ ids) w =
     let rest = acked_calm s ids v in
     (0 + rest.0, calm_then 0 rest.0 w v (acked s ids v) (acked_one-calm s id w) rest.1)
 
-pub acked_run : (s : Settings) (ids : List CallId) (w : Work) → has_run w.told ≡ true → has_run (acked s ids w).told ≡ true
-acked_run s ids w e = let c = acked_calm s ids w in ap has_run c.1.grown ∙ run_append w.told c.1.told e
+pub acked_asks : (s : Settings) (ids : List CallId) (w : Work) (q : Asked) → asked_in w.told ≡ Some q → asked_in (acked s ids w).told ≡ Some q
+acked_asks s ids w q e = let c = acked_calm s ids w in ap asked_in c.1.grown ∙ asked_append w.told c.1.told q e
 
 replies_at : (h k : Host) (id : CallId) → response_of k id ≡ response_of h id → (a : Answer) (ms : List Mark) → AllByRecursion (IsRanOf id) ms → AllByRecursion (IsReply h a) ms → AllByRecursion (IsReply k a) ms
 replies_at h k id same a [] own all = tt

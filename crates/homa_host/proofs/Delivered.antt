@@ -1,5 +1,5 @@
 -- What the end of a step leaves of its service's answer.
-use Rattle.std.proofs.Common.{◌≡◌, ◌+◌, ℕ, suc, Bool, true, false, cond, List, [], ◌∷◌, ◌++◌, refl, sym, ap, subst, ◌∙◌, arith}
+use Rattle.std.proofs.Common.{◌≡◌, ◌+◌, ℕ, suc, Bool, true, false, cond, Some, List, [], ◌∷◌, ◌++◌, refl, sym, ap, subst, ◌∙◌, arith}
 use Rattle.std.specs.List.{AllByRecursion}
 use Rattle.std.proofs.lemmas.Bool.{true≢false}
 use Rattle.homa_plain.specs.declared.id.CallId.{CallId}
@@ -7,7 +7,7 @@ use Rattle.homa_plain.specs.declared.settings.Settings.{Settings}
 use Rattle.homa_plain.specs.Entries.{PlainRun}
 use Rattle.homa_plain.specs.Host.{Host, Told, Says, Sends}
 use Rattle.homa_plain.specs.Rules.{Answer}
-use Rattle.homa_plain.specs.Steps.{Work, ended, has_run}
+use Rattle.homa_plain.specs.Steps.{Work, ended, has_run, Asked, asked_in}
 use Rattle.step_laws.specs.StepLaws.{run_count}
 use Rattle.step_laws.proofs.Places.{all-append}
 use Rattle.step_laws.proofs.StepEnd.{ended-calm}
@@ -57,10 +57,24 @@ ran_append [] more e = e
 ran_append (Ran id service hold ∷ ms) more e = refl
 ran_append (m ∷ ms) more e = ran_append ms more e
 
-pub run_append : (told more : List Told) → has_run told ≡ true → has_run (told ++ more) ≡ true
-run_append [] more e = absurd (true≢false (sym e))
-run_append (Says (PlainRun host id service request response hold) ∷ told) more e = refl
-run_append (t ∷ told) more e = run_append told more e
+-- what is asked stays so, whatever is told behind it
+pub asked_append : (told more : List Told) (q : Asked) → asked_in told ≡ Some q → asked_in (told ++ more) ≡ Some q
+asked_append [] more q e = cc
+asked_append (Says (PlainRun host id service request response hold) ∷ told) more q e = e
+asked_append (t ∷ told) more q e = asked_append told more q e
+
+-- and so whatever is told before it that shows no run
+pub asked_behind : (told more : List Told) (q : Asked) → run_count told ≡ 0 → asked_in more ≡ Some q → asked_in (told ++ more) ≡ Some q
+asked_behind [] more q none e = e
+asked_behind (Says (PlainRun host id service request response hold) ∷ told) more q none e = absurd (omega arith)
+asked_behind (Says entry ∷ told) more q none e = asked_behind told more q none e
+asked_behind (Sends packet ∷ told) more q none e = asked_behind told more q none e
+
+-- where a service is asked, a run is told
+pub asked_runs : (told : List Told) (q : Asked) → asked_in told ≡ Some q → has_run told ≡ true
+asked_runs [] q e = cc
+asked_runs (Says (PlainRun host id service request response hold) ∷ told) q e = refl
+asked_runs (t ∷ told) q e = asked_runs told q e
 
 pub marks_append : (n : ℕ) (told more : List Told) → (k : ℕ) × (marks_from n (told ++ more) ≡ marks_from n told ++ marks_from k more)
 marks_append n [] more = (n, refl)
@@ -86,10 +100,10 @@ module _ (h k : Host) (same : (id : CallId) → response_of k id ≡ response_of
 
 -- ---- the end of a step
 
-pub run_stays : (s : Settings) (w : Work) → has_run w.told ≡ true → has_run (ended s w).told ≡ true
-run_stays s w e =
+pub asked_stays : (s : Settings) (w : Work) (q : Asked) → asked_in w.told ≡ Some q → asked_in (ended s w).told ≡ Some q
+asked_stays s w q e =
     let calm = ended-calm s w in
-    ap has_run calm.grown ∙ run_append w.told calm.told e
+    ap asked_in calm.grown ∙ asked_append w.told calm.told q e
 
 module _ (s : Settings) (w : Work) (mid q : HostParts) (before after : List SentFrame) (amid : Amid w mid before) (ends : Amid (ended s w) q after) where
   more : List Mark

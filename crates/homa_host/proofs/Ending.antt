@@ -13,7 +13,7 @@ use Rattle.homa_plain.specs.Host.{Host}
 use Rattle.homa_plain.specs.Packets.{Packet, call_between, packet_between}
 use Rattle.homa_plain.specs.Rules.{Answer}
 use Rattle.homa_plain.specs.Timers.{Place, OfClient, OfServer}
-use Rattle.homa_plain.specs.Steps.{Work, begun, refilled, starts, comes, acts, ended, call_step, arrival_step, turn_step, has_run}
+use Rattle.homa_plain.specs.Steps.{Work, begun, refilled, starts, comes, acts, ended, call_step, arrival_step, turn_step, Asked, asked_in}
 use Rattle.step_laws.specs.StepLaws.{IsBounded}
 use Rattle.step_laws.proofs.Bounds.{call-bounded, arrival-bounded, turn-bounded}
 use Rattle.host_incoming.specs.Pooled.{IsInPool, HasNumber}
@@ -31,7 +31,7 @@ use Rattle.homa_host.specs.Public.{IsSameHost}
 use Rattle.homa_host.specs.declared.parts.HostParts.{HostParts}
 use Rattle.homa_host.proofs.Finished.{finished}
 use Rattle.homa_host.proofs.Begun.{kept-control, sound-begun}
-use Rattle.homa_host.proofs.Delivered.{run_stays}
+use Rattle.homa_host.proofs.Delivered.{asked_stays}
 use Rattle.homa_host.proofs.SameLife.{life, call-life, arrival-life, turn-life}
 
 -- ---- the credit is filled up
@@ -214,6 +214,6 @@ pub arrival_whole : (s : Settings) (h : Host) (now : ℕ) (p : Option Packet) (a
 unfolding arrival_step
 arrival_whole s h now p a whole all = ended-told (IsWhole whole) (λ q. tt) s (comes s p a (begun h now)) all
 
-pub arrival_run : (s : Settings) (h : Host) (now : ℕ) (p : Option Packet) (a : Answer) → has_run (comes s p a (begun h now)).told ≡ true → has_run (arrival_step s h now p a).told ≡ true
+pub arrival_asks : (s : Settings) (h : Host) (now : ℕ) (p : Option Packet) (a : Answer) (q : Asked) → asked_in (comes s p a (begun h now)).told ≡ Some q → asked_in (arrival_step s h now p a).told ≡ Some q
 unfolding arrival_step
-arrival_run s h now p a e = run_stays s (comes s p a (begun h now)) e
+arrival_asks s h now p a q e = asked_stays s (comes s p a (begun h now)) q e

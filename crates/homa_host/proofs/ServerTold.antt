@@ -1,5 +1,5 @@
 -- What a packet at a call's server told.
-use Rattle.std.proofs.Common.{◌≡◌, ◌⊎◌, inl, inr, ◌+◌, ℕ, Bool, true, false, List, [], ◌∷◌, ◌++◌, refl, sym, ap, subst, ◌∙◌, Option}
+use Rattle.std.proofs.Common.{◌≡◌, ◌⊎◌, inl, inr, ◌+◌, ℕ, Bool, false, List, [], ◌∷◌, ◌++◌, refl, sym, ap, subst, ◌∙◌, Option, Some}
 use Rattle.std.specs.List.{AllByRecursion}
 use Rattle.homa_plain.specs.declared.id.CallId.{CallId}
 use Rattle.homa_plain.specs.declared.id.HostId.{HostId}
@@ -7,17 +7,17 @@ use Rattle.homa_plain.specs.declared.packet.Role.{Role}
 use Rattle.homa_plain.specs.declared.packet.Role.TheVariants.{Client, Server}
 use Rattle.homa_plain.specs.declared.packet.Packet.{Packet as WirePacket}
 use Rattle.homa_plain.specs.declared.settings.Settings.{Settings}
-use Rattle.homa_plain.specs.Host.{Host, Told, Says, Sends}
-use Rattle.homa_plain.specs.Entries.{PlainRun, PlainSettings, PlainCall, PlainDeliver, PlainClock, PlainRestart, PlainInject, PlainShift, PlainJunk, PlainStale, PlainSend, PlainDone, PlainFail, PlainDrop, PlainGaps, PlainBury, PlainFree, PlainFullRows, PlainFullPages, PlainBalance, PlainRecv, PlainFinished, PlainRefused, PlainStalled}
-use Rattle.homa_plain.specs.Rows.{ServerRow, set_row}
+use Rattle.homa_plain.specs.Host.{Host}
+use Rattle.homa_plain.specs.Entries.{PlainRun}
+use Rattle.homa_plain.specs.Rows.{ServerRow}
 use Rattle.homa_plain.specs.Rules.{Moment, Answer, Did, Piece, Say, Tells, Posts}
-use Rattle.homa_plain.specs.Steps.{Work, moment, begun, comes_to_row, notes, tells_cutoffs, said, served, has_run}
+use Rattle.homa_plain.specs.Steps.{Work, moment, begun, comes_to_row, said, served, Asked, asked_in}
 use Rattle.homa_plain.specs.Packets.{Packet, packet_between}
 use Rattle.msg_pool.specs.Pool.{Pool}
 use Rattle.host_incoming.specs.Pieces.{piece_in}
 use Rattle.host_view.specs.declared.mark.Mark.{Mark}
 use Rattle.host_view.specs.Marks.{marks_from, has_ran, response_of, IsReply as IsReplyMark, IsAllowed, IsWhole}
-use Rattle.homa_server.specs.Answers.{served_of, service_in, runs_said, IsReply, IfRan, has_run as did_run}
+use Rattle.homa_server.specs.Answers.{served_of, service_in, asked_said, IsReply, IfRan, has_run as did_run}
 use Rattle.homa_server.specs.Table.{Servers, response_at}
 use Rattle.homa_server.specs.declared.answers.ServerDid.{ServerDid}
 use Rattle.homa_server.specs.declared.answers.ServerDid.TheVariants as did
@@ -30,6 +30,9 @@ use Rattle.homa_host.specs.Outcomes.{server_change, server_orders}
 use Rattle.homa_host.specs.ServerFollow.{FollowedServer}
 use Rattle.homa_host.specs.declared.parts.HostParts.{HostParts}
 use Rattle.homa_host.proofs.RanLaws.{AreQuiet, IsQuiet, Quiet, Ran, quiet-marks, ran-marks, heard-quiet}
+use Rattle.step_laws.specs.StepLaws.{run_count}
+use Rattle.step_laws.proofs.ToldBy.{served-carried}
+use Rattle.homa_host.proofs.Delivered.{asked_append, asked_behind}
 use Rattle.homa_host.proofs.ServerHeard.{heard_work}
 use Rattle.homa_host.proofs.ServerGets.{HasTaken, p, is_p, got, row_now, gets, gets_is, gets_amid, response_same, reply_of, is_reply_of}
 
@@ -158,65 +161,15 @@ module _ (host : HostParts) {from : HostId} {packet : WirePacket} {payload : Lis
 
 -- ---- where the service found no memory
 
-said_runs : (s : Settings) (h : Host) (role : Role) (id : CallId) (server : HostId) (says : List Say) → runs_said says ≡ true → has_run (said s h role id server says) ≡ true
-said_runs s h role id server [] e = cc
-said_runs s h role id server (Posts what ∷ says) e = said_runs s h role id server says e
-said_runs s h role id server (Tells (PlainRun host call service request response hold) ∷ says) e = refl
-said_runs s h role id server (Tells (PlainSettings x0) ∷ says) e = said_runs s h role id server says e
-said_runs s h role id server (Tells (PlainCall x0 x1 x2 x3) ∷ says) e = said_runs s h role id server says e
-said_runs s h role id server (Tells (PlainDeliver x0) ∷ says) e = said_runs s h role id server says e
-said_runs s h role id server (Tells (PlainClock x0) ∷ says) e = said_runs s h role id server says e
-said_runs s h role id server (Tells (PlainRestart x0 x1) ∷ says) e = said_runs s h role id server says e
-said_runs s h role id server (Tells (PlainInject x0 x1) ∷ says) e = said_runs s h role id server says e
-said_runs s h role id server (Tells (PlainShift x0 x1) ∷ says) e = said_runs s h role id server says e
-said_runs s h role id server (Tells (PlainJunk x0) ∷ says) e = said_runs s h role id server says e
-said_runs s h role id server (Tells (PlainStale x0 x1 x2) ∷ says) e = said_runs s h role id server says e
-said_runs s h role id server (Tells (PlainSend x0 x1 x2 x3 x4 x5 x6 x7 x8) ∷ says) e = said_runs s h role id server says e
-said_runs s h role id server (Tells (PlainDone x0 x1) ∷ says) e = said_runs s h role id server says e
-said_runs s h role id server (Tells (PlainFail x0 x1) ∷ says) e = said_runs s h role id server says e
-said_runs s h role id server (Tells (PlainDrop x0 x1) ∷ says) e = said_runs s h role id server says e
-said_runs s h role id server (Tells (PlainGaps x0 x1) ∷ says) e = said_runs s h role id server says e
-said_runs s h role id server (Tells (PlainBury x0 x1 x2) ∷ says) e = said_runs s h role id server says e
-said_runs s h role id server (Tells (PlainFree x0 x1) ∷ says) e = said_runs s h role id server says e
-said_runs s h role id server (Tells (PlainFullRows x0 x1 x2 x3) ∷ says) e = said_runs s h role id server says e
-said_runs s h role id server (Tells (PlainFullPages x0 x1 x2 x3) ∷ says) e = said_runs s h role id server says e
-said_runs s h role id server (Tells (PlainBalance x0 x1) ∷ says) e = said_runs s h role id server says e
-said_runs s h role id server (Tells (PlainRecv x0 x1 x2) ∷ says) e = said_runs s h role id server says e
-said_runs s h role id server (Tells (PlainFinished x0) ∷ says) e = said_runs s h role id server says e
-said_runs s h role id server (Tells (PlainRefused x0 x1) ∷ says) e = said_runs s h role id server says e
-said_runs s h role id server (Tells (PlainStalled x0 x1) ∷ says) e = said_runs s h role id server says e
+said_asks : (s : Settings) (h : Host) (role : Role) (id : CallId) (server : HostId) (says : List Say) (q : Asked) → asked_said says ≡ Some q → asked_in (said s h role id server says) ≡ Some q
+said_asks s h role id server [] q e = cc
+said_asks s h role id server (Posts what ∷ says) q e = said_asks s h role id server says q e
+said_asks s h role id server (Tells (PlainRun host call service request response hold) ∷ says) q e = e
+said_asks s h role id server (Tells entry ∷ says) q e = said_asks s h role id server says q e
 
-behind : (told more : List Told) → has_run more ≡ true → has_run (told ++ more) ≡ true
-behind [] more e = e
-behind (Sends packet ∷ told) more e = behind told more e
-behind (Says (PlainRun host call service request response hold) ∷ told) more e = refl
-behind (Says (PlainSettings x0) ∷ told) more e = behind told more e
-behind (Says (PlainCall x0 x1 x2 x3) ∷ told) more e = behind told more e
-behind (Says (PlainDeliver x0) ∷ told) more e = behind told more e
-behind (Says (PlainClock x0) ∷ told) more e = behind told more e
-behind (Says (PlainRestart x0 x1) ∷ told) more e = behind told more e
-behind (Says (PlainInject x0 x1) ∷ told) more e = behind told more e
-behind (Says (PlainShift x0 x1) ∷ told) more e = behind told more e
-behind (Says (PlainJunk x0) ∷ told) more e = behind told more e
-behind (Says (PlainStale x0 x1 x2) ∷ told) more e = behind told more e
-behind (Says (PlainSend x0 x1 x2 x3 x4 x5 x6 x7 x8) ∷ told) more e = behind told more e
-behind (Says (PlainDone x0 x1) ∷ told) more e = behind told more e
-behind (Says (PlainFail x0 x1) ∷ told) more e = behind told more e
-behind (Says (PlainDrop x0 x1) ∷ told) more e = behind told more e
-behind (Says (PlainGaps x0 x1) ∷ told) more e = behind told more e
-behind (Says (PlainBury x0 x1 x2) ∷ told) more e = behind told more e
-behind (Says (PlainFree x0 x1) ∷ told) more e = behind told more e
-behind (Says (PlainFullRows x0 x1 x2 x3) ∷ told) more e = behind told more e
-behind (Says (PlainFullPages x0 x1 x2 x3) ∷ told) more e = behind told more e
-behind (Says (PlainBalance x0 x1) ∷ told) more e = behind told more e
-behind (Says (PlainRecv x0 x1 x2) ∷ told) more e = behind told more e
-behind (Says (PlainFinished x0) ∷ told) more e = behind told more e
-behind (Says (PlainRefused x0 x1) ∷ told) more e = behind told more e
-behind (Says (PlainStalled x0 x1) ∷ told) more e = behind told more e
-
-pub served_runs : (s : Settings) (id : CallId) (d : Did ServerRow) (w : Work) → runs_said d.says ≡ true → has_run (served s id d w).told ≡ true
-unfolding served
-served_runs s id d w e =
-    let put : Work = record w { host = record w.host { order = d.order; servers = set_row w.host.servers id d.row } } in
-    let reply : Work = tells_cutoffs s Server id w.host.id d.version (notes s d.opened put) in
-    behind reply.told (said s w.host Server id w.host.id d.says) (said_runs s w.host Server id w.host.id d.says e)
+pub served_asks : (s : Settings) (id : CallId) (d : Did ServerRow) (w : Work) (q : Asked) → run_count w.told ≡ 0 → asked_said d.says ≡ Some q → asked_in (served s id d w).told ≡ Some q
+served_asks s id d w q none e =
+    let c = served-carried s id d w in
+    let here = said s w.host Server id w.host.id d.says in
+    ap asked_in c.grown
+    ∙ asked_behind w.told (c.before ++ (here ++ c.after)) q none (asked_behind c.before (here ++ c.after) q c.quiet_before (asked_append here c.after q (said_asks s w.host Server id w.host.id d.says q e)))

@@ -3,3 +3,4 @@ pub mod Amid
 pub mod Outcomes
 pub mod Public
 pub mod ServerFollow
+pub mod Asking

@@ -24,6 +24,7 @@ ghost use Rattle.homa_plain.specs.Rows.{ServerRow};
 ghost use Rattle.homa_pacer.specs.Pace.{ready_key};
 ghost use Rattle.host_view.specs.Marks.{has_ran, response_of, IsReply, IsAllowed, IsWhole};
 ghost use Rattle.homa_host.specs.Parts.{host_of, seen_of, IsKept};
+ghost use Rattle.homa_host.specs.Asking.{HasAsked};
 ghost use Rattle.homa_host.specs.Amid.{Amid, Steady, HasRoom, HasCome, IsPumped};
 ghost use Rattle.host_book_laws.specs.Ends.{grant_to};
 ghost use Rattle.host_view.specs.Follow.{ChangesAt};
@@ -45,7 +46,8 @@ use msg_pool::Scratch;
 use std::alloc::{AllocError, Global};
 
 impl HostParts {
-    // A packet of a client comes, but for the calls that it acknowledges. Where the service finds no memory, nothing happens.
+    // A packet of a client comes, but for the calls that it acknowledges. Where the service finds no memory, nothing but
+    // `scratch` changes, which holds the request.
     pub(crate) fn server_gets<V: Service>(
         &mut self,
         alloc: Global,
@@ -78,9 +80,10 @@ impl HostParts {
         ensures answered { OnOk result ((a : Answer) × AllByRecursion (IsReply (host_of self.new) a) self.new.control.marks) }
         ensures allowed { OnOk result (AllByRecursion
             (IsAllowed (host_of self.new) (V.allows service.old (V.served service.old)) scratch.new) self.new.control.marks) }
-        ensures whole { OnErr result ((a : Answer) → let p = packet_between from self.old.control.id packet.now payload.now in
+        ensures asks { OnErr result ((a : Answer) → let p = packet_between from self.old.control.id packet.now payload.now in
             let s = self.old.control.settings in
-            has_run (comes_to_row s p a OfClientRole (hears_cutoffs s from packet.now.sender packet.now.body (begun (host_of self.old) now))).told ≡ true) }
+            HasAsked (record { client = from; inc = packet.now.inc; seq = packet.now.seq }) (service_in (piece_in packet.now.body payload.now)) scratch.new
+            (comes_to_row s p a OfClientRole (hears_cutoffs s from packet.now.sender packet.now.body (begun (host_of self.old) now))).told) }
         ensures same { OnErr result (self.new ≡ self.old) }
         ensures none { OnErr result (out.new ≡ []) }
         ensures not_served { OnErr result (V.served service.new ≡ V.served service.old) }
@@ -256,7 +259,7 @@ fn touched_version(servers: &ServerTable, did: &ServerDid, head: Option<Head>) -
 }
 
 // The service that a piece is for.
-fn service_of(body: &Body) -> u8
+pub(crate) fn service_of(body: &Body) -> u8
     ensures { (payload : List ℕ) → result ≡ service_in (piece_in body.now payload) }
 {
     match body {

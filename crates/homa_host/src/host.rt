@@ -15,8 +15,10 @@ ghost use Rattle.host_view.specs.Seen.{AreArmed, AreEntered, AreReady};
 ghost use Rattle.host_view.specs.Frames.{frame_line};
 ghost use Rattle.host_view.specs.Marks.{request_of, response_of, shown, shown_entries, has_ran, IsAnswer, IsAllowed};
 ghost use Rattle.host_view.specs.Done.{IsDone, HoldsSent, arriving};
+ghost use Rattle.homa_host.specs.Asking.{HasAsked};
 ghost use Rattle.homa_host.specs.Public.{IsSameHost, IsHeld};
 
+use crate::Asked;
 use crate::parts::HostParts;
 use homa_grants::GrantBook;
 use homa_pacer::Pacer;
@@ -133,7 +135,8 @@ impl Host {
     }
 
     /// A datagram comes from a host, at tick `now` of this host's own clock. Where its service finds no memory for a
-    /// request that the datagram makes whole, nothing but `scratch` changes, which then holds the request.
+    /// request that the datagram makes whole, the answer is the call and the service, and nothing but `scratch` changes,
+    /// which then holds the request.
     #[tactic(none)]
     pub fn deliver<V: Service>(
         &mut self,
@@ -144,7 +147,7 @@ impl Host {
         service: &mut V,
         out: &mut Outbox,
         scratch: &mut Scratch,
-    ) -> Result<(), AllocError>
+    ) -> Result<(), Asked>
         requires from { from.0 < self.old.settings.hosts }
         requires other { from ≢ self.old.host.id }
         requires now { now ≤ 1000000002000 }
@@ -156,6 +159,8 @@ impl Host {
         ensures served { OnOk result (V.served service.new ≡ (if has_ran self.new.marks then V.served service.old + 1 else V.served service.old)) }
         ensures answered { OnOk result ((a : Answer) × IsAnswer self.new a) }
         ensures allowed { OnOk result (AllByRecursion (IsAllowed self.new.host (V.allows service.old (V.served service.old)) scratch.new) self.new.marks) }
+        ensures asks { IfErr result (λ e. (a : Answer)
+            → HasAsked e.id e.number scratch.new (arrival_step self.old.settings self.old.host now (arriving self.old from frame.now) a).told) }
         ensures whole { OnErr result ((a : Answer)
             → has_run (arrival_step self.old.settings self.old.host now (arriving self.old from frame.now) a).told ≡ true) }
         ensures same { OnErr result (self.new ≡ record self.old { marks = [] }) }
@@ -175,9 +180,9 @@ impl Host {
                 self.parts.end_step(out);
                 Ok(())
             }
-            Err(error) => {
+            Err(asked) => {
                 self.parts.control.tell_nothing();
-                Err(error)
+                Err(asked)
             }
         }
     }

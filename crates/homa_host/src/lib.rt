@@ -6,6 +6,7 @@
 //! books' first entries; none reads all rows.
 #![tactic(auto)]
 
+mod asked;
 mod at_client;
 mod at_server;
 mod ends;
@@ -13,4 +14,5 @@ mod host;
 mod outcome;
 mod parts;
 
+pub use asked::Asked;
 pub use host::Host;

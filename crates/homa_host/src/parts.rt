@@ -22,10 +22,13 @@ ghost use Rattle.host_view.specs.Done.{arriving};
 ghost use Rattle.host_books.specs.Duties.{HaveRoom};
 ghost use Rattle.host_book_laws.specs.Duty.{client_duty, server_duty};
 ghost use Rattle.homa_host.specs.Parts.{host_of, seen_of, IsKept};
+ghost use Rattle.homa_host.specs.Asking.{HasAsked};
 ghost use Rattle.homa_host.specs.Amid.{Amid, Steady, HasRoom, IsBegun, HasCome};
 ghost use Rattle.homa_host.specs.ServerFollow.{MayStayServer, FollowedServer};
 ghost use Rattle.homa_host.specs.Outcomes.{IfStays, IfChanged, MayStayClient, FollowedClient};
 
+use crate::Asked;
+use crate::at_server::service_of;
 use crate::outcome::{Change, client_duties, server_duties};
 use homa_client::ClientTable;
 use homa_plain::{Body, CallId, HostId, Packet, Role, Settings, StartFault};
@@ -131,7 +134,7 @@ impl HostParts {
         service: &mut V,
         out: &mut Outbox,
         scratch: &mut Scratch,
-    ) -> Result<(), AllocError>
+    ) -> Result<(), Asked>
         requires kept { IsKept self.old }
         requires from { from.0 < self.old.control.settings.hosts }
         requires other { from ≢ self.old.control.id }
@@ -151,8 +154,8 @@ impl HostParts {
         ensures answered { OnOk result ((a : Answer) × AllByRecursion (IsReply (host_of self.new) a) self.new.control.marks) }
         ensures allowed { OnOk result (AllByRecursion
             (IsAllowed (host_of self.new) (V.allows service.old (V.served service.old)) scratch.new) self.new.control.marks) }
-        ensures whole { OnErr result ((a : Answer) → let p = packet_between from self.old.control.id packet.now payload.now in
-            has_run (comes self.old.control.settings (Some p) a (begun (host_of self.old) now)).told ≡ true) }
+        ensures asks { IfErr result (λ e. (a : Answer) → let p = packet_between from self.old.control.id packet.now payload.now in
+            HasAsked e.id e.number scratch.new (comes self.old.control.settings (Some p) a (begun (host_of self.old) now)).told) }
         ensures same { OnErr result (self.new ≡ self.old) }
         ensures none { OnErr result (out.new ≡ []) }
         ensures not_served { OnErr result (V.served service.new ≡ V.served service.old) }
@@ -178,7 +181,15 @@ impl HostParts {
                         self.acknowledged(from, packet, out);
                         Ok(())
                     }
-                    Err(error) => Err(error),
+                    Err(_) => {
+                        let id = CallId {
+                            client: from,
+                            inc: packet.inc,
+                            seq: packet.seq,
+                        };
+                        let number = service_of(&packet.body);
+                        Err(Asked { id, number })
+                    }
                 }
             }
         }
@@ -195,7 +206,7 @@ impl HostParts {
         service: &mut V,
         out: &mut Outbox,
         scratch: &mut Scratch,
-    ) -> Result<(), AllocError>
+    ) -> Result<(), Asked>
         requires kept { IsKept self.old }
         requires from { from.0 < self.old.control.settings.hosts }
         requires other { from ≢ self.old.control.id }
@@ -213,8 +224,8 @@ impl HostParts {
         ensures answered { OnOk result ((a : Answer) × AllByRecursion (IsReply (host_of self.new) a) self.new.control.marks) }
         ensures allowed { OnOk result (AllByRecursion
             (IsAllowed (host_of self.new) (V.allows service.old (V.served service.old)) scratch.new) self.new.control.marks) }
-        ensures whole { OnErr result ((a : Answer)
-            → has_run (comes self.old.control.settings (arriving (seen_of self.old) from frame.now) a (begun (host_of self.old) now)).told ≡ true) }
+        ensures asks { IfErr result (λ e. (a : Answer) → HasAsked e.id e.number scratch.new
+            (comes self.old.control.settings (arriving (seen_of self.old) from frame.now) a (begun (host_of self.old) now)).told) }
         ensures same { OnErr result (self.new ≡ self.old) }
         ensures none { OnErr result (out.new ≡ []) }
         ensures not_served { OnErr result (V.served service.new ≡ V.served service.old) }

@@ -1,6 +1,6 @@
 -- A packet of a call that has no row.
-use Rattle.std.proofs.Common.{◌≡◌, ◌≤◌, ◌+◌, ℕ, true, false, refl, sym, ap, subst, ◌∙◌, arith, Option, Some, None, List, [], ◌∷◌}
-use Rattle.std.specs.Option.{option_map, option_map_or, option_and_then}
+use Rattle.std.proofs.Common.{◌≡◌, ◌≤◌, ◌+◌, ℕ, false, refl, sym, ap, subst, ◌∙◌, arith, Option, Some, None, List, [], ◌∷◌}
+use Rattle.std.specs.Option.{option_map, option_map_or, option_and_then, is_some}
 use Rattle.std.proofs.lemmas.Bool.{true≢false, le-leb}
 use Rattle.plain_sets.specs.Maps.{get, insert, len}
 use Rattle.homa_plain.specs.declared.id.CallId.{CallId}
@@ -14,7 +14,7 @@ use Rattle.homa_plain.specs.declared.packet.Packet.{Packet as WirePacket}
 use Rattle.homa_plain.specs.declared.packet.Role.TheVariants.{Client}
 use Rattle.homa_plain.specs.Packets.{Packet, packet_between, call_between, server_between}
 use Rattle.homa_plain.specs.Rows.{ServerRow}
-use Rattle.homa_plain.specs.Rules.{Moment, Answer, Piece, Tells, says}
+use Rattle.homa_plain.specs.Rules.{Moment, Answer, Piece, Did, Tells, says}
 use Rattle.homa_plain.specs.AtServer.{server_gets, server_acked, unknown_gets, opens, piece_of}
 use Rattle.msg_pool.specs.Pool.{Pool, free_pages}
 use Rattle.homa_in.specs.Part.{Part}
@@ -23,7 +23,7 @@ use Rattle.host_places.proofs.PlacedLaws.{changed-new, changed-none, get-insert_
 use Rattle.host_incoming.specs.Pieces.{piece_in, moment_with}
 use Rattle.host_incoming.specs.Pooled.{Moves, AreIn, pages_of}
 use Rattle.homa_server.specs.Held.{HeldServer, seen_server, state_part, response_in}
-use Rattle.homa_server.specs.Answers.{IsAnswered, IsAnswerBody, IsReply, IsSlotOf, slot_in, IfRan, IfSaid, has_run, served_of, runs_said, acked_of}
+use Rattle.homa_server.specs.Answers.{IsAnswered, IsAnswerBody, IsReply, IsSlotOf, slot_in, IfRan, IfSaid, has_run, served_of, IsAsked, acked_of}
 use Rattle.homa_server.specs.Table.{Servers, ServerRows, Served, packet_of, request_at, response_at, server_at, server_moment}
 use Rattle.homa_server.specs.declared.answers.ServerDid.{ServerDid}
 use Rattle.homa_server.specs.declared.answers.ServerDid.TheVariants as did
@@ -89,10 +89,10 @@ module _ (t : Servers) (id : CallId) (none : get t.rows id ≡ None) where
           ap (server_gets t.settings (server_moment t now order pool id) p a) (server_none pool)
           ∙ ap (λ (k : Moment). unknown_gets t.settings k id what payload a) moment_is
 
-      -- what the rule says is said
-      pub said_new : (a : Answer) → runs_said (unknown_gets t.settings m id what payload a).says ≡ true
-          → runs_said (server_gets t.settings (server_moment t now order pool id) p a (server_at pool t.rows id)).says ≡ true
-      said_new a e = ap (λ d. runs_said d.says) (gets_none a) ∙ e
+      -- what the rule asks is asked
+      pub asked_new : (number : ℕ) (request : List ℕ) (a : Answer) → IsAsked id number request (unknown_gets t.settings m id what payload a)
+          → IsAsked id number request (server_gets t.settings (server_moment t now order pool id) p a (server_at pool t.rows id))
+      asked_new number request a asked = subst (λ (d : Did ServerRow). IsAsked id number request d) (sym (gets_none a)) asked
 
       module _ (pool' : Pool) (told : List ℕ) (allowed : List ℕ → List ℕ → ℕ → Type 0) (answer : ServerDid) (are : AreIn pool (request_at t.rows)) where
         answered : (rows : ServerRows) (row : Option ServerRow) (response : List ℕ) → server_at pool' rows id ≡ row → response_at rows id ≡ response
@@ -112,6 +112,7 @@ module _ (t : Servers) (id : CallId) (none : get t.rows id ≡ None) where
           did = answered t.rows None [] (server_none pool') (ap (λ (o : Option (Placed HeldServer)). option_map_or (λ (x : Placed HeldServer). response_in x.row.state) o []) none) did;
           ran = no_run answer (λ hold. allowed told (response_at t.rows id) hold) silent;
           slot = subst (λ (o : Option ℕ). IsSlotOf o answer) (sym (ap (option_map (λ (x : Placed HeldServer). x.place)) none)) here;
+          named = λ some. absurd (true≢false (sym some ∙ ap is_some none));
           same = λ none. (refl, idle);
           said = said;
           moved = server_moved t t.rows pool pool' id _ are (subst (λ (o : Option Part). Moves pool o pool' o) (sym request_none) moves) (changed-none t.rows id) refl;
@@ -142,6 +143,7 @@ module _ (t : Servers) (id : CallId) (none : get t.rows id ≡ None) where
                 did = answered rows (Some (seen_server pool' row)) (response_in row.state) (ap (option_map (λ (x : Placed HeldServer). seen_server pool' x.row)) row_new) response did;
                 ran = subst (λ (bytes : List ℕ). IfRan answer (λ hold. allowed told bytes hold)) (sym response) ran;
                 slot = subst (λ (o : Option ℕ). IsSlotOf o answer) (sym (ap (option_map (λ (x : Placed HeldServer). x.place)) row_new)) here;
+                named = λ some. absurd (true≢false (sym some ∙ ap is_some none));
                 same = λ idle. absurd (named idle);
                 said = said;
                 moved = server_moved t rows pool pool' id _ are moves_new (changed-new t.rows id _ none) refl;
@@ -153,12 +155,12 @@ module _ (t seen : Servers) (is : t ≡ seen) (id : CallId) (none : get seen.row
   none_here : get t.rows id ≡ None
   none_here = subst (λ (x : Servers). get x.rows id ≡ None) (sym is) none
 
-  pub seen_said : (now order : ℕ) (pool : Pool) (what : Body) (payload : List ℕ) (a : Answer)
-      → runs_said (unknown_gets t.settings (moment_with t.host now order (free_pages pool) (len t.rows)) id what payload a).says ≡ true → (role : Role) (server : HostId) (inc at level : ℕ)
-      → runs_said (server_gets seen.settings (server_moment seen now order pool id) (packet_of id what payload role server inc at level) a (server_at pool seen.rows id)).says ≡ true
-  seen_said now order pool what payload a said role server inc at level =
-      subst (λ (x : Servers). runs_said (server_gets x.settings (server_moment x now order pool id) (packet_of id what payload role server inc at level) a (server_at pool x.rows id)).says ≡ true) is
-      (said_new t id none_here now order pool what payload role server inc at level a said)
+  pub seen_asked : (now order : ℕ) (pool : Pool) (what : Body) (payload : List ℕ) (number : ℕ) (request : List ℕ) (a : Answer)
+      → IsAsked id number request (unknown_gets t.settings (moment_with t.host now order (free_pages pool) (len t.rows)) id what payload a) → (role : Role) (server : HostId) (inc at level : ℕ)
+      → IsAsked id number request (server_gets seen.settings (server_moment seen now order pool id) (packet_of id what payload role server inc at level) a (server_at pool seen.rows id))
+  seen_asked now order pool what payload number request a asked role server inc at level =
+      subst (λ (x : Servers). IsAsked id number request (server_gets x.settings (server_moment x now order pool id) (packet_of id what payload role server inc at level) a (server_at pool x.rows id))) is
+      (asked_new t id none_here now order pool what payload role server inc at level number request a asked)
 
   module _ (now order : ℕ) (pool : Pool) (are : AreIn pool (request_at seen.rows)) (what : Body) (payload : List ℕ) (pool' : Pool) (told : List ℕ) (allowed : List ℕ → List ℕ → ℕ → Type 0) (answer : ServerDid) where
     abbrev pub IsGiven : Option ServerRow → List ℕ → Type 0

@@ -18,7 +18,7 @@ use Rattle.homa_in.specs.Part.{Part}
 use Rattle.host_incoming.specs.Putting.{IsWholeAtOnce, IsBegun}
 use Rattle.homa_server.specs.Held.{HeldServer, Arriving, Keeping, Answering, seen_server, response_in}
 use Rattle.host_incoming.specs.Pieces.{moment_with}
-use Rattle.homa_server.specs.Answers.{runs_said}
+use Rattle.homa_server.specs.Answers.{IsAsked}
 
 pub on_err : {T E : Type 0} (r : Result T E) (P : Type 0) → P → OnErr r P
 on_err (Ok t) P h = tt
@@ -42,11 +42,11 @@ module _ (s : Settings) (m : Moment) (id : CallId) (p : Piece) (a : Answer) wher
   opens-first room enough =
       rw (lt-leb s.served m.rows room, le-ltb m.free (pages_for p.size) enough, eq-eqb p.size p.size refl, eq-eqb p.service p.service refl, first_taken id.client p.size m.order s.unsched p.offset p.payload) refl
 
-  -- the service runs where it is the whole request
-  pub opens-said : m.rows < s.served → pages_for p.size ≤ m.free → is_whole with_first ≡ true → runs_said (opens s m id p a).says ≡ true
-  opens-said room enough whole =
+  -- the service is asked where it is the whole request
+  pub opens-asks : m.rows < s.served → pages_for p.size ≤ m.free → is_whole with_first ≡ true → IsAsked id p.service (message with_first) (opens s m id p a)
+  opens-asks room enough whole =
       rw (opens-first room enough, whole)
-      (elim (eqb a.hold 0) as (λ b. runs_said (cond b (replying s m.now a.bytes new_row told) (record told { row = Some (with_state new_row (Held a.bytes (m.now + a.hold))) })).says ≡ true) [ true ↦ refl | false ↦ refl ])
+      (elim (eqb a.hold 0) as (λ b. IsAsked id p.service (message with_first) (cond b (replying s m.now a.bytes new_row told) (record told { row = Some (with_state new_row (Held a.bytes (m.now + a.hold))) }))) [ true ↦ refl | false ↦ refl ])
 
 module _ (s : Settings) (id : CallId) (host : HostId) (now order rows version number size offset : ℕ) (xs : List ℕ) (old new : Pool) (client : HostId) (same : id.client ≡ client) (room : rows < s.served) where
   abbrev pub m : Moment

@@ -1,5 +1,5 @@
 -- What a server's answers say of the plain rules.
-use Rattle.std.specs.Prelude.{◌≡◌, ◌+◌, ◌-◌, ◌==◌, ◌<◌, ◌≤◌, IsSome, if◌then◌else◌, ℕ, Bool, true, false, Option, Some, None, List, [], ◌∷◌}
+use Rattle.std.specs.Prelude.{◌≡◌, ◌+◌, ◌-◌, ◌==◌, ◌&&◌, ◌||◌, ◌<◌, ◌≤◌, not, IsSome, if◌then◌else◌, ℕ, Bool, true, false, Option, Some, None, List, [], ◌∷◌}
 use Rattle.homa_plain.specs.declared.id.CallId.{CallId}
 use Rattle.homa_plain.specs.declared.packet.Body.{Body}
 use Rattle.homa_plain.specs.declared.packet.Body.TheVariants as body
@@ -12,10 +12,12 @@ use Rattle.homa_plain.specs.Entries.{PlainRun, PlainBury, PlainFullRows, PlainFu
 use Rattle.homa_plain.specs.Outgoing.{next_range, left, has_waiting}
 use Rattle.homa_plain.specs.Rows.{ServerRow, State, Receiving, Held, Replying, Buried}
 use Rattle.homa_plain.specs.Rules.{Moment, Answer, Piece, Say, Tells, Posts, Did, leaves, says, opening}
+use Rattle.homa_plain.specs.Steps.{Asked}
 use Rattle.homa_plain.specs.Timers.{state_deadline}
 use Rattle.homa_plain.specs.Sending.{state_sends}
 use Rattle.msg_pool.specs.Pool.{Pool}
 use Rattle.host_incoming.specs.Pooled.{IsInPool}
+use Rattle.homa_in.specs.Part.{Part}
 use Rattle.homa_server.specs.Held.{HeldState, HeldServer, Arriving, Keeping, Answering, Gone, state_part, seen_state, seen_server}
 use Rattle.host_incoming.specs.Pieces.{first_version, size_in, opening_if}
 use Rattle.host_incoming.specs.Sends.{emits, is_sent}
@@ -25,6 +27,40 @@ use Rattle.homa_server.specs.declared.answers.ServerAct.{ServerAct}
 use Rattle.homa_server.specs.declared.answers.ServerAct.TheVariants as act
 
 -- ---- packets
+
+-- whether it is a piece of a message
+abbrev pub is_data : Body → Bool
+is_data (body.Data size offset version service ack) = true
+is_data what = false
+
+-- whether it asks for bytes again
+abbrev pub is_resend : Body → Bool
+is_resend (body.Resend from to prio) = true
+is_resend what = false
+
+-- whether it says that calls are over
+abbrev pub is_ack : Body → Bool
+is_ack (body.Ack more) = true
+is_ack what = false
+
+-- whether it is for a request that arrives: a piece of it, RESEND or BUSY
+abbrev pub is_for_request : ℕ → Part → Body → Bool
+is_for_request service part (body.Data size offset version number ack) = part.length == size && service == number
+is_for_request service part (body.Resend from to prio) = true
+is_for_request service part body.Busy = true
+is_for_request service part what = false
+
+-- whether it is for a row in this state: a response that is held back takes RESEND alone, one that goes out all but ACK, and a
+-- tombstone DATA and RESEND
+abbrev pub is_for : Body → HeldState → Bool
+is_for what (Arriving service part base count) = is_for_request service part what
+is_for what (Keeping response release) = is_resend what
+is_for what (Answering response out order base count) = not (is_ack what)
+is_for what (Gone until) = is_data what || is_resend what
+
+-- the row's slot, where the packet is for it
+abbrev pub slot_if : Bool → ℕ → Option ℕ
+slot_if is slot = if is then Some slot else None
 
 -- the service that a piece is for
 abbrev pub service_in : Option Piece → ℕ
@@ -126,11 +162,15 @@ IsAnswerBody what = ⊥
 abbrev pub IsAnswered : Settings → Moment → CallId → Option Piece → (Answer → Did ServerRow) → Option ServerRow → List ℕ → List ℕ → ServerDid → Type 0
 IsAnswered s m id piece plain row response told answer = (a : Answer) → IsReply response a answer → plain a ≡ served_of s m id piece row told a answer
 
--- whether a rule says that the service ran
-abbrev pub runs_said : List Say → Bool
-runs_said [] = false
-runs_said (Tells (PlainRun host id service request response hold) ∷ said) = true
-runs_said (say ∷ said) = runs_said said
+-- what the service is asked by what a rule says, if it is: what its first `run` line says
+abbrev pub asked_said : List Say → Option Asked
+asked_said [] = None
+asked_said (Tells (PlainRun host id service request response hold) ∷ said) = Some (record { id = id; service = service; request = request })
+asked_said (say ∷ said) = asked_said said
+
+-- a rule asks the service with this number for a call, with this request
+abbrev pub IsAsked : CallId → ℕ → List ℕ → Did ServerRow → Type 0
+IsAsked id number request d = asked_said d.says ≡ Some (record { id = id; service = number; request = request })
 
 -- what the plain rule did at an ACK, where the call was buried up to a tick, or wasn't
 abbrev pub acked_of : Moment → CallId → Option ServerRow → Option ℕ → Did ServerRow
@@ -210,11 +250,6 @@ abbrev pub IsAsking : Body → Type 0
 IsAsking (body.Grant offset prio) = prio ≤ 7
 IsAsking (body.Resend from to prio) = (from < to) × (prio ≤ 7)
 IsAsking what = Unit {0}
-
--- whether it is a piece of a message
-abbrev pub is_data : Body → Bool
-is_data (body.Data size offset version service ack) = true
-is_data what = false
 
 -- ---- facts
 

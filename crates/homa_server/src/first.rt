@@ -9,7 +9,7 @@ ghost use Rattle.homa_plain.specs.Host.{pages_for};
 ghost use Rattle.msg_pool.specs.Pool.{Pool, free_pages};
 ghost use Rattle.host_incoming.specs.Pooled.{Moves};
 ghost use Rattle.host_incoming.specs.Pieces.{moment_with};
-ghost use Rattle.homa_server.specs.Answers.{IsAnswered, IfRan, has_run, slot_in, runs_said};
+ghost use Rattle.homa_server.specs.Answers.{IsAnswered, IfRan, has_run, slot_in, IsAsked};
 ghost use Rattle.homa_server.specs.Firsts.{first_did, first_row, first_part, first_response};
 
 use crate::row::Row;
@@ -65,9 +65,9 @@ pub fn open_row<V: Service>(
         V.allows service.old (V.served service.old) number scratch.new (first_response first) hold)) }
     ensures served { IfOk result (λ first.
         V.served service.new ≡ (if has_run (first_did 0 first) then V.served service.old + 1 else V.served service.old)) }
-    ensures whole { OnErr result ((id : CallId) (m : Moment) (version : ℕ) (a : Answer)
+    ensures asks { OnErr result ((id : CallId) (m : Moment) (version : ℕ) (a : Answer)
         → m.rows < settings.now.served → m.free ≡ free_pages pool.old
-        → runs_said (opens settings.now m id (piece_of size offset version number bytes.now) a).says ≡ true) }
+        → IsAsked id number scratch.new (opens settings.now m id (piece_of size offset version number bytes.now) a)) }
     ensures same_pool { OnErr result (pool.new ≡ pool.old) }
     ensures not_served { OnErr result (V.served service.new ≡ V.served service.old) }
     ensures allows_before { (count n hold : ℕ) (q r : List ℕ) → V.allows service.new count n q r hold → V.allows service.old count n q r hold }

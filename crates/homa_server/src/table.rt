@@ -20,7 +20,7 @@ ghost use Rattle.host_places.specs.Placed.{Placed, StandsAt, ArePlaced, spot_at}
 ghost use Rattle.homa_server.specs.Held.{HeldServer, IsKept, seen_server, state_part, state_response, response_in};
 ghost use Rattle.host_incoming.specs.Pieces.{piece_in, IsFit, moment_with};
 ghost use Rattle.host_incoming.specs.Sends.{IfSent, IsAffordable};
-ghost use Rattle.homa_server.specs.Answers.{IsAnswered, IsAnswerBody, IsSlotOf, IfSaid, is_data, has_run, service_in, runs_said, acked_of, acted_of};
+ghost use Rattle.homa_server.specs.Answers.{IsAnswered, IsAnswerBody, IsSlotOf, IfSaid, is_data, has_run, service_in, IsAsked, acked_of, acted_of};
 ghost use Rattle.homa_server.specs.Answers.{IfResend, HasServerActed, IsGrantable, state_emits, server_sends, server_facts};
 ghost use Rattle.homa_server.specs.Table.{packet_of, Servers, Served, ServerMoved, server_at, request_at, slot_at, server_moment};
 
@@ -71,7 +71,7 @@ impl ServerTable {
 
     /// A packet of role Client comes from a host; the calls that it acknowledges are for `ack`. `order` is the number of
     /// whatever is opened next. The service is called where the packet makes a request whole, which then stands in
-    /// `scratch`. Only there memory may be wanting, and then nothing but `scratch` changes.
+    /// `scratch`. Only there memory may be wanting, and then nothing but `scratch` changes, which holds the request.
     pub fn receive<V: Service>(
         &mut self,
         alloc: Global,
@@ -97,9 +97,9 @@ impl ServerTable {
         ensures served { IfOk result (λ did.
             V.served service.new ≡ (if has_run did then V.served service.old + 1 else V.served service.old)) }
         ensures pool { AreIn pool.new (request_at self.new.rows) }
-        ensures whole { OnErr result ((a : Answer) → let p = packet_between from self.old.host packet.now payload.now in
-            runs_said (server_gets self.old.settings (server_moment self.old now order pool.old p.id) p a (server_at pool.old self.old.rows p.id)).says
-            ≡ true) }
+        ensures asks { OnErr result ((a : Answer) → let p = packet_between from self.old.host packet.now payload.now in
+            IsAsked (record { client = from; inc = packet.now.inc; seq = packet.now.seq }) (service_in (piece_in packet.now.body payload.now)) scratch.new
+            (server_gets self.old.settings (server_moment self.old now order pool.old p.id) p a (server_at pool.old self.old.rows p.id))) }
         ensures same { OnErr result (self.new ≡ self.old) }
         ensures same_pool { OnErr result (pool.new ≡ pool.old) }
         ensures not_served { OnErr result (V.served service.new ≡ V.served service.old) }
@@ -164,10 +164,10 @@ impl ServerTable {
         ensures served { IfOk result (λ did.
             V.served service.new ≡ (if has_run did then V.served service.old + 1 else V.served service.old)) }
         ensures pool { AreIn pool.new (request_at self.new.rows) }
-        ensures whole { OnErr result ((role : Role) (server : HostId) (inc at level : ℕ) (a : Answer)
+        ensures asks { OnErr result ((role : Role) (server : HostId) (inc at level : ℕ) (a : Answer)
             → let p = packet_of id body.now payload.now role server inc at level in
-            runs_said (server_gets self.old.settings (server_moment self.old now order pool.old p.id) p a (server_at pool.old self.old.rows p.id)).says
-            ≡ true) }
+            IsAsked id (service_in (piece_in body.now payload.now)) scratch.new
+            (server_gets self.old.settings (server_moment self.old now order pool.old p.id) p a (server_at pool.old self.old.rows p.id))) }
         ensures same { OnErr result (self.new ≡ self.old) }
         ensures same_pool { OnErr result (pool.new ≡ pool.old) }
         ensures not_served { OnErr result (V.served service.new ≡ V.served service.old) }
@@ -206,10 +206,10 @@ impl ServerTable {
         ensures served { IfOk result (λ did.
             V.served service.new ≡ (if has_run did then V.served service.old + 1 else V.served service.old)) }
         ensures pool { AreIn pool.new (request_at self.new.rows) }
-        ensures whole { OnErr result ((role : Role) (server : HostId) (inc at level : ℕ) (a : Answer)
+        ensures asks { OnErr result ((role : Role) (server : HostId) (inc at level : ℕ) (a : Answer)
             → let p = packet_of id body.now payload.now role server inc at level in
-            runs_said (server_gets self.old.settings (server_moment self.old now order pool.old p.id) p a (server_at pool.old self.old.rows p.id)).says
-            ≡ true) }
+            IsAsked id (service_in (piece_in body.now payload.now)) scratch.new
+            (server_gets self.old.settings (server_moment self.old now order pool.old p.id) p a (server_at pool.old self.old.rows p.id))) }
         ensures same { OnErr result (self.new ≡ self.old) }
         ensures same_pool { OnErr result (pool.new ≡ pool.old) }
         ensures not_served { OnErr result (V.served service.new ≡ V.served service.old) }

@@ -1,11 +1,14 @@
-use Rattle.homa_plain.specs.AtServer.{piece_of}
-use Rattle.homa_server.proofs.OpenLaws.{on_err, opens-said, begun_did, whole_did}
+use Rattle.std.proofs.Common.{ℕ, List, sym, subst}
+use Rattle.homa_plain.specs.AtServer.{piece_of, opens}
+use Rattle.homa_server.specs.Answers.{IsAsked}
+use Rattle.homa_server.proofs.OpenLaws.{on_err, opens-asks, begun_did, whole_did}
 use Rattle.homa_server.proofs.first.open_row.Goals as goal
 
-pub returns-in_err-reply-in-Whole-clause-whole : goal.returns-in_err-reply-in-Whole-clause-whole
-returns-in_err-reply-in-Whole-clause-whole g c = on_err c.from_residual.result _ (λ id m version a room free.
-    opens-said c.args.settings.now m id (piece_of c.args.size c.args.offset version c.args.number c.args.bytes.now) a room
-    (rw free c.in-Whole.ensures.enough) c.in-Whole.ensures.whole)
+pub returns-in_err-reply-in-Whole-clause-asks : goal.returns-in_err-reply-in-Whole-clause-asks
+returns-in_err-reply-in-Whole-clause-asks g c = on_err c.from_residual.result _ (λ id m version a room free.
+    let piece = piece_of c.args.size c.args.offset version c.args.number c.args.bytes.now in
+    subst (λ (request : List ℕ). IsAsked id c.args.number request (opens c.args.settings.now m id piece a)) (sym c.in-Whole.ensures.message)
+    (opens-asks c.args.settings.now m id piece a room (rw free c.in-Whole.ensures.enough) c.in-Whole.ensures.whole))
 
 pub returns-in-Begun-clause-did : goal.returns-in-Begun-clause-did
 returns-in-Begun-clause-did g c id host rows version slot same room a _ =

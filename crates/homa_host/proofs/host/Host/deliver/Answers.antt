@@ -1,13 +1,14 @@
 use Rattle.std.proofs.Common.{◌≡◌, ◌<◌, ◌≤◌, ◌+◌, Bool, true, cond, sym, subst, ◌∙◌, arith}
 use Rattle.homa_plain.specs.Rules.{Answer}
 use Rattle.homa_plain.specs.Steps.{begun, comes, arrival_step, has_run, ended as ended_step}
+use Rattle.homa_host.specs.Asking.{HasAsked}
 use Rattle.homa_host.specs.Amid.{Amid}
 use Rattle.host_view.specs.Seen.{Seen}
 use Rattle.host_view.specs.Done.{IsDone, arriving}
 use Rattle.homa_host.specs.Parts.{host_of, seen_of}
 use Rattle.homa_host.specs.Public.{IsSameHost}
-use Rattle.homa_host.proofs.Ending.{ended_through, arrival_done, arrival_same, arrival_last, arrival_whole, arrival_run, arriving_of_host, quiet_kept, quiet_seen, quiet_same}
-use Rattle.homa_host.proofs.Delivered.{TellsAlike, ended_alike}
+use Rattle.homa_host.proofs.Ending.{ended_through, arrival_done, arrival_same, arrival_last, arrival_whole, arrival_asks, arriving_of_host, quiet_kept, quiet_seen, quiet_same}
+use Rattle.homa_host.proofs.Delivered.{TellsAlike, ended_alike, asked_runs}
 use Rattle.homa_host.proofs.host.Host.deliver.Given as given
 use Rattle.homa_host.proofs.host.Host.deliver.Goals as goal
 use Rattle.homa_host.proofs.host.Host.deliver.Goals.{After-end_step}
@@ -112,11 +113,18 @@ returns-in-Ok-clause-last g c =
     let x = ended g (goal.at.returns-in-Ok-clause-last g c).After-end_step in
     arrival_last o c.end_step.new.self c.self.invariant c.args.now (c.end_step.ensures.settings ∙ c.in-Ok.ensures.steady.settings) c.end_step.new.out (arriving (seen_of o) c.args.from c.args.frame.now) c.in-Ok.ensures.answered.0 x.first
 
+pub returns-in-Err-clause-asks : goal.returns-in-Err-clause-asks
+returns-in-Err-clause-asks g c a =
+    let o = c.self.inside.parts in
+    subst (λ (h : Seen). HasAsked c.in-Err.asked.id c.in-Err.asked.number c.arrives.new.scratch (arrival_step h.settings h.host c.args.now (arriving h c.args.from c.args.frame.now) a).told) c.self.view_is
+    (arrival_asks o.control.settings (host_of o) c.args.now (arriving (seen_of o) c.args.from c.args.frame.now) a _ (c.in-Err.ensures.asks a))
+
 pub returns-in-Err-clause-whole : goal.returns-in-Err-clause-whole
 returns-in-Err-clause-whole g c a =
     let o = c.self.inside.parts in
     subst (λ (h : Seen). has_run (arrival_step h.settings h.host c.args.now (arriving h c.args.from c.args.frame.now) a).told ≡ true) c.self.view_is
-    (arrival_run o.control.settings (host_of o) c.args.now (arriving (seen_of o) c.args.from c.args.frame.now) a (c.in-Err.ensures.whole a))
+    (asked_runs (arrival_step o.control.settings (host_of o) c.args.now (arriving (seen_of o) c.args.from c.args.frame.now) a).told _
+    (arrival_asks o.control.settings (host_of o) c.args.now (arriving (seen_of o) c.args.from c.args.frame.now) a _ (c.in-Err.ensures.asks a)))
 
 pub returns-in-Err-clause-same : goal.returns-in-Err-clause-same
 returns-in-Err-clause-same g c = quiet_seen c.self.inside.parts c.arrives.new.self c.args.self.now c.tell_nothing.new.self c.self.view_is c.in-Err.ensures.same c.tell_nothing.ensures

@@ -1,5 +1,5 @@
-use Rattle.std.proofs.Common.{rules, ◌≡◌, ◌≤◌, ℕ, true, Option, Some, None, List, [], ◌∷◌, length, ap, sym, subst, refl, arith}
-use Rattle.std.specs.Prelude.{OnOk, OnErr}
+use Rattle.std.proofs.Common.{rules, ◌≡◌, ◌≤◌, ℕ, Option, Some, None, List, [], ◌∷◌, length, ap, sym, subst, refl, arith}
+use Rattle.std.specs.Prelude.{OnOk, IfErr}
 use Rattle.std.specs.List.{AllByRecursion}
 use Rattle.std.specs.Option.{option_map}
 use Rattle.homa_plain.specs.declared.packet.Packet.{Packet as WirePacket}
@@ -8,13 +8,14 @@ use Rattle.homa_plain.specs.Entries.{PlainJunk}
 use Rattle.homa_plain.specs.Host.{Says}
 use Rattle.homa_plain.specs.Rules.{Answer}
 use Rattle.homa_plain.specs.Packets.{Packet, packet_between}
-use Rattle.homa_plain.specs.Steps.{begun, tells, comes, has_run}
+use Rattle.homa_plain.specs.Steps.{begun, tells, comes}
 use Rattle.homa_plain.specs.Wire.{packet_in}
 use Rattle.homa_wire.specs.Part.{part}
 use Rattle.host_state.specs.Control.{Control}
 use Rattle.host_view.specs.Marks.{IsReply, IsWhole}
 use Rattle.host_view.specs.Done.{arriving}
 use Rattle.homa_host.specs.Parts.{host_of, seen_of}
+use Rattle.homa_host.specs.Asking.{HasAsked}
 use Rattle.homa_host.specs.Amid.{Amid}
 use Rattle.homa_host.proofs.Delivered.{none_allowed, served_none, answered_none}
 use Rattle.homa_host.proofs.Came.{HasTold, told_by}
@@ -129,10 +130,11 @@ returns-in-Some-clause-answered g c = c.comes.ensures.answered
 pub returns-in-Some-clause-allowed : goal.returns-in-Some-clause-allowed
 returns-in-Some-clause-allowed g c = c.comes.ensures.allowed
 
-pub returns-in-Some-clause-whole : goal.returns-in-Some-clause-whole
-returns-in-Some-clause-whole g c =
+pub returns-in-Some-clause-asks : goal.returns-in-Some-clause-asks
+returns-in-Some-clause-asks g c =
     let o = c.args.self.now in
-    subst (λ (p : Option Packet). OnErr c.comes.result ((a : Answer) → has_run (comes o.control.settings p a (begun (host_of o) c.args.now)).told ≡ true)) (came g (goal.at.returns-in-Some-clause-whole g c).In-Some) c.comes.ensures.whole
+    subst (λ (p : Option Packet). IfErr c.comes.result (λ e. (a : Answer) → HasAsked e.id e.number c.comes.new.scratch (comes o.control.settings p a (begun (host_of o) c.args.now)).told))
+    (came g (goal.at.returns-in-Some-clause-asks g c).In-Some) c.comes.ensures.asks
 
 pub returns-in-Some-clause-same : goal.returns-in-Some-clause-same
 returns-in-Some-clause-same g c = c.comes.ensures.same

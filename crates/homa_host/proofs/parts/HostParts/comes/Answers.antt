@@ -1,5 +1,5 @@
 -- A packet comes: too old, of a server, or of a client.
-use Rattle.std.proofs.Common.{◌≡◌, ◌<◌, ◌+◌, Bool, true, false, cond, [], ◌∷◌, length, ap, sym, subst, ◌∙◌, refl, arith}
+use Rattle.std.proofs.Common.{◌≡◌, ◌<◌, ◌+◌, ℕ, Bool, false, cond, [], ◌∷◌, length, ap, sym, subst, ◌∙◌, refl, arith}
 use Rattle.std.specs.List.{AllByRecursion}
 use Rattle.homa_plain.specs.declared.id.HostId.{HostId}
 use Rattle.homa_plain.specs.declared.packet.Role.TheVariants.{Client, Server}
@@ -11,10 +11,11 @@ use Rattle.homa_plain.specs.Entries.{PlainStale}
 use Rattle.homa_plain.specs.Host.{Says}
 use Rattle.homa_plain.specs.Settings.{IsValid}
 use Rattle.host_state.specs.Control.{Control}
-use Rattle.homa_plain.specs.Steps.{Work, begun, tells, acked, comes_to_row, has_run}
+use Rattle.homa_plain.specs.Steps.{Work, begun, tells, acked, comes_to_row}
 use Rattle.homa_plain.specs.Wire.{IsWellFormed}
 use Rattle.host_view.specs.Marks.{has_ran, response_of, IsWhole}
 use Rattle.homa_host.specs.Parts.{host_of}
+use Rattle.homa_host.specs.Asking.{HasAsked}
 use Rattle.homa_host.specs.Amid.{Amid}
 use Rattle.homa_host.proofs.Delivered.{TellsAlike, none_allowed, served_none, answered_none}
 use Rattle.homa_host.proofs.ServerHeard.{heard_work, HasHeard, heard_by}
@@ -192,15 +193,18 @@ server_gets-requires-clause-served g c = c.requires.served
 pub server_gets-requires-clause-out : goal.server_gets-requires-clause-out
 server_gets-requires-clause-out g c = c.requires.out
 
-pub returns-in-Err-clause-whole : goal.returns-in-Err-clause-whole
-returns-in-Err-clause-whole g c a =
+pub returns-in-Err-clause-asks : goal.returns-in-Err-clause-asks
+returns-in-Err-clause-asks g c a =
     let o = c.args.self.now in
     let s = o.control.settings in
     let p = packet_between c.args.from o.control.id c.args.packet.now c.args.payload.now in
     let v = heard_work o c.args.from c.args.packet.now c.args.now in
-    let fresh = age g (goal.at.returns-in-Err-clause-whole g c).After-is_stale ∙ c.if-is_stale.false in
+    let id : CallId = record { client = c.args.from; inc = c.args.packet.now.inc; seq = c.args.packet.now.seq } in
+    let fresh = age g (goal.at.returns-in-Err-clause-asks g c).After-is_stale ∙ c.if-is_stale.false in
     let is = came.client_comes s (host_of o) c.args.now c.args.from o.control.id c.args.packet.now c.args.payload.now a fresh c.in-Client.is in
-    subst (λ (w : Work). has_run w.told ≡ true) (sym is) (came.acked_run s (acks p) (comes_to_row s p a Client v) (c.in-Err.ensures.whole a))
+    let asked = came.acked_asks s (acks p) (comes_to_row s p a Client v) _ (c.in-Err.ensures.asks a) in
+    subst (λ (w : Work). HasAsked id c.service_of-number.result c.server_gets.new.scratch w.told) (sym is)
+    (subst (λ (n : ℕ). HasAsked id n c.server_gets.new.scratch (acked s (acks p) (comes_to_row s p a Client v)).told) (sym (c.service_of-number.ensures c.args.payload.now)) asked)
 
 pub returns-in-Err-clause-same : goal.returns-in-Err-clause-same
 returns-in-Err-clause-same g c = c.in-Err.ensures.same

@@ -1,15 +1,17 @@
 -- A packet of a client comes to a call's server.
-use Rattle.std.proofs.Common.{true, Result, Ok, Err, OnErr, ◌≡◌, ◌+◌, refl, sym, subst, ap, arith, ℕ}
+use Rattle.std.proofs.Common.{Result, Ok, Err, OnErr, ◌+◌, refl, sym, subst, ap, arith, ℕ}
 use Rattle.homa_plain.specs.declared.settings.Settings.{Settings}
 use Rattle.host_state.specs.Saying.{one_of, IsOutcome}
-use Rattle.homa_host.specs.Parts.{IsKept}
+use Rattle.homa_plain.specs.declared.id.CallId.{CallId}
+use Rattle.homa_host.specs.Parts.{host_of, IsKept}
 use Rattle.homa_host.specs.Outcomes.{IfStays, server_change}
 use Rattle.homa_host.specs.ServerFollow.{MayStayServer, FollowedServer}
 use Rattle.homa_host.specs.declared.outcome.Change.{Change}
 use Rattle.homa_host.specs.declared.parts.HostParts.{HostParts}
 use Rattle.homa_host.proofs.ServerKept.{server_parts}
 use Rattle.homa_host.proofs.ServerHeard.{heard_work, heard_by}
-use Rattle.homa_host.proofs.ServerTold.{HasSettled, q, rule, rule_is, settled_by, served_runs}
+use Rattle.homa_host.proofs.ServerTold.{HasSettled, q, rule, rule_is, settled_by, served_asks}
+use Rattle.homa_host.proofs.Came.{heard_count}
 use Rattle.plain_sets.specs.Maps.{get}
 use Rattle.homa_plain.specs.Packets.{Packet, packet_between}
 use Rattle.homa_plain.specs.AtServer.{server_gets}
@@ -17,7 +19,7 @@ use Rattle.homa_plain.specs.Rows.{ServerRow}
 use Rattle.homa_plain.specs.Rules.{Did}
 use Rattle.homa_plain.specs.Steps.{moment}
 use Rattle.host_incoming.specs.Pieces.{piece_in}
-use Rattle.homa_server.specs.Answers.{runs_said}
+use Rattle.homa_server.specs.Answers.{service_in, IsAsked}
 use Rattle.homa_host.specs.Amid.{Amid}
 use Rattle.homa_host.proofs.Begun.{at-amid}
 use Rattle.homa_host.proofs.ServerGets.{HasTaken, taken_by, touched_stays, gets_stands, gets_may, gets_kept, gets_touched, gets_then, heard_host, row_now}
@@ -77,16 +79,19 @@ returns-in_err-did-clause-kept g c = subst (λ (p : HostParts). IsKept p) (λ i.
   order = c.args.self.now.order;
 }) c.requires.kept
 
-pub returns-in_err-did-clause-whole : goal.returns-in_err-did-clause-whole
-returns-in_err-did-clause-whole g c =
+pub returns-in_err-did-clause-asks : goal.returns-in_err-did-clause-asks
+returns-in_err-did-clause-asks g c =
     err_any c.from_residual.result _ (λ a.
     let host = c.args.self.now in
     let s = host.control.settings in
     let w = heard_work host c.args.from c.args.packet.now c.args.now in
     let q : Packet = packet_between c.args.from host.control.id c.args.packet.now c.args.payload.now in
-    served_runs s q.id (server_gets s (moment s q.id w) q a (get w.host.servers q.id)) w
-    (subst (λ (x : Did ServerRow). runs_said x.says ≡ true) (gets_then host c.requires.kept c.args.from c.requires.other c.args.packet.now c.args.payload.now c.requires.role c.args.now (omega (arith, c.free-free.ensures.whole)) a w w.host.peers
-    (heard_host s c.args.from c.args.packet.now.sender c.args.packet.now.body host c.args.now)) (c.in_err-did.ensures.whole a)))
+    let id : CallId = record { client = c.args.from; inc = c.args.packet.now.inc; seq = c.args.packet.now.seq } in
+    let number = service_in (piece_in c.args.packet.now.body c.args.payload.now) in
+    served_asks s q.id (server_gets s (moment s q.id w) q a (get w.host.servers q.id)) w (record { id = id; service = number; request = c.receive.new.scratch })
+    (heard_count s c.args.from c.args.packet.now.sender c.args.packet.now.body (host_of host) c.args.now)
+    (subst (IsAsked id number c.receive.new.scratch) (gets_then host c.requires.kept c.args.from c.requires.other c.args.packet.now c.args.payload.now c.requires.role c.args.now (omega (arith, c.free-free.ensures.whole)) a w w.host.peers
+    (heard_host s c.args.from c.args.packet.now.sender c.args.packet.now.body host c.args.now)) (c.in_err-did.ensures.asks a)))
 
 pub touched_version-touched-requires : goal.touched_version-touched-requires
 touched_version-touched-requires g c =

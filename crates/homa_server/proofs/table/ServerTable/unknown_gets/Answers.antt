@@ -9,7 +9,7 @@ use Rattle.homa_server.specs.Held.{HeldServer}
 use Rattle.homa_server.specs.contracts.table.ServerTable.{the_view}
 use Rattle.homa_server.specs.declared.answers.ServerDid.TheVariants.{Opened, Ran, FullRows, FullPages}
 use Rattle.homa_server.proofs.OpenLaws.{on_err}
-use Rattle.homa_server.proofs.NewLaws.{slot_named, full_said, served_none, seen_none, seen_new, seen_said, seen_still}
+use Rattle.homa_server.proofs.NewLaws.{slot_named, full_said, served_none, seen_none, seen_new, seen_asked, seen_still}
 use Rattle.homa_server.proofs.table.ServerTable.unknown_gets.Goals as goal
 
 pub returns-in_default : goal.returns-in_default
@@ -19,7 +19,7 @@ returns-in_default g c = record {
       (still c.args.pool.now None tt) (c.no_record.ensures.did c.args.self.now.settings _ c.args.id c.args.payload.now [] c.args.scratch.now) c.no_record.ensures.slot c.no_record.ensures.says c.no_record.ensures.not_run refl;
   served = rw c.no_record.ensures.not_run refl;
   pool = c.requires.pool;
-  whole = tt;
+  asks = tt;
   same = tt;
   same_pool = tt;
   not_served = tt;
@@ -34,12 +34,12 @@ returns-then-rows-self-clause-received g c =
     (full_said t c.args.id c.args.now c.args.order c.args.pool.now c.in-Data.length c.in-Data.offset c.in-Data.version c.in-Data.number c.args.payload.now c.in-Data.ack c.args.scratch.now c.len-rows.result c.len-rows.ensures.len c.if-rows-self.true)
     tt tt refl refl)
 
-pub returns-in_err-need-clause-whole : goal.returns-in_err-need-clause-whole
-returns-in_err-need-clause-whole g c =
+pub returns-in_err-need-clause-asks : goal.returns-in_err-need-clause-asks
+returns-in_err-need-clause-asks g c =
     let t = the_view c.self.inside in
     on_err c.from_residual.result _ (rw c.in-Data.is (λ role server inc at level a.
-    seen_said t _ c.self.view_is c.args.id c.requires.absent c.args.now c.args.order c.args.pool.now (body.Data c.in-Data.length c.in-Data.offset c.in-Data.version c.in-Data.number c.in-Data.ack) c.args.payload.now a
-    (c.in_err-need.ensures.whole c.args.id (moment_with t.host c.args.now c.args.order (free_pages c.args.pool.now) (len t.rows)) c.in-Data.version a (subst (λ (n : ℕ). n < t.settings.served) c.len-rows.ensures.len c.if-rows-self.false) refl)
+    seen_asked t _ c.self.view_is c.args.id c.requires.absent c.args.now c.args.order c.args.pool.now (body.Data c.in-Data.length c.in-Data.offset c.in-Data.version c.in-Data.number c.in-Data.ack) c.args.payload.now c.in-Data.number c.open_row.new.scratch a
+    (c.in_err-need.ensures.asks c.args.id (moment_with t.host c.args.now c.args.order (free_pages c.args.pool.now) (len t.rows)) c.in-Data.version a (subst (λ (n : ℕ). n < t.settings.served) c.len-rows.ensures.len c.if-rows-self.false) refl)
     role server inc at level))
 
 pub returns-in-FullPages-clause-received : goal.returns-in-FullPages-clause-received

@@ -2,7 +2,7 @@ use Rattle.std.proofs.Common.{refl, ◌∙◌}
 use Rattle.std.proofs.lemmas.Result.{on_ok_weaker}
 use Rattle.homa_service.specs.Table.{places}
 use Rattle.host_table.specs.Staged.{seats_of}
-use Rattle.host_table.proofs.StageLaws.{at_read, still, on_err_weaker, both_ok, both_err, reset}
+use Rattle.host_table.proofs.StageLaws.{at_read, still, if_err_weaker, on_err_weaker, both_ok, both_err, reset}
 use Rattle.host_table.proofs.stage.Stage.deliver.Goals as goal
 
 pub returns-clause-step : goal.returns-clause-step
@@ -30,6 +30,10 @@ returns-clause-step g c =
     (both_ok _ _ c.deliver-came.result c.deliver-came.ensures.answered
     (both_ok _ _ c.deliver-came.result c.deliver-came.ensures.step
     (both_ok _ _ c.deliver-came.result c.deliver-came.ensures.last (both_ok _ _ c.deliver-came.result c.deliver-came.ensures.served c.deliver-came.ensures.allowed))))
+
+pub returns-clause-asks : goal.returns-clause-asks
+returns-clause-asks g c =
+    if_err_weaker _ _ c.deliver-came.result (λ e asks. at_read _ c.args.self.now.hosts.items c.args.to.0 c.index_mut.result.now c.requires.to c.index_mut.ensures.value asks) c.deliver-came.ensures.asks
 
 pub returns-clause-whole : goal.returns-clause-whole
 returns-clause-whole g c =
