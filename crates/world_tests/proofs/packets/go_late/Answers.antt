@@ -1,7 +1,7 @@
 use Rattle.std.proofs.Common.{◌≡◌, ◌+◌, ◌*◌, length, length-append, ap, ◌∙◌, arith}
 use Rattle.world_packets.specs.All.{kept_all}
 use Rattle.world_packets.proofs.Ages.{length-aged}
-use Rattle.world_tests.proofs.packets.late_by_its_number.Goals as goal
+use Rattle.world_tests.proofs.packets.go_late.Goals as goal
 
 pub loop-number-preserved : goal.loop-number-preserved
 loop-number-preserved g c =
