@@ -106,7 +106,11 @@ impl Book {
 
     // A datagram is sent.
     fn put(&mut self, number: u64, from: HostId, to: HostId, bytes: &[u8]) -> Result<(), AllocError>
-        ensures { OnOk result (noted self.new ≡ record (noted self.old) { datagrams = (noted self.old).datagrams ++ record { number = number; from = from; to = to; tick = (noted self.old).tick; bytes = bytes.now } ∷ [] }) }
+        ensures { OnOk result (noted self.new
+            ≡ record (noted self.old) {
+              datagrams = (noted self.old).datagrams
+                  ++ record { number = number; from = from; to = to; tick = (noted self.old).tick; bytes = bytes.now } ∷ [];
+            }) }
     {
         let bytes = Vec::from_slice(self.alloc, bytes)?;
         self.store.push(number, from, to, bytes)
@@ -122,7 +126,8 @@ impl Book {
         payload: &[u8],
     ) -> Result<(), AllocError>
         requires { IsWellFormed 1 packet payload.now }
-        ensures { OnOk result (noted self.new ≡ keeps (noted self.old).settings number from to (λ s. spelling s.wire (dated s (noted self.old).tick packet) payload.now) (noted self.old)) }
+        ensures { OnOk result (noted self.new
+            ≡ keeps (noted self.old).settings number from to (λ s. spelling s.wire (dated s (noted self.old).tick packet) payload.now) (noted self.old)) }
     {
         match self.settings {
             None => Ok(()),

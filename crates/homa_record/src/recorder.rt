@@ -106,7 +106,8 @@ impl<K: Sink> Recorder<K> {
     // The settings of the run.
     fn settle(&mut self, settings: &Settings) -> Result<(), SeenFault>
         requires valid { IsValid settings.now }
-        ensures sees { Sees (Tells (PlainSettings settings.now)) (K.taken (sink_of self.old)) (K.taken (sink_of self.new)) (K.faults (sink_of self.old)) (K.faults (sink_of self.new)) (notes_of self.old) (notes_of self.new) result }
+        ensures sees { Sees (Tells (PlainSettings settings.now)) (K.taken (sink_of self.old)) (K.taken (sink_of self.new)) (K.faults (sink_of self.old))
+            (K.faults (sink_of self.new)) (notes_of self.old) (notes_of self.new) result }
         ensures same { K.is_same (sink_of self.old) (sink_of self.new) }
     {
         match put_settings(&mut self.sink, settings) {
@@ -121,7 +122,8 @@ impl<K: Sink> Recorder<K> {
     // The clock stands at a tick.
     fn go_on(&mut self, now: u64) -> Result<(), SeenFault>
         requires most { now ≤ last_tick }
-        ensures sees { Sees (Tells (PlainClock now)) (K.taken (sink_of self.old)) (K.taken (sink_of self.new)) (K.faults (sink_of self.old)) (K.faults (sink_of self.new)) (notes_of self.old) (notes_of self.new) result }
+        ensures sees { Sees (Tells (PlainClock now)) (K.taken (sink_of self.old)) (K.taken (sink_of self.new)) (K.faults (sink_of self.old))
+            (K.faults (sink_of self.new)) (notes_of self.old) (notes_of self.new) result }
         ensures same { K.is_same (sink_of self.old) (sink_of self.new) }
     {
         let ticks = now.saturating_sub(self.book.tick());
@@ -142,7 +144,8 @@ impl<K: Sink> Recorder<K> {
         service: u8,
         bytes: &[u8],
     ) -> Result<(), SeenFault>
-        ensures sees { Sees (Tells (PlainCall id server service bytes.now)) (K.taken (sink_of self.old)) (K.taken (sink_of self.new)) (K.faults (sink_of self.old)) (K.faults (sink_of self.new)) (notes_of self.old) (notes_of self.new) result }
+        ensures sees { Sees (Tells (PlainCall id server service bytes.now)) (K.taken (sink_of self.old)) (K.taken (sink_of self.new))
+            (K.faults (sink_of self.old)) (K.faults (sink_of self.new)) (notes_of self.old) (notes_of self.new) result }
         ensures same { K.is_same (sink_of self.old) (sink_of self.new) }
     {
         let event = Event::Call {
@@ -158,7 +161,8 @@ impl<K: Sink> Recorder<K> {
 
     // A datagram comes.
     fn hear(&mut self, host: HostId, from: HostId, bytes: &[u8]) -> Result<(), SeenFault>
-        ensures sees { Sees (Tells (PlainRecv host from bytes.now)) (K.taken (sink_of self.old)) (K.taken (sink_of self.new)) (K.faults (sink_of self.old)) (K.faults (sink_of self.new)) (notes_of self.old) (notes_of self.new) result }
+        ensures sees { Sees (Tells (PlainRecv host from bytes.now)) (K.taken (sink_of self.old)) (K.taken (sink_of self.new)) (K.faults (sink_of self.old))
+            (K.faults (sink_of self.new)) (notes_of self.old) (notes_of self.new) result }
         ensures same { K.is_same (sink_of self.old) (sink_of self.new) }
     {
         let kind = self.book.kind(host, from, bytes);

@@ -155,7 +155,8 @@ impl Store {
         to: HostId,
         bytes: Vec<u8>,
     ) -> Result<(), AllocError>
-        ensures more { OnOk result (stored self.new ≡ stored self.old ++ record { number = number; from = from; to = to; tick = tick_of self.old; bytes = bytes.items } ∷ []) }
+        ensures more { OnOk result (stored self.new ≡ stored self.old
+            ++ record { number = number; from = from; to = to; tick = tick_of self.old; bytes = bytes.items } ∷ []) }
         ensures tick { tick_of self.new ≡ tick_of self.old }
     {
         grow(&mut self.heads)?;

@@ -11,7 +11,8 @@ use Rattle.homa_plain.specs.declared.fault.LineFault.TheVariants.{World as ByWor
 use Rattle.homa_plain.specs.Entries.{PlainClock}
 use Rattle.homa_plain.specs.World.{World, After, Outcome, Refused, Done, outcome, last_tick}
 use Rattle.node_runs.specs.Script.{Setup, TimedCall, Refusal}
-use Rattle.node_runs.specs.Course.{AreTicks, Report, Tells, Turning, Arrival, RefusedAt, Node, Course, GoesOn, Stops, ◌>>=◌, goes, follows, starts, arrival_outcome, most_received, hears, has_turn, hosts_act, locals, clock_stands, ends, loop_turn, loop_turns}
+use Rattle.node_runs.specs.Course.{AreTicks, Report, Tells, Turning, Arrival, RefusedAt, Node, Course, GoesOn, Stops, ◌>>=◌, goes, follows, starts}
+use Rattle.node_runs.specs.Course.{arrival_outcome, most_received, hears, has_turn, hosts_act, locals, clock_stands, ends, loop_turn, loop_turns}
 use Rattle.node_laws.proofs.OfNode.{node_of}
 use Rattle.node_laws.proofs.Opening.{IsCallGiven}
 

@@ -1,5 +1,6 @@
 -- A host whose packets are all well formed, through each move of a step.
-use Rattle.std.proofs.Common.{◌≡◌, ℕ, zero, suc, ◌+◌, ◌-◌, ◌≤◌, ◌<◌, ◌^◌, Bool, true, false, Option, None, Some, List, [], ◌∷◌, ◌++◌, length, drop, refl, sym, ap, subst, ◌∙◌, arith}
+use Rattle.std.proofs.Common.{◌≡◌, ℕ, zero, suc, ◌+◌, ◌-◌, ◌≤◌, ◌<◌, ◌^◌, Bool, true, false, Option, None, Some, List, [], ◌∷◌, ◌++◌, length, drop, refl, sym}
+use Rattle.std.proofs.Common.{ap, subst, ◌∙◌, arith}
 use Rattle.std.specs.Prelude.{◌==◌, ◌&&◌, not, nat_lt, ◌%◌, if◌then◌else◌, slice_index, slice_index_or, slice_set}
 use Rattle.std.specs.Option.{IfSome}
 use Rattle.std.specs.List.{AllByRecursion}
@@ -23,10 +24,13 @@ use Rattle.homa_plain.specs.Outgoing.{Outgoing, next, next_range}
 use Rattle.homa_plain.specs.Entries.{PlainBalance}
 use Rattle.homa_plain.specs.Packets.{Packet}
 use Rattle.homa_plain.specs.Rows.{ClientRow, ServerRow, State, Receiving, Replying, RowsOf, set_row}
-use Rattle.homa_plain.specs.Host.{Host, Tuning, Tuned, tuned, counted, is_balance_due, rebalanced, PeerCutoffs, peer_cutoffs, finished_at, with_finished, Told, Says, packets_in}
+use Rattle.homa_plain.specs.Host.{Host, Tuning, Tuned, tuned, counted, is_balance_due, rebalanced, PeerCutoffs, peer_cutoffs, finished_at, with_finished}
+use Rattle.homa_plain.specs.Host.{Told, Says, packets_in}
 use Rattle.homa_plain.specs.Rules.{Say, Tells, Posts, Did}
-use Rattle.homa_plain.specs.Sending.{Content, granted_part, state_granted, client_granted, server_granted, client_sends, state_sends, request_content, response_content}
-use Rattle.homa_plain.specs.Steps.{Work, now_of, tells, packet_from, bare, posts, said, notes, tells_cutoffs, acknowledged, finishes, asked, served, client_is_granted, server_is_granted, spent, oldest, request_leaves, response_leaves}
+use Rattle.homa_plain.specs.Sending.{Content, granted_part, state_granted, client_granted, server_granted, client_sends, state_sends, request_content}
+use Rattle.homa_plain.specs.Sending.{response_content}
+use Rattle.homa_plain.specs.Steps.{Work, now_of, tells, packet_from, bare, posts, said, notes, tells_cutoffs, acknowledged, finishes, asked, served}
+use Rattle.homa_plain.specs.Steps.{client_is_granted, server_is_granted, spent, oldest, request_leaves, response_leaves}
 use Rattle.homa_plain.proofs.CallOrder.{calls_are}
 use Rattle.homa_plain.proofs.CutoffLaws.{length-balanced, high-balanced}
 use Rattle.step_laws.proofs.Others.{get-set_row, set_row-others}
@@ -87,7 +91,8 @@ pub record IsGoodHost (h : Host) : Type 0 where
   pub rows : len h.servers < 2 ^ 32
 
 -- rows of which one is set
-pub set_good : {R : Type 0} (P : R → Type 0) (rows : RowsOf R) (id : CallId) (o : Option R) → IsId id → IfSome o P → ((q : CallId) (r : R) → get rows q ≡ Some r → IsId q × P r) → (q : CallId) (r : R) → get (set_row rows id o) q ≡ Some r → IsId q × P r
+pub set_good : {R : Type 0} (P : R → Type 0) (rows : RowsOf R) (id : CallId) (o : Option R) → IsId id → IfSome o P
+    → ((q : CallId) (r : R) → get rows q ≡ Some r → IsId q × P r) → (q : CallId) (r : R) → get (set_row rows id o) q ≡ Some r → IsId q × P r
 set_good {R = R} P rows id o named k all q r at = by_call (is_call q id) refl where
   by_call : (b : Bool) → is_call q id ≡ b → IsId q × P r
   by_call true e =
@@ -98,16 +103,19 @@ set_good {R = R} P rows id o named k all q r at = by_call (is_call q id) refl wh
 
 -- ---- cutoffs
 
-balanced_good : (k unsched version : ℕ) (lengths : List ℕ) → version < 65536 → AllByRecursion (λ n. n ≤ 1000000) lengths → AreCutoffs (balanced k unsched version lengths)
+balanced_good : (k unsched version : ℕ) (lengths : List ℕ) → version < 65536 → AllByRecursion (λ n. n ≤ 1000000) lengths
+    → AreCutoffs (balanced k unsched version lengths)
 balanced_good k unsched version lengths few all = record {
   version = few;
   eight = length-balanced k unsched version lengths;
-  within = all_indexed 1000000 (balanced k unsched version lengths).upto (λ i l. high-balanced k unsched version lengths all i (omega (arith, l, length-balanced k unsched version lengths)));
+  within = all_indexed 1000000 (balanced k unsched version lengths).upto
+      (λ i l. high-balanced k unsched version lengths all i (omega (arith, l, length-balanced k unsched version lengths)));
 }
 
 noted_good : (lengths : List ℕ) (n : ℕ) → n ≤ 1000000 → AllByRecursion (λ m. m ≤ 1000000) lengths → AllByRecursion (λ m. m ≤ 1000000) (noted lengths n)
 unfolding noted
-noted_good lengths n small all = all_drop (λ m. m ≤ 1000000) (length lengths + 1 - 256) (lengths ++ n ∷ []) (all-append (λ m. m ≤ 1000000) lengths (n ∷ []) all (small, tt))
+noted_good lengths n small all =
+    all_drop (λ m. m ≤ 1000000) (length lengths + 1 - 256) (lengths ++ n ∷ []) (all-append (λ m. m ≤ 1000000) lengths (n ∷ []) all (small, tt))
 
 last_true : (a b c : Bool) → (a && b && c) ≡ true → c ≡ true
 last_true true true c e = e
@@ -129,9 +137,14 @@ tuned_good s host t n small k = by_due (is_balance_due s u) refl where
   lengths : AllByRecursion (λ m. m ≤ 1000000) u.lengths
   lengths = noted_good t.lengths n small k.lengths
 
-  by_due : (b : Bool) → is_balance_due s u ≡ b → TunedGood (if b then record { tuning = rebalanced s u; told = Says (PlainBalance host (rebalanced s u).own) ∷ [] } else record { tuning = u; told = [] })
+  by_due : (b : Bool) → is_balance_due s u ≡ b
+      → TunedGood (if b then record { tuning = rebalanced s u; told = Says (PlainBalance host (rebalanced s u).own) ∷ [] }
+      else record { tuning = u; told = [] })
   by_due true e =
-      let own : AreCutoffs (rebalanced s u).own = balanced_good s.overcommit s.unsched (t.own.version + 1) u.lengths (omega (arith, ltb-true t.own.version 65535 (last_true (not (s.rebalance == 0)) (u.opened % s.rebalance == 0) (nat_lt t.own.version 65535) e))) lengths in
+      let own : AreCutoffs (rebalanced s u).own =
+      balanced_good s.overcommit s.unsched (t.own.version + 1) u.lengths
+      (omega (arith, ltb-true t.own.version 65535 (last_true (not (s.rebalance == 0)) (u.opened % s.rebalance == 0) (nat_lt t.own.version 65535) e)))
+      lengths in
       record { tuning = record { own = own; lengths = lengths }; quiet = refl; told = (own, tt) }
   by_due false e = record { tuning = record { own = k.own; lengths = lengths }; quiet = refl; told = tt }
 
@@ -155,10 +168,13 @@ module _ (s : Settings) (v : IsValid s) (now : ℕ) (soon : now ≤ 100000000200
   dated_now : (h : Host) → h.last ≡ now → (if s.wire == 1 then 0 else h.last) ≡ (if s.wire == 1 then 0 else now)
   dated_now h last = ap (λ (t : ℕ). if s.wire == 1 then 0 else t) last
 
-  content_now : (h : Host) → IsGoodHost h → h.last ≡ now → (role : Role) (id : CallId) (server : HostId) → IsId id → (content : Content) → FitsKind role content.level content.body content.payload → IsBytes content.payload → IsSentNow (packet_from s h role id server content)
-  content_now h k last role id server named content fits bytes = record { formed = content_sent s v h (numbers h k last) role id server named content fits bytes; dated = dated_now h last }
+  content_now : (h : Host) → IsGoodHost h → h.last ≡ now → (role : Role) (id : CallId) (server : HostId) → IsId id → (content : Content)
+      → FitsKind role content.level content.body content.payload → IsBytes content.payload → IsSentNow (packet_from s h role id server content)
+  content_now h k last role id server named content fits bytes =
+      record { formed = content_sent s v h (numbers h k last) role id server named content fits bytes; dated = dated_now h last }
 
-  bare_now : (h : Host) → IsGoodHost h → h.last ≡ now → (role : Role) (id : CallId) (server : HostId) → IsId id → (what : Body) → FitsKind role 7 what [] → IsSentNow (packet_from s h role id server (bare what))
+  bare_now : (h : Host) → IsGoodHost h → h.last ≡ now → (role : Role) (id : CallId) (server : HostId) → IsId id → (what : Body) → FitsKind role 7 what []
+      → IsSentNow (packet_from s h role id server (bare what))
   bare_now h k last role id server named what fits = content_now h k last role id server named (bare what) fits no_bytes
 
   pub tells_good : (w : Work) (told : List Told) → IsGoodWork w → AllByRecursion IsSentNow (packets_in told) → AllTold told → IsGoodWork (tells told w)
@@ -169,13 +185,16 @@ module _ (s : Settings) (v : IsValid s) (now : ℕ) (soon : now ≤ 100000000200
     told = all-append FitsTold w.told told k.told fits;
   }
 
-  posts_good : (w : Work) (role : Role) (id : CallId) (server : HostId) (what : Body) → IsGoodWork w → IsId id → FitsKind role 7 what [] → IsGoodWork (posts s role id server what w)
+  posts_good : (w : Work) (role : Role) (id : CallId) (server : HostId) (what : Body) → IsGoodWork w → IsId id → FitsKind role 7 what []
+      → IsGoodWork (posts s role id server what w)
   posts_good w role id server what k named fits = tells_good w _ k (bare_now w.host k.host k.last role id server named what fits, tt) (tt, tt)
 
-  said_now : (h : Host) → IsGoodHost h → h.last ≡ now → (role : Role) (id : CallId) (server : HostId) → IsId id → (says : List Say) → AllSaid role says → AllByRecursion IsSentNow (packets_in (said s h role id server says))
+  said_now : (h : Host) → IsGoodHost h → h.last ≡ now → (role : Role) (id : CallId) (server : HostId) → IsId id → (says : List Say) → AllSaid role says
+      → AllByRecursion IsSentNow (packets_in (said s h role id server says))
   said_now h k last role id server named [] fits = tt
   said_now h k last role id server named (Tells entry ∷ says) fits = said_now h k last role id server named says fits.1
-  said_now h k last role id server named (Posts what ∷ says) fits = (bare_now h k last role id server named what fits.0, said_now h k last role id server named says fits.1)
+  said_now h k last role id server named (Posts what ∷ says) fits =
+      (bare_now h k last role id server named what fits.0, said_now h k last role id server named says fits.1)
 
   said_told : (h : Host) (role : Role) (id : CallId) (server : HostId) (says : List Say) → AllSaid role says → AllTold (said s h role id server says)
   said_told h role id server [] fits = tt
@@ -191,24 +210,62 @@ module _ (s : Settings) (v : IsValid s) (now : ℕ) (soon : now ≤ 100000000200
       let g = tuned_good s w.host.id w.host.tuning n small k.host.tuning in
       let h = k.host in
       tells_good (record w { host = record w.host { tuning = t.tuning } }) t.told
-      (record { host = record { inc = h.inc; inc_fits = h.inc_fits; seq = h.seq; tuning = g.tuning; peers = h.peers; finished = h.finished; clients = h.clients; servers = h.servers; rows = h.rows }; last = k.last; sent = k.sent; told = k.told })
+      (record {
+        host = record {
+          inc = h.inc;
+          inc_fits = h.inc_fits;
+          seq = h.seq;
+          tuning = g.tuning;
+          peers = h.peers;
+          finished = h.finished;
+          clients =
+              h.clients;
+          servers = h.servers;
+          rows = h.rows;
+        };
+        last = k.last;
+        sent = k.sent;
+        told = k.told;
+      })
       (subst (AllByRecursion IsSentNow) (sym g.quiet) tt) g.told
 
-  cutoffs_good : (role : Role) (id : CallId) (server : HostId) (o : Option ℕ) (w : Work) → IsId id → IsGoodWork w → IsGoodWork (tells_cutoffs s role id server o w)
+  cutoffs_good : (role : Role) (id : CallId) (server : HostId) (o : Option ℕ) (w : Work) → IsId id → IsGoodWork w
+      → IsGoodWork (tells_cutoffs s role id server o w)
   cutoffs_good role id server None w named k = k
   cutoffs_good role id server (Some version) w named k = cond_both (version == w.host.tuning.own.version) _ _ IsGoodWork (λ _. k)
-      (λ _. let own = k.host.tuning.own in posts_good w role id server (body.Cutoffs w.host.tuning.own) k named ((refl, refl), own.version, own.eight, own.within))
+      (λ _. let own = k.host.tuning.own in
+      posts_good w role id server (body.Cutoffs w.host.tuning.own) k named ((refl, refl), own.version, own.eight, own.within))
 
-  with_list : (server : HostId) (calls : List (ℕ × ℕ)) (w : Work) → AreFinished calls → IsGoodWork w → IsGoodWork (record w { host = with_finished server calls w.host })
+  with_list : (server : HostId) (calls : List (ℕ × ℕ)) (w : Work) → AreFinished calls → IsGoodWork w
+      → IsGoodWork (record w { host = with_finished server calls w.host })
   with_list server calls w few k =
       let h = k.host in
-      record { host = record { inc = h.inc; inc_fits = h.inc_fits; seq = h.seq; tuning = h.tuning; peers = h.peers; finished = all_set AreFinished w.host.finished server.0 calls few h.finished; clients = h.clients; servers = h.servers; rows = h.rows }; last = k.last; sent = k.sent; told = k.told }
+      record {
+        host = record {
+          inc = h.inc;
+          inc_fits = h.inc_fits;
+          seq = h.seq;
+          tuning = h.tuning;
+          peers = h.peers;
+          finished =
+              all_set AreFinished w.host.finished server.0 calls few h.finished;
+          clients = h.clients;
+          servers = h.servers;
+          rows = h.rows;
+        };
+        last = k.last;
+        sent =
+            k.sent;
+        told = k.told;
+      }
 
-  acknowledged_good : (server : HostId) (calls : List (ℕ × ℕ)) (w : Work) → length calls ≤ 5 → AllByRecursion IsCall calls → IsGoodWork w → IsGoodWork (acknowledged s server calls w)
+  acknowledged_good : (server : HostId) (calls : List (ℕ × ℕ)) (w : Work) → length calls ≤ 5 → AllByRecursion IsCall calls → IsGoodWork w
+      → IsGoodWork (acknowledged s server calls w)
   acknowledged_good server [] w few all k = k
   acknowledged_good server (call ∷ calls) w few all k = cond_both (nat_lt (length calls) 4) _ _ IsGoodWork
       (λ e. with_list server (call ∷ calls) w (omega (arith, ltb-true (length calls) 4 e), all) k)
-      (λ _. posts_good (record w { host = with_finished server [] w.host }) Client (record { client = w.host.id; inc = call.0; seq = call.1 }) server (body.Ack calls) (with_list server [] w (omega arith, tt) k) all.0 ((refl, refl), refl, omega (arith, few), all.1))
+      (λ _. posts_good (record w { host = with_finished server [] w.host }) Client (record { client = w.host.id; inc = call.0; seq = call.1 }) server
+      (body.Ack calls) (with_list server [] w (omega arith, tt) k) all.0 ((refl, refl), refl, omega (arith, few), all.1))
 
   finished_good : (h : Host) (server : HostId) → IsGoodHost h → AreFinished (finished_at h server)
   finished_good h server k = all_or AreFinished h.finished server.0 [] (omega arith, tt) k.finished
@@ -221,24 +278,63 @@ module _ (s : Settings) (v : IsValid s) (now : ℕ) (soon : now ≤ 100000000200
   finishes_good id server false w named k = k
   finishes_good id server true w named k =
       let f = finished_good w.host server k.host in
-      acknowledged_good server (finished_at w.host server ++ (id.inc, id.seq) ∷ []) w (omega (arith, f.0, longer (finished_at w.host server) (id.inc, id.seq))) (all-append IsCall (finished_at w.host server) ((id.inc, id.seq) ∷ []) f.1 (named, tt)) k
+      acknowledged_good server (finished_at w.host server ++ (id.inc, id.seq) ∷ []) w
+      (omega (arith, f.0, longer (finished_at w.host server) (id.inc, id.seq)))
+      (all-append IsCall (finished_at w.host server) ((id.inc, id.seq) ∷ []) f.1 (named, tt)) k
 
-  pub asked_good : (id : CallId) (server : HostId) (did : Did ClientRow) (w : Work) → IsId id → IsGood IsClientRow Client did → IsGoodWork w → IsGoodWork (asked s id server did w)
+  pub asked_good : (id : CallId) (server : HostId) (did : Did ClientRow) (w : Work) → IsId id → IsGood IsClientRow Client did → IsGoodWork w
+      → IsGoodWork (asked s id server did w)
   unfolding asked
   asked_good id server did w named g k =
       let h = k.host in
       let put : IsGoodWork (record w { host = record w.host { order = did.order; clients = set_row w.host.clients id did.row } }) =
-      record { host = record { inc = h.inc; inc_fits = h.inc_fits; seq = h.seq; tuning = h.tuning; peers = h.peers; finished = h.finished; clients = set_good IsClientRow w.host.clients id did.row named g.row h.clients; servers = h.servers; rows = h.rows }; last = k.last; sent = k.sent; told = k.told } in
+      record {
+        host = record {
+          inc = h.inc;
+          inc_fits = h.inc_fits;
+          seq = h.seq;
+          tuning = h.tuning;
+          peers = h.peers;
+          finished = h.finished;
+          clients =
+              set_good IsClientRow w.host.clients id did.row named g.row h.clients;
+          servers = h.servers;
+          rows = h.rows;
+        };
+        last = k.last;
+        sent = k.sent;
+        told =
+            k.told;
+      } in
       let reply = cutoffs_good Client id server did.version _ named (notes_good did.opened _ g.opened put) in
-      finishes_good id server did.finished _ named (tells_good _ _ reply (said_now w.host h k.last Client id server named did.says g.said) (said_told w.host Client id server did.says g.said))
+      finishes_good id server did.finished _ named
+      (tells_good _ _ reply (said_now w.host h k.last Client id server named did.says g.said) (said_told w.host Client id server did.says g.said))
 
-  pub served_good : (id : CallId) (did : Did ServerRow) (w : Work) → IsId id → IsGood IsServerRow Server did → len (set_row w.host.servers id did.row) < 2 ^ 32 → IsGoodWork w
+  pub served_good : (id : CallId) (did : Did ServerRow) (w : Work) → IsId id → IsGood IsServerRow Server did
+      → len (set_row w.host.servers id did.row) < 2 ^ 32 → IsGoodWork w
       → IsGoodWork (served s id did w)
   unfolding served
   served_good id did w named g room k =
       let h = k.host in
       let put : IsGoodWork (record w { host = record w.host { order = did.order; servers = set_row w.host.servers id did.row } }) =
-      record { host = record { inc = h.inc; inc_fits = h.inc_fits; seq = h.seq; tuning = h.tuning; peers = h.peers; finished = h.finished; clients = h.clients; servers = set_good IsServerRow w.host.servers id did.row named g.row h.servers; rows = room }; last = k.last; sent = k.sent; told = k.told } in
+      record {
+        host = record {
+          inc = h.inc;
+          inc_fits = h.inc_fits;
+          seq = h.seq;
+          tuning = h.tuning;
+          peers = h.peers;
+          finished = h.finished;
+          clients =
+              h.clients;
+          servers = set_good IsServerRow w.host.servers id did.row named g.row h.servers;
+          rows = room;
+        };
+        last = k.last;
+        sent = k.sent;
+        told =
+            k.told;
+      } in
       let reply = cutoffs_good Server id w.host.id did.version _ named (notes_good did.opened _ g.opened put) in
       tells_good _ _ reply (said_now w.host h k.last Server id w.host.id named did.says g.said) (said_told w.host Server id w.host.id did.says g.said)
 
@@ -261,7 +357,8 @@ module _ (s : Settings) (v : IsValid s) (now : ℕ) (soon : now ≤ 100000000200
       (λ _. record { message = k.message; out = part_sent r.request r.out k.out s.seg; service = k.service; part = k.part })
       (λ _. record { message = k.message; out = part_sent r.request r.out k.out s.seg; service = k.service; part = k.part })
 
-  pub request_good : (id : CallId) (r : ClientRow) (range : Range) (w : Work) → IsGoodWork w → get w.host.clients id ≡ Some r → next_range r.out s.seg ≡ Some range → IsGoodWork (request_leaves s id r range w)
+  pub request_good : (id : CallId) (r : ClientRow) (range : Range) (w : Work) → IsGoodWork w → get w.host.clients id ≡ Some r
+      → next_range r.out s.seg ≡ Some range → IsGoodWork (request_leaves s id r range w)
   request_good id r range w k at e =
       let h = k.host in
       let row = h.clients id r at in
@@ -269,7 +366,8 @@ module _ (s : Settings) (v : IsValid s) (now : ℕ) (soon : now ≤ 100000000200
       let calls = finished_at w.host r.server in
       let left : AreFinished (drop 1 calls) = (omega (arith, f.0, fewer 1 calls), all_drop IsCall 1 calls f.1) in
       let sends = subst (λ (t : ℕ). IsClientRow (client_sends s t r)) (sym k.last) (sends_good r row.1) in
-      let host : IsGoodHost (with_finished r.server (drop 1 calls) (record w.host { clients = insert w.host.clients id (client_sends s (now_of w) r) })) = record {
+      let host : IsGoodHost (with_finished r.server (drop 1 calls) (record w.host { clients = insert w.host.clients id (client_sends s (now_of w) r) })) =
+      record {
         inc = h.inc;
         inc_fits = h.inc_fits;
         seq = h.seq;
@@ -280,27 +378,67 @@ module _ (s : Settings) (v : IsValid s) (now : ℕ) (soon : now ≤ 100000000200
         servers = h.servers;
         rows = h.rows;
       } in
-      let piece : IsSentNow (packet_from s w.host Client id r.server (request_content s (peer_cutoffs s w.host r.server).cutoffs (oldest calls) r range)) = record {
-        formed = request_sent s v w.host (numbers w.host h k.last) id row.0 r row.1 (peer_cutoffs s w.host r.server).cutoffs (peer_good w.host r.server h) (oldest calls) (oldest_good calls f.1) range e;
+      let piece : IsSentNow (packet_from s w.host Client id r.server (request_content s (peer_cutoffs s w.host r.server).cutoffs (oldest calls) r range)) =
+      record {
+        formed = request_sent s v w.host (numbers w.host h k.last) id row.0 r row.1 (peer_cutoffs s w.host r.server).cutoffs (peer_good w.host r.server h)
+            (oldest calls) (oldest_good calls f.1) range e;
         dated = dated_now w.host k.last;
       } in
       let new = with_finished r.server (drop 1 calls) (record w.host { clients = insert w.host.clients id (client_sends s (now_of w) r) }) in
       tells_good (spent (range.to - range.from) (record w { host = new })) _
-      (record { host = record { inc = host.inc; inc_fits = host.inc_fits; seq = host.seq; tuning = host.tuning; peers = host.peers; finished = host.finished; clients = host.clients; servers = host.servers; rows = host.rows }; last = k.last; sent = k.sent; told = k.told }) (piece, tt) (tt, tt)
+      (record {
+        host = record {
+          inc = host.inc;
+          inc_fits = host.inc_fits;
+          seq = host.seq;
+          tuning = host.tuning;
+          peers = host.peers;
+          finished =
+              host.finished;
+          clients = host.clients;
+          servers = host.servers;
+          rows = host.rows;
+        };
+        last = k.last;
+        sent = k.sent;
+        told = k.told;
+      }) (piece, tt)
+      (tt, tt)
 
-  pub response_good : (id : CallId) (row : ServerRow) (response : List ℕ) (out : Outgoing) (order base count : ℕ) (range : Range) (w : Work) → IsGoodWork w → get w.host.servers id ≡ Some row → row.state ≡ Replying response out order base count → next_range out s.seg ≡ Some range
+  pub response_good : (id : CallId) (row : ServerRow) (response : List ℕ) (out : Outgoing) (order base count : ℕ) (range : Range) (w : Work) → IsGoodWork w
+      → get w.host.servers id ≡ Some row → row.state ≡ Replying response out order base count → next_range out s.seg ≡ Some range
       → IsGoodWork (response_leaves s id row (response_content s (peer_cutoffs s w.host id.client).cutoffs response out range) range w)
   response_good id row response out order base count range w k at is e =
       let h = k.host in
       let r = h.servers id row at in
       let state : IsState (Replying response out order base count) = subst IsState is r.1 in
-      let sends : IsState (state_sends s (now_of w) row.state) = subst (λ (x : State). IsState (state_sends s (now_of w) x)) (sym is) (state.0, part_sent response out state.1 s.seg) in
-      let few : len (insert w.host.servers id (record row { state = state_sends s (now_of w) row.state })) < 2 ^ 32 = omega (arith, rows_kept w.host.servers id row (Some (record row { state = state_sends s (now_of w) row.state })) at, h.rows) in
+      let sends : IsState (state_sends s (now_of w) row.state) =
+      subst (λ (x : State). IsState (state_sends s (now_of w) x)) (sym is) (state.0, part_sent response out state.1 s.seg) in
+      let few : len (insert w.host.servers id (record row { state = state_sends s (now_of w) row.state })) < 2 ^ 32 =
+      omega (arith, rows_kept w.host.servers id row (Some (record row { state = state_sends s (now_of w) row.state })) at, h.rows) in
       let rows = set_good IsServerRow w.host.servers id (Some (record row { state = state_sends s (now_of w) row.state })) r.0 sends h.servers in
-      tells_good (spent (range.to - range.from) (record w { host = record w.host { servers = insert w.host.servers id (record row { state = state_sends s (now_of w) row.state }) } })) _
-      (record { host = record { inc = h.inc; inc_fits = h.inc_fits; seq = h.seq; tuning = h.tuning; peers = h.peers; finished = h.finished; clients = h.clients; servers = rows; rows = few }; last = k.last; sent = k.sent; told = k.told }) (
+      tells_good (spent (range.to - range.from)
+      (record w { host = record w.host { servers = insert w.host.servers id (record row { state = state_sends s (now_of w) row.state }) } })) _
+      (record {
+        host = record {
+          inc = h.inc;
+          inc_fits = h.inc_fits;
+          seq = h.seq;
+          tuning = h.tuning;
+          peers = h.peers;
+          finished = h.finished;
+          clients =
+              h.clients;
+          servers = rows;
+          rows = few;
+        };
+        last = k.last;
+        sent = k.sent;
+        told = k.told;
+      }) (
         record {
-          formed = response_sent s v w.host (numbers w.host h k.last) id r.0 response out state.0 state.1 (peer_cutoffs s w.host id.client).cutoffs (peer_good w.host id.client h) range e;
+          formed = response_sent s v w.host (numbers w.host h k.last) id r.0 response out state.0 state.1 (peer_cutoffs s w.host id.client).cutoffs
+              (peer_good w.host id.client h) range e;
           dated = dated_now w.host k.last;
         },
         tt,
@@ -308,24 +446,71 @@ module _ (s : Settings) (v : IsValid s) (now : ℕ) (soon : now ≤ 100000000200
 
   -- ---- GRANTs
 
-  pub client_grant_good : (id : CallId) (r : ClientRow) (part : Incoming) (offset prio : ℕ) (w : Work) → IsGoodWork w → get w.host.clients id ≡ Some r → r.part ≡ Some part → 1 ≤ offset → offset ≤ part.length → prio ≤ 7
+  pub client_grant_good : (id : CallId) (r : ClientRow) (part : Incoming) (offset prio : ℕ) (w : Work) → IsGoodWork w → get w.host.clients id ≡ Some r
+      → r.part ≡ Some part → 1 ≤ offset → offset ≤ part.length → prio ≤ 7
       → IsGoodWork (client_is_granted s id (body.Grant offset prio) offset (Some r) w)
   client_grant_good id r part offset prio w k at has some within few =
       let h = k.host in
       let row = h.clients id r at in
       let arriving : IsArriving part = let z : IfSome (Some part) IsArriving = subst (λ (o : Option Incoming). IfSome o IsArriving) has row.1.part in z in
-      let granted : IsClientRow (client_granted (now_of w) offset r) = record { message = row.1.message; out = row.1.out; service = row.1.service; part = subst (λ (o : Option Incoming). IfSome (granted_part offset o) IsArriving) (sym has) (arriving_granted part offset arriving within) } in
-      posts_good (record w { host = record w.host { clients = insert w.host.clients id (client_granted (now_of w) offset r) } }) Client id r.server (body.Grant offset prio)
-      (record { host = record { inc = h.inc; inc_fits = h.inc_fits; seq = h.seq; tuning = h.tuning; peers = h.peers; finished = h.finished; clients = set_good IsClientRow w.host.clients id (Some (client_granted (now_of w) offset r)) row.0 granted h.clients; servers = h.servers; rows = h.rows }; last = k.last; sent = k.sent; told = k.told })
+      let granted : IsClientRow (client_granted (now_of w) offset r) =
+      record {
+        message = row.1.message;
+        out = row.1.out;
+        service = row.1.service;
+        part =
+            subst (λ (o : Option Incoming). IfSome (granted_part offset o) IsArriving) (sym has) (arriving_granted part offset arriving within);
+      } in
+      posts_good (record w { host = record w.host { clients = insert w.host.clients id (client_granted (now_of w) offset r) } }) Client id r.server
+      (body.Grant offset prio)
+      (record {
+        host = record {
+          inc = h.inc;
+          inc_fits = h.inc_fits;
+          seq = h.seq;
+          tuning = h.tuning;
+          peers = h.peers;
+          finished = h.finished;
+          clients =
+              set_good IsClientRow w.host.clients id (Some (client_granted (now_of w) offset r)) row.0 granted h.clients;
+          servers = h.servers;
+          rows =
+              h.rows;
+        };
+        last = k.last;
+        sent = k.sent;
+        told = k.told;
+      })
       row.0 ((refl, refl), (some, omega (arith, within, arriving.size)), few)
 
-  pub server_grant_good : (id : CallId) (row : ServerRow) (service : ℕ) (part : Incoming) (base count offset prio : ℕ) (w : Work) → IsGoodWork w → get w.host.servers id ≡ Some row → row.state ≡ Receiving service part base count → 1 ≤ offset → offset ≤ part.length → prio ≤ 7
+  pub server_grant_good : (id : CallId) (row : ServerRow) (service : ℕ) (part : Incoming) (base count offset prio : ℕ) (w : Work) → IsGoodWork w
+      → get w.host.servers id ≡ Some row → row.state ≡ Receiving service part base count → 1 ≤ offset → offset ≤ part.length → prio ≤ 7
       → IsGoodWork (server_is_granted s id (body.Grant offset prio) offset (Some row) w)
   server_grant_good id row service part base count offset prio w k at is some within few =
       let h = k.host in
       let r = h.servers id row at in
       let arriving : IsArriving part = subst IsState is r.1 in
-      let granted : IsServerRow (server_granted (now_of w) offset row) = subst (λ (x : State). IsState (state_granted (now_of w) offset x)) (sym is) (arriving_granted part offset arriving within) in
-      posts_good (record w { host = record w.host { servers = insert w.host.servers id (server_granted (now_of w) offset row) } }) Server id w.host.id (body.Grant offset prio)
-      (record { host = record { inc = h.inc; inc_fits = h.inc_fits; seq = h.seq; tuning = h.tuning; peers = h.peers; finished = h.finished; clients = h.clients; servers = set_good IsServerRow w.host.servers id (Some (server_granted (now_of w) offset row)) r.0 granted h.servers; rows = omega (arith, rows_kept w.host.servers id row (Some (server_granted (now_of w) offset row)) at, h.rows) }; last = k.last; sent = k.sent; told = k.told })
+      let granted : IsServerRow (server_granted (now_of w) offset row) =
+      subst (λ (x : State). IsState (state_granted (now_of w) offset x)) (sym is) (arriving_granted part offset arriving within) in
+      posts_good (record w { host = record w.host { servers = insert w.host.servers id (server_granted (now_of w) offset row) } }) Server id w.host.id
+      (body.Grant offset prio)
+      (record {
+        host = record {
+          inc = h.inc;
+          inc_fits = h.inc_fits;
+          seq = h.seq;
+          tuning = h.tuning;
+          peers = h.peers;
+          finished = h.finished;
+          clients =
+              h.clients;
+          servers = set_good IsServerRow w.host.servers id (Some (server_granted (now_of w) offset row)) r.0 granted h.servers;
+          rows =
+              omega (arith, rows_kept w.host.servers id row (Some (server_granted (now_of w) offset row)) at, h.rows);
+        };
+        last = k.last;
+        sent = k.sent;
+        told =
+            k.told;
+      })
       r.0 ((refl, refl), (some, omega (arith, within, arriving.size)), few)

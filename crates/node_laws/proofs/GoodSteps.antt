@@ -33,7 +33,9 @@ use Rattle.homa_plain.specs.Rules.{Moment, Answer, Piece, Tells, Did, leaves, sa
 use Rattle.homa_plain.specs.AtServer.{piece_comes, opens, piece_of, unknown_gets, row_gets, server_gets, state_acked, server_acked}
 use Rattle.homa_plain.specs.Timers.{Place, OfClient, OfServer, server_acts}
 use Rattle.homa_plain.specs.Sending.{Arriving, arrivals}
-use Rattle.homa_plain.specs.Steps.{Work, now_of, begun, is_newer, hears_cutoffs, comes_to_row, acked, takes, is_stale, comes, moment, refilled, client_acted, server_acted, acts_at, acts, grants_at, gives_grants, client_is_granted, server_is_granted, ended, next_id, new_call, starts, start_fault, call_step, arrival_step, turn_step}
+use Rattle.homa_plain.specs.Steps.{Work, now_of, begun, is_newer, hears_cutoffs, comes_to_row, acked, takes, is_stale, comes, moment, refilled, client_acted}
+use Rattle.homa_plain.specs.Steps.{server_acted, acts_at, acts, grants_at, gives_grants, client_is_granted, server_is_granted, ended, next_id, new_call}
+use Rattle.homa_plain.specs.Steps.{starts, start_fault, call_step, arrival_step, turn_step}
 use Rattle.homa_plain.proofs.ChoiceLaws.{grant-chosen, few-chosen}
 use Rattle.trace_induction.proofs.Hosts.{none_some}
 use Rattle.trace_induction.proofs.Chosen.{IsTimerAt, IsArrivingAt, IsGrantAt, grants_of, message_of}
@@ -43,7 +45,8 @@ use Rattle.node_runs.specs.Replayed.{IsAnswer}
 use Rattle.node_laws.proofs.Told.{IsMoment, pages_small, served_small, dated_small, rows_gone, rows_more, rows_kept}
 use Rattle.node_laws.proofs.Parts.{part_opened}
 use Rattle.node_laws.proofs.Ruled.{IsServerRow, gets_good, serves_good, acked_good, client_acts_good, server_acts_good}
-use Rattle.node_laws.proofs.Good.{IsPeer, AreFinished, IsGoodHost, IsGoodWork, set_good, all_set, asked_good, served_good, tells_good, request_good, response_good, client_grant_good, server_grant_good}
+use Rattle.node_laws.proofs.Good.{IsPeer, AreFinished, IsGoodHost, IsGoodWork, set_good, all_set, asked_good, served_good, tells_good, request_good}
+use Rattle.node_laws.proofs.Good.{response_good, client_grant_good, server_grant_good}
 
 module _ (s : Settings) (v : IsValid s) (now : ℕ) (soon : now ≤ 1000000002000) where
   abbrev Good : Work → Type 0
@@ -74,7 +77,8 @@ module _ (s : Settings) (v : IsValid s) (now : ℕ) (soon : now ≤ 100000000200
       left : Did ServerRow
       left = if nat_lt m.free (pages_for piece.size) then says m None (Tells (PlainFullPages m.host id (pages_for piece.size) m.free) ∷ [])
           else (let part = incoming.opened id.client piece.size m.order s.unsched in
-          piece_comes s m id piece.service part (record { order = m.order; state = Receiving piece.service part m.now 0 }) piece answer (opening piece.size (leaves m None)))
+          piece_comes s m id piece.service part (record { order = m.order; state = Receiving piece.service part m.now 0 }) piece answer
+          (opening piece.size (leaves m None)))
 
       by_test : (b : Bool) → nat_le s.served m.rows ≡ b → HasRoom (if b then says m None (Tells (PlainFullRows m.host id m.rows s.served) ∷ []) else left)
       by_test true e = none_room
@@ -90,9 +94,11 @@ module _ (s : Settings) (v : IsValid s) (now : ℕ) (soon : now ≤ 100000000200
     unknown_room m body.NeedAck payload answer many = none_room
     unknown_room m (body.Ack more) payload answer many = none_room
 
-    serves_room : (m : Moment) (p : Packet) (answer : Answer) (o : Option ServerRow) → get rows id ≡ o → p.id ≡ id → m.rows ≡ len rows → HasRoom (server_gets s m p answer o)
+    serves_room : (m : Moment) (p : Packet) (answer : Answer) (o : Option ServerRow) → get rows id ≡ o → p.id ≡ id → m.rows ≡ len rows
+        → HasRoom (server_gets s m p answer o)
     unfolding server_gets
-    serves_room m p answer None at same many = subst (λ (q : CallId). HasRoom (unknown_gets s m q p.body p.payload answer)) (sym same) (unknown_room m p.body p.payload answer many)
+    serves_room m p answer None at same many =
+        subst (λ (q : CallId). HasRoom (unknown_gets s m q p.body p.payload answer)) (sym same) (unknown_room m p.body p.payload answer many)
     serves_room m p answer (Some row) at same many = stands_room row (row_gets s m p.id p.body p.payload answer row row.state) at
 
     acked_room : (m : Moment) (o : Option ServerRow) → get rows id ≡ o → HasRoom (server_acked s m id o)
@@ -102,10 +108,28 @@ module _ (s : Settings) (v : IsValid s) (now : ℕ) (soon : now ≤ 100000000200
 
   -- ---- a packet comes
 
-  hears_good : (peer : HostId) (inc : ℕ) (what : Body) (w : Work) (role : Role) (level : ℕ) (payload : List ℕ) → FitsKind role level what payload → Good w → Good (hears_cutoffs s peer inc what w)
+  hears_good : (peer : HostId) (inc : ℕ) (what : Body) (w : Work) (role : Role) (level : ℕ) (payload : List ℕ) → FitsKind role level what payload → Good w
+      → Good (hears_cutoffs s peer inc what w)
   hears_good peer inc (body.Cutoffs c) w role level payload f k = cond_both (is_newer inc c (peer_cutoffs s w.host peer)) _ _ Good
       (λ _. let h = k.host in
-      record { host = record { inc = h.inc; inc_fits = h.inc_fits; seq = h.seq; tuning = h.tuning; peers = all_set IsPeer w.host.peers peer.0 (record { inc = inc; cutoffs = c }) f.1 h.peers; finished = h.finished; clients = h.clients; servers = h.servers; rows = h.rows }; last = k.last; sent = k.sent; told = k.told })
+      record {
+        host = record {
+          inc = h.inc;
+          inc_fits = h.inc_fits;
+          seq = h.seq;
+          tuning = h.tuning;
+          peers =
+              all_set IsPeer w.host.peers peer.0 (record { inc = inc; cutoffs = c }) f.1 h.peers;
+          finished = h.finished;
+          clients = h.clients;
+          servers =
+              h.servers;
+          rows = h.rows;
+        };
+        last = k.last;
+        sent = k.sent;
+        told = k.told;
+      })
       (λ _. k)
   hears_good peer inc (body.Data size offset version service ack) w role level payload f k = k
   hears_good peer inc (body.Grant offset prio) w role level payload f k = k
@@ -117,18 +141,25 @@ module _ (s : Settings) (v : IsValid s) (now : ℕ) (soon : now ≤ 100000000200
 
   row_gets_good : (p : Packet) (answer : Answer) (role : Role) (w : Work) → IsSent s p → IsAnswer answer → Good w → Good (comes_to_row s p answer role w)
   row_gets_good p answer Client w sent a k =
-      served_good s v now soon p.id _ w sent.call (serves_good s v (moment s p.id w) (moment_fits p.id w k) p answer (get w.host.servers p.id) a sent.of_kind (row_is IsServerRow (get w.host.servers p.id) (λ row at. (k.host.servers p.id row at).1))) (serves_room w.host.servers p.id k.host.rows (moment s p.id w) p answer (get w.host.servers p.id) refl refl refl) k
+      served_good s v now soon p.id _ w sent.call
+      (serves_good s v (moment s p.id w) (moment_fits p.id w k) p answer (get w.host.servers p.id) a sent.of_kind
+      (row_is IsServerRow (get w.host.servers p.id) (λ row at. (k.host.servers p.id row at).1)))
+      (serves_room w.host.servers p.id k.host.rows (moment s p.id w) p answer (get w.host.servers p.id) refl refl refl) k
   row_gets_good p answer Server w sent a k =
-      asked_good s v now soon p.id p.server _ w sent.call (gets_good s (moment s p.id w) (moment_fits p.id w k) p (get w.host.clients p.id) sent.of_kind (row_is IsClientRow (get w.host.clients p.id) (λ r at. (k.host.clients p.id r at).1))) k
+      asked_good s v now soon p.id p.server _ w sent.call
+      (gets_good s (moment s p.id w) (moment_fits p.id w k) p (get w.host.clients p.id) sent.of_kind
+      (row_is IsClientRow (get w.host.clients p.id) (λ r at. (k.host.clients p.id r at).1))) k
 
   -- the calls that it acknowledges
   calls_are_ids : (client : HostId) (calls : List (ℕ × ℕ)) → AllByRecursion IsCall calls → AllByRecursion IsId (calls_of client calls)
   calls_are_ids client [] all = tt
   calls_are_ids client (c ∷ calls) all = (all.0, calls_are_ids client calls all.1)
 
-  acks_are_ids : (id : CallId) (role : Role) (level : ℕ) (what : Body) (payload : List ℕ) → IsId id → FitsKind role level what payload → AllByRecursion IsId (acks_in id what)
+  acks_are_ids : (id : CallId) (role : Role) (level : ℕ) (what : Body) (payload : List ℕ) → IsId id → FitsKind role level what payload
+      → AllByRecursion IsId (acks_in id what)
   acks_are_ids id role level (body.Data size offset version service None) payload named f = tt
-  acks_are_ids id role level (body.Data size offset version service (Some call)) payload named f = filter-all IsId (λ q. not (is_call q id)) (calls_of id.client (call ∷ [])) (f.acknowledged, tt)
+  acks_are_ids id role level (body.Data size offset version service (Some call)) payload named f =
+      filter-all IsId (λ q. not (is_call q id)) (calls_of id.client (call ∷ [])) (f.acknowledged, tt)
   acks_are_ids id role level (body.Ack more) payload named f = (named, calls_are_ids id.client more f.3)
   acks_are_ids id role level (body.Grant offset prio) payload named f = tt
   acks_are_ids id role level (body.Resend from to prio) payload named f = tt
@@ -140,7 +171,10 @@ module _ (s : Settings) (v : IsValid s) (now : ℕ) (soon : now ≤ 100000000200
   all_acked : (ids : List CallId) (w : Work) → AllByRecursion IsId ids → Good w → Good (acked s ids w)
   all_acked [] w named k = k
   all_acked (id ∷ ids) w named k =
-      all_acked ids _ named.1 (served_good s v now soon id _ w named.0 (acked_good s v (moment s id w) id (moment_fits id w k) (get w.host.servers id) (row_is IsServerRow (get w.host.servers id) (λ row at. (k.host.servers id row at).1)))
+      all_acked ids _ named.1
+      (served_good s v now soon id _ w named.0
+      (acked_good s v (moment s id w) id (moment_fits id w k) (get w.host.servers id)
+      (row_is IsServerRow (get w.host.servers id) (λ row at. (k.host.servers id row at).1)))
       (acked_room w.host.servers id k.host.rows (moment s id w) (get w.host.servers id) refl) k)
 
   takes_good : (p : Packet) (answer : Answer) (w : Work) → IsSent s p → IsAnswer answer → Good w → Good (takes s p answer w)
@@ -151,17 +185,26 @@ module _ (s : Settings) (v : IsValid s) (now : ℕ) (soon : now ≤ 100000000200
 
   comes_good : (o : Option Packet) (answer : Answer) (w : Work) → IfSome o (IsSent s) → IsAnswer answer → Good w → Good (comes s o answer w)
   comes_good None answer w sent a k = tells_good s v now soon w _ k tt (tt, tt)
-  comes_good (Some p) answer w sent a k = cond_both (is_stale s (now_of w) p) _ _ Good (λ _. tells_good s v now soon w _ k tt ((dated_small s v p sent, omega (arith, k.last, soon)), tt)) (λ _. takes_good p answer w sent a k)
+  comes_good (Some p) answer w sent a k =
+      cond_both (is_stale s (now_of w) p) _ _ Good (λ _. tells_good s v now soon w _ k tt ((dated_small s v p sent, omega (arith, k.last, soon)), tt))
+      (λ _. takes_good p answer w sent a k)
 
   -- ---- the end of a step
 
-  grant_good : (start w : Work) (g : Granted Arriving) → Contains (grants_of s start.host) g → Good w → IsGrantAt s w.host g → Good (grants_at s g.to.place g.offset g.prio w)
+  grant_good : (start w : Work) (g : Granted Arriving) → Contains (grants_of s start.host) g → Good w → IsGrantAt s w.host g
+      → Good (grants_at s g.to.place g.offset g.prio w)
   grant_good start w g c k at = by_place g.to.place at.stands where
     is : choice.IsGrant message_of s.window (chosen message_of s.overcommit (arrivals start.host)) g
     is = grant-chosen message_of s.overcommit s.window (arrivals start.host) g c
 
     few : g.prio ≤ 7
-    few = omega (arith, is.prio, few-chosen (λ (a : Arriving). choice.sender a.message) (λ (a : Arriving). choice_key a.message) s.overcommit (arrivals start.host), v.in_range.2.2.2.2.1)
+    few = omega (
+      arith,
+      is.prio,
+      few-chosen (λ (a : Arriving). choice.sender a.message) (λ (a : Arriving). choice_key a.message) s.overcommit
+          (arrivals start.host),
+      v.in_range.2.2.2.2.1,
+    )
 
     within : (part : Incoming) → g.to.message ≡ seen part → g.offset ≤ part.length
     within part e = let z : g.offset ≡ new_end s.window (seen part) = at.offset ∙ ap (new_end s.window) e in omega (arith, z)
@@ -172,7 +215,8 @@ module _ (s : Settings) (v : IsValid s) (now : ℕ) (soon : now ≤ 100000000200
         (client_grant_good s v now soon id a.row a.part g.offset g.prio w k a.stands a.has (omega (arith, at.more)) (within a.part a.message) few)
     by_place (OfServer id) a =
         subst (λ o. Good (server_is_granted s id (body.Grant g.offset g.prio) g.offset o w)) (sym a.stands)
-        (server_grant_good s v now soon id a.row a.service a.part a.base a.count g.offset g.prio w k a.stands a.state (omega (arith, at.more)) (within a.part a.message) few)
+        (server_grant_good s v now soon id a.row a.service a.part a.base a.count g.offset g.prio w k a.stands a.state (omega (arith, at.more))
+        (within a.part a.message) few)
 
   pieces : PieceKeeps s Good
   pieces = record {
@@ -188,19 +232,60 @@ module _ (s : Settings) (v : IsValid s) (now : ℕ) (soon : now ≤ 100000000200
   act_good : (w : Work) (place : Place) (at : ℕ) → Good w → IsTimerAt s w.host at place → at ≤ now_of w → Good (acts_at s place w)
   act_good w (OfClient id) at k timer past =
       let row = k.host.clients id timer.0 timer.1 in
-      subst (λ o. Good (client_acted s id o w)) (sym timer.1) (asked_good s v now soon id (timer.0).server _ w row.0 (client_acts_good s v (moment s id w) id timer.0 row.1) k)
+      subst (λ o. Good (client_acted s id o w)) (sym timer.1)
+      (asked_good s v now soon id (timer.0).server _ w row.0 (client_acts_good s v (moment s id w) id timer.0 row.1) k)
   act_good w (OfServer id) at k timer past =
       let row = k.host.servers id timer.0 timer.1 in
-      subst (λ o. Good (server_acted s id o w)) (sym timer.1) (served_good s v now soon id _ w row.0 (server_acts_good s v (moment s id w) id (moment_fits id w k) timer.0 row.1)
+      subst (λ o. Good (server_acted s id o w)) (sym timer.1)
+      (served_good s v now soon id _ w row.0 (server_acts_good s v (moment s id w) id (moment_fits id w k) timer.0 row.1)
       (stands_room w.host.servers id k.host.rows timer.0 (server_acts s (moment s id w) id timer.0) timer.1) k)
 
   begun_good : (h : Host) → IsGoodHost h → Good (begun h now)
-  begun_good h k = record { host = record { inc = k.inc; inc_fits = k.inc_fits; seq = k.seq; tuning = k.tuning; peers = k.peers; finished = k.finished; clients = k.clients; servers = k.servers; rows = k.rows }; last = refl; sent = tt; told = tt }
+  begun_good h k = record {
+    host =
+        record {
+          inc = k.inc;
+          inc_fits = k.inc_fits;
+          seq = k.seq;
+          tuning = k.tuning;
+          peers = k.peers;
+          finished = k.finished;
+          clients = k.clients;
+          servers =
+              k.servers;
+          rows = k.rows;
+        };
+    last = refl;
+    sent = tt;
+    told = tt;
+  }
 
   filled_good : (h : Host) → IsGoodHost h → IsGoodHost (refilled s (record h { last = now }))
   filled_good h k = cond_both (nat_lt h.refilled now) (record h { last = now; credit = s.rate; refilled = now }) (record h { last = now }) IsGoodHost
-      (λ _. record { inc = k.inc; inc_fits = k.inc_fits; seq = k.seq; tuning = k.tuning; peers = k.peers; finished = k.finished; clients = k.clients; servers = k.servers; rows = k.rows })
-      (λ _. record { inc = k.inc; inc_fits = k.inc_fits; seq = k.seq; tuning = k.tuning; peers = k.peers; finished = k.finished; clients = k.clients; servers = k.servers; rows = k.rows })
+      (λ _. record {
+        inc = k.inc;
+        inc_fits = k.inc_fits;
+        seq = k.seq;
+        tuning = k.tuning;
+        peers = k.peers;
+        finished = k.finished;
+        clients =
+            k.clients;
+        servers = k.servers;
+        rows = k.rows;
+      })
+      (λ _. record {
+        inc = k.inc;
+        inc_fits = k.inc_fits;
+        seq = k.seq;
+        tuning = k.tuning;
+        peers = k.peers;
+        finished = k.finished;
+        clients =
+            k.clients;
+        servers = k.servers;
+        rows = k.rows;
+      })
 
   -- ---- steps
 
@@ -210,7 +295,8 @@ module _ (s : Settings) (v : IsValid s) (now : ℕ) (soon : now ≤ 100000000200
       let filled : Host = refilled s (record h { last = now }) in
       ended_good (acts s (begun filled now)) (turn_kept s Good act_good v.in_range.2.2.2.2.2.2.0 (begun filled now) (begun_good filled (filled_good h k)))
 
-  pub arrival_good : (h : Host) (o : Option Packet) (answer : Answer) → IsGoodHost h → IfSome o (IsSent s) → IsAnswer answer → Good (arrival_step s h now o answer)
+  pub arrival_good : (h : Host) (o : Option Packet) (answer : Answer) → IsGoodHost h → IfSome o (IsSent s) → IsAnswer answer
+      → Good (arrival_step s h now o answer)
   unfolding arrival_step
   arrival_good h o answer k sent a = ended_good (comes s o answer (begun h now)) (comes_good o answer (begun h now) sent a (begun_good h k))
 
@@ -232,12 +318,19 @@ module _ (s : Settings) (v : IsValid s) (now : ℕ) (soon : now ≤ 100000000200
       let c = by_if (is_host server h.id) SelfCall _ b.1 in
       let d = by_if (nat_le s.calls (len h.clients)) CallsFull _ c.1 in
       let f = by_if (nat_le 4294967295 h.seq) SeqSpent None d.1 in
-      record { some = omega (arith, eqb-false (length request) 0 a.0); most = omega (arith, ltb-false 1000000 (length request) b.0); seq = omega (arith, leb-false 4294967295 h.seq f.0) }
+      record {
+        some = omega (arith, eqb-false (length request) 0 a.0);
+        most = omega (arith, ltb-false 1000000 (length request) b.0);
+        seq =
+            omega (arith, leb-false 4294967295 h.seq f.0);
+      }
 
-  started_good : (h : Host) (server : HostId) (service : ℕ) (request : List ℕ) → IsGoodHost h → CanStart h request → IsBytes request → service < 256 → Good (starts s server service request (begun h now))
+  started_good : (h : Host) (server : HostId) (service : ℕ) (request : List ℕ) → IsGoodHost h → CanStart h request → IsBytes request → service < 256
+      → Good (starts s server service request (begun h now))
   started_good h server service request k can bytes small =
       let message : IsMessage request = ((can.some, can.most), bytes) in
-      let row : IsClientRow (new_call s now h.order server service request) = record { message = message; out = part_opened request s.unsched; service = small; part = tt } in
+      let row : IsClientRow (new_call s now h.order server service request) =
+      record { message = message; out = part_opened request s.unsched; service = small; part = tt } in
       let named : IsId (next_id h) = (k.inc, k.inc_fits, omega (arith, can.seq)) in
       record {
         host = record {
@@ -256,9 +349,11 @@ module _ (s : Settings) (v : IsValid s) (now : ℕ) (soon : now ≤ 100000000200
         told = (tt, tt);
       }
 
-  pub call_good : (h : Host) (server : HostId) (service : ℕ) (request : List ℕ) → IsGoodHost h → start_fault s h server request ≡ None → IsBytes request → service < 256 → Good (call_step s h now server service request)
+  pub call_good : (h : Host) (server : HostId) (service : ℕ) (request : List ℕ) → IsGoodHost h → start_fault s h server request ≡ None → IsBytes request
+      → service < 256 → Good (call_step s h now server service request)
   unfolding call_step
-  call_good h server service request k none bytes small = ended_good (starts s server service request (begun h now)) (started_good h server service request k (can_start h server request none) bytes small)
+  call_good h server service request k none bytes small =
+      ended_good (starts s server service request (begun h now)) (started_good h server service request k (can_start h server request none) bytes small)
 
 -- ---- a host that was just opened
 

@@ -11,14 +11,16 @@ use Rattle.homa_plain.specs.declared.packet.Role.{Role}
 use Rattle.homa_plain.specs.declared.packet.Role.TheVariants.{Client, Server}
 use Rattle.homa_plain.specs.declared.settings.Settings.{Settings}
 use Rattle.homa_plain.specs.Calls.{call_cmp}
-use Rattle.homa_plain.specs.Entries.{PlainEntry, PlainCall, PlainRun, PlainDone, PlainFail, PlainDrop, PlainGaps, PlainBury, PlainFree, PlainFullRows, PlainFullPages, PlainBalance, PlainJunk, PlainStale}
+use Rattle.homa_plain.specs.Entries.{PlainEntry, PlainCall, PlainRun, PlainDone, PlainFail, PlainDrop, PlainGaps, PlainBury, PlainFree, PlainFullRows}
+use Rattle.homa_plain.specs.Entries.{PlainFullPages, PlainBalance, PlainJunk, PlainStale}
 use Rattle.homa_plain.specs.Packets.{Packet, sender, receiver, receiver_of, acks}
 use Rattle.homa_plain.specs.Rows.{ClientRow, ServerRow, RowsOf, set_row}
 use Rattle.homa_plain.specs.Host.{Host, new_host, Told, Says, Sends, Tuned, tuned, is_balance_due, counted, finished_at}
 use Rattle.homa_plain.specs.Rules.{Answer, Say, Tells, Posts, Did}
 use Rattle.homa_plain.specs.Timers.{Place, OfClient, OfServer, client_acts, server_acts}
 use Rattle.homa_plain.specs.Sending.{client_granted, client_sends}
-use Rattle.homa_plain.specs.Steps.{Work, begun, now_of, moment, said, asked, served, hears_cutoffs, comes_to_row, takes, is_stale, comes, client_acted, server_acted, acts_at, acts, ended, next_id, new_call, starts, refilled, call_step, arrival_step, turn_step}
+use Rattle.homa_plain.specs.Steps.{Work, begun, now_of, moment, said, asked, served, hears_cutoffs, comes_to_row, takes, is_stale, comes, client_acted}
+use Rattle.homa_plain.specs.Steps.{server_acted, acts_at, acts, ended, next_id, new_call, starts, refilled, call_step, arrival_step, turn_step}
 use Rattle.trace_lines.specs.Told.{HasOwnName}
 use Rattle.trace_lines.proofs.Lines.{AllInner, inner-append}
 use Rattle.trace_moves.proofs.Own.{IsOwn, AllOwn, gets_own, acked_own, server_acts_own, gets_quiet, client_acts_quiet}
@@ -100,7 +102,8 @@ module _ (s : Settings) where
       at-append id (notes_told s did.opened (served_put s q did w)) (reply ++ says) (notes_at did.opened (served_put s q did w) id name)
       (at-append id reply says (reply_at Server q w.host.id did.version noted id) (said_at w.host Server q w.host.id id did.says own))
 
-  asked_at : (q : CallId) (server : HostId) (did : Did ClientRow) (w : Work) (id : HostId) → w.host.id ≡ id → AllOwn id q did.says → AllAt id (asked_told s q server did w)
+  asked_at : (q : CallId) (server : HostId) (did : Did ClientRow) (w : Work) (id : HostId) → w.host.id ≡ id → AllOwn id q did.says
+      → AllAt id (asked_told s q server did w)
   asked_at q server did w id name own =
       let noted = asked_noted s q server did w in
       let says = said s w.host Client q server did.says in
@@ -121,7 +124,8 @@ pub record IsInside (id : HostId) (first : List Told) (work : Work) : Type 0 whe
   pub at : AllAt id rest
 
 module _ (s : Settings) (id : HostId) (first : List Told) where
-  named_move : (work new : Work) (told : List Told) (clients : RowsOf ClientRow) (servers : RowsOf ServerRow) → IsMove work new told clients servers → AllAt id told → ((q : CallId) (r : ClientRow) → get clients q ≡ Some r → q.client ≡ id) → IsInside id first work → IsInside id first new
+  named_move : (work new : Work) (told : List Told) (clients : RowsOf ClientRow) (servers : RowsOf ServerRow) → IsMove work new told clients servers
+      → AllAt id told → ((q : CallId) (r : ClientRow) → get clients q ≡ Some r → q.client ≡ id) → IsInside id first work → IsInside id first new
   named_move work new told clients servers m at own k = record {
     name = record { name = m.id ∙ k.name.name; own = λ q r is. own q r (ap (λ (rows : RowsOf ClientRow). get rows q) (sym m.at_clients) ∙ is) };
     rest = k.rest ++ told;
@@ -130,18 +134,26 @@ module _ (s : Settings) (id : HostId) (first : List Told) where
     at = at-append id k.rest told k.at at;
   }
 
-  pub named_beside : (work new : Work) (told : List Told) (servers : RowsOf ServerRow) → IsMove work new told work.host.clients servers → AllAt id told → IsInside id first work → IsInside id first new
+  pub named_beside : (work new : Work) (told : List Told) (servers : RowsOf ServerRow) → IsMove work new told work.host.clients servers → AllAt id told
+      → IsInside id first work → IsInside id first new
   named_beside work new told servers m at k = named_move work new told work.host.clients servers m at k.name.own k
 
-  named_client : (work new : Work) (told : List Told) (q : CallId) (o : Option ClientRow) → q.client ≡ id → IsMove work new told (set_row work.host.clients q o) work.host.servers → AllAt id told → IsInside id first work → IsInside id first new
-  named_client work new told q o mine m at k = named_move work new told (set_row work.host.clients q o) work.host.servers m at (own_set id work.host.clients q o mine k.name.own) k
+  named_client : (work new : Work) (told : List Told) (q : CallId) (o : Option ClientRow) → q.client ≡ id
+      → IsMove work new told (set_row work.host.clients q o) work.host.servers → AllAt id told → IsInside id first work → IsInside id first new
+  named_client work new told q o mine m at k =
+      named_move work new told (set_row work.host.clients q o) work.host.servers m at (own_set id work.host.clients q o mine k.name.own) k
 
-  pub named_served : (work : Work) (q : CallId) (did : Did ServerRow) → AllOwn work.host.id q did.says → IsInside id first work → IsInside id first (served s q did work)
-  named_served work q did own k = named_beside work (served s q did work) (served_told s q did work) (set_row work.host.servers q did.row) (served-move s q did work own)
+  pub named_served : (work : Work) (q : CallId) (did : Did ServerRow) → AllOwn work.host.id q did.says → IsInside id first work
+      → IsInside id first (served s q did work)
+  named_served work q did own k =
+      named_beside work (served s q did work) (served_told s q did work) (set_row work.host.servers q did.row) (served-move s q did work own)
       (served_at s q did work id k.name.name (subst (λ (h : HostId). AllOwn h q did.says) k.name.name own)) k
 
-  pub named_asked : (work : Work) (q : CallId) (server : HostId) (did : Did ClientRow) → q.client ≡ id → AllOwn q.client q did.says → IsInside id first work → IsInside id first (asked s q server did work)
-  named_asked work q server did mine own k = named_client work (asked s q server did work) (asked_told s q server did work) q did.row mine (asked-move s q server did work (mine ∙ sym k.name.name) own)
+  pub named_asked : (work : Work) (q : CallId) (server : HostId) (did : Did ClientRow) → q.client ≡ id → AllOwn q.client q did.says → IsInside id first work
+      → IsInside id first (asked s q server did work)
+  named_asked work q server did mine own k =
+      named_client work (asked s q server did work) (asked_told s q server did work) q did.row mine
+      (asked-move s q server did work (mine ∙ sym k.name.name) own)
       (asked_at s q server did work id k.name.name (subst (λ (h : HostId). AllOwn h q did.says) mine own)) k
 
   -- ---- the end of a step, and its acts
@@ -165,16 +177,20 @@ module _ (s : Settings) (id : HostId) (first : List Told) where
   ended_named : (work : Work) → IsInside id first work → IsInside id first (ended s work)
   ended_named work k = ended_kept s (IsInside id first) grants_named pieces_named work k
 
-  pub acted_named : (work : Work) (place : Place) (at : ℕ) → IsInside id first work → IsTimerAt s work.host at place → at ≤ now_of work → IsInside id first (acts_at s place work)
+  pub acted_named : (work : Work) (place : Place) (at : ℕ) → IsInside id first work → IsTimerAt s work.host at place → at ≤ now_of work
+      → IsInside id first (acts_at s place work)
   acted_named work (OfClient q) at k timer past =
       subst (λ o. IsInside id first (client_acted s q o work)) (sym timer.1)
-      (named_asked work q (timer.0).server (client_acts s (moment s q work) q timer.0) (k.name.own q timer.0 timer.1) (client_acts_quiet s (moment s q work) q timer.0).0 k)
+      (named_asked work q (timer.0).server (client_acts s (moment s q work) q timer.0) (k.name.own q timer.0 timer.1)
+      (client_acts_quiet s (moment s q work) q timer.0).0 k)
   acted_named work (OfServer q) at k timer past =
-      subst (λ o. IsInside id first (server_acted s q o work)) (sym timer.1) (named_served work q (server_acts s (moment s q work) q timer.0) (server_acts_own s (moment s q work) q timer.0) k)
+      subst (λ o. IsInside id first (server_acted s q o work)) (sym timer.1)
+      (named_served work q (server_acts s (moment s q work) q timer.0) (server_acts_own s (moment s q work) q timer.0) k)
 
   -- ---- a packet comes
 
-  row_named : (p : Packet) (answer : Answer) (role : Role) (work : Work) → receiver_of role p.id p.server ≡ id → IsInside id first work → IsInside id first (comes_to_row s p answer role work)
+  row_named : (p : Packet) (answer : Answer) (role : Role) (work : Work) → receiver_of role p.id p.server ≡ id → IsInside id first work
+      → IsInside id first (comes_to_row s p answer role work)
   row_named p answer Client work at k = named_served work p.id _ (gets_own s (moment s p.id work) p answer (get work.host.servers p.id)) k
   row_named p answer Server work at k = named_asked work p.id p.server _ at (gets_quiet s (moment s p.id work) p (get work.host.clients p.id)).0 k
 
@@ -182,12 +198,16 @@ module _ (s : Settings) (id : HostId) (first : List Told) where
   unfolding takes
   takes_named p answer work at k =
       acked_kept s (IsInside id first) (λ now q l. named_served now q _ (acked_own s (moment s q now) q (get now.host.servers q)) l) (acks p) _
-      (row_named p answer p.role (hears_cutoffs s (sender p) p.inc p.body work) at (named_beside work (hears_cutoffs s (sender p) p.inc p.body work) [] work.host.servers (hears-move s (sender p) p.inc p.body work) tt k))
+      (row_named p answer p.role (hears_cutoffs s (sender p) p.inc p.body work) at
+      (named_beside work (hears_cutoffs s (sender p) p.inc p.body work) [] work.host.servers (hears-move s (sender p) p.inc p.body work) tt k))
 
-  comes_named : (o : Option Packet) (answer : Answer) (work : Work) → IfSome o (λ p. receiver p ≡ id) → IsInside id first work → IsInside id first (comes s o answer work)
+  comes_named : (o : Option Packet) (answer : Answer) (work : Work) → IfSome o (λ p. receiver p ≡ id) → IsInside id first work
+      → IsInside id first (comes s o answer work)
   comes_named None answer work at k = named_beside work _ _ work.host.servers (says-move (PlainJunk work.host.id) work tt) (k.name.name, tt) k
   comes_named (Some p) answer work at k =
-      cond_both (is_stale s (now_of work) p) _ _ (IsInside id first) (λ _. named_beside work _ _ work.host.servers (says-move (PlainStale work.host.id p.at (now_of work)) work tt) (k.name.name, tt) k) (λ _. takes_named p answer work at k)
+      cond_both (is_stale s (now_of work) p) _ _ (IsInside id first)
+      (λ _. named_beside work _ _ work.host.servers (says-move (PlainStale work.host.id p.at (now_of work)) work tt) (k.name.name, tt) k)
+      (λ _. takes_named p answer work at k)
 
   -- ---- the end of a step
 
@@ -204,7 +224,8 @@ module _ (s : Settings) (id : HostId) where
   abbrev pub call_line : Host → HostId → ℕ → List ℕ → List Told
   call_line h server service request = Says (PlainCall (next_id h) server service request) ∷ []
 
-  started_inside : (h : Host) (now : ℕ) (server : HostId) (service : ℕ) (request : List ℕ) → HasOwnName id h → IsInside id (call_line h server service request) (starts s server service request (begun h now))
+  started_inside : (h : Host) (now : ℕ) (server : HostId) (service : ℕ) (request : List ℕ) → HasOwnName id h
+      → IsInside id (call_line h server service request) (starts s server service request (begun h now))
   started_inside h now server service request k = record {
     name = record { name = k.name; own = own_set id h.clients (next_id h) (Some (new_call s now h.order server service request)) k.name k.own };
     rest = [];
@@ -213,24 +234,30 @@ module _ (s : Settings) (id : HostId) where
     at = tt;
   }
 
-  pub call_inside : (h : Host) (now : ℕ) (server : HostId) (service : ℕ) (request : List ℕ) → HasOwnName id h → IsInside id (call_line h server service request) (call_step s h now server service request)
+  pub call_inside : (h : Host) (now : ℕ) (server : HostId) (service : ℕ) (request : List ℕ) → HasOwnName id h
+      → IsInside id (call_line h server service request) (call_step s h now server service request)
   unfolding call_step
-  call_inside h now server service request k = step_inside s id (call_line h server service request) (starts s server service request (begun h now)) (started_inside h now server service request k)
+  call_inside h now server service request k =
+      step_inside s id (call_line h server service request) (starts s server service request (begun h now)) (started_inside h now server service request k)
 
-  pub arrival_inside : (h : Host) (now : ℕ) (o : Option Packet) (answer : Answer) → HasOwnName id h → IfSome o (λ p. receiver p ≡ id) → IsInside id [] (arrival_step s h now o answer)
+  pub arrival_inside : (h : Host) (now : ℕ) (o : Option Packet) (answer : Answer) → HasOwnName id h → IfSome o (λ p. receiver p ≡ id)
+      → IsInside id [] (arrival_step s h now o answer)
   unfolding arrival_step
-  arrival_inside h now o answer k at = step_inside s id [] (comes s o answer (begun h now)) (comes_named s id [] o answer (begun h now) at (begun_inside h now k))
+  arrival_inside h now o answer k at =
+      step_inside s id [] (comes s o answer (begun h now)) (comes_named s id [] o answer (begun h now) at (begun_inside h now k))
 
   -- a turn fills the credit up
   filled_named : (h : Host) (now : ℕ) → HasOwnName id h → HasOwnName id (refilled s (record h { last = now }))
   filled_named h now k =
-      cond_both (nat_lt h.refilled now) (record h { last = now; credit = s.rate; refilled = now }) (record h { last = now }) (HasOwnName id) (λ _. record { name = k.name; own = k.own }) (λ _. record { name = k.name; own = k.own })
+      cond_both (nat_lt h.refilled now) (record h { last = now; credit = s.rate; refilled = now }) (record h { last = now }) (HasOwnName id)
+      (λ _. record { name = k.name; own = k.own }) (λ _. record { name = k.name; own = k.own })
 
   pub turn_inside : 1 ≤ s.resend → (h : Host) (now : ℕ) → HasOwnName id h → IsInside id [] (turn_step s h now)
   unfolding turn_step
   turn_inside resend h now k =
       let filled : Host = refilled s (record h { last = now }) in
-      step_inside s id [] (acts s (begun filled now)) (turn_kept s (IsInside id []) (acted_named s id []) resend (begun filled now) (begun_inside filled now (filled_named h now k)))
+      step_inside s id [] (acts s (begun filled now))
+      (turn_kept s (IsInside id []) (acted_named s id []) resend (begun filled now) (begun_inside filled now (filled_named h now k)))
 
   pub new_named : (inc last : ℕ) → HasOwnName id (new_host s id inc last)
   new_named inc last = record { name = refl; own = λ q r is. absurd (none_some r (sym (get-empty call_cmp q) ∙ is)) }

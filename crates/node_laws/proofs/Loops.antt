@@ -1,5 +1,6 @@
 -- Every part of a node's run keeps that the replay of its recording repeats it.
-use Rattle.std.proofs.Common.{◌≡◌, ℕ, suc, zero, ◌+◌, ◌-◌, ◌≤◌, Bool, true, false, Option, None, Some, List, [], ◌∷◌, ◌++◌, length, map, replicate, refl, sym, ap, ◌∙◌, subst, arith, ◌<◌, ◌*◌}
+use Rattle.std.proofs.Common.{◌≡◌, ℕ, suc, zero, ◌+◌, ◌-◌, ◌≤◌, Bool, true, false, Option, None, Some, List, [], ◌∷◌, ◌++◌, length, map, replicate, refl, sym}
+use Rattle.std.proofs.Common.{ap, ◌∙◌, subst, arith, ◌<◌, ◌*◌}
 use Rattle.std.specs.Prelude.{is_some, if◌then◌else◌, slice_index_or, slice_get}
 use Rattle.std.specs.List.{AllByRecursion}
 use Rattle.std.proofs.lemmas.List.{append-nil, length-map}
@@ -15,16 +16,19 @@ use Rattle.homa_plain.specs.Packets.{Packet}
 use Rattle.homa_plain.specs.Host.{Host, new_host, entries_from}
 use Rattle.homa_plain.specs.Rules.{Answer}
 use Rattle.homa_plain.specs.Steps.{Work, start_fault, call_step, arrival_step, turn_step}
-use Rattle.homa_plain.specs.World.{World, After, Refused, Done, outcome, host_at, own_clock, next_answer, stepped, started, calls_from, turns, arrives_at, new_world, last_tick, new_hosts}
+use Rattle.homa_plain.specs.World.{World, After, Refused, Done, outcome, host_at, own_clock, next_answer, stepped, started, calls_from, turns, arrives_at}
+use Rattle.homa_plain.specs.World.{new_world, last_tick, new_hosts}
 use Rattle.homa_plain.specs.Replay.{Happening, carried}
 use Rattle.trace_lines.specs.Told.{HasOwnName}
 use Rattle.trace_induction.proofs.Always.{hosts_new}
 use Rattle.node_laws.proofs.Inner.{new_named}
 use Rattle.node_runs.specs.Script.{Place, Local, Remote, Setup, Calls, Opening, Opened, opening}
-use Rattle.node_runs.specs.Course.{AreTicks, Report, Tells, Turning, Arrival, IsReceived, Node, Course, GoesOn, Stops, packet_from, arrival_outcome, loop_turns, first_inc, new_node, run_of, run_opened, node_run}
+use Rattle.node_runs.specs.Course.{AreTicks, Report, Tells, Turning, Arrival, IsReceived, Node, Course, GoesOn, Stops, packet_from, arrival_outcome}
+use Rattle.node_runs.specs.Course.{loop_turns, first_inc, new_node, run_of, run_opened, node_run}
 use Rattle.node_runs.specs.Recorder.{Notes, no_notes, clocks, kept}
 use Rattle.node_runs.specs.Texts.{entries}
-use Rattle.node_runs.specs.Replayed.{recorded_events, NoneStrange, of_hosts, IsHere, IsAnswer, RepeatsBy, RecordingsRepeat, BeginsWith, SettingsFirst, AreRecorded, EventsFit}
+use Rattle.node_runs.specs.Replayed.{recorded_events, NoneStrange, of_hosts, IsHere, IsAnswer, RepeatsBy, RecordingsRepeat, BeginsWith, SettingsFirst}
+use Rattle.node_runs.specs.Replayed.{AreRecorded, EventsFit}
 use Rattle.node_laws.proofs.OfNode.{node_of}
 use Rattle.node_laws.proofs.Opening.{IsCallGiven, opening_is}
 use Rattle.node_laws.proofs.Courses.{AreSuch, AnyComes, any_comes, IsKeptInCourse, turns_all}
@@ -46,7 +50,8 @@ module _ (s : Settings) (w : World) where
   stepped_steady : (id : HostId) (first : List PlainEntry) (step : Work) (after : After) → stepped w id first step ≡ Done after → IsSteady w after
   stepped_steady id first step after is = subst (IsSteady w) (done_is _ after is) refl
 
-  pub call_steady : (client server : HostId) (service : ℕ) (request : List ℕ) (after : After) → outcome s w (event.Call client server service) request ≡ Done after → IsSteady w after
+  pub call_steady : (client server : HostId) (service : ℕ) (request : List ℕ) (after : After)
+      → outcome s w (event.Call client server service) request ≡ Done after → IsSteady w after
   unfolding outcome
   call_steady client server service request after is = by_server (is_some (host_at w server)) is where
     by_fault : (h : Host) (o : Option StartFault) → started s w client server service request h o ≡ Done after → IsSteady w after
@@ -69,16 +74,22 @@ module _ (s : Settings) (w : World) where
     by_host (Some h) e = stepped_steady id [] (turn_step s h (own_clock w id)) after e
 
   -- an arrival's first line too
-  pub recv_steady : (id : HostId) (a : Arrival) (after : After) → arrival_outcome s w id a ≡ Done after → IsSteady w after × ((es : List PlainEntry) × (after.told ≡ PlainRecv id a.from a.bytes ∷ es))
+  pub recv_steady : (id : HostId) (a : Arrival) (after : After) → arrival_outcome s w id a ≡ Done after
+      → IsSteady w after × ((es : List PlainEntry) × (after.told ≡ PlainRecv id a.from a.bytes ∷ es))
   recv_steady id a after is = by_host (host_at w id) is where
     packet : Option Packet
     packet = packet_from a.from id (packet_in s.wire a.bytes)
 
-    by_host : (o : Option Host) → arrives_at s w id (PlainRecv id a.from a.bytes ∷ []) packet o ≡ Done after → IsSteady w after × ((es : List PlainEntry) × (after.told ≡ PlainRecv id a.from a.bytes ∷ es))
+    by_host : (o : Option Host) → arrives_at s w id (PlainRecv id a.from a.bytes ∷ []) packet o ≡ Done after
+        → IsSteady w after × ((es : List PlainEntry) × (after.told ≡ PlainRecv id a.from a.bytes ∷ es))
     by_host None e = absurd (let z : Refused NoSuchHost ≡ Done after = e in cc)
     by_host (Some h) e =
-        let step = arrival_step s h (own_clock w id) packet (next_answer w.answers) in
-        (stepped_steady id (PlainRecv id a.from a.bytes ∷ []) step after e, subst (λ (x : After). (es : List PlainEntry) × (x.told ≡ PlainRecv id a.from a.bytes ∷ es)) (done_is _ after e) (entries_from (length w.packets) step.told, refl))
+        let step = arrival_step s h (own_clock w id) packet (next_answer w.answers) in (
+          stepped_steady id (PlainRecv id a.from a.bytes ∷ []) step after e,
+          subst
+              (λ (x : After). (es : List PlainEntry) × (x.told ≡ PlainRecv id a.from a.bytes ∷ es)) (done_is _ after e)
+              (entries_from (length w.packets) step.told, refl),
+        )
 
 -- ---- the course of a run
 
@@ -89,7 +100,8 @@ module _ (s : Settings) (valid : IsValid s) (k : ℕ) (v : World) (such : Arriva
 
   -- an event
   went : (w : World) (reports first : List Report) (after : After) → Repeats w reports
-      → (IsRepeated s k v such w reports → NoneStrange (kept_all no_notes reports) (first ++ map Tells after.told) → IsAdded s k v such (kept_all no_notes reports) w after.world (first ++ map Tells after.told))
+      → (IsRepeated s k v such w reports → NoneStrange (kept_all no_notes reports) (first ++ map Tells after.told)
+      → IsAdded s k v such (kept_all no_notes reports) w after.world (first ++ map Tells after.told))
       → Repeats after.world (reports ++ (first ++ map Tells after.told))
   went w reports first after h one usual =
       let parts = usual-append no_notes reports (first ++ map Tells after.told) usual in
@@ -106,18 +118,22 @@ module _ (s : Settings) (valid : IsValid s) (k : ℕ) (v : World) (such : Arriva
   clocks_fit packets zero = tt
   clocks_fit packets (suc n) = (refl, clocks_fit packets n)
 
-  clock_added : (n : Notes) (w : World) (now : ℕ) → ((id : HostId) (h : Host) → host_at w id ≡ Some h → HasOwnName id h) → IsGoodWorld s w → AreNotes s n w.clock w.packets → w.clock ≤ now → now ≤ last_tick → IsAdded s k v such n w (record w { clock = now }) (Tells (PlainClock now) ∷ [])
+  clock_added : (n : Notes) (w : World) (now : ℕ) → ((id : HostId) (h : Host) → host_at w id ≡ Some h → HasOwnName id h) → IsGoodWorld s w
+      → AreNotes s n w.clock w.packets → w.clock ≤ now → now ≤ last_tick → IsAdded s k v such n w (record w { clock = now }) (Tells (PlainClock now) ∷ [])
   clock_added n w now names good notes onward most =
       let behind : now - n.tick ≡ now - w.clock = ap (λ (t : ℕ). now - t) notes.tick in
       let there : w.clock + (now - w.clock) ≡ now = omega (arith, onward) in
       let is : recorded_events n (Tells (PlainClock now) ∷ []) ≡ clocks (now - w.clock) =
-      events_first n (Tells (PlainClock now)) [] ∙ ap (λ (es : List Happening). clocks (now - n.tick) ++ es) (events_none (kept n (Tells (PlainClock now)))) ∙ append-nil (clocks (now - n.tick)) ∙ ap clocks behind in
+      events_first n (Tells (PlainClock now)) [] ∙ ap (λ (es : List Happening). clocks (now - n.tick) ++ es) (events_none (kept n (Tells (PlainClock now))))
+      ∙ append-nil (clocks (now - n.tick)) ∙ ap clocks behind in
       record {
         names = names;
         good = record { hosts = good.hosts; leads = good.leads; packets = good.packets; answers = good.answers; clock = most };
         lines = clock_lines s w.clock (now - w.clock);
-        run = subst (λ (es : List Happening). IsRun s (respared k w) es (respared k (record w { clock = now })) (clock_lines s w.clock (now - w.clock))) (sym is)
-            (subst (λ (c : ℕ). IsRun s (respared k w) (clocks (now - w.clock)) (respared k (record w { clock = c })) (clock_lines s w.clock (now - w.clock))) there
+        run = subst (λ (es : List Happening). IsRun s (respared k w) es (respared k (record w { clock = now })) (clock_lines s w.clock (now - w.clock)))
+            (sym is)
+            (subst (λ (c : ℕ). IsRun s (respared k w) (clocks (now - w.clock)) (respared k (record w { clock = c })) (clock_lines s w.clock (now - w.clock)))
+            there
             (run_clocks s (now - w.clock) (respared k w) (omega (arith, there, most))));
         told = clock_aside w.clock (now - w.clock);
         notes = clock_notes s n w.clock now w.packets onward notes;
@@ -131,24 +147,29 @@ module _ (s : Settings) (valid : IsValid s) (k : ℕ) (v : World) (such : Arriva
   pub repeats_in_course : IsKeptInCourse s such Repeats
   repeats_in_course = record {
     call = λ w reports c after given h done. (
-      went w reports [] after h (λ j usual. call_added s k v such (kept_all no_notes reports) w j.names j.notes valid j.good j.count c.client c.server c.service c.bytes after given.0 given.1 done),
+      went w reports [] after h
+          (λ j usual. call_added s k v such
+          (kept_all no_notes reports) w j.names j.notes valid j.good j.count c.client c.server c.service c.bytes after given.0 given.1 done),
       call_steady s w c.client c.server c.service c.bytes after done,
     );
     recv = λ w reports id a after it_is h done.
         let g = recv_steady s w id a after done in (
           went w reports [] after h (λ j usual.
               recv_added s k v such (kept_all no_notes reports) w j.names j.notes valid j.good j.count id a after it_is
-              (usual_first (kept_all no_notes reports) (Tells (PlainRecv id a.from a.bytes)) (map Tells g.1.0) (subst (λ (es : List PlainEntry). NoneStrange (kept_all no_notes reports) (map Tells es)) g.1.1 usual)) done),
+              (usual_first (kept_all no_notes reports) (Tells (PlainRecv id a.from a.bytes)) (map Tells g.1.0)
+              (subst (λ (es : List PlainEntry). NoneStrange (kept_all no_notes reports) (map Tells es)) g.1.1 usual)) done),
           g.0,
         );
     turn = λ w reports id after h done. (
-      went w reports (Turning id ∷ []) after h (λ j usual. turn_added s k v such (kept_all no_notes reports) w j.names j.notes valid j.good j.count id after done),
+      went w reports (Turning id ∷ []) after h
+          (λ j usual. turn_added s k v such (kept_all no_notes reports) w j.names j.notes valid j.good j.count id after done),
       turn_steady s w id after done,
     );
     clock = λ w reports now h onward most usual.
         let parts = usual-append no_notes reports (Tells (PlainClock now) ∷ []) usual in
         let j = h parts.0 in
-        goes_on s k v such w (record w { clock = now }) reports (Tells (PlainClock now) ∷ []) j (clock_added (kept_all no_notes reports) w now j.names j.good j.notes onward most);
+        goes_on s k v such w (record w { clock = now }) reports (Tells (PlainClock now) ∷ []) j
+        (clock_added (kept_all no_notes reports) w now j.names j.good j.notes onward most);
   }
 
 -- ---- whole runs
@@ -164,9 +185,12 @@ pub record IsHereAll (setup : Setup) : Type 0 where
   pub here : AllByRecursion IsHere setup.places
 
 -- a world just opened, at tick 0
-good_hosts : (s : Settings) (n : ℕ) (incs : List ℕ) → AllByRecursion (λ (inc : ℕ). inc ≡ 1) incs → (i : ℕ) (h : Host) → slice_get (new_hosts s n incs) i ≡ Some h → IsGoodHost h
+good_hosts : (s : Settings) (n : ℕ) (incs : List ℕ) → AllByRecursion (λ (inc : ℕ). inc ≡ 1) incs → (i : ℕ) (h : Host)
+    → slice_get (new_hosts s n incs) i ≡ Some h → IsGoodHost h
 good_hosts s n [] ones i h at = absurd (let z : None ≡ Some h = at in cc)
-good_hosts s n (inc ∷ incs) ones zero h at = subst IsGoodHost (some_is (new_host s (record { 0 = n }) inc 0) h at) (new_good s (record { 0 = n }) inc 0 (omega (arith, ones.0)) (omega (arith, ones.0)))
+good_hosts s n (inc ∷ incs) ones zero h at =
+    subst IsGoodHost (some_is (new_host s (record { 0 = n }) inc 0) h at)
+    (new_good s (record { 0 = n }) inc 0 (omega (arith, ones.0)) (omega (arith, ones.0)))
 good_hosts s n (inc ∷ incs) ones (suc i) h at = good_hosts s (suc n) incs ones.1 i h at
 
 pub hosts_length : (s : Settings) (n : ℕ) (incs : List ℕ) → length (new_hosts s n incs) ≡ length incs
@@ -222,7 +246,8 @@ module _ (s : Settings) (incs : List ℕ) (boxes : ℕ) (answers : List Answer) 
     names = names_first;
     good = good_first ones fair;
     lines = [];
-    run = subst (λ (es : List Happening). IsRun s (new_world s incs 0 boxes answers) es (respared (boxes - length incs) (new_world s incs 0 0 answers)) []) (sym none_told) run_first;
+    run = subst (λ (es : List Happening). IsRun s (new_world s incs 0 boxes answers) es (respared (boxes - length incs) (new_world s incs 0 0 answers)) [])
+        (sym none_told) run_first;
     told = refl;
     notes = notes_first;
     begins = record { later = []; first = refl; only = tt };
@@ -251,20 +276,24 @@ module _ (such : Arrival → Type 0) (setup : Setup) (calls : Calls) (answers : 
   abbrev pub last_node : Node
   last_node = node_of (loop_turns setup 1 ticks (new_node setup calls answers receives))
 
-  run_stands : IsHereAll setup → AllByRecursion IsCallGiven calls.calls → AllByRecursion IsAnswer answers → AreTicks 0 ticks → AreSuch such receives → NoneStrange no_notes last_node.reports
+  run_stands : IsHereAll setup → AllByRecursion IsCallGiven calls.calls → AllByRecursion IsAnswer answers → AreTicks 0 ticks → AreSuch such receives
+      → NoneStrange no_notes last_node.reports
       → IsRepeated s (boxes - length incs) (new_world s incs 0 boxes answers) such last_node.world last_node.reports
   run_stands here given fair rises fits usual =
       let few : length incs ≤ 32 = omega (arith, length-map setup.places first_inc, here.each, here.valid.in_range.1) in
       let first = first_repeats s incs boxes answers such (all_one setup.places here.here) few fair in
       let world : World = new_world s incs 0 boxes answers in
-      turns_all s such (Repeats s here.valid (boxes - length incs) world such) (repeats_in_course s here.valid (boxes - length incs) world such) setup refl 1 0 ticks (new_node setup calls answers receives) rises
+      turns_all s such (Repeats s here.valid (boxes - length incs) world such)
+      (repeats_in_course s here.valid (boxes - length incs) world such) setup refl 1 0 ticks (new_node setup calls answers receives) rises
       (clock_first s incs boxes answers, (λ u. first), given, fits) usual
 
 -- the replay of what a recorder tells of a run
-pub run_repeats : (setup : Setup) (calls : Calls) (answers : List Answer) (ticks : List ℕ) (receives : List (Option Arrival)) (boxes : ℕ) → IsHereAll setup → AllByRecursion IsCallGiven calls.calls → AllByRecursion IsAnswer answers → AreTicks 0 ticks
+pub run_repeats : (setup : Setup) (calls : Calls) (answers : List Answer) (ticks : List ℕ) (receives : List (Option Arrival)) (boxes : ℕ) → IsHereAll setup
+    → AllByRecursion IsCallGiven calls.calls → AllByRecursion IsAnswer answers → AreTicks 0 ticks
     → let s = setup.settings in
     let node = node_of (loop_turns setup 1 ticks (new_node setup calls answers receives)) in
-    NoneStrange no_notes node.reports → RepeatsBy (carried s (new_world s (replicate s.hosts 1) 0 boxes answers) (recorded_events no_notes node.reports)) s (entries node.reports)
+    NoneStrange no_notes node.reports → RepeatsBy (carried s (new_world s (replicate s.hosts 1) 0 boxes answers) (recorded_events no_notes node.reports)) s
+    (entries node.reports)
 run_repeats setup calls answers ticks receives boxes here given fair rises usual =
     let s = setup.settings in
     let node = node_of (loop_turns setup 1 ticks (new_node setup calls answers receives)) in
@@ -278,19 +307,23 @@ pub reports_of : (s : Settings) (course : Course) → (run_of s course).reports 
 reports_of s (GoesOn node) = refl
 reports_of s (Stops node end) = refl
 
-pub run_is : (bytes : List ℕ) (setup : Setup) (calls : Calls) (answers : List Answer) (ticks : List ℕ) (receives : List (Option Arrival)) → opening most_bytes bytes ≡ Opened setup calls
+pub run_is : (bytes : List ℕ) (setup : Setup) (calls : Calls) (answers : List Answer) (ticks : List ℕ) (receives : List (Option Arrival))
+    → opening most_bytes bytes ≡ Opened setup calls
     → (node_run bytes answers ticks receives).reports ≡ (node_of (loop_turns setup 1 ticks (new_node setup calls answers receives))).reports
 unfolding node_run
 run_is bytes setup calls answers ticks receives e =
-    ap (λ (o : Opening). (run_opened o answers ticks receives).reports) e ∙ reports_of setup.settings (loop_turns setup 1 ticks (new_node setup calls answers receives))
+    ap (λ (o : Opening). (run_opened o answers ticks receives).reports) e
+    ∙ reports_of setup.settings (loop_turns setup 1 ticks (new_node setup calls answers receives))
 
 pub recordings_repeat : RecordingsRepeat
 recordings_repeat bytes setup calls answers ticks receives boxes e here fair rises usual =
     let s = setup.settings in
     let is = run_is bytes setup calls answers ticks receives e in
     let opened = opening_is most_bytes bytes setup calls e in
-    subst (λ (rs : List Report). RepeatsBy (carried s (new_world s (replicate s.hosts 1) 0 boxes answers) (recorded_events no_notes rs)) s (entries rs)) (sym is)
-    (run_repeats setup calls answers ticks receives boxes (record { valid = opened.is.valid; each = opened.is.each; here = here }) opened.given fair rises (subst (NoneStrange no_notes) is usual))
+    subst (λ (rs : List Report). RepeatsBy (carried s (new_world s (replicate s.hosts 1) 0 boxes answers) (recorded_events no_notes rs)) s (entries rs))
+    (sym is)
+    (run_repeats setup calls answers ticks receives boxes (record { valid = opened.is.valid; each = opened.is.each; here = here }) opened.given fair rises
+    (subst (NoneStrange no_notes) is usual))
 
 pub settings_first : SettingsFirst
 settings_first bytes setup calls answers ticks receives e here fair rises usual =
@@ -308,4 +341,5 @@ events_fit bytes setup calls answers ticks receives e here fair rises fits usual
     let node = last_node IsReceived setup calls answers ticks receives 0 in
     let j = run_stands IsReceived setup calls answers ticks receives 0 all opened.given fair rises fits (subst (NoneStrange no_notes) is usual) in
     subst (λ (rs : List Report). AreRecorded (64 * length (recorded_events no_notes rs)) (recorded_events no_notes rs)) (sym is)
-    (all_later (length node.world.packets) (64 * length (recorded_events no_notes node.reports)) (recorded_events no_notes node.reports) j.few (j.fit (λ a k. k)))
+    (all_later (length node.world.packets) (64 * length (recorded_events no_notes node.reports)) (recorded_events no_notes node.reports) j.few
+    (j.fit (λ a k. k)))

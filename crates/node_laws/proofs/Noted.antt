@@ -1,5 +1,6 @@
 -- What a recorder keeps of a step's reports, and what it finds in it.
-use Rattle.std.proofs.Common.{◌≡◌, ◌⊎◌, inl, inr, ℕ, suc, zero, ◌+◌, ◌≤◌, Bool, true, false, Option, None, Some, List, [], ◌∷◌, ◌++◌, length, map, filter, max, refl, sym, ap, ◌∙◌, subst, append_assoc, arith}
+use Rattle.std.proofs.Common.{◌≡◌, ◌⊎◌, inl, inr, ℕ, suc, zero, ◌+◌, ◌≤◌, Bool, true, false, Option, None, Some, List, [], ◌∷◌, ◌++◌, length, map, filter}
+use Rattle.std.proofs.Common.{max, refl, sym, ap, ◌∙◌, subst, append_assoc, arith}
 use Rattle.std.specs.Prelude.{is_some, if◌then◌else◌, slice_get, ◌==◌, ◌&&◌, nat_le}
 use Rattle.std.specs.Str.{bytes_eq}
 use Rattle.std.specs.List.{AllByRecursion}
@@ -20,7 +21,8 @@ use Rattle.homa_plain.proofs.CallOrder.{hosts_are}
 use Rattle.step_laws.proofs.Places.{all-append}
 use Rattle.trace_lines.proofs.Lines.{IsSaid, AllInner}
 use Rattle.node_runs.specs.Course.{Report, Tells}
-use Rattle.node_runs.specs.Recorder.{Kept, Notes, Kind, Sent, Junk, Strange, is_same, greatest, kind_by, kind_of, kind_in, strange, events, in_life, still, sent_packet, keeps, told, kept}
+use Rattle.node_runs.specs.Recorder.{Kept, Notes, Kind, Sent, Junk, Strange, is_same, greatest, kind_by, kind_of, kind_in, strange, events, in_life, still}
+use Rattle.node_runs.specs.Recorder.{sent_packet, keeps, told, kept}
 use Rattle.node_runs.specs.Observed.{observed}
 use Rattle.node_runs.specs.Replayed.{recorded_events, NoneStrange}
 use Rattle.node_runs.proofs.Observing.{notes_behind, usual-first, usual-append as usual-parts}
@@ -78,7 +80,8 @@ says_keeps n e said = refl
 pub inner_no_event : (n : Notes) (k : ℕ) (told : List Told) → AllInner told → recorded_events n (map Tells (entries_from k told)) ≡ []
 inner_no_event n k [] inner = events_none n
 inner_no_event n k (Says e ∷ told) inner =
-    events_first n (Tells e) (map Tells (entries_from k told)) ∙ ap (λ (es : List Happening). es ++ recorded_events (kept n (Tells e)) (map Tells (entries_from k told))) (says_no_event n e inner.0)
+    events_first n (Tells e) (map Tells (entries_from k told))
+    ∙ ap (λ (es : List Happening). es ++ recorded_events (kept n (Tells e)) (map Tells (entries_from k told))) (says_no_event n e inner.0)
     ∙ inner_no_event (kept n (Tells e)) k told inner.1
 inner_no_event n k (Sends p ∷ told) inner =
     events_first n (Tells (send_line k p)) (map Tells (entries_from (suc k) told)) ∙ inner_no_event (kept n (Tells (send_line k p))) (suc k) told inner
@@ -111,22 +114,35 @@ module _ (s : Settings) where
     pub settings : n.settings ≡ Some s
     pub kept : AllByRecursion (IsKept clock packets) n.datagrams
 
-  still_kept : (clock : ℕ) (packets more : List SentPacket) (ds : List Kept) → AllByRecursion (IsKept clock packets) ds → AllByRecursion (IsKept clock (packets ++ more)) ds
+  still_kept : (clock : ℕ) (packets more : List SentPacket) (ds : List Kept) → AllByRecursion (IsKept clock packets) ds
+      → AllByRecursion (IsKept clock (packets ++ more)) ds
   still_kept clock packets more [] all = tt
   still_kept clock packets more (d ∷ ds) all =
       let k = all.0 in (
-        record { sent = k.sent; stands = get-append packets more d.number k.sent k.stands; from = k.from; to = k.to; tick = k.tick; bytes = k.bytes; life = k.life },
+        record {
+          sent = k.sent;
+          stands = get-append packets more d.number k.sent k.stands;
+          from = k.from;
+          to = k.to;
+          tick = k.tick;
+          bytes = k.bytes;
+          life =
+              k.life;
+        },
         still_kept clock packets more ds all.1,
       )
 
   -- the packet of a `send` line is the one that was sent
-  pub same_packet : (clock : ℕ) (p : Packet) (tick : ℕ) → tick ≡ clock → p.at ≡ (if s.wire == 1 then 0 else clock + s.skew) → sent_packet s tick p.inc p.role p.id p.level p.body ≡ wire_packet p
+  pub same_packet : (clock : ℕ) (p : Packet) (tick : ℕ) → tick ≡ clock → p.at ≡ (if s.wire == 1 then 0 else clock + s.skew)
+      → sent_packet s tick p.inc p.role p.id p.level p.body ≡ wire_packet p
   same_packet clock p tick same dated =
       let at : (if s.wire == 1 then 0 else tick + s.skew) ≡ p.at = ap (λ (t : ℕ). if s.wire == 1 then 0 else t + s.skew) same ∙ sym dated in
-      let packet : ℕ → WirePacket = λ (t : ℕ). record { role = p.role; level = p.level; sender = p.inc; inc = p.id.inc; seq = p.id.seq; at = t; body = p.body } in
+      let packet : ℕ → WirePacket =
+      λ (t : ℕ). record { role = p.role; level = p.level; sender = p.inc; inc = p.id.inc; seq = p.id.seq; at = t; body = p.body } in
       ap packet at
 
-  sent_kept : (n : Notes) (clock : ℕ) (packets : List SentPacket) (k : ℕ) (p : Packet) → k ≡ length packets → IsOfNode s (record { tick = clock; packet = p }) → AreNotes n clock packets
+  sent_kept : (n : Notes) (clock : ℕ) (packets : List SentPacket) (k : ℕ) (p : Packet) → k ≡ length packets
+      → IsOfNode s (record { tick = clock; packet = p }) → AreNotes n clock packets
       → AreNotes (kept n (Tells (send_line k p))) clock (packets ++ record { tick = clock; packet = p } ∷ [])
   unfolding kept
   sent_kept n clock packets k p number of_node a =
@@ -157,33 +173,40 @@ module _ (s : Settings) where
         }
 
   -- the lines within a step, whose packets have the numbers from k on
-  pub inner_notes : (n : Notes) (clock : ℕ) (packets : List SentPacket) (k : ℕ) (told : List Told) → k ≡ length packets → AllInner told → AllByRecursion (IsOfNode s) (stamped clock (packets_in told)) → AreNotes n clock packets
+  pub inner_notes : (n : Notes) (clock : ℕ) (packets : List SentPacket) (k : ℕ) (told : List Told) → k ≡ length packets → AllInner told
+      → AllByRecursion (IsOfNode s) (stamped clock (packets_in told)) → AreNotes n clock packets
       → AreNotes (kept_all n (map Tells (entries_from k told))) clock (packets ++ stamped clock (packets_in told))
   inner_notes n clock packets k [] number inner sent a = subst (AreNotes n clock) (sym (append-nil packets)) a
   inner_notes n clock packets k (Says e ∷ told) number inner sent a =
-      subst (λ (m : Notes). AreNotes (kept_all m (map Tells (entries_from k told))) clock (packets ++ stamped clock (packets_in told))) (sym (says_keeps n e inner.0))
+      subst (λ (m : Notes). AreNotes (kept_all m (map Tells (entries_from k told))) clock (packets ++ stamped clock (packets_in told)))
+      (sym (says_keeps n e inner.0))
       (inner_notes n clock packets k told number inner.1 sent a)
   inner_notes n clock packets k (Sends p ∷ told) number inner sent a =
       let new : SentPacket = record { tick = clock; packet = p } in
-      subst (AreNotes (kept_all (kept n (Tells (send_line k p))) (map Tells (entries_from (suc k) told))) clock) (append_assoc packets (new ∷ []) (stamped clock (packets_in told)))
-      (inner_notes (kept n (Tells (send_line k p))) clock (packets ++ new ∷ []) (suc k) told (ap suc number ∙ sym (longer packets new)) inner sent.1 (sent_kept n clock packets k p number sent.0 a)) where
+      subst (AreNotes (kept_all (kept n (Tells (send_line k p))) (map Tells (entries_from (suc k) told))) clock)
+      (append_assoc packets (new ∷ []) (stamped clock (packets_in told)))
+      (inner_notes (kept n (Tells (send_line k p))) clock (packets ++ new ∷ []) (suc k) told (ap suc number ∙ sym (longer packets new)) inner sent.1
+      (sent_kept n clock packets k p number sent.0 a)) where
         longer : (ps : List SentPacket) (x : SentPacket) → length (ps ++ x ∷ []) ≡ suc (length ps)
         longer [] x = refl
         longer (p ∷ ps) x = ap suc (longer ps x)
 
   -- ---- the clock
 
-  in_time : (packets : List SentPacket) (old now : ℕ) (ds : List Kept) → AllByRecursion (IsKept old packets) ds → AllByRecursion (IsKept now packets) (filter (in_life s now) ds)
+  in_time : (packets : List SentPacket) (old now : ℕ) (ds : List Kept) → AllByRecursion (IsKept old packets) ds
+      → AllByRecursion (IsKept now packets) (filter (in_life s now) ds)
   in_time packets old now [] all = tt
   in_time packets old now (d ∷ ds) all = by_test (in_life s now d) refl (in_time packets old now ds all.1) where
-    by_test : (b : Bool) → in_life s now d ≡ b → AllByRecursion (IsKept now packets) (filter (in_life s now) ds) → AllByRecursion (IsKept now packets) (if b then d ∷ filter (in_life s now) ds else filter (in_life s now) ds)
+    by_test : (b : Bool) → in_life s now d ≡ b → AllByRecursion (IsKept now packets) (filter (in_life s now) ds)
+        → AllByRecursion (IsKept now packets) (if b then d ∷ filter (in_life s now) ds else filter (in_life s now) ds)
     by_test true e rest =
         let k = all.0 in
         let timely : now ≤ d.tick + s.life = leb-true now (d.tick + s.life) e in
         (record { sent = k.sent; stands = k.stands; from = k.from; to = k.to; tick = k.tick; bytes = k.bytes; life = omega (arith, timely, k.tick) }, rest)
     by_test false e rest = rest
 
-  pub clock_notes : (n : Notes) (old now : ℕ) (packets : List SentPacket) → old ≤ now → AreNotes n old packets → AreNotes (kept n (Tells (PlainClock now))) now packets
+  pub clock_notes : (n : Notes) (old now : ℕ) (packets : List SentPacket) → old ≤ now → AreNotes n old packets
+      → AreNotes (kept n (Tells (PlainClock now))) now packets
   unfolding kept
   clock_notes n old now packets onward a =
       let later : max n.tick now ≡ now = omega (arith, a.tick, onward) in
@@ -191,7 +214,8 @@ module _ (s : Settings) where
       (record {
         tick = refl;
         settings = a.settings;
-        kept = subst (λ (o : Option Settings). AllByRecursion (IsKept now packets) (still o now n.datagrams)) (sym a.settings) (in_time packets old now n.datagrams a.kept);
+        kept = subst (λ (o : Option Settings). AllByRecursion (IsKept now packets) (still o now n.datagrams)) (sym a.settings)
+            (in_time packets old now n.datagrams a.kept);
       })
 
   -- ---- a datagram that comes
@@ -232,11 +256,13 @@ module _ (s : Settings) where
     abbrev numbers : List Kept → List ℕ
     numbers ds = map (λ (d : Kept). d.number) ds
 
-    found_first : (d : Kept) (rest : List Kept) (number : ℕ) → IsKept clock packets d → (b : Bool) → is_same host from bytes d ≡ b → greatest (numbers (if b then d ∷ rest else rest)) ≡ Some number
+    found_first : (d : Kept) (rest : List Kept) (number : ℕ) → IsKept clock packets d → (b : Bool) → is_same host from bytes d ≡ b
+        → greatest (numbers (if b then d ∷ rest else rest)) ≡ Some number
         → ((m : ℕ) → greatest (numbers rest) ≡ Some m → IsFound clock packets host from bytes m) → IsFound clock packets host from bytes number
     found_first d rest number k false same e next = next number e
     found_first d rest number k true same e next = by_rest (greatest (numbers rest)) refl e where
-      by_rest : (o : Option ℕ) → greatest (numbers rest) ≡ o → (elim o [ None ↦ Some d.number | Some m ↦ Some (max d.number m) ]) ≡ Some number → IsFound clock packets host from bytes number
+      by_rest : (o : Option ℕ) → greatest (numbers rest) ≡ o → (elim o [ None ↦ Some d.number | Some m ↦ Some (max d.number m) ]) ≡ Some number
+          → IsFound clock packets host from bytes number
       by_rest None g h = subst (IsFound clock packets host from bytes) (let z : d.number ≡ number = cc in z) (found_here d k same)
       by_rest (Some m) g h = by_max (max_cases d.number m) where
         is : max d.number m ≡ number
@@ -246,33 +272,42 @@ module _ (s : Settings) where
         by_max (inl a) = subst (IsFound clock packets host from bytes) (sym a ∙ is) (found_here d k same)
         by_max (inr b) = next number (g ∙ ap Some (sym b ∙ is))
 
-    found : (ds : List Kept) (number : ℕ) → AllByRecursion (IsKept clock packets) ds → greatest (map (λ (d : Kept). d.number) (filter (is_same host from bytes) ds)) ≡ Some number → IsFound clock packets host from bytes number
+    found : (ds : List Kept) (number : ℕ) → AllByRecursion (IsKept clock packets) ds
+        → greatest (map (λ (d : Kept). d.number) (filter (is_same host from bytes) ds)) ≡ Some number → IsFound clock packets host from bytes number
     found [] number all e = absurd (let z : None ≡ Some number = e in cc)
-    found (d ∷ ds) number all e = found_first d (filter (is_same host from bytes) ds) number all.0 (is_same host from bytes d) refl e (λ m h. found ds m all.1 h)
+    found (d ∷ ds) number all e =
+        found_first d (filter (is_same host from bytes) ds) number all.0 (is_same host from bytes d) refl e (λ m h. found ds m all.1 h)
 
     -- what a datagram is by the notes
-    pub found_sent : (n : Notes) (number : ℕ) → AreNotes n clock packets → kind_in n host from bytes ≡ Some (Sent number) → IsFound clock packets host from bytes number
+    pub found_sent : (n : Notes) (number : ℕ) → AreNotes n clock packets → kind_in n host from bytes ≡ Some (Sent number)
+        → IsFound clock packets host from bytes number
     unfolding kind_of
-    found_sent n number a e = by_kind (greatest (numbers (filter (is_same host from bytes) n.datagrams))) refl (sym (ap (λ (o : Option Settings). elim o [ None ↦ None | Some u ↦ Some (kind_of u n.datagrams host from bytes) ]) a.settings) ∙ e) where
-      by_kind : (o : Option ℕ) → greatest (numbers (filter (is_same host from bytes) n.datagrams)) ≡ o → Some (kind_by o (is_some (packet_in s.wire bytes))) ≡ Some (Sent number) → IsFound clock packets host from bytes number
-      by_kind (Some m) g h = found n.datagrams number a.kept (g ∙ ap Some (sent_is m number (is_some (packet_in s.wire bytes)) h)) where
-        sent_is : (m number : ℕ) (b : Bool) → Some (kind_by (Some m) b) ≡ Some (Sent number) → m ≡ number
-        sent_is m number true h = cc
-        sent_is m number false h = cc
-      by_kind None g h = absurd (none_sent (is_some (packet_in s.wire bytes)) h) where
-        none_sent : (b : Bool) → Some (kind_by None b) ≡ Some (Sent number) → ⊥
-        none_sent true h = cc
-        none_sent false h = cc
+    found_sent n number a e =
+        by_kind (greatest (numbers (filter (is_same host from bytes) n.datagrams))) refl
+        (sym (ap (λ (o : Option Settings). elim o [ None ↦ None | Some u ↦ Some (kind_of u n.datagrams host from bytes) ]) a.settings) ∙ e) where
+          by_kind : (o : Option ℕ) → greatest (numbers (filter (is_same host from bytes) n.datagrams)) ≡ o
+              → Some (kind_by o (is_some (packet_in s.wire bytes))) ≡ Some (Sent number) → IsFound clock packets host from bytes number
+          by_kind (Some m) g h = found n.datagrams number a.kept (g ∙ ap Some (sent_is m number (is_some (packet_in s.wire bytes)) h)) where
+            sent_is : (m number : ℕ) (b : Bool) → Some (kind_by (Some m) b) ≡ Some (Sent number) → m ≡ number
+            sent_is m number true h = cc
+            sent_is m number false h = cc
+          by_kind None g h = absurd (none_sent (is_some (packet_in s.wire bytes)) h) where
+            none_sent : (b : Bool) → Some (kind_by None b) ≡ Some (Sent number) → ⊥
+            none_sent true h = cc
+            none_sent false h = cc
 
     -- bytes that are no packet
     pub found_junk : (n : Notes) → AreNotes n clock packets → kind_in n host from bytes ≡ Some Junk → packet_in s.wire bytes ≡ None
     unfolding kind_of
-    found_junk n a e = by_kind (greatest (numbers (filter (is_same host from bytes) n.datagrams))) (packet_in s.wire bytes) refl (sym (ap (λ (o : Option Settings). elim o [ None ↦ None | Some u ↦ Some (kind_of u n.datagrams host from bytes) ]) a.settings) ∙ e) where
-      by_kind : (o : Option ℕ) (r : Option (WirePacket × List ℕ)) → packet_in s.wire bytes ≡ r → Some (kind_by o (is_some r)) ≡ Some Junk → packet_in s.wire bytes ≡ None
-      by_kind (Some m) r is h = absurd (let z : Some (Sent m) ≡ Some Junk = h in cc)
-      by_kind None None is h = is
-      by_kind None (Some r) is h = absurd (let z : Some Strange ≡ Some Junk = h in cc)
+    found_junk n a e = by_kind (greatest (numbers (filter (is_same host from bytes) n.datagrams))) (packet_in s.wire bytes) refl
+        (sym (ap (λ (o : Option Settings). elim o [ None ↦ None | Some u ↦ Some (kind_of u n.datagrams host from bytes) ]) a.settings) ∙ e) where
+          by_kind : (o : Option ℕ) (r : Option (WirePacket × List ℕ)) → packet_in s.wire bytes ≡ r → Some (kind_by o (is_some r)) ≡ Some Junk
+              → packet_in s.wire bytes ≡ None
+          by_kind (Some m) r is h = absurd (let z : Some (Sent m) ≡ Some Junk = h in cc)
+          by_kind None None is h = is
+          by_kind None (Some r) is h = absurd (let z : Some Strange ≡ Some Junk = h in cc)
 
     -- once the settings were told, a datagram is something
-    pub found_some : (n : Notes) → AreNotes n clock packets → (kind : Kind) → kind_of s n.datagrams host from bytes ≡ kind → kind_in n host from bytes ≡ Some kind
+    pub found_some : (n : Notes) → AreNotes n clock packets → (kind : Kind) → kind_of s n.datagrams host from bytes ≡ kind
+        → kind_in n host from bytes ≡ Some kind
     found_some n a kind e = ap (λ (o : Option Settings). elim o [ None ↦ None | Some u ↦ Some (kind_of u n.datagrams host from bytes) ]) a.settings ∙ ap Some e

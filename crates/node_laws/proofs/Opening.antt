@@ -1,5 +1,6 @@
 -- What is so of a script that is opened: of its setup, of its calls, and of the line behind `go` that is refused, if there is one.
-use Rattle.std.proofs.Common.{◌≡◌, ℕ, suc, ◌+◌, Bool, true, false, Option, None, Some, Result, Ok, Err, List, [], ◌∷◌, ◌++◌, length, refl, sym, ap, ◌∙◌, subst, ◌-◌, ◌<◌, ◌≤◌, arith}
+use Rattle.std.proofs.Common.{◌≡◌, ℕ, suc, ◌+◌, Bool, true, false, Option, None, Some, Result, Ok, Err, List, [], ◌∷◌, ◌++◌, length, refl, sym, ap, ◌∙◌}
+use Rattle.std.proofs.Common.{subst, ◌-◌, ◌<◌, ◌≤◌, arith}
 use Rattle.std.proofs.lemmas.Bool.{ltb-false}
 use Rattle.std.specs.Prelude.{if◌then◌else◌, ◌==◌, nat_lt, ◌&&◌, codes, is_some}
 use Rattle.std.specs.Str.{bytes_eq}
@@ -18,7 +19,9 @@ use Rattle.homa_plain.specs.Input.{onto_first_line, lines_of}
 use Rattle.homa_plain.specs.Script.{◌>>=◌, with_setting, first_word, number_at_most, host_operand, bytes_operand}
 use Rattle.homa_plain.proofs.SettingsLemmas.{ok_is_valid}
 use Rattle.step_laws.proofs.Places.{all-append}
-use Rattle.node_runs.specs.Script.{Place, Naming, Heading, Blank, SettingIs, Names, EndIs, TurnsAre, Go, Head, Setup, places_in, setup_by, setup_of, Calls, Opening, Opened, Refusal, unopened, opened_by, words_in, heading_of, opening_from, opening, TimedCall, number_between, call_word, timed_given, between_hosts, timed_of, is_local, place_of, with_call, calls_from}
+use Rattle.node_runs.specs.Script.{Place, Naming, Heading, Blank, SettingIs, Names, EndIs, TurnsAre, Go, Head, Setup, places_in, setup_by, setup_of, Calls}
+use Rattle.node_runs.specs.Script.{Opening, Opened, Refusal, unopened, opened_by, words_in, heading_of, opening_from, opening, TimedCall, number_between}
+use Rattle.node_runs.specs.Script.{call_word, timed_given, between_hosts, timed_of, is_local, place_of, with_call, calls_from}
 use Rattle.node_laws.proofs.Operands.{bound, alone_is, operand_small, operand_bytes}
 use Rattle.node_laws.proofs.Places.{IsPlace, AreNamed, IsHeading, heading_is, at_places, in_places}
 

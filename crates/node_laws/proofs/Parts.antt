@@ -52,7 +52,8 @@ part_opened bytes unsched = record { sound = sound-opened (length bytes) unsched
 pub arriving_opened : (peer : HostId) (n order unsched : ℕ) → n ≤ 1000000 → IsArriving (incoming.opened peer n order unsched)
 arriving_opened peer n order unsched small = record { sound = arrivals.sound-opened peer n order unsched; size = small }
 
-pub arriving_taken : (p : Incoming) (a : ℕ) (xs : List ℕ) → IsArriving p → a + length xs ≤ p.length → leaves_too_many_gaps p a xs ≡ false → IsArriving (with_bytes p a xs)
+pub arriving_taken : (p : Incoming) (a : ℕ) (xs : List ℕ) → IsArriving p → a + length xs ≤ p.length → leaves_too_many_gaps p a xs ≡ false
+    → IsArriving (with_bytes p a xs)
 arriving_taken p a xs k within few = record { sound = sound-with_bytes p a xs k.sound within few; size = k.size }
 
 pub arriving_granted : (p : Incoming) (offset : ℕ) → IsArriving p → offset ≤ p.length → IsArriving (granted_to p offset)

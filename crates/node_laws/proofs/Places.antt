@@ -1,5 +1,6 @@
 -- Where a script puts its hosts: each has a place, and a local one is in an incarnation of 1 to 4,294,967,295.
-use Rattle.std.proofs.Common.{◌≡◌, ◌≤◌, ◌^◌, ◌-◌, ℕ, suc, zero, Bool, true, false, Option, None, Some, Result, Ok, Err, List, [], ◌∷◌, length, map, filter, refl, sym, ap, ◌∙◌, subst, arith}
+use Rattle.std.proofs.Common.{◌≡◌, ◌≤◌, ◌^◌, ◌-◌, ℕ, suc, zero, Bool, true, false, Option, None, Some, Result, Ok, Err, List, [], ◌∷◌, length, map, filter}
+use Rattle.std.proofs.Common.{refl, sym, ap, ◌∙◌, subst, arith}
 use Rattle.std.specs.Prelude.{◌==◌, if◌then◌else◌, codes}
 use Rattle.std.specs.Str.{bytes_eq}
 use Rattle.std.specs.List.{AllByRecursion}
@@ -7,7 +8,8 @@ use Rattle.homa_plain.specs.declared.settings.Name.{Name}
 use Rattle.homa_plain.specs.declared.fault.ScriptFault.{ScriptFault}
 use Rattle.homa_plain.specs.declared.fault.ScriptFault.TheVariants.{NoGo, UnknownWord}
 use Rattle.homa_plain.specs.Script.{number_at_most, host_operand, alone, names, name_in}
-use Rattle.node_runs.specs.Script.{Place, Local, Remote, Naming, Heading, Blank, Names, EndIs, TurnsAre, Go, given_to, single, onto, places_from, places_in, heading_of, number_between, port_operand, setting_given, local_given, remote_given, limit_given, word_given}
+use Rattle.node_runs.specs.Script.{Place, Local, Remote, Naming, Heading, Blank, Names, EndIs, TurnsAre, Go, given_to, single, onto, places_from, places_in}
+use Rattle.node_runs.specs.Script.{heading_of, number_between, port_operand, setting_given, local_given, remote_given, limit_given, word_given}
 use Rattle.node_laws.proofs.Operands.{bound, alone_is, between_is}
 
 -- a place of a host that may begin so

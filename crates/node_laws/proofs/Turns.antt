@@ -10,7 +10,9 @@ use Rattle.homa_plain.specs.World.{Outcome, Refused, Done, outcome}
 use Rattle.homa_plain.specs.Script.{most_bytes}
 use Rattle.homa_plain.specs.Rules.{Answer}
 use Rattle.node_runs.specs.Script.{Setup, TimedCall, Refusal, Calls, Opening, Opened, opening}
-use Rattle.node_runs.specs.Course.{Arrival, End, Ended, RefusedAt, StalledAt, Node, Course, GoesOn, Stops, ◌>>=◌, goes, follows, starts, arrival_outcome, most_received, hears, has_turn, hosts_act, locals, clock_stands, ends, loop_turn, loop_turns, new_node, run_of, run_opened, node_run}
+use Rattle.node_runs.specs.Course.{Arrival, End, Ended, RefusedAt, StalledAt, Node, Course, GoesOn, Stops, ◌>>=◌, goes, follows, starts, arrival_outcome}
+use Rattle.node_runs.specs.Course.{most_received, hears, has_turn, hosts_act, locals, clock_stands, ends, loop_turn, loop_turns, new_node, run_of, run_opened}
+use Rattle.node_runs.specs.Course.{node_run}
 use Rattle.node_runs.specs.Replayed.{TurnsFit}
 use Rattle.node_laws.proofs.Opening.{opening_is}
 

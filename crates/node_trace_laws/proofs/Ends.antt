@@ -17,7 +17,8 @@ use Rattle.homa_plain.specs.World.{World, Outcome, Refused, Done, outcome, host_
 use Rattle.trace_laws.specs.Shaped.{HasCause}
 use Rattle.homa_plain.specs.Script.{most_bytes}
 use Rattle.node_runs.specs.Script.{Setup, TimedCall, Refusal, Calls}
-use Rattle.node_runs.specs.Course.{AreTicks, Report, Turning, Arrival, End, Ended, RefusedAt, StalledAt, Node, Course, GoesOn, Stops, ◌>>=◌, goes, follows, starts, arrival_outcome, most_received, hears, has_turn, hosts_act, locals, clock_stands, ends, loop_turn, loop_turns}
+use Rattle.node_runs.specs.Course.{AreTicks, Report, Turning, Arrival, End, Ended, RefusedAt, StalledAt, Node, Course, GoesOn, Stops, ◌>>=◌, goes, follows}
+use Rattle.node_runs.specs.Course.{starts, arrival_outcome, most_received, hears, has_turn, hosts_act, locals, clock_stands, ends, loop_turn, loop_turns}
 use Rattle.node_runs.specs.Texts.{end_entry}
 use Rattle.node_laws.proofs.Opening.{IsNodeCause, MayRefuse, AreNumbered}
 

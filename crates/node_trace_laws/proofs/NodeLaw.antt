@@ -1,5 +1,6 @@
 -- Each line of a node's trace has the shape and obeys all five laws, where its net is honest.
-use Rattle.std.proofs.Common.{◌≡◌, ◌⊎◌, inl, inr, ℕ, suc, zero, ◌+◌, ◌-◌, ◌≤◌, ◌<◌, true, false, ◌||◌, Option, None, Some, List, [], ◌∷◌, ◌++◌, length, map, take, refl, sym, ap, ◌∙◌, subst, arith}
+use Rattle.std.proofs.Common.{◌≡◌, ◌⊎◌, inl, inr, ℕ, suc, zero, ◌+◌, ◌-◌, ◌≤◌, ◌<◌, true, false, ◌||◌, Option, None, Some, List, [], ◌∷◌, ◌++◌, length, map}
+use Rattle.std.proofs.Common.{take, refl, sym, ap, ◌∙◌, subst, arith}
 use Rattle.std.specs.Prelude.{slice_get}
 use Rattle.std.specs.List.{AllByRecursion}
 use Rattle.std.specs.Option.{IfSome}
@@ -33,7 +34,8 @@ use Rattle.trace_induction.proofs.Events.{after_step}
 use Rattle.trace_induction.proofs.Hosts.{within, some_is}
 use Rattle.trace_laws.specs.Shaped.{HasCause}
 use Rattle.node_runs.specs.Script.{Place, Local, Remote, Setup, TimedCall, Calls, Opening, Opened, opening}
-use Rattle.node_runs.specs.Course.{Run, AreTicks, Report, Tells, Turning, Arrival, End, Ended, RefusedAt, StalledAt, Node, Course, GoesOn, Stops, loop_turns, packet_from, arrival_outcome, first_inc, new_node, run_of, run_opened, node_run}
+use Rattle.node_runs.specs.Course.{Run, AreTicks, Report, Tells, Turning, Arrival, End, Ended, RefusedAt, StalledAt, Node, Course, GoesOn, Stops, loop_turns}
+use Rattle.node_runs.specs.Course.{packet_from, arrival_outcome, first_inc, new_node, run_of, run_opened, node_run}
 use Rattle.node_runs.specs.Recorder.{Notes, no_notes}
 use Rattle.node_runs.specs.Texts.{entries, end_entry}
 use Rattle.node_runs.specs.Replayed.{NoneStrange, IsAnswer}

@@ -36,7 +36,8 @@ same_done a b e = cc
 
 -- ---- what is so behind an event
 
-module _ (s : Settings) (valid : IsValid s) (w : World) (good : IsGoodWorld s w) (names : (id : HostId) (h : Host) → host_at w id ≡ Some h → HasOwnName id h) where
+module _ (s : Settings) (valid : IsValid s) (w : World) (good : IsGoodWorld s w)
+    (names : (id : HostId) (h : Host) → host_at w id ≡ Some h → HasOwnName id h) where
   -- ---- packets that are well formed
 
   abbrev in_range : (id : HostId) (h : Host) → host_at w id ≡ Some h → own_clock w id ≤ 1000000002000

@@ -1,5 +1,6 @@
 -- Where nothing of a run is strange to a recorder, the net was honest: the recorder keeps the datagrams that were sent and are in their life.
-use Rattle.std.proofs.Common.{◌≡◌, ℕ, suc, ◌+◌, ◌≤◌, Bool, true, false, Option, None, Some, List, [], ◌∷◌, ◌++◌, map, filter, max, refl, sym, ap, ◌∙◌, subst, arith}
+use Rattle.std.proofs.Common.{◌≡◌, ℕ, suc, ◌+◌, ◌≤◌, Bool, true, false, Option, None, Some, List, [], ◌∷◌, ◌++◌, map, filter, max, refl, sym, ap, ◌∙◌, subst}
+use Rattle.std.proofs.Common.{arith}
 use Rattle.std.specs.Prelude.{is_some, if◌then◌else◌, ◌==◌, ◌&&◌, ◌||◌, not, nat_le}
 use Rattle.std.specs.List.{list_any}
 use Rattle.std.proofs.lemmas.Bool.{leb-true, leb-false, true≢false}
@@ -13,7 +14,8 @@ use Rattle.homa_plain.specs.Packets.{send_line}
 use Rattle.homa_plain.specs.Host.{Told, Says, Sends, entries_from}
 use Rattle.trace_lines.proofs.Lines.{IsSaid, AllInner}
 use Rattle.node_runs.specs.Course.{Report, Tells, Turning}
-use Rattle.node_runs.specs.Recorder.{Kept, Notes, no_notes, is_same, greatest, kind_by, kind_of, is_strange, strange, in_life, still, sent_packet, keeps, told, kept}
+use Rattle.node_runs.specs.Recorder.{Kept, Notes, no_notes, is_same, greatest, kind_by, kind_of, is_strange, strange, in_life, still, sent_packet, keeps}
+use Rattle.node_runs.specs.Recorder.{told, kept}
 use Rattle.node_runs.specs.Replayed.{NoneStrange}
 use Rattle.node_runs.specs.Texts.{entries}
 use Rattle.node_runs.proofs.Observing.{usual-first}

@@ -1,0 +1,5 @@
+pub mod Short
+pub mod Said
+pub mod Course
+pub mod Fitting
+pub mod Checked

@@ -1,0 +1,5 @@
+mod Events
+mod Settings
+mod Whole
+mod Replays
+mod Recordings
