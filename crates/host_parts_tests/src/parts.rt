@@ -1,39 +1,55 @@
+// Two messages in three pages.
+ghost use Rattle.std.specs.Prelude.{◌≡◌, ◌<◌};
+ghost use Rattle.plain_sets.specs.Maps.{len};
+ghost use Rattle.homa_in.specs.Part.{IsIn};
+
+use homa_in::Incoming;
 use homa_plain::HostId;
-use host_incoming::*;
+use host_incoming::{Opening, Put, close_part, open_part, put_piece};
 use msg_pool::{MsgPool, Scratch};
+use std::process::Abort;
 use std::test::Fail;
+
+const PEER: HostId = HostId(1);
+
+// Beside a message of one page, one that needs more pages than are left, and one that comes whole in a piece.
+fn open_others(rt: &impl Abort, short: &Incoming, pool: &mut MsgPool, scratch: &mut Scratch)
+    requires { IsIn pool.old short.now }
+    ensures { IsIn pool.new short.now }
+{
+    assert_eq!(rt; pool.free(), 2);
+    let full = open_part(PEER, 8193, 1, 10, 0, b"x", pool, scratch);
+    assert!(rt; matches!(&full, Opening::Full { need: 3, free: 2 }));
+    let whole = open_part(PEER, 3, 1, 10, 0, b"xyz", pool, scratch);
+    assert!(rt; matches!(&whole, Opening::Whole));
+    assert!(rt; scratch.bytes() == b"xyz".as_slice());
+    assert_eq!(rt; pool.free(), 2);
+}
+
+// The other bytes come in two pieces, and its page is free again.
+fn put_rest(rt: &impl Abort, mut short: Incoming, pool: &mut MsgPool, scratch: &mut Scratch)
+    requires pool { IsIn pool.old short }
+    requires length { short.length ≡ 6 }
+    requires missing { 0 < len short.missing }
+{
+    assert_eq!(rt; put_piece(&mut short, 4, b"ef", pool, scratch), Put::Taken);
+    assert_eq!(rt; put_piece(&mut short, 1, b"BCD", pool, scratch), Put::Last);
+    assert!(rt; scratch.bytes() == b"abCDef".as_slice());
+    assert_eq!(rt; short.remaining(), 2);
+    close_part(short, pool);
+    assert_eq!(rt; pool.free(), 3);
+}
 
 #[test]
 fn two_messages_in_three_pages(rt: HostRuntime) -> Result<(), Fail> {
-    let mut pool = MsgPool::new(rt.alloc(), 3)?;
     let mut scratch = Scratch::new(rt.alloc())?;
-    let peer = HostId(1);
+    let mut pool = MsgPool::new(rt.alloc(), 3)?;
     // One page; "cdef" are missing.
-    let Opening::Begun(mut short) = open_part(peer, 6, 0, 10, 0, b"ab", &mut pool, &mut scratch)
-    else {
+    let Opening::Begun(short) = open_part(PEER, 6, 0, 10, 0, b"ab", &mut pool, &mut scratch) else {
         assert!(rt; false, "the first message wasn't opened");
         return Ok(());
     };
-    assert_eq!(rt; pool.free(), 2);
-    // Three pages, of which two are left.
-    let full = open_part(peer, 8193, 1, 10, 0, b"x", &mut pool, &mut scratch);
-    assert!(rt; matches!(&full, Opening::Full { need: 3, free: 2 }));
-    // One piece is all of it, and its page is free again.
-    let whole = open_part(peer, 3, 1, 10, 0, b"xyz", &mut pool, &mut scratch);
-    assert!(rt; matches!(&whole, Opening::Whole));
-    assert_eq!(rt; scratch.bytes(), b"xyz".as_slice());
-    assert_eq!(rt; pool.free(), 2);
-    assert_eq!(rt;
-        put_piece(&mut short, 4, b"ef", &mut pool, &mut scratch),
-        Put::Taken
-    );
-    assert_eq!(rt;
-        put_piece(&mut short, 1, b"BCD", &mut pool, &mut scratch),
-        Put::Last
-    );
-    assert_eq!(rt; scratch.bytes(), b"abCDef".as_slice());
-    assert_eq!(rt; short.remaining(), 2);
-    close_part(short, &mut pool);
-    assert_eq!(rt; pool.free(), 3);
+    open_others(&rt, &short, &mut pool, &mut scratch);
+    put_rest(&rt, short, &mut pool, &mut scratch);
     Ok(())
 }

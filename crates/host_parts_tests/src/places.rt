@@ -1,9 +1,10 @@
-//! Each public call once, with ample memory.
+// Each public call once, with ample memory.
 ghost use Rattle.std.specs.Prelude.{◌≡◌, IsSome};
 ghost use Rattle.host_places.specs.Placed.{spot_at};
 
 use homa_plain::{CallId, HostId};
 use host_places::Rows;
+use std::process::Abort;
 use std::test::Fail;
 
 fn call(seq: u32) -> CallId {
@@ -52,33 +53,58 @@ fn take(rows: &mut Rows<u64>, place: u32) -> Option<(CallId, u64)>
     }
 }
 
+// The row at a place, with its call.
+fn row_at(rows: &Rows<u64>, place: u32) -> Option<(CallId, u64)> {
+    rows.get(place).map(|found| (found.0, *found.1))
+}
+
+// Fills both places: where each call stands.
+fn fill(rt: &impl Abort, rows: &mut Rows<u64>) -> Option<(u32, u32)>
+    requires { rows.old.room ≡ 2 }
+    ensures { rows.new.room ≡ 2 }
+{
+    assert_eq!(rt; rows.len(), 0);
+    let first = add(rows, 2, 7, 70)?;
+    let second = add(rows, 2, 5, 50)?;
+    assert_eq!(rt; (first.min(second), first.max(second)), (0, 1));
+    let full = add(rows, 2, 9, 90);
+    let double = add(rows, 2, 5, 51);
+    assert_eq!(rt; (full, double), (None, None));
+    Some((first, second))
+}
+
+// Calls are found at their places, and one row is changed.
+fn find(rt: &impl Abort, rows: &mut Rows<u64>, first: u32, second: u32)
+    requires { rows.old.room ≡ 2 }
+    ensures { rows.new.room ≡ 2 }
+{
+    let found = (rows.len(), rows.find(call(5)), rows.find(call(9)));
+    assert_eq!(rt; found, (2, Some(second), None));
+    let read = (row_at(rows, first), row_at(rows, 2));
+    assert_eq!(rt; read, (Some((call(7), 70)), None));
+    assert!(rt; change(rows, second, 55));
+    assert_eq!(rt; row_at(rows, second), Some((call(5), 55)));
+}
+
+// A row goes, and its place is free for another.
+fn replace(rt: &impl Abort, rows: &mut Rows<u64>, first: u32, second: u32)
+    requires { rows.old.room ≡ 2 }
+{
+    assert_eq!(rt; take(rows, first), Some((call(7), 70)));
+    let found = (rows.find(call(7)), rows.find(call(5)));
+    assert_eq!(rt; found, (None, Some(second)));
+    assert!(rt; !change(rows, first, 71));
+    assert_eq!(rt; add(rows, 2, 9, 90), Some(first));
+    assert_eq!(rt; row_at(rows, first), Some((call(9), 90)));
+}
+
 #[test]
 fn two_places(rt: HostRuntime) -> Result<(), Fail> {
     let mut rows = Rows::open(rt.alloc(), 2)?;
-    assert_eq!(rt; rows.len(), 0);
-    let first = add(&mut rows, 2, 7, 70).ok_or("room")?;
-    let second = add(&mut rows, 2, 5, 50).ok_or("room")?;
-    assert_eq!(rt; (first.min(second), first.max(second)), (0, 1));
-    assert_eq!(rt; add(&mut rows, 2, 9, 90), None, "full");
-    assert_eq!(rt; add(&mut rows, 2, 5, 51), None, "it has a row");
-    assert_eq!(rt; rows.len(), 2);
-    assert_eq!(rt; rows.find(call(5)), Some(second));
-    assert_eq!(rt; rows.find(call(9)), None);
-    assert_eq!(rt; rows.get(first).map(|s| (s.0, *s.1)), Some((call(7), 70)));
-    assert_eq!(rt; rows.get(2).map(|s| s.0), None);
-    assert!(rt; change(&mut rows, second, 55));
-    assert_eq!(rt; rows.get(second).map(|s| (s.0, *s.1)), Some((call(5), 55)));
-    assert_eq!(rt; take(&mut rows, first), Some((call(7), 70)));
-    assert_eq!(rt;
-        (rows.find(call(7)), rows.find(call(5))),
-        (None, Some(second))
-    );
-    assert!(rt; !change(&mut rows, first, 71));
-    assert_eq!(rt;
-        add(&mut rows, 2, 9, 90),
-        Some(first),
-        "the place is free again"
-    );
-    assert_eq!(rt; rows.get(first).map(|s| (s.0, *s.1)), Some((call(9), 90)));
+    let Some((first, second)) = fill(&rt, &mut rows) else {
+        return Err(Fail::from("room"));
+    };
+    find(&rt, &mut rows, first, second);
+    replace(&rt, &mut rows, first, second);
     Ok(())
 }

@@ -4,6 +4,7 @@ ghost use Rattle.std.specs.Prelude.{◌≡◌, ◌+◌, ◌<◌, ◌^◌, OnOk, 
 use homa_plain::HostId;
 use homa_service::{NoSpare, Reply, Seat, Service, ServiceTable, Suite};
 use std::alloc::{AllocError, Global};
+use std::process::Abort;
 use std::test::Fail;
 
 /// A service that finds no memory at its first call, and answers its letter afterwards.
@@ -52,27 +53,55 @@ fn ask_twice<V: Service>(
     Ok((first, second))
 }
 
+// A suite answers these bytes, with this hold.
+fn answers(
+    rt: &impl Abort,
+    alloc: Global,
+    suite: &mut Suite,
+    number: u8,
+    request: &[u8],
+    bytes: &[u8],
+    hold: u32,
+) -> Result<(), AllocError>
+    requires { suite.old < 2 ^ 63 }
+    ensures { OnOk result (suite.new ≡ suite.old + 1) }
+{
+    let reply = suite.serve(alloc, number, request)?;
+    assert!(rt; is_answer(&reply, bytes, hold), "{number}");
+    Ok(())
+}
+
 #[test]
 fn each_number_answers_its_own(rt: HostRuntime) -> Result<(), Fail> {
+    let alloc = rt.alloc();
     let mut suite = Suite::new();
-    let echo = suite.serve(rt.alloc(), 0, b"abc")?;
-    assert!(rt; is_answer(&echo, b"abc", 0));
-    let count = suite.serve(rt.alloc(), 1, b"abc")?;
-    assert!(rt; is_answer(&count, &[0, 0, 0, 0, 0, 0, 0, 2], 0));
-    let reversed = suite.serve(rt.alloc(), 2, b"abc")?;
-    assert!(rt; is_answer(&reversed, b"cba", 0));
-    let held = suite.serve(rt.alloc(), 3, b"abc")?;
-    assert!(rt; is_answer(&held, b"abc", 10));
-    let other = suite.serve(rt.alloc(), 4, b"abc")?;
-    assert!(rt; is_answer(&other, &[0], 0));
-    let last = suite.serve(rt.alloc(), 255, b"abc")?;
+    answers(&rt, alloc, &mut suite, 0, b"abc", b"abc", 0)?;
+    answers(
+        &rt,
+        alloc,
+        &mut suite,
+        1,
+        b"abc",
+        &[0, 0, 0, 0, 0, 0, 0, 2],
+        0,
+    )?;
+    answers(&rt, alloc, &mut suite, 2, b"abc", b"cba", 0)?;
+    answers(&rt, alloc, &mut suite, 3, b"abc", b"abc", 10)?;
+    answers(&rt, alloc, &mut suite, 4, b"abc", &[0], 0)?;
+    let last = suite.serve(alloc, 255, b"abc")?;
     assert_eq!(rt; last.into_bytes().as_slice(), [0].as_slice());
 
     // No bytes are no message, and the count goes on.
-    let none = suite.serve(rt.alloc(), 3, b"")?;
-    assert!(rt; is_answer(&none, &[0], 0));
-    let count = suite.serve(rt.alloc(), 1, b"abc")?;
-    assert!(rt; is_answer(&count, &[0, 0, 0, 0, 0, 0, 0, 8], 0));
+    answers(&rt, alloc, &mut suite, 3, b"", &[0], 0)?;
+    answers(
+        &rt,
+        alloc,
+        &mut suite,
+        1,
+        b"abc",
+        &[0, 0, 0, 0, 0, 0, 0, 8],
+        0,
+    )?;
     Ok(())
 }
 
@@ -106,6 +135,25 @@ fn letter_box(alloc: Global, letter: u8) -> Result<Box<Fickle>, AllocError>
     )?)
 }
 
+// A service that answered nothing yet sends a request back, and counts two.
+fn echoes<V: Service>(rt: &impl Abort, alloc: Global, service: &mut V) -> Result<(), Fail>
+    requires { V.served service.old + 2 < 2 ^ 63 }
+{
+    let (echo, count) = ask_twice(alloc, service, b"xyz")?;
+    assert!(rt; is_answer(&echo, b"xyz", 0));
+    assert!(rt; is_answer(&count, &[0, 0, 0, 0, 0, 0, 0, 2], 0));
+    Ok(())
+}
+
+// A service that is called once answers its letter.
+fn says<V: Service>(rt: &impl Abort, alloc: Global, service: &mut V, letter: u8) -> Result<(), Fail>
+    requires { V.served service.old < 2 ^ 63 }
+{
+    let reply = service.serve(alloc, 0, b"xyz")?;
+    assert!(rt; is_answer(&reply, &[letter], 0));
+    Ok(())
+}
+
 #[test]
 fn a_seat_is_taken_and_put_back(rt: HostRuntime) -> Result<(), Fail> {
     let mut boxes: Vec<Box<dyn Service>> = Vec::new(rt.alloc());
@@ -119,10 +167,7 @@ fn a_seat_is_taken_and_put_back(rt: HostRuntime) -> Result<(), Fail> {
     table.put_back(HostId(1), seat);
     table.put_back(HostId(0), other);
     let mut seat = table.take(HostId(1));
-    let (echo, count) = ask_twice(rt.alloc(), &mut seat, b"xyz")?;
-    assert!(rt; is_answer(&echo, b"xyz", 0));
-    assert!(rt; is_answer(&count, &[0, 0, 0, 0, 0, 0, 0, 2], 0));
-    Ok(())
+    echoes(&rt, rt.alloc(), &mut seat)
 }
 
 #[test]
@@ -135,12 +180,9 @@ fn the_last_spare_is_seated(rt: HostRuntime) -> Result<(), Fail> {
     assert_eq!(rt; table.replace(HostId(0)), Ok(()));
     assert_eq!(rt; table.replace(HostId(0)), Err(NoSpare));
     let mut seat = table.take(HostId(0));
-    let reply = seat.serve(rt.alloc(), 0, b"xyz")?;
-    assert!(rt; is_answer(&reply, b"c", 0));
     let mut other = table.take(HostId(1));
-    let reply = other.serve(rt.alloc(), 0, b"xyz")?;
-    assert!(rt; is_answer(&reply, b"b", 0));
-    Ok(())
+    says(&rt, rt.alloc(), &mut seat, b'c')?;
+    says(&rt, rt.alloc(), &mut other, b'b')
 }
 
 #[test]

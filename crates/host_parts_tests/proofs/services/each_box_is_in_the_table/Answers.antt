@@ -5,4 +5,5 @@ use Rattle.host_parts_tests.proofs.services.each_box_is_in_the_table.Goals as go
 
 pub loop-left-preserved : goal.loop-left-preserved
 loop-left-preserved g c =
-    full-replaced c.replace.result (places c.loop-left.table) (places c.replace.new.self) (spares c.loop-left.table) 1 c.replace.ensures.none c.replace.ensures.places c.replace.ensures.err_places c.loop-left.invariant
+    full-replaced c.replace.result (places c.loop-left.table) (places c.replace.new.self) (spares c.loop-left.table) 1
+    c.replace.ensures.none c.replace.ensures.places c.replace.ensures.err_places c.loop-left.invariant
