@@ -21,7 +21,7 @@ use Rattle.node_laws.proofs.Loops.{recordings_repeat, settings_first, events_fit
 use Rattle.node_laws.proofs.Opening.{opening_is}
 use Rattle.node_laws.proofs.Turns.{turns_fit}
 use Rattle.record_laws.specs.Printed.{IsPrinted, texts, comment_text, schedule_text, run_from_start}
-use Rattle.record_laws.specs.Recordings.{IsReplayOf, TextsRepeat}
+use Rattle.record_laws.specs.Recordings.{TextsRepeat}
 use Rattle.record_laws.proofs.Replays.{schedules_replayed}
 
 texts-append : (a b : List Happening) → texts (a ++ b) ≡ texts a ++ texts b
