@@ -1,4 +1,7 @@
-use homa_plain::{Body, Cutoffs, Frame, More, Packet, Role};
+ghost use Rattle.std.specs.Prelude.{◌≡◌};
+ghost use Rattle.homa_plain.specs.Wire.{Between};
+
+use homa_plain::{Body, Cutoffs, Frame, More, Role};
 use homa_wire::{Span, decode, encode};
 use std::alloc::Global;
 use std::process::Abort;
@@ -17,7 +20,9 @@ struct Row {
     shorter: Option<usize>,
 }
 
-fn make_row(wire: u32, text: &'static str, role: Role, seq: u32, body: Body) -> Row {
+fn make_row(wire: u32, text: &'static str, role: Role, seq: u32, body: Body) -> Row
+    ensures { result.wire ≡ wire }
+{
     Row {
         wire,
         text,
@@ -49,40 +54,55 @@ fn four_calls() -> Body {
     Body::Ack { more }
 }
 
-fn check_row(rt: &impl Abort, alloc: Global, row: Row) -> Result<(), Fail> {
-    let text = row.text;
-    assert!(rt; row.wire == 1 || row.wire == 2);
-    let mut bytes = hex::decode(alloc, text)?;
-    let Some((packet, span)) = decode(&bytes, row.wire) else {
-        assert!(rt; false, "no packet: {text}");
-        return Ok(());
+// The bytes are read as what the row says, and written again as they are.
+fn says(rt: &impl Abort, bytes: &[u8], row: &Row)
+    requires { Between 1 2 row.now.wire }
+{
+    let Some((packet, span)) = decode(bytes, row.wire) else {
+        assert!(rt; false, "no packet: {}", row.text);
+        return;
     };
     let payload = &bytes[span.from..span.to];
-    assert_eq!(rt; payload, row.payload, "payload of {text}");
+    assert!(rt; payload == row.payload, "payload of {}", row.text);
     let mut frame = Frame::empty();
     frame.set(b"what it held before");
     encode(&packet, row.wire, payload, &mut frame);
-    assert_eq!(rt; frame.bytes(), bytes.as_slice(), "written again: {text}");
-    let expected = Packet {
-        role: row.role,
-        level: 7,
-        sender: 1,
-        inc: 1,
-        seq: row.seq,
-        at: 0,
-        body: row.body,
-    };
-    assert_eq!(rt; packet, expected, "{text}");
+    assert!(rt; frame.bytes() == bytes, "written again: {}", row.text);
+    let numbers = (
+        packet.level,
+        packet.sender,
+        packet.inc,
+        packet.seq,
+        packet.at,
+    );
+    assert!(rt; numbers == (7, 1, 1, row.seq, 0), "{}", row.text);
+    assert!(rt;
+        packet.role == row.role && packet.body == row.body,
+        "{}",
+        row.text
+    );
+}
+
+// Of the bytes that stand before others, only the row's shorter ones are a packet.
+fn has_prefixes(rt: &impl Abort, bytes: &[u8], row: &Row)
+    requires { Between 1 2 row.now.wire }
+{
     for len in 0..bytes.len() {
         let is_packet = decode(&bytes[..len], row.wire).is_some();
-        assert_eq!(rt;
-            is_packet,
-            row.shorter == Some(len),
-            "{len} bytes of {text}"
-        );
+        let is_wanted = row.shorter == Some(len);
+        assert!(rt; is_packet == is_wanted, "{len} bytes of {}", row.text);
     }
+}
+
+fn check_row(rt: &impl Abort, alloc: Global, row: Row) -> Result<(), Fail>
+    requires { Between 1 2 row.wire }
+{
+    let mut bytes = hex::decode(alloc, row.text)?;
+    says(rt, &bytes, &row);
+    has_prefixes(rt, &bytes, &row);
     bytes.push(0)?;
-    assert!(rt; decode(&bytes, row.wire).is_none(), "one byte more: {text}");
+    let is_packet = decode(&bytes, row.wire).is_some();
+    assert!(rt; !is_packet, "one byte more: {}", row.text);
     Ok(())
 }
 

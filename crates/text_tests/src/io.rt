@@ -7,7 +7,9 @@ use homa_io::{
     HeldSink, MemSink, MemSource, ReadFailed, Room, Sink, Source, StdSink, StdSource, SureSink,
     SureSource, WriteFailed, write_all,
 };
+use std::alloc::Global;
 use std::io::{self, ErrorKind, Read, Write};
+use std::process::Abort;
 use std::test::Fail;
 
 /// A wrapper that owns its sink, or holds one that is lent.
@@ -59,27 +61,58 @@ fn get_through<S: Source>(source: &mut S, buf: &mut [u8]) -> Result<usize, ReadF
     answer
 }
 
+// A read answers so.
+fn reads<S: Source>(
+    rt: &impl Abort,
+    source: &mut S,
+    buf: &mut [u8],
+    wanted: Result<usize, ReadFailed>,
+) {
+    assert_eq!(rt; source.read(buf), wanted);
+}
+
+// A write answers so.
+fn writes<K: Sink>(
+    rt: &impl Abort,
+    sink: &mut K,
+    bytes: &[u8],
+    wanted: Result<usize, WriteFailed>,
+) {
+    assert_eq!(rt; sink.write(bytes), wanted);
+}
+
+// All of it is written, or the first error is answered.
+fn writes_all<K: Sink>(
+    rt: &impl Abort,
+    sink: &mut K,
+    bytes: &[u8],
+    wanted: Result<(), WriteFailed>,
+) {
+    assert_eq!(rt; write_all(sink, bytes), wanted);
+}
+
 #[test]
 fn memory_is_read_in_parts(rt: HostRuntime) -> Result<(), Fail> {
     let bytes = Vec::from_slice(rt.alloc(), b"homa!")?;
     let mut source = MemSource::new(bytes, Vec::new(rt.alloc()));
     let mut buf = [0; 3];
-    assert_eq!(rt; source.read(&mut buf), Ok(3));
+    reads(&rt, &mut source, &mut buf, Ok(3));
     assert_eq!(rt; buf, *b"hom");
     assert_eq!(rt; get_through(&mut source, &mut buf), Ok(2));
     assert_eq!(rt; buf[..2] == [b'a', b'!'], true);
-    assert_eq!(rt; source.read(&mut buf), Ok(0));
+    reads(&rt, &mut source, &mut buf, Ok(0));
     Ok(())
 }
 
 #[test]
 fn a_failed_read_moves_nothing(rt: HostRuntime) -> Result<(), Fail> {
+    let fails = Vec::from_slice(rt.alloc(), &[1])?;
     let bytes = Vec::from_slice(rt.alloc(), b"homa!")?;
-    let mut source = MemSource::new(bytes, Vec::from_slice(rt.alloc(), &[1])?);
+    let mut source = MemSource::new(bytes, fails);
     let mut buf = [0; 3];
-    assert_eq!(rt; source.read(&mut buf), Ok(3));
-    assert_eq!(rt; source.read(&mut buf), Err(ReadFailed));
-    assert_eq!(rt; source.read(&mut buf), Ok(2));
+    reads(&rt, &mut source, &mut buf, Ok(3));
+    reads(&rt, &mut source, &mut buf, Err(ReadFailed));
+    reads(&rt, &mut source, &mut buf, Ok(2));
     assert_eq!(rt; buf, *b"a!m");
     Ok(())
 }
@@ -87,24 +120,29 @@ fn a_failed_read_moves_nothing(rt: HostRuntime) -> Result<(), Fail> {
 #[test]
 fn memory_takes_what_fits(rt: HostRuntime) -> Result<(), Fail> {
     let mut sink = MemSink::new(rt.alloc(), 4, Vec::new(rt.alloc()))?;
-    assert_eq!(rt; sink.write(b"homa!!"), Ok(4));
-    assert_eq!(rt; sink.write(b"!"), Err(WriteFailed));
-    assert_eq!(rt; sink.write(b""), Ok(0));
+    writes(&rt, &mut sink, b"homa!!", Ok(4));
+    writes(&rt, &mut sink, b"!", Err(WriteFailed));
+    writes(&rt, &mut sink, b"", Ok(0));
     assert_eq!(rt; sink.bytes(), b"homa".as_slice());
     Ok(())
 }
 
 #[test]
 fn all_is_written_or_a_front(rt: HostRuntime) -> Result<(), Fail> {
-    let mut sink = MemSink::new(rt.alloc(), 8, Vec::from_slice(rt.alloc(), &[1])?)?;
-    assert_eq!(rt; write_all(&mut sink, b"ho"), Ok(()));
-    assert_eq!(rt; write_all(&mut sink, b"no"), Err(WriteFailed));
+    let fails = Vec::from_slice(rt.alloc(), &[1])?;
+    let mut sink = MemSink::new(rt.alloc(), 8, fails)?;
+    writes_all(&rt, &mut sink, b"ho", Ok(()));
+    writes_all(&rt, &mut sink, b"no", Err(WriteFailed));
     assert_eq!(rt; put_through(&mut sink, b"ma"), Ok(()));
     assert_eq!(rt; sink.bytes(), b"homa".as_slice());
+    Ok(())
+}
 
-    // Of six bytes the second write in this call finds no room.
+// Of six bytes the second write in this call finds no room.
+#[test]
+fn a_front_is_written_where_there_is_no_room(rt: HostRuntime) -> Result<(), Fail> {
     let mut small = MemSink::new(rt.alloc(), 4, Vec::new(rt.alloc()))?;
-    assert_eq!(rt; write_all(&mut small, b"homa!!"), Err(WriteFailed));
+    writes_all(&rt, &mut small, b"homa!!", Err(WriteFailed));
     assert_eq!(rt; small.bytes(), b"homa".as_slice());
     Ok(())
 }
@@ -113,10 +151,10 @@ fn all_is_written_or_a_front(rt: HostRuntime) -> Result<(), Fail> {
 fn sure_ones_never_fail(rt: HostRuntime) -> Result<(), Fail> {
     let mut source = SureSource::new(Vec::from_slice(rt.alloc(), b"homa!")?);
     let mut buf = [0; 3];
-    assert_eq!(rt; source.read(&mut buf), Ok(3));
-    assert_eq!(rt; source.read(&mut buf), Ok(2));
+    reads(&rt, &mut source, &mut buf, Ok(3));
+    reads(&rt, &mut source, &mut buf, Ok(2));
     assert_eq!(rt; buf, *b"a!m");
-    assert_eq!(rt; SureSink::new().write(b"homa!"), Ok(5));
+    writes(&rt, &mut SureSink::new(), b"homa!", Ok(5));
     Ok(())
 }
 
@@ -144,19 +182,36 @@ fn hold_two<K: Sink>(sink: &mut K, room: Room, a: &[u8], b: &[u8]) -> Result<(),
     answer
 }
 
+// A sink that holds lines back from one with so much room, of which one write fails by plan.
+fn holding(alloc: Global, room: u32, fails: u64) -> Result<HeldSink<MemSink>, Fail> {
+    let held = Room::new(alloc)?;
+    let fails = Vec::from_slice(alloc, &[fails])?;
+    let below = MemSink::new(alloc, room, fails)?;
+    Ok(HeldSink::over(below, held))
+}
+
+// Each of the first lines is taken.
+fn put_first(rt: &impl Abort, held: &mut HeldSink<MemSink>, line: &[u8]) {
+    for _ in 0..64 {
+        writes(rt, held, line, Ok(line.len()));
+    }
+}
+
+// What is held goes out, or a write fails.
+fn flushes(rt: &impl Abort, held: &mut HeldSink<MemSink>, wanted: Result<(), WriteFailed>) {
+    assert_eq!(rt; held.flush(), wanted);
+}
+
 #[test]
 fn first_lines_go_out_as_they_come(rt: HostRuntime) -> Result<(), Fail> {
     // The write that is number 64, counted from 0, is the first one of lines that were held.
-    let below = MemSink::new(rt.alloc(), 200, Vec::from_slice(rt.alloc(), &[64])?)?;
-    let mut held = HeldSink::over(below, Room::new(rt.alloc())?);
-    for _ in 0..64 {
-        assert_eq!(rt; held.write(b"ab"), Ok(2));
-    }
-    assert_eq!(rt; held.write(b"cd"), Ok(2));
-    assert_eq!(rt; held.write(b"ef"), Ok(2));
-    assert_eq!(rt; held.flush(), Err(WriteFailed));
-    assert_eq!(rt; held.write(b"gh"), Ok(2));
-    assert_eq!(rt; held.flush(), Ok(()));
+    let mut held = holding(rt.alloc(), 200, 64)?;
+    put_first(&rt, &mut held, b"ab");
+    writes(&rt, &mut held, b"cd", Ok(2));
+    writes(&rt, &mut held, b"ef", Ok(2));
+    flushes(&rt, &mut held, Err(WriteFailed));
+    writes(&rt, &mut held, b"gh", Ok(2));
+    flushes(&rt, &mut held, Ok(()));
     let below = held.into_sink();
     assert_eq!(rt; below.bytes().len(), 134);
     assert_eq!(rt; below.bytes().ends_with(b"abcdefgh"), true);
@@ -166,18 +221,15 @@ fn first_lines_go_out_as_they_come(rt: HostRuntime) -> Result<(), Fail> {
 #[test]
 fn what_fits_is_held(rt: HostRuntime) -> Result<(), Fail> {
     // Writes 64 and 65 are of what was held and of a long line.
-    let below = MemSink::new(rt.alloc(), 200_000, Vec::from_slice(rt.alloc(), &[65])?)?;
-    let mut held = HeldSink::over(below, Room::new(rt.alloc())?);
-    for _ in 0..64 {
-        assert_eq!(rt; held.write(b"a"), Ok(1));
-    }
+    let line = vec![in rt.alloc(); b'b'; 32_768]?;
     let long = vec![in rt.alloc(); b'b'; 65_537]?;
-    let line = long.get(..32_768).ok_or("short")?;
-    assert_eq!(rt; held.write(line), Ok(32_768));
-    assert_eq!(rt; held.write(line), Ok(32_768));
-    assert_eq!(rt; held.write(b"c"), Ok(1));
-    assert_eq!(rt; held.flush(), Err(WriteFailed));
-    assert_eq!(rt; held.write(&long), Ok(65_537));
+    let mut held = holding(rt.alloc(), 200_000, 65)?;
+    put_first(&rt, &mut held, b"a");
+    writes(&rt, &mut held, &line, Ok(32_768));
+    writes(&rt, &mut held, &line, Ok(32_768));
+    writes(&rt, &mut held, b"c", Ok(1));
+    flushes(&rt, &mut held, Err(WriteFailed));
+    writes(&rt, &mut held, &long, Ok(65_537));
     let below = held.into_sink();
     assert_eq!(rt; below.bytes().len(), 64 + 65_536 + 1 + 65_537);
     Ok(())
@@ -185,15 +237,13 @@ fn what_fits_is_held(rt: HostRuntime) -> Result<(), Fail> {
 
 #[test]
 fn a_lent_sink_takes_what_was_held(rt: HostRuntime) -> Result<(), Fail> {
-    let mut sink = MemSink::new(rt.alloc(), 8, Vec::from_slice(rt.alloc(), &[3])?)?;
-    assert_eq!(rt;
-        hold_two(&mut sink, Room::new(rt.alloc())?, b"ho", b"ma"),
-        Ok(())
-    );
-    assert_eq!(rt;
-        hold_two(&mut sink, Room::new(rt.alloc())?, b"!", b"?"),
-        Err(WriteFailed)
-    );
+    let first = Room::new(rt.alloc())?;
+    let second = Room::new(rt.alloc())?;
+    let fails = Vec::from_slice(rt.alloc(), &[3])?;
+    let mut sink = MemSink::new(rt.alloc(), 8, fails)?;
+    assert_eq!(rt; hold_two(&mut sink, first, b"ho", b"ma"), Ok(()));
+    let answer = hold_two(&mut sink, second, b"!", b"?");
+    assert_eq!(rt; answer, Err(WriteFailed));
     assert_eq!(rt; sink.bytes(), b"homa!".as_slice());
     Ok(())
 }
@@ -222,23 +272,20 @@ impl Write for Broken {
 fn a_reader_is_a_source(rt: HostRuntime) {
     let mut source = StdSource::new(b"homa!".as_slice());
     let mut buf = [0; 3];
-    assert_eq!(rt; source.read(&mut buf), Ok(3));
+    reads(&rt, &mut source, &mut buf, Ok(3));
     assert_eq!(rt; buf, *b"hom");
-    assert_eq!(rt; source.read(&mut buf), Ok(2));
-    assert_eq!(rt; source.read(&mut buf), Ok(0));
-    assert_eq!(rt; StdSource::new(Broken).read(&mut buf), Err(ReadFailed));
+    reads(&rt, &mut source, &mut buf, Ok(2));
+    reads(&rt, &mut source, &mut buf, Ok(0));
+    reads(&rt, &mut StdSource::new(Broken), &mut buf, Err(ReadFailed));
 }
 
 #[test]
 fn a_writer_is_a_sink(rt: HostRuntime) {
     let mut bytes = [0; 4];
     let mut sink = StdSink::new(bytes.as_mut_slice());
-    assert_eq!(rt; sink.write(b"homa!"), Ok(4));
-    assert_eq!(rt; sink.write(b""), Ok(0));
-    assert_eq!(rt; sink.write(b"!"), Err(WriteFailed));
+    writes(&rt, &mut sink, b"homa!", Ok(4));
+    writes(&rt, &mut sink, b"", Ok(0));
+    writes(&rt, &mut sink, b"!", Err(WriteFailed));
     assert_eq!(rt; bytes, *b"homa");
-    assert_eq!(rt;
-        write_all(&mut StdSink::new(Broken), b"!"),
-        Err(WriteFailed)
-    );
+    writes_all(&rt, &mut StdSink::new(Broken), b"!", Err(WriteFailed));
 }

@@ -7,21 +7,23 @@ use homa_plain::{
     Body, CallId, Entry, HostId, LineFault, Name, Role, ScriptFault, SettingFault, Settings,
 };
 use homa_text::{LineGot, Lines, Word, put_entry, put_line, read_bytes, read_number, word};
-use std::alloc::Global;
+use std::alloc::{AllocError, Global};
 use std::process::Abort;
 use std::test::Fail;
 
 #[test]
 fn numbers(rt: HostRuntime) {
-    assert_eq!(rt; read_number(b"0"), Some(0));
-    assert_eq!(rt; read_number(b"01"), None);
-    assert_eq!(rt; read_number(b""), None);
-    assert_eq!(rt;
-        read_number(b"18446744073709551615"),
-        Some(18_446_744_073_709_551_615)
-    );
-    assert_eq!(rt; read_number(b"18446744073709551616"), None);
-    assert_eq!(rt; read_number(b"1x"), None);
+    let rows: [(&[u8], Option<u64>); 6] = [
+        (b"0", Some(0)),
+        (b"01", None),
+        (b"", None),
+        (b"18446744073709551615", Some(18_446_744_073_709_551_615)),
+        (b"18446744073709551616", None),
+        (b"1x", None),
+    ];
+    for (word, wanted) in rows {
+        assert_eq!(rt; read_number(word), wanted, "{word:?}");
+    }
 }
 
 #[test]
@@ -32,51 +34,73 @@ fn words(rt: HostRuntime) {
     assert_eq!(rt; word(line, 2), None);
 }
 
+// A word is read as wanted.
+fn reads(rt: &impl Abort, word: &[u8], out: &mut [u8], wanted: Result<usize, ScriptFault>) {
+    assert!(rt; word.len() <= 2_100_000);
+    assert!(rt; out.len() >= 1_050_000);
+    assert_eq!(rt; read_bytes(word, out), wanted, "{word:?}");
+}
+
 #[test]
 fn bytes_of_words(rt: HostRuntime) -> Result<(), Fail> {
     let mut out = vec![in rt.alloc(); 0; 1_050_000]?;
     let bad_number = Err(ScriptFault::BadNumber);
     let bad_hex = Err(ScriptFault::BadHex);
-    assert_eq!(rt; read_bytes(b"-", &mut out), Ok(0));
-    assert_eq!(rt; read_bytes(b"*0", &mut out), Ok(0));
-    assert_eq!(rt; read_bytes(b"*1000002", &mut out), bad_number);
-    assert_eq!(rt; read_bytes(b"*01", &mut out), bad_number);
-    assert_eq!(rt; read_bytes(b"*x", &mut out), bad_number);
-    assert_eq!(rt; read_bytes(b"*", &mut out), bad_number);
-    assert_eq!(rt; read_bytes(b"*-1", &mut out), bad_number);
-    assert_eq!(rt; read_bytes(b"-6", &mut out), bad_hex);
-    assert_eq!(rt; read_bytes(b"--", &mut out), bad_hex);
-    assert_eq!(rt; read_bytes(b"6*", &mut out), bad_hex);
-    assert_eq!(rt; read_bytes(b"6", &mut out), bad_hex);
-    assert_eq!(rt; read_bytes(b"6g", &mut out), bad_hex);
-    assert_eq!(rt; read_bytes(b"66 ", &mut out), bad_hex);
-    assert_eq!(rt; read_bytes(b"6A6b", &mut out), Ok(2));
+    let rows: [(&[u8], Result<usize, ScriptFault>); 13] = [
+        (b"-", Ok(0)),
+        (b"*0", Ok(0)),
+        (b"*1000002", bad_number),
+        (b"*01", bad_number),
+        (b"*x", bad_number),
+        (b"*", bad_number),
+        (b"*-1", bad_number),
+        (b"-6", bad_hex),
+        (b"--", bad_hex),
+        (b"6*", bad_hex),
+        (b"6", bad_hex),
+        (b"6g", bad_hex),
+        (b"66 ", bad_hex),
+    ];
+    for (word, wanted) in rows {
+        reads(&rt, word, &mut out, wanted);
+    }
+    reads(&rt, b"6A6b", &mut out, Ok(2));
     assert!(rt; out.starts_with(&[0x6a, 0x6b]));
-    assert_eq!(rt; read_bytes(b"*3", &mut out), Ok(3));
+    reads(&rt, b"*3", &mut out, Ok(3));
     assert!(rt; out.starts_with(&[0, 1, 2, 0]));
-    assert_eq!(rt; read_bytes(b"*1000001", &mut out), Ok(1_000_001));
+    reads(&rt, b"*1000001", &mut out, Ok(1_000_001));
     assert_eq!(rt; out.get(999_999).copied(), Some(63));
     assert_eq!(rt; out.get(1_000_000).copied(), Some(64));
     assert_eq!(rt; out.get(1_000_001).copied(), Some(0));
     Ok(())
 }
 
-fn source(alloc: Global, text: &[u8]) -> Result<MemSource, Fail> {
+fn source(alloc: Global, text: &[u8]) -> Result<MemSource, AllocError> {
     let bytes = Vec::from_slice(alloc, text)?;
     Ok(MemSource::new(bytes, Vec::new(alloc)))
+}
+
+// What comes next is this, and a line is these bytes.
+fn comes(
+    rt: &impl Abort,
+    lines: &mut Lines,
+    source: &mut MemSource,
+    wanted: Result<LineGot, ReadFailed>,
+    bytes: &[u8],
+) {
+    let answer = lines.next(source);
+    assert_eq!(rt; answer, wanted);
+    assert!(rt; answer != Ok(LineGot::Line) || lines.bytes() == bytes);
 }
 
 #[test]
 fn lines_with_and_without_a_feed(rt: HostRuntime) -> Result<(), Fail> {
     let mut source = source(rt.alloc(), b"go\n\nabc")?;
     let mut lines = Lines::open(rt.alloc(), 100, 3)?;
-    assert_eq!(rt; lines.next(&mut source), Ok(LineGot::Line));
-    assert_eq!(rt; lines.bytes(), b"go".as_slice());
-    assert_eq!(rt; lines.next(&mut source), Ok(LineGot::Line));
-    assert_eq!(rt; lines.bytes(), b"".as_slice());
-    assert_eq!(rt; lines.next(&mut source), Ok(LineGot::Line));
-    assert_eq!(rt; lines.bytes(), b"abc".as_slice());
-    assert_eq!(rt; lines.next(&mut source), Ok(LineGot::End));
+    comes(&rt, &mut lines, &mut source, Ok(LineGot::Line), b"go");
+    comes(&rt, &mut lines, &mut source, Ok(LineGot::Line), b"");
+    comes(&rt, &mut lines, &mut source, Ok(LineGot::Line), b"abc");
+    comes(&rt, &mut lines, &mut source, Ok(LineGot::End), b"");
     assert_eq!(rt; lines.number(), 4);
     Ok(())
 }
@@ -85,9 +109,9 @@ fn lines_with_and_without_a_feed(rt: HostRuntime) -> Result<(), Fail> {
 fn a_long_line(rt: HostRuntime) -> Result<(), Fail> {
     let mut source = source(rt.alloc(), b"go\n\nabc")?;
     let mut lines = Lines::open(rt.alloc(), 100, 2)?;
-    assert_eq!(rt; lines.next(&mut source), Ok(LineGot::Line));
-    assert_eq!(rt; lines.next(&mut source), Ok(LineGot::Line));
-    assert_eq!(rt; lines.next(&mut source), Ok(LineGot::Long));
+    comes(&rt, &mut lines, &mut source, Ok(LineGot::Line), b"go");
+    comes(&rt, &mut lines, &mut source, Ok(LineGot::Line), b"");
+    comes(&rt, &mut lines, &mut source, Ok(LineGot::Long), b"");
     assert_eq!(rt; lines.number(), 3);
     Ok(())
 }
@@ -96,33 +120,45 @@ fn a_long_line(rt: HostRuntime) -> Result<(), Fail> {
 fn one_byte_over_the_limit(rt: HostRuntime) -> Result<(), Fail> {
     let mut source = source(rt.alloc(), b"go\n\n")?;
     let mut lines = Lines::open(rt.alloc(), 3, 100)?;
-    assert_eq!(rt; lines.next(&mut source), Ok(LineGot::Line));
-    assert_eq!(rt; lines.next(&mut source), Ok(LineGot::Over));
+    comes(&rt, &mut lines, &mut source, Ok(LineGot::Line), b"go");
+    comes(&rt, &mut lines, &mut source, Ok(LineGot::Over), b"");
     Ok(())
 }
 
 #[test]
 fn a_read_fails_in_a_line(rt: HostRuntime) -> Result<(), Fail> {
     // The first read gives the first line, of 65,531 bytes, and five bytes of the second.
-    let mut bytes = vec![in rt.alloc(); b'a'; 65530]?;
+    let first = vec![in rt.alloc(); b'a'; 65530]?;
+    let mut bytes = Vec::from_slice(rt.alloc(), &first)?;
     bytes.extend_from_slice(b"\n0123456789\n")?;
-    let mut source = MemSource::new(bytes, Vec::from_slice(rt.alloc(), &[1])?);
+    let fails = Vec::from_slice(rt.alloc(), &[1])?;
+    let mut source = MemSource::new(bytes, fails);
     let mut lines = Lines::open(rt.alloc(), 100_000, 70_000)?;
-    assert_eq!(rt; lines.next(&mut source), Ok(LineGot::Line));
-    assert_eq!(rt; lines.bytes().len(), 65530);
-    assert_eq!(rt; lines.next(&mut source), Err(ReadFailed));
-    assert_eq!(rt; lines.next(&mut source), Ok(LineGot::Line));
-    assert_eq!(rt; lines.bytes(), b"56789".as_slice());
-    assert_eq!(rt; lines.next(&mut source), Ok(LineGot::End));
+    comes(&rt, &mut lines, &mut source, Ok(LineGot::Line), &first);
+    comes(&rt, &mut lines, &mut source, Err(ReadFailed), b"");
+    comes(&rt, &mut lines, &mut source, Ok(LineGot::Line), b"56789");
+    comes(&rt, &mut lines, &mut source, Ok(LineGot::End), b"");
     Ok(())
+}
+
+// An entry is printed, or the write fails.
+fn puts(rt: &impl Abort, sink: &mut MemSink, entry: &Entry<'_>, wanted: Result<(), WriteFailed>)
+    requires { HasLine (plain entry.now) }
+{
+    assert_eq!(rt; put_entry(sink, entry), wanted);
+}
+
+// A sink took these bytes.
+fn took(rt: &impl Abort, sink: &MemSink, bytes: &[u8]) {
+    assert!(rt; sink.bytes() == bytes);
 }
 
 fn expect_line(rt: &impl Abort, alloc: Global, entry: &Entry<'_>, line: &[u8]) -> Result<(), Fail>
     requires { HasLine (plain entry.now) }
 {
     let mut sink = MemSink::new(alloc, 200, Vec::new(alloc))?;
-    assert_eq!(rt; put_entry(&mut sink, entry), Ok(()));
-    assert_eq!(rt; sink.bytes(), line);
+    puts(rt, &mut sink, entry, Ok(()));
+    took(rt, &sink, line);
     Ok(())
 }
 
@@ -245,6 +281,11 @@ fn lines_that_are_quick(rt: HostRuntime) -> Result<(), Fail> {
     )
 }
 
+// Words are printed as a line.
+fn puts_words(rt: &impl Abort, sink: &mut MemSink, words: &[Word<'_>]) {
+    assert_eq!(rt; put_line(sink, words), Ok(()));
+}
+
 #[test]
 fn lines_of_words(rt: HostRuntime) -> Result<(), Fail> {
     let mut sink = MemSink::new(rt.alloc(), 100, Vec::new(rt.alloc()))?;
@@ -254,9 +295,9 @@ fn lines_of_words(rt: HostRuntime) -> Result<(), Fail> {
         Word::Hex(b""),
         Word::Call(1, 2),
     ];
-    assert_eq!(rt; put_line(&mut sink, &words), Ok(()));
-    assert_eq!(rt; put_line(&mut sink, &[]), Ok(()));
-    assert_eq!(rt; sink.bytes(), b"get 7 - 1.2\n\n".as_slice());
+    puts_words(&rt, &mut sink, &words);
+    puts_words(&rt, &mut sink, &[]);
+    took(&rt, &sink, b"get 7 - 1.2\n\n");
     Ok(())
 }
 
@@ -265,33 +306,51 @@ fn a_line_is_one_write(rt: HostRuntime) -> Result<(), Fail> {
     let fails = Vec::from_slice(rt.alloc(), &[1])?;
     let mut sink = MemSink::new(rt.alloc(), 100, fails)?;
     let line = Entry::Finished { n: 12 };
-    assert_eq!(rt; put_entry(&mut sink, &line), Ok(()));
-    assert_eq!(rt; put_entry(&mut sink, &line), Err(WriteFailed));
-    assert_eq!(rt; sink.bytes(), b"ok 12\n".as_slice());
+    puts(&rt, &mut sink, &line, Ok(()));
+    puts(&rt, &mut sink, &line, Err(WriteFailed));
+    took(&rt, &sink, b"ok 12\n");
     Ok(())
+}
+
+// The line of an injection of so many bytes, each of them 0xab.
+fn injection(alloc: Global, n: u32) -> Result<Vec<u8>, AllocError> {
+    let mut line = Vec::from_slice(alloc, b"inject 3 ")?;
+    for _ in 0..n {
+        line.extend_from_slice(b"ab")?;
+    }
+    line.push(b'\n')?;
+    Ok(line)
 }
 
 #[test]
 fn a_long_line_goes_out_in_parts(rt: HostRuntime) -> Result<(), Fail> {
     let bytes = vec![in rt.alloc(); 0xab; 40_000]?;
-    let call = Entry::Inject {
-        host: HostId(3),
+    let expected = injection(rt.alloc(), 40_000)?;
+    let mut sink = MemSink::new(rt.alloc(), 100_000, Vec::new(rt.alloc()))?;
+    let host = HostId(3);
+    let entry = Entry::Inject {
+        host,
         bytes: &bytes,
     };
-    let mut expected = Vec::from_slice(rt.alloc(), b"inject 3 ")?;
-    for _ in 0..40_000 {
-        expected.extend_from_slice(b"ab")?;
-    }
-    expected.push(b'\n')?;
-    let mut sink = MemSink::new(rt.alloc(), 100_000, Vec::new(rt.alloc()))?;
-    assert_eq!(rt; put_entry(&mut sink, &call), Ok(()));
-    assert_eq!(rt; sink.bytes(), expected.as_slice());
+    puts(&rt, &mut sink, &entry, Ok(()));
+    took(&rt, &sink, &expected);
+    Ok(())
+}
 
-    // The second part fails, after the first of at most 65,536 bytes.
+// The second part fails, after the first of at most 65,536 bytes.
+#[test]
+fn a_part_of_a_long_line_fails(rt: HostRuntime) -> Result<(), Fail> {
+    let bytes = vec![in rt.alloc(); 0xab; 40_000]?;
+    let expected = injection(rt.alloc(), 40_000)?;
     let fails = Vec::from_slice(rt.alloc(), &[1])?;
     let mut sink = MemSink::new(rt.alloc(), 100_000, fails)?;
-    assert_eq!(rt; put_entry(&mut sink, &call), Err(WriteFailed));
-    assert_eq!(rt; expected.as_slice().starts_with(sink.bytes()), true);
-    assert_eq!(rt; sink.bytes().is_empty(), false);
+    let host = HostId(3);
+    let entry = Entry::Inject {
+        host,
+        bytes: &bytes,
+    };
+    puts(&rt, &mut sink, &entry, Err(WriteFailed));
+    assert!(rt; expected.as_slice().starts_with(sink.bytes()));
+    assert!(rt; !sink.bytes().is_empty());
     Ok(())
 }
