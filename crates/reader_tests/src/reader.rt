@@ -10,11 +10,12 @@ use homa_plain::{
     Settings, StartFault, Why, WorldFault,
 };
 use homa_text::put_entry;
-use std::alloc::Global;
+use std::alloc::{AllocError, Global};
 use std::process::Abort;
 use std::test::Fail;
 
-fn same(rt: &impl Abort, alloc: Global, entry: &Entry<'_>, line: &[u8]) -> Result<(), Fail>
+// An entry is printed as this line.
+fn is_printed(rt: &impl Abort, alloc: Global, entry: &Entry<'_>, line: &[u8]) -> Result<(), Fail>
     requires { HasLine (plain entry.now) }
 {
     let mut expected = Vec::from_slice(alloc, line)?;
@@ -22,11 +23,23 @@ fn same(rt: &impl Abort, alloc: Global, entry: &Entry<'_>, line: &[u8]) -> Resul
     let mut sink = MemSink::new(alloc, 300, Vec::new(alloc))?;
     assert_eq!(rt; put_entry(&mut sink, entry), Ok(()));
     assert_eq!(rt; sink.bytes(), expected.as_slice());
+    Ok(())
+}
+
+// A line is read as this entry.
+fn is_read(rt: &impl Abort, alloc: Global, entry: &Entry<'_>, line: &[u8]) -> Result<(), Fail> {
     let mut bytes = vec![in alloc; 0; line.len()]?;
     let read = format!(in alloc; "{:?}", read_entry(line, &mut bytes))?;
     let expected = format!(in alloc; "{:?}", Some(entry))?;
     assert_eq!(rt; read.as_str(), expected.as_str());
     Ok(())
+}
+
+fn same(rt: &impl Abort, alloc: Global, entry: &Entry<'_>, line: &[u8]) -> Result<(), Fail>
+    requires { HasLine (plain entry.now) }
+{
+    is_printed(rt, alloc, entry, line)?;
+    is_read(rt, alloc, entry, line)
 }
 
 const CALL: CallId = CallId {
@@ -278,7 +291,7 @@ fn refusals_by_the_world(rt: HostRuntime) -> Result<(), Fail> {
     same(&rt, alloc, &back, b"refused 2 Back 30 29")
 }
 
-fn none(rt: &impl Abort, alloc: Global, line: &[u8]) -> Result<(), Fail> {
+fn none(rt: &impl Abort, alloc: Global, line: &[u8]) -> Result<(), AllocError> {
     let mut bytes = vec![in alloc; 0; line.len()]?;
     assert_eq!(rt; read_entry(line, &mut bytes), None);
     Ok(())
