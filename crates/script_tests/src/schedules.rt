@@ -1,33 +1,89 @@
 // Schedules that are read, refused and printed. What is expected is written out by hand.
+ghost use Rattle.std.specs.Prelude.{◌≡◌, ◌<◌, ◌-◌, ◌^◌, true, false, Ok};
+ghost use Rattle.homa_script.specs.Script.{opened, is_end};
+
 use homa_io::{MemSink, MemSource, ReadFailed, WriteFailed};
 use homa_plain::{Event, HostId, Name, ScriptFault, SettingFault, Settings};
 use homa_script::{Next, Reader, ScriptStop, put_event, put_settings};
-use std::alloc::Global;
+use std::alloc::{AllocError, Global};
 use std::process::Abort;
 use std::test::Fail;
 
 const MOST_BYTES: u64 = 68_719_476_736;
 
-fn source_of(alloc: Global, text: &[u8]) -> Result<MemSource, Fail> {
+fn source_of(alloc: Global, text: &[u8]) -> Result<MemSource, AllocError> {
     let bytes = Vec::from_slice(alloc, text)?;
     Ok(MemSource::new(bytes, Vec::new(alloc)))
 }
 
-// What a schedule of at most a hundred events gives: how many they are, or the first stop and its line.
-fn read_all(alloc: Global, text: &[u8]) -> Result<Result<u32, (u64, ScriptStop)>, Fail> {
-    let mut source = source_of(alloc, text)?;
-    let mut reader = Reader::open(alloc, MOST_BYTES)?;
-    if let Err(stop) = reader.settings(&mut source) {
-        return Ok(Err((reader.line(), stop)));
-    }
+// The settings are these.
+fn begins(rt: &impl Abort, reader: &mut Reader, source: &mut MemSource, settings: &Settings)
+    requires { reader.old ≡ opened reader.old.place.limit }
+    ensures started { reader.new.started ≡ true }
+    ensures not_ended { reader.new.ended ≡ false }
+{
+    assert_eq!(rt; reader.settings(source), Ok(*settings));
+}
+
+// What comes next is this, with these bytes.
+fn goes_on(rt: &impl Abort, reader: &mut Reader, source: &mut MemSource, next: Next, bytes: &[u8])
+    requires started { reader.old.started ≡ true }
+    requires not_ended { reader.old.ended ≡ false }
+    ensures started { reader.new.started ≡ true }
+    ensures ended { reader.new.ended ≡ is_end (Ok next) }
+{
+    assert_eq!(rt; reader.next(source), Ok(next));
+    assert!(rt; reader.bytes() == bytes);
+}
+
+// The reader stops so, or has.
+fn stops(rt: &impl Abort, reader: &mut Reader, source: &mut MemSource, stop: ScriptStop)
+    requires started { reader.old.started ≡ true }
+    requires not_ended { reader.old.ended ≡ false }
+    ensures started { reader.new.started ≡ true }
+    ensures not_ended { reader.new.ended ≡ false }
+{
+    assert_eq!(rt; reader.next(source), Err(stop));
+}
+
+// The settings are refused so, and what comes next is too.
+fn refuses(rt: &impl Abort, reader: &mut Reader, source: &mut MemSource, stop: ScriptStop)
+    requires { reader.old ≡ opened reader.old.place.limit }
+{
+    assert_eq!(rt; reader.settings(source), Err(stop));
+    assert_eq!(rt; reader.next(source), Err(stop));
+}
+
+// What the events give behind the settings, of which there are at most a hundred: how many they are, or
+// the first stop and its line.
+fn events_of(reader: &mut Reader, source: &mut MemSource) -> Result<u32, (u64, ScriptStop)>
+    requires started { reader.old.started ≡ true }
+    requires not_ended { reader.old.ended ≡ false }
+{
     for events in 0..100 {
-        match reader.next(&mut source) {
-            Ok(Next::End) => return Ok(Ok(events)),
+        match reader.next(source) {
+            Ok(Next::End) => return Ok(events),
             Ok(_) => {}
-            Err(stop) => return Ok(Err((reader.line(), stop))),
+            Err(stop) => return Err((reader.line(), stop)),
         }
     }
-    Ok(Ok(100))
+    Ok(100)
+}
+
+// The same of a whole schedule.
+fn count_events(reader: &mut Reader, source: &mut MemSource) -> Result<u32, (u64, ScriptStop)>
+    requires { reader.old ≡ opened reader.old.place.limit }
+{
+    match reader.settings(source) {
+        Ok(_) => events_of(reader, source),
+        Err(stop) => Err((reader.line(), stop)),
+    }
+}
+
+fn read_all(alloc: Global, text: &[u8]) -> Result<Result<u32, (u64, ScriptStop)>, AllocError> {
+    let mut source = source_of(alloc, text)?;
+    let mut reader = Reader::open(alloc, MOST_BYTES)?;
+    Ok(count_events(&mut reader, &mut source))
 }
 
 fn refused(
@@ -36,10 +92,17 @@ fn refused(
     text: &[u8],
     line: u64,
     fault: ScriptFault,
-) -> Result<(), Fail> {
+) -> Result<(), AllocError> {
     let stop = ScriptStop::Fault(fault);
     assert_eq!(rt; read_all(alloc, text)?, Err((line, stop)), "{text:?}");
     Ok(())
+}
+
+// A line behind `go`.
+fn behind_go(alloc: Global, line: &[u8]) -> Result<Vec<u8>, AllocError> {
+    let mut text = Vec::from_slice(alloc, b"go\n")?;
+    text.extend_from_slice(line)?;
+    Ok(text)
 }
 
 #[test]
@@ -99,7 +162,8 @@ fn lines_before_go_that_are_refused(rt: HostRuntime) -> Result<(), Fail> {
     for (text, fault) in rows {
         refused(&rt, rt.alloc(), text, 1, fault)?;
     }
-    refused(&rt, rt.alloc(), b"window 8\ngo 1", 2, ScriptFault::Extra)
+    refused(&rt, rt.alloc(), b"window 8\ngo 1", 2, ScriptFault::Extra)?;
+    Ok(())
 }
 
 #[test]
@@ -146,11 +210,18 @@ fn lines_behind_go_that_are_refused(rt: HostRuntime) -> Result<(), Fail> {
         (b"clock\r\r", ScriptFault::UnknownWord),
     ];
     for (line, fault) in rows {
-        let mut text = Vec::from_slice(rt.alloc(), b"go\n")?;
-        text.extend_from_slice(line)?;
+        let text = behind_go(rt.alloc(), line)?;
         refused(&rt, rt.alloc(), &text, 2, fault)?;
     }
     Ok(())
+}
+
+// The line behind `go` stands for this, with these bytes.
+fn gives(rt: &impl Abort, reader: &mut Reader, source: &mut MemSource, next: Next, bytes: &[u8])
+    requires { reader.old ≡ opened reader.old.place.limit }
+{
+    begins(rt, reader, source, &Settings::usual());
+    goes_on(rt, reader, source, next, bytes);
 }
 
 // The one line behind `go` stands for this, with these bytes.
@@ -160,14 +231,11 @@ fn stands_for(
     line: &[u8],
     next: Next,
     bytes: &[u8],
-) -> Result<(), Fail> {
-    let mut text = Vec::from_slice(alloc, b"go\n")?;
-    text.extend_from_slice(line)?;
+) -> Result<(), AllocError> {
+    let text = behind_go(alloc, line)?;
     let mut source = source_of(alloc, &text)?;
     let mut reader = Reader::open(alloc, MOST_BYTES)?;
-    assert_eq!(rt; reader.settings(&mut source), Ok(Settings::usual()));
-    assert_eq!(rt; reader.next(&mut source), Ok(next), "{line:?}");
-    assert_eq!(rt; reader.bytes(), bytes, "{line:?}");
+    gives(rt, &mut reader, &mut source, next, bytes);
     Ok(())
 }
 
@@ -239,148 +307,205 @@ fn a_whole_schedule(rt: HostRuntime) -> Result<(), Fail> {
     let text = b"# two\nhosts 5\nhosts 3\n\nwire 2\ngo\ncall 0 1 0 6869\ndeliver 0\ntick 5";
     let mut source = source_of(rt.alloc(), text)?;
     let mut reader = Reader::open(rt.alloc(), MOST_BYTES)?;
+    reads_three(&rt, &mut reader, &mut source);
+    Ok(())
+}
+
+// Three hosts, a call in line 7, its packet, and five ticks.
+fn reads_three(rt: &impl Abort, reader: &mut Reader, source: &mut MemSource)
+    requires { reader.old ≡ opened reader.old.place.limit }
+{
     let settings = Settings {
         hosts: 3,
         wire: 2,
         ..Settings::usual()
     };
-    assert_eq!(rt; reader.settings(&mut source), Ok(settings));
+    begins(rt, reader, source, &settings);
     assert_eq!(rt; reader.line(), 6);
     let call = Event::Call {
         client: HostId(0),
         server: HostId(1),
         number: 0,
     };
-    assert_eq!(rt; reader.next(&mut source), Ok(Next::Event(call)));
+    goes_on(rt, reader, source, Next::Event(call), b"hi");
     assert_eq!(rt; reader.line(), 7);
-    assert_eq!(rt; reader.bytes(), b"hi".as_slice());
     let deliver = Event::Deliver { packet: 0 };
-    assert_eq!(rt; reader.next(&mut source), Ok(Next::Event(deliver)));
-    assert_eq!(rt; reader.bytes(), b"".as_slice());
-    assert_eq!(rt; reader.next(&mut source), Ok(Next::Ticks(5)));
+    goes_on(rt, reader, source, Next::Event(deliver), b"");
+    goes_on(rt, reader, source, Next::Ticks(5), b"");
     assert_eq!(rt; reader.line(), 9);
-    assert_eq!(rt; reader.next(&mut source), Ok(Next::End));
+    goes_on(rt, reader, source, Next::End, b"");
     assert_eq!(rt; reader.line(), 10);
-    Ok(())
 }
 
-// A line of so many bytes, behind `go`: it begins with these, and the others are this byte.
-fn long_text(alloc: Global, first: &[u8], rest: u8, len: u32) -> Result<Vec<u8>, Fail> {
+// A line of so many bytes, behind `go`, and this end: it begins with these, and the others are this byte.
+fn long_text(
+    alloc: Global,
+    first: &[u8],
+    rest: u8,
+    len: u32,
+    end: &[u8],
+) -> Result<Vec<u8>, AllocError> {
     let mut text = Vec::from_slice(alloc, b"go\n")?;
     text.extend_from_slice(first)?;
     text.resize(3 + len as usize, rest)?;
+    text.extend_from_slice(end)?;
     Ok(text)
 }
 
 #[test]
+fn long_lines_that_are_refused(rt: HostRuntime) -> Result<(), Fail> {
+    // 2,099,991 digits are an odd number. A carriage return counts.
+    let rows: [(&[u8], u32, &[u8], ScriptFault); 4] = [
+        (b"inject 0 ", 2_100_001, b"", ScriptFault::LongLine),
+        (b"inject 0 ", 2_100_000, b"", ScriptFault::BadHex),
+        (b"# ", 2_100_001, b"", ScriptFault::LongLine),
+        (b"# ", 2_100_000, b"\r\n", ScriptFault::LongLine),
+    ];
+    for (first, len, end, fault) in rows {
+        let text = long_text(rt.alloc(), first, b'0', len, end)?;
+        refused(&rt, rt.alloc(), &text, 2, fault)?;
+    }
+    Ok(())
+}
+
+#[test]
 fn long_lines(rt: HostRuntime) -> Result<(), Fail> {
-    let text = long_text(rt.alloc(), b"inject 0 ", b'0', 2_100_001)?;
-    refused(&rt, rt.alloc(), &text, 2, ScriptFault::LongLine)?;
-
-    // 2,099,991 digits are an odd number.
-    let text = long_text(rt.alloc(), b"inject 0 ", b'0', 2_100_000)?;
-    refused(&rt, rt.alloc(), &text, 2, ScriptFault::BadHex)?;
-    let text = long_text(rt.alloc(), b"inject  0 ", b'0', 2_100_000)?;
-    assert_eq!(rt; read_all(rt.alloc(), &text)?, Ok(1));
-
-    let text = long_text(rt.alloc(), b"# ", b'0', 2_100_001)?;
-    refused(&rt, rt.alloc(), &text, 2, ScriptFault::LongLine)?;
-    let text = long_text(rt.alloc(), b"# ", b'0', 2_100_000)?;
-    assert_eq!(rt; read_all(rt.alloc(), &text)?, Ok(0));
-
-    // A carriage return counts, and a line feed doesn't.
-    let mut text = long_text(rt.alloc(), b"# ", b'0', 2_100_000)?;
-    text.push(b'\n')?;
-    assert_eq!(rt; read_all(rt.alloc(), &text)?, Ok(0));
-    let mut text = long_text(rt.alloc(), b"# ", b'0', 2_100_000)?;
-    text.extend_from_slice(b"\r\n")?;
-    refused(&rt, rt.alloc(), &text, 2, ScriptFault::LongLine)
+    // A line feed doesn't count.
+    let rows: [(&[u8], &[u8], u32); 3] = [
+        (b"inject  0 ", b"", 1),
+        (b"# ", b"", 0),
+        (b"# ", b"\n", 0),
+    ];
+    for (first, end, events) in rows {
+        let text = long_text(rt.alloc(), first, b'0', 2_100_000, end)?;
+        assert_eq!(rt; read_all(rt.alloc(), &text)?, Ok(events), "{first:?}");
+    }
+    Ok(())
 }
 
 #[test]
 fn lines_that_are_no_text(rt: HostRuntime) -> Result<(), Fail> {
-    refused(&rt, rt.alloc(), b"go\nclock \xff", 2, ScriptFault::NotUtf8)?;
-    refused(&rt, rt.alloc(), b"# \xff\ngo", 1, ScriptFault::NotUtf8)?;
-    refused(
-        &rt,
-        rt.alloc(),
-        "go\nclöck".as_bytes(),
-        2,
-        ScriptFault::UnknownWord,
-    )?;
-    let text = long_text(rt.alloc(), b"inject 0 ", 0xff, 2_100_001)?;
-    refused(&rt, rt.alloc(), &text, 2, ScriptFault::LongLine)?;
-    let text = long_text(rt.alloc(), b"# ", 0xff, 2_100_000)?;
-    refused(&rt, rt.alloc(), &text, 2, ScriptFault::NotUtf8)
+    let rows: [(&[u8], u64, ScriptFault); 3] = [
+        (b"go\nclock \xff", 2, ScriptFault::NotUtf8),
+        (b"# \xff\ngo", 1, ScriptFault::NotUtf8),
+        ("go\nclöck".as_bytes(), 2, ScriptFault::UnknownWord),
+    ];
+    for (text, line, fault) in rows {
+        refused(&rt, rt.alloc(), text, line, fault)?;
+    }
+    Ok(())
+}
+
+#[test]
+fn long_lines_that_are_no_text(rt: HostRuntime) -> Result<(), Fail> {
+    let rows: [(&[u8], u32, ScriptFault); 2] = [
+        (b"inject 0 ", 2_100_001, ScriptFault::LongLine),
+        (b"# ", 2_100_000, ScriptFault::NotUtf8),
+    ];
+    for (first, len, fault) in rows {
+        let text = long_text(rt.alloc(), first, 0xff, len, b"")?;
+        refused(&rt, rt.alloc(), &text, 2, fault)?;
+    }
+    Ok(())
+}
+
+// The input is too long behind its settings.
+fn is_too_long(rt: &impl Abort, alloc: Global, text: &[u8], limit: u64) -> Result<(), AllocError>
+    requires { limit < 2 ^ 64 - 1 }
+{
+    let mut source = source_of(alloc, text)?;
+    let mut reader = Reader::open(alloc, limit)?;
+    let stop = ScriptStop::Fault(ScriptFault::InputTooLong);
+    begins(rt, &mut reader, &mut source, &Settings::usual());
+    stops(rt, &mut reader, &mut source, stop);
+    assert_eq!(rt; reader.line(), 2);
+    Ok(())
 }
 
 #[test]
 fn an_input_that_is_too_long(rt: HostRuntime) -> Result<(), Fail> {
-    let mut source = source_of(rt.alloc(), b"go\n\n")?;
-    let mut reader = Reader::open(rt.alloc(), 3)?;
-    assert_eq!(rt; reader.settings(&mut source), Ok(Settings::usual()));
-    let stop = ScriptStop::Fault(ScriptFault::InputTooLong);
-    assert_eq!(rt; reader.next(&mut source), Err(stop));
-    assert_eq!(rt; reader.line(), 2);
+    is_too_long(&rt, rt.alloc(), b"go\n\n", 3)?;
 
     // Its other refusals come later: this line has an unknown word, and is no text.
-    let mut source = source_of(rt.alloc(), b"go\nx \xff\n")?;
-    let mut reader = Reader::open(rt.alloc(), 6)?;
-    assert_eq!(rt; reader.settings(&mut source), Ok(Settings::usual()));
-    assert_eq!(rt; reader.next(&mut source), Err(stop));
+    is_too_long(&rt, rt.alloc(), b"go\nx \xff\n", 6)?;
+    Ok(())
+}
 
-    // A last line that ends at the limit is none of it.
+// A last line that ends at the limit is none of it.
+#[test]
+fn an_input_that_ends_at_the_limit(rt: HostRuntime) -> Result<(), Fail> {
     let mut source = source_of(rt.alloc(), b"go\nclock")?;
     let mut reader = Reader::open(rt.alloc(), 8)?;
-    assert_eq!(rt; reader.settings(&mut source), Ok(Settings::usual()));
-    assert_eq!(rt; reader.next(&mut source), Ok(Next::Event(Event::Clock)));
-    assert_eq!(rt; reader.next(&mut source), Ok(Next::End));
+    begins(&rt, &mut reader, &mut source, &Settings::usual());
+    let clock = Next::Event(Event::Clock);
+    goes_on(&rt, &mut reader, &mut source, clock, b"");
+    goes_on(&rt, &mut reader, &mut source, Next::End, b"");
     Ok(())
+}
+
+// A source of these bytes, of which the read with this number, from 0, fails.
+fn failing(alloc: Global, bytes: Vec<u8>, read: u64) -> Result<MemSource, AllocError> {
+    let fails = Vec::from_slice(alloc, &[read])?;
+    Ok(MemSource::new(bytes, fails))
 }
 
 #[test]
 fn the_first_stop_stays(rt: HostRuntime) -> Result<(), Fail> {
     // The first read gives it all, and a second one would fail.
     let bytes = Vec::from_slice(rt.alloc(), b"go\nclock x\nclock\n")?;
-    let mut source = MemSource::new(bytes, Vec::from_slice(rt.alloc(), &[1])?);
+    let mut source = failing(rt.alloc(), bytes, 1)?;
     let mut reader = Reader::open(rt.alloc(), MOST_BYTES)?;
-    assert_eq!(rt; reader.settings(&mut source), Ok(Settings::usual()));
     let stop = ScriptStop::Fault(ScriptFault::Extra);
-    assert_eq!(rt; reader.next(&mut source), Err(stop));
-    assert_eq!(rt; reader.next(&mut source), Err(stop));
-    assert_eq!(rt; reader.next(&mut source), Err(stop));
+    begins(&rt, &mut reader, &mut source, &Settings::usual());
+    stops(&rt, &mut reader, &mut source, stop);
+    stops(&rt, &mut reader, &mut source, stop);
+    stops(&rt, &mut reader, &mut source, stop);
     assert_eq!(rt; reader.line(), 2);
+    Ok(())
+}
 
+#[test]
+fn a_first_stop_before_go_stays(rt: HostRuntime) -> Result<(), Fail> {
     let mut source = source_of(rt.alloc(), b"hosts\ngo\nclock")?;
     let mut reader = Reader::open(rt.alloc(), MOST_BYTES)?;
     let stop = ScriptStop::Fault(ScriptFault::Missing);
-    assert_eq!(rt; reader.settings(&mut source), Err(stop));
-    assert_eq!(rt; reader.next(&mut source), Err(stop));
+    refuses(&rt, &mut reader, &mut source, stop);
     assert_eq!(rt; reader.line(), 1);
     Ok(())
 }
 
 #[test]
-fn reads_that_fail(rt: HostRuntime) -> Result<(), Fail> {
-    let stop = ScriptStop::Read(ReadFailed);
+fn a_first_read_that_fails(rt: HostRuntime) -> Result<(), Fail> {
     let bytes = Vec::from_slice(rt.alloc(), b"go\nclock\n")?;
-    let mut source = MemSource::new(bytes, Vec::from_slice(rt.alloc(), &[0])?);
+    let mut source = failing(rt.alloc(), bytes, 0)?;
     let mut reader = Reader::open(rt.alloc(), MOST_BYTES)?;
-    assert_eq!(rt; reader.settings(&mut source), Err(stop));
-    assert_eq!(rt; reader.next(&mut source), Err(stop));
+    let stop = ScriptStop::Read(ReadFailed);
+    refuses(&rt, &mut reader, &mut source, stop);
+    Ok(())
+}
 
-    // The first read gives 65,536 bytes: `go`, a comment of 65,522 bytes with its line feed, and one event
-    // of six bytes with five of the next.
-    let mut bytes = vec![in rt.alloc(); b'#'; 65_525]?;
+// `go`, a comment of 65,522 bytes with its line feed, one event of six bytes with five of the next, which
+// are 65,536 bytes, and the last one.
+fn more_than_a_read(alloc: Global) -> Result<Vec<u8>, AllocError> {
+    let mut bytes = vec![in alloc; b'#'; 65_525]?;
     bytes[..3].copy_from_slice(b"go\n");
     bytes[65_524] = b'\n';
     bytes.extend_from_slice(b"clock\nclock\n")?;
-    let mut source = MemSource::new(bytes, Vec::from_slice(rt.alloc(), &[1])?);
+    Ok(bytes)
+}
+
+#[test]
+fn a_read_that_fails_in_an_event(rt: HostRuntime) -> Result<(), Fail> {
+    // The first read gives 65,536 bytes.
+    let bytes = more_than_a_read(rt.alloc())?;
+    let mut source = failing(rt.alloc(), bytes, 1)?;
     let mut reader = Reader::open(rt.alloc(), MOST_BYTES)?;
-    assert_eq!(rt; reader.settings(&mut source), Ok(Settings::usual()));
-    assert_eq!(rt; reader.next(&mut source), Ok(Next::Event(Event::Clock)));
-    assert_eq!(rt; reader.next(&mut source), Err(stop));
-    assert_eq!(rt; reader.next(&mut source), Err(stop));
+    begins(&rt, &mut reader, &mut source, &Settings::usual());
+    let clock = Next::Event(Event::Clock);
+    goes_on(&rt, &mut reader, &mut source, clock, b"");
+    let stop = ScriptStop::Read(ReadFailed);
+    stops(&rt, &mut reader, &mut source, stop);
+    stops(&rt, &mut reader, &mut source, stop);
     Ok(())
 }
 
@@ -395,7 +520,8 @@ fn printed(
     let mut sink = MemSink::new(alloc, 200, Vec::new(alloc))?;
     assert_eq!(rt; put_event(&mut sink, &event, bytes), Ok(()));
     assert_eq!(rt; sink.bytes(), line);
-    stands_for(rt, alloc, sink.bytes(), Next::Event(event), bytes)
+    stands_for(rt, alloc, sink.bytes(), Next::Event(event), bytes)?;
+    Ok(())
 }
 
 #[test]
@@ -435,18 +561,34 @@ fn events_that_are_printed(rt: HostRuntime) -> Result<(), Fail> {
     )
 }
 
-fn prints(rt: &impl Abort, alloc: Global, settings: &Settings, last: &[u8]) -> Result<(), Fail> {
+// The lines of the usual settings, and these last ones.
+fn usual_lines(alloc: Global, last: &[u8]) -> Result<Vec<u8>, AllocError> {
     let mut text = Vec::from_slice(alloc, b"hosts 2\nseg 1400\nwindow 10000\nunsched 10000\n")?;
     text.extend_from_slice(b"overcommit 4\nrate 14000\nresend 4\ntries 5\nlife 20\n")?;
     text.extend_from_slice(b"pages 1024\ncalls 256\nserved 1024\nrebalance 0\n")?;
     text.extend_from_slice(last)?;
+    Ok(text)
+}
+
+// Settings are printed as the usual lines with these last ones, which are then read back.
+fn prints(rt: &impl Abort, alloc: Global, settings: &Settings, last: &[u8]) -> Result<(), Fail> {
+    let text = usual_lines(alloc, last)?;
     let mut sink = MemSink::new(alloc, 300, Vec::new(alloc))?;
     assert_eq!(rt; put_settings(&mut sink, settings), Ok(()));
     assert_eq!(rt; sink.bytes(), text.as_slice());
+    reads_back(rt, alloc, settings, &text)?;
+    Ok(())
+}
 
-    let mut source = source_of(alloc, &text)?;
+fn reads_back(
+    rt: &impl Abort,
+    alloc: Global,
+    settings: &Settings,
+    text: &[u8],
+) -> Result<(), AllocError> {
+    let mut source = source_of(alloc, text)?;
     let mut reader = Reader::open(alloc, MOST_BYTES)?;
-    assert_eq!(rt; reader.settings(&mut source), Ok(*settings));
+    begins(rt, &mut reader, &mut source, settings);
     Ok(())
 }
 
@@ -475,12 +617,14 @@ fn writes_that_fail(rt: HostRuntime) -> Result<(), Fail> {
     let mut sink = MemSink::new(rt.alloc(), 300, fails)?;
     let usual = Settings::usual();
     assert_eq!(rt; put_settings(&mut sink, &usual), Err(WriteFailed));
-    assert_eq!(rt;
-        sink.bytes(),
-        b"hosts 2\nseg 1400\nwindow 10000\n".as_slice()
-    );
+    let lines = b"hosts 2\nseg 1400\nwindow 10000\n".as_slice();
+    assert_eq!(rt; sink.bytes(), lines);
     assert_eq!(rt; put_event(&mut sink, &Event::Clock, b""), Ok(()));
+    Ok(())
+}
 
+#[test]
+fn a_write_that_finds_no_room(rt: HostRuntime) -> Result<(), Fail> {
     let mut full = MemSink::new(rt.alloc(), 4, Vec::new(rt.alloc()))?;
     assert_eq!(rt; put_event(&mut full, &Event::Clock, b""), Err(WriteFailed));
     assert_eq!(rt; full.bytes(), b"cloc".as_slice());

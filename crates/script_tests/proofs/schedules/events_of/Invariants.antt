@@ -1,5 +1,5 @@
 use Rattle.std.proofs.Common.{◌≡◌, true, false}
-use Rattle.script_tests.proofs.schedules.read_all.Given as goal
+use Rattle.script_tests.proofs.schedules.events_of.Given as goal
 
 -- the reader goes on
 abbrev pub invariant-loop-events : goal.invariant-loop-events
