@@ -11,6 +11,6 @@ write-requires-clause-lease g c =
 pub fill-requires : goal.fill-requires
 fill-requires g c =
     let taken : IsLeaseOf c.take.new.self c.in_ok-lease.lease =
-        lease-taken c.args.pool.now c.take.new.self c.in_ok-lease.lease 3 c.in_ok-lease.ensures.len c.in_ok-lease.ensures.zeros in
+    lease-taken c.args.pool.now c.take.new.self c.in_ok-lease.lease 3 c.in_ok-lease.ensures.len c.in_ok-lease.ensures.zeros in
     after_write c.take.new.self c.write.new.self c.in_ok-lease.lease c.in_ok-lease.lease 1 _
-        (omega (arith, c.in_ok-lease.ensures.len)) taken c.write.ensures taken
+    (omega (arith, c.in_ok-lease.ensures.len)) taken c.write.ensures taken

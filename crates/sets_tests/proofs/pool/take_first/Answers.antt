@@ -11,6 +11,6 @@ write-requires-clause-lease g c =
 pub returns : goal.returns
 returns g c =
     let taken : IsLeaseOf c.take.new.self c.in_ok-first.first =
-        lease-taken c.args.pool.now c.take.new.self c.in_ok-first.first 4096 c.in_ok-first.ensures.len c.in_ok-first.ensures.zeros in
+    lease-taken c.args.pool.now c.take.new.self c.in_ok-first.first 4096 c.in_ok-first.ensures.len c.in_ok-first.ensures.zeros in
     after_write c.take.new.self c.write.new.self c.in_ok-first.first c.in_ok-first.first 0 (111 ∷ 108 ∷ 100 ∷ [])
-        (omega (arith, c.in_ok-first.ensures.len)) taken c.write.ensures taken
+    (omega (arith, c.in_ok-first.ensures.len)) taken c.write.ensures taken

@@ -11,21 +11,21 @@ write-requires-clause-lease c =
 pub returns-in_err-right-clause-left : goal.returns-in_err-right-clause-left
 returns-in_err-right-clause-left c =
     after_take c.take.result c.args.pool.now c.take.new.self c.args.left.now 4104 c.take.ensures.fresh c.take.ensures.zeros
-        c.take.ensures.same c.requires
+    c.take.ensures.same c.requires
 
 pub returns-clause-left : goal.returns-clause-left
 returns-clause-left c =
     let left : IsLeaseOf c.take.new.self c.args.left.now =
-        after_take c.take.result c.args.pool.now c.take.new.self c.args.left.now 4104 c.take.ensures.fresh
-            c.take.ensures.zeros c.take.ensures.same c.requires in
+    after_take c.take.result c.args.pool.now c.take.new.self c.args.left.now 4104 c.take.ensures.fresh
+    c.take.ensures.zeros c.take.ensures.same c.requires in
     let right : IsLeaseOf c.take.new.self c.in_ok-right.right =
-        lease-taken c.args.pool.now c.take.new.self c.in_ok-right.right 4104 c.in_ok-right.ensures.len c.in_ok-right.ensures.zeros in
+    lease-taken c.args.pool.now c.take.new.self c.in_ok-right.right 4104 c.in_ok-right.ensures.len c.in_ok-right.ensures.zeros in
     after_write c.take.new.self c.write.new.self c.in_ok-right.right c.args.left.now 4090 _
-        (omega (arith, c.in_ok-right.ensures.len)) right c.write.ensures left
+    (omega (arith, c.in_ok-right.ensures.len)) right c.write.ensures left
 
 pub returns-clause-lease : goal.returns-clause-lease
 returns-clause-lease c =
     let right : IsLeaseOf c.take.new.self c.in_ok-right.right =
-        lease-taken c.args.pool.now c.take.new.self c.in_ok-right.right 4104 c.in_ok-right.ensures.len c.in_ok-right.ensures.zeros in
+    lease-taken c.args.pool.now c.take.new.self c.in_ok-right.right 4104 c.in_ok-right.ensures.len c.in_ok-right.ensures.zeros in
     after_write c.take.new.self c.write.new.self c.in_ok-right.right c.in_ok-right.right 4090 _
-        (omega (arith, c.in_ok-right.ensures.len)) right c.write.ensures right
+    (omega (arith, c.in_ok-right.ensures.len)) right c.write.ensures right

@@ -10,6 +10,6 @@ write-requires-clause-lease c = lease-taken c.args.pool.now c.take.new.self c.in
 pub returns-clause-lease : goal.returns-clause-lease
 returns-clause-lease c =
     let taken : IsLeaseOf c.take.new.self c.in_ok-left.left =
-        lease-taken c.args.pool.now c.take.new.self c.in_ok-left.left 4 c.in_ok-left.ensures.len c.in_ok-left.ensures.zeros in
+    lease-taken c.args.pool.now c.take.new.self c.in_ok-left.left 4 c.in_ok-left.ensures.len c.in_ok-left.ensures.zeros in
     after_write c.take.new.self c.write.new.self c.in_ok-left.left c.in_ok-left.left 1 _
-        (omega (arith, c.in_ok-left.ensures.len)) taken c.write.ensures taken
+    (omega (arith, c.in_ok-left.ensures.len)) taken c.write.ensures taken
