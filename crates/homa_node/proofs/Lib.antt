@@ -1,0 +1,13 @@
+pub mod Starting
+pub mod Connecting
+pub mod CallCuts
+pub mod Coming
+pub mod Refusals
+pub mod Started
+pub mod Stops
+pub mod Fars
+pub mod Courses
+pub mod Turns
+pub mod Openings
+pub mod Stopped
+pub mod Observing

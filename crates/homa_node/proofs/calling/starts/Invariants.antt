@@ -1,0 +1,37 @@
+use Rattle.std.proofs.Common.{◌≡◌, ℕ, Some, List}
+use Rattle.node_acts.specs.Told.{AreTold}
+use Rattle.node_script.specs.Heads.{setup_seen}
+use Rattle.homa_node.specs.Coming.{calls_ahead, IsLooked, IsOpenAt, IsAllRead, HasRoom, lines_ahead}
+use Rattle.homa_node.specs.Started.{HasStarted}
+use Rattle.homa_node.proofs.calling.starts.Given as goal
+
+-- so many calls were started, and the next line was read
+abbrev pub invariant-calls : goal.invariant-calls
+invariant-calls g l =
+    let o = g.O.Observer in
+    let n = g.N.Net in
+    let h = g.H.Hosting in
+    let s = g.S.Source in
+    record {
+      started : HasStarted (h.settings l.fn.hosts) (h.stands l.fn.hosts) (h.allows l.fn.hosts) (n.sent l.fn.net) (n.sent l.net) (n.gave l.fn.net)
+          (n.gave l.net) (s.left l.fn.source) (s.left l.source) (calls_ahead (setup_seen l.setup) l.fn.ahead l.fn.reader)
+          (h.stands l.hosts) (h.allows l.hosts)
+          (AreTold o.told o.kept o.strange (o.taken l.fn.observer) (o.notes l.fn.observer) (o.taken l.observer) (o.notes l.observer))
+          (calls_ahead (setup_seen l.setup) l.ahead l.reader);
+      all : (bytes : List ℕ) → s.left l.fn.source ≡ Some bytes → IsAllRead l.fn.ahead (Some bytes) → IsAllRead l.ahead (s.left l.source);
+      known : IsLooked l.ahead;
+      counted : IsOpenAt l.setup l.ahead l.reader;
+      limit : l.reader.place.limit ≡ l.fn.reader.place.limit;
+      room : (most : ℕ) → HasRoom most (h.steps l.fn.hosts) l.fn.ahead l.fn.reader → HasRoom most (h.steps l.hosts) l.ahead l.reader;
+      settings : h.settings l.hosts ≡ h.settings l.fn.hosts;
+      clock : h.clock l.hosts ≡ h.clock l.fn.hosts;
+      hosts : n.known l.net ≡ n.known l.fn.net;
+      source : s.faults l.source ≡ s.faults l.fn.source;
+      net : n.faults l.net ≡ n.faults l.fn.net;
+      sink : o.faults l.observer ≡ o.faults l.fn.observer;
+      same_source : s.is_same l.fn.source l.source;
+      same_observer : o.is_same l.fn.observer l.observer;
+    }
+
+abbrev pub decreases-calls : goal.decreases-calls
+decreases-calls g l = lines_ahead l.ahead l.reader

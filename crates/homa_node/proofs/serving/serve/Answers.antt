@@ -1,0 +1,410 @@
+use Rattle.std.proofs.Common.{◌≡◌, ◌<◌, ◌≤◌, ◌+◌, ◌*◌, ℕ, Some, List, length, refl, sym, ap, ◌∙◌, subst, arith}
+use Rattle.std.specs.List.{AllByRecursion}
+use Rattle.std.proofs.lemmas.Result.{err_from_is_err_and}
+use Rattle.homa_plain.specs.declared.id.HostId.{HostId}
+use Rattle.node_runs.specs.Course.{StalledAt, node_run}
+use Rattle.node_acts.specs.Told.{AreTold, AreFront, AreStrange}
+use Rattle.node_acts.proofs.Tellings.{front_more, strange_more, on_stop}
+use Rattle.node_script.specs.Heads.{setup_seen}
+use Rattle.node_script.specs.Calls.{no_calls}
+use Rattle.homa_node.specs.Coming.{calls_ahead, IsIdle, IsAllRead, HasRoom}
+use Rattle.homa_node.specs.Started.{HasStarted, HasStopped}
+use Rattle.homa_node.specs.Served.{outside, IsServed}
+use Rattle.homa_node.proofs.Coming.{room_on, room_wide, read_to_end, locals_there, locals_few}
+use Rattle.homa_node.proofs.Turns.{at_none, at_ticked, clock_part, at_clock, at_calls, calls_stopped, at_hosts, hosts_part, at_end, at_wait, at_stall}
+use Rattle.homa_node.proofs.Stopped.{midst_stopped}
+use Rattle.homa_node.proofs.serving.serve.Goals as goal
+
+pub returns-in_err-node-clause-answered : goal.returns-in_err-node-clause-answered
+returns-in_err-node-clause-answered g c =
+    let p = err_from_is_err_and c.from_residual.result c.from_residual.ensures.1 in
+    rw (p.1, p.2) (λ bytes k. c.in_err-node.ensures.stopped bytes (g.C.Clock.ticks c.args.clock.now) k)
+
+pub loop-done-init : goal.loop-done-init
+loop-done-init g c =
+    let o = g.O.Observer in
+    let h = g.H.Hosting in
+    let n = g.N.Net in
+    let s = g.S.Source in
+    let ticks = g.C.Clock.ticks c.args.clock.now in
+    let node = c.in_ok-node.node in
+    let e = c.in_ok-node.ensures in
+    let setup = setup_seen node.setup in
+    record {
+      far = λ bytes k. at_none node_run o.told o.kept o.strange (g.H.OpensIn.are_allowed c.args.boxes) bytes
+          (outside (o.taken c.args.observer.now) (o.notes c.args.observer.now) (n.sent c.args.net.now) (n.gave c.args.net.now) ticks) setup
+          (s.left c.open_node.new.source)
+          (outside (o.taken c.open_node.new.observer) (o.notes c.open_node.new.observer) (n.sent c.open_node.new.net)
+          (n.gave c.open_node.new.net) ticks)
+          (h.stands node.hosts) (h.allows node.hosts) 0 _ 0 0 (e.opened bytes ticks k) (omega (arith, e.sound.turns));
+      all = λ bytes k. tt;
+      open_at = e.counted;
+      limit = omega (arith, e.limit);
+      room = omega (arith, e.steps);
+      settings = e.settings;
+      now = e.clock;
+      last = omega arith;
+      known = e.known;
+      source = ap (λ k. k.source) e.faults;
+      net = ap (λ k. k.net) e.faults;
+      sink = ap (λ k. k.sink) e.faults;
+      same_source = e.same_source;
+      same_observer = e.same_observer;
+    }
+
+pub returns-in_err-clock_stands-clause-answered : goal.returns-in_err-clock_stands-clause-answered
+returns-in_err-clock_stands-clause-answered g c =
+    let o = g.O.Observer in
+    let h = g.H.Hosting in
+    let n = g.N.Net in
+    let s = g.S.Source in
+    let t = g.C.Clock in
+    let l = c.loop-done in
+    let may = g.H.OpensIn.are_allowed c.args.boxes in
+    let setup = setup_seen c.in_ok-node.node.setup in
+    let tick = c.now-now.result in
+    let turn = l.done + 1 in
+    let calls = calls_ahead setup l.ahead l.reader in
+    let old = outside (o.taken c.args.observer.now) (o.notes c.args.observer.now) (n.sent c.args.net.now) (n.gave c.args.net.now) (t.ticks c.args.clock.now) in
+    let first = outside (o.taken l.observer) (o.notes l.observer) (n.sent l.net) (n.gave l.net) (t.ticks l.clock) in
+    let ticked = outside (o.taken l.observer) (o.notes l.observer) (n.sent l.net) (n.gave l.net) (t.ticks c.now-now.new.self) in
+    let clocked = outside (o.taken c.clock_stands.new.observer) (o.notes c.clock_stands.new.observer) (n.sent l.net) (n.gave l.net)
+    (t.ticks c.now-now.new.self) in
+    let at_tick = λ (bytes : List ℕ) (k : s.left c.args.source.now ≡ Some bytes).
+    at_ticked node_run o.told o.kept o.strange may bytes old setup (s.left l.source) first (h.stands l.hosts)
+    (h.allows l.hosts) l.now calls l.done l.now turn (omega arith) (l.invariant.far bytes k) c.loop-done-test.true
+    tick (t.ticks c.now-now.new.self)
+    (omega (arith, l.invariant.last, c.now-now.ensures.never_falls)) c.now-now.ensures.most c.now-now.ensures.given c.now-now.ensures.left in
+    let e = c.in_err-clock_stands.ensures in
+    let stop = c.in_err-clock_stands.field-0.0 in
+    let p = err_from_is_err_and c.from_residual-in_err-clock_stands.result c.from_residual-in_err-clock_stands.ensures.1 in
+    rw (p.1, p.2) (λ bytes k.
+    let part = clock_part node_run o.told o.kept o.strange may bytes old setup (s.left l.source) ticked (h.stands l.hosts)
+    (h.allows l.hosts) tick calls turn tick (at_tick bytes k) clocked in
+    midst_stopped node_run o.told o.kept o.strange may bytes (s.left l.source) old clocked stop e.midst
+    (part (AreFront o.told o.kept o.strange ticked.taken ticked.notes clocked.taken) (AreFront o.told o.kept o.strange old.taken old.notes clocked.taken) e.cut
+    (λ x y p q. front_more o.told o.kept o.strange old.taken ticked.taken clocked.taken old.notes ticked.notes x y p q)
+    (g.met.H.Hosting.allows_none l.hosts) (λ more a. g.met.H.Hosting.allows_clock l.hosts tick more a) refl refl)
+    (on_stop stop _ _ (λ f.
+    part (AreStrange o.told o.kept o.strange ticked.taken ticked.notes clocked.taken) (AreStrange o.told o.kept o.strange old.taken old.notes clocked.taken) f
+    (λ x y p q. strange_more o.told o.kept o.strange old.taken ticked.taken clocked.taken old.notes ticked.notes x y p q)
+    (g.met.H.Hosting.allows_none l.hosts) (λ more a. g.met.H.Hosting.allows_clock l.hosts tick more a) refl refl) e.strange))
+
+pub returns-in_err-starts-clause-answered : goal.returns-in_err-starts-clause-answered
+returns-in_err-starts-clause-answered g c =
+    let o = g.O.Observer in
+    let h = g.H.Hosting in
+    let n = g.N.Net in
+    let s = g.S.Source in
+    let t = g.C.Clock in
+    let l = c.loop-done in
+    let may = g.H.OpensIn.are_allowed c.args.boxes in
+    let setup = setup_seen c.in_ok-node.node.setup in
+    let tick = c.now-now.result in
+    let turn = l.done + 1 in
+    let calls = calls_ahead setup l.ahead l.reader in
+    let old = outside (o.taken c.args.observer.now) (o.notes c.args.observer.now) (n.sent c.args.net.now) (n.gave c.args.net.now) (t.ticks c.args.clock.now) in
+    let first = outside (o.taken l.observer) (o.notes l.observer) (n.sent l.net) (n.gave l.net) (t.ticks l.clock) in
+    let ticked = outside (o.taken l.observer) (o.notes l.observer) (n.sent l.net) (n.gave l.net) (t.ticks c.now-now.new.self) in
+    let clocked = outside (o.taken c.clock_stands.new.observer) (o.notes c.clock_stands.new.observer) (n.sent l.net) (n.gave l.net)
+    (t.ticks c.now-now.new.self) in
+    let at_tick = λ (bytes : List ℕ) (k : s.left c.args.source.now ≡ Some bytes).
+    at_ticked node_run o.told o.kept o.strange may bytes old setup (s.left l.source) first (h.stands l.hosts)
+    (h.allows l.hosts) l.now calls l.done l.now turn (omega arith) (l.invariant.far bytes k) c.loop-done-test.true
+    tick (t.ticks c.now-now.new.self)
+    (omega (arith, l.invariant.last, c.now-now.ensures.never_falls)) c.now-now.ensures.most c.now-now.ensures.given c.now-now.ensures.left in
+    let at_stand = λ (bytes : List ℕ) (k : s.left c.args.source.now ≡ Some bytes).
+    at_clock node_run o.told o.kept o.strange may bytes old setup (s.left l.source) ticked (h.stands l.hosts) (h.allows l.hosts) tick calls turn tick
+    (at_tick bytes k)
+    no_calls clocked (h.stands c.clock_stands.new.hosts)
+    (h.allows c.clock_stands.new.hosts) c.in_ok-clock_stands.ensures.told c.in_ok-clock_stands.ensures.allows
+    (λ more a. g.met.H.Hosting.allows_clock l.hosts tick more a) refl refl refl in
+    let one_clock = c.in_ok-clock_stands.ensures.settings ∙ l.invariant.settings in
+    let started = outside (o.taken c.starts.new.observer) (o.notes c.starts.new.observer) (n.sent c.starts.new.net) (n.gave c.starts.new.net)
+    (t.ticks c.now-now.new.self) in
+    let stop = c.in_err-starts.field-0.0 in
+    let p = err_from_is_err_and c.from_residual-in_err-starts.result c.from_residual-in_err-starts.ensures.1 in
+    rw (p.1, p.2) (λ bytes k.
+    calls_stopped node_run o.told o.kept o.strange may bytes old setup (s.left l.source) clocked (h.stands c.clock_stands.new.hosts)
+    (h.allows c.clock_stands.new.hosts) tick calls no_calls turn tick (at_stand bytes k)
+    (s.left c.starts.new.source) started refl (h.stands c.starts.new.hosts) (h.allows c.starts.new.hosts) (g.met.H.Hosting.allows_none c.starts.new.hosts) stop
+    (subst (λ q. HasStopped q (h.stands c.clock_stands.new.hosts) (h.allows c.clock_stands.new.hosts) (n.sent l.net) (n.sent c.starts.new.net)
+    (n.gave l.net) (n.gave c.starts.new.net) (s.left l.source) (s.left c.starts.new.source) calls
+    o.told o.kept o.strange (h.stands c.starts.new.hosts) (h.allows c.starts.new.hosts) clocked.taken clocked.notes started.taken started.notes stop)
+    one_clock c.in_err-starts.ensures.stopped))
+
+pub returns-in_err-starts-clause-same_source : goal.returns-in_err-starts-clause-same_source
+returns-in_err-starts-clause-same_source g c = g.met.S.Source.same_on _ _ _ c.loop-done.invariant.same_source c.in_err-starts.ensures.same_source
+
+pub returns-in_err-starts-clause-same_observer : goal.returns-in_err-starts-clause-same_observer
+returns-in_err-starts-clause-same_observer g c =
+    g.met.O.Observer.same_on _ _ _ (g.met.O.Observer.same_on _ _ _ c.loop-done.invariant.same_observer c.in_ok-clock_stands.ensures.same)
+    c.in_err-starts.ensures.same_observer
+
+pub hosts_act-requires-clause-there : goal.hosts_act-requires-clause-there
+hosts_act-requires-clause-there g c =
+    let h = g.H.Hosting in
+    let node = c.in_ok-node.node in
+    let e = ap (λ q. q.hosts) (c.in_ok-starts.ensures.settings ∙ c.in_ok-clock_stands.ensures.settings ∙ c.loop-done.invariant.settings) in
+    subst (AllByRecursion (λ (host : HostId). host.0 < (h.settings c.starts.new.hosts).hosts)) (sym (c.deref.ensures.value ∙ c.in_ok-node.ensures.locals))
+    (locals_there 0 node.setup.places.items (h.settings c.starts.new.hosts).hosts (omega (arith, e, c.in_ok-node.ensures.sound.count)))
+
+pub hosts_act-requires-clause-fit : goal.hosts_act-requires-clause-fit
+hosts_act-requires-clause-fit g c =
+    let node = c.in_ok-node.node in
+    omega (
+      arith,
+      ap length (c.deref.ensures.value ∙ c.in_ok-node.ensures.locals),
+      locals_few 0 node.setup.places.items,
+      c.in_ok-node.ensures.sound.count,
+      c.in_ok-node.ensures.sound.valid.in_range.1,
+    )
+
+pub returns-in_err-hosts_act-clause-answered : goal.returns-in_err-hosts_act-clause-answered
+returns-in_err-hosts_act-clause-answered g c =
+    let o = g.O.Observer in
+    let h = g.H.Hosting in
+    let n = g.N.Net in
+    let s = g.S.Source in
+    let t = g.C.Clock in
+    let l = c.loop-done in
+    let may = g.H.OpensIn.are_allowed c.args.boxes in
+    let setup = setup_seen c.in_ok-node.node.setup in
+    let tick = c.now-now.result in
+    let turn = l.done + 1 in
+    let calls = calls_ahead setup l.ahead l.reader in
+    let old = outside (o.taken c.args.observer.now) (o.notes c.args.observer.now) (n.sent c.args.net.now) (n.gave c.args.net.now) (t.ticks c.args.clock.now) in
+    let first = outside (o.taken l.observer) (o.notes l.observer) (n.sent l.net) (n.gave l.net) (t.ticks l.clock) in
+    let ticked = outside (o.taken l.observer) (o.notes l.observer) (n.sent l.net) (n.gave l.net) (t.ticks c.now-now.new.self) in
+    let clocked = outside (o.taken c.clock_stands.new.observer) (o.notes c.clock_stands.new.observer) (n.sent l.net) (n.gave l.net)
+    (t.ticks c.now-now.new.self) in
+    let at_tick = λ (bytes : List ℕ) (k : s.left c.args.source.now ≡ Some bytes).
+    at_ticked node_run o.told o.kept o.strange may bytes old setup (s.left l.source) first (h.stands l.hosts)
+    (h.allows l.hosts) l.now calls l.done l.now turn (omega arith) (l.invariant.far bytes k) c.loop-done-test.true
+    tick (t.ticks c.now-now.new.self)
+    (omega (arith, l.invariant.last, c.now-now.ensures.never_falls)) c.now-now.ensures.most c.now-now.ensures.given c.now-now.ensures.left in
+    let at_stand = λ (bytes : List ℕ) (k : s.left c.args.source.now ≡ Some bytes).
+    at_clock node_run o.told o.kept o.strange may bytes old setup (s.left l.source) ticked (h.stands l.hosts) (h.allows l.hosts) tick calls turn tick
+    (at_tick bytes k)
+    no_calls clocked (h.stands c.clock_stands.new.hosts)
+    (h.allows c.clock_stands.new.hosts) c.in_ok-clock_stands.ensures.told c.in_ok-clock_stands.ensures.allows
+    (λ more a. g.met.H.Hosting.allows_clock l.hosts tick more a) refl refl refl in
+    let one_clock = c.in_ok-clock_stands.ensures.settings ∙ l.invariant.settings in
+    let started = outside (o.taken c.starts.new.observer) (o.notes c.starts.new.observer) (n.sent c.starts.new.net) (n.gave c.starts.new.net)
+    (t.ticks c.now-now.new.self) in
+    let so_far = AreTold o.told o.kept o.strange (o.taken c.clock_stands.new.observer) (o.notes c.clock_stands.new.observer) (o.taken c.starts.new.observer)
+    (o.notes c.starts.new.observer) in
+    let left = calls_ahead setup c.starts.new.ahead c.starts.new.reader in
+    let at_started = λ (bytes : List ℕ) (k : s.left c.args.source.now ≡ Some bytes).
+    at_calls node_run o.told o.kept o.strange may bytes old setup (s.left l.source) clocked (h.stands c.clock_stands.new.hosts)
+    (h.allows c.clock_stands.new.hosts) tick calls no_calls turn tick (at_stand bytes k)
+    (s.left c.starts.new.source) started refl (h.stands c.starts.new.hosts) (h.allows c.starts.new.hosts) c.starts.new.ahead c.starts.new.reader
+    (subst (λ q. HasStarted q (h.stands c.clock_stands.new.hosts) (h.allows c.clock_stands.new.hosts) (n.sent l.net) (n.sent c.starts.new.net)
+    (n.gave l.net) (n.gave c.starts.new.net) (s.left l.source) (s.left c.starts.new.source) calls
+    (h.stands c.starts.new.hosts) (h.allows c.starts.new.hosts) so_far left) one_clock c.in_ok-starts.ensures.started)
+    c.in_ok-starts.ensures.waits in
+    let one_start = c.in_ok-starts.ensures.settings ∙ one_clock in
+    let acted = outside (o.taken c.hosts_act.new.observer) (o.notes c.hosts_act.new.observer) (n.sent c.hosts_act.new.net) (n.gave c.hosts_act.new.net)
+    (t.ticks c.now-now.new.self) in
+    let e = c.in_err-hosts_act.ensures in
+    let stop = c.in_err-hosts_act.field-0.0 in
+    let p = err_from_is_err_and c.from_residual-in_err-hosts_act.result c.from_residual-in_err-hosts_act.ensures.1 in
+    rw (p.1, p.2) (λ bytes k.
+    let part = hosts_part node_run o.told o.kept o.strange may bytes old setup (s.left c.starts.new.source) started (h.stands c.starts.new.hosts)
+    (h.allows c.starts.new.hosts) tick left turn tick (at_started bytes k) acted
+    (h.settings c.starts.new.hosts) one_start c.deref.result.now (c.deref.ensures.value ∙ c.in_ok-node.ensures.locals) in
+    midst_stopped node_run o.told o.kept o.strange may bytes (s.left c.starts.new.source) old acted stop e.midst
+    (part (AreFront o.told o.kept o.strange started.taken started.notes acted.taken) (AreFront o.told o.kept o.strange old.taken old.notes acted.taken) e.cut
+    (λ x y p q. front_more o.told o.kept o.strange old.taken started.taken acted.taken old.notes started.notes x y p q))
+    (on_stop stop _ _ (λ f.
+    part (AreStrange o.told o.kept o.strange started.taken started.notes acted.taken) (AreStrange o.told o.kept o.strange old.taken old.notes acted.taken) f
+    (λ x y p q. strange_more o.told o.kept o.strange old.taken started.taken acted.taken old.notes started.notes x y p q)) e.strange))
+
+pub returns-in_err-hosts_act-clause-same_source : goal.returns-in_err-hosts_act-clause-same_source
+returns-in_err-hosts_act-clause-same_source g c = g.met.S.Source.same_on _ _ _ c.loop-done.invariant.same_source c.in_ok-starts.ensures.same_source
+
+pub returns-in_err-hosts_act-clause-same_observer : goal.returns-in_err-hosts_act-clause-same_observer
+returns-in_err-hosts_act-clause-same_observer g c =
+    g.met.O.Observer.same_on _ _ _ (g.met.O.Observer.same_on _ _ _
+    (g.met.O.Observer.same_on _ _ _ c.loop-done.invariant.same_observer c.in_ok-clock_stands.ensures.same) c.in_ok-starts.ensures.same_observer)
+    c.in_err-hosts_act.ensures.same
+
+pub returns-then-setup-now-clause-answered : goal.returns-then-setup-now-clause-answered
+returns-then-setup-now-clause-answered g c =
+    let o = g.O.Observer in
+    let h = g.H.Hosting in
+    let n = g.N.Net in
+    let s = g.S.Source in
+    let t = g.C.Clock in
+    let l = c.loop-done in
+    let may = g.H.OpensIn.are_allowed c.args.boxes in
+    let setup = setup_seen c.in_ok-node.node.setup in
+    let tick = c.now-now.result in
+    let turn = l.done + 1 in
+    let calls = calls_ahead setup l.ahead l.reader in
+    let old = outside (o.taken c.args.observer.now) (o.notes c.args.observer.now) (n.sent c.args.net.now) (n.gave c.args.net.now) (t.ticks c.args.clock.now) in
+    let first = outside (o.taken l.observer) (o.notes l.observer) (n.sent l.net) (n.gave l.net) (t.ticks l.clock) in
+    let ticked = outside (o.taken l.observer) (o.notes l.observer) (n.sent l.net) (n.gave l.net) (t.ticks c.now-now.new.self) in
+    let clocked = outside (o.taken c.clock_stands.new.observer) (o.notes c.clock_stands.new.observer) (n.sent l.net) (n.gave l.net)
+    (t.ticks c.now-now.new.self) in
+    let at_tick = λ (bytes : List ℕ) (k : s.left c.args.source.now ≡ Some bytes).
+    at_ticked node_run o.told o.kept o.strange may bytes old setup (s.left l.source) first (h.stands l.hosts)
+    (h.allows l.hosts) l.now calls l.done l.now turn (omega arith) (l.invariant.far bytes k) c.loop-done-test.true
+    tick (t.ticks c.now-now.new.self)
+    (omega (arith, l.invariant.last, c.now-now.ensures.never_falls)) c.now-now.ensures.most c.now-now.ensures.given c.now-now.ensures.left in
+    let at_stand = λ (bytes : List ℕ) (k : s.left c.args.source.now ≡ Some bytes).
+    at_clock node_run o.told o.kept o.strange may bytes old setup (s.left l.source) ticked (h.stands l.hosts) (h.allows l.hosts) tick calls turn tick
+    (at_tick bytes k)
+    no_calls clocked (h.stands c.clock_stands.new.hosts)
+    (h.allows c.clock_stands.new.hosts) c.in_ok-clock_stands.ensures.told c.in_ok-clock_stands.ensures.allows
+    (λ more a. g.met.H.Hosting.allows_clock l.hosts tick more a) refl refl refl in
+    let one_clock = c.in_ok-clock_stands.ensures.settings ∙ l.invariant.settings in
+    let started = outside (o.taken c.starts.new.observer) (o.notes c.starts.new.observer) (n.sent c.starts.new.net) (n.gave c.starts.new.net)
+    (t.ticks c.now-now.new.self) in
+    let so_far = AreTold o.told o.kept o.strange (o.taken c.clock_stands.new.observer) (o.notes c.clock_stands.new.observer) (o.taken c.starts.new.observer)
+    (o.notes c.starts.new.observer) in
+    let left = calls_ahead setup c.starts.new.ahead c.starts.new.reader in
+    let at_started = λ (bytes : List ℕ) (k : s.left c.args.source.now ≡ Some bytes).
+    at_calls node_run o.told o.kept o.strange may bytes old setup (s.left l.source) clocked (h.stands c.clock_stands.new.hosts)
+    (h.allows c.clock_stands.new.hosts) tick calls no_calls turn tick (at_stand bytes k)
+    (s.left c.starts.new.source) started refl (h.stands c.starts.new.hosts) (h.allows c.starts.new.hosts) c.starts.new.ahead c.starts.new.reader
+    (subst (λ q. HasStarted q (h.stands c.clock_stands.new.hosts) (h.allows c.clock_stands.new.hosts) (n.sent l.net) (n.sent c.starts.new.net)
+    (n.gave l.net) (n.gave c.starts.new.net) (s.left l.source) (s.left c.starts.new.source) calls
+    (h.stands c.starts.new.hosts) (h.allows c.starts.new.hosts) so_far left) one_clock c.in_ok-starts.ensures.started)
+    c.in_ok-starts.ensures.waits in
+    let one_start = c.in_ok-starts.ensures.settings ∙ one_clock in
+    let acted = outside (o.taken c.hosts_act.new.observer) (o.notes c.hosts_act.new.observer) (n.sent c.hosts_act.new.net) (n.gave c.hosts_act.new.net)
+    (t.ticks c.now-now.new.self) in
+    let at_acted = λ (bytes : List ℕ) (k : s.left c.args.source.now ≡ Some bytes).
+    at_hosts node_run o.told o.kept o.strange may bytes old setup (s.left c.starts.new.source) started (h.stands c.starts.new.hosts)
+    (h.allows c.starts.new.hosts) tick left turn tick (at_started bytes k) acted
+    (h.settings c.starts.new.hosts) one_start c.deref.result.now (c.deref.ensures.value ∙ c.in_ok-node.ensures.locals) (h.stands c.hosts_act.new.hosts)
+    (h.allows c.hosts_act.new.hosts) c.in_ok-hosts_act.ensures.acted refl in
+    let all_read = λ (bytes : List ℕ) (k : s.left c.args.source.now ≡ Some bytes).
+    let d = (l.invariant.far bytes k).far.read in
+    c.in_ok-starts.ensures.all d.rest d.has_left (subst (IsAllRead l.ahead) d.has_left (l.invariant.all bytes k)) in
+    λ bytes k. (
+      at_end node_run o.told o.kept o.strange may bytes old setup (s.left c.starts.new.source) acted (h.stands c.hosts_act.new.hosts)
+          (h.allows c.hosts_act.new.hosts) tick left turn tick (at_acted bytes k) c.if-setup-now.true
+          (g.met.H.Hosting.allows_none c.hosts_act.new.hosts),
+      read_to_end c.in_ok-node.node.setup c.starts.new.ahead c.starts.new.reader tick (s.left c.starts.new.source) c.in_ok-starts.ensures.counted
+          (subst (IsIdle c.starts.new.ahead) (c.in_ok-starts.ensures.clock ∙ c.in_ok-clock_stands.ensures.clock) c.in_ok-starts.ensures.idle)
+          c.if-setup-now.true (all_read bytes k),
+    )
+
+pub returns-then-setup-now-clause-same_source : goal.returns-then-setup-now-clause-same_source
+returns-then-setup-now-clause-same_source g c = g.met.S.Source.same_on _ _ _ c.loop-done.invariant.same_source c.in_ok-starts.ensures.same_source
+
+pub returns-then-setup-now-clause-same_observer : goal.returns-then-setup-now-clause-same_observer
+returns-then-setup-now-clause-same_observer g c =
+    g.met.O.Observer.same_on _ _ _ (g.met.O.Observer.same_on _ _ _
+    (g.met.O.Observer.same_on _ _ _ c.loop-done.invariant.same_observer c.in_ok-clock_stands.ensures.same) c.in_ok-starts.ensures.same_observer)
+    c.in_ok-hosts_act.ensures.same
+
+pub loop-done-preserved : goal.loop-done-preserved
+loop-done-preserved g c =
+    let o = g.O.Observer in
+    let h = g.H.Hosting in
+    let n = g.N.Net in
+    let s = g.S.Source in
+    let t = g.C.Clock in
+    let l = c.loop-done in
+    let may = g.H.OpensIn.are_allowed c.args.boxes in
+    let setup = setup_seen c.in_ok-node.node.setup in
+    let tick = c.now-now.result in
+    let turn = l.done + 1 in
+    let calls = calls_ahead setup l.ahead l.reader in
+    let old = outside (o.taken c.args.observer.now) (o.notes c.args.observer.now) (n.sent c.args.net.now) (n.gave c.args.net.now) (t.ticks c.args.clock.now) in
+    let first = outside (o.taken l.observer) (o.notes l.observer) (n.sent l.net) (n.gave l.net) (t.ticks l.clock) in
+    let ticked = outside (o.taken l.observer) (o.notes l.observer) (n.sent l.net) (n.gave l.net) (t.ticks c.now-now.new.self) in
+    let clocked = outside (o.taken c.clock_stands.new.observer) (o.notes c.clock_stands.new.observer) (n.sent l.net) (n.gave l.net)
+    (t.ticks c.now-now.new.self) in
+    let at_tick = λ (bytes : List ℕ) (k : s.left c.args.source.now ≡ Some bytes).
+    at_ticked node_run o.told o.kept o.strange may bytes old setup (s.left l.source) first (h.stands l.hosts)
+    (h.allows l.hosts) l.now calls l.done l.now turn (omega arith) (l.invariant.far bytes k) c.loop-done-test.true
+    tick (t.ticks c.now-now.new.self)
+    (omega (arith, l.invariant.last, c.now-now.ensures.never_falls)) c.now-now.ensures.most c.now-now.ensures.given c.now-now.ensures.left in
+    let at_stand = λ (bytes : List ℕ) (k : s.left c.args.source.now ≡ Some bytes).
+    at_clock node_run o.told o.kept o.strange may bytes old setup (s.left l.source) ticked (h.stands l.hosts) (h.allows l.hosts) tick calls turn tick
+    (at_tick bytes k)
+    no_calls clocked (h.stands c.clock_stands.new.hosts)
+    (h.allows c.clock_stands.new.hosts) c.in_ok-clock_stands.ensures.told c.in_ok-clock_stands.ensures.allows
+    (λ more a. g.met.H.Hosting.allows_clock l.hosts tick more a) refl refl refl in
+    let one_clock = c.in_ok-clock_stands.ensures.settings ∙ l.invariant.settings in
+    let started = outside (o.taken c.starts.new.observer) (o.notes c.starts.new.observer) (n.sent c.starts.new.net) (n.gave c.starts.new.net)
+    (t.ticks c.now-now.new.self) in
+    let so_far = AreTold o.told o.kept o.strange (o.taken c.clock_stands.new.observer) (o.notes c.clock_stands.new.observer) (o.taken c.starts.new.observer)
+    (o.notes c.starts.new.observer) in
+    let left = calls_ahead setup c.starts.new.ahead c.starts.new.reader in
+    let at_started = λ (bytes : List ℕ) (k : s.left c.args.source.now ≡ Some bytes).
+    at_calls node_run o.told o.kept o.strange may bytes old setup (s.left l.source) clocked (h.stands c.clock_stands.new.hosts)
+    (h.allows c.clock_stands.new.hosts) tick calls no_calls turn tick (at_stand bytes k)
+    (s.left c.starts.new.source) started refl (h.stands c.starts.new.hosts) (h.allows c.starts.new.hosts) c.starts.new.ahead c.starts.new.reader
+    (subst (λ q. HasStarted q (h.stands c.clock_stands.new.hosts) (h.allows c.clock_stands.new.hosts) (n.sent l.net) (n.sent c.starts.new.net)
+    (n.gave l.net) (n.gave c.starts.new.net) (s.left l.source) (s.left c.starts.new.source) calls
+    (h.stands c.starts.new.hosts) (h.allows c.starts.new.hosts) so_far left) one_clock c.in_ok-starts.ensures.started)
+    c.in_ok-starts.ensures.waits in
+    let one_start = c.in_ok-starts.ensures.settings ∙ one_clock in
+    let acted = outside (o.taken c.hosts_act.new.observer) (o.notes c.hosts_act.new.observer) (n.sent c.hosts_act.new.net) (n.gave c.hosts_act.new.net)
+    (t.ticks c.now-now.new.self) in
+    let at_acted = λ (bytes : List ℕ) (k : s.left c.args.source.now ≡ Some bytes).
+    at_hosts node_run o.told o.kept o.strange may bytes old setup (s.left c.starts.new.source) started (h.stands c.starts.new.hosts)
+    (h.allows c.starts.new.hosts) tick left turn tick (at_started bytes k) acted
+    (h.settings c.starts.new.hosts) one_start c.deref.result.now (c.deref.ensures.value ∙ c.in_ok-node.ensures.locals) (h.stands c.hosts_act.new.hosts)
+    (h.allows c.hosts_act.new.hosts) c.in_ok-hosts_act.ensures.acted refl in
+    let all_read = λ (bytes : List ℕ) (k : s.left c.args.source.now ≡ Some bytes).
+    let d = (l.invariant.far bytes k).far.read in
+    c.in_ok-starts.ensures.all d.rest d.has_left (subst (IsAllRead l.ahead) d.has_left (l.invariant.all bytes k)) in
+    let first_steps = subst (λ (x : ℕ). HasRoom (2080 * l.done) x l.ahead l.reader) (sym c.in_ok-clock_stands.ensures.steps) l.invariant.room in
+    let node = c.in_ok-node.node in
+    let fit : length c.deref.result.now ≤ 32 =
+    omega (
+      arith,
+      ap length (c.deref.ensures.value ∙ c.in_ok-node.ensures.locals),
+      locals_few 0 node.setup.places.items,
+      c.in_ok-node.ensures.sound.count,
+      c.in_ok-node.ensures.sound.valid.in_range.1,
+    ) in
+    record {
+      far = λ bytes k. at_wait node_run o.told o.kept o.strange may bytes old setup (s.left c.starts.new.source) acted (h.stands c.hosts_act.new.hosts)
+          (h.allows c.hosts_act.new.hosts) tick left turn tick (at_acted bytes k) c.if-setup-now.false;
+      all = all_read;
+      open_at = c.in_ok-starts.ensures.counted;
+      limit = omega (arith, c.in_ok-starts.ensures.limit, l.invariant.limit);
+      room = room_wide (2080 * l.done + 2080) (2080 * (l.done + 1)) (h.steps c.hosts_act.new.hosts) c.starts.new.ahead c.starts.new.reader
+          (room_on (2080 * l.done) 2080 (h.steps c.starts.new.hosts) (h.steps c.hosts_act.new.hosts) c.starts.new.ahead c.starts.new.reader
+          (c.in_ok-starts.ensures.room (2080 * l.done) first_steps)
+          (omega (arith, c.in_ok-hosts_act.ensures.steps, fit)))
+          (omega arith);
+      settings = c.in_ok-hosts_act.ensures.settings ∙ one_start;
+      now = c.in_ok-hosts_act.ensures.clock ∙ c.in_ok-starts.ensures.clock ∙ c.in_ok-clock_stands.ensures.clock;
+      last = omega (arith, c.now-now.ensures.last);
+      known = λ id. ap (λ f. f id) (c.in_ok-hosts_act.ensures.known ∙ c.in_ok-starts.ensures.known) ∙ l.invariant.known id;
+      source = ap (λ k. k.source) c.in_ok-starts.ensures.faults ∙ l.invariant.source;
+      net = ap (λ k. k.net) c.in_ok-hosts_act.ensures.faults ∙ ap (λ k. k.net) c.in_ok-starts.ensures.faults ∙ l.invariant.net;
+      sink = ap (λ k. k.sink) c.in_ok-hosts_act.ensures.faults ∙ ap (λ k. k.sink) c.in_ok-starts.ensures.faults
+          ∙ ap (λ k. k.sink) c.in_ok-clock_stands.ensures.faults ∙ l.invariant.sink;
+      same_source = g.met.S.Source.same_on _ _ _ l.invariant.same_source c.in_ok-starts.ensures.same_source;
+      same_observer = g.met.O.Observer.same_on _ _ _
+          (g.met.O.Observer.same_on _ _ _
+          (g.met.O.Observer.same_on _ _ _ l.invariant.same_observer c.in_ok-clock_stands.ensures.same) c.in_ok-starts.ensures.same_observer)
+          c.in_ok-hosts_act.ensures.same;
+    }
+
+pub returns-clause-answered : goal.returns-clause-answered
+returns-clause-answered g c =
+    let o = g.O.Observer in
+    let h = g.H.Hosting in
+    let n = g.N.Net in
+    let s = g.S.Source in
+    let t = g.C.Clock in
+    let l = c.loop-done in
+    let may = g.H.OpensIn.are_allowed c.args.boxes in
+    let setup = setup_seen c.in_ok-node.node.setup in
+    let old = outside (o.taken c.args.observer.now) (o.notes c.args.observer.now) (n.sent c.args.net.now) (n.gave c.args.net.now) (t.ticks c.args.clock.now) in
+    let last = outside (o.taken l.observer) (o.notes l.observer) (n.sent l.net) (n.gave l.net) (t.ticks l.clock) in
+    let whole : l.done ≡ c.in_ok-node.node.setup.turns = omega (arith, c.loop-done-test.false, l.auto.done-end) in
+    λ bytes k. subst (λ (m : ℕ). IsServed node_run o.told o.kept o.strange may bytes old last (StalledAt m l.now)) whole
+    (at_stall node_run o.told o.kept o.strange may bytes old setup (s.left l.source) last (h.stands l.hosts) (h.allows l.hosts) l.now
+    (calls_ahead setup l.ahead l.reader) l.done l.now (l.invariant.far bytes k)
+    (omega (arith, c.loop-done-test.false)) (g.met.H.Hosting.allows_none l.hosts))

@@ -1,0 +1,116 @@
+// A node is opened: its script is read up to `go`, the net learns where the hosts are, and the settings are told.
+ghost use Rattle.std.specs.Prelude.{◌≡◌, ◌≤◌, ◌^◌, ℕ, Option, List, Some, [], false, nat_lt, length, IfOk, IfErr};
+ghost use Rattle.homa_plain.specs.declared.id.HostId.{HostId as Host};
+ghost use Rattle.node_runs.specs.Course.{locals as local_hosts, loop_turns, node_run};
+ghost use Rattle.node_acts.specs.Faults.{counts, AreFaults};
+ghost use Rattle.script_lines.specs.Place.{first_place, IsCounted};
+ghost use Rattle.node_script.specs.Heads.{IsSound, setup_seen};
+ghost use Rattle.node_script.specs.Calls.{calls_left};
+ghost use Rattle.homa_node.specs.Served.{outside, IsStopped};
+ghost use Rattle.homa_node.specs.Far.{IsAt};
+ghost use Rattle.homa_node.specs.Opened.{HasOpened, opening_stop};
+
+use crate::OpensIn;
+use crate::places::{connect, first_incs, locals};
+use homa_io::Source;
+use homa_plain::{Entry, HostId};
+use node_acts::NodeStop;
+use node_io::{Net, Observer};
+use node_script::{Reader, Setup, SetupStop};
+use std::alloc::Global;
+
+/// The most bytes of a script.
+pub const MOST_BYTES: u64 = 68_719_476_736;
+
+/// A node that was opened: what it is to do, the reader of its calls, its hosts, and which of them are its own.
+#[derive(Drop)]
+pub struct Node<H> {
+    pub setup: Setup,
+    pub reader: Reader,
+    pub hosts: H,
+    pub locals: Vec<HostId>,
+}
+
+// Why the lines up to `go` give no setup.
+fn stop_at(line: u64, stop: SetupStop) -> NodeStop
+    ensures { result ≡ opening_stop line stop }
+{
+    match stop {
+        SetupStop::NoMemory => NodeStop::NoMemory,
+        SetupStop::Read(_) => NodeStop::Read,
+        SetupStop::Fault(fault) => NodeStop::Script { line, fault },
+    }
+}
+
+/// Reads up to `go`.
+pub fn read_setup<S: Source>(
+    alloc: Global,
+    reader: &mut Reader,
+    source: &mut S,
+) -> Result<Setup, NodeStop>
+    requires counted { IsCounted reader.old.place }
+    requires first { reader.old.place ≡ first_place reader.old.place.limit }
+    ensures opened { (bytes : List ℕ) → S.left source.old ≡ Some bytes → HasOpened reader.old.place.limit reader.new.place bytes (S.left source.new) result }
+    ensures sound { IfOk result IsSound }
+    ensures counted { IfOk result (λ setup. IsCounted reader.new.place) }
+    ensures limit { reader.new.place.limit ≡ reader.old.place.limit }
+    ensures least { reader.new.least ≡ reader.old.least }
+    ensures faults { AreFaults (counts (S.faults source.old) 0 0) (counts (S.faults source.new) 0 0) result }
+    ensures same { S.is_same source.old source.new }
+{
+    match reader.setup(alloc, source) {
+        Ok(setup) => Ok(setup),
+        Err(stop) => Err(stop_at(reader.line(), stop)),
+    }
+}
+
+/// Opens a node.
+pub fn open_node<B: Drop, H: OpensIn<B> + Drop, S: Source, N: Net, O: Observer>(
+    alloc: Global,
+    source: &mut S,
+    net: &mut N,
+    boxes: B,
+    observer: &mut O,
+) -> Result<Node<H>, NodeStop>
+    requires ready { H.are_ready boxes }
+    requires none_known { (h : Host) → N.known net.old h ≡ false }
+
+    // The run goes on with its first loop turn, or has stopped.
+    ensures opened { IfOk result (λ node. (bytes : List ℕ) (ticks : Option (List ℕ)) → S.left source.old ≡ Some bytes
+        → IsAt node_run O.told O.kept O.strange (H.are_allowed boxes) bytes (S.left source.new)
+        (outside (O.taken observer.old) (O.notes observer.old) (N.sent net.old) (N.gave net.old) ticks)
+        (outside (O.taken observer.new) (O.notes observer.new) (N.sent net.new) (N.gave net.new) ticks)
+        (setup_seen node.setup) (H.stands node.hosts) (H.allows node.hosts) 0 (calls_left (setup_seen node.setup) node.reader.least node.reader.place)
+        (loop_turns (setup_seen node.setup) 1)) }
+    ensures stopped { IfErr result (λ stop. (bytes : List ℕ) (ticks : Option (List ℕ)) → S.left source.old ≡ Some bytes
+        → IsStopped node_run O.told O.kept O.strange (H.are_allowed boxes) bytes (S.left source.new)
+        (outside (O.taken observer.old) (O.notes observer.old) (N.sent net.old) (N.gave net.old) ticks)
+        (outside (O.taken observer.new) (O.notes observer.new) (N.sent net.new) (N.gave net.new) ticks) stop) }
+
+    ensures sound { IfOk result (λ node. IsSound node.setup) }
+    ensures counted { IfOk result (λ node. IsCounted node.reader.place) }
+    ensures limit { IfOk result (λ node. node.reader.place.limit ≡ 2 ^ 36) }
+    ensures locals { IfOk result (λ node. node.locals.items ≡ local_hosts (setup_seen node.setup)) }
+    ensures settings { IfOk result (λ node. H.settings node.hosts ≡ node.setup.settings) }
+    ensures clock { IfOk result (λ node. H.clock node.hosts ≡ 0) }
+    ensures steps { IfOk result (λ node. H.steps node.hosts ≡ 0) }
+    ensures known { IfOk result (λ node. (h : Host) → N.known net.new h ≡ nat_lt h.0 (length node.setup.places.items)) }
+    ensures faults { AreFaults (counts (S.faults source.old) (N.faults net.old) (O.faults observer.old))
+        (counts (S.faults source.new) (N.faults net.new) (O.faults observer.new)) result }
+    ensures same_source { S.is_same source.old source.new }
+    ensures same_observer { O.is_same observer.old observer.new }
+{
+    let mut reader = Reader::open(alloc, MOST_BYTES)?;
+    let setup = read_setup(alloc, &mut reader, source)?;
+    connect(net, &setup.places)?;
+    observer.seen(&Entry::Settings(setup.settings))?;
+    let ids = locals(alloc, &setup.places)?;
+    let incs = first_incs(alloc, &setup.places)?;
+    let hosts = H::open_in(alloc, &setup.settings, &incs, boxes)?;
+    Ok(Node {
+        setup,
+        reader,
+        hosts,
+        locals: ids,
+    })
+}

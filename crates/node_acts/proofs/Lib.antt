@@ -1,0 +1,9 @@
+pub mod Lists
+pub mod Frames
+pub mod Tellings
+pub mod Acted
+pub mod Hearing
+pub mod Cuts
+pub mod Grows
+pub mod HeardCuts
+pub mod HostCuts
