@@ -1,6 +1,7 @@
 // Whole runs, from the words and the bytes that come in to the bytes that go out and the status.
 use homa_io::{MemSink, MemSource};
 use homa_top::*;
+use node_io::{MemClock, MemNet};
 use std::alloc::Global;
 use std::test::Fail;
 
@@ -25,7 +26,18 @@ fn run_with(
 ) -> Result<(ExitStatus, MemSink), Fail> {
     let mut source = MemSource::new(input.as_bytes().to_vec(alloc)?, reads);
     let mut sink = MemSink::new(alloc, 100_000, writes)?;
-    let status = run(alloc, words, &mut source, &mut sink, suites(alloc)?);
+    let mut net = MemNet::new(alloc, Vec::new(alloc), 0, Vec::new(alloc))?;
+    let mut clock = MemClock::new(vec![in alloc; 0]?);
+    let services = suites(alloc)?;
+    let status = run(
+        alloc,
+        words,
+        &mut source,
+        &mut sink,
+        &mut net,
+        &mut clock,
+        services,
+    );
     Ok((status, sink))
 }
 
