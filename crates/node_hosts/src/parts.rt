@@ -168,6 +168,7 @@ impl<S: Service> NodeParts<S> {
         ensures counted { self.new.steps ≤ self.old.steps + 1 }
     {
         let now = self.begin();
+        // (`?` makes std's error of a `homa_host::Asked`)
         self.stage.deliver(alloc, from, host, bytes, now)?;
         self.finish(host);
         Ok(())
