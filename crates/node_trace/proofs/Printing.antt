@@ -1,5 +1,5 @@
 -- What a printer was told of a run, as the text of the run.
-use Rattle.std.proofs.Common.{◌≡◌, ◌⊎◌, inl, inr, ℕ, true, false, Option, Some, Result, Ok, Err, List, ◌++◌, refl, sym, ap, ◌∙◌, subst, append_assoc}
+use Rattle.std.proofs.Common.{◌≡◌, inl, inr, ℕ, true, false, Option, Some, Result, Ok, Err, List, ◌++◌, refl, sym, ap, ◌∙◌, subst, append_assoc}
 use Rattle.homa_io.specs.Outside.{appended, TookFront}
 use Rattle.homa_io.proofs.Fronts.{two_put, front_after}
 use Rattle.homa_plain.specs.Entries.{PlainEntry}
@@ -21,7 +21,7 @@ use Rattle.node_trace.specs.declared.end.NodeEnd.{NodeEnd}
 use Rattle.node_trace.specs.declared.end.NodeEnd.TheVariants.{Ended, Refused, Stalled}
 use Rattle.node_trace.specs.declared.end.Broken.{Broken}
 use Rattle.node_trace.specs.Ends.{end_seen, end_told}
-use Rattle.node_trace.specs.Traces.{Around, around, IsGiven, IsWhole, IsEndCut, IsFrontOf, IsBrokenOff, IsReadOut}
+use Rattle.node_trace.specs.Traces.{around, IsGiven, IsWhole, IsEndCut, IsFrontOf, IsBrokenOff, IsReadOut}
 
 -- what a printer tells
 abbrev pub prints : Notes → Report → List ℕ
@@ -61,7 +61,8 @@ module _ (may_tell : List PlainEntry → Type 0) (bytes : List ℕ) (t0 t1 t2 : 
     from_is = record { given = is.given; ticked = is.ticked; rises = is.rises; shows = is.shows; allowed = is.allowed }
 
     -- the last line was printed behind them
-    pub whole : (mid : Option (List ℕ)) → mid ≡ t1 → t2 ≡ appended mid (line_text (end_entry end)) → IsWhole may_tell bytes (around t0 s0 g0 k0) (around t2 s1 g1 k1) end
+    pub whole : (mid : Option (List ℕ)) → mid ≡ t1 → t2 ≡ appended mid (line_text (end_entry end))
+        → IsWhole may_tell bytes (around t0 s0 g0 k0) (around t2 s1 g1 k1) end
     whole mid same last =
         let run = node_run bytes is.answers is.ticks is.gave in
         record {
@@ -75,7 +76,8 @@ module _ (may_tell : List PlainEntry → Type 0) (bytes : List ℕ) (t0 t1 t2 : 
         }
 
     -- a front of it was
-    pub end_cut : (mid : Option (List ℕ)) → mid ≡ t1 → TookFront mid t2 (line_text (end_entry end)) → IsEndCut may_tell bytes (around t0 s0 g0 k0) (around t2 s1 g1 k1)
+    pub end_cut : (mid : Option (List ℕ)) → mid ≡ t1 → TookFront mid t2 (line_text (end_entry end))
+        → IsEndCut may_tell bytes (around t0 s0 g0 k0) (around t2 s1 g1 k1)
     end_cut mid same last =
         let run = node_run bytes is.answers is.ticks is.gave in
         record {
@@ -85,7 +87,8 @@ module _ (may_tell : List PlainEntry → Type 0) (bytes : List ℕ) (t0 t1 t2 : 
           end = end;
           from = from_is;
           ended = is.ended;
-          text = subst (TookFront t0 t2) (text_ended run end is.ended) (front_after t0 mid t2 (lines run) (line_text (end_entry end)) (same ∙ lines_printed) last);
+          text = subst (TookFront t0 t2) (text_ended run end is.ended) (front_after t0 mid t2 (lines run) (line_text (end_entry end)) (same
+              ∙ lines_printed) last);
           took = is.took;
         }
 
@@ -120,7 +123,8 @@ module _ (may_tell : List PlainEntry → Type 0) (bytes : List ℕ) (t0 t1 t2 : 
       shows = is.shows;
       allowed = is.allowed;
       front = elim (is.front) [
-        | inl f ↦ inl (λ more later on next. front_of (node_run (is.came ++ more) (is.answers ++ later) (is.ticks ++ on) (is.gave ++ next)) (f more later on next))
+        | inl f ↦ inl (λ more later on next. front_of (node_run (is.came ++ more) (is.answers ++ later) (is.ticks ++ on) (is.gave ++ next))
+            (f more later on next))
         | inr f ↦ inr (f.0, λ later on next. front_of (node_run is.came (is.answers ++ later) (is.ticks ++ on) (is.gave ++ next)) (f.1 later on next))
       ];
     }
@@ -132,14 +136,18 @@ module _ (may_tell : List PlainEntry → Type 0) (bytes : List ℕ) (t0 t1 t2 : 
 -- ---- what a node answered
 
 module _ (may_tell : List PlainEntry → Type 0) (bytes : List ℕ) (left : Option (List ℕ)) (old new : Outside) where
-  served_is : (x y : NodeEnd) → ◌≡◌ {A = Result NodeEnd Broken} (Ok x) (Ok y) → IsServed node_run prints same_notes never may_tell bytes old new (end_seen x) → IsReadOut x left
+  served_is : (x y : NodeEnd) → ◌≡◌ {A = Result NodeEnd Broken} (Ok x) (Ok y)
+      → IsServed node_run prints same_notes never may_tell bytes old new (end_seen x) → IsReadOut x left
       → IsServed node_run prints same_notes never may_tell bytes old new (end_seen y) × IsReadOut y left
   served_is x y e s r =
-      let same : x ≡ y = cc in
-      (subst (λ (z : NodeEnd). IsServed node_run prints same_notes never may_tell bytes old new (end_seen z)) same s, subst (λ (z : NodeEnd). IsReadOut z left) same r)
+      let same : x ≡ y = cc in (
+        subst (λ (z : NodeEnd). IsServed node_run prints same_notes never may_tell bytes old new (end_seen z)) same s,
+        subst (λ (z : NodeEnd). IsReadOut z left) same r,
+      )
 
   -- an end
-  pub answered_end : (answer : Result ℕ NodeStop) (end : NodeEnd) → Ok end ≡ end_told answer → IsAnswered node_run prints same_notes never may_tell bytes left old new answer
+  pub answered_end : (answer : Result ℕ NodeStop) (end : NodeEnd) → Ok end ≡ end_told answer
+      → IsAnswered node_run prints same_notes never may_tell bytes left old new answer
       → IsServed node_run prints same_notes never may_tell bytes old new (end_seen end) × IsReadOut end left
   answered_end (Ok n) end e a = served_is (Ended n) end (sym e) a.0 a.1
   answered_end (Err (stop.Script line fault)) end e a = served_is (Refused line (ByWords fault)) end (sym e) a tt

@@ -82,8 +82,10 @@ module _ (may_tell : List PlainEntry → Type 0) where
     pub rises : AreTicks 0 ticks
     pub shows : shown (entries reports) ≡ answers
     pub allowed : may_tell (entries reports)
-    pub front : ((more : List ℕ) (later : List Answer) (on : List ℕ) (next : List (Option Arrival)) → IsFrontOf (node_run (came ++ more) (answers ++ later) (ticks ++ on) (gave ++ next)) reports old new)
-        ⊎ ((rest ≡ []) × ((later : List Answer) (on : List ℕ) (next : List (Option Arrival)) → IsFrontOf (node_run came (answers ++ later) (ticks ++ on) (gave ++ next)) reports old new))
+    pub front : ((more : List ℕ) (later : List Answer) (on : List ℕ) (next : List (Option Arrival))
+        → IsFrontOf (node_run (came ++ more) (answers ++ later) (ticks ++ on) (gave ++ next)) reports old new)
+        ⊎ ((rest ≡ []) × ((later : List Answer) (on : List ℕ) (next : List (Option Arrival))
+        → IsFrontOf (node_run came (answers ++ later) (ticks ++ on) (gave ++ next)) reports old new))
 
   -- what was printed
   abbrev pub IsPrinted : List ℕ → Option (List ℕ) → Around → Around → Result NodeEnd Broken → Type 0

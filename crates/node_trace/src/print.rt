@@ -56,7 +56,14 @@ pub fn print_node<B: Drop, H: OpensIn<B> + Drop, S: Source, K: Sink, N: Net, C: 
         (counts (S.faults source.new) (N.faults net.new) (K.faults sink.new)) result }
 {
     let mut printer = Printer::new(&mut *sink);
-    let answer = serve::<B, H, S, N, C, Printer<&mut K>>(alloc, source, net, clock, boxes, &mut printer);
+    let answer = serve::<B, H, S, N, C, Printer<&mut K>>(
+        alloc,
+        source,
+        net,
+        clock,
+        boxes,
+        &mut printer,
+    );
     let end = told_end(answer)?;
     match put_end(sink, &end) {
         Ok(()) => Ok(end),

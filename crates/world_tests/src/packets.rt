@@ -1,9 +1,12 @@
 // Packets that are whole, late and stale.
-ghost use Rattle.std.specs.Prelude.{IfOk};
+ghost use Rattle.std.specs.Prelude.{◌≡◌, ◌≤◌, [], length, IfOk};
 ghost use Rattle.homa_plain.specs.Settings.{IsValid};
+ghost use Rattle.world_packets.specs.All.{kept_all};
 
 use homa_plain::{Body, Frame, HostId, Packet, Role, Settings};
 use homa_wire::encode;
+use std::alloc::{AllocError, Global};
+use std::process::Abort;
 use std::test::Fail;
 use world_packets::*;
 
@@ -17,10 +20,10 @@ fn settings(wire: u32) -> Result<Settings, Fail>
     Ok(s)
 }
 
-#[test]
-fn late_after_its_life(rt: HostRuntime) -> Result<(), Fail> {
-    let alloc = rt.alloc();
-    let mut packets = Packets::open(alloc, &settings(1)?);
+// A packet of three bytes. Its life is 20 ticks: at tick 20 it may still be delivered, at tick 21 no more.
+fn goes_late(rt: &impl Abort, alloc: Global, packets: &mut Packets) -> Result<(), AllocError>
+    requires { kept_all packets.old ≡ [] }
+{
     packets.reserve(alloc, 0)?;
     packets.push(HostId(0), HostId(1), b"abc");
     let whole = Kept::Whole {
@@ -31,20 +34,26 @@ fn late_after_its_life(rt: HostRuntime) -> Result<(), Fail> {
     };
     assert!(rt; packets.get(0) == Some(whole));
     assert!(rt; packets.get(1).is_none());
-    // The life is 20 ticks: at tick 20 it may still be delivered, at tick 21 no more.
     packets.reserve(alloc, 20)?;
     assert!(rt; packets.get(0) == Some(whole));
     packets.reserve(alloc, 21)?;
     assert!(rt; packets.get(0) == Some(Kept::Late { tick: 0 }));
-    assert_eq!(rt; packets.count(), 1);
+    assert!(rt; packets.count() == 1);
     Ok(())
 }
 
 #[test]
-fn stale_by_its_clock(rt: HostRuntime) -> Result<(), Fail> {
-    let alloc = rt.alloc();
-    let mut packets = Packets::open(alloc, &settings(2)?);
-    packets.reserve(alloc, 0)?;
+fn late_after_its_life(rt: HostRuntime) -> Result<(), Fail> {
+    let settings = settings(1)?;
+    let mut packets = Packets::open(rt.alloc(), &settings);
+    goes_late(&rt, rt.alloc(), &mut packets)?;
+    Ok(())
+}
+
+// A BUSY that is sent by a clock of 5.
+fn busy() -> Frame
+    ensures { length result ≤ 1444 }
+{
     let busy = Packet {
         role: Role::Client,
         level: 7,
@@ -56,25 +65,44 @@ fn stale_by_its_clock(rt: HostRuntime) -> Result<(), Fail> {
     };
     let mut frame = Frame::empty();
     encode(&busy, 2, b"", &mut frame);
+    frame
+}
+
+// It is stale for certain once the world's clock is above 25.
+fn goes_stale(
+    rt: &impl Abort,
+    alloc: Global,
+    packets: &mut Packets,
+    frame: &Frame,
+) -> Result<(), AllocError>
+    requires none { kept_all packets.old ≡ [] }
+    requires short { length frame.now ≤ 1444 }
+{
+    packets.reserve(alloc, 0)?;
     packets.push(HostId(0), HostId(1), frame.bytes());
-    // Sent by a clock of 5, it is stale for certain once the world's clock is above 25.
     packets.reserve(alloc, 25)?;
     assert!(rt; matches!(packets.get(0), Some(Kept::Whole { .. })));
     packets.reserve(alloc, 26)?;
-    assert!(rt;
-        packets.get(0)
-            == Some(Kept::Stale {
-                to: HostId(1),
-                at: 5
-            })
-    );
+    let stale = Kept::Stale {
+        to: HostId(1),
+        at: 5,
+    };
+    assert!(rt; packets.get(0) == Some(stale));
     Ok(())
 }
 
 #[test]
-fn late_by_its_number(rt: HostRuntime) -> Result<(), Fail> {
-    let alloc = rt.alloc();
-    let mut packets = Packets::open(alloc, &settings(1)?);
+fn stale_by_its_clock(rt: HostRuntime) -> Result<(), Fail> {
+    let settings = settings(2)?;
+    let mut packets = Packets::open(rt.alloc(), &settings);
+    goes_stale(&rt, rt.alloc(), &mut packets, &busy())?;
+    Ok(())
+}
+
+// A packet of three bytes in each second tick, and one that is sent long after them.
+fn go_late(alloc: Global, packets: &mut Packets) -> Result<(), AllocError>
+    requires { kept_all packets.old ≡ [] }
+{
     for number in 0..200u64 {
         packets.reserve(alloc, 2 * number)?;
         packets.push(HostId(0), HostId(1), b"abc");
@@ -82,11 +110,24 @@ fn late_by_its_number(rt: HostRuntime) -> Result<(), Fail> {
     packets.reserve(alloc, 100_000)?;
     packets.push(HostId(0), HostId(1), b"abc");
     packets.reserve(alloc, 100_021)?;
+    Ok(())
+}
+
+// They are all late.
+fn are_late(rt: &impl Abort, packets: &Packets) {
     for number in 0..200u64 {
         assert!(rt; packets.get(number) == Some(Kept::Late { tick: 2 * number }));
     }
     assert!(rt; packets.get(200) == Some(Kept::Late { tick: 100_000 }));
     assert!(rt; packets.get(201).is_none());
-    assert_eq!(rt; packets.count(), 201);
+    assert!(rt; packets.count() == 201);
+}
+
+#[test]
+fn late_by_its_number(rt: HostRuntime) -> Result<(), Fail> {
+    let settings = settings(1)?;
+    let mut packets = Packets::open(rt.alloc(), &settings);
+    go_late(rt.alloc(), &mut packets)?;
+    are_late(&rt, &packets);
     Ok(())
 }

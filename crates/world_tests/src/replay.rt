@@ -1,8 +1,7 @@
-// A replay over a world in which every event is possible and tells the same line.
-use homa_io::{HeldSink, MemSink, MemSource, Room};
+// A replay over a world that can't be opened.
+use homa_io::{MemSink, MemSource};
 use homa_plain::{Entry, Event, Settings, WorldFault};
 use homa_replay::*;
-use homa_script::Reader;
 use std::alloc::{AllocError, Global};
 use std::test::Fail;
 
@@ -59,52 +58,25 @@ impl Opens<u32> for Blank {
     }
 }
 
-fn source_of(alloc: Global, text: &[u8]) -> Result<MemSource, Fail> {
+// What the replay of a schedule answers.
+fn replayed(
+    alloc: Global,
+    sink: &mut MemSink,
+    text: &[u8],
+) -> Result<Result<bool, Stop>, AllocError> {
     let bytes = Vec::from_slice(alloc, text)?;
-    Ok(MemSource::new(bytes, Vec::new(alloc)))
-}
-
-#[test]
-fn ticks_are_events(rt: HostRuntime) -> Result<(), Fail> {
-    let alloc = rt.alloc();
-    let mut source = source_of(alloc, b"hosts 3\ngo\nturn 0\ntick 2\n")?;
-    let mut sink = MemSink::new(alloc, 1000, Vec::new(alloc))?;
-    let mut reader = Reader::open(alloc, MOST_BYTES)?;
-    let mut held = HeldSink::over(&mut sink, Room::new(alloc)?);
-    let begun = begin(&mut reader, &mut source, &mut held)?;
-    if let Some(settings) = begun {
-        let hosts = settings.hosts;
-        let mut world = Blank {
-            settings,
-            events: 0,
-        };
-        let accepted = carry_on(
-            alloc,
-            &mut reader,
-            &mut source,
-            &mut held,
-            &mut world,
-            hosts,
-        )?;
-        assert!(rt; accepted);
-        assert_eq!(rt; world.events, 9);
-    }
-    held.flush()?;
-    let _sink = held.into_sink();
-    assert!(rt; sink.bytes().ends_with(b"clock 0\nclock 0\nok 9\n"));
-    Ok(())
+    let mut source = MemSource::new(bytes, Vec::new(alloc));
+    Ok(replay::<u32, Blank, MemSource, MemSink>(alloc, &mut source, sink, 96))
 }
 
 #[test]
 fn refused_before_the_world(rt: HostRuntime) -> Result<(), Fail> {
     let alloc = rt.alloc();
-    let mut source = source_of(alloc, b"turn 0")?;
     let mut sink = MemSink::new(alloc, 1000, Vec::new(alloc))?;
-    let answer = replay::<u32, Blank, MemSource, MemSink>(alloc, &mut source, &mut sink, 96);
+    let answer = replayed(alloc, &mut sink, b"turn 0")?;
     assert!(rt; answer == Ok(false));
     assert!(rt; sink.bytes().starts_with(b"refused 1 "));
-    let mut whole = source_of(alloc, b"go\nturn 0")?;
-    let stopped = replay::<u32, Blank, MemSource, MemSink>(alloc, &mut whole, &mut sink, 96);
+    let stopped = replayed(alloc, &mut sink, b"go\nturn 0")?;
     assert!(rt; stopped == Err(Stop::NoMemory));
     Ok(())
 }

@@ -1,5 +1,5 @@
 use Rattle.std.proofs.Common.{◌≡◌, true, false}
-use Rattle.host_rows.proofs.replay.Given as goal
+use Rattle.host_rows.proofs.play_all.Given as goal
 
 -- the reader goes on
 abbrev pub invariant-lines : goal.invariant-lines

@@ -1,5 +1,0 @@
-//! Tests of the checker.
-#![tactic(auto)]
-
-#[cfg(test)]
-mod check;

@@ -1,0 +1,5 @@
+//! Tests of the recorder.
+#![tactic(auto)]
+
+#[cfg(test)]
+mod recording;
