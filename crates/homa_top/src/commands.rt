@@ -6,6 +6,7 @@ ghost use Rattle.node_trace.specs.Traces.{around};
 ghost use Rattle.generated_runs.specs.Generated.{generated_settings, schedule_text, summary_text};
 ghost use Rattle.homa_generate.specs.Made.{run_of};
 ghost use Rattle.homa_world.specs.First.{AreReady, AreAllowed};
+ghost use Rattle.node_hosts.specs.First as nodes;
 ghost use Rattle.homa_top.specs.Words.{usage_line};
 ghost use Rattle.homa_top.specs.Commands.{HasMade, HasCounted, HasJudged, HasRun};
 ghost use Rattle.homa_top.specs.Exits.{status_of};
@@ -154,7 +155,7 @@ pub(crate) fn put_node<V: Service, S: Source, K: Sink, N: Net, C: Clock>(
 ) -> ExitStatus
     requires ready { AreReady V.served services.items }
     requires none_known { (h : Host) → N.known net.old h ≡ false }
-    ensures run { (bytes : List ℕ) → S.left source.old ≡ Some bytes → HasRun (AreAllowed V.served V.allows services.items) bytes (S.left source.new)
+    ensures run { (bytes : List ℕ) → S.left source.old ≡ Some bytes → HasRun (nodes.AreAllowed V.served V.allows services.items) bytes (S.left source.new)
         (around (K.taken sink.old) (N.sent net.old) (N.gave net.old) (C.ticks clock.old))
         (around (K.taken sink.new) (N.sent net.new) (N.gave net.new) (C.ticks clock.new)) result }
     ensures command { result ≢ status.NoCommand }
@@ -165,7 +166,9 @@ pub(crate) fn put_node<V: Service, S: Source, K: Sink, N: Net, C: Clock>(
     ensures net { result ≡ status.NetFailed → HasRisen (N.faults net.old) (N.faults net.new) }
     ensures net_quiet { result ≢ status.NetFailed → N.faults net.new ≡ N.faults net.old }
 {
-    match print_node::<Vec<V>, NodeHosts<V>, S, K, N, C>(alloc, source, sink, net, clock, services) {
+    match print_node::<Vec<V>, NodeHosts<V>, S, K, N, C>(
+        alloc, source, sink, net, clock, services,
+    ) {
         Ok(NodeEnd::Ended { .. }) => ExitStatus::Done,
         Ok(NodeEnd::Refused { .. }) => ExitStatus::Refused,
         Ok(NodeEnd::Stalled { .. }) => ExitStatus::Stalled,

@@ -10,6 +10,7 @@ ghost use Rattle.homa_replay.specs.Stream.{is_refusal};
 ghost use Rattle.generated_runs.specs.Generated.{generated_settings, schedule_text, summary_text};
 ghost use Rattle.homa_generate.specs.Made.{run_of};
 ghost use Rattle.homa_world.specs.First.{AreReady, AreAllowed};
+ghost use Rattle.node_hosts.specs.First as nodes;
 ghost use Rattle.node_trace.specs.Traces.{around};
 ghost use Rattle.replay_laws.specs.Replays.{OpensWorld};
 ghost use Rattle.homa_top.specs.declared.words.Command.TheVariants as command;
@@ -91,7 +92,7 @@ pub fn run<V: Service, S: Source, K: Sink, N: Net, C: Clock>(
     // `run` lines show, of which each is allowed, and the ticks and receives that clock and net gave; the net took its
     // datagrams, and the status is that of its end. A fault or want of memory leaves a front of it.
     ensures node { said words.now ≡ Some command.Node → (bytes : List ℕ) → S.left source.old ≡ Some bytes
-        → HasRun (AreAllowed V.served V.allows services.items) bytes (S.left source.new)
+        → HasRun (nodes.AreAllowed V.served V.allows services.items) bytes (S.left source.new)
         (around (K.taken sink.old) (N.sent net.old) (N.gave net.old) (C.ticks clock.old))
         (around (K.taken sink.new) (N.sent net.new) (N.gave net.new) (C.ticks clock.new)) result }
 
@@ -125,7 +126,7 @@ pub fn run<V: Service, S: Source, K: Sink, N: Net, C: Clock>(
         → (HasRisen (S.faults source.old) (S.faults source.new) → ⊥) → (HasRisen (K.faults sink.old) (K.faults sink.new) → ⊥) → (result ≡ status.Done)
         ⊎ (result ≡ status.NoMemory) }
     ensures complete_node { said words.now ≡ Some command.Node → (bytes : List ℕ) → S.left source.old ≡ Some bytes
-        → IsNeverRefused (AreAllowed V.served V.allows services.items) bytes (C.ticks clock.old)
+        → IsNeverRefused (nodes.AreAllowed V.served V.allows services.items) bytes (C.ticks clock.old)
         → (HasRisen (S.faults source.old) (S.faults source.new) → ⊥) → (HasRisen (K.faults sink.old) (K.faults sink.new) → ⊥)
         → (HasRisen (N.faults net.old) (N.faults net.new) → ⊥)
         → (result ≡ status.Done) ⊎ (result ≡ status.Stalled) ⊎ (result ≡ status.NoMemory) }

@@ -7,7 +7,7 @@
 mod net_file;
 
 use crate::net_file::NetFile;
-use homa_io::{MemSink, MemSource, StdSink, write_all};
+use homa_io::{MemSink, MemSource, Sink, StdSink, write_all};
 use homa_top::{ExitStatus, run, suites};
 use node_io::{MemClock, MemNet};
 use std::alloc::Global;
@@ -42,23 +42,34 @@ fn carry_out(
     Some((status, sink))
 }
 
+// Carries out a case and prints it. None where that can't be done.
+fn print_case<K: Sink>(
+    alloc: Global,
+    sink: &mut K,
+    word: &str,
+    script: Vec<u8>,
+    text: &str,
+) -> Option<()> {
+    let (status, printed) = carry_out(alloc, word, script, text)?;
+    let last = format!(in alloc; "status {}\n", status.code()).ok()?;
+    write_all(sink, printed.bytes()).ok()?;
+    write_all(sink, last.as_bytes()).ok()
+}
+
 fn main(rt: HostRuntime) -> io::Result<ExitCode> {
+    let alloc = rt.alloc();
     let mut sink = StdSink::new(io::writer(&rt));
-    let mut words = env::args(&rt)?.skip(1);
-    while let Some(word) = words.next() {
-        let (Some(script), Some(net)) = (words.next(), words.next()) else {
+    let mut words = Vec::new(alloc);
+    for word in env::args(&rt)?.skip(1) {
+        words.push(word)?;
+    }
+    for case in words.chunks(3) {
+        let [word, script, net] = case else {
             return Ok(ExitCode::from(1));
         };
         let script = fs::read(&rt, script.as_str())?;
         let text = fs::read_to_string(&rt, net.as_str())?;
-        let Some((status, printed)) = carry_out(rt.alloc(), word.as_str(), script, text.as_str())
-        else {
-            return Ok(ExitCode::from(1));
-        };
-        let last = format!(in rt.alloc(); "status {}\n", status.code())?;
-        if write_all(&mut sink, printed.bytes()).is_err()
-            || write_all(&mut sink, last.as_bytes()).is_err()
-        {
+        if print_case(alloc, &mut sink, word.as_str(), script, text.as_str()).is_none() {
             return Ok(ExitCode::from(1));
         }
     }
