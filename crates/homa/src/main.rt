@@ -1,9 +1,10 @@
-//! The program: hands the words of the command line, standard input and standard output to `run`, and
-//! ends with the code of its status.
+//! The program: hands the words of the command line, standard input, standard output, sockets on 127.0.0.1
+//! and the system's clock to `run`, and ends with the code of its status.
 #![tactic(auto)]
 
 use homa_io::{StdSink, StdSource};
 use homa_top::{ExitStatus, run, suites};
+use node_io::{TickClock, UdpNet};
 use std::alloc::AllocError;
 use std::process::ExitCode;
 use std::{env, io};
@@ -33,7 +34,17 @@ fn status(rt: &HostRuntime) -> Result<ExitStatus, AllocError> {
     let services = suites(alloc)?;
     let mut source = StdSource::new(rt.reader());
     let mut sink = StdSink::new(io::writer(rt));
-    Ok(run(alloc, &texts, &mut source, &mut sink, services))
+    let mut net = UdpNet::new(alloc, rt)?;
+    let mut clock = TickClock::new(rt);
+    Ok(run(
+        alloc,
+        &texts,
+        &mut source,
+        &mut sink,
+        &mut net,
+        &mut clock,
+        services,
+    ))
 }
 
 fn main(rt: HostRuntime) -> ExitCode {

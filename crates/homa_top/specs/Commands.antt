@@ -1,10 +1,17 @@
 -- What the commands beside `replay` print, by their status.
-use Rattle.std.specs.Prelude.{◌≡◌, ◌≤◌, ◌⊎◌, ℕ, true, Option, List}
+use Rattle.std.specs.Prelude.{◌≡◌, ◌≤◌, ◌⊎◌, ℕ, true, Option, Some, List, []}
 use Rattle.homa_io.specs.Outside.{appended, TookFront, IsAtEnd}
+use Rattle.homa_plain.specs.declared.fault.LineFault.{LineFault}
 use Rattle.homa_plain.specs.Settings.{usual}
 use Rattle.homa_plain.specs.Entries.{PlainEntry}
 use Rattle.homa_plain.specs.Judge.{Clause}
 use Rattle.homa_plain.specs.Quiet.{IsQuiet}
+use Rattle.homa_plain.specs.Answers.{shown}
+use Rattle.homa_plain.specs.Rules.{Answer}
+use Rattle.node_runs.specs.Course.{Arrival, AreTicks, Ended, RefusedAt, StalledAt, node_run}
+use Rattle.node_runs.specs.Texts.{entries}
+use Rattle.homa_node.specs.Served.{AreGiven}
+use Rattle.node_trace.specs.Traces.{Around, IsWhole, IsBrokenOff, IsEndCut}
 use Rattle.check_text.specs.Text.{IsTrace, IsNoTrace}
 use Rattle.check_text.specs.Verdict as verdict
 use Rattle.check_text.specs.Verdict.{verdict_of}
@@ -13,7 +20,7 @@ use Rattle.generated_runs.specs.Rounds.{Generated}
 use Rattle.homa_generate.specs.Made.{Run, IsMade, IsPartMade}
 use Rattle.quiet_call.specs.Text.{bound, quiet_text}
 use Rattle.homa_top.specs.declared.exit.ExitStatus.{ExitStatus}
-use Rattle.homa_top.specs.declared.exit.ExitStatus.TheVariants.{Done, Refused, WriteFailed, NoMemory}
+use Rattle.homa_top.specs.declared.exit.ExitStatus.TheVariants.{Done, Refused, WriteFailed, NoMemory, Stalled}
 use Rattle.homa_top.specs.Exits.{is_broken_off}
 
 -- the end, a fault of the sink, or want of memory
@@ -60,3 +67,38 @@ pub record HasJudged (bytes : List ℕ) (left old new : Option (List ℕ)) (stat
   pub yes : status ≡ Done → IsYes bytes left old new
   pub no : status ≡ Refused → IsNo bytes old new
   pub front : is_broken_off status ≡ true → TookFront old new (verdict_text (verdict_of bytes))
+
+-- ---- `node`
+
+module _ (may_tell : List PlainEntry → Type 0) where
+  -- the run came to the end after so many loop turns: its text was printed, and the script was read to its end
+  pub record HasEnded (bytes : List ℕ) (left : Option (List ℕ)) (old new : Around) : Type 0 where
+    pub turns : ℕ
+    pub whole : IsWhole may_tell bytes old new (Ended turns)
+    pub to_end : left ≡ Some []
+
+  -- a line is the first that may not stand there: the text of the run up to there was printed
+  pub record HasRefused (bytes : List ℕ) (old new : Around) : Type 0 where
+    pub line : ℕ
+    pub fault : LineFault
+    pub whole : IsWhole may_tell bytes old new (RefusedAt line fault)
+
+  -- the run did its last loop turn before the clock came to the end: its text was printed
+  pub record HasStalled (bytes : List ℕ) (old new : Around) : Type 0 where
+    pub turns : ℕ
+    pub now : ℕ
+    pub whole : IsWhole may_tell bytes old new (StalledAt turns now)
+
+  -- the text of the node's run was printed; with the status of a fault or of want of memory, a front of it
+  pub record HasRun (bytes : List ℕ) (left : Option (List ℕ)) (old new : Around) (status : ExitStatus) : Type 0 where
+    pub ended : status ≡ Done → HasEnded bytes left old new
+    pub refused : status ≡ Refused → HasRefused bytes old new
+    pub stalled : status ≡ Stalled → HasStalled bytes old new
+    pub front : is_broken_off status ≡ true → IsBrokenOff may_tell bytes left old new ⊎ IsEndCut may_tell bytes old new
+
+  -- whatever the services may answer, the clock may give of its ticks and the net may give, no line of the script is refused
+  abbrev pub IsNeverRefused : List ℕ → Option (List ℕ) → Type 0
+  IsNeverRefused bytes held = (answers : List Answer) (ticks : List ℕ) (gave : List (Option Arrival)) (line : ℕ) (fault : LineFault)
+      → AreGiven held ticks → AreTicks 0 ticks → shown (entries (node_run bytes answers ticks gave).reports) ≡ answers
+      → may_tell (entries (node_run bytes answers ticks gave).reports)
+      → (node_run bytes answers ticks gave).end ≡ Some (RefusedAt line fault) → ⊥

@@ -3,7 +3,7 @@ use Rattle.std.specs.Prelude.{ℕ, Bool, true, false}
 use Rattle.homa_replay.specs.declared.stop.Stop.{Stop}
 use Rattle.homa_replay.specs.declared.stop.Stop.TheVariants as stop
 use Rattle.homa_top.specs.declared.exit.ExitStatus.{ExitStatus}
-use Rattle.homa_top.specs.declared.exit.ExitStatus.TheVariants.{Done, NoCommand, Refused, ReadFailed, WriteFailed, NoMemory}
+use Rattle.homa_top.specs.declared.exit.ExitStatus.TheVariants.{Done, NoCommand, Refused, ReadFailed, WriteFailed, NoMemory, NetFailed, Stalled}
 
 -- the code of an exit status
 abbrev pub code : ExitStatus → ℕ
@@ -13,6 +13,8 @@ code Refused = 2
 code ReadFailed = 3
 code WriteFailed = 4
 code NoMemory = 5
+code NetFailed = 6
+code Stalled = 7
 
 -- the command was broken off, by a fault or for want of memory
 abbrev pub is_broken_off : ExitStatus → Bool
@@ -22,6 +24,8 @@ is_broken_off Refused = false
 is_broken_off ReadFailed = true
 is_broken_off WriteFailed = true
 is_broken_off NoMemory = true
+is_broken_off NetFailed = true
+is_broken_off Stalled = false
 
 -- the status of a command that stopped
 abbrev pub status_of : Stop → ExitStatus

@@ -5,13 +5,12 @@ use denote.Ref.{Bor}
 use Rattle.homa_plain.specs.Bytes.{◌>>=◌}
 use Rattle.homa_plain.specs.Numbers.{number_of}
 use Rattle.homa_top.specs.declared.words.Command.{Command}
-use Rattle.homa_top.specs.declared.words.Command.TheVariants.{Replay, Make, Gen, Check, Quiet}
+use Rattle.homa_top.specs.declared.words.Command.TheVariants.{Replay, Make, Gen, Node, Check, Quiet}
 
 -- a number of at least 1 and at most so much
 abbrev pub within : ℕ → ℕ → Option ℕ
 within most n = if nat_le 1 n && nat_le n most then Some n else None
 
--- a word is such a number
 -- a word as a number of at least 1 and at most so much
 abbrev pub number_within : ℕ → List ℕ → Option ℕ
 number_within most word = number_of word >>= within most
@@ -34,7 +33,11 @@ numbered word first second =
 
 -- the command that these words are, if they are one
 abbrev pub command_of : List (List ℕ) → Option Command
-command_of (word ∷ []) = if bytes_eq word (codes "replay") then Some Replay else if bytes_eq word (codes "check") then Some Check else None
+command_of (word ∷ []) =
+    if bytes_eq word (codes "replay") then Some Replay
+    else if bytes_eq word (codes "node") then Some Node
+    else if bytes_eq word (codes "check") then Some Check
+    else None
 command_of (word ∷ first ∷ second ∷ []) = numbered word first second
 command_of words = None
 
@@ -42,7 +45,6 @@ command_of words = None
 abbrev pub said : List (Bor (List ℕ)) → Option Command
 said words = command_of (map (λ w. w.now) words)
 
--- the line that tells the commands
 -- the line that names the commands
 abbrev pub usage_line : List ℕ
 usage_line = codes "usage: homa replay | make SEED CALLS | gen SEED CALLS | node | record | check | quiet N M\n"
@@ -51,5 +53,11 @@ usage_line = codes "usage: homa replay | make SEED CALLS | gen SEED CALLS | node
 abbrev pub reads : Option Command → Bool
 reads None = false
 reads (Some Replay) = true
+reads (Some Node) = true
 reads (Some Check) = true
 reads (Some other) = false
+
+-- a command that uses the net and the clock
+abbrev pub uses_net : Option Command → Bool
+uses_net (Some Node) = true
+uses_net other = false

@@ -1,11 +1,14 @@
 // What each command does, with its status.
-ghost use Rattle.std.specs.Prelude.{◌≡◌, ◌≢◌, ◌≤◌, ◌⊎◌, ℕ, List, Some, length};
+ghost use Rattle.std.specs.Prelude.{◌≡◌, ◌≢◌, ◌≤◌, ◌⊎◌, ℕ, List, Some, false, length};
 ghost use Rattle.homa_io.specs.Outside.{HasRisen, appended, TookFront};
+ghost use Rattle.homa_plain.specs.declared.id.HostId.{HostId as Host};
+ghost use Rattle.node_trace.specs.Traces.{around};
 ghost use Rattle.generated_runs.specs.Generated.{generated_settings, schedule_text, summary_text};
 ghost use Rattle.homa_generate.specs.Made.{run_of};
 ghost use Rattle.homa_world.specs.First.{AreReady, AreAllowed};
+ghost use Rattle.node_hosts.specs.First as nodes;
 ghost use Rattle.homa_top.specs.Words.{usage_line};
-ghost use Rattle.homa_top.specs.Commands.{HasMade, HasCounted, HasJudged};
+ghost use Rattle.homa_top.specs.Commands.{HasMade, HasCounted, HasJudged, HasRun};
 ghost use Rattle.homa_top.specs.Exits.{status_of};
 ghost use Rattle.homa_top.specs.declared.exit.ExitStatus.TheVariants as status;
 
@@ -17,6 +20,9 @@ use homa_plain::Settings;
 use homa_replay::Stop;
 use homa_service::Service;
 use homa_world::World;
+use node_hosts::NodeHosts;
+use node_io::{Clock, Net};
+use node_trace::{Broken, NodeEnd, print_node};
 use quiet_call::{put_quiet, quiet_rounds};
 use std::alloc::Global;
 
@@ -135,5 +141,40 @@ pub(crate) fn put_judgement<S: Source, K: Sink>(
     match verdict {
         Verdict::Yes { .. } => ExitStatus::Done,
         Verdict::No { .. } => ExitStatus::Refused,
+    }
+}
+
+/// Runs the node of the script that the source has, and prints its trace with its last line.
+pub(crate) fn put_node<V: Service, S: Source, K: Sink, N: Net, C: Clock>(
+    alloc: Global,
+    source: &mut S,
+    sink: &mut K,
+    net: &mut N,
+    clock: &mut C,
+    services: Vec<V>,
+) -> ExitStatus
+    requires ready { AreReady V.served services.items }
+    requires none_known { (h : Host) → N.known net.old h ≡ false }
+    ensures run { (bytes : List ℕ) → S.left source.old ≡ Some bytes → HasRun (nodes.AreAllowed V.served V.allows services.items) bytes (S.left source.new)
+        (around (K.taken sink.old) (N.sent net.old) (N.gave net.old) (C.ticks clock.old))
+        (around (K.taken sink.new) (N.sent net.new) (N.gave net.new) (C.ticks clock.new)) result }
+    ensures command { result ≢ status.NoCommand }
+    ensures read { result ≡ status.ReadFailed → HasRisen (S.faults source.old) (S.faults source.new) }
+    ensures read_quiet { result ≢ status.ReadFailed → S.faults source.new ≡ S.faults source.old }
+    ensures write { result ≡ status.WriteFailed → HasRisen (K.faults sink.old) (K.faults sink.new) }
+    ensures write_quiet { result ≢ status.WriteFailed → K.faults sink.new ≡ K.faults sink.old }
+    ensures net { result ≡ status.NetFailed → HasRisen (N.faults net.old) (N.faults net.new) }
+    ensures net_quiet { result ≢ status.NetFailed → N.faults net.new ≡ N.faults net.old }
+{
+    match print_node::<Vec<V>, NodeHosts<V>, S, K, N, C>(
+        alloc, source, sink, net, clock, services,
+    ) {
+        Ok(NodeEnd::Ended { .. }) => ExitStatus::Done,
+        Ok(NodeEnd::Refused { .. }) => ExitStatus::Refused,
+        Ok(NodeEnd::Stalled { .. }) => ExitStatus::Stalled,
+        Err(Broken::Read) => ExitStatus::ReadFailed,
+        Err(Broken::Write) => ExitStatus::WriteFailed,
+        Err(Broken::Net) => ExitStatus::NetFailed,
+        Err(Broken::NoMemory) => ExitStatus::NoMemory,
     }
 }

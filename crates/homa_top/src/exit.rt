@@ -17,10 +17,14 @@ pub enum ExitStatus {
     WriteFailed,
     /// 5: there is no memory, of which no clause says when it comes.
     NoMemory,
+    /// 6: the net gave a fault.
+    NetFailed,
+    /// 7: a node did its last loop turn before the clock came to the end.
+    Stalled,
 }
 
 impl ExitStatus {
-    /// The code, from 0 to 5.
+    /// The code, from 0 to 7.
     pub fn code(self) -> u8
         ensures { result ≡ code self }
     {
@@ -31,6 +35,8 @@ impl ExitStatus {
             ExitStatus::ReadFailed => 3,
             ExitStatus::WriteFailed => 4,
             ExitStatus::NoMemory => 5,
+            ExitStatus::NetFailed => 6,
+            ExitStatus::Stalled => 7,
         }
     }
 }

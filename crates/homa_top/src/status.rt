@@ -1,6 +1,7 @@
 // The top call.
 ghost use Rattle.std.specs.Prelude.{◌≡◌, ◌≢◌, ◌⊎◌, ℕ, List, None, Some, [], length, true, false};
 ghost use Rattle.homa_io.specs.Outside.{HasRisen, appended, TookFront};
+ghost use Rattle.homa_plain.specs.declared.id.HostId.{HostId as Host};
 ghost use Rattle.homa_plain.specs.Rules.{Answer};
 ghost use Rattle.homa_plain.specs.Replay.{replay};
 ghost use Rattle.homa_replay.specs.Far.{replay_of, ArePrinted, AreParts};
@@ -9,39 +10,48 @@ ghost use Rattle.homa_replay.specs.Stream.{is_refusal};
 ghost use Rattle.generated_runs.specs.Generated.{generated_settings, schedule_text, summary_text};
 ghost use Rattle.homa_generate.specs.Made.{run_of};
 ghost use Rattle.homa_world.specs.First.{AreReady, AreAllowed};
+ghost use Rattle.node_hosts.specs.First as nodes;
+ghost use Rattle.node_trace.specs.Traces.{around};
 ghost use Rattle.replay_laws.specs.Replays.{OpensWorld};
 ghost use Rattle.homa_top.specs.declared.words.Command.TheVariants as command;
-ghost use Rattle.homa_top.specs.Commands.{HasMade, HasCounted, HasJudged};
+ghost use Rattle.homa_top.specs.Commands.{HasMade, HasCounted, HasJudged, HasRun, IsNeverRefused};
 ghost use Rattle.homa_top.specs.Exits.{is_broken_off};
 ghost use Rattle.homa_top.specs.declared.exit.ExitStatus.TheVariants as status;
 ghost use Rattle.homa_top.specs.Lawful.{TookLawful};
-ghost use Rattle.homa_top.specs.Words.{said, reads, usage_line};
+ghost use Rattle.homa_top.specs.Words.{said, reads, uses_net, usage_line};
 
-use crate::commands::{put_judgement, put_rounds, put_schedule, put_summary, put_usage, status_of};
+use crate::commands::{
+    put_judgement, put_node, put_rounds, put_schedule, put_summary, put_usage, status_of,
+};
 use crate::exit::ExitStatus;
 use crate::words::{Command, read_words};
 use homa_io::{Sink, Source};
 use homa_replay::replay;
 use homa_service::Service;
 use homa_world::World;
+use node_io::{Clock, Net};
 use std::alloc::Global;
 
-/// Carries out a command line, `words` without the program's name: `replay`, `make SEED CALLS`, `gen SEED CALLS`,
+/// Carries out a command line, `words` without the program's name: `replay`, `make SEED CALLS`, `gen SEED CALLS`, `node`,
 /// `check` or `quiet N M`.
 ///
 /// `replay` reads a schedule from the source and prints its trace. `check` reads a trace and prints the verdict on it,
 /// `Done` where it is yes and `Refused` where it is no. `make` prints a schedule of generated traffic, and `gen`
-/// the summary of its trace. `quiet` prints in how many rounds a call is done. Service h serves host h, and the others are
+/// the summary of its trace. `node` reads a node script, runs its local hosts over the net and the clock, and prints their
+/// trace, each line as it comes. `quiet` prints in how many rounds a call is done. Service h serves host h, and the others are
 /// there for hosts that restart, the last one first. What is said of the bytes holds where the source tells what it has
-/// left, and the sink what it took, as those in memory do.
-pub fn run<V: Service, S: Source, K: Sink>(
+/// left, and the sink what it took, as those in memory do; so does what is said of datagrams and ticks of net and clock.
+pub fn run<V: Service, S: Source, K: Sink, N: Net, C: Clock>(
     alloc: Global,
     words: &[&str],
     source: &mut S,
     sink: &mut K,
+    net: &mut N,
+    clock: &mut C,
     services: Vec<V>,
 ) -> ExitStatus
-    requires { AreReady V.served services.items }
+    requires ready { AreReady V.served services.items }
+    requires none_known { (h : Host) → N.known net.old h ≡ false }
 
     // The words are none of the commands: the usage line is printed.
     ensures usage { result ≡ status.NoCommand → said words.now ≡ None }
@@ -49,9 +59,14 @@ pub fn run<V: Service, S: Source, K: Sink>(
     ensures usage_text { result ≡ status.NoCommand → K.taken sink.new ≡ appended (K.taken sink.old) usage_line }
     ensures usage_front { said words.now ≡ None → TookFront (K.taken sink.old) (K.taken sink.new) usage_line }
 
-    // `replay` and `check` alone read, and refuse a line.
+    // `replay`, `node` and `check` alone read, and refuse a line.
     ensures source_stays { reads (said words.now) ≡ false → source.new ≡ source.old }
     ensures reads { (result ≡ status.Refused) ⊎ (result ≡ status.ReadFailed) → reads (said words.now) ≡ true }
+
+    // `node` alone uses the net and the clock, and stalls.
+    ensures net_stays { uses_net (said words.now) ≡ false → net.new ≡ net.old }
+    ensures clock_stays { uses_net (said words.now) ≡ false → clock.new ≡ clock.old }
+    ensures uses_net { (result ≡ status.NetFailed) ⊎ (result ≡ status.Stalled) → uses_net (said words.now) ≡ true }
 
     // `replay`: what was printed is the replay of the bytes that the source had, with the answers that its own `run` lines
     // show, of which each is allowed; it refuses no line, or its last line refuses one.
@@ -73,6 +88,14 @@ pub fn run<V: Service, S: Source, K: Sink>(
         → AreParts (replay_of (length services.items)) (S.left source.old) (S.left source.new) (K.taken sink.old) (K.taken sink.new)
         (AreAllowed V.served V.allows services.items) }
 
+    // `node`: what was printed is the text of the node's run of the bytes that the source had, with the answers that its own
+    // `run` lines show, of which each is allowed, and the ticks and receives that clock and net gave; the net took its
+    // datagrams, and the status is that of its end. A fault or want of memory leaves a front of it.
+    ensures node { said words.now ≡ Some command.Node → (bytes : List ℕ) → S.left source.old ≡ Some bytes
+        → HasRun (nodes.AreAllowed V.served V.allows services.items) bytes (S.left source.new)
+        (around (K.taken sink.old) (N.sent net.old) (N.gave net.old) (C.ticks clock.old))
+        (around (K.taken sink.new) (N.sent net.new) (N.gave net.new) (C.ticks clock.new)) result }
+
     // `check`: what was printed is the verdict on the bytes that the source had. Yes means that each line has its shape and
     // obeys all laws, no that the named line is the first that doesn't, by the named clause.
     ensures judged { said words.now ≡ Some command.Check → (bytes : List ℕ) → S.left source.old ≡ Some bytes
@@ -92,14 +115,21 @@ pub fn run<V: Service, S: Source, K: Sink>(
     // that the services may give, from its end.
     ensures read { result ≡ status.ReadFailed → HasRisen (S.faults source.old) (S.faults source.new) }
     ensures write { result ≡ status.WriteFailed → HasRisen (K.faults sink.old) (K.faults sink.new) }
+    ensures net { result ≡ status.NetFailed → HasRisen (N.faults net.old) (N.faults net.new) }
     ensures read_fault { S.faults source.new ≢ S.faults source.old → result ≡ status.ReadFailed }
     ensures write_fault { K.faults sink.new ≢ K.faults sink.old → result ≡ status.WriteFailed }
+    ensures net_fault { N.faults net.new ≢ N.faults net.old → result ≡ status.NetFailed }
     ensures complete { said words.now ≡ Some command.Replay → (bytes : List ℕ) → S.left source.old ≡ Some bytes
         → ((answers : List Answer) → shown (replay bytes answers (length services.items)).told ≡ answers
         → AreAllowed V.served V.allows services.items (replay bytes answers (length services.items)).told
         → is_refusal (replay bytes answers (length services.items)).end ≡ false)
         → (HasRisen (S.faults source.old) (S.faults source.new) → ⊥) → (HasRisen (K.faults sink.old) (K.faults sink.new) → ⊥) → (result ≡ status.Done)
         ⊎ (result ≡ status.NoMemory) }
+    ensures complete_node { said words.now ≡ Some command.Node → (bytes : List ℕ) → S.left source.old ≡ Some bytes
+        → IsNeverRefused (nodes.AreAllowed V.served V.allows services.items) bytes (C.ticks clock.old)
+        → (HasRisen (S.faults source.old) (S.faults source.new) → ⊥) → (HasRisen (K.faults sink.old) (K.faults sink.new) → ⊥)
+        → (HasRisen (N.faults net.old) (N.faults net.new) → ⊥)
+        → (result ≡ status.Done) ⊎ (result ≡ status.Stalled) ⊎ (result ≡ status.NoMemory) }
     ensures complete_check { said words.now ≡ Some command.Check → (HasRisen (S.faults source.old) (S.faults source.new) → ⊥)
         → (HasRisen (K.faults sink.old) (K.faults sink.new) → ⊥) → (result ≡ status.Done) ⊎ (result ≡ status.Refused) ⊎ (result ≡ status.NoMemory) }
 {
@@ -107,6 +137,7 @@ pub fn run<V: Service, S: Source, K: Sink>(
         None => put_usage(sink),
         Some(Command::Make { seed, calls }) => put_schedule(alloc, sink, services, seed, calls),
         Some(Command::Gen { seed, calls }) => put_summary(alloc, sink, services, seed, calls),
+        Some(Command::Node) => put_node(alloc, source, sink, net, clock, services),
         Some(Command::Check) => put_judgement(alloc, source, sink),
         Some(Command::Quiet { request, response }) => put_rounds(alloc, sink, request, response),
         Some(Command::Replay) => {

@@ -15,6 +15,8 @@ pub enum Command {
     Make { seed: u64, calls: u32 },
     /// The summary of generated traffic, the same.
     Gen { seed: u64, calls: u32 },
+    /// The run of a node.
+    Node,
     /// The verdict on a trace.
     Check,
     /// The rounds of a quiet call: how many bytes it asks and how many it is answered, each from 1 to 1,000,000.
@@ -79,6 +81,7 @@ fn single(word: &str) -> Option<Command>
 {
     match word {
         "replay" => Some(Command::Replay),
+        "node" => Some(Command::Node),
         "check" => Some(Command::Check),
         _ => None,
     }

@@ -2,6 +2,7 @@
 use crate::plan::{Plan, read_plan};
 use homa_io::{MemSink, MemSource};
 use homa_top::{ExitStatus, run, suites};
+use node_io::{MemClock, MemNet};
 use std::alloc::{AllocError, Global};
 
 // The most bytes that a run prints.
@@ -22,7 +23,17 @@ fn carried(
     let mut source = MemSource::new(bytes, reads);
     let services = suites(alloc)?;
     let mut sink = MemSink::new(alloc, MOST_BYTES, writes)?;
-    let status = run(alloc, words, &mut source, &mut sink, services);
+    let mut net = MemNet::new(alloc, Vec::new(alloc), 0, Vec::new(alloc))?;
+    let mut clock = MemClock::new(vec![in alloc; 0]?);
+    let status = run(
+        alloc,
+        words,
+        &mut source,
+        &mut sink,
+        &mut net,
+        &mut clock,
+        services,
+    );
     Ok((status, sink))
 }
 
