@@ -1,6 +1,6 @@
 // The services of the program.
 ghost use Rattle.std.specs.Prelude.{◌≡◌, IfOk, length};
-ghost use Rattle.homa_world.specs.First.{AreReady};
+ghost use Rattle.box_laws.specs.First.{AreReady};
 
 use homa_service::Suite;
 use std::alloc::{AllocError, Global};

@@ -7,9 +7,9 @@ use Rattle.homa_plain.specs.declared.id.HostId.{HostId}
 use Rattle.homa_service.specs.Table.{place_of}
 use Rattle.host_table.specs.Staged.{seats_of, spares_of, HasNotCome}
 use Rattle.homa_world.specs.declared.parts.WorldParts.{WorldParts}
-use Rattle.homa_world.specs.Boxes.{Allows, counted, all_counted, may_tell}
+use Rattle.box_laws.specs.Boxes.{Allows, counted, all_counted, may_tell}
 use Rattle.homa_world.specs.Standing.{AllowsNoMore}
-use Rattle.homa_world.proofs.AskedLaws.{AreUnder, all_under, set_under, under_tell}
+use Rattle.box_laws.proofs.AskedLaws.{AreUnder, all_under, set_under, under_tell}
 use Rattle.homa_world.proofs.CameLaws.{place_counted, same_set}
 
 module _ {S : Type 0} (served : S → ℕ) (allows : Allows S) where

@@ -46,7 +46,7 @@ use Rattle.homa_world.specs.declared.parts.First.TheVariants as first
 use Rattle.homa_world.specs.declared.parts.Last.TheVariants as last
 use Rattle.homa_world.specs.declared.parts.WorldParts.{WorldParts}
 use Rattle.homa_world.specs.Arrived.{HasArrived}
-use Rattle.homa_world.specs.Boxes.{Allows, counted, all_counted, may_tell}
+use Rattle.box_laws.specs.Boxes.{Allows, counted, all_counted, may_tell}
 use Rattle.homa_world.specs.Packed.{frame_kept, IsShort}
 use Rattle.homa_world.specs.Standing.{StandsFor, HostFits, SeatFits, IsKept, IsLast, Applies, Refuses, StillStands, first_told, told_of, may_tell_of}
 use Rattle.homa_world.proofs.KeptLaws.{refused_by, set_fits}

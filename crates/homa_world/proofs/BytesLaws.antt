@@ -9,7 +9,7 @@ use Rattle.homa_plain.specs.World.{World as PlainWorld, outcome}
 use Rattle.homa_plain.specs.Answers.{shown, answering}
 use Rattle.homa_replay.specs.Playing.{IsApplied, IsNotApplied}
 use Rattle.homa_world.specs.declared.parts.WorldParts.{WorldParts}
-use Rattle.homa_world.specs.Boxes.{Allows}
+use Rattle.box_laws.specs.Boxes.{Allows}
 use Rattle.homa_world.specs.Standing.{StandsFor, Applies, Refuses, told_of, may_tell_of}
 
 abbrev pub takes_bytes : Event → Bool

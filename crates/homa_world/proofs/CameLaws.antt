@@ -30,13 +30,13 @@ use Rattle.homa_world.specs.declared.parts.First.{First}
 use Rattle.homa_world.specs.declared.parts.First.TheVariants as first
 use Rattle.homa_world.specs.declared.parts.Last.TheVariants as last
 use Rattle.homa_world.specs.declared.parts.WorldParts.{WorldParts}
-use Rattle.homa_world.specs.Boxes.{Allows, all_counted, counted, may_tell}
+use Rattle.box_laws.specs.Boxes.{Allows, all_counted, counted, may_tell}
 use Rattle.host_table.specs.Staged.{known, hosts_of, seats_of, spares_of, HasCome}
 use Rattle.homa_world.specs.Packed.{frame_kept}
 use Rattle.homa_world.specs.Standing.{StandsFor, IsKept, SeatFits, told_of, may_tell_of, first_told}
 use Rattle.homa_world.proofs.StepLaws.{stands_after, told_after, kept_after}
-use Rattle.homa_world.proofs.ShownLaws.{one_shown, all_show}
-use Rattle.homa_world.proofs.AskedLaws.{MayRun, runs_in, some_in, marks_may, marks_ran, told_runs, AreUnder, all_under, set_under, under_tell, one_entry}
+use Rattle.box_laws.proofs.ShownLaws.{one_shown, all_show}
+use Rattle.box_laws.proofs.AskedLaws.{MayRun, runs_in, some_in, marks_may, marks_ran, told_runs, AreUnder, all_under, set_under, under_tell, one_entry}
 use Rattle.homa_world.proofs.KeptLaws.{seat_later, set_fits}
 use Rattle.host_table.proofs.StageLaws.{map_at}
 

@@ -33,7 +33,7 @@ use Rattle.host_table.specs.declared.stage.Stage.{Stage}
 use Rattle.homa_world.specs.declared.parts.First.TheVariants as first
 use Rattle.homa_world.specs.declared.parts.Last.TheVariants as last
 use Rattle.homa_world.specs.declared.parts.WorldParts.{WorldParts}
-use Rattle.homa_world.specs.Boxes.{Allows}
+use Rattle.box_laws.specs.Boxes.{Allows}
 use Rattle.host_table.specs.Staged.{Known, known, known_of, hosts_of, seats_of, spares_of, MayStep, HasStepped}
 use Rattle.homa_world.specs.Packed.{frame_kept, IsShort}
 use Rattle.homa_world.specs.Standing.{StandsFor, HostFits, IsKept, IsLast, SeatFits, Applies, StillStands, told_of, may_tell_of}

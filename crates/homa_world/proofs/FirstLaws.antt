@@ -15,8 +15,9 @@ use Rattle.world_packets.specs.All.{kept_all, settings_of}
 use Rattle.host_table.specs.Staged.{Known, known_of, known_in, first_known, seats_of, spares_of}
 use Rattle.homa_world.specs.declared.parts.Last.TheVariants as last
 use Rattle.homa_world.specs.declared.parts.WorldParts.{WorldParts}
-use Rattle.homa_world.specs.First.{IsFirstAt, AreAllowed}
-use Rattle.homa_world.specs.Boxes.{Allows, counted, all_counted, may_tell}
+use Rattle.homa_world.specs.First.{IsFirstAt}
+use Rattle.box_laws.specs.First.{AreAllowed}
+use Rattle.box_laws.specs.Boxes.{Allows, counted, all_counted, may_tell}
 use Rattle.homa_world.specs.Packed.{AreShownBy, IsFromHost}
 use Rattle.homa_world.specs.Standing.{StandsFor, HostFits, SeatFits, IsKept, IsLast, may_tell_of}
 

@@ -2,9 +2,6 @@ pub mod PackedLaws
 pub mod KeptLaws
 pub mod SendLaws
 pub mod StepLaws
-pub mod ShownLaws
-pub mod BoxLaws
-pub mod AskedLaws
 pub mod QuietLaws
 pub mod EventLaws
 pub mod CameLaws

@@ -17,13 +17,13 @@ use Rattle.host_table.specs.declared.stage.Stage.{Stage}
 use Rattle.homa_world.specs.declared.parts.First.TheVariants as first
 use Rattle.homa_world.specs.declared.parts.Last.TheVariants as last
 use Rattle.homa_world.specs.declared.parts.WorldParts.{WorldParts}
-use Rattle.homa_world.specs.Boxes.{Allows, all_counted, counted, may_tell}
+use Rattle.box_laws.specs.Boxes.{Allows, all_counted, counted, may_tell}
 use Rattle.host_table.specs.Staged.{hosts_of, seats_of, spares_of, HasStepped}
 use Rattle.homa_world.specs.Packed.{frame_kept}
 use Rattle.homa_world.specs.Standing.{StandsFor, IsKept, told_of, may_tell_of}
 use Rattle.homa_world.proofs.StepLaws.{stands_after, told_after}
-use Rattle.homa_world.proofs.ShownLaws.{none_shown}
-use Rattle.homa_world.proofs.BoxLaws.{quiet_tell}
+use Rattle.box_laws.proofs.ShownLaws.{none_shown}
+use Rattle.box_laws.proofs.BoxLaws.{quiet_tell}
 
 module _ {S : Type 0} (served : S → ℕ) (allows : Allows S) (mid : WorldParts S) (kept : IsKept served mid)
     (now : ℕ) (id : HostId) (h : Seen) (step : Work) (st : Stage S) (at : slice_get (hosts_of mid.stage) id.0 ≡ Some h) (stepped : HasStepped now id h step mid.stage st)

@@ -23,7 +23,7 @@ use Rattle.event_laws.proofs.Events as events
 use Rattle.host_table.specs.declared.stage.Stage.{Stage}
 use Rattle.homa_world.specs.declared.parts.Last.TheVariants as last
 use Rattle.homa_world.specs.declared.parts.WorldParts.{WorldParts}
-use Rattle.homa_world.specs.Boxes.{Allows, counted, all_counted, may_tell}
+use Rattle.box_laws.specs.Boxes.{Allows, counted, all_counted, may_tell}
 use Rattle.host_table.specs.Staged.{Known, known, known_of, hosts_of, seats_of, spares_of}
 use Rattle.host_table.specs.Restarted.{IsAny, HasRestarted, HasNoSpare}
 use Rattle.homa_world.specs.Standing.{HostFits, SeatFits, IsKept, Applies, Refuses}

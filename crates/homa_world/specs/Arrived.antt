@@ -11,7 +11,7 @@ use Rattle.event_laws.specs.Stepping.{IsStepWith}
 use Rattle.host_table.specs.declared.stage.Stage.{Stage}
 use Rattle.host_table.specs.Staged.{hosts_of, HasCome}
 use Rattle.homa_world.specs.declared.parts.WorldParts.{WorldParts}
-use Rattle.homa_world.specs.Boxes.{Allows}
+use Rattle.box_laws.specs.Boxes.{Allows}
 use Rattle.homa_world.specs.Standing.{StandsFor}
 
 -- it came from another host, or was no packet, and that is what the event is of every plain world that this one may be

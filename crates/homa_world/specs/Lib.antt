@@ -1,7 +1,5 @@
-pub mod Boxes
 pub mod Packed
 pub mod Standing
 pub mod Arrived
 pub mod First
-pub mod Unasked
 pub mod Passing

@@ -22,7 +22,7 @@ use Rattle.homa_world.specs.declared.parts.WorldParts.{WorldParts}
 use Rattle.host_table.specs.Left.{entries_of, HasLeft}
 use Rattle.host_table.specs.Staged.{hosts_of, Known, known_of, seats_of, spares_of}
 use Rattle.homa_world.specs.Packed.{AreShownBy, IsFromHost}
-use Rattle.homa_world.specs.Boxes.{Allows, counted, all_counted, may_tell}
+use Rattle.box_laws.specs.Boxes.{Allows, counted, all_counted, may_tell}
 
 -- ---- what the last event told
 

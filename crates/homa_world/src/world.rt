@@ -37,7 +37,8 @@ impl<S: Service> World<S> {
     ghost use Rattle.homa_plain.specs.Entries.{PlainEntry, PlainSettings};
     ghost use Rattle.homa_plain.specs.Settings.{IsValid};
     ghost use Rattle.host_table.specs.Staged.{hosts_of};
-    ghost use Rattle.homa_world.specs.First.{IsFirstAt, AreAllowed};
+    ghost use Rattle.homa_world.specs.First.{IsFirstAt};
+    ghost use Rattle.box_laws.specs.First.{AreAllowed};
     ghost use Rattle.homa_world.specs.Standing.{StandsFor, may_tell_of};
 
     /// A world in which nothing has happened, at tick `start` of its clock: so many hosts as the settings say, each in its first
@@ -153,8 +154,8 @@ impl<S: Service> Playing for World<S> {
 impl<S: Service> Opens<Vec<S>> for World<S> {
     ghost use Rattle.std.specs.Prelude.{◌≡◌, ◌≤◌, length};
     ghost use Rattle.std.specs.List.{AllByRecursion};
-    ghost use Rattle.homa_world.specs.First.{AreAllowed, AreReady};
-    ghost use Rattle.homa_world.specs.Unasked.{unasked_allowed};
+    ghost use Rattle.box_laws.specs.First.{AreAllowed, AreReady};
+    ghost use Rattle.box_laws.specs.Unasked.{unasked_allowed};
 
     ghost many = { λ boxes. length boxes.items };
 

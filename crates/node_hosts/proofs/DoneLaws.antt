@@ -30,10 +30,10 @@ use Rattle.homa_plain.specs.Answers.{shown}
 use Rattle.node_acts.specs.Acting.{IsRefused}
 use Rattle.node_hosts.specs.declared.parts.Last.TheVariants as last
 use Rattle.node_hosts.specs.declared.parts.NodeParts.{NodeParts}
-use Rattle.node_hosts.specs.Boxes.{Allows, counted, all_counted, may_tell}
+use Rattle.box_laws.specs.Boxes.{Allows, counted, all_counted, may_tell}
 use Rattle.node_hosts.specs.Standing.{StandsFor, SeatFits, IsKept, Steps, told_of, may_tell_of}
-use Rattle.node_hosts.proofs.BoxLaws.{quiet_tell}
-use Rattle.node_hosts.proofs.ShownLaws.{none_shown}
+use Rattle.box_laws.proofs.BoxLaws.{quiet_tell}
+use Rattle.box_laws.proofs.ShownLaws.{none_shown}
 use Rattle.node_hosts.proofs.StepLaws.{found, of_some, if_some, host_there, clock_there, within, fits_there, seat_later, after, stands_after, sent_after, told_after, kept_after}
 
 -- a step of a host by its own settings and clock

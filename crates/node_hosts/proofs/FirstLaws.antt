@@ -14,8 +14,8 @@ use Rattle.homa_node.specs.Served.{IsFirstIn}
 use Rattle.node_hosts.specs.declared.parts.Last.TheVariants as last
 use Rattle.node_hosts.specs.declared.parts.NodeParts.{NodeParts}
 use Rattle.homa_plain.specs.Entries.{PlainEntry, PlainSettings}
-use Rattle.node_hosts.specs.Boxes.{Allows, counted, all_counted, may_tell}
-use Rattle.node_hosts.specs.First.{AreAllowed}
+use Rattle.box_laws.specs.Boxes.{Allows, counted, all_counted, may_tell}
+use Rattle.box_laws.specs.First.{AreAllowed}
 use Rattle.node_hosts.specs.Standing.{StandsFor, HostFits, SeatFits, IsKept, IsLast, may_tell_of}
 
 none_some : {X : Type 0} (x : X) → None ≡ Some x → ⊥

@@ -31,9 +31,9 @@ use Rattle.node_runs.specs.Course.{Arrival, arrival_outcome, packet_from}
 use Rattle.homa_plain.specs.Answers.{shown}
 use Rattle.node_hosts.specs.declared.parts.Last.TheVariants as last
 use Rattle.node_hosts.specs.declared.parts.NodeParts.{NodeParts}
-use Rattle.node_hosts.specs.Boxes.{Allows}
+use Rattle.box_laws.specs.Boxes.{Allows}
 use Rattle.node_hosts.specs.Standing.{StandsFor, SeatFits, IsKept, IsLast, Steps, told_of, may_tell_of}
-use Rattle.node_hosts.proofs.ShownLaws.{one_shown, all_show}
+use Rattle.box_laws.proofs.ShownLaws.{one_shown, all_show}
 use Rattle.node_hosts.proofs.TellLaws.{tells}
 use Rattle.node_hosts.proofs.StepLaws.{found, of_some, if_some, host_there, clock_there, within, fits_there, seat_later, set_fits, after, stands_after, sent_after, told_after, kept_after}
 

@@ -16,8 +16,8 @@ use Rattle.step_laws.specs.StepLaws.{run_count}
 use Rattle.step_laws.proofs.OneAnswer as one
 use Rattle.host_table.specs.declared.stage.Stage.{Stage}
 use Rattle.host_table.specs.Staged.{seats_of, spares_of, HasCome}
-use Rattle.node_hosts.specs.Boxes.{Allows, all_counted, counted, may_tell}
-use Rattle.node_hosts.proofs.AskedLaws.{MayRun, runs_in, some_in, marks_may, marks_ran, told_runs, AreUnder, all_under, set_under, under_tell, one_entry}
+use Rattle.box_laws.specs.Boxes.{Allows, all_counted, counted, may_tell}
+use Rattle.box_laws.proofs.AskedLaws.{MayRun, runs_in, some_in, marks_may, marks_ran, told_runs, AreUnder, all_under, set_under, under_tell, one_entry}
 
 module _ {A : Type 0} (allows : Allows A) where
   pub place_counted : (served : A → ℕ) (xs : List (Option A)) (i : ℕ) (x : A) → place_of xs i ≡ Some x → place_of (all_counted served xs) i ≡ Some (counted served x)

@@ -18,7 +18,7 @@ use Rattle.node_acts.specs.Acting.{IsStep}
 use Rattle.node_hosts.specs.declared.parts.Last.{Last}
 use Rattle.node_hosts.specs.declared.parts.Last.TheVariants as last
 use Rattle.node_hosts.specs.declared.parts.NodeParts.{NodeParts}
-use Rattle.node_hosts.specs.Boxes.{Allows, counted, all_counted, may_tell}
+use Rattle.box_laws.specs.Boxes.{Allows, counted, all_counted, may_tell}
 
 -- a host with its own name, whose clock and numbers are within their bounds
 pub record HostFits (s : Settings) (now steps : ℕ) (id : HostId) (k : Known) : Type 0 where

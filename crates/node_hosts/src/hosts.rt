@@ -103,8 +103,8 @@ impl<S: Service> Hosting for NodeHosts<S> {
 }
 
 impl<S: Service> OpensIn<Vec<S>> for NodeHosts<S> {
-    ghost use Rattle.node_hosts.specs.First.{AreAllowed, AreReady};
-    ghost use Rattle.node_hosts.specs.Unasked.{unasked_allowed};
+    ghost use Rattle.box_laws.specs.First.{AreAllowed, AreReady};
+    ghost use Rattle.box_laws.specs.Unasked.{unasked_allowed};
 
     ghost are_ready = { λ boxes. AreReady S.served boxes.items };
 

@@ -1,7 +1,7 @@
 -- Each command, by its words.
 use Rattle.std.proofs.Common.{◌∙◌, ap, sym, map, Some, length, subst}
 use Rattle.homa_replay.specs.Far.{replay_of, ArePrinted}
-use Rattle.homa_world.specs.First.{AreAllowed}
+use Rattle.box_laws.specs.First.{AreAllowed}
 use Rattle.homa_top.proofs.Completing.{completed}
 use Rattle.homa_top.proofs.Lawful.{lawful}
 use Rattle.homa_top.proofs.Numbered.{quiet_sizes, same_make, same_gen}

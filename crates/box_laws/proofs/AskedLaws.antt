@@ -16,7 +16,7 @@ use Rattle.host_view.specs.Seen.{Seen}
 use Rattle.host_view.specs.Marks.{shown, has_ran, IsAllowed}
 use Rattle.homa_service.specs.Table.{place_of, last_of, front_of}
 use Rattle.step_laws.specs.StepLaws.{run_count}
-use Rattle.node_hosts.specs.Boxes.{Allows, may_tell}
+use Rattle.box_laws.specs.Boxes.{Allows, may_tell}
 
 -- ---- `run` lines among entries
 

@@ -5,7 +5,7 @@ use Rattle.homa_plain.specs.Entries.{PlainEntry, PlainRun, PlainRestart}
 use Rattle.homa_plain.specs.Host.{Told, Says, Sends, entries_from}
 use Rattle.homa_plain.specs.Steps.{has_run}
 use Rattle.event_laws.specs.Named.{IsOfStep}
-use Rattle.node_hosts.specs.Boxes.{Allows, may_tell}
+use Rattle.box_laws.specs.Boxes.{Allows, may_tell}
 
 module _ {A : Type 0} (allows : Allows A) (spares : List (A × ℕ)) where
   -- lines without an answer and without a restart

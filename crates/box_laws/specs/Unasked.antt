@@ -3,8 +3,8 @@ use Rattle.std.specs.Prelude.{◌≡◌, ℕ, Option, Some, List, [], ◌∷◌,
 use Rattle.homa_plain.specs.Entries.{PlainEntry, PlainSettings, PlainRun, PlainRestart}
 use Rattle.homa_service.specs.Table.{last_of, front_of}
 use Rattle.homa_plain.specs.Answers.{shown}
-use Rattle.node_hosts.specs.Boxes.{Allows, counted, all_counted, may_tell}
-use Rattle.node_hosts.specs.First.{AreAllowed}
+use Rattle.box_laws.specs.Boxes.{Allows, counted, all_counted, may_tell}
+use Rattle.box_laws.specs.First.{AreAllowed}
 
 module _ {S : Type 0} (served : S → ℕ) (allows : Allows S) where
   -- lines without an answer

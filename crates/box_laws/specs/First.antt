@@ -1,9 +1,9 @@
--- What the boxes of a node may answer, and which boxes it begins with.
+-- What the boxes of all hosts may answer, and which boxes a run begins with.
 use Rattle.std.specs.Prelude.{◌≡◌, ◌≤◌, ℕ, Some, List, [], ◌∷◌, length, map, take, drop}
 use Rattle.std.specs.List.{AllByRecursion}
 use Rattle.homa_plain.specs.Entries.{PlainEntry, PlainSettings}
 use Rattle.homa_plain.specs.Answers.{shown}
-use Rattle.node_hosts.specs.Boxes.{Allows, counted, all_counted, may_tell}
+use Rattle.box_laws.specs.Boxes.{Allows, counted, all_counted, may_tell}
 
 -- Each answer that the entries of a run show is one that the box of its host then may give, with its number of answers before.
 -- Box h is at host h, and the others are spare.
