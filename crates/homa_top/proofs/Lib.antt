@@ -1,2 +1,3 @@
 mod Lawful
 mod Numbered
+pub mod Exits

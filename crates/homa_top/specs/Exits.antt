@@ -23,6 +23,15 @@ is_broken_off ReadFailed = true
 is_broken_off WriteFailed = true
 is_broken_off NoMemory = true
 
+-- it was broken off, and not by a fault of the sink: all that was told until then was printed
+abbrev pub prints_all : ExitStatus → Bool
+prints_all Done = false
+prints_all NoCommand = false
+prints_all Refused = false
+prints_all ReadFailed = true
+prints_all WriteFailed = false
+prints_all NoMemory = true
+
 -- the status of a command that stopped
 abbrev pub status_of : Stop → ExitStatus
 status_of stop.Read = ReadFailed

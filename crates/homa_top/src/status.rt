@@ -12,7 +12,7 @@ ghost use Rattle.homa_world.specs.First.{AreReady, AreAllowed};
 ghost use Rattle.replay_laws.specs.Replays.{OpensWorld};
 ghost use Rattle.homa_top.specs.declared.words.Command.TheVariants as command;
 ghost use Rattle.homa_top.specs.Commands.{HasMade, HasCounted, HasJudged};
-ghost use Rattle.homa_top.specs.Exits.{is_broken_off};
+ghost use Rattle.homa_top.specs.Exits.{is_broken_off, prints_all};
 ghost use Rattle.homa_top.specs.declared.exit.ExitStatus.TheVariants as status;
 ghost use Rattle.homa_top.specs.Lawful.{TookLawful};
 ghost use Rattle.homa_top.specs.Words.{said, reads, usage_line};
@@ -68,10 +68,10 @@ pub fn run<V: Service, S: Source, K: Sink>(
     ensures laws { said words.now ≡ Some command.Replay → (result ≡ status.Done) ⊎ (result ≡ status.Refused) → (bytes : List ℕ)
         → S.left source.old ≡ Some bytes → OpensWorld bytes → TookLawful (K.taken sink.old) (K.taken sink.new) }
 
-    // A fault or want of memory leaves a front of it.
+    // A fault or want of memory leaves a front of it; unless the sink failed, all that was told until then was printed.
     ensures front { said words.now ≡ Some command.Replay → is_broken_off result ≡ true
         → AreParts (replay_of (length services.items)) (S.left source.old) (S.left source.new) (K.taken sink.old) (K.taken sink.new)
-        (AreAllowed V.served V.allows services.items) }
+        (AreAllowed V.served V.allows services.items) (prints_all result) }
 
     // `check`: what was printed is the verdict on the bytes that the source had. Yes means that each line has its shape and
     // obeys all laws, no that the named line is the first that doesn't, by the named clause.
