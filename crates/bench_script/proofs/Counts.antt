@@ -1,12 +1,13 @@
 -- Events that are counted one after another.
 use Rattle.std.proofs.Common.{◌≡◌, ℕ, ◌+◌, Option, None, Some, Result, Ok, Err, List, refl, sym, ap, ◌∙◌, add_assoc, add-zero}
 use Rattle.homa_plain.specs.Script.{Given, Refusal, Steps, opening}
-use Rattle.homa_script.specs.declared.stop.ScriptStop.{ScriptStop}
-use Rattle.homa_script.specs.declared.stop.ScriptStop.TheVariants.{Read, Fault}
-use Rattle.homa_script.specs.Place.{Place, steps_left, step_first, refused_at, no_steps}
-use Rattle.homa_script.specs.Read.{IsRead}
+use Rattle.script_lines.specs.declared.stop.ScriptStop.{ScriptStop}
+use Rattle.script_lines.specs.declared.stop.ScriptStop.TheVariants.{Read, Fault}
+use Rattle.script_lines.specs.Place.{Place}
+use Rattle.homa_script.specs.Steps.{steps_left, step_first, refused_at, no_steps}
+use Rattle.script_lines.specs.Read.{IsRead}
 use Rattle.homa_script.specs.Script.{IsLast, IsNext}
-use Rattle.homa_script.proofs.ReadParts.{read_to, read_on, read_map, read_whole}
+use Rattle.script_lines.proofs.ReadParts.{read_to, read_on, read_map, read_whole}
 use Rattle.bench_script.specs.Count.{events_in, events_of, unless_refused, count_steps, count_of, IsStop}
 
 -- so many events more

@@ -1,8 +1,8 @@
 -- How many events a schedule has.
 use Rattle.std.specs.Prelude.{◌≡◌, ℕ, ◌+◌, Option, None, Some, Result, Ok, Err, List, [], ◌∷◌}
 use Rattle.homa_plain.specs.Script.{Given, GivenEvent, GivenTicks, Refusal, Step, Steps, Opening, Opened, Unopened}
-use Rattle.homa_script.specs.declared.stop.ScriptStop.{ScriptStop}
-use Rattle.homa_script.specs.declared.stop.ScriptStop.TheVariants.{Read, Fault}
+use Rattle.script_lines.specs.declared.stop.ScriptStop.{ScriptStop}
+use Rattle.script_lines.specs.declared.stop.ScriptStop.TheVariants.{Read, Fault}
 
 -- how many events a line stands for: `tick N` counts as N
 abbrev pub events_in : Given → ℕ

@@ -11,9 +11,9 @@ use Rattle.homa_plain.specs.Judge as judge
 use Rattle.homa_text.proofs.Taking.{unread-append, unread-nil}
 use Rattle.homa_text.specs.Lines.{Reading, TakesLine, IsLine, IsLong, IsOver, IsEnd}
 use Rattle.check_reader.specs.Forms.{entry_of}
-use Rattle.homa_script.proofs.NextLine.{read_line, Got}
-use Rattle.homa_script.proofs.ReadParts.{some_left, at_end, none_left}
-use Rattle.homa_script.proofs.LinesOf.{lines_of-feed, lines_of-last, lines_of-front}
+use Rattle.script_lines.proofs.NextLine.{read_line, Got}
+use Rattle.script_lines.proofs.ReadParts.{some_left, at_end, none_left}
+use Rattle.script_lines.proofs.LinesOf.{lines_of-feed, lines_of-last, lines_of-front}
 use Rattle.check_text.specs.Verdict as plain
 use Rattle.check_text.proofs.TextLaws.{short_line, long_line, over_line, place-seen}
 use Rattle.check_lines.specs.declared.trace.Trace.{Trace}

@@ -10,10 +10,11 @@ use Rattle.homa_plain.specs.Text.{line_text}
 use Rattle.homa_plain.specs.Script.{Opening, Opened, Unopened, opening, most_bytes}
 use Rattle.homa_plain.specs.Rules.{Answer}
 use Rattle.homa_plain.specs.Replay.{RefusedAt, replay, replay_opened}
-use Rattle.homa_script.specs.Place.{Place, steps_left}
-use Rattle.homa_script.specs.Read.{IsRead, IsCut}
+use Rattle.script_lines.specs.Place.{Place}
+use Rattle.homa_script.specs.Steps.{steps_left}
+use Rattle.script_lines.specs.Read.{IsRead, IsCut}
 use Rattle.homa_script.specs.Script.{IsOpening}
-use Rattle.homa_script.specs.declared.stop.ScriptStop.TheVariants.{Fault}
+use Rattle.script_lines.specs.declared.stop.ScriptStop.TheVariants.{Fault}
 use Rattle.homa_replay.specs.Stream.{ending}
 use Rattle.homa_replay.specs.Far.{replay_of, is_unasked, AreFar, ArePrinted, AreParts}
 use Rattle.homa_replay.proofs.Fronts.{front_same}

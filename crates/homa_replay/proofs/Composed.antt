@@ -13,9 +13,10 @@ use Rattle.homa_plain.specs.Script.{Opening, Opened, opening, most_bytes}
 use Rattle.homa_plain.specs.Rules.{Answer}
 use Rattle.homa_plain.specs.World.{World}
 use Rattle.homa_plain.specs.Replay.{Replay, replay, replay_opened, replayed, with_told}
-use Rattle.homa_script.specs.Place.{Place, steps_left}
-use Rattle.homa_script.specs.Read.{IsRead}
-use Rattle.homa_script.proofs.ReadParts.{none_left}
+use Rattle.script_lines.specs.Place.{Place}
+use Rattle.homa_script.specs.Steps.{steps_left}
+use Rattle.script_lines.specs.Read.{IsRead}
+use Rattle.script_lines.proofs.ReadParts.{none_left}
 use Rattle.homa_plain.specs.Answers.{shown}
 use Rattle.homa_replay.specs.Stream.{is_refusal}
 use Rattle.homa_replay.specs.Opens.{IsFirst}

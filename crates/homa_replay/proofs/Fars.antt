@@ -8,8 +8,8 @@ use Rattle.homa_plain.specs.Entries.{PlainEntry}
 use Rattle.homa_plain.specs.Text.{line_text}
 use Rattle.homa_plain.specs.Rules.{Answer}
 use Rattle.homa_plain.specs.Replay.{Replay, End, with_told, last_entry}
-use Rattle.homa_script.specs.Read.{IsRead, IsCut}
-use Rattle.homa_script.proofs.ReadParts.{none_left, read_start, read_on, read_map, read_whole}
+use Rattle.script_lines.specs.Read.{IsRead, IsCut}
+use Rattle.script_lines.proofs.ReadParts.{none_left, read_start, read_on, read_map, read_whole}
 use Rattle.homa_plain.specs.Answers.{shown}
 use Rattle.homa_replay.specs.Stream.{ending, is_refusal}
 use Rattle.homa_replay.specs.Lines.{text_of, IsFront}

@@ -14,12 +14,13 @@ use Rattle.homa_plain.specs.Script.{Given, Steps, Step}
 use Rattle.homa_plain.specs.Rules.{Answer}
 use Rattle.homa_plain.specs.World.{World}
 use Rattle.homa_plain.specs.Replay.{Happening, Replay, End, Finished, RefusedAt, replayed, events_of, with_told, last_entry}
-use Rattle.homa_script.specs.declared.stop.ScriptStop.{ScriptStop}
-use Rattle.homa_script.specs.declared.stop.ScriptStop.TheVariants.{Read, Fault}
+use Rattle.script_lines.specs.declared.stop.ScriptStop.{ScriptStop}
+use Rattle.script_lines.specs.declared.stop.ScriptStop.TheVariants.{Read, Fault}
 use Rattle.homa_script.specs.declared.next.Next.{Next}
 use Rattle.homa_script.specs.declared.next.Next.TheVariants.{Event, Ticks, End as AtEnd}
-use Rattle.homa_script.specs.Place.{Place, IsCounted, steps_left, step_first, no_steps, refused_at}
-use Rattle.homa_script.specs.Read.{IsRead, IsCut}
+use Rattle.script_lines.specs.Place.{Place, IsCounted}
+use Rattle.homa_script.specs.Steps.{steps_left, step_first, no_steps, refused_at}
+use Rattle.script_lines.specs.Read.{IsRead, IsCut}
 use Rattle.homa_script.specs.Script.{IsNext, IsInRange, IsOn}
 use Rattle.homa_script.specs.Script.{is_end as script_end}
 use Rattle.homa_plain.specs.Answers.{shown, answering}

@@ -3,8 +3,8 @@ use Rattle.std.specs.Prelude.{ℕ, ◌+◌, ◌*◌, Bool, true, false, Result, 
 use Rattle.homa_plain.specs.Script.{Given, GivenEvent, GivenTicks}
 use Rattle.homa_plain.specs.declared.fault.ScriptFault.{ScriptFault}
 use Rattle.homa_plain.specs.declared.settings.Settings.{Settings}
-use Rattle.homa_script.specs.declared.stop.ScriptStop.{ScriptStop}
-use Rattle.homa_script.specs.declared.stop.ScriptStop.TheVariants.{Fault}
+use Rattle.script_lines.specs.declared.stop.ScriptStop.{ScriptStop}
+use Rattle.script_lines.specs.declared.stop.ScriptStop.TheVariants.{Fault}
 use Rattle.homa_script.specs.declared.next.Next.{Next}
 use Rattle.homa_script.specs.declared.next.Next.TheVariants.{Event, Ticks, End}
 use Rattle.homa_replay.specs.declared.came.Came.{Came}

@@ -8,8 +8,9 @@ use Rattle.homa_plain.specs.Text.{line_text}
 use Rattle.homa_plain.specs.Rules.{Answer}
 use Rattle.homa_plain.specs.World.{World}
 use Rattle.homa_plain.specs.Replay.{Replay, replay, replayed, with_told}
-use Rattle.homa_script.specs.Place.{Place, steps_left}
-use Rattle.homa_script.specs.Read.{IsRead}
+use Rattle.script_lines.specs.Place.{Place}
+use Rattle.homa_script.specs.Steps.{steps_left}
+use Rattle.script_lines.specs.Read.{IsRead}
 use Rattle.homa_plain.specs.Answers.{shown, answering}
 use Rattle.homa_replay.specs.Stream.{is_refusal}
 use Rattle.homa_replay.specs.Lines.{text_of, IsFront}

@@ -3,8 +3,8 @@ ghost use Rattle.std.specs.Prelude.{◌≡◌, ◌≤◌, ◌<◌, ◌+◌, ◌^
 ghost use Rattle.std.specs.Result.{result_err};
 ghost use Rattle.homa_io.specs.Outside.{HasRisen, unread, IsAtEnd};
 ghost use Rattle.homa_plain.specs.Settings.{IsValid};
-ghost use Rattle.homa_script.specs.Place.{IsCounted};
-ghost use Rattle.homa_script.specs.Read.{IsCut};
+ghost use Rattle.script_lines.specs.Place.{IsCounted};
+ghost use Rattle.script_lines.specs.Read.{IsCut};
 ghost use Rattle.homa_script.specs.Script.{opened, IsOpening, IsNext, IsInRange, IsOn, is_end};
 ghost use Rattle.homa_replay.specs.Came.{answer_of, opening_of};
 

@@ -1,5 +1,6 @@
 -- Numbers that are printed, as they are read.
-use Rattle.std.proofs.Common.{◌≡◌, ◌<◌, ◌≤◌, inl, inr, ℕ, ◌+◌, ◌-◌, ◌*◌, ◌/◌, ◌%◌, ◌^◌, arith, Bool, true, false, Some, None, Ok, List, [], ◌∷◌, ◌++◌, length, get_or, refl, ap, ◌∙◌}
+use Rattle.std.proofs.Common.{◌≡◌, ◌<◌, ◌≤◌, inl, inr, ℕ, ◌+◌, ◌-◌, ◌*◌, ◌/◌, ◌%◌, ◌^◌, arith, Bool, true, false, Some, None, Ok, List, [], ◌∷◌, ◌++◌}
+use Rattle.std.proofs.Common.{length, get_or, refl, ap, ◌∙◌}
 use Rattle.std.specs.Prelude.{◌==◌, nat_lt, nat_le, if◌then◌else◌}
 use Rattle.std.specs.Char.{is_ascii_digit}
 use Rattle.std.specs.Fmt.{decimal}
@@ -15,7 +16,8 @@ is_digit : (c : ℕ) → 47 < c → c < 58 → is_ascii_digit c ≡ true
 is_digit c h k = grind (arith, nat_tests)
 
 -- one digit more
-value_by : (m n d : ℕ) (ds : List ℕ) (c : ℕ) (t : Bool) → (if t then digits_value (m * 10 + (c - 48)) ds else None) ≡ Some n → (digits_value (m * 10 + (c - 48)) ds ≡ Some n → digits_value (m * 10 + (c - 48)) (ds ++ (48 + d) ∷ []) ≡ Some (n * 10 + d))
+value_by : (m n d : ℕ) (ds : List ℕ) (c : ℕ) (t : Bool) → (if t then digits_value (m * 10 + (c - 48)) ds else None) ≡ Some n
+    → (digits_value (m * 10 + (c - 48)) ds ≡ Some n → digits_value (m * 10 + (c - 48)) (ds ++ (48 + d) ∷ []) ≡ Some (n * 10 + d))
     → (if t then digits_value (m * 10 + (c - 48)) (ds ++ (48 + d) ∷ []) else None) ≡ Some (n * 10 + d)
 value_by m n d ds c true e f = f e
 value_by m n d ds c false e f = absurd cc
@@ -40,7 +42,10 @@ one_digit : (n : ℕ) → n < 10 → IsDigits n ((48 + n) ∷ [])
 one_digit n h = record { value = value_more 0 0 [] n h refl ∙ ap Some (omega arith); seen = (omega arith, omega arith, tt) }
 
 more_digits : (n : ℕ) (ds : List ℕ) → 10 ≤ n → IsDigits (n / 10) ds → IsDigits n (ds ++ (48 + n % 10) ∷ [])
-more_digits n ds h d = record { value = value_more 0 (n / 10) ds (n % 10) (omega arith) d.value ∙ ap Some (omega arith); seen = seen_more ds (48 + n % 10) d.seen (omega arith) (omega arith) }
+more_digits n ds h d = record {
+  value = value_more 0 (n / 10) ds (n % 10) (omega arith) d.value ∙ ap Some (omega arith);
+  seen = seen_more ds (48 + n % 10) d.seen (omega arith) (omega arith);
+}
 
 digits_of : (n : ℕ) → n < 2 ^ 64 → IsDigits n (decimal n)
 digits_of n h = decimal_by_steps IsDigits one_digit more_digits n h

@@ -1,9 +1,4 @@
-pub mod WordsOf
-pub mod LinesOf
-pub mod Returns
-pub mod ReadParts
-pub mod NextLine
-pub mod Taken
+pub mod Phrases
 pub mod Steps
 pub mod Openings
 pub mod Putting

@@ -7,11 +7,13 @@ use Rattle.std.proofs.lemmas.Bool.{and_parts}
 use Rattle.std.proofs.lemmas.Bool.Decides.{nat_tests}
 use Rattle.std.proofs.lemmas.Str.{IsUtf8-from_ascii, is_utf8-from_IsUtf8}
 use borrow.Author.Tests.{ne_eqb}
-use Rattle.homa_plain.specs.Input.{without_feed, words_of, has_bytes}
+use Rattle.homa_plain.specs.Input.{without_feed, words_of, has_bytes, has_no_feed, ends_in_feed}
 use Rattle.homa_plain.specs.Text.{line_of_words}
 use Rattle.homa_plain.specs.Script.{phrase_in, phrase_of, without_return}
-use Rattle.homa_script.proofs.WordsOf.{parts_of}
-use Rattle.homa_script.proofs.NextLine.{phrase_text}
+use Rattle.homa_text.proofs.Feeds.{without_feed-feed, ends_in_feed-feed}
+use Rattle.script_lines.proofs.WordsOf.{parts_of}
+use Rattle.script_lines.proofs.NextLine.{text_is}
+use Rattle.homa_script.proofs.Phrases.{phrase_text}
 
 -- each is an ASCII character that can be seen
 abbrev pub AllSeen : List ℕ → Type 0
@@ -82,30 +84,36 @@ printed_seen : (word rest : List ℕ) → AllSeen word → AllPrinted rest → A
 printed_seen [] rest s p = p
 printed_seen (b ∷ bytes) rest s p = (omega (arith, s.0), s.1, printed_seen bytes rest s.2 p)
 
-printed_join : (words : List (List ℕ)) → AllWords words → AllPrinted (join_with_byte 32 words)
+-- words with a space between them can be printed
+pub printed_join : (words : List (List ℕ)) → AllWords words → AllPrinted (join_with_byte 32 words)
 printed_join [] a = tt
 printed_join (word ∷ []) a = printed_word word a.0.seen
   where
     printed_word : (word : List ℕ) → AllSeen word → AllPrinted word
     printed_word [] s = tt
     printed_word (b ∷ bytes) s = (omega (arith, s.0), s.1, printed_word bytes s.2)
-printed_join (word ∷ next ∷ words) a = printed_seen word (32 ∷ join_with_byte 32 (next ∷ words)) a.0.seen (omega arith, omega arith, printed_join (next ∷ words) a.1)
+printed_join (word ∷ next ∷ words) a =
+    printed_seen word (32 ∷ join_with_byte 32 (next ∷ words)) a.0.seen (omega arith, omega arith, printed_join (next ∷ words) a.1)
 
 ascii : (bytes : List ℕ) → AllPrinted bytes → IsAscii bytes
 ascii [] p i = omega arith
 ascii (b ∷ bytes) p zero = p.1
 ascii (b ∷ bytes) p (suc i) = ascii bytes p.2 i
 
-no_feed : (bytes : List ℕ) → AllPrinted bytes → without_feed (bytes ++ 10 ∷ []) ≡ bytes
-no_feed [] p = refl
-no_feed (b ∷ bytes) p =
+one_line : (bytes : List ℕ) → AllPrinted bytes → has_no_feed bytes ≡ true
+one_line [] p = refl
+one_line (b ∷ bytes) p =
     let e : (b == 10) ≡ false = ne_eqb b 10 (λ z. omega (arith, p.0)) in
-    rw e (ap (λ (xs : List ℕ). b ∷ xs) (no_feed bytes p.2))
+    rw e (one_line bytes p.2)
 
 no_return : (bytes : List ℕ) → AllPrinted bytes → without_return bytes ≡ bytes
 no_return [] p = refl
 no_return (b ∷ []) p = let e : (b == 13) ≡ false = ne_eqb b 13 (λ z. omega (arith, p.0)) in rw e refl
 no_return (b ∷ c ∷ bytes) p = ap (λ (xs : List ℕ). b ∷ xs) (no_return (c ∷ bytes) p.2)
+
+-- a line of words ends in its feed, and has no other
+pub line_feed : (words : List (List ℕ)) → AllWords words → ends_in_feed (line_of_words words) ≡ true
+line_feed words a = ends_in_feed-feed (join_with_byte 32 words) (one_line (join_with_byte 32 words) (printed_join words a))
 
 -- ---- its length
 
@@ -119,12 +127,13 @@ length-join [] = omega arith
 length-join (word ∷ []) = omega arith
 length-join (word ∷ next ∷ words) = omega (arith, length-append word (32 ∷ join_with_byte 32 (next ∷ words)), length-join (next ∷ words))
 
--- what a line stands for is what its words do
-pub phrase_words : (limit read : ℕ) (words : List (List ℕ)) → AllWords words → total words ≤ 2100000 → read + length (line_of_words words) ≤ limit → phrase_in limit true read (line_of_words words) ≡ phrase_of true words
-phrase_words limit read words a t h =
+-- what a line stands for, before `go` or behind it, is what its words do
+pub phrase_words : (limit : ℕ) (gone : Bool) (read : ℕ) (words : List (List ℕ)) → AllWords words → total words ≤ 2100000
+    → read + length (line_of_words words) ≤ limit → phrase_in limit gone read (line_of_words words) ≡ phrase_of gone words
+phrase_words limit gone read words a t h =
     let line = join_with_byte 32 words in
     let printed = printed_join words a in
-    let bare = no_feed line printed in
+    let bare = without_feed-feed line (one_line line printed) in
     let text : is_utf8 (without_feed (line ++ 10 ∷ [])) ≡ true = ap is_utf8 bare ∙ is_utf8-from_IsUtf8 line (IsUtf8-from_ascii line (ascii line printed)) in
-    phrase_text limit true read (line ++ 10 ∷ []) h (omega (arith, ap length bare, length-join words, t)) text
-    ∙ ap (phrase_of true) (ap (λ (xs : List ℕ). words_of (without_return xs)) bare ∙ (ap words_of (no_return line printed) ∙ words_of-join words a))
+    phrase_text limit gone read (line ++ 10 ∷ []) _ (text_is limit read (line ++ 10 ∷ []) h (omega (arith, ap length bare, length-join words, t)) text)
+    ∙ ap (phrase_of gone) (ap (λ (xs : List ℕ). words_of (without_return xs)) bare ∙ (ap words_of (no_return line printed) ∙ words_of-join words a))

@@ -10,7 +10,8 @@ use Rattle.homa_text.proofs.Putting.{front_on, front_more}
 use Rattle.homa_text.proofs.Texts.{flat_map-split}
 
 -- a front of the next line was taken
-pub took_line : {X : Type 0} (f : X → List ℕ) (xs : List X) (i : ℕ) (d : X) (old mid new : Option (List ℕ)) → i < length xs → mid ≡ appended old (flat_map f (take i xs)) → TookFront mid new (f (get_or xs i d)) → TookFront old new (flat_map f xs)
+pub took_line : {X : Type 0} (f : X → List ℕ) (xs : List X) (i : ℕ) (d : X) (old mid new : Option (List ℕ)) → i < length xs
+    → mid ≡ appended old (flat_map f (take i xs)) → TookFront mid new (f (get_or xs i d)) → TookFront old new (flat_map f xs)
 took_line {X} f xs i d old mid new h e t =
     front_more old new (flat_map f (take i xs) ++ f (get_or xs i d)) (flat_map f (drop (suc i) xs)) (flat_map f xs)
     (front_on old mid new (flat_map f (take i xs)) (f (get_or xs i d)) e t)
@@ -25,9 +26,11 @@ unfolding settings_text
 whole_text s n e = ap (λ (k : ℕ). first_settings s k ++ codes "go\n") e
 
 -- a front of the settings that are told was taken
-pub took_settings : (s : Settings) (n : ℕ) (old new : Option (List ℕ)) → n ≡ told_numbers s → TookFront old new (first_settings s n) → TookFront old new (settings_text s)
+pub took_settings : (s : Settings) (n : ℕ) (old new : Option (List ℕ)) → n ≡ told_numbers s → TookFront old new (first_settings s n)
+    → TookFront old new (settings_text s)
 took_settings s n old new e t = front_more old new (first_settings s n) (codes "go\n") (settings_text s) t (whole_text s n e)
 
 -- and a front of what follows
-pub took_go : (s : Settings) (n : ℕ) (old mid new : Option (List ℕ)) → n ≡ told_numbers s → mid ≡ appended old (first_settings s n) → TookFront mid new (codes "go\n") → TookFront old new (settings_text s)
+pub took_go : (s : Settings) (n : ℕ) (old mid new : Option (List ℕ)) → n ≡ told_numbers s → mid ≡ appended old (first_settings s n)
+    → TookFront mid new (codes "go\n") → TookFront old new (settings_text s)
 took_go s n old mid new e h t = subst (λ (xs : List ℕ). TookFront old new xs) (whole_text s n e) (front_on old mid new (first_settings s n) (codes "go\n") h t)

@@ -1,30 +1,14 @@
--- How many bytes a line has at least.
-use Rattle.std.proofs.Common.{◌≡◌, ◌≤◌, ℕ, ◌+◌, arith, Bool, true, false, Option, None, Some, Ok, List, [], ◌∷◌, length, refl, ap}
+-- How many bytes the line of an event has at least.
+use Rattle.std.proofs.Common.{◌≡◌, ◌≤◌, ℕ, arith, Bool, true, false, Option, None, Some, Ok, List, [], ◌∷◌, length, refl, ap}
 use Rattle.std.specs.Prelude.{◌==◌, cond, filter, codes, if◌then◌else◌}
 use Rattle.std.specs.Str.{bytes_eq}
 use Rattle.std.proofs.lemmas.Slice.Eq.{bytes_eq-Decides}
-use Rattle.std.proofs.lemmas.Bool.{cond_both}
-use Rattle.homa_plain.specs.Input.{without_feed, words_of, has_bytes}
-use Rattle.homa_plain.specs.Script.{Given, Blank, Happens, EventWord, CallWord, DeliverWord, ClockWord, TurnWord, TickWord, RestartWord, InjectWord, ShiftWord, event_word, phrase_of, phrase_after_go, is_comment}
-use Rattle.homa_text.specs.Lines.{Reading, IsLine}
+use Rattle.homa_plain.specs.Input.{words_of, has_bytes}
+use Rattle.homa_plain.specs.Script.{Given, Blank, Happens, EventWord, CallWord, DeliverWord, ClockWord, TurnWord, TickWord, RestartWord, InjectWord}
+use Rattle.homa_plain.specs.Script.{ShiftWord, event_word, phrase_of, phrase_after_go, is_comment}
 
-short_line : (xs : List ℕ) → length (without_feed xs) ≤ length xs
-short_line [] = omega arith
-short_line (b ∷ bytes) =
-    let rest = short_line bytes in
-    cond_both (b == 10) [] (b ∷ without_feed bytes) (λ (ys : List ℕ). length ys ≤ length (b ∷ bytes)) (λ _. omega arith) (λ _. omega (arith, rest))
-
--- the bytes of a line are counted
-pub line_grows : (old new : Reading) (came line : List ℕ) (end : Type 0) → IsLine old new came line end → old.read + length new.line ≤ new.read
-line_grows old new came line end d =
-    let kept : length new.line ≡ length (without_feed line) = ap length d.kept in
-    let short = short_line line in
-    let read = d.taken.read in
-    omega (arith, kept, short, read)
-
--- ---- words
-
-named : (word name : List ℕ) (x w : EventWord) (rest : Option EventWord) → 2 ≤ length name → (rest ≡ Some w → 2 ≤ length word) → (if bytes_eq word name then Some x else rest) ≡ Some w → 2 ≤ length word
+named : (word name : List ℕ) (x w : EventWord) (rest : Option EventWord) → 2 ≤ length name → (rest ≡ Some w → 2 ≤ length word)
+    → (if bytes_eq word name then Some x else rest) ≡ Some w → 2 ≤ length word
 named word name x w rest long f e = by_test (bytes_eq word name) refl e
   where
     by_test : (t : Bool) → bytes_eq word name ≡ t → (if t then Some x else rest) ≡ Some w → 2 ≤ length word
@@ -43,11 +27,13 @@ long_word word w e =
     (named word (codes "inject") InjectWord w _ (omega arith)
     (named word (codes "shift") ShiftWord w None (omega arith) (λ k. absurd cc)))))))) e
 
-by_word : (word : List ℕ) (words : List (List ℕ)) (o : Option EventWord) (given : Given) → event_word word ≡ o → phrase_after_go o words ≡ Ok (Happens given) → 2 ≤ length word
+by_word : (word : List ℕ) (words : List (List ℕ)) (o : Option EventWord) (given : Given) → event_word word ≡ o
+    → phrase_after_go o words ≡ Ok (Happens given) → 2 ≤ length word
 by_word word words None given k e = absurd cc
 by_word word words (Some w) given k e = long_word word w k
 
-by_comment : (word : List ℕ) (words : List (List ℕ)) (t : Bool) (given : Given) → (if t then Ok Blank else phrase_after_go (event_word word) words) ≡ Ok (Happens given) → 2 ≤ length word
+by_comment : (word : List ℕ) (words : List (List ℕ)) (t : Bool) (given : Given)
+    → (if t then Ok Blank else phrase_after_go (event_word word) words) ≡ Ok (Happens given) → 2 ≤ length word
 by_comment word words true given e = absurd cc
 by_comment word words false given e = by_word word words (event_word word) given refl e
 

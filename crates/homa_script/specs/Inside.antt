@@ -1,11 +1,11 @@
 -- A reader's fields, as contracts see them.
 use Rattle.std.specs.Prelude.{◌≡◌, ◌≤◌, Bool, true, false, Option, None, Some, take, length}
 use Rattle.homa_text.specs.Lines.{reading}
-use Rattle.homa_script.specs.declared.stop.ScriptStop.{ScriptStop}
+use Rattle.script_lines.specs.declared.stop.ScriptStop.{ScriptStop}
+use Rattle.script_lines.specs.Place.{place_of, IsCounted}
 use Rattle.homa_script.specs.declared.reader.Stage.{Stage}
 use Rattle.homa_script.specs.declared.reader.Stage.TheVariants.{Opened, Started, Ended, Stopped}
 use Rattle.homa_script.specs.declared.reader.Reader.TheInside.{Inside}
-use Rattle.homa_script.specs.Place.{place_of, IsCounted}
 use Rattle.homa_script.specs.Script.{Script}
 
 -- whether `settings` was called

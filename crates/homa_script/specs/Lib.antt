@@ -1,7 +1,5 @@
-pub mod Operands
 pub mod Given
-pub mod Place
-pub mod Read
+pub mod Steps
 pub mod Script
 pub mod Lines
 pub mod Inside

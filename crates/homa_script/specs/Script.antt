@@ -2,12 +2,13 @@
 use Rattle.std.specs.Prelude.{◌≡◌, ℕ, ◌+◌, ◌≤◌, Bool, true, false, Option, None, Some, Result, Ok, Err, List, []}
 use Rattle.homa_plain.specs.declared.settings.Settings.{Settings}
 use Rattle.homa_plain.specs.Script.{GivenEvent, GivenTicks, Opened, Unopened, opening}
-use Rattle.homa_script.specs.declared.stop.ScriptStop.{ScriptStop}
-use Rattle.homa_script.specs.declared.stop.ScriptStop.TheVariants.{Read, Fault}
+use Rattle.script_lines.specs.declared.stop.ScriptStop.{ScriptStop}
+use Rattle.script_lines.specs.declared.stop.ScriptStop.TheVariants.{Read, Fault}
+use Rattle.script_lines.specs.Place.{Place, IsCounted, first_place}
+use Rattle.script_lines.specs.Read.{IsRead, IsCut}
 use Rattle.homa_script.specs.declared.next.Next.{Next}
 use Rattle.homa_script.specs.declared.next.Next.TheVariants.{Event, Ticks, End}
-use Rattle.homa_script.specs.Place.{Place, IsCounted, steps_left, step_first, no_steps, refused_at}
-use Rattle.homa_script.specs.Read.{IsRead, IsCut}
+use Rattle.homa_script.specs.Steps.{steps_left, step_first, no_steps, refused_at}
 
 -- where a reader stands, the bytes beside the last event, whether `settings` was called, whether the end was answered, and its first stop
 pub record Script : Type 0 where
@@ -19,17 +20,7 @@ pub record Script : Type 0 where
 
 -- a reader that is opened for an input of so many bytes
 abbrev pub opened : ℕ → Script
-opened limit = record { place = record { pending = []; read = 0; number = 0; limit = limit }; operand = []; started = false; ended = false; stopped = None }
-
--- a read failed
-abbrev pub is_read : ScriptStop → Bool
-is_read (Read failed) = true
-is_read (Fault fault) = false
-
--- a call failed since a read did
-abbrev pub has_failed_read : {A : Type 0} → Result A ScriptStop → Bool
-has_failed_read (Ok answer) = false
-has_failed_read (Err stop) = is_read stop
+opened limit = record { place = first_place limit; operand = []; started = false; ended = false; stopped = None }
 
 -- what the definition of a schedule says of the bytes, where `settings` gives this
 abbrev pub IsOpening : ℕ → Place → List ℕ → Option (List ℕ) → Result Settings ScriptStop → Type 0

@@ -2,12 +2,12 @@
 ghost use Rattle.std.specs.Prelude.{◌≡◌, ◌≤◌, [], true, length, IfOk, IfSome};
 ghost use Rattle.std.specs.Option.{option_map};
 ghost use Rattle.homa_plain.specs.Input.{words_of};
-ghost use Rattle.homa_plain.specs.Script.{GivenEvent, is_comment, event_word, alone, call_given, deliver_given, host_given, tick_given, inject_given};
+ghost use Rattle.homa_plain.specs.Script.{GivenEvent, event_word, alone, call_given, deliver_given, host_given, tick_given, inject_given};
 ghost use Rattle.homa_plain.specs.Script.{shift_given, event_given, phrase_of};
 ghost use Rattle.homa_script.specs.Given.{word_seen, given_of, bare_of, ticks_of, phrase_given, IsWithin};
 
-use crate::words::{Words, read_up_to};
 use homa_plain::{Event, ScriptFault};
+use script_lines::{Words, is_comment, read_up_to};
 
 /// What a line behind `go` stands for.
 #[derive(Clone, Copy)]
@@ -29,13 +29,6 @@ pub(crate) enum EventWord {
     Restart,
     Inject,
     Shift,
-}
-
-/// Tells whether a word begins a comment.
-pub(crate) fn is_comment(word: &[u8]) -> bool
-    ensures { result ≡ is_comment word.now }
-{
-    matches!(word, [b'#', ..])
 }
 
 /// The event's word that a word is.

@@ -9,18 +9,14 @@
 
 mod event;
 mod laws;
-mod line;
-mod name;
 mod next;
 mod opening;
 mod put;
 mod read;
 mod reader;
-mod stop;
-mod words;
 
 pub use laws::reads_back;
 pub use next::Next;
 pub use put::{put_event, put_settings};
 pub use reader::Reader;
-pub use stop::ScriptStop;
+pub use script_lines::ScriptStop;

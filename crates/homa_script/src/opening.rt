@@ -4,10 +4,10 @@ ghost use Rattle.homa_plain.specs.Input.{words_of};
 ghost use Rattle.homa_plain.specs.Script.{setting_given, phrase_of};
 ghost use Rattle.homa_script.specs.Given.{line_of};
 
-use crate::event::{is_comment, read_event_word};
-use crate::words::Words;
+use crate::event::read_event_word;
 use homa_plain::{Name, ScriptFault};
 use homa_text::read_name;
+use script_lines::{Words, is_comment};
 
 /// What a line before `go`, or `go` itself, stands for.
 #[derive(Clone, Copy)]

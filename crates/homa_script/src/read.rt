@@ -3,19 +3,18 @@ ghost use Rattle.std.specs.Prelude.{◌≡◌, ◌≤◌, ℕ, List, Some, true,
 ghost use Rattle.homa_io.specs.Outside.{HasRisen};
 ghost use Rattle.homa_plain.specs.Settings.{IsValid};
 ghost use Rattle.homa_text.specs.Lines.{reading};
+ghost use Rattle.script_lines.specs.Place.{place_of, IsCounted};
+ghost use Rattle.script_lines.specs.Stops.{is_read, has_failed_read};
 ghost use Rattle.homa_script.specs.Given.{IsWithin};
-ghost use Rattle.homa_script.specs.Place.{place_of, IsCounted};
-ghost use Rattle.homa_script.specs.Script.{opened, is_read, has_failed_read, IsOpening};
+ghost use Rattle.homa_script.specs.Script.{opened, IsOpening};
 ghost use Rattle.homa_script.specs.Lines.{IsNextGiven, IsGivenOn};
 
-use crate::ScriptStop;
 use crate::event::{Given, read_event_line};
-use crate::line::{last_line, next_line};
-use crate::name::set;
 use crate::opening::{OpeningLine, read_opening_line};
 use homa_io::Source;
 use homa_plain::{ScriptFault, Settings};
 use homa_text::Lines;
+use script_lines::{ScriptStop, last_line, next_line, set};
 
 /// Reads the lines up to `go`, and gives the settings that hold there.
 pub(crate) fn read_settings<S: Source>(

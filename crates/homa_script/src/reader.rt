@@ -4,13 +4,13 @@ ghost use Rattle.std.specs.Result.{result_err};
 ghost use Rattle.homa_io.specs.Outside.{HasRisen};
 ghost use Rattle.homa_plain.specs.Settings.{IsValid};
 
-use crate::ScriptStop;
 use crate::event::Given;
 use crate::next::Next;
 use crate::read::{next_given, read_settings};
 use homa_io::Source;
 use homa_plain::Settings;
 use homa_text::Lines;
+use script_lines::ScriptStop;
 use std::alloc::{AllocError, Global};
 use std::marker::Model;
 
@@ -56,8 +56,9 @@ impl Model for Reader {
 }
 
 impl Reader {
-    ghost use Rattle.homa_script.specs.Script.{opened, is_read, has_failed_read, has_operand, is_end, IsOpening, IsNext, IsInRange, IsOn};
-    ghost use Rattle.homa_script.specs.Place.{IsCounted};
+    ghost use Rattle.script_lines.specs.Place.{IsCounted};
+    ghost use Rattle.script_lines.specs.Stops.{is_read, has_failed_read};
+    ghost use Rattle.homa_script.specs.Script.{opened, has_operand, is_end, IsOpening, IsNext, IsInRange, IsOn};
 
     /// A reader of a schedule of at most `limit` bytes.
     pub fn open(alloc: Global, limit: u64) -> Result<Reader, AllocError>

@@ -1,5 +1,5 @@
 use Rattle.std.proofs.Common.{◌≡◌, ◌≤◌, ◌*◌, ◌-◌, true, false, None}
-use Rattle.homa_script.specs.Place.{IsCounted}
+use Rattle.script_lines.specs.Place.{IsCounted}
 use Rattle.bench_script.proofs.Counts.{IsCounting}
 use Rattle.bench_script.proofs.count_events.Given as goal
 

@@ -1,6 +1,6 @@
 use Rattle.std.proofs.Common.{◌≡◌, ◌≤◌, ◌-◌, ◌*◌, true, false, None}
 use Rattle.homa_plain.specs.World.{World}
-use Rattle.homa_script.specs.Place.{IsCounted}
+use Rattle.script_lines.specs.Place.{IsCounted}
 use Rattle.homa_replay.specs.Far.{AreFar, left_at}
 use Rattle.homa_replay.proofs.schedule.carry_on.Given as goal
 

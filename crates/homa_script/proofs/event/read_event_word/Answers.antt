@@ -5,10 +5,22 @@ use Rattle.homa_plain.specs.Script.{event_word}
 use Rattle.homa_script.proofs.event.read_event_word.Goals as goal
 
 pub returns-in-inject : goal.returns-in-inject
-returns-in-inject c = ap event_word (sym (text_from_reads c.args.word.now (codes "inject") (omega arith) (omega arith, (omega arith, (omega arith, (omega arith, (omega arith, (omega arith, tt))))))))
+returns-in-inject c = ap event_word
+    (sym (text_from_reads c.args.word.now (codes "inject") (omega arith) (
+      omega arith,
+      (omega arith, (omega arith, (omega arith, (omega arith, (omega arith, tt))))),
+    )))
 
 pub returns-in-deliver : goal.returns-in-deliver
-returns-in-deliver c = ap event_word (sym (text_from_reads c.args.word.now (codes "deliver") (omega arith) (omega arith, (omega arith, (omega arith, (omega arith, (omega arith, (omega arith, (omega arith, tt)))))))))
+returns-in-deliver c = ap event_word
+    (sym (text_from_reads c.args.word.now (codes "deliver") (omega arith) (
+      omega arith,
+      (omega arith, (omega arith, (omega arith, (omega arith, (omega arith, (omega arith, tt)))))),
+    )))
 
 pub returns-in-restart : goal.returns-in-restart
-returns-in-restart c = ap event_word (sym (text_from_reads c.args.word.now (codes "restart") (omega arith) (omega arith, (omega arith, (omega arith, (omega arith, (omega arith, (omega arith, (omega arith, tt)))))))))
+returns-in-restart c = ap event_word
+    (sym (text_from_reads c.args.word.now (codes "restart") (omega arith) (
+      omega arith,
+      (omega arith, (omega arith, (omega arith, (omega arith, (omega arith, (omega arith, tt)))))),
+    )))

@@ -2,7 +2,7 @@ use Rattle.std.proofs.Common.{arith, refl, ◌∙◌}
 use Rattle.std.proofs.lemmas.Result.{err_from_is_err_and}
 use Rattle.homa_text.specs.Lines.{reading}
 use Rattle.homa_script.specs.Given.{given_seen}
-use Rattle.homa_script.proofs.Taken.{taken, counted_on}
+use Rattle.script_lines.proofs.Taken.{taken, counted_on}
 use Rattle.homa_script.proofs.Steps.{due_start, due_blank, due_given, due_fault, due_end, due_stop}
 use Rattle.homa_script.proofs.Sized.{long_line}
 use Rattle.homa_script.proofs.read.next_given.Goals as goal
@@ -23,7 +23,8 @@ pub lines-preserved : goal.lines-preserved
 lines-preserved g c =
     let l = c.lines in
     let e = c.in_ok-next_line.ensures in
-    let t = taken (reading l.lines) (reading c.next_line.new.lines) _ _ _ c.last_line.result.now c.if-branch.true e.line e.numbered e.limit c.last_line.ensures.value in
+    let t = taken (reading l.lines)
+    (reading c.next_line.new.lines) _ _ _ c.last_line.result.now c.if-branch.true e.line e.numbered e.limit c.last_line.ensures.value in
     record {
       due = due_blank (reading c.args.lines.now) _ _ _ _ _ _ l.invariant.due t (rw c.in_default.is at c.in_ok-given.ensures.phrase);
       counted = counted_on _ _ _ _ _ l.invariant.counted t;
@@ -40,13 +41,15 @@ returns-in_err-next_line-clause-given g c =
     let l = c.lines in
     let e = c.in_err-next_line.ensures in
     let p = err_from_is_err_and c.from_residual.result c.from_residual.ensures.1 in
-    rw (p.1, p.2) (due_stop (reading c.args.lines.now) (reading l.lines) (reading c.next_line.new.lines) _ _ _ l.out c.in_err-next_line.field-0.0 l.invariant.due e.line e.numbered)
+    rw (p.1, p.2) (due_stop (reading c.args.lines.now) (reading l.lines)
+    (reading c.next_line.new.lines) _ _ _ l.out c.in_err-next_line.field-0.0 l.invariant.due e.line e.numbered)
 
 pub returns-in_err-given-clause-given : goal.returns-in_err-given-clause-given
 returns-in_err-given-clause-given g c =
     let l = c.lines in
     let e = c.in_ok-next_line.ensures in
-    let t = taken (reading l.lines) (reading c.next_line.new.lines) _ _ _ c.last_line.result.now c.if-branch.true e.line e.numbered e.limit c.last_line.ensures.value in
+    let t = taken (reading l.lines)
+    (reading c.next_line.new.lines) _ _ _ c.last_line.result.now c.if-branch.true e.line e.numbered e.limit c.last_line.ensures.value in
     let p = err_from_is_err_and c.from_residual-in_err-given.result c.from_residual-in_err-given.ensures.1 in
     rw (p.1, p.2) (due_fault (reading c.args.lines.now) _ _ _ _ _ _ l.invariant.due t c.in_err-given.field-0.0 c.in_err-given.ensures.phrase)
 
@@ -54,17 +57,22 @@ pub returns-in-Some-clause-given : goal.returns-in-Some-clause-given
 returns-in-Some-clause-given g c =
     let l = c.lines in
     let e = c.in_ok-next_line.ensures in
-    let t = taken (reading l.lines) (reading c.next_line.new.lines) _ _ _ c.last_line.result.now c.if-branch.true e.line e.numbered e.limit c.last_line.ensures.value in
-    due_given (reading c.args.lines.now) _ _ _ _ _ _ l.invariant.due t (given_seen c.in-Some.given c.read_event_line.new.out) (rw c.in-Some.is at c.in_ok-given.ensures.phrase)
+    let t = taken (reading l.lines)
+    (reading c.next_line.new.lines) _ _ _ c.last_line.result.now c.if-branch.true e.line e.numbered e.limit c.last_line.ensures.value in
+    due_given (reading c.args.lines.now) _ _ _ _ _ _ l.invariant.due t (given_seen c.in-Some.given c.read_event_line.new.out)
+    (rw c.in-Some.is at c.in_ok-given.ensures.phrase)
 
 pub returns-clause-given : goal.returns-clause-given
-returns-clause-given g c = due_end (reading c.args.lines.now) (reading c.lines.lines) (reading c.next_line.new.lines) _ _ _ _ c.lines.invariant.due c.if-branch.false c.in_ok-next_line.ensures.line
+returns-clause-given g c =
+    due_end (reading c.args.lines.now) (reading c.lines.lines)
+    (reading c.next_line.new.lines) _ _ _ _ c.lines.invariant.due c.if-branch.false c.in_ok-next_line.ensures.line
 
 pub returns-in-Some-clause-on : goal.returns-in-Some-clause-on
 returns-in-Some-clause-on g c =
     let l = c.lines in
     let e = c.in_ok-next_line.ensures in
-    let t = taken (reading l.lines) (reading c.next_line.new.lines) _ _ _ c.last_line.result.now c.if-branch.true e.line e.numbered e.limit c.last_line.ensures.value in
+    let t = taken (reading l.lines)
+    (reading c.next_line.new.lines) _ _ _ c.last_line.result.now c.if-branch.true e.line e.numbered e.limit c.last_line.ensures.value in
     let two = long_line c.last_line.result.now (given_seen c.in-Some.given c.read_event_line.new.out) (rw c.in-Some.is at c.in_ok-given.ensures.phrase) in
     let sized = e.sized c.if-branch.true in
     (counted_on _ _ _ _ _ l.invariant.counted t, omega (arith, two, sized, c.last_line.ensures.short, l.invariant.on))

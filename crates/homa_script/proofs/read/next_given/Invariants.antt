@@ -1,6 +1,6 @@
 use Rattle.std.proofs.Common.{◌≡◌, ◌≤◌, ◌-◌}
 use Rattle.homa_text.specs.Lines.{reading}
-use Rattle.homa_script.specs.Place.{place_of, IsCounted}
+use Rattle.script_lines.specs.Place.{place_of, IsCounted}
 use Rattle.homa_script.proofs.Steps.{IsDue}
 use Rattle.homa_script.proofs.read.next_given.Given as goal
 

@@ -1,7 +1,7 @@
 use Rattle.std.proofs.Common.{arith, refl, ◌∙◌}
 use Rattle.std.proofs.lemmas.Result.{err_from_is_err_and}
 use Rattle.homa_text.specs.Lines.{reading}
-use Rattle.homa_script.proofs.Taken.{taken, counted_on, end_number}
+use Rattle.script_lines.proofs.Taken.{taken, counted_on, end_number}
 use Rattle.homa_script.proofs.Openings.{open_start, open_blank, open_setting, open_go, open_not, open_fault, open_end, open_stop}
 use Rattle.homa_script.proofs.read.read_settings.Goals as goal
 
@@ -20,7 +20,8 @@ pub lines-preserved-in-Blank : goal.lines-preserved-in-Blank
 lines-preserved-in-Blank g c =
     let l = c.lines in
     let e = c.in_ok-next_line.ensures in
-    let t = taken (reading l.lines) (reading c.next_line.new.lines) _ _ _ c.last_line.result.now c.if-branch.true e.line e.numbered e.limit c.last_line.ensures.value in
+    let t = taken (reading l.lines)
+    (reading c.next_line.new.lines) _ _ _ c.last_line.result.now c.if-branch.true e.line e.numbered e.limit c.last_line.ensures.value in
     record {
       due = open_blank _ _ _ l.settings _ _ _ _ l.invariant.due t (rw c.in-Blank.is at c.in_ok-read_opening_line.ensures);
       counted = counted_on _ _ _ _ _ l.invariant.counted t;
@@ -35,9 +36,11 @@ pub lines-preserved : goal.lines-preserved
 lines-preserved g c =
     let l = c.lines in
     let e = c.in_ok-next_line.ensures in
-    let t = taken (reading l.lines) (reading c.next_line.new.lines) _ _ _ c.last_line.result.now c.if-branch.true e.line e.numbered e.limit c.last_line.ensures.value in
+    let t = taken (reading l.lines)
+    (reading c.next_line.new.lines) _ _ _ c.last_line.result.now c.if-branch.true e.line e.numbered e.limit c.last_line.ensures.value in
     record {
-      due = open_setting _ _ _ l.settings _ _ _ _ l.invariant.due t c.set.new.settings c.in-Setting.name c.in-Setting.n (rw c.in-Setting.is at c.in_ok-read_opening_line.ensures) c.set.ensures;
+      due = open_setting _ _ _ l.settings _ _ _ _ l.invariant.due t c.set.new.settings c.in-Setting.name c.in-Setting.n
+          (rw c.in-Setting.is at c.in_ok-read_opening_line.ensures) c.set.ensures;
       counted = counted_on _ _ _ _ _ l.invariant.counted t;
       limit = e.limit ∙ l.invariant.limit;
       longest = e.longest ∙ l.invariant.longest;
@@ -51,35 +54,43 @@ returns-in_err-next_line-clause-settings g c =
     let l = c.lines in
     let e = c.in_err-next_line.ensures in
     let p = err_from_is_err_and c.from_residual.result c.from_residual.ensures.1 in
-    rw (p.1, p.2) (open_stop (reading c.args.lines.now).limit (reading l.lines) (reading c.next_line.new.lines) l.settings _ _ _ c.in_err-next_line.field-0.0 l.invariant.due e.line e.numbered)
+    rw (p.1, p.2) (open_stop (reading c.args.lines.now).limit (reading l.lines)
+    (reading c.next_line.new.lines) l.settings _ _ _ c.in_err-next_line.field-0.0 l.invariant.due e.line e.numbered)
 
 pub returns-in_err-read_opening_line-clause-settings : goal.returns-in_err-read_opening_line-clause-settings
 returns-in_err-read_opening_line-clause-settings g c =
     let l = c.lines in
     let e = c.in_ok-next_line.ensures in
-    let t = taken (reading l.lines) (reading c.next_line.new.lines) _ _ _ c.last_line.result.now c.if-branch.true e.line e.numbered e.limit c.last_line.ensures.value in
+    let t = taken (reading l.lines)
+    (reading c.next_line.new.lines) _ _ _ c.last_line.result.now c.if-branch.true e.line e.numbered e.limit c.last_line.ensures.value in
     let r = c.from_residual-in_err-read_opening_line in
     let p = err_from_is_err_and r.result r.ensures.1 in
-    rw (p.1, p.2) (open_fault (reading c.args.lines.now).limit _ _ l.settings _ _ _ _ l.invariant.due t c.in_err-read_opening_line.field-0.0 c.in_err-read_opening_line.ensures)
+    rw (p.1, p.2) (open_fault (reading c.args.lines.now).limit _ _ l.settings _ _ _ _ l.invariant.due t c.in_err-read_opening_line.field-0.0
+    c.in_err-read_opening_line.ensures)
 
 pub returns-in_err-check-in-Go-clause-settings : goal.returns-in_err-check-in-Go-clause-settings
 returns-in_err-check-in-Go-clause-settings g c =
     let l = c.lines in
     let e = c.in_ok-next_line.ensures in
-    let t = taken (reading l.lines) (reading c.next_line.new.lines) _ _ _ c.last_line.result.now c.if-branch.true e.line e.numbered e.limit c.last_line.ensures.value in
+    let t = taken (reading l.lines)
+    (reading c.next_line.new.lines) _ _ _ c.last_line.result.now c.if-branch.true e.line e.numbered e.limit c.last_line.ensures.value in
     let r = c.from_residual-in_err-check-in-Go in
     let p = err_from_is_err_and r.result r.ensures.1 in
-    rw (p.1, p.2) (open_not (reading c.args.lines.now).limit _ _ l.settings _ _ _ _ l.invariant.due t c.in_err-check-in-Go.field-0.0 (rw c.in-Go.is at c.in_ok-read_opening_line.ensures) c.in_err-check-in-Go.ensures.fault)
+    rw (p.1, p.2) (open_not (reading c.args.lines.now).limit _ _ l.settings _ _ _ _ l.invariant.due t c.in_err-check-in-Go.field-0.0
+    (rw c.in-Go.is at c.in_ok-read_opening_line.ensures) c.in_err-check-in-Go.ensures.fault)
 
 pub returns-in-Go-clause-settings : goal.returns-in-Go-clause-settings
 returns-in-Go-clause-settings g c =
     let l = c.lines in
     let e = c.in_ok-next_line.ensures in
-    let t = taken (reading l.lines) (reading c.next_line.new.lines) _ _ _ c.last_line.result.now c.if-branch.true e.line e.numbered e.limit c.last_line.ensures.value in
-    open_go (reading c.args.lines.now).limit _ _ l.settings _ _ _ _ l.invariant.due t c.in_ok-check-in-Go.field-0 (rw c.in-Go.is at c.in_ok-read_opening_line.ensures) c.in_ok-check-in-Go.ensures.fault
+    let t = taken (reading l.lines)
+    (reading c.next_line.new.lines) _ _ _ c.last_line.result.now c.if-branch.true e.line e.numbered e.limit c.last_line.ensures.value in
+    open_go (reading c.args.lines.now).limit _ _ l.settings _ _ _ _ l.invariant.due t c.in_ok-check-in-Go.field-0
+    (rw c.in-Go.is at c.in_ok-read_opening_line.ensures) c.in_ok-check-in-Go.ensures.fault
 
 pub returns-clause-settings : goal.returns-clause-settings
 returns-clause-settings g c =
     let l = c.lines in
     let e = c.in_ok-next_line.ensures in
-    open_end (reading c.args.lines.now).limit (reading l.lines) (reading c.next_line.new.lines) l.settings _ _ _ _ l.invariant.due c.if-branch.false e.line (end_number (reading l.lines) (reading c.next_line.new.lines) _ c.if-branch.false e.numbered)
+    open_end (reading c.args.lines.now).limit (reading l.lines) (reading c.next_line.new.lines) l.settings _ _ _ _ l.invariant.due c.if-branch.false e.line
+    (end_number (reading l.lines) (reading c.next_line.new.lines) _ c.if-branch.false e.numbered)

@@ -1,0 +1,89 @@
+// The lines up to `go`, and the next call behind it.
+ghost use Rattle.std.specs.Prelude.{◌≡◌, ◌≤◌, ◌<◌, ℕ, List, Some, true, false, length, IfOk, IfErr, IfSome};
+ghost use Rattle.homa_io.specs.Outside.{HasRisen};
+ghost use Rattle.homa_text.specs.Lines.{reading};
+ghost use Rattle.script_lines.specs.Place.{place_of, first_place, IsCounted};
+ghost use Rattle.node_script.specs.Heads.{IsSound, setup_seen};
+ghost use Rattle.node_script.specs.Calls.{IsOpening, IsNext, IsOn};
+ghost use Rattle.node_script.specs.Stops.{is_read, is_call_read, has_failed_read, has_failed_call};
+
+use crate::head::Head;
+use crate::heading::read_heading;
+use crate::setup::Setup;
+use crate::stop::{CallStop, SetupStop};
+use crate::timed::{Bounds, TimedCall, read_timed_line};
+use homa_io::Source;
+use homa_plain::ScriptFault;
+use homa_text::Lines;
+use script_lines::{last_line, next_line};
+use std::alloc::Global;
+
+/// Reads the lines up to `go`, and gives what is to be done.
+pub(crate) fn read_setup<S: Source>(
+    alloc: Global,
+    lines: &mut Lines,
+    source: &mut S,
+) -> Result<Setup, SetupStop>
+    requires longest { (reading lines.old).longest ≡ 2100000 }
+    requires counted { IsCounted (place_of (reading lines.old)) }
+    requires first { place_of (reading lines.old) ≡ first_place (reading lines.old).limit }
+    ensures setup { (bytes : List ℕ) → S.left source.old ≡ Some bytes
+        → IsOpening (reading lines.old).limit (place_of (reading lines.new)) bytes (S.left source.new) result }
+    ensures sound { IfOk result IsSound }
+    ensures counted { IfOk result (λ setup. IsCounted (place_of (reading lines.new))) }
+    ensures limit { (reading lines.new).limit ≡ (reading lines.old).limit }
+    ensures longest { (reading lines.new).longest ≡ (reading lines.old).longest }
+    ensures risen { IfErr result (λ stop. is_read stop ≡ true → HasRisen (S.faults source.old) (S.faults source.new)) }
+    ensures quiet { has_failed_read result ≡ false → S.faults source.new ≡ S.faults source.old }
+    ensures never_falls { S.faults source.old ≤ S.faults source.new }
+    ensures same { S.is_same source.old source.new }
+{
+    let mut head = Head::new(alloc)?;
+    'lines: while next_line(lines, source)? {
+        let heading = read_heading(last_line(lines))?;
+        if head.says(heading)? {
+            return head.setup(alloc);
+        }
+    }
+    Err(SetupStop::Fault(ScriptFault::NoGo))
+}
+
+/// Reads the lines up to the next one with words, and gives the call that it is; nothing at the end.
+pub(crate) fn read_call<S: Source>(
+    lines: &mut Lines,
+    setup: &Setup,
+    least: u64,
+    source: &mut S,
+    out: &mut [u8],
+) -> Result<Option<TimedCall>, CallStop>
+    requires room { 1050000 ≤ length out.old }
+    requires end { 1 ≤ setup.now.end }
+    requires longest { (reading lines.old).longest ≡ 2100000 }
+    requires counted { IsCounted (place_of (reading lines.old)) }
+    ensures call { (bytes : List ℕ) → S.left source.old ≡ Some bytes
+        → IsNext (setup_seen setup.now) least (place_of (reading lines.old)) (place_of (reading lines.new)) out.new bytes (S.left source.new) result }
+    ensures there { IfOk result (λ call. IfSome call (λ c. (c.client.0 < length setup.now.places.items) × (c.server.0 < length setup.now.places.items))) }
+    ensures fits { IfOk result (λ call. IfSome call (λ c. c.len ≤ length out.new)) }
+    ensures least { IfOk result (λ call. IfSome call (λ c. least ≤ c.tick)) }
+    ensures most { IfOk result (λ call. IfSome call (λ c. c.tick < setup.now.end)) }
+    ensures on { IfOk result (IsOn (place_of (reading lines.old)) (place_of (reading lines.new))) }
+    ensures limit { (reading lines.new).limit ≡ (reading lines.old).limit }
+    ensures longest { (reading lines.new).longest ≡ (reading lines.old).longest }
+    ensures risen { IfErr result (λ stop. is_call_read stop ≡ true → HasRisen (S.faults source.old) (S.faults source.new)) }
+    ensures quiet { has_failed_call result ≡ false → S.faults source.new ≡ S.faults source.old }
+    ensures never_falls { S.faults source.old ≤ S.faults source.new }
+    ensures same { S.is_same source.old source.new }
+{
+    let bounds = Bounds {
+        least,
+        end: setup.end,
+        places: &setup.places,
+    };
+    'lines: while next_line(lines, source)? {
+        let number = lines.number();
+        if let Some(call) = read_timed_line(&bounds, number, last_line(lines), out)? {
+            return Ok(Some(call));
+        }
+    }
+    Ok(None)
+}

@@ -1,0 +1,53 @@
+// The lines of a script.
+ghost use Rattle.std.specs.Prelude.{◌≡◌, ◌≤◌, ◌+◌, ℕ, List, Some, true, false, length, IfOk, IfErr};
+ghost use Rattle.homa_io.specs.Outside.{HasRisen};
+ghost use Rattle.homa_plain.specs.Script.{without_return};
+ghost use Rattle.homa_text.specs.Lines.{reading};
+ghost use Rattle.script_lines.specs.Place.{place_of, IsCounted};
+ghost use Rattle.script_lines.specs.Stops.{is_read, has_failed_read};
+ghost use Rattle.script_lines.specs.Lines.{IsNextLine, IsNumbered};
+
+use crate::ScriptStop;
+use homa_io::Source;
+use homa_plain::ScriptFault;
+use homa_text::{LineGot, Lines};
+use std::str::from_utf8;
+
+/// Reads the next line, and answers whether there is one. A line that isn't refused by what it is
+/// made of is then the last line of `lines`.
+pub fn next_line<S: Source>(lines: &mut Lines, source: &mut S) -> Result<bool, ScriptStop>
+    requires longest { (reading lines.old).longest ≡ 2100000 }
+    requires counted { IsCounted (place_of (reading lines.old)) }
+    ensures line { (bytes : List ℕ) → S.left source.old ≡ Some bytes → IsNextLine (reading lines.old) (reading lines.new) bytes (S.left source.new) result }
+    ensures numbered { IsNumbered (place_of (reading lines.old)) (place_of (reading lines.new)) result }
+    ensures short { IfOk result (λ there. there ≡ true → length (reading lines.new).line ≤ 2100000) }
+    ensures sized { IfOk result (λ there. there ≡ true → (reading lines.old).read + length (reading lines.new).line ≤ (reading lines.new).read) }
+    ensures limit { (reading lines.new).limit ≡ (reading lines.old).limit }
+    ensures longest { (reading lines.new).longest ≡ (reading lines.old).longest }
+    ensures risen { IfErr result (λ stop. is_read stop ≡ true → HasRisen (S.faults source.old) (S.faults source.new)) }
+    ensures quiet { has_failed_read result ≡ false → S.faults source.new ≡ S.faults source.old }
+    ensures never_falls { S.faults source.old ≤ S.faults source.new }
+    ensures same { S.is_same source.old source.new }
+{
+    match lines.next(source)? {
+        LineGot::End => Ok(false),
+        LineGot::Over => Err(ScriptStop::Fault(ScriptFault::InputTooLong)),
+        LineGot::Long => Err(ScriptStop::Fault(ScriptFault::LongLine)),
+        LineGot::Line => match from_utf8(lines.bytes()) {
+            Ok(_) => Ok(true),
+            Err(_) => Err(ScriptStop::Fault(ScriptFault::NotUtf8)),
+        },
+    }
+}
+
+/// The last line without its line feed, and without the one carriage return at its end.
+pub fn last_line(lines: &Lines) -> &[u8]
+    ensures value { result.now ≡ without_return (reading lines.now).line }
+    ensures short { length result.now ≤ length (reading lines.now).line }
+{
+    let line = lines.bytes();
+    match line.strip_suffix(b"\r".as_slice()) {
+        Some(front) => front,
+        None => line,
+    }
+}
