@@ -1,5 +1,6 @@
 -- The check of a text, line by line.
-use Rattle.std.proofs.Common.{◌≡◌, ◌<◌, ◌≤◌, ◌⊎◌, inl, inr, ℕ, ◌+◌, arith, Bool, true, false, Option, Some, None, List, [], ◌∷◌, ◌++◌, length, length-append, append_assoc, refl, sym, ap, ◌∙◌}
+use Rattle.std.proofs.Common.{◌≡◌, ◌<◌, ◌≤◌, ◌⊎◌, inl, inr, ℕ, ◌+◌, arith, Bool, true, false, Option, Some, None, List, [], ◌∷◌, ◌++◌, length}
+use Rattle.std.proofs.Common.{length-append, append_assoc, refl, sym, ap, ◌∙◌}
 use Rattle.std.proofs.lemmas.Bool.Decides.{nat_tests}
 use Rattle.std.proofs.lemmas.List.{append-nil}
 use Rattle.std.specs.Prelude.{◌==◌, if◌then◌else◌}
@@ -121,18 +122,21 @@ module _ (first : List ℕ) (v w : View) (old new : Reading) (came line rest : L
     (split : s.rest ≡ came ++ rest) (has_left : left_then ≡ Some rest) (bytes : old.pending ++ came ≡ line ++ new.pending)
     (fold : (more : List (List ℕ)) → plain.verdict_from v old.read (line ∷ more) ≡ plain.verdict_from w new.read more) where
   further : lines_of (s.lines ++ line) ≡ lines_of s.lines ++ line ∷ []
-      → ((more : List ℕ) → lines_of ((s.lines ++ line) ++ more) ≡ lines_of (s.lines ++ line) ++ lines_of more) ⊎ ((new.pending ≡ []) × (rest ≡ [])) → IsSoFar first left_then new w
+      → ((more : List ℕ) → lines_of ((s.lines ++ line) ++ more) ≡ lines_of (s.lines ++ line) ++ lines_of more) ⊎ ((new.pending ≡ []) × (rest ≡ []))
+      → IsSoFar first left_then new w
   further self joins = record {
     lines = s.lines ++ line;
     rest = rest;
     split = s.split ∙ (ap (λ (xs : List ℕ). (s.lines ++ old.pending) ++ xs) split ∙ regroup s.lines old.pending came line new.pending rest bytes);
     has_left = has_left;
     fold = λ more. ap (λ (ls : List (List ℕ)). plain.verdict_from nothing_seen 0 (ls ++ more)) self
-        ∙ (ap (λ (ls : List (List ℕ)). plain.verdict_from nothing_seen 0 ls) (append_assoc (lines_of s.lines) (line ∷ []) more) ∙ (s.fold (line ∷ more) ∙ fold more));
+        ∙ (ap (λ (ls : List (List ℕ)). plain.verdict_from nothing_seen 0 ls) (append_assoc (lines_of s.lines) (line ∷ []) more)
+        ∙ (s.fold (line ∷ more) ∙ fold more));
     joins = joins;
   }
 
-  by_end : ((more : List ℕ) → lines_of (s.lines ++ more) ≡ lines_of s.lines ++ lines_of more) → (ends_in_feed line ≡ true) ⊎ ((has_no_feed line ≡ true) × (0 < length line) × (new.pending ≡ []) × IsAtEnd left_then) → IsSoFar first left_then new w
+  by_end : ((more : List ℕ) → lines_of (s.lines ++ more) ≡ lines_of s.lines ++ lines_of more)
+      → (ends_in_feed line ≡ true) ⊎ ((has_no_feed line ≡ true) × (0 < length line) × (new.pending ≡ []) × IsAtEnd left_then) → IsSoFar first left_then new w
   by_end j (inl h) =
       let self : lines_of (s.lines ++ line) ≡ lines_of s.lines ++ line ∷ [] = j line ∙ ap (λ (ls : List (List ℕ)). lines_of s.lines ++ ls) (only_line line h) in
       further self
@@ -140,7 +144,8 @@ module _ (first : List ℕ) (v w : View) (old new : Reading) (came line rest : L
       ∙ (j (line ++ more)
       ∙ (ap (λ (ls : List (List ℕ)). lines_of s.lines ++ ls) (lines_of-feed line more h)
       ∙ (sym (append_assoc (lines_of s.lines) (line ∷ []) (lines_of more)) ∙ ap (λ (ls : List (List ℕ)). ls ++ lines_of more) (sym self))))))
-  by_end j (inr h) = further (j line ∙ ap (λ (ls : List (List ℕ)). lines_of s.lines ++ ls) (lines_of-last line h.0 h.1)) (inr (h.2, at_end left_then rest has_left h.3))
+  by_end j (inr h) = further (j line ∙ ap (λ (ls : List (List ℕ)). lines_of s.lines ++ ls) (lines_of-last line h.0 h.1))
+      (inr (h.2, at_end left_then rest has_left h.3))
 
   has_some : (ends_in_feed line ≡ true) ⊎ ((has_no_feed line ≡ true) × (0 < length line) × (new.pending ≡ []) × IsAtEnd left_then) → 0 < length line
   has_some (inl h) = some_bytes line h
@@ -158,8 +163,10 @@ module _ (first : List ℕ) (v w : View) (old new : Reading) (came line rest : L
   by_joins (inl j) whole = by_end j whole
   by_joins (inr none) whole = absurd (no_line none.0 none.1 (has_some whole))
 
-so_far_on : (first : List ℕ) (v w : View) (old new : Reading) (came line : List ℕ) (left left_then : Option (List ℕ)) → left ≡ unread came left_then → TakesLine old new came line (IsAtEnd left_then)
-    → ((more : List (List ℕ)) → plain.verdict_from v old.read (line ∷ more) ≡ plain.verdict_from w new.read more) → IsSoFar first left old v → IsSoFar first left_then new w
+so_far_on : (first : List ℕ) (v w : View) (old new : Reading) (came line : List ℕ) (left left_then : Option (List ℕ)) → left ≡ unread came left_then
+    → TakesLine old new came line (IsAtEnd left_then)
+    → ((more : List (List ℕ)) → plain.verdict_from v old.read (line ∷ more) ≡ plain.verdict_from w new.read more) → IsSoFar first left old v
+    → IsSoFar first left_then new w
 so_far_on first v w old new came line left left_then e t fold s =
     let cut = some_left s.rest came left left_then s.has_left e in
     by_joins first v w old new came line cut.0 left left_then s cut.1 cut.2 t.bytes fold s.joins t.whole
@@ -175,7 +182,8 @@ line_taken v old new left left_then t g l m j follows =
       follows = follows;
       place = place;
       so_far = λ bytes s. so_far_on bytes v w old new g.0 line left left_then g.1 g.2.1.taken
-          (λ more. taken_on v old.read line more (entry_of new.line) (stands old new g.0 line (IsAtEnd left_then) g.2.1 l m) (sym j) ∙ ap (λ (n : ℕ). plain.verdict_from w n more) (sym g.2.1.taken.read)) s;
+          (λ more. taken_on v old.read line more (entry_of new.line) (stands old new g.0 line (IsAtEnd left_then) g.2.1 l m) (sym j)
+          ∙ ap (λ (n : ℕ). plain.verdict_from w n more) (sym g.2.1.taken.read)) s;
       due = λ bytes k.
           let f = first_line old new g.0 line bytes left left_then g.2.1.taken g.1 k in
           let ls = lines_of (new.pending ++ f.rest) in (
@@ -201,7 +209,9 @@ start_left [] = refl
 start_left (line ∷ lines) = refl
 
 -- nothing was read yet
-pub start_so_far : (r : Reading) (bytes : List ℕ) (left : Option (List ℕ)) → r ≡ record { pending = []; line = []; read = 0; number = 0; limit = 68719476736; longest = 4100000 } → left ≡ Some bytes → IsSoFar bytes left r nothing_seen
+pub start_so_far : (r : Reading) (bytes : List ℕ) (left : Option (List ℕ))
+    → r ≡ record { pending = []; line = []; read = 0; number = 0; limit = 68719476736; longest = 4100000 } → left ≡ Some bytes
+    → IsSoFar bytes left r nothing_seen
 start_so_far r bytes left e k = record {
   lines = [];
   rest = bytes;
@@ -212,7 +222,8 @@ start_so_far r bytes left e k = record {
 }
 
 -- reading failed in the midst of a line
-pub cut_short : (bytes : List ℕ) (left left_then : Option (List ℕ)) (r : Reading) (v : View) → IsSoFar bytes left r v → (came : List ℕ) × (left ≡ unread came left_then) × (has_no_feed (r.pending ++ came) ≡ true) → IsCutShort bytes left_then
+pub cut_short : (bytes : List ℕ) (left left_then : Option (List ℕ)) (r : Reading) (v : View) → IsSoFar bytes left r v
+    → (came : List ℕ) × (left ≡ unread came left_then) × (has_no_feed (r.pending ++ came) ≡ true) → IsCutShort bytes left_then
 cut_short bytes left left_then r v s h =
     let cut = some_left s.rest h.0 left left_then s.has_left h.1 in
     record {
@@ -237,16 +248,21 @@ read_further old mid new a b = (a.0 ++ b.0, a.1 ∙ (ap (unread a.0) b.1 ∙ sym
 
 -- ---- what was taken
 
-pub took_line : (old new : Reading) (came line : List ℕ) (left left_then : Option (List ℕ)) (end over : Type 0) → left ≡ unread came left_then → TakesLine old new came line end → TookLine left left_then old new over
+pub took_line : (old new : Reading) (came line : List ℕ) (left left_then : Option (List ℕ)) (end over : Type 0) → left ≡ unread came left_then
+    → TakesLine old new came line end → TookLine left left_then old new over
 took_line old new came line left left_then end over e t = record { came = came; source = e; taken = line; bytes = t.bytes; count = inl t.read }
 
-pub took_over : (old new : Reading) (came front : List ℕ) (left left_then : Option (List ℕ)) (over : Type 0) → left ≡ unread came left_then → IsOver old new came front → over → TookLine left left_then old new over
+pub took_over : (old new : Reading) (came front : List ℕ) (left left_then : Option (List ℕ)) (over : Type 0) → left ≡ unread came left_then
+    → IsOver old new came front → over → TookLine left left_then old new over
 took_over old new came front left left_then over e t h = record { came = came; source = e; taken = front; bytes = t.bytes; count = inr (h, t.count) }
 
-pub took_none : (old new : Reading) (came : List ℕ) (left left_then : Option (List ℕ)) (end over : Type 0) → left ≡ unread came left_then → IsEnd old new came end → TookLine left left_then old new over
-took_none old new came left left_then end over e t = record { came = came; source = e; taken = []; bytes = t.none_came ∙ sym t.none_pending; count = inl (omega (arith, t.read)) }
+pub took_none : (old new : Reading) (came : List ℕ) (left left_then : Option (List ℕ)) (end over : Type 0) → left ≡ unread came left_then
+    → IsEnd old new came end → TookLine left left_then old new over
+took_none old new came left left_then end over e t =
+    record { came = came; source = e; taken = []; bytes = t.none_came ∙ sym t.none_pending; count = inl (omega (arith, t.read)) }
 
-pub taken_start : (left : Option (List ℕ)) (r : Reading) → r ≡ record { pending = []; line = []; read = 0; number = 0; limit = 68719476736; longest = 4100000 } → HasTaken left left r
+pub taken_start : (left : Option (List ℕ)) (r : Reading)
+    → r ≡ record { pending = []; line = []; read = 0; number = 0; limit = 68719476736; longest = 4100000 } → HasTaken left left r
 taken_start left r e = record { came = []; source = sym (unread-nil left); taken = []; bytes = sym (ap (λ x. x.pending) e); count = ap (λ x. x.read) e }
 
 -- the bytes of lines, and those that came then
@@ -255,7 +271,8 @@ joined a taken pending came more new e f =
     ap (λ (xs : List ℕ). xs ++ came) e ∙ (append_assoc taken pending came ∙ (ap (λ (xs : List ℕ). taken ++ xs) f ∙ sym (append_assoc taken more new)))
 
 -- a line more
-pub taken_more : (first left left_then : Option (List ℕ)) (old new : Reading) (over : Type 0) → (over → ⊥) → HasTaken first left old → TookLine left left_then old new over → HasTaken first left_then new
+pub taken_more : (first left left_then : Option (List ℕ)) (old new : Reading) (over : Type 0) → (over → ⊥) → HasTaken first left old
+    → TookLine left left_then old new over → HasTaken first left_then new
 taken_more first left left_then old new over not h t = record {
   came = h.came ++ t.came;
   source = h.source ∙ (ap (unread h.came) t.source ∙ sym (unread-append h.came t.came left_then));
@@ -268,7 +285,8 @@ taken_more first left left_then old new over not h t = record {
   by (inr o) = absurd (not o.0)
 
 -- up to this line
-pub up_to : (line : ℕ) (first left left_then : Option (List ℕ)) (old new : Reading) (over : Type 0) → new.limit ≡ old.limit → new.number ≡ line → HasTaken first left old → TookLine left left_then old new over → IsUpTo line first left_then new
+pub up_to : (line : ℕ) (first left left_then : Option (List ℕ)) (old new : Reading) (over : Type 0) → new.limit ≡ old.limit → new.number ≡ line
+    → HasTaken first left old → TookLine left left_then old new over → IsUpTo line first left_then new
 up_to line first left left_then old new over limit number h t = record {
   came = h.came ++ t.came;
   source = h.source ∙ (ap (unread h.came) t.source ∙ sym (unread-append h.came t.came left_then));
@@ -277,12 +295,14 @@ up_to line first left left_then old new over limit number h t = record {
   count = by t.count;
   number = number;
 } where
-  by : (new.read ≡ old.read + length t.taken) ⊎ (over × (old.read + length t.taken ≡ old.limit + 1)) → (new.read ≡ length (h.taken ++ t.taken)) ⊎ (length (h.taken ++ t.taken) ≡ new.limit + 1)
+  by : (new.read ≡ old.read + length t.taken) ⊎ (over × (old.read + length t.taken ≡ old.limit + 1))
+      → (new.read ≡ length (h.taken ++ t.taken)) ⊎ (length (h.taken ++ t.taken) ≡ new.limit + 1)
   by (inl e) = inl (omega (arith, e, h.count, length-append h.taken t.taken))
   by (inr o) = inr (omega (arith, o.1, h.count, limit, length-append h.taken t.taken))
 
 -- at the end it is no where there was no line
-none_no : (place line : ℕ) (clause : judge.Clause) (none : Bool) → (place == 0) ≡ none → (if none then plain.No 1 judge.ShapeClause else plain.Yes place) ≡ plain.No line clause → line ≡ place + 1
+none_no : (place line : ℕ) (clause : judge.Clause) (none : Bool) → (place == 0) ≡ none
+    → (if none then plain.No 1 judge.ShapeClause else plain.Yes place) ≡ plain.No line clause → line ≡ place + 1
 none_no place line clause true e h =
     let zero : place ≡ 0 = grind (arith, nat_tests) in
     let first : 1 ≡ line = cc in

@@ -235,5 +235,7 @@ pub then_stopped : (s t : Settings) (all over : Generated → Generated) (part :
     → HasGone all (λ x. over (part s x)) g a b st p q → ((x : Generated) → IsAt b st x → HasStopped (part t) x b.taken new q) → HasStopped all g a.taken new p
 then_stopped s t all over part g a b new st p q same over_extends part_extends first next =
     let second : HasStopped (part s) first.next b.taken new q = subst (λ (o : Settings). HasStopped (part o) first.next b.taken new q) same (next first.next first.stood) in
-    let both : Extends (λ x. over (part s x)) = λ x. longer_on x.lines (part s x).lines (over (part s x)).lines x.told (part s x).told (over (part s x)).told (part_extends x) (over_extends (part s x)) in
+    let both : Extends (λ x. over (part s x)) =
+    λ x. longer_on x.lines (part s x).lines (over (part s x)).lines x.told (part s x).told (over (part s x)).told (part_extends x)
+    (over_extends (part s x)) in
     stopped_on all (λ x. over (part s x)) g a b new st p q first both (stopped_under over (part s) first.next b.taken new q over_extends part_extends second)

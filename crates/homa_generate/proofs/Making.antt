@@ -59,10 +59,17 @@ module _ (seed calls boxes : ℕ) (w : World) (first : IsFirst generated_setting
 
 -- a front of the settings' lines was printed, or nothing
 pub settings_part : (run : Run) (old new : Option (List ℕ)) (allowed : List PlainEntry → Type 0) → allowed (PlainSettings generated_settings ∷ []) → TookFront old new (settings_text generated_settings) → IsPartMade run (schedule_text generated_settings) old new allowed
-settings_part run old new allowed allow front = record { told = []; allow = allow; first = λ later. record { rest = (run later).told; tells = refl }; front = λ later. front_wide old new (settings_text generated_settings) _ front }
+settings_part run old new allowed allow front =
+    record {
+      told = [];
+      allow = allow;
+      first = λ later. record { rest = (run later).told; tells = refl };
+      front = λ later. front_wide old new (settings_text generated_settings) _ front;
+    }
 
 pub nothing_part : (run : Run) (to : Generated → List ℕ) (old : Option (List ℕ)) (allowed : List PlainEntry → Type 0) → allowed (PlainSettings generated_settings ∷ []) → IsPartMade run to old old allowed
-nothing_part run to old allowed allow = record { told = []; allow = allow; first = λ later. record { rest = (run later).told; tells = refl }; front = λ later. front_none old (to (run later)) }
+nothing_part run to old allowed allow =
+    record { told = []; allow = allow; first = λ later. record { rest = (run later).told; tells = refl }; front = λ later. front_none old (to (run later)) }
 
 module _ (run : Run) (old new : Option (List ℕ)) (allowed : List PlainEntry → Type 0) (counts : List ℕ) (h : HasRun run old new allowed counts) where
   whole_is : run (shown h.end.told) ≡ answered [] h.end

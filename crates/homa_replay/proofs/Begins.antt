@@ -41,11 +41,14 @@ module _ (boxes : ℕ) (left left2 old taken : Option (List ℕ)) (e : taken ≡
       (λ bytes h. far_to (replay_of boxes) bytes left old taken is_unasked is_unasked (replay_of boxes) (λ more later. replay_opened (opening most_bytes more) later boxes) (start bytes h) (by_opening boxes)) f
 
   -- the line of the settings was printed, in part or, where `all` says so, whole
-  pub settings_cut : (new : Option (List ℕ)) (s : Settings) (place : Place) (all : Bool) → ((rest : List ℕ) → left ≡ Some rest → IsRead rest left2 (opening most_bytes) (λ more. Opened s (steps_left place more)))
-      → (all ≡ true → new ≡ appended taken (line_text (PlainSettings s))) → TookFront taken new (line_text (PlainSettings s)) → AreParts (replay_of boxes) left left2 old new is_unasked all
+  pub settings_cut : (new : Option (List ℕ)) (s : Settings) (place : Place) (all : Bool)
+      → ((rest : List ℕ) → left ≡ Some rest → IsRead rest left2 (opening most_bytes) (λ more. Opened s (steps_left place more)))
+      → (all ≡ true → new ≡ appended taken (line_text (PlainSettings s))) → TookFront taken new (line_text (PlainSettings s))
+      → AreParts (replay_of boxes) left left2 old new is_unasked all
   settings_cut new s place all f put t =
       let line : line_text (PlainSettings s) ≡ line_text (PlainSettings s) ++ [] = sym (append-nil (line_text (PlainSettings s))) in
-      fars_part (replay_of boxes) left left2 old taken is_unasked is_unasked new (λ more later. replay_opened (Opened s (steps_left place more)) later boxes) (PlainSettings s ∷ []) all
+      fars_part (replay_of boxes) left left2 old taken is_unasked is_unasked new (λ more later. replay_opened (Opened s (steps_left place more)) later boxes)
+      (PlainSettings s ∷ []) all
       (opens (λ more. Opened s (steps_left place more)) f) refl
       (λ k. put k ∙ ap (λ (l : List ℕ). appended taken l) line)
       (λ more later. front_amid taken new (PlainSettings s ∷ []) _ (front_same taken new _ _ line t))

@@ -1,5 +1,6 @@
 -- The lines behind `go`, in the world that `go` opens, are the rest of the replay.
-use Rattle.std.proofs.Common.{◌≡◌, ◌⊎◌, inl, inr, ℕ, Bool, true, false, Option, Some, Result, Ok, Err, List, [], ◌∷◌, ◌++◌, refl, sym, ap, ◌∙◌, subst, append_assoc}
+use Rattle.std.proofs.Common.{◌≡◌, ◌⊎◌, inl, inr, ℕ, Bool, true, false, Option, Some, Result, Ok, Err, List, [], ◌∷◌, ◌++◌, refl, sym, ap, ◌∙◌}
+use Rattle.std.proofs.Common.{subst, append_assoc}
 use Rattle.std.specs.Prelude.{IfErr, OnOk}
 use Rattle.std.specs.List.{flat_map}
 use Rattle.std.proofs.lemmas.List.{append-nil}
@@ -68,18 +69,23 @@ module _ (boxes : ℕ) (left left2 old mid new : Option (List ℕ)) (s : Setting
   front_whole : (told : List PlainEntry) (came more : List ℕ) (answers : List Answer) → opening most_bytes (came ++ more) ≡ Opened s (steps_left place more)
       → IsFront (left_at s w 0 place more answers) told mid new → IsFront (replay_of boxes (came ++ more) answers) (PlainSettings s ∷ told) old new
   front_whole told came more answers e f =
-      front_of old new (PlainSettings s ∷ told) _ _ (sym (rest_of came more answers e)) (front_behind old mid new (PlainSettings s ∷ []) told (left_at s w 0 place more answers) settings_line f)
+      front_of old new (PlainSettings s ∷ told) _ _ (sym (rest_of came more answers e))
+      (front_behind old mid new (PlainSettings s ∷ []) told (left_at s w 0 place more answers) settings_line f)
 
   -- of all that may come, or of all that came
   either_whole : (ended : Bool) (came more rest : List ℕ) (told : List PlainEntry) → (ended ≡ true → more ++ rest ≡ [])
       → ((later : List ℕ) → (ended ≡ true → later ≡ []) → opening most_bytes (came ++ later) ≡ Opened s (steps_left place later))
-      → ((later : List ℕ) (answers : List Answer) → IsFront (left_at s w 0 place (more ++ later) (shown told ++ answers)) told mid new) ⊎ ((rest ≡ []) × ((answers : List Answer) → IsFront (left_at s w 0 place more (shown told ++ answers)) told mid new))
-      → ((later : List ℕ) (answers : List Answer) → IsFront (replay_of boxes ((came ++ more) ++ later) (shown told ++ answers)) (PlainSettings s ∷ told) old new)
+      → ((later : List ℕ) (answers : List Answer) → IsFront (left_at s w 0 place (more ++ later) (shown told ++ answers)) told mid new)
+      ⊎ ((rest ≡ []) × ((answers : List Answer) → IsFront (left_at s w 0 place more (shown told ++ answers)) told mid new))
+      → ((later : List ℕ) (answers : List Answer)
+      → IsFront (replay_of boxes ((came ++ more) ++ later) (shown told ++ answers)) (PlainSettings s ∷ told) old new)
       ⊎ ((rest ≡ []) × ((answers : List Answer) → IsFront (replay_of boxes (came ++ more) (shown told ++ answers)) (PlainSettings s ∷ told) old new))
   either_whole false came more rest told none e (inl f) =
-      inl (λ later answers. subst (λ (l : List ℕ). IsFront (replay_of boxes l (shown told ++ answers)) (PlainSettings s ∷ told) old new) (sym (append_assoc came more later))
+      inl (λ later answers. subst (λ (l : List ℕ). IsFront (replay_of boxes l (shown told ++ answers)) (PlainSettings s ∷ told) old new)
+      (sym (append_assoc came more later))
       (front_whole told came (more ++ later) (shown told ++ answers) (e (more ++ later) (λ k. absurd cc)) (f later answers)))
-  either_whole false came more rest told none e (inr f) = inr (f.0, λ answers. front_whole told came more (shown told ++ answers) (e more (λ k. absurd cc)) (f.1 answers))
+  either_whole false came more rest told none e (inr f) =
+      inr (f.0, λ answers. front_whole told came more (shown told ++ answers) (e more (λ k. absurd cc)) (f.1 answers))
   either_whole true came more rest told none e (inl f) =
       let both = none_left more rest (none refl) in
       inr (
@@ -91,7 +97,8 @@ module _ (boxes : ℕ) (left left2 old mid new : Option (List ℕ)) (s : Setting
       let both = none_left more rest (none refl) in
       inr (f.0, λ answers. front_whole told came more (shown told ++ answers) (e more (λ k. both.0)) (f.1 answers))
 
-  pub composed_parts : (left3 : Option (List ℕ)) (all : Bool) → AreParts (left_at s w 0 place) left2 left3 mid new q all → AreParts (replay_of boxes) left left3 old new p all
+  pub composed_parts : (left3 : Option (List ℕ)) (all : Bool) → AreParts (left_at s w 0 place) left2 left3 mid new q all
+      → AreParts (replay_of boxes) left left3 old new p all
   composed_parts left3 all inner = λ bytes h.
       let r = read bytes h in
       let d = inner r.rest r.has_left in
@@ -115,7 +122,8 @@ printed_allowed whole first old new p q accepted f d = λ bytes h.
     let r = d bytes h in
     record { answers = r.answers; text = r.text; shows = r.shows; allowed = f (whole bytes r.answers).told r.allowed; verdict = r.verdict }
 
-pub parts_allowed : (whole : Whole) (first left old new : Option (List ℕ)) (p q : List PlainEntry → Type 0) (all : Bool) → ((told : List PlainEntry) → p told → q told) → AreParts whole first left old new p all → AreParts whole first left old new q all
+pub parts_allowed : (whole : Whole) (first left old new : Option (List ℕ)) (p q : List PlainEntry → Type 0) (all : Bool)
+    → ((told : List PlainEntry) → p told → q told) → AreParts whole first left old new p all → AreParts whole first left old new q all
 parts_allowed whole first left old new p q all f d = λ bytes h.
     let r = d bytes h in
     record {
@@ -129,10 +137,12 @@ parts_allowed whole first left old new p q all f d = λ bytes h.
 -- nothing was read or printed yet
 pub parts_none : (whole : Whole) (first old : Option (List ℕ)) (p : List PlainEntry → Type 0) (all : Bool) → p [] → AreParts whole first first old old p all
 parts_none whole first old p all none =
-    fars_part whole first first old old p p old whole [] all (λ bytes e. far_start whole bytes first old p e) none (λ _. nothing_appended old) (λ more later. front_begins old (whole more later))
+    fars_part whole first first old old p p old whole [] all (λ bytes e. far_start whole bytes first old p e) none (λ _. nothing_appended old)
+    (λ more later. front_begins old (whole more later))
 
 -- the settings are those of the world
-pub parts_settings : (s t : Settings) (w : World) (place : Place) (first left old new : Option (List ℕ)) (p : List PlainEntry → Type 0) (all : Bool) → s ≡ t → AreParts (left_at s w 0 place) first left old new p all → AreParts (left_at t w 0 place) first left old new p all
+pub parts_settings : (s t : Settings) (w : World) (place : Place) (first left old new : Option (List ℕ)) (p : List PlainEntry → Type 0) (all : Bool) → s ≡ t
+    → AreParts (left_at s w 0 place) first left old new p all → AreParts (left_at t w 0 place) first left old new p all
 parts_settings s t w place first left old new p all e d = subst (λ (x : Settings). AreParts (left_at x w 0 place) first left old new p all) e d
 
 pub printed_settings : (s t : Settings) (w : World) (place : Place) (first old new : Option (List ℕ)) (p : List PlainEntry → Type 0) (accepted : Bool) → s ≡ t → ArePrinted (left_at s w 0 place) first old new p accepted → ArePrinted (left_at t w 0 place) first old new p accepted
@@ -152,7 +162,8 @@ either_map f g (inl a) = inl (f a)
 either_map f g (inr b) = inr (g b)
 
 -- the rest of a front, where only a part of what was put in went out
-front_below : (old new : Option (List ℕ)) (before held : List ℕ) (told : List PlainEntry) (r : Replay) → before ≡ [] → Grows old new → IsFront r told (appended old before) (appended new held) → IsFront r told old new
+front_below : (old new : Option (List ℕ)) (before held : List ℕ) (told : List PlainEntry) (r : Replay) → before ≡ [] → Grows old new
+    → IsFront r told (appended old before) (appended new held) → IsFront r told old new
 front_below old new before held told r none g f = record {
   rest = f.rest;
   tells = f.tells;
@@ -160,7 +171,8 @@ front_below old new before held told r none g f = record {
 }
 
 -- what went out is a front; where `all` says so, nothing is held any more
-pub parts_below : (whole : Whole) (first left old new : Option (List ℕ)) (before held : List ℕ) (p : List PlainEntry → Type 0) (some all : Bool) → before ≡ [] → Grows old new → (all ≡ true → (some ≡ true) × (held ≡ []))
+pub parts_below : (whole : Whole) (first left old new : Option (List ℕ)) (before held : List ℕ) (p : List PlainEntry → Type 0) (some all : Bool) → before ≡ []
+    → Grows old new → (all ≡ true → (some ≡ true) × (held ≡ []))
     → AreParts whole first left (appended old before) (appended new held) p some → AreParts whole first left old new p all
 parts_below whole first left old new before held p some all none g out d = λ bytes h.
     let r = d bytes h in
@@ -174,7 +186,8 @@ parts_below whole first left old new before held p some all none g out d = λ by
         allowed = r.part.allowed;
         printed = λ k.
             let e = out k in
-            went_out old new new before held (flat_map line_text r.part.told) none (r.part.printed e.0) (nothing_appended new ∙ ap (λ (l : List ℕ). appended new l) (sym e.1));
+            went_out old new new before held (flat_map line_text r.part.told) none (r.part.printed e.0) (nothing_appended new
+            ∙ ap (λ (l : List ℕ). appended new l) (sym e.1));
         front = either_map
             (λ f. λ more later. front_below old new before held r.part.told _ none g (f more later))
             (λ f. (f.0, λ later. front_below old new before held r.part.told _ none g (f.1 later)))
@@ -183,14 +196,17 @@ parts_below whole first left old new before held p some all none g out d = λ by
     }
 
 -- and more of it went out in the end
-pub parts_written : (whole : Whole) (first left old mid new : Option (List ℕ)) (before held last : List ℕ) (p : List PlainEntry → Type 0) (some all : Bool) → before ≡ [] → Grows old mid → Grows mid new
-    → appended new last ≡ appended mid held → (all ≡ true → (some ≡ true) × (last ≡ [])) → AreParts whole first left (appended old before) (appended mid held) p some → AreParts whole first left old new p all
+pub parts_written : (whole : Whole) (first left old mid new : Option (List ℕ)) (before held last : List ℕ) (p : List PlainEntry → Type 0) (some all : Bool)
+    → before ≡ [] → Grows old mid → Grows mid new
+    → appended new last ≡ appended mid held → (all ≡ true → (some ≡ true) × (last ≡ []))
+    → AreParts whole first left (appended old before) (appended mid held) p some → AreParts whole first left old new p all
 parts_written whole first left old mid new before held last p some all none a b e out d =
     parts_below whole first left old new before last p some all none (grows_on _ _ _ a b) out
     (subst (λ (o : Option (List ℕ)). AreParts whole first left (appended old before) o p some) (sym e) d)
 
 -- all that was told needn't have been printed
-less : (whole : Whole) (first left old new : Option (List ℕ)) (p : List PlainEntry → Type 0) (all : Bool) → AreParts whole first left old new p all → AreParts whole first left old new p false
+less : (whole : Whole) (first left old new : Option (List ℕ)) (p : List PlainEntry → Type 0) (all : Bool) → AreParts whole first left old new p all
+    → AreParts whole first left old new p false
 less whole first left old new p all d = λ bytes h.
     let r = d bytes h in
     record {
@@ -206,7 +222,8 @@ pub parts_at : (r : Result Bool Stop) (stop : Stop) (whole : Whole) (first left 
 parts_at r stop whole first left old new p e d = subst (λ x. IfErr x (λ s. AreParts whole first left old new p (prints_all s))) e d
 
 -- whatever was answered, a front was printed
-pub parts_any : (r : Result Bool Stop) (whole : Whole) (first left old new : Option (List ℕ)) (p : List PlainEntry → Type 0) → OnOk r (AreParts whole first left old new p false)
+pub parts_any : (r : Result Bool Stop) (whole : Whole) (first left old new : Option (List ℕ)) (p : List PlainEntry → Type 0)
+    → OnOk r (AreParts whole first left old new p false)
     → IfErr r (λ stop. AreParts whole first left old new p (prints_all stop)) → AreParts whole first left old new p false
 parts_any (Ok accepted) whole first left old new p f d = f
 parts_any (Err stop) whole first left old new p f d = less whole first left old new p (prints_all stop) d

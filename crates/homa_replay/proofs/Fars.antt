@@ -97,7 +97,8 @@ module _ (whole : Whole) (bytes : List ℕ) (left old taken : Option (List ℕ))
   -- a front of what is due was printed, where some more bytes may have come
   front_by : (new : Option (List ℕ)) (due : Whole) (t : List PlainEntry) (extra : List ℕ) → (d : IsFar whole bytes left old taken p q due)
       → ((more : List ℕ) (later : List Answer) → IsFront (due (extra ++ more) (shown t ++ later)) t taken new)
-      → (more : List ℕ) (later : List Answer) → (d.read.ended ≡ true → extra ++ more ≡ []) → IsFront (whole ((d.read.came ++ extra) ++ more) (shown (d.told ++ t) ++ later)) (d.told ++ t) old new
+      → (more : List ℕ) (later : List Answer) → (d.read.ended ≡ true → extra ++ more ≡ [])
+      → IsFront (whole ((d.read.came ++ extra) ++ more) (shown (d.told ++ t) ++ later)) (d.told ++ t) old new
   front_by new due t extra d f more later k =
       let same = ap (λ (w : List Answer → Replay). w (shown t ++ later)) (d.read.same (extra ++ more) k) in
       front_of old new (d.told ++ t) (with_told d.told (due (extra ++ more) (shown t ++ later))) _
@@ -121,10 +122,13 @@ either_map f g (inr b) = inr (g b)
 
 module _ (whole : Whole) (bytes : List ℕ) (left left2 old taken : Option (List ℕ)) (p q : List PlainEntry → Type 0) where
   -- a front of what is due was printed, and then it stops
-  pub far_part : (new : Option (List ℕ)) (due : Whole) (t : List PlainEntry) (extra rest : List ℕ) (all : Bool) → (d : IsFar whole bytes left old taken p q due) → d.read.rest ≡ extra ++ rest → left2 ≡ Some rest → q t
-      → (all ≡ true → new ≡ appended taken (flat_map line_text t)) → ((more : List ℕ) (later : List Answer) → IsFront (due (extra ++ more) (shown t ++ later)) t taken new) → IsStopped whole bytes left2 old new p all
+  pub far_part : (new : Option (List ℕ)) (due : Whole) (t : List PlainEntry) (extra rest : List ℕ) (all : Bool)
+      → (d : IsFar whole bytes left old taken p q due) → d.read.rest ≡ extra ++ rest → left2 ≡ Some rest → q t
+      → (all ≡ true → new ≡ appended taken (flat_map line_text t))
+      → ((more : List ℕ) (later : List Answer) → IsFront (due (extra ++ more) (shown t ++ later)) t taken new) → IsStopped whole bytes left2 old new p all
   far_part new due t extra rest all d e h a put f =
-      let front : List ℕ → List Answer → Type 0 = λ more later. IsFront (whole ((d.read.came ++ extra) ++ more) (shown (d.told ++ t) ++ later)) (d.told ++ t) old new in
+      let front : List ℕ → List Answer
+      → Type 0 = λ more later. IsFront (whole ((d.read.came ++ extra) ++ more) (shown (d.told ++ t) ++ later)) (d.told ++ t) old new in
       record {
         came = d.read.came ++ extra;
         rest = rest;
@@ -135,7 +139,11 @@ module _ (whole : Whole) (bytes : List ℕ) (left left2 old taken : Option (List
           allowed = d.allowed t a;
           printed = λ k. printed_more old taken new d.told t d.printed (put k);
           front = either_map (λ g. g)
-              (λ g. (g.0, λ later. front_of old new (d.told ++ t) _ _ (ap (λ (l : List ℕ). whole l (shown (d.told ++ t) ++ later)) (append-nil (d.read.came ++ extra))) (g.1 later)))
+              (λ g. (
+                g.0,
+                λ later. front_of old new (d.told ++ t) _ _
+                    (ap (λ (l : List ℕ). whole l (shown (d.told ++ t) ++ later)) (append-nil (d.read.came ++ extra))) (g.1 later),
+              ))
               (front_either d.read.ended rest extra front (λ k. sym e ∙ d.read.nothing k)
               (λ more later k. front_by whole bytes left old taken p q new due t extra d f more later k));
         };
@@ -159,11 +167,14 @@ module _ (whole : Whole) (first left old taken : Option (List ℕ)) (p q : List 
 
   -- it stops where it is
   pub fars_part : (new : Option (List ℕ)) (due : Whole) (t : List PlainEntry) (all : Bool) → AreFar whole first left old taken p q due → q t
-      → (all ≡ true → new ≡ appended taken (flat_map line_text t)) → ((more : List ℕ) (later : List Answer) → IsFront (due more (shown t ++ later)) t taken new) → AreParts whole first left old new p all
-  fars_part new due t all d a put f = λ bytes e. let far = d bytes e in far_part whole bytes left left old taken p q new due t [] far.read.rest all far refl far.read.has_left a put f
+      → (all ≡ true → new ≡ appended taken (flat_map line_text t))
+      → ((more : List ℕ) (later : List Answer) → IsFront (due more (shown t ++ later)) t taken new) → AreParts whole first left old new p all
+  fars_part new due t all d a put f = λ bytes e. let far =
+      d bytes e in far_part whole bytes left left old taken p q new due t [] far.read.rest all far refl far.read.has_left a put f
 
   -- it stops after some bytes
-  pub fars_cut : (due : Whole) (left2 : Option (List ℕ)) (all : Bool) → AreFar whole first left old taken p q due → q [] → ((rest : List ℕ) → left ≡ Some rest → IsCut rest left2) → AreParts whole first left2 old taken p all
+  pub fars_cut : (due : Whole) (left2 : Option (List ℕ)) (all : Bool) → AreFar whole first left old taken p q due → q []
+      → ((rest : List ℕ) → left ≡ Some rest → IsCut rest left2) → AreParts whole first left2 old taken p all
   fars_cut due left2 all d none f = λ bytes e.
       let far = d bytes e in
       let cut = f far.read.rest far.read.has_left in

@@ -1,5 +1,6 @@
 -- The lines of a schedule, one after the other.
-use Rattle.std.proofs.Common.{◌≡◌, ◌≤◌, ℕ, ◌+◌, ◌*◌, Bool, true, false, Option, None, Some, Result, Ok, Err, List, [], ◌++◌, length, refl, sym, ap, ◌∙◌, subst, arith}
+use Rattle.std.proofs.Common.{◌≡◌, ◌≤◌, ℕ, ◌+◌, ◌*◌, Bool, true, false, Option, None, Some, Result, Ok, Err, List, [], ◌++◌, length, refl, sym, ap}
+use Rattle.std.proofs.Common.{◌∙◌, subst, arith}
 use Rattle.std.proofs.Math.Nat.{mul-le-mul_left}
 use Rattle.std.proofs.lemmas.List.{append-nil}
 use Rattle.homa_io.specs.Outside.{TookFront}
@@ -25,7 +26,7 @@ use Rattle.homa_script.specs.Script.{IsNext, IsInRange, IsOn}
 use Rattle.homa_script.specs.Script.{is_end as script_end}
 use Rattle.homa_plain.specs.Answers.{shown, answering}
 use Rattle.homa_replay.specs.Stream.{goes_on, ending, refused_line}
-use Rattle.homa_replay.specs.Lines.{IsFront, ArePlayed, AreRefused, AreCut}
+use Rattle.homa_replay.specs.Lines.{ArePlayed, AreRefused, AreCut}
 use Rattle.homa_replay.specs.Came.{given_of, line_events, is_end}
 use Rattle.homa_replay.specs.Far.{Whole, left_at, AreFar, AreParts}
 use Rattle.homa_replay.proofs.Streams.{line_begins, line_over}

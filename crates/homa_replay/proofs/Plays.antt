@@ -1,5 +1,6 @@
 -- Events that are played one after the other.
-use Rattle.std.proofs.Common.{◌≡◌, ℕ, ◌+◌, Bool, true, false, Option, List, [], ◌∷◌, ◌++◌, length, length-append, refl, sym, ap, ◌∙◌, subst, append_assoc, add-zero, arith}
+use Rattle.std.proofs.Common.{◌≡◌, ℕ, ◌+◌, Bool, false, Option, List, [], ◌∷◌, ◌++◌, length, length-append, refl, sym, ap, ◌∙◌, subst}
+use Rattle.std.proofs.Common.{append_assoc, add-zero, arith}
 use Rattle.std.specs.List.{flat_map}
 use Rattle.std.proofs.lemmas.List.{append-nil}
 use Rattle.std.proofs.lemmas.Grind.{flat_map-append}
@@ -42,7 +43,8 @@ pub front_begins : (old : Option (List ℕ)) (r : Replay) → IsFront r [] old o
 front_begins old r = record { rest = r.told; tells = refl; took = front_none old (text_of r) }
 
 -- the first entries were told, and a front of them was printed
-pub front_amid : (old new : Option (List ℕ)) (told : List PlainEntry) (r : Replay) → TookFront old new (flat_map line_text told) → IsFront (with_told told r) told old new
+pub front_amid : (old new : Option (List ℕ)) (told : List PlainEntry) (r : Replay) → TookFront old new (flat_map line_text told)
+    → IsFront (with_told told r) told old new
 front_amid old new told r f = record {
   rest = r.told;
   tells = refl;
@@ -50,11 +52,13 @@ front_amid old new told r f = record {
 }
 
 -- the first entries were printed, and a front of the rest
-pub front_behind : (old mid new : Option (List ℕ)) (told t : List PlainEntry) (r : Replay) → mid ≡ appended old (flat_map line_text told) → IsFront r t mid new → IsFront (with_told told r) (told ++ t) old new
+pub front_behind : (old mid new : Option (List ℕ)) (told t : List PlainEntry) (r : Replay) → mid ≡ appended old (flat_map line_text told)
+    → IsFront r t mid new → IsFront (with_told told r) (told ++ t) old new
 front_behind old mid new told t r e f = record {
   rest = f.rest;
   tells = ap (λ (l : List PlainEntry). told ++ l) f.tells ∙ sym (append_assoc told t f.rest);
-  took = front_same old new (flat_map line_text told ++ text_of r) _ (sym (text-with_told told r)) (front_after old mid new (flat_map line_text told) (text_of r) e f.took);
+  took = front_same old new (flat_map line_text told ++ text_of r) _ (sym (text-with_told told r))
+      (front_after old mid new (flat_map line_text told) (text_of r) e f.took);
 }
 
 -- ---- one event
@@ -95,7 +99,8 @@ module _ (s : Settings) (w : World) (old new : Option (List ℕ)) (before : List
     told = [];
     allowed = none;
     printed = λ _. sym h ∙ nothing_appended old;
-    front = λ events line rest steps later. subst (λ (o : Option (List ℕ)). IsFront (goes_on s (answering later w) events line (es ++ rest) steps) [] old o) h (front_begins old _);
+    front = λ events line rest steps later. subst (λ (o : Option (List ℕ)). IsFront (goes_on s (answering later w) events line (es ++ rest) steps) [] old o) h
+        (front_begins old _);
   }
 
   -- a write failed

@@ -38,7 +38,8 @@ module _ (s t : Settings) (w : World) (a b : List Happening) (st : World → Typ
   pub then_cut : (c es : List Happening) (all : Bool) → es ≡ (a ++ b) ++ c → ((v : World) → st v → AreCut t v b mid new q all) → AreCut s w es old new p all
   then_cut c es all k h =
       subst (λ (l : List Happening). AreCut s w l old new p all) (sym k)
-      (cut_wide s w (a ++ b) c old new p all (cut_more s w a b st old mid new p q first all (cut_at t s first.next mid new q e b all (h first.next first.stood))))
+      (cut_wide s w (a ++ b) c old new p all
+      (cut_more s w a b st old mid new p q first all (cut_at t s first.next mid new q e b all (h first.next first.stood))))
 
 -- what holds of a value, if there is one
 pub if_some : {A : Type 0} (o : Option A) (p q : A → Type 0) → IfSome o p → ((x : A) → p x → q x) → IfSome o q

@@ -38,7 +38,8 @@ pub(crate) fn play<P: Playing, K: Sink>(
         (P.allows world.old) fault)) }
     ensures real { IfOk result (λ r. IfSome r (λ fault. is_memory fault ≡ false)) }
     ensures cut { IfErr result (λ stop. (w : World) → P.stands world.old w
-        → AreCut (P.settings world.old) w (record { event = event.now; bytes = bytes.now } ∷ []) (K.taken sink.old) (K.taken sink.new) (P.allows world.old) (prints_all stop)) }
+        → AreCut (P.settings world.old) w (record { event = event.now; bytes = bytes.now } ∷ []) (K.taken sink.old) (K.taken sink.new) (P.allows world.old)
+        (prints_all stop)) }
     ensures settings { P.settings world.new ≡ P.settings world.old }
     ensures counted { P.events world.new ≤ P.events world.old + 1 }
     ensures write { IsErrOf result Stop.Write → HasRisen (K.faults sink.old) (K.faults sink.new) }

@@ -50,7 +50,8 @@ fn play_line<P: Playing, K: Sink>(
         (P.allows world.old) fault)) }
     ensures real { IfOk result (λ r. IfSome r (λ fault. is_memory fault ≡ false)) }
     ensures cut { IfErr result (λ stop. (w : World) → P.stands world.old w
-        → AreCut (P.settings world.old) w (events_of hosts (given_of next.now bytes.now)) (K.taken sink.old) (K.taken sink.new) (P.allows world.old) (prints_all stop)) }
+        → AreCut (P.settings world.old) w (events_of hosts (given_of next.now bytes.now)) (K.taken sink.old) (K.taken sink.new) (P.allows world.old)
+        (prints_all stop)) }
     ensures settings { P.settings world.new ≡ P.settings world.old }
     ensures counted { P.events world.new ≤ P.events world.old + line_events hosts next.now }
     ensures write { IsErrOf result Stop.Write → HasRisen (K.faults sink.old) (K.faults sink.new) }

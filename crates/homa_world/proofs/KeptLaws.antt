@@ -84,7 +84,8 @@ refused_by s w e bytes fault known r = record { refused = λ _ later. r later; m
   no : false ≡ true → ⊥
   no e = cc
 
-pub no_memory : (s : Settings) (w : PlainWorld) (e : Event) (bytes : List ℕ) → takes_memory e ≡ true → IsNotApplied s w (record { event = e; bytes = bytes }) fault.NoMemory
+pub no_memory : (s : Settings) (w : PlainWorld) (e : Event) (bytes : List ℕ) → takes_memory e ≡ true
+    → IsNotApplied s w (record { event = e; bytes = bytes }) fault.NoMemory
 no_memory s w e bytes other = record { refused = λ m. absurd (no m); memory = λ _. other } where
   no : true ≡ false → ⊥
   no e = cc

@@ -15,7 +15,13 @@ lines-init g c =
     let number : (reading c.args.lines.now).number ≡ 0 = ap (λ x. x.number) e in
     let read : (reading c.args.lines.now).read ≡ 0 = ap (λ x. x.read) e in
     record {
-      due = (nothing_seen, c.requires.follows, sym number, λ bytes k. (bytes, k, start_due (reading c.args.lines.now) bytes e), λ bytes k. start_so_far (reading c.args.lines.now) bytes _ e k);
+      due = (
+        nothing_seen,
+        c.requires.follows,
+        sym number,
+        λ bytes k. (bytes, k, start_due (reading c.args.lines.now) bytes e),
+        λ bytes k. start_so_far (reading c.args.lines.now) bytes _ e k,
+      );
       taken = taken_start _ (reading c.args.lines.now) e;
       counted = omega (arith, number, read);
       within = omega (arith, read);
@@ -34,7 +40,13 @@ lines-preserved g c =
     let t = rw c.in-Taken.is at (e.next i.due.0 i.due.1 (omega (arith, i.due.2, i.counted, i.within))) in
     let read = e.read c.in-Taken.is in
     record {
-      due = (t.w, t.follows, omega (arith, t.place, i.due.2, e.number, i.counted, i.within), λ bytes k. (let a = i.due.3 bytes k in let b = t.due a.0 a.1 in (b.0, b.1, a.2 ∙ b.2)), λ bytes k. t.so_far bytes (i.due.4 bytes k));
+      due = (
+        t.w,
+        t.follows,
+        omega (arith, t.place, i.due.2, e.number, i.counted, i.within),
+        λ bytes k. (let a = i.due.3 bytes k in let b = t.due a.0 a.1 in (b.0, b.1, a.2 ∙ b.2)),
+        λ bytes k. t.so_far bytes (i.due.4 bytes k),
+      );
       taken = taken_more _ _ _ _ _ _ (λ h. h c.in-Taken.is) i.taken e.took;
       counted = omega (arith, read.0, e.number, i.counted);
       within = read.1;

@@ -12,7 +12,10 @@ invariant-lines g l =
     let left = g.S.Source.left in
     let faults = g.S.Source.faults in
     record {
-      due : (v : View) × Follows v l.trace × (v.place ≡ (reading l.lines).number) × ((bytes : List ℕ) → left l.fn.source ≡ Some bytes → (rest : List ℕ) × (left l.source ≡ Some rest) × (verdict_of bytes ≡ verdict_next v (reading l.lines) rest)) × ((bytes : List ℕ) → left l.fn.source ≡ Some bytes → IsSoFar bytes (left l.source) (reading l.lines) v);
+      due : (v : View) × Follows v l.trace × (v.place ≡ (reading l.lines).number)
+          × ((bytes : List ℕ) → left l.fn.source ≡ Some bytes
+          → (rest : List ℕ) × (left l.source ≡ Some rest) × (verdict_of bytes ≡ verdict_next v (reading l.lines) rest))
+          × ((bytes : List ℕ) → left l.fn.source ≡ Some bytes → IsSoFar bytes (left l.source) (reading l.lines) v);
       taken : HasTaken (left l.fn.source) (left l.source) (reading l.lines);
       counted : (reading l.lines).number ≤ (reading l.lines).read;
       within : (reading l.lines).read ≤ 68719476736;

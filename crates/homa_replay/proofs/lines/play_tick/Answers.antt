@@ -9,7 +9,8 @@ pub returns-in_err-turned-clause-cut : goal.returns-in_err-turned-clause-cut
 returns-in_err-turned-clause-cut g c =
     let first = c.in_ok-answer.ensures.played (ap Ok (is_none c.in_ok-answer.answer (sym c.is_some.ensures ∙ c.if-is_some.false))) in
     err_if _ _ _ c.from_residual-in_err-turned.ensures.1
-    (λ w h. then_cut _ _ _ _ _ _ _ _ _ _ _ c.in_ok-answer.ensures.settings (first w h) [] (tick_of c.args.hosts) _ (sym (append-nil (tick_of c.args.hosts))) c.in_err-turned.ensures.cut)
+    (λ w h. then_cut _ _ _ _ _ _ _ _ _ _ _ c.in_ok-answer.ensures.settings (first w h) [] (tick_of c.args.hosts) _
+    (sym (append-nil (tick_of c.args.hosts))) c.in_err-turned.ensures.cut)
 
 pub returns-clause-played : goal.returns-clause-played
 returns-clause-played g c =

@@ -9,7 +9,8 @@ pub returns-in_err-answer-clause-cut : goal.returns-in_err-answer-clause-cut
 returns-in_err-answer-clause-cut g c =
     let l = c.loop-tick in
     err_if _ _ _ c.from_residual.ensures.1
-    (λ w h. then_cut _ _ _ _ _ _ _ _ _ _ _ l.invariant.settings (l.invariant.played w h) (ticks c.args.hosts (c.args.n - (l.tick + 1))) (ticks c.args.hosts c.args.n) _ (around_tick c.args.hosts l.tick c.args.n c.loop-tick-test.true) c.in_err-answer.ensures.cut)
+    (λ w h. then_cut _ _ _ _ _ _ _ _ _ _ _ l.invariant.settings (l.invariant.played w h) (ticks c.args.hosts (c.args.n - (l.tick + 1)))
+    (ticks c.args.hosts c.args.n) _ (around_tick c.args.hosts l.tick c.args.n c.loop-tick-test.true) c.in_err-answer.ensures.cut)
 
 pub returns-then-is_some-clause-refused : goal.returns-then-is_some-clause-refused
 returns-then-is_some-clause-refused g c =

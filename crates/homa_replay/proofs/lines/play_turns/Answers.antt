@@ -9,7 +9,8 @@ pub returns-in_err-answer-clause-cut : goal.returns-in_err-answer-clause-cut
 returns-in_err-answer-clause-cut g c =
     let l = c.loop-host in
     err_if _ _ _ c.from_residual.ensures.1
-    (λ w h. then_cut _ _ _ _ _ _ _ _ _ _ _ l.invariant.settings (l.invariant.played w h) (turns_of (l.host + 1) (c.args.hosts - (l.host + 1))) (turns_of 0 c.args.hosts) _ (around_turn l.host c.args.hosts c.loop-host-test.true) c.in_err-answer.ensures.cut)
+    (λ w h. then_cut _ _ _ _ _ _ _ _ _ _ _ l.invariant.settings (l.invariant.played w h) (turns_of (l.host + 1) (c.args.hosts - (l.host + 1)))
+    (turns_of 0 c.args.hosts) _ (around_turn l.host c.args.hosts c.loop-host-test.true) c.in_err-answer.ensures.cut)
 
 pub returns-then-is_some-clause-refused : goal.returns-then-is_some-clause-refused
 returns-then-is_some-clause-refused g c =

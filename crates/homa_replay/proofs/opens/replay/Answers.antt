@@ -7,4 +7,5 @@ use Rattle.homa_replay.proofs.opens.replay.Goals as goal
 pub returns-in_err-room-clause-part : goal.returns-in_err-room-clause-part
 returns-in_err-room-clause-part g c =
     let o = g.P.Opens in
-    err_if _ _ _ c.from_residual.ensures.1 (parts_none (replay_of (o.many c.args.boxes)) _ _ (o.are_allowed c.args.boxes) _ (g.met.P.Opens.unasked c.args.boxes [] refl))
+    err_if _ _ _ c.from_residual.ensures.1
+    (parts_none (replay_of (o.many c.args.boxes)) _ _ (o.are_allowed c.args.boxes) _ (g.met.P.Opens.unasked c.args.boxes [] refl))

@@ -9,13 +9,15 @@ use Rattle.homa_replay.proofs.opens.replay_held.Goals as goal
 pub returns-in_err-reader-clause-part : goal.returns-in_err-reader-clause-part
 returns-in_err-reader-clause-part g c =
     let o = g.P.Opens in
-    err_if _ _ _ c.from_residual.ensures.1 (parts_none (replay_of (o.many c.args.boxes)) _ _ (o.are_allowed c.args.boxes) _ (g.met.P.Opens.unasked c.args.boxes [] refl))
+    err_if _ _ _ c.from_residual.ensures.1
+    (parts_none (replay_of (o.many c.args.boxes)) _ _ (o.are_allowed c.args.boxes) _ (g.met.P.Opens.unasked c.args.boxes [] refl))
 
 pub returns-in_err-settings-clause-part : goal.returns-in_err-settings-clause-part
 returns-in_err-settings-clause-part g c =
     let o = g.P.Opens in
     err_if _ _ _ c.from_residual-in_err-settings.ensures.1
-    (parts_allowed (replay_of (o.many c.args.boxes)) _ _ _ _ is_unasked (o.are_allowed c.args.boxes) _ (λ told h. g.met.P.Opens.unasked c.args.boxes told h) (c.in_err-settings.ensures.part (o.many c.args.boxes)))
+    (parts_allowed (replay_of (o.many c.args.boxes)) _ _ _ _ is_unasked (o.are_allowed c.args.boxes) _ (λ told h. g.met.P.Opens.unasked c.args.boxes told h)
+    (c.in_err-settings.ensures.part (o.many c.args.boxes)))
 
 pub returns-in_default-clause-printed : goal.returns-in_default-clause-printed
 returns-in_default-clause-printed g c =
@@ -25,7 +27,8 @@ returns-in_default-clause-printed g c =
 pub returns-in_default-clause-front : goal.returns-in_default-clause-front
 returns-in_default-clause-front g c =
     let o = g.P.Opens in
-    parts_allowed (replay_of (o.many c.args.boxes)) _ _ _ _ is_unasked (o.are_allowed c.args.boxes) false (λ told h. g.met.P.Opens.unasked c.args.boxes told h) (c.in_ok-settings.ensures.front (ap Ok c.in_default.is) (o.many c.args.boxes))
+    parts_allowed (replay_of (o.many c.args.boxes)) _ _ _ _ is_unasked (o.are_allowed c.args.boxes) false
+    (λ told h. g.met.P.Opens.unasked c.args.boxes told h) (c.in_ok-settings.ensures.front (ap Ok c.in_default.is) (o.many c.args.boxes))
 
 pub returns-in_err-world-clause-part : goal.returns-in_err-world-clause-part
 returns-in_err-world-clause-part g c =
@@ -43,8 +46,10 @@ returns-in_err-accepted-clause-part g c =
     let line = rw c.in-Some.is at c.in_ok-settings.ensures.line in
     let w = c.in_ok-world.ensures.opened in
     err_if _ _ _ c.from_residual-in_err-accepted.ensures.1
-    (composed_parts (o.many c.args.boxes) _ _ _ _ _ c.in-Some.settings w.first c.begin.new.reader.place (o.are_allowed c.args.boxes) (g.P.Playing.allows c.in_ok-world.world) read line w.is_first c.in_ok-world.ensures.allows _ _
-    (parts_settings _ c.in-Some.settings w.first c.begin.new.reader.place _ _ _ _ (g.P.Playing.allows c.in_ok-world.world) _ c.in_ok-world.ensures.settings (c.in_err-accepted.ensures.part w.first w.stood)))
+    (composed_parts (o.many c.args.boxes) _ _ _ _ _ c.in-Some.settings w.first c.begin.new.reader.place (o.are_allowed c.args.boxes)
+    (g.P.Playing.allows c.in_ok-world.world) read line w.is_first c.in_ok-world.ensures.allows _ _
+    (parts_settings _ c.in-Some.settings w.first c.begin.new.reader.place _ _ _ _ (g.P.Playing.allows c.in_ok-world.world) _ c.in_ok-world.ensures.settings
+    (c.in_err-accepted.ensures.part w.first w.stood)))
 
 pub returns-clause-printed : goal.returns-clause-printed
 returns-clause-printed g c =
@@ -67,5 +72,7 @@ returns-clause-front g c =
     let read = rw c.in-Some.is at c.in_ok-settings.ensures.opened in
     let line = rw c.in-Some.is at c.in_ok-settings.ensures.line in
     let w = c.in_ok-world.ensures.opened in
-    composed_parts (o.many c.args.boxes) _ _ _ _ _ c.in-Some.settings w.first c.begin.new.reader.place (o.are_allowed c.args.boxes) (g.P.Playing.allows c.in_ok-world.world) read line w.is_first c.in_ok-world.ensures.allows _ false
-    (parts_settings _ c.in-Some.settings w.first c.begin.new.reader.place _ _ _ _ (g.P.Playing.allows c.in_ok-world.world) false c.in_ok-world.ensures.settings (c.in_ok-accepted.ensures.front w.first w.stood))
+    composed_parts (o.many c.args.boxes) _ _ _ _ _ c.in-Some.settings w.first c.begin.new.reader.place (o.are_allowed c.args.boxes)
+    (g.P.Playing.allows c.in_ok-world.world) read line w.is_first c.in_ok-world.ensures.allows _ false
+    (parts_settings _ c.in-Some.settings w.first c.begin.new.reader.place _ _ _ _
+    (g.P.Playing.allows c.in_ok-world.world) false c.in_ok-world.ensures.settings (c.in_ok-accepted.ensures.front w.first w.stood))

@@ -9,7 +9,8 @@ returns-in_err-finish-clause-part g c =
     let o = g.P.Opens in
     let e = c.replay_held-answer.ensures in
     err_if _ Write _ (stop_of _ _ _ c.from_residual.ensures.1 c.in_err-finish.ensures.stop)
-    (parts_written (replay_of (o.many c.args.boxes)) _ _ _ _ _ _ _ _ (o.are_allowed c.args.boxes) _ _ c.requires.none e.same_sink.1 c.finish.ensures.grows c.finish.ensures.whole (λ k. absurd cc)
+    (parts_written (replay_of (o.many c.args.boxes)) _ _ _ _ _ _ _ _
+    (o.are_allowed c.args.boxes) _ _ c.requires.none e.same_sink.1 c.finish.ensures.grows c.finish.ensures.whole (λ k. absurd cc)
     (parts_any _ (replay_of (o.many c.args.boxes)) _ _ _ _ (o.are_allowed c.args.boxes) e.front e.part))
 
 pub returns-in_err-accepted-clause-part : goal.returns-in_err-accepted-clause-part
@@ -17,7 +18,8 @@ returns-in_err-accepted-clause-part g c =
     let o = g.P.Opens in
     let e = c.replay_held-answer.ensures in
     err_if _ _ _ c.from_residual-in_err-accepted.ensures.1
-    (parts_written (replay_of (o.many c.args.boxes)) _ _ _ _ _ _ _ _ (o.are_allowed c.args.boxes) _ _ c.requires.none e.same_sink.1 c.finish.ensures.grows c.finish.ensures.whole
+    (parts_written (replay_of (o.many c.args.boxes)) _ _ _ _ _ _ _ _
+    (o.are_allowed c.args.boxes) _ _ c.requires.none e.same_sink.1 c.finish.ensures.grows c.finish.ensures.whole
     (λ k. (k, c.in_ok-finish.ensures.none (not_written _ _ c.in_err-accepted.was k)))
     (parts_at _ _ (replay_of (o.many c.args.boxes)) _ _ _ _ (o.are_allowed c.args.boxes) c.in_err-accepted.was e.part))
 

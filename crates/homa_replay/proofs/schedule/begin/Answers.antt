@@ -16,14 +16,16 @@ returns-in_err-put_entry-in-Ok-clause-part g c =
     let limit = ap (λ (r : Script). r.place.limit) c.requires in
     let read = rw c.in-Ok.is at c.in_ok-settings.ensures.settings in
     err_if _ _ _ c.from_residual-in_err-put_entry-in-Ok.ensures.1
-    (λ boxes. settings_cut boxes _ _ _ _ c.in_ok-settings.ensures.taken _ c.in-Ok.settings c.read_settings.new.reader.place false (opened_at _ c.read_settings.new.reader.place _ _ c.in-Ok.settings limit read) (λ k. absurd cc) c.in_err-put_entry-in-Ok.ensures.err)
+    (λ boxes. settings_cut boxes _ _ _ _ c.in_ok-settings.ensures.taken _ c.in-Ok.settings c.read_settings.new.reader.place false
+    (opened_at _ c.read_settings.new.reader.place _ _ c.in-Ok.settings limit read) (λ k. absurd cc) c.in_err-put_entry-in-Ok.ensures.err)
 
 pub returns-in_err-put_refused-in-Err-clause-part : goal.returns-in_err-put_refused-in-Err-clause-part
 returns-in_err-put_refused-in-Err-clause-part g c =
     let limit = ap (λ (r : Script). r.place.limit) c.requires in
     let read = rw c.in-Err.is at c.in_ok-settings.ensures.settings in
     err_if _ Write _ (stop_of _ _ _ c.from_residual-in_err-put_refused-in-Err.ensures.1 c.in_err-put_refused-in-Err.ensures.stop)
-    (λ boxes. begin_refused_cut boxes _ _ _ _ c.in_ok-settings.ensures.taken _ c.line.result c.in-Err.fault (unopened_at _ c.line.result c.read_settings.new.reader.place _ _ c.in-Err.fault limit c.line.ensures read) c.in_err-put_refused-in-Err.ensures.err)
+    (λ boxes. begin_refused_cut boxes _ _ _ _ c.in_ok-settings.ensures.taken _ c.line.result c.in-Err.fault
+    (unopened_at _ c.line.result c.read_settings.new.reader.place _ _ c.in-Err.fault limit c.line.ensures read) c.in_err-put_refused-in-Err.ensures.err)
 
 pub returns-in_ok-put_refused-in-Err-clause-refused : goal.returns-in_ok-put_refused-in-Err-clause-refused
 returns-in_ok-put_refused-in-Err-clause-refused g c =

@@ -36,7 +36,8 @@ returns-in_err-next-clause-part g c =
     let s = g.P.Playing.settings c.args.world.now in
     err_if _ _ _ c.from_residual.ensures.1
     (λ w h. let d = l.invariant.due w h in
-    at_cut (left_at s w 0 c.args.reader.now.place) _ _ _ _ _ _ _ _ s d.0 l.events l.reader.place c.read_next.new.reader.place [] c.in_err-next.ensures.taken d.2 _ (g.met.P.Playing.allows_none l.world) c.in_err-next.ensures.cut)
+    at_cut (left_at s w 0 c.args.reader.now.place) _ _ _ _ _ _ _ _ s d.0 l.events l.reader.place c.read_next.new.reader.place [] c.in_err-next.ensures.taken
+    d.2 _ (g.met.P.Playing.allows_none l.world) c.in_err-next.ensures.cut)
 
 pub returns-in_err-put_refused-in-Refused-clause-part : goal.returns-in_err-put_refused-in-Refused-clause-part
 returns-in_err-put_refused-in-Refused-clause-part g c =

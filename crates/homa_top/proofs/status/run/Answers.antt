@@ -35,4 +35,7 @@ pub returns-in-Ok-false-clause-laws : goal.returns-in-Ok-false-clause-laws
 returns-in-Ok-false-clause-laws g c = λ _ _. lawful (length c.args.services.items) c.requires.at_most (g.S.Source.left c.args.source.now) (g.K.Sink.taken c.args.sink.now) (g.K.Sink.taken c.replay.new.sink) _ _ c.in-Ok-false.ensures.printed
 
 pub returns-in-Err-clause-front : goal.returns-in-Err-clause-front
-returns-in-Err-clause-front g c = λ _ _. subst (λ b. AreParts (replay_of (length c.args.services.items)) (g.S.Source.left c.args.source.now) (g.S.Source.left c.replay.new.source) (g.K.Sink.taken c.args.sink.now) (g.K.Sink.taken c.replay.new.sink) (AreAllowed g.V.Service.served g.V.Service.allows c.args.services.items) b) (prints_same c.in-Err.stop ∙ ap prints_all (sym c.status_of.ensures)) c.in-Err.ensures.part
+returns-in-Err-clause-front g c =
+    λ _ _. subst (λ b. AreParts (replay_of (length c.args.services.items)) (g.S.Source.left c.args.source.now) (g.S.Source.left c.replay.new.source)
+    (g.K.Sink.taken c.args.sink.now) (g.K.Sink.taken c.replay.new.sink) (AreAllowed g.V.Service.served g.V.Service.allows c.args.services.items) b)
+    (prints_same c.in-Err.stop ∙ ap prints_all (sym c.status_of.ensures)) c.in-Err.ensures.part
