@@ -76,11 +76,13 @@ impl DrivenHost {
           whole = [];
         }) }
     {
+        let out = Outbox::new(alloc)?;
+        let scratch = Scratch::new(alloc)?;
         Ok(DrivenHost {
             host: Host::open_at(alloc, id, inc, last, settings)?,
             suite: Suite::new(),
-            out: Outbox::new(alloc)?,
-            scratch: Scratch::new(alloc)?,
+            out,
+            scratch,
             id,
             hosts: settings.hosts,
             steps: 0,

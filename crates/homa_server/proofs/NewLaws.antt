@@ -1,6 +1,6 @@
 -- A packet of a call that has no row.
 use Rattle.std.proofs.Common.{◌≡◌, ◌≤◌, ◌+◌, ℕ, true, false, refl, sym, ap, subst, ◌∙◌, arith, Option, Some, None, List, [], ◌∷◌}
-use Rattle.std.specs.Option.{option_map, option_map_or, option_and_then}
+use Rattle.std.specs.Option.{option_map, option_map_or, option_and_then, is_some}
 use Rattle.std.proofs.lemmas.Bool.{true≢false, le-leb}
 use Rattle.plain_sets.specs.Maps.{get, insert, len}
 use Rattle.homa_plain.specs.declared.id.CallId.{CallId}
@@ -112,6 +112,7 @@ module _ (t : Servers) (id : CallId) (none : get t.rows id ≡ None) where
           did = answered t.rows None [] (server_none pool') (ap (λ (o : Option (Placed HeldServer)). option_map_or (λ (x : Placed HeldServer). response_in x.row.state) o []) none) did;
           ran = no_run answer (λ hold. allowed told (response_at t.rows id) hold) silent;
           slot = subst (λ (o : Option ℕ). IsSlotOf o answer) (sym (ap (option_map (λ (x : Placed HeldServer). x.place)) none)) here;
+          named = λ some. absurd (true≢false (sym some ∙ ap is_some none));
           same = λ none. (refl, idle);
           said = said;
           moved = server_moved t t.rows pool pool' id _ are (subst (λ (o : Option Part). Moves pool o pool' o) (sym request_none) moves) (changed-none t.rows id) refl;
@@ -142,6 +143,7 @@ module _ (t : Servers) (id : CallId) (none : get t.rows id ≡ None) where
                 did = answered rows (Some (seen_server pool' row)) (response_in row.state) (ap (option_map (λ (x : Placed HeldServer). seen_server pool' x.row)) row_new) response did;
                 ran = subst (λ (bytes : List ℕ). IfRan answer (λ hold. allowed told bytes hold)) (sym response) ran;
                 slot = subst (λ (o : Option ℕ). IsSlotOf o answer) (sym (ap (option_map (λ (x : Placed HeldServer). x.place)) row_new)) here;
+                named = λ some. absurd (true≢false (sym some ∙ ap is_some none));
                 same = λ idle. absurd (named idle);
                 said = said;
                 moved = server_moved t rows pool pool' id _ are moves_new (changed-new t.rows id _ none) refl;

@@ -1,6 +1,6 @@
 -- A packet of a call that has a row.
 use Rattle.std.proofs.Common.{◌≡◌, ℕ, inl, inr, true, sym, ap, subst, ◌∙◌, Option, None, Some, List, [], Result, Ok, Err}
-use Rattle.std.specs.Option.{option_map_or}
+use Rattle.std.specs.Option.{option_map_or, option_and_then}
 use Rattle.std.specs.Result.{IfOk, OnErr}
 use Rattle.plain_sets.specs.Maps.{get, insert}
 use Rattle.plain_sets.proofs.MapLaws.{same_map}
@@ -19,15 +19,15 @@ use Rattle.host_places.proofs.PlacedLaws.{one_call, set_at-insert, get-insert_he
 use Rattle.host_incoming.specs.Pooled.{Moves, AreIn}
 use Rattle.homa_server.specs.Held.{HeldServer, seen_state, seen_server, state_part, response_in}
 use Rattle.host_incoming.specs.Pieces.{piece_in, moment_with}
-use Rattle.homa_server.specs.Answers.{IsAnswered, IsAnswerBody, IsReply, IsSlotOf, slot_in, IfRan, IfSaid, served_of, runs_said}
+use Rattle.homa_server.specs.Answers.{IsAnswered, IsAnswerBody, IsReply, IsSlotOf, slot_in, slot_if, is_for, IfRan, IfSaid, served_of, runs_said}
 use Rattle.homa_server.specs.Table.{Servers, ServerRows, Served, packet_of, request_at, response_at, server_at, server_moment}
 use Rattle.homa_server.specs.declared.answers.ServerDid.{ServerDid}
 use Rattle.homa_server.proofs.StandLaws.{server_is, new_is, slot_new, server_new, moved_new}
 
 -- facts of a call that succeeds, put together
-pub if_ok_all : {T E : Type 0} (r : Result T E) (A B C D F G Q : T → Type 0) → IfOk r A → IfOk r B → IfOk r C → IfOk r D → IfOk r F → IfOk r G → ((t : T) → A t → B t → C t → D t → F t → G t → Q t) → IfOk r Q
-if_ok_all (Ok t) A B C D F G Q a b c d f g h = h t a b c d f g
-if_ok_all (Err e) A B C D F G Q a b c d f g h = tt
+pub if_ok_all : {T E : Type 0} (r : Result T E) (A B C D F G N Q : T → Type 0) → IfOk r A → IfOk r B → IfOk r C → IfOk r D → IfOk r F → IfOk r G → IfOk r N → ((t : T) → A t → B t → C t → D t → F t → G t → N t → Q t) → IfOk r Q
+if_ok_all (Ok t) A B C D F G N Q a b c d f g n h = h t a b c d f g n
+if_ok_all (Err e) A B C D F G N Q a b c d f g n h = tt
 
 -- and of one that fails
 pub on_err_so : {T E : Type 0} (r : Result T E) (P Q : Type 0) → OnErr r P → (P → Q) → OnErr r Q
@@ -73,10 +73,10 @@ module _ (room : ℕ) (rows : ServerRows) (slot : ℕ) (placed : ArePlaced room 
       pub served_at : (told : List ℕ) (allowed : List ℕ → List ℕ → ℕ → Type 0) (answer : ServerDid)
           → ((free n : ℕ) → let m = moment_with host now order free n in
           IsAnswered s m id (piece_in body payload) (λ a. row_gets s m id body payload a (seen_server pool r) (seen_state pool r.state)) (Some (seen_server pool' after)) (response_in after.state) told answer)
-          → IsSlotOf (Some slot) answer → IfSaid answer IsAnswerBody → (slot_in answer ≡ None → (after ≡ r) × (pool' ≡ pool)) → IfRan answer (λ hold. allowed told (response_in after.state) hold)
+          → IsSlotOf (Some slot) answer → slot_in answer ≡ slot_if (is_for body r.state) slot → IfSaid answer IsAnswerBody → (slot_in answer ≡ None → (after ≡ r) × (pool' ≡ pool)) → IfRan answer (λ hold. allowed told (response_in after.state) hold)
           → Served v pool (packet_of id body payload role server inc at level) now order (record { host = host; settings = s; rows = w }) pool' told allowed answer
       unfolding server_gets
-      served_at told allowed answer did here said idle ran =
+      served_at told allowed answer did here named said idle ran =
           let m = server_moment v now order pool id in
           record {
             did = λ a reply.
@@ -85,6 +85,7 @@ module _ (room : ℕ) (rows : ServerRows) (slot : ℕ) (placed : ArePlaced room 
                 ∙ ap (λ (o : Option ServerRow). served_of s m id (piece_in body payload) o told a answer) (sym (server_new room rows slot placed host s id r stands pool pool' after are moves));
             ran = subst (λ (bytes : List ℕ). IfRan answer (λ hold. allowed told bytes hold)) (sym response_new) ran;
             slot = subst (λ (o : Option ℕ). IsSlotOf o answer) (sym (slot_new room rows slot placed host s id r stands after)) here;
+            named = λ _. named ∙ sym (ap (option_and_then (λ (x : Placed HeldServer). slot_if (is_for body x.row.state) x.place)) stands);
             same = λ none. (
               ap (λ (x : HeldServer). record { host = host; settings = s; rows = set_at rows slot x }) (idle none).0
                   ∙ ap (λ (m : ServerRows). record { host = host; settings = s; rows = m }) new-same,

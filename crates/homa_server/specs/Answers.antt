@@ -1,5 +1,5 @@
 -- What a server's answers say of the plain rules.
-use Rattle.std.specs.Prelude.{◌≡◌, ◌+◌, ◌-◌, ◌==◌, ◌<◌, ◌≤◌, IsSome, if◌then◌else◌, ℕ, Bool, true, false, Option, Some, None, List, [], ◌∷◌}
+use Rattle.std.specs.Prelude.{◌≡◌, ◌+◌, ◌-◌, ◌==◌, ◌&&◌, ◌||◌, ◌<◌, ◌≤◌, not, IsSome, if◌then◌else◌, ℕ, Bool, true, false, Option, Some, None, List, [], ◌∷◌}
 use Rattle.homa_plain.specs.declared.id.CallId.{CallId}
 use Rattle.homa_plain.specs.declared.packet.Body.{Body}
 use Rattle.homa_plain.specs.declared.packet.Body.TheVariants as body
@@ -16,6 +16,7 @@ use Rattle.homa_plain.specs.Timers.{state_deadline}
 use Rattle.homa_plain.specs.Sending.{state_sends}
 use Rattle.msg_pool.specs.Pool.{Pool}
 use Rattle.host_incoming.specs.Pooled.{IsInPool}
+use Rattle.homa_in.specs.Part.{Part}
 use Rattle.homa_server.specs.Held.{HeldState, HeldServer, Arriving, Keeping, Answering, Gone, state_part, seen_state, seen_server}
 use Rattle.host_incoming.specs.Pieces.{first_version, size_in, opening_if}
 use Rattle.host_incoming.specs.Sends.{emits, is_sent}
@@ -25,6 +26,40 @@ use Rattle.homa_server.specs.declared.answers.ServerAct.{ServerAct}
 use Rattle.homa_server.specs.declared.answers.ServerAct.TheVariants as act
 
 -- ---- packets
+
+-- whether it is a piece of a message
+abbrev pub is_data : Body → Bool
+is_data (body.Data size offset version service ack) = true
+is_data what = false
+
+-- whether it asks for bytes again
+abbrev pub is_resend : Body → Bool
+is_resend (body.Resend from to prio) = true
+is_resend what = false
+
+-- whether it says that calls are over
+abbrev pub is_ack : Body → Bool
+is_ack (body.Ack more) = true
+is_ack what = false
+
+-- whether it is for a request that arrives: a piece of it, RESEND or BUSY
+abbrev pub is_for_request : ℕ → Part → Body → Bool
+is_for_request service part (body.Data size offset version number ack) = part.length == size && service == number
+is_for_request service part (body.Resend from to prio) = true
+is_for_request service part body.Busy = true
+is_for_request service part what = false
+
+-- whether it is for a row in this state: a response that is held back takes RESEND alone, one that goes out all but ACK, and a
+-- tombstone DATA and RESEND
+abbrev pub is_for : Body → HeldState → Bool
+is_for what (Arriving service part base count) = is_for_request service part what
+is_for what (Keeping response release) = is_resend what
+is_for what (Answering response out order base count) = not (is_ack what)
+is_for what (Gone until) = is_data what || is_resend what
+
+-- the row's slot, where the packet is for it
+abbrev pub slot_if : Bool → ℕ → Option ℕ
+slot_if is slot = if is then Some slot else None
 
 -- the service that a piece is for
 abbrev pub service_in : Option Piece → ℕ
@@ -210,11 +245,6 @@ abbrev pub IsAsking : Body → Type 0
 IsAsking (body.Grant offset prio) = prio ≤ 7
 IsAsking (body.Resend from to prio) = (from < to) × (prio ≤ 7)
 IsAsking what = Unit {0}
-
--- whether it is a piece of a message
-abbrev pub is_data : Body → Bool
-is_data (body.Data size offset version service ack) = true
-is_data what = false
 
 -- ---- facts
 

@@ -1,5 +1,5 @@
 -- The table of the calls that a host serves, and what its calls do.
-use Rattle.std.specs.Prelude.{◌≡◌, ◌+◌, ℕ, Option, None, List, [], refl}
+use Rattle.std.specs.Prelude.{◌≡◌, ◌+◌, ℕ, Option, None, IsSome, List, [], refl}
 use Rattle.std.specs.Option.{option_map, option_map_or, option_and_then}
 use Rattle.std.specs.Coded.{Coded, code_by, coded×}
 use Rattle.plain_sets.specs.Maps.{get, len}
@@ -22,7 +22,7 @@ use Rattle.host_places.specs.Mapped.{mapped}
 use Rattle.host_places.specs.Placed.{Placed, Table, Changed, rows_code}
 use Rattle.homa_server.specs.Held.{HeldServer, server_code, seen_server, state_part, response_in}
 use Rattle.host_incoming.specs.Pieces.{piece_in, moment_with}
-use Rattle.homa_server.specs.Answers.{IsAnswered, IsAnswerBody, IsSlotOf, slot_in, IfRan, IfSaid}
+use Rattle.homa_server.specs.Answers.{IsAnswered, IsAnswerBody, IsSlotOf, slot_in, slot_if, is_for, IfRan, IfSaid}
 use Rattle.homa_server.specs.declared.answers.ServerDid.{ServerDid}
 
 -- the rows of a server at their places, by their calls
@@ -84,14 +84,20 @@ server_moment t now order pool id = moment_with t.host now order (free_pages poo
 abbrev pub packet_of : CallId → Body → List ℕ → Role → HostId → ℕ → ℕ → ℕ → Packet
 packet_of id what payload role server inc at level = record { role = role; id = id; server = server; inc = inc; at = at; level = level; body = what; payload = payload }
 
+-- the place of the row that a packet is for, if there is one
+abbrev pub slot_for : ServerRows → Packet → Option ℕ
+slot_for rows p = option_and_then (λ (x : Placed HeldServer). slot_if (is_for p.body x.row.state) x.place) (get rows p.id)
+
 -- A packet of a client was taken by the table: for each answer of the service that is the response in the row, if the
--- service ran, the plain rule did what is answered. Where the service ran, it was allowed to answer so.
+-- service ran, the plain rule did what is answered. Where the service ran, it was allowed to answer so. Where the call has
+-- a row, the answer names its place exactly if the packet is for it, and else nothing changed.
 pub record Served (old : Servers) (pool : Pool) (p : Packet) (now order : ℕ) (new : Servers) (pool' : Pool) (told : List ℕ) (allowed : List ℕ → List ℕ → ℕ → Type 0) (answer : ServerDid) : Type 0 where
   pub did : let m = server_moment old now order pool p.id in
       IsAnswered old.settings m p.id (piece_in p.body p.payload) (λ (a : Answer). server_gets old.settings m p a (server_at pool old.rows p.id))
       (server_at pool' new.rows p.id) (response_at new.rows p.id) told answer
   pub ran : IfRan answer (λ hold. allowed told (response_at new.rows p.id) hold)
   pub slot : IsSlotOf (slot_at new.rows p.id) answer
+  pub named : IsSome (get old.rows p.id) → slot_in answer ≡ slot_for old.rows p
   pub same : slot_in answer ≡ None → (new ≡ old) × (pool' ≡ pool)
   pub said : IfSaid answer IsAnswerBody
   pub moved : ServerMoved p.id old pool new pool' (server_at pool' new.rows p.id)

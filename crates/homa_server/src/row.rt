@@ -1,6 +1,6 @@
 // A call at its server.
-ghost use Rattle.std.specs.Prelude.{◌≡◌, ℕ, List, ◌+◌, ◌==◌, ◌<◌, ◌≤◌, ◌^◌, length, true, false, Some, None, IfSome, IsSome, IfOk, OnOk, OnErr};
-ghost use Rattle.std.specs.Prelude.{option_copied, if◌then◌else◌, IfNone};
+ghost use Rattle.std.specs.Prelude.{◌≡◌, ℕ, List, ◌+◌, ◌==◌, ◌&&◌, ◌||◌, not, ◌<◌, ◌≤◌, ◌^◌, length, true, false, Some, None, IfSome, IsSome};
+ghost use Rattle.std.specs.Prelude.{IfOk, OnOk, OnErr, option_copied, if◌then◌else◌, IfNone};
 ghost use Rattle.homa_plain.specs.declared.id.CallId.{CallId};
 ghost use Rattle.homa_plain.specs.declared.id.HostId.{HostId};
 ghost use Rattle.homa_plain.specs.Settings.{IsValid};
@@ -21,8 +21,9 @@ ghost use Rattle.homa_server.specs.Held.{HeldServer, HeldState, Arriving, Keepin
 ghost use Rattle.homa_server.specs.Held.{is_keeping, is_answering, IsKept, state_part, state_response, response_in, seen_state, seen_server};
 ghost use Rattle.host_incoming.specs.Pieces.{piece_in, IsFit, moment_with};
 ghost use Rattle.host_incoming.specs.Sends.{IsAffordable, IfSent};
-ghost use Rattle.homa_server.specs.Answers.{IsAnswered, HasTimer, IsGrantable, after_act, IfRan, has_run, IsSlotOf, slot_in, service_in, runs_said};
-ghost use Rattle.homa_server.specs.Answers.{acked_of, acted_of, goes, IfSaid, IsAnswerBody, IfResend, IsAsking, state_emits, server_sends, out_facts};
+ghost use Rattle.homa_server.specs.Answers.{IsAnswered, HasTimer, IsGrantable, after_act, IfRan, has_run, IsSlotOf, slot_in, slot_if, is_for, is_for_request};
+ghost use Rattle.homa_server.specs.Answers.{is_data, is_resend, is_ack, service_in, runs_said, acked_of, acted_of, goes, IfSaid, IsAnswerBody, IfResend};
+ghost use Rattle.homa_server.specs.Answers.{IsAsking, state_emits, server_sends, out_facts};
 
 use crate::spans::{patience_of, span_of};
 use crate::state::{State, answered, replying};
@@ -153,6 +154,8 @@ impl Row {
             (Some (seen_server pool.new self.new)) (response_in self.new.state) scratch.new did)) }
         ensures slot { IfOk result (λ did. IsSlotOf (Some slot) did) }
         ensures says { IfOk result (λ did. IfSaid did IsAnswerBody) }
+        ensures named { IfOk result (λ did. IfArriving self.old.state (λ wanted part base count.
+            slot_in did ≡ slot_if (part.length == size && wanted == number) slot)) }
         ensures idle { IfOk result (λ did. slot_in did ≡ None → (self.new ≡ self.old) × (pool.new ≡ pool.old)) }
         ensures moves { IfOk result (λ did. Moves pool.old (state_part self.old.state) pool.new (state_part self.new.state)) }
         ensures allowed { IfOk result (λ did. IfRan did (λ hold.
@@ -231,6 +234,8 @@ impl Row {
             (Some (seen_server pool.new self.new)) (response_in self.new.state) scratch.new did)) }
         ensures slot { IfOk result (λ did. IsSlotOf (Some slot) did) }
         ensures says { IfOk result (λ did. IfSaid did IsAnswerBody) }
+        ensures named { IfOk result (λ did. IfArriving self.old.state (λ wanted part base count.
+            slot_in did ≡ slot_if (is_for_request wanted part body.now) slot)) }
         ensures idle { IfOk result (λ did. slot_in did ≡ None → (self.new ≡ self.old) × (pool.new ≡ pool.old)) }
         ensures moves { IfOk result (λ did. Moves pool.old (state_part self.old.state) pool.new (state_part self.new.state)) }
         ensures allowed { IfOk result (λ did. IfRan did (λ hold.
@@ -303,6 +308,7 @@ impl Row {
             (Some (seen_server pool self.new)) (response_in self.new.state) told result) }
         ensures slot { IsSlotOf (Some slot) result }
         ensures says { IfSaid result IsAnswerBody }
+        ensures named { slot_in result ≡ slot_if (not (is_ack body.now)) slot }
         ensures idle { slot_in result ≡ None → self.new ≡ self.old }
         ensures part { state_part self.new.state ≡ None }
         ensures not_run { has_run result ≡ false }
@@ -362,6 +368,7 @@ impl Row {
             (Some (seen_server pool.new self.new)) (response_in self.new.state) scratch.new did) }
         ensures slot { IfOk result (λ did. IsSlotOf (Some slot) did) }
         ensures says { IfOk result (λ did. IfSaid did IsAnswerBody) }
+        ensures named { IfOk result (λ did. slot_in did ≡ slot_if (is_for body.now self.old.state) slot) }
         ensures idle { IfOk result (λ did. slot_in did ≡ None → (self.new ≡ self.old) × (pool.new ≡ pool.old)) }
         ensures moves { IfOk result (λ did. Moves pool.old (state_part self.old.state) pool.new (state_part self.new.state)) }
         ensures allowed { IfOk result (λ did. IfRan did (λ hold.
@@ -641,6 +648,7 @@ fn held_gets(slot: u32, body: &Body) -> ServerDid
     ensures did { (s : Settings) (id : CallId) (m : Moment) (row : ServerRow) (response payload told : List ℕ)
         → IsAnswered s m id (piece_in body.now payload) (λ a. held_gets m body.now row) (Some row) response told result }
     ensures slot { IsSlotOf (Some slot) result }
+    ensures named { slot_in result ≡ slot_if (is_resend body.now) slot }
     ensures says { IfSaid result IsAnswerBody }
     ensures not_run { has_run result ≡ false }
 {
@@ -655,6 +663,7 @@ fn buried_gets(slot: u32, body: &Body) -> ServerDid
     ensures did { (s : Settings) (id : CallId) (m : Moment) (row : ServerRow) (response payload told : List ℕ)
         → IsAnswered s m id (piece_in body.now payload) (λ a. buried_gets m body.now row) (Some row) response told result }
     ensures slot { IsSlotOf (Some slot) result }
+    ensures named { slot_in result ≡ slot_if (is_data body.now || is_resend body.now) slot }
     ensures says { IfSaid result IsAnswerBody }
     ensures not_run { has_run result ≡ false }
 {

@@ -45,9 +45,13 @@ known_of st = map known (hosts_of st)
 abbrev pub known_in : Settings → Host → Known
 known_in s h = record { settings = s; host = h }
 
+-- hosts that have done nothing, in these incarnations
+abbrev pub known_first : Settings → List ℕ → List Known
+known_first s incs = map (known_in s) (new_hosts s 0 incs)
+
 -- the first so many hosts, each in its first life
 abbrev pub first_known : Settings → ℕ → List Known
-first_known s n = map (known_in s) (new_hosts s 0 (replicate n 1))
+first_known s n = known_first s (replicate n 1)
 
 -- the hosts' boxes
 abbrev pub seats_of : {S : Type 0} → Stage S → List (Option S)

@@ -1,6 +1,7 @@
 // The hosts and their services, with the room that a step needs.
 ghost use Rattle.std.specs.Prelude.{◌≡◌, ◌≢◌, ◌<◌, ◌≤◌, ◌+◌, ◌^◌, ◌↔◌, ℕ, true, IsTrue, IsSome, IfSome, IfOk, IfErr, OnOk, OnErr, Some, [], List};
 ghost use Rattle.std.specs.Prelude.{map, take, drop, length, slice_get, slice_set};
+ghost use Rattle.std.specs.List.{AllByRecursion};
 ghost use Rattle.homa_plain.specs.Settings.{IsValid};
 ghost use Rattle.homa_plain.specs.Host.{new_host};
 ghost use Rattle.homa_plain.specs.Rules.{Answer};
@@ -12,8 +13,8 @@ ghost use Rattle.homa_plain.specs.Entries.{plain};
 ghost use Rattle.homa_service.specs.Table.{places, place_of, last_of, front_of};
 ghost use Rattle.homa_text.specs.Told.{HasLine};
 ghost use Rattle.host_table.specs.Left.{entries_of, HasLeft, IsFew};
-ghost use Rattle.host_table.specs.Staged.{hosts_of, frames_of, known, known_of, known_in, first_known, seats_of, spares_of, MayStep, HasStepped};
-ghost use Rattle.host_table.specs.Staged.{HasCome, HasNotCome};
+ghost use Rattle.host_table.specs.Staged.{hosts_of, frames_of, known, known_of, known_in, first_known, known_first, seats_of, spares_of};
+ghost use Rattle.host_table.specs.Staged.{MayStep, HasStepped, HasCome, HasNotCome};
 ghost use Rattle.host_table.specs.Restarted.{HasRestarted, HasNoSpare};
 
 use homa_host::Host;
@@ -46,8 +47,28 @@ impl<S: Service> Stage<S> {
         ensures seats { IfOk result (λ stage. seats_of stage ≡ map Some (take settings.now.hosts services.items)) }
         ensures spares { IfOk result (λ stage. spares_of stage ≡ drop settings.now.hosts services.items) }
     {
+        let incs = vec![in alloc; 1u32; settings.hosts as usize]?;
+        Stage::open_in(alloc, settings, &incs, services)
+    }
+
+    /// Hosts that have done nothing, each in the incarnation that is given. Service h serves host h, and the others are spare.
+    pub fn open_in(
+        alloc: Global,
+        settings: &Settings,
+        incs: &[u32],
+        services: Vec<S>,
+    ) -> Result<Stage<S>, AllocError>
+        requires valid { IsValid settings.now }
+        requires incs { length incs.now ≡ settings.now.hosts }
+        requires lives { AllByRecursion (λ inc. 1 ≤ inc) incs.now }
+        requires enough { settings.now.hosts ≤ length services.items }
+        requires at_most { length services.items ≤ 1000000 }
+        ensures known { IfOk result (λ stage. known_of stage ≡ known_first settings.now incs.now) }
+        ensures seats { IfOk result (λ stage. seats_of stage ≡ map Some (take settings.now.hosts services.items)) }
+        ensures spares { IfOk result (λ stage. spares_of stage ≡ drop settings.now.hosts services.items) }
+    {
         Ok(Stage {
-            hosts: first_hosts(alloc, settings)?,
+            hosts: first_hosts(alloc, settings, incs)?,
             services: ServiceTable::open(alloc, services, settings.hosts)?,
             outbox: Outbox::new(alloc)?,
             scratch: Scratch::new(alloc)?,
@@ -208,14 +229,16 @@ impl<S: Service> Stage<S> {
     }
 }
 
-// Hosts in their order, of which each is in its first life and has done nothing.
-fn first_hosts(alloc: Global, settings: &Settings) -> Result<Vec<Host>, AllocError>
-    requires { IsValid settings.now }
-    ensures { IfOk result (λ hosts. map known hosts.items ≡ first_known settings.now settings.now.hosts) }
+// Hosts in their order that have done nothing, each in the incarnation that is given.
+fn first_hosts(alloc: Global, settings: &Settings, incs: &[u32]) -> Result<Vec<Host>, AllocError>
+    requires valid { IsValid settings.now }
+    requires incs { length incs.now ≡ settings.now.hosts }
+    requires lives { AllByRecursion (λ inc. 1 ≤ inc) incs.now }
+    ensures { IfOk result (λ hosts. map known hosts.items ≡ known_first settings.now incs.now) }
 {
-    let mut hosts = Vec::with_capacity(alloc, settings.hosts as usize)?;
-    for id in 0..settings.hosts {
-        hosts.push(Host::open(alloc, HostId(id as u16), 1, settings)?)?;
+    let mut hosts = Vec::with_capacity(alloc, incs.len())?;
+    for id in 0..incs.len() {
+        hosts.push(Host::open(alloc, HostId(id as u16), incs[id], settings)?)?;
     }
     Ok(hosts)
 }

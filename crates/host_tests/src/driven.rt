@@ -36,42 +36,85 @@ fn key(first: u64, second: u64) -> Key
     Key { first, second }
 }
 
+// What a host's heaps hold: the first timer and the sender that is granted first, and how many timers, senders and messages
+// to send there are.
+#[derive(Clone, Copy, Debug, PartialEq, Eq)]
+struct Holds {
+    timer: Option<(u32, Key)>,
+    timers: u32,
+    sender: Option<(u32, Key)>,
+    senders: u32,
+    sends: u32,
+}
+
+fn heaps(host: &Host) -> Holds {
+    Holds {
+        timer: first(host.timers().heap()),
+        timers: host.timers().heap().len(),
+        sender: first(host.grants().peers()),
+        senders: host.grants().peers().len(),
+        sends: host.pacer().heap().len(),
+    }
+}
+
+// A client that waits for its server up to a tick: all of its request is sent, and nothing comes.
+fn waits_until(tick: u64) -> Holds {
+    Holds {
+        timer: Some((CLIENT_SLOT, key(tick, 0))),
+        timers: 1,
+        sender: None,
+        senders: 0,
+        sends: 0,
+    }
+}
+
+// A server with one byte of two, of which it asks for the other at tick 4.
+const ONE_OF_TWO: Holds = Holds {
+    timer: Some((
+        SERVER_SLOT,
+        Key {
+            first: 4,
+            second: 0,
+        },
+    )),
+    timers: 1,
+    sender: Some((
+        0,
+        Key {
+            first: 1,
+            second: 0,
+        },
+    )),
+    senders: 1,
+    sends: 0,
+};
+
 // The call's only host has asked the server in vain.
 #[test]
 fn the_heaps_of_a_call_that_is_lost(rt: HostRuntime) -> Result<(), Fail> {
     let request = Vec::from_slice(rt.alloc(), b"hi")?;
     let mut client = DrivenHost::open(rt.alloc(), CLIENT, 1, 0, &Settings::usual())?;
-    is_lost(&rt, &mut client, request);
+    asks(&rt, &mut client, request);
+    gives_up(&rt, &mut client);
     Ok(())
 }
 
-// A call of two bytes, of which nothing comes back.
-fn is_lost(rt: &impl Abort, client: &mut DrivenHost, request: Vec<u8>) {
+// A call of two bytes: the client asks for the response when 4 ticks have gone, and again 4 ticks later.
+fn asks(rt: &impl Abort, client: &mut DrivenHost, request: Vec<u8>) {
     assert!(rt; client.call(SERVER, 0, request, 0).is_some());
-
-    // It asks for the response when 4 ticks have gone. All of the request is sent, and nothing comes yet.
-    assert_eq!(rt;
-        first(client.host().timers().heap()),
-        Some((CLIENT_SLOT, key(4, 0)))
-    );
-    assert_eq!(rt; client.host().timers().heap().len(), 1);
-    assert_eq!(rt; client.host().grants().peers().len(), 0);
-    assert_eq!(rt; client.host().pacer().heap().len(), 0);
-    assert_eq!(rt; client.host().pacer().credit(), 13_998);
-
-    // It has asked, and asks again 4 ticks later.
+    assert!(rt; heaps(client.host()) == waits_until(4));
+    assert!(rt; client.host().pacer().credit() == 13_998);
     assert!(rt; client.turn(4).is_some());
-    assert_eq!(rt;
-        first(client.host().timers().heap()),
-        Some((CLIENT_SLOT, key(8, 0)))
-    );
+    assert!(rt; heaps(client.host()) == waits_until(8));
+}
 
-    // It has asked five times, and gives up.
+// It has asked five times, and gives up.
+fn gives_up(rt: &impl Abort, client: &mut DrivenHost) {
     for now in 5..25 {
         assert!(rt; client.turn(now).is_some());
     }
-    assert_eq!(rt; client.host().live(), 0);
-    assert_eq!(rt; client.host().timers().heap().len(), 0);
+    assert!(rt; client.host().live() == 0);
+    assert!(rt; heaps(client.host()).timers == 0);
 }
 
 #[test]
@@ -84,20 +127,12 @@ fn a_piece_without_its_last_byte(rt: HostRuntime) -> Result<(), Fail> {
 // One byte of two comes, 68, and then both.
 fn is_whole_later(rt: &impl Abort, alloc: Global, server: &mut DrivenHost) {
     assert!(rt; server.deliver(alloc, CLIENT, &DATA[..37], 0).is_some());
-    assert_eq!(rt; server.host().entries(), 0);
-    let entered = first(server.host().grants().peers());
-    assert_eq!(rt; entered, Some((u32::from(CLIENT.0), key(1, 0))));
-    assert_eq!(rt;
-        first(server.host().timers().heap()),
-        Some((SERVER_SLOT, key(4, 0)))
-    );
-
+    assert!(rt; server.host().entries() == 0);
+    assert!(rt; heaps(server.host()) == ONE_OF_TWO);
     assert!(rt; server.deliver(alloc, CLIENT, &DATA, 0).is_some());
-    assert_eq!(rt; server.host().entries(), 2);
-    if server.host().entries() > 0 {
-        assert_eq!(rt; server.entry(0), answered(b"hi"));
-    }
-    assert_eq!(rt; server.host().grants().peers().len(), 0);
+    assert!(rt; server.host().entries() == 2);
+    assert!(rt; server.entry(0) == answered(b"hi"));
+    assert!(rt; heaps(server.host()).senders == 0);
 }
 
 // A service answers "hi" by these bytes.
@@ -173,14 +208,16 @@ fn opened(alloc: Global) -> Result<Lent, AllocError>
     ensures kept { IfOk result (λ it. IsKept it.host it.service.served it.out it.host.host.id 2 0) }
     ensures id { IfOk result (λ it. it.host.host.id.0 ≡ 1) }
 {
+    let out = Outbox::new(alloc)?;
+    let scratch = Scratch::new(alloc)?;
     Ok(Lent {
         host: Host::open(alloc, SERVER, 1, &Settings::usual())?,
         service: Fickle {
             is_ready: false,
             served: 0,
         },
-        out: Outbox::new(alloc)?,
-        scratch: Scratch::new(alloc)?,
+        out,
+        scratch,
     })
 }
 
@@ -192,7 +229,7 @@ fn comes(rt: &impl Abort, alloc: Global, it: &mut Lent, steps: u64, frame: &[u8]
     ensures kept { IsKept it.new.host it.new.service.served it.new.out it.new.host.host.id 2 (steps + 1) }
     ensures id { it.new.host.host.id.0 ≡ 1 }
 {
-    assert_eq!(rt; it.host.last(), 0);
+    assert!(rt; it.host.last() == 0);
     it.host
         .deliver(
             alloc,
@@ -209,51 +246,50 @@ fn comes(rt: &impl Abort, alloc: Global, it: &mut Lent, steps: u64, frame: &[u8]
 #[test]
 fn want_of_memory_is_no_delivery(rt: HostRuntime) -> Result<(), Fail> {
     let mut it = opened(rt.alloc())?;
-    is_served_later(&rt, rt.alloc(), &mut it);
+    is_refused(&rt, rt.alloc(), &mut it);
+    is_served(&rt, rt.alloc(), &mut it);
     Ok(())
 }
 
-// Beside the other call's row a request comes twice, of which the service finds no memory first.
-fn is_served_later(rt: &impl Abort, alloc: Global, it: &mut Lent)
+// Beside the other call's row a request comes, and the service finds no memory. Nothing happens: no entry, no packet, no row
+// but the one that there was.
+fn is_refused(rt: &impl Abort, alloc: Global, it: &mut Lent)
     requires kept { IsKept it.old.host it.old.service.served it.old.out it.old.host.host.id 2 0 }
     requires id { it.old.host.host.id.0 ≡ 1 }
+    ensures kept { IsKept it.new.host it.new.service.served it.new.out it.new.host.host.id 2 2 }
+    ensures id { it.new.host.host.id.0 ≡ 1 }
 {
     assert!(rt; comes(rt, alloc, it, 0, &OTHER));
     has_the_other(rt, &it.host);
-
-    // Nothing happens: no entry, no packet, no row but the one that there was.
     assert!(rt; !comes(rt, alloc, it, 1, &DATA));
-    assert_eq!(rt; it.host.entries(), 0);
+    assert!(rt; it.host.entries() == 0);
     assert!(rt; it.out.is_empty());
-    assert_eq!(rt; it.service.served, 0);
+    assert!(rt; it.service.served == 0);
     has_the_other(rt, &it.host);
+}
+
+// The client is told that the call isn't known. The same packet again: the service answers, and its response is sent.
+fn is_served(rt: &impl Abort, alloc: Global, it: &mut Lent)
+    requires kept { IsKept it.old.host it.old.service.served it.old.out it.old.host.host.id 2 2 }
+    requires id { it.old.host.host.id.0 ≡ 1 }
+{
     assert!(rt; comes(rt, alloc, it, 2, &RESEND));
     has_sent(rt, &it.out, &UNKNOWN);
-
-    // The same packet again: the service answers, and its response is sent.
     assert!(rt; comes(rt, alloc, it, 3, &DATA));
-    assert_eq!(rt; it.service.served, 1);
+    assert!(rt; it.service.served == 1);
     has_sent(rt, &it.out, &RESPONSE);
-    assert_eq!(rt; it.host.entries(), 2);
-    if it.host.entries() > 0 {
-        assert_eq!(rt; it.host.entry(0, &it.out, &it.scratch), answered(&[7]));
-    }
+    assert!(rt; it.host.entries() == 2);
+    assert!(rt; it.host.entry(0, &it.out, &it.scratch) == answered(&[7]));
 }
 
 // A host whose only row is that of a request of which one byte is missing.
 fn has_the_other(rt: &impl Abort, host: &Host) {
-    assert_eq!(rt; first(host.timers().heap()), Some((SERVER_SLOT, key(4, 0))));
-    assert_eq!(rt; host.timers().heap().len(), 1);
-    assert_eq!(rt; first(host.grants().peers()), Some((0, key(1, 0))));
-    assert_eq!(rt; host.grants().peers().len(), 1);
-    assert_eq!(rt; host.pacer().heap().len(), 0);
-    assert_eq!(rt; host.live(), 0);
+    assert!(rt; heaps(host) == ONE_OF_TWO);
+    assert!(rt; host.live() == 0);
 }
 
 // One frame, of these bytes.
 fn has_sent(rt: &impl Abort, out: &Outbox, frame: &[u8]) {
-    assert_eq!(rt; out.len(), 1);
-    if !out.is_empty() {
-        assert_eq!(rt; out.bytes(0), frame);
-    }
+    assert!(rt; out.len() == 1);
+    assert!(rt; out.bytes(0) == frame);
 }

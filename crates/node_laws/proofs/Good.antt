@@ -4,7 +4,7 @@ use Rattle.std.specs.Prelude.{◌==◌, ◌&&◌, not, nat_lt, ◌%◌, if◌the
 use Rattle.std.specs.Option.{IfSome}
 use Rattle.std.specs.List.{AllByRecursion}
 use Rattle.std.proofs.lemmas.Bool.{cond_both, ltb-true}
-use Rattle.plain_sets.specs.Maps.{get, insert}
+use Rattle.plain_sets.specs.Maps.{get, insert, len}
 use Rattle.plain_sets.specs.Ranges.{Range}
 use Rattle.homa_plain.specs.declared.id.CallId.{CallId}
 use Rattle.homa_plain.specs.declared.id.HostId.{HostId}
@@ -32,8 +32,9 @@ use Rattle.homa_plain.proofs.CutoffLaws.{length-balanced, high-balanced}
 use Rattle.step_laws.proofs.Others.{get-set_row, set_row-others}
 use Rattle.step_laws.proofs.ToldBy.{packets_in-append}
 use Rattle.step_laws.proofs.Places.{all-append}
-use Rattle.world_laws.specs.Sound.{IsSent, HasNumbers, IsId, FitSays, IsArriving, IsClientRow, IsState, AreCutoffs}
+use Rattle.world_laws.specs.Sound.{IsSent, HasNumbers, IsId, IsArriving, IsClientRow, IsState, AreCutoffs}
 use Rattle.world_laws.proofs.Sent.{content_sent, request_sent, response_sent}
+use Rattle.node_laws.proofs.Told.{AllSaid, FitsTold, AllTold, rows_kept}
 use Rattle.node_laws.proofs.Parts.{part_sent, arriving_granted}
 use Rattle.node_laws.proofs.Ruled.{IsGood, IsServerRow}
 
@@ -83,6 +84,7 @@ pub record IsGoodHost (h : Host) : Type 0 where
   pub finished : AllByRecursion AreFinished h.finished
   pub clients : (q : CallId) (r : ClientRow) → get h.clients q ≡ Some r → IsId q × IsClientRow r
   pub servers : (q : CallId) (row : ServerRow) → get h.servers q ≡ Some row → IsId q × IsServerRow row
+  pub rows : len h.servers < 2 ^ 32
 
 -- rows of which one is set
 pub set_good : {R : Type 0} (P : R → Type 0) (rows : RowsOf R) (id : CallId) (o : Option R) → IsId id → IfSome o P → ((q : CallId) (r : R) → get rows q ≡ Some r → IsId q × P r) → (q : CallId) (r : R) → get (set_row rows id o) q ≡ Some r → IsId q × P r
@@ -116,6 +118,7 @@ last_true false false c e = absurd (let z : false ≡ true = e in cc)
 record TunedGood (t : Tuned) : Type 0 where
   pub tuning : IsGoodTuning t.tuning
   pub quiet : packets_in t.told ≡ []
+  pub told : AllTold t.told
 
 tuned_good : (s : Settings) (host : HostId) (t : Tuning) (n : ℕ) → n ≤ 1000000 → IsGoodTuning t → TunedGood (tuned s host t n)
 unfolding tuned
@@ -127,11 +130,10 @@ tuned_good s host t n small k = by_due (is_balance_due s u) refl where
   lengths = noted_good t.lengths n small k.lengths
 
   by_due : (b : Bool) → is_balance_due s u ≡ b → TunedGood (if b then record { tuning = rebalanced s u; told = Says (PlainBalance host (rebalanced s u).own) ∷ [] } else record { tuning = u; told = [] })
-  by_due true e = record {
-    tuning = record { own = balanced_good s.overcommit s.unsched (t.own.version + 1) u.lengths (omega (arith, ltb-true t.own.version 65535 (last_true (not (s.rebalance == 0)) (u.opened % s.rebalance == 0) (nat_lt t.own.version 65535) e))) lengths; lengths = lengths };
-    quiet = refl;
-  }
-  by_due false e = record { tuning = record { own = k.own; lengths = lengths }; quiet = refl }
+  by_due true e =
+      let own : AreCutoffs (rebalanced s u).own = balanced_good s.overcommit s.unsched (t.own.version + 1) u.lengths (omega (arith, ltb-true t.own.version 65535 (last_true (not (s.rebalance == 0)) (u.opened % s.rebalance == 0) (nat_lt t.own.version 65535) e))) lengths in
+      record { tuning = record { own = own; lengths = lengths }; quiet = refl; told = (own, tt) }
+  by_due false e = record { tuning = record { own = k.own; lengths = lengths }; quiet = refl; told = tt }
 
 -- ---- a host in the midst of a step
 
@@ -145,6 +147,7 @@ module _ (s : Settings) (v : IsValid s) (now : ℕ) (soon : now ≤ 100000000200
     pub host : IsGoodHost w.host
     pub last : w.host.last ≡ now
     pub sent : AllByRecursion IsSentNow (packets_in w.told)
+    pub told : AllTold w.told
 
   numbers : (h : Host) → IsGoodHost h → h.last ≡ now → HasNumbers h
   numbers h k last = record { inc = k.inc; inc_fits = k.inc_fits; clock = omega (arith, last, soon) }
@@ -158,20 +161,26 @@ module _ (s : Settings) (v : IsValid s) (now : ℕ) (soon : now ≤ 100000000200
   bare_now : (h : Host) → IsGoodHost h → h.last ≡ now → (role : Role) (id : CallId) (server : HostId) → IsId id → (what : Body) → FitsKind role 7 what [] → IsSentNow (packet_from s h role id server (bare what))
   bare_now h k last role id server named what fits = content_now h k last role id server named (bare what) fits no_bytes
 
-  pub tells_good : (w : Work) (told : List Told) → IsGoodWork w → AllByRecursion IsSentNow (packets_in told) → IsGoodWork (tells told w)
-  tells_good w told k sent = record {
+  pub tells_good : (w : Work) (told : List Told) → IsGoodWork w → AllByRecursion IsSentNow (packets_in told) → AllTold told → IsGoodWork (tells told w)
+  tells_good w told k sent fits = record {
     host = k.host;
     last = k.last;
     sent = subst (AllByRecursion IsSentNow) (sym (packets_in-append w.told told)) (all-append IsSentNow (packets_in w.told) (packets_in told) k.sent sent);
+    told = all-append FitsTold w.told told k.told fits;
   }
 
   posts_good : (w : Work) (role : Role) (id : CallId) (server : HostId) (what : Body) → IsGoodWork w → IsId id → FitsKind role 7 what [] → IsGoodWork (posts s role id server what w)
-  posts_good w role id server what k named fits = tells_good w _ k (bare_now w.host k.host k.last role id server named what fits, tt)
+  posts_good w role id server what k named fits = tells_good w _ k (bare_now w.host k.host k.last role id server named what fits, tt) (tt, tt)
 
-  said_now : (h : Host) → IsGoodHost h → h.last ≡ now → (role : Role) (id : CallId) (server : HostId) → IsId id → (says : List Say) → FitSays role says → AllByRecursion IsSentNow (packets_in (said s h role id server says))
+  said_now : (h : Host) → IsGoodHost h → h.last ≡ now → (role : Role) (id : CallId) (server : HostId) → IsId id → (says : List Say) → AllSaid role says → AllByRecursion IsSentNow (packets_in (said s h role id server says))
   said_now h k last role id server named [] fits = tt
   said_now h k last role id server named (Tells entry ∷ says) fits = said_now h k last role id server named says fits.1
   said_now h k last role id server named (Posts what ∷ says) fits = (bare_now h k last role id server named what fits.0, said_now h k last role id server named says fits.1)
+
+  said_told : (h : Host) (role : Role) (id : CallId) (server : HostId) (says : List Say) → AllSaid role says → AllTold (said s h role id server says)
+  said_told h role id server [] fits = tt
+  said_told h role id server (Tells entry ∷ says) fits = (fits.0, said_told h role id server says fits.1)
+  said_told h role id server (Posts what ∷ says) fits = (tt, said_told h role id server says fits.1)
 
   -- ---- what comes of a rule
 
@@ -182,8 +191,8 @@ module _ (s : Settings) (v : IsValid s) (now : ℕ) (soon : now ≤ 100000000200
       let g = tuned_good s w.host.id w.host.tuning n small k.host.tuning in
       let h = k.host in
       tells_good (record w { host = record w.host { tuning = t.tuning } }) t.told
-      (record { host = record { inc = h.inc; inc_fits = h.inc_fits; seq = h.seq; tuning = g.tuning; peers = h.peers; finished = h.finished; clients = h.clients; servers = h.servers }; last = k.last; sent = k.sent })
-      (subst (AllByRecursion IsSentNow) (sym g.quiet) tt)
+      (record { host = record { inc = h.inc; inc_fits = h.inc_fits; seq = h.seq; tuning = g.tuning; peers = h.peers; finished = h.finished; clients = h.clients; servers = h.servers; rows = h.rows }; last = k.last; sent = k.sent; told = k.told })
+      (subst (AllByRecursion IsSentNow) (sym g.quiet) tt) g.told
 
   cutoffs_good : (role : Role) (id : CallId) (server : HostId) (o : Option ℕ) (w : Work) → IsId id → IsGoodWork w → IsGoodWork (tells_cutoffs s role id server o w)
   cutoffs_good role id server None w named k = k
@@ -193,7 +202,7 @@ module _ (s : Settings) (v : IsValid s) (now : ℕ) (soon : now ≤ 100000000200
   with_list : (server : HostId) (calls : List (ℕ × ℕ)) (w : Work) → AreFinished calls → IsGoodWork w → IsGoodWork (record w { host = with_finished server calls w.host })
   with_list server calls w few k =
       let h = k.host in
-      record { host = record { inc = h.inc; inc_fits = h.inc_fits; seq = h.seq; tuning = h.tuning; peers = h.peers; finished = all_set AreFinished w.host.finished server.0 calls few h.finished; clients = h.clients; servers = h.servers }; last = k.last; sent = k.sent }
+      record { host = record { inc = h.inc; inc_fits = h.inc_fits; seq = h.seq; tuning = h.tuning; peers = h.peers; finished = all_set AreFinished w.host.finished server.0 calls few h.finished; clients = h.clients; servers = h.servers; rows = h.rows }; last = k.last; sent = k.sent; told = k.told }
 
   acknowledged_good : (server : HostId) (calls : List (ℕ × ℕ)) (w : Work) → length calls ≤ 5 → AllByRecursion IsCall calls → IsGoodWork w → IsGoodWork (acknowledged s server calls w)
   acknowledged_good server [] w few all k = k
@@ -219,18 +228,19 @@ module _ (s : Settings) (v : IsValid s) (now : ℕ) (soon : now ≤ 100000000200
   asked_good id server did w named g k =
       let h = k.host in
       let put : IsGoodWork (record w { host = record w.host { order = did.order; clients = set_row w.host.clients id did.row } }) =
-      record { host = record { inc = h.inc; inc_fits = h.inc_fits; seq = h.seq; tuning = h.tuning; peers = h.peers; finished = h.finished; clients = set_good IsClientRow w.host.clients id did.row named g.row h.clients; servers = h.servers }; last = k.last; sent = k.sent } in
+      record { host = record { inc = h.inc; inc_fits = h.inc_fits; seq = h.seq; tuning = h.tuning; peers = h.peers; finished = h.finished; clients = set_good IsClientRow w.host.clients id did.row named g.row h.clients; servers = h.servers; rows = h.rows }; last = k.last; sent = k.sent; told = k.told } in
       let reply = cutoffs_good Client id server did.version _ named (notes_good did.opened _ g.opened put) in
-      finishes_good id server did.finished _ named (tells_good _ _ reply (said_now w.host h k.last Client id server named did.says g.said))
+      finishes_good id server did.finished _ named (tells_good _ _ reply (said_now w.host h k.last Client id server named did.says g.said) (said_told w.host Client id server did.says g.said))
 
-  pub served_good : (id : CallId) (did : Did ServerRow) (w : Work) → IsId id → IsGood IsServerRow Server did → IsGoodWork w → IsGoodWork (served s id did w)
+  pub served_good : (id : CallId) (did : Did ServerRow) (w : Work) → IsId id → IsGood IsServerRow Server did → len (set_row w.host.servers id did.row) < 2 ^ 32 → IsGoodWork w
+      → IsGoodWork (served s id did w)
   unfolding served
-  served_good id did w named g k =
+  served_good id did w named g room k =
       let h = k.host in
       let put : IsGoodWork (record w { host = record w.host { order = did.order; servers = set_row w.host.servers id did.row } }) =
-      record { host = record { inc = h.inc; inc_fits = h.inc_fits; seq = h.seq; tuning = h.tuning; peers = h.peers; finished = h.finished; clients = h.clients; servers = set_good IsServerRow w.host.servers id did.row named g.row h.servers }; last = k.last; sent = k.sent } in
+      record { host = record { inc = h.inc; inc_fits = h.inc_fits; seq = h.seq; tuning = h.tuning; peers = h.peers; finished = h.finished; clients = h.clients; servers = set_good IsServerRow w.host.servers id did.row named g.row h.servers; rows = room }; last = k.last; sent = k.sent; told = k.told } in
       let reply = cutoffs_good Server id w.host.id did.version _ named (notes_good did.opened _ g.opened put) in
-      tells_good _ _ reply (said_now w.host h k.last Server id w.host.id named did.says g.said)
+      tells_good _ _ reply (said_now w.host h k.last Server id w.host.id named did.says g.said) (said_told w.host Server id w.host.id did.says g.said)
 
   -- ---- pieces
 
@@ -268,6 +278,7 @@ module _ (s : Settings) (v : IsValid s) (now : ℕ) (soon : now ≤ 100000000200
         finished = all_set AreFinished w.host.finished r.server.0 (drop 1 calls) left h.finished;
         clients = set_good IsClientRow w.host.clients id (Some (client_sends s (now_of w) r)) row.0 sends h.clients;
         servers = h.servers;
+        rows = h.rows;
       } in
       let piece : IsSentNow (packet_from s w.host Client id r.server (request_content s (peer_cutoffs s w.host r.server).cutoffs (oldest calls) r range)) = record {
         formed = request_sent s v w.host (numbers w.host h k.last) id row.0 r row.1 (peer_cutoffs s w.host r.server).cutoffs (peer_good w.host r.server h) (oldest calls) (oldest_good calls f.1) range e;
@@ -275,7 +286,7 @@ module _ (s : Settings) (v : IsValid s) (now : ℕ) (soon : now ≤ 100000000200
       } in
       let new = with_finished r.server (drop 1 calls) (record w.host { clients = insert w.host.clients id (client_sends s (now_of w) r) }) in
       tells_good (spent (range.to - range.from) (record w { host = new })) _
-      (record { host = record { inc = host.inc; inc_fits = host.inc_fits; seq = host.seq; tuning = host.tuning; peers = host.peers; finished = host.finished; clients = host.clients; servers = host.servers }; last = k.last; sent = k.sent }) (piece, tt)
+      (record { host = record { inc = host.inc; inc_fits = host.inc_fits; seq = host.seq; tuning = host.tuning; peers = host.peers; finished = host.finished; clients = host.clients; servers = host.servers; rows = host.rows }; last = k.last; sent = k.sent; told = k.told }) (piece, tt) (tt, tt)
 
   pub response_good : (id : CallId) (row : ServerRow) (response : List ℕ) (out : Outgoing) (order base count : ℕ) (range : Range) (w : Work) → IsGoodWork w → get w.host.servers id ≡ Some row → row.state ≡ Replying response out order base count → next_range out s.seg ≡ Some range
       → IsGoodWork (response_leaves s id row (response_content s (peer_cutoffs s w.host id.client).cutoffs response out range) range w)
@@ -284,15 +295,16 @@ module _ (s : Settings) (v : IsValid s) (now : ℕ) (soon : now ≤ 100000000200
       let r = h.servers id row at in
       let state : IsState (Replying response out order base count) = subst IsState is r.1 in
       let sends : IsState (state_sends s (now_of w) row.state) = subst (λ (x : State). IsState (state_sends s (now_of w) x)) (sym is) (state.0, part_sent response out state.1 s.seg) in
+      let few : len (insert w.host.servers id (record row { state = state_sends s (now_of w) row.state })) < 2 ^ 32 = omega (arith, rows_kept w.host.servers id row (Some (record row { state = state_sends s (now_of w) row.state })) at, h.rows) in
       let rows = set_good IsServerRow w.host.servers id (Some (record row { state = state_sends s (now_of w) row.state })) r.0 sends h.servers in
       tells_good (spent (range.to - range.from) (record w { host = record w.host { servers = insert w.host.servers id (record row { state = state_sends s (now_of w) row.state }) } })) _
-      (record { host = record { inc = h.inc; inc_fits = h.inc_fits; seq = h.seq; tuning = h.tuning; peers = h.peers; finished = h.finished; clients = h.clients; servers = rows }; last = k.last; sent = k.sent }) (
+      (record { host = record { inc = h.inc; inc_fits = h.inc_fits; seq = h.seq; tuning = h.tuning; peers = h.peers; finished = h.finished; clients = h.clients; servers = rows; rows = few }; last = k.last; sent = k.sent; told = k.told }) (
         record {
           formed = response_sent s v w.host (numbers w.host h k.last) id r.0 response out state.0 state.1 (peer_cutoffs s w.host id.client).cutoffs (peer_good w.host id.client h) range e;
           dated = dated_now w.host k.last;
         },
         tt,
-      )
+      ) (tt, tt)
 
   -- ---- GRANTs
 
@@ -304,7 +316,7 @@ module _ (s : Settings) (v : IsValid s) (now : ℕ) (soon : now ≤ 100000000200
       let arriving : IsArriving part = let z : IfSome (Some part) IsArriving = subst (λ (o : Option Incoming). IfSome o IsArriving) has row.1.part in z in
       let granted : IsClientRow (client_granted (now_of w) offset r) = record { message = row.1.message; out = row.1.out; service = row.1.service; part = subst (λ (o : Option Incoming). IfSome (granted_part offset o) IsArriving) (sym has) (arriving_granted part offset arriving within) } in
       posts_good (record w { host = record w.host { clients = insert w.host.clients id (client_granted (now_of w) offset r) } }) Client id r.server (body.Grant offset prio)
-      (record { host = record { inc = h.inc; inc_fits = h.inc_fits; seq = h.seq; tuning = h.tuning; peers = h.peers; finished = h.finished; clients = set_good IsClientRow w.host.clients id (Some (client_granted (now_of w) offset r)) row.0 granted h.clients; servers = h.servers }; last = k.last; sent = k.sent })
+      (record { host = record { inc = h.inc; inc_fits = h.inc_fits; seq = h.seq; tuning = h.tuning; peers = h.peers; finished = h.finished; clients = set_good IsClientRow w.host.clients id (Some (client_granted (now_of w) offset r)) row.0 granted h.clients; servers = h.servers; rows = h.rows }; last = k.last; sent = k.sent; told = k.told })
       row.0 ((refl, refl), (some, omega (arith, within, arriving.size)), few)
 
   pub server_grant_good : (id : CallId) (row : ServerRow) (service : ℕ) (part : Incoming) (base count offset prio : ℕ) (w : Work) → IsGoodWork w → get w.host.servers id ≡ Some row → row.state ≡ Receiving service part base count → 1 ≤ offset → offset ≤ part.length → prio ≤ 7
@@ -315,5 +327,5 @@ module _ (s : Settings) (v : IsValid s) (now : ℕ) (soon : now ≤ 100000000200
       let arriving : IsArriving part = subst IsState is r.1 in
       let granted : IsServerRow (server_granted (now_of w) offset row) = subst (λ (x : State). IsState (state_granted (now_of w) offset x)) (sym is) (arriving_granted part offset arriving within) in
       posts_good (record w { host = record w.host { servers = insert w.host.servers id (server_granted (now_of w) offset row) } }) Server id w.host.id (body.Grant offset prio)
-      (record { host = record { inc = h.inc; inc_fits = h.inc_fits; seq = h.seq; tuning = h.tuning; peers = h.peers; finished = h.finished; clients = h.clients; servers = set_good IsServerRow w.host.servers id (Some (server_granted (now_of w) offset row)) r.0 granted h.servers }; last = k.last; sent = k.sent })
+      (record { host = record { inc = h.inc; inc_fits = h.inc_fits; seq = h.seq; tuning = h.tuning; peers = h.peers; finished = h.finished; clients = h.clients; servers = set_good IsServerRow w.host.servers id (Some (server_granted (now_of w) offset row)) r.0 granted h.servers; rows = omega (arith, rows_kept w.host.servers id row (Some (server_granted (now_of w) offset row)) at, h.rows) }; last = k.last; sent = k.sent; told = k.told })
       r.0 ((refl, refl), (some, omega (arith, within, arriving.size)), few)

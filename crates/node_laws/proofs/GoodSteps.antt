@@ -5,7 +5,7 @@ use Rattle.std.specs.Option.{IfSome}
 use Rattle.std.specs.List.{AllByRecursion}
 use Rattle.std.proofs.lemmas.Bool.{cond_both, ltb-false, leb-false, eqb-false}
 use Rattle.plain_sets.specs.Maps.{get, len}
-use Rattle.plain_sets.proofs.MapLaws.{get-empty}
+use Rattle.plain_sets.proofs.MapLaws.{get-empty, len-empty}
 use Rattle.plain_sets.proofs.OrderSame.{filter-all}
 use Rattle.homa_plain.specs.declared.id.CallId.{CallId}
 use Rattle.homa_plain.specs.declared.id.HostId.{HostId}
@@ -23,11 +23,15 @@ use Rattle.homa_plain.specs.Wire.{IsCall, FitsKind}
 use Rattle.homa_plain.specs.Cutoffs.{levels}
 use Rattle.homa_plain.specs.Choice.{Granted, Message, new_end, seen, choice_key, chosen}
 use Rattle.homa_plain.specs.Choice as choice
+use Rattle.homa_plain.specs.Entries.{PlainFullRows, PlainFullPages}
 use Rattle.homa_plain.specs.Incoming.{Incoming}
+use Rattle.homa_plain.specs.Incoming as incoming
 use Rattle.homa_plain.specs.Packets.{Packet, sender, acks, acks_in, calls_of}
-use Rattle.homa_plain.specs.Host.{Host, new_host, peer_cutoffs}
-use Rattle.homa_plain.specs.Rules.{Answer}
-use Rattle.homa_plain.specs.Timers.{Place, OfClient, OfServer}
+use Rattle.homa_plain.specs.Rows.{ServerRow, Receiving, RowsOf, set_row}
+use Rattle.homa_plain.specs.Host.{Host, new_host, peer_cutoffs, pages_for}
+use Rattle.homa_plain.specs.Rules.{Moment, Answer, Piece, Tells, Did, leaves, says, opening}
+use Rattle.homa_plain.specs.AtServer.{piece_comes, opens, piece_of, unknown_gets, row_gets, server_gets, state_acked, server_acked}
+use Rattle.homa_plain.specs.Timers.{Place, OfClient, OfServer, server_acts}
 use Rattle.homa_plain.specs.Sending.{Arriving, arrivals}
 use Rattle.homa_plain.specs.Steps.{Work, now_of, begun, is_newer, hears_cutoffs, comes_to_row, acked, takes, is_stale, comes, moment, refilled, client_acted, server_acted, acts_at, acts, grants_at, gives_grants, client_is_granted, server_is_granted, ended, next_id, new_call, starts, start_fault, call_step, arrival_step, turn_step}
 use Rattle.homa_plain.proofs.ChoiceLaws.{grant-chosen, few-chosen}
@@ -36,6 +40,7 @@ use Rattle.trace_induction.proofs.Chosen.{IsTimerAt, IsArrivingAt, IsGrantAt, gr
 use Rattle.trace_induction.proofs.Folds.{turn_kept, grants_kept, pump_kept, PieceKeeps}
 use Rattle.world_laws.specs.Sound.{IsSent, IsId, IsMessage, IsClientRow}
 use Rattle.node_runs.specs.Replayed.{IsAnswer}
+use Rattle.node_laws.proofs.Told.{IsMoment, pages_small, served_small, dated_small, rows_gone, rows_more, rows_kept}
 use Rattle.node_laws.proofs.Parts.{part_opened}
 use Rattle.node_laws.proofs.Ruled.{IsServerRow, gets_good, serves_good, acked_good, client_acts_good, server_acts_good}
 use Rattle.node_laws.proofs.Good.{IsPeer, AreFinished, IsGoodHost, IsGoodWork, set_good, all_set, asked_good, served_good, tells_good, request_good, response_good, client_grant_good, server_grant_good}
@@ -48,12 +53,59 @@ module _ (s : Settings) (v : IsValid s) (now : ℕ) (soon : now ≤ 100000000200
   row_is P None k = tt
   row_is P (Some r) k = k r refl
 
+  -- what a rule knows of such a host
+  moment_fits : (id : CallId) (w : Work) → Good w → IsMoment (moment s id w)
+  moment_fits id w k = record { now = omega (arith, k.last, soon); free = omega (arith, pages_small s v); rows = k.host.rows }
+
+  -- ---- how many calls it serves
+
+  module _ (rows : RowsOf ServerRow) (id : CallId) (few : len rows < 2 ^ 32) where
+    abbrev HasRoom : Did ServerRow → Type 0
+    HasRoom did = len (set_row rows id did.row) < 2 ^ 32
+
+    none_room : len (set_row rows id None) < 2 ^ 32
+    none_room = omega (arith, rows_gone rows id, few)
+
+    stands_room : (row : ServerRow) (did : Did ServerRow) → get rows id ≡ Some row → HasRoom did
+    stands_room row did at = omega (arith, rows_kept rows id row did.row at, few)
+
+    opens_room : (m : Moment) (piece : Piece) (answer : Answer) → m.rows ≡ len rows → HasRoom (opens s m id piece answer)
+    opens_room m piece answer many = by_test (nat_le s.served m.rows) refl where
+      left : Did ServerRow
+      left = if nat_lt m.free (pages_for piece.size) then says m None (Tells (PlainFullPages m.host id (pages_for piece.size) m.free) ∷ [])
+          else (let part = incoming.opened id.client piece.size m.order s.unsched in
+          piece_comes s m id piece.service part (record { order = m.order; state = Receiving piece.service part m.now 0 }) piece answer (opening piece.size (leaves m None)))
+
+      by_test : (b : Bool) → nat_le s.served m.rows ≡ b → HasRoom (if b then says m None (Tells (PlainFullRows m.host id m.rows s.served) ∷ []) else left)
+      by_test true e = none_room
+      by_test false e = omega (arith, rows_more rows id left.row, leb-false s.served m.rows e, many, served_small s v)
+
+    unknown_room : (m : Moment) (what : Body) (payload : List ℕ) (answer : Answer) → m.rows ≡ len rows → HasRoom (unknown_gets s m id what payload answer)
+    unknown_room m (body.Data size offset version service ack) payload answer many = opens_room m (piece_of size offset version service payload) answer many
+    unknown_room m (body.Resend from to prio) payload answer many = none_room
+    unknown_room m (body.Grant offset prio) payload answer many = none_room
+    unknown_room m body.Busy payload answer many = none_room
+    unknown_room m (body.Cutoffs c) payload answer many = none_room
+    unknown_room m (body.Unknown reason) payload answer many = none_room
+    unknown_room m body.NeedAck payload answer many = none_room
+    unknown_room m (body.Ack more) payload answer many = none_room
+
+    serves_room : (m : Moment) (p : Packet) (answer : Answer) (o : Option ServerRow) → get rows id ≡ o → p.id ≡ id → m.rows ≡ len rows → HasRoom (server_gets s m p answer o)
+    unfolding server_gets
+    serves_room m p answer None at same many = subst (λ (q : CallId). HasRoom (unknown_gets s m q p.body p.payload answer)) (sym same) (unknown_room m p.body p.payload answer many)
+    serves_room m p answer (Some row) at same many = stands_room row (row_gets s m p.id p.body p.payload answer row row.state) at
+
+    acked_room : (m : Moment) (o : Option ServerRow) → get rows id ≡ o → HasRoom (server_acked s m id o)
+    unfolding server_acked
+    acked_room m None at = none_room
+    acked_room m (Some row) at = stands_room row (state_acked s m id row row.state) at
+
   -- ---- a packet comes
 
   hears_good : (peer : HostId) (inc : ℕ) (what : Body) (w : Work) (role : Role) (level : ℕ) (payload : List ℕ) → FitsKind role level what payload → Good w → Good (hears_cutoffs s peer inc what w)
   hears_good peer inc (body.Cutoffs c) w role level payload f k = cond_both (is_newer inc c (peer_cutoffs s w.host peer)) _ _ Good
       (λ _. let h = k.host in
-      record { host = record { inc = h.inc; inc_fits = h.inc_fits; seq = h.seq; tuning = h.tuning; peers = all_set IsPeer w.host.peers peer.0 (record { inc = inc; cutoffs = c }) f.1 h.peers; finished = h.finished; clients = h.clients; servers = h.servers }; last = k.last; sent = k.sent })
+      record { host = record { inc = h.inc; inc_fits = h.inc_fits; seq = h.seq; tuning = h.tuning; peers = all_set IsPeer w.host.peers peer.0 (record { inc = inc; cutoffs = c }) f.1 h.peers; finished = h.finished; clients = h.clients; servers = h.servers; rows = h.rows }; last = k.last; sent = k.sent; told = k.told })
       (λ _. k)
   hears_good peer inc (body.Data size offset version service ack) w role level payload f k = k
   hears_good peer inc (body.Grant offset prio) w role level payload f k = k
@@ -65,9 +117,9 @@ module _ (s : Settings) (v : IsValid s) (now : ℕ) (soon : now ≤ 100000000200
 
   row_gets_good : (p : Packet) (answer : Answer) (role : Role) (w : Work) → IsSent s p → IsAnswer answer → Good w → Good (comes_to_row s p answer role w)
   row_gets_good p answer Client w sent a k =
-      served_good s v now soon p.id _ w sent.call (serves_good s v (moment s p.id w) p answer (get w.host.servers p.id) a sent.of_kind (row_is IsServerRow (get w.host.servers p.id) (λ row at. (k.host.servers p.id row at).1))) k
+      served_good s v now soon p.id _ w sent.call (serves_good s v (moment s p.id w) (moment_fits p.id w k) p answer (get w.host.servers p.id) a sent.of_kind (row_is IsServerRow (get w.host.servers p.id) (λ row at. (k.host.servers p.id row at).1))) (serves_room w.host.servers p.id k.host.rows (moment s p.id w) p answer (get w.host.servers p.id) refl refl refl) k
   row_gets_good p answer Server w sent a k =
-      asked_good s v now soon p.id p.server _ w sent.call (gets_good s (moment s p.id w) p (get w.host.clients p.id) sent.of_kind (row_is IsClientRow (get w.host.clients p.id) (λ r at. (k.host.clients p.id r at).1))) k
+      asked_good s v now soon p.id p.server _ w sent.call (gets_good s (moment s p.id w) (moment_fits p.id w k) p (get w.host.clients p.id) sent.of_kind (row_is IsClientRow (get w.host.clients p.id) (λ r at. (k.host.clients p.id r at).1))) k
 
   -- the calls that it acknowledges
   calls_are_ids : (client : HostId) (calls : List (ℕ × ℕ)) → AllByRecursion IsCall calls → AllByRecursion IsId (calls_of client calls)
@@ -88,7 +140,8 @@ module _ (s : Settings) (v : IsValid s) (now : ℕ) (soon : now ≤ 100000000200
   all_acked : (ids : List CallId) (w : Work) → AllByRecursion IsId ids → Good w → Good (acked s ids w)
   all_acked [] w named k = k
   all_acked (id ∷ ids) w named k =
-      all_acked ids _ named.1 (served_good s v now soon id _ w named.0 (acked_good s v (moment s id w) id (get w.host.servers id) (row_is IsServerRow (get w.host.servers id) (λ row at. (k.host.servers id row at).1))) k)
+      all_acked ids _ named.1 (served_good s v now soon id _ w named.0 (acked_good s v (moment s id w) id (moment_fits id w k) (get w.host.servers id) (row_is IsServerRow (get w.host.servers id) (λ row at. (k.host.servers id row at).1)))
+      (acked_room w.host.servers id k.host.rows (moment s id w) (get w.host.servers id) refl) k)
 
   takes_good : (p : Packet) (answer : Answer) (w : Work) → IsSent s p → IsAnswer answer → Good w → Good (takes s p answer w)
   unfolding takes
@@ -97,8 +150,8 @@ module _ (s : Settings) (v : IsValid s) (now : ℕ) (soon : now ≤ 100000000200
       (row_gets_good p answer p.role _ sent a (hears_good (sender p) p.inc p.body w p.role p.level p.payload sent.of_kind k))
 
   comes_good : (o : Option Packet) (answer : Answer) (w : Work) → IfSome o (IsSent s) → IsAnswer answer → Good w → Good (comes s o answer w)
-  comes_good None answer w sent a k = tells_good s v now soon w _ k tt
-  comes_good (Some p) answer w sent a k = cond_both (is_stale s (now_of w) p) _ _ Good (λ _. tells_good s v now soon w _ k tt) (λ _. takes_good p answer w sent a k)
+  comes_good None answer w sent a k = tells_good s v now soon w _ k tt (tt, tt)
+  comes_good (Some p) answer w sent a k = cond_both (is_stale s (now_of w) p) _ _ Good (λ _. tells_good s v now soon w _ k tt ((dated_small s v p sent, omega (arith, k.last, soon)), tt)) (λ _. takes_good p answer w sent a k)
 
   -- ---- the end of a step
 
@@ -138,15 +191,16 @@ module _ (s : Settings) (v : IsValid s) (now : ℕ) (soon : now ≤ 100000000200
       subst (λ o. Good (client_acted s id o w)) (sym timer.1) (asked_good s v now soon id (timer.0).server _ w row.0 (client_acts_good s v (moment s id w) id timer.0 row.1) k)
   act_good w (OfServer id) at k timer past =
       let row = k.host.servers id timer.0 timer.1 in
-      subst (λ o. Good (server_acted s id o w)) (sym timer.1) (served_good s v now soon id _ w row.0 (server_acts_good s v (moment s id w) id timer.0 row.1) k)
+      subst (λ o. Good (server_acted s id o w)) (sym timer.1) (served_good s v now soon id _ w row.0 (server_acts_good s v (moment s id w) id (moment_fits id w k) timer.0 row.1)
+      (stands_room w.host.servers id k.host.rows timer.0 (server_acts s (moment s id w) id timer.0) timer.1) k)
 
   begun_good : (h : Host) → IsGoodHost h → Good (begun h now)
-  begun_good h k = record { host = record { inc = k.inc; inc_fits = k.inc_fits; seq = k.seq; tuning = k.tuning; peers = k.peers; finished = k.finished; clients = k.clients; servers = k.servers }; last = refl; sent = tt }
+  begun_good h k = record { host = record { inc = k.inc; inc_fits = k.inc_fits; seq = k.seq; tuning = k.tuning; peers = k.peers; finished = k.finished; clients = k.clients; servers = k.servers; rows = k.rows }; last = refl; sent = tt; told = tt }
 
   filled_good : (h : Host) → IsGoodHost h → IsGoodHost (refilled s (record h { last = now }))
   filled_good h k = cond_both (nat_lt h.refilled now) (record h { last = now; credit = s.rate; refilled = now }) (record h { last = now }) IsGoodHost
-      (λ _. record { inc = k.inc; inc_fits = k.inc_fits; seq = k.seq; tuning = k.tuning; peers = k.peers; finished = k.finished; clients = k.clients; servers = k.servers })
-      (λ _. record { inc = k.inc; inc_fits = k.inc_fits; seq = k.seq; tuning = k.tuning; peers = k.peers; finished = k.finished; clients = k.clients; servers = k.servers })
+      (λ _. record { inc = k.inc; inc_fits = k.inc_fits; seq = k.seq; tuning = k.tuning; peers = k.peers; finished = k.finished; clients = k.clients; servers = k.servers; rows = k.rows })
+      (λ _. record { inc = k.inc; inc_fits = k.inc_fits; seq = k.seq; tuning = k.tuning; peers = k.peers; finished = k.finished; clients = k.clients; servers = k.servers; rows = k.rows })
 
   -- ---- steps
 
@@ -161,7 +215,7 @@ module _ (s : Settings) (v : IsValid s) (now : ℕ) (soon : now ≤ 100000000200
   arrival_good h o answer k sent a = ended_good (comes s o answer (begun h now)) (comes_good o answer (begun h now) sent a (begun_good h k))
 
   -- a call that can start
-  record CanStart (h : Host) (request : List ℕ) : Type 0 where
+  pub record CanStart (h : Host) (request : List ℕ) : Type 0 where
     pub some : 1 ≤ length request
     pub most : length request ≤ 1000000
     pub seq : h.seq < 4294967295
@@ -170,7 +224,7 @@ module _ (s : Settings) (v : IsValid s) (now : ℕ) (soon : now ≤ 100000000200
   by_if true fault o e = absurd (let z : Some fault ≡ None = e in cc)
   by_if false fault o e = (refl, e)
 
-  can_start : (h : Host) (server : HostId) (request : List ℕ) → start_fault s h server request ≡ None → CanStart h request
+  pub can_start : (h : Host) (server : HostId) (request : List ℕ) → start_fault s h server request ≡ None → CanStart h request
   unfolding start_fault
   can_start h server request e =
       let a = by_if (length request == 0) Empty _ e in
@@ -195,9 +249,11 @@ module _ (s : Settings) (v : IsValid s) (now : ℕ) (soon : now ≤ 100000000200
           finished = k.finished;
           clients = set_good IsClientRow h.clients (next_id h) (Some (new_call s now h.order server service request)) named row k.clients;
           servers = k.servers;
+          rows = k.rows;
         };
         last = refl;
         sent = tt;
+        told = (tt, tt);
       }
 
   pub call_good : (h : Host) (server : HostId) (service : ℕ) (request : List ℕ) → IsGoodHost h → start_fault s h server request ≡ None → IsBytes request → service < 256 → Good (call_step s h now server service request)
@@ -224,4 +280,5 @@ new_good s id inc last some few = record {
   finished = all_replicate AreFinished s.hosts [] (omega arith, tt);
   clients = λ q r at. absurd (none_some r (sym (get-empty call_cmp q) ∙ at));
   servers = λ q row at. absurd (none_some row (sym (get-empty call_cmp q) ∙ at));
+  rows = omega (arith, len-empty call_cmp ServerRow);
 }

@@ -1,6 +1,6 @@
 -- What each step of a host tells: only lines within a step, behind the line of a call.
-use Rattle.std.proofs.Common.{◌≡◌, ℕ, ◌≤◌, Option, Some, None, List, [], ◌∷◌, ◌++◌, append_assoc, refl, sym, ap, subst, ◌∙◌}
-use Rattle.std.specs.Prelude.{nat_lt}
+use Rattle.std.proofs.Common.{◌≡◌, ℕ, ◌≤◌, Bool, true, false, length, Option, Some, None, List, [], ◌∷◌, ◌++◌, append_assoc, refl, sym, ap, subst, ◌∙◌}
+use Rattle.std.specs.Prelude.{nat_lt, ◌==◌}
 use Rattle.std.specs.Option.{IfSome}
 use Rattle.std.proofs.lemmas.Bool.{cond_both}
 use Rattle.plain_sets.specs.Maps.{get}
@@ -11,54 +11,138 @@ use Rattle.homa_plain.specs.declared.packet.Role.{Role}
 use Rattle.homa_plain.specs.declared.packet.Role.TheVariants.{Client, Server}
 use Rattle.homa_plain.specs.declared.settings.Settings.{Settings}
 use Rattle.homa_plain.specs.Calls.{call_cmp}
-use Rattle.homa_plain.specs.Entries.{PlainCall, PlainJunk, PlainStale}
+use Rattle.homa_plain.specs.Entries.{PlainEntry, PlainCall, PlainRun, PlainDone, PlainFail, PlainDrop, PlainGaps, PlainBury, PlainFree, PlainFullRows, PlainFullPages, PlainBalance, PlainJunk, PlainStale}
 use Rattle.homa_plain.specs.Packets.{Packet, sender, receiver, receiver_of, acks}
 use Rattle.homa_plain.specs.Rows.{ClientRow, ServerRow, RowsOf, set_row}
-use Rattle.homa_plain.specs.Host.{Host, new_host, Told, Says}
-use Rattle.homa_plain.specs.Rules.{Answer, Did}
+use Rattle.homa_plain.specs.Host.{Host, new_host, Told, Says, Sends, Tuned, tuned, is_balance_due, counted, finished_at}
+use Rattle.homa_plain.specs.Rules.{Answer, Say, Tells, Posts, Did}
 use Rattle.homa_plain.specs.Timers.{Place, OfClient, OfServer, client_acts, server_acts}
 use Rattle.homa_plain.specs.Sending.{client_granted, client_sends}
-use Rattle.homa_plain.specs.Steps.{Work, begun, now_of, moment, asked, served, hears_cutoffs, comes_to_row, takes, is_stale, comes, client_acted, server_acted, acts_at, acts, ended, next_id, new_call, starts, refilled, call_step, arrival_step, turn_step}
+use Rattle.homa_plain.specs.Steps.{Work, begun, now_of, moment, said, asked, served, hears_cutoffs, comes_to_row, takes, is_stale, comes, client_acted, server_acted, acts_at, acts, ended, next_id, new_call, starts, refilled, call_step, arrival_step, turn_step}
 use Rattle.trace_lines.specs.Told.{HasOwnName}
 use Rattle.trace_lines.proofs.Lines.{AllInner, inner-append}
-use Rattle.trace_moves.proofs.Own.{AllOwn, gets_own, acked_own, server_acts_own, gets_quiet, client_acts_quiet}
-use Rattle.trace_moves.proofs.Moves.{IsMove, served_told, served-move}
-use Rattle.trace_moves.proofs.AskedMove.{asked_told, asked-move}
+use Rattle.trace_moves.proofs.Own.{IsOwn, AllOwn, gets_own, acked_own, server_acts_own, gets_quiet, client_acts_quiet}
+use Rattle.trace_moves.proofs.Moves.{IsMove, notes_told, reply_told, acknowledged_told, finishes_told, served_put, served_noted, served_told, served-move}
+use Rattle.trace_moves.proofs.AskedMove.{asked_put, asked_noted, asked_said, asked_told, asked-move}
 use Rattle.trace_moves.proofs.SendMoves.{server_granted-move, client_granted-move, response_leaves-move, request_leaves-move, says-move, hears-move}
 use Rattle.trace_induction.proofs.Hosts.{none_some}
 use Rattle.trace_induction.proofs.ToldMoves.{own_set}
 use Rattle.trace_induction.proofs.Chosen.{IsTimerAt}
 use Rattle.trace_induction.proofs.Folds.{acked_kept, turn_kept, ended_kept, GrantKeeps, PieceKeeps}
 
+-- ---- lines of one host
+
+-- a line is of no host but this one
+abbrev pub IsAt : HostId → PlainEntry → Type 0
+IsAt id (PlainRun host q service request response hold) = host ≡ id
+IsAt id (PlainDrop host q) = host ≡ id
+IsAt id (PlainGaps host q) = host ≡ id
+IsAt id (PlainBury host q until) = host ≡ id
+IsAt id (PlainFree host q) = host ≡ id
+IsAt id (PlainFullRows host q rows limit) = host ≡ id
+IsAt id (PlainFullPages host q need free) = host ≡ id
+IsAt id (PlainBalance host cutoffs) = host ≡ id
+IsAt id (PlainJunk host) = host ≡ id
+IsAt id (PlainStale host at now) = host ≡ id
+IsAt id entry = Unit {0}
+
+abbrev pub AllAt : HostId → List Told → Type 0
+AllAt id [] = Unit {0}
+AllAt id (Says entry ∷ told) = IsAt id entry × AllAt id told
+AllAt id (Sends packet ∷ told) = AllAt id told
+
+at-append : (id : HostId) (a b : List Told) → AllAt id a → AllAt id b → AllAt id (a ++ b)
+at-append id [] b x y = y
+at-append id (Says entry ∷ a) b x y = (x.0, at-append id a b x.1 y)
+at-append id (Sends packet ∷ a) b x y = at-append id a b x y
+
+own_at : (id : HostId) (q : CallId) (entry : PlainEntry) → IsOwn id q entry → IsAt id entry
+own_at id q (PlainRun host p service request response hold) own = own.0
+own_at id q (PlainDrop host p) own = own.0
+own_at id q (PlainGaps host p) own = own.0
+own_at id q (PlainBury host p until) own = own.0
+own_at id q (PlainFree host p) own = own.0
+own_at id q (PlainFullRows host p rows limit) own = own.0
+own_at id q (PlainFullPages host p need free) own = own.0
+own_at id q (PlainDone p bytes) own = tt
+own_at id q (PlainFail p why) own = tt
+own_at id q entry own = absurd own
+
+module _ (s : Settings) where
+  said_at : (h : Host) (role : Role) (q : CallId) (server id : HostId) (says : List Say) → AllOwn id q says → AllAt id (said s h role q server says)
+  said_at h role q server id [] own = tt
+  said_at h role q server id (Tells entry ∷ says) own = (own_at id q entry own.0, said_at h role q server id says own.1)
+  said_at h role q server id (Posts what ∷ says) own = said_at h role q server id says own
+
+  notes_at : (o : Option ℕ) (w : Work) (id : HostId) → w.host.id ≡ id → AllAt id (notes_told s o w)
+  unfolding tuned
+  notes_at None w id name = tt
+  notes_at (Some n) w id name = cond_both (is_balance_due s (counted w.host.tuning n)) _ _ (λ (t : Tuned). AllAt id t.told) (λ _. (name, tt)) (λ _. tt)
+
+  reply_at : (role : Role) (q : CallId) (server : HostId) (o : Option ℕ) (w : Work) (id : HostId) → AllAt id (reply_told s role q server o w)
+  reply_at role q server None w id = tt
+  reply_at role q server (Some version) w id = cond_both (version == w.host.tuning.own.version) _ _ (AllAt id) (λ _. tt) (λ _. tt)
+
+  acknowledged_at : (server : HostId) (calls : List (ℕ × ℕ)) (w : Work) (id : HostId) → AllAt id (acknowledged_told s server calls w)
+  acknowledged_at server [] w id = tt
+  acknowledged_at server (call ∷ calls) w id = cond_both (nat_lt (length calls) 4) _ _ (AllAt id) (λ _. tt) (λ _. tt)
+
+  finishes_at : (q : CallId) (server : HostId) (done : Bool) (w : Work) (id : HostId) → AllAt id (finishes_told s q server done w)
+  finishes_at q server false w id = tt
+  finishes_at q server true w id = acknowledged_at server (finished_at w.host server ++ (q.inc, q.seq) ∷ []) w id
+
+  -- what rules tell
+  served_at : (q : CallId) (did : Did ServerRow) (w : Work) (id : HostId) → w.host.id ≡ id → AllOwn id q did.says → AllAt id (served_told s q did w)
+  served_at q did w id name own =
+      let noted = served_noted s q did w in
+      let says = said s w.host Server q w.host.id did.says in
+      let reply = reply_told s Server q w.host.id did.version noted in
+      at-append id (notes_told s did.opened (served_put s q did w)) (reply ++ says) (notes_at did.opened (served_put s q did w) id name)
+      (at-append id reply says (reply_at Server q w.host.id did.version noted id) (said_at w.host Server q w.host.id id did.says own))
+
+  asked_at : (q : CallId) (server : HostId) (did : Did ClientRow) (w : Work) (id : HostId) → w.host.id ≡ id → AllOwn id q did.says → AllAt id (asked_told s q server did w)
+  asked_at q server did w id name own =
+      let noted = asked_noted s q server did w in
+      let says = said s w.host Client q server did.says in
+      let reply = reply_told s Client q server did.version noted in
+      let ends = finishes_told s q server did.finished (asked_said s q server did w) in
+      at-append id (notes_told s did.opened (asked_put s q server did w)) (reply ++ (says ++ ends)) (notes_at did.opened (asked_put s q server did w) id name)
+      (at-append id reply (says ++ ends) (reply_at Client q server did.version noted id)
+      (at-append id says ends (said_at w.host Client q server id did.says own) (finishes_at q server did.finished (asked_said s q server did w) id)))
+
 -- ---- what a step tells: some lines first, and inner lines behind them
 
--- a step of a host: the host keeps its name, and behind `first` only lines within a step are told
+-- a step of a host: the host keeps its name, and behind `first` only lines within a step are told, of this host
 pub record IsInside (id : HostId) (first : List Told) (work : Work) : Type 0 where
   pub name : HasOwnName id work.host
   pub rest : List Told
   pub told : work.told ≡ first ++ rest
   pub inner : AllInner rest
+  pub at : AllAt id rest
 
 module _ (s : Settings) (id : HostId) (first : List Told) where
-  named_move : (work new : Work) (told : List Told) (clients : RowsOf ClientRow) (servers : RowsOf ServerRow) → IsMove work new told clients servers → ((q : CallId) (r : ClientRow) → get clients q ≡ Some r → q.client ≡ id) → IsInside id first work → IsInside id first new
-  named_move work new told clients servers m own k = record {
+  named_move : (work new : Work) (told : List Told) (clients : RowsOf ClientRow) (servers : RowsOf ServerRow) → IsMove work new told clients servers → AllAt id told → ((q : CallId) (r : ClientRow) → get clients q ≡ Some r → q.client ≡ id) → IsInside id first work → IsInside id first new
+  named_move work new told clients servers m at own k = record {
     name = record { name = m.id ∙ k.name.name; own = λ q r is. own q r (ap (λ (rows : RowsOf ClientRow). get rows q) (sym m.at_clients) ∙ is) };
     rest = k.rest ++ told;
     told = m.grown ∙ ap (λ (t : List Told). t ++ told) k.told ∙ append_assoc first k.rest told;
     inner = inner-append k.rest told k.inner m.inner;
+    at = at-append id k.rest told k.at at;
   }
 
-  pub named_beside : (work new : Work) (told : List Told) (servers : RowsOf ServerRow) → IsMove work new told work.host.clients servers → IsInside id first work → IsInside id first new
-  named_beside work new told servers m k = named_move work new told work.host.clients servers m k.name.own k
+  pub named_beside : (work new : Work) (told : List Told) (servers : RowsOf ServerRow) → IsMove work new told work.host.clients servers → AllAt id told → IsInside id first work → IsInside id first new
+  named_beside work new told servers m at k = named_move work new told work.host.clients servers m at k.name.own k
 
-  named_client : (work new : Work) (told : List Told) (q : CallId) (o : Option ClientRow) → q.client ≡ id → IsMove work new told (set_row work.host.clients q o) work.host.servers → IsInside id first work → IsInside id first new
-  named_client work new told q o mine m k = named_move work new told (set_row work.host.clients q o) work.host.servers m (own_set id work.host.clients q o mine k.name.own) k
+  named_client : (work new : Work) (told : List Told) (q : CallId) (o : Option ClientRow) → q.client ≡ id → IsMove work new told (set_row work.host.clients q o) work.host.servers → AllAt id told → IsInside id first work → IsInside id first new
+  named_client work new told q o mine m at k = named_move work new told (set_row work.host.clients q o) work.host.servers m at (own_set id work.host.clients q o mine k.name.own) k
 
   pub named_served : (work : Work) (q : CallId) (did : Did ServerRow) → AllOwn work.host.id q did.says → IsInside id first work → IsInside id first (served s q did work)
-  named_served work q did own k = named_beside work (served s q did work) (served_told s q did work) (set_row work.host.servers q did.row) (served-move s q did work own) k
+  named_served work q did own k = named_beside work (served s q did work) (served_told s q did work) (set_row work.host.servers q did.row) (served-move s q did work own)
+      (served_at s q did work id k.name.name (subst (λ (h : HostId). AllOwn h q did.says) k.name.name own)) k
 
   pub named_asked : (work : Work) (q : CallId) (server : HostId) (did : Did ClientRow) → q.client ≡ id → AllOwn q.client q did.says → IsInside id first work → IsInside id first (asked s q server did work)
-  named_asked work q server did mine own k = named_client work (asked s q server did work) (asked_told s q server did work) q did.row mine (asked-move s q server did work (mine ∙ sym k.name.name) own) k
+  named_asked work q server did mine own k = named_client work (asked s q server did work) (asked_told s q server did work) q did.row mine (asked-move s q server did work (mine ∙ sym k.name.name) own)
+      (asked_at s q server did work id k.name.name (subst (λ (h : HostId). AllOwn h q did.says) mine own)) k
 
   -- ---- the end of a step, and its acts
 
@@ -66,16 +150,16 @@ module _ (s : Settings) (id : HostId) (first : List Told) where
   grants_named = record {
     response = λ work q r part offset prio k at has o m.
         let mine : q.client ≡ id = k.name.own q r at in
-        named_client work _ _ q (Some (client_granted (now_of work) offset r)) mine (client_granted-move s q work offset prio r (mine ∙ sym k.name.name)) k;
-    request = λ work q row service part base count offset prio k at is o m. named_beside work _ _ _ (server_granted-move s q work offset prio row) k;
+        named_client work _ _ q (Some (client_granted (now_of work) offset r)) mine (client_granted-move s q work offset prio r (mine ∙ sym k.name.name)) tt k;
+    request = λ work q row service part base count offset prio k at is o m. named_beside work _ _ _ (server_granted-move s q work offset prio row) tt k;
   }
 
   pub pieces_named : PieceKeeps s (IsInside id first)
   pieces_named = record {
     request = λ work q r range k at may e.
         let mine : q.client ≡ id = k.name.own q r at in
-        named_client work _ _ q (Some (client_sends s (now_of work) r)) mine (request_leaves-move s q work r range (mine ∙ sym k.name.name)) k;
-    response = λ work q row response out order base count range k at is e. named_beside work _ _ _ (response_leaves-move s q work row _ range) k;
+        named_client work _ _ q (Some (client_sends s (now_of work) r)) mine (request_leaves-move s q work r range (mine ∙ sym k.name.name)) tt k;
+    response = λ work q row response out order base count range k at is e. named_beside work _ _ _ (response_leaves-move s q work row _ range) tt k;
   }
 
   ended_named : (work : Work) → IsInside id first work → IsInside id first (ended s work)
@@ -98,12 +182,12 @@ module _ (s : Settings) (id : HostId) (first : List Told) where
   unfolding takes
   takes_named p answer work at k =
       acked_kept s (IsInside id first) (λ now q l. named_served now q _ (acked_own s (moment s q now) q (get now.host.servers q)) l) (acks p) _
-      (row_named p answer p.role (hears_cutoffs s (sender p) p.inc p.body work) at (named_beside work (hears_cutoffs s (sender p) p.inc p.body work) [] work.host.servers (hears-move s (sender p) p.inc p.body work) k))
+      (row_named p answer p.role (hears_cutoffs s (sender p) p.inc p.body work) at (named_beside work (hears_cutoffs s (sender p) p.inc p.body work) [] work.host.servers (hears-move s (sender p) p.inc p.body work) tt k))
 
   comes_named : (o : Option Packet) (answer : Answer) (work : Work) → IfSome o (λ p. receiver p ≡ id) → IsInside id first work → IsInside id first (comes s o answer work)
-  comes_named None answer work at k = named_beside work _ _ work.host.servers (says-move (PlainJunk work.host.id) work tt) k
+  comes_named None answer work at k = named_beside work _ _ work.host.servers (says-move (PlainJunk work.host.id) work tt) (k.name.name, tt) k
   comes_named (Some p) answer work at k =
-      cond_both (is_stale s (now_of work) p) _ _ (IsInside id first) (λ _. named_beside work _ _ work.host.servers (says-move (PlainStale work.host.id p.at (now_of work)) work tt) k) (λ _. takes_named p answer work at k)
+      cond_both (is_stale s (now_of work) p) _ _ (IsInside id first) (λ _. named_beside work _ _ work.host.servers (says-move (PlainStale work.host.id p.at (now_of work)) work tt) (k.name.name, tt) k) (λ _. takes_named p answer work at k)
 
   -- ---- the end of a step
 
@@ -114,7 +198,7 @@ module _ (s : Settings) (id : HostId) (first : List Told) where
 
 module _ (s : Settings) (id : HostId) where
   begun_inside : (h : Host) (now : ℕ) → HasOwnName id h → IsInside id [] (begun h now)
-  begun_inside h now k = record { name = record { name = k.name; own = k.own }; rest = []; told = refl; inner = tt }
+  begun_inside h now k = record { name = record { name = k.name; own = k.own }; rest = []; told = refl; inner = tt; at = tt }
 
   -- the line of a call
   abbrev pub call_line : Host → HostId → ℕ → List ℕ → List Told
@@ -126,6 +210,7 @@ module _ (s : Settings) (id : HostId) where
     rest = [];
     told = refl;
     inner = tt;
+    at = tt;
   }
 
   pub call_inside : (h : Host) (now : ℕ) (server : HostId) (service : ℕ) (request : List ℕ) → HasOwnName id h → IsInside id (call_line h server service request) (call_step s h now server service request)

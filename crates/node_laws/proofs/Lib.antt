@@ -3,9 +3,15 @@ pub mod Inner
 pub mod Carried
 pub mod Noted
 pub mod Parts
+pub mod Told
 pub mod Ruled
 pub mod Good
 pub mod GoodSteps
+pub mod Behind
 pub mod Repeated
+pub mod Operands
+pub mod Places
 pub mod Opening
+pub mod Courses
 pub mod Loops
+pub mod Turns

@@ -20,45 +20,44 @@ use Rattle.homa_plain.proofs.CallOrder.{hosts_are}
 use Rattle.step_laws.proofs.Places.{all-append}
 use Rattle.trace_lines.proofs.Lines.{IsSaid, AllInner}
 use Rattle.node_runs.specs.Course.{Report, Tells}
-use Rattle.node_runs.specs.Recorder.{Kept, Notes, Kind, Sent, Junk, Strange, is_same, greatest, kind_by, kind_of, kind_in, strange, events, in_life, still, sent_packet, keeps, kept}
+use Rattle.node_runs.specs.Recorder.{Kept, Notes, Kind, Sent, Junk, Strange, is_same, greatest, kind_by, kind_of, kind_in, strange, events, in_life, still, sent_packet, keeps, told, kept}
+use Rattle.node_runs.specs.Observed.{observed}
 use Rattle.node_runs.specs.Replayed.{recorded_events, NoneStrange}
+use Rattle.node_runs.proofs.Observing.{notes_behind, usual-first, usual-append as usual-parts}
 use Rattle.node_laws.proofs.OfNode.{IsOfNode}
 
 -- ---- reports one after the other
 
 -- what is kept after some reports
 abbrev pub kept_all : Notes → List Report → Notes
-kept_all n [] = n
-kept_all n (r ∷ rs) = kept_all (kept n r) rs
+kept_all n rs = notes_behind kept n rs
 
 pub kept-append : (n : Notes) (a b : List Report) → kept_all n (a ++ b) ≡ kept_all (kept_all n a) b
 kept-append n [] b = refl
 kept-append n (r ∷ a) b = kept-append (kept n r) a b
 
+-- one report, and those behind it
+pub events_first : (n : Notes) (r : Report) (rs : List Report) → recorded_events n (r ∷ rs) ≡ events n r ++ recorded_events (kept n r) rs
+unfolding observed
+events_first n r rs = refl
+
+pub events_none : (n : Notes) → recorded_events n [] ≡ []
+unfolding observed
+events_none n = refl
+
 pub events-append : (n : Notes) (a b : List Report) → recorded_events n (a ++ b) ≡ recorded_events n a ++ recorded_events (kept_all n a) b
-unfolding recorded_events
+unfolding observed
 events-append n [] b = refl
 events-append n (r ∷ a) b =
     ap (λ (es : List Happening). events n r ++ es) (events-append (kept n r) a b)
     ∙ sym (append_assoc (events n r) (recorded_events (kept n r) a) (recorded_events (kept_all (kept n r) a) b))
 
+-- where nothing is strange
 pub usual-append : (n : Notes) (a b : List Report) → NoneStrange n (a ++ b) → NoneStrange n a × NoneStrange (kept_all n a) b
-unfolding NoneStrange
-usual-append n [] b h = (tt, h)
-usual-append n (r ∷ a) b h = let rest = usual-append (kept n r) a b h.1 in ((h.0, rest.0), rest.1)
-
--- one report, and those behind it
-pub events_first : (n : Notes) (r : Report) (rs : List Report) → recorded_events n (r ∷ rs) ≡ events n r ++ recorded_events (kept n r) rs
-unfolding recorded_events
-events_first n r rs = refl
-
-pub events_none : (n : Notes) → recorded_events n [] ≡ []
-unfolding recorded_events
-events_none n = refl
+usual-append n a b h = usual-parts told kept strange n a b h
 
 pub usual_first : (n : Notes) (r : Report) (rs : List Report) → NoneStrange n (r ∷ rs) → strange n r ≡ false
-unfolding NoneStrange
-usual_first n r rs h = h.0
+usual_first n r rs h = (usual-first told kept strange n r rs h).0
 
 -- ---- lines within a step
 
@@ -86,12 +85,12 @@ inner_no_event n k (Sends p ∷ told) inner =
 
 -- ---- notes of a world
 
-get-append : {A : Type 0} (xs ys : List A) (i : ℕ) (x : A) → slice_get xs i ≡ Some x → slice_get (xs ++ ys) i ≡ Some x
+pub get-append : {A : Type 0} (xs ys : List A) (i : ℕ) (x : A) → slice_get xs i ≡ Some x → slice_get (xs ++ ys) i ≡ Some x
 get-append [] ys i x e = absurd (let z : None ≡ Some x = e in cc)
 get-append (y ∷ xs) ys zero x e = e
 get-append (y ∷ xs) ys (suc i) x e = get-append xs ys i x e
 
-get_last : {A : Type 0} (xs : List A) (x : A) → slice_get (xs ++ x ∷ []) (length xs) ≡ Some x
+pub get_last : {A : Type 0} (xs : List A) (x : A) → slice_get (xs ++ x ∷ []) (length xs) ≡ Some x
 get_last [] x = refl
 get_last (y ∷ xs) x = get_last xs x
 
@@ -121,7 +120,7 @@ module _ (s : Settings) where
       )
 
   -- the packet of a `send` line is the one that was sent
-  same_packet : (clock : ℕ) (p : Packet) (tick : ℕ) → tick ≡ clock → p.at ≡ (if s.wire == 1 then 0 else clock + s.skew) → sent_packet s tick p.inc p.role p.id p.level p.body ≡ wire_packet p
+  pub same_packet : (clock : ℕ) (p : Packet) (tick : ℕ) → tick ≡ clock → p.at ≡ (if s.wire == 1 then 0 else clock + s.skew) → sent_packet s tick p.inc p.role p.id p.level p.body ≡ wire_packet p
   same_packet clock p tick same dated =
       let at : (if s.wire == 1 then 0 else tick + s.skew) ≡ p.at = ap (λ (t : ℕ). if s.wire == 1 then 0 else t + s.skew) same ∙ sym dated in
       let packet : ℕ → WirePacket = λ (t : ℕ). record { role = p.role; level = p.level; sender = p.inc; inc = p.id.inc; seq = p.id.seq; at = t; body = p.body } in
@@ -184,13 +183,16 @@ module _ (s : Settings) where
         (record { sent = k.sent; stands = k.stands; from = k.from; to = k.to; tick = k.tick; bytes = k.bytes; life = omega (arith, timely, k.tick) }, rest)
     by_test false e rest = rest
 
-  pub clock_notes : (n : Notes) (old now : ℕ) (packets : List SentPacket) → AreNotes n old packets → AreNotes (kept n (Tells (PlainClock now))) now packets
+  pub clock_notes : (n : Notes) (old now : ℕ) (packets : List SentPacket) → old ≤ now → AreNotes n old packets → AreNotes (kept n (Tells (PlainClock now))) now packets
   unfolding kept
-  clock_notes n old now packets a = record {
-    tick = refl;
-    settings = a.settings;
-    kept = subst (λ (o : Option Settings). AllByRecursion (IsKept now packets) (still o now n.datagrams)) (sym a.settings) (in_time packets old now n.datagrams a.kept);
-  }
+  clock_notes n old now packets onward a =
+      let later : max n.tick now ≡ now = omega (arith, a.tick, onward) in
+      subst (λ (t : ℕ). AreNotes (record n { tick = t; datagrams = still n.settings t n.datagrams }) now packets) (sym later)
+      (record {
+        tick = refl;
+        settings = a.settings;
+        kept = subst (λ (o : Option Settings). AllByRecursion (IsKept now packets) (still o now n.datagrams)) (sym a.settings) (in_time packets old now n.datagrams a.kept);
+      })
 
   -- ---- a datagram that comes
 
@@ -203,7 +205,7 @@ module _ (s : Settings) where
     pub spelled : bytes ≡ datagram s sent.packet
     pub life : clock ≤ sent.tick + s.life
 
-  both_true : (a b : Bool) → (a && b) ≡ true → (a ≡ true) × (b ≡ true)
+  pub both_true : (a b : Bool) → (a && b) ≡ true → (a ≡ true) × (b ≡ true)
   both_true true b e = (refl, e)
   both_true false b e = absurd (true≢false (sym e))
 

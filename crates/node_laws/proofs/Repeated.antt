@@ -1,42 +1,41 @@
 -- What a part of a node's run adds to what the replay of its recording has carried out.
-use Rattle.std.proofs.Common.{◌≡◌, ℕ, suc, zero, ◌+◌, ◌≤◌, Bool, true, false, Option, None, Some, List, [], ◌∷◌, ◌++◌, length, map, refl, sym, ap, ◌∙◌, subst, arith, drop, ◌<◌}
-use Rattle.std.specs.Prelude.{is_some, if◌then◌else◌, slice_get, slice_set, ◌==◌, ◌&&◌, nat_lt, slice_index_or}
+use Rattle.std.proofs.Common.{◌≡◌, ℕ, suc, zero, ◌+◌, ◌≤◌, Bool, true, false, Option, None, Some, List, [], ◌∷◌, ◌++◌, length, map, refl, sym, ap, ◌∙◌, subst, arith, ◌<◌, ◌*◌, length-append}
+use Rattle.std.specs.Prelude.{is_some, if◌then◌else◌, slice_get, slice_set, ◌==◌, ◌&&◌, nat_lt}
 use Rattle.std.specs.List.{AllByRecursion}
 use Rattle.std.specs.Option.{IfSome}
-use Rattle.std.proofs.lemmas.Bool.{cond_both, ltb-true, true≢false}
+use Rattle.std.proofs.lemmas.List.{length-set, length-map}
+use Rattle.std.proofs.lemmas.Bool.{ltb-true, true≢false}
 use Rattle.homa_plain.specs.declared.id.CallId.{CallId}
 use Rattle.homa_plain.specs.declared.id.HostId.{HostId}
 use Rattle.homa_plain.specs.declared.packet.Packet.{Packet as WirePacket}
 use Rattle.homa_plain.specs.declared.settings.Settings.{Settings}
+use Rattle.homa_plain.specs.declared.event.Event.{Event}
 use Rattle.homa_plain.specs.declared.event.Event.TheVariants as event
 use Rattle.homa_plain.specs.declared.fault.StartFault.{StartFault}
 use Rattle.homa_plain.specs.declared.fault.WorldFault.TheVariants.{NoSuchHost, Start}
-use Rattle.homa_plain.specs.Calls.{is_host}
 use Rattle.homa_plain.specs.Wire.{packet_in}
 use Rattle.homa_plain.specs.Entries.{PlainEntry, PlainSettings, PlainCall, PlainRecv, PlainDeliver, PlainInject}
-use Rattle.homa_plain.specs.declared.packet.Role.{Role}
-use Rattle.homa_plain.specs.declared.packet.Role.TheVariants.{Client, Server}
-use Rattle.homa_plain.specs.Packets.{Packet, sender, receiver, receiver_of, call_between, server_between, wire_packet, packet_between}
-use Rattle.homa_plain.specs.Host.{Host, Told, packets_in, entries_from}
-use Rattle.homa_plain.specs.Steps.{Work, start_fault, next_id, call_step, arrival_step, turn_step, has_run}
-use Rattle.homa_plain.specs.World.{World, SentPacket, After, Refused, Done, outcome, host_at, own_clock, next_answer, answers_left, stamped, stepped, started, calls_from, turns, arrives_at, last_tick}
+use Rattle.homa_plain.specs.Packets.{Packet, sender, wire_packet, packet_between}
+use Rattle.homa_plain.specs.Host.{Host, Told, Says, Sends, packets_in, entries_from}
+use Rattle.homa_plain.specs.Steps.{Work, start_fault, next_id, call_step, arrival_step, turn_step}
+use Rattle.homa_plain.specs.World.{World, SentPacket, After, Refused, Done, outcome, host_at, own_clock, next_answer, answers_left, stamped, started, calls_from, turns, arrives_at}
 use Rattle.homa_plain.specs.Replay.{Happening, bare}
-use Rattle.trace_induction.proofs.Hosts.{there, elsewhere, within, some_is, number_of, apart}
+use Rattle.trace_induction.proofs.Hosts.{there, within, some_is}
 use Rattle.homa_plain.specs.Bytes.{IsBytes}
 use Rattle.homa_plain.specs.Settings.{IsValid}
-use Rattle.homa_plain.specs.Rules.{Answer}
 use Rattle.step_laws.proofs.Places.{all-append}
 use Rattle.world_laws.specs.Sound.{IsSent}
-use Rattle.node_laws.proofs.Good.{IsGoodHost, IsGoodWork, IsSentNow}
-use Rattle.node_laws.proofs.GoodSteps.{call_good, arrival_good, turn_good}
+use Rattle.node_laws.proofs.GoodSteps.{can_start, call_good, arrival_good, turn_good}
+use Rattle.step_laws.proofs.Bounds.{call-bounded, arrival-bounded, turn-bounded}
 use Rattle.trace_lines.specs.Told.{HasOwnName}
-use Rattle.trace_lines.proofs.Lines.{AllInner}
+use Rattle.trace_lines.proofs.Lines.{IsSaid, AllInner}
 use Rattle.world_laws.proofs.Sent.{read, between}
-use Rattle.node_runs.specs.Course.{Report, Tells, Turning, Arrival, packet_from, arrival_outcome}
+use Rattle.node_runs.specs.Course.{Report, Tells, Turning, Arrival, IsReceived, packet_from, arrival_outcome}
 use Rattle.node_runs.specs.Recorder.{Notes, no_notes, Kind, Sent, Junk, Strange, kind_of, kind_in, kind_events, is_strange, strange, events, kept}
 use Rattle.node_runs.specs.Texts.{entries}
-use Rattle.node_runs.specs.Replayed.{recorded_events, is_of_host, of_hosts, IsAnswer}
+use Rattle.node_runs.specs.Replayed.{recorded_events, is_of_host, of_hosts, is_settings, NoSettings, BeginsWith, IsRecorded, AreRecorded}
 use Rattle.node_laws.proofs.OfNode.{IsOfNode}
+use Rattle.node_laws.proofs.Behind.{all_second, done_is, IsGoodWorld, next_is_answer, receiver_is, behind, stepped_behind, each_behind, in_time, good_behind}
 use Rattle.node_laws.proofs.Inner.{call_inside, arrival_inside, turn_inside}
 use Rattle.node_laws.proofs.Carried.{respared, respare, call_respared, turn_respared, deliver_is, inject_is, IsRun, run_one, run_more}
 use Rattle.node_laws.proofs.Noted.{kept_all, kept-append, events-append, events_first, inner_no_event, AreNotes, inner_notes, found_sent, found_junk, found_some}
@@ -48,7 +47,7 @@ entries-append [] b = refl
 entries-append (Tells e ∷ a) b = ap (λ (es : List PlainEntry). e ∷ es) (entries-append a b)
 entries-append (Turning host ∷ a) b = entries-append a b
 
-entries-told : (es : List PlainEntry) → entries (map Tells es) ≡ es
+pub entries-told : (es : List PlainEntry) → entries (map Tells es) ≡ es
 entries-told [] = refl
 entries-told (e ∷ es) = ap (λ (l : List PlainEntry). e ∷ l) (entries-told es)
 
@@ -59,37 +58,56 @@ hosts-append (e ∷ a) b = by_test (is_of_host e) (hosts-append a b) where
   by_test true h = ap (λ (l : List PlainEntry). e ∷ l) h
   by_test false h = h
 
-pub all_second : {X : Type 0} (P : X → Type 0) (xs ys : List X) → AllByRecursion P (xs ++ ys) → AllByRecursion P ys
-all_second P [] ys all = all
-all_second P (x ∷ xs) ys all = all_second P xs ys all.1
+-- ---- where settings are told
 
-pub done_is : (a b : After) → Done a ≡ Done b → a ≡ b
-done_is a b e = cc
+only-append : (a b : List Report) → NoSettings a → NoSettings b → NoSettings (a ++ b)
+only-append [] b x y = y
+only-append (r ∷ a) b x y = (x.0, only-append a b x.1 y)
 
--- ---- a world whose packets are all well formed
+begins_more : (s : Settings) (reports added : List Report) → BeginsWith s reports → NoSettings added → BeginsWith s (reports ++ added)
+begins_more s reports added k only = record {
+  later = k.later ++ added;
+  first = ap (λ (rs : List Report). rs ++ added) k.first;
+  only = only-append k.later added k.only only;
+}
 
-pub record IsGoodWorld (s : Settings) (w : World) : Type 0 where
-  pub hosts : (id : HostId) (h : Host) → host_at w id ≡ Some h → IsGoodHost h
-  pub leads : (id : HostId) (h : Host) → host_at w id ≡ Some h → slice_index_or w.leads id.0 0 ≡ s.skew
-  pub packets : AllByRecursion (IsOfNode s) w.packets
-  pub answers : AllByRecursion IsAnswer w.answers
-  pub clock : w.clock ≤ last_tick
+said_not : (e : PlainEntry) → IsSaid e → is_settings (Tells e) ≡ false
+said_not (PlainSettings settings) said = absurd said
+said_not e said = refl
 
--- where no answer is left, there is one byte
-next_is_answer : (answers : List Answer) → AllByRecursion IsAnswer answers → IsAnswer (next_answer answers)
-next_is_answer [] all = ((omega arith, omega arith), one_byte, omega arith) where
-  one_byte : IsBytes (0 ∷ [])
-  one_byte zero = omega arith
-  one_byte (suc i) = omega arith
-next_is_answer (a ∷ answers) all = all.0
+-- not within a step
+only_inner : (k : ℕ) (told : List Told) → AllInner told → NoSettings (map Tells (entries_from k told))
+only_inner k [] inner = tt
+only_inner k (Says e ∷ told) inner = (said_not e inner.0, only_inner k told inner.1)
+only_inner k (Sends p ∷ told) inner = (refl, only_inner (suc k) told inner)
 
-all_but_one : {X : Type 0} (P : X → Type 0) (xs : List X) → AllByRecursion P xs → AllByRecursion P (drop 1 xs)
-all_but_one P [] all = tt
-all_but_one P (x ∷ xs) all = all.1
+-- ---- numbers of events
+
+-- such datagrams are ones that a net may hand up
+abbrev pub AreFit : (Arrival → Type 0) → Type 0
+AreFit such = (a : Arrival) → such a → IsReceived a
+
+fit_later : (m n : ℕ) (e : Event) (bytes : List ℕ) → m ≤ n → IsRecorded m e bytes → IsRecorded n e bytes
+fit_later m n (event.Call client server service) bytes l k = k
+fit_later m n (event.Deliver number) bytes l k = (omega (arith, k.0, l), k.1)
+fit_later m n event.Clock bytes l k = k
+fit_later m n (event.Turn host) bytes l k = k
+fit_later m n (event.Inject host) bytes l k = k
+fit_later m n (event.Restart host) bytes l k = k
+fit_later m n (event.Shift host lead) bytes l k = k
+
+pub all_later : (m n : ℕ) (es : List Happening) → m ≤ n → AreRecorded m es → AreRecorded n es
+all_later m n [] l k = tt
+all_later m n (e ∷ es) l k = (fit_later m n e.event e.bytes l k.0, all_later m n es l k.1)
+
+there_by : {A : Type 0} (xs : List A) (i : ℕ) → is_some (slice_get xs i) ≡ true → i < length xs
+there_by [] i e = absurd (true≢false (sym e))
+there_by (x ∷ xs) zero e = omega arith
+there_by (x ∷ xs) (suc i) e = omega (arith, there_by xs i e)
 
 -- ---- what is so between two parts
 
-module _ (s : Settings) (k : ℕ) (v : World) where
+module _ (s : Settings) (k : ℕ) (v : World) (such : Arrival → Type 0) where
   -- the replay of what these reports recorded has come to this world, with other spare boxes, and told the same of its hosts
   pub record IsRepeated (w : World) (reports : List Report) : Type 0 where
     pub names : (id : HostId) (h : Host) → host_at w id ≡ Some h → HasOwnName id h
@@ -98,6 +116,10 @@ module _ (s : Settings) (k : ℕ) (v : World) where
     pub run : IsRun s v (recorded_events no_notes reports) (respared k w) lines
     pub told : of_hosts (PlainSettings s ∷ lines) ≡ of_hosts (entries reports)
     pub notes : AreNotes s (kept_all no_notes reports) w.clock w.packets
+    pub begins : BeginsWith s reports
+    pub count : length w.hosts ≤ 32
+    pub few : length w.packets ≤ 64 * length (recorded_events no_notes reports)
+    pub fit : AreFit such → AreRecorded (length w.packets) (recorded_events no_notes reports)
 
   -- what some reports add, from a world to another one
   pub record IsAdded (n : Notes) (w x : World) (added : List Report) : Type 0 where
@@ -107,6 +129,11 @@ module _ (s : Settings) (k : ℕ) (v : World) where
     pub run : IsRun s (respared k w) (recorded_events n added) (respared k x) lines
     pub told : of_hosts lines ≡ of_hosts (entries added)
     pub notes : AreNotes s (kept_all n added) x.clock x.packets
+    pub only : NoSettings added
+    pub count : length x.hosts ≡ length w.hosts
+    pub onward : length w.packets ≤ length x.packets
+    pub few : length x.packets ≤ length w.packets + 64 * length (recorded_events n added)
+    pub fit : AreFit such → AreRecorded (length x.packets) (recorded_events n added)
 
   pub goes_on : (w x : World) (reports added : List Report) → IsRepeated w reports → IsAdded (kept_all no_notes reports) w x added → IsRepeated x (reports ++ added)
   goes_on w x reports added j a = record {
@@ -119,55 +146,25 @@ module _ (s : Settings) (k : ℕ) (v : World) where
         ∙ ap (λ (l : List PlainEntry). l ++ of_hosts a.lines) j.told ∙ ap (λ (l : List PlainEntry). of_hosts (entries reports) ++ l) a.told
         ∙ sym (hosts-append (entries reports) (entries added)) ∙ ap of_hosts (sym (entries-append reports added));
     notes = subst (λ (m : Notes). AreNotes s m x.clock x.packets) (sym (kept-append no_notes reports added)) a.notes;
+    begins = begins_more s reports added j.begins a.only;
+    count = omega (arith, j.count, a.count);
+    few =
+        let both : length (recorded_events no_notes (reports ++ added)) ≡ length (recorded_events no_notes reports) + length (recorded_events (kept_all no_notes reports) added) =
+        ap length (events-append no_notes reports added) ∙ length-append (recorded_events no_notes reports) (recorded_events (kept_all no_notes reports) added) in
+        omega (arith, both, j.few, a.few);
+    fit = λ fits. subst (AreRecorded (length x.packets)) (sym (events-append no_notes reports added))
+        (all-append (λ (e : Happening). IsRecorded (length x.packets) e.event e.bytes) (recorded_events no_notes reports) (recorded_events (kept_all no_notes reports) added)
+        (all_later (length w.packets) (length x.packets) (recorded_events no_notes reports) a.onward (j.fit fits)) (a.fit fits));
   }
 
   -- ---- the steps of hosts
 
-  module _ (n : Notes) (w : World) (names : (id : HostId) (h : Host) → host_at w id ≡ Some h → HasOwnName id h) (notes : AreNotes s n w.clock w.packets) (valid : IsValid s) (good : IsGoodWorld s w) where
-    -- the world behind a step
-    abbrev behind : HostId → Work → After → Type 0
-    behind id step after = (after.world.hosts ≡ slice_set w.hosts id.0 step.host) × (after.world.packets ≡ w.packets ++ stamped w.clock (packets_in step.told)) × (after.world.clock ≡ w.clock) × (after.world.leads ≡ w.leads) × (after.world.answers ≡ answers_left step.told w.answers)
-
-    stepped_behind : (id : HostId) (first : List PlainEntry) (step : Work) (after : After) → stepped w id first step ≡ Done after → behind id step after × (after.told ≡ first ++ entries_from (length w.packets) step.told)
-    stepped_behind id first step after is = subst (λ (a : After). behind id step a × (a.told ≡ first ++ entries_from (length w.packets) step.told)) (done_is _ after is) ((refl, refl, refl, refl, refl), refl)
-
-    each_behind : (P : HostId → Host → Type 0) → ((q : HostId) (g : Host) → host_at w q ≡ Some g → P q g) → (id : HostId) (step : Work) (after : After) (h : Host) → host_at w id ≡ Some h → P id step.host → behind id step after → (q : HostId) (g : Host) → host_at after.world q ≡ Some g → P q g
-    each_behind P each id step after h at here b q g is = by_host (is_host id q) refl where
-      set : slice_get (slice_set w.hosts id.0 step.host) q.0 ≡ Some g
-      set = ap (λ (hs : List Host). slice_get hs q.0) (sym b.0) ∙ is
-
-      by_host : (t : Bool) → is_host id q ≡ t → P q g
-      by_host true e =
-          let same : id.0 ≡ q.0 = number_of id q e in
-          let host : id ≡ q = ap (λ (m : ℕ). let i : HostId = record { 0 = m } in i) same in
-          let it : step.host ≡ g = some_is step.host g (sym (there w.hosts id.0 step.host (within w.hosts id.0 h at)) ∙ ap (slice_get (slice_set w.hosts id.0 step.host)) same ∙ set) in
-          subst (λ (x : Host). P q x) it (subst (λ (x : HostId). P x step.host) host here)
-      by_host false e = each q g (sym (elsewhere w.hosts id.0 q.0 step.host (apart id q e)) ∙ set)
-
-    names_behind : (id : HostId) (step : Work) (after : After) (h : Host) → host_at w id ≡ Some h → HasOwnName id step.host → behind id step after → (q : HostId) (g : Host) → host_at after.world q ≡ Some g → HasOwnName q g
-    names_behind id step after h at name b = each_behind HasOwnName names id step after h at name b
-
-    -- the host's own clock is in its range
-    in_time : (id : HostId) (h : Host) → host_at w id ≡ Some h → own_clock w id ≤ 1000000002000
-    in_time id h at = let skew = valid.in_range.2.2.2.2.2.2.2.2.2.2.2.2.2.1 in omega (arith, good.leads id h at, good.clock, skew)
-
-    stamped_good : (id : HostId) (h : Host) (at : host_at w id ≡ Some h) (ps : List Packet) → AllByRecursion (IsSentNow s valid (own_clock w id) (in_time id h at)) ps → AllByRecursion (IsOfNode s) (stamped w.clock ps)
-    stamped_good id h at [] all = tt
-    stamped_good id h at (p ∷ ps) all =
-        let clock : own_clock w id ≡ w.clock + s.skew = ap (λ (n : ℕ). w.clock + n) (good.leads id h at) in
-        (record { formed = all.0.formed; dated = all.0.dated ∙ ap (λ (t : ℕ). if s.wire == 1 then 0 else t) clock }, stamped_good id h at ps all.1)
-
-    good_behind : (id : HostId) (h : Host) (at : host_at w id ≡ Some h) (step : Work) (after : After) → IsGoodWork s valid (own_clock w id) (in_time id h at) step → behind id step after → IsGoodWorld s after.world
-    good_behind id h at step after g b = record {
-      hosts = each_behind (λ (q : HostId) (x : Host). IsGoodHost x) good.hosts id step after h at g.host b;
-      leads = λ q x is. ap (λ (l : List ℕ). slice_index_or l q.0 0) b.3 ∙ each_behind (λ (q : HostId) (x : Host). slice_index_or w.leads q.0 0 ≡ s.skew) good.leads id step after h at (good.leads id h at) b q x is;
-      packets = subst (AllByRecursion (IsOfNode s)) (sym b.1) (all-append (IsOfNode s) w.packets (stamped w.clock (packets_in step.told)) good.packets (stamped_good id h at (packets_in step.told) g.sent));
-      answers = subst (AllByRecursion IsAnswer) (sym b.4) (cond_both (has_run step.told) (drop 1 w.answers) w.answers (AllByRecursion IsAnswer) (λ _. all_but_one IsAnswer w.answers good.answers) (λ _. good.answers));
-      clock = subst (λ (c : ℕ). c ≤ last_tick) (sym b.2) good.clock;
-    }
+  module _ (n : Notes) (w : World) (names : (id : HostId) (h : Host) → host_at w id ≡ Some h → HasOwnName id h) (notes : AreNotes s n w.clock w.packets) (valid : IsValid s) (good : IsGoodWorld s w) (count : length w.hosts ≤ 32) where
+    names_behind : (id : HostId) (step : Work) (after : After) (h : Host) → host_at w id ≡ Some h → HasOwnName id step.host → behind w id step after → (q : HostId) (g : Host) → host_at after.world q ≡ Some g → HasOwnName q g
+    names_behind id step after h at name b = each_behind w HasOwnName names id step after h at name b
 
     -- its packets and its lines
-    notes_behind : (id : HostId) (step : Work) (after : After) (m : Notes) (told : List Told) → packets_in step.told ≡ packets_in told → AllInner told → behind id step after → AllByRecursion (IsOfNode s) after.world.packets → AreNotes s m w.clock w.packets
+    notes_behind : (id : HostId) (step : Work) (after : After) (m : Notes) (told : List Told) → packets_in step.told ≡ packets_in told → AllInner told → behind w id step after → AllByRecursion (IsOfNode s) after.world.packets → AreNotes s m w.clock w.packets
         → AreNotes s (kept_all m (map Tells (entries_from (length w.packets) told))) after.world.clock after.world.packets
     notes_behind id step after m told same inner b all a =
         let packets : after.world.packets ≡ w.packets ++ stamped w.clock (packets_in told) = b.1 ∙ ap (λ (ps : List Packet). w.packets ++ stamped w.clock ps) same in
@@ -197,11 +194,12 @@ module _ (s : Settings) (k : ℕ) (v : World) where
         events_first n r (numbered told) ∙ ap (λ (es : List Happening). es ++ recorded_events (kept n r) (numbered told)) is ∙ ap (λ (es : List Happening). e ∷ es) (inner_no_event (kept n r) (length w.packets) told inner)
 
     -- such reports are added, where the replay carries the event out
-    added : (id : HostId) (h : Host) (step : Work) (after : After) (r : Report) (e : Happening) (first : List PlainEntry) (told : List Told) → host_at w id ≡ Some h → HasOwnName id step.host → behind id step after → packets_in step.told ≡ packets_in told
-        → AllInner told → IsGoodWorld s after.world → events n r ≡ e ∷ [] → kept n r ≡ n → of_hosts first ≡ of_hosts (entries (r ∷ []))
+    added : (id : HostId) (h : Host) (step : Work) (after : After) (r : Report) (e : Happening) (first : List PlainEntry) (told : List Told) → host_at w id ≡ Some h → HasOwnName id step.host → behind w id step after → packets_in step.told ≡ packets_in told
+        → AllInner told → IsGoodWorld s after.world → events n r ≡ e ∷ [] → kept n r ≡ n → of_hosts first ≡ of_hosts (entries (r ∷ [])) → is_settings r ≡ false
+        → length (packets_in step.told) ≤ 64 → (AreFit such → IsRecorded (length w.packets) e.event e.bytes)
         → outcome s (respared k w) e.event e.bytes ≡ Done (record { world = respared k after.world; told = first ++ entries_from (length w.packets) told })
         → IsAdded n w after.world (r ∷ numbered told)
-    added id h step after r e first told at name b packets inner sound is keeps same done = record {
+    added id h step after r e first told at name b packets inner sound is keeps same other most fit done = record {
       names = names_behind id step after h at name b;
       good = sound;
       lines = first ++ entries_from (length w.packets) told;
@@ -210,7 +208,22 @@ module _ (s : Settings) (k : ℕ) (v : World) where
           ∙ ap (λ (l : List PlainEntry). of_hosts (entries (r ∷ [])) ++ of_hosts l) (sym (entries-told (entries_from (length w.packets) told)))
           ∙ sym (hosts-append (entries (r ∷ [])) (entries (numbered told))) ∙ ap of_hosts (sym (entries-append (r ∷ []) (numbered told)));
       notes = subst (λ (m : Notes). AreNotes s (kept_all m (numbered told)) after.world.clock after.world.packets) (sym keeps) (notes_behind id step after n told packets inner b sound.packets notes);
-    }
+      only = (other, only_inner (length w.packets) told inner);
+      count = ap length b.0 ∙ length-set w.hosts id.0 step.host;
+      onward = omega (arith, sent);
+      few = omega (arith, sent, most, ap length (one_event r e told inner is));
+      fit = λ fits. subst (AreRecorded (length after.world.packets)) (sym (one_event r e told inner is)) (fit_later (length w.packets) (length after.world.packets) e.event e.bytes (omega (arith, sent)) (fit fits), tt);
+    } where
+      sent : length after.world.packets ≡ length w.packets + length (packets_in step.told)
+      sent = ap length b.1 ∙ (length-append w.packets (stamped w.clock (packets_in step.told)) ∙ ap (λ (m : ℕ). length w.packets + m) (length-map (packets_in step.told) _))
+
+    -- the settings let a step send at most 64 packets
+    chosen : s.overcommit ≤ 7
+    chosen = valid.in_range.2.2.2.2.1
+
+    -- a host that is there has a small number
+    small_id : (id : HostId) (h : Host) → host_at w id ≡ Some h → id.0 < 32
+    small_id id h at = omega (arith, count, within w.hosts id.0 h at)
 
     -- ---- a turn
 
@@ -222,49 +235,43 @@ module _ (s : Settings) (k : ℕ) (v : World) where
       by_host (Some h) at e =
           let step = turn_step s h (own_clock w id) in
           let inside = turn_inside s id valid.in_range.2.2.2.2.2.2.0 h (own_clock w id) (names id h at) in
-          let b = stepped_behind id [] step after e in
-          let sound = good_behind id h at step after (turn_good s valid (own_clock w id) (in_time id h at) h (good.hosts id h at)) b.0 in
+          let b = stepped_behind s w id [] step after e in
+          let sound = good_behind s w valid good id h at step after (turn_good s valid (own_clock w id) (in_time s w valid good id h at) h (good.hosts id h at)) b.0 in
           let told : after.told ≡ entries_from (length w.packets) inside.rest = b.1 ∙ ap (entries_from (length w.packets)) inside.told in
           subst (λ (es : List PlainEntry). IsAdded n w after.world (Turning id ∷ map Tells es)) (sym told)
-          (added id h step after (Turning id) (bare (event.Turn id)) [] inside.rest at inside.name b.0 (ap packets_in inside.told) inside.inner sound refl (turning_keeps id) refl
+          (added id h step after (Turning id) (bare (event.Turn id)) [] inside.rest at inside.name b.0 (ap packets_in inside.told) inside.inner sound refl (turning_keeps id) refl refl (turn-bounded s chosen h (own_clock w id)).packets (λ fits. (small_id id h at, refl))
           (turn_respared s k w id ∙ ap (respare k) is ∙ ap (λ (es : List PlainEntry). Done (record { world = respared k after.world; told = es })) told))
 
     -- ---- a call
 
     pub call_added : (client server : HostId) (service : ℕ) (request : List ℕ) (after : After) → IsBytes request → service < 256 → outcome s w (event.Call client server service) request ≡ Done after → IsAdded n w after.world (map Tells after.told)
     unfolding outcome
-    call_added client server service request after bytes small is = by_server (is_some (host_at w server)) is where
-      by_fault : (h : Host) → host_at w client ≡ Some h → (o : Option StartFault) → start_fault s h server request ≡ o → started s w client server service request h o ≡ Done after → IsAdded n w after.world (map Tells after.told)
-      by_fault h at (Some fault) free e = absurd (let z : Refused (Start fault) ≡ Done after = e in cc)
-      by_fault h at None free e =
+    call_added client server service request after bytes small is = by_server (is_some (host_at w server)) refl is where
+      by_fault : server.0 < length w.hosts → (h : Host) → host_at w client ≡ Some h → (o : Option StartFault) → start_fault s h server request ≡ o → started s w client server service request h o ≡ Done after → IsAdded n w after.world (map Tells after.told)
+      by_fault there h at (Some fault) free e = absurd (let z : Refused (Start fault) ≡ Done after = e in cc)
+      by_fault there h at None free e =
           let step = call_step s h (own_clock w client) server service request in
           let inside = call_inside s client h (own_clock w client) server service request (names client h at) in
-          let b = stepped_behind client [] step after e in
-          let sound = good_behind client h at step after (call_good s valid (own_clock w client) (in_time client h at) h server service request (good.hosts client h at) free bytes small) b.0 in
+          let b = stepped_behind s w client [] step after e in
+          let sound = good_behind s w valid good client h at step after (call_good s valid (own_clock w client) (in_time s w valid good client h at) h server service request (good.hosts client h at) free bytes small) b.0 in
           let q = next_id h in
           let told : after.told ≡ PlainCall q server service request ∷ entries_from (length w.packets) inside.rest = b.1 ∙ ap (entries_from (length w.packets)) inside.told in
           let caller : HostId → List Happening = λ (c : HostId). record { event = event.Call c server service; bytes = request } ∷ [] in
           subst (λ (es : List PlainEntry). IsAdded n w after.world (map Tells es)) (sym told)
           (added client h step after (Tells (PlainCall q server service request)) (record { event = event.Call client server service; bytes = request }) (PlainCall q server service request ∷ []) inside.rest at inside.name b.0 (ap packets_in inside.told) inside.inner sound
-          (ap caller (names client h at).name) (call_keeps q server service request) refl
+          (ap caller (names client h at).name) (call_keeps q server service request) refl refl (call-bounded s chosen h (own_clock w client) server service request).packets
+          (λ fits. (small_id client h at, omega (arith, count, there), small, bytes, (can_start s valid (own_clock w client) (in_time s w valid good client h at) h server request free).most))
           (call_respared s k w client server service request ∙ ap (respare k) is ∙ ap (λ (es : List PlainEntry). Done (record { world = respared k after.world; told = es })) told))
 
-      by_client : (o : Option Host) → host_at w client ≡ o → calls_from s w client server service request o ≡ Done after → IsAdded n w after.world (map Tells after.told)
-      by_client None at e = absurd (let z : Refused NoSuchHost ≡ Done after = e in cc)
-      by_client (Some h) at e = by_fault h at (start_fault s h server request) refl e
+      by_client : server.0 < length w.hosts → (o : Option Host) → host_at w client ≡ o → calls_from s w client server service request o ≡ Done after → IsAdded n w after.world (map Tells after.told)
+      by_client there None at e = absurd (let z : Refused NoSuchHost ≡ Done after = e in cc)
+      by_client there (Some h) at e = by_fault there h at (start_fault s h server request) refl e
 
-      by_server : (t : Bool) → (if t then calls_from s w client server service request (host_at w client) else Refused NoSuchHost) ≡ Done after → IsAdded n w after.world (map Tells after.told)
-      by_server true e = by_client (host_at w client) refl e
-      by_server false e = absurd (let z : Refused NoSuchHost ≡ Done after = e in cc)
+      by_server : (t : Bool) → is_some (host_at w server) ≡ t → (if t then calls_from s w client server service request (host_at w client) else Refused NoSuchHost) ≡ Done after → IsAdded n w after.world (map Tells after.told)
+      by_server true is_there e = by_client (there_by w.hosts server.0 is_there) (host_at w client) refl e
+      by_server false is_there e = absurd (let z : Refused NoSuchHost ≡ Done after = e in cc)
 
     -- ---- a datagram
-
-    receiver_is : (from to : HostId) (o : Option (WirePacket × List ℕ)) → IfSome (packet_from from to o) (λ p. receiver p ≡ to)
-    receiver_is from to None = tt
-    receiver_is from to (Some (p, payload)) = by_role p.role where
-      by_role : (role : Role) → receiver_of role (call_between role from to p.inc p.seq) (server_between role from to) ≡ to
-      by_role Client = refl
-      by_role Server = refl
 
     of_packets : (packets : List SentPacket) (i : ℕ) (sent : SentPacket) → slice_get packets i ≡ Some sent → AllByRecursion (IsOfNode s) packets → IsOfNode s sent
     of_packets [] i sent at all = absurd (let z : None ≡ Some sent = at in cc)
@@ -278,24 +285,24 @@ module _ (s : Settings) (k : ℕ) (v : World) where
       by_test true false e = refl
       by_test false b e = refl
 
-    pub recv_added : (id : HostId) (a : Arrival) (after : After) → strange n (Tells (PlainRecv id a.from a.bytes)) ≡ false → arrival_outcome s w id a ≡ Done after → IsAdded n w after.world (map Tells after.told)
-    recv_added id a after usual is = by_host (host_at w id) refl is where
+    pub recv_added : (id : HostId) (a : Arrival) (after : After) → such a → strange n (Tells (PlainRecv id a.from a.bytes)) ≡ false → arrival_outcome s w id a ≡ Done after → IsAdded n w after.world (map Tells after.told)
+    recv_added id a after it_is usual is = by_host (host_at w id) refl is where
       packet : Option Packet
       packet = packet_from a.from id (packet_in s.wire a.bytes)
 
       -- the replay's event, with the entry that it tells first
       with_event : (h : Host) → host_at w id ≡ Some h → arrives_at s w id (PlainRecv id a.from a.bytes ∷ []) packet (Some h) ≡ Done after → (e : Happening) (first : PlainEntry) → IfSome packet (IsSent s) → events n (Tells (PlainRecv id a.from a.bytes)) ≡ e ∷ [] → of_hosts (first ∷ []) ≡ []
-          → outcome s (respared k w) e.event e.bytes ≡ arrives_at s (respared k w) id (first ∷ []) packet (Some h) → IsAdded n w after.world (map Tells after.told)
-      with_event h at done e first formed is_event aside is_arrival =
+          → (AreFit such → IsRecorded (length w.packets) e.event e.bytes) → outcome s (respared k w) e.event e.bytes ≡ arrives_at s (respared k w) id (first ∷ []) packet (Some h) → IsAdded n w after.world (map Tells after.told)
+      with_event h at done e first formed is_event aside fit is_arrival =
           let step = arrival_step s h (own_clock w id) packet (next_answer w.answers) in
           let inside = arrival_inside s id h (own_clock w id) packet (next_answer w.answers) (names id h at) (receiver_is a.from id (packet_in s.wire a.bytes)) in
           let recv : List PlainEntry = PlainRecv id a.from a.bytes ∷ [] in
-          let b = stepped_behind id recv step after done in
-          let sound = good_behind id h at step after (arrival_good s valid (own_clock w id) (in_time id h at) h packet (next_answer w.answers) (good.hosts id h at) formed (next_is_answer w.answers good.answers)) b.0 in
+          let b = stepped_behind s w id recv step after done in
+          let sound = good_behind s w valid good id h at step after (arrival_good s valid (own_clock w id) (in_time s w valid good id h at) h packet (next_answer w.answers) (good.hosts id h at) formed (next_is_answer w.answers good.answers)) b.0 in
           let same : entries_from (length w.packets) step.told ≡ entries_from (length w.packets) inside.rest = ap (entries_from (length w.packets)) inside.told in
           let told : after.told ≡ PlainRecv id a.from a.bytes ∷ entries_from (length w.packets) inside.rest = b.1 ∙ ap (λ (es : List PlainEntry). PlainRecv id a.from a.bytes ∷ es) same in
           subst (λ (es : List PlainEntry). IsAdded n w after.world (map Tells es)) (sym told)
-          (added id h step after (Tells (PlainRecv id a.from a.bytes)) e (first ∷ []) inside.rest at inside.name b.0 (ap packets_in inside.told) inside.inner sound is_event (recv_keeps id a.from a.bytes) aside
+          (added id h step after (Tells (PlainRecv id a.from a.bytes)) e (first ∷ []) inside.rest at inside.name b.0 (ap packets_in inside.told) inside.inner sound is_event (recv_keeps id a.from a.bytes) aside refl (arrival-bounded s chosen h (own_clock w id) packet (next_answer w.answers)).packets fit
           (is_arrival ∙ subst (λ (x : After). arrives_at s (respared k w) id (first ∷ []) packet (Some h) ≡ Done (record { world = respared k x.world; told = first ∷ entries_from (length w.packets) inside.rest })) (done_is _ after done)
           (ap (λ (es : List PlainEntry). Done (record { world = respared k (record w { hosts = slice_set w.hosts id.0 step.host; packets = w.packets ++ stamped w.clock (packets_in step.told); answers = answers_left step.told w.answers }); told = first ∷ es })) same)))
 
@@ -309,11 +316,13 @@ module _ (s : Settings) (k : ℕ) (v : World) where
           ap (packet_from a.from id) reads ∙ ap (λ (x : HostId). Some (packet_between x id (wire_packet sent.packet) sent.packet.payload)) f.is_from
           ∙ ap (λ (x : HostId). Some (packet_between (sender sent.packet) x (wire_packet sent.packet) sent.packet.payload)) f.is_to ∙ ap Some (between sent.packet) in
           with_event h at done (bare (event.Deliver number)) (PlainDeliver number) (subst (λ (o : Option Packet). IfSome o (IsSent s)) (sym it) formed) (ap (kind_events id a.bytes) e) refl
+          (λ fits. (within w.packets number sent f.stands, refl))
           (deliver_is s (respared k w) number sent id f.stands (timely sent.tick w.clock f.life) (sym f.is_to)
           ∙ ap (λ (o : Option Packet). arrives_at s (respared k w) id (PlainDeliver number ∷ []) o (host_at w id)) (sym it) ∙ ap (arrives_at s (respared k w) id (PlainDeliver number ∷ []) packet) at)
       by_kind h at done Junk e =
           let none : packet_in s.wire a.bytes ≡ None = found_junk s w.clock w.packets id a.from a.bytes n notes e in
           with_event h at done (record { event = event.Inject id; bytes = a.bytes }) (PlainInject id a.bytes) (subst (λ (o : Option (WirePacket × List ℕ)). IfSome (packet_from a.from id o) (IsSent s)) (sym none) tt) (ap (kind_events id a.bytes) e) refl
+          (λ fits. (small_id id h at, (fits a it_is).bytes, (fits a it_is).few))
           (inject_is s (respared k w) id a.bytes h none at ∙ ap (λ (o : Option (WirePacket × List ℕ)). arrives_at s (respared k w) id (PlainInject id a.bytes ∷ []) (packet_from a.from id o) (Some h)) (sym none))
       by_kind h at done Strange e = absurd (true≢false (sym (ap is_strange e) ∙ usual))
 

@@ -26,15 +26,16 @@ use Rattle.homa_plain.specs.AtClient.{renewed, refreshed, with_part, busy_for, p
 use Rattle.homa_plain.specs.AtServer.{with_state, replying, buried, runs, opens, piece_of, unknown_gets, receiving_gets, held_gets, touched, response_resent, replying_gets, buried_gets, row_gets, server_gets, state_acked, server_acked}
 use Rattle.homa_plain.specs.AtServer as at_server
 use Rattle.homa_plain.specs.Timers.{resend_of, wanted, client_acts, state_acts, server_acts}
-use Rattle.world_laws.specs.Sound.{FitSays, IsMessage, IsPart, IsArriving, IsClientRow, IsState}
+use Rattle.world_laws.specs.Sound.{IsMessage, IsPart, IsArriving, IsClientRow, IsState}
 use Rattle.node_runs.specs.Replayed.{IsAnswer}
+use Rattle.node_laws.proofs.Told.{AllSaid, IsMoment, few_pages, served_small, soon_until, late_until}
 use Rattle.node_laws.proofs.Parts.{part_granted, part_resent, part_restarted, part_opened, arriving_opened, arriving_taken, IsGap, gap_is}
 
 -- a rule's row is such, a message that it opened is no longer than any may be, and what it says can be sent
 pub record IsGood {R : Type 0} (P : R → Type 0) (role : Role) (did : Did R) : Type 0 where
   pub row : IfSome did.row P
   pub opened : IfSome did.opened (λ n. n ≤ 1000000)
-  pub said : FitSays role did.says
+  pub said : AllSaid role did.says
 
 abbrev pub IsServerRow : ServerRow → Type 0
 IsServerRow row = IsState row.state
@@ -43,21 +44,21 @@ module _ {R : Type 0} (P : R → Type 0) (role : Role) (m : Moment) where
   left_good : (o : Option R) → IfSome o P → IsGood P role (leaves m o)
   left_good o k = record { row = k; opened = tt; said = tt }
 
-  says_good : (o : Option R) (said : List Say) → IfSome o P → FitSays role said → IsGood P role (says m o said)
+  says_good : (o : Option R) (said : List Say) → IfSome o P → AllSaid role said → IsGood P role (says m o said)
   says_good o said k fits = record { row = k; opened = tt; said = fits }
 
-busy_good : (role : Role) (a : outgoing.Answer) → FitSays role (busy_for a)
+busy_good : (role : Role) (a : outgoing.Answer) → AllSaid role (busy_for a)
 busy_good role Busy = ((refl, refl), tt)
 busy_good role Queued = tt
 
 -- a RESEND of a gap
-resend_good : (s : Settings) → IsValid s → (role : Role) (o : Option Range) → IfSome o IsGap → FitSays role (resend_of s o)
+resend_good : (s : Settings) → IsValid s → (role : Role) (o : Option Range) → IfSome o IsGap → AllSaid role (resend_of s o)
 resend_good s v role None k = tt
 resend_good s v role (Some r) k = (((refl, refl), k.some, k.most, (let z : s.overcommit - 1 ≤ 7 = omega (arith, v.in_range.2.2.2.2.1) in z)), tt)
 
 -- ---- at the client
 
-module _ (s : Settings) (m : Moment) (id : CallId) where
+module _ (s : Settings) (m : Moment) (id : CallId) (fit : IsMoment m) where
   abbrev Good : Did ClientRow → Type 0
   Good = IsGood IsClientRow Client
 
@@ -67,21 +68,21 @@ module _ (s : Settings) (m : Moment) (id : CallId) where
   added_good : (r : ClientRow) (part : Incoming) (d : Did ClientRow) → IsClientRow r → IsArriving part → IfSome d.opened (λ n. n ≤ 1000000) → d.says ≡ [] → Good (piece_added id r part d)
   added_good r part d k p o none = cond_both (is_whole part) _ _ Good
       (λ _. record { row = tt; opened = o; said = (tt, tt) })
-      (λ _. record { row = part_kept r part k p; opened = o; said = subst (FitSays Client) (sym none) tt })
+      (λ _. record { row = part_kept r part k p; opened = o; said = subst (AllSaid Client) (sym none) tt })
 
   piece_good : (r : ClientRow) (part : Incoming) (piece : Piece) (d : Did ClientRow) → IsClientRow r → IsArriving part → piece.offset + length piece.payload ≤ piece.size → IfSome d.opened (λ n. n ≤ 1000000) → d.says ≡ [] → Good (piece_comes id r part piece d)
   piece_good r part piece d k p inside o none = by_length (part.length == piece.size) (leaves_too_many_gaps part piece.offset piece.payload) refl refl where
     by_length : (a b : Bool) → part.length == piece.size ≡ a → leaves_too_many_gaps part piece.offset piece.payload ≡ b
         → Good (if not a then record d { row = Some (with_part r part) } else if b then record d { row = Some (with_part r part); version = version_of piece; says = Tells (PlainGaps id.client id) ∷ [] }
         else piece_added id r (with_bytes part piece.offset piece.payload) (record d { version = version_of piece }))
-    by_length false b e f = record { row = part_kept r part k p; opened = o; said = subst (FitSays Client) (sym none) tt }
+    by_length false b e f = record { row = part_kept r part k p; opened = o; said = subst (AllSaid Client) (sym none) tt }
     by_length true true e f = record { row = part_kept r part k p; opened = o; said = (tt, tt) }
     by_length true false e f =
         let same = eqb-true part.length piece.size e in
         added_good r (with_bytes part piece.offset piece.payload) (record d { version = version_of piece }) k (arriving_taken part piece.offset piece.payload p (omega (arith, inside, same)) f) o none
 
   response_good : (r : ClientRow) (o : Option Incoming) (piece : Piece) → IsClientRow r → IfSome o IsArriving → piece.offset + length piece.payload ≤ piece.size → piece.size ≤ 1000000 → Good (response_piece s m id r o piece)
-  response_good r None piece k p inside small = cond_both (nat_lt m.free (pages_for piece.size)) _ _ Good (λ _. says_good IsClientRow Client m (Some r) _ k (tt, tt))
+  response_good r None piece k p inside small = cond_both (nat_lt m.free (pages_for piece.size)) _ _ Good (λ _. says_good IsClientRow Client m (Some r) _ k ((few_pages piece.size small, fit.free), tt))
       (λ _. piece_good r (incoming.opened r.server piece.size m.order s.unsched) piece (opening piece.size (keeps m r)) k (arriving_opened r.server piece.size m.order s.unsched small) inside small refl)
   response_good r (Some part) piece k p inside small = piece_good r part piece (keeps m r) k p inside tt refl
 
@@ -122,12 +123,12 @@ refreshed_good now (body.Resend from to prio) r k = record { message = k.message
 refreshed_good now body.Busy r k = record { message = k.message; out = k.out; service = k.service; part = k.part }
 refreshed_good now (body.Ack more) r k = record { message = k.message; out = k.out; service = k.service; part = k.part }
 
-pub gets_good : (s : Settings) (m : Moment) (p : Packet) (o : Option ClientRow) → FitsKind p.role p.level p.body p.payload → IfSome o IsClientRow → IsGood IsClientRow Client (client_gets s m p o)
+pub gets_good : (s : Settings) (m : Moment) → IsMoment m → (p : Packet) (o : Option ClientRow) → FitsKind p.role p.level p.body p.payload → IfSome o IsClientRow → IsGood IsClientRow Client (client_gets s m p o)
 unfolding client_gets
-gets_good s m p None f k = unasked_good s m p.id p.body
-gets_good s m p (Some r) f k = cond_both (not (is_host (sender p) r.server)) _ _ (IsGood IsClientRow Client) (λ _. left_good IsClientRow Client m _ k)
+gets_good s m fit p None f k = unasked_good s m p.id fit p.body
+gets_good s m fit p (Some r) f k = cond_both (not (is_host (sender p) r.server)) _ _ (IsGood IsClientRow Client) (λ _. left_good IsClientRow Client m _ k)
     (λ _. cond_both (nat_lt p.inc r.seen) _ _ (IsGood IsClientRow Client) (λ _. left_good IsClientRow Client m _ k)
-    (λ _. answered_good s m p.id p.body p.payload p.role p.level _ f (refreshed_good m.now p.body (renewed p.inc r) (renewed_good p.inc r k))))
+    (λ _. answered_good s m p.id fit p.body p.payload p.role p.level _ f (refreshed_good m.now p.body (renewed p.inc r) (renewed_good p.inc r k))))
 
 pub client_acts_good : (s : Settings) → IsValid s → (m : Moment) (id : CallId) (r : ClientRow) → IsClientRow r → IsGood IsClientRow Client (client_acts s m id r)
 client_acts_good s v m id r k = cond_both (nat_lt r.count s.tries) _ _ (IsGood IsClientRow Client)
@@ -139,22 +140,22 @@ client_acts_good s v m id r k = cond_both (nat_lt r.count s.tries) _ _ (IsGood I
 
 -- ---- at the server
 
-module _ (s : Settings) (v : IsValid s) (m : Moment) (id : CallId) where
+module _ (s : Settings) (v : IsValid s) (m : Moment) (id : CallId) (fit : IsMoment m) where
   abbrev GoodAt : Did ServerRow → Type 0
   GoodAt = IsGood IsServerRow Server
 
-  replying_good : (now : ℕ) (response : List ℕ) (row : ServerRow) (d : Did ServerRow) → IsMessage response → IfSome d.opened (λ n. n ≤ 1000000) → FitSays Server d.says → GoodAt (replying s now response row d)
+  replying_good : (now : ℕ) (response : List ℕ) (row : ServerRow) (d : Did ServerRow) → IsMessage response → IfSome d.opened (λ n. n ≤ 1000000) → AllSaid Server d.says → GoodAt (replying s now response row d)
   replying_good now response row d k o said = record { row = (k, part_opened response s.unsched); opened = o; said = said }
 
   runs_good : (service : ℕ) (request : List ℕ) (answer : Answer) (row : ServerRow) (d : Did ServerRow) → IsAnswer answer → IfSome d.opened (λ n. n ≤ 1000000) → GoodAt (runs s m id service request answer row d)
   runs_good service request answer row d a o = cond_both (answer.hold == 0) _ _ GoodAt
-      (λ _. replying_good m.now answer.bytes row (record d { says = Tells (PlainRun m.host id service request answer.bytes answer.hold) ∷ [] }) (a.0, a.1) o (tt, tt))
-      (λ _. record { row = (a.0, a.1); opened = o; said = (tt, tt) })
+      (λ _. replying_good m.now answer.bytes row (record d { says = Tells (PlainRun m.host id service request answer.bytes answer.hold) ∷ [] }) (a.0, a.1) o (((a.0, a.1), a.2), tt))
+      (λ _. record { row = (a.0, a.1); opened = o; said = (((a.0, a.1), a.2), tt) })
 
   request_added : (service : ℕ) (answer : Answer) (row : ServerRow) (part : Incoming) (d : Did ServerRow) → IsAnswer answer → IsArriving part → IfSome d.opened (λ n. n ≤ 1000000) → d.says ≡ [] → GoodAt (at_server.piece_added s m id service answer row part d)
   request_added service answer row part d a p o none = cond_both (is_whole part) _ _ GoodAt
       (λ _. runs_good service (message part) answer row d a o)
-      (λ _. record { row = p; opened = o; said = subst (FitSays Server) (sym none) tt })
+      (λ _. record { row = p; opened = o; said = subst (AllSaid Server) (sym none) tt })
 
   request_good : (service : ℕ) (part : Incoming) (row : ServerRow) (piece : Piece) (answer : Answer) (d : Did ServerRow) → IsAnswer answer → IsServerRow row → IsArriving part → piece.offset + length piece.payload ≤ piece.size → IfSome d.opened (λ n. n ≤ 1000000) → d.says ≡ []
       → GoodAt (at_server.piece_comes s m id service part row piece answer d)
@@ -162,16 +163,16 @@ module _ (s : Settings) (v : IsValid s) (m : Moment) (id : CallId) where
     by_length : (a b c : Bool) → part.length == piece.size ≡ a → leaves_too_many_gaps part piece.offset piece.payload ≡ c
         → GoodAt (if not a || b then record d { row = Some row } else if c then record d { row = Some (with_state row (Receiving service part m.now 0)); version = version_of piece; says = Tells (PlainGaps m.host id) ∷ [] }
         else at_server.piece_added s m id service answer row (with_bytes part piece.offset piece.payload) (record d { version = version_of piece }))
-    by_length false b c e f = record { row = k; opened = o; said = subst (FitSays Server) (sym none) tt }
-    by_length true true c e f = record { row = k; opened = o; said = subst (FitSays Server) (sym none) tt }
+    by_length false b c e f = record { row = k; opened = o; said = subst (AllSaid Server) (sym none) tt }
+    by_length true true c e f = record { row = k; opened = o; said = subst (AllSaid Server) (sym none) tt }
     by_length true false true e f = record { row = p; opened = o; said = (tt, tt) }
     by_length true false false e f =
         let same = eqb-true part.length piece.size e in
         request_added service answer row (with_bytes part piece.offset piece.payload) (record d { version = version_of piece }) a (arriving_taken part piece.offset piece.payload p (omega (arith, inside, same)) f) o none
 
   opens_good : (piece : Piece) (answer : Answer) → IsAnswer answer → piece.offset + length piece.payload ≤ piece.size → piece.size ≤ 1000000 → GoodAt (opens s m id piece answer)
-  opens_good piece answer a inside small = cond_both (nat_le s.served m.rows) _ _ GoodAt (λ _. says_good IsServerRow Server m None _ tt (tt, tt))
-      (λ _. cond_both (nat_lt m.free (pages_for piece.size)) _ _ GoodAt (λ _. says_good IsServerRow Server m None _ tt (tt, tt))
+  opens_good piece answer a inside small = cond_both (nat_le s.served m.rows) _ _ GoodAt (λ _. says_good IsServerRow Server m None _ tt ((fit.rows, served_small s v), tt))
+      (λ _. cond_both (nat_lt m.free (pages_for piece.size)) _ _ GoodAt (λ _. says_good IsServerRow Server m None _ tt ((few_pages piece.size small, fit.free), tt))
       (λ _. let part = incoming.opened id.client piece.size m.order s.unsched in
       let arriving = arriving_opened id.client piece.size m.order s.unsched small in
       request_good piece.service part (record { order = m.order; state = Receiving piece.service part m.now 0 }) piece answer (opening piece.size (leaves m None)) a arriving arriving inside small refl))
@@ -235,8 +236,8 @@ module _ (s : Settings) (v : IsValid s) (m : Moment) (id : CallId) where
 
   acked_by : (row : ServerRow) (state : State) → IsServerRow row → GoodAt (state_acked s m id row state)
   acked_by row (Receiving service part base count) k = left_good IsServerRow Server m _ k
-  acked_by row (Held response release) k = says_good IsServerRow Server m _ _ tt (tt, tt)
-  acked_by row (Replying response out order base count) k = says_good IsServerRow Server m _ _ tt (tt, tt)
+  acked_by row (Held response release) k = says_good IsServerRow Server m _ _ tt (soon_until s v m.now fit.now, tt)
+  acked_by row (Replying response out order base count) k = says_good IsServerRow Server m _ _ tt (soon_until s v m.now fit.now, tt)
   acked_by row (Buried until) k = left_good IsServerRow Server m _ k
 
   pub acked_good : (o : Option ServerRow) → IfSome o IsServerRow → GoodAt (server_acked s m id o)
@@ -248,13 +249,13 @@ module _ (s : Settings) (v : IsValid s) (m : Moment) (id : CallId) where
   acts_by row (Receiving service part base count) k t = cond_both (nat_lt count s.tries) _ _ GoodAt
       (λ _. says_good IsServerRow Server m _ _ t (resend_good s v Server (first_gap part) (gap_is part t))) (λ _. says_good IsServerRow Server m None _ tt (tt, tt))
   acts_by row (Held response release) k t = replying_good m.now response row (leaves m None) t tt tt
-  acts_by row (Replying response out order base count) k t = cond_both (nat_lt count s.tries) _ _ GoodAt (λ _. says_good IsServerRow Server m _ _ t (((refl, refl), refl), tt)) (λ _. says_good IsServerRow Server m _ _ tt (tt, tt))
+  acts_by row (Replying response out order base count) k t = cond_both (nat_lt count s.tries) _ _ GoodAt (λ _. says_good IsServerRow Server m _ _ t (((refl, refl), refl), tt)) (λ _. says_good IsServerRow Server m _ _ tt (late_until s v m.now fit.now, tt))
   acts_by row (Buried until) k t = says_good IsServerRow Server m None _ tt (tt, tt)
 
   pub server_acts_good : (row : ServerRow) → IsServerRow row → GoodAt (server_acts s m id row)
   server_acts_good row k = acts_by row row.state k k
 
-pub serves_good : (s : Settings) → IsValid s → (m : Moment) (p : Packet) (answer : Answer) (o : Option ServerRow) → IsAnswer answer → FitsKind p.role p.level p.body p.payload → IfSome o IsServerRow → IsGood IsServerRow Server (server_gets s m p answer o)
+pub serves_good : (s : Settings) → IsValid s → (m : Moment) → IsMoment m → (p : Packet) (answer : Answer) (o : Option ServerRow) → IsAnswer answer → FitsKind p.role p.level p.body p.payload → IfSome o IsServerRow → IsGood IsServerRow Server (server_gets s m p answer o)
 unfolding server_gets
-serves_good s v m p answer None a f k = unknown_good s v m p.id p.body p.payload p.role p.level answer a f
-serves_good s v m p answer (Some row) a f k = row_good s v m p.id p.body p.payload p.role p.level answer row row.state a f k k
+serves_good s v m fit p answer None a f k = unknown_good s v m p.id fit p.body p.payload p.role p.level answer a f
+serves_good s v m fit p answer (Some row) a f k = row_good s v m p.id fit p.body p.payload p.role p.level answer row row.state a f k k

@@ -7,10 +7,26 @@
 //! its datagram gives it back.
 #![tactic(auto)]
 
-ghost use Rattle.node_runs.specs.Replayed.{RecordingsRepeat};
+ghost use Rattle.node_runs.specs.Replayed.{RecordingsRepeat, SettingsFirst, EventsFit, TurnsFit};
 
 /// Where all hosts of a node are local with incarnation 1, and nothing of its run is strange, the replay of what a
 /// recorder tells of the run gives the run's entries, those of the clock and of datagrams that come aside.
 pub fn recordings_repeat()
     ensures { RecordingsRepeat }
+{}
+
+/// The reports of such a run tell the settings first, and only there.
+pub fn settings_first()
+    ensures { SettingsFirst }
+{}
+
+/// Each event that is recorded of such a run has its numbers in range, where its net handed up bytes, and at most 1,500 of
+/// them at once.
+pub fn events_fit()
+    ensures { EventsFit }
+{}
+
+/// A run that comes to its end has taken no more loop turns than its script allows, which are 1,000,000,000 at most.
+pub fn turns_fit()
+    ensures { TurnsFit }
 {}

@@ -1,6 +1,8 @@
 -- What the replay of a recording gives: its law, stated; it is proved in node_laws.
-use Rattle.std.specs.Prelude.{◌≡◌, ◌≤◌, ℕ, Bool, true, false, Option, None, List, [], ◌∷◌, filter, replicate, length}
+use Rattle.std.specs.Prelude.{◌≡◌, ◌≤◌, ◌<◌, ℕ, ◌*◌, Bool, true, false, Option, None, Some, List, [], ◌∷◌, filter, replicate, length}
 use Rattle.std.specs.List.{AllByRecursion}
+use Rattle.homa_plain.specs.declared.event.Event.{Event}
+use Rattle.homa_plain.specs.declared.event.Event.TheVariants as event
 use Rattle.homa_plain.specs.declared.settings.Settings.{Settings}
 use Rattle.homa_plain.specs.Bytes.{IsBytes}
 use Rattle.homa_plain.specs.Wire.{Between}
@@ -10,7 +12,7 @@ use Rattle.homa_plain.specs.World.{new_world}
 use Rattle.homa_plain.specs.Replay.{Happening, Run, carried}
 use Rattle.homa_plain.specs.Script.{most_bytes}
 use Rattle.node_runs.specs.Script.{Place, Local, Remote, Setup, Calls, Opened, opening}
-use Rattle.node_runs.specs.Course.{Report, Tells, Arrival, AreTicks, node_run}
+use Rattle.node_runs.specs.Course.{Report, Tells, Arrival, AreTicks, AreReceived, Ended, node_run}
 use Rattle.node_runs.specs.Recorder.{Notes, no_notes, events, kept}
 use Rattle.node_runs.specs.Observed.{observed, never}
 use Rattle.node_runs.specs.Texts.{entries, recorded}
@@ -53,6 +55,20 @@ pub record BeginsWith (s : Settings) (reports : List Report) : Type 0 where
   pub first : reports ≡ Tells (PlainSettings s) ∷ later
   pub only : NoSettings later
 
+-- an event as a recorder tells it: its hosts are two of 32 at most, its packet is one of so many that were sent, and its bytes are those of a message or of a datagram
+abbrev pub IsRecorded : ℕ → Event → List ℕ → Type 0
+IsRecorded packets (event.Call client server service) bytes = (client.0 < 32) × (server.0 < 32) × (service < 256) × IsBytes bytes × (length bytes ≤ 1000000)
+IsRecorded packets (event.Deliver number) bytes = (number < packets) × (bytes ≡ [])
+IsRecorded packets event.Clock bytes = bytes ≡ []
+IsRecorded packets (event.Turn host) bytes = (host.0 < 32) × (bytes ≡ [])
+IsRecorded packets (event.Inject host) bytes = (host.0 < 32) × IsBytes bytes × (length bytes ≤ 1500)
+IsRecorded packets (event.Restart host) bytes = ⊥
+IsRecorded packets (event.Shift host lead) bytes = ⊥
+
+-- so are these
+abbrev pub AreRecorded : ℕ → List Happening → Type 0
+AreRecorded packets es = AllByRecursion (λ (e : Happening). IsRecorded packets e.event e.bytes) es
+
 -- ---- the law
 
 -- the host is local, in incarnation 1
@@ -87,3 +103,21 @@ SettingsFirst =
     → AllByRecursion IsAnswer answers → AreTicks 0 ticks
     → let reports = (node_run bytes answers ticks receives).reports in
     NoneStrange no_notes reports → BeginsWith setup.settings reports
+
+-- each event that is recorded of such a run has its numbers in range: it sends at most 64 packets an event
+abbrev pub EventsFit : Type 0
+EventsFit =
+    (bytes : List ℕ) (setup : Setup) (calls : Calls) (answers : List Answer) (ticks : List ℕ) (receives : List (Option Arrival))
+    → opening most_bytes bytes ≡ Opened setup calls → AllByRecursion IsHere setup.places
+    → AllByRecursion IsAnswer answers → AreTicks 0 ticks → AreReceived receives
+    → let reports = (node_run bytes answers ticks receives).reports in
+    NoneStrange no_notes reports
+    → AreRecorded (64 * length (recorded_events no_notes reports)) (recorded_events no_notes reports)
+
+-- a run ends after the most loop turns that its script allows, or before
+abbrev pub TurnsFit : Type 0
+TurnsFit =
+    (bytes : List ℕ) (setup : Setup) (calls : Calls) (answers : List Answer) (ticks : List ℕ) (receives : List (Option Arrival)) (turns : ℕ)
+    → opening most_bytes bytes ≡ Opened setup calls
+    → (node_run bytes answers ticks receives).end ≡ Some (Ended turns)
+    → turns ≤ 1000000000

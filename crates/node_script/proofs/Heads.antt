@@ -1,23 +1,18 @@
 -- What the lines before `go` said so far.
-use Rattle.std.proofs.Common.{◌≡◌, ◌≤◌, ◌<◌, ℕ, ◌+◌, suc, arith, Option, None, Some, Result, Ok, Err, List, [], ◌∷◌, ◌++◌, length, map, take, refl}
+use Rattle.std.proofs.Common.{◌≡◌, ◌≤◌, ◌<◌, ℕ, arith, Option, Result, Ok, Err, List, [], ◌∷◌, ◌++◌, length, map, take}
 use Rattle.std.proofs.Common.{sym, ap, ◌∙◌}
 use Rattle.std.specs.Prelude.{min}
-use Rattle.std.specs.Option.{option_map}
-use Rattle.std.specs.Global.{Vec}
 use Rattle.std.proofs.lemmas.List.{take_all, length-take, take-append-le, map-append, length-append, length-map}
-use Rattle.homa_plain.specs.declared.fault.ScriptFault.{ScriptFault}
-use Rattle.homa_plain.specs.declared.fault.ScriptFault.TheVariants.{Setting, Missing}
+use Rattle.homa_plain.specs.declared.fault.ScriptFault.TheVariants.{Setting}
 use Rattle.homa_plain.specs.declared.settings.Settings.{Settings}
 use Rattle.homa_plain.specs.declared.settings.SettingFault.{SettingFault}
 use Rattle.homa_plain.specs.Settings.{verdict}
 use Rattle.node_runs.specs.Script as script
 use Rattle.node_runs.specs.Script.{setup_of, setup_by, places_in}
-use Rattle.node_script.specs.declared.place.Place.{Place}
 use Rattle.node_script.specs.declared.place.Naming.{Naming}
 use Rattle.node_script.specs.declared.head.Head.{Head}
-use Rattle.node_script.specs.declared.setup.Setup.{Setup}
-use Rattle.node_script.specs.Setup.{place_seen, naming_seen}
-use Rattle.node_script.specs.Heads.{IsHead, places_seen, setup_seen}
+use Rattle.node_script.specs.Setup.{naming_seen}
+use Rattle.node_script.specs.Heads.{IsHead}
 use Rattle.node_script.proofs.Placing.{front_places}
 
 -- there is room for one more

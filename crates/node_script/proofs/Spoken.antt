@@ -1,11 +1,10 @@
 -- A line's words, by what it says.
-use Rattle.std.proofs.Common.{◌≡◌, ◌≤◌, ℕ, ◌+◌, arith, Bool, true, false, Option, None, Some, Result, Ok, Err, List, [], ◌∷◌, length, refl, ap, ◌∙◌}
+use Rattle.std.proofs.Common.{◌≡◌, ◌≤◌, ℕ, ◌+◌, arith, Bool, true, false, Some, Ok, Err, List, [], ◌∷◌, length, refl, ap}
 use Rattle.std.specs.Prelude.{◌==◌, nat_lt, not, cond, filter, codes, if◌then◌else◌}
 use Rattle.std.specs.Str.{is_utf8, bytes_eq}
 use Rattle.std.proofs.lemmas.Slice.Eq.{bytes_eq-Decides}
 use Rattle.homa_plain.specs.declared.fault.ScriptFault.{ScriptFault}
 use Rattle.homa_plain.specs.declared.fault.ScriptFault.TheVariants.{InputTooLong, LongLine, NotUtf8, UnknownWord}
-use Rattle.homa_plain.specs.declared.fault.LineFault.{LineFault}
 use Rattle.homa_plain.specs.declared.fault.LineFault.TheVariants.{Script as ByWords}
 use Rattle.homa_plain.specs.Input.{without_feed, words_of, has_bytes}
 use Rattle.homa_plain.specs.Script.{without_return, longest_line, is_comment}

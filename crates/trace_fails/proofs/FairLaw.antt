@@ -86,7 +86,7 @@ all_same s w u v x hosts level same k = record {
   rows = λ id h is q r mine row. row_view s v x h.last q r (same q) (k.rows id h (ap (λ (hs : List Host). slice_get hs id.0) (sym hosts) ∙ is) q r mine row);
 }
 
-ticked_fair : (s : Settings) (w : World) (v : View) (tick : ℕ) → HasFairRows s w v → HasFairRows s (record w { clock = tick }) (seen v (PlainClock tick))
+pub ticked_fair : (s : Settings) (w : World) (v : View) (tick : ℕ) → HasFairRows s w v → HasFairRows s (record w { clock = tick }) (seen v (PlainClock tick))
 unfolding seen
 ticked_fair s w v tick k =
     all_same s w (record w { clock = tick }) v (seen v (PlainClock tick)) refl (record { came = refl; live = λ q. refl; resends = λ q. refl; requests = λ q o. refl; responses = λ q o. refl })
@@ -167,7 +167,7 @@ event_fair s w v (event.Shift host n) bytes after told kept k e = subst (EventFa
 
 -- ---- the law
 
-first_fair : IsSoAtFirst HasFairRows
+pub first_fair : IsSoAtFirst HasFairRows
 unfolding new_world seen
 first_fair s incs clock boxes answers opening = record { level = record { came = refl; live = λ q. refl; resends = λ q. refl; requests = λ q o. refl; responses = λ q o. refl }; rows = λ id h is. rowless id h (hosts_new s 0 incs id.0 h is) } where
   rowless : (id : HostId) (h : Host) → IsNew s (0 + id.0) h → AreLive s (seen (at_start clock) (PlainSettings s)) id h

@@ -123,7 +123,7 @@ unfolding seen
 shift_parts v id n (OfClient q) = refl
 shift_parts v id n (OfServer q) = refl
 
-clock_parts : (v : View) (n : ℕ) (q : Place) → part_in (seen v (PlainClock n)).now q ≡ part_in v.now q
+pub clock_parts : (v : View) (n : ℕ) (q : Place) → part_in (seen v (PlainClock n)).now q ≡ part_in v.now q
 unfolding seen
 clock_parts v n (OfClient q) = refl
 clock_parts v n (OfServer q) = refl
@@ -139,12 +139,12 @@ unfolding seen
 restart_parts v host inc (OfClient q) = kept_or_gone v.now.responses (λ id. not (is_host id.client host)) q
 restart_parts v host inc (OfServer q) = kept_or_gone v.now.requests (λ id. not (is_server_of v id host)) q
 
-line_settings : (v : View) → (((id : HostId) (bytes : List ℕ) → (seen v (PlainInject id bytes)).settings ≡ v.settings) × ((id : HostId) (n : ℕ) → (seen v (PlainShift id n)).settings ≡ v.settings)
+pub line_settings : (v : View) → (((id : HostId) (bytes : List ℕ) → (seen v (PlainInject id bytes)).settings ≡ v.settings) × ((id : HostId) (n : ℕ) → (seen v (PlainShift id n)).settings ≡ v.settings)
     × ((n : ℕ) → (seen v (PlainClock n)).settings ≡ v.settings) × ((id : HostId) (n : ℕ) → (seen v (PlainRestart id n)).settings ≡ v.settings))
 unfolding seen
 line_settings v = (λ id bytes. refl, λ id n. refl, λ n. refl, λ id n. refl)
 
-line_place : (v : View) (line : PlainEntry) → (seen v line).place ≡ v.place + 1
+pub line_place : (v : View) (line : PlainEntry) → (seen v line).place ≡ v.place + 1
 unfolding seen
 line_place v line = refl
 
@@ -265,7 +265,7 @@ no_parts s clock (OfServer q) = get-empty call_cmp q
 opened_within : (s : Settings) (clock : ℕ) → PartsWithin s.window (seen (at_start clock) (PlainSettings s)).now
 opened_within s clock id = (subst (IsBoundedAt s.window) (sym (no_parts s clock (OfServer id))) tt, subst (IsBoundedAt s.window) (sym (no_parts s clock (OfClient id))) tt)
 
-opened_grants : (s : Settings) (incs : List ℕ) (clock boxes : ℕ) (answers : List Answer) → HasGrants s (new_world s incs clock boxes answers) (seen (at_start clock) (PlainSettings s))
+pub opened_grants : (s : Settings) (incs : List ℕ) (clock boxes : ℕ) (answers : List Answer) → HasGrants s (new_world s incs clock boxes answers) (seen (at_start clock) (PlainSettings s))
 unfolding new_world
 opened_grants s incs clock boxes answers = record {
   within_all = opened_within s clock;
@@ -280,11 +280,11 @@ event_granting s w v e after so done =
     let says = event_says s w v e.event e.bytes after so.0.0 so.0.1 so.0.2 so.0.3 done in
     (k.holds, (so_later s w v e.event e.bytes after so.0 done says, k.has))
 
-first_granting : (s : Settings) (clock : ℕ) → IsWithin (seen (at_start clock) (PlainSettings s))
+pub first_granting : (s : Settings) (clock : ℕ) → IsWithin (seen (at_start clock) (PlainSettings s))
 unfolding seen
 first_granting s clock = parts_within s.window (seen (at_start clock) (PlainSettings s)) refl (opened_within s clock)
 
-last_granting : (s : Settings) (v : View) (line : PlainEntry) → v.settings ≡ s → PartsWithin s.window v.now → is_last line ≡ true → Granting v line
+pub last_granting : (s : Settings) (v : View) (line : PlainEntry) → v.settings ≡ s → PartsWithin s.window v.now → is_last line ≡ true → Granting v line
 unfolding seen
 last_granting s v (PlainFinished n) same k e = parts_within s.window (seen v (PlainFinished n)) (ap (λ (x : Settings). x.window) same) k
 last_granting s v (PlainRefused line fault) same k e = parts_within s.window (seen v (PlainRefused line fault)) (ap (λ (x : Settings). x.window) same) k

@@ -43,7 +43,7 @@ use Rattle.trace_laws.proofs.ShapedLines.{line_behind, may_start}
 use Rattle.trace_laws.proofs.ShapedSteps.{length_told, IsShaped, turn_shaped, ended_shaped, packet_shaped, junk_shaped}
 
 -- what is so of a world and of the lines up to it
-abbrev IsSoFar : Settings → World → View → Type 0
+abbrev pub IsSoFar : Settings → World → View → Type 0
 IsSoFar s w v = IsTold s w v × IsKept s w v × (length w.hosts ≡ s.hosts) × IsBehind v
 
 -- ---- a host's step
@@ -171,28 +171,28 @@ event_shaped s w v (event.Shift host n) bytes after told k many b e =
 -- ---- every trace
 
 -- a line has the shape, where it has a cause if it refuses one
-abbrev IsShapedLine : View → PlainEntry → Type 0
+abbrev pub IsShapedLine : View → PlainEntry → Type 0
 IsShapedLine v line = HasCause line → Shape v line
 
 as_lines : (v : View) (lines : List PlainEntry) → Holds Shape v lines → Holds IsShapedLine v lines
 as_lines v [] h = tt
 as_lines v (line ∷ lines) h = ((λ _. h.0), as_lines (seen v line) lines h.1)
 
-last_shaped : (v : View) (line : PlainEntry) → is_last line ≡ true → IsBehind v → IsShapedLine v line
+pub last_shaped : (v : View) (line : PlainEntry) → is_last line ≡ true → IsBehind v → IsShapedLine v line
 last_shaped v (PlainFinished n) e b = λ cause. (b, tt)
 last_shaped v (PlainRefused line fault) e b = λ cause. (b, cause)
 last_shaped v (PlainStalled turns tick) e b = λ cause. (b, tt)
 last_shaped v line e b = absurd (false≢true e)
 
-opened_behind : (s : Settings) (clock : ℕ) → IsBehind (seen (at_start clock) (PlainSettings s))
+pub opened_behind : (s : Settings) (clock : ℕ) → IsBehind (seen (at_start clock) (PlainSettings s))
 unfolding seen
 opened_behind s clock = record { first = omega arith; last = refl }
 
-opened_hosts : (s : Settings) (incs : List ℕ) (clock boxes : ℕ) (answers : List Answer) → length (new_world s incs clock boxes answers).hosts ≡ length incs
+pub opened_hosts : (s : Settings) (incs : List ℕ) (clock boxes : ℕ) (answers : List Answer) → length (new_world s incs clock boxes answers).hosts ≡ length incs
 unfolding new_world
 opened_hosts s incs clock boxes answers = length-new s 0 incs
 
-event_lines : KeptByEvent IsSoFar IsShapedLine
+pub event_lines : KeptByEvent IsSoFar IsShapedLine
 event_lines s w v e after so done =
     let k = event_shaped s w v e.event e.bytes after so.0 so.1 so.2 so.3 done in
     (as_lines v after.told k.shape, (told_events.told_event s w v e.event e.bytes after so.0 done, (event_keeps s w v e.event e.bytes after so.0 so.1 done).kept, k.hosts, k.behind))

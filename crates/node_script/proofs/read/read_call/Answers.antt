@@ -4,7 +4,7 @@ use Rattle.homa_text.specs.Lines.{reading}
 use Rattle.script_lines.proofs.Taken.{taken, counted_on}
 use Rattle.node_script.specs.Setup.{place_seen, call_seen}
 use Rattle.node_script.specs.Heads.{setup_seen}
-use Rattle.node_script.proofs.Calls.{due_start, due_blank, due_call, due_fault, due_end, due_stop}
+use Rattle.node_script.proofs.Calls.{due_blank, due_call, due_fault, due_end, due_stop}
 use Rattle.node_script.proofs.Spoken.{long_call}
 use Rattle.node_script.proofs.read.read_call.Goals as goal
 

@@ -45,12 +45,12 @@ returns-clause-received g c =
     → Served v c.args.pool.now (packet_of c.args.id c.args.body.now c.args.payload.now role server inc at level) c.args.now c.args.order
     (record { host = t.host; settings = t.settings; rows = set_at rows c.args.slot after }) c.receive.new.pool c.receive.new.scratch
     (λ request response hold. g.V.Service.allows c.args.service.now (g.V.Service.served c.args.service.now) (service_in (piece_in c.args.body.now c.args.payload.now)) request response hold) answer)) c.self.view_is
-    (if_ok_all c.receive.result _ _ _ _ _ _ _ c.receive.ensures.did c.receive.ensures.slot c.receive.ensures.says c.receive.ensures.idle c.receive.ensures.moves c.receive.ensures.allowed
-    (λ answer did slot says idle moves allowed role server inc at level.
+    (if_ok_all c.receive.result _ _ _ _ _ _ _ _ c.receive.ensures.did c.receive.ensures.slot c.receive.ensures.says c.receive.ensures.idle c.receive.ensures.moves c.receive.ensures.allowed c.receive.ensures.named
+    (λ answer did slot says idle moves allowed named role server inc at level.
     served_at t.settings.served rows c.args.slot placed t.host t.settings c.args.id row stands c.args.body.now c.args.payload.now role server inc at level c.args.now c.args.order
     c.args.pool.now c.receive.new.pool after are moves c.receive.new.scratch
     (λ request response hold. g.V.Service.allows c.args.service.now (g.V.Service.served c.args.service.now) (service_in (piece_in c.args.body.now c.args.payload.now)) request response hold) answer
-    (did c.args.id t.host) slot says idle allowed))
+    (did c.args.id t.host) slot named says idle allowed))
 
 pub returns-clause-pool : goal.returns-clause-pool
 returns-clause-pool g c =

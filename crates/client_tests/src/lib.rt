@@ -1,0 +1,5 @@
+//! Tests of the calls that a host makes.
+#![tactic(auto)]
+
+#[cfg(test)]
+mod client;

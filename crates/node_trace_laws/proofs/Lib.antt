@@ -1,0 +1,11 @@
+pub mod Datagrams
+pub mod Lawful
+pub mod Risen
+pub mod Arrived
+pub mod Sent
+pub mod Usual
+pub mod Stepped
+pub mod Ends
+pub mod NodeLaw
+pub mod Taken
+pub mod WorkedNets

@@ -1,0 +1,34 @@
+//! The laws of a node's trace, proved.
+//!
+//! The model: a node is a plain world of which only the local hosts act (`node_runs`). No code stands here; a law is the
+//! contract of a function that does nothing.
+//! Main promise: where a node's net hands up what the node's hosts sent, and no other packet, each line of its trace has the
+//! shape and obeys all five laws (`node_traces_obey`). Each event of a node does what one of the world does, with a line
+//! that says the same; but its clock may go on by many ticks at once.
+#![tactic(auto)]
+
+ghost use Rattle.node_trace_laws.specs.Honest.{NodeTracesObey, NoneIsBroken, UsualIsHonest};
+ghost use Rattle.node_trace_laws.specs.Taken.{WholeTextsObey, FrontsObey};
+
+/// Of each run of a node, whatever its services answer: where each datagram in the first n lines of its trace is no packet,
+/// or one that was sent before in this run to this host by this sender, with version 1 in the last `life` ticks, these
+/// lines have the shape and obey all five laws, the last line too, however the run goes on or breaks off. Where that is so
+/// of all lines, a judge finds none that breaks a law.
+pub fn node_traces_obey()
+    ensures obeys { NodeTracesObey }
+    ensures judged { NoneIsBroken }
+{}
+
+/// Where nothing of a node's run is strange to a recorder, its net was honest: each datagram that came is no packet, or one
+/// that was sent before in this run to this host by this sender, in the last `life` ticks. So the laws hold of all its lines.
+pub fn usual_nets_are_honest()
+    ensures { UsualIsHonest }
+{}
+
+/// Where a sink took all of a node's text, it took the run's lines, and where it took a front of it, as in a run that is
+/// broken off, it took the first lines whole, with their line feeds, and maybe a part of the next one. Where the net was
+/// honest in the lines that were taken whole, these have the shape and obey all five laws.
+pub fn what_is_taken_obeys()
+    ensures whole { WholeTextsObey }
+    ensures fronts { FrontsObey }
+{}

@@ -1,0 +1,5 @@
+//! Tests of the calls that a host serves.
+#![tactic(auto)]
+
+#[cfg(test)]
+mod server;

@@ -1,0 +1,88 @@
+"""Runs of the built program with faults put between it and the system: memory refused, reads and writes that fail or are short."""
+import os
+import subprocess
+import tempfile
+
+TOP = os.path.dirname(os.path.dirname(os.path.abspath(__file__)))
+PROGRAM = os.environ.get("HOMA", os.path.join(TOP, "crates", "homa", "out", "homa"))
+
+# A library that stands before the C library. It counts allocations, reads and writes, and lets the one of a given number fail.
+LIBRARY = r"""
+#define _GNU_SOURCE
+#include <dlfcn.h>
+#include <errno.h>
+#include <stdio.h>
+#include <stdlib.h>
+#include <sys/socket.h>
+#include <sys/types.h>
+#include <unistd.h>
+static unsigned long allocations, reads, writes, sends;
+static int looking_up;
+static unsigned long number(const char *name) { const char *it = getenv(name); return it ? strtoul(it, 0, 10) : 0; }
+static int fails(unsigned long *count, const char *name) {
+    unsigned long at = number(name);
+    return ++*count == at;
+}
+__attribute__((destructor)) static void tell(void) {
+    if (getenv("TELL")) dprintf(2, "calls %lu %lu %lu %lu\n", allocations, reads, writes, sends);
+}
+#define REAL(name) static typeof(name) *real; if (!real) { looking_up = 1; real = (typeof(name) *) dlsym(RTLD_NEXT, #name); looking_up = 0; }
+#define REFUSE(answer) if (fails(&allocations, "REFUSE")) { errno = ENOMEM; return answer; }
+void *malloc(size_t n) { REAL(malloc); REFUSE(0) return real(n); }
+/* dlsym may ask calloc for memory, and does without it */
+void *calloc(size_t m, size_t n) { if (looking_up) return 0; REAL(calloc); REFUSE(0) return real(m, n); }
+void *realloc(void *p, size_t n) { REAL(realloc); REFUSE(0) return real(p, n); }
+void *aligned_alloc(size_t a, size_t n) { REAL(aligned_alloc); REFUSE(0) return real(a, n); }
+int posix_memalign(void **p, size_t a, size_t n) { REAL(posix_memalign); REFUSE(ENOMEM) return real(p, a, n); }
+static size_t shorter(size_t n) { unsigned long most = number("SHORT"); return most && most < n ? most : n; }
+ssize_t read(int fd, void *to, size_t n) {
+    REAL(read);
+    if (fd) return real(fd, to, n);
+    if (fails(&reads, "FAIL_READ")) { errno = EIO; return -1; }
+    return real(fd, to, shorter(n));
+}
+ssize_t write(int fd, const void *from, size_t n) {
+    REAL(write);
+    if (fd != 1) return real(fd, from, n);
+    if (fails(&writes, "FAIL_WRITE")) { errno = EIO; return -1; }
+    return real(fd, from, shorter(n));
+}
+/* each datagram that LOG names a file for is written down; of each LOSE the last one is taken and not sent */
+ssize_t sendto(int fd, const void *from, size_t n, int flags, const struct sockaddr *to, socklen_t size) {
+    REAL(sendto);
+    static FILE *log;
+    unsigned long lose = number("LOSE");
+    sends++;
+    if (getenv("LOG")) {
+        if (!log) log = fopen(getenv("LOG"), "w");
+        for (size_t i = 0; i < n; i++) fprintf(log, "%02x", ((const unsigned char *) from)[i]);
+        fputc('\n', log);
+        fflush(log);
+    }
+    if (number("FAIL_SEND") == sends) { errno = EIO; return -1; }
+    if (lose && sends % lose == 0) return n;
+    return real(fd, from, n, flags, to, size);
+}
+"""
+
+
+class Faults:
+    """The library, compiled once."""
+
+    def __init__(self):
+        self.folder = tempfile.TemporaryDirectory()
+        source, self.library = os.path.join(self.folder.name, "faults.c"), os.path.join(self.folder.name, "faults.so")
+        with open(source, "w") as it:
+            it.write(LIBRARY)
+        subprocess.run(["cc", "-O1", "-shared", "-fPIC", source, "-o", self.library, "-ldl"], check=True)
+
+    def run(self, words, given=b"", program=PROGRAM, **faults):
+        """The run of the program with these words and this input; REFUSE, FAIL_READ, FAIL_WRITE, SHORT, LOSE and LOG are its faults."""
+        env = {**os.environ, "LD_PRELOAD": self.library, **{name: str(value) for name, value in faults.items()}}
+        return subprocess.run([program, *words], input=given, capture_output=True, env=env)
+
+    def count(self, words, given=b"", **faults):
+        """How many allocations, reads and writes the whole run makes, and the run."""
+        whole = self.run(words, given, TELL="1", **faults)
+        told = whole.stderr.rsplit(b"calls ", 1)[-1].split()
+        return [int(it) for it in told[:3]], whole
