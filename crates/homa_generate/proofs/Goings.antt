@@ -151,11 +151,11 @@ pub stopped_on : (f h : Generated → Generated) (g : Generated) (a b : Holds) (
 stopped_on f h g a b new st p q first extends stopped = record {
   told = first.told ++ stopped.told;
   allowed = first.allowed stopped.told stopped.allowed;
-  first = λ later.
+  is_first = λ later.
       let end = answered (shown stopped.told ++ later) first.next in
       let runs : f (answered (shown (first.told ++ stopped.told) ++ later) g) ≡ h end =
       ap (λ (l : List Answer). f (answered l g)) (shown_parts first.told stopped.told later) ∙ first.same (shown stopped.told ++ later) in
-      let inner = stopped.first later in
+      let inner = stopped.is_first later in
       record {
         rest = inner.rest;
         tells = ap (λ (x : Generated). x.told) runs
@@ -181,8 +181,8 @@ pub stopped_under : (over f : Generated → Generated) (g : Generated) (old new 
 stopped_under over f g old new p extends part stopped = record {
   told = stopped.told;
   allowed = stopped.allowed;
-  first = λ later.
-      let inner = stopped.first later in
+  is_first = λ later.
+      let inner = stopped.is_first later in
       let more = extends (f (answered (shown stopped.told ++ later) g)) in
       record {
         rest = inner.rest ++ more.further;
@@ -206,7 +206,7 @@ pub stopped_as : (f h : Generated → Generated) (g : Generated) (old new : Opti
 stopped_as f h g old new p same stopped = record {
   told = stopped.told;
   allowed = stopped.allowed;
-  first = λ later. subst (λ (x : Generated). IsFirstTold x g.told stopped.told) (sym (same (shown stopped.told ++ later))) (stopped.first later);
+  is_first = λ later. subst (λ (x : Generated). IsFirstTold x g.told stopped.told) (sym (same (shown stopped.told ++ later))) (stopped.is_first later);
   front = λ later lines is. stopped.front later lines (ap (λ (x : Generated). x.lines) (sym (same (shown stopped.told ++ later))) ∙ is);
 }
 
@@ -215,7 +215,7 @@ pub line_stopped : (s : Settings) (line : Given) (g : Generated) (old new : Opti
 line_stopped s line g old new p none front = record {
   told = [];
   allowed = none;
-  first = λ later. record { rest = (carried s (answering later g.world) (events_of s.hosts line)).told; tells = refl };
+  is_first = λ later. record { rest = (carried s (answering later g.world) (events_of s.hosts line)).told; tells = refl };
   front = λ later lines is.
       let one : line ∷ [] ≡ lines = append_cancel_left g.lines (line ∷ []) lines is in
       front_same old new (given_text line ++ []) (text lines) (ap text one) (front_wide old new (given_text line) [] front);

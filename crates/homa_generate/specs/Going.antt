@@ -53,5 +53,5 @@ pub record IsFirstTold (run : Generated) (before told : List PlainEntry) : Type 
 pub record HasStopped (all : Generated → Generated) (g : Generated) (old new : Option (List ℕ)) (before : List PlainEntry → Type 0) : Type 0 where
   pub told : List PlainEntry
   pub allowed : before told
-  pub first : (later : List Answer) → IsFirstTold (all (answered (shown told ++ later) g)) g.told told
+  pub is_first : (later : List Answer) → IsFirstTold (all (answered (shown told ++ later) g)) g.told told
   pub front : (later : List Answer) (lines : List Given) → (all (answered (shown told ++ later) g)).lines ≡ g.lines ++ lines → TookFront old new (flat_map given_text lines)

@@ -37,5 +37,5 @@ pub record IsMade (run : Run) (text : Generated → List ℕ) (old new : Option 
 pub record IsPartMade (run : Run) (text : Generated → List ℕ) (old new : Option (List ℕ)) (allowed : List PlainEntry → Type 0) : Type 0 where
   pub told : List PlainEntry
   pub allow : allowed (PlainSettings generated_settings ∷ told)
-  pub first : (later : List Answer) → IsFirstTold (run (shown told ++ later)) [] told
+  pub is_first : (later : List Answer) → IsFirstTold (run (shown told ++ later)) [] told
   pub front : (later : List Answer) → TookFront old new (text (run (shown told ++ later)))
