@@ -1,5 +1,5 @@
 // The check of a text.
-ghost use Rattle.std.specs.Prelude.{◌≡◌, ◌≢◌, ◌+◌, ◌-◌, ◌*◌, ◌^◌, ◌<◌, ◌≤◌, ℕ, List, Some, None, [], true, false, length, min, IfOk, OnOk};
+ghost use Rattle.std.specs.Prelude.{◌≡◌, ◌≢◌, ◌+◌, ◌-◌, ◌*◌, ◌^◌, ◌<◌, ◌≤◌, ◌++◌, ℕ, List, Some, None, [], true, false, length, min, IfOk, OnOk};
 ghost use Rattle.std.specs.Option.{option_map};
 ghost use Rattle.homa_check.specs.Checks.{plain_verdict, is_yes, is_read, verdict_at_end, IsNext, TookLine, IsUpTo, IsCutShort};
 ghost use Rattle.homa_check.specs.Clauses.{clause_of};
