@@ -1,5 +1,5 @@
 -- Events that are carried out in a world between so many hosts.
-use Rattle.std.proofs.Common.{◌≡◌, ℕ, zero, suc, ◌+◌, ◌<◌, ◌≤◌, Bool, true, false, Option, Some, None, List, [], ◌∷◌, ◌++◌, length, refl, sym, ap, ◌∙◌, subst, arith, append_assoc}
+use Rattle.std.proofs.Common.{◌≡◌, ℕ, zero, suc, ◌+◌, ◌*◌, ◌<◌, ◌≤◌, Bool, true, false, Option, Some, None, List, [], ◌∷◌, ◌++◌, length, refl, sym, ap, ◌∙◌, subst, arith, append_assoc, length-append}
 use Rattle.std.specs.Prelude.{slice_get, ◌==◌, nat_lt, nat_le, is_some, if◌then◌else◌, ◌&&◌}
 use Rattle.std.specs.List.{AllByRecursion}
 use Rattle.std.proofs.lemmas.List.{append-nil}
@@ -14,9 +14,11 @@ use Rattle.homa_plain.specs.declared.fault.WorldFault.TheVariants.{NoSuchHost, N
 use Rattle.homa_plain.specs.Entries.{PlainEntry, PlainDeliver, PlainClock}
 use Rattle.homa_plain.specs.Packets.{Packet, sender, receiver}
 use Rattle.homa_plain.specs.Host.{Host, packets_in, entries_from}
-use Rattle.homa_plain.specs.Steps.{Work, start_fault, call_step, arrival_step, turn_step}
+use Rattle.homa_plain.specs.Steps.{Work, most_packets, start_fault, call_step, arrival_step, turn_step}
 use Rattle.homa_plain.specs.World.{World, SentPacket, After, Outcome, Refused, Done, host_at, own_clock, next_answer, stamped, stepped, started, calls_from, arrives_at, is_late, delivered, last_tick, clock_outcome, turns, outcome}
 use Rattle.homa_plain.specs.Replay.{Happening, Run, bare, turns_of, ticks, after_event, carried}
+use Rattle.step_laws.specs.StepLaws.{IsBounded}
+use Rattle.step_laws.proofs.Bounds.{call-bounded, arrival-bounded, turn-bounded}
 use Rattle.event_laws.specs.Among.{IsAmongStep, IsBelow}
 use Rattle.event_laws.specs.Named.{IsOwnStep}
 use Rattle.event_laws.proofs.Among.{call_among, arrival_among, turn_among}
@@ -25,21 +27,23 @@ use Rattle.generated_laws.proofs.Listed.{there_is, all_get}
 use Rattle.generated_laws.proofs.Carried.{by_outcome, first_event, no_event}
 use Rattle.generated_laws.proofs.Peopled.{IsPerson, IsPost, IsPeopled, behind, behind_peopled, calls_more}
 
--- an event is carried out: the packets that it sends stand behind the others, and the clock is this one
+-- an event is carried out: the packets that it sends, at most 64, stand behind the others, and the clock is this one
 pub record Happens (n calls clock : ℕ) (s : Settings) (w : World) (e : Happening) : Type 0 where
   pub after : After
   pub done : outcome s w e.event e.bytes ≡ Done after
   pub world : IsPeopled n calls after.world
   pub more : List SentPacket
   pub grown : after.world.packets ≡ w.packets ++ more
+  pub few : length more ≤ most_packets
   pub at : after.world.clock ≡ clock
 
--- and so are these, one after the other
-pub record HasRun (n calls clock : ℕ) (w : World) (run : Run) : Type 0 where
+-- and so are these, one after the other, which send so many packets at most
+pub record HasRun (n calls clock most : ℕ) (w : World) (run : Run) : Type 0 where
   pub none : run.fault ≡ None
   pub world : IsPeopled n calls run.world
   pub more : List SentPacket
   pub grown : run.world.packets ≡ w.packets ++ more
+  pub few : length more ≤ most
   pub at : run.world.clock ≡ clock
 
 -- a packet that may be delivered
@@ -50,17 +54,22 @@ pub record IsDeliverable (s : Settings) (w : World) (number : ℕ) : Type 0 wher
 
 -- ---- one event
 
-module _ (s : Settings) (n : ℕ) (w : World) where
+many_stamped : (tick : ℕ) (ps : List Packet) → length (stamped tick ps) ≡ length ps
+many_stamped tick [] = refl
+many_stamped tick (p ∷ ps) = ap suc (many_stamped tick ps)
+
+module _ (s : Settings) (n : ℕ) (w : World) (over : s.overcommit ≤ 7) where
   -- a step of a host
   by_step : (old new seq : ℕ) (k : IsPeopled n old w) (id : HostId) (h : Host) (at : host_at w id ≡ Some h) (first : List PlainEntry) (step : Work)
-      (e : Happening) → IsOwnStep id step → IsAmongStep (IsBelow n) seq step → old ≤ new → seq ≤ new
+      (e : Happening) (orders : ℕ) → IsBounded orders h step → IsOwnStep id step → IsAmongStep (IsBelow n) seq step → old ≤ new → seq ≤ new
       → outcome s w e.event e.bytes ≡ stepped w id first step → Happens n new w.clock s w e
-  by_step old new seq k id h at first step e own among grows calls is = record {
+  by_step old new seq k id h at first step e orders bounded own among grows calls is = record {
     after = record { world = behind s n old new seq w k id h at step own among grows calls; told = first ++ entries_from (length w.packets) step.told };
     done = is;
     world = behind_peopled s n old new seq w k id h at step own among grows calls;
     more = stamped w.clock (packets_in step.told);
     grown = refl;
+    few = omega (arith, bounded.packets, many_stamped w.clock (packets_in step.told));
     at = refl;
   }
 
@@ -70,7 +79,7 @@ module _ (s : Settings) (n : ℕ) (w : World) where
       let there = there_is w.hosts id.0 (omega (arith, l, k.many)) in
       let h = there.0 in
       let who = k.hosts id h there.1 in
-      by_step calls calls h.seq k id h there.1 [] (turn_step s h (own_clock w id)) (bare (event.Turn id))
+      by_step calls calls h.seq k id h there.1 [] (turn_step s h (own_clock w id)) (bare (event.Turn id)) 32 (turn-bounded s over h (own_clock w id))
       (turn_named s id resend h (own_clock w id) who.name) (turn_among s id (IsBelow n) resend h (own_clock w id) who.name who.among)
       (omega arith) who.seq (ap (turns s w id) there.1)
 
@@ -88,7 +97,8 @@ module _ (s : Settings) (n : ℕ) (w : World) where
       let late : (if is_late s w d.sent.tick then Refused (Late d.sent.tick w.clock)
       else arrives_at s w id (PlainDeliver number ∷ []) (Some p) (host_at w id)) ≡ arrives_at s w id (PlainDeliver number ∷ []) (Some p) (host_at w id) =
       ap (λ (t : Bool). if t then Refused (Late d.sent.tick w.clock) else arrives_at s w id (PlainDeliver number ∷ []) (Some p) (host_at w id)) d.fresh in
-      by_step calls calls h.seq k id h there.1 (PlainDeliver number ∷ []) step (record { event = event.Deliver number; bytes = [] })
+      by_step calls calls h.seq k id h there.1 (PlainDeliver number ∷ []) step (record { event = event.Deliver number; bytes = [] }) 2
+      (arrival-bounded s over h (own_clock w id) (Some p) (next_answer w.answers))
       (arrival_named s id h (own_clock w id) (Some p) (next_answer w.answers) who.name refl)
       (arrival_among s id (IsBelow n) h (own_clock w id) (Some p) (next_answer w.answers) who.name who.among (refl, post.from))
       (omega arith) who.seq (ap (delivered s w number) d.at ∙ (late ∙ ap (arrives_at s w id (PlainDeliver number ∷ []) (Some p)) there.1))
@@ -103,6 +113,7 @@ module _ (s : Settings) (n : ℕ) (w : World) where
     world = record { many = k.many; hosts = λ id h at. k.hosts id h at; packets = k.packets };
     more = [];
     grown = sym (append-nil w.packets);
+    few = omega arith;
     at = refl;
   }
 
@@ -128,7 +139,8 @@ module _ (s : Settings) (n : ℕ) (w : World) where
       let name : h.id.0 ≡ client.0 = ap (λ (x : HostId). x.0) who.name.name in
       let start = may_start h server request some long (λ e. other (e ∙ name)) free (omega (arith, who.seq, few)) in
       by_step calls (calls + 1) (h.seq + 1) k client h at [] (call_step s h (own_clock w client) server service request)
-      (record { event = event.Call client server service; bytes = request })
+      (record { event = event.Call client server service; bytes = request }) 1
+      (call-bounded s over h (own_clock w client) server service request)
       (call_named s client h (own_clock w client) server service request who.name)
       (call_among s client (IsBelow n) h (own_clock w client) server service request who.name who.among to)
       (omega arith) (omega (arith, who.seq))
@@ -137,46 +149,58 @@ module _ (s : Settings) (n : ℕ) (w : World) where
 
 -- ---- events one after the other
 
-pub none_run : (s : Settings) (n calls : ℕ) (w : World) → IsPeopled n calls w → HasRun n calls w.clock w (carried s w [])
-none_run s n calls w k = rw (no_event s w) (record { none = refl; world = k; more = []; grown = sym (append-nil w.packets); at = refl })
+none_run : (s : Settings) (n calls : ℕ) (w : World) → IsPeopled n calls w → HasRun n calls w.clock 0 w (carried s w [])
+none_run s n calls w k =
+    rw (no_event s w) (record { none = refl; world = k; more = []; grown = sym (append-nil w.packets); few = omega arith; at = refl })
 
-first_by : (s : Settings) (n calls clock : ℕ) (w : World) (es : List Happening) (after : After) (more : List SentPacket)
-    → after.world.packets ≡ w.packets ++ more → HasRun n calls clock after.world (carried s after.world es)
-    → HasRun n calls clock w (by_outcome s w es (Done after))
-first_by s n calls clock w es after more grown run = record {
+first_by : (s : Settings) (n calls clock most : ℕ) (w : World) (es : List Happening) (after : After) (more : List SentPacket)
+    → after.world.packets ≡ w.packets ++ more → length more ≤ most_packets → HasRun n calls clock most after.world (carried s after.world es)
+    → HasRun n calls clock (most + 64) w (by_outcome s w es (Done after))
+first_by s n calls clock most w es after more grown few run = record {
   none = run.none;
   world = run.world;
   more = more ++ run.more;
   grown = run.grown ∙ (ap (λ (l : List SentPacket). l ++ run.more) grown ∙ append_assoc w.packets more run.more);
+  few = omega (arith, few, run.few, length-append more run.more);
   at = run.at;
 }
 
-pub first_run : (s : Settings) (n a b here clock : ℕ) (w : World) (e : Happening) (es : List Happening) (h : Happens n a here s w e)
-    → HasRun n b clock h.after.world (carried s h.after.world es) → HasRun n b clock w (carried s w (e ∷ es))
-first_run s n a b here clock w e es h run =
-    rw (first_event s w e es, h.done) (first_by s n b clock w es h.after h.more h.grown run)
+first_run : (s : Settings) (n a b here clock most : ℕ) (w : World) (e : Happening) (es : List Happening) (h : Happens n a here s w e)
+    → HasRun n b clock most h.after.world (carried s h.after.world es) → HasRun n b clock (most + 64) w (carried s w (e ∷ es))
+first_run s n a b here clock most w e es h run =
+    rw (first_event s w e es, h.done) (first_by s n b clock most w es h.after h.more h.grown h.few run)
 
-pub one_run : (s : Settings) (n calls clock : ℕ) (w : World) (e : Happening) → Happens n calls clock s w e → HasRun n calls clock w (carried s w (e ∷ []))
+pub one_run : (s : Settings) (n calls clock : ℕ) (w : World) (e : Happening) → Happens n calls clock s w e
+    → HasRun n calls clock 64 w (carried s w (e ∷ []))
 one_run s n calls clock w e h =
-    first_run s n calls calls clock clock w e [] h
-    (subst (λ (t : ℕ). HasRun n calls t h.after.world (carried s h.after.world [])) h.at (none_run s n calls h.after.world h.world))
+    first_run s n calls calls clock clock 0 w e [] h
+    (subst (λ (t : ℕ). HasRun n calls t 0 h.after.world (carried s h.after.world [])) h.at (none_run s n calls h.after.world h.world))
+
+-- so many packets at most in turns of so many hosts
+abbrev pub most_turns : ℕ → ℕ
+most_turns zero = 0
+most_turns (suc k) = most_turns k + 64
 
 -- a turn of each host from number m on
-pub turns_run : (s : Settings) (n calls : ℕ) → 1 ≤ s.resend → (k m : ℕ) (w : World) → m + k ≤ n → IsPeopled n calls w
-    → HasRun n calls w.clock w (carried s w (turns_of m k))
-turns_run s n calls resend zero m w l p = none_run s n calls w p
-turns_run s n calls resend (suc k) m w l p =
-    let h = turn_happens s n w calls resend p (record { 0 = m }) (omega (arith, l)) in
-    first_run s n calls calls w.clock w.clock w (bare (event.Turn (record { 0 = m }))) (turns_of (suc m) k) h
-    (subst (λ (t : ℕ). HasRun n calls t h.after.world (carried s h.after.world (turns_of (suc m) k))) h.at
-    (turns_run s n calls resend k (suc m) h.after.world (omega (arith, l)) h.world))
+turns_run : (s : Settings) (n calls : ℕ) → s.overcommit ≤ 7 → 1 ≤ s.resend → (k m : ℕ) (w : World) → m + k ≤ n → IsPeopled n calls w
+    → HasRun n calls w.clock (most_turns k) w (carried s w (turns_of m k))
+turns_run s n calls over resend zero m w l p = none_run s n calls w p
+turns_run s n calls over resend (suc k) m w l p =
+    let h = turn_happens s n w over calls resend p (record { 0 = m }) (omega (arith, l)) in
+    first_run s n calls calls w.clock w.clock (most_turns k) w (bare (event.Turn (record { 0 = m }))) (turns_of (suc m) k) h
+    (subst (λ (t : ℕ). HasRun n calls t (most_turns k) h.after.world (carried s h.after.world (turns_of (suc m) k))) h.at
+    (turns_run s n calls over resend k (suc m) h.after.world (omega (arith, l)) h.world))
 
 -- one tick
-pub tick_run : (s : Settings) (n calls : ℕ) → 1 ≤ s.resend → (w : World) → w.clock < last_tick → IsPeopled n calls w
-    → HasRun n calls (w.clock + 1) w (carried s w (ticks n 1))
-tick_run s n calls resend w l p =
-    let h = clock_happens s n w calls p l in
-    first_run s n calls calls (w.clock + 1) (w.clock + 1) w (bare event.Clock) (turns_of 0 n ++ []) h
-    (subst (λ (t : ℕ). HasRun n calls t h.after.world (carried s h.after.world (turns_of 0 n ++ []))) h.at
-    (subst (λ (es : List Happening). HasRun n calls h.after.world.clock h.after.world (carried s h.after.world es)) (sym (append-nil (turns_of 0 n)))
-    (turns_run s n calls resend n 0 h.after.world (omega arith) h.world)))
+pub tick_run : (s : Settings) (n calls : ℕ) → s.overcommit ≤ 7 → 1 ≤ s.resend → (w : World) → w.clock < last_tick → IsPeopled n calls w
+    → HasRun n calls (w.clock + 1) (most_turns n + 64) w (carried s w (ticks n 1))
+tick_run s n calls over resend w l p =
+    let h = clock_happens s n w over calls p l in
+    first_run s n calls calls (w.clock + 1) (w.clock + 1) (most_turns n) w (bare event.Clock) (turns_of 0 n ++ []) h
+    (subst (λ (t : ℕ). HasRun n calls t (most_turns n) h.after.world (carried s h.after.world (turns_of 0 n ++ []))) h.at
+    (subst (λ (es : List Happening). HasRun n calls h.after.world.clock (most_turns n) h.after.world (carried s h.after.world es))
+    (sym (append-nil (turns_of 0 n))) (turns_run s n calls over resend n 0 h.after.world (omega arith) h.world)))
+
+pub turns_within : (k : ℕ) → k ≤ 32 → most_turns k ≤ 64 * k
+turns_within zero l = omega arith
+turns_within (suc k) l = omega (arith, turns_within k (omega (arith, l)))

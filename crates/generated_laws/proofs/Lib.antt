@@ -7,3 +7,4 @@ mod Handing
 mod Lines
 mod Rounds
 mod Runs
+mod Read

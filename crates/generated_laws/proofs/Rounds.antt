@@ -19,13 +19,21 @@ use Rattle.homa_plain.specs.World.{World, SentPacket, host_at, last_tick, is_lat
 use Rattle.generated_runs.specs.Draws.{Traffic, draw, sized, next_traffic}
 use Rattle.generated_runs.specs.Fabric.{Destination, Handed, idle, destination, with_destination, refilled, next_of, after_next, round_bytes}
 use Rattle.generated_runs.specs.Rounds.{Generated, with_line, host_round, hosts_round, most_handed, live_at, with_call, calls_round, calls_a_round, round_begun, next_round}
-use Rattle.trace_induction.proofs.Hosts.{length-set}
+use Rattle.trace_induction.proofs.Hosts.{length-set, within}
+use Rattle.generated_laws.specs.Unrefused.{IsRunLine}
 use Rattle.generated_laws.proofs.Listed.{set_at, set_here, map_at, there_is, get_front}
 use Rattle.generated_laws.proofs.Peopled.{IsPerson, IsPeopled, calls_more}
-use Rattle.generated_laws.proofs.Events.{HasRun, IsDeliverable, one_run, tick_run, delivery_happens, call_happens}
+use Rattle.generated_laws.proofs.Events.{IsDeliverable, one_run, tick_run, most_turns, turns_within, delivery_happens, call_happens}
 use Rattle.generated_laws.proofs.Ways.{IsWay, AreWays, idle_way}
 use Rattle.generated_laws.proofs.Handing.{pending, left_to, IsHanded, next_handed}
-use Rattle.generated_laws.proofs.Lines.{IsTaken, IsSound, HasTaken, line_taken}
+use Rattle.generated_laws.proofs.Lines.{IsSound, line_taken}
+
+-- settings of a run
+pub record IsFit (s : Settings) : Type 0 where
+  pub two : 2 ≤ s.hosts
+  pub most : s.hosts ≤ 32
+  pub resend : 1 ≤ s.resend
+  pub overcommit : s.overcommit ≤ 7
 
 -- between hosts nothing is to be handed over a second time
 pub record IsCalm (s : Settings) (first : World) (calls clock : ℕ) (g : Generated) : Type 0 where
@@ -75,7 +83,7 @@ none_left : (o : Option ℕ) (b : ℕ) → 2 * b + pending o ≤ 0 → o ≡ Non
 none_left None b e = refl
 none_left (Some number) b e = absurd (omega (arith, e))
 
-module _ (s : Settings) (first : World) (calls clock : ℕ) where
+module _ (s : Settings) (fit : IsFit s) (first : World) (calls clock : ℕ) where
   host_calm : (n to : ℕ) (g : Generated) → to < s.hosts → IsAmid s first calls clock n to g → IsCalm s first calls clock (host_round n s to g)
   host_calm zero to g l k =
       rw (host_none s to g) (record { sound = k.sound; calm = λ i. by_place i (i == to) refl; at = k.at }) where
@@ -114,6 +122,8 @@ module _ (s : Settings) (first : World) (calls clock : ℕ) where
           ways = ways;
           each = each;
           total = k.sound.total;
+          lines = k.sound.lines;
+          few = k.sound.few;
         }
 
         others : (i : ℕ) → (i ≡ to → ⊥) → (destination after.fabric i).again ≡ None
@@ -129,10 +139,11 @@ module _ (s : Settings) (first : World) (calls clock : ℕ) where
           by_place i false f = others i (λ q. true≢false (sym (eq-eqb i to q) ∙ f))
         by_handed on (Some number) e =
             let may : IsDeliverable s after.world number = subst (λ (o : Option ℕ). IfSome o (IsDeliverable s g.world)) e it.given in
-            let happens = delivery_happens s s.hosts after.world after.made sound.world number may in
+            let happens = delivery_happens s s.hosts after.world fit.overcommit after.made sound.world number may in
             let run = one_run s s.hosts after.made after.world.clock after.world (record { event = event.Deliver number; bytes = [] }) happens in
             let line = GivenEvent (event.Deliver number) [] in
-            let next = line_taken s first calls after.world.clock after line sound.taken ways each sound.total run in
+            let next = line_taken s first calls after.world.clock 64 after line sound
+            (within after.world.packets number may.sent may.at, refl) run (omega arith) in
             let g2 = with_line s line after in
             let less : left_to h.to < left_to d = it.less (ap is_some e) in
             on g2 (record {
@@ -201,6 +212,7 @@ other_host n c d l m e = by_test (nat_lt (c + 1 + d) n) refl where
 record IsTraffic (hosts : ℕ) (t : Traffic) : Type 0 where
   client : t.client.0 < hosts
   server : t.server.0 < hosts
+  service : t.service < 4
   other : t.server.0 ≡ t.client.0 → ⊥
   some : 0 < t.size
   long : t.size ≤ 1000000
@@ -224,6 +236,7 @@ is_traffic hosts random two =
     record {
       client = here;
       server = mod_below (client.0 + 1 + server.0) hosts (omega arith);
+      service = mod_below _ 4 (omega arith);
       other = other_host hosts client.0 server.0 here there;
       some = size.0;
       long = size.1;
@@ -250,7 +263,7 @@ calls_none : (s : Settings) (g : Generated) → calls_round zero s g ≡ g
 unfolding calls_round
 calls_none s g = refl
 
-module _ (s : Settings) (first : World) (calls clock : ℕ) (most : calls ≤ 4294967295) (two : 2 ≤ s.hosts) where
+module _ (s : Settings) (fit : IsFit s) (first : World) (calls clock : ℕ) (most : calls ≤ 4294967295) where
   call_calm : (g : Generated) (t : Traffic) → IsTraffic s.hosts t → (g.left ≡ 0 → ⊥) → IsCalm s first calls clock g
       → IsCalm s first calls clock (with_call s t g)
   call_calm g t fits some k =
@@ -258,27 +271,27 @@ module _ (s : Settings) (first : World) (calls clock : ℕ) (most : calls ≤ 42
       let line = GivenEvent (event.Call t.client t.server t.service) (counting 0 t.size) in
       let total : g.made + 1 + (g.left - 1) ≡ calls = omega (arith, k.sound.total, some_left g.left some) in
       let there = there_is g.world.hosts t.client.0 (omega (arith, fits.client, k.sound.world.many)) in
-      let taken : IsTaken s first counted = record { world = k.sound.taken.world; told = k.sound.taken.told; none = k.sound.taken.none } in
+      let sound : IsSound s first calls counted = record {
+        taken = record { world = k.sound.taken.world; told = k.sound.taken.told; none = k.sound.taken.none };
+        world = calls_more s.hosts g.made (g.made + 1) g.world (omega arith) k.sound.world;
+        ways = k.sound.ways;
+        each = k.sound.each;
+        total = total;
+        lines = k.sound.lines;
+        few = k.sound.few;
+      } in
       cond_both (nat_le s.calls (live_at (host_at g.world t.client))) counted (with_line s line counted) (IsCalm s first calls clock)
-      (λ _. record {
-        sound = record {
-          taken = taken;
-          world = calls_more s.hosts g.made (g.made + 1) g.world (omega arith) k.sound.world;
-          ways = k.sound.ways;
-          each = k.sound.each;
-          total = total;
-        };
-        calm = k.calm;
-        at = k.at;
-      })
+      (λ _. record { sound = sound; calm = k.calm; at = k.at })
       (λ free.
       let room : nat_le s.calls (len (there.0).clients) ≡ false = ap (λ (o : Option Host). nat_le s.calls (live_at o)) (sym there.1) ∙ free in
       let size = length-counting 0 t.size in
-      let happens = call_happens s s.hosts g.world g.made k.sound.world (omega (arith, most, k.sound.total, some_left g.left some)) t.client t.server t.service
+      let happens = call_happens s s.hosts g.world fit.overcommit g.made k.sound.world (omega (arith, most, k.sound.total, some_left g.left some)) t.client t.server t.service
       (counting 0 t.size) fits.server fits.other (omega (arith, size, fits.some)) (omega (arith, size, fits.long)) there.0 there.1 room in
       let run = one_run s s.hosts (g.made + 1) g.world.clock g.world
       (record { event = event.Call t.client t.server t.service; bytes = counting 0 t.size }) happens in
-      let next = line_taken s first calls g.world.clock counted line taken k.sound.ways k.sound.each total run in
+      let is : IsRunLine s.hosts (length g.world.packets) line =
+      (fits.client, fits.server, fits.service, omega (arith, size, fits.long), ap (counting 0) (sym size)) in
+      let next = line_taken s first calls g.world.clock 64 counted line sound is run (omega arith) in
       record { sound = next.sound; calm = λ i. next.again i ∙ k.calm i; at = next.at ∙ k.at }) where
         some_left : (n : ℕ) → (n ≡ 0 → ⊥) → 1 ≤ n
         some_left zero some = absurd (some refl)
@@ -300,12 +313,14 @@ module _ (s : Settings) (first : World) (calls clock : ℕ) (most : calls ≤ 42
             ways = k.sound.ways;
             each = k.sound.each;
             total = k.sound.total;
+            lines = k.sound.lines;
+            few = k.sound.few;
           };
           calm = k.calm;
           at = k.at;
         } in
         on (with_call s t.0 drawn)
-        (call_calm drawn t.0 (is_traffic s.hosts g.fabric.random two) (λ f. true≢false (sym (eq-eqb g.left 0 f) ∙ e)) same)
+        (call_calm drawn t.0 (is_traffic s.hosts g.fabric.random fit.two) (λ f. true≢false (sym (eq-eqb g.left 0 f) ∙ e)) same)
 
 -- ---- a whole round
 
@@ -315,11 +330,12 @@ unfolding next_round
 round_is s g = refl
 
 -- a round goes on by a tick
-pub round_calm : (s : Settings) (first : World) (calls clock : ℕ) → calls ≤ 4294967295 → 2 ≤ s.hosts → 1 ≤ s.resend → clock < last_tick
+pub round_calm : (s : Settings) (first : World) (calls clock : ℕ) → calls ≤ 4294967295 → IsFit s → clock < last_tick
     → (g : Generated) → IsCalm s first calls clock g → IsCalm s first calls (clock + 1) (next_round s g)
-round_calm s first calls clock most two resend early g k =
-    let run = tick_run s s.hosts g.made resend g.world (omega (arith, k.at, early)) k.sound.world in
-    let next = line_taken s first calls (g.world.clock + 1) g (GivenTicks 1) k.sound.taken k.sound.ways k.sound.each k.sound.total run in
+round_calm s first calls clock most fit early g k =
+    let run = tick_run s s.hosts g.made fit.overcommit fit.resend g.world (omega (arith, k.at, early)) k.sound.world in
+    let few = turns_within s.hosts fit.most in
+    let next = line_taken s first calls (g.world.clock + 1) (most_turns s.hosts + 64) g (GivenTicks 1) k.sound refl run (omega (arith, few, fit.most)) in
     let ticked = with_line s (GivenTicks 1) g in
     let begun = round_begun ticked in
     let many : length (map refilled ticked.fabric.destinations) ≡ s.hosts = length-map ticked.fabric.destinations refilled ∙ next.sound.each in
@@ -331,10 +347,12 @@ round_calm s first calls clock most two resend early g k =
             (λ d way. record { levels = way.levels; budget = omega arith }) (idle_way ticked.world.packets) (next.sound.ways i);
         each = many;
         total = next.sound.total;
+        lines = next.sound.lines;
+        few = next.sound.few;
       };
       calm = λ i. map_at (λ (d : Destination). d.again ≡ None) (λ (d : Destination). d.again ≡ None) refilled ticked.fabric.destinations i idle
           (λ d e. e) refl (next.again i ∙ k.calm i);
       at = next.at ∙ ap (λ (t : ℕ). t + 1) k.at;
     } in
-    rw (round_is s g) (calls_calm s first calls (clock + 1) most two calls_a_round (hosts_round s 0 s.hosts begun)
-    (hosts_calm s first calls (clock + 1) s.hosts 0 begun (omega arith) calm))
+    rw (round_is s g) (calls_calm s fit first calls (clock + 1) most calls_a_round (hosts_round s 0 s.hosts begun)
+    (hosts_calm s fit first calls (clock + 1) s.hosts 0 begun (omega arith) calm))

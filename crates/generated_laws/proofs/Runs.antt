@@ -16,7 +16,7 @@ use Rattle.generated_laws.proofs.Carried.{no_event, replayed_whole}
 use Rattle.generated_laws.proofs.Peopled.{first_peopled, many_replicated}
 use Rattle.generated_laws.proofs.Ways.{IsWay, idle_way}
 use Rattle.generated_laws.proofs.Lines.{IsTaken, IsSound}
-use Rattle.generated_laws.proofs.Rounds.{IsCalm, round_calm}
+use Rattle.generated_laws.proofs.Rounds.{IsFit, IsCalm, round_calm}
 
 -- ---- the rounds
 
@@ -35,17 +35,17 @@ rounds_none : (s : Settings) (g : Generated) → rounds zero s g ≡ g
 unfolding rounds
 rounds_none s g = refl
 
-rounds_taken : (s : Settings) (first : World) (calls : ℕ) → calls ≤ 4294967295 → 2 ≤ s.hosts → 1 ≤ s.resend → (n clock : ℕ) (g : Generated)
-    → clock + n ≤ last_tick → IsCalm s first calls clock g → IsTaken s first (rounds n s g)
-rounds_taken s first calls most two resend zero clock g early k = rw (rounds_none s g) k.sound.taken
-rounds_taken s first calls most two resend (suc n) clock g early k =
+rounds_sound : (s : Settings) (first : World) (calls : ℕ) → calls ≤ 4294967295 → IsFit s → (n clock : ℕ) (g : Generated)
+    → clock + n ≤ last_tick → IsCalm s first calls clock g → IsSound s first calls (rounds n s g)
+rounds_sound s first calls most fit zero clock g early k = rw (rounds_none s g) k.sound
+rounds_sound s first calls most fit (suc n) clock g early k =
     let after = next_round s g in
-    let next = round_calm s first calls clock most two resend (omega (arith, early)) g k in
+    let next = round_calm s first calls clock most fit (omega (arith, early)) g k in
     rw (rounds_step n s g)
-    (by_over after next (λ k2. rounds_taken s first calls most two resend n (clock + 1) after (omega (arith, early)) k2) (is_over after)) where
+    (by_over after next (λ k2. rounds_sound s first calls most fit n (clock + 1) after (omega (arith, early)) k2) (is_over after)) where
       by_over : (after : Generated) → IsCalm s first calls (clock + 1) after
-          → (IsCalm s first calls (clock + 1) after → IsTaken s first (rounds n s after)) → (t : Bool) → IsTaken s first (by_end n s after t)
-      by_over after next on true = next.sound.taken
+          → (IsCalm s first calls (clock + 1) after → IsSound s first calls (rounds n s after)) → (t : Bool) → IsSound s first calls (by_end n s after t)
+      by_over after next on true = next.sound
       by_over after next on false = on next
 
 -- ---- its beginning
@@ -61,6 +61,10 @@ first_clock : (s : Settings) (incs : List ℕ) (boxes : ℕ) (answers : List Ans
 unfolding new_world
 first_clock s incs boxes answers = refl
 
+no_packet : (s : Settings) (incs : List ℕ) (boxes : ℕ) (answers : List Answer) → length (new_world s incs 0 boxes answers).packets ≤ 0
+unfolding new_world
+no_packet s incs boxes answers = omega arith
+
 first_calm : (s : Settings) (seed calls boxes : ℕ) (answers : List Answer)
     → IsCalm s (first_world s boxes answers) calls 0 (first_generated s seed calls boxes answers)
 first_calm s seed calls boxes answers =
@@ -73,6 +77,8 @@ first_calm s seed calls boxes answers =
         ways = λ i. subst (IsWay w.packets) (sym (at_first s.hosts seed i)) (idle_way w.packets);
         each = many_idle s.hosts;
         total = omega arith;
+        lines = tt;
+        few = no_packet s (replicate s.hosts 1) boxes answers;
       };
       calm = λ i. ap (λ (d : Destination). d.again) (at_first s.hosts seed i);
       at = first_clock s (replicate s.hosts 1) boxes answers;
@@ -90,10 +96,18 @@ taken_unrefused s first g k =
       replays = λ line. whole.1 line ∙ ap (λ (l : List PlainEntry). record { told = l; end = Finished whole.0 }) k.told;
     }
 
+generated_fit : IsFit generated_settings
+generated_fit = record { two = omega arith; most = omega arith; resend = omega arith; overcommit = omega arith }
+
+pub generated_sound : (seed calls boxes : ℕ) (answers : List Answer) → calls ≤ 4294967295
+    → IsSound generated_settings (first_world generated_settings boxes answers) calls (generated seed calls boxes answers)
+generated_sound seed calls boxes answers most =
+    let s = generated_settings in
+    rounds_sound s (first_world s boxes answers) calls most generated_fit most_rounds 0 (first_generated s seed calls boxes answers) (omega arith)
+    (first_calm s seed calls boxes answers)
+
 pub unrefused : (seed calls boxes : ℕ) (answers : List Answer) → calls ≤ 4294967295
     → IsUnrefused generated_settings (first_world generated_settings boxes answers) (generated seed calls boxes answers)
 unrefused seed calls boxes answers most =
-    let s = generated_settings in
-    taken_unrefused s (first_world s boxes answers) (generated seed calls boxes answers)
-    (rounds_taken s (first_world s boxes answers) calls most (omega arith) (omega arith) most_rounds 0
-    (first_generated s seed calls boxes answers) (omega arith) (first_calm s seed calls boxes answers))
+    taken_unrefused generated_settings (first_world generated_settings boxes answers) (generated seed calls boxes answers)
+    (generated_sound seed calls boxes answers most).taken
