@@ -1,3 +1,4 @@
 pub mod Stepping
 pub mod Named
 pub mod Apart
+pub mod Among

@@ -24,6 +24,7 @@ ghost use Rattle.homa_plain.specs.Steps.{call_step, arrival_step, turn_step, sta
 ghost use Rattle.homa_plain.specs.World.{World, SentPacket, host_at, own_clock, is_late, last_tick, outcome, Refused};
 ghost use Rattle.trace_lines.specs.Told.{HasOwnName};
 ghost use Rattle.event_laws.specs.Apart.{IsApart, IsApartStep};
+ghost use Rattle.event_laws.specs.Among.{IsAmong, IsAmongStep, IsBelow};
 ghost use Rattle.event_laws.specs.Named.{IsOfStep, IsOwnStep, numbered};
 ghost use Rattle.event_laws.specs.Stepping.{IsStep, IsStepWith, IsChange, IsRefusal, ticked_world, restarted_world, shifted_world};
 
@@ -107,4 +108,19 @@ pub fn steps_stay_apart()
     ensures turn { (s : Settings) → 1 ≤ s.resend → (id : HostId) (h : Host) (now : ℕ)
         → HasOwnName id h → IsApart id h → IsApartStep id (turn_step s h now) }
     ensures new { (s : Settings) (id : HostId) (inc last : ℕ) → IsApart id (new_host s id inc last) }
+{}
+
+/// Where the servers of a host's calls, the clients of those that it serves, and the sender of the packet that comes are
+/// among so many hosts, so are those to whom the packets of its step go, and those of its rows behind it. A call is one more
+/// that the host made, and no other step is.
+pub fn steps_stay_among()
+    ensures call { (s : Settings) (id : HostId) (hosts : ℕ) (h : Host) (now : ℕ) (server : HostId) (service : ℕ) (request : List ℕ)
+        → HasOwnName id h → IsAmong (IsBelow hosts) h → server.0 < hosts
+        → IsAmongStep (IsBelow hosts) (h.seq + 1) (call_step s h now server service request) }
+    ensures arrival { (s : Settings) (id : HostId) (hosts : ℕ) (h : Host) (now : ℕ) (o : Option Packet) (a : Answer)
+        → HasOwnName id h → IsAmong (IsBelow hosts) h → IfSome o (λ p. (receiver p ≡ id) × ((sender p).0 < hosts))
+        → IsAmongStep (IsBelow hosts) h.seq (arrival_step s h now o a) }
+    ensures turn { (s : Settings) → 1 ≤ s.resend → (id : HostId) (hosts : ℕ) (h : Host) (now : ℕ)
+        → HasOwnName id h → IsAmong (IsBelow hosts) h → IsAmongStep (IsBelow hosts) h.seq (turn_step s h now) }
+    ensures new { (s : Settings) (id : HostId) (hosts inc last : ℕ) → IsAmong (IsBelow hosts) (new_host s id inc last) }
 {}

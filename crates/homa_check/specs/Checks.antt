@@ -1,9 +1,9 @@
 -- A check of a text, line by line.
-use Rattle.std.specs.Prelude.{◌≡◌, ℕ, ◌+◌, ◌==◌, Bool, true, false, if◌then◌else◌, Option, Some, List, [], ◌∷◌, ◌++◌, Result, Ok, Err, codes}
+use Rattle.std.specs.Prelude.{◌≡◌, ◌⊎◌, ℕ, ◌+◌, ◌==◌, Bool, true, false, if◌then◌else◌, Option, Some, List, [], ◌∷◌, ◌++◌, length, Result, Ok, Err, codes}
 use Rattle.std.specs.Fmt.{decimal}
-use Rattle.homa_io.specs.Outside.{IsAtEnd}
-use Rattle.homa_plain.specs.Input.{lines_of}
-use Rattle.homa_plain.specs.View.{View}
+use Rattle.homa_io.specs.Outside.{unread, IsAtEnd}
+use Rattle.homa_plain.specs.Input.{lines_of, has_no_feed}
+use Rattle.homa_plain.specs.View.{View, nothing_seen}
 use Rattle.homa_plain.specs.Judge.{Clause, ShapeClause, OnceClause, ReturnedClause, HandedUpClause, FailsClause, GrantingClause}
 use Rattle.homa_plain.specs.Text.{line_of_words}
 use Rattle.homa_text.specs.Lines.{Reading}
@@ -65,12 +65,60 @@ verdict_left v read (line ∷ lines) = plain.verdict_from v read (line ∷ lines
 abbrev pub verdict_next : View → Reading → List ℕ → plain.Verdict
 verdict_next v r bytes = verdict_left v r.read (lines_of (r.pending ++ bytes))
 
+-- A reader of lines took the bytes of a line, which it counts, or, where `over` holds, all up to the first one past its limit; the others
+-- that came are pending.
+pub record TookLine (left left_then : Option (List ℕ)) (old new : Reading) (over : Type 0) : Type 0 where
+  pub came : List ℕ
+  pub source : left ≡ unread came left_then
+  pub taken : List ℕ
+  pub bytes : old.pending ++ came ≡ taken ++ new.pending
+  pub count : (new.read ≡ old.read + length taken) ⊎ (over × (old.read + length taken ≡ old.limit + 1))
+
+-- A reader of lines took the bytes of all lines so far, which it counts; the others that came are pending.
+pub record HasTaken (left left_then : Option (List ℕ)) (r : Reading) : Type 0 where
+  pub came : List ℕ
+  pub source : left ≡ unread came left_then
+  pub taken : List ℕ
+  pub bytes : came ≡ taken ++ r.pending
+  pub count : r.read ≡ length taken
+
+-- Nothing was read behind this line: of the bytes that came those up to its end were taken, or all up to the first one past the limit, and
+-- the others are pending.
+pub record IsUpTo (line : ℕ) (left left_then : Option (List ℕ)) (r : Reading) : Type 0 where
+  pub came : List ℕ
+  pub source : left ≡ unread came left_then
+  pub taken : List ℕ
+  pub bytes : came ≡ taken ++ r.pending
+  pub count : (r.read ≡ length taken) ⊎ (length taken ≡ r.limit + 1)
+  pub number : r.number ≡ line
+
+-- Of these bytes whole lines were taken, which said v, and some are pending; behind a last line without its feed nothing is left.
+pub record IsSoFar (bytes : List ℕ) (left : Option (List ℕ)) (r : Reading) (v : View) : Type 0 where
+  pub lines : List ℕ
+  pub rest : List ℕ
+  pub split : bytes ≡ (lines ++ r.pending) ++ rest
+  pub has_left : left ≡ Some rest
+  pub fold : (more : List (List ℕ)) → plain.verdict_from nothing_seen 0 (lines_of lines ++ more) ≡ plain.verdict_from v r.read more
+  pub joins : ((more : List ℕ) → lines_of (lines ++ more) ≡ lines_of lines ++ lines_of more) ⊎ ((r.pending ≡ []) × (rest ≡ []))
+
+-- Reading failed in the midst of a line: the lines that came whole obey all laws.
+pub record IsCutShort (bytes : List ℕ) (left : Option (List ℕ)) : Type 0 where
+  pub lines : List ℕ
+  pub front : List ℕ
+  pub rest : List ℕ
+  pub split : bytes ≡ (lines ++ front) ++ rest
+  pub has_left : left ≡ Some rest
+  pub one_line : has_no_feed front ≡ true
+  pub count : ℕ
+  pub obeyed : plain.verdict_from nothing_seen 0 (lines_of lines) ≡ plain.Yes count
+
 -- a line was taken: the verdict is that on the lines behind it
 pub record IsTaken (v : View) (old new : Reading) (left left_then : Option (List ℕ)) (t : Trace) : Type 0 where
   pub w : View
   pub follows : Follows w t
   pub place : w.place ≡ v.place + 1
   pub due : (bytes : List ℕ) → left ≡ Some bytes → (rest : List ℕ) × (left_then ≡ Some rest) × (verdict_next v old bytes ≡ verdict_next w new rest)
+  pub so_far : (bytes : List ℕ) → IsSoFar bytes left old v → IsSoFar bytes left_then new w
 
 -- what became of the next line, behind lines that said v
 abbrev pub IsNext : View → Reading → Reading → Option (List ℕ) → Option (List ℕ) → Trace → Next → Type 0

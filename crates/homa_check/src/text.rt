@@ -1,7 +1,7 @@
 // The check of a text.
-ghost use Rattle.std.specs.Prelude.{◌≡◌, ◌+◌, ◌-◌, ◌*◌, ◌^◌, ◌<◌, ◌≤◌, ℕ, List, Some, None, [], true, false, length, min, IfOk, OnOk};
+ghost use Rattle.std.specs.Prelude.{◌≡◌, ◌≢◌, ◌+◌, ◌-◌, ◌*◌, ◌^◌, ◌<◌, ◌≤◌, ◌++◌, ℕ, List, Some, None, [], true, false, length, min, IfOk, OnOk};
 ghost use Rattle.std.specs.Option.{option_map};
-ghost use Rattle.homa_check.specs.Checks.{plain_verdict, is_yes, is_read, verdict_at_end, IsNext};
+ghost use Rattle.homa_check.specs.Checks.{plain_verdict, is_yes, is_read, verdict_at_end, IsNext, TookLine, IsUpTo, IsCutShort};
 ghost use Rattle.homa_check.specs.Clauses.{clause_of};
 ghost use Rattle.check_lines.specs.Traces.{Follows};
 ghost use Rattle.homa_check.specs.declared.text.Next.TheVariants.{Taken};
@@ -9,6 +9,7 @@ ghost use Rattle.homa_check.specs.declared.verdict.Clause.{Clause as AClause};
 ghost use Rattle.homa_check.specs.declared.verdict.Verdict.TheVariants.{Yes, No};
 ghost use Rattle.homa_io.specs.Outside.{HasRisen, unread, IsAtEnd};
 ghost use Rattle.check_reader.specs.Forms.{entry_of};
+ghost use Rattle.homa_plain.specs.Input.{has_no_feed};
 ghost use Rattle.homa_plain.specs.View.{View, nothing_seen};
 ghost use Rattle.homa_text.specs.Lines.{reading};
 ghost use Rattle.check_text.specs.Text.{IsTrace, IsNoTrace};
@@ -74,6 +75,9 @@ fn judge_next<S: Source>(
     ensures next { IfOk result (λ next. (v : View) → Follows v trace.old → v.place ≤ 68719476736
         → IsNext v (reading lines.old) (reading lines.new) (S.left source.old) (S.left source.new) trace.new next) }
     ensures read { IfOk result (λ next. next ≡ Taken → ((reading lines.old).read < (reading lines.new).read) × ((reading lines.new).read ≤ 68719476736)) }
+    ensures took { IfOk result (λ next. TookLine (S.left source.old) (S.left source.new) (reading lines.old) (reading lines.new) (next ≢ Taken)) }
+    ensures unended { is_read result ≡ true → (came : List ℕ) × (S.left source.old ≡ unread came (S.left source.new))
+        × (has_no_feed ((reading lines.old).pending ++ came) ≡ true) }
     ensures number { OnOk result ((reading lines.new).number ≡ min ((reading lines.old).number + 1) (2 ^ 64 - 1)) }
     ensures read_on { (came : List ℕ) × (S.left source.old ≡ unread came (S.left source.new)) }
     ensures limit { (reading lines.new).limit ≡ (reading lines.old).limit }
@@ -123,6 +127,9 @@ pub fn check<S: Source>(alloc: Global, source: &mut S) -> Result<Verdict, CheckS
     ensures no { IfOk result (λ verdict. (bytes : List ℕ) (line : ℕ) (clause : AClause) → S.left source.old ≡ Some bytes → verdict ≡ No line clause
         → IsNoTrace bytes line (clause_of clause)) }
 
+    // Where reading failed the lines that came whole obey all laws.
+    ensures cut { is_read result ≡ true → (bytes : List ℕ) → S.left source.old ≡ Some bytes → IsCutShort bytes (S.left source.new) }
+
     // Whatever the answer, the source was read from its front up to some place.
     ensures read_on { (came : List ℕ) × (S.left source.old ≡ unread came (S.left source.new)) }
 
@@ -138,7 +145,7 @@ pub fn check<S: Source>(alloc: Global, source: &mut S) -> Result<Verdict, CheckS
     judge_all(alloc, &mut trace, &mut lines, source, &mut room)
 }
 
-// Judges the lines that are left.
+// Judges the lines that are left. Behind the line of a no nothing is read.
 fn judge_all<S: Source>(
     alloc: Global,
     trace: &mut Trace,
@@ -151,6 +158,9 @@ fn judge_all<S: Source>(
     requires room { 2050000 ≤ length room.old }
     ensures verdict { IfOk result (λ verdict. (bytes : List ℕ) → S.left source.old ≡ Some bytes → verdict_of bytes ≡ plain_verdict verdict) }
     ensures end { IfOk result (λ verdict. is_yes verdict ≡ true → IsAtEnd (S.left source.new)) }
+    ensures behind { IfOk result (λ verdict. (line : ℕ) (clause : AClause) → verdict ≡ No line clause
+        → IsUpTo line (S.left source.old) (S.left source.new) (reading lines.new)) }
+    ensures cut { is_read result ≡ true → (bytes : List ℕ) → S.left source.old ≡ Some bytes → IsCutShort bytes (S.left source.new) }
     ensures read_on { (came : List ℕ) × (S.left source.old ≡ unread came (S.left source.new)) }
     ensures risen { is_read result ≡ true → HasRisen (S.faults source.old) (S.faults source.new) }
     ensures quiet { is_read result ≡ false → S.faults source.new ≡ S.faults source.old }

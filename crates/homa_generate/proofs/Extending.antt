@@ -4,6 +4,7 @@ use Rattle.homa_plain.specs.declared.settings.Settings.{Settings}
 use Rattle.homa_plain.specs.declared.event.Event.TheVariants as event
 use Rattle.homa_plain.specs.Script.{Given, GivenEvent, GivenTicks, counting}
 use Rattle.homa_plain.specs.World.{host_at}
+use Rattle.homa_plain.specs.Replay.{carried, events_of}
 use Rattle.generated_runs.specs.Draws.{next_traffic}
 use Rattle.generated_runs.specs.Fabric.{Handed, destination, next_of, after_next}
 use Rattle.generated_runs.specs.Rounds.{Generated, with_line, host_round, hosts_round, most_handed, live_at, calls_round, calls_a_round, round_begun, next_round, is_over, rounds}
@@ -11,7 +12,7 @@ use Rattle.homa_generate.specs.Steps.{one_call}
 use Rattle.homa_generate.proofs.Goings.{IsLonger, Extends, longer_self, longer_on}
 
 pub line_extends : (s : Settings) (line : Given) → Extends (with_line s line)
-line_extends s line g = record { more = line ∷ []; has = refl }
+line_extends s line g = record { more = line ∷ []; has = refl; further = (carried s g.world (events_of s.hosts line)).told; tells = refl }
 
 -- what a host is handed next, by number
 abbrev pub by_number : ℕ → Settings → ℕ → Generated → Option ℕ → Generated
@@ -32,12 +33,15 @@ pub host_none : (s : Settings) (to : ℕ) (g : Generated) → host_round zero s 
 unfolding host_round
 host_none s to g = refl
 
-number_extends : (n : ℕ) (s : Settings) (to : ℕ) (after : Generated) (number : Option ℕ) → Extends (host_round n s to) → IsLonger after.lines (by_number n s to after number).lines
-number_extends n s to after None rest = longer_self after.lines
-number_extends n s to after (Some number) rest = longer_on after.lines _ _ (line_extends s (GivenEvent (event.Deliver number) []) after) (rest (with_line s (GivenEvent (event.Deliver number) []) after))
+number_extends : (n : ℕ) (s : Settings) (to : ℕ) (after : Generated) (number : Option ℕ) → Extends (host_round n s to)
+    → IsLonger after.lines after.told (by_number n s to after number).lines (by_number n s to after number).told
+number_extends n s to after None rest = longer_self after.lines after.told
+number_extends n s to after (Some number) rest =
+    longer_on after.lines _ _ after.told _ _ (line_extends s (GivenEvent (event.Deliver number) []) after)
+    (rest (with_line s (GivenEvent (event.Deliver number) []) after))
 
 pub host_extends : (n : ℕ) (s : Settings) (to : ℕ) → Extends (host_round n s to)
-host_extends zero s to g = rw (host_none s to g) (longer_self g.lines)
+host_extends zero s to g = rw (host_none s to g) (longer_self g.lines g.told)
 host_extends (suc n) s to g = rw (host_step n s to g) (number_extends n s to (after_handed s to g) (next_handed s to g).number (host_extends n s to))
 
 pub hosts_step : (s : Settings) (to n : ℕ) (g : Generated) → hosts_round s to (suc n) g ≡ hosts_round s (suc to) n (host_round most_handed s to g)
@@ -49,11 +53,15 @@ unfolding hosts_round
 hosts_none s to g = refl
 
 pub hosts_extend : (s : Settings) (to n : ℕ) → Extends (hosts_round s to n)
-hosts_extend s to zero g = rw (hosts_none s to g) (longer_self g.lines)
-hosts_extend s to (suc n) g = rw (hosts_step s to n g) (longer_on g.lines (host_round most_handed s to g).lines _ (host_extends most_handed s to g) (hosts_extend s (suc to) n (host_round most_handed s to g)))
+hosts_extend s to zero g = rw (hosts_none s to g) (longer_self g.lines g.told)
+hosts_extend s to (suc n) g =
+    rw (hosts_step s to n g) (longer_on g.lines (host_round most_handed s to g).lines _ g.told (host_round most_handed s to g).told _
+    (host_extends most_handed s to g) (hosts_extend s (suc to) n (host_round most_handed s to g)))
 
-call_by : (s : Settings) (line : Given) (counted : Generated) (skips : Bool) → IsLonger counted.lines (if skips then counted else with_line s line counted).lines
-call_by s line counted true = longer_self counted.lines
+call_by : (s : Settings) (line : Given) (counted : Generated) (skips : Bool)
+    → IsLonger counted.lines counted.told (if skips then counted else with_line s line counted).lines
+    (if skips then counted else with_line s line counted).told
+call_by s line counted true = longer_self counted.lines counted.told
 call_by s line counted false = line_extends s line counted
 
 pub call_extends : (s : Settings) → Extends (one_call s)
@@ -77,12 +85,13 @@ pub calls_none : (s : Settings) (g : Generated) → calls_round zero s g ≡ g
 unfolding calls_round
 calls_none s g = refl
 
-left_extends : (n : ℕ) (s : Settings) (g : Generated) (none : Bool) → Extends (calls_round n s) → IsLonger g.lines (by_left n s g none).lines
-left_extends n s g true rest = longer_self g.lines
-left_extends n s g false rest = longer_on g.lines (one_call s g).lines _ (call_extends s g) (rest (one_call s g))
+left_extends : (n : ℕ) (s : Settings) (g : Generated) (none : Bool) → Extends (calls_round n s)
+    → IsLonger g.lines g.told (by_left n s g none).lines (by_left n s g none).told
+left_extends n s g true rest = longer_self g.lines g.told
+left_extends n s g false rest = longer_on g.lines (one_call s g).lines _ g.told (one_call s g).told _ (call_extends s g) (rest (one_call s g))
 
 pub calls_extend : (n : ℕ) (s : Settings) → Extends (calls_round n s)
-calls_extend zero s g = rw (calls_none s g) (longer_self g.lines)
+calls_extend zero s g = rw (calls_none s g) (longer_self g.lines g.told)
 calls_extend (suc n) s g = rw (calls_step n s g) (left_extends n s g (g.left == 0) (calls_extend n s))
 
 -- a round, in its order
@@ -98,7 +107,9 @@ round_extends s g =
     let ticked = with_line s (GivenTicks 1) g in
     let handed = hosts_round s 0 s.hosts (round_begun ticked) in
     rw (round_is s g)
-    (longer_on g.lines ticked.lines _ (line_extends s (GivenTicks 1) g) (longer_on ticked.lines handed.lines _ (hosts_extend s 0 s.hosts (round_begun ticked)) (calls_extend calls_a_round s handed)))
+    (longer_on g.lines ticked.lines _ g.told ticked.told _ (line_extends s (GivenTicks 1) g)
+    (longer_on ticked.lines handed.lines _ ticked.told handed.told _ (hosts_extend s 0 s.hosts (round_begun ticked))
+    (calls_extend calls_a_round s handed)))
 
 -- rounds, by whether the run is over
 abbrev pub by_end : ℕ → Settings → Generated → Bool → Generated
@@ -117,13 +128,16 @@ pub rounds_none : (s : Settings) (g : Generated) → rounds zero s g ≡ g
 unfolding rounds
 rounds_none s g = refl
 
-pub end_extends : (n : ℕ) (s : Settings) (after : Generated) (over : Bool) → Extends (rounds n s) → IsLonger after.lines (by_end n s after over).lines
-end_extends n s after true rest = longer_self after.lines
+pub end_extends : (n : ℕ) (s : Settings) (after : Generated) (over : Bool) → Extends (rounds n s)
+    → IsLonger after.lines after.told (by_end n s after over).lines (by_end n s after over).told
+end_extends n s after true rest = longer_self after.lines after.told
 end_extends n s after false rest = rest after
 
 pub rounds_extend : (n : ℕ) (s : Settings) → Extends (rounds n s)
-rounds_extend zero s g = rw (rounds_none s g) (longer_self g.lines)
-rounds_extend (suc n) s g = rw (rounds_step n s g) (longer_on g.lines (next_round s g).lines _ (round_extends s g) (end_extends n s (next_round s g) (is_over (next_round s g)) (rounds_extend n s)))
+rounds_extend zero s g = rw (rounds_none s g) (longer_self g.lines g.told)
+rounds_extend (suc n) s g =
+    rw (rounds_step n s g) (longer_on g.lines (next_round s g).lines _ g.told (next_round s g).told _ (round_extends s g)
+    (end_extends n s (next_round s g) (is_over (next_round s g)) (rounds_extend n s)))
 
 -- what a round does after its tick, and after its budgets
 abbrev pub after_begun : Settings → Generated → Generated
@@ -133,7 +147,8 @@ abbrev pub after_tick : Settings → Generated → Generated
 after_tick s x = after_begun s (round_begun x)
 
 pub begun_extends : (s : Settings) → Extends (after_begun s)
-begun_extends s x = let handed = hosts_round s 0 s.hosts x in longer_on x.lines handed.lines _ (hosts_extend s 0 s.hosts x) (calls_extend calls_a_round s handed)
+begun_extends s x = let handed =
+    hosts_round s 0 s.hosts x in longer_on x.lines handed.lines _ x.told handed.told _ (hosts_extend s 0 s.hosts x) (calls_extend calls_a_round s handed)
 
 pub ticked_extends : (s : Settings) → Extends (after_tick s)
 ticked_extends s x = begun_extends s (round_begun x)

@@ -18,7 +18,7 @@ use Rattle.generated_runs.specs.Generated.{given_text}
 use Rattle.homa_generate.specs.Counts.{counted}
 use Rattle.homa_generate.specs.Carried.{IsCarried}
 use Rattle.homa_generate.specs.Generating.{AreNew}
-use Rattle.homa_generate.specs.Going.{answered, Holds, IsAt, HasGone, HasStopped}
+use Rattle.homa_generate.specs.Going.{answered, Holds, IsAt, HasGone, IsFirstTold, HasStopped}
 use Rattle.homa_generate.proofs.CountLaws.{counted-append}
 use Rattle.homa_generate.proofs.Fresh.{IsSentNow, IsMadeLine, line_now}
 
@@ -26,22 +26,29 @@ use Rattle.homa_generate.proofs.Fresh.{IsSentNow, IsMadeLine, line_now}
 abbrev pub text : List Given → List ℕ
 text lines = flat_map given_text lines
 
--- lines are added, and none is changed
-pub record IsLonger (old new : List Given) : Type 0 where
+-- lines and entries are added, and none is changed
+pub record IsLonger (lines : List Given) (told : List PlainEntry) (next : List Given) (then : List PlainEntry) : Type 0 where
   pub more : List Given
-  pub has : new ≡ old ++ more
+  pub has : next ≡ lines ++ more
+  pub further : List PlainEntry
+  pub tells : then ≡ told ++ further
 
 abbrev pub Extends : (Generated → Generated) → Type 0
-Extends f = (g : Generated) → IsLonger g.lines (f g).lines
+Extends f = (g : Generated) → IsLonger g.lines g.told (f g).lines (f g).told
 
-pub longer_self : (a : List Given) → IsLonger a a
-longer_self a = record { more = []; has = sym (append-nil a) }
+pub longer_self : (a : List Given) (t : List PlainEntry) → IsLonger a t a t
+longer_self a t = record { more = []; has = sym (append-nil a); further = []; tells = sym (append-nil t) }
 
-pub longer_on : (a b c : List Given) → IsLonger a b → IsLonger b c → IsLonger a c
-longer_on a b c p q = record { more = p.more ++ q.more; has = q.has ∙ (ap (λ (l : List Given). l ++ q.more) p.has ∙ append_assoc a p.more q.more) }
+pub longer_on : (a b c : List Given) (t u v : List PlainEntry) → IsLonger a t b u → IsLonger b u c v → IsLonger a t c v
+longer_on a b c t u v p q = record {
+  more = p.more ++ q.more;
+  has = q.has ∙ (ap (λ (l : List Given). l ++ q.more) p.has ∙ append_assoc a p.more q.more);
+  further = p.further ++ q.further;
+  tells = q.tells ∙ (ap (λ (l : List PlainEntry). l ++ q.further) p.tells ∙ append_assoc t p.further q.further);
+}
 
 pub id_extends : Extends (λ g. g)
-id_extends g = longer_self g.lines
+id_extends g = longer_self g.lines g.told
 
 -- ---- going on
 
@@ -144,6 +151,19 @@ pub stopped_on : (f h : Generated → Generated) (g : Generated) (a b : Holds) (
 stopped_on f h g a b new st p q first extends stopped = record {
   told = first.told ++ stopped.told;
   allowed = first.allowed stopped.told stopped.allowed;
+  is_first = λ later.
+      let end = answered (shown stopped.told ++ later) first.next in
+      let runs : f (answered (shown (first.told ++ stopped.told) ++ later) g) ≡ h end =
+      ap (λ (l : List Answer). f (answered l g)) (shown_parts first.told stopped.told later) ∙ first.same (shown stopped.told ++ later) in
+      let inner = stopped.is_first later in
+      record {
+        rest = inner.rest;
+        tells = ap (λ (x : Generated). x.told) runs
+            ∙ (inner.tells
+            ∙ (ap (λ (l : List PlainEntry). l ++ (stopped.told ++ inner.rest)) first.tells
+            ∙ (append_assoc g.told first.told (stopped.told ++ inner.rest)
+            ∙ ap (λ (l : List PlainEntry). g.told ++ l) (sym (append_assoc first.told stopped.told inner.rest)))));
+      };
   front = λ later lines is.
       let end = answered (shown stopped.told ++ later) first.next in
       let more = extends end in
@@ -161,6 +181,16 @@ pub stopped_under : (over f : Generated → Generated) (g : Generated) (old new 
 stopped_under over f g old new p extends part stopped = record {
   told = stopped.told;
   allowed = stopped.allowed;
+  is_first = λ later.
+      let inner = stopped.is_first later in
+      let more = extends (f (answered (shown stopped.told ++ later) g)) in
+      record {
+        rest = inner.rest ++ more.further;
+        tells = more.tells
+            ∙ (ap (λ (l : List PlainEntry). l ++ more.further) inner.tells
+            ∙ (append_assoc g.told (stopped.told ++ inner.rest) more.further
+            ∙ ap (λ (l : List PlainEntry). g.told ++ l) (append_assoc stopped.told inner.rest more.further)));
+      };
   front = λ later lines is.
       let start = answered (shown stopped.told ++ later) g in
       let one = part start in
@@ -176,6 +206,7 @@ pub stopped_as : (f h : Generated → Generated) (g : Generated) (old new : Opti
 stopped_as f h g old new p same stopped = record {
   told = stopped.told;
   allowed = stopped.allowed;
+  is_first = λ later. subst (λ (x : Generated). IsFirstTold x g.told stopped.told) (sym (same (shown stopped.told ++ later))) (stopped.is_first later);
   front = λ later lines is. stopped.front later lines (ap (λ (x : Generated). x.lines) (sym (same (shown stopped.told ++ later))) ∙ is);
 }
 
@@ -184,6 +215,7 @@ pub line_stopped : (s : Settings) (line : Given) (g : Generated) (old new : Opti
 line_stopped s line g old new p none front = record {
   told = [];
   allowed = none;
+  is_first = λ later. record { rest = (carried s (answering later g.world) (events_of s.hosts line)).told; tells = refl };
   front = λ later lines is.
       let one : line ∷ [] ≡ lines = append_cancel_left g.lines (line ∷ []) lines is in
       front_same old new (given_text line ++ []) (text lines) (ap text one) (front_wide old new (given_text line) [] front);
@@ -203,5 +235,7 @@ pub then_stopped : (s t : Settings) (all over : Generated → Generated) (part :
     → HasGone all (λ x. over (part s x)) g a b st p q → ((x : Generated) → IsAt b st x → HasStopped (part t) x b.taken new q) → HasStopped all g a.taken new p
 then_stopped s t all over part g a b new st p q same over_extends part_extends first next =
     let second : HasStopped (part s) first.next b.taken new q = subst (λ (o : Settings). HasStopped (part o) first.next b.taken new q) same (next first.next first.stood) in
-    let both : Extends (λ x. over (part s x)) = λ x. longer_on x.lines (part s x).lines (over (part s x)).lines (part_extends x) (over_extends (part s x)) in
+    let both : Extends (λ x. over (part s x)) =
+    λ x. longer_on x.lines (part s x).lines (over (part s x)).lines x.told (part s x).told (over (part s x)).told (part_extends x)
+    (over_extends (part s x)) in
     stopped_on all (λ x. over (part s x)) g a b new st p q first both (stopped_under over (part s) first.next b.taken new q over_extends part_extends second)

@@ -15,7 +15,7 @@ use Rattle.generated_runs.specs.Fabric.{new_fabric}
 use Rattle.generated_runs.specs.Rounds.{Generated, rounds}
 use Rattle.generated_runs.specs.Generated.{generated_settings, most_rounds, schedule_text, summary_text}
 use Rattle.homa_generate.specs.Counts.{counted, no_counts, counts_text}
-use Rattle.homa_generate.specs.Going.{answered, Holds, IsAt, HasGone, HasStopped}
+use Rattle.homa_generate.specs.Going.{answered, Holds, IsAt, HasGone, IsFirstTold, HasStopped}
 use Rattle.homa_generate.specs.Made.{Run, run_of, HasRun, IsMade, IsPartMade}
 use Rattle.homa_generate.specs.declared.lines.Line.{Line}
 use Rattle.homa_generate.specs.declared.lines.Line.TheVariants.{Tick, Deliver, Call}
@@ -50,6 +50,7 @@ module _ (seed calls boxes : ℕ) (w : World) (first : IsFirst generated_setting
     run_stopped new stopped = record {
       told = stopped.told;
       allow = allow stopped.told stopped.allowed;
+      is_first = λ later. subst (λ (x : Generated). IsFirstTold x [] stopped.told) (sym (begins_so (shown stopped.told ++ later))) (stopped.is_first later);
       front = λ later.
           let run = rounds most_rounds generated_settings (answered (shown stopped.told ++ later) (begins w seed calls)) in
           front_same old new (settings_text generated_settings ++ text run.lines) _ (ap (schedule_text generated_settings) (sym (begins_so (shown stopped.told ++ later))))
@@ -58,10 +59,17 @@ module _ (seed calls boxes : ℕ) (w : World) (first : IsFirst generated_setting
 
 -- a front of the settings' lines was printed, or nothing
 pub settings_part : (run : Run) (old new : Option (List ℕ)) (allowed : List PlainEntry → Type 0) → allowed (PlainSettings generated_settings ∷ []) → TookFront old new (settings_text generated_settings) → IsPartMade run (schedule_text generated_settings) old new allowed
-settings_part run old new allowed allow front = record { told = []; allow = allow; front = λ later. front_wide old new (settings_text generated_settings) _ front }
+settings_part run old new allowed allow front =
+    record {
+      told = [];
+      allow = allow;
+      is_first = λ later. record { rest = (run later).told; tells = refl };
+      front = λ later. front_wide old new (settings_text generated_settings) _ front;
+    }
 
 pub nothing_part : (run : Run) (to : Generated → List ℕ) (old : Option (List ℕ)) (allowed : List PlainEntry → Type 0) → allowed (PlainSettings generated_settings ∷ []) → IsPartMade run to old old allowed
-nothing_part run to old allowed allow = record { told = []; allow = allow; front = λ later. front_none old (to (run later)) }
+nothing_part run to old allowed allow =
+    record { told = []; allow = allow; is_first = λ later. record { rest = (run later).told; tells = refl }; front = λ later. front_none old (to (run later)) }
 
 module _ (run : Run) (old new : Option (List ℕ)) (allowed : List PlainEntry → Type 0) (counts : List ℕ) (h : HasRun run old new allowed counts) where
   whole_is : run (shown h.end.told) ≡ answered [] h.end
@@ -93,6 +101,7 @@ module _ (run : Run) (old new : Option (List ℕ)) (allowed : List PlainEntry �
   summary_part before after front = record {
     told = h.end.told;
     allow = h.allow;
+    is_first = λ later. record { rest = []; tells = ap (λ (g : Generated). g.told) (h.same later) ∙ sym (append-nil h.end.told) };
     front = λ later. front_same before after (counts_text counts) _ (ap counts_text h.is_counted ∙ (summary_counted h.end.told ∙ ap (λ (g : Generated). summary_text g.told) (sym (h.same later)))) front;
   }
 

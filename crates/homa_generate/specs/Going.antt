@@ -43,8 +43,15 @@ pub record HasGone (all rest : Generated → Generated) (g : Generated) (a b : H
   pub allowed : (more : List PlainEntry) → after more → before (told ++ more)
   pub same : (later : List Answer) → all (answered (shown told ++ later) g) ≡ rest (answered later next)
 
--- It stopped: a front of the lines of what `all` makes of it was printed, whatever the services answer after what was told.
+-- these entries are the first of those that a run tells behind others
+pub record IsFirstTold (run : Generated) (before told : List PlainEntry) : Type 0 where
+  pub rest : List PlainEntry
+  pub tells : run.told ≡ before ++ (told ++ rest)
+
+-- It stopped. What was told is a front of what `all` makes of it, with the answers that this shows, and a front of the lines of that was
+-- printed, whatever the services answer after what was told.
 pub record HasStopped (all : Generated → Generated) (g : Generated) (old new : Option (List ℕ)) (before : List PlainEntry → Type 0) : Type 0 where
   pub told : List PlainEntry
   pub allowed : before told
+  pub is_first : (later : List Answer) → IsFirstTold (all (answered (shown told ++ later) g)) g.told told
   pub front : (later : List Answer) (lines : List Given) → (all (answered (shown told ++ later) g)).lines ≡ g.lines ++ lines → TookFront old new (flat_map given_text lines)

@@ -1,5 +1,5 @@
 -- What is printed of a generated run, whose services answered as its own `run` lines show.
-use Rattle.std.specs.Prelude.{◌≡◌, ℕ, Option, List, ◌++◌, ◌∷◌}
+use Rattle.std.specs.Prelude.{◌≡◌, ℕ, Option, List, [], ◌++◌, ◌∷◌}
 use Rattle.homa_io.specs.Outside.{appended, TookFront}
 use Rattle.homa_plain.specs.Entries.{PlainEntry, PlainSettings}
 use Rattle.homa_plain.specs.Rules.{Answer}
@@ -7,7 +7,7 @@ use Rattle.homa_plain.specs.Answers.{shown}
 use Rattle.generated_runs.specs.Rounds.{Generated}
 use Rattle.generated_runs.specs.Generated.{generated, generated_settings, schedule_text}
 use Rattle.homa_generate.specs.Counts.{counted, no_counts}
-use Rattle.homa_generate.specs.Going.{answered}
+use Rattle.homa_generate.specs.Going.{answered, IsFirstTold}
 
 -- a run, by what its services answer
 abbrev pub Run : Type 0
@@ -32,8 +32,10 @@ pub record IsMade (run : Run) (text : Generated → List ℕ) (old new : Option 
   pub shows : shown (run answers).told ≡ answers
   pub allow : allowed (PlainSettings generated_settings ∷ (run answers).told)
 
--- A front of the text was printed, whatever the services answer after what was told.
+-- What was told, which the boxes allow, is a front of what the run tells, with the answers that this shows, and a front of its text was
+-- printed, whatever the services answer after what was told.
 pub record IsPartMade (run : Run) (text : Generated → List ℕ) (old new : Option (List ℕ)) (allowed : List PlainEntry → Type 0) : Type 0 where
   pub told : List PlainEntry
   pub allow : allowed (PlainSettings generated_settings ∷ told)
+  pub is_first : (later : List Answer) → IsFirstTold (run (shown told ++ later)) [] told
   pub front : (later : List Answer) → TookFront old new (text (run (shown told ++ later)))

@@ -1,5 +1,6 @@
 -- The settings of a schedule.
-use Rattle.std.proofs.Common.{◌≡◌, ℕ, false, Option, Some, Ok, Err, List, [], ◌∷◌, ◌++◌, refl, sym, subst}
+use Rattle.std.proofs.Common.{◌≡◌, ℕ, Bool, true, false, Option, Some, Ok, Err, List, [], ◌∷◌, ◌++◌, refl, sym, ap, ◌∙◌, subst}
+use Rattle.std.proofs.lemmas.List.{append-nil}
 use Rattle.homa_io.specs.Outside.{appended, TookFront}
 use Rattle.homa_plain.specs.declared.settings.Settings.{Settings}
 use Rattle.homa_plain.specs.declared.fault.ScriptFault.{ScriptFault}
@@ -16,8 +17,8 @@ use Rattle.homa_script.specs.Script.{IsOpening}
 use Rattle.script_lines.specs.declared.stop.ScriptStop.TheVariants.{Fault}
 use Rattle.homa_replay.specs.Stream.{ending}
 use Rattle.homa_replay.specs.Far.{replay_of, is_unasked, AreFar, ArePrinted, AreParts}
-use Rattle.homa_replay.proofs.Fronts.{front_wide, front_same}
-use Rattle.homa_replay.proofs.Plays.{text-with_told}
+use Rattle.homa_replay.proofs.Fronts.{front_same}
+use Rattle.homa_replay.proofs.Plays.{front_amid}
 use Rattle.homa_replay.proofs.Fars.{far_start, far_to, fars_read, fars_end, fars_part, fars_cut}
 use Rattle.homa_replay.proofs.LineSteps.{last_cut}
 
@@ -30,8 +31,8 @@ module _ (boxes : ℕ) (left left2 old taken : Option (List ℕ)) (e : taken ≡
   start = λ bytes h. subst (λ (o : Option (List ℕ)). AreFar (replay_of boxes) left left old o is_unasked is_unasked (replay_of boxes)) (sym e) (λ all k. far_start (replay_of boxes) all left old is_unasked k) bytes h
 
   -- reading failed
-  pub begin_cut : ((rest : List ℕ) → left ≡ Some rest → IsCut rest left2) → AreParts (replay_of boxes) left left2 old taken is_unasked
-  begin_cut f = fars_cut (replay_of boxes) left left old taken is_unasked is_unasked (replay_of boxes) left2 start refl f
+  pub begin_cut : (all : Bool) → ((rest : List ℕ) → left ≡ Some rest → IsCut rest left2) → AreParts (replay_of boxes) left left2 old taken is_unasked all
+  begin_cut all f = fars_cut (replay_of boxes) left left old taken is_unasked is_unasked (replay_of boxes) left2 all start refl f
 
   opens : (now : List ℕ → Opening) → ((rest : List ℕ) → left ≡ Some rest → IsRead rest left2 (opening most_bytes) now)
       → AreFar (replay_of boxes) left left2 old taken is_unasked is_unasked (λ more later. replay_opened (now more) later boxes)
@@ -39,14 +40,18 @@ module _ (boxes : ℕ) (left left2 old taken : Option (List ℕ)) (e : taken ≡
       fars_read (replay_of boxes) left left old taken is_unasked is_unasked (λ (o : Opening) (later : List Answer). replay_opened o later boxes) (opening most_bytes) now left2
       (λ bytes h. far_to (replay_of boxes) bytes left old taken is_unasked is_unasked (replay_of boxes) (λ more later. replay_opened (opening most_bytes more) later boxes) (start bytes h) (by_opening boxes)) f
 
-  -- the line of the settings was printed in part
-  pub settings_cut : (new : Option (List ℕ)) (s : Settings) (place : Place) → ((rest : List ℕ) → left ≡ Some rest → IsRead rest left2 (opening most_bytes) (λ more. Opened s (steps_left place more)))
-      → TookFront taken new (line_text (PlainSettings s)) → AreParts (replay_of boxes) left left2 old new is_unasked
-  settings_cut new s place f t =
-      fars_part (replay_of boxes) left left2 old taken is_unasked is_unasked new (λ more later. replay_opened (Opened s (steps_left place more)) later boxes) []
+  -- the line of the settings was printed, in part or, where `all` says so, whole
+  pub settings_cut : (new : Option (List ℕ)) (s : Settings) (place : Place) (all : Bool)
+      → ((rest : List ℕ) → left ≡ Some rest → IsRead rest left2 (opening most_bytes) (λ more. Opened s (steps_left place more)))
+      → (all ≡ true → new ≡ appended taken (line_text (PlainSettings s))) → TookFront taken new (line_text (PlainSettings s))
+      → AreParts (replay_of boxes) left left2 old new is_unasked all
+  settings_cut new s place all f put t =
+      let line : line_text (PlainSettings s) ≡ line_text (PlainSettings s) ++ [] = sym (append-nil (line_text (PlainSettings s))) in
+      fars_part (replay_of boxes) left left2 old taken is_unasked is_unasked new (λ more later. replay_opened (Opened s (steps_left place more)) later boxes)
+      (PlainSettings s ∷ []) all
       (opens (λ more. Opened s (steps_left place more)) f) refl
-      (λ more later. front_same taken new ((line_text (PlainSettings s) ++ []) ++ _) _ (sym (text-with_told (PlainSettings s ∷ []) _))
-      (front_wide taken new (line_text (PlainSettings s) ++ []) _ (front_wide taken new (line_text (PlainSettings s)) [] t)))
+      (λ k. put k ∙ ap (λ (l : List ℕ). appended taken l) line)
+      (λ more later. front_amid taken new (PlainSettings s ∷ []) _ (front_same taken new _ _ line t))
 
   refuses : (line : ℕ) (fault : ScriptFault) → ((rest : List ℕ) → left ≡ Some rest → IsRead rest left2 (opening most_bytes) (λ more. Unopened (record { line = line; fault = fault })))
       → AreFar (replay_of boxes) left left2 old taken is_unasked is_unasked (λ more later. ending (RefusedAt line (ByScript fault)))
@@ -60,7 +65,7 @@ module _ (boxes : ℕ) (left left2 old taken : Option (List ℕ)) (e : taken ≡
 
   -- it was printed in part
   pub begin_refused_cut : (new : Option (List ℕ)) (line : ℕ) (fault : ScriptFault) → ((rest : List ℕ) → left ≡ Some rest → IsRead rest left2 (opening most_bytes) (λ more. Unopened (record { line = line; fault = fault })))
-      → TookFront taken new (line_text (PlainRefused line (ByScript fault))) → AreParts (replay_of boxes) left left2 old new is_unasked
+      → TookFront taken new (line_text (PlainRefused line (ByScript fault))) → AreParts (replay_of boxes) left left2 old new is_unasked false
   begin_refused_cut new line fault f t = last_cut (replay_of boxes) left left2 old taken new is_unasked is_unasked (RefusedAt line (ByScript fault)) (refuses line fault f) refl t
 
 -- what `go` opens, or the refusal, for the limit of a schedule

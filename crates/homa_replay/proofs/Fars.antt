@@ -3,7 +3,7 @@ use Rattle.std.proofs.Common.{◌≡◌, ◌⊎◌, inl, inr, ℕ, Bool, true, f
 use mathlib.Core.Path.{fun_ext}
 use Rattle.std.specs.List.{flat_map}
 use Rattle.std.proofs.lemmas.List.{append-nil}
-use Rattle.homa_io.specs.Outside.{appended, TookFront}
+use Rattle.homa_io.specs.Outside.{appended}
 use Rattle.homa_plain.specs.Entries.{PlainEntry}
 use Rattle.homa_plain.specs.Text.{line_text}
 use Rattle.homa_plain.specs.Rules.{Answer}
@@ -12,11 +12,11 @@ use Rattle.script_lines.specs.Read.{IsRead, IsCut}
 use Rattle.script_lines.proofs.ReadParts.{none_left, read_start, read_on, read_map, read_whole}
 use Rattle.homa_plain.specs.Answers.{shown}
 use Rattle.homa_replay.specs.Stream.{ending, is_refusal}
-use Rattle.homa_replay.specs.Lines.{text_of}
+use Rattle.homa_replay.specs.Lines.{text_of, IsFront}
 use Rattle.homa_replay.specs.Far.{Whole, IsFar, IsPrinted, IsStopped, AreFar, ArePrinted, AreParts}
-use Rattle.homa_replay.proofs.Fronts.{nothing_appended, wrote_more, front_after, front_same}
+use Rattle.homa_replay.proofs.Fronts.{nothing_appended, wrote_more}
 use Rattle.homa_replay.proofs.Streams.{shown-append, shown_parts, told_parts}
-use Rattle.homa_replay.proofs.Plays.{text-with_told, printed_more, allowed_more}
+use Rattle.homa_replay.proofs.Plays.{text-with_told, printed_more, allowed_more, front_of, front_begins, front_behind}
 
 -- what was read is also this of what was due
 read_as : {A : Type 0} (bytes : List ℕ) (left : Option (List ℕ)) (due now due2 now2 : List ℕ → A) → IsRead bytes left due now
@@ -96,17 +96,16 @@ module _ (whole : Whole) (bytes : List ℕ) (left old taken : Option (List ℕ))
 
   -- a front of what is due was printed, where some more bytes may have come
   front_by : (new : Option (List ℕ)) (due : Whole) (t : List PlainEntry) (extra : List ℕ) → (d : IsFar whole bytes left old taken p q due)
-      → ((more : List ℕ) (later : List Answer) → TookFront taken new (text_of (due (extra ++ more) (shown t ++ later))))
-      → (more : List ℕ) (later : List Answer) → (d.read.ended ≡ true → extra ++ more ≡ []) → TookFront old new (text_of (whole ((d.read.came ++ extra) ++ more) (shown (d.told ++ t) ++ later)))
+      → ((more : List ℕ) (later : List Answer) → IsFront (due (extra ++ more) (shown t ++ later)) t taken new)
+      → (more : List ℕ) (later : List Answer) → (d.read.ended ≡ true → extra ++ more ≡ [])
+      → IsFront (whole ((d.read.came ++ extra) ++ more) (shown (d.told ++ t) ++ later)) (d.told ++ t) old new
   front_by new due t extra d f more later k =
       let same = ap (λ (w : List Answer → Replay). w (shown t ++ later)) (d.read.same (extra ++ more) k) in
-      let rest_of : Replay = due (extra ++ more) (shown t ++ later) in
-      front_same old new (flat_map line_text d.told ++ text_of rest_of) _
-      (sym (text-with_told d.told rest_of)
-      ∙ (ap text_of (sym same)
-      ∙ (ap (λ (l : List ℕ). text_of (whole l (shown d.told ++ (shown t ++ later)))) (sym (append_assoc d.read.came extra more))
-      ∙ ap (λ (l : List Answer). text_of (whole ((d.read.came ++ extra) ++ more) l)) (sym (shown_parts d.told t later)))))
-      (front_after old taken new (flat_map line_text d.told) (text_of rest_of) d.printed (f more later))
+      front_of old new (d.told ++ t) (with_told d.told (due (extra ++ more) (shown t ++ later))) _
+      (sym same
+      ∙ (ap (λ (l : List ℕ). whole l (shown d.told ++ (shown t ++ later))) (sym (append_assoc d.read.came extra more))
+      ∙ ap (λ (l : List Answer). whole ((d.read.came ++ extra) ++ more) l) (sym (shown_parts d.told t later))))
+      (front_behind old taken new d.told t (due (extra ++ more) (shown t ++ later)) d.printed (f more later))
 
 -- of all that may come, or of all that came
 front_either : (ended : Bool) (rest extra : List ℕ) (front : List ℕ → List Answer → Type 0) → (ended ≡ true → extra ++ rest ≡ [])
@@ -123,10 +122,13 @@ either_map f g (inr b) = inr (g b)
 
 module _ (whole : Whole) (bytes : List ℕ) (left left2 old taken : Option (List ℕ)) (p q : List PlainEntry → Type 0) where
   -- a front of what is due was printed, and then it stops
-  pub far_part : (new : Option (List ℕ)) (due : Whole) (t : List PlainEntry) (extra rest : List ℕ) → (d : IsFar whole bytes left old taken p q due) → d.read.rest ≡ extra ++ rest → left2 ≡ Some rest → q t
-      → ((more : List ℕ) (later : List Answer) → TookFront taken new (text_of (due (extra ++ more) (shown t ++ later)))) → IsStopped whole bytes left2 old new p
-  far_part new due t extra rest d e h a f =
-      let front : List ℕ → List Answer → Type 0 = λ more later. TookFront old new (text_of (whole ((d.read.came ++ extra) ++ more) (shown (d.told ++ t) ++ later))) in
+  pub far_part : (new : Option (List ℕ)) (due : Whole) (t : List PlainEntry) (extra rest : List ℕ) (all : Bool)
+      → (d : IsFar whole bytes left old taken p q due) → d.read.rest ≡ extra ++ rest → left2 ≡ Some rest → q t
+      → (all ≡ true → new ≡ appended taken (flat_map line_text t))
+      → ((more : List ℕ) (later : List Answer) → IsFront (due (extra ++ more) (shown t ++ later)) t taken new) → IsStopped whole bytes left2 old new p all
+  far_part new due t extra rest all d e h a put f =
+      let front : List ℕ → List Answer
+      → Type 0 = λ more later. IsFront (whole ((d.read.came ++ extra) ++ more) (shown (d.told ++ t) ++ later)) (d.told ++ t) old new in
       record {
         came = d.read.came ++ extra;
         rest = rest;
@@ -135,7 +137,13 @@ module _ (whole : Whole) (bytes : List ℕ) (left left2 old taken : Option (List
         part = record {
           told = d.told ++ t;
           allowed = d.allowed t a;
-          front = either_map (λ g. g) (λ g. (g.0, λ later. subst (λ (l : List ℕ). TookFront old new (text_of (whole l (shown (d.told ++ t) ++ later)))) (append-nil (d.read.came ++ extra)) (g.1 later)))
+          printed = λ k. printed_more old taken new d.told t d.printed (put k);
+          front = either_map (λ g. g)
+              (λ g. (
+                g.0,
+                λ later. front_of old new (d.told ++ t) _ _
+                    (ap (λ (l : List ℕ). whole l (shown (d.told ++ t) ++ later)) (append-nil (d.read.came ++ extra))) (g.1 later),
+              ))
               (front_either d.read.ended rest extra front (λ k. sym e ∙ d.read.nothing k)
               (λ more later k. front_by whole bytes left old taken p q new due t extra d f more later k));
         };
@@ -158,14 +166,17 @@ module _ (whole : Whole) (first left old taken : Option (List ℕ)) (p q : List 
   fars_end new end accepted d none e verdict = λ bytes h. far_end whole bytes left old taken p q new end accepted (d bytes h) none e verdict
 
   -- it stops where it is
-  pub fars_part : (new : Option (List ℕ)) (due : Whole) (t : List PlainEntry) → AreFar whole first left old taken p q due → q t
-      → ((more : List ℕ) (later : List Answer) → TookFront taken new (text_of (due more (shown t ++ later)))) → AreParts whole first left old new p
-  fars_part new due t d a f = λ bytes e. let far = d bytes e in far_part whole bytes left left old taken p q new due t [] far.read.rest far refl far.read.has_left a f
+  pub fars_part : (new : Option (List ℕ)) (due : Whole) (t : List PlainEntry) (all : Bool) → AreFar whole first left old taken p q due → q t
+      → (all ≡ true → new ≡ appended taken (flat_map line_text t))
+      → ((more : List ℕ) (later : List Answer) → IsFront (due more (shown t ++ later)) t taken new) → AreParts whole first left old new p all
+  fars_part new due t all d a put f = λ bytes e. let far =
+      d bytes e in far_part whole bytes left left old taken p q new due t [] far.read.rest all far refl far.read.has_left a put f
 
   -- it stops after some bytes
-  pub fars_cut : (due : Whole) (left2 : Option (List ℕ)) → AreFar whole first left old taken p q due → q [] → ((rest : List ℕ) → left ≡ Some rest → IsCut rest left2) → AreParts whole first left2 old taken p
-  fars_cut due left2 d none f = λ bytes e.
+  pub fars_cut : (due : Whole) (left2 : Option (List ℕ)) (all : Bool) → AreFar whole first left old taken p q due → q []
+      → ((rest : List ℕ) → left ≡ Some rest → IsCut rest left2) → AreParts whole first left2 old taken p all
+  fars_cut due left2 all d none f = λ bytes e.
       let far = d bytes e in
       let cut = f far.read.rest far.read.has_left in
-      far_part whole bytes left left2 old taken p q taken due [] cut.came cut.rest far cut.split cut.has_left none
-      (λ more later. ([], text_of (due (cut.came ++ more) later), refl, nothing_appended taken))
+      far_part whole bytes left left2 old taken p q taken due [] cut.came cut.rest all far cut.split cut.has_left none
+      (λ _. nothing_appended taken) (λ more later. front_begins taken (due (cut.came ++ more) later))

@@ -7,3 +7,4 @@ pub mod Fars
 pub mod LineSteps
 pub mod Begins
 pub mod Composed
+pub mod Exits

@@ -1,5 +1,6 @@
 -- The lines of a schedule, one after the other.
-use Rattle.std.proofs.Common.{◌≡◌, ◌≤◌, ℕ, ◌+◌, ◌*◌, true, false, Option, None, Some, Result, Ok, Err, List, [], ◌++◌, length, refl, sym, ap, ◌∙◌, subst, arith}
+use Rattle.std.proofs.Common.{◌≡◌, ◌≤◌, ℕ, ◌+◌, ◌*◌, Bool, true, false, Option, None, Some, Result, Ok, Err, List, [], ◌++◌, length, refl, sym, ap}
+use Rattle.std.proofs.Common.{◌∙◌, subst, arith}
 use Rattle.std.proofs.Math.Nat.{mul-le-mul_left}
 use Rattle.std.proofs.lemmas.List.{append-nil}
 use Rattle.homa_io.specs.Outside.{TookFront}
@@ -25,11 +26,13 @@ use Rattle.homa_script.specs.Script.{IsNext, IsInRange, IsOn}
 use Rattle.homa_script.specs.Script.{is_end as script_end}
 use Rattle.homa_plain.specs.Answers.{shown, answering}
 use Rattle.homa_replay.specs.Stream.{goes_on, ending, refused_line}
-use Rattle.homa_replay.specs.Lines.{text_of, ArePlayed, AreRefused, AreCut}
+use Rattle.homa_replay.specs.Lines.{ArePlayed, AreRefused, AreCut}
 use Rattle.homa_replay.specs.Came.{given_of, line_events, is_end}
 use Rattle.homa_replay.specs.Far.{Whole, left_at, AreFar, AreParts}
 use Rattle.homa_replay.proofs.Streams.{line_begins, line_over}
 use Rattle.homa_replay.proofs.Ticks.{length-ticks}
+use Rattle.homa_replay.proofs.Fronts.{front_same}
+use Rattle.homa_replay.proofs.Plays.{front_of}
 use Rattle.homa_replay.proofs.Fars.{far_to, fars_read, fars_told, fars_part, fars_cut}
 
 -- ---- what was read
@@ -114,8 +117,8 @@ module _ (whole : Whole) (first left left2 old before taken : Option (List ℕ))
       ∙ ap (λ (n : ℕ). goes_on s (answering later w) events new.number (events_of n given) (steps_left new more)) h))
 
   -- reading failed
-  pub at_cut : q [] → ((bytes : List ℕ) → left ≡ Some bytes → IsCut bytes left2) → AreParts whole first left2 old taken p
-  at_cut none f = fars_cut whole first left old taken p q (left_at s w events place) left2 d none f
+  pub at_cut : (all : Bool) → q [] → ((bytes : List ℕ) → left ≡ Some bytes → IsCut bytes left2) → AreParts whole first left2 old taken p all
+  at_cut all none f = fars_cut whole first left old taken p q (left_at s w events place) left2 all d none f
 
 -- ---- in the midst of a line
 
@@ -141,19 +144,19 @@ module _ (whole : Whole) (first left old taken new : Option (List ℕ)) (p q : L
       (λ more later. no_more (shown a.told ++ later) more ∙ a.same events line [] (steps_left place more) later)
 
   -- it stopped in their midst
-  pub line_cut : AreCut s w es taken new q → AreParts whole first left old new p
-  line_cut a =
-      fars_part whole first left old taken p q new (midst s w events line es place) a.told d a.allowed
-      (λ more later. subst (λ (x : Replay). TookFront taken new (text_of x)) (sym (no_more (shown a.told ++ later) more)) (a.front events line [] (steps_left place more) later))
+  pub line_cut : (all : Bool) → AreCut s w es taken new q all → AreParts whole first left old new p all
+  line_cut all a =
+      fars_part whole first left old taken p q new (midst s w events line es place) a.told all d a.allowed a.printed
+      (λ more later. front_of taken new a.told _ _ (sym (no_more (shown a.told ++ later) more)) (a.front events line [] (steps_left place more) later))
 
 -- ---- the last line
 
 module _ (whole : Whole) (first left old taken new : Option (List ℕ)) (p q : List PlainEntry → Type 0) (end : End) (d : AreFar whole first left old taken p q (λ more later. ending end)) (none : q []) where
   -- a front of it was printed
-  pub last_cut : TookFront taken new (line_text (last_entry end)) → AreParts whole first left old new p
+  pub last_cut : TookFront taken new (line_text (last_entry end)) → AreParts whole first left old new p false
   last_cut f =
-      fars_part whole first left old taken p q new (λ more later. ending end) [] d none
-      (λ more later. subst (λ (l : List ℕ). TookFront taken new l) (sym (append-nil (line_text (last_entry end)))) f)
+      fars_part whole first left old taken p q new (λ more later. ending end) [] false d none (λ k. absurd cc)
+      (λ more later. record { rest = []; tells = refl; took = front_same taken new _ _ (sym (append-nil (line_text (last_entry end)))) f })
 
 -- the line's number
 pub renumbered : (whole : Whole) (first left old taken : Option (List ℕ)) (p q : List PlainEntry → Type 0) (m n : ℕ) (fault : LineFault) → m ≡ n

@@ -1,5 +1,6 @@
 -- Events that are played one after the other.
-use Rattle.std.proofs.Common.{◌≡◌, ℕ, ◌+◌, Option, List, [], ◌∷◌, ◌++◌, length, length-append, sym, ap, ◌∙◌, subst, append_assoc, add-zero, arith}
+use Rattle.std.proofs.Common.{◌≡◌, ℕ, ◌+◌, Bool, false, Option, List, [], ◌∷◌, ◌++◌, length, length-append, refl, sym, ap, ◌∙◌, subst}
+use Rattle.std.proofs.Common.{append_assoc, add-zero, arith}
 use Rattle.std.specs.List.{flat_map}
 use Rattle.std.proofs.lemmas.List.{append-nil}
 use Rattle.std.proofs.lemmas.Grind.{flat_map-append}
@@ -15,7 +16,7 @@ use Rattle.homa_plain.specs.Replay.{Happening, Replay, with_told, last_entry}
 use Rattle.homa_plain.specs.Answers.{shown, answering}
 use Rattle.homa_replay.specs.Stream.{goes_on, refused_line, IsRefused}
 use Rattle.homa_replay.specs.Playing.{IsApplied}
-use Rattle.homa_replay.specs.Lines.{text_of, ArePlayed, AreRefused, AreCut}
+use Rattle.homa_replay.specs.Lines.{text_of, IsFront, ArePlayed, AreRefused, AreCut}
 use Rattle.homa_replay.proofs.Fronts.{nothing_appended, wrote_more, front_after, front_wide, front_none, front_same}
 use Rattle.homa_replay.proofs.Streams.{event_done, event_refused, shown_parts, told_parts}
 
@@ -31,6 +32,34 @@ printed_more old mid new a b e h =
 
 pub allowed_more : (p q r : List PlainEntry → Type 0) (a b : List PlainEntry) → ((more : List PlainEntry) → q more → p (a ++ more)) → ((more : List PlainEntry) → r more → q (b ++ more)) → (more : List PlainEntry) → r more → p ((a ++ b) ++ more)
 allowed_more p q r a b f g more h = subst p (sym (append_assoc a b more)) (f (b ++ more) (g more h))
+
+-- ---- fronts of a replay
+
+pub front_of : (old new : Option (List ℕ)) (told : List PlainEntry) (a b : Replay) → a ≡ b → IsFront a told old new → IsFront b told old new
+front_of old new told a b e f = subst (λ (r : Replay). IsFront r told old new) e f
+
+-- nothing was told or printed
+pub front_begins : (old : Option (List ℕ)) (r : Replay) → IsFront r [] old old
+front_begins old r = record { rest = r.told; tells = refl; took = front_none old (text_of r) }
+
+-- the first entries were told, and a front of them was printed
+pub front_amid : (old new : Option (List ℕ)) (told : List PlainEntry) (r : Replay) → TookFront old new (flat_map line_text told)
+    → IsFront (with_told told r) told old new
+front_amid old new told r f = record {
+  rest = r.told;
+  tells = refl;
+  took = front_same old new (flat_map line_text told ++ text_of r) _ (sym (text-with_told told r)) (front_wide old new (flat_map line_text told) (text_of r) f);
+}
+
+-- the first entries were printed, and a front of the rest
+pub front_behind : (old mid new : Option (List ℕ)) (told t : List PlainEntry) (r : Replay) → mid ≡ appended old (flat_map line_text told)
+    → IsFront r t mid new → IsFront (with_told told r) (told ++ t) old new
+front_behind old mid new told t r e f = record {
+  rest = f.rest;
+  tells = ap (λ (l : List PlainEntry). told ++ l) f.tells ∙ sym (append_assoc told t f.rest);
+  took = front_same old new (flat_map line_text told ++ text_of r) _ (sym (text-with_told told r))
+      (front_after old mid new (flat_map line_text told) (text_of r) e f.took);
+}
 
 -- ---- one event
 
@@ -65,24 +94,24 @@ module _ (s : Settings) (w : World) (old new : Option (List ℕ)) (before : List
   }
 
   -- there was no memory
-  pub none_cut : (es : List Happening) → before [] → old ≡ new → AreCut s w es old new before
-  none_cut es none h = record {
+  pub none_cut : (es : List Happening) (all : Bool) → before [] → old ≡ new → AreCut s w es old new before all
+  none_cut es all none h = record {
     told = [];
     allowed = none;
-    front = λ events line rest steps later. subst (λ (o : Option (List ℕ)). TookFront old o (text_of (goes_on s (answering later w) events line (es ++ rest) steps))) h (front_none old _);
+    printed = λ _. sym h ∙ nothing_appended old;
+    front = λ events line rest steps later. subst (λ (o : Option (List ℕ)). IsFront (goes_on s (answering later w) events line (es ++ rest) steps) [] old o) h
+        (front_begins old _);
   }
 
   -- a write failed
   pub one_cut : (e : Happening) (stands : World → Type 0) (told : List PlainEntry) (after : List PlainEntry → Type 0) → IsApplied s w e stands told before after → after []
-      → TookFront old new (flat_map line_text told) → AreCut s w (e ∷ []) old new before
+      → TookFront old new (flat_map line_text told) → AreCut s w (e ∷ []) old new before false
   one_cut e stands told after a none f = record {
     told = told;
     allowed = subst before (append-nil told) (a.allowed [] none);
+    printed = λ k. absurd cc;
     front = λ events line rest steps later.
-        let rest_of : Replay = goes_on s (answering later a.next) (events + 1) line rest steps in
-        front_same old new (flat_map line_text told ++ text_of rest_of) _
-        (sym (ap text_of (event_done s w a.next events line e rest steps (shown told) later told a.done) ∙ text-with_told told rest_of))
-        (front_wide old new (flat_map line_text told) (text_of rest_of) f);
+        front_of old new told _ _ (sym (event_done s w a.next events line e rest steps (shown told) later told a.done)) (front_amid old new told _ f);
   }
 
 -- ---- more events
@@ -123,15 +152,14 @@ module _ (s : Settings) (w : World) (a b : List Happening) (st : World → Type 
         ∙ told_parts first.told second.told (refused_line line fault));
   }
 
-  pub cut_more : AreCut s first.next b mid new q → AreCut s w (a ++ b) old new p
-  cut_more second = record {
+  pub cut_more : (all : Bool) → AreCut s first.next b mid new q all → AreCut s w (a ++ b) old new p all
+  cut_more all second = record {
     told = first.told ++ second.told;
     allowed = first.allowed second.told second.allowed;
+    printed = λ k. printed_more old mid new first.told second.told first.printed (second.printed k);
     front = λ events line rest steps later.
-        let rest_of : Replay = goes_on s (answering (shown second.told ++ later) first.next) (events + length a) line (b ++ rest) steps in
-        front_same old new (flat_map line_text first.told ++ text_of rest_of) _
-        (sym (ap text_of (before_more second.told events line rest steps later) ∙ text-with_told first.told rest_of))
-        (front_after old mid new (flat_map line_text first.told) (text_of rest_of) first.printed (second.front (events + length a) line rest steps later));
+        front_of old new (first.told ++ second.told) _ _ (sym (before_more second.told events line rest steps later))
+        (front_behind old mid new first.told second.told _ first.printed (second.front (events + length a) line rest steps later));
   }
 
 -- ---- events behind those that are refused or cut off
@@ -147,12 +175,13 @@ module _ (s : Settings) (w : World) (a b : List Happening) (old new : Option (Li
         ∙ first.same events line (b ++ rest) steps later;
   }
 
-  pub cut_wide : AreCut s w a old new p → AreCut s w (a ++ b) old new p
-  cut_wide first = record {
+  pub cut_wide : (all : Bool) → AreCut s w a old new p all → AreCut s w (a ++ b) old new p all
+  cut_wide all first = record {
     told = first.told;
     allowed = first.allowed;
+    printed = first.printed;
     front = λ events line rest steps later.
-        front_same old new _ _
-        (ap (λ (es : List Happening). text_of (goes_on s (answering (shown first.told ++ later) w) events line es steps)) (sym (append_assoc a b rest)))
+        front_of old new first.told _ _
+        (ap (λ (es : List Happening). goes_on s (answering (shown first.told ++ later) w) events line es steps) (sym (append_assoc a b rest)))
         (first.front events line (b ++ rest) steps later);
   }

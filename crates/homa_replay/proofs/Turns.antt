@@ -1,5 +1,5 @@
 -- A turn or a tick more.
-use Rattle.std.proofs.Common.{◌≡◌, ℕ, Option, None, Some, List, ◌++◌, refl, sym, subst, false, true≢false}
+use Rattle.std.proofs.Common.{◌≡◌, ℕ, Bool, Option, None, Some, List, ◌++◌, refl, sym, subst, false, true≢false}
 use Rattle.std.specs.Prelude.{is_some, IfSome}
 use Rattle.homa_plain.specs.declared.settings.Settings.{Settings}
 use Rattle.homa_plain.specs.declared.fault.WorldFault.{WorldFault}
@@ -21,8 +21,8 @@ module _ (s t : Settings) (w : World) (old new : Option (List ℕ)) (p : List Pl
   pub refused_at : (es : List Happening) (fault : WorldFault) → AreRefused s w es old new p fault → AreRefused t w es old new p fault
   refused_at es fault a = subst (λ (x : Settings). AreRefused x w es old new p fault) e a
 
-  pub cut_at : (es : List Happening) → AreCut s w es old new p → AreCut t w es old new p
-  cut_at es a = subst (λ (x : Settings). AreCut x w es old new p) e a
+  pub cut_at : (es : List Happening) (all : Bool) → AreCut s w es old new p all → AreCut t w es old new p all
+  cut_at es all a = subst (λ (x : Settings). AreCut x w es old new p all) e a
 
 -- behind some events a further one, and all of them
 module _ (s t : Settings) (w : World) (a b : List Happening) (st : World → Type 0) (old mid new : Option (List ℕ)) (p q : List PlainEntry → Type 0) (e : t ≡ s) (first : ArePlayed s w a st old mid p q) where
@@ -35,10 +35,11 @@ module _ (s t : Settings) (w : World) (a b : List Happening) (st : World → Typ
       subst (λ (l : List Happening). AreRefused s w l old new p fault) (sym k)
       (refused_wide s w (a ++ b) c old new p fault (refused_more s w a b st old mid new p q first fault (refused_at t s first.next mid new q e b fault (h first.next first.stood))))
 
-  pub then_cut : (c es : List Happening) → es ≡ (a ++ b) ++ c → ((v : World) → st v → AreCut t v b mid new q) → AreCut s w es old new p
-  then_cut c es k h =
-      subst (λ (l : List Happening). AreCut s w l old new p) (sym k)
-      (cut_wide s w (a ++ b) c old new p (cut_more s w a b st old mid new p q first (cut_at t s first.next mid new q e b (h first.next first.stood))))
+  pub then_cut : (c es : List Happening) (all : Bool) → es ≡ (a ++ b) ++ c → ((v : World) → st v → AreCut t v b mid new q all) → AreCut s w es old new p all
+  then_cut c es all k h =
+      subst (λ (l : List Happening). AreCut s w l old new p all) (sym k)
+      (cut_wide s w (a ++ b) c old new p all
+      (cut_more s w a b st old mid new p q first all (cut_at t s first.next mid new q e b all (h first.next first.stood))))
 
 -- what holds of a value, if there is one
 pub if_some : {A : Type 0} (o : Option A) (p q : A → Type 0) → IfSome o p → ((x : A) → p x → q x) → IfSome o q

@@ -1,7 +1,7 @@
 -- How far a replay has come, from a source and to a sink that can tell, and how it ends.
-use Rattle.std.specs.Prelude.{◌≡◌, ◌⊎◌, ℕ, Bool, not, Option, Some, List, [], ◌++◌}
+use Rattle.std.specs.Prelude.{◌≡◌, ◌⊎◌, ℕ, Bool, true, not, Option, Some, List, [], ◌++◌}
 use Rattle.std.specs.List.{flat_map}
-use Rattle.homa_io.specs.Outside.{appended, TookFront}
+use Rattle.homa_io.specs.Outside.{appended}
 use Rattle.homa_plain.specs.declared.settings.Settings.{Settings}
 use Rattle.homa_plain.specs.Entries.{PlainEntry}
 use Rattle.homa_plain.specs.Text.{line_text}
@@ -13,7 +13,7 @@ use Rattle.homa_script.specs.Steps.{steps_left}
 use Rattle.script_lines.specs.Read.{IsRead}
 use Rattle.homa_plain.specs.Answers.{shown, answering}
 use Rattle.homa_replay.specs.Stream.{is_refusal}
-use Rattle.homa_replay.specs.Lines.{text_of}
+use Rattle.homa_replay.specs.Lines.{text_of, IsFront}
 
 -- the replay of the bytes that come, with these answers
 abbrev pub Whole : Type 0
@@ -47,21 +47,23 @@ pub record IsPrinted (whole : Whole) (bytes : List ℕ) (old new : Option (List 
   pub allowed : before (whole bytes answers).told
   pub verdict : is_refusal (whole bytes answers).end ≡ not accepted
 
--- A front of the replay was printed: of every input that begins with the bytes that came, where the services answered as this told
--- so far, which the boxes allow, and whatever they answer later; or nothing more is left, and it is the replay of what came.
-pub record IsPart (whole : Whole) (came rest : List ℕ) (old new : Option (List ℕ)) (before : List PlainEntry → Type 0) : Type 0 where
+-- This was told so far, which the boxes allow. It is a front of what the replay tells, and a front of its text was printed: of every input
+-- that begins with the bytes that came, where the services answered as this shows, and whatever they answer later; or nothing more
+-- is left, and it is the replay of what came. Where `all` says so, all that was told was printed, and no more.
+pub record IsPart (whole : Whole) (came rest : List ℕ) (old new : Option (List ℕ)) (before : List PlainEntry → Type 0) (all : Bool) : Type 0 where
   pub told : List PlainEntry
   pub allowed : before told
-  pub front : ((more : List ℕ) (later : List Answer) → TookFront old new (text_of (whole (came ++ more) (shown told ++ later))))
-      ⊎ ((rest ≡ []) × ((later : List Answer) → TookFront old new (text_of (whole came (shown told ++ later)))))
+  pub printed : all ≡ true → new ≡ appended old (flat_map line_text told)
+  pub front : ((more : List ℕ) (later : List Answer) → IsFront (whole (came ++ more) (shown told ++ later)) told old new)
+      ⊎ ((rest ≡ []) × ((later : List Answer) → IsFront (whole came (shown told ++ later)) told old new))
 
 -- Some of the bytes came, the rest is left, and a front of the replay was printed.
-pub record IsStopped (whole : Whole) (bytes : List ℕ) (left old new : Option (List ℕ)) (before : List PlainEntry → Type 0) : Type 0 where
+pub record IsStopped (whole : Whole) (bytes : List ℕ) (left old new : Option (List ℕ)) (before : List PlainEntry → Type 0) (all : Bool) : Type 0 where
   pub came : List ℕ
   pub rest : List ℕ
   pub split : bytes ≡ came ++ rest
   pub has_left : left ≡ Some rest
-  pub part : IsPart whole came rest old new before
+  pub part : IsPart whole came rest old new before all
 
 -- whatever the source had at first, where it can tell: the replay of it has come so far
 abbrev pub AreFar : Whole → Option (List ℕ) → Option (List ℕ) → Option (List ℕ) → Option (List ℕ) → (List PlainEntry → Type 0) → (List PlainEntry → Type 0) → Whole → Type 0
@@ -72,5 +74,5 @@ abbrev pub ArePrinted : Whole → Option (List ℕ) → Option (List ℕ) → Op
 ArePrinted whole first old new before accepted = (bytes : List ℕ) → first ≡ Some bytes → IsPrinted whole bytes old new before accepted
 
 -- whatever the source had at first, where it can tell: a front of the replay of it was printed
-abbrev pub AreParts : Whole → Option (List ℕ) → Option (List ℕ) → Option (List ℕ) → Option (List ℕ) → (List PlainEntry → Type 0) → Type 0
-AreParts whole first left old new before = (bytes : List ℕ) → first ≡ Some bytes → IsStopped whole bytes left old new before
+abbrev pub AreParts : Whole → Option (List ℕ) → Option (List ℕ) → Option (List ℕ) → Option (List ℕ) → (List PlainEntry → Type 0) → Bool → Type 0
+AreParts whole first left old new before all = (bytes : List ℕ) → first ≡ Some bytes → IsStopped whole bytes left old new before all

@@ -7,3 +7,4 @@ pub mod Heeding
 pub mod Counting
 pub mod Came
 pub mod Opens
+pub mod Stops

@@ -1,5 +1,5 @@
 -- What events of a line do, one after the other, and what of it is printed.
-use Rattle.std.specs.Prelude.{◌≡◌, ℕ, ◌+◌, Option, List, ◌∷◌, ◌++◌, length}
+use Rattle.std.specs.Prelude.{◌≡◌, ℕ, ◌+◌, Bool, true, Option, List, ◌∷◌, ◌++◌, length}
 use Rattle.std.specs.List.{flat_map}
 use Rattle.homa_io.specs.Outside.{appended, TookFront}
 use Rattle.homa_plain.specs.declared.settings.Settings.{Settings}
@@ -17,6 +17,12 @@ use Rattle.homa_replay.specs.Stream.{goes_on, refused_line}
 -- what a replay prints
 abbrev pub text_of : Replay → List ℕ
 text_of r = flat_map line_text (lines r)
+
+-- What was told is a front of what a replay tells, and a front of its text was printed.
+pub record IsFront (r : Replay) (told : List PlainEntry) (old new : Option (List ℕ)) : Type 0 where
+  pub rest : List PlainEntry
+  pub tells : r.told ≡ told ++ rest
+  pub took : TookFront old new (text_of r)
 
 -- the events of one tick
 abbrev pub tick_of : ℕ → List Happening
@@ -40,9 +46,11 @@ pub record AreRefused (s : Settings) (w : World) (es : List Happening) (old new 
   pub same : (events line : ℕ) (rest : List Happening) (steps : Steps) (later : List Answer)
       → goes_on s (answering (shown told ++ later) w) events line (es ++ rest) steps ≡ with_told told (refused_line line fault)
 
--- It stops in the midst of these events: a front of what they tell, and of what stands behind them, was printed.
-pub record AreCut (s : Settings) (w : World) (es : List Happening) (old new : Option (List ℕ)) (before : List PlainEntry → Type 0) : Type 0 where
+-- It stops in the midst of these events: what was told is a front of what they and what stands behind them tell, and a front of
+-- that was printed; where `all` says so, all that was told.
+pub record AreCut (s : Settings) (w : World) (es : List Happening) (old new : Option (List ℕ)) (before : List PlainEntry → Type 0) (all : Bool) : Type 0 where
   pub told : List PlainEntry
   pub allowed : before told
+  pub printed : all ≡ true → new ≡ appended old (flat_map line_text told)
   pub front : (events line : ℕ) (rest : List Happening) (steps : Steps) (later : List Answer)
-      → TookFront old new (text_of (goes_on s (answering (shown told ++ later) w) events line (es ++ rest) steps))
+      → IsFront (goes_on s (answering (shown told ++ later) w) events line (es ++ rest) steps) told old new

@@ -25,12 +25,13 @@ abbrev pub is_memory : WorldFault → Bool
 is_memory fault.NoMemory = true
 is_memory other = false
 
--- whether an event is a step of the world's clock
-abbrev pub is_clock : Event → Bool
-is_clock event.Clock = true
-is_clock other = false
+-- whether an event may take memory: a step of the world's clock and a shift of a host's own never do
+abbrev pub takes_memory : Event → Bool
+takes_memory event.Clock = false
+takes_memory (event.Shift host by) = false
+takes_memory other = true
 
--- An event wasn't applied: the plain world refuses it, or there is no memory, of which the clock takes none.
+-- An event wasn't applied: the plain world refuses it, or it takes memory and there is none.
 pub record IsNotApplied (s : Settings) (w : World) (e : Happening) (fault : WorldFault) : Type 0 where
   pub refused : is_memory fault ≡ false → IsRefused s w e fault
-  pub memory : is_memory fault ≡ true → is_clock e.event ≡ false
+  pub memory : is_memory fault ≡ true → takes_memory e.event ≡ true

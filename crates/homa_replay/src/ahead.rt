@@ -1,5 +1,5 @@
 // A source that writes what is held before each read.
-ghost use Rattle.std.specs.Prelude.{◌≡◌, ◌≤◌, ◌<◌, ◌+◌, ◌^◌, ℕ, List, None, Some, true, false, length, take, IfOk, OnErr, OnOk, IsErrOf};
+ghost use Rattle.std.specs.Prelude.{◌≡◌, ◌≤◌, ◌<◌, ◌+◌, ◌^◌, ℕ, List, [], None, Some, true, false, length, take, IfOk, OnErr, OnOk, IsErrOf};
 ghost use Rattle.std.specs.Result.{result_err};
 ghost use Rattle.homa_io.specs.Outside.{HasRisen, unread, IsAtEnd};
 ghost use Rattle.homa_plain.specs.Settings.{IsValid};
@@ -32,6 +32,8 @@ impl<'a, S: Source, K: Holding> Ahead<'a, S, K> {
         ensures end { IfOk result (λ n. n ≡ 0 → 0 < length buf.old → IsAtEnd (S.left self.old.source.now)) }
         ensures err { OnErr result (S.left self.new.source.now ≡ S.left self.old.source.now) }
         ensures taken { K.taken self.new.sink.now ≡ K.taken self.old.sink.now }
+        ensures none { OnOk result (K.held self.new.sink.now ≡ []) }
+        ensures read_none { IsErrOf result Stop.Read → K.held self.new.sink.now ≡ [] }
         ensures quiet_source { OnOk result (S.faults self.new.source.now ≡ S.faults self.old.source.now) }
         ensures quiet_sink { OnOk result (K.faults self.new.sink.now ≡ K.faults self.old.sink.now) }
         ensures stop { self.new.stop ≡ self.old.stop }
@@ -63,11 +65,11 @@ impl<'a, S: Source, K: Holding> Source for Ahead<'a, S, K> {
 
     ghost faults = { λ a. a.faults };
 
-    // It refers to the same two. After the first fault nothing changes.
+    // It refers to the same two. After the first fault nothing changes; a fault of the source finds nothing held.
     ghost is_same = { λ a b. (a.source.ghost_name ≡ b.source.ghost_name) × (a.sink.ghost_name ≡ b.sink.ghost_name) × S.is_same a.source.now b.source.now
         × K.is_same a.sink.now b.sink.now × (K.taken b.sink.now ≡ K.taken a.sink.now)
-        × IsHeeded (counts a.stop a.faults (S.faults a.source.now) (K.faults a.sink.now))
-        (counts b.stop b.faults (S.faults b.source.now) (K.faults b.sink.now)) a.stop };
+        × IsHeeded (counts a.stop a.faults (S.faults a.source.now) (K.faults a.sink.now) (K.held a.sink.now))
+        (counts b.stop b.faults (S.faults b.source.now) (K.faults b.sink.now) (K.held b.sink.now)) a.stop };
 
     ghost same_self = { λ a. (
       refl,
@@ -75,7 +77,7 @@ impl<'a, S: Source, K: Holding> Source for Ahead<'a, S, K> {
       S.same_self a.source.now,
       K.same_self a.sink.now,
       refl,
-      heeded_self (counts a.stop a.faults (S.faults a.source.now) (K.faults a.sink.now)),
+      heeded_self (counts a.stop a.faults (S.faults a.source.now) (K.faults a.sink.now) (K.held a.sink.now)),
     ) };
 
     ghost same_on = { λ a b c p q. (
@@ -84,9 +86,9 @@ impl<'a, S: Source, K: Holding> Source for Ahead<'a, S, K> {
       S.same_on a.source.now b.source.now c.source.now p.2 q.2,
       K.same_on a.sink.now b.sink.now c.sink.now p.3 q.3,
       q.4 ∙ p.4,
-      heeded_on (counts a.stop a.faults (S.faults a.source.now) (K.faults a.sink.now))
-          (counts b.stop b.faults (S.faults b.source.now) (K.faults b.sink.now))
-          (counts c.stop c.faults (S.faults c.source.now) (K.faults c.sink.now)) p.5 q.5,
+      heeded_on (counts a.stop a.faults (S.faults a.source.now) (K.faults a.sink.now) (K.held a.sink.now))
+          (counts b.stop b.faults (S.faults b.source.now) (K.faults b.sink.now) (K.held b.sink.now))
+          (counts c.stop c.faults (S.faults c.source.now) (K.faults c.sink.now) (K.held c.sink.now)) p.5 q.5,
     ) };
 
     fn read(&mut self, buf: &mut [u8]) -> Result<usize, ReadFailed> {
@@ -128,6 +130,7 @@ pub(crate) fn read_settings<S: Source, K: Holding>(
     ensures read_quiet { IsErrOf result Stop.Read → K.faults sink.new ≡ K.faults sink.old }
     ensures write_risen { IsErrOf result Stop.Write → HasRisen (K.faults sink.old) (K.faults sink.new) }
     ensures write_quiet { IsErrOf result Stop.Write → S.faults source.new ≡ S.faults source.old }
+    ensures read_none { IsErrOf result Stop.Read → K.held sink.new ≡ [] }
     ensures memory { IsErrOf result Stop.NoMemory → ⊥ }
     ensures same_source { S.is_same source.old source.new }
     ensures same_sink { K.is_same sink.old sink.new }
@@ -180,6 +183,7 @@ pub(crate) fn read_next<S: Source, K: Holding>(
     ensures read_quiet { IsErrOf result Stop.Read → K.faults sink.new ≡ K.faults sink.old }
     ensures write_risen { IsErrOf result Stop.Write → HasRisen (K.faults sink.old) (K.faults sink.new) }
     ensures write_quiet { IsErrOf result Stop.Write → S.faults source.new ≡ S.faults source.old }
+    ensures read_none { IsErrOf result Stop.Read → K.held sink.new ≡ [] }
     ensures memory { IsErrOf result Stop.NoMemory → ⊥ }
     ensures same_source { S.is_same source.old source.new }
     ensures same_sink { K.is_same sink.old sink.new }

@@ -1,11 +1,12 @@
 // The events of a line, one after the other.
-ghost use Rattle.std.specs.Prelude.{◌≡◌, ◌≤◌, ◌<◌, ℕ, ◌+◌, ◌*◌, ◌^◌, ◌∷◌, [], Some, None, Ok, true, false, IfOk, IfSome, OnErr, OnOk, IsErrOf};
+ghost use Rattle.std.specs.Prelude.{◌≡◌, ◌≤◌, ◌<◌, ℕ, ◌+◌, ◌*◌, ◌^◌, ◌∷◌, [], Some, None, Ok, true, false, IfOk, IfErr, IfSome, OnErr, OnOk, IsErrOf};
 ghost use Rattle.homa_io.specs.Outside.{HasRisen};
 ghost use Rattle.homa_plain.specs.declared.event.Event.TheVariants as event;
 ghost use Rattle.homa_plain.specs.Replay.{turns_of, ticks};
 ghost use Rattle.homa_plain.specs.World.{World};
 ghost use Rattle.homa_replay.specs.Playing.{is_memory};
 ghost use Rattle.homa_replay.specs.Lines.{tick_of, ArePlayed, AreRefused, AreCut};
+ghost use Rattle.homa_replay.specs.Stops.{prints_all};
 
 use crate::print::put_entries;
 use crate::{Playing, Stop};
@@ -36,8 +37,9 @@ pub(crate) fn play<P: Playing, K: Sink>(
         → AreRefused (P.settings world.old) w (record { event = event.now; bytes = bytes.now } ∷ []) (K.taken sink.old) (K.taken sink.new)
         (P.allows world.old) fault)) }
     ensures real { IfOk result (λ r. IfSome r (λ fault. is_memory fault ≡ false)) }
-    ensures cut { OnErr result ((w : World) → P.stands world.old w
-        → AreCut (P.settings world.old) w (record { event = event.now; bytes = bytes.now } ∷ []) (K.taken sink.old) (K.taken sink.new) (P.allows world.old)) }
+    ensures cut { IfErr result (λ stop. (w : World) → P.stands world.old w
+        → AreCut (P.settings world.old) w (record { event = event.now; bytes = bytes.now } ∷ []) (K.taken sink.old) (K.taken sink.new) (P.allows world.old)
+        (prints_all stop)) }
     ensures settings { P.settings world.new ≡ P.settings world.old }
     ensures counted { P.events world.new ≤ P.events world.old + 1 }
     ensures write { IsErrOf result Stop.Write → HasRisen (K.faults sink.old) (K.faults sink.new) }
@@ -71,8 +73,8 @@ fn play_turns<P: Playing, K: Sink>(
     ensures refused { IfOk result (λ r. IfSome r (λ fault. (w : World) → P.stands world.old w
         → AreRefused (P.settings world.old) w (turns_of 0 hosts) (K.taken sink.old) (K.taken sink.new) (P.allows world.old) fault)) }
     ensures real { IfOk result (λ r. IfSome r (λ fault. is_memory fault ≡ false)) }
-    ensures cut { OnErr result ((w : World) → P.stands world.old w
-        → AreCut (P.settings world.old) w (turns_of 0 hosts) (K.taken sink.old) (K.taken sink.new) (P.allows world.old)) }
+    ensures cut { IfErr result (λ stop. (w : World) → P.stands world.old w
+        → AreCut (P.settings world.old) w (turns_of 0 hosts) (K.taken sink.old) (K.taken sink.new) (P.allows world.old) (prints_all stop)) }
     ensures settings { P.settings world.new ≡ P.settings world.old }
     ensures counted { P.events world.new ≤ P.events world.old + hosts }
     ensures write { IsErrOf result Stop.Write → HasRisen (K.faults sink.old) (K.faults sink.new) }
@@ -108,8 +110,8 @@ fn play_tick<P: Playing, K: Sink>(
     ensures refused { IfOk result (λ r. IfSome r (λ fault. (w : World) → P.stands world.old w
         → AreRefused (P.settings world.old) w (tick_of hosts) (K.taken sink.old) (K.taken sink.new) (P.allows world.old) fault)) }
     ensures real { IfOk result (λ r. IfSome r (λ fault. is_memory fault ≡ false)) }
-    ensures cut { OnErr result ((w : World) → P.stands world.old w
-        → AreCut (P.settings world.old) w (tick_of hosts) (K.taken sink.old) (K.taken sink.new) (P.allows world.old)) }
+    ensures cut { IfErr result (λ stop. (w : World) → P.stands world.old w
+        → AreCut (P.settings world.old) w (tick_of hosts) (K.taken sink.old) (K.taken sink.new) (P.allows world.old) (prints_all stop)) }
     ensures settings { P.settings world.new ≡ P.settings world.old }
     ensures counted { P.events world.new ≤ P.events world.old + hosts + 1 }
     ensures write { IsErrOf result Stop.Write → HasRisen (K.faults sink.old) (K.faults sink.new) }
@@ -142,8 +144,8 @@ pub(crate) fn play_ticks<P: Playing, K: Sink>(
     ensures refused { IfOk result (λ r. IfSome r (λ fault. (w : World) → P.stands world.old w
         → AreRefused (P.settings world.old) w (ticks hosts n) (K.taken sink.old) (K.taken sink.new) (P.allows world.old) fault)) }
     ensures real { IfOk result (λ r. IfSome r (λ fault. is_memory fault ≡ false)) }
-    ensures cut { OnErr result ((w : World) → P.stands world.old w
-        → AreCut (P.settings world.old) w (ticks hosts n) (K.taken sink.old) (K.taken sink.new) (P.allows world.old)) }
+    ensures cut { IfErr result (λ stop. (w : World) → P.stands world.old w
+        → AreCut (P.settings world.old) w (ticks hosts n) (K.taken sink.old) (K.taken sink.new) (P.allows world.old) (prints_all stop)) }
     ensures settings { P.settings world.new ≡ P.settings world.old }
     ensures counted { P.events world.new ≤ P.events world.old + n * (hosts + 1) }
     ensures write { IsErrOf result Stop.Write → HasRisen (K.faults sink.old) (K.faults sink.new) }

@@ -1,5 +1,5 @@
 // The replay of a schedule, from its settings to its last line.
-ghost use Rattle.std.specs.Prelude.{◌≡◌, ◌≤◌, ◌<◌, ℕ, List, [], ◌∷◌, Some, Ok, true, IfOk, IfErr, OnOk, OnErr, IsErrOf};
+ghost use Rattle.std.specs.Prelude.{◌≡◌, ◌≤◌, ◌<◌, ℕ, List, [], ◌∷◌, Some, Ok, true, false, IfOk, IfErr, OnOk, OnErr, IsErrOf};
 ghost use Rattle.homa_io.specs.Outside.{HasRisen, Grows, appended};
 ghost use Rattle.homa_io.specs.Held.{sink_below, held_bytes};
 ghost use Rattle.homa_plain.specs.Entries.{PlainEntry, PlainSettings};
@@ -7,6 +7,7 @@ ghost use Rattle.homa_plain.specs.Settings.{IsValid};
 ghost use Rattle.homa_plain.specs.World.{World};
 ghost use Rattle.homa_plain.specs.Answers.{shown};
 ghost use Rattle.homa_replay.specs.Opens.{IsOpened, may_write};
+ghost use Rattle.homa_replay.specs.Stops.{prints_all};
 ghost use Rattle.homa_replay.specs.Far.{replay_of, ArePrinted, AreParts};
 
 use crate::{Holding, MOST_BYTES, Playing, Stop, begin, carry_on};
@@ -50,12 +51,16 @@ fn replay_held<B: Drop, P: Opens<B> + Drop, S: Source, K: Holding>(
     ensures printed { IfOk result (λ accepted. ArePrinted (replay_of (P.many boxes)) (S.left source.old) (K.taken sink.old) (K.taken sink.new)
         (P.are_allowed boxes) accepted) }
     ensures to_end { result ≡ Ok true → (bytes : List ℕ) → S.left source.old ≡ Some bytes → S.left source.new ≡ Some [] }
-    ensures part { AreParts (replay_of (P.many boxes)) (S.left source.old) (S.left source.new) (K.taken sink.old) (K.taken sink.new) (P.are_allowed boxes) }
+    ensures part { IfErr result (λ stop. AreParts (replay_of (P.many boxes)) (S.left source.old) (S.left source.new) (K.taken sink.old)
+        (K.taken sink.new) (P.are_allowed boxes) (prints_all stop)) }
+    ensures front { OnOk result (AreParts (replay_of (P.many boxes)) (S.left source.old) (S.left source.new) (K.taken sink.old) (K.taken sink.new)
+        (P.are_allowed boxes) false) }
 
     ensures quiet_source { OnOk result (S.faults source.new ≡ S.faults source.old) }
     ensures quiet_sink { OnOk result (K.faults sink.new ≡ K.faults sink.old) }
     ensures read_risen { IsErrOf result Stop.Read → HasRisen (S.faults source.old) (S.faults source.new) }
     ensures read_quiet { IsErrOf result Stop.Read → K.faults sink.new ≡ K.faults sink.old }
+    ensures read_none { IsErrOf result Stop.Read → K.held sink.new ≡ [] }
     ensures write_risen { IsErrOf result Stop.Write → HasRisen (K.faults sink.old) (K.faults sink.new) }
     ensures write_quiet { IsErrOf result Stop.Write → S.faults source.new ≡ S.faults source.old }
     ensures memory_source { IsErrOf result Stop.NoMemory → S.faults source.new ≡ S.faults source.old }
@@ -74,7 +79,8 @@ fn replay_held<B: Drop, P: Opens<B> + Drop, S: Source, K: Holding>(
 
 // Writes what is held, unless reading or writing failed already: then nothing is held, or no more may be written.
 fn finish<K: Sink + Drop>(held: &mut HeldSink<K>, answer: &Result<bool, Stop>) -> Result<(), Stop>
-    ensures none { OnOk result (OnOk answer.now (held_bytes held.new ≡ [])) }
+    requires { IsErrOf answer.now Stop.Read → held_bytes held.old ≡ [] }
+    ensures none { OnOk result ((IsErrOf answer.now Stop.Write → ⊥) → held_bytes held.new ≡ []) }
     ensures whole { appended (K.taken (sink_below held.new)) (held_bytes held.new) ≡ appended (K.taken (sink_below held.old)) (held_bytes held.old) }
     ensures grows { Grows (K.taken (sink_below held.old)) (K.taken (sink_below held.new)) }
     ensures same { K.is_same (sink_below held.old) (sink_below held.new) }
@@ -102,8 +108,8 @@ fn replay_through<B: Drop, P: Opens<B> + Drop, S: Source, K: Sink + Drop>(
     ensures printed { IfOk result (λ accepted. ArePrinted (replay_of (P.many boxes)) (S.left source.old) (K.taken (sink_below held.old))
         (K.taken (sink_below held.new)) (P.are_allowed boxes) accepted) }
     ensures to_end { result ≡ Ok true → (bytes : List ℕ) → S.left source.old ≡ Some bytes → S.left source.new ≡ Some [] }
-    ensures part { OnErr result (AreParts (replay_of (P.many boxes)) (S.left source.old) (S.left source.new) (K.taken (sink_below held.old))
-        (K.taken (sink_below held.new)) (P.are_allowed boxes)) }
+    ensures part { IfErr result (λ stop. AreParts (replay_of (P.many boxes)) (S.left source.old) (S.left source.new) (K.taken (sink_below held.old))
+        (K.taken (sink_below held.new)) (P.are_allowed boxes) (prints_all stop)) }
     ensures same { K.is_same (sink_below held.old) (sink_below held.new) }
     ensures quiet_source { OnOk result (S.faults source.new ≡ S.faults source.old) }
     ensures quiet_sink { OnOk result (K.faults (sink_below held.new) ≡ K.faults (sink_below held.old)) }
@@ -138,9 +144,9 @@ pub fn replay<B: Drop, P: Opens<B> + Drop, S: Source, K: Sink>(
         (P.are_allowed boxes) accepted) }
     ensures to_end { result ≡ Ok true → (bytes : List ℕ) → S.left source.old ≡ Some bytes → S.left source.new ≡ Some [] }
 
-    // Otherwise it is a front of that.
-    ensures part { OnErr result (AreParts (replay_of (P.many boxes)) (S.left source.old) (S.left source.new) (K.taken sink.old) (K.taken sink.new)
-        (P.are_allowed boxes)) }
+    // Otherwise it is a front of that; unless the sink failed, all that was told until then was printed.
+    ensures part { IfErr result (λ stop. AreParts (replay_of (P.many boxes)) (S.left source.old) (S.left source.new) (K.taken sink.old)
+        (K.taken sink.new) (P.are_allowed boxes) (prints_all stop)) }
 
     // Each count changes only with its own fault.
     ensures quiet_source { OnOk result (S.faults source.new ≡ S.faults source.old) }

@@ -1,5 +1,5 @@
 // The replay of a schedule.
-ghost use Rattle.std.specs.Prelude.{◌≡◌, ◌≤◌, ◌<◌, ◌+◌, ◌*◌, ◌^◌, ℕ, List, [], Some, None, Ok, true, false, not, IfOk, IfSome, OnOk, OnErr, IsErrOf};
+ghost use Rattle.std.specs.Prelude.{◌≡◌, ◌≤◌, ◌<◌, ◌+◌, ◌*◌, ◌^◌, ℕ, List, [], Some, None, Ok, true, false, not, IfOk, IfErr, IfSome, OnOk, OnErr, IsErrOf};
 ghost use Rattle.homa_io.specs.Outside.{HasRisen, appended, IsAtEnd, TookFront};
 ghost use Rattle.homa_plain.specs.Entries.{PlainSettings, PlainRefused};
 ghost use Rattle.homa_plain.specs.Text.{line_text};
@@ -16,6 +16,7 @@ ghost use Rattle.homa_replay.specs.Playing.{is_memory};
 ghost use Rattle.homa_replay.specs.Lines.{ArePlayed, AreRefused, AreCut};
 ghost use Rattle.homa_replay.specs.Came.{given_of, line_events, is_end};
 ghost use Rattle.homa_replay.specs.Far.{left_at, replay_of, is_unasked, ArePrinted, AreParts};
+ghost use Rattle.homa_replay.specs.Stops.{prints_all};
 
 use crate::ahead::{read_next, read_settings};
 use crate::came::Came;
@@ -48,8 +49,9 @@ fn play_line<P: Playing, K: Sink>(
         → AreRefused (P.settings world.old) w (events_of hosts (given_of next.now bytes.now)) (K.taken sink.old) (K.taken sink.new)
         (P.allows world.old) fault)) }
     ensures real { IfOk result (λ r. IfSome r (λ fault. is_memory fault ≡ false)) }
-    ensures cut { OnErr result ((w : World) → P.stands world.old w
-        → AreCut (P.settings world.old) w (events_of hosts (given_of next.now bytes.now)) (K.taken sink.old) (K.taken sink.new) (P.allows world.old)) }
+    ensures cut { IfErr result (λ stop. (w : World) → P.stands world.old w
+        → AreCut (P.settings world.old) w (events_of hosts (given_of next.now bytes.now)) (K.taken sink.old) (K.taken sink.new) (P.allows world.old)
+        (prints_all stop)) }
     ensures settings { P.settings world.new ≡ P.settings world.old }
     ensures counted { P.events world.new ≤ P.events world.old + line_events hosts next.now }
     ensures write { IsErrOf result Stop.Write → HasRisen (K.faults sink.old) (K.faults sink.new) }
@@ -92,6 +94,7 @@ fn put_refused<K: Sink>(sink: &mut K, line: u64, fault: LineFault) -> Result<boo
     ensures refused { IfOk result (λ accepted. accepted ≡ false) }
     ensures err { OnErr result (TookFront (K.taken sink.old) (K.taken sink.new) (line_text (PlainRefused line fault))) }
     ensures write { IsErrOf result Stop.Write → HasRisen (K.faults sink.old) (K.faults sink.new) }
+    ensures stop { IfErr result (λ stop. stop ≡ Stop.Write) }
     ensures memory { IsErrOf result Stop.NoMemory → ⊥ }
     ensures read { IsErrOf result Stop.Read → ⊥ }
     ensures quiet { OnOk result (K.faults sink.new ≡ K.faults sink.old) }
@@ -114,10 +117,10 @@ pub fn begin<S: Source, K: Holding>(
     ensures line { IfOk result (λ r. IfSome r (λ s. K.taken sink.new ≡ appended (K.taken sink.old) (line_text (PlainSettings s)))) }
     ensures valid { IfOk result (λ r. IfSome r IsValid) }
     ensures refused { result ≡ Ok None → (boxes : ℕ) → ArePrinted (replay_of boxes) (S.left source.old) (K.taken sink.old) (K.taken sink.new) is_unasked false }
-    ensures part { OnErr result ((boxes : ℕ)
-        → AreParts (replay_of boxes) (S.left source.old) (S.left source.new) (K.taken sink.old) (K.taken sink.new) is_unasked) }
+    ensures part { IfErr result (λ stop. (boxes : ℕ)
+        → AreParts (replay_of boxes) (S.left source.old) (S.left source.new) (K.taken sink.old) (K.taken sink.new) is_unasked (prints_all stop)) }
     ensures front { result ≡ Ok None → (boxes : ℕ)
-        → AreParts (replay_of boxes) (S.left source.old) (S.left source.new) (K.taken sink.old) (K.taken sink.new) is_unasked }
+        → AreParts (replay_of boxes) (S.left source.old) (S.left source.new) (K.taken sink.old) (K.taken sink.new) is_unasked false }
 
     ensures started { reader.new.started ≡ true }
     ensures not_ended { reader.new.ended ≡ false }
@@ -129,6 +132,7 @@ pub fn begin<S: Source, K: Holding>(
     ensures quiet_sink { OnOk result (K.faults sink.new ≡ K.faults sink.old) }
     ensures read_risen { IsErrOf result Stop.Read → HasRisen (S.faults source.old) (S.faults source.new) }
     ensures read_quiet { IsErrOf result Stop.Read → K.faults sink.new ≡ K.faults sink.old }
+    ensures read_none { IsErrOf result Stop.Read → K.held sink.new ≡ [] }
     ensures write_risen { IsErrOf result Stop.Write → HasRisen (K.faults sink.old) (K.faults sink.new) }
     ensures write_quiet { IsErrOf result Stop.Write → S.faults source.new ≡ S.faults source.old }
     ensures memory { IsErrOf result Stop.NoMemory → ⊥ }
@@ -169,17 +173,18 @@ pub fn carry_on<P: Playing, S: Source, K: Holding>(
         → ArePrinted (left_at (P.settings world.old) w 0 reader.old.place) (S.left source.old) (K.taken sink.old) (K.taken sink.new)
         (P.allows world.old) accepted) }
     ensures to_end { result ≡ Ok true → (w : World) → P.stands world.old w → (bytes : List ℕ) → S.left source.old ≡ Some bytes → S.left source.new ≡ Some [] }
-    ensures part { OnErr result ((w : World) → P.stands world.old w
+    ensures part { IfErr result (λ stop. (w : World) → P.stands world.old w
         → AreParts (left_at (P.settings world.old) w 0 reader.old.place) (S.left source.old) (S.left source.new) (K.taken sink.old) (K.taken sink.new)
-        (P.allows world.old)) }
+        (P.allows world.old) (prints_all stop)) }
     ensures front { OnOk result ((w : World) → P.stands world.old w
         → AreParts (left_at (P.settings world.old) w 0 reader.old.place) (S.left source.old) (S.left source.new) (K.taken sink.old) (K.taken sink.new)
-        (P.allows world.old)) }
+        (P.allows world.old) false) }
 
     ensures quiet_source { OnOk result (S.faults source.new ≡ S.faults source.old) }
     ensures quiet_sink { OnOk result (K.faults sink.new ≡ K.faults sink.old) }
     ensures read_risen { IsErrOf result Stop.Read → HasRisen (S.faults source.old) (S.faults source.new) }
     ensures read_quiet { IsErrOf result Stop.Read → K.faults sink.new ≡ K.faults sink.old }
+    ensures read_none { IsErrOf result Stop.Read → K.held sink.new ≡ [] }
     ensures write_risen { IsErrOf result Stop.Write → HasRisen (K.faults sink.old) (K.faults sink.new) }
     ensures write_quiet { IsErrOf result Stop.Write → S.faults source.new ≡ S.faults source.old }
     ensures memory_source { IsErrOf result Stop.NoMemory → S.faults source.new ≡ S.faults source.old }

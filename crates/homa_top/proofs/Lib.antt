@@ -2,3 +2,4 @@ mod Lawful
 mod Numbered
 mod Completing
 pub mod Stalls
+pub mod Exits

@@ -15,12 +15,12 @@ use Rattle.node_trace.specs.Traces.{Around, IsWhole, IsBrokenOff, IsEndCut}
 use Rattle.check_text.specs.Text.{IsTrace, IsNoTrace}
 use Rattle.check_text.specs.Verdict as verdict
 use Rattle.check_text.specs.Verdict.{verdict_of}
-use Rattle.homa_check.specs.Checks.{verdict_text}
+use Rattle.homa_check.specs.Checks.{verdict_text, IsCutShort}
 use Rattle.generated_runs.specs.Rounds.{Generated}
 use Rattle.homa_generate.specs.Made.{Run, IsMade, IsPartMade}
 use Rattle.quiet_call.specs.Text.{bound, quiet_text}
 use Rattle.homa_top.specs.declared.exit.ExitStatus.{ExitStatus}
-use Rattle.homa_top.specs.declared.exit.ExitStatus.TheVariants.{Done, Refused, WriteFailed, NoMemory, Stalled}
+use Rattle.homa_top.specs.declared.exit.ExitStatus.TheVariants.{Done, Refused, ReadFailed, WriteFailed, NoMemory, Stalled}
 use Rattle.homa_top.specs.Exits.{is_broken_off}
 
 -- the end, a fault of the sink, or want of memory
@@ -62,11 +62,13 @@ pub record IsNo (bytes : List ℕ) (old new : Option (List ℕ)) : Type 0 where
   pub fails : IsNoTrace bytes line clause
   pub printed : new ≡ appended old (verdict_text (verdict.No line clause))
 
--- the verdict on these bytes was printed; with the status of a fault or of want of memory, a front of it
+-- the verdict on these bytes was printed; with the status of a fault or of want of memory, a front of it; a read fault comes in the midst of a
+-- line, and the lines that came whole obey all laws
 pub record HasJudged (bytes : List ℕ) (left old new : Option (List ℕ)) (status : ExitStatus) : Type 0 where
   pub yes : status ≡ Done → IsYes bytes left old new
   pub no : status ≡ Refused → IsNo bytes old new
   pub front : is_broken_off status ≡ true → TookFront old new (verdict_text (verdict_of bytes))
+  pub cut : status ≡ ReadFailed → IsCutShort bytes left
 
 -- ---- `node`
 

@@ -27,6 +27,17 @@ is_broken_off NoMemory = true
 is_broken_off NetFailed = true
 is_broken_off Stalled = false
 
+-- it was broken off, and not by a fault of the sink: all that was told until then was printed
+abbrev pub prints_all : ExitStatus → Bool
+prints_all Done = false
+prints_all NoCommand = false
+prints_all Refused = false
+prints_all ReadFailed = true
+prints_all WriteFailed = false
+prints_all NoMemory = true
+prints_all NetFailed = true
+prints_all Stalled = false
+
 -- the status of a command that stopped
 abbrev pub status_of : Stop → ExitStatus
 status_of stop.Read = ReadFailed

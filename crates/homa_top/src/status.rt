@@ -15,7 +15,7 @@ ghost use Rattle.node_trace.specs.Traces.{around};
 ghost use Rattle.replay_laws.specs.Replays.{OpensWorld};
 ghost use Rattle.homa_top.specs.declared.words.Command.TheVariants as command;
 ghost use Rattle.homa_top.specs.Commands.{HasMade, HasCounted, HasJudged, HasRun, IsNeverRefused};
-ghost use Rattle.homa_top.specs.Exits.{is_broken_off};
+ghost use Rattle.homa_top.specs.Exits.{is_broken_off, prints_all};
 ghost use Rattle.homa_top.specs.declared.exit.ExitStatus.TheVariants as status;
 ghost use Rattle.homa_top.specs.Lawful.{TookLawful};
 ghost use Rattle.homa_top.specs.Words.{said, reads, uses_net, usage_line};
@@ -83,10 +83,10 @@ pub fn run<V: Service, S: Source, K: Sink, N: Net, C: Clock>(
     ensures laws { said words.now ≡ Some command.Replay → (result ≡ status.Done) ⊎ (result ≡ status.Refused) → (bytes : List ℕ)
         → S.left source.old ≡ Some bytes → OpensWorld bytes → TookLawful (K.taken sink.old) (K.taken sink.new) }
 
-    // A fault or want of memory leaves a front of it.
+    // A fault or want of memory leaves a front of it; unless the sink failed, all that was told until then was printed.
     ensures front { said words.now ≡ Some command.Replay → is_broken_off result ≡ true
         → AreParts (replay_of (length services.items)) (S.left source.old) (S.left source.new) (K.taken sink.old) (K.taken sink.new)
-        (AreAllowed V.served V.allows services.items) }
+        (AreAllowed V.served V.allows services.items) (prints_all result) }
 
     // `node`: what was printed is the text of the node's run of the bytes that the source had, with the answers that its own
     // `run` lines show, of which each is allowed, and the ticks and receives that clock and net gave; the net took its

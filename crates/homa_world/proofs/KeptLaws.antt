@@ -7,7 +7,7 @@ use Rattle.homa_plain.specs.declared.settings.Settings.{Settings}
 use Rattle.homa_plain.specs.declared.event.Event.{Event}
 use Rattle.homa_plain.specs.declared.fault.WorldFault.{WorldFault}
 use Rattle.homa_plain.specs.declared.fault.WorldFault.TheVariants as fault
-use Rattle.homa_replay.specs.Playing.{IsNotApplied, is_memory, is_clock}
+use Rattle.homa_replay.specs.Playing.{IsNotApplied, is_memory, takes_memory}
 use Rattle.event_laws.specs.Stepping.{IsRefusal}
 use Rattle.homa_plain.specs.World.{World as PlainWorld, last_tick}
 use Rattle.homa_service.specs.Table.{place_of}
@@ -84,7 +84,8 @@ refused_by s w e bytes fault known r = record { refused = λ _ later. r later; m
   no : false ≡ true → ⊥
   no e = cc
 
-pub no_memory : (s : Settings) (w : PlainWorld) (e : Event) (bytes : List ℕ) → is_clock e ≡ false → IsNotApplied s w (record { event = e; bytes = bytes }) fault.NoMemory
+pub no_memory : (s : Settings) (w : PlainWorld) (e : Event) (bytes : List ℕ) → takes_memory e ≡ true
+    → IsNotApplied s w (record { event = e; bytes = bytes }) fault.NoMemory
 no_memory s w e bytes other = record { refused = λ m. absurd (no m); memory = λ _. other } where
   no : true ≡ false → ⊥
   no e = cc

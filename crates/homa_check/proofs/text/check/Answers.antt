@@ -14,6 +14,7 @@ returns g c =
       yes = IfOk-weaker c.judge_all.result _ _ (λ verdict v bytes n k e. (yes_is bytes n).0 (v bytes k ∙ ap plain_verdict e)) h.verdict;
       end = h.end;
       no = IfOk-weaker c.judge_all.result _ _ (λ verdict v bytes line clause k e. no_is bytes line (clause_of clause) (v bytes k ∙ ap plain_verdict e)) h.verdict;
+      cut = h.cut;
       read_on = h.read_on;
       risen = h.risen;
       quiet = h.quiet;
@@ -24,12 +25,34 @@ returns g c =
 pub returns-in_err-lines : goal.returns-in_err-lines
 returns-in_err-lines g c =
     let p = err_from_is_err_and c.from_residual.result c.from_residual.ensures.1 in
-    rw (p.1, p.2) (record { verdict = tt; yes = tt; end = tt; no = tt; read_on = ([], sym (unread-nil _)); risen = λ r. absurd cc; quiet = λ r. refl; never_falls = omega arith; same = g.met.S.Source.same_self _ })
+    rw (p.1, p.2) (record {
+      verdict = tt;
+      yes = tt;
+      end = tt;
+      no = tt;
+      cut = λ r. absurd cc;
+      read_on = ([], sym (unread-nil _));
+      risen = λ r. absurd cc;
+      quiet = λ r. refl;
+      never_falls = omega arith;
+      same = g.met.S.Source.same_self _;
+    })
 
 pub returns-in_err-room : goal.returns-in_err-room
 returns-in_err-room g c =
     let p = err_from_is_err_and c.from_residual-in_err-room.result c.from_residual-in_err-room.ensures.1 in
-    rw (p.1, p.2) (record { verdict = tt; yes = tt; end = tt; no = tt; read_on = ([], sym (unread-nil _)); risen = λ r. absurd cc; quiet = λ r. refl; never_falls = omega arith; same = g.met.S.Source.same_self _ })
+    rw (p.1, p.2) (record {
+      verdict = tt;
+      yes = tt;
+      end = tt;
+      no = tt;
+      cut = λ r. absurd cc;
+      read_on = ([], sym (unread-nil _));
+      risen = λ r. absurd cc;
+      quiet = λ r. refl;
+      never_falls = omega arith;
+      same = g.met.S.Source.same_self _;
+    })
 
 pub judge_all-requires-clause-follows : goal.judge_all-requires-clause-follows
 judge_all-requires-clause-follows g c = c.new-trace.ensures

@@ -1,12 +1,12 @@
-use Rattle.std.proofs.Common.{◌≡◌, ◌+◌, ◌∙◌, arith, refl, sym, ap, subst, ℕ, []}
+use Rattle.std.proofs.Common.{◌≡◌, ◌+◌, ◌∙◌, arith, refl, sym, ap, subst, ℕ}
 use Rattle.std.proofs.lemmas.Result.{err_from_is_err_and}
 use Rattle.homa_io.specs.Outside.{HasRisen}
 use Rattle.homa_plain.specs.View.{nothing_seen}
-use Rattle.homa_text.proofs.Taking.{unread-nil}
 use Rattle.homa_text.specs.Lines.{reading}
 use Rattle.check_text.specs.Verdict as plain
 use Rattle.homa_check.specs.Clauses.{clause_of}
-use Rattle.homa_check.proofs.LoopLaws.{start_due, read_further}
+use Rattle.homa_check.specs.Checks.{plain_verdict}
+use Rattle.homa_check.proofs.LoopLaws.{start_due, start_so_far, cut_short, read_further, taken_start, taken_more, up_to, end_no}
 use Rattle.homa_check.proofs.text.judge_all.Goals as goal
 
 pub lines-init : goal.lines-init
@@ -15,8 +15,14 @@ lines-init g c =
     let number : (reading c.args.lines.now).number ≡ 0 = ap (λ x. x.number) e in
     let read : (reading c.args.lines.now).read ≡ 0 = ap (λ x. x.read) e in
     record {
-      due = (nothing_seen, c.requires.follows, sym number, λ bytes k. (bytes, k, start_due (reading c.args.lines.now) bytes e));
-      read_on = ([], sym (unread-nil _));
+      due = (
+        nothing_seen,
+        c.requires.follows,
+        sym number,
+        λ bytes k. (bytes, k, start_due (reading c.args.lines.now) bytes e),
+        λ bytes k. start_so_far (reading c.args.lines.now) bytes _ e k,
+      );
+      taken = taken_start _ (reading c.args.lines.now) e;
       counted = omega (arith, number, read);
       within = omega (arith, read);
       limit = ap (λ x. x.limit) e;
@@ -34,8 +40,14 @@ lines-preserved g c =
     let t = rw c.in-Taken.is at (e.next i.due.0 i.due.1 (omega (arith, i.due.2, i.counted, i.within))) in
     let read = e.read c.in-Taken.is in
     record {
-      due = (t.w, t.follows, omega (arith, t.place, i.due.2, e.number, i.counted, i.within), λ bytes k. let a = i.due.3 bytes k in let b = t.due a.0 a.1 in (b.0, b.1, a.2 ∙ b.2));
-      read_on = read_further _ _ _ i.read_on e.read_on;
+      due = (
+        t.w,
+        t.follows,
+        omega (arith, t.place, i.due.2, e.number, i.counted, i.within),
+        λ bytes k. (let a = i.due.3 bytes k in let b = t.due a.0 a.1 in (b.0, b.1, a.2 ∙ b.2)),
+        λ bytes k. t.so_far bytes (i.due.4 bytes k),
+      );
+      taken = taken_more _ _ _ _ _ _ (λ h. h c.in-Taken.is) i.taken e.took;
       counted = omega (arith, read.0, e.number, i.counted);
       within = read.1;
       limit = e.limit ∙ i.limit;
@@ -57,7 +69,11 @@ returns-in-End g c =
     record {
       verdict = λ bytes k. let a = i.due.3 bytes k in a.2 ∙ (end.0 a.0 a.1 ∙ c.at_end.ensures i.due.0 end.2);
       end = λ y. end.1;
-      read_on = read_further _ _ _ i.read_on e.read_on;
+      behind = λ line clause no.
+          let last = end_no i.due.0 line (clause_of clause) (c.at_end.ensures i.due.0 end.2 ∙ ap plain_verdict no) in
+          up_to line _ _ _ _ _ _ e.limit (omega (arith, last, e.number, i.due.2, i.counted, i.within)) i.taken e.took;
+      cut = λ r. absurd cc;
+      read_on = read_further _ _ _ (i.taken.came, i.taken.source) e.read_on;
       risen = λ r. absurd cc;
       quiet = λ r. e.quiet refl ∙ i.quiet;
       never_falls = omega (arith, e.never_falls, i.never_falls);
@@ -73,7 +89,11 @@ returns-in-Fails g c =
     record {
       verdict = λ bytes k. let a = i.due.3 bytes k in a.2 ∙ (fails a.0 a.1 ∙ ap (λ (n : ℕ). plain.No n (clause_of c.in-Fails.clause)) number);
       end = λ y. absurd cc;
-      read_on = read_further _ _ _ i.read_on e.read_on;
+      behind = λ line clause no.
+          let same : c.number.result ≡ line = cc in
+          up_to line _ _ _ _ _ _ e.limit (sym c.number.ensures ∙ same) i.taken e.took;
+      cut = λ r. absurd cc;
+      read_on = read_further _ _ _ (i.taken.came, i.taken.source) e.read_on;
       risen = λ r. absurd cc;
       quiet = λ r. e.quiet refl ∙ i.quiet;
       never_falls = omega (arith, e.never_falls, i.never_falls);
@@ -92,7 +112,9 @@ returns-in_err-judge_next g c =
     (record {
       verdict = tt;
       end = tt;
-      read_on = read_further _ _ _ i.read_on k.read_on;
+      behind = tt;
+      cut = λ r bytes h. cut_short bytes _ _ (reading c.lines.lines) i.due.0 (i.due.4 bytes h) (k.unended r);
+      read_on = read_further _ _ _ (i.taken.came, i.taken.source) k.read_on;
       risen = λ r. subst (λ (n : ℕ). HasRisen n (g.S.Source.faults c.judge_next.new.source)) i.quiet (k.risen r);
       quiet = λ r. k.quiet r ∙ i.quiet;
       never_falls = omega (arith, k.never_falls, i.never_falls);

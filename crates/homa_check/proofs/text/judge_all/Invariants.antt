@@ -1,10 +1,9 @@
 use Rattle.std.proofs.Common.{◌≡◌, ◌-◌, ◌≤◌, ℕ, List, Some, length}
-use Rattle.homa_io.specs.Outside.{unread}
 use Rattle.homa_plain.specs.View.{View}
 use Rattle.homa_text.specs.Lines.{reading}
 use Rattle.check_text.specs.Verdict.{verdict_of}
 use Rattle.check_lines.specs.Traces.{Follows}
-use Rattle.homa_check.specs.Checks.{verdict_next}
+use Rattle.homa_check.specs.Checks.{verdict_next, IsSoFar, HasTaken}
 use Rattle.homa_check.proofs.text.judge_all.Given as goal
 
 -- what was judged so far
@@ -13,8 +12,11 @@ invariant-lines g l =
     let left = g.S.Source.left in
     let faults = g.S.Source.faults in
     record {
-      due : (v : View) × Follows v l.trace × (v.place ≡ (reading l.lines).number) × ((bytes : List ℕ) → left l.fn.source ≡ Some bytes → (rest : List ℕ) × (left l.source ≡ Some rest) × (verdict_of bytes ≡ verdict_next v (reading l.lines) rest));
-      read_on : (came : List ℕ) × (left l.fn.source ≡ unread came (left l.source));
+      due : (v : View) × Follows v l.trace × (v.place ≡ (reading l.lines).number)
+          × ((bytes : List ℕ) → left l.fn.source ≡ Some bytes
+          → (rest : List ℕ) × (left l.source ≡ Some rest) × (verdict_of bytes ≡ verdict_next v (reading l.lines) rest))
+          × ((bytes : List ℕ) → left l.fn.source ≡ Some bytes → IsSoFar bytes (left l.source) (reading l.lines) v);
+      taken : HasTaken (left l.fn.source) (left l.source) (reading l.lines);
       counted : (reading l.lines).number ≤ (reading l.lines).read;
       within : (reading l.lines).read ≤ 68719476736;
       limit : (reading l.lines).limit ≡ 68719476736;

@@ -5,7 +5,7 @@ use Rattle.check_reader.specs.Forms.{entry_of}
 use Rattle.check_text.specs.Verdict.{judged_text, seen_text}
 use Rattle.homa_check.specs.Clauses.{clause_of}
 use Rattle.check_lines.specs.Traces.{Follows}
-use Rattle.homa_check.proofs.LoopLaws.{none_ends, long_fails, over_fails, line_fails, line_taken, read_more}
+use Rattle.homa_check.proofs.LoopLaws.{none_ends, long_fails, over_fails, line_fails, line_taken, read_more, took_line, took_over, took_none}
 use Rattle.homa_check.proofs.text.judge_next.Goals as goal
 
 pub returns-in-End-clause-next : goal.returns-in-End-clause-next
@@ -40,3 +40,28 @@ pub returns-in-None-clause-read : goal.returns-in-None-clause-read
 returns-in-None-clause-read g c e =
     let got = rw c.in-Line.is at c.in_ok-next.ensures.next in
     read_more (reading c.args.lines.now) (reading c.next.new.self) got.0 got.2.0 _ got.2.1.taken c.requires.limit
+
+pub returns-in-End-clause-took : goal.returns-in-End-clause-took
+returns-in-End-clause-took g c =
+    let got = rw c.in-End.is at c.in_ok-next.ensures.next in
+    took_none (reading c.args.lines.now) (reading c.next.new.self) got.0 _ _ _ _ got.1 got.2
+
+pub returns-in-Long-clause-took : goal.returns-in-Long-clause-took
+returns-in-Long-clause-took g c =
+    let got = rw c.in-Long.is at c.in_ok-next.ensures.next in
+    took_line (reading c.args.lines.now) (reading c.next.new.self) got.0 got.2.0 _ _ _ _ got.1 got.2.1.taken
+
+pub returns-in-Over-clause-took : goal.returns-in-Over-clause-took
+returns-in-Over-clause-took g c =
+    let got = rw c.in-Over.is at c.in_ok-next.ensures.next in
+    took_over (reading c.args.lines.now) (reading c.next.new.self) got.0 got.2.0 _ _ _ got.1 got.2.1 (λ e. absurd cc)
+
+pub returns-in-Some-clause-took : goal.returns-in-Some-clause-took
+returns-in-Some-clause-took g c =
+    let got = rw c.in-Line.is at c.in_ok-next.ensures.next in
+    took_line (reading c.args.lines.now) (reading c.next.new.self) got.0 got.2.0 _ _ _ _ got.1 got.2.1.taken
+
+pub returns-in-None-clause-took : goal.returns-in-None-clause-took
+returns-in-None-clause-took g c =
+    let got = rw c.in-Line.is at c.in_ok-next.ensures.next in
+    took_line (reading c.args.lines.now) (reading c.next.new.self) got.0 got.2.0 _ _ _ _ got.1 got.2.1.taken

@@ -1,15 +1,16 @@
 use Rattle.std.proofs.Common.{◌∙◌, ◌+◌, ◌-◌, ap, sym, arith, Ok}
-use Rattle.std.proofs.lemmas.Result.{MatchResult-from_err}
 use Rattle.homa_plain.specs.Replay.{ticks}
 use Rattle.homa_replay.proofs.Ticks.{next_tick, around_tick}
+use Rattle.homa_replay.proofs.Exits.{err_if}
 use Rattle.homa_replay.proofs.Turns.{is_none, if_some, then_played, then_refused, then_cut}
 use Rattle.homa_replay.proofs.lines.play_ticks.Goals as goal
 
 pub returns-in_err-answer-clause-cut : goal.returns-in_err-answer-clause-cut
 returns-in_err-answer-clause-cut g c =
     let l = c.loop-tick in
-    MatchResult-from_err _ _ _ c.from_residual.ensures.0
-    (λ _ w h. then_cut _ _ _ _ _ _ _ _ _ _ _ l.invariant.settings (l.invariant.played w h) (ticks c.args.hosts (c.args.n - (l.tick + 1))) (ticks c.args.hosts c.args.n) (around_tick c.args.hosts l.tick c.args.n c.loop-tick-test.true) c.in_err-answer.ensures.cut)
+    err_if _ _ _ c.from_residual.ensures.1
+    (λ w h. then_cut _ _ _ _ _ _ _ _ _ _ _ l.invariant.settings (l.invariant.played w h) (ticks c.args.hosts (c.args.n - (l.tick + 1)))
+    (ticks c.args.hosts c.args.n) _ (around_tick c.args.hosts l.tick c.args.n c.loop-tick-test.true) c.in_err-answer.ensures.cut)
 
 pub returns-then-is_some-clause-refused : goal.returns-then-is_some-clause-refused
 returns-then-is_some-clause-refused g c =

@@ -1,15 +1,16 @@
 use Rattle.std.proofs.Common.{◌∙◌, ◌+◌, ◌-◌, ap, sym, arith, Ok}
-use Rattle.std.proofs.lemmas.Result.{MatchResult-from_err}
 use Rattle.homa_plain.specs.Replay.{turns_of}
 use Rattle.homa_replay.proofs.Ticks.{next_turn, around_turn}
+use Rattle.homa_replay.proofs.Exits.{err_if}
 use Rattle.homa_replay.proofs.Turns.{is_none, if_some, then_played, then_refused, then_cut}
 use Rattle.homa_replay.proofs.lines.play_turns.Goals as goal
 
 pub returns-in_err-answer-clause-cut : goal.returns-in_err-answer-clause-cut
 returns-in_err-answer-clause-cut g c =
     let l = c.loop-host in
-    MatchResult-from_err _ _ _ c.from_residual.ensures.0
-    (λ _ w h. then_cut _ _ _ _ _ _ _ _ _ _ _ l.invariant.settings (l.invariant.played w h) (turns_of (l.host + 1) (c.args.hosts - (l.host + 1))) (turns_of 0 c.args.hosts) (around_turn l.host c.args.hosts c.loop-host-test.true) c.in_err-answer.ensures.cut)
+    err_if _ _ _ c.from_residual.ensures.1
+    (λ w h. then_cut _ _ _ _ _ _ _ _ _ _ _ l.invariant.settings (l.invariant.played w h) (turns_of (l.host + 1) (c.args.hosts - (l.host + 1)))
+    (turns_of 0 c.args.hosts) _ (around_turn l.host c.args.hosts c.loop-host-test.true) c.in_err-answer.ensures.cut)
 
 pub returns-then-is_some-clause-refused : goal.returns-then-is_some-clause-refused
 returns-then-is_some-clause-refused g c =

@@ -1,9 +1,10 @@
 use Rattle.std.proofs.Common.{◌≡◌, ◌≤◌, ◌∙◌, ap, sym, refl, arith, Ok, true, false, []}
-use Rattle.std.proofs.lemmas.Result.{MatchResult-from_err}
 use Rattle.homa_plain.specs.declared.fault.LineFault.TheVariants.{World as ByWorld, Script as ByScript}
 use Rattle.homa_plain.specs.Replay.{Finished, RefusedAt, events_of}
 use Rattle.homa_replay.specs.Came.{given_of}
 use Rattle.homa_replay.specs.Far.{left_at}
+use Rattle.homa_replay.specs.declared.stop.Stop.TheVariants.{Write}
+use Rattle.homa_replay.proofs.Exits.{err_if, stop_of}
 use Rattle.homa_replay.proofs.Fronts.{front_whole}
 use Rattle.homa_replay.proofs.Fars.{far_start, fars_end}
 use Rattle.homa_replay.proofs.Turns.{played_at, refused_at, cut_at}
@@ -33,9 +34,10 @@ pub returns-in_err-next-clause-part : goal.returns-in_err-next-clause-part
 returns-in_err-next-clause-part g c =
     let l = c.lines in
     let s = g.P.Playing.settings c.args.world.now in
-    MatchResult-from_err _ _ _ c.from_residual.ensures.0
-    (λ _ w h. let d = l.invariant.due w h in
-    at_cut (left_at s w 0 c.args.reader.now.place) _ _ _ _ _ _ _ _ s d.0 l.events l.reader.place c.read_next.new.reader.place [] c.in_err-next.ensures.taken d.2 (g.met.P.Playing.allows_none l.world) c.in_err-next.ensures.cut)
+    err_if _ _ _ c.from_residual.ensures.1
+    (λ w h. let d = l.invariant.due w h in
+    at_cut (left_at s w 0 c.args.reader.now.place) _ _ _ _ _ _ _ _ s d.0 l.events l.reader.place c.read_next.new.reader.place [] c.in_err-next.ensures.taken
+    d.2 _ (g.met.P.Playing.allows_none l.world) c.in_err-next.ensures.cut)
 
 pub returns-in_err-put_refused-in-Refused-clause-part : goal.returns-in_err-put_refused-in-Refused-clause-part
 returns-in_err-put_refused-in-Refused-clause-part g c =
@@ -43,8 +45,8 @@ returns-in_err-put_refused-in-Refused-clause-part g c =
     let s = g.P.Playing.settings c.args.world.now in
     let new = c.read_next.new.reader in
     let next = rw c.in-Refused.is at c.in_ok-next.ensures.next in
-    MatchResult-from_err _ _ _ c.from_residual-in_err-put_refused-in-Refused.ensures.0
-    (λ _ w h. let d = l.invariant.due w h in
+    err_if _ Write _ (stop_of _ _ _ c.from_residual-in_err-put_refused-in-Refused.ensures.1 c.in_err-put_refused-in-Refused.ensures.stop)
+    (λ w h. let d = l.invariant.due w h in
     last_cut (left_at s w 0 c.args.reader.now.place) _ _ _ _ _ _ _ (RefusedAt c.line.result (ByScript c.in-Refused.fault))
     (renumbered (left_at s w 0 c.args.reader.now.place) _ _ _ _ _ _ c.line.result new.place.number (ByScript c.in-Refused.fault) c.line.ensures
     (at_refusal (left_at s w 0 c.args.reader.now.place) _ _ _ _ _ _ _ _ s d.0 l.events l.reader.place new.place new.operand c.in_ok-next.ensures.taken d.2 c.in-Refused.fault next))
@@ -69,8 +71,8 @@ returns-in_err-put_entry-clause-part g c =
     let new = c.read_next.new.reader in
     let next = rw c.in-Line.is at c.in_ok-next.ensures.next in
     let ended = sym c.is_end.ensures ∙ c.if-is_end.true in
-    MatchResult-from_err _ _ _ c.from_residual-in_err-put_entry.ensures.0
-    (λ _ w h. let d = l.invariant.due w h in
+    err_if _ _ _ c.from_residual-in_err-put_entry.ensures.1
+    (λ w h. let d = l.invariant.due w h in
     last_cut (left_at s w 0 c.args.reader.now.place) _ _ _ _ _ _ _ (Finished l.events)
     (at_end (left_at s w 0 c.args.reader.now.place) _ _ _ _ _ _ _ _ s d.0 l.events l.reader.place new.place new.operand c.in_ok-next.ensures.taken d.2 c.in-Line.next ended next)
     (g.met.P.Playing.allows_none l.world) c.in_err-put_entry.ensures.err)
@@ -106,11 +108,11 @@ returns-in_err-refused-clause-part g c =
     let going = sym c.is_end.ensures ∙ c.if-is_end.false in
     let given = given_of c.in-Line.next c.bytes.result.now in
     let es = events_of c.args.hosts given in
-    MatchResult-from_err _ _ _ c.from_residual-in_err-refused.ensures.0
-    (λ _ w h. let d = l.invariant.due w h in
+    err_if _ _ _ c.from_residual-in_err-refused.ensures.1
+    (λ w h. let d = l.invariant.due w h in
     line_cut (left_at s w 0 c.args.reader.now.place) _ _ _ _ _ _ _ s d.0 l.events new.place.number es new.place
     (at_line (left_at s w 0 c.args.reader.now.place) _ _ _ _ _ _ _ _ s d.0 l.events l.reader.place new.place new.operand c.in_ok-next.ensures.taken d.2 c.in-Line.next given c.args.hosts going (ap (given_of c.in-Line.next) (sym c.bytes.ensures.bytes)) (sym c.requires.hosts) next)
-    (cut_at _ s d.0 _ _ _ l.invariant.settings es (c.in_err-refused.ensures.cut d.0 d.1)))
+    _ (cut_at _ s d.0 _ _ _ l.invariant.settings es _ (c.in_err-refused.ensures.cut d.0 d.1)))
 
 pub returns-in_err-put_refused-clause-part : goal.returns-in_err-put_refused-clause-part
 returns-in_err-put_refused-clause-part g c =
@@ -122,8 +124,8 @@ returns-in_err-put_refused-clause-part g c =
     let given = given_of c.in-Line.next c.bytes.result.now in
     let es = events_of c.args.hosts given in
     let refused = rw c.in-Some.is at c.in_ok-refused.ensures.refused in
-    MatchResult-from_err _ _ _ c.from_residual-in_err-put_refused.ensures.0
-    (λ _ w h. let d = l.invariant.due w h in
+    err_if _ Write _ (stop_of _ _ _ c.from_residual-in_err-put_refused.ensures.1 c.in_err-put_refused.ensures.stop)
+    (λ w h. let d = l.invariant.due w h in
     last_cut (left_at s w 0 c.args.reader.now.place) _ _ _ _ _ _ (λ more. more ≡ []) (RefusedAt c.line-in-Some.result (ByWorld c.in-Some.fault))
     (renumbered (left_at s w 0 c.args.reader.now.place) _ _ _ _ _ (λ more. more ≡ []) c.line-in-Some.result new.place.number (ByWorld c.in-Some.fault) c.line-in-Some.ensures
     (line_refused (left_at s w 0 c.args.reader.now.place) _ _ _ _ _ _ _ s d.0 l.events new.place.number es new.place

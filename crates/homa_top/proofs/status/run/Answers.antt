@@ -1,8 +1,10 @@
 -- Each command, by its words.
 use Rattle.std.proofs.Common.{◌∙◌, ap, sym, map, Some, length, subst}
-use Rattle.homa_replay.specs.Far.{replay_of, ArePrinted}
+use Rattle.homa_replay.specs.Far.{replay_of, ArePrinted, AreParts}
 use Rattle.box_laws.specs.First.{AreAllowed}
+use Rattle.homa_top.specs.Exits.{prints_all}
 use Rattle.homa_top.proofs.Completing.{completed}
+use Rattle.homa_top.proofs.Exits.{prints_same}
 use Rattle.homa_top.proofs.Lawful.{lawful}
 use Rattle.homa_top.proofs.Numbered.{quiet_sizes, same_make, same_gen}
 use Rattle.homa_top.proofs.status.run.Goals as goal
@@ -32,6 +34,12 @@ returns-in-Ok-false-clause-refused g c = λ _ _ bytes had. subst (λ b. ArePrint
 
 pub returns-in-Ok-false-clause-laws : goal.returns-in-Ok-false-clause-laws
 returns-in-Ok-false-clause-laws g c = λ _ _. lawful (length c.args.services.items) c.requires.ready.at_most (g.S.Source.left c.args.source.now) (g.K.Sink.taken c.args.sink.now) (g.K.Sink.taken c.replay.new.sink) _ _ c.in-Ok-false.ensures.printed
+
+pub returns-in-Err-clause-front : goal.returns-in-Err-clause-front
+returns-in-Err-clause-front g c =
+    λ _ _. subst (λ b. AreParts (replay_of (length c.args.services.items)) (g.S.Source.left c.args.source.now) (g.S.Source.left c.replay.new.source)
+    (g.K.Sink.taken c.args.sink.now) (g.K.Sink.taken c.replay.new.sink) (AreAllowed g.V.Service.served g.V.Service.allows c.args.services.items) b)
+    (prints_same c.in-Err.stop ∙ ap prints_all (sym c.status_of.ensures)) c.in-Err.ensures.part
 
 pub returns-in-Some-Node-clause-complete_node : goal.returns-in-Some-Node-clause-complete_node
 returns-in-Some-Node-clause-complete_node g c = λ is bytes had never no_read no_write no_net.

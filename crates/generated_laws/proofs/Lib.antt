@@ -1,0 +1,10 @@
+mod Listed
+mod Carried
+mod Peopled
+mod Events
+mod Ways
+mod Handing
+mod Lines
+mod Rounds
+mod Runs
+mod Read
