@@ -8,3 +8,4 @@ pub mod NextLine
 pub mod Putting
 pub mod Texts
 pub mod LineParts
+pub mod Parts

@@ -1,5 +1,5 @@
 -- The lines of packets, by the parts that are added one after another.
-use Rattle.std.proofs.Common.{◌≡◌, ℕ, List, [], ◌∷◌, ◌++◌, codes, decimal, refl, ap, sym, ◌∙◌, append_assoc}
+use Rattle.std.proofs.Common.{◌≡◌, ◌<◌, ℕ, length, List, [], ◌∷◌, ◌++◌, codes, decimal, refl, ap, sym, ◌∙◌, append_assoc}
 use Rattle.std.specs.List.{join_with_byte}
 use Rattle.homa_plain.specs.Entries.{PlainCall, PlainInject, PlainRun, PlainDone, PlainBury, PlainFree}
 use Rattle.homa_plain.specs.Text.{line_text, line_of_words, hex_word, route_word, role_word, id_word, ack_word}
@@ -7,6 +7,8 @@ use Rattle.homa_plain.specs.declared.id.CallId.{CallId}
 use Rattle.homa_plain.specs.declared.id.HostId.{HostId}
 use Rattle.homa_text.specs.declared.quick.Head.{Head}
 use Rattle.homa_text.specs.declared.quick.Piece.{Piece}
+use Rattle.hex.specs.Hex.{encode_lower}
+use Rattle.homa_text.proofs.Texts.{hex_word-some}
 use Rattle.homa_text.specs.Quick.{head_text, piece_text, grant_sent, piece_sent}
 
 -- a part that is added behind the parts so far
@@ -52,6 +54,15 @@ piece_line_text head piece payload =
     ap (λ (l : List ℕ). head_text head (codes " DATA ") ++ l) (eight (32 ∷ decimal piece.level) (32 ∷ decimal piece.size) (32 ∷ decimal piece.offset) (32 ∷ decimal piece.version) (32 ∷ decimal piece.service) (codes " ") (ack_word piece.ack) (codes " ") (hex_word payload ++ 10 ∷ []))
     ∙ (head_on head (codes " DATA ") _
     ∙ sym (line_spread (codes "send") (decimal head.number ∷ route_word head.from head.to ∷ decimal head.inc ∷ codes "DATA" ∷ role_word head.role ∷ id_word head.id ∷ decimal piece.level ∷ decimal piece.size ∷ decimal piece.offset ∷ decimal piece.version ∷ decimal piece.service ∷ ack_word piece.ack ∷ hex_word payload ∷ [])))
+
+-- the line of a piece that has bytes, by its numbers, its digits and the line feed
+pub long_line_text : (head : Head) (piece : Piece) (payload : List ℕ) → 0 < length payload
+    → ((head_text head (codes " DATA ") ++ piece_text piece) ++ encode_lower payload) ++ 10 ∷ [] ≡ line_text (piece_sent head piece payload)
+long_line_text head piece payload some =
+    append_assoc (head_text head (codes " DATA ") ++ piece_text piece) (encode_lower payload) (10 ∷ [])
+    ∙ (append_assoc (head_text head (codes " DATA ")) (piece_text piece) (encode_lower payload ++ 10 ∷ [])
+    ∙ (ap (λ (l : List ℕ). head_text head (codes " DATA ") ++ (piece_text piece ++ (l ++ 10 ∷ []))) (sym (hex_word-some payload some))
+    ∙ piece_line_text head piece payload))
 
 -- one part more behind parts that were added to nothing
 pub more : (i j d e : List ℕ) → i ≡ d → j ≡ i ++ e → j ≡ d ++ e

@@ -29,6 +29,10 @@ encode_lower-all xs done n =
     ap (λ (ys : List ℕ). encode_lower (take done xs) ++ ys) (sym (encode_with-append lower_digits (take n (drop done xs)) (drop n (drop done xs))) ∙ ap encode_lower (take-append-drop n (drop done xs)))
     ∙ (sym (encode_with-append lower_digits (take done xs) (drop done xs)) ∙ ap encode_lower (take-append-drop done xs))
 
+-- the digits of the first n bytes and of the others
+pub encode_lower-parts : (xs : List ℕ) (n : ℕ) → encode_lower (take n xs) ++ encode_lower (drop n xs) ≡ encode_lower xs
+encode_lower-parts xs n = sym (encode_with-append lower_digits (take n xs) (drop n xs)) ∙ ap encode_lower (take-append-drop n xs)
+
 -- the part of n bytes from one place on
 pub part_length : (at n : ℕ) → at + n - at ≡ n
 part_length at n = omega arith

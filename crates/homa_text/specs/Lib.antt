@@ -7,3 +7,4 @@ pub mod Written
 pub mod Put
 pub mod Quick
 pub mod Told
+pub mod Turns

@@ -1,6 +1,7 @@
 // Bytes, numbers and digits that are put behind a text.
-ghost use Rattle.std.specs.Prelude.{◌≡◌, ◌≤◌, ◌<◌, ◌+◌, ◌*◌, ◌++◌, length, slice_index, decimal};
+ghost use Rattle.std.specs.Prelude.{◌≡◌, ◌≤◌, ◌<◌, ◌+◌, ◌*◌, ◌++◌, length, map, slice_index, decimal};
 ghost use Rattle.hex.specs.Hex.{lower_digits, encode_lower};
+ghost use Rattle.homa_text.specs.Turns.{by_turns, high_digit, low_digit};
 ghost use Rattle.arrayvec.specs.ArrayVec.{array_vec_len};
 
 use arrayvec::ArrayVec;
@@ -15,21 +16,67 @@ fn digit(n: u8) -> u8
     requires { n < 16 }
     ensures { result ≡ slice_index lower_digits n }
 {
-    if n < 10 { n + 48 } else { n + 87 }
+    n + 48 + if n < 10 { 0 } else { 39 }
 }
 
-/// Writes the digits of bytes: those that the crate `hex` writes. A digit is computed and not looked up,
-/// so that many are at once.
+// Writes the first and the second digit of each byte.
 #[inline(always)]
+fn split_digits(bytes: &[u8], high: &mut [u8], low: &mut [u8])
+    requires high { length high.old ≡ length bytes.now }
+    requires low { length low.old ≡ length bytes.now }
+    ensures high { high.new ≡ map high_digit bytes.now }
+    ensures low { low.new ≡ map low_digit bytes.now }
+{
+    'bytes: for i in 0..bytes.len() {
+        let byte = bytes[i];
+        high[i] = digit(byte >> 4);
+        low[i] = digit(byte & 0x0f);
+    }
+}
+
+// Writes two texts by turns.
+#[inline(always)]
+fn join_digits(high: &[u8], low: &[u8], out: &mut [u8])
+    requires high { length out.old ≡ 2 * length high.now }
+    requires low { length low.now ≡ length high.now }
+    ensures { out.new ≡ by_turns high.now low.now }
+{
+    'digits: for i in 0..high.len() {
+        out[2 * i] = high[i];
+        out[2 * i + 1] = low[i];
+    }
+}
+
+// Writes the digits of a few bytes. Two loops, so that each is done for many bytes at once.
+#[inline(always)]
+fn write_part(bytes: &[u8], out: &mut [u8])
+    requires few { length bytes.now ≤ 64 }
+    requires room { length out.old ≡ 2 * length bytes.now }
+    ensures { out.new ≡ encode_lower bytes.now }
+{
+    let mut firsts = [0; CHUNK];
+    let mut seconds = [0; CHUNK];
+    let high = &mut firsts[..bytes.len()];
+    let low = &mut seconds[..bytes.len()];
+    split_digits(bytes, high, low);
+    join_digits(high, low, out);
+}
+
+/// Writes the digits of bytes: those that the crate `hex` writes. A digit is computed and not looked up, and parts have
+/// a fixed length, so that many are at once.
 pub(crate) fn write_digits(bytes: &[u8], out: &mut [u8])
     requires { length out.old ≡ 2 * length bytes.now }
     ensures { out.new ≡ encode_lower bytes.now }
 {
-    'bytes: for i in 0..bytes.len() {
-        let byte = bytes[i];
-        out[2 * i] = digit(byte >> 4);
-        out[2 * i + 1] = digit(byte & 0x0f);
+    let mut done = 0;
+    while bytes.len() - done >= CHUNK {
+        write_part(
+            &bytes[done..done + CHUNK],
+            &mut out[2 * done..2 * done + 2 * CHUNK],
+        );
+        done += CHUNK;
     }
+    write_part(&bytes[done..], &mut out[2 * done..]);
 }
 
 /// Adds bytes.

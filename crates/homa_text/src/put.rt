@@ -1,5 +1,5 @@
 // Lines that are written: the frequent ones at once, any other word by word through a buffer.
-ghost use Rattle.std.specs.Prelude.{◌≡◌, ◌≤◌, ◌+◌, ◌*◌, ◌++◌, ◌∷◌, [], true, length, map, OnOk, OnErr};
+ghost use Rattle.std.specs.Prelude.{◌≡◌, ◌≤◌, ◌<◌, ◌+◌, ◌*◌, ◌++◌, ◌∷◌, [], true, length, map, OnOk, OnErr};
 ghost use Rattle.std.specs.List.{flat_map};
 ghost use Rattle.hex.specs.Hex.{encode_lower};
 ghost use Rattle.homa_io.specs.Outside.{HasRisen, appended, TookFront};
@@ -13,7 +13,7 @@ ghost use Rattle.homa_text.specs.Written.{word_text, spaced_word};
 use crate::Word;
 use crate::adding::write_digits;
 use crate::entry_words::words_of_entry;
-use crate::quick::{Head, Piece, ShortLine, clock_line, deliver_line, grant_line, piece_line};
+use crate::quick::{Head, Piece, ShortLine, clock_line, deliver_line, grant_line, piece_line, piece_numbers};
 use crate::quick_calls::{
     bury_line, call_line, done_line, free_line, inject_line, junk_line, run_line,
 };
@@ -27,9 +27,11 @@ const TINY: usize = 256;
 
 const SMALL: usize = 1024;
 
-const SHORT: usize = 4096;
+// Room for the numbers of a piece.
+const NUMBERS: usize = 512;
 
-const ROOM: usize = 65536;
+// How many bytes are made to digits between two writes.
+const PART: usize = 1408;
 
 // The most bytes of a piece whose line is made at once.
 const MOST_PAYLOAD: usize = 1400;
@@ -83,13 +85,13 @@ fn append<K: Sink, const N: usize>(
     Ok(())
 }
 
-// Holds a few bytes in hex.
+// Holds a few bytes in hex, or writes them behind what was held.
 fn put_digits<K: Sink, const N: usize>(
     sink: &mut K,
     held: &mut Held<N>,
     bytes: &[u8],
 ) -> Result<(), WriteFailed>
-    requires { length bytes.now ≤ 256 }
+    requires { length bytes.now ≤ 1408 }
     ensures ok { OnOk result (IsPut (K.taken sink.old) (K.taken sink.new) held.new.items (held.old.items ++ encode_lower bytes.now)) }
     ensures err { OnErr result (TookFront (K.taken sink.old) (K.taken sink.new) (held.old.items ++ encode_lower bytes.now)) }
     ensures risen { OnErr result (HasRisen (K.faults sink.old) (K.faults sink.new)) }
@@ -97,10 +99,14 @@ fn put_digits<K: Sink, const N: usize>(
     ensures never_falls { K.faults sink.old ≤ K.faults sink.new }
     ensures same { K.is_same sink.old sink.new }
 {
-    let mut digits = [0; 512];
+    let mut digits = [0; 2 * PART];
     let out = &mut digits[..2 * bytes.len()];
     write_digits(bytes, out);
-    append(sink, held, out)
+    if bytes.len() < 64 {
+        return append(sink, held, out);
+    }
+    flush(sink, held)?;
+    write_all(sink, out)
 }
 
 // Holds bytes in hex, a few at a time.
@@ -118,7 +124,7 @@ fn put_hex<K: Sink, const N: usize>(
 {
     let mut done = 0;
     while done < bytes.len() {
-        let n = (bytes.len() - done).min(256);
+        let n = (bytes.len() - done).min(PART);
         put_digits(sink, held, &bytes[done..done + n])?;
         done += n;
     }
@@ -207,26 +213,8 @@ fn put_words<K: Sink, const N: usize>(
     write_all(sink, held.as_slice())
 }
 
-// At most how many bytes a word has with the space or the line feed behind it.
-fn most_bytes(word: Word<'_>) -> usize {
-    match word {
-        Word::Text(bytes) => bytes.len().saturating_add(1),
-        Word::Hex(bytes) => bytes.len().saturating_mul(2).saturating_add(2),
-        _ => 64,
-    }
-}
-
-// At most how many bytes the line of the words has.
-fn most_bytes_of(words: &[Word<'_>]) -> usize {
-    let mut most = 0_usize;
-    for word in words {
-        most = most.saturating_add(most_bytes(*word));
-    }
-    most
-}
-
-/// Writes words with one space between two, and a line feed. This is one `write`, unless the line is
-/// longer than 64 KiB or the sink takes only a part of it. After an error it took a front of the line.
+/// Writes words with one space between two, and a line feed. This is one `write`, unless a word of bytes in hex is
+/// longer than 128 digits, the words than 256 bytes, or the sink takes only a part. After an error it took a front of the line.
 pub fn put_line<K: Sink>(sink: &mut K, words: &[Word<'_>]) -> Result<(), WriteFailed>
     ensures ok { OnOk result (K.taken sink.new ≡ appended (K.taken sink.old) (line_of_words (map word_text words.now))) }
     ensures err { OnErr result (TookFront (K.taken sink.old) (K.taken sink.new) (line_of_words (map word_text words.now))) }
@@ -237,11 +225,7 @@ pub fn put_line<K: Sink>(sink: &mut K, words: &[Word<'_>]) -> Result<(), WriteFa
 {
     match words {
         [] => write_all(sink, b"\n"),
-        [first, others @ ..] => match most_bytes_of(words) {
-            0..=TINY => put_words(sink, &mut Held::<TINY>::new(), *first, others),
-            0..=SHORT => put_words(sink, &mut Held::<SHORT>::new(), *first, others),
-            _ => put_words(sink, &mut Held::<ROOM>::new(), *first, others),
-        },
+        [first, others @ ..] => put_words(sink, &mut Held::<TINY>::new(), *first, others),
     }
 }
 
@@ -278,16 +262,15 @@ fn put_grant<K: Sink>(
     write_all(sink, text.as_slice())
 }
 
-// Writes the line of a piece through room for so many bytes. A function has at most one room as a variable: that is filled
-// with zeros where the function begins, whether it is used or not.
-fn put_piece_in<K: Sink, const N: usize>(
+// Writes the line of a piece of few bytes. A function has at most one room as a variable: that is filled with zeros where
+// the function begins, whether it is used or not.
+fn put_short<K: Sink>(
     sink: &mut K,
     head: Head,
     piece: Piece,
     payload: &[u8],
 ) -> Result<(), WriteFailed>
-    requires room { 2 * length payload.now + 312 ≤ N }
-    requires small { N ≤ 4096 }
+    requires { length payload.now ≤ 350 }
     ensures ok { OnOk result (K.taken sink.new ≡ appended (K.taken sink.old) (line_text (piece_sent head piece payload.now))) }
     ensures err { OnErr result (TookFront (K.taken sink.old) (K.taken sink.new) (line_text (piece_sent head piece payload.now))) }
     ensures risen { OnErr result (HasRisen (K.faults sink.old) (K.faults sink.new)) }
@@ -295,8 +278,30 @@ fn put_piece_in<K: Sink, const N: usize>(
     ensures never_falls { K.faults sink.old ≤ K.faults sink.new }
     ensures same { K.is_same sink.old sink.new }
 {
-    let mut text = Held::<N>::new();
+    let mut text = FewLine::new();
     piece_line(&mut text, head, piece, payload);
+    write_all(sink, text.as_slice())
+}
+
+// Writes the line of any other piece: its numbers first, and its bytes without room for all of them.
+fn put_long<K: Sink>(
+    sink: &mut K,
+    head: Head,
+    piece: Piece,
+    payload: &[u8],
+) -> Result<(), WriteFailed>
+    requires { 0 < length payload.now }
+    ensures ok { OnOk result (K.taken sink.new ≡ appended (K.taken sink.old) (line_text (piece_sent head piece payload.now))) }
+    ensures err { OnErr result (TookFront (K.taken sink.old) (K.taken sink.new) (line_text (piece_sent head piece payload.now))) }
+    ensures risen { OnErr result (HasRisen (K.faults sink.old) (K.faults sink.new)) }
+    ensures quiet { OnOk result (K.faults sink.new ≡ K.faults sink.old) }
+    ensures never_falls { K.faults sink.old ≤ K.faults sink.new }
+    ensures same { K.is_same sink.old sink.new }
+{
+    let mut text = Held::<NUMBERS>::new();
+    piece_numbers(&mut text, head, piece);
+    put_hex(sink, &mut text, payload)?;
+    append(sink, &mut text, b"\n")?;
     write_all(sink, text.as_slice())
 }
 
@@ -316,9 +321,9 @@ fn put_piece<K: Sink>(
     ensures same { K.is_same sink.old sink.new }
 {
     if payload.len() <= FEW {
-        return put_piece_in::<K, SMALL>(sink, head, piece, payload);
+        return put_short(sink, head, piece, payload);
     }
-    put_piece_in::<K, SHORT>(sink, head, piece, payload)
+    put_long(sink, head, piece, payload)
 }
 
 // Writes the line of a call that starts.

@@ -1,5 +1,5 @@
 // Lines of the entries that a trace has most of, straight into one buffer.
-ghost use Rattle.std.specs.Prelude.{◌∷◌, decimal, ◌≡◌, ◌≤◌, ◌+◌, ◌*◌, ◌++◌, ◌<◌, ℕ, List, [], length};
+ghost use Rattle.std.specs.Prelude.{◌∷◌, codes, decimal, ◌≡◌, ◌≤◌, ◌+◌, ◌*◌, ◌++◌, ◌<◌, ℕ, List, [], length};
 ghost use Rattle.homa_plain.specs.declared.packet.Body.TheVariants as body;
 ghost use Rattle.homa_plain.specs.Text.{id_word, role_word, route_word, call_word, ack_word, hex_word, line_text};
 ghost use Rattle.homa_plain.specs.Entries.{PlainClock, PlainDeliver};
@@ -198,6 +198,16 @@ fn add_piece<const N: usize>(text: &mut ArrayVec<u8, N>, piece: Piece)
     add_numbers(text, piece);
     add_ack(text, piece.ack);
     add(text, b" ");
+}
+
+/// The numbers of a piece of a message, with a space behind them.
+pub(crate) fn piece_numbers<const N: usize>(text: &mut ArrayVec<u8, N>, head: Head, piece: Piece)
+    requires empty { text.old.items ≡ [] }
+    requires room { 311 ≤ N }
+    ensures { text.new.items ≡ head_text head (codes " DATA ") ++ piece_text piece }
+{
+    add_head(text, head, b" DATA ");
+    add_piece(text, piece);
 }
 
 /// A piece of a message.
