@@ -33,7 +33,8 @@ impl Room {
 
 /// A sink over another one. It hands the first 64 lines on as they come. What comes later it holds
 /// back, up to 65,536 bytes, until a line doesn't fit behind them or `flush` is called. It takes no
-/// memory. What is held when it is dropped is lost, so flush it on every way out.
+/// memory. What is held when it is dropped is lost: the last of the bytes that were written, 65,536 at
+/// most, and none of the first 64 lines. So flush it on every way out.
 #[derive(Drop)]
 pub struct HeldSink<K> {
     sink: K,
@@ -85,6 +86,9 @@ impl<K: Sink + Drop> HeldSink<K> {
         ensures none { OnOk result (held_bytes self.new ≡ []) }
         ensures space { OnOk result (space_left self.new ≡ 65536) }
         ensures direct { direct_lines self.new ≡ direct_lines self.old }
+
+        // So much is lost at most where the sink is dropped after an error.
+        ensures most { length (held_bytes self.new) ≤ 65536 }
 
         ensures grows { Grows (K.taken (sink_below self.old)) (K.taken (sink_below self.new)) }
         ensures risen { OnErr result
@@ -213,6 +217,9 @@ impl<K: Sink + Drop> Sink for HeldSink<K> {
             (direct_lines self.old ≡ 0 → space_left self.old < length bytes.now → length bytes.now ≤ 65536 →
             (K.taken (sink_below self.new) ≡ appended (K.taken (sink_below self.old)) (held_bytes self.old))
             × (held_bytes self.new ≡ bytes.now)) }
+
+        // So much is lost at most where the sink is dropped and not flushed.
+        ensures most { length (held_bytes self.new) ≤ 65536 }
     {
         if self.direct > 0 || bytes.len() > ROOM {
             self.flush()?;
