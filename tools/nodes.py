@@ -30,13 +30,13 @@ def free_ports(count):
             it.close()
 
 
-def script_of(ports, calls=(), here=None, end=20, turns=100000, inc=1, **settings):
-    """A node script: a host at each port, those of `here` (all, where it isn't said) local; `calls` are lines behind `go`."""
+def script_of(ports, lines=(), here=None, end=20, turns=1000000, inc=1, **settings):
+    """A node script: a host at each port, those of `here` (all, where it isn't said) local, and these lines behind `go`."""
     settings = {"hosts": len(ports), **settings}
-    lines = [f"{name} {value}" for name, value in settings.items()]
+    head = [f"{name} {value}" for name, value in settings.items()]
     for host, port in enumerate(ports):
-        lines.append(f"local {host} {inc} {port}" if here is None or host in here else f"remote {host} {port}")
-    return "\n".join([*lines, f"end {end}", f"turns {turns}", "go", *calls]) + "\n"
+        head.append(f"local {host} {inc} {port}" if here is None or host in here else f"remote {host} {port}")
+    return "\n".join([*head, f"end {end}", f"turns {turns}", "go", *lines]) + "\n"
 
 
 def is_bound(port):
