@@ -131,6 +131,15 @@ def nodes(each, count=count, notes=True, mute=False, to="/dev/null", tool=()):
                 told.append([struct.unpack("qii", part) for part in iter(lambda: it.read(16), b"")])
     return spent, told
 
+def again(*words, **how):
+    """The same, up to five times: where the machine stands still for a while, too many calls are live, and the next is refused."""
+    for left in (4, 3, 2, 1, 0):
+        try:
+            return nodes(*words, **how)
+        except AssertionError:
+            if not left:
+                raise
+
 def firsts(notes, what):
     found = {}
     for at, kind, call in notes:
@@ -158,7 +167,7 @@ def echo(each, pause, count=count):
 with open("/proc/cpuinfo") as it:
     print(next(line.split(": ")[1].strip() for line in it if line.startswith("model name")) + f", {os.cpu_count()} processors, Linux {os.uname().release}, load {os.getloadavg()[0]:.1f}")
 print(f"One call at a time, {count} of {SIZE} bytes, one each 10 ms:")
-_, (client, server) = nodes(1)
+_, (client, server) = again(1)
 out, came, back, done = firsts(client, 0), firsts(server, 2), firsts(client, 3), firsts(client, 5)
 answered, begun = firsts(server, 1), firsts(client, 4)
 whole = [k for k in done if k in out and k in came and k in answered and k in back]
@@ -174,14 +183,14 @@ print(f"  ratio {node / bare:.2f}; {len(whole)} of {count} calls")
 print(f"Calls that begin together, {count} of them:")
 for each in (10, 50, 100, 200, 400):
     try:
-        (first, second), (client, server) = nodes(each)
+        (first, second), (client, server) = again(each)
     except AssertionError as why:
         print(f"  {each} a tick: {why}")
         continue
     done, out = firsts(client, 5), firsts(client, 0)
-    again = [sum(it[1] == what for it in told) - count for what, told in ((0, client), (1, server))]
+    twice = [sum(it[1] == what for it in told) - count for what, told in ((0, client), (1, server))]
     speed, slowest = len(done) / (max(done.values()) - min(out.values())) * 1e9, max(done[k] - out[k] for k in done) / 1e6
-    print(f"  {each} a tick: {len(done)} done, {speed:.0f} calls a second, slowest {slowest:.1f} ms; sent again: {again[0]} requests, {again[1]} responses")
+    print(f"  {each} a tick: {len(done)} done, {speed:.0f} calls a second, slowest {slowest:.1f} ms; sent again: {twice[0]} requests, {twice[1]} responses")
 many = 200 * count // 10
 times, _ = echo(20, 0, many)
 print(f"  a bare echo, 20 under way: {many / times[-1] * 1e9:.0f} a second")
@@ -190,7 +199,7 @@ many = 20 * count
 print(f"Processor time of {many} calls, 40 a tick:")
 figures = {}
 for name, how in (("lines to /dev/null", {}), ("lines to files", {"to": folder + "/{}.out"}), ("no line written", {"notes": True, "mute": True})):
-    best = min((nodes(40, many, **{"notes": False, **how})[0] for _ in range(3)), key=sum)
+    best = min((again(40, many, **{"notes": False, **how})[0] for _ in range(3)), key=sum)
     figures[name] = sum(best)
     print(f"  {name}: client {best[0] / many * 1e6:.1f} us a call, server {best[1] / many * 1e6:.1f} us")
 before = os.times()
@@ -200,7 +209,7 @@ bare = (after.children_user + after.children_system - before.children_user - bef
 print(f"  a bare echo: {bare * 1e6:.1f} us, both sides; ratio {figures['lines to /dev/null'] / many / bare:.1f}")
 
 print(f"System calls of {count} calls, 50 a tick:")
-nodes(50, notes=False, tool=("strace", "-f", "-c", "-U", "calls,time,name", "-o", folder + "/{}.calls"))
+again(50, notes=False, tool=("strace", "-f", "-c", "-U", "calls,time,name", "-o", folder + "/{}.calls"))
 for host, name in ((0, "client"), (1, "server")):
     with open(f"{folder}/{host}.calls") as it:
         rows = [line.split() for line in it if re.match(r"\s*\d+\s+[\d.]+\s+\w+", line)]
