@@ -119,7 +119,8 @@ def many_hosts(faults, chosen):
 
 
 def stopped_nodes(faults, chosen):
-    """SIGSTOP for 100 ms and SIGCONT, five times: the clock jumps, and the run goes on. SIGTERM, a closed pipe, a full disk, a folder."""
+    """SIGSTOP for 100 ms and SIGCONT, five times: the clock jumps, and the run goes on. SIGTERM, input that is late or cut, and
+    output or input that can't be had."""
     script = script_of(free_ports(2), calls_at(0, 1, 50), end=120)
     live = Live(script)
     for _ in range(5):
@@ -136,18 +137,35 @@ def stopped_nodes(faults, chosen):
     status = live.end()
     verdict = subprocess.run([PROGRAM, "check"], input=live.told, capture_output=True).stdout
     yield status == -signal.SIGTERM and live.told.endswith(b"\n") and verdict.startswith(b"yes "), f"SIGTERM: status {status}, {verdict.decode().strip()}"
-    it = subprocess.Popen([PROGRAM, "node"], stdin=subprocess.PIPE, stdout=subprocess.PIPE)
-    it.stdout.close()
-    it.stdin.write(script.encode())
+    yield late_input(), "a script whose second call comes late"
+    got = subprocess.run([PROGRAM, "node"], input=script.rstrip().rpartition(" ")[0].encode(), capture_output=True)
+    yield got.returncode == 2 and got.stdout.endswith(b"\nrefused 56 Missing\n"), f"a script that is cut in its last line: status {got.returncode}"
+    for word in chosen.words:
+        it = subprocess.Popen([PROGRAM, word], stdin=subprocess.PIPE, stdout=subprocess.PIPE)
+        it.stdout.close()
+        it.stdin.write(script.encode())
+        it.stdin.close()
+        yield it.wait() == 4, f"{word} to a closed pipe: status {it.returncode}"
+        with open("/dev/full", "wb") as full:
+            got = subprocess.run([PROGRAM, word], input=script.encode(), stdout=full)
+        yield got.returncode == 4, f"{word} to a full disk: status {got.returncode}"
+        folder = os.open("/", os.O_RDONLY)
+        got = subprocess.run([PROGRAM, word], stdin=folder, capture_output=True)
+        os.close(folder)
+        yield (got.returncode, got.stdout) == (3, b""), f"{word} with a folder as input: status {got.returncode}"
+
+
+def late_input():
+    """A node waits for its next line, and goes on when that comes: the clock has jumped, and both calls are done."""
+    first, second = script_of(free_ports(2), ["at 0 call 0 1 0 6869", "at 1 call 0 1 0 6a6b"], end=80).rsplit("at ", 1)
+    it = subprocess.Popen([PROGRAM, "node"], stdin=subprocess.PIPE, stdout=subprocess.PIPE, text=True)
+    it.stdin.write(first)
+    it.stdin.flush()
+    time.sleep(0.5)
+    it.stdin.write(f"at {second}")
     it.stdin.close()
-    yield it.wait() == 4, f"a closed pipe: status {it.returncode}"
-    with open("/dev/full", "wb") as full:
-        got = subprocess.run([PROGRAM, "node"], input=script.encode(), stdout=full)
-    yield got.returncode == 4, f"a full disk: status {got.returncode}"
-    folder = os.open("/", os.O_RDONLY)
-    got = subprocess.run([PROGRAM, "node"], stdin=folder, capture_output=True)
-    os.close(folder)
-    yield (got.returncode, got.stdout) == (3, b""), f"a folder as input: status {got.returncode}"
+    lines = it.stdout.read().splitlines()
+    return it.wait() == 0 and "done 0.1.0 6869" in lines and "done 0.1.1 6a6b" in lines
 
 
 class Flood(threading.Thread):
