@@ -198,8 +198,8 @@ print(f"  a bare echo, 20 under way: {many / times[-1] * 1e9:.0f} a second")
 many = 20 * count
 print(f"Processor time of {many} calls, 40 a tick:")
 figures = {}
-for name, how in (("lines to /dev/null", {}), ("lines to files", {"to": folder + "/{}.out"}), ("no line written", {"notes": True, "mute": True})):
-    best = min((again(40, many, **{"notes": False, **how})[0] for _ in range(3)), key=sum)
+for name, how in (("lines to /dev/null", {"notes": False}), ("the same, with notes", {}), ("lines to files, with notes", {"to": folder + "/{}.out"}), ("no line written, with notes", {"mute": True})):
+    best = min((again(40, many, **how)[0] for _ in range(3)), key=sum)
     figures[name] = sum(best)
     print(f"  {name}: client {best[0] / many * 1e6:.1f} us a call, server {best[1] / many * 1e6:.1f} us")
 before = os.times()
