@@ -13,8 +13,10 @@ LIBRARY = r"""
 #include <arpa/inet.h>
 #include <dlfcn.h>
 #include <errno.h>
+#include <stdarg.h>
 #include <stdio.h>
 #include <stdlib.h>
+#include <sys/ioctl.h>
 #include <sys/socket.h>
 #include <sys/types.h>
 #include <time.h>
@@ -54,6 +56,15 @@ ssize_t write(int fd, const void *from, size_t n) {
 int socket(int domain, int type, int protocol) { REAL(socket); NET return real(domain, type, protocol); }
 int bind(int fd, const struct sockaddr *at, socklen_t size) { REAL(bind); NET return real(fd, at, size); }
 int setsockopt(int fd, int level, int name, const void *value, socklen_t size) { REAL(setsockopt); NET return real(fd, level, name, value, size); }
+int ioctl(int fd, unsigned long request, ...) {
+    va_list more;
+    va_start(more, request);
+    void *what = va_arg(more, void *);
+    va_end(more);
+    REAL(ioctl);
+    if (request == FIONBIO) NET
+    return real(fd, request, what);
+}
 /* with STEP a receive doesn't wait, and from its third reading on the clock goes on by so many microseconds each time: the first is
    the node's start, and the second its first loop turn, which has tick 0 */
 ssize_t recvfrom(int fd, void *to, size_t n, int flags, struct sockaddr *from, socklen_t *size) {

@@ -201,6 +201,37 @@ class Flood(threading.Thread):
         unknown.close()
 
 
+def trickle(port, to, a_second, is_over):
+    """Sends a byte to a port so often, from a port (0: any), until it is over."""
+    with socket.socket(socket.AF_INET, socket.SOCK_DGRAM) as it:
+        it.bind((LOOPBACK, port))
+        begun, sent = time.monotonic(), 0
+        while not is_over.is_set():
+            it.sendto(b"x", (LOOPBACK, to))
+            sent += 1
+            is_over.wait(max(0.0, begun + sent / a_second - time.monotonic()))
+
+
+def trickles(faults, chosen):
+    """Datagrams that come one by one, 400 a second of a socket that no script names and 20 of a host elsewhere: loop turns stay short."""
+    for known, unknown in ((250, 0), (0, 250), (20, 400)):
+        ports, is_over = free_ports(3), threading.Event()
+        live = Live(script_of(ports, calls_at(0, 1, 60, every=10), here=[0, 1], end=700, resend=50, life=1000))
+        until(lambda: is_bound(ports[1]))
+        senders = [threading.Thread(target=trickle, args=(port, ports[0], often, is_over)) for port, often in ((ports[2], known), (0, unknown)) if often]
+        for it in senders:
+            it.start()
+        status = live.end()
+        is_over.set()
+        for it in senders:
+            it.join()
+        lines = live.lines()
+        clock = [int(line.split()[1]) for line in lines if line.startswith("clock ")]
+        longest, took = max(b - a for a, b in zip(clock, clock[1:])), waits(lines)
+        what = f"{known} a second of a host elsewhere, {unknown} of a stranger: status {status}, {echoed(lines, 0, 60)} of 60 calls done, a loop turn of {longest} ticks"
+        yield status == 0 and echoed(lines, 0, 60) == 60 and longest <= 50, what, f"{what}, calls took at most {took[-1] if took else '-'}"
+
+
 def waits(lines):
     """Of the calls that are done how many ticks each took."""
     tick, begun, took = 0, {}, []
@@ -216,8 +247,8 @@ def waits(lines):
 
 
 def foreign_datagrams(faults, chosen):
-    """A live node under foreign datagrams: each call runs once and is done with its own bytes, within its client's patience, and from
-    the run's half on in the same memory (what it has is first written when it is used)."""
+    """A live node under foreign datagrams: each call runs once and is done with its own bytes, within its client's patience, and no
+    memory is asked for behind the run's first quarter (what was asked for at the opening is first written when it is used)."""
     settings = {"resend": 50, "life": 1000}
     seconds = min(60.0, max(4.0, chosen.minutes * 6))
     for a_second in (0, 200, 1000, 5000):
@@ -230,7 +261,7 @@ def foreign_datagrams(faults, chosen):
         while live.process.poll() is None:
             time.sleep(0.2)
             try:
-                sizes.append(memory(live.process))
+                sizes.append((memory(live.process, "VmData"), memory(live.process)))
             except (FileNotFoundError, StopIteration, ProcessLookupError):
                 break
         status = live.end()
@@ -244,9 +275,9 @@ def foreign_datagrams(faults, chosen):
         junk = sum(line.startswith("junk ") for line in lines)
         came = sum(line.split(" ")[2] == "2" for line in lines if line.startswith("recv "))
         figure = (f"{flood.sent} foreign datagrams, {came} of a host elsewhere came, {junk} junk; calls took {took[len(took) // 2]} ticks, at most {took[-1]}; "
-                  f"{sizes[len(sizes) // 2]} KB at half, {sizes[-2]} at the end") if took and len(sizes) > 8 else "nothing was done"
+                  f"{sizes[len(sizes) // 4][1]} KB resident at a quarter, {sizes[-2][1]} at the end") if took and len(sizes) > 8 else "nothing was done"
         for _ in range(count - right):
             yield False, what, figure
         yield status == 0, what, figure
         yield bool(took) and took[-1] <= 300, f"{a_second} a second: a call took {took[-1] if took else 'no'} ticks, which is beyond a client's patience"
-        yield len(sizes) > 8 and sizes[-2] <= sizes[len(sizes) // 2] + 256, f"{a_second} a second: memory went from {sizes[len(sizes) // 2]} to {sizes[-2]} KB"
+        yield len(sizes) > 8 and sizes[-2][0] == sizes[len(sizes) // 4][0], f"{a_second} a second: memory went from {sizes[len(sizes) // 4]} to {sizes[-2]} KB"

@@ -55,10 +55,10 @@ def until(is_so, seconds=10, step=0.002):
     return True
 
 
-def memory(process):
-    """The memory of a running process in kilobytes, as the system counts what is resident."""
+def memory(process, kind="VmRSS"):
+    """The memory of a running process in kilobytes: what is resident, or `VmData`, what it has asked for, used or not."""
     with open(f"/proc/{process.pid}/status") as it:
-        return int(next(line for line in it if line.startswith("VmRSS")).split()[1])
+        return int(next(line for line in it if line.startswith(f"{kind}:")).split()[1])
 
 
 class Flow:
