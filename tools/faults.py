@@ -1,4 +1,5 @@
-"""Runs of the built program with faults put between it and the system: memory refused, reads and writes that fail or are short."""
+"""Runs of the built program with faults put between it and the system: memory refused, reads, writes and calls of the net that fail
+or are short, datagrams that are lost, and a clock that goes on by steps, so that a node's run is the same each time."""
 import os
 import subprocess
 import tempfile
@@ -9,14 +10,18 @@ PROGRAM = os.environ.get("HOMA", os.path.join(TOP, "crates", "homa", "out", "hom
 # A library that stands before the C library. It counts allocations, reads and writes, and lets the one of a given number fail.
 LIBRARY = r"""
 #define _GNU_SOURCE
+#include <arpa/inet.h>
 #include <dlfcn.h>
 #include <errno.h>
+#include <stdarg.h>
 #include <stdio.h>
 #include <stdlib.h>
+#include <sys/ioctl.h>
 #include <sys/socket.h>
 #include <sys/types.h>
+#include <time.h>
 #include <unistd.h>
-static unsigned long allocations, reads, writes, sends;
+static unsigned long allocations, reads, writes, nets, sends, readings;
 static int looking_up;
 static unsigned long number(const char *name) { const char *it = getenv(name); return it ? strtoul(it, 0, 10) : 0; }
 static int fails(unsigned long *count, const char *name) {
@@ -24,7 +29,7 @@ static int fails(unsigned long *count, const char *name) {
     return ++*count == at;
 }
 __attribute__((destructor)) static void tell(void) {
-    if (getenv("TELL")) dprintf(2, "calls %lu %lu %lu %lu\n", allocations, reads, writes, sends);
+    if (getenv("TELL")) dprintf(2, "calls %lu %lu %lu %lu\n", allocations, reads, writes, nets);
 }
 #define REAL(name) static typeof(name) *real; if (!real) { looking_up = 1; real = (typeof(name) *) dlsym(RTLD_NEXT, #name); looking_up = 0; }
 #define REFUSE(answer) if (fails(&allocations, "REFUSE")) { errno = ENOMEM; return answer; }
@@ -47,19 +52,53 @@ ssize_t write(int fd, const void *from, size_t n) {
     if (fails(&writes, "FAIL_WRITE")) { errno = EIO; return -1; }
     return real(fd, from, shorter(n));
 }
-/* each datagram that LOG names a file for is written down; of each LOSE the last one is taken and not sent */
+#define NET if (fails(&nets, "FAIL_NET")) { errno = EIO; return -1; }
+int socket(int domain, int type, int protocol) { REAL(socket); NET return real(domain, type, protocol); }
+int bind(int fd, const struct sockaddr *at, socklen_t size) { REAL(bind); NET return real(fd, at, size); }
+int setsockopt(int fd, int level, int name, const void *value, socklen_t size) { REAL(setsockopt); NET return real(fd, level, name, value, size); }
+int ioctl(int fd, unsigned long request, ...) {
+    va_list more;
+    va_start(more, request);
+    void *what = va_arg(more, void *);
+    va_end(more);
+    REAL(ioctl);
+    if (request == FIONBIO) NET
+    return real(fd, request, what);
+}
+/* with STEP a receive doesn't wait, and from its third reading on the clock goes on by so many microseconds each time: the first is
+   the node's start, and the second its first loop turn, which has tick 0 */
+ssize_t recvfrom(int fd, void *to, size_t n, int flags, struct sockaddr *from, socklen_t *size) {
+    REAL(recvfrom);
+    NET
+    return real(fd, to, n, number("STEP") ? flags | MSG_DONTWAIT : flags, from, size);
+}
+int clock_gettime(clockid_t id, struct timespec *to) {
+    REAL(clock_gettime);
+    unsigned long step = number("STEP"), passed = readings < 2 ? 0 : step * (readings - 1);
+    if (!step) return real(id, to);
+    readings++;
+    to->tv_sec = 1000 + passed / 1000000;
+    to->tv_nsec = passed % 1000000 * 1000;
+    return 0;
+}
+static int port(const struct sockaddr *at) { return ntohs(((const struct sockaddr_in *) at)->sin_port); }
+/* each datagram is written down to the file that LOG names, with both ports; of each LOSE the last one is taken and not sent */
 ssize_t sendto(int fd, const void *from, size_t n, int flags, const struct sockaddr *to, socklen_t size) {
     REAL(sendto);
     static FILE *log;
     unsigned long lose = number("LOSE");
+    NET
     sends++;
     if (getenv("LOG")) {
+        struct sockaddr_in own;
+        socklen_t room = sizeof own;
+        getsockname(fd, (struct sockaddr *) &own, &room);
         if (!log) log = fopen(getenv("LOG"), "w");
+        fprintf(log, "%d %d ", port((struct sockaddr *) &own), port(to));
         for (size_t i = 0; i < n; i++) fprintf(log, "%02x", ((const unsigned char *) from)[i]);
         fputc('\n', log);
         fflush(log);
     }
-    if (number("FAIL_SEND") == sends) { errno = EIO; return -1; }
     if (lose && sends % lose == 0) return n;
     return real(fd, from, n, flags, to, size);
 }
@@ -76,13 +115,17 @@ class Faults:
             it.write(LIBRARY)
         subprocess.run(["cc", "-O1", "-shared", "-fPIC", source, "-o", self.library, "-ldl"], check=True)
 
+    def environment(self, **faults):
+        """The surroundings of a run with these faults; each name is that of one in the library: REFUSE, FAIL_READ, FAIL_WRITE, FAIL_NET
+        (the number of the call that fails), SHORT, LOSE, LOG, STEP."""
+        return {**os.environ, "LD_PRELOAD": self.library, **{name: str(value) for name, value in faults.items()}}
+
     def run(self, words, given=b"", program=PROGRAM, **faults):
-        """The run of the program with these words and this input; REFUSE, FAIL_READ, FAIL_WRITE, SHORT, LOSE and LOG are its faults."""
-        env = {**os.environ, "LD_PRELOAD": self.library, **{name: str(value) for name, value in faults.items()}}
-        return subprocess.run([program, *words], input=given, capture_output=True, env=env)
+        """The run of the program with these words and this input, and these faults."""
+        return subprocess.run([program, *words], input=given, capture_output=True, env=self.environment(**faults))
 
     def count(self, words, given=b"", **faults):
-        """How many allocations, reads and writes the whole run makes, and the run."""
+        """How many allocations, reads, writes and calls of the net the whole run makes, and the run."""
         whole = self.run(words, given, TELL="1", **faults)
         told = whole.stderr.rsplit(b"calls ", 1)[-1].split()
-        return [int(it) for it in told[:3]], whole
+        return [int(it) for it in told[:4]], whole

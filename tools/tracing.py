@@ -16,6 +16,8 @@ RANGES = dict(
 )
 # How many bytes each kind of packet has beside its header of 16 (an ACK: one, and eight for each call behind the first).
 BODIES = {"DATA": 20, "GRANT": 5, "RESEND": 9, "BUSY": 0, "CUTOFFS": 34, "UNKNOWN": 1, "NEED_ACK": 0}
+# The kinds in the order of their numbers on the wire, from 1.
+KINDS = ("DATA", "GRANT", "RESEND", "BUSY", "CUTOFFS", "UNKNOWN", "NEED_ACK", "ACK")
 
 
 class NoTrace(Exception):
@@ -52,6 +54,25 @@ class Sent:
         """How many bytes its datagram has."""
         more = 8 if wire == 2 else 0
         return 16 + more + BODIES.get(self.kind, 1 + 8 * (len(self.words) - 7)) + self.size
+
+    def fields(self):
+        """What stands in its datagram between the header and the payload: pairs of a number and its width in bytes."""
+        rest = self.words[7:]
+        if self.kind == "DATA":
+            ack = (0, 0) if rest[5] == "-" else tuple(int(it) for it in rest[5].split("."))
+            return [*zip((int(it) for it in rest[1:5]), (4, 4, 2, 1)), (rest[5] != "-", 1), *((it, 4) for it in ack)]
+        if self.kind == "ACK":
+            return [(1 + len(rest), 1), *((int(it), 4) for word in rest for it in word.split("."))]
+        widths = {"GRANT": (4, 1), "RESEND": (4, 4, 1), "CUTOFFS": (2, *(4,) * 8), "UNKNOWN": (1,)}
+        return list(zip((int(it) for it in rest), widths.get(self.kind, ())))
+
+    def datagram(self, wire=1, clock=0):
+        """Its bytes; with version 2 its sender's clock at the sending is to be said."""
+        _, inc, sequence = (int(it) for it in self.id.split("."))
+        head = [(wire, 1), (KINDS.index(self.kind) + 1, 1), (self.role == "s", 1), (self.level, 1), (int(self.inc), 4), (inc, 4), (sequence, 4)]
+        numbers = head + ([(clock, 8)] if wire == 2 else []) + self.fields()
+        payload = bytes.fromhex(self.words[13]) if self.kind == "DATA" else b""
+        return b"".join(int(it).to_bytes(width, "big") for it, width in numbers) + payload
 
     def message(self):
         """The message of which a DATA packet is a piece; of a response, that of this life of its server."""

@@ -1,0 +1,283 @@
+"""Rows of tools/hostile for `homa node` and `homa record`, over sockets of this machine."""
+import os
+import random
+import signal
+import socket
+import subprocess
+import threading
+import time
+
+from nodes import LOOPBACK, PROGRAM, Flow, answers, free_ports, is_bound, memory, script_of, until
+
+# With these the run of a script is the same each time: the clock goes on by a tick each loop turn, and no receive waits.
+STEPS = {"STEP": 10000}
+
+
+def smallest():
+    """The smallest run of a node: a call between two of its hosts."""
+    return script_of(free_ports(2), ["at 0 call 0 1 0 6869"], end=12).encode()
+
+
+def calls_at(host, server, count, every=1, start=10, size=100):
+    """So many calls from a host, each with a request of its own."""
+    return [f"at {start + k * every} call {host} {server} 0 {request_of(k, size)}" for k in range(count)]
+
+
+def request_of(k, size):
+    return (k.to_bytes(4, "big") * (size // 4 + 1))[:size].hex()
+
+
+class Live:
+    """A process of `homa node` that runs, with what it prints."""
+
+    def __init__(self, script, **how):
+        self.process = subprocess.Popen([PROGRAM, "node"], stdin=subprocess.PIPE, stdout=subprocess.PIPE, **how)
+        self.told = b""
+        self.reader = threading.Thread(target=self.read)
+        self.reader.start()
+        self.process.stdin.write(script.encode())
+        self.process.stdin.close()
+
+    def read(self):
+        while part := os.read(self.process.stdout.fileno(), 1 << 20):
+            self.told += part
+
+    def end(self):
+        self.reader.join()
+        return self.process.wait()
+
+    def lines(self):
+        return self.told.decode().splitlines()
+
+
+def echoed(lines, client, count):
+    """How many calls of a host ran once and are done with their own bytes."""
+    calls, done = answers(lines)
+    own = [id for id in calls if id.startswith(f"{client}.")]
+    runs = [line.split(" ")[2] for line in lines if line.startswith("run ")]
+    return sum(done.get(id) == calls[id][2] and runs.count(id) == 1 for id in own) if len(own) == count else 0
+
+
+# ---- rows: each yields whether it held, what was tried, and some of them a figure
+
+
+def failing_nets(faults, chosen):
+    """Each call of the net fails in turn: status 6, and a front of the whole run; one beyond the last isn't met."""
+    for word in chosen.words:
+        given = smallest()
+        (*_, nets), whole = faults.count([word], given, **STEPS)
+        for k in range(1, nets + 1):
+            got = faults.run([word], given, FAIL_NET=k, **STEPS)
+            yield got.returncode == 6 and whole.stdout.startswith(got.stdout), f"{word} FAIL_NET {k}: status {got.returncode}"
+        got = faults.run([word], given, FAIL_NET=nets + 1, **STEPS)
+        yield nets > 0 and (got.returncode, got.stdout) == (0, whole.stdout), f"{word} FAIL_NET {nets + 1}, which isn't met"
+
+
+def taken_ports(faults, chosen):
+    """A port that another socket has, and one that an ordinary user may not have: status 6, and nothing printed."""
+    for word in chosen.words:
+        with socket.socket(socket.AF_INET, socket.SOCK_DGRAM) as taken:
+            taken.bind((LOOPBACK, 0))
+            (free,) = free_ports(1)
+            got = subprocess.run([PROGRAM, word], input=script_of([free, taken.getsockname()[1]]).encode(), capture_output=True)
+        yield (got.returncode, got.stdout) == (6, b""), f"{word} at a port in use: status {got.returncode}"
+        how = {"user": 65534, "group": 65534, "extra_groups": []} if os.getuid() == 0 else {}
+        got = subprocess.run([PROGRAM, word], input=script_of([free, 1023]).encode(), capture_output=True, **how)
+        yield (got.returncode, got.stdout) == (6, b""), f"{word} at port 1023 as an ordinary user: status {got.returncode}"
+
+
+def long_datagrams(faults, chosen):
+    """Datagrams of 1,501 and of 65,507 bytes from a host elsewhere come as their first 1,500 bytes and are junk."""
+    ports = free_ports(3)
+    with socket.socket(socket.AF_INET, socket.SOCK_DGRAM) as other:
+        other.bind((LOOPBACK, ports[2]))
+        live = Live(script_of(ports, calls_at(0, 1, 20), here=[0, 1], end=100))
+        until(lambda: is_bound(ports[0]))
+        for size in (1500, 1501, 65507):
+            other.sendto(bytes(k % 251 for k in range(size)), (LOOPBACK, ports[0]))
+        status = live.end()
+    lines = live.lines()
+    came = [k for k, line in enumerate(lines) if line.startswith("recv 0 2 ")]
+    first = bytes(k % 251 for k in range(1500)).hex()
+    yield len(came) == 3 and all(lines[k] == f"recv 0 2 {first}" and lines[k + 1] == "junk 0" for k in came), f"{len(came)} of 3 long datagrams came"
+    yield status == 0 and echoed(lines, 0, 20) == 20, f"calls beside long datagrams: status {status}, {echoed(lines, 0, 20)} of 20 done"
+
+
+def many_hosts(faults, chosen):
+    """32 local hosts, with settings for the length of their loop turn: no datagram comes later than `life`."""
+    for settings in ({"resend": 200, "life": 5000}, {"resend": 200, "life": 5000, "wire": 2}):
+        live = Live(script_of(free_ports(32), [f"at {k} call {k % 32} {(k + 7) % 32} 2 *{1 + 50 * k}" for k in range(64)], end=300, **settings))
+        status, lines = live.end(), live.lines()
+        flow = Flow(lines, settings.get("wire", 1))
+        calls, done = answers(lines)
+        right = sum(bytes.fromhex(calls[id][2])[::-1].hex() == done[id] for id in done)
+        yield status == 0 and lines[-1].startswith("ok ") and right == 64, f"32 hosts: status {status}, {right} of 64 calls done"
+        oldest, turns = max((5001 if it is None else it for it in flow.ages), default=5001), int(lines[-1].split()[1])
+        yield oldest <= 5000, f"32 hosts: a datagram that came {oldest} ticks after it was sent", f"{300 / turns:.0f} ticks a loop turn, oldest datagram {oldest}"
+        verdict = subprocess.run([PROGRAM, "check"], input=live.told, capture_output=True).stdout
+        yield verdict == b"yes %d\n" % len(lines), f"32 hosts: {verdict.decode().strip()}"
+
+
+def stopped_nodes(faults, chosen):
+    """SIGSTOP for 100 ms and SIGCONT, five times: the clock jumps, and the run goes on. SIGTERM, input that is late or cut, and
+    output or input that can't be had."""
+    script = script_of(free_ports(2), calls_at(0, 1, 50), end=120)
+    live = Live(script)
+    for _ in range(5):
+        time.sleep(0.1)
+        live.process.send_signal(signal.SIGSTOP)
+        time.sleep(0.1)
+        live.process.send_signal(signal.SIGCONT)
+    status = live.end()
+    verdict = subprocess.run([PROGRAM, "check"], input=live.told, capture_output=True).stdout
+    yield status == 0 and echoed(live.lines(), 0, 50) == 50 and verdict.startswith(b"yes "), f"stopped and continued: status {status}, {verdict.decode().strip()}"
+    live = Live(script)
+    time.sleep(0.3)
+    live.process.send_signal(signal.SIGTERM)
+    status = live.end()
+    verdict = subprocess.run([PROGRAM, "check"], input=live.told, capture_output=True).stdout
+    yield status == -signal.SIGTERM and live.told.endswith(b"\n") and verdict.startswith(b"yes "), f"SIGTERM: status {status}, {verdict.decode().strip()}"
+    yield late_input(), "a script whose second call comes late"
+    got = subprocess.run([PROGRAM, "node"], input=script.rstrip().rpartition(" ")[0].encode(), capture_output=True)
+    yield got.returncode == 2 and got.stdout.endswith(b"\nrefused 56 Missing\n"), f"a script that is cut in its last line: status {got.returncode}"
+    for word in chosen.words:
+        it = subprocess.Popen([PROGRAM, word], stdin=subprocess.PIPE, stdout=subprocess.PIPE)
+        it.stdout.close()
+        it.stdin.write(script.encode())
+        it.stdin.close()
+        yield it.wait() == 4, f"{word} to a closed pipe: status {it.returncode}"
+        with open("/dev/full", "wb") as full:
+            got = subprocess.run([PROGRAM, word], input=script.encode(), stdout=full)
+        yield got.returncode == 4, f"{word} to a full disk: status {got.returncode}"
+        folder = os.open("/", os.O_RDONLY)
+        got = subprocess.run([PROGRAM, word], stdin=folder, capture_output=True)
+        os.close(folder)
+        yield (got.returncode, got.stdout) == (3, b""), f"{word} with a folder as input: status {got.returncode}"
+
+
+def late_input():
+    """A node waits for its next line, and goes on when that comes: the clock has jumped, and both calls are done."""
+    first, second = script_of(free_ports(2), ["at 0 call 0 1 0 6869", "at 1 call 0 1 0 6a6b"], end=80).rsplit("at ", 1)
+    it = subprocess.Popen([PROGRAM, "node"], stdin=subprocess.PIPE, stdout=subprocess.PIPE, text=True)
+    it.stdin.write(first)
+    it.stdin.flush()
+    time.sleep(0.5)
+    it.stdin.write(f"at {second}")
+    it.stdin.close()
+    lines = it.stdout.read().splitlines()
+    return it.wait() == 0 and "done 0.1.0 6869" in lines and "done 0.1.1 6a6b" in lines
+
+
+class Flood(threading.Thread):
+    """Sends datagrams to the local hosts of a node, from a host elsewhere and from a socket that no script names."""
+
+    def __init__(self, ports, draw, a_second, changed):
+        super().__init__()
+        self.ports, self.draw, self.a_second, self.changed, self.sent, self.is_over = ports, draw, a_second, changed, 0, False
+
+    def datagram(self):
+        """Random bytes, a changed packet, or one that speaks of a call under way."""
+        how = self.draw.random()
+        if how < 0.3:
+            return self.draw.randbytes(self.draw.randrange(1501))
+        data = self.changed(self.draw)
+        if how > 0.6 and len(data) >= 16:
+            data = data[:12] + self.draw.randrange(1000).to_bytes(4, "big") + data[16:]
+        return data
+
+    def run(self):
+        elsewhere, unknown = (socket.socket(socket.AF_INET, socket.SOCK_DGRAM) for _ in range(2))
+        elsewhere.bind((LOOPBACK, self.ports[2]))
+        unknown.bind((LOOPBACK, 0))
+        ready = [self.datagram() for _ in range(2000)]
+        begun = time.monotonic()
+        while not self.is_over:
+            due = int((time.monotonic() - begun) * self.a_second)
+            while self.sent < due and not self.is_over:
+                self.draw.choice((elsewhere, unknown)).sendto(self.draw.choice(ready), (LOOPBACK, self.draw.choice(self.ports[:2])))
+                self.sent += 1
+            time.sleep(0.002)
+        elsewhere.close()
+        unknown.close()
+
+
+def trickle(port, to, a_second, is_over):
+    """Sends a byte to a port so often, from a port (0: any), until it is over."""
+    with socket.socket(socket.AF_INET, socket.SOCK_DGRAM) as it:
+        it.bind((LOOPBACK, port))
+        begun, sent = time.monotonic(), 0
+        while not is_over.is_set():
+            it.sendto(b"x", (LOOPBACK, to))
+            sent += 1
+            is_over.wait(max(0.0, begun + sent / a_second - time.monotonic()))
+
+
+def trickles(faults, chosen):
+    """Datagrams that come one by one, 400 a second of a socket that no script names and 20 of a host elsewhere: loop turns stay short."""
+    for known, unknown in ((250, 0), (0, 250), (20, 400)):
+        ports, is_over = free_ports(3), threading.Event()
+        live = Live(script_of(ports, calls_at(0, 1, 60, every=10), here=[0, 1], end=700, resend=50, life=1000))
+        until(lambda: is_bound(ports[1]))
+        senders = [threading.Thread(target=trickle, args=(port, ports[0], often, is_over)) for port, often in ((ports[2], known), (0, unknown)) if often]
+        for it in senders:
+            it.start()
+        status = live.end()
+        is_over.set()
+        for it in senders:
+            it.join()
+        lines = live.lines()
+        clock = [int(line.split()[1]) for line in lines if line.startswith("clock ")]
+        longest, took = max(b - a for a, b in zip(clock, clock[1:])), waits(lines)
+        what = f"{known} a second of a host elsewhere, {unknown} of a stranger: status {status}, {echoed(lines, 0, 60)} of 60 calls done, a loop turn of {longest} ticks"
+        yield status == 0 and echoed(lines, 0, 60) == 60 and longest <= 50, what, f"{what}, calls took at most {took[-1] if took else '-'}"
+
+
+def waits(lines):
+    """Of the calls that are done how many ticks each took."""
+    tick, begun, took = 0, {}, []
+    for line in lines:
+        words = line.split(" ", 2)
+        if words[0] == "clock":
+            tick = int(words[1])
+        elif words[0] == "call":
+            begun[words[1]] = tick
+        elif words[0] == "done":
+            took.append(tick - begun[words[1]])
+    return sorted(took)
+
+
+def foreign_datagrams(faults, chosen):
+    """A live node under foreign datagrams: each call runs once and is done with its own bytes, within its client's patience, and no
+    memory is asked for behind the run's first quarter (what was asked for at the opening is first written when it is used)."""
+    settings = {"resend": 50, "life": 1000}
+    seconds = min(60.0, max(4.0, chosen.minutes * 6))
+    for a_second in (0, 200, 1000, 5000):
+        ports, count = free_ports(3), int(seconds * 20)
+        live = Live(script_of(ports, calls_at(0, 1, count, every=5), here=[0, 1], end=int(seconds * 100) + 100, **settings))
+        until(lambda: is_bound(ports[1]))
+        flood = Flood(ports, random.Random(chosen.seed), a_second, chosen.changed)
+        flood.start()
+        sizes = []
+        while live.process.poll() is None:
+            time.sleep(0.2)
+            try:
+                sizes.append((memory(live.process, "VmData"), memory(live.process)))
+            except (FileNotFoundError, StopIteration, ProcessLookupError):
+                break
+        status = live.end()
+        flood.is_over = True
+        flood.join()
+        lines = live.lines()
+        right, took = echoed(lines, 0, count), waits(lines)
+        what = f"{a_second} a second: status {status}, {right} of {count} calls"
+        for _ in range(right):
+            yield True, what
+        junk = sum(line.startswith("junk ") for line in lines)
+        came = sum(line.split(" ")[2] == "2" for line in lines if line.startswith("recv "))
+        figure = (f"{flood.sent} foreign datagrams, {came} of a host elsewhere came, {junk} junk; calls took {took[len(took) // 2]} ticks, at most {took[-1]}; "
+                  f"{sizes[len(sizes) // 4][1]} KB resident at a quarter, {sizes[-2][1]} at the end") if took and len(sizes) > 8 else "nothing was done"
+        for _ in range(count - right):
+            yield False, what, figure
+        yield status == 0, what, figure
+        yield bool(took) and took[-1] <= 300, f"{a_second} a second: a call took {took[-1] if took else 'no'} ticks, which is beyond a client's patience"
+        yield len(sizes) > 8 and sizes[-2][0] == sizes[len(sizes) // 4][0], f"{a_second} a second: memory went from {sizes[len(sizes) // 4]} to {sizes[-2]} KB"
