@@ -1,5 +1,6 @@
 -- Lower-case hex, pair by pair.
-use Rattle.std.proofs.Common.{◌≡◌, ◌<◌, ◌≤◌, ℕ, suc, ◌+◌, ◌-◌, ◌*◌, ◌%◌, ◌&&◌, ◌||◌, max, Bool, true, false, Option, None, Some, Result, Ok, Err, List, [], ◌∷◌, ◌++◌, length, map, take, drop, set, get_or, refl, sym, ap, ◌∙◌, arith, append_assoc, drop-cons}
+use Rattle.std.proofs.Common.{◌≡◌, ◌<◌, ◌≤◌, ℕ, suc, ◌+◌, ◌-◌, ◌*◌, ◌%◌, ◌&&◌, ◌||◌, max, Bool, true, false, Option, None, Some, Result}
+use Rattle.std.proofs.Common.{Ok, Err, List, [], ◌∷◌, ◌++◌, length, map, take, drop, set, get_or, refl, sym, ap, ◌∙◌, arith, append_assoc, drop-cons}
 use Rattle.std.specs.Prelude.{if◌then◌else◌}
 use Rattle.std.specs.Char.{is_ascii_uppercase}
 use Rattle.std.specs.List.{list_all, list_any}
@@ -76,18 +77,21 @@ unfolding joined
 joined_nil = refl
 
 -- one byte more is joined
-pub joined_more : (values out : List ℕ) (i byte : ℕ) → i < length out → length values ≡ 2 * length out → byte ≡ (get_or values (2 * i) 0 * 16 % 256 + get_or values (2 * i + 1) 0) % 256
+pub joined_more : (values out : List ℕ) (i byte : ℕ) → i < length out → length values ≡ 2 * length out → byte ≡
+    (get_or values (2 * i) 0 * 16 % 256 + get_or values (2 * i + 1) 0) % 256
     → take i out ++ joined (drop (2 * i) values) ≡ joined values → take (i + 1) (set out i byte) ++ joined (drop (2 * (i + 1)) values) ≡ joined values
 joined_more values out i byte within len is so_far =
     let rest = drop (2 * (i + 1)) values in
     ap (λ (xs : List ℕ). xs ++ joined rest) (take_more_set out i byte within)
     ∙ (append_assoc (take i out) (byte ∷ []) (joined rest)
     ∙ (ap (λ (xs : List ℕ). take i out ++ xs)
-    (ap (λ (n : ℕ). n ∷ joined rest) is ∙ (sym (joined_pair (get_or values (2 * i) 0) (get_or values (2 * i + 1) 0) rest) ∙ ap joined (sym (pair_at values i (omega arith)))))
+    (ap (λ (n : ℕ). n ∷ joined rest) is ∙
+    (sym (joined_pair (get_or values (2 * i) 0) (get_or values (2 * i + 1) 0) rest) ∙ ap joined (sym (pair_at values i (omega arith)))))
     ∙ so_far))
 
 -- all are
-pub joined_all : (values out : List ℕ) (i : ℕ) → length out ≤ i → length values ≡ 2 * length out → take i out ++ joined (drop (2 * i) values) ≡ joined values → out ≡ joined values
+pub joined_all : (values out : List ℕ) (i : ℕ) → length out ≤ i → length values ≡ 2 * length out → take i out ++ joined (drop (2 * i) values) ≡
+    joined values → out ≡ joined values
 joined_all values out i past len so_far =
     sym (append-nil out)
     ∙ ((λ j. sym (take_all i out past) j ++ sym (ap joined (drop_all (2 * i) values (omega arith)) ∙ joined_nil) j)
@@ -112,9 +116,11 @@ unfolding lower_pairs joined
 part_read [] n even = refl
 part_read (c ∷ []) n even = absurd (omega arith)
 part_read (a ∷ b ∷ rest) n even =
-    by_three (is_value (digit_value a)) (is_value (digit_value b)) (list_all (λ digit. is_value (digit_value digit)) rest) ((digit_value a * 16 % 256 + digit_value b) % 256) (digit_value a * 16 + digit_value b) (joined (map digit_value rest))
+    by_three (is_value (digit_value a)) (is_value (digit_value b)) (list_all (λ digit. is_value (digit_value digit)) rest)
+    ((digit_value a * 16 % 256 + digit_value b) % 256) (digit_value a * 16 + digit_value b) (joined (map digit_value rest))
     (byte_is (digit_value a) (digit_value b))
-    ∙ ap (λ (o : Option (List ℕ)). if is_value (digit_value a) && is_value (digit_value b) then option_map (λ bytes. (digit_value a * 16 + digit_value b) ∷ bytes) o else None)
+    ∙ ap (λ (o : Option (List ℕ)). if is_value (digit_value a) && is_value (digit_value b) then option_map
+    (λ bytes. (digit_value a * 16 + digit_value b) ∷ bytes) o else None)
     (part_read rest (n - 1) (omega arith))
 
 -- ---- part by part
@@ -144,10 +150,12 @@ unfolding lower_pairs
 pairs_append [] ys n even = before_nil (lower_pairs ys)
 pairs_append (c ∷ []) ys n even = absurd (omega arith)
 pairs_append (a ∷ b ∷ rest) ys n even =
-    ap (λ (o : Option (List ℕ)). if is_value (digit_value a) && is_value (digit_value b) then option_map (λ bytes. (digit_value a * 16 + digit_value b) ∷ bytes) o else None) (pairs_append rest ys (n - 1) (omega arith))
+    ap (λ (o : Option (List ℕ)). if is_value (digit_value a) && is_value (digit_value b) then option_map
+    (λ bytes. (digit_value a * 16 + digit_value b) ∷ bytes) o else None) (pairs_append rest ys (n - 1) (omega arith))
     ∙ map_before (is_value (digit_value a) && is_value (digit_value b)) (digit_value a * 16 + digit_value b) (lower_pairs rest) (lower_pairs ys)
 
-spelled_by : (are part : Bool) (front bytes : List ℕ) (rest : Option (List ℕ)) → spelled are front (before (if part then Some bytes else None) rest) ≡ spelled (part && are) (front ++ bytes) rest
+spelled_by : (are part : Bool) (front bytes : List ℕ) (rest : Option (List ℕ)) → spelled are front (before (if part then Some bytes else None) rest)
+    ≡ spelled (part && are) (front ++ bytes) rest
 spelled_by true true front bytes None = refl
 spelled_by true true front bytes (Some others) = ap Some (sym (append_assoc front bytes others))
 spelled_by true false front bytes rest = refl
@@ -155,17 +163,21 @@ spelled_by false true front bytes rest = refl
 spelled_by false false front bytes rest = refl
 
 -- one part more
-pub spelled_more : (word bytes front : List ℕ) (are part : Bool) (at n : ℕ) → length (take (2 * n) (drop at word)) ≡ 2 * n → (if part then Some bytes else None) ≡ lower_pairs (take (2 * n) (drop at word))
-    → lower_pairs word ≡ spelled are front (lower_pairs (drop at word)) → lower_pairs word ≡ spelled (part && are) (front ++ bytes) (lower_pairs (drop (at + 2 * n) word))
+pub spelled_more : (word bytes front : List ℕ) (are part : Bool) (at n : ℕ) → length (take (2 * n) (drop at word)) ≡ 2 * n →
+    (if part then Some bytes else None) ≡ lower_pairs (take (2 * n) (drop at word))
+    → lower_pairs word ≡ spelled are front (lower_pairs (drop at word)) → lower_pairs word ≡ spelled (part && are) (front ++ bytes)
+    (lower_pairs (drop (at + 2 * n) word))
 spelled_more word bytes front are part at n even read so_far =
     let rest = drop (at + 2 * n) word in
     let here = take (2 * n) (drop at word) in
     so_far
-    ∙ (ap (λ (xs : List ℕ). spelled are front (lower_pairs xs)) (sym (take-append-drop (2 * n) (drop at word)) ∙ ap (λ (xs : List ℕ). here ++ xs) (drop-drop (2 * n) at word))
+    ∙ (ap (λ (xs : List ℕ). spelled are front (lower_pairs xs))
+    (sym (take-append-drop (2 * n) (drop at word)) ∙ ap (λ (xs : List ℕ). here ++ xs) (drop-drop (2 * n) at word))
     ∙ (ap (spelled are front) (pairs_append here rest n even ∙ ap (λ (o : Option (List ℕ)). before o (lower_pairs rest)) (sym read))
     ∙ spelled_by are part front bytes (lower_pairs rest)))
 
-last_by : (are part : Bool) (front bytes : List ℕ) → (if part && are then Some (front ++ bytes) else None) ≡ spelled are front (if part then Some bytes else None)
+last_by : (are part : Bool) (front bytes : List ℕ) → (if part && are then Some (front ++ bytes) else None) ≡ spelled are front
+    (if part then Some bytes else None)
 last_by true true front bytes = refl
 last_by true false front bytes = refl
 last_by false true front bytes = refl

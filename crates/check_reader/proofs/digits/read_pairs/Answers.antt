@@ -17,7 +17,8 @@ loop-out-preserved c =
     let front = take-put_mid done (done + 32 - done) out bytes (done + 32) (omega arith) (omega arith) in
     record {
       so_far =
-          spelled_more word bytes (take done out) c.loop-out.are c.read_part-part.result (2 * done) 32 even (rw part_length at c.read_part-part.ensures) c.loop-out.invariant.so_far
+          spelled_more word bytes (take done out) c.loop-out.are c.read_part-part.result (2 * done) 32 even
+          (rw part_length at c.read_part-part.ensures) c.loop-out.invariant.so_far
           ∙ (λ j. spelled (sym c.both-now.ensures j) (sym front j) (lower_pairs (drop (two j) word)));
       within = omega arith;
     }
@@ -29,6 +30,8 @@ returns c =
     let done = c.loop-out.done in
     let bytes = c.read_part-last.new.out in
     let whole : take done out ++ (bytes ++ drop (length out - done) (drop done out)) ≡ take done out ++ bytes =
-    ap (λ (xs : List ℕ). take done out ++ (bytes ++ xs)) (drop_all (length out - done) (drop done out) (omega (arith, length-drop done out))) ∙ ap (λ (xs : List ℕ). take done out ++ xs) (append-nil bytes) in
+    ap (λ (xs : List ℕ). take done out ++ (bytes ++ xs)) (drop_all (length out - done) (drop done out) (omega (arith, length-drop done out))) ∙ ap
+    (λ (xs : List ℕ). take done out ++ xs) (append-nil bytes) in
     (λ j. if c.both.ensures j then Some (whole j) else None)
-    ∙ spelled_last word bytes (take done out) c.loop-out.are c.read_part-last.result (2 * done) (c.read_part-last.ensures ∙ ap lower_pairs (take_rest word (2 * done))) c.loop-out.invariant.so_far
+    ∙ spelled_last word bytes (take done out) c.loop-out.are c.read_part-last.result (2 * done)
+    (c.read_part-last.ensures ∙ ap lower_pairs (take_rest word (2 * done))) c.loop-out.invariant.so_far
