@@ -1,5 +1,6 @@
 -- A heap as its list, over each of its calls.
-use Rattle.std.proofs.Common.{◌≡◌, ℕ, ◌+◌, ◌<◌, ◌≤◌, ◌↔◌, ◌&&◌, true, eqb, List, [], length, take, set, Option, Some, None, IsSome, IsTrue, refl, sym, ap, subst, ◌∙◌, arith}
+use Rattle.std.proofs.Common.{◌≡◌, ℕ, ◌+◌, ◌<◌, ◌≤◌, ◌↔◌, ◌&&◌, true, eqb, List, [], length, take}
+use Rattle.std.proofs.Common.{set, Option, Some, None, IsSome, IsTrue, refl, sym, ap, subst, ◌∙◌, arith}
 use Rattle.std.proofs.lemmas.List.{length-take-le}
 use Rattle.std.proofs.lemmas.Bool.Decides.{nat_tests}
 use Rattle.std.specs.Prelude.{slice_index, nat_lt}
@@ -97,7 +98,8 @@ key_same a b same =
     (λ j. record { first = first j; second = second j })
 
 -- the list where a slot is given the key that it has
-pub list_after_same : (cells : List Cell) (len : ℕ) (x had : Item) (kept : IsKept (record { cells = cells; len = len })) → x.0 < length (places_of cells) → slice_index (places_of cells) x.0 < len
+pub list_after_same : (cells : List Cell) (len : ℕ) (x had : Item) (kept : IsKept (record { cells = cells; len = len })) → x.0 < length
+    (places_of cells) → slice_index (places_of cells) x.0 < len
     → had ≡ at (items_of cells) (slice_index (places_of cells) x.0) → had.1 ≡ x.1
     → list_of (record { cells = cells; len = len }) ≡ placed x (without x.0 (list_of (record { cells = cells; len = len })))
 unfolding list_of

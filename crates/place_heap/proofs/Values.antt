@@ -1,5 +1,6 @@
 -- The cells that a block shows, of which some were written.
-use Rattle.std.proofs.Common.{◌≡◌, ◌≢◌, ℕ, ◌+◌, ◌<◌, ◌≤◌, List, length, map, set, get_or, replicate, Option, Some, None, refl, sym, ap, ◌∙◌, arith, length-set, ⊎_elim, slice_index, subst}
+use Rattle.std.proofs.Common.{◌≡◌, ◌≢◌, ℕ, ◌+◌, ◌<◌, ◌≤◌, List, length, map, set, get_or, replicate}
+use Rattle.std.proofs.Common.{Option, Some, None, refl, sym, ap, ◌∙◌, arith, length-set, ⊎_elim, slice_index, subst}
 use Rattle.std.specs.List.{range_with_len}
 use Rattle.std.proofs.lemmas.Bool.{cases_eq}
 use Rattle.std.proofs.lemmas.List.{get_or-set_same, get_or-set_other, get_or-replicate, length-replicate}
@@ -49,7 +50,8 @@ module _ {at base : Ptr} {marks : List ℕ} {places : List (Option Cell)} {cap :
   place_blank isnt =
       value_at marks places cap i inside ∙ ap (shown (slice_index marks i)) (none_by (slice_index marks i) (get_or places i None) (kept.marked i inside) isnt)
 
-  module _ (mark : ℕ) (place : Option Cell) (marks' : List ℕ) (places' : List (Option Cell)) (is_mark : marks' ≡ set marks i mark) (is_place : (k : ℕ) → k ≢ i → get_or places' k None ≡ get_or places k None)
+  module _ (mark : ℕ) (place : Option Cell) (marks' : List ℕ) (places' : List (Option Cell)) (is_mark : marks' ≡ set marks i mark)
+      (is_place : (k : ℕ) → k ≢ i → get_or places' k None ≡ get_or places k None)
       (there : get_or places' i None ≡ place) (same : length places' ≡ length places) (marked : IsMarked mark place) where
     -- the new mark
     mark_at : slice_index marks' i ≡ mark
@@ -74,7 +76,8 @@ module _ {at base : Ptr} {marks : List ℕ} {places : List (Option Cell)} {cap :
     -- and one cell is another
     pub changed_values : values_of marks' places' cap ≡ set (values_of marks places cap) i (shown mark place)
     changed_values =
-        sym (all_shown (set (values_of marks places cap) i (shown mark place)) marks' places' cap (length-set (values_of marks places cap) i (shown mark place) ∙ values_len marks places cap)
+        sym (all_shown (set (values_of marks places cap) i (shown mark place)) marks' places' cap
+        (length-set (values_of marks places cap) i (shown mark place) ∙ values_len marks places cap)
         (λ k below. ⊎_elim
         (λ e. ap (λ n. cell_at (set (values_of marks places cap) i (shown mark place)) n) e
         ∙ (get_or-set_same (values_of marks places cap) i (shown mark place) (unused_cell 0) (omega (arith, values_len marks places cap))
@@ -97,12 +100,15 @@ module _ {at base : Ptr} {marks : List ℕ} {places : List (Option Cell)} {cap :
   -- the mark of a place that wasn't written is another
   pub noted_written : slice_index marks i ≢ 65535 → (mark : ℕ) → mark < 65535 → IsWritten at base (set marks i mark) places cap
   noted_written isnt mark small =
-      changed_written mark None (set marks i mark) places refl (λ k ne. refl) (none_by (slice_index marks i) (get_or places i None) (kept.marked i inside) isnt) refl small
+      changed_written mark None (set marks i mark) places refl (λ k ne. refl)
+      (none_by (slice_index marks i) (get_or places i None) (kept.marked i inside) isnt) refl small
 
   -- and so is the place that is shown
-  pub noted_values : slice_index marks i ≢ 65535 → (mark : ℕ) → mark < 65535 → values_of (set marks i mark) places cap ≡ set (values_of marks places cap) i (unused_cell mark)
+  pub noted_values : slice_index marks i ≢ 65535 → (mark : ℕ) → mark < 65535 → values_of (set marks i mark) places cap ≡ set
+      (values_of marks places cap) i (unused_cell mark)
   noted_values isnt mark small =
-      changed_values mark None (set marks i mark) places refl (λ k ne. refl) (none_by (slice_index marks i) (get_or places i None) (kept.marked i inside) isnt) refl small
+      changed_values mark None (set marks i mark) places refl (λ k ne. refl)
+      (none_by (slice_index marks i) (get_or places i None) (kept.marked i inside) isnt) refl small
 
 module _ (at base : Ptr) (cap : ℕ) (small : cap ≤ 8192) where
   -- the marks of places that weren't written

@@ -32,7 +32,8 @@ sift-requires g c =
 pub returns-then-eq-clause-list : goal.returns-then-eq-clause-list
 returns-then-eq-clause-list g c =
     let cells = c.self.inside.cells in let len = c.self.inside.len in let x : Item = (c.args.slot, c.args.key) in let is = c.place_of-place.ensures.place in
-    let here = present_in cells len c.self.invariant c.args.slot (subst (λ (h : Held). IsSome (key_in c.args.slot (list_of h))) (sym c.self.view_is) c.requires) in
+    let here = present_in cells len c.self.invariant c.args.slot
+    (subst (λ (h : Held). IsSome (key_in c.args.slot (list_of h))) (sym c.self.view_is) c.requires) in
     subst (λ (h : Held). list_of h ≡ placed x (without c.args.slot (list_of h))) c.self.view_is
     (list_after_same cells len x c.item_at-had.result c.self.invariant (omega (arith, here.0, places_len cells)) here.1
     (c.item_at-had.ensures.item ∙ ap (λ n. at (items_of cells) n) is) (key_same _ _ c.if-eq.ensures))
