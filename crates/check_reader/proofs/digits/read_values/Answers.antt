@@ -14,9 +14,11 @@ pub loop-i-preserved : goal.loop-i-preserved
 loop-i-preserved c =
     let word = c.args.word.now in
     record {
-      read = take_more_set c.loop-i.values c.loop-i.i c.value-value.result (omega arith) ∙ ((λ j. c.loop-i.invariant.read j ++ c.value-value.ensures j ∷ []) ∙ sym (map_more digit_value word c.loop-i.i 0 (omega arith)));
+      read = take_more_set c.loop-i.values c.loop-i.i c.value-value.result (omega arith) ∙
+          ((λ j. c.loop-i.invariant.read j ++ c.value-value.ensures j ∷ []) ∙ sym (map_more digit_value word c.loop-i.i 0 (omega arith)));
       are =
           ap is_value (c.max-greatest.ensures ∙ greater_is c.loop-i.greatest c.value-value.result)
           ∙ (greatest_is c.loop-i.greatest c.value-value.result
-          ∙ ((λ j. c.loop-i.invariant.are j && is_value (c.value-value.ensures j)) ∙ sym (list_all_more (λ digit. is_value (digit_value digit)) word c.loop-i.i 0 (omega arith))));
+          ∙ ((λ j. c.loop-i.invariant.are j && is_value (c.value-value.ensures j)) ∙ sym
+          (list_all_more (λ digit. is_value (digit_value digit)) word c.loop-i.i 0 (omega arith))));
     }

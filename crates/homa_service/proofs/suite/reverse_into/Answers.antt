@@ -7,7 +7,8 @@ loop-i-preserved c =
     let bytes = c.args.bytes.now in
     let i = c.loop-i.i in
     let same = sym (get_or-reverse bytes i 0 (omega arith)) in
-    take_more_set c.loop-i.out i _ (omega arith) ∙ ((λ j. c.loop-i.invariant j ++ same j ∷ []) ∙ sym (take_more (reverse bytes) i 0 (omega (arith, length-reverse bytes))))
+    take_more_set c.loop-i.out i _ (omega arith) ∙
+    ((λ j. c.loop-i.invariant j ++ same j ∷ []) ∙ sym (take_more (reverse bytes) i 0 (omega (arith, length-reverse bytes))))
 
 pub returns : goal.returns
 returns c =
