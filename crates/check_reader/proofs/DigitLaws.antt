@@ -1,17 +1,18 @@
 -- Lower-case hex, pair by pair.
-use Rattle.std.proofs.Common.{◌≡◌, ◌<◌, ◌≤◌, ℕ, suc, ◌+◌, ◌*◌, ◌%◌, ◌&&◌, ◌||◌, max, Bool, true, false, Option, None, Some, Result, Ok, Err, List, [], ◌∷◌, ◌++◌, length, take, drop, set, get_or, refl, sym, ap, ◌∙◌, arith, append_assoc, drop-cons}
+use Rattle.std.proofs.Common.{◌≡◌, ◌<◌, ◌≤◌, ℕ, suc, ◌+◌, ◌-◌, ◌*◌, ◌%◌, ◌&&◌, ◌||◌, max, Bool, true, false, Option, None, Some, Result}
+use Rattle.std.proofs.Common.{Ok, Err, List, [], ◌∷◌, ◌++◌, length, map, take, drop, set, get_or, refl, sym, ap, ◌∙◌, arith, append_assoc, drop-cons}
 use Rattle.std.specs.Prelude.{if◌then◌else◌}
 use Rattle.std.specs.Char.{is_ascii_uppercase}
-use Rattle.std.specs.List.{list_any}
+use Rattle.std.specs.List.{list_all, list_any}
 use Rattle.std.specs.Option.{option_map}
 use Rattle.std.specs.Result.{result_ok}
 use Rattle.std.proofs.lemmas.Bool.Decides.{nat_tests}
-use Rattle.std.proofs.lemmas.List.{append-nil, drop_all, take_all, take_more_set}
+use Rattle.std.proofs.lemmas.List.{append-nil, drop-drop, drop_all, take_all, take_more_set, take-append-drop}
 use Rattle.std.proofs.lemmas.Option.{none-some}
 use Rattle.hex.specs.Hex.{decode_pairs, hex_digit_value, digit_or_error, ◌>>=◌}
 use Rattle.hex.specs.declared.error.FromHexError.{FromHexError}
 use Rattle.homa_plain.proofs.WireFields.{some_is}
-use Rattle.check_reader.specs.Digits.{digit_value, is_value, lower_pairs, spelled}
+use Rattle.check_reader.specs.Digits.{digit_value, is_value, joined, lower_pairs, spelled}
 
 -- ---- digits of either case, but for upper-case ones, are lower-case ones
 
@@ -51,20 +52,13 @@ pairs_same i (a ∷ b ∷ rest) =
     pair_by (is_ascii_uppercase a) (is_ascii_uppercase b) (list_any is_ascii_uppercase rest) (is_value (digit_value a)) (is_value (digit_value b)) (hex_digit_value a) (hex_digit_value b) (digit_value a) (digit_value b) a b i
     (decode_pairs (i + 2) rest) (lower_pairs rest) (digit_is a) (digit_is b) (pairs_same (i + 2) rest)
 
+-- ---- one digit more
+
+-- the greatest of values is one where each of them is
+pub greatest_is : (g v : ℕ) → is_value (max g v) ≡ (is_value g && is_value v)
+greatest_is g v = grind (arith, nat_tests)
+
 -- ---- one pair more
-
-front_more : (are : Bool) (front : List ℕ) (value byte : ℕ) (rest : Option (List ℕ)) → (are ≡ true → byte ≡ value)
-    → (if are then option_map (λ bytes. front ++ bytes) (option_map (λ bytes. value ∷ bytes) rest) else None) ≡ spelled are (front ++ byte ∷ []) rest
-front_more true front value byte None same = refl
-front_more true front value byte (Some bytes) same =
-    ap (λ (n : ℕ). Some (front ++ n ∷ bytes)) (sym (same refl)) ∙ ap Some (sym (append_assoc front (byte ∷ []) bytes))
-front_more false front value byte rest same = refl
-
-by_tests : (p q r : Bool) (front : List ℕ) (value byte : ℕ) (rest : Option (List ℕ)) → r ≡ (p && q) → (q ≡ true → byte ≡ value)
-    → spelled p front (if q then option_map (λ bytes. value ∷ bytes) rest else None) ≡ spelled r (front ++ byte ∷ []) rest
-by_tests true true r front value byte rest e same = front_more true front value byte rest same ∙ ap (λ (t : Bool). spelled t (front ++ byte ∷ []) rest) (sym e)
-by_tests true false r front value byte rest e same = ap (λ (t : Bool). spelled t (front ++ byte ∷ []) rest) (sym e)
-by_tests false q r front value byte rest e same = ap (λ (t : Bool). spelled t (front ++ byte ∷ []) rest) (sym e)
 
 pair_at : (word : List ℕ) (i : ℕ) → 2 * i + 1 < length word → drop (2 * i) word ≡ get_or word (2 * i) 0 ∷ get_or word (2 * i + 1) 0 ∷ drop (2 * (i + 1)) word
 pair_at word i within =
@@ -74,47 +68,122 @@ pair_at word i within =
     let behind : suc (suc (2 * i)) ≡ 2 * (i + 1) = omega arith in
     first ∙ ap (λ (xs : List ℕ). get_or word (2 * i) 0 ∷ xs) (second ∙ ((λ j. get_or word (next j) 0 ∷ drop (behind j) word)))
 
-pair_is : (a b : ℕ) (rest : List ℕ) → lower_pairs (a ∷ b ∷ rest) ≡ (if is_value (digit_value a) && is_value (digit_value b) then option_map (λ bytes. (digit_value a * 16 + digit_value b) ∷ bytes) (lower_pairs rest) else None)
-unfolding lower_pairs
-pair_is a b rest = refl
+joined_pair : (a b : ℕ) (rest : List ℕ) → joined (a ∷ b ∷ rest) ≡ (a * 16 % 256 + b) % 256 ∷ joined rest
+unfolding joined
+joined_pair a b rest = refl
 
-greatest_is : (g v w : ℕ) → is_value (max (max g v) w) ≡ (is_value g && (is_value v && is_value w))
-greatest_is g v w = grind (arith, nat_tests)
+joined_nil : joined [] ≡ []
+unfolding joined
+joined_nil = refl
+
+-- one byte more is joined
+pub joined_more : (values out : List ℕ) (i byte : ℕ) → i < length out → length values ≡ 2 * length out → byte ≡
+    (get_or values (2 * i) 0 * 16 % 256 + get_or values (2 * i + 1) 0) % 256
+    → take i out ++ joined (drop (2 * i) values) ≡ joined values → take (i + 1) (set out i byte) ++ joined (drop (2 * (i + 1)) values) ≡ joined values
+joined_more values out i byte within len is so_far =
+    let rest = drop (2 * (i + 1)) values in
+    ap (λ (xs : List ℕ). xs ++ joined rest) (take_more_set out i byte within)
+    ∙ (append_assoc (take i out) (byte ∷ []) (joined rest)
+    ∙ (ap (λ (xs : List ℕ). take i out ++ xs)
+    (ap (λ (n : ℕ). n ∷ joined rest) is ∙
+    (sym (joined_pair (get_or values (2 * i) 0) (get_or values (2 * i + 1) 0) rest) ∙ ap joined (sym (pair_at values i (omega arith)))))
+    ∙ so_far))
+
+-- all are
+pub joined_all : (values out : List ℕ) (i : ℕ) → length out ≤ i → length values ≡ 2 * length out → take i out ++ joined (drop (2 * i) values) ≡
+    joined values → out ≡ joined values
+joined_all values out i past len so_far =
+    sym (append-nil out)
+    ∙ ((λ j. sym (take_all i out past) j ++ sym (ap joined (drop_all (2 * i) values (omega arith)) ∙ joined_nil) j)
+    ∙ so_far)
+
+-- ---- all pairs of a part
 
 byte_is : (v w : ℕ) → (is_value v && is_value w) ≡ true → (v * 16 % 256 + w) % 256 ≡ v * 16 + w
 byte_is v w are = grind (arith, nat_tests)
 
-pub spelled_more : (word out : List ℕ) (i greatest v w byte behind : ℕ) → i < length out → length word ≡ 2 * length out
-    → v ≡ digit_value (get_or word (2 * i) 0) → w ≡ digit_value (get_or word (2 * i + 1) 0) → byte ≡ (v * 16 % 256 + w) % 256 → behind ≡ max (max greatest v) w
-    → lower_pairs word ≡ spelled (is_value greatest) (take i out) (lower_pairs (drop (2 * i) word))
-    → lower_pairs word ≡ spelled (is_value behind) (take (i + 1) (set out i byte)) (lower_pairs (drop (2 * (i + 1)) word))
-spelled_more word out i greatest v w byte behind within len vis wis bis most so_far =
-    let a = get_or word (2 * i) 0 in
-    let b = get_or word (2 * i + 1) 0 in
-    let rest = drop (2 * (i + 1)) word in
-    so_far
-    ∙ (ap (λ (xs : List ℕ). spelled (is_value greatest) (take i out) (lower_pairs xs)) (pair_at word i (omega arith))
-    ∙ (ap (spelled (is_value greatest) (take i out)) (pair_is a b rest)
-    ∙ (by_tests (is_value greatest) (is_value (digit_value a) && is_value (digit_value b)) (is_value behind) (take i out) (digit_value a * 16 + digit_value b) byte (lower_pairs rest)
-    (ap is_value most ∙ (greatest_is greatest v w ∙ (λ j. is_value greatest && (is_value (vis j) && is_value (wis j)))))
-    (λ are. bis ∙ ((λ j. (vis j * 16 % 256 + wis j) % 256) ∙ byte_is (digit_value a) (digit_value b) are))
-    ∙ ap (λ (xs : List ℕ). spelled (is_value behind) xs (lower_pairs rest)) (sym (take_more_set out i byte within)))))
+by_three : (p q r : Bool) (byte value : ℕ) (bytes : List ℕ) → ((p && q) ≡ true → byte ≡ value)
+    → (if p && (q && r) then Some (byte ∷ bytes) else None) ≡ (if p && q then option_map (λ bs. value ∷ bs) (if r then Some bytes else None) else None)
+by_three true true true byte value bytes same = ap (λ (n : ℕ). Some (n ∷ bytes)) (same refl)
+by_three true true false byte value bytes same = refl
+by_three true false r byte value bytes same = refl
+by_three false q r byte value bytes same = refl
 
--- ---- all pairs
+-- what joins the values of digits is what they spell
+pub part_read : (word : List ℕ) (n : ℕ) → length word ≡ 2 * n
+    → (if list_all (λ digit. is_value (digit_value digit)) word then Some (joined (map digit_value word)) else None) ≡ lower_pairs word
+unfolding lower_pairs joined
+part_read [] n even = refl
+part_read (c ∷ []) n even = absurd (omega arith)
+part_read (a ∷ b ∷ rest) n even =
+    by_three (is_value (digit_value a)) (is_value (digit_value b)) (list_all (λ digit. is_value (digit_value digit)) rest)
+    ((digit_value a * 16 % 256 + digit_value b) % 256) (digit_value a * 16 + digit_value b) (joined (map digit_value rest))
+    (byte_is (digit_value a) (digit_value b))
+    ∙ ap (λ (o : Option (List ℕ)). if is_value (digit_value a) && is_value (digit_value b) then option_map
+    (λ bytes. (digit_value a * 16 + digit_value b) ∷ bytes) o else None)
+    (part_read rest (n - 1) (omega arith))
 
-nil_is : lower_pairs [] ≡ Some []
+-- ---- part by part
+
+-- the part of n digits from one place on
+pub part_length : (at n : ℕ) → at + n - at ≡ n
+part_length at n = omega arith
+
+-- what a front spells, and then what the rest does
+abbrev before : Option (List ℕ) → Option (List ℕ) → Option (List ℕ)
+before None rest = None
+before (Some front) rest = option_map (λ bytes. front ++ bytes) rest
+
+map_before : (t : Bool) (byte : ℕ) (first rest : Option (List ℕ))
+    → (if t then option_map (λ bytes. byte ∷ bytes) (before first rest) else None) ≡ before (if t then option_map (λ bytes. byte ∷ bytes) first else None) rest
+map_before true byte None rest = refl
+map_before true byte (Some front) None = refl
+map_before true byte (Some front) (Some bytes) = refl
+map_before false byte first rest = refl
+
+before_nil : (rest : Option (List ℕ)) → rest ≡ before (Some []) rest
+before_nil None = refl
+before_nil (Some bytes) = refl
+
+pairs_append : (xs ys : List ℕ) (n : ℕ) → length xs ≡ 2 * n → lower_pairs (xs ++ ys) ≡ before (lower_pairs xs) (lower_pairs ys)
 unfolding lower_pairs
-nil_is = refl
+pairs_append [] ys n even = before_nil (lower_pairs ys)
+pairs_append (c ∷ []) ys n even = absurd (omega arith)
+pairs_append (a ∷ b ∷ rest) ys n even =
+    ap (λ (o : Option (List ℕ)). if is_value (digit_value a) && is_value (digit_value b) then option_map
+    (λ bytes. (digit_value a * 16 + digit_value b) ∷ bytes) o else None) (pairs_append rest ys (n - 1) (omega arith))
+    ∙ map_before (is_value (digit_value a) && is_value (digit_value b)) (digit_value a * 16 + digit_value b) (lower_pairs rest) (lower_pairs ys)
 
-whole_by : (t : Bool) (out : List ℕ) → (if t then Some out else None) ≡ spelled t out (Some [])
-whole_by true out = ap Some (sym (append-nil out))
-whole_by false out = refl
+spelled_by : (are part : Bool) (front bytes : List ℕ) (rest : Option (List ℕ)) → spelled are front (before (if part then Some bytes else None) rest)
+    ≡ spelled (part && are) (front ++ bytes) rest
+spelled_by true true front bytes None = refl
+spelled_by true true front bytes (Some others) = ap Some (sym (append_assoc front bytes others))
+spelled_by true false front bytes rest = refl
+spelled_by false true front bytes rest = refl
+spelled_by false false front bytes rest = refl
 
-pub spelled_all : (word out : List ℕ) (i greatest : ℕ) → length out ≤ i → length word ≡ 2 * length out
-    → lower_pairs word ≡ spelled (is_value greatest) (take i out) (lower_pairs (drop (2 * i) word)) → (if is_value greatest then Some out else None) ≡ lower_pairs word
-spelled_all word out i greatest past len so_far =
-    let front = take_all i out past in
-    let rest = drop_all (2 * i) word (omega arith) in
-    whole_by (is_value greatest) out
-    ∙ (ap (spelled (is_value greatest) out) (sym (ap lower_pairs rest ∙ nil_is))
-    ∙ (ap (λ (xs : List ℕ). spelled (is_value greatest) xs (lower_pairs (drop (2 * i) word))) (sym front) ∙ sym so_far))
+-- one part more
+pub spelled_more : (word bytes front : List ℕ) (are part : Bool) (at n : ℕ) → length (take (2 * n) (drop at word)) ≡ 2 * n →
+    (if part then Some bytes else None) ≡ lower_pairs (take (2 * n) (drop at word))
+    → lower_pairs word ≡ spelled are front (lower_pairs (drop at word)) → lower_pairs word ≡ spelled (part && are) (front ++ bytes)
+    (lower_pairs (drop (at + 2 * n) word))
+spelled_more word bytes front are part at n even read so_far =
+    let rest = drop (at + 2 * n) word in
+    let here = take (2 * n) (drop at word) in
+    so_far
+    ∙ (ap (λ (xs : List ℕ). spelled are front (lower_pairs xs))
+    (sym (take-append-drop (2 * n) (drop at word)) ∙ ap (λ (xs : List ℕ). here ++ xs) (drop-drop (2 * n) at word))
+    ∙ (ap (spelled are front) (pairs_append here rest n even ∙ ap (λ (o : Option (List ℕ)). before o (lower_pairs rest)) (sym read))
+    ∙ spelled_by are part front bytes (lower_pairs rest)))
+
+last_by : (are part : Bool) (front bytes : List ℕ) → (if part && are then Some (front ++ bytes) else None) ≡ spelled are front
+    (if part then Some bytes else None)
+last_by true true front bytes = refl
+last_by true false front bytes = refl
+last_by false true front bytes = refl
+last_by false false front bytes = refl
+
+-- the last part
+pub spelled_last : (word bytes front : List ℕ) (are part : Bool) (at : ℕ) → (if part then Some bytes else None) ≡ lower_pairs (drop at word)
+    → lower_pairs word ≡ spelled are front (lower_pairs (drop at word)) → (if part && are then Some (front ++ bytes) else None) ≡ lower_pairs word
+spelled_last word bytes front are part at read so_far = last_by are part front bytes ∙ (ap (spelled are front) read ∙ sym so_far)

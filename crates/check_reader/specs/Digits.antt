@@ -1,5 +1,5 @@
 -- Bytes in lower-case hex, pair by pair.
-use Rattle.std.specs.Prelude.{ℕ, ◌+◌, ◌-◌, ◌*◌, ◌&&◌, Bool, nat_le, nat_lt, if◌then◌else◌, Option, None, Some, List, [], ◌∷◌, ◌++◌}
+use Rattle.std.specs.Prelude.{ℕ, ◌+◌, ◌-◌, ◌*◌, ◌%◌, ◌&&◌, Bool, nat_le, nat_lt, if◌then◌else◌, Option, None, Some, List, [], ◌∷◌, ◌++◌}
 use Rattle.std.specs.Option.{option_map}
 
 -- the value of a lower-case digit, and 255 for another byte
@@ -12,6 +12,12 @@ digit_value c =
 -- it is the value of a digit
 abbrev pub is_value : ℕ → Bool
 is_value v = nat_lt v 16
+
+-- the bytes that pairs of values make
+unfoldable pub joined : List ℕ → List ℕ
+joined [] = []
+joined (value ∷ []) = []
+joined (high ∷ low ∷ rest) = (high * 16 % 256 + low) % 256 ∷ joined rest
 
 -- the bytes that pairs of such digits spell
 unfoldable pub lower_pairs : List ℕ → Option (List ℕ)

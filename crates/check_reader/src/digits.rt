@@ -1,33 +1,94 @@
 // Bytes that pairs of lower-case hex digits spell.
-ghost use Rattle.std.specs.Prelude.{◌≡◌, ◌*◌, Some, None, if◌then◌else◌, length};
-ghost use Rattle.check_reader.specs.Digits.{digit_value, lower_pairs};
+ghost use Rattle.std.specs.Prelude.{◌≡◌, ◌*◌, ◌≤◌, ◌&&◌, Some, None, if◌then◌else◌, length, map};
+ghost use Rattle.std.specs.List.{list_all};
+ghost use Rattle.check_reader.specs.Digits.{digit_value, is_value, joined, lower_pairs};
 
 // What a byte that is no digit stands for.
 const NO_DIGIT: u8 = 255;
 
-// The value of a lower-case digit, or more than each for another byte.
+// How many bytes are read at once.
+const PART: usize = 32;
+
+// The value of a lower-case digit, or more than each for another byte. It is computed without a branch, so that it is
+// done for many digits at once.
+#[inline(always)]
 fn value(digit: u8) -> u8
     ensures { result ≡ digit_value digit }
 {
-    match digit {
-        b'0'..=b'9' => digit - b'0',
-        b'a'..=b'f' => digit - b'a' + 10,
-        _ => NO_DIGIT,
+    let number = digit.wrapping_sub(b'0');
+    let letter = digit.wrapping_sub(b'a');
+    let of_letter = if letter < 6 { letter + 10 } else { NO_DIGIT };
+    if number < 10 { number } else { of_letter }
+}
+
+// Reads the values of digits, and answers the greatest of them.
+#[inline(always)]
+fn read_values(word: &[u8], values: &mut [u8]) -> u8
+    requires { length values.old ≡ length word.now }
+    ensures values { values.new ≡ map digit_value word.now }
+    ensures are { is_value result ≡ list_all (λ digit. is_value (digit_value digit)) word.now }
+{
+    let mut greatest = 0;
+    for i in 0..word.len() {
+        let value = value(word[i]);
+        values[i] = value;
+        greatest = greatest.max(value);
+    }
+    greatest
+}
+
+// Joins pairs of values to bytes.
+#[inline(always)]
+fn join_pairs(values: &[u8], out: &mut [u8])
+    requires { length values.now ≡ 2 * length out.old }
+    ensures { out.new ≡ joined values.now }
+{
+    for i in 0..out.len() {
+        out[i] = values[2 * i]
+            .wrapping_mul(16)
+            .wrapping_add(values[2 * i + 1]);
     }
 }
 
+// Whether both are so.
+#[inline(always)]
+fn both(a: bool, b: bool) -> bool
+    ensures { result ≡ (a && b) }
+{
+    a && b
+}
+
+// Reads a few bytes. Its loops have no early end, so that each is done for many digits at once.
+#[inline(always)]
+fn read_part(word: &[u8], out: &mut [u8]) -> bool
+    requires pairs { length word.now ≡ 2 * length out.old }
+    requires few { length out.old ≤ 32 }
+    ensures { (if result then Some out.new else None) ≡ lower_pairs word.now }
+{
+    let mut room = [0; 2 * PART];
+    let values = &mut room[..word.len()];
+    let greatest = read_values(word, values);
+    join_pairs(values, out);
+    greatest < 16
+}
+
 // Reads the bytes that pairs of lower-case digits spell, and answers whether all are such digits; else `out` holds
-// anything. The loop has no early end, so that it is done for many digits at once.
+// anything. Parts have a fixed length, so that each is read by vectors.
 pub(crate) fn read_pairs(word: &[u8], out: &mut [u8]) -> bool
     requires { length word.now ≡ 2 * length out.old }
     ensures { (if result then Some out.new else None) ≡ lower_pairs word.now }
 {
-    let mut greatest = 0;
-    for i in 0..out.len() {
-        let high = value(word[2 * i]);
-        let low = value(word[2 * i + 1]);
-        out[i] = high.wrapping_mul(16).wrapping_add(low);
-        greatest = greatest.max(high).max(low);
+    let mut are = true;
+    let mut done = 0;
+    while out.len() - done >= PART {
+        let part = read_part(
+            &word[2 * done..2 * done + 2 * PART],
+            &mut out[done..done + PART],
+        );
+        let now = both(part, are);
+        are = now;
+        done += PART;
     }
-    greatest < 16
+    let last = read_part(&word[2 * done..], &mut out[done..]);
+    both(last, are)
 }

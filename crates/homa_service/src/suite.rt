@@ -1,5 +1,5 @@
 // Four services that show what a call carries.
-ghost use Rattle.std.specs.Prelude.{◌≡◌, ◌+◌, ◌<◌, ◌^◌, IfOk, OnOk, OnErr};
+ghost use Rattle.std.specs.Prelude.{◌≡◌, ◌+◌, ◌<◌, ◌^◌, length, reverse, IfOk, OnOk, OnErr};
 ghost use Rattle.homa_service.specs.Suite.{suite_answer};
 
 use crate::{Reply, Service};
@@ -32,6 +32,16 @@ const MOST_BYTES: usize = 1_000_000;
 /// The ticks for which number 3 holds its answer back.
 const HOLD: u32 = 10;
 
+// Writes the bytes the other way round. Each is read and written once, so that it is done for many at once.
+fn reverse_into(bytes: &[u8], out: &mut [u8])
+    requires { length out.old ≡ length bytes.now }
+    ensures { out.new ≡ reverse bytes.now }
+{
+    for i in 0..bytes.len() {
+        out[i] = bytes[bytes.len() - 1 - i];
+    }
+}
+
 impl Suite {
     /// A suite that has answered nothing yet.
     pub fn new() -> Suite
@@ -55,8 +65,8 @@ impl Suite {
                 Ok(Reply::new(Vec::from_slice(alloc, &count)?, 0))
             }
             2 => {
-                let mut bytes = Vec::from_slice(alloc, request)?;
-                bytes.reverse();
+                let mut bytes = vec![in alloc; 0; request.len()]?;
+                reverse_into(request, &mut bytes);
                 Ok(Reply::new(bytes, 0))
             }
             3 => Ok(Reply::new(Vec::from_slice(alloc, request)?, HOLD)),

@@ -1,5 +1,6 @@
 -- The digits of bytes, part by part.
-use Rattle.std.proofs.Common.{◌≡◌, ◌<◌, ◌≤◌, ℕ, ◌+◌, ◌*◌, arith, List, [], ◌∷◌, ◌++◌, length, map, take, drop, slice_index, slice_set, refl, sym, ap, ◌∙◌, append_assoc}
+use Rattle.std.proofs.Common.{◌≡◌, ◌<◌, ◌≤◌, ℕ, ◌+◌, ◌*◌, arith, List, [], ◌∷◌, ◌++◌}
+use Rattle.std.proofs.Common.{length, map, take, drop, slice_index, slice_set, refl, sym, ap, ◌∙◌, append_assoc}
 use Rattle.std.proofs.lemmas.List.{append-nil, drop-drop, drop_all, drop_more, map_more, take_all, take_more_set}
 use Rattle.hex.specs.Hex.{encode_with, encode_lower}
 use Rattle.hex.proofs.Pairs.{take-two_writes}
@@ -27,7 +28,8 @@ turns_nil ys = refl
 -- one byte more of each
 pub turns_more : (high low out : List ℕ) (i : ℕ) → i < length high → length low ≡ length high → length out ≡ 2 * length high
     → take (2 * i) out ++ by_turns (drop i high) (drop i low) ≡ by_turns high low
-    → take (2 * (i + 1)) (slice_set (slice_set out (2 * i) (slice_index high i)) (2 * i + 1) (slice_index low i)) ++ by_turns (drop (i + 1) high) (drop (i + 1) low) ≡ by_turns high low
+    → take (2 * (i + 1)) (slice_set (slice_set out (2 * i) (slice_index high i)) (2 * i + 1) (slice_index low i)) ++ by_turns (drop (i + 1) high)
+        (drop (i + 1) low) ≡ by_turns high low
 turns_more high low out i within same fits so_far =
     let two : 2 * (i + 1) ≡ 2 * i + 2 = omega arith in
     let x = slice_index high i in
@@ -45,7 +47,8 @@ pub turns_all : (high low out : List ℕ) (i : ℕ) → length high ≤ i → le
     → take (2 * i) out ++ by_turns (drop i high) (drop i low) ≡ by_turns high low → out ≡ by_turns high low
 turns_all high low out i past fits so_far =
     sym (append-nil out)
-    ∙ ((λ j. sym (take_all (2 * i) out (omega arith)) j ++ sym (ap (λ (xs : List ℕ). by_turns xs (drop i low)) (drop_all i high past) ∙ turns_nil (drop i low)) j)
+    ∙ ((λ j. sym (take_all (2 * i) out (omega arith)) j ++ sym
+        (ap (λ (xs : List ℕ). by_turns xs (drop i low)) (drop_all i high past) ∙ turns_nil (drop i low)) j)
     ∙ so_far)
 
 -- the digits of each byte by turns are those of the bytes

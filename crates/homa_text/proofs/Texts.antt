@@ -1,7 +1,9 @@
 -- The texts of bytes, words and lines, part by part.
-use Rattle.std.proofs.Common.{◌≡◌, ◌<◌, ◌≤◌, ℕ, ◌+◌, ◌-◌, suc, arith, List, [], ◌∷◌, ◌++◌, length, map, take, drop, get_or, refl, sym, ap, ◌∙◌, append_assoc}
+use Rattle.std.proofs.Common.{◌≡◌, ◌<◌, ◌≤◌, ℕ, ◌+◌, ◌-◌, ◌/◌, ◌%◌, decimal, suc, arith, List, []}
+use Rattle.std.proofs.Common.{◌∷◌, ◌++◌, length, map, take, drop, get_or, refl, sym, ap, ◌∙◌, append_assoc}
 use Rattle.std.specs.List.{flat_map, join_with_byte}
 use Rattle.std.proofs.lemmas.List.{take_more, take_rest, take-append-drop, append-nil}
+use Rattle.std.proofs.lemmas.Fmt.{decimal_digit, decimal_step}
 use Rattle.std.proofs.lemmas.Grind.{flat_map-append}
 use Rattle.std.proofs.Math.Seq.{take-add, split_at}
 use Rattle.hex.specs.Hex.{encode_with, lower_digits, encode_lower}
@@ -68,3 +70,11 @@ line_of_words-parts w ws = sym (append_assoc w (flat_map spaced_word ws) (10 ∷
 pub first_of : {X : Type 0} (xs : List X) (d : X) → 1 ≤ length xs → get_or xs 0 d ∷ take (length xs - 1) (drop 1 xs) ≡ xs
 first_of [] d h = absurd (omega arith)
 first_of (x ∷ xs) d h = ap (λ ys. x ∷ ys) (take_rest (x ∷ xs) 1)
+
+-- a number of one digit
+pub one_digit : (n : ℕ) → n < 10 → decimal n ≡ (48 + n) ∷ []
+one_digit n small = decimal_digit n small
+
+-- and of two
+pub two_digits : (n : ℕ) → 10 ≤ n → n < 100 → decimal n ≡ (48 + n / 10) ∷ (48 + n % 10) ∷ []
+two_digits n some small = decimal_step n some (omega arith) ∙ ap (λ (ds : List ℕ). ds ++ (48 + n % 10) ∷ []) (decimal_digit (n / 10) (omega arith))

@@ -89,13 +89,29 @@ pub(crate) fn add<const N: usize>(text: &mut ArrayVec<u8, N>, bytes: &[u8])
     text.try_extend_from_slice(bytes).unwrap();
 }
 
-/// Adds a number.
+// The decimal digit of a number below 10.
 #[inline(always)]
+fn numeral(n: u64) -> u8
+    requires { n < 10 }
+    ensures { result ≡ 48 + n }
+{
+    b'0' + n as u8
+}
+
+/// Adds a number. Most have one digit or two.
+#[inline(always)]
+#[tactic(auto, using(crate::proofs::Texts::one_digit, crate::proofs::Texts::two_digits))]
 pub(crate) fn add_number<const N: usize>(text: &mut ArrayVec<u8, N>, n: u64)
     requires { array_vec_len text.old + 20 ≤ N }
     ensures items { text.new.items ≡ text.old.items ++ decimal n }
     ensures len { array_vec_len text.new ≤ array_vec_len text.old + 20 }
 {
+    if n < 10 {
+        return add(text, &[numeral(n)]);
+    }
+    if n < 100 {
+        return add(text, &[numeral(n / 10), numeral(n % 10)]);
+    }
     let mut buffer = Buffer::new();
     text.try_extend_from_slice(buffer.format(n).as_bytes())
         .unwrap();

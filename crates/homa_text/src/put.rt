@@ -13,7 +13,9 @@ ghost use Rattle.homa_text.specs.Written.{word_text, spaced_word};
 use crate::Word;
 use crate::adding::write_digits;
 use crate::entry_words::words_of_entry;
-use crate::quick::{Head, Piece, ShortLine, clock_line, deliver_line, grant_line, piece_line, piece_numbers};
+use crate::quick::{
+    Head, Piece, ShortLine, clock_line, deliver_line, grant_line, piece_line, piece_numbers,
+};
 use crate::quick_calls::{
     bury_line, call_line, done_line, free_line, inject_line, junk_line, run_line,
 };

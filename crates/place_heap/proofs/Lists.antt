@@ -1,5 +1,6 @@
 -- A heap as its list, over each of its calls.
-use Rattle.std.proofs.Common.{◌≡◌, ℕ, ◌+◌, ◌<◌, ◌≤◌, ◌↔◌, List, [], length, take, set, Option, Some, None, IsSome, IsTrue, refl, sym, ap, subst, ◌∙◌, arith}
+use Rattle.std.proofs.Common.{◌≡◌, ℕ, ◌+◌, ◌<◌, ◌≤◌, ◌↔◌, ◌&&◌, true, eqb, List, [], length, take}
+use Rattle.std.proofs.Common.{set, Option, Some, None, IsSome, IsTrue, refl, sym, ap, subst, ◌∙◌, arith}
 use Rattle.std.proofs.lemmas.List.{length-take-le}
 use Rattle.std.proofs.lemmas.Bool.Decides.{nat_tests}
 use Rattle.std.specs.Prelude.{slice_index, nat_lt}
@@ -8,7 +9,7 @@ use Rattle.place_heap.specs.declared.key.Key.{Key}
 use Rattle.place_heap.specs.Order.{Item, placed, ordered, without, key_in, first_of}
 use Rattle.place_heap.specs.Held.{Held, items_of, places_of, at, IsKept, list_of}
 use Rattle.place_heap.specs.Sifted.{IsSifted}
-use Rattle.place_heap.proofs.Moves.{items_len, places_len}
+use Rattle.place_heap.proofs.Moves.{items_len, places_len, set_as_it_was}
 use Rattle.place_heap.proofs.Kept.{key_present, key_absent, present_from_key, absent_from_key, has_room, list_grows, list_changes, list_shrinks, list_ends, first_item, length-ordered}
 
 -- what IsSome says
@@ -88,6 +89,26 @@ pub list_after_update : (cells mid new : List Cell) (len : ℕ) (x : Item) (kept
     → list_of (record { cells = new; len = len }) ≡ placed x (without x.0 (list_of (record { cells = cells; len = len })))
 unfolding list_of
 list_after_update cells mid new len x kept inside here items places count done = done.list ∙ list_changes cells mid len x kept inside here items places count
+
+-- two keys that a test finds equal
+pub key_same : (a b : Key) → true ≡ (eqb a.first b.first && eqb a.second b.second) → a ≡ b
+key_same a b same =
+    let first : a.first ≡ b.first = grind (arith, nat_tests) in
+    let second : a.second ≡ b.second = grind (arith, nat_tests) in
+    (λ j. record { first = first j; second = second j })
+
+-- the list where a slot is given the key that it has
+pub list_after_same : (cells : List Cell) (len : ℕ) (x had : Item) (kept : IsKept (record { cells = cells; len = len })) → x.0 < length
+    (places_of cells) → slice_index (places_of cells) x.0 < len
+    → had ≡ at (items_of cells) (slice_index (places_of cells) x.0) → had.1 ≡ x.1
+    → list_of (record { cells = cells; len = len }) ≡ placed x (without x.0 (list_of (record { cells = cells; len = len })))
+unfolding list_of
+list_after_same cells len x had kept inside here lies same =
+    let place = slice_index (places_of cells) x.0 in
+    let slot : (at (items_of cells) place).0 ≡ x.0 = kept.indexed.present x.0 inside here in
+    let key : (at (items_of cells) place).1 ≡ x.1 = ap (λ (y : Item). y.1) (sym lies) ∙ same in
+    let is : at (items_of cells) place ≡ x = (λ j. (slot j, key j)) in
+    list_changes cells cells len x kept inside here (sym (set_as_it_was (items_of cells) place _) ∙ ap (set (items_of cells) place) is) refl refl
 
 -- the list after a slot went and the last item took its place
 pub list_after_remove : (cells mid new : List Cell) (last slot p : ℕ) (item : Item) (kept : IsKept (record { cells = cells; len = last + 1 })) → slot < length (places_of cells) → slice_index (places_of cells) slot ≡ p → p < last

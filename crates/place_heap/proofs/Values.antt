@@ -1,68 +1,136 @@
--- The values of a block whose places were written.
-use Rattle.std.proofs.Common.{◌≡◌, ℕ, zero, suc, ◌<◌, ◌≤◌, List, [], ◌∷◌, length, map, set, get_or, replicate, Option, Some, None, refl, sym, ap, ◌∙◌, arith, length-set, ⊎_elim}
+-- The cells that a block shows, of which some were written.
+use Rattle.std.proofs.Common.{◌≡◌, ◌≢◌, ℕ, ◌+◌, ◌<◌, ◌≤◌, List, length, map, set, get_or, replicate}
+use Rattle.std.proofs.Common.{Option, Some, None, refl, sym, ap, ◌∙◌, arith, length-set, ⊎_elim, slice_index, subst}
+use Rattle.std.specs.List.{range_with_len}
 use Rattle.std.proofs.lemmas.Bool.{cases_eq}
-use Rattle.std.proofs.lemmas.List.{length-map, map-set, get_or-set_same, get_or-set_other}
+use Rattle.std.proofs.lemmas.List.{get_or-set_same, get_or-set_other, get_or-replicate, length-replicate}
+use Rattle.std.proofs.lemmas.List.FromFn.{length-map-range_with_len, get_or-map-range_with_len, fill_by_all}
 use denote.RawPtr.{Ptr}
 use Rattle.place_heap.specs.declared.cells.Cell.{Cell}
-use Rattle.place_heap.specs.Cells.{cell_at, values_of, IsWritten}
+use Rattle.place_heap.specs.Cells.{cell_at, shown, unused_cell, values_of, IsMarked, IsWritten}
 
--- what was written is what is read
-values_of-map : (cells : List Cell) → values_of (map Some cells) ≡ cells
-values_of-map [] = refl
-values_of-map (cell ∷ cells) = ap (λ cs. cell ∷ cs) (values_of-map cells)
+-- what the place i shows
+abbrev at_place : List ℕ → List (Option Cell) → ℕ → Cell
+at_place marks places i = shown (slice_index marks i) (get_or places i None)
 
--- each place holds its value
-get_or-map : (cells : List Cell) (i : ℕ) → i < length cells → get_or (map Some cells) i None ≡ Some (cell_at cells i)
-get_or-map [] i inside = absurd (omega arith)
-get_or-map (cell ∷ cells) zero inside = refl
-get_or-map (cell ∷ cells) (suc i) inside = get_or-map cells i (omega arith)
+-- there are as many cells as places
+pub values_len : (marks : List ℕ) (places : List (Option Cell)) (cap : ℕ) → length (values_of marks places cap) ≡ cap
+values_len marks places cap = length-map-range_with_len (at_place marks places) 0 cap
 
-module _ {at base : Ptr} {places : List (Option Cell)} {cap : ℕ} (kept : IsWritten at base places cap) where
-  -- there are as many values as places
-  pub values_len : length (values_of places) ≡ cap
-  values_len = sym (length-map (values_of places) Some) ∙ ap length (sym kept.written) ∙ kept.len
+-- each cell is what its place shows
+pub value_at : (marks : List ℕ) (places : List (Option Cell)) (cap i : ℕ) → i < cap → cell_at (values_of marks places cap) i ≡ at_place marks places i
+value_at marks places cap i inside = get_or-map-range_with_len (at_place marks places) 0 cap i i (unused_cell 0) inside (omega arith)
 
-  -- the place of a value holds it
-  pub place_holds : (i : ℕ) → i < cap → get_or places i None ≡ Some (cell_at (values_of places) i)
-  place_holds i inside = ap (λ cs. get_or cs i None) kept.written ∙ get_or-map (values_of places) i (omega (arith, values_len))
+-- cells that are each what their place shows
+all_shown : (cells : List Cell) (marks : List ℕ) (places : List (Option Cell)) (cap : ℕ) → length cells ≡ cap
+    → ((k : ℕ) → k < cap → cell_at cells k ≡ at_place marks places k) → cells ≡ values_of marks places cap
+all_shown cells marks places cap len each = fill_by_all (at_place marks places) cells cap (unused_cell 0) len each
 
-  -- the places after a write
-  put_whole : (i : ℕ) (cell : Cell) → set places i (Some cell) ≡ map Some (set (values_of places) i cell)
-  put_whole i cell = ap (λ cs. set cs i (Some cell)) kept.written ∙ sym (map-set Some (values_of places) i cell)
+-- a mark and its place, given another way
+both_marked : (m n : ℕ) (p q : Option Cell) → m ≡ n → p ≡ q → IsMarked m p → IsMarked n q
+both_marked m n p q e f marked = subst (λ (x : ℕ). IsMarked x q) e (subst (λ (y : Option Cell). IsMarked m y) f marked)
 
-  -- a write to a place is one to the values
-  pub put_values : (i : ℕ) (cell : Cell) → values_of (set places i (Some cell)) ≡ set (values_of places) i cell
-  put_values i cell = ap values_of (put_whole i cell) ∙ values_of-map (set (values_of places) i cell)
+-- a place with the mark of one that was written holds what it shows
+held_by : (mark : ℕ) (place : Option Cell) → IsMarked mark place → mark ≡ 65535 → place ≡ Some (shown mark place)
+held_by mark (Some cell) marked is = refl
+held_by mark None marked is = absurd (omega arith)
 
-  -- a block stays written over a write
-  pub put_written : (i : ℕ) (cell : Cell) → IsWritten at base (set places i (Some cell)) cap
-  put_written i cell = record {
-    lies = kept.lies;
-    len = length-set places i (Some cell) ∙ kept.len;
-    small = kept.small;
-    written = put_whole i cell ∙ ap (map Some) (sym (put_values i cell));
+-- and one with another mark holds nothing
+none_by : (mark : ℕ) (place : Option Cell) → IsMarked mark place → mark ≢ 65535 → place ≡ None
+none_by mark (Some cell) marked isnt = absurd (isnt marked)
+none_by mark None marked isnt = refl
+
+module _ {at base : Ptr} {marks : List ℕ} {places : List (Option Cell)} {cap : ℕ} (kept : IsWritten at base marks places cap) (i : ℕ) (inside : i < cap) where
+  -- a place that was written holds its cell
+  pub place_holds : slice_index marks i ≡ 65535 → get_or places i None ≡ Some (cell_at (values_of marks places cap) i)
+  place_holds is = held_by (slice_index marks i) (get_or places i None) (kept.marked i inside) is ∙ ap Some (sym (value_at marks places cap i inside))
+
+  -- a place that wasn't shows a cell with no item
+  pub place_blank : slice_index marks i ≢ 65535 → cell_at (values_of marks places cap) i ≡ unused_cell (slice_index marks i)
+  place_blank isnt =
+      value_at marks places cap i inside ∙ ap (shown (slice_index marks i)) (none_by (slice_index marks i) (get_or places i None) (kept.marked i inside) isnt)
+
+  module _ (mark : ℕ) (place : Option Cell) (marks' : List ℕ) (places' : List (Option Cell)) (is_mark : marks' ≡ set marks i mark)
+      (is_place : (k : ℕ) → k ≢ i → get_or places' k None ≡ get_or places k None)
+      (there : get_or places' i None ≡ place) (same : length places' ≡ length places) (marked : IsMarked mark place) where
+    -- the new mark
+    mark_at : slice_index marks' i ≡ mark
+    mark_at = ap (λ ms. slice_index ms i) is_mark ∙ get_or-set_same marks i mark 0 (omega (arith, kept.many))
+
+    -- the other marks
+    mark_other : (k : ℕ) → k ≢ i → slice_index marks' k ≡ slice_index marks k
+    mark_other k ne = ap (λ ms. slice_index ms k) is_mark ∙ get_or-set_other marks i k mark 0 ne
+
+    -- the marks and the places stay in step
+    pub changed_written : IsWritten at base marks' places' cap
+    changed_written = record {
+      lies = kept.lies;
+      len = same ∙ kept.len;
+      small = kept.small;
+      many = ap length is_mark ∙ length-set marks i mark ∙ kept.many;
+      marked = λ k below. ⊎_elim
+          (λ e. subst (λ (n : ℕ). IsMarked (slice_index marks' n) (get_or places' n None)) (sym e) (both_marked _ _ _ _ (sym mark_at) (sym there) marked))
+          (λ ne. both_marked _ _ _ _ (sym (mark_other k ne)) (sym (is_place k ne)) (kept.marked k below)) (cases_eq k i);
+    }
+
+    -- and one cell is another
+    pub changed_values : values_of marks' places' cap ≡ set (values_of marks places cap) i (shown mark place)
+    changed_values =
+        sym (all_shown (set (values_of marks places cap) i (shown mark place)) marks' places' cap
+        (length-set (values_of marks places cap) i (shown mark place) ∙ values_len marks places cap)
+        (λ k below. ⊎_elim
+        (λ e. ap (λ n. cell_at (set (values_of marks places cap) i (shown mark place)) n) e
+        ∙ (get_or-set_same (values_of marks places cap) i (shown mark place) (unused_cell 0) (omega (arith, values_len marks places cap))
+        ∙ (λ j. shown (sym mark_at j) (sym there j)) ∙ ap (at_place marks' places') (sym e)))
+        (λ ne. get_or-set_other (values_of marks places cap) i k (shown mark place) (unused_cell 0) ne
+        ∙ (value_at marks places cap k below ∙ (λ j. shown (sym (mark_other k ne) j) (sym (is_place k ne) j)))) (cases_eq k i)))
+
+  -- a cell is written
+  pub put_written : (cell : Cell) → IsWritten at base (set marks i 65535) (set places i (Some cell)) cap
+  put_written cell =
+      changed_written 65535 (Some cell) (set marks i 65535) (set places i (Some cell)) refl (λ k ne. get_or-set_other places i k (Some cell) None ne)
+      (get_or-set_same places i (Some cell) None (omega (arith, kept.len))) (length-set places i (Some cell)) refl
+
+  -- which is then the one that is shown
+  pub put_values : (cell : Cell) → values_of (set marks i 65535) (set places i (Some cell)) cap ≡ set (values_of marks places cap) i cell
+  put_values cell =
+      changed_values 65535 (Some cell) (set marks i 65535) (set places i (Some cell)) refl (λ k ne. get_or-set_other places i k (Some cell) None ne)
+      (get_or-set_same places i (Some cell) None (omega (arith, kept.len))) (length-set places i (Some cell)) refl
+
+  -- the mark of a place that wasn't written is another
+  pub noted_written : slice_index marks i ≢ 65535 → (mark : ℕ) → mark < 65535 → IsWritten at base (set marks i mark) places cap
+  noted_written isnt mark small =
+      changed_written mark None (set marks i mark) places refl (λ k ne. refl)
+      (none_by (slice_index marks i) (get_or places i None) (kept.marked i inside) isnt) refl small
+
+  -- and so is the place that is shown
+  pub noted_values : slice_index marks i ≢ 65535 → (mark : ℕ) → mark < 65535 → values_of (set marks i mark) places cap ≡ set
+      (values_of marks places cap) i (unused_cell mark)
+  noted_values isnt mark small =
+      changed_values mark None (set marks i mark) places refl (λ k ne. refl)
+      (none_by (slice_index marks i) (get_or places i None) (kept.marked i inside) isnt) refl small
+
+module _ (at base : Ptr) (cap : ℕ) (small : cap ≤ 8192) where
+  -- the marks of places that weren't written
+  new_mark : (k : ℕ) → k < cap → slice_index (replicate cap cap) k ≡ cap
+  new_mark k below = get_or-replicate cap k cap 0 below
+
+  -- the places
+  new_place : (k : ℕ) → k < cap → get_or (replicate cap (let none : Option Cell = None in none)) k None ≡ None
+  new_place k below = get_or-replicate cap k None None below
+
+  -- a new block has a mark for each place
+  pub new_written : at ≡ base → IsWritten at base (replicate cap cap) (replicate cap None) cap
+  new_written lies = record {
+    lies = lies;
+    len = length-replicate cap None;
+    small = small;
+    many = length-replicate cap cap;
+    marked = λ k below. both_marked _ _ _ _ (sym (new_mark k below)) (sym (new_place k below)) (let less : cap < 65535 = omega arith in less);
   }
 
--- places that each hold one value
-pub all_hold : (places : List (Option Cell)) (cell : Cell) → ((k : ℕ) → k < length places → get_or places k None ≡ Some cell) → places ≡ map Some (replicate (length places) cell)
-all_hold [] cell holds = refl
-all_hold (place ∷ places) cell holds = (λ i. holds 0 (omega arith) i ∷ all_hold places cell (λ k inside. holds (suc k) (omega arith)) i)
-
-module _ (at base : Ptr) (places : List (Option Cell)) (cap : ℕ) (cell : Cell) (lies : at ≡ base) (len : length places ≡ cap) (small : cap ≤ 8192) (holds : (k : ℕ) → k < cap → get_or places k None ≡ Some cell) where
-  -- each place holds the value
-  all_places : places ≡ map Some (replicate (length places) cell)
-  all_places = all_hold places cell (λ k inside. holds k (omega (arith, len)))
-
-  -- the values are then that one
-  pub new_values : values_of places ≡ replicate cap cell
-  new_values = ap values_of all_places ∙ values_of-map (replicate (length places) cell) ∙ ap (λ n. replicate n cell) len
-
-  -- a new block is written
-  pub new_written : IsWritten at base places cap
-  new_written = record { lies = lies; len = len; small = small; written = all_places ∙ ap (map Some) (sym (ap values_of all_places ∙ values_of-map (replicate (length places) cell))) }
-
--- one more place holds the value
-pub more_hold : (places : List (Option Cell)) (cell : Cell) (i : ℕ) → i < length places → ((k : ℕ) → k < i → get_or places k None ≡ Some cell) → (k : ℕ) → k < suc i → get_or (set places i (Some cell)) k None ≡ Some cell
-more_hold places cell i inside holds k below =
-    ⊎_elim (λ e. ap (λ n. get_or (set places i (Some cell)) n None) e ∙ get_or-set_same places i (Some cell) None inside)
-    (λ ne. get_or-set_other places i k (Some cell) None ne ∙ holds k (omega arith)) (cases_eq k i)
+  -- and shows cells with no item
+  pub new_values : values_of (replicate cap cap) (replicate cap None) cap ≡ replicate cap (unused_cell cap)
+  new_values =
+      sym (all_shown (replicate cap (unused_cell cap)) (replicate cap cap) (replicate cap None) cap (length-replicate cap (unused_cell cap))
+      (λ k below. get_or-replicate cap k (unused_cell cap) (unused_cell 0) below ∙ (λ j. shown (sym (new_mark k below) j) (sym (new_place k below) j))))

@@ -1,5 +1,6 @@
 -- What a block of cells is seen as.
-use Rattle.std.specs.Prelude.{◌≡◌, ℕ, ◌≤◌, List, [], ◌∷◌, length, map, Option, Some, None, slice_index_or}
+use Rattle.std.specs.Prelude.{◌≡◌, ℕ, ◌<◌, ◌≤◌, List, length, map, Option, Some, None, slice_index, slice_index_or}
+use Rattle.std.specs.List.{range_with_len}
 use denote.RawPtr.{Ptr}
 use Rattle.place_heap.specs.declared.cells.Cell.{Cell}
 
@@ -11,15 +12,24 @@ unused_cell cap = record { key = record { first = 0; second = 0 }; slot = 0; at 
 abbrev pub cell_at : List Cell → ℕ → Cell
 cell_at cells i = slice_index_or cells i (unused_cell 0)
 
--- the values that were written
-abbrev pub values_of : List (Option Cell) → List Cell
-values_of [] = []
-values_of (None ∷ places) = values_of places
-values_of (Some cell ∷ places) = cell ∷ values_of places
+-- the cell that a place shows, with its mark: what was written, or a cell with no item whose slot is where the mark says
+abbrev pub shown : ℕ → Option Cell → Cell
+shown mark (Some cell) = cell
+shown mark None = unused_cell mark
 
--- the block lies where the pointer says, and each of its `cap` places was written
-pub record IsWritten (at base : Ptr) (places : List (Option Cell)) (cap : ℕ) : Type 0 where
+-- the cells that so many places show
+abbrev pub values_of : List ℕ → List (Option Cell) → ℕ → List Cell
+values_of marks places cap = map (λ i. shown (slice_index marks i) (slice_index_or places i None)) (range_with_len 0 cap)
+
+-- a place was written where its mark says so, which is 65535
+abbrev pub IsMarked : ℕ → Option Cell → Type 0
+IsMarked mark (Some cell) = mark ≡ 65535
+IsMarked mark None = mark < 65535
+
+-- the block lies where the pointer says, and has a mark for each of its `cap` places
+pub record IsWritten (at base : Ptr) (marks : List ℕ) (places : List (Option Cell)) (cap : ℕ) : Type 0 where
   pub lies : at ≡ base
   pub len : length places ≡ cap
   pub small : cap ≤ 8192
-  pub written : places ≡ map Some (values_of places)
+  pub many : length marks ≡ cap
+  pub marked : (i : ℕ) → i < cap → IsMarked (slice_index marks i) (slice_index_or places i None)

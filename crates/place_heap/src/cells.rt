@@ -1,4 +1,4 @@
-//! A block of cells in raw memory.
+//! A block of cells in raw memory, which are first written when they are put.
 ghost use Rattle.std.specs.Prelude.{◌≡◌, ℕ, ◌+◌, ◌<◌, ◌≤◌, List, Option, Some, None, length, replicate, slice_index_or, slice_set, IfOk};
 ghost use denote.RawPtr.{Ptr};
 ghost use Rattle.place_heap.specs.declared.cells.Cell.{Cell};
@@ -86,11 +86,16 @@ impl Block {
     }
 }
 
-/// A block of cells, each with a value. It is seen as the list of its cells.
+// The mark of a cell that was written.
+const WRITTEN: u16 = 65535;
+
+/// A block of cells, each with a value. It is seen as the list of its cells. A cell is written when it is first put, so that
+/// the system hands out no memory for it before; until then its mark alone says the place of its slot.
 pub struct Cells {
     base: Base,
     cap: u32,
     block: Block,
+    marks: Vec<u16>,
     alloc: Global,
 }
 
@@ -101,9 +106,21 @@ impl Model for Cells {
 
     ghost Value = { List Cell };
 
-    ghost view = { λ c. values_of c.block.slots };
+    ghost view = { λ c. values_of c.marks.items c.block.slots c.cap };
 
-    ghost invariant = { λ c. IsWritten c.block.at c.base.ptr c.block.slots c.cap };
+    ghost invariant = { λ c. IsWritten c.block.at c.base.ptr c.marks.items c.block.slots c.cap };
+}
+
+// A cell with no item.
+#[inline(always)]
+fn unused(at: u32) -> Cell
+    ensures { result ≡ unused_cell at }
+{
+    let key = Key {
+        first: 0,
+        second: 0,
+    };
+    Cell { key, slot: 0, at }
 }
 
 impl Cells {
@@ -112,22 +129,13 @@ impl Cells {
         requires { cap ≤ 8192 }
         ensures { IfOk result (λ cells. cells ≡ replicate cap (unused_cell cap)) }
     {
-        let (base, mut block) = allocate(&alloc, cap as usize)?;
-        let unused = Cell {
-            key: Key {
-                first: 0,
-                second: 0,
-            },
-            slot: 0,
-            at: cap,
-        };
-        for i in 0..cap {
-            block.write(base, i as usize, unused);
-        }
+        let marks = vec![in alloc; cap as u16; cap as usize]?;
+        let (base, block) = allocate(&alloc, cap as usize)?;
         Ok(Cells {
             base,
             cap,
             block,
+            marks,
             alloc,
         })
     }
@@ -147,7 +155,12 @@ impl Cells {
         ensures steps { steps.new ≡ steps.old + 1 }
     {
         steps.tick(); // a read
-        *self.block.read(self.base, i as usize)
+        let mark = self.marks[i as usize];
+        if mark == WRITTEN {
+            *self.block.read(self.base, i as usize)
+        } else {
+            unused(u32::from(mark))
+        }
     }
 
     /// Puts a cell in a place, in one step.
@@ -158,6 +171,21 @@ impl Cells {
     {
         steps.tick(); // a write
         self.block.write(self.base, i as usize, cell);
+        self.marks[i as usize] = WRITTEN;
+    }
+
+    /// Puts another place in a cell, in two steps.
+    pub fn put_at<L: Ledger>(&mut self, i: u32, at: u32, steps: &mut Steps<L>)
+        requires { i < length self.old }
+        ensures cells { self.new ≡ slice_set self.old i (record { key = (cell_at self.old i).key; slot = (cell_at self.old i).slot; at = at }) }
+        ensures steps { steps.new ≡ steps.old + 2 }
+    {
+        let cell = self.get(i, steps);
+        if self.marks[i as usize] == WRITTEN || at >= u32::from(WRITTEN) {
+            return self.put(i, Cell { at, ..cell }, steps);
+        }
+        steps.tick(); // a write
+        self.marks[i as usize] = at as u16;
     }
 }
 
@@ -167,8 +195,10 @@ impl Drop for Cells {
             base,
             cap,
             block,
+            marks,
             alloc,
         } = self;
+        let _marks = marks;
         free(&alloc, base, cap as usize, block);
     }
 }

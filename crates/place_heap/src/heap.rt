@@ -119,6 +119,9 @@ impl PlaceHeap {
         let len = self.len;
         let place = place_of(&self.cells, slot, steps);
         let had = item_at(&self.cells, place, steps);
+        if had.1 == key {
+            return;
+        }
         put_item(&mut self.cells, place, (slot, key), steps);
         sift(&mut self.cells, len, place, had, (slot, key), steps);
     }

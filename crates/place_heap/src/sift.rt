@@ -48,8 +48,7 @@ pub(crate) fn put_place<L: Ledger>(cells: &mut Cells, slot: u32, place: u32, ste
     ensures len { length cells.new ≡ length cells.old }
     ensures steps { steps.new ≡ steps.old + 2 }
 {
-    let cell = cells.get(slot, steps);
-    cells.put(slot, Cell { at: place, ..cell }, steps);
+    cells.put_at(slot, place, steps);
 }
 
 /// Puts an item in a place and notes the place of its slot, in four steps.

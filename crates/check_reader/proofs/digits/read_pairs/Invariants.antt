@@ -1,6 +1,13 @@
-use Rattle.std.proofs.Common.{◌≡◌, ◌*◌, take, drop}
-use Rattle.check_reader.specs.Digits.{is_value, lower_pairs, spelled}
+use Rattle.std.proofs.Common.{◌≡◌, ◌≤◌, ◌-◌, ◌*◌, length, take, drop}
+use Rattle.check_reader.specs.Digits.{lower_pairs, spelled}
 use Rattle.check_reader.proofs.digits.read_pairs.Given as goal
 
-abbrev pub invariant-loop-i : goal.invariant-loop-i
-invariant-loop-i l = lower_pairs l.word ≡ spelled (is_value l.greatest) (take l.i l.out) (lower_pairs (drop (2 * l.i) l.word))
+-- what the parts so far spell, and then what the rest does
+abbrev pub invariant-loop-out : goal.invariant-loop-out
+invariant-loop-out l = record {
+  so_far : lower_pairs l.word ≡ spelled l.are (take l.done l.out) (lower_pairs (drop (2 * l.done) l.word));
+  within : l.done ≤ length l.out;
+}
+
+abbrev pub decreases-loop-out : goal.decreases-loop-out
+decreases-loop-out l = length l.out - l.done

@@ -10,7 +10,8 @@ bytes-preserved c =
     let byte : ℕ = slice_index c.args.bytes.now c.bytes.i in
     record {
       high = mapped_more high_digit c.args.bytes.now c.bytes.high c.bytes.i _ (omega arith) (omega arith) c.digit.ensures c.bytes.invariant.high;
-      low = mapped_more low_digit c.args.bytes.now c.bytes.low c.bytes.i _ (omega arith) (omega arith) (c.digit-in-bytes.ensures ∙ ap (λ (k : ℕ). slice_index lower_digits k) (and_mask byte 4)) c.bytes.invariant.low;
+      low = mapped_more low_digit c.args.bytes.now c.bytes.low c.bytes.i _ (omega arith) (omega arith)
+          (c.digit-in-bytes.ensures ∙ ap (λ (k : ℕ). slice_index lower_digits k) (and_mask byte 4)) c.bytes.invariant.low;
     }
 
 pub returns-clause-high : goal.returns-clause-high

@@ -1,14 +1,36 @@
-use Rattle.std.proofs.Common.{◌≡◌, length, sym, ap, ◌∙◌, arith}
-use Rattle.place_heap.proofs.Values.{values_len, place_holds}
+use Rattle.std.proofs.Common.{◌≡◌, ◌<◌, length, slice_index, sym, ap, ◌∙◌, arith}
+use Rattle.std.proofs.lemmas.List.{get_or_read}
+use Rattle.place_heap.specs.Cells.{cell_at, unused_cell}
+use Rattle.place_heap.proofs.Values.{values_len, place_holds, place_blank}
 use Rattle.place_heap.proofs.cells.Cells.get.Goals as goal
+
+pub index-mark-requires : goal.index-mark-requires
+index-mark-requires g c =
+    let s = c.self.inside in
+    let long : length c.args.self.now ≡ s.cap = ap length (sym c.self.view_is) ∙ values_len s.marks.items s.block.slots s.cap in
+    omega (arith, c.self.invariant.many, s.marks.ok.0)
 
 pub read-requires : goal.read-requires
 read-requires g c =
-    let long : length c.args.self.now ≡ c.self.inside.cap = ap length (sym c.self.view_is) ∙ values_len c.self.invariant in
-    (sym c.self.invariant.lies, omega (arith, c.self.invariant.small, c.self.invariant.len), (_, place_holds c.self.invariant c.args.i (omega arith)))
+    let s = c.self.inside in
+    let long : length c.args.self.now ≡ s.cap = ap length (sym c.self.view_is) ∙ values_len s.marks.items s.block.slots s.cap in
+    let read = get_or_read s.marks.items c.args.i c.index-mark.result.now (omega (arith, c.self.invariant.many)) c.index-mark.ensures 0 in
+    let is : slice_index s.marks.items c.args.i ≡ 65535 = omega (arith, read, c.if-mark.true) in
+    (sym c.self.invariant.lies, omega (arith, c.self.invariant.small, c.self.invariant.len), (_, place_holds c.self.invariant c.args.i (omega arith) is))
 
-pub returns-clause-value : goal.returns-clause-value
-returns-clause-value g c =
-    let long : length c.args.self.now ≡ c.self.inside.cap = ap length (sym c.self.view_is) ∙ values_len c.self.invariant in
-    let held = place_holds c.self.invariant c.args.i (omega arith) in
-    cc (held, c.self.view_is)
+pub returns-then-mark-clause-value : goal.returns-then-mark-clause-value
+returns-then-mark-clause-value g c =
+    let s = c.self.inside in
+    let long : length c.args.self.now ≡ s.cap = ap length (sym c.self.view_is) ∙ values_len s.marks.items s.block.slots s.cap in
+    let read = get_or_read s.marks.items c.args.i c.index-mark.result.now (omega (arith, c.self.invariant.many)) c.index-mark.ensures 0 in
+    let is : slice_index s.marks.items c.args.i ≡ 65535 = omega (arith, read, c.if-mark.true) in
+    let held = place_holds c.self.invariant c.args.i (omega arith) is in
+    cc (held, c.self.view_is, c.read.ensures)
+
+pub returns-else-mark-clause-value : goal.returns-else-mark-clause-value
+returns-else-mark-clause-value g c =
+    let s = c.self.inside in
+    let long : length c.args.self.now ≡ s.cap = ap length (sym c.self.view_is) ∙ values_len s.marks.items s.block.slots s.cap in
+    let read = get_or_read s.marks.items c.args.i c.index-mark.result.now (omega (arith, c.self.invariant.many)) c.index-mark.ensures 0 in
+    let blank = place_blank c.self.invariant c.args.i (omega arith) (λ e. absurd (omega (arith, read, e, c.if-mark.false))) in
+    c.unused.ensures ∙ (ap unused_cell (c.from.ensures ∙ read) ∙ (sym blank ∙ ap (λ cells. cell_at cells c.args.i) c.self.view_is))

@@ -1,10 +1,10 @@
-use Rattle.std.proofs.Common.{ℕ, IsSome, max, sym, ap, subst, ◌≤◌, ◌∙◌, arith}
+use Rattle.std.proofs.Common.{ℕ, IsSome, max, sym, ap, subst, ◌≡◌, ◌≤◌, ◌∙◌, arith}
 use Rattle.place_heap.specs.Order.{Item, key_in, placed, without, bits}
-use Rattle.place_heap.specs.Held.{Held, list_of}
+use Rattle.place_heap.specs.Held.{Held, at, items_of, list_of}
 use Rattle.place_heap.proofs.Costs.{below_bits}
 use Rattle.place_heap.proofs.Moves.{places_len}
 use Rattle.place_heap.proofs.Kept.{rekeyed_moves, kept_again}
-use Rattle.place_heap.proofs.Lists.{present_in, list_after_update}
+use Rattle.place_heap.proofs.Lists.{key_same, present_in, list_after_same, list_after_update}
 use Rattle.place_heap.proofs.heap.PlaceHeap.update.Goals as goal
 
 pub place_of-place-requires : goal.place_of-place-requires
@@ -28,6 +28,15 @@ sift-requires g c =
     rw (c.item_at-had.ensures.item, is)
     (rekeyed_moves cells c.put_item.new.cells len x c.self.invariant (omega (arith, here.0, places_len cells)) here.1
     (rw (← is) c.put_item.ensures.items) c.put_item.ensures.places c.put_item.ensures.len)
+
+pub returns-then-eq-clause-list : goal.returns-then-eq-clause-list
+returns-then-eq-clause-list g c =
+    let cells = c.self.inside.cells in let len = c.self.inside.len in let x : Item = (c.args.slot, c.args.key) in let is = c.place_of-place.ensures.place in
+    let here = present_in cells len c.self.invariant c.args.slot
+    (subst (λ (h : Held). IsSome (key_in c.args.slot (list_of h))) (sym c.self.view_is) c.requires) in
+    subst (λ (h : Held). list_of h ≡ placed x (without c.args.slot (list_of h))) c.self.view_is
+    (list_after_same cells len x c.item_at-had.result c.self.invariant (omega (arith, here.0, places_len cells)) here.1
+    (c.item_at-had.ensures.item ∙ ap (λ n. at (items_of cells) n) is) (key_same _ _ c.if-eq.ensures))
 
 pub invariant_of-self : goal.invariant_of-self
 invariant_of-self g c =
