@@ -253,7 +253,7 @@ def foreign_datagrams(faults, chosen):
     seconds = min(60.0, max(4.0, chosen.minutes * 6))
     for a_second in (0, 200, 1000, 5000):
         ports, count = free_ports(3), int(seconds * 20)
-        live = Live(script_of(ports, calls_at(0, 1, count, every=5), here=[0, 1], end=int(seconds * 100) + 100, **settings))
+        live = Live(script_of(ports, calls_at(0, 1, count, every=5), here=[0, 1], end=int(seconds * 100) + 400, **settings))
         until(lambda: is_bound(ports[1]))
         flood = Flood(ports, random.Random(chosen.seed), a_second, chosen.changed)
         flood.start()
@@ -269,7 +269,8 @@ def foreign_datagrams(faults, chosen):
         flood.join()
         lines = live.lines()
         right, took = echoed(lines, 0, count), waits(lines)
-        what = f"{a_second} a second: status {status}, {right} of {count} calls"
+        failed = sum(line.startswith("fail 0.") for line in lines)
+        what = f"{a_second} a second: status {status}, {right} of {count} calls, {failed} failed"
         for _ in range(right):
             yield True, what
         junk = sum(line.startswith("junk ") for line in lines)
