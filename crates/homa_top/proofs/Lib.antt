@@ -1,5 +1,5 @@
 mod Lawful
 mod Numbered
 mod Completing
-pub mod Stalls
 pub mod Exits
+mod NodeEnds
