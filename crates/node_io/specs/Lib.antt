@@ -6,5 +6,7 @@ pub mod Given
 pub mod Memory
 pub mod Ticks
 pub mod Sure
+pub mod Sockets
 pub mod Real
+pub mod System
 pub mod Printer

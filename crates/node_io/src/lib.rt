@@ -16,6 +16,7 @@ mod net;
 mod observer;
 mod printer;
 mod real;
+mod sockets;
 mod sure;
 
 pub use clock::{Clock, MemClock};

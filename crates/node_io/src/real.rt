@@ -1,35 +1,34 @@
 // The system's sockets as a net, and its clock. What they carry and give is trusted: no contract says it.
-ghost use Rattle.std.specs.Prelude.{◌≡◌, ◌≤◌, ◌||◌, false, true, None, OnOk, OnErr, IfOk, IfSome};
+ghost use Rattle.std.specs.Prelude.{◌≡◌, ◌≤◌, ◌||◌, ◌++◌, ◌∷◌, ◌-◌, ◌/◌, ◌↔◌, [], length, min, false, true, None, Some};
+ghost use Rattle.std.specs.Prelude.{OnOk, OnErr, OnSome, IfOk, IfSome, IsErr, IsSome};
+ghost use Rattle.std.specs.Time.{instant_nanos};
 ghost use Rattle.homa_io.specs.Outside.{HasRisen};
 ghost use Rattle.homa_plain.specs.declared.id.HostId.{HostId as Host};
 ghost use Rattle.homa_plain.specs.Calls.{is_host};
+ghost use Rattle.homa_plain.specs.World.{last_tick};
 ghost use Rattle.node_io.specs.Net.{IfFrom, is_welcome};
-ghost use Rattle.node_io.specs.Hosts.{set_has};
+ghost use Rattle.node_io.specs.System.{tick_at};
 
 use crate::faults::FaultCount;
-use crate::hosts::HostSet;
+use crate::sockets::{Sockets, address};
 use crate::{Clock, Got, Net, NetFailed, NoMemory};
 use homa_plain::{Frame, HostId};
 use std::alloc::Global;
-use std::io::ErrorKind;
-use std::net::{Ipv4Addr, SocketAddr, SocketAddrV4, UdpSocket};
+use std::net::UdpSocket;
 use std::time::{Duration, Instant};
 
 /// For how many milliseconds a receive waits for a datagram.
 const READ_LIMIT: u64 = 1;
 
-/// How many datagrams of others are passed over in one receive.
-const MOST_PASSED: u32 = 64;
-
-/// How many hosts have room, bound or routed: the most that settings allow.
-const MOST_HOSTS: usize = 32;
-
 /// The clock's last tick.
 const LAST_TICK: u64 = 1_000_000_000_000;
 
-// The address of a port on this machine.
-fn address(port: u16) -> SocketAddr {
-    SocketAddr::V4(SocketAddrV4::new(Ipv4Addr::LOCALHOST, port))
+// A socket at a port of this machine, whose reads have a limit.
+fn socket_at<R: std::net::Net>(rt: &R, port: u16) -> Result<UdpSocket, NetFailed> {
+    let socket = UdpSocket::bind(rt, address(port)).map_err(|_| NetFailed)?;
+    let limit = Duration::from_millis(READ_LIMIT);
+    socket.set_read_timeout(Some(limit)).map_err(|_| NetFailed)?;
+    Ok(socket)
 }
 
 // Counts a fault where a call failed.
@@ -51,125 +50,57 @@ fn counted<T>(faults: &mut FaultCount, answer: Result<T, NetFailed>) -> Result<T
 #[derive(Drop)]
 pub struct UdpNet<R: std::net::Net + Drop> {
     rt: R,
-    sockets: Vec<(HostId, UdpSocket)>,
-    ports: Vec<(HostId, u16)>,
-    known: HostSet,
+    sockets: Sockets,
     faults: FaultCount,
 }
 
 impl<R: std::net::Net + Drop> UdpNet<R> {
-    ghost use Rattle.node_io.specs.Real.{udp_known, udp_faults};
+    ghost use Rattle.node_io.specs.Real.{udp_known, udp_ports, udp_bound, udp_faults};
 
     /// A net that knows no host. Only this takes memory.
     pub fn new(alloc: Global, rt: R) -> Result<UdpNet<R>, NoMemory>
         ensures known { IfOk result (λ net. (h : Host) → udp_known net h ≡ false) }
         ensures faults { IfOk result (λ net. udp_faults net ≡ 0) }
     {
+        let sockets = Sockets::new(alloc)?;
         Ok(UdpNet {
             rt,
-            sockets: Vec::with_capacity(alloc, MOST_HOSTS)?,
-            ports: Vec::with_capacity(alloc, MOST_HOSTS)?,
-            known: HostSet::new(),
+            sockets,
             faults: FaultCount::NONE,
         })
     }
 
-    // Opens a socket for a host.
+    // Opens a socket for a host. Where there is no room to keep it, none is opened.
     fn open(&mut self, host: HostId, port: u16) -> Result<(), NetFailed>
         ensures known { OnOk result ((h : Host) → udp_known self.new h ≡ (udp_known self.old h || is_host h host)) }
-        ensures err { OnErr result (self.new.known ≡ self.old.known) }
+        ensures ports { OnOk result (udp_ports self.new ≡ udp_ports self.old ++ (host, port) ∷ []) }
+        ensures bound { OnOk result (udp_bound self.new ≡ udp_bound self.old ++ host ∷ []) }
+        ensures full { 32 ≤ length (udp_ports self.old) → IsErr result }
+        ensures err { OnErr result (self.new ≡ self.old) }
         ensures faults { self.new.faults ≡ self.old.faults }
     {
-        let socket = UdpSocket::bind(&self.rt, address(port)).map_err(|_| NetFailed)?;
-        let limit = Duration::from_millis(READ_LIMIT);
-        socket.set_read_timeout(Some(limit)).map_err(|_| NetFailed)?;
-        if self.sockets.len() == self.sockets.capacity() {
+        if self.sockets.is_full() {
             return Err(NetFailed);
         }
-        self.sockets.push((host, socket)).map_err(|_| NetFailed)?;
-        self.learn(host, port)
-    }
-
-    // Learns at which port a host is.
-    fn learn(&mut self, host: HostId, port: u16) -> Result<(), NetFailed>
-        ensures known { OnOk result ((h : Host) → udp_known self.new h ≡ (udp_known self.old h || is_host h host)) }
-        ensures err { OnErr result (self.new.known ≡ self.old.known) }
-        ensures faults { self.new.faults ≡ self.old.faults }
-    {
-        if self.ports.len() == self.ports.capacity() {
-            return Err(NetFailed);
-        }
-        self.ports.push((host, port)).map_err(|_| NetFailed)?;
-        self.known.insert(host);
+        let socket = socket_at(&self.rt, port)?;
+        self.sockets.keep(host, port, socket);
         Ok(())
     }
 
-    // The socket of a host.
-    fn socket(&self, host: HostId) -> Result<&UdpSocket, NetFailed> {
-        for (bound, socket) in &self.sockets {
-            if *bound == host {
-                return Ok(socket);
-            }
-        }
-        Err(NetFailed)
-    }
-
-    // The port of a host.
-    fn port(&self, host: HostId) -> Result<u16, NetFailed> {
-        for (known, port) in &self.ports {
-            if *known == host {
-                return Ok(*port);
-            }
-        }
-        Err(NetFailed)
-    }
-
-    // The host at an address.
-    fn host(&self, at: SocketAddr) -> Option<HostId> {
-        for (host, port) in &self.ports {
-            if address(*port) == at {
-                return Some(*host);
-            }
-        }
-        None
-    }
-
-    fn transmit(&self, from: HostId, to: HostId, bytes: &[u8]) -> Result<(), NetFailed> {
-        let socket = self.socket(from)?;
-        let to = address(self.port(to)?);
-        let sent = socket.send_to(bytes, to).map_err(|_| NetFailed)?;
-        if sent == bytes.len() {
-            Ok(())
-        } else {
-            Err(NetFailed)
-        }
-    }
-
-    fn receive(&self, host: HostId, frame: &mut Frame) -> Result<Got, NetFailed>
-        ensures { IfOk result (λ got. IfFrom got (λ from. is_welcome (set_has self.now.known) host from ≡ true)) }
+    // Learns at which port a host is, where there is room.
+    fn learn(&mut self, host: HostId, port: u16) -> Result<(), NetFailed>
+        ensures known { OnOk result ((h : Host) → udp_known self.new h ≡ (udp_known self.old h || is_host h host)) }
+        ensures ports { OnOk result (udp_ports self.new ≡ udp_ports self.old ++ (host, port) ∷ []) }
+        ensures bound { udp_bound self.new ≡ udp_bound self.old }
+        ensures full { IsErr result ↔ (32 ≤ length (udp_ports self.old)) }
+        ensures err { OnErr result (self.new ≡ self.old) }
+        ensures faults { self.new.faults ≡ self.old.faults }
     {
-        let socket = self.socket(host)?;
-        let mut bytes = [0; 1500];
-        for _ in 0..MOST_PASSED {
-            match socket.recv_from(&mut bytes) {
-                Ok((len, at)) => {
-                    if let Some(from) = self.host(at)
-                        && self.known.contains(from)
-                        && from != host
-                    {
-                        frame.set(&bytes[..len]);
-                        return Ok(Got::Frame { from });
-                    }
-                }
-                Err(e) => {
-                    return match e.kind() {
-                        ErrorKind::WouldBlock | ErrorKind::TimedOut => Ok(Got::Nothing),
-                        _ => Err(NetFailed),
-                    };
-                }
-            }
+        if self.sockets.is_full() {
+            return Err(NetFailed);
         }
-        Ok(Got::Nothing)
+        self.sockets.learn(host, port);
+        Ok(())
     }
 }
 
@@ -197,14 +128,30 @@ impl<R: std::net::Net + Drop> Net for UdpNet<R> {
     }
 
     fn send(&mut self, from: HostId, to: HostId, bytes: &[u8]) -> Result<(), NetFailed> {
-        let answer = self.transmit(from, to, bytes);
+        let answer = self.sockets.transmit(from, to, bytes);
         counted(&mut self.faults, answer)
     }
 
     fn recv(&mut self, host: HostId, frame: &mut Frame) -> Result<Got, NetFailed> {
-        let answer = self.receive(host, frame);
+        let answer = self.sockets.receive(host, frame);
         counted(&mut self.faults, answer)
     }
+}
+
+// The tick so many seconds and milliseconds after the start.
+fn ticks_of(secs: u64, millis: u32) -> u64
+    ensures { result ≡ tick_at secs millis }
+{
+    let ticks = secs.saturating_mul(100);
+    ticks.saturating_add(u64::from(millis / 10)).min(LAST_TICK)
+}
+
+// How many ticks of 10 milliseconds are between two readings of a clock, up to the last tick; none where it fell.
+fn ticks_between(start: Instant, now: Instant) -> u64
+    ensures { result ≡ min ((instant_nanos now - instant_nanos start) / 10000000) last_tick }
+{
+    let passed = now.duration_since(start);
+    ticks_of(passed.as_secs(), passed.subsec_millis())
 }
 
 /// The system's clock in ticks of 10 milliseconds since it was made. Where the system's clock fails, it stands.
@@ -227,18 +174,17 @@ impl<R: std::rt::Clock + Drop> TickClock<R> {
         TickClock { rt, start, last: 0 }
     }
 
-    // The tick of the system's clock.
+    // The tick of the system's clock, counted from its first reading, which is noted.
     fn read(&mut self) -> Option<u64>
         ensures most { IfSome result (λ tick. tick ≤ 1000000000000) }
         ensures last { self.new.last ≡ self.old.last }
+        ensures start { IfSome self.old.start (λ start. self.new.start ≡ Some start) }
+        ensures noted { OnSome result (IsSome self.new.start) }
     {
         let now = Instant::now(&self.rt).ok()?;
         let start = self.start.unwrap_or(now);
         self.start = Some(start);
-        let passed = now.duration_since(start);
-        let ticks = passed.as_secs().saturating_mul(100);
-        let part = u64::from(passed.subsec_millis() / 10);
-        Some(ticks.saturating_add(part).min(LAST_TICK))
+        Some(ticks_between(start, now))
     }
 }
 

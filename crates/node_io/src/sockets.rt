@@ -1,0 +1,192 @@
+// The sockets and ports of hosts. What sockets carry is trusted: no contract says it.
+ghost use Rattle.std.specs.Prelude.{◌≡◌, ◌≤◌, ◌<◌, ◌||◌, ◌++◌, ◌∷◌, ◌↔◌, ◌⊎◌, [], length, nat_le, vec_capacity, false, true, Some};
+ghost use Rattle.std.specs.Prelude.{OnOk, OnErr, IfOk, IsOk, IsErr, IsSome, option_and_then};
+ghost use Rattle.std.specs.Option.{option_copied};
+ghost use Rattle.std.specs.Result.{result_ok, OkIff};
+ghost use Rattle.homa_plain.specs.declared.id.HostId.{HostId as Host};
+ghost use Rattle.homa_plain.specs.Calls.{is_host};
+ghost use Rattle.node_io.specs.declared.net.Got.TheVariants.{Nothing};
+ghost use Rattle.node_io.specs.Net.{IfFrom, is_welcome};
+ghost use Rattle.node_io.specs.System.{beside, host_at, local_port};
+
+use crate::hosts::HostSet;
+use crate::{Got, NetFailed, NoMemory};
+use homa_plain::{Frame, HostId};
+use std::alloc::Global;
+use std::io::ErrorKind;
+use std::net::{Ipv4Addr, SocketAddr, SocketAddrV4, UdpSocket};
+
+/// How many datagrams of others are passed over in one receive.
+const MOST_PASSED: u32 = 64;
+
+/// How many hosts have room, bound or routed: the most that settings allow.
+const MOST_HOSTS: usize = 32;
+
+/// The address of a port on this machine.
+pub(crate) fn address(port: u16) -> SocketAddr
+    ensures { local_port result ≡ Some port }
+{
+    SocketAddr::V4(SocketAddrV4::new(Ipv4Addr::LOCALHOST, port))
+}
+
+// The port of an address, where that is one of this machine.
+fn local_port(at: SocketAddr) -> Option<u16>
+    ensures { result ≡ local_port at }
+{
+    match at {
+        SocketAddr::V4(at) if at.ip().octets().as_slice() == [127, 0, 0, 1].as_slice() => Some(
+            at.port(),
+        ),
+        _ => None,
+    }
+}
+
+// What a receive answers where the socket failed: nothing came within the limit, or a fault.
+fn answer_to(kind: ErrorKind) -> Result<Got, NetFailed>
+    ensures { OkIff result ((kind ≡ ErrorKind.WouldBlock) ⊎ (kind ≡ ErrorKind.TimedOut)) Nothing }
+{
+    match kind {
+        ErrorKind::WouldBlock | ErrorKind::TimedOut => Ok(Got::Nothing),
+        _ => Err(NetFailed),
+    }
+}
+
+// What a send answers that took so many of its bytes: a part is a fault.
+fn answer_to_sent(sent: usize, len: usize) -> Result<(), NetFailed>
+    ensures { IsOk result ↔ (sent ≡ len) }
+{
+    if sent == len { Ok(()) } else { Err(NetFailed) }
+}
+
+/// A socket of each host that has one here, and the ports of hosts, here and elsewhere.
+#[derive(Drop)]
+pub(crate) struct Sockets {
+    sockets: Vec<(HostId, UdpSocket)>,
+    ports: Vec<(HostId, u16)>,
+    known: HostSet,
+    ghost fewer: { length sockets.items ≤ length ports.items },
+    ghost most: { length ports.items ≤ 32 },
+    ghost sockets_reserved: { 32 ≤ vec_capacity sockets },
+    ghost ports_reserved: { 32 ≤ vec_capacity ports },
+}
+
+impl Sockets {
+    ghost use Rattle.node_io.specs.Sockets.{are_known, ports_of, bound_of, sockets_of};
+
+    /// No host. Only this takes memory.
+    pub(crate) fn new(alloc: Global) -> Result<Sockets, NoMemory>
+        ensures known { IfOk result (λ sockets. (h : Host) → are_known sockets h ≡ false) }
+        ensures ports { IfOk result (λ sockets. ports_of sockets ≡ []) }
+        ensures bound { IfOk result (λ sockets. bound_of sockets ≡ []) }
+    {
+        Ok(Sockets {
+            sockets: Vec::with_capacity(alloc, MOST_HOSTS)?,
+            ports: Vec::with_capacity(alloc, MOST_HOSTS)?,
+            known: HostSet::new(),
+        })
+    }
+
+    /// Whether there is no room for one more host.
+    pub(crate) fn is_full(&self) -> bool
+        ensures { result ≡ nat_le 32 (length (ports_of self.now)) }
+    {
+        self.ports.len() >= MOST_HOSTS
+    }
+
+    /// Keeps the socket of a host, and its port.
+    pub(crate) fn keep(&mut self, host: HostId, port: u16, socket: UdpSocket)
+        requires { length (ports_of self.old) < 32 }
+        ensures known { (h : Host) → are_known self.new h ≡ (are_known self.old h || is_host h host) }
+        ensures ports { ports_of self.new ≡ ports_of self.old ++ (host, port) ∷ [] }
+        ensures sockets { sockets_of self.new ≡ sockets_of self.old ++ (host, socket) ∷ [] }
+    {
+        // The room was reserved, so no memory is taken here, and this can't fail.
+        self.sockets.push((host, socket)).unwrap();
+        self.ports.push((host, port)).unwrap();
+        self.known.insert(host);
+    }
+
+    /// Learns at which port a host is.
+    pub(crate) fn learn(&mut self, host: HostId, port: u16)
+        requires { length (ports_of self.old) < 32 }
+        ensures known { (h : Host) → are_known self.new h ≡ (are_known self.old h || is_host h host) }
+        ensures ports { ports_of self.new ≡ ports_of self.old ++ (host, port) ∷ [] }
+        ensures sockets { sockets_of self.new ≡ sockets_of self.old }
+    {
+        // The room was reserved, so no memory is taken here, and this can't fail.
+        self.ports.push((host, port)).unwrap();
+        self.known.insert(host);
+    }
+
+    // The socket of a host.
+    fn socket(&self, host: HostId) -> Result<&UdpSocket, NetFailed>
+        ensures { option_copied (result_ok result) ≡ beside (sockets_of self.now) host }
+    {
+        for (bound, socket) in &self.sockets {
+            if *bound == host {
+                return Ok(socket);
+            }
+        }
+        Err(NetFailed)
+    }
+
+    // The port of a host.
+    fn port(&self, host: HostId) -> Result<u16, NetFailed>
+        ensures { result_ok result ≡ beside (ports_of self.now) host }
+    {
+        for (known, port) in &self.ports {
+            if *known == host {
+                return Ok(*port);
+            }
+        }
+        Err(NetFailed)
+    }
+
+    // The host at an address.
+    fn host(&self, at: SocketAddr) -> Option<HostId>
+        ensures { result ≡ option_and_then (host_at (ports_of self.now)) (local_port at) }
+    {
+        let at = local_port(at)?;
+        for (host, port) in &self.ports {
+            if *port == at {
+                return Some(*host);
+            }
+        }
+        None
+    }
+
+    /// Sends bytes from the socket of a host to the port of another one. A part that is sent is a fault.
+    pub(crate) fn transmit(&self, from: HostId, to: HostId, bytes: &[u8]) -> Result<(), NetFailed>
+        ensures from { OnOk result (IsSome (beside (sockets_of self.now) from)) }
+        ensures to { OnOk result (IsSome (beside (ports_of self.now) to)) }
+    {
+        let socket = self.socket(from)?;
+        let to = address(self.port(to)?);
+        let sent = socket.send_to(bytes, to).map_err(|_| NetFailed)?;
+        answer_to_sent(sent, bytes.len())
+    }
+
+    /// Receives a datagram for a host from another one that is known.
+    pub(crate) fn receive(&self, host: HostId, frame: &mut Frame) -> Result<Got, NetFailed>
+        ensures from { IfOk result (λ got. IfFrom got (λ from. is_welcome (are_known self.now) host from ≡ true)) }
+        ensures socket { OnOk result (IsSome (beside (sockets_of self.now) host)) }
+    {
+        let socket = self.socket(host)?;
+        let mut bytes = [0; 1500];
+        for _ in 0..MOST_PASSED {
+            match socket.recv_from(&mut bytes) {
+                Ok((len, at)) => {
+                    if let Some(from) = self.host(at)
+                        && self.known.contains(from)
+                        && from != host
+                    {
+                        frame.set(&bytes[..len]);
+                        return Ok(Got::Frame { from });
+                    }
+                }
+                Err(e) => return answer_to(e.kind()),
+            }
+        }
+        Ok(Got::Nothing)
+    }
+}
