@@ -41,12 +41,12 @@ fn local_port(at: SocketAddr) -> Option<u16>
     }
 }
 
-// What a receive answers where the socket failed: nothing came within the limit, or a fault.
+// What a receive answers where the socket failed: nothing came within the limit or before a signal, or a fault.
 fn answer_to(kind: ErrorKind) -> Result<Got, NetFailed>
-    ensures { OkIff result ((kind ≡ ErrorKind.WouldBlock) ⊎ (kind ≡ ErrorKind.TimedOut)) Nothing }
+    ensures { OkIff result ((kind ≡ ErrorKind.WouldBlock) ⊎ (kind ≡ ErrorKind.TimedOut) ⊎ (kind ≡ ErrorKind.Interrupted)) Nothing }
 {
     match kind {
-        ErrorKind::WouldBlock | ErrorKind::TimedOut => Ok(Got::Nothing),
+        ErrorKind::WouldBlock | ErrorKind::TimedOut | ErrorKind::Interrupted => Ok(Got::Nothing),
         _ => Err(NetFailed),
     }
 }
