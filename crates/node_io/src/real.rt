@@ -46,7 +46,8 @@ fn counted<T>(faults: &mut FaultCount, answer: Result<T, NetFailed>) -> Result<T
 
 /// Sockets on 127.0.0.1 as a net, one for each host that is bound. It can't tell what is queued, sent or given. Each error
 /// of a socket is a fault, and so are a host beyond 32 that is bound or routed, and a host without a socket or a port. A
-/// receive waits up to 1 millisecond, and gives nothing then, or after 64 datagrams of others.
+/// receive waits up to 1 millisecond, or not at all behind a datagram, until one gives nothing; it gives nothing, too, after
+/// 64 datagrams of others, and where a signal broke it off.
 #[derive(Drop)]
 pub struct UdpNet<R: std::net::Net + Drop> {
     rt: R,

@@ -51,6 +51,11 @@ fn answer_to(kind: ErrorKind) -> Result<Got, NetFailed>
     }
 }
 
+// Makes a socket's receives wait where nothing is there, or not.
+fn wait(socket: &UdpSocket, is_waiting: bool) -> Result<(), NetFailed> {
+    socket.set_nonblocking(!is_waiting).map_err(|_| NetFailed)
+}
+
 // What a send answers that took so many of its bytes: a part is a fault.
 fn answer_to_sent(sent: usize, len: usize) -> Result<(), NetFailed>
     ensures { IsOk result ↔ (sent ≡ len) }
@@ -166,7 +171,8 @@ impl Sockets {
         answer_to_sent(sent, bytes.len())
     }
 
-    /// Receives a datagram for a host from another one that is known.
+    /// Receives a datagram for a host from another one that is known. Behind a datagram, whoever sent it, the host's receives
+    /// don't wait until one gives nothing: so whatever comes, a host waits once a loop turn.
     pub(crate) fn receive(&self, host: HostId, frame: &mut Frame) -> Result<Got, NetFailed>
         ensures from { IfOk result (λ got. IfFrom got (λ from. is_welcome (are_known self.now) host from ≡ true)) }
         ensures socket { OnOk result (IsSome (beside (sockets_of self.now) host)) }
@@ -176,6 +182,7 @@ impl Sockets {
         for _ in 0..MOST_PASSED {
             match socket.recv_from(&mut bytes) {
                 Ok((len, at)) => {
+                    wait(socket, false)?;
                     if let Some(from) = self.host(at)
                         && self.known.contains(from)
                         && from != host
@@ -184,7 +191,10 @@ impl Sockets {
                         return Ok(Got::Frame { from });
                     }
                 }
-                Err(e) => return answer_to(e.kind()),
+                Err(e) => {
+                    wait(socket, true)?;
+                    return answer_to(e.kind());
+                }
             }
         }
         Ok(Got::Nothing)
