@@ -1,10 +1,13 @@
 -- Lines that show no answer are allowed by every box.
-use Rattle.std.specs.Prelude.{◌≡◌, ℕ, Option, Some, List, [], ◌∷◌, map, take, drop, slice_set}
+use Rattle.std.specs.Prelude.{◌≡◌, ℕ, Option, Some, List, [], ◌∷◌, sym, subst, map, take, drop, slice_set}
+use Rattle.std.specs.List.{AllByRecursion}
 use Rattle.homa_plain.specs.Entries.{PlainEntry, PlainSettings, PlainRun, PlainRestart}
 use Rattle.homa_service.specs.Table.{last_of, front_of}
 use Rattle.homa_plain.specs.Answers.{shown}
 use Rattle.node_hosts.specs.Boxes.{Allows, counted, all_counted, may_tell}
+use Rattle.node_runs.specs.Replayed.{IsAnswer}
 use Rattle.node_hosts.specs.First.{AreAllowed}
+use Rattle.node_hosts.specs.Fair.{AreFairlyAllowed}
 
 module _ {S : Type 0} (served : S → ℕ) (allows : Allows S) where
   -- lines without an answer
@@ -23,3 +26,7 @@ module _ {S : Type 0} (served : S → ℕ) (allows : Allows S) where
   unasked_allowed boxes [] e = e
   unasked_allowed boxes (PlainSettings s ∷ told) e = none_told (all_counted served (map Some (take s.hosts boxes))) (map (counted served) (drop s.hosts boxes)) told e
   unasked_allowed boxes (entry ∷ told) e = e
+
+  -- no more of fair ones
+  pub unasked_fair : (boxes : List S) (told : List PlainEntry) → shown told ≡ [] → AreFairlyAllowed served allows boxes told
+  unasked_fair boxes told e = (unasked_allowed boxes told e, subst (AllByRecursion IsAnswer) (sym e) tt)

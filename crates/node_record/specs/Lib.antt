@@ -1,3 +1,2 @@
-pub mod Told
-pub mod Served
+pub mod Ends
 pub mod Recorded

@@ -1,40 +1,31 @@
--- What `record` leaves, by its status.
-use Rattle.std.specs.Prelude.{◌≡◌, ◌⊎◌, ℕ, Option, None, Some, Result, Ok, Err, List, [], ◌++◌}
+-- What is printed of a recording, and what the net took and gave meanwhile.
+use Rattle.std.specs.Prelude.{◌≡◌, ◌⊎◌, ℕ, Option, Some, List, [], ◌++◌}
 use Rattle.homa_io.specs.Outside.{appended, TookFront}
-use Rattle.homa_plain.specs.declared.fault.LineFault.TheVariants.{Script as ByWords, World as ByWorld}
-use Rattle.homa_plain.specs.declared.fault.WorldFault.TheVariants.{NoSuchHost, Start as CantStart}
 use Rattle.homa_plain.specs.Entries.{PlainEntry}
 use Rattle.homa_plain.specs.Rules.{Answer}
 use Rattle.homa_plain.specs.Answers.{shown}
-use Rattle.node_io.specs.declared.observer.SeenFault.TheVariants.{Write, Stranger, NoMemory as NoRoom}
-use Rattle.node_runs.specs.Course.{Report, Arrival, AreTicks, End, Ended, RefusedAt, StalledAt, Run, node_run}
-use Rattle.node_runs.specs.Texts.{entries, end_status, recorded_end, recording_text, recording_status}
-use Rattle.node_record.specs.Told.{listed, ListedFront}
-use Rattle.node_record.specs.Served.{AreGiven, Outside}
-use Rattle.node_record.specs.declared.stop.NodeStop.{NodeStop}
-use Rattle.node_record.specs.declared.stop.NodeStop.TheVariants.{Script, Start, Host, Read, Net, Seen, Stalled, NoMemory}
-use Rattle.node_record.specs.declared.status.Recorded.{Recorded}
-use Rattle.node_record.specs.declared.status.Recorded.TheVariants as status
+use Rattle.node_runs.specs.Course.{Report, Arrival, AreTicks, End, Run, node_run}
+use Rattle.node_runs.specs.Texts.{entries, recording_text, recording_status, recorded_sent}
+use Rattle.node_acts.specs.Told.{listed, ListedFront}
+use Rattle.homa_node.specs.Served.{AreGiven}
+use Rattle.node_trace.specs.Traces.{Around, IsGiven}
+use Rattle.node_record.specs.declared.end.Recorded.{Recorded}
+use Rattle.node_record.specs.declared.end.Recorded.TheVariants.{Done, Refused, Stalled, Stranger}
 
 module _ (may_tell : List PlainEntry → Type 0) where
-  -- The run of these bytes was recorded whole, and this is its status. The answers are those that its `run` lines show, which the boxes
-  -- allow; the ticks and receives are those that were given, where that is told.
-  pub record IsWhole (bytes : List ℕ) (old new : Outside) (code : ℕ) : Type 0 where
+  -- the run of these bytes was recorded whole, with this status, and nothing of it is strange; the net took its datagrams
+  pub record IsWhole (bytes : List ℕ) (old new : Around) (status : ℕ) : Type 0 where
     pub answers : List Answer
     pub ticks : List ℕ
     pub gave : List (Option Arrival)
-    pub status_is : recording_status (node_run bytes answers ticks gave) ≡ Some code
-    pub printed : new.taken ≡ appended old.taken (recording_text (node_run bytes answers ticks gave))
+    pub from : IsGiven may_tell bytes old new answers ticks gave (node_run bytes answers ticks gave)
+    pub status_is : recording_status (node_run bytes answers ticks gave) ≡ Some status
+    pub text : new.taken ≡ appended old.taken (recording_text (node_run bytes answers ticks gave))
     pub took : new.sent ≡ listed old.sent (node_run bytes answers ticks gave).sent
-    pub given : new.gave ≡ listed old.gave gave
-    pub ticked : AreGiven old.ticks ticks
-    pub rises : AreTicks 0 ticks
-    pub shows : shown (entries (node_run bytes answers ticks gave).reports) ≡ answers
-    pub allowed : may_tell (entries (node_run bytes answers ticks gave).reports)
 
-  -- A datagram was strange: the recording of the run up to it was printed. Of what the run tells these reports were come to, whose `run`
-  -- lines show the answers.
-  pub record IsCutShort (bytes : List ℕ) (old new : Outside) : Type 0 where
+  -- A datagram of the run is strange: the recording up to the first such was printed, with it, and the net took the datagrams up to there.
+  -- These reports of the run were come to; the answers are those that their `run` lines show, which the boxes allow.
+  pub record IsCutShort (bytes : List ℕ) (old new : Around) : Type 0 where
     pub answers : List Answer
     pub ticks : List ℕ
     pub gave : List (Option Arrival)
@@ -42,62 +33,57 @@ module _ (may_tell : List PlainEntry → Type 0) where
     pub more : List Report
     pub begins : (node_run bytes answers ticks gave).reports ≡ reports ++ more
     pub status_is : recording_status (node_run bytes answers ticks gave) ≡ Some 8
-    pub printed : new.taken ≡ appended old.taken (recording_text (node_run bytes answers ticks gave))
-    pub took : ListedFront old.sent new.sent (node_run bytes answers ticks gave).sent
+    pub text : new.taken ≡ appended old.taken (recording_text (node_run bytes answers ticks gave))
+    pub took : new.sent ≡ listed old.sent (recorded_sent (node_run bytes answers ticks gave))
     pub given : new.gave ≡ listed old.gave gave
     pub ticked : AreGiven old.ticks ticks
     pub rises : AreTicks 0 ticks
     pub shows : shown (entries reports) ≡ answers
     pub allowed : may_tell (entries reports)
 
-  -- A fault, or want of memory: a front was printed of the recording of every input that begins with the bytes that came, whatever is
-  -- answered, read and received later; or nothing more is left, and it is one of the recording of what came; or the run came to an end, and it is one of its own.
-  pub record IsBroken (bytes : List ℕ) (old new : Outside) : Type 0 where
-    pub came : List ℕ
-    pub rest : List ℕ
-    pub split : bytes ≡ came ++ rest
+  -- the run came to an end, but the sink took a front of its recording: a write failed at its last line
+  pub record IsEndCut (bytes : List ℕ) (old new : Around) : Type 0 where
     pub answers : List Answer
     pub ticks : List ℕ
     pub gave : List (Option Arrival)
+    pub end : End
+    pub from : IsGiven may_tell bytes old new answers ticks gave (node_run bytes answers ticks gave)
+    pub ended : (node_run bytes answers ticks gave).end ≡ Some end
+    pub text : TookFront old.taken new.taken (recording_text (node_run bytes answers ticks gave))
+    pub took : new.sent ≡ listed old.sent (node_run bytes answers ticks gave).sent
+
+  -- a front of a run's recording was printed, within what these of its reports tell, and a front of its datagrams was taken
+  pub record IsFrontOf (run : Run) (reports : List Report) (old new : Around) : Type 0 where
+    pub more : List Report
+    pub begins : run.reports ≡ reports ++ more
+    pub text : TookFront old.taken new.taken (recording_text run)
+    pub took : ListedFront old.sent new.sent run.sent
+
+  -- Some of the bytes came. A front was printed of the recording of each run that begins so: of every input that begins with the bytes that came,
+  -- and whatever is answered, read and received later; or no byte is left, and it is the recording of the run of those that came.
+  pub record IsBrokenOff (bytes : List ℕ) (left : Option (List ℕ)) (old new : Around) : Type 0 where
+    pub came : List ℕ
+    pub rest : List ℕ
+    pub split : bytes ≡ came ++ rest
+    pub has_left : left ≡ Some rest
+    pub answers : List Answer
+    pub ticks : List ℕ
+    pub gave : List (Option Arrival)
+    pub reports : List Report
     pub given : new.gave ≡ listed old.gave gave
     pub ticked : AreGiven old.ticks ticks
     pub rises : AreTicks 0 ticks
-    pub front : ((more : List ℕ) (later : List Answer) (on : List ℕ) (next : List (Option Arrival)) → TookFront old.taken new.taken (recording_text (node_run (came ++ more) (answers ++ later) (ticks ++ on) (gave ++ next))))
-        ⊎ (((rest ≡ []) × ((later : List Answer) (on : List ℕ) (next : List (Option Arrival)) → TookFront old.taken new.taken (recording_text (node_run came (answers ++ later) (ticks ++ on) (gave ++ next)))))
-        ⊎ TookFront old.taken new.taken (recording_text (node_run bytes answers ticks gave)))
+    pub shows : shown (entries reports) ≡ answers
+    pub allowed : may_tell (entries reports)
+    pub front : ((more : List ℕ) (later : List Answer) (on : List ℕ) (next : List (Option Arrival))
+        → IsFrontOf (node_run (came ++ more) (answers ++ later) (ticks ++ on) (gave ++ next)) reports old new)
+        ⊎ ((rest ≡ []) × ((later : List Answer) (on : List ℕ) (next : List (Option Arrival))
+        → IsFrontOf (node_run came (answers ++ later) (ticks ++ on) (gave ++ next)) reports old new))
 
-  -- by the status
-  abbrev pub HasRecorded : List ℕ → Option (List ℕ) → Outside → Outside → Recorded → Type 0
-  HasRecorded bytes left old new status.Done = IsWhole bytes old new 0 × (left ≡ Some [])
-  HasRecorded bytes left old new status.Refused = IsWhole bytes old new 2
-  HasRecorded bytes left old new status.Stalled = IsWhole bytes old new 7
-  HasRecorded bytes left old new status.Stranger = IsCutShort bytes old new
-  HasRecorded bytes left old new broken = IsBroken bytes old new
-
--- the end that a node came to, if it came to one
-abbrev pub end_of : Result ℕ NodeStop → Option End
-end_of (Ok turns) = Some (Ended turns)
-end_of (Err (Script line fault)) = Some (RefusedAt line (ByWords fault))
-end_of (Err (Start line fault)) = Some (RefusedAt line (ByWorld (CantStart fault)))
-end_of (Err (Host line)) = Some (RefusedAt line (ByWorld NoSuchHost))
-end_of (Err (Stalled turns now)) = Some (StalledAt turns now)
-end_of (Err stop) = None
-
--- the status where its last line was printed
-abbrev pub status_of : Result ℕ NodeStop → Recorded
-status_of (Ok turns) = status.Done
-status_of (Err (Script line fault)) = status.Refused
-status_of (Err (Start line fault)) = status.Refused
-status_of (Err (Host line)) = status.Refused
-status_of (Err (Stalled turns now)) = status.Stalled
-status_of (Err (Seen (Write failed))) = status.WriteFailed
-status_of (Err (Seen Stranger)) = status.Stranger
-status_of (Err (Seen NoRoom)) = status.NoMemory
-status_of (Err Read) = status.ReadFailed
-status_of (Err Net) = status.NetFailed
-status_of (Err NoMemory) = status.NoMemory
-
--- where a node came to an end, its last line was printed, or a front of it where the sink failed; else nothing is printed
-abbrev pub PutsEnd : Option (List ℕ) → Option (List ℕ) → Result ℕ NodeStop → Recorded → Option End → Type 0
-PutsEnd old new served result None = (new ≡ old) × (result ≡ status_of served)
-PutsEnd old new served result (Some end) = ((new ≡ appended old (recorded_end end)) × (result ≡ status_of served)) ⊎ (TookFront old new (recorded_end end) × (result ≡ status.WriteFailed))
+  -- what was recorded, by how it ended; with a fault or want of memory, a front of it
+  abbrev pub HasRecorded : List ℕ → Option (List ℕ) → Around → Around → Recorded → Type 0
+  HasRecorded bytes left old new Done = IsWhole bytes old new 0 × (left ≡ Some [])
+  HasRecorded bytes left old new Refused = IsWhole bytes old new 2
+  HasRecorded bytes left old new Stalled = IsWhole bytes old new 7
+  HasRecorded bytes left old new Stranger = IsCutShort bytes old new
+  HasRecorded bytes left old new broken = IsBrokenOff bytes left old new ⊎ IsEndCut bytes old new

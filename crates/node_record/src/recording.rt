@@ -1,95 +1,52 @@
-// What `record` does.
-ghost use Rattle.std.specs.Prelude.{◌≡◌, ◌⊎◌, ℕ, Some, List};
-ghost use Rattle.homa_io.specs.Outside.{appended, TookFront};
-ghost use Rattle.homa_plain.specs.Shape.{IsCause};
-ghost use Rattle.homa_plain.specs.Text.{line_text};
-ghost use Rattle.homa_plain.specs.Entries.{PlainRefused};
-ghost use Rattle.node_runs.specs.Recorder.{no_notes};
-ghost use Rattle.homa_record.specs.Printing.{sink_of, notes_of};
-ghost use Rattle.node_record.specs.Served.{outside};
-ghost use Rattle.node_record.specs.Recorded.{HasRecorded, PutsEnd, end_of};
-ghost use Rattle.node_record.specs.declared.status.Recorded.TheVariants as status;
+// A node's run, recorded.
+ghost use Rattle.std.specs.Prelude.{◌≡◌, ℕ, List, Some, false};
+ghost use Rattle.homa_plain.specs.declared.id.HostId.{HostId as Host};
+ghost use Rattle.node_acts.specs.Faults.{counts};
+ghost use Rattle.node_trace.specs.Traces.{around};
+ghost use Rattle.node_record.specs.Ends.{HaveFaults};
+ghost use Rattle.node_record.specs.Recorded.{HasRecorded};
 
-use crate::{NodeStop, Recorded, Serves};
-use homa_io::Sink;
-use homa_plain::{Entry, LineFault, WorldFault};
+use crate::end::{Recorded, put_end};
+use homa_io::{Sink, Source};
+use homa_node::{OpensIn, serve};
 use homa_record::Recorder;
-use homa_text::Word::{Number, Text};
-use homa_text::{put_entry, put_line};
-use node_io::SeenFault;
+use node_io::{Clock, Net};
 use std::alloc::Global;
 
-// Writes that a line is refused.
-fn put_refused<K: Sink>(sink: &mut K, line: u64, fault: LineFault) -> Recorded
-    requires { IsCause fault }
-    ensures same { K.is_same sink.old sink.new }
-    ensures ends { ((K.taken sink.new ≡ appended (K.taken sink.old) (line_text (PlainRefused line fault))) × (result ≡ status.Refused)) ⊎ (TookFront (K.taken sink.old) (K.taken sink.new) (line_text (PlainRefused line fault)) × (result ≡ status.WriteFailed)) }
-{
-    match put_entry(sink, &Entry::Refused { line, fault }) {
-        Ok(()) => Recorded::Refused,
-        Err(_) => Recorded::WriteFailed,
-    }
-}
+/// Runs a node by its script, and prints its run as a schedule, with its last line. Each line goes out as it comes. It stops
+/// at the first datagram that is strange, which is a packet that no host of the run sent in the last `life` ticks; then the
+/// last line tells it. What is said of bytes, datagrams and ticks holds where the source, the sink, the net and the clock
+/// tell of them, as those in memory do.
+pub fn print_recording<B: Drop, H: OpensIn<B> + Drop, S: Source, K: Sink, N: Net, C: Clock>(
+    alloc: Global,
+    source: &mut S,
+    sink: &mut K,
+    net: &mut N,
+    clock: &mut C,
+    boxes: B,
+) -> Recorded
+    requires ready { H.are_ready boxes }
+    requires none_known { (h : Host) → N.known net.old h ≡ false }
 
-// Writes the last line of a recording, if there is one.
-fn put_end<K: Sink>(sink: &mut K, served: Result<u64, NodeStop>) -> Recorded
-    ensures ends { PutsEnd (K.taken sink.old) (K.taken sink.new) served result (end_of served) }
-    ensures same { K.is_same sink.old sink.new }
-{
-    match served {
-        Ok(turns) => match put_line(sink, &[Text(b"#"), Text(b"ok"), Number(turns)]) {
-            Ok(()) => Recorded::Done,
-            Err(_) => Recorded::WriteFailed,
-        },
-        Err(NodeStop::Script { line, fault }) => put_refused(sink, line, LineFault::Script(fault)),
-        Err(NodeStop::Start { line, fault }) => {
-            put_refused(sink, line, LineFault::World(WorldFault::Start(fault)))
-        }
-        Err(NodeStop::Host(line)) => {
-            put_refused(sink, line, LineFault::World(WorldFault::NoSuchHost))
-        }
-        Err(NodeStop::Stalled { turns, now }) => {
-            match put_entry(sink, &Entry::Stalled { turns, now }) {
-                Ok(()) => Recorded::Stalled,
-                Err(_) => Recorded::WriteFailed,
-            }
-        }
-        Err(NodeStop::Read) => Recorded::ReadFailed,
-        Err(NodeStop::Net) => Recorded::NetFailed,
-        Err(NodeStop::Seen(SeenFault::Stranger)) => Recorded::Stranger,
-        Err(NodeStop::Seen(SeenFault::Write(_))) => Recorded::WriteFailed,
-        Err(NodeStop::Seen(SeenFault::NoMemory)) => Recorded::NoMemory,
-        Err(NodeStop::NoMemory) => Recorded::NoMemory,
-    }
-}
+    // What was printed is the recording of the run, with its last line; or a front of it.
+    ensures recorded { (bytes : List ℕ) → S.left source.old ≡ Some bytes → HasRecorded (H.are_allowed boxes) bytes (S.left source.new)
+        (around (K.taken sink.old) (N.sent net.old) (N.gave net.old) (C.ticks clock.old))
+        (around (K.taken sink.new) (N.sent net.new) (N.gave net.new) (C.ticks clock.new)) result }
 
-// Serves a node, and prints its run as a schedule. It gives the sink back.
-fn recorded<V: Serves, K: Sink>(node: &mut V, recorder: Recorder<K>) -> (Recorded, K)
-    requires { notes_of recorder ≡ no_notes }
-    ensures recorded { (bytes : List ℕ) → V.left node.old ≡ Some bytes
-        → HasRecorded (V.may_tell node.old) bytes (V.left node.new)
-        (outside (K.taken (sink_of recorder)) no_notes (V.sent node.old) (V.gave node.old) (V.ticks node.old))
-        (outside (K.taken result.1) no_notes (V.sent node.new) (V.gave node.new) (V.ticks node.new)) result.0 }
-    ensures same { K.is_same (sink_of recorder) result.1 }
+    // A fault comes only where its count rose, and then always; the other counts stay.
+    ensures faults { HaveFaults (counts (S.faults source.old) (N.faults net.old) (K.faults sink.old))
+        (counts (S.faults source.new) (N.faults net.new) (K.faults sink.new)) result }
 {
-    let mut recorder = recorder;
-    let served = node.serve(&mut recorder);
-    let mut sink = recorder.into_sink();
-    let status = put_end(&mut sink, served);
-    (status, sink)
-}
-
-/// Serves a node, and prints its run as a schedule to a sink that is lent.
-pub fn record<V: Serves, K: Sink>(alloc: Global, node: &mut V, sink: &mut K) -> Recorded
-    ensures { (bytes : List ℕ) → V.left node.old ≡ Some bytes
-        → HasRecorded (V.may_tell node.old) bytes (V.left node.new)
-        (outside (K.taken sink.old) no_notes (V.sent node.old) (V.gave node.old) (V.ticks node.old))
-        (outside (K.taken sink.new) no_notes (V.sent node.new) (V.gave node.new) (V.ticks node.new)) result }
-{
-    let recorder = match Recorder::open(alloc, sink) {
-        Ok(recorder) => recorder,
-        Err(_) => return Recorded::NoMemory,
+    let Ok(mut recorder) = Recorder::open(alloc, &mut *sink) else {
+        return Recorded::NoMemory;
     };
-    let (status, _sink) = recorded(node, recorder);
-    status
+    let served = serve::<B, H, S, N, C, Recorder<&mut K>>(
+        alloc,
+        source,
+        net,
+        clock,
+        boxes,
+        &mut recorder,
+    );
+    put_end(sink, served)
 }
