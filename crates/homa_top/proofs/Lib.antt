@@ -1,4 +1,4 @@
 mod Lawful
 mod Numbered
 mod Completing
-pub mod Stalls
+mod NodeEnds
