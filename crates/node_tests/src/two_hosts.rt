@@ -28,32 +28,18 @@ fn carry_out<N: Net, C: Clock>(
     let mut source = MemSource::new(bytes, Vec::new(alloc));
     let mut sink = MemSink::new(alloc, MOST_BYTES, Vec::new(alloc))?;
     let services = suites(alloc)?;
-    let status = run(
-        alloc,
-        &[word],
-        &mut source,
-        &mut sink,
-        net,
-        clock,
-        services,
-    );
+    let status = run(alloc, &[word], &mut source, &mut sink, net, clock, services);
     Ok((status, sink))
 }
 
 // Runs a node of two hosts at these ports, of which one calls the other. Whatever the machine does, no datagram is too old.
 fn run_at(rt: &HostRuntime, first: u16, second: u16) -> Result<(ExitStatus, MemSink), Fail> {
     let script = format!(in rt.alloc();
-        "life 100000\nlocal 0 1 {first}\nlocal 1 1 {second}\nend 20\nturns 100000\ngo\nat 0 call 0 1 0 6869\n"
+        "life 100000\nlocal 0 1 {first}\nlocal 1 1 {second}\nend 20\nturns 100000\ngo\nat 0 call 1 0 0 6869\n"
     )?;
     let mut net = UdpNet::new(rt.alloc(), rt)?;
     let mut clock = TickClock::new(rt);
-    carry_out(
-        rt.alloc(),
-        "node",
-        script.as_bytes(),
-        &mut net,
-        &mut clock,
-    )
+    carry_out(rt.alloc(), "node", script.as_bytes(), &mut net, &mut clock)
 }
 
 // The same, at the first two ports that are free.
@@ -85,7 +71,7 @@ fn a_call_between_two_hosts_is_done(rt: HostRuntime) -> Result<(), Fail> {
         let (status, verdict) = judge(rt.alloc(), trace.bytes())?;
         assert_eq!(rt; status, ExitStatus::Done);
         assert!(rt; verdict.bytes().starts_with(b"yes "));
-        if text.contains("\ndone 0.1.0 6869\n") {
+        if text.contains("\ndone 1.1.0 6869\n") {
             return Ok(());
         }
     }
