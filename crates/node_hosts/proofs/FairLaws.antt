@@ -29,10 +29,11 @@ module _ {S T : Type 0} (f : S → T) (allows : Allows S) (fair : Allows T)
     (both : (s : S) (count number hold : ℕ) (q r : List ℕ) → fair (f s) count number q r hold
     → allows s count number q r hold × IsAnswer (record { bytes = r; hold = hold })) where
   -- a box as a fair one, and how many it has answered
-  as_fair : S × ℕ → T × ℕ
+  abbrev as_fair : S × ℕ → T × ℕ
   as_fair b = (f b.0, b.1)
 
-  seats_fair : List (Option (S × ℕ)) → List (Option (T × ℕ))
+  -- the boxes at their hosts
+  abbrev seats_fair : List (Option (S × ℕ)) → List (Option (T × ℕ))
   seats_fair seats = map (option_map as_fair) seats
 
   place_fair : (seats : List (Option (S × ℕ))) (i : ℕ) → place_of (seats_fair seats) i ≡ option_map as_fair (place_of seats i)
@@ -70,7 +71,8 @@ module _ {S T : Type 0} (f : S → T) (allows : Allows S) (fair : Allows T)
   restarted_fair seats spares i =
       ap (λ (o : Option (T × ℕ)). slice_set (seats_fair seats) i o) (last_fair spares) ∙ sym (map-set (option_map as_fair) seats i (last_of spares))
 
-  Tells : List (Option (S × ℕ)) → List (S × ℕ) → List PlainEntry → Type 0
+  -- they may be told, and their answers have these sizes
+  abbrev Tells : List (Option (S × ℕ)) → List (S × ℕ) → List PlainEntry → Type 0
   Tells seats spares told = may_tell allows seats spares told × AllByRecursion IsAnswer (shown told)
 
   tell_fair : (seats : List (Option (S × ℕ))) (spares : List (S × ℕ)) (told : List PlainEntry)

@@ -1,5 +1,6 @@
 -- Lines that show no answer are allowed by every box.
-use Rattle.std.specs.Prelude.{◌≡◌, ℕ, Option, Some, List, [], ◌∷◌, sym, subst, map, take, drop, slice_set}
+use Rattle.std.specs.Prelude.{◌≡◌, ℕ, Option, Some, List, [], ◌∷◌, map, take, drop, slice_set}
+use Rattle.std.proofs.Common.{sym, subst}
 use Rattle.std.specs.List.{AllByRecursion}
 use Rattle.homa_plain.specs.Entries.{PlainEntry, PlainSettings, PlainRun, PlainRestart}
 use Rattle.homa_service.specs.Table.{last_of, front_of}

@@ -1,5 +1,6 @@
 // Services whose answers are known to be such as each service gives.
 ghost use Rattle.std.specs.Prelude.{◌≡◌, map, IfOk};
+ghost use Rattle.homa_plain.specs.Bytes.{IsBytes};
 
 use crate::NodeHosts;
 use homa_node::OpensIn;
@@ -27,6 +28,13 @@ impl<V: Service> Fair<V> {
     }
 }
 
+// Whatever a service answered, each is below 256; the caller knows it then.
+fn know_bytes(bytes: &[u8])
+    ensures { IsBytes bytes.now }
+{
+    let _len = bytes.len();
+}
+
 impl<V: Service> Service for Fair<V> {
     ghost use Rattle.node_runs.specs.Replayed.{IsAnswer};
 
@@ -37,8 +45,7 @@ impl<V: Service> Service for Fair<V> {
 
     fn serve(&mut self, alloc: Global, number: u8, request: &[u8]) -> Result<Reply, AllocError> {
         let reply = self.service.serve(alloc, number, request)?;
-        // What was answered are bytes.
-        let _bytes = reply.bytes();
+        know_bytes(reply.bytes());
         Ok(reply)
     }
 }

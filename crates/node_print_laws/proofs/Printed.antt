@@ -25,7 +25,7 @@ opened_is : (o : Opening) → is_opened o ≡ true → IsOpen o
 opened_is (Opened setup calls) e = record { setup = setup; calls = calls; is = refl }
 opened_is (Unopened refusal) e = absurd (let no : false ≡ true = e in cc)
 
-module _ (may_tell : List PlainEntry → Type 0) (fair : AreFair may_tell) (bytes : List ℕ) (opens : OpensNode bytes) (old new : Around) where
+module _ (may_tell : List PlainEntry → Type 0) (fair : (told : List PlainEntry) → may_tell told → AreFair told) (bytes : List ℕ) (opens : OpensNode bytes) (old new : Around) where
   open_is : IsOpen (opening most_bytes bytes)
   open_is = opened_is (opening most_bytes bytes) opens
 
@@ -88,7 +88,7 @@ module _ (may_tell : List PlainEntry → Type 0) (fair : AreFair may_tell) (byte
   part_obeys left (inr w) = end_cut_obeys w
 
 pub wholes : WholePrintsObey
-wholes may_tell fair bytes opens old new end w = whole_obeys may_tell fair bytes opens old new end w
+wholes bytes opens old new end w = whole_obeys AreFair (λ told fair. fair) bytes opens old new end w
 
 pub parts : PartPrintsObey
-parts may_tell fair bytes opens left old new w = part_obeys may_tell fair bytes opens old new left w
+parts bytes opens left old new w = part_obeys AreFair (λ told fair. fair) bytes opens old new left w

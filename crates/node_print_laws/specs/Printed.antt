@@ -21,9 +21,9 @@ is_opened (Unopened refusal) = false
 abbrev pub OpensNode : List ℕ → Type 0
 OpensNode bytes = is_opened (opening most_bytes bytes) ≡ true
 
--- whatever the services may tell, each of their answers has 1 to 1,000,000 bytes, and a hold of at most 1,000,000 ticks
-abbrev pub AreFair : (List PlainEntry → Type 0) → Type 0
-AreFair may_tell = (told : List PlainEntry) → may_tell told → AllByRecursion IsAnswer (shown told)
+-- each answer that these entries show has 1 to 1,000,000 bytes, and a hold of at most 1,000,000 ticks
+abbrev pub AreFair : List PlainEntry → Type 0
+AreFair told = AllByRecursion IsAnswer (shown told)
 
 -- it is so of what a sink took of the run of these bytes, with what the net gave meanwhile
 pub record OfRun (so : Run → Option (List ℕ) → Option (List ℕ) → Type 0) (bytes : List ℕ) (old new : Around) : Type 0 where
@@ -43,12 +43,10 @@ TookSome bytes old new = OfRun TookLawfulFront bytes old new
 
 -- where the text of a run was printed, all of its lines were taken
 abbrev pub WholePrintsObey : Type 0
-WholePrintsObey =
-    (may_tell : List PlainEntry → Type 0) → AreFair may_tell → (bytes : List ℕ) → OpensNode bytes → (old new : Around) (end : End)
-    → IsWhole may_tell bytes old new end → TookAll bytes old new
+WholePrintsObey = (bytes : List ℕ) → OpensNode bytes → (old new : Around) (end : End) → IsWhole AreFair bytes old new end → TookAll bytes old new
 
 -- where a run was broken off, or a write failed at its last line, the first of its lines were
 abbrev pub PartPrintsObey : Type 0
 PartPrintsObey =
-    (may_tell : List PlainEntry → Type 0) → AreFair may_tell → (bytes : List ℕ) → OpensNode bytes → (left : Option (List ℕ)) (old new : Around)
-    → IsBrokenOff may_tell bytes left old new ⊎ IsEndCut may_tell bytes old new → TookSome bytes old new
+    (bytes : List ℕ) → OpensNode bytes → (left : Option (List ℕ)) (old new : Around)
+    → IsBrokenOff AreFair bytes left old new ⊎ IsEndCut AreFair bytes old new → TookSome bytes old new
