@@ -2,3 +2,4 @@ mod Lawful
 mod Numbered
 mod Completing
 mod NodeEnds
+mod RecordEnds
