@@ -2,7 +2,7 @@
 use Rattle.std.proofs.Common.{◌≡◌, ◌≤◌, ℕ, Bool, true, false, Option, None, Some, List, [], ◌∷◌, ◌++◌, refl, sym, ap, ◌∙◌, subst, arith}
 use Rattle.std.specs.Prelude.{map, nat_lt, is_some, if◌then◌else◌}
 use Rattle.std.proofs.lemmas.Bool.Decides.{nat_tests}
-use Rattle.std.proofs.lemmas.List.{append-nil, map-append}
+use Rattle.std.proofs.lemmas.List.{append-nil, map-append, length-map}
 use Rattle.homa_plain.specs.declared.settings.Settings.{Settings}
 use Rattle.homa_plain.specs.declared.id.HostId.{HostId}
 use Rattle.homa_plain.specs.declared.fault.StartFault.{StartFault}
@@ -17,7 +17,6 @@ use Rattle.host_view.specs.declared.outbox.SentFrame.{SentFrame}
 use Rattle.node_runs.specs.Script.{TimedCall, Calls, Refusal}
 use Rattle.node_runs.specs.Course.{Report, Tells, Datagram, Arrival, Node, GoesOn, datagrams, goes, follows, starts}
 use Rattle.homa_plain.specs.Answers.{shown, answering}
-use Rattle.node_acts.specs.Told.{ListedFront}
 use Rattle.node_acts.specs.Acting.{node_at, node_of, frame_datagram, IsStep, IsCut, Begins}
 use Rattle.node_acts.proofs.Lists.{listed_none, entries_tells}
 use Rattle.node_acts.proofs.Grows.{Grown, grown_on, grown_none, begins_self}
@@ -80,15 +79,17 @@ module _ (s : Settings) where
 
   -- nothing is known of what a call did
   pub cut_uncalled : (held : Calls) (due : List TimedCall) (w : World) (b : List PlainEntry → Type 0) (tell : List Report → Type 0)
-      (s0 s1 : Option (List Datagram)) (g0 g1 : Option (List (Option Arrival)))
-      → tell [] → s1 ≡ s0 → g1 ≡ g0 → b [] → IsCut (starting s held due) s w b tell s0 s1 g0 g1
-  cut_uncalled held due w b tell s0 s1 g0 g1 tells same given none = record {
+      (take : List Datagram → Type 0) (g0 g1 : Option (List (Option Arrival)))
+      → tell [] → take [] → g1 ≡ g0 → b [] → IsCut (starting s held due) s w b tell take g0 g1
+  cut_uncalled held due w b tell take g0 g1 tells took given none = record {
     reports = [];
     sent = [];
     gave = [];
     told = tells;
-    took = record { front = []; rest = []; split = refl; is = same ∙ listed_none s0 };
+    took = took;
+    numbers = refl;
     given = given ∙ listed_none g0;
+    received = tt;
     allowed = none;
     same = λ first later calls left held2.
         let q = starts_grow calls.refused (due ++ calls.calls) (node_at (answering later w) first held left) in
@@ -103,17 +104,19 @@ module _ (s : Settings) where
   -- a call of whose step a front was sent and told
   pub cut_called : (held : Calls) (c : TimedCall) (w : World) (stands : World → Type 0) (told : List PlainEntry) (frames : List SentFrame)
       (b a : List PlainEntry → Type 0) (tell : List Report → Type 0)
-      (s0 s1 : Option (List Datagram)) (g0 g1 : Option (List (Option Arrival)))
+      (take : List Datagram → Type 0) (g0 g1 : Option (List (Option Arrival)))
       → c.tick ≤ w.clock → IsStep (λ v. outcome s v (event.Call c.client c.server c.service) c.bytes) [] s w stands told frames b a → tell (map Tells told)
-      → ListedFront s0 s1 (map frame_datagram frames) → g1 ≡ g0 → a []
-      → IsCut (starting s held (c ∷ [])) s w b tell s0 s1 g0 g1
-  cut_called held c w stands told frames b a tell s0 s1 g0 g1 due step tells took given none = record {
+      → take (map frame_datagram frames) → g1 ≡ g0 → a []
+      → IsCut (starting s held (c ∷ [])) s w b tell take g0 g1
+  cut_called held c w stands told frames b a tell take g0 g1 due step tells took given none = record {
     reports = map Tells told;
     sent = map frame_datagram frames;
     gave = [];
     told = tells;
     took = took;
+    numbers = length-map frames frame_datagram ∙ step.numbers;
     given = given ∙ listed_none g0;
+    received = tt;
     allowed = subst b (append-nil told ∙ sym (entries_tells told)) (step.allowed [] none);
     same = λ first later calls left held2.
         let come : nat_lt w.clock c.tick ≡ false = grind (arith, nat_tests) in

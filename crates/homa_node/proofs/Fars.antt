@@ -1,5 +1,5 @@
 -- A node's run goes on, or ends.
-use Rattle.std.proofs.Common.{◌≡◌, ◌≤◌, ◌⊎◌, inl, inr, ℕ, Bool, true, false, Option, None, Some, List, [], ◌∷◌, ◌++◌, refl, sym, ap, ◌∙◌, subst, append_assoc}
+use Rattle.std.proofs.Common.{◌≡◌, ◌≤◌, ◌⊎◌, inl, inr, ℕ, Bool, true, false, Option, None, Some, List, [], ◌∷◌, ◌++◌, length, refl, sym, ap, ◌∙◌, subst, append_assoc}
 use mathlib.Core.Path.{fun_ext}
 use Rattle.std.specs.Prelude.{IfSome}
 use Rattle.std.proofs.lemmas.List.{append-nil}
@@ -8,11 +8,11 @@ use Rattle.homa_plain.specs.Rules.{Answer}
 use Rattle.homa_plain.specs.World.{last_tick}
 use Rattle.homa_plain.specs.Answers.{shown}
 use Rattle.node_io.specs.Clock.{next_tick, if_ticks}
-use Rattle.node_runs.specs.Course.{Report, Datagram, Arrival, AreTicks, End, Run}
+use Rattle.node_runs.specs.Course.{Report, Datagram, Arrival, AreReceived, AreTicks, End, Run}
 use Rattle.node_runs.specs.Recorder.{Notes}
 use Rattle.node_runs.specs.Texts.{entries}
-use Rattle.node_acts.specs.Told.{listed, ListedFront, AreTold}
-use Rattle.node_acts.proofs.Lists.{listed_none, listed_more, entries_parts, shown_parts}
+use Rattle.node_acts.specs.Told.{listed, numbers_of, AreTold}
+use Rattle.node_acts.proofs.Lists.{listed_none, listed_more, received_more, numbers_more, entries_parts, shown_parts}
 use Rattle.node_acts.proofs.Tellings.{told_none, told_more}
 use Rattle.script_lines.specs.Read.{IsRead, IsCut}
 use Rattle.script_lines.proofs.ReadParts.{read_start, read_on, read_map, read_whole}
@@ -59,7 +59,9 @@ module _ (whole : Whole) (told : Notes → Report → List ℕ) (kept : Notes �
     gave = [];
     told_all = told_none told kept strange o.taken o.notes;
     took = listed_none o.sent;
+    numbers = refl;
     given = listed_none o.gave;
+    received = tt;
     ticked = λ on h. h;
     rises = λ on h. h;
     allowed = λ more h. h;
@@ -78,7 +80,9 @@ module _ (whole : Whole) (told : Notes → Report → List ℕ) (kept : Notes �
       gave = d.gave;
       told_all = d.told_all;
       took = d.took;
+      numbers = d.numbers;
       given = d.given;
+      received = d.received;
       ticked = d.ticked;
       rises = d.rises;
       allowed = d.allowed;
@@ -101,7 +105,9 @@ module _ (whole : Whole) (told : Notes → Report → List ℕ) (kept : Notes �
         gave = d.gave;
         told_all = d.told_all;
         took = d.took;
+        numbers = d.numbers;
         given = d.given;
+        received = d.received;
         ticked = d.ticked;
         rises = d.rises;
         allowed = d.allowed;
@@ -120,7 +126,9 @@ module _ (whole : Whole) (told : Notes → Report → List ℕ) (kept : Notes �
               gave = d.gave;
               told_all = d.told_all;
               took = d.took;
+              numbers = d.numbers;
               given = d.given;
+              received = d.received;
               ticked = d.ticked;
               rises = d.rises;
               allowed = d.allowed;
@@ -138,7 +146,9 @@ module _ (whole : Whole) (told : Notes → Report → List ℕ) (kept : Notes �
         gave = d.gave;
         told_all = d.told_all;
         took = d.took;
+        numbers = d.numbers;
         given = d.given;
+        received = d.received;
         ticked = λ on h. subst (AreGiven old.ticks) (sym (append_assoc d.ticks (now ∷ []) on))
             (d.ticked (now ∷ on) (given_next new.ticks held now on is left_is h));
         rises = λ on h. subst (AreTicks 0) (sym (append_assoc d.ticks (now ∷ []) on)) (d.rises (now ∷ on) (low, high, h));
@@ -169,17 +179,19 @@ module _ (whole : Whole) (told : Notes → Report → List ℕ) (kept : Notes �
       pub far_acted : (new2 : Outside) (after2 : List PlainEntry → Type 0) (r : List Report) (sent2 more_sent : List Datagram) (g : List (Option Arrival))
           (onward : Whole)
           → AreTold told kept strange new.taken new.notes new2.taken new2.notes r → new2.sent ≡ listed new.sent more_sent → new2.gave ≡ listed new.gave g
-          → new2.ticks ≡ new.ticks → sent2 ≡ sent ++ more_sent
+          → AreReceived g → new2.ticks ≡ new.ticks → sent2 ≡ sent ++ more_sent → length more_sent ≡ length (numbers_of r)
           → ((more : List PlainEntry) → after2 more → after (entries r ++ more))
           → ((more : List ℕ) (later : List Answer) (on : List ℕ) (next : List (Option Arrival))
           → rest more (shown (entries r) ++ later) on (g ++ next) ≡ onward more later on next)
           → IsFar whole told kept strange may_tell bytes left old new2 after2 least (reports ++ r) sent2 onward
-      far_acted new2 after2 r sent2 more_sent g onward tells took given held grown allowed e = record {
+      far_acted new2 after2 r sent2 more_sent g onward tells took given came held grown count allowed e = record {
         ticks = d.ticks;
         gave = d.gave ++ g;
         told_all = told_more told kept strange old.taken new.taken new2.taken old.notes new.notes new2.notes reports r d.told_all tells;
         took = listed_more old.sent new.sent new2.sent sent more_sent d.took took ∙ ap (listed old.sent) (sym grown);
+        numbers = ap length grown ∙ numbers_more sent more_sent reports r d.numbers count;
         given = listed_more old.gave new.gave new2.gave d.gave g d.given given;
+        received = received_more d.gave g d.received came;
         ticked = λ on h. d.ticked on (subst (λ x. AreGiven x on) held h);
         rises = d.rises;
         allowed = λ more a. subst may_tell (sym (ap (λ es. es ++ more) (entries_parts reports r) ∙ append_assoc (entries reports) (entries r) more))
@@ -192,12 +204,12 @@ module _ (whole : Whole) (told : Notes → Report → List ℕ) (kept : Notes �
             (λ more. fun_ext (λ later. fun_ext (λ on. fun_ext (λ next. e more later on next))));
       }
 
-      by_end : (new2 : Outside) (tell : List Report → Type 0) (r : List Report) (more_sent : List Datagram) (g : List (Option Arrival))
-          → tell (reports ++ r) → ListedFront new.sent new2.sent more_sent → new2.gave ≡ listed new.gave g → AreTicks least [] → after (entries r)
+      by_end : (new2 : Outside) (tell : List Report → Type 0) (take : List Datagram → Type 0) (r : List Report) (more_sent : List Datagram) (g : List (Option Arrival))
+          → tell (reports ++ r) → take (sent ++ more_sent) → length more_sent ≡ length (numbers_of r) → new2.gave ≡ listed new.gave g → AreReceived g → AreTicks least [] → after (entries r)
           → ((more : List ℕ) (later : List Answer) (on : List ℕ) (next : List (Option Arrival))
           → BeginsRun (rest more (shown (entries r) ++ later) on (g ++ next)) (reports ++ r) (sent ++ more_sent))
-          → (t : Bool) → d.read.ended ≡ t → IsPart whole told kept strange may_tell bytes left old new2 tell
-      by_end new2 tell r more_sent g tells took given none3 allowed begins t is = record {
+          → (t : Bool) → d.read.ended ≡ t → IsPart whole told kept strange may_tell bytes left old new2 tell take
+      by_end new2 tell take r more_sent g tells took count given came none3 allowed begins t is = record {
         came = d.read.came;
         rest = d.read.rest;
         split = d.read.split;
@@ -208,13 +220,10 @@ module _ (whole : Whole) (told : Notes → Report → List ℕ) (kept : Notes �
         reports = reports ++ r;
         sent = sent ++ more_sent;
         told_part = tells;
-        took = record {
-          front = sent ++ took.front;
-          rest = took.rest;
-          split = append_assoc sent took.front took.rest ∙ ap (λ ds. sent ++ ds) took.split;
-          is = listed_more old.sent new.sent new2.sent sent took.front d.took took.is;
-        };
+        took = took;
+        numbers = numbers_more sent more_sent reports r d.numbers count;
         given = listed_more old.gave new.gave new2.gave d.gave g d.given given;
+        received = received_more d.gave g d.received came;
         ticked = subst (AreGiven old.ticks) (append-nil d.ticks) (d.ticked [] (none_given new.ticks));
         rises = subst (AreTicks 0) (append-nil d.ticks) (d.rises [] none3);
         shows = refl;
@@ -248,12 +257,13 @@ module _ (whole : Whole) (told : Notes → Report → List ℕ) (kept : Notes �
         by_flag false e = inl (λ more later on next. begun more later on next (λ k. absurd cc))
 
       -- the hosts stopped
-      pub far_part : (new2 : Outside) (tell : List Report → Type 0) (r : List Report) (more_sent : List Datagram) (g : List (Option Arrival))
-          → tell (reports ++ r) → ListedFront new.sent new2.sent more_sent → new2.gave ≡ listed new.gave g → after (entries r)
+      pub far_part : (new2 : Outside) (tell : List Report → Type 0) (take : List Datagram → Type 0) (r : List Report) (more_sent : List Datagram) (g : List (Option Arrival))
+          → tell (reports ++ r) → take (sent ++ more_sent) → length more_sent ≡ length (numbers_of r) → new2.gave ≡ listed new.gave g → AreReceived g → after (entries r)
           → ((more : List ℕ) (later : List Answer) (on : List ℕ) (next : List (Option Arrival))
           → BeginsRun (rest more (shown (entries r) ++ later) on (g ++ next)) (reports ++ r) (sent ++ more_sent))
-          → IsPart whole told kept strange may_tell bytes left old new2 tell
-      far_part new2 tell r more_sent g tells took given allowed begins = by_end new2 tell r more_sent g tells took given tt allowed begins d.read.ended refl
+          → IsPart whole told kept strange may_tell bytes left old new2 tell take
+      far_part new2 tell take r more_sent g tells took count given came allowed begins =
+          by_end new2 tell take r more_sent g tells took count given came tt allowed begins d.read.ended refl
 
       -- the run is over
       pub far_end : (end : End) → after []
@@ -268,6 +278,7 @@ module _ (whole : Whole) (told : Notes → Report → List ℕ) (kept : Notes �
         told_all = subst (AreTold told kept strange old.taken old.notes new.taken new.notes) (sym (ap (λ (x : Run). x.reports) run)) d.told_all;
         took = d.took ∙ ap (listed old.sent) (sym (ap (λ (x : Run). x.sent) run));
         given = d.given;
+        received = d.received;
         ticked = subst (AreGiven old.ticks) (append-nil d.ticks) (d.ticked [] (none_given new.ticks));
         rises = subst (AreTicks 0) (append-nil d.ticks) (d.rises [] tt);
         shows = ap (λ (x : Run). shown (entries x.reports)) run;

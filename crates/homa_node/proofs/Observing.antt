@@ -1,14 +1,21 @@
 -- What an observer told of reports, as the definitions have it: up to the first that is strange.
 use Rattle.std.proofs.Common.{◌≡◌, ℕ, Bool, true, false, Option, List, [], ◌∷◌, ◌++◌, refl, sym, ap, ◌∙◌, subst, append_assoc}
-use Rattle.std.specs.Prelude.{if◌then◌else◌}
+use Rattle.std.specs.Prelude.{if◌then◌else◌, length, take}
 use Rattle.std.proofs.lemmas.List.{append-nil}
 use Rattle.homa_io.specs.Outside.{appended, TookFront}
 use Rattle.homa_io.specs.Growing.{appended-nil}
 use Rattle.homa_io.proofs.Fronts.{front_after}
-use Rattle.node_runs.specs.Course.{Report}
+use Rattle.node_runs.specs.Course.{Report, Datagram, Run}
 use Rattle.node_runs.specs.Recorder.{Notes}
 use Rattle.node_runs.specs.Observed.{Observed, observed, behind}
-use Rattle.node_acts.specs.Told.{text_by, notes_by, AreUsual, AreTold, BeginsNext, AreFront, AreStrange}
+use Rattle.node_runs.specs.Texts.{sent_number, sent_by}
+use Rattle.node_runs.proofs.Observing.{observed-usual, observed-strange}
+use Rattle.node_acts.specs.Told.{text_by, notes_by, numbers_of, AreUsual, AreTold, BeginsNext, AreFront, AreStrange}
+use Rattle.homa_node.specs.Served.{BeginsRun}
+
+front_taken : {A : Type 0} (xs ys : List A) → take (length xs) (xs ++ ys) ≡ xs
+front_taken [] ys = refl
+front_taken (x ∷ xs) ys = ap (λ zs. x ∷ zs) (front_taken xs ys)
 
 module _ (told : Notes → Report → List ℕ) (kept : Notes → Report → Notes) (strange : Notes → Report → Bool) where
   by_test : (n : Notes) (r : Report) (rs : List Report) (t : Bool) → strange n r ≡ t
@@ -51,9 +58,9 @@ module _ (told : Notes → Report → List ℕ) (kept : Notes → Report → Not
   strange_observed old new n a more s =
       let m = notes_by told kept strange n s.before in
       let path =
-      ap (λ xs. observed told kept strange n (xs ++ more)) s.split ∙ (ap (observed told kept strange n) (append_assoc s.before (s.last ∷ s.after) more)
-      ∙ (observed_on n s.before (s.last ∷ (s.after ++ more)) s.usual
-      ∙ ap (behind (text_by told kept strange n s.before)) (by_test m s.last (s.after ++ more) true s.unusual))) in
+      ap (λ xs. observed told kept strange n (xs ++ more)) s.split ∙ (ap (observed told kept strange n) (append_assoc s.before (s.last ∷ []) more)
+      ∙ (observed_on n s.before (s.last ∷ more) s.usual
+      ∙ ap (behind (text_by told kept strange n s.before)) (by_test m s.last more true s.unusual))) in
       (s.text ∙ ap (λ (x : Observed ℕ). appended old x.told) (sym path), ap (λ (x : Observed ℕ). x.is_cut) path)
 
   first_told : (n : Notes) (r : Report) (rs : List Report) (t : Bool) → strange n r ≡ t → (rest : List ℕ)
@@ -78,3 +85,27 @@ module _ (told : Notes → Report → List ℕ) (kept : Notes → Report → Not
       (front_after old (appended old (text_by told kept strange n f.before)) new (text_by told kept strange n f.before)
       (observed told kept strange (notes_by told kept strange n f.before) (f.after ++ more)).told refl
       (next_observed (appended old (text_by told kept strange n f.before)) new (notes_by told kept strange n f.before) f.after more f.next))
+
+  -- ---- what the net took up to a strange report
+
+  -- the packets that are told up to it
+  numbers_observed : (n : Notes) (before : List Report) (last : Report) (more : List Report) → AreUsual told kept strange n before
+      → strange (notes_by told kept strange n before) last ≡ true
+      → (observed (λ m r. sent_number r) kept strange n (before ++ last ∷ more)).told ≡ numbers_of (before ++ last ∷ [])
+  numbers_observed n [] last more u e =
+      ap (λ (x : Observed ℕ). x.told) (observed-strange (λ m r. sent_number r) kept strange n last more e) ∙ sym (append-nil (sent_number last))
+  numbers_observed n (r ∷ before) last more u e =
+      ap (λ (x : Observed ℕ). x.told) (observed-usual (λ m r. sent_number r) kept strange n r (before ++ last ∷ more) u.0)
+      ∙ ap (λ ns. sent_number r ++ ns) (numbers_observed (kept n r) before last more u.1 e)
+
+  -- of a run that begins with these reports and datagrams, these are the datagrams up to it
+  pub strange_sent : (old new : Option (List ℕ)) (n : Notes) (reports : List Report) (sent : List Datagram) (run : Run)
+      → AreStrange told kept strange old n new reports → length sent ≡ length (numbers_of reports) → BeginsRun run reports sent
+      → sent_by kept strange n run ≡ sent
+  unfolding sent_by
+  strange_sent old new n reports sent run s count b =
+      let are : (observed (λ m r. sent_number r) kept strange n run.reports).told ≡ numbers_of reports =
+      ap (λ rs. (observed (λ m r. sent_number r) kept strange n rs).told)
+      (b.reports_are ∙ (ap (λ rs. rs ++ b.more) s.split ∙ append_assoc s.before (s.last ∷ []) b.more))
+      ∙ (numbers_observed n s.before s.last b.more s.usual s.unusual ∙ ap numbers_of (sym s.split)) in
+      ap (λ ns. take (length ns) run.sent) are ∙ (ap (λ m. take m run.sent) (sym count) ∙ (ap (take (length sent)) b.sent_is ∙ front_taken sent b.later))

@@ -11,19 +11,29 @@ use Rattle.homa_plain.specs.Answers.{answering}
 use Rattle.node_runs.specs.Script.{Setup, Calls, Opening, Opened, unopened, opening}
 use Rattle.node_runs.specs.Course.{Report, Tells, Datagram, Arrival, RefusedAt, run_of, run_opened, node_run, new_node, first_inc, datagrams, loop_turns}
 use Rattle.node_runs.specs.Recorder.{Notes}
-use Rattle.node_acts.specs.Told.{AreTold, AreFront}
-use Rattle.node_acts.specs.Acting.{node_at, Begins}
+use Rattle.node_acts.specs.Told.{ListedFront, AreTold, AreFront}
+use Rattle.node_acts.specs.Acting.{node_at, Begins, OnStrange}
 use Rattle.node_acts.specs.declared.stop.NodeStop.{NodeStop}
 use Rattle.node_acts.specs.declared.stop.NodeStop.TheVariants.{Script, Start, Host, Read, Net, Seen, Stalled, NoMemory}
-use Rattle.node_acts.proofs.Lists.{listed_none}
+use Rattle.node_acts.proofs.Lists.{listed_none, front_none}
 use Rattle.node_acts.proofs.Tellings.{front_rest, front_more}
 use Rattle.script_lines.specs.Read.{IsRead, IsCut}
 use Rattle.script_lines.specs.Place.{Place}
 use Rattle.homa_node.specs.Served.{Outside, outside, Whole, BeginsRun, IsServed, IsPart, IsStopped, IsFirstIn}
-use Rattle.homa_node.specs.Opened.{HasOpened}
+use Rattle.node_script.specs.declared.stop.SetupStop.{SetupStop}
+use Rattle.node_script.specs.declared.stop.SetupStop.TheVariants as why
+use Rattle.homa_node.specs.Opened.{HasOpened, opening_stop}
 use Rattle.homa_node.specs.Far.{IsFar, IsAt, going}
 use Rattle.homa_node.proofs.Fars.{far_start, far_read, far_to, far_stop, far_acted, far_part, far_end}
 use Rattle.homa_node.proofs.Courses.{begins_run, turns_grow}
+
+-- nothing is strange while the lines up to `go` are read
+pub opening_never : (n : NodeStop) (line : ℕ) (stop : SetupStop) → n ≡ opening_stop line stop → OnStrange {A = Unit {0}} (Err n) ⊥
+opening_never n line stop e = subst (λ x. OnStrange {A = Unit {0}} (Err x) ⊥) (sym e) (by_stop stop) where
+  by_stop : (stop : SetupStop) → OnStrange {A = Unit {0}} (Err (opening_stop line stop)) ⊥
+  by_stop why.NoMemory = tt
+  by_stop (why.Read failed) = tt
+  by_stop (why.Fault fault) = tt
 
 by_opening : (more : List ℕ) (later : List Answer) (on : List ℕ) (next : List (Option Arrival))
     → node_run more later on next ≡ run_opened (opening most_bytes more) later on next
@@ -55,28 +65,28 @@ module _ (told : Notes → Report → List ℕ) (kept : Notes → Report → Not
 
   -- a run of which nothing was told
   nothing_told : (left2 : Option (List ℕ)) (rest : Whole) → IsFar node_run told kept strange may_tell bytes left2 old old may_tell 0 [] [] rest
-      → IsPart node_run told kept strange may_tell bytes left2 old old (AreFront told kept strange old.taken old.notes old.taken)
+      → IsPart node_run told kept strange may_tell bytes left2 old old (AreFront told kept strange old.taken old.notes old.taken) (ListedFront old.sent old.sent)
   nothing_told left2 rest d =
       far_part node_run told kept strange may_tell bytes left2 old old may_tell 0 [] [] rest d old
-      (AreFront told kept strange old.taken old.notes old.taken) [] [] []
-      (front_rest told kept strange old.taken old.notes []) (record { front = []; rest = []; split = refl; is = listed_none old.sent })
-      (listed_none old.gave) none
+      (AreFront told kept strange old.taken old.notes old.taken) (ListedFront old.sent old.sent) [] [] []
+      (front_rest told kept strange old.taken old.notes []) (front_none old.sent old.sent refl) refl (listed_none old.gave) tt none
       (λ more later on next. record { more = (rest more later on next).reports; later = (rest more later on next).sent; reports_are = refl; sent_is = refl })
 
   -- in the end, in other words
   pub part_as : (left2 : Option (List ℕ)) (new : Outside) → new ≡ old
-      → IsPart node_run told kept strange may_tell bytes left2 old old (AreFront told kept strange old.taken old.notes old.taken)
-      → IsPart node_run told kept strange may_tell bytes left2 old new (AreFront told kept strange old.taken old.notes new.taken)
+      → IsPart node_run told kept strange may_tell bytes left2 old old (AreFront told kept strange old.taken old.notes old.taken) (ListedFront old.sent old.sent)
+      → IsPart node_run told kept strange may_tell bytes left2 old new (AreFront told kept strange old.taken old.notes new.taken) (ListedFront old.sent new.sent)
   part_as left2 new same p = subst
-      (λ o. IsPart node_run told kept strange may_tell bytes left2 old o (AreFront told kept strange old.taken old.notes o.taken)) (sym same) p
+      (λ o. IsPart node_run told kept strange may_tell bytes left2 old o (AreFront told kept strange old.taken old.notes o.taken) (ListedFront old.sent o.sent))
+      (sym same) p
 
   -- nothing was done
-  pub open_none : IsPart node_run told kept strange may_tell bytes left old old (AreFront told kept strange old.taken old.notes old.taken)
+  pub open_none : IsPart node_run told kept strange may_tell bytes left old old (AreFront told kept strange old.taken old.notes old.taken) (ListedFront old.sent old.sent)
   open_none = nothing_told left node_run start
 
   -- reading stopped
   pub open_cut : (left2 : Option (List ℕ)) → ((rest : List ℕ) → left ≡ Some rest → IsCut rest left2)
-      → IsPart node_run told kept strange may_tell bytes left2 old old (AreFront told kept strange old.taken old.notes old.taken)
+      → IsPart node_run told kept strange may_tell bytes left2 old old (AreFront told kept strange old.taken old.notes old.taken) (ListedFront old.sent old.sent)
   open_cut left2 f =
       let d = far_stop node_run told kept strange may_tell bytes left old old may_tell 0 [] [] node_run start left2 f in
       nothing_told left2 (λ more. node_run (d.0 ++ more)) d.1
@@ -110,7 +120,7 @@ module _ (told : Notes → Report → List ℕ) (kept : Notes → Report → Not
     opened_run more later on next = run_of setup.settings (loop_turns setup 1 on (new_node setup (calls more) later next))
 
     -- nothing of it was told
-    pub open_untold : IsPart node_run told kept strange may_tell bytes left2 old old (AreFront told kept strange old.taken old.notes old.taken)
+    pub open_untold : IsPart node_run told kept strange may_tell bytes left2 old old (AreFront told kept strange old.taken old.notes old.taken) (ListedFront old.sent old.sent)
     open_untold = nothing_told left2 opened_run (opens left2 (λ more. Opened setup (calls more)) f)
 
     -- it begins with its settings
@@ -125,18 +135,18 @@ module _ (told : Notes → Report → List ℕ) (kept : Notes → Report → Not
     -- its settings weren't told whole
     pub settings_part : (new : Outside) (tell : List Report → Type 0) → tell (Tells (PlainSettings setup.settings) ∷ []) → new.sent ≡ old.sent
         → new.gave ≡ old.gave → may_tell (PlainSettings setup.settings ∷ [])
-        → IsPart node_run told kept strange may_tell bytes left2 old new tell
+        → IsPart node_run told kept strange may_tell bytes left2 old new tell (ListedFront old.sent new.sent)
     settings_part new tell tells sent gave may =
         far_part node_run told kept strange may_tell bytes left2 old old may_tell 0 [] [] opened_run
-        (opens left2 (λ more. Opened setup (calls more)) f) new tell (Tells (PlainSettings setup.settings) ∷ []) [] []
-        tells (record { front = []; rest = []; split = refl; is = sent ∙ listed_none old.sent }) (gave ∙ listed_none old.gave) may
+        (opens left2 (λ more. Opened setup (calls more)) f) new tell (ListedFront old.sent new.sent) (Tells (PlainSettings setup.settings) ∷ []) [] []
+        tells (front_none old.sent new.sent sent) refl (gave ∙ listed_none old.gave) tt may
         (λ more later on next. run_begins more later on next)
 
     module _ (new : Outside) (tells : AreTold told kept strange old.taken old.notes new.taken new.notes (Tells (PlainSettings setup.settings) ∷ []))
         (sent : new.sent ≡ old.sent) (gave : new.gave ≡ old.gave) (ticks : new.ticks ≡ old.ticks) where
       -- they were told, and no more
       pub settings_told : may_tell (PlainSettings setup.settings ∷ [])
-          → IsPart node_run told kept strange may_tell bytes left2 old new (AreFront told kept strange old.taken old.notes new.taken)
+          → IsPart node_run told kept strange may_tell bytes left2 old new (AreFront told kept strange old.taken old.notes new.taken) (ListedFront old.sent new.sent)
       settings_told may =
           settings_part new (AreFront told kept strange old.taken old.notes new.taken)
           (front_more told kept strange old.taken new.taken new.taken old.notes new.notes (Tells (PlainSettings setup.settings) ∷ []) [] tells
@@ -154,7 +164,7 @@ module _ (told : Notes → Report → List ℕ) (kept : Notes → Report → Not
         far = far_acted node_run told kept strange may_tell bytes left2 old old may_tell 0 [] [] opened_run (opens left2 (λ more. Opened setup (calls more)) f)
             new after (Tells (PlainSettings setup.settings) ∷ []) (datagrams setup.settings h.first) [] []
             (going setup h.first (Tells (PlainSettings setup.settings) ∷ []) calls (loop_turns setup 1))
-            tells (sent ∙ listed_none old.sent) (gave ∙ listed_none old.gave) ticks none_yet allowed
+            tells (sent ∙ listed_none old.sent) (gave ∙ listed_none old.gave) tt ticks none_yet refl allowed
             (λ more later on next. ap (λ w.
             run_of setup.settings (loop_turns setup 1 on (node_at w (Tells (PlainSettings setup.settings) ∷ []) (calls more) next)))
             (sym (first_is later)));

@@ -12,7 +12,8 @@ use Rattle.homa_plain.specs.Answers.{answering}
 use Rattle.node_runs.specs.Script.{TimedCall, Calls, with_call}
 use Rattle.node_runs.specs.Course.{Report, Datagram, Arrival, End, RefusedAt, datagrams}
 use Rattle.node_acts.specs.Acting.{node_at, IsRefused, HasActed, IsCut}
-use Rattle.node_acts.proofs.Lists.{listed_none}
+use Rattle.node_acts.specs.Told.{ListedFront}
+use Rattle.node_acts.proofs.Lists.{listed_none, front_none, front_listed}
 use Rattle.node_acts.proofs.Acted.{acted_none, acted_on}
 use Rattle.node_acts.proofs.Cuts.{cut_on}
 use Rattle.script_lines.specs.Read.{IsRead, IsCut as IsReadCut}
@@ -86,8 +87,10 @@ module _ (s : Settings) (stands : World → Type 0) (before : List PlainEntry �
     started_cut left2 tell2 tell mid h f none allowed tells = record {
       done = h.done;
       cut = λ w st held.
-          cut_on s (starting s held h.done) (starting s held []) w next1 before after1 tell1 tell2 tell sent0 sent1 sent1 gave0 gave1 gave1 (h.acted w st held)
-          (λ v sv. cut_uncalled s held [] v after1 tell2 sent1 sent1 gave1 gave1 none refl refl allowed) tells;
+          cut_on s (starting s held h.done) (starting s held []) w next1 before after1 tell1 tell2 tell (ListedFront sent1 sent1)
+          (ListedFront sent0 sent1) sent0 sent1 gave0 gave1 gave1 (h.acted w st held)
+          (λ v sv. cut_uncalled s held [] v after1 tell2 (ListedFront sent1 sent1) gave1 gave1 none (front_none sent1 sent1 refl) refl allowed) tells
+          (λ x y p q. front_listed sent0 sent1 sent1 x y p q);
       read = λ bytes k.
           let r = read_cut bytes left1 left2 due (λ more. with_calls h.done (mid more)) (h.read bytes k) f in
           (λ more. mid (r.0 ++ more), r.1);
@@ -121,14 +124,16 @@ module _ (s : Settings) (stands : World → Type 0) (before : List PlainEntry �
 
       -- the hosts stopped at it
       pub call_cut : (t : Settings) → t ≡ s → (sent2 : Option (List Datagram)) (gave2 : Option (List (Option Arrival))) (tell2 tell : List Report → Type 0)
-          → ((w : World) → next1 w → (held : Calls) → IsCut (starting t held (c ∷ [])) t w after1 tell2 sent1 sent2 gave1 gave2)
+          → ((w : World) → next1 w → (held : Calls) → IsCut (starting t held (c ∷ [])) t w after1 tell2 (ListedFront sent1 sent2) gave1 gave2)
           → ((x y : List Report) → tell1 x → tell2 y → tell (x ++ y)) → HasCut s stands before sent0 sent2 gave0 gave2 left0 left1 due tell
       call_cut t e sent2 gave2 tell2 tell f tells = record {
         done = h.done ++ c ∷ [];
         cut = λ w st held.
-            cut_on s (starting s held (h.done ++ c ∷ [])) (starting s held (c ∷ [])) w next1 before after1 tell1 tell2 tell sent0 sent1 sent2 gave0 gave1 gave2
+            cut_on s (starting s held (h.done ++ c ∷ [])) (starting s held (c ∷ [])) w next1 before after1 tell1 tell2 tell (ListedFront sent1 sent2)
+            (ListedFront sent0 sent2) sent0 sent1 gave0 gave1 gave2
             (acted_front s held h.done (c ∷ []) w next1 before after1 tell1 sent0 sent1 gave0 gave1 (h.acted w st held))
-            (λ v sv. subst (λ q. IsCut (starting q held (c ∷ [])) q v after1 tell2 sent1 sent2 gave1 gave2) e (f v sv held)) tells;
+            (λ v sv. subst (λ q. IsCut (starting q held (c ∷ [])) q v after1 tell2 (ListedFront sent1 sent2) gave1 gave2) e (f v sv held)) tells
+            (λ x y p q. front_listed sent0 sent1 sent2 x y p q);
         read = λ bytes k. (now, read_one bytes k);
       }
 
@@ -165,7 +170,9 @@ module _ (s : Settings) where
     told = none;
     took = listed_none sent;
     given = listed_none gave;
+    received = tt;
     grown = sym (append-nil (datagrams s w));
+    numbers = refl;
     allowed = λ more e. subst b (sym e) allowed;
     same = λ first later calls left held2.
         stops_at s held c w fault due is first later calls left held2

@@ -2,7 +2,7 @@
 use Rattle.std.proofs.Common.{◌≡◌, ◌≤◌, ◌<◌, Bool, true, false, Option, None, Some, List, [], ◌∷◌, ◌++◌, refl, sym, ap, ◌∙◌, subst, append_assoc, arith}
 use Rattle.std.specs.Prelude.{map, nat_lt, if◌then◌else◌}
 use Rattle.std.proofs.lemmas.Bool.Decides.{nat_tests}
-use Rattle.std.proofs.lemmas.List.{append-nil}
+use Rattle.std.proofs.lemmas.List.{append-nil, length-map}
 use Rattle.homa_plain.specs.declared.settings.Settings.{Settings}
 use Rattle.homa_plain.specs.declared.fault.LineFault.TheVariants.{World as ByWorld}
 use Rattle.homa_plain.specs.declared.event.Event.TheVariants as event
@@ -83,7 +83,9 @@ module _ (s : Settings) where
     told = tells;
     took = took;
     given = same ∙ listed_none g0;
+    received = tt;
     grown = step.sent;
+    numbers = length-map frames frame_datagram ∙ step.numbers;
     allowed = λ more x. subst (λ es. b (es ++ more)) (sym (entries_tells told)) (step.allowed more x);
     same = λ first later calls left held2.
         let come : nat_lt w.clock c.tick ≡ false = grind (arith, nat_tests) in
@@ -107,7 +109,9 @@ module _ (s : Settings) where
     told = h.told;
     took = h.took;
     given = h.given;
+    received = h.received;
     grown = h.grown;
+    numbers = h.numbers;
     allowed = h.allowed;
     same = λ first later calls left held2.
         ap (λ cs. starts s calls.refused cs (node_at (answering (shown (entries h.reports) ++ later) w) first held (h.gave ++ left)))
@@ -128,7 +132,9 @@ module _ (s : Settings) where
     told = none;
     took = listed_none sent;
     given = listed_none gave;
+    received = tt;
     grown = sym (append-nil (datagrams s w));
+    numbers = refl;
     allowed = λ more h. h;
     same = λ first later calls left held2.
         let wait : nat_lt w.clock c.tick ≡ true = grind (arith, nat_tests) in

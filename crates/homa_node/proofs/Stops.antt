@@ -10,11 +10,11 @@ use Rattle.node_runs.specs.Script as script
 use Rattle.node_runs.specs.Script.{TimedCall, Calls, with_call}
 use Rattle.node_runs.specs.Course.{Report, Datagram, Arrival, RefusedAt}
 use Rattle.node_runs.specs.Recorder.{Notes}
-use Rattle.node_acts.specs.Told.{AreTold, AreFront, AreStrange}
+use Rattle.node_acts.specs.Told.{ListedFront, AreTold, AreFront}
 use Rattle.node_acts.specs.Acting.{HasActed, IsCut, OnStrange}
 use Rattle.node_acts.specs.declared.stop.NodeStop.{NodeStop}
 use Rattle.node_acts.specs.declared.stop.NodeStop.TheVariants.{Script, Start, Host, Read, Net, Seen, Stalled, NoMemory}
-use Rattle.node_acts.proofs.Tellings.{told_more, front_rest, front_more, strange_more}
+use Rattle.node_acts.proofs.Tellings.{told_more, front_rest, front_more}
 use Rattle.node_script.specs.Standing.{Standing}
 use Rattle.homa_node.specs.declared.ahead.Ahead.{Ahead}
 use Rattle.homa_node.specs.Coming.{calls_ahead, HasLooked, IsLookStop}
@@ -56,7 +56,7 @@ module _ (s : Settings) (stands : World → Type 0) (before : List PlainEntry �
       (gave2 : Option (List (Option Arrival))) (taken2 : Option (List ℕ)) (notes2 : Notes) where
     -- the hosts stopped at the next call
     call_front : ((w : World) → next1 w → c.tick ≤ w.clock → (held : Calls)
-        → IsCut (starting t held (c ∷ [])) t w after1 (AreFront told kept strange taken1 notes1 taken2) sent1 sent2 gave1 gave2)
+        → IsCut (starting t held (c ∷ [])) t w after1 (AreFront told kept strange taken1 notes1 taken2) (ListedFront sent1 sent2) gave1 gave2)
         → HasStopped s stands before sent0 sent2 gave0 gave2 left0 left1 due told kept strange next1 after1 taken0 notes0 taken2 notes2 NoMemory
     call_front f =
         call_cut s stands before sent0 gave0 left0 due sent1 gave1 left1 next1 after1
@@ -67,29 +67,42 @@ module _ (s : Settings) (stands : World → Type 0) (before : List PlainEntry �
     -- it wasn't started
     pub call_stopped : (next2 : World → Type 0) (after2 : List PlainEntry → Type 0) (stop : NodeStop) → IsCallStop stop
         → OnCut (Err stop) ((w : World) → next1 w → c.tick ≤ w.clock → (held : Calls)
-        → IsCut (starting t held (c ∷ [])) t w after1 (AreFront told kept strange taken1 notes1 taken2) sent1 sent2 gave1 gave2)
-        → OnStrange (Err stop) ((w : World) → next1 w → c.tick ≤ w.clock → (held : Calls)
-        → IsCut (starting t held (c ∷ [])) t w after1 (AreStrange told kept strange taken1 notes1 taken2) sent1 sent2 gave1 gave2)
+        → IsCut (starting t held (c ∷ [])) t w after1 (AreFront told kept strange taken1 notes1 taken2) (ListedFront sent1 sent2) gave1 gave2)
         → OnStart (Err stop) (λ line fault. (w : World) → next1 w → c.tick ≤ w.clock → (held : Calls)
         → HasActed (starting t held (c ∷ [])) (stopping held (RefusedAt line (ByWorld (CantStart fault)))) t w (λ v. Unit {0}) after1 (λ xs. xs ≡ [])
         (AreTold told kept strange taken1 notes1 taken2 notes2) sent1 sent2 gave1 gave2)
         → HasStopped s stands before sent0 sent2 gave0 gave2 left0 left1 due told kept strange next2 after2 taken0 notes0 taken2 notes2 stop
-    call_stopped next2 after2 (Start line fault) is cut strange_cut ended =
+    call_stopped next2 after2 (Start line fault) is cut ended =
         call_ended s stands before sent0 gave0 left0 due sent1 gave1 left1 next1 after1
         (AreTold told kept strange taken0 notes0 taken1 notes1) c now h t e sent2 gave2
         (AreTold told kept strange taken1 notes1 taken2 notes2) (AreTold told kept strange taken0 notes0 taken2 notes2)
         (RefusedAt line (ByWorld (CantStart fault))) (λ w st held. ended w st (comes w st) held)
         (λ x y p q. told_more told kept strange taken0 taken1 taken2 notes0 notes1 notes2 x y p q)
-    call_stopped next2 after2 (Seen Stranger) is cut strange_cut ended =
-        call_cut s stands before sent0 gave0 left0 due sent1 gave1 left1 next1 after1
-        (AreTold told kept strange taken0 notes0 taken1 notes1) c now h t e sent2 gave2
-        (AreStrange told kept strange taken1 notes1 taken2) (AreStrange told kept strange taken0 notes0 taken2)
-        (λ w st held. strange_cut w st (comes w st) held) (λ x y p q. strange_more told kept strange taken0 taken1 taken2 notes0 notes1 x y p q)
-    call_stopped next2 after2 (Seen (Write failed)) is cut strange_cut ended = call_front cut
-    call_stopped next2 after2 (Seen NoRoom) is cut strange_cut ended = call_front cut
-    call_stopped next2 after2 Net is cut strange_cut ended = call_front cut
-    call_stopped next2 after2 NoMemory is cut strange_cut ended = call_front cut
-    call_stopped next2 after2 (Script line fault) is cut strange_cut ended = absurd is
-    call_stopped next2 after2 (Host line) is cut strange_cut ended = absurd is
-    call_stopped next2 after2 Read is cut strange_cut ended = absurd is
-    call_stopped next2 after2 (Stalled turns now) is cut strange_cut ended = absurd is
+    call_stopped next2 after2 (Seen Stranger) is cut ended = absurd is
+    call_stopped next2 after2 (Seen (Write failed)) is cut ended = call_front cut
+    call_stopped next2 after2 (Seen NoRoom) is cut ended = call_front cut
+    call_stopped next2 after2 Net is cut ended = call_front cut
+    call_stopped next2 after2 NoMemory is cut ended = call_front cut
+    call_stopped next2 after2 (Script line fault) is cut ended = absurd is
+    call_stopped next2 after2 (Host line) is cut ended = absurd is
+    call_stopped next2 after2 Read is cut ended = absurd is
+    call_stopped next2 after2 (Stalled turns now) is cut ended = absurd is
+
+module _ (s : Settings) (stands : World → Type 0) (before : List PlainEntry → Type 0) (sent0 sent1 : Option (List Datagram))
+    (gave0 gave1 : Option (List (Option Arrival))) (left0 left1 : Option (List ℕ)) (due : List ℕ → Calls)
+    (told : Notes → Report → List ℕ) (kept : Notes → Report → Notes) (strange : Notes → Report → Bool) (next : World → Type 0)
+    (after : List PlainEntry → Type 0) (taken0 : Option (List ℕ)) (notes0 : Notes) (taken1 : Option (List ℕ)) (notes1 : Notes) where
+  -- nothing is strange while calls are started
+  pub stopped_never : (R X : Type 0) (stop : NodeStop)
+      → HasStopped s stands before sent0 sent1 gave0 gave1 left0 left1 due told kept strange next after taken0 notes0 taken1 notes1 stop
+      → OnStrange {A = R} (Err stop) X
+  stopped_never R X (Seen Stranger) h = absurd h
+  stopped_never R X (Seen (Write failed)) h = tt
+  stopped_never R X (Seen NoRoom) h = tt
+  stopped_never R X (Script line fault) h = tt
+  stopped_never R X (Start line fault) h = tt
+  stopped_never R X (Host line) h = tt
+  stopped_never R X (Stalled turns now) h = tt
+  stopped_never R X Read h = tt
+  stopped_never R X Net h = tt
+  stopped_never R X NoMemory h = tt

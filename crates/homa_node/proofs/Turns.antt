@@ -1,5 +1,5 @@
 -- A node's run in its loop turns, from one call of the code to the next.
-use Rattle.std.proofs.Common.{◌≡◌, ◌≤◌, ◌<◌, ℕ, suc, Bool, true, false, Option, None, Some, List, [], ◌∷◌, ◌++◌, refl, sym, ap, ◌∙◌, subst}
+use Rattle.std.proofs.Common.{◌≡◌, ◌≤◌, ◌<◌, ℕ, suc, Bool, true, false, Option, None, Some, List, [], ◌∷◌, ◌++◌, length, refl, sym, ap, ◌∙◌, subst}
 use Rattle.std.specs.Prelude.{if◌then◌else◌, ◌==◌, ◌||◌, nat_lt, IfSome}
 use Rattle.std.proofs.lemmas.List.{append-nil}
 use Rattle.homa_plain.specs.declared.settings.Settings.{Settings}
@@ -17,12 +17,12 @@ use Rattle.node_runs.specs.Course.{Report, Tells, Datagram, Node, Course, ◌>>=
 use Rattle.node_runs.specs.Course.{locals, ends, loop_turns}
 use Rattle.node_runs.specs.Recorder.{Notes}
 use Rattle.node_runs.specs.Texts.{entries}
-use Rattle.node_acts.specs.Told.{AreTold, AreFront, AreStrange}
+use Rattle.node_acts.specs.Told.{Listed, ListedFront, numbers_of, AreTold, AreFront}
 use Rattle.node_acts.specs.Acting.{node_at, HasActed, IsCut, Begins, with_left, goes_on, clock_reports}
 use Rattle.node_acts.specs.declared.stop.NodeStop.{NodeStop}
 use Rattle.node_acts.specs.declared.stop.NodeStop.TheVariants.{Script, Start, Host, Read, Net, Seen, Stalled, NoMemory}
-use Rattle.node_acts.proofs.Lists.{listed_none}
-use Rattle.node_acts.proofs.Tellings.{front_more, strange_more}
+use Rattle.node_acts.proofs.Lists.{listed_none, front_none, front_listed}
+use Rattle.node_acts.proofs.Tellings.{front_more}
 use Rattle.script_lines.specs.Read.{IsRead}
 use Rattle.node_script.specs.Standing.{Standing}
 use Rattle.node_script.specs.Calls.{refused_at}
@@ -45,6 +45,10 @@ clock_allowed now q more false a b = a
 clock_shown : (now : ℕ) (t : Bool) → shown (entries (if t then Tells (PlainClock now) ∷ [] else [])) ≡ []
 clock_shown now true = refl
 clock_shown now false = refl
+
+clock_numbers : (now : ℕ) (t : Bool) → length {A = Datagram} [] ≡ length (numbers_of (if t then Tells (PlainClock now) ∷ [] else []))
+clock_numbers now true = refl
+clock_numbers now false = refl
 
 -- a run that is over
 abbrev ended_run : List Report → List Datagram → End → Whole
@@ -108,7 +112,8 @@ module _ (whole : Whole) (told : Notes → Report → List ℕ) (kept : Notes �
                   (going setup w a.reports calls (λ on. loop_turns setup n (now ∷ on))) a.far
                   new2 after2 (clock_reports n now w) (datagrams setup.settings w) [] []
                   (going setup (record w { clock = now }) (a.reports ++ clock_reports n now w) calls (starts_calls setup held n now))
-                  t.1 (sent ∙ listed_none new.sent) (gave ∙ listed_none new.gave) ticks (sym (append-nil (datagrams setup.settings w)))
+                  t.1 (sent ∙ listed_none new.sent) (gave ∙ listed_none new.gave) tt ticks (sym (append-nil (datagrams setup.settings w)))
+                  (clock_numbers now is_told)
                   (λ more x. clock_allowed now after more is_told (allows more x) (clocks more (allows more x)))
                   (λ more later on next. ap (λ xs.
                   run_of setup.settings (loop_turns setup n (now ∷ on) (node_at (answering (xs ++ later) w) a.reports (calls more) next)))
@@ -120,15 +125,16 @@ module _ (whole : Whole) (told : Notes → Report → List ℕ) (kept : Notes �
         pub clock_part : (new2 : Outside) (tell1 tell : List Report → Type 0) → ((w : World) → stands w → tell1 (clock_reports n now w))
             → ((x y : List Report) → AreTold told kept strange old.taken old.notes new.taken new.notes x → tell1 y → tell (x ++ y))
             → after [] → ((more : List PlainEntry) → after more → after (PlainClock now ∷ more)) → new2.sent ≡ new.sent → new2.gave ≡ new.gave
-            → IsPart whole told kept strange may_tell bytes left old new2 tell
+            → IsPart whole told kept strange may_tell bytes left old new2 tell (ListedFront old.sent new2.sent)
         clock_part new2 tell1 tell tells joins none clocks sent gave =
             let w = a.world in
             let is_told = n == 1 || nat_lt w.clock now in
             let held : Calls = record { calls = []; refused = None } in
             far_part whole told kept strange may_tell bytes left old new after least a.reports (datagrams setup.settings w)
             (going setup w a.reports calls (λ on. loop_turns setup n (now ∷ on))) a.far
-            new2 tell (clock_reports n now w) [] [] (joins a.reports (clock_reports n now w) a.far.told_all (tells w a.stood))
-            (record { front = []; rest = []; split = refl; is = sent ∙ listed_none new.sent }) (gave ∙ listed_none new.gave)
+            new2 tell (ListedFront old.sent new2.sent) (clock_reports n now w) [] [] (joins a.reports (clock_reports n now w) a.far.told_all (tells w a.stood))
+            (front_listed old.sent new.sent new2.sent (datagrams setup.settings w) [] a.far.took (front_none new.sent new2.sent sent))
+            (clock_numbers now is_told) (gave ∙ listed_none new.gave) tt
             (subst after (append-nil (entries (clock_reports n now w))) (clock_allowed now after [] is_told none (clocks [] none)))
             (λ more later on next.
             let answers = shown (entries (clock_reports n now w)) ++ later in
@@ -169,7 +175,7 @@ module _ (whole : Whole) (told : Notes → Report → List ℕ) (kept : Notes �
                 (read_calls (λ more. with_calls h.done (calls_ahead setup ahead r more)) h.read)
                 new2 after2 k.reports (datagrams setup.settings k.next) k.sent k.gave
                 (going setup k.next (a.reports ++ k.reports) (calls_ahead setup ahead r) (behind_calls setup n now))
-                k.told k.took k.given same k.grown k.allowed
+                k.told k.took k.given k.received same k.grown k.numbers k.allowed
                 (λ more later on left3. ap (λ c. run_of setup.settings (c >>= behind_calls setup n now on))
                 (k.same a.reports later (calls_ahead setup ahead r more) left3 []
                 ∙ calls_wait setup held ahead r more k.next (a.reports ++ k.reports) later left3 [] (idle k.next k.stood)));
@@ -188,7 +194,7 @@ module _ (whole : Whole) (told : Notes → Report → List ℕ) (kept : Notes �
           (going setup a.world a.reports (λ more. with_calls h.done (refused_at line fault)) (starts_calls setup held n now))
           (read_calls (λ more. with_calls h.done (refused_at line fault)) h.read)
           new2 after2 k.reports (datagrams setup.settings k.next) k.sent k.gave ended
-          k.told k.took k.given same k.grown k.allowed
+          k.told k.took k.given k.received same k.grown k.numbers k.allowed
           (λ more later on left3. ap (λ c. run_of setup.settings (c >>= behind_calls setup n now on))
           (k.same a.reports later (refused_at line fault) left3 [])))
           (RefusedAt line fault) none (λ more later on left3. refl)
@@ -207,14 +213,14 @@ module _ (whole : Whole) (told : Notes → Report → List ℕ) (kept : Notes �
           (going setup a.world a.reports onward (starts_calls setup held n now))
           (read_calls onward (one_rest (λ xs. IsRead xs left2 calls onward) left a.far.read.rest a.far.read.has_left b.1))
           new2 (λ xs. xs ≡ []) k.reports (datagrams setup.settings k.next) k.sent k.gave ended
-          k.told k.took k.given same k.grown k.allowed
+          k.told k.took k.given k.received same k.grown k.numbers k.allowed
           (λ more later on left3. ap (λ c. run_of setup.settings (c >>= behind_calls setup n now on)) (k.same a.reports later (b.0 more) left3 [])))
           end refl (λ more later on left3. refl)
 
       -- the hosts stopped while calls were started
       pub calls_part : (tell1 tell : List Report → Type 0) → HasCut setup.settings stands after new.sent new2.sent new.gave new2.gave left left2 calls tell1
           → ((x y : List Report) → AreTold told kept strange old.taken old.notes new.taken new.notes x → tell1 y → tell (x ++ y))
-          → IsPart whole told kept strange may_tell bytes left2 old new2 tell
+          → IsPart whole told kept strange may_tell bytes left2 old new2 tell (ListedFront old.sent new2.sent)
       calls_part tell1 tell h joins =
           let k = h.cut a.world a.stood held in
           let b = h.read a.far.read.rest a.far.read.has_left in
@@ -222,7 +228,8 @@ module _ (whole : Whole) (told : Notes → Report → List ℕ) (kept : Notes �
           far_part whole told kept strange may_tell bytes left2 old new after least a.reports (datagrams setup.settings a.world)
           (going setup a.world a.reports onward (starts_calls setup held n now))
           (read_calls onward (one_rest (λ xs. IsRead xs left2 calls onward) left a.far.read.rest a.far.read.has_left b.1))
-          new2 tell k.reports k.sent k.gave (joins a.reports k.reports a.far.told_all k.told) k.took k.given k.allowed
+          new2 tell (ListedFront old.sent new2.sent) k.reports k.sent k.gave (joins a.reports k.reports a.far.told_all k.told)
+          (front_listed old.sent new.sent new2.sent (datagrams setup.settings a.world) k.sent a.far.took k.took) k.numbers k.given k.received k.allowed
           (λ more later on left3.
           calls_begin setup n now on (starting setup.settings held h.done (k.gave ++ left3)
           (node_at (answering (shown (entries k.reports) ++ later) a.world) a.reports (b.0 more) []))
@@ -231,6 +238,7 @@ module _ (whole : Whole) (told : Notes → Report → List ℕ) (kept : Notes �
       calls_front : HasCut setup.settings stands after new.sent new2.sent new.gave new2.gave left left2 calls
           (AreFront told kept strange new.taken new.notes new2.taken)
           → IsPart whole told kept strange may_tell bytes left2 old new2 (AreFront told kept strange old.taken old.notes new2.taken)
+          (ListedFront old.sent new2.sent)
       calls_front h = calls_part (AreFront told kept strange new.taken new.notes new2.taken) (AreFront told kept strange old.taken old.notes new2.taken) h
           (λ x y p q. front_more told kept strange old.taken new.taken new2.taken old.notes new.notes x y p q)
 
@@ -243,9 +251,7 @@ module _ (whole : Whole) (told : Notes → Report → List ℕ) (kept : Notes �
       calls_stopped next after2 none (Host line) h = calls_refused next after2 line (ByWorld NoSuchHost) none h
       calls_stopped next after2 none (Start line fault) h = calls_ended (RefusedAt line (ByWorld (CantStart fault))) h
       calls_stopped next after2 none (Stalled turns last) h = absurd h
-      calls_stopped next after2 none (Seen Stranger) h = calls_part (AreStrange told kept strange new.taken new.notes new2.taken)
-          (AreStrange told kept strange old.taken old.notes new2.taken) h
-          (λ x y p q. strange_more told kept strange old.taken new.taken new2.taken old.notes new.notes x y p q)
+      calls_stopped next after2 none (Seen Stranger) h = absurd h
       calls_stopped next after2 none (Seen (Write failed)) h = calls_front h
       calls_stopped next after2 none (Seen NoRoom) h = calls_front h
       calls_stopped next after2 none Read h = calls_front h
@@ -273,23 +279,25 @@ module _ (whole : Whole) (told : Notes → Report → List ℕ) (kept : Notes �
                 (going setup w a.reports calls (behind_calls setup n now)) a.far
                 new2 after2 k.reports (datagrams setup.settings k.next) k.sent k.gave
                 (going setup k.next (a.reports ++ k.reports) calls (behind_hosts setup n now))
-                k.told k.took k.given same k.grown k.allowed
+                k.told k.took k.given k.received same k.grown k.numbers k.allowed
                 (λ more later on left3. ap (λ c. run_of setup.settings ((c >>= ends setup n now) >>= loop_turns setup (suc n) on))
                 (k.same a.reports later (calls more) left3 []));
           }
 
       -- they stopped
-      pub hosts_part : (tell1 tell : List Report → Type 0)
-          → ((w : World) → stands w → IsCut (with_left (hosts_act t ids)) t w after tell1 new.sent new2.sent new.gave new2.gave)
+      pub hosts_part : (tell1 tell : List Report → Type 0) (take1 take : List Datagram → Type 0)
+          → ((w : World) → stands w → IsCut (with_left (hosts_act t ids)) t w after tell1 take1 new.gave new2.gave)
           → ((x y : List Report) → AreTold told kept strange old.taken old.notes new.taken new.notes x → tell1 y → tell (x ++ y))
-          → IsPart whole told kept strange may_tell bytes left old new2 tell
-      hosts_part tell1 tell cut joins =
+          → ((x y : List Datagram) → Listed old.sent new.sent x → take1 y → take (x ++ y))
+          → IsPart whole told kept strange may_tell bytes left old new2 tell take
+      hosts_part tell1 tell take1 take cut joins takes =
           let w = a.world in
-          let k = subst (λ q. IsCut (with_left (hosts_act setup.settings q)) setup.settings w after tell1 new.sent new2.sent new.gave new2.gave) f
-          (subst (λ q. IsCut (with_left (hosts_act q ids)) q w after tell1 new.sent new2.sent new.gave new2.gave) e (cut w a.stood)) in
+          let k = subst (λ q. IsCut (with_left (hosts_act setup.settings q)) setup.settings w after tell1 take1 new.gave new2.gave) f
+          (subst (λ q. IsCut (with_left (hosts_act q ids)) q w after tell1 take1 new.gave new2.gave) e (cut w a.stood)) in
           far_part whole told kept strange may_tell bytes left old new after least a.reports (datagrams setup.settings w)
           (going setup w a.reports calls (behind_calls setup n now)) a.far
-          new2 tell k.reports k.sent k.gave (joins a.reports k.reports a.far.told_all k.told) k.took k.given k.allowed
+          new2 tell take k.reports k.sent k.gave (joins a.reports k.reports a.far.told_all k.told)
+          (takes (datagrams setup.settings w) k.sent a.far.took k.took) k.numbers k.given k.received k.allowed
           (λ more later on left3.
           hosts_begin setup n now on (hosts_act setup.settings (locals setup)
           (node_at (answering (shown (entries k.reports) ++ later) w) a.reports (calls more) (k.gave ++ left3)))

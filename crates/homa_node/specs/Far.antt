@@ -1,15 +1,15 @@
 -- How far a node's run has come.
-use Rattle.std.specs.Prelude.{◌≡◌, ℕ, Bool, suc, nat_le, if◌then◌else◌, Option, Some, List, ◌++◌}
+use Rattle.std.specs.Prelude.{◌≡◌, ℕ, Bool, suc, nat_le, if◌then◌else◌, Option, Some, List, ◌++◌, length}
 use Rattle.homa_plain.specs.Entries.{PlainEntry}
 use Rattle.homa_plain.specs.Rules.{Answer}
 use Rattle.homa_plain.specs.World.{World}
 use Rattle.homa_plain.specs.Answers.{shown, answering}
 use Rattle.node_runs.specs.Script.{Setup, Calls}
-use Rattle.node_runs.specs.Course.{Report, Datagram, Arrival, AreTicks, Node, Course, GoesOn, Stops, ◌>>=◌, StalledAt, Run, run_of, datagrams}
+use Rattle.node_runs.specs.Course.{Report, Datagram, Arrival, AreReceived, AreTicks, Node, Course, GoesOn, Stops, ◌>>=◌, StalledAt, Run, run_of, datagrams}
 use Rattle.node_runs.specs.Course.{hosts_act, locals, ends, loop_turns}
 use Rattle.node_runs.specs.Recorder.{Notes}
 use Rattle.node_runs.specs.Texts.{entries}
-use Rattle.node_acts.specs.Told.{listed, AreTold}
+use Rattle.node_acts.specs.Told.{listed, numbers_of, AreTold}
 use Rattle.node_acts.specs.Acting.{node_at}
 use Rattle.script_lines.specs.Read.{IsRead}
 use Rattle.homa_node.specs.Served.{Outside, Whole, AreGiven}
@@ -25,7 +25,9 @@ module _ (whole : Whole) (told : Notes → Report → List ℕ) (kept : Notes �
     pub gave : List (Option Arrival)
     pub told_all : AreTold told kept strange old.taken old.notes new.taken new.notes reports
     pub took : new.sent ≡ listed old.sent sent
+    pub numbers : length sent ≡ length (numbers_of reports)
     pub given : new.gave ≡ listed old.gave gave
+    pub received : AreReceived gave
     pub ticked : (on : List ℕ) → AreGiven new.ticks on → AreGiven old.ticks (ticks ++ on)
     pub rises : (on : List ℕ) → AreTicks least on → AreTicks 0 (ticks ++ on)
     pub allowed : (more : List PlainEntry) → after more → may_tell (entries reports ++ more)

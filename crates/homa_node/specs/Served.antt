@@ -9,10 +9,10 @@ use Rattle.homa_plain.specs.World.{World, new_world}
 use Rattle.homa_plain.specs.Answers.{shown, answering}
 use Rattle.node_io.specs.declared.observer.SeenFault.TheVariants.{Stranger}
 use Rattle.node_io.specs.Clock.{next_tick, ticks_after}
-use Rattle.node_runs.specs.Course.{Report, Datagram, Arrival, AreTicks, End, Ended, RefusedAt, StalledAt, Run}
+use Rattle.node_runs.specs.Course.{Report, Datagram, Arrival, AreReceived, AreTicks, End, Ended, RefusedAt, StalledAt, Run}
 use Rattle.node_runs.specs.Recorder.{Notes}
-use Rattle.node_runs.specs.Texts.{entries}
-use Rattle.node_acts.specs.Told.{listed, ListedFront, AreTold, AreFront, AreStrange}
+use Rattle.node_runs.specs.Texts.{entries, sent_by}
+use Rattle.node_acts.specs.Told.{listed, Listed, ListedFront, numbers_of, AreTold, AreFront, AreStrange}
 use Rattle.node_acts.specs.declared.stop.NodeStop.{NodeStop}
 use Rattle.node_acts.specs.declared.stop.NodeStop.TheVariants.{Script, Start, Host, Seen, Stalled}
 
@@ -67,14 +67,16 @@ module _ (whole : Whole) (told : Notes → Report → List ℕ) (kept : Notes �
     pub told_all : AreTold told kept strange old.taken old.notes new.taken new.notes (whole bytes answers ticks gave).reports
     pub took : new.sent ≡ listed old.sent (whole bytes answers ticks gave).sent
     pub given : new.gave ≡ listed old.gave gave
+    pub received : AreReceived gave
     pub ticked : AreGiven old.ticks ticks
     pub rises : AreTicks 0 ticks
     pub shows : shown (entries (whole bytes answers ticks gave).reports) ≡ answers
     pub allowed : may_tell (entries (whole bytes answers ticks gave).reports)
 
-  -- The run stopped. Some of the bytes came. Of what it tells a front was told, and of what it sends a front was sent: of every input
-  -- that begins with the bytes that came, and whatever is answered, read and received later; or nothing more is left, and it is the run of what came.
-  pub record IsPart (bytes : List ℕ) (left : Option (List ℕ)) (old new : Outside) (tell : List Report → Type 0) : Type 0 where
+  -- The run stopped. Some of the bytes came. The run begins with `reports` and `sent`, one datagram for each packet that is told: that of every
+  -- input that begins with the bytes that came, and whatever is answered, read and received later; or nothing more is left, and it is the run of
+  -- what came. `tell` says how much of the reports was told, and `take` how much was sent.
+  pub record IsPart (bytes : List ℕ) (left : Option (List ℕ)) (old new : Outside) (tell : List Report → Type 0) (take : List Datagram → Type 0) : Type 0 where
     pub came : List ℕ
     pub rest : List ℕ
     pub split : bytes ≡ came ++ rest
@@ -85,8 +87,10 @@ module _ (whole : Whole) (told : Notes → Report → List ℕ) (kept : Notes �
     pub reports : List Report
     pub sent : List Datagram
     pub told_part : tell reports
-    pub took : ListedFront old.sent new.sent sent
+    pub took : take sent
+    pub numbers : length sent ≡ length (numbers_of reports)
     pub given : new.gave ≡ listed old.gave gave
+    pub received : AreReceived gave
     pub ticked : AreGiven old.ticks ticks
     pub rises : AreTicks 0 ticks
     pub shows : shown (entries reports) ≡ answers
@@ -96,14 +100,19 @@ module _ (whole : Whole) (told : Notes → Report → List ℕ) (kept : Notes �
         ⊎ ((rest ≡ []) × ((later : List Answer) (on : List ℕ) (next : List (Option Arrival))
         → BeginsRun (whole came (answers ++ later) (ticks ++ on) (gave ++ next)) reports sent))
 
-  -- how it stopped: at a line, after its last loop turn, at a report that is strange, or in its midst
+  -- The run stopped at a datagram that is strange, which was told. Of each run that begins so the net took the datagrams up to it.
+  pub record IsStranger (bytes : List ℕ) (left : Option (List ℕ)) (old new : Outside) : Type 0 where
+    pub part : IsPart bytes left old new (AreStrange told kept strange old.taken old.notes new.taken) (Listed old.sent new.sent)
+    pub took : (run : Run) → BeginsRun run part.reports part.sent → new.sent ≡ listed old.sent (sent_by kept strange old.notes run)
+
+  -- how it stopped: at a line, after its last loop turn, at a datagram that is strange, or in its midst
   abbrev pub IsStopped : List ℕ → Option (List ℕ) → Outside → Outside → NodeStop → Type 0
   IsStopped bytes left old new (Script line fault) = IsServed bytes old new (RefusedAt line (ByWords fault))
   IsStopped bytes left old new (Start line fault) = IsServed bytes old new (RefusedAt line (ByWorld (CantStart fault)))
   IsStopped bytes left old new (Host line) = IsServed bytes old new (RefusedAt line (ByWorld NoSuchHost))
   IsStopped bytes left old new (Stalled turns now) = IsServed bytes old new (StalledAt turns now)
-  IsStopped bytes left old new (Seen Stranger) = IsPart bytes left old new (AreStrange told kept strange old.taken old.notes new.taken)
-  IsStopped bytes left old new stop = IsPart bytes left old new (AreFront told kept strange old.taken old.notes new.taken)
+  IsStopped bytes left old new (Seen Stranger) = IsStranger bytes left old new
+  IsStopped bytes left old new stop = IsPart bytes left old new (AreFront told kept strange old.taken old.notes new.taken) (ListedFront old.sent new.sent)
 
   -- what was served
   abbrev pub IsAnswered : List ℕ → Option (List ℕ) → Outside → Outside → Result ℕ NodeStop → Type 0

@@ -9,7 +9,7 @@ use Rattle.node_io.specs.declared.observer.SeenFault.TheVariants.{Stranger}
 use Rattle.node_runs.specs.Script.{TimedCall, Calls}
 use Rattle.node_runs.specs.Course.{Report, Datagram, Arrival, End, Stops, RefusedAt}
 use Rattle.node_runs.specs.Recorder.{Notes}
-use Rattle.node_acts.specs.Told.{AreTold, AreFront, AreStrange}
+use Rattle.node_acts.specs.Told.{ListedFront, AreTold, AreFront}
 use Rattle.node_acts.specs.Acting.{Part, HasActed, IsCut}
 use Rattle.node_acts.specs.declared.stop.NodeStop.{NodeStop}
 use Rattle.node_acts.specs.declared.stop.NodeStop.TheVariants.{Script, Start, Host, Seen, Stalled}
@@ -42,17 +42,17 @@ module _ (s : Settings) (stands : World → Type 0) (before : List PlainEntry �
   -- the hosts stopped while the first of them were started
   pub record HasCut (tell : List Report → Type 0) : Type 0 where
     pub done : List TimedCall
-    pub cut : (w : World) → stands w → (held : Calls) → IsCut (starting s held done) s w before tell sent0 sent1 gave0 gave1
+    pub cut : (w : World) → stands w → (held : Calls) → IsCut (starting s held done) s w before tell (ListedFront sent0 sent1) gave0 gave1
     pub read : (bytes : List ℕ) → left0 ≡ Some bytes → (behind : List ℕ → Calls) × IsRead bytes left1 due (λ more. with_calls done (behind more))
 
   module _ (told : Notes → Report → List ℕ) (kept : Notes → Report → Notes) (strange : Notes → Report → Bool) (next : World → Type 0)
       (after : List PlainEntry → Type 0)
       (taken0 : Option (List ℕ)) (notes0 : Notes) (taken1 : Option (List ℕ)) (notes1 : Notes) where
-    -- why no further call is started: a line is refused, a call can't start, a report is strange, or something failed
+    -- why no further call is started: a line is refused, a call can't start, or something failed; nothing is strange
     abbrev pub HasStopped : NodeStop → Type 0
     HasStopped (Script line fault) = HasStarted next after (AreTold told kept strange taken0 notes0 taken1 notes1) (λ more. refused_at line (ByWords fault))
     HasStopped (Host line) = HasStarted next after (AreTold told kept strange taken0 notes0 taken1 notes1) (λ more. refused_at line (ByWorld NoSuchHost))
     HasStopped (Start line fault) = HasEnded (AreTold told kept strange taken0 notes0 taken1 notes1) (RefusedAt line (ByWorld (CantStart fault)))
     HasStopped (Stalled turns now) = ⊥
-    HasStopped (Seen Stranger) = HasCut (AreStrange told kept strange taken0 notes0 taken1)
+    HasStopped (Seen Stranger) = ⊥
     HasStopped stop = HasCut (AreFront told kept strange taken0 notes0 taken1)

@@ -5,9 +5,9 @@ ghost use Rattle.homa_plain.specs.declared.fault.WorldFault.TheVariants.{Start a
 ghost use Rattle.homa_plain.specs.World.{World};
 ghost use Rattle.node_runs.specs.Course.{RefusedAt};
 ghost use Rattle.node_runs.specs.Script.{Calls};
-ghost use Rattle.node_acts.specs.Told.{AreTold, AreFront, AreStrange};
+ghost use Rattle.node_acts.specs.Told.{ListedFront, AreTold, AreFront};
 ghost use Rattle.node_acts.specs.Faults.{counts, AreFaults};
-ghost use Rattle.node_acts.specs.Acting.{HasActed, IsCut, OnStrange};
+ghost use Rattle.node_acts.specs.Acting.{HasActed, IsCut};
 ghost use Rattle.node_script.specs.Heads.{IsSound, setup_seen};
 ghost use Rattle.homa_node.specs.Starting.{starting, called, OnStart, OnCut, IsCallStop};
 ghost use Rattle.homa_node.specs.Coming.{calls_ahead, IsOpenAt, IsIdle, IsAllRead, HasRoom};
@@ -39,13 +39,8 @@ pub fn start_call<H: Hosting, N: Net, O: Observer>(
         (N.sent net.new) (N.gave net.old) (N.gave net.new)) }
     ensures cut { OnCut result ((w : World) → H.stands hosts.old w → call.now.tick ≤ w.clock → (held : Calls)
         → IsCut (starting (H.settings hosts.old) held (called call.now request.now ∷ [])) (H.settings hosts.old) w (H.allows hosts.old)
-        (AreFront O.told O.kept O.strange (O.taken observer.old) (O.notes observer.old) (O.taken observer.new)) (N.sent net.old) (N.sent net.new)
-        (N.gave net.old) (N.gave net.new)) }
-    ensures strange { OnStrange result
-        ((w : World) → H.stands hosts.old w → call.now.tick ≤ w.clock → (held : Calls)
-        → IsCut (starting (H.settings hosts.old) held (called call.now request.now ∷ [])) (H.settings hosts.old) w (H.allows hosts.old)
-        (AreStrange O.told O.kept O.strange (O.taken observer.old) (O.notes observer.old) (O.taken observer.new)) (N.sent net.old) (N.sent net.new)
-        (N.gave net.old) (N.gave net.new)) }
+        (AreFront O.told O.kept O.strange (O.taken observer.old) (O.notes observer.old) (O.taken observer.new))
+        (ListedFront (N.sent net.old) (N.sent net.new)) (N.gave net.old) (N.gave net.new)) }
     ensures refused { OnStart result
         (λ line fault. (w : World) → H.stands hosts.old w → call.now.tick ≤ w.clock → (held : Calls)
         → HasActed (starting (H.settings hosts.old) held (called call.now request.now ∷ [])) (stopping held (RefusedAt line (ByWorld (CantStart fault))))

@@ -2,6 +2,7 @@
 ghost use Rattle.std.specs.Prelude.{◌≡◌, ◌≤◌, ◌^◌, ℕ, Option, List, Some, [], false, nat_lt, length, IfOk, IfErr};
 ghost use Rattle.homa_plain.specs.declared.id.HostId.{HostId as Host};
 ghost use Rattle.node_runs.specs.Course.{locals as local_hosts, loop_turns, node_run};
+ghost use Rattle.node_acts.specs.Acting.{OnStrange};
 ghost use Rattle.node_acts.specs.Faults.{counts, AreFaults};
 ghost use Rattle.script_lines.specs.Place.{first_place, IsCounted};
 ghost use Rattle.node_script.specs.Heads.{IsSound, setup_seen};
@@ -51,6 +52,7 @@ pub fn read_setup<S: Source>(
     requires counted { IsCounted reader.old.place }
     requires first { reader.old.place ≡ first_place reader.old.place.limit }
     ensures opened { (bytes : List ℕ) → S.left source.old ≡ Some bytes → HasOpened reader.old.place.limit reader.new.place bytes (S.left source.new) result }
+    ensures never_strange { OnStrange result ⊥ }
     ensures sound { IfOk result IsSound }
     ensures counted { IfOk result (λ setup. IsCounted reader.new.place) }
     ensures limit { reader.new.place.limit ≡ reader.old.place.limit }
@@ -87,6 +89,7 @@ pub fn open_node<B: Drop, H: OpensIn<B> + Drop, S: Source, N: Net, O: Observer>(
         (outside (O.taken observer.old) (O.notes observer.old) (N.sent net.old) (N.gave net.old) ticks)
         (outside (O.taken observer.new) (O.notes observer.new) (N.sent net.new) (N.gave net.new) ticks) stop) }
 
+    ensures never_strange { OnStrange result ⊥ }
     ensures sound { IfOk result (λ node. IsSound node.setup) }
     ensures counted { IfOk result (λ node. IsCounted node.reader.place) }
     ensures limit { IfOk result (λ node. node.reader.place.limit ≡ 2 ^ 36) }

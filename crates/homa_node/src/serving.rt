@@ -2,6 +2,8 @@
 ghost use Rattle.std.specs.Prelude.{◌≡◌, ℕ, List, Some, false};
 ghost use Rattle.homa_plain.specs.declared.id.HostId.{HostId as Host};
 ghost use Rattle.node_runs.specs.Course.{node_run};
+ghost use Rattle.node_acts.specs.Told.{SomeStrange};
+ghost use Rattle.node_acts.specs.Acting.{OnStrange};
 ghost use Rattle.node_acts.specs.Faults.{counts, AreFaults};
 ghost use Rattle.homa_node.specs.Served.{outside, IsAnswered};
 
@@ -29,6 +31,9 @@ pub fn serve<B: Drop, H: OpensIn<B> + Drop, S: Source, N: Net, C: Clock, O: Obse
         → IsAnswered node_run O.told O.kept O.strange (H.are_allowed boxes) bytes (S.left source.new)
         (outside (O.taken observer.old) (O.notes observer.old) (N.sent net.old) (N.gave net.old) (C.ticks clock.old))
         (outside (O.taken observer.new) (O.notes observer.new) (N.sent net.new) (N.gave net.new) (C.ticks clock.new)) result }
+
+    // A report is strange only to an observer that finds some report strange: never to a printer.
+    ensures some_strange { OnStrange result (SomeStrange O.strange) }
 
     // A fault of reading, of the net or of writing comes only where that count rose, and then always.
     ensures faults { AreFaults (counts (S.faults source.old) (N.faults net.old) (O.faults observer.old))

@@ -1,7 +1,7 @@
 -- Parts of a course one after the other.
-use Rattle.std.proofs.Common.{◌≡◌, ℕ, suc, Option, None, Some, List, [], ◌∷◌, ◌++◌, sym, ap, ◌∙◌, subst, append_assoc}
+use Rattle.std.proofs.Common.{◌≡◌, ℕ, suc, Option, None, Some, List, [], ◌∷◌, ◌++◌, refl, sym, ap, ◌∙◌, subst, append_assoc}
 use Rattle.std.specs.Prelude.{map}
-use Rattle.std.proofs.lemmas.List.{append-nil}
+use Rattle.std.proofs.lemmas.List.{append-nil, length-map}
 use Rattle.homa_plain.specs.declared.settings.Settings.{Settings}
 use Rattle.homa_plain.specs.declared.id.HostId.{HostId}
 use Rattle.homa_plain.specs.declared.event.Event.TheVariants as event
@@ -10,12 +10,12 @@ use Rattle.homa_plain.specs.Rules.{Answer}
 use Rattle.homa_plain.specs.World.{World, outcome}
 use Rattle.homa_plain.specs.Answers.{shown, answering}
 use Rattle.host_view.specs.declared.outbox.SentFrame.{SentFrame}
-use Rattle.node_runs.specs.Course.{Report, Tells, Turning, Datagram, Arrival, Node, Course, GoesOn, ◌>>=◌, datagrams, follows, has_turn, hears}
+use Rattle.node_runs.specs.Course.{Report, Tells, Turning, Datagram, Arrival, IsReceived, Node, Course, GoesOn, ◌>>=◌, datagrams, follows, has_turn, hears}
 use Rattle.node_runs.specs.Course.{arrival_outcome}
 use Rattle.node_runs.specs.Texts.{entries}
 use Rattle.node_acts.specs.Told.{listed}
 use Rattle.node_acts.specs.Acting.{Part, node_at, frame_datagram, IsStep, HasActed, with_left, goes_on, followed_by}
-use Rattle.node_acts.proofs.Lists.{listed_none, listed_more, entries_parts, entries_tells, shown_parts}
+use Rattle.node_acts.proofs.Lists.{listed_none, listed_more, received_more, numbers_more, entries_parts, entries_tells, shown_parts}
 
 module _ (s : Settings) where
   -- nothing was done
@@ -31,7 +31,9 @@ module _ (s : Settings) where
     told = none;
     took = listed_none sent;
     given = listed_none gave;
+    received = tt;
     grown = sym (append-nil (datagrams s w));
+    numbers = refl;
     allowed = λ more h. h;
     same = λ first later calls left held. ap (λ rs. act left (node_at (answering later w) rs calls held)) (sym (append-nil first));
   }
@@ -52,7 +54,9 @@ module _ (s : Settings) where
         told = tells h.reports k.reports h.told k.told;
         took = listed_more s0 s1 s2 h.sent k.sent h.took k.took;
         given = listed_more g0 g1 g2 h.gave k.gave h.given k.given;
+        received = received_more h.gave k.gave h.received k.received;
         grown = k.grown ∙ ap (λ ds. ds ++ k.sent) h.grown ∙ append_assoc (datagrams s w) h.sent k.sent;
+        numbers = numbers_more h.sent k.sent h.reports k.reports h.numbers k.numbers;
         allowed = λ more x. subst b (sym
             (ap (λ es. es ++ more) (entries_parts h.reports k.reports) ∙ append_assoc (entries h.reports) (entries k.reports) more))
             (h.allowed (entries k.reports ++ more) (k.allowed more x));
@@ -81,7 +85,9 @@ module _ (s : Settings) where
     told = h.told;
     took = h.took;
     given = h.given;
+    received = h.received;
     grown = h.grown;
+    numbers = h.numbers;
     allowed = h.allowed;
     same = λ first later calls left held. ap (λ c. c >>= after) (h.same first later calls left held);
   }
@@ -102,7 +108,9 @@ module _ (s : Settings) where
     told = tells;
     took = took;
     given = same ∙ listed_none g0;
+    received = tt;
     grown = step.sent;
+    numbers = length-map frames frame_datagram ∙ step.numbers;
     allowed = λ more x. subst (λ es. b (es ++ more)) (sym (entries_tells told)) (step.allowed more x);
     same = λ first later calls left held.
         ap (λ es. GoesOn (has_turn s id (node_at (answering (shown es ++ later) w) first calls left))) (entries_tells told)
@@ -115,9 +123,9 @@ module _ (s : Settings) where
       (s0 s1 : Option (List Datagram)) (g0 g1 : Option (List (Option Arrival)))
       → IsStep (λ v. arrival_outcome s v id d) (PlainRecv id d.from d.bytes ∷ []) s w stands told frames b a
       → tell (Tells (PlainRecv id d.from d.bytes) ∷ map Tells told)
-      → s1 ≡ listed s0 (map frame_datagram frames) → g1 ≡ listed g0 (Some d ∷ [])
+      → s1 ≡ listed s0 (map frame_datagram frames) → g1 ≡ listed g0 (Some d ∷ []) → IsReceived d
       → HasActed (hears s id (suc n)) (hears s id n) s w stands b a tell s0 s1 g0 g1
-  acted_heard id n d w stands told frames b a tell s0 s1 g0 g1 step tells took given = record {
+  acted_heard id n d w stands told frames b a tell s0 s1 g0 g1 step tells took given came = record {
     next = step.next;
     stood = step.stood;
     reports = Tells (PlainRecv id d.from d.bytes) ∷ map Tells told;
@@ -126,7 +134,9 @@ module _ (s : Settings) where
     told = tells;
     took = took;
     given = given;
+    received = (came, tt);
     grown = step.sent;
+    numbers = length-map frames frame_datagram ∙ step.numbers;
     allowed = λ more x. subst (λ es. b (PlainRecv id d.from d.bytes ∷ es ++ more)) (sym (entries_tells told)) (step.allowed more x);
     same = λ first later calls left held.
         ap (λ es. hears s id n left (follows [] (arrival_outcome s (answering (shown es ++ later) w) id d)
@@ -147,7 +157,9 @@ module _ (s : Settings) where
     told = none;
     took = listed_none sent;
     given = given;
+    received = (tt, tt);
     grown = sym (append-nil (datagrams s w));
+    numbers = refl;
     allowed = λ more h. h;
     same = λ first later calls left held. ap (λ rs. GoesOn (node_at (answering later w) rs calls left)) (sym (append-nil first));
   }

@@ -11,12 +11,12 @@ use Rattle.host_view.specs.declared.outbox.SentFrame.{SentFrame}
 use Rattle.node_io.specs.declared.net.Got.{Got}
 use Rattle.node_io.specs.declared.net.Got.TheVariants as got
 use Rattle.node_io.specs.Net.{arrival_of, added}
-use Rattle.node_runs.specs.Course.{Report, Tells, Datagram, Arrival, GoesOn, ◌>>=◌, datagrams, has_turn, hears, hosts_act, arrival_outcome}
+use Rattle.node_runs.specs.Course.{Report, Tells, Datagram, Arrival, IsReceived, GoesOn, ◌>>=◌, datagrams, has_turn, hears, hosts_act, arrival_outcome}
 use Rattle.node_runs.specs.Texts.{entries}
 use Rattle.homa_plain.specs.Answers.{shown, answering}
 use Rattle.node_acts.specs.Told.{listed}
 use Rattle.node_acts.specs.Acting.{Part, node_at, node_of, frame_datagram, IsStep, HasActed, with_left, goes_on}
-use Rattle.node_acts.proofs.Lists.{added_is, listed_more, entries_parts, shown_parts}
+use Rattle.node_acts.proofs.Lists.{added_is, listed_more, received_more, numbers_more, entries_parts, shown_parts}
 use Rattle.node_acts.proofs.Acted.{acted_heard, acted_nothing}
 
 -- what isn't a datagram is nothing
@@ -31,15 +31,15 @@ module _ (s : Settings) (id : HostId) where
       (s0 s1 : Option (List Datagram)) (g0 g1 : Option (List (Option Arrival)))
       → IsStep (λ v. arrival_outcome t v id (record { from = from; bytes = x })) (PlainRecv id from x ∷ []) t w stands told frames b a
       → tell (Tells (PlainRecv id from y) ∷ map Tells told)
-      → s1 ≡ listed s0 (map frame_datagram frames) → g1 ≡ added g0 (arrival_of g z)
+      → s1 ≡ listed s0 (map frame_datagram frames) → g1 ≡ added g0 (arrival_of g z) → IsReceived (record { from = from; bytes = z })
       → HasActed (hears s id k) (hears s id n) s w stands b a tell s0 s1 g0 g1
-  heard_next k n e t same from x y z ex ey g is w stands told frames b a tell s0 s1 g0 g1 step tells took given =
+  heard_next k n e t same from x y z ex ey g is w stands told frames b a tell s0 s1 g0 g1 step tells took given came =
       subst (λ m. HasActed (hears s id m) (hears s id n) s w stands b a tell s0 s1 g0 g1) (sym e)
       (acted_heard s id n (record { from = from; bytes = z }) w stands told frames b a tell s0 s1 g0 g1
       (subst (λ q. IsStep (λ v. arrival_outcome s v id (record { from = from; bytes = q })) (PlainRecv id from q ∷ []) s w stands told frames b a) ex
       (subst (λ q. IsStep (λ v. arrival_outcome q v id (record { from = from; bytes = x })) (PlainRecv id from x ∷ []) q w stands told frames b a) same step))
       (subst (λ q. tell (Tells (PlainRecv id from q) ∷ map Tells told)) ey tells) took
-      (given ∙ ap (λ o. added g0 (arrival_of o z)) is ∙ added_is g0 (Some (record { from = from; bytes = z }))))
+      (given ∙ ap (λ o. added g0 (arrival_of o z)) is ∙ added_is g0 (Some (record { from = from; bytes = z }))) came)
 
   -- nothing came
   pub heard_nothing : (k n : ℕ) → k ≡ suc n → (g : Got) (z : List ℕ) → ((from : HostId) → g ≢ got.Frame from)
@@ -66,7 +66,9 @@ module _ (s : Settings) (id : HostId) where
       told = h.told;
       took = h.took;
       given = h.given;
+      received = h.received;
       grown = h.grown;
+      numbers = h.numbers;
       allowed = h.allowed;
       same = h.same;
     }
@@ -89,7 +91,9 @@ module _ (s : Settings) (id : HostId) where
         told = tells h.reports k.reports h.told k.told;
         took = listed_more s0 s1 s2 h.sent k.sent h.took k.took;
         given = listed_more g0 g1 g2 h.gave k.gave h.given k.given;
+        received = received_more h.gave k.gave h.received k.received;
         grown = k.grown ∙ ap (λ ds. ds ++ k.sent) h.grown ∙ append_assoc (datagrams s w) h.sent k.sent;
+        numbers = numbers_more h.sent k.sent h.reports k.reports h.numbers k.numbers;
         allowed = λ more x. subst b (sym
             (ap (λ es. es ++ more) (entries_parts h.reports k.reports) ∙ append_assoc (entries h.reports) (entries k.reports) more))
             (h.allowed (entries k.reports ++ more) (k.allowed more x));

@@ -1,13 +1,15 @@
 -- Lists that grow at their ends, and what the entries of reports show.
-use Rattle.std.proofs.Common.{◌≡◌, ◌≤◌, ◌+◌, ℕ, zero, suc, arith, Option, None, Some, List, [], ◌∷◌, ◌++◌, refl, sym, ap, ◌∙◌, append_assoc}
+use Rattle.std.proofs.Common.{◌≡◌, ◌≤◌, ◌+◌, ℕ, zero, suc, arith, Option, None, Some, List, [], ◌∷◌, ◌++◌, refl, sym, ap, ◌∙◌, subst, append_assoc}
 use Rattle.std.specs.Prelude.{map, take, drop, length, slice_get}
-use Rattle.std.proofs.lemmas.List.{append-nil}
+use Rattle.std.proofs.lemmas.List.{append-nil, length-append}
 use Rattle.homa_plain.specs.Entries.{PlainEntry, PlainRun}
 use Rattle.homa_plain.specs.Answers.{shown}
 use Rattle.node_io.specs.Net.{added}
-use Rattle.node_runs.specs.Course.{Report, Tells, Turning}
-use Rattle.node_runs.specs.Texts.{entries}
-use Rattle.node_acts.specs.Told.{listed, ListedFront}
+use Rattle.homa_plain.specs.Bytes.{IsBytes}
+use Rattle.homa_plain.specs.declared.id.HostId.{HostId}
+use Rattle.node_runs.specs.Course.{Report, Tells, Turning, Datagram, Arrival, IsReceived, AreReceived}
+use Rattle.node_runs.specs.Texts.{entries, sent_number}
+use Rattle.node_acts.specs.Told.{listed, Listed, ListedFront, numbers_of}
 
 pub listed_none : {A : Type 0} (old : Option (List A)) → old ≡ listed old []
 listed_none None = refl
@@ -89,3 +91,36 @@ sent_more f xs i x old mid new at e h =
 -- all was sent
 pub whole_listed : {A : Type 0} (old new : Option (List A)) (xs : List A) → new ≡ listed old xs → ListedFront old new xs
 whole_listed old new xs e = record { front = xs; rest = []; split = append-nil xs; is = e }
+
+-- what was received, and then more
+pub received_more : (a b : List (Option Arrival)) → AreReceived a → AreReceived b → AreReceived (a ++ b)
+received_more [] b p q = q
+received_more (given ∷ a) b p q = (p.0, received_more a b p.1 q)
+
+-- a datagram that came, with its bytes in other words
+pub received_one : (from : HostId) (y z : List ℕ) → y ≡ z → IsBytes y → length y ≤ 1500 → IsReceived (record { from = from; bytes = z })
+received_one from y z e bytes few = subst (λ xs. IsReceived (record { from = from; bytes = xs })) e (record { bytes = bytes; few = few })
+
+-- nothing was sent
+pub front_none : {A : Type 0} (s0 s1 : Option (List A)) → s1 ≡ s0 → ListedFront s0 s1 []
+front_none s0 s1 e = record { front = []; rest = []; split = refl; is = e ∙ listed_none s0 }
+
+-- a front was sent behind what was sent before
+pub front_listed : {A : Type 0} (s0 s1 s2 : Option (List A)) (x y : List A) → Listed s0 s1 x → ListedFront s1 s2 y → ListedFront s0 s2 (x ++ y)
+front_listed s0 s1 s2 x y e f = record {
+  front = x ++ f.front;
+  rest = f.rest;
+  split = append_assoc x f.front f.rest ∙ ap (λ ds. x ++ ds) f.split;
+  is = listed_more s0 s1 s2 x f.front e f.is;
+}
+
+numbers_parts : (a b : List Report) → numbers_of (a ++ b) ≡ numbers_of a ++ numbers_of b
+numbers_parts [] b = refl
+numbers_parts (r ∷ a) b = ap (λ ns. sent_number r ++ ns) (numbers_parts a b) ∙ sym (append_assoc (sent_number r) (numbers_of a) (numbers_of b))
+
+-- as many packets were told as datagrams were sent, and then more of both
+pub numbers_more : (x y : List Datagram) (a b : List Report) → length x ≡ length (numbers_of a) → length y ≡ length (numbers_of b)
+    → length (x ++ y) ≡ length (numbers_of (a ++ b))
+numbers_more x y a b p q =
+    length-append x y ∙ ap (λ m. m + length y) p ∙ ap (λ m. length (numbers_of a) + m) q
+    ∙ sym (ap length (numbers_parts a b) ∙ length-append (numbers_of a) (numbers_of b))

@@ -1,7 +1,7 @@
 -- What the hosts of a node do, as parts of the plain course, whatever is answered, received and called later.
-use Rattle.std.specs.Prelude.{◌≡◌, ℕ, Option, Result, Err, List, [], ◌∷◌, ◌++◌, map, if◌then◌else◌, ◌==◌, ◌||◌, nat_lt}
+use Rattle.std.specs.Prelude.{◌≡◌, ℕ, Option, Result, Err, List, [], ◌∷◌, ◌++◌, map, length, if◌then◌else◌, ◌==◌, ◌||◌, nat_lt}
 use Rattle.homa_plain.specs.declared.settings.Settings.{Settings}
-use Rattle.homa_plain.specs.Entries.{PlainEntry, PlainClock}
+use Rattle.homa_plain.specs.Entries.{PlainEntry, PlainClock, PlainRecv}
 use Rattle.homa_plain.specs.Rules.{Answer}
 use Rattle.homa_plain.specs.declared.event.Event.{Event}
 use Rattle.homa_plain.specs.declared.fault.WorldFault.{WorldFault}
@@ -10,11 +10,11 @@ use Rattle.homa_plain.specs.Answers.{shown, answering}
 use Rattle.host_view.specs.declared.outbox.SentFrame.{SentFrame}
 use Rattle.node_io.specs.declared.observer.SeenFault.TheVariants.{Stranger}
 use Rattle.node_runs.specs.Script.{Calls}
-use Rattle.node_runs.specs.Course.{Report, Tells, Datagram, Arrival, Node, Course, GoesOn, Stops, ◌>>=◌, datagrams}
+use Rattle.node_runs.specs.Course.{Report, Tells, Datagram, Arrival, AreReceived, Node, Course, GoesOn, Stops, ◌>>=◌, datagrams}
 use Rattle.node_runs.specs.Texts.{entries}
 use Rattle.node_acts.specs.declared.stop.NodeStop.{NodeStop}
 use Rattle.node_acts.specs.declared.stop.NodeStop.TheVariants.{Net, Seen, NoMemory}
-use Rattle.node_acts.specs.Told.{listed, ListedFront}
+use Rattle.node_acts.specs.Told.{listed, numbers_of}
 
 -- a frame as a datagram
 abbrev pub frame_datagram : SentFrame → Datagram
@@ -42,6 +42,7 @@ pub record IsStep (act : World → Outcome) (first : List PlainEntry) (s : Setti
   pub stood : stands next
   pub done : (later : List Answer) → act (answering (shown told ++ later) w) ≡ Done (record { world = answering later next; told = first ++ told })
   pub sent : datagrams s next ≡ datagrams s w ++ map frame_datagram frames
+  pub numbers : length frames ≡ length (numbers_of (map Tells told))
   pub allowed : (more : List PlainEntry) → after more → before ((first ++ told) ++ more)
 
 -- what is told of the event itself, whatever is answered
@@ -69,7 +70,9 @@ pub record HasActed (act rest : Part) (s : Settings) (w : World) (stands : World
   pub told : tell reports
   pub took : sent1 ≡ listed sent0 sent
   pub given : gave1 ≡ listed gave0 gave
+  pub received : AreReceived gave
   pub grown : datagrams s next ≡ datagrams s w ++ sent
+  pub numbers : length sent ≡ length (numbers_of reports)
   pub allowed : (more : List PlainEntry) → after more → before (entries reports ++ more)
   pub same : (first : List Report) (later : List Answer) (calls : Calls) (left held : List (Option Arrival))
       → act (gave ++ left) (node_at (answering (shown (entries reports) ++ later) w) first calls held)
@@ -82,31 +85,44 @@ pub record Begins (s : Settings) (c : Course) (reports : List Report) (sent : Li
   pub told : (node_of c).reports ≡ reports ++ more
   pub grown : datagrams s (node_of c).world ≡ sent ++ later
 
--- The hosts stopped in this part of a course. Of what it tells, a front was told, and of what it sends a front was sent, whatever
--- is answered, received and called later.
+-- The hosts stopped in this part of a course. What it tells first is `reports`, and what it sends first is `sent`, one datagram for each
+-- packet that is told, whatever is answered, received and called later. `tell` says how much of the reports was told, and `take` how much was sent.
 pub record IsCut (act : Part) (s : Settings) (w : World) (before : List PlainEntry → Type 0) (tell : List Report → Type 0)
-    (sent0 sent1 : Option (List Datagram)) (gave0 gave1 : Option (List (Option Arrival))) : Type 0 where
+    (take : List Datagram → Type 0) (gave0 gave1 : Option (List (Option Arrival))) : Type 0 where
   pub reports : List Report
   pub sent : List Datagram
   pub gave : List (Option Arrival)
   pub told : tell reports
-  pub took : ListedFront sent0 sent1 sent
+  pub took : take sent
+  pub numbers : length sent ≡ length (numbers_of reports)
   pub given : gave1 ≡ listed gave0 gave
+  pub received : AreReceived gave
   pub allowed : before (entries reports)
   pub same : (first : List Report) (later : List Answer) (calls : Calls) (left held : List (Option Arrival))
       → Begins s (act (gave ++ left) (node_at (answering (shown (entries reports) ++ later) w) first calls held)) (first ++ reports) (datagrams s w ++ sent)
 
 -- a fact where a report was strange
-abbrev pub OnStrange : Result (Unit {0}) NodeStop → Type 0 → Type 0
+abbrev pub OnStrange : {A : Type 0} → Result A NodeStop → Type 0 → Type 0
 OnStrange (Err (Seen Stranger)) fact = fact
 OnStrange answer fact = Unit {0}
 
 -- the hosts stopped in the midst of what they do: a send or a receive failed, a report wasn't taken, or there is no memory
 abbrev pub IsMidst : NodeStop → Type 0
 IsMidst Net = Unit {0}
+IsMidst (Seen Stranger) = ⊥
 IsMidst (Seen fault) = Unit {0}
 IsMidst NoMemory = Unit {0}
 IsMidst stop = ⊥
+
+-- the same, or a datagram that came was strange
+abbrev pub IsHeardStop : NodeStop → Type 0
+IsHeardStop (Seen Stranger) = Unit {0}
+IsHeardStop stop = IsMidst stop
+
+-- an entry of a host's own step, and not that a datagram comes
+abbrev pub IsOwn : PlainEntry → Type 0
+IsOwn (PlainRecv host from bytes) = ⊥
+IsOwn entry = Unit {0}
 
 -- what is received from now on is left to the node
 abbrev pub with_left : (Node → Course) → Part

@@ -3,11 +3,16 @@ use Rattle.std.specs.Prelude.{◌≡◌, ℕ, Bool, true, false, Option, None, S
 use Rattle.homa_io.specs.Outside.{appended, TookFront}
 use Rattle.node_runs.specs.Course.{Report}
 use Rattle.node_runs.specs.Recorder.{Notes}
+use Rattle.node_runs.specs.Texts.{sent_number}
 
 -- a list with these at its end, where it is told
 abbrev pub listed : {A : Type 0} → Option (List A) → List A → Option (List A)
 listed None xs = None
 listed (Some old) xs = Some (old ++ xs)
+
+-- it has these at its end, where it is told
+abbrev pub Listed : {A : Type 0} → Option (List A) → Option (List A) → List A → Type 0
+Listed old new xs = new ≡ listed old xs
 
 -- what was told is the old and a front of these, where it is told
 pub record ListedFront {A : Type 0} (old new : Option (List A)) (xs : List A) : Type 0 where
@@ -15,6 +20,17 @@ pub record ListedFront {A : Type 0} (old new : Option (List A)) (xs : List A) : 
   pub rest : List A
   pub split : front ++ rest ≡ xs
   pub is : new ≡ listed old front
+
+-- the numbers of the packets that reports tell as sent
+abbrev pub numbers_of : List Report → List ℕ
+numbers_of [] = []
+numbers_of (report ∷ reports) = sent_number report ++ numbers_of reports
+
+-- some report is strange
+pub record SomeStrange (strange : Notes → Report → Bool) : Type 0 where
+  pub notes : Notes
+  pub report : Report
+  pub is : strange notes report ≡ true
 
 module _ (told : Notes → Report → List ℕ) (kept : Notes → Report → Notes) (strange : Notes → Report → Bool) where
   -- the text of reports
@@ -51,12 +67,11 @@ module _ (told : Notes → Report → List ℕ) (kept : Notes → Report → Not
     pub usual : AreUsual notes before
     pub next : BeginsNext (appended old (text_by notes before)) (notes_by notes before) new after
 
-  -- one of these is strange; those up to it were told, and nothing behind it
+  -- the last of these is strange, and no other; all were told
   pub record AreStrange (old : Option (List ℕ)) (notes : Notes) (new : Option (List ℕ)) (reports : List Report) : Type 0 where
     pub before : List Report
     pub last : Report
-    pub after : List Report
-    pub split : reports ≡ before ++ last ∷ after
+    pub split : reports ≡ before ++ last ∷ []
     pub usual : AreUsual notes before
     pub unusual : strange (notes_by notes before) last ≡ true
     pub text : new ≡ appended old (text_by notes before ++ told (notes_by notes before) last)

@@ -4,10 +4,10 @@ ghost use Rattle.homa_plain.specs.declared.id.HostId.{HostId as Host};
 ghost use Rattle.std.specs.List.{AllByRecursion};
 ghost use Rattle.homa_plain.specs.World.{World};
 ghost use Rattle.homa_plain.specs.Entries.{PlainEntry};
-ghost use Rattle.node_runs.specs.Course.{GoesOn, has_turn, hears, hosts_act, most_received};
-ghost use Rattle.node_acts.specs.Told.{AreTold, AreFront, AreStrange};
+ghost use Rattle.node_runs.specs.Course.{GoesOn, IsReceived, has_turn, hears, hosts_act, most_received};
+ghost use Rattle.node_acts.specs.Told.{Listed, ListedFront, AreTold, AreFront, AreStrange, SomeStrange};
 ghost use Rattle.node_acts.specs.Faults.{counts, AreFaults};
-ghost use Rattle.node_acts.specs.Acting.{HasActed, IsCut, IsMidst, OnStrange, with_left, goes_on, clock_reports};
+ghost use Rattle.node_acts.specs.Acting.{HasActed, IsCut, IsMidst, IsHeardStop, OnStrange, with_left, goes_on, clock_reports};
 
 use crate::telling::{send_frames, tell_entries};
 use crate::{Hosting, NodeStop};
@@ -35,13 +35,8 @@ pub fn has_turn<H: Hosting, N: Net, O: Observer>(
         (N.sent net.new) (N.gave net.old) (N.gave net.new)) }
     ensures cut { OnErr result ((w : World) → H.stands hosts.old w
         → IsCut (with_left (λ n. GoesOn (has_turn (H.settings hosts.old) host n))) (H.settings hosts.old) w (H.allows hosts.old)
-        (AreFront O.told O.kept O.strange (O.taken observer.old) (O.notes observer.old) (O.taken observer.new)) (N.sent net.old) (N.sent net.new)
-        (N.gave net.old) (N.gave net.new)) }
-    ensures strange { OnStrange result
-        ((w : World) → H.stands hosts.old w
-        → IsCut (with_left (λ n. GoesOn (has_turn (H.settings hosts.old) host n))) (H.settings hosts.old) w (H.allows hosts.old)
-        (AreStrange O.told O.kept O.strange (O.taken observer.old) (O.notes observer.old) (O.taken observer.new)) (N.sent net.old) (N.sent net.new)
-        (N.gave net.old) (N.gave net.new)) }
+        (AreFront O.told O.kept O.strange (O.taken observer.old) (O.notes observer.old) (O.taken observer.new))
+        (ListedFront (N.sent net.old) (N.sent net.new)) (N.gave net.old) (N.gave net.new)) }
     ensures midst { IfErr result IsMidst }
     ensures settings { H.settings hosts.new ≡ H.settings hosts.old }
     ensures clock { H.clock hosts.new ≡ H.clock hosts.old }
@@ -55,6 +50,13 @@ pub fn has_turn<H: Hosting, N: Net, O: Observer>(
     send_frames(hosts, net)?;
     tell_entries(hosts, observer)?;
     Ok(())
+}
+
+// What a frame holds can have been received. It does nothing: that a slice holds bytes is known of an argument.
+fn is_received(bytes: &[u8])
+    requires { length bytes.now ≤ 1500 }
+    ensures { (from : Host) → IsReceived (record { from = from; bytes = bytes.now }) }
+{
 }
 
 /// A host receives up to 64 datagrams, until there is none.
@@ -75,13 +77,14 @@ pub fn hears<H: Hosting, N: Net, O: Observer>(
         (N.sent net.new) (N.gave net.old) (N.gave net.new)) }
     ensures cut { OnErr result ((w : World) → H.stands hosts.old w
         → IsCut (hears (H.settings hosts.old) host most_received) (H.settings hosts.old) w (H.allows hosts.old)
-        (AreFront O.told O.kept O.strange (O.taken observer.old) (O.notes observer.old) (O.taken observer.new)) (N.sent net.old) (N.sent net.new)
-        (N.gave net.old) (N.gave net.new)) }
+        (AreFront O.told O.kept O.strange (O.taken observer.old) (O.notes observer.old) (O.taken observer.new))
+        (ListedFront (N.sent net.old) (N.sent net.new)) (N.gave net.old) (N.gave net.new)) }
     ensures strange { OnStrange result
         ((w : World) → H.stands hosts.old w → IsCut (hears (H.settings hosts.old) host most_received) (H.settings hosts.old) w (H.allows hosts.old)
-        (AreStrange O.told O.kept O.strange (O.taken observer.old) (O.notes observer.old) (O.taken observer.new)) (N.sent net.old) (N.sent net.new)
-        (N.gave net.old) (N.gave net.new)) }
-    ensures midst { IfErr result IsMidst }
+        (AreStrange O.told O.kept O.strange (O.taken observer.old) (O.notes observer.old) (O.taken observer.new))
+        (Listed (N.sent net.old) (N.sent net.new)) (N.gave net.old) (N.gave net.new)) }
+    ensures some_strange { OnStrange result (SomeStrange O.strange) }
+    ensures midst { IfErr result IsHeardStop }
     ensures settings { H.settings hosts.new ≡ H.settings hosts.old }
     ensures clock { H.clock hosts.new ≡ H.clock hosts.old }
     ensures steps { H.steps hosts.new ≤ H.steps hosts.old + 64 }
@@ -94,12 +97,10 @@ pub fn hears<H: Hosting, N: Net, O: Observer>(
         let Got::Frame { from } = net.recv(host, &mut frame)? else {
             return Ok(());
         };
-        observer.seen(&Entry::Recv {
-            host,
-            from,
-            bytes: frame.bytes(),
-        })?;
-        hosts.hear(alloc, host, from, frame.bytes())?;
+        let bytes = frame.bytes();
+        is_received(bytes);
+        observer.seen(&Entry::Recv { host, from, bytes })?;
+        hosts.hear(alloc, host, from, bytes)?;
         send_frames(hosts, net)?;
         tell_entries(hosts, observer)?;
     }
@@ -125,13 +126,14 @@ pub fn hosts_act<H: Hosting, N: Net, O: Observer>(
         (N.sent net.new) (N.gave net.old) (N.gave net.new)) }
     ensures cut { OnErr result ((w : World) → H.stands hosts.old w
         → IsCut (with_left (hosts_act (H.settings hosts.old) locals.now)) (H.settings hosts.old) w (H.allows hosts.old)
-        (AreFront O.told O.kept O.strange (O.taken observer.old) (O.notes observer.old) (O.taken observer.new)) (N.sent net.old) (N.sent net.new)
-        (N.gave net.old) (N.gave net.new)) }
+        (AreFront O.told O.kept O.strange (O.taken observer.old) (O.notes observer.old) (O.taken observer.new))
+        (ListedFront (N.sent net.old) (N.sent net.new)) (N.gave net.old) (N.gave net.new)) }
     ensures strange { OnStrange result
         ((w : World) → H.stands hosts.old w → IsCut (with_left (hosts_act (H.settings hosts.old) locals.now)) (H.settings hosts.old) w (H.allows hosts.old)
-        (AreStrange O.told O.kept O.strange (O.taken observer.old) (O.notes observer.old) (O.taken observer.new)) (N.sent net.old) (N.sent net.new)
-        (N.gave net.old) (N.gave net.new)) }
-    ensures midst { IfErr result IsMidst }
+        (AreStrange O.told O.kept O.strange (O.taken observer.old) (O.notes observer.old) (O.taken observer.new))
+        (Listed (N.sent net.old) (N.sent net.new)) (N.gave net.old) (N.gave net.new)) }
+    ensures some_strange { OnStrange result (SomeStrange O.strange) }
+    ensures midst { IfErr result IsHeardStop }
     ensures settings { H.settings hosts.new ≡ H.settings hosts.old }
     ensures clock { H.clock hosts.new ≡ H.clock hosts.old }
     ensures steps { H.steps hosts.new ≤ H.steps hosts.old + 65 * length locals.now }
@@ -167,9 +169,6 @@ pub fn clock_stands<H: Hosting, O: Observer>(
         AreTold O.told O.kept O.strange (O.taken observer.old) (O.notes observer.old) (O.taken observer.new) (O.notes observer.new) (clock_reports n now w)) }
     ensures cut { OnErr result ((w : World) → H.stands hosts.old w
         → AreFront O.told O.kept O.strange (O.taken observer.old) (O.notes observer.old) (O.taken observer.new) (clock_reports n now w)) }
-    ensures strange { OnStrange result
-        ((w : World) → H.stands hosts.old w
-        → AreStrange O.told O.kept O.strange (O.taken observer.old) (O.notes observer.old) (O.taken observer.new) (clock_reports n now w)) }
     ensures allows { (told : List PlainEntry) → H.allows hosts.new told → H.allows hosts.old told }
     ensures clock { H.clock hosts.new ≡ now }
     ensures midst { IfErr result IsMidst }

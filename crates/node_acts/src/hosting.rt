@@ -13,7 +13,7 @@ ghost use Rattle.node_io.specs.Observer.{IsSeen};
 ghost use Rattle.node_runs.specs.Course.{arrival_outcome, Arrival};
 ghost use Rattle.homa_plain.specs.Answers.{shown};
 ghost use Rattle.node_acts.specs.Acting.{IsRefused};
-ghost use Rattle.node_acts.specs.Acting.{IsStep, IsBegun};
+ghost use Rattle.node_acts.specs.Acting.{IsStep, IsBegun, IsOwn};
 
 use homa_plain::{Entry, HostId, StartFault, WorldFault};
 use host_view::Outbox;
@@ -117,7 +117,8 @@ pub trait Hosting {
         requires { i < length (told self.now) }
         ensures entry { slice_get (told self.now) i ≡ Some (plain result) }
         ensures line { HasLine (plain result) }
-        ensures seen { IsSeen (plain result) };
+        ensures seen { IsSeen (plain result) }
+        ensures own { IsOwn (plain result) };
 
     /// The frames of the last step.
     fn outbox(&self) -> &Outbox

@@ -3,7 +3,7 @@ ghost use Rattle.std.specs.Prelude.{◌≡◌, ◌≤◌, ℕ, map, IfErr, OnOk,
 ghost use Rattle.homa_io.specs.Outside.{HasRisen};
 ghost use Rattle.node_io.specs.Observer.{OnWrite, UnlessWrite, OnStranger};
 ghost use Rattle.node_runs.specs.Course.{Tells};
-ghost use Rattle.node_acts.specs.Told.{listed, ListedFront, AreTold, AreFront, AreStrange};
+ghost use Rattle.node_acts.specs.Told.{listed, ListedFront, AreTold, AreFront};
 ghost use Rattle.node_acts.specs.Acting.{frame_datagram};
 
 use crate::Hosting;
@@ -26,14 +26,13 @@ pub fn send_frames<H: Hosting, N: Net>(hosts: &H, net: &mut N) -> Result<(), Net
     Ok(())
 }
 
-/// Tells the entries of the last step, in order.
+/// Tells the entries of the last step, in order. None is strange.
 pub fn tell_entries<H: Hosting, O: Observer>(hosts: &H, observer: &mut O) -> Result<(), SeenFault>
     ensures ok { OnOk result (AreTold O.told O.kept O.strange (O.taken observer.old) (O.notes observer.old) (O.taken observer.new) (O.notes observer.new)
         (map Tells (H.told hosts.now))) }
     ensures err { OnErr result (AreFront O.told O.kept O.strange (O.taken observer.old) (O.notes observer.old) (O.taken observer.new)
         (map Tells (H.told hosts.now))) }
-    ensures stranger { OnStranger result
-        (AreStrange O.told O.kept O.strange (O.taken observer.old) (O.notes observer.old) (O.taken observer.new) (map Tells (H.told hosts.now))) }
+    ensures stranger { OnStranger result ⊥ }
     ensures risen { OnWrite result (HasRisen (O.faults observer.old) (O.faults observer.new)) }
     ensures quiet { UnlessWrite result (O.faults observer.new ≡ O.faults observer.old) }
     ensures never_falls { O.faults observer.old ≤ O.faults observer.new }

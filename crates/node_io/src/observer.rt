@@ -1,12 +1,11 @@
 // What a node's run is told to.
 ghost use Rattle.std.specs.Prelude.{◌≡◌, ◌≤◌, ℕ, Bool, true, false, Option, List, OnErr, OnOk};
 ghost use Rattle.homa_io.specs.Outside.{appended, HasRisen, TookFront};
-ghost use Rattle.homa_plain.specs.declared.id.HostId.{HostId as Host};
 ghost use Rattle.homa_plain.specs.Entries.{plain};
 ghost use Rattle.homa_text.specs.Told.{HasLine};
 ghost use Rattle.node_runs.specs.Course.{Report, Tells, Turning};
 ghost use Rattle.node_runs.specs.Recorder.{Notes};
-ghost use Rattle.node_io.specs.Observer.{IsSeen, OnWrite, UnlessWrite, OnStranger};
+ghost use Rattle.node_io.specs.Observer.{IsSeen, IsComing, OnWrite, UnlessWrite, OnStranger};
 
 use homa_io::WriteFailed;
 use homa_plain::{Entry, HostId};
@@ -80,6 +79,6 @@ pub trait Observer {
     /// What is the same over two steps is the same over both.
     ghost same_on: { (a b c : Self) → is_same a b → is_same b c → is_same a c };
 
-    /// No turning is strange.
-    ghost turnings_usual: { (n : Notes) (host : Host) → strange n (Turning host) ≡ false };
+    /// Only a datagram that comes is strange.
+    ghost strange_comes: { (n : Notes) (report : Report) → strange n report ≡ true → IsComing report };
 }

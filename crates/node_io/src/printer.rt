@@ -35,7 +35,7 @@ impl<K: Sink> Observer for Printer<K> {
     ghost use Rattle.node_runs.specs.Recorder.{no_notes};
     ghost use Rattle.node_runs.specs.Observed.{same_notes, never};
     ghost use Rattle.node_runs.specs.Texts.{printed};
-    ghost use Rattle.node_io.specs.Printer.{sink_of};
+    ghost use Rattle.node_io.specs.Printer.{sink_of, never_comes};
 
     ghost taken = { λ p. K.taken (sink_of p) };
 
@@ -59,11 +59,9 @@ impl<K: Sink> Observer for Printer<K> {
         Ok(())
     }
 
-    ghost use Rattle.std.specs.Prelude.{refl};
-
     ghost same_self = { λ a. K.same_self (sink_of a) };
 
     ghost same_on = { λ a b c p q. K.same_on (sink_of a) (sink_of b) (sink_of c) p q };
 
-    ghost turnings_usual = { λ _ _. refl };
+    ghost strange_comes = { never_comes };
 }

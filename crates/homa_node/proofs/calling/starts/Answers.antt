@@ -90,7 +90,7 @@ returns-in_err-start_call-clause-stopped g c =
     (h.settings l.hosts) l.invariant.settings (λ w st. subst (λ (x : ℕ). c.in-Some.call.tick ≤ x) (c.now.ensures.stands w st) c.in-Some.ensures.due)
     (n.sent c.start_call.new.net) (n.gave c.start_call.new.net) (o.taken c.start_call.new.observer) (o.notes c.start_call.new.observer)
     (h.stands c.start_call.new.hosts) (h.allows c.start_call.new.hosts) c.in_err-start_call.field-0.0
-    c.in_err-start_call.ensures.stops c.in_err-start_call.ensures.cut c.in_err-start_call.ensures.strange c.in_err-start_call.ensures.refused)
+    c.in_err-start_call.ensures.stops c.in_err-start_call.ensures.cut c.in_err-start_call.ensures.refused)
 
 pub calls-preserved : goal.calls-preserved
 calls-preserved g c =

@@ -5,9 +5,9 @@ use Rattle.homa_plain.specs.Entries.{PlainSettings}
 use Rattle.homa_plain.specs.Script.{most_bytes}
 use Rattle.node_runs.specs.Script.{Opened, opening}
 use Rattle.node_runs.specs.Course.{Tells, node_run, first_inc}
-use Rattle.node_acts.specs.Told.{AreFront, AreStrange}
+use Rattle.node_acts.specs.Told.{AreFront}
 use Rattle.node_acts.specs.declared.stop.NodeStop.TheVariants.{Seen}
-use Rattle.node_acts.proofs.Tellings.{told_one, front_first, on_seen_both}
+use Rattle.node_acts.proofs.Tellings.{told_one, front_first, never_own, seen_midst, seen_never}
 use Rattle.script_lines.specs.Read.{IsRead}
 use Rattle.node_script.specs.Setup.{place_seen}
 use Rattle.node_script.specs.Heads.{setup_seen}
@@ -39,6 +39,11 @@ returns-in_err-setup-clause-stopped g c =
     (outside (o.taken c.args.observer.now) (o.notes c.args.observer.now) (g.N.Net.sent c.args.net.now) (g.N.Net.gave c.args.net.now) ticks) k
     (g.met.H.OpensIn.unasked c.args.boxes [] refl) place left stop
     (λ rest q. subst (λ m. HasOpened m place rest left (Err stop)) (ap (λ x. x.limit) c.in_ok-reader.ensures.place) (c.in_err-setup.ensures.opened rest q)))
+
+pub returns-in_err-setup-clause-never_strange : goal.returns-in_err-setup-clause-never_strange
+returns-in_err-setup-clause-never_strange g c =
+    let p = err_from_is_err_and c.from_residual-in_err-setup.result c.from_residual-in_err-setup.ensures.1 in
+    rw (p.1, p.2) c.in_err-setup.ensures.never_strange
 
 pub returns-in_err-connect-clause-stopped : goal.returns-in_err-connect-clause-stopped
 returns-in_err-connect-clause-stopped g c =
@@ -85,12 +90,18 @@ returns-in_err-seen-clause-stopped g c =
     (calls_left (setup_seen setup) 0 place)
     (λ rest q. subst (λ m. HasOpened m place rest left (Ok setup)) (ap (λ x. x.limit) c.in_ok-reader.ensures.place) (c.in_ok-setup.ensures.opened rest q))
     new in
-    midst_stopped node_run o.told o.kept o.strange may bytes left old new (Seen c.in_err-seen.field-0.0) tt
+    midst_stopped node_run o.told o.kept o.strange may bytes left old new (Seen c.in_err-seen.field-0.0)
+    (seen_midst c.in_err-seen.field-0.0 (never_own o.strange g.met.O.Observer.strange_comes c.in_err-seen.field-0.0 notes
+    (PlainSettings setup.settings) tt e.stranger))
     (part (AreFront o.told o.kept o.strange taken notes told_of)
-    (front_first o.told o.kept o.strange taken told_of notes report [] e.err) c.in_ok-connect.ensures.sent c.in_ok-connect.ensures.gave one)
-    (on_seen_both c.in_err-seen.field-0.0 _ _ _ (λ a b. part (AreStrange o.told o.kept o.strange taken notes told_of)
-    (record { before = []; last = report; after = []; split = refl; usual = tt; unusual = a; text = b }) c.in_ok-connect.ensures.sent
-    c.in_ok-connect.ensures.gave one) e.stranger e.stranger_told))
+    (front_first o.told o.kept o.strange taken told_of notes report [] e.err) c.in_ok-connect.ensures.sent c.in_ok-connect.ensures.gave one))
+
+pub returns-in_err-seen-clause-never_strange : goal.returns-in_err-seen-clause-never_strange
+returns-in_err-seen-clause-never_strange g c =
+    let o = g.O.Observer in
+    let p = err_from_is_err_and c.from_residual-in_err-seen.result c.from_residual-in_err-seen.ensures.1 in
+    rw (p.1, p.2) (seen_never (Unit {0}) c.in_err-seen.field-0.0 (never_own o.strange g.met.O.Observer.strange_comes c.in_err-seen.field-0.0
+    (o.notes c.args.observer.now) (PlainSettings c.in_ok-setup.setup.settings) tt c.in_err-seen.ensures.stranger))
 
 pub returns-in_err-ids-clause-stopped : goal.returns-in_err-ids-clause-stopped
 returns-in_err-ids-clause-stopped g c =

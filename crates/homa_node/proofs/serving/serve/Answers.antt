@@ -3,8 +3,9 @@ use Rattle.std.specs.List.{AllByRecursion}
 use Rattle.std.proofs.lemmas.Result.{err_from_is_err_and}
 use Rattle.homa_plain.specs.declared.id.HostId.{HostId}
 use Rattle.node_runs.specs.Course.{StalledAt, node_run}
-use Rattle.node_acts.specs.Told.{AreTold, AreFront, AreStrange}
-use Rattle.node_acts.proofs.Tellings.{front_more, strange_more, on_stop}
+use Rattle.node_acts.specs.Told.{Listed, ListedFront, AreTold, AreFront, AreStrange}
+use Rattle.node_acts.proofs.Lists.{listed_more, front_listed}
+use Rattle.node_acts.proofs.Tellings.{front_more, strange_more, on_stop, midst_never}
 use Rattle.node_script.specs.Heads.{setup_seen}
 use Rattle.node_script.specs.Calls.{no_calls}
 use Rattle.homa_node.specs.Coming.{calls_ahead, IsIdle, IsAllRead, HasRoom}
@@ -12,7 +13,8 @@ use Rattle.homa_node.specs.Started.{HasStarted, HasStopped}
 use Rattle.homa_node.specs.Served.{outside, IsServed}
 use Rattle.homa_node.proofs.Coming.{room_on, room_wide, read_to_end, locals_there, locals_few}
 use Rattle.homa_node.proofs.Turns.{at_none, at_ticked, clock_part, at_clock, at_calls, calls_stopped, at_hosts, hosts_part, at_end, at_wait, at_stall}
-use Rattle.homa_node.proofs.Stopped.{midst_stopped}
+use Rattle.homa_node.proofs.Stopped.{midst_stopped, heard_stopped}
+use Rattle.homa_node.proofs.Stops.{stopped_never}
 use Rattle.homa_node.proofs.serving.serve.Goals as goal
 
 pub returns-in_err-node-clause-answered : goal.returns-in_err-node-clause-answered
@@ -84,11 +86,7 @@ returns-in_err-clock_stands-clause-answered g c =
     midst_stopped node_run o.told o.kept o.strange may bytes (s.left l.source) old clocked stop e.midst
     (part (AreFront o.told o.kept o.strange ticked.taken ticked.notes clocked.taken) (AreFront o.told o.kept o.strange old.taken old.notes clocked.taken) e.cut
     (λ x y p q. front_more o.told o.kept o.strange old.taken ticked.taken clocked.taken old.notes ticked.notes x y p q)
-    (g.met.H.Hosting.allows_none l.hosts) (λ more a. g.met.H.Hosting.allows_clock l.hosts tick more a) refl refl)
-    (on_stop stop _ _ (λ f.
-    part (AreStrange o.told o.kept o.strange ticked.taken ticked.notes clocked.taken) (AreStrange o.told o.kept o.strange old.taken old.notes clocked.taken) f
-    (λ x y p q. strange_more o.told o.kept o.strange old.taken ticked.taken clocked.taken old.notes ticked.notes x y p q)
-    (g.met.H.Hosting.allows_none l.hosts) (λ more a. g.met.H.Hosting.allows_clock l.hosts tick more a) refl refl) e.strange))
+    (g.met.H.Hosting.allows_none l.hosts) (λ more a. g.met.H.Hosting.allows_clock l.hosts tick more a) refl refl))
 
 pub returns-in_err-starts-clause-answered : goal.returns-in_err-starts-clause-answered
 returns-in_err-starts-clause-answered g c =
@@ -213,12 +211,36 @@ returns-in_err-hosts_act-clause-answered g c =
     let part = hosts_part node_run o.told o.kept o.strange may bytes old setup (s.left c.starts.new.source) started (h.stands c.starts.new.hosts)
     (h.allows c.starts.new.hosts) tick left turn tick (at_started bytes k) acted
     (h.settings c.starts.new.hosts) one_start c.deref.result.now (c.deref.ensures.value ∙ c.in_ok-node.ensures.locals) in
-    midst_stopped node_run o.told o.kept o.strange may bytes (s.left c.starts.new.source) old acted stop e.midst
-    (part (AreFront o.told o.kept o.strange started.taken started.notes acted.taken) (AreFront o.told o.kept o.strange old.taken old.notes acted.taken) e.cut
-    (λ x y p q. front_more o.told o.kept o.strange old.taken started.taken acted.taken old.notes started.notes x y p q))
-    (on_stop stop _ _ (λ f.
-    part (AreStrange o.told o.kept o.strange started.taken started.notes acted.taken) (AreStrange o.told o.kept o.strange old.taken old.notes acted.taken) f
-    (λ x y p q. strange_more o.told o.kept o.strange old.taken started.taken acted.taken old.notes started.notes x y p q)) e.strange))
+    heard_stopped node_run o.told o.kept o.strange may bytes (s.left c.starts.new.source) old acted stop e.midst
+    (part (AreFront o.told o.kept o.strange started.taken started.notes acted.taken) (AreFront o.told o.kept o.strange old.taken old.notes acted.taken)
+    (ListedFront started.sent acted.sent) (ListedFront old.sent acted.sent) e.cut
+    (λ x y p q. front_more o.told o.kept o.strange old.taken started.taken acted.taken old.notes started.notes x y p q)
+    (λ x y p q. front_listed old.sent started.sent acted.sent x y p q))
+    (on_stop (Unit {0}) (Unit {0}) stop _ _ (λ f.
+    part (AreStrange o.told o.kept o.strange started.taken started.notes acted.taken) (AreStrange o.told o.kept o.strange old.taken old.notes acted.taken)
+    (Listed started.sent acted.sent) (Listed old.sent acted.sent) f
+    (λ x y p q. strange_more o.told o.kept o.strange old.taken started.taken acted.taken old.notes started.notes x y p q)
+    (λ x y p q. listed_more old.sent started.sent acted.sent x y p q)) e.strange))
+
+pub returns-in_err-node-clause-some_strange : goal.returns-in_err-node-clause-some_strange
+returns-in_err-node-clause-some_strange g c =
+    let p = err_from_is_err_and c.from_residual.result c.from_residual.ensures.1 in
+    rw (p.1, p.2) (on_stop (Unit {0}) (Unit {0}) c.in_err-node.field-0.0 _ _ (λ f. absurd f) c.in_err-node.ensures.never_strange)
+
+pub returns-in_err-clock_stands-clause-some_strange : goal.returns-in_err-clock_stands-clause-some_strange
+returns-in_err-clock_stands-clause-some_strange g c =
+    let p = err_from_is_err_and c.from_residual-in_err-clock_stands.result c.from_residual-in_err-clock_stands.ensures.1 in
+    rw (p.1, p.2) (midst_never (Unit {0}) c.in_err-clock_stands.field-0.0 _ c.in_err-clock_stands.ensures.midst)
+
+pub returns-in_err-starts-clause-some_strange : goal.returns-in_err-starts-clause-some_strange
+returns-in_err-starts-clause-some_strange g c =
+    let p = err_from_is_err_and c.from_residual-in_err-starts.result c.from_residual-in_err-starts.ensures.1 in
+    rw (p.1, p.2) (stopped_never _ _ _ _ _ _ _ _ _ _ _ _ _ _ _ _ _ _ _ (Unit {0}) _ c.in_err-starts.field-0.0 c.in_err-starts.ensures.stopped)
+
+pub returns-in_err-hosts_act-clause-some_strange : goal.returns-in_err-hosts_act-clause-some_strange
+returns-in_err-hosts_act-clause-some_strange g c =
+    let p = err_from_is_err_and c.from_residual-in_err-hosts_act.result c.from_residual-in_err-hosts_act.ensures.1 in
+    rw (p.1, p.2) (on_stop (Unit {0}) (Unit {0}) c.in_err-hosts_act.field-0.0 _ _ (λ f. f) c.in_err-hosts_act.ensures.some_strange)
 
 pub returns-in_err-hosts_act-clause-same_source : goal.returns-in_err-hosts_act-clause-same_source
 returns-in_err-hosts_act-clause-same_source g c = g.met.S.Source.same_on _ _ _ c.loop-done.invariant.same_source c.in_ok-starts.ensures.same_source

@@ -1,11 +1,11 @@
-use Rattle.std.proofs.Common.{refl, Err, ◌∙◌, subst, suc, take, drop, ◌∷◌, [], sym}
+use Rattle.std.proofs.Common.{◌∙◌, subst, suc, take, drop, ◌∷◌, [], sym}
 use Rattle.std.specs.Prelude.{map}
 use Rattle.std.proofs.lemmas.Result.{MatchResult-from_err, err_from_is_err_and}
 use Rattle.homa_plain.specs.Entries.{plain}
 use Rattle.node_runs.specs.Course.{Tells}
-use Rattle.node_acts.specs.Told.{AreTold, AreFront, AreStrange}
+use Rattle.node_acts.specs.Told.{AreTold, AreFront}
 use Rattle.node_acts.proofs.Lists.{taken_more, parts_around}
-use Rattle.node_acts.proofs.Tellings.{told_one, told_more, front_first, front_more, strange_more, on_strange}
+use Rattle.node_acts.proofs.Tellings.{told_one, told_more, front_first, front_more, never_own}
 use Rattle.node_acts.proofs.telling.tell_entries.Goals as goal
 
 pub returns-in_err-seen-clause-err : goal.returns-in_err-seen-clause-err
@@ -41,14 +41,6 @@ loop-i-preserved g c =
 pub returns-in_err-seen-clause-stranger : goal.returns-in_err-seen-clause-stranger
 returns-in_err-seen-clause-stranger g c =
     let o = g.O.Observer in
-    let told = g.H.Hosting.told c.args.hosts.now in
-    let e = plain c.entry.result in
-    let i = c.loop-i.i in
     let p = err_from_is_err_and c.from_residual.result c.from_residual.ensures.1 in
-    rw (p.1, p.2) (on_strange (Err c.in_err-seen.field-0.0) _ _ _
-    (λ a b. subst (λ rs. AreStrange o.told o.kept o.strange (o.taken c.args.observer.now) (o.notes c.args.observer.now) (o.taken c.seen.new.self) rs)
-    (parts_around Tells told i e c.entry.ensures.entry)
-    (strange_more o.told o.kept o.strange _ (o.taken c.loop-i.observer) _ _ (o.notes c.loop-i.observer) (map Tells (take i told))
-    (Tells e ∷ map Tells (drop (suc i) told)) c.loop-i.invariant.told
-    (record { before = []; last = Tells e; after = map Tells (drop (suc i) told); split = refl; usual = tt; unusual = a; text = b })))
-    c.in_err-seen.ensures.stranger c.in_err-seen.ensures.stranger_told)
+    rw (p.1, p.2) (never_own o.strange g.met.O.Observer.strange_comes c.in_err-seen.field-0.0 (o.notes c.loop-i.observer) (plain c.entry.result)
+    c.entry.ensures.own c.in_err-seen.ensures.stranger)
