@@ -1,6 +1,6 @@
 -- The lines of a step that may ask a box, and what the boxes may tell behind them.
 use Rattle.std.proofs.Common.{◌≡◌, ◌≤◌, ℕ, zero, suc, ◌+◌, Bool, true, false, cond, Option, Some, None, List, [], ◌∷◌, ◌++◌, refl, sym, ap, subst, ◌∙◌, arith}
-use Rattle.std.specs.Prelude.{map, slice_set, slice_get, IfSome}
+use Rattle.std.specs.Prelude.{map, slice_set, slice_get}
 use Rattle.std.specs.Option.{option_map}
 use Rattle.std.specs.List.{AllByRecursion}
 use Rattle.homa_plain.specs.declared.id.HostId.{HostId}
@@ -16,7 +16,7 @@ use Rattle.host_view.specs.Seen.{Seen}
 use Rattle.host_view.specs.Marks.{shown, has_ran, IsAllowed}
 use Rattle.homa_service.specs.Table.{place_of, last_of, front_of}
 use Rattle.step_laws.specs.StepLaws.{run_count}
-use Rattle.box_laws.specs.Boxes.{Allows, may_tell}
+use Rattle.box_laws.specs.Boxes.{Allows, MayAnswer, may_tell}
 
 -- ---- `run` lines among entries
 
@@ -140,8 +140,8 @@ module _ {A : Type 0} (allows : Allows A) where
   inc_under (Some x) None u = absurd u
   inc_under (Some x) (Some y) u = (ap (λ n. n + 1) u.0, u.1)
 
-  tell_under : (x y : Option (A × ℕ)) (service : ℕ) (request response : List ℕ) (hold : ℕ) → IsUnder x y → IfSome x (λ b. allows b.0 b.1 service request response hold) → IfSome y (λ b. allows b.0 b.1 service request response hold)
-  tell_under None None service request response hold u a = tt
+  tell_under : (x y : Option (A × ℕ)) (service : ℕ) (request response : List ℕ) (hold : ℕ) → IsUnder x y → MayAnswer allows x service request response hold → MayAnswer allows y service request response hold
+  tell_under None None service request response hold u a = a
   tell_under None (Some y) service request response hold u a = absurd u
   tell_under (Some x) None service request response hold u a = absurd u
   tell_under (Some x) (Some y) service request response hold u a = u.1 y.1 service hold request response (subst (λ n. allows x.0 n service request response hold) u.0 a)
@@ -177,6 +177,6 @@ module _ {A : Type 0} (allows : Allows A) where
         let here : place_of seats host.0 ≡ Some (had, n) = ap (λ (x : HostId). place_of seats x.0) m.0 ∙ at in
         let after : slice_set seats host.0 (option_map (λ b. (b.0, b.1 + 1)) (place_of seats host.0)) ≡ slice_set seats id.0 (Some (had, n + 1)) =
         ap (λ o. slice_set seats host.0 (option_map (λ b. (b.0, b.1 + 1)) o)) here ∙ ap (λ (x : HostId). slice_set seats x.0 (Some (had, n + 1))) m.0 in
-        (subst (λ o. IfSome o (λ b. allows b.0 b.1 service request response hold)) (sym here) m.1, subst (λ vs. may_tell allows vs spares (es ++ more)) (sym after) (quiet (slice_set seats id.0 (Some (had, n + 1))) (omega (arith, few)) a))
+        (subst (λ o. MayAnswer allows o service request response hold) (sym here) m.1, subst (λ vs. may_tell allows vs spares (es ++ more)) (sym after) (quiet (slice_set seats id.0 (Some (had, n + 1))) (omega (arith, few)) a))
     by_entry (PlainRestart host inc) m few a rest quiet = absurd m
     by_entry e m few a rest quiet = (tt, rest few a)

@@ -3,3 +3,4 @@ mod Numbered
 mod Completing
 pub mod Exits
 mod NodeEnds
+mod RecordEnds

@@ -10,7 +10,7 @@ use Rattle.node_trace.specs.declared.end.Broken.TheVariants as broken
 use Rattle.node_trace.specs.Ends.{HaveFaults}
 use Rattle.node_trace.specs.Traces.{Around, IsPrinted}
 use Rattle.homa_top.specs.declared.exit.ExitStatus.{ExitStatus}
-use Rattle.homa_top.specs.declared.exit.ExitStatus.TheVariants.{Done, NoCommand, Refused, ReadFailed, WriteFailed, NoMemory, NetFailed, Stalled}
+use Rattle.homa_top.specs.declared.exit.ExitStatus.TheVariants.{Done, NoCommand, Refused, ReadFailed, WriteFailed, NoMemory, NetFailed, Stalled, Stranger}
 use Rattle.homa_top.specs.Exits.{status_of_node}
 use Rattle.homa_top.specs.Commands.{HasRun}
 
@@ -40,6 +40,16 @@ module _ (may_tell : List PlainEntry → Type 0) (bytes : List ℕ) (left : Opti
   has_run (Err broken.Net) p = record { ended = λ e. absurd cc; refused = λ e. absurd cc; stalled = λ e. absurd cc; front = λ _. p }
   has_run (Err broken.NoMemory) p = record { ended = λ e. absurd cc; refused = λ e. absurd cc; stalled = λ e. absurd cc; front = λ _. p }
 
+-- nothing is strange to a node
+pub is_usual : (answer : Result NodeEnd Broken) → status_of_node answer ≢ Stranger
+is_usual (Ok (end.Ended turns)) = λ e. cc
+is_usual (Ok (end.Refused line fault)) = λ e. cc
+is_usual (Ok (end.Stalled turns now)) = λ e. cc
+is_usual (Err broken.Read) = λ e. cc
+is_usual (Err broken.Write) = λ e. cc
+is_usual (Err broken.Net) = λ e. cc
+is_usual (Err broken.NoMemory) = λ e. cc
+
 -- no node has the status of words that are no command
 pub is_command : (answer : Result NodeEnd Broken) → status_of_node answer ≢ NoCommand
 is_command (Ok (end.Ended turns)) = λ e. cc
@@ -60,7 +70,7 @@ module _ (old new : Counts) where
     pub net : status ≡ NetFailed → HasRisen old.net new.net
     pub net_fault : new.net ≢ old.net → status ≡ NetFailed
 
-  no_fault : (status : ExitStatus) → new ≡ old → status ≢ ReadFailed → status ≢ WriteFailed → status ≢ NetFailed → HaveStatus status
+  pub no_fault : (status : ExitStatus) → new ≡ old → status ≢ ReadFailed → status ≢ WriteFailed → status ≢ NetFailed → HaveStatus status
   no_fault status same no_read no_write no_net = record {
     read = λ e. absurd (no_read e);
     read_fault = λ ne. absurd (ne (ap (λ (c : Counts). c.source) same));

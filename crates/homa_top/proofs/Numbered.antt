@@ -9,7 +9,7 @@ use Rattle.generated_runs.specs.Rounds.{Generated}
 use Rattle.generated_runs.specs.Generated.{generated_settings, schedule_text, summary_text}
 use Rattle.homa_generate.specs.Made.{run_of}
 use Rattle.homa_top.specs.declared.words.Command.{Command}
-use Rattle.homa_top.specs.declared.words.Command.TheVariants.{Replay, Make, Gen, Node, Check, Quiet}
+use Rattle.homa_top.specs.declared.words.Command.TheVariants.{Replay, Make, Gen, Node, Record, Check, Quiet}
 use Rattle.homa_top.specs.declared.exit.ExitStatus.{ExitStatus}
 use Rattle.homa_top.specs.Words.{within, number_within, numbered, command_of}
 use Rattle.homa_top.specs.Commands.{HasMade}
@@ -67,7 +67,8 @@ words_sizes : (words : List (List ℕ)) → AreSizes (command_of words)
 words_sizes [] = tt
 words_sizes (word ∷ []) =
     by_test (bytes_eq word (codes "replay")) (Some Replay) _ tt
-    (by_test (bytes_eq word (codes "node")) (Some Node) _ tt (by_test (bytes_eq word (codes "check")) (Some Check) None tt tt))
+    (by_test (bytes_eq word (codes "node")) (Some Node) _ tt
+    (by_test (bytes_eq word (codes "record")) (Some Record) _ tt (by_test (bytes_eq word (codes "check")) (Some Check) None tt tt)))
 words_sizes (word ∷ first ∷ []) = tt
 words_sizes (word ∷ first ∷ second ∷ []) = numbered_sizes word first second
 words_sizes (word ∷ first ∷ second ∷ third ∷ more) = tt

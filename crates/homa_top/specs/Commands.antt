@@ -12,6 +12,7 @@ use Rattle.node_runs.specs.Course.{Arrival, AreTicks, Ended, RefusedAt, StalledA
 use Rattle.node_runs.specs.Texts.{entries}
 use Rattle.homa_node.specs.Served.{AreGiven}
 use Rattle.node_trace.specs.Traces.{Around, IsWhole, IsBrokenOff, IsEndCut}
+use Rattle.node_record.specs.Recorded as recording
 use Rattle.check_text.specs.Text.{IsTrace, IsNoTrace}
 use Rattle.check_text.specs.Verdict as verdict
 use Rattle.check_text.specs.Verdict.{verdict_of}
@@ -20,7 +21,7 @@ use Rattle.generated_runs.specs.Rounds.{Generated}
 use Rattle.homa_generate.specs.Made.{Run, IsMade, IsPartMade}
 use Rattle.quiet_call.specs.Text.{bound, quiet_text}
 use Rattle.homa_top.specs.declared.exit.ExitStatus.{ExitStatus}
-use Rattle.homa_top.specs.declared.exit.ExitStatus.TheVariants.{Done, Refused, ReadFailed, WriteFailed, NoMemory, Stalled}
+use Rattle.homa_top.specs.declared.exit.ExitStatus.TheVariants.{Done, Refused, ReadFailed, WriteFailed, NoMemory, Stalled, Stranger}
 use Rattle.homa_top.specs.Exits.{is_broken_off}
 
 -- the end, a fault of the sink, or want of memory
@@ -104,3 +105,15 @@ module _ (may_tell : List PlainEntry → Type 0) where
       → AreGiven held ticks → AreTicks 0 ticks → shown (entries (node_run bytes answers ticks gave).reports) ≡ answers
       → may_tell (entries (node_run bytes answers ticks gave).reports)
       → (node_run bytes answers ticks gave).end ≡ Some (RefusedAt line fault) → ⊥
+
+-- ---- `record`
+
+module _ (may_tell : List PlainEntry → Type 0) where
+  -- The recording of the node's run was printed, by the status, which is that of the run's end, with the script read to its end where it is `Done`.
+  -- Where a datagram was strange it is the recording up to there; with the status of a fault or of want of memory, a front of it.
+  pub record HasRecorded (bytes : List ℕ) (left : Option (List ℕ)) (old new : Around) (status : ExitStatus) : Type 0 where
+    pub ended : status ≡ Done → recording.IsWhole may_tell bytes old new 0 × (left ≡ Some [])
+    pub refused : status ≡ Refused → recording.IsWhole may_tell bytes old new 2
+    pub stalled : status ≡ Stalled → recording.IsWhole may_tell bytes old new 7
+    pub stranger : status ≡ Stranger → recording.IsCutShort may_tell bytes old new
+    pub front : is_broken_off status ≡ true → recording.IsBrokenOff may_tell bytes left old new ⊎ recording.IsEndCut may_tell bytes old new

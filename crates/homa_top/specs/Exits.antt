@@ -6,8 +6,10 @@ use Rattle.node_trace.specs.declared.end.NodeEnd.{NodeEnd}
 use Rattle.node_trace.specs.declared.end.NodeEnd.TheVariants as end
 use Rattle.node_trace.specs.declared.end.Broken.{Broken}
 use Rattle.node_trace.specs.declared.end.Broken.TheVariants as broken
+use Rattle.node_record.specs.declared.end.Recorded.{Recorded}
+use Rattle.node_record.specs.declared.end.Recorded.TheVariants as how
 use Rattle.homa_top.specs.declared.exit.ExitStatus.{ExitStatus}
-use Rattle.homa_top.specs.declared.exit.ExitStatus.TheVariants.{Done, NoCommand, Refused, ReadFailed, WriteFailed, NoMemory, NetFailed, Stalled}
+use Rattle.homa_top.specs.declared.exit.ExitStatus.TheVariants.{Done, NoCommand, Refused, ReadFailed, WriteFailed, NoMemory, NetFailed, Stalled, Stranger}
 
 -- the code of an exit status
 abbrev pub code : ExitStatus → ℕ
@@ -19,6 +21,7 @@ code WriteFailed = 4
 code NoMemory = 5
 code NetFailed = 6
 code Stalled = 7
+code Stranger = 8
 
 -- the command was broken off, by a fault or for want of memory
 abbrev pub is_broken_off : ExitStatus → Bool
@@ -30,6 +33,7 @@ is_broken_off WriteFailed = true
 is_broken_off NoMemory = true
 is_broken_off NetFailed = true
 is_broken_off Stalled = false
+is_broken_off Stranger = false
 
 -- it was broken off, and not by a fault of the sink: all that was told until then was printed
 abbrev pub prints_all : ExitStatus → Bool
@@ -57,3 +61,14 @@ status_of_node (Err broken.Read) = ReadFailed
 status_of_node (Err broken.Write) = WriteFailed
 status_of_node (Err broken.Net) = NetFailed
 status_of_node (Err broken.NoMemory) = NoMemory
+
+-- the status of a recording that ended so
+abbrev pub status_of_recorded : Recorded → ExitStatus
+status_of_recorded how.Done = Done
+status_of_recorded how.Refused = Refused
+status_of_recorded how.Stalled = Stalled
+status_of_recorded how.Stranger = Stranger
+status_of_recorded how.ReadFailed = ReadFailed
+status_of_recorded how.WriteFailed = WriteFailed
+status_of_recorded how.NetFailed = NetFailed
+status_of_recorded how.NoMemory = NoMemory

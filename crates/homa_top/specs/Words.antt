@@ -5,7 +5,7 @@ use denote.Ref.{Bor}
 use Rattle.homa_plain.specs.Bytes.{◌>>=◌}
 use Rattle.homa_plain.specs.Numbers.{number_of}
 use Rattle.homa_top.specs.declared.words.Command.{Command}
-use Rattle.homa_top.specs.declared.words.Command.TheVariants.{Replay, Make, Gen, Node, Check, Quiet}
+use Rattle.homa_top.specs.declared.words.Command.TheVariants.{Replay, Make, Gen, Node, Record, Check, Quiet}
 
 -- a number of at least 1 and at most so much
 abbrev pub within : ℕ → ℕ → Option ℕ
@@ -36,6 +36,7 @@ abbrev pub command_of : List (List ℕ) → Option Command
 command_of (word ∷ []) =
     if bytes_eq word (codes "replay") then Some Replay
     else if bytes_eq word (codes "node") then Some Node
+    else if bytes_eq word (codes "record") then Some Record
     else if bytes_eq word (codes "check") then Some Check
     else None
 command_of (word ∷ first ∷ second ∷ []) = numbered word first second
@@ -54,10 +55,12 @@ abbrev pub reads : Option Command → Bool
 reads None = false
 reads (Some Replay) = true
 reads (Some Node) = true
+reads (Some Record) = true
 reads (Some Check) = true
 reads (Some other) = false
 
 -- a command that uses the net and the clock
 abbrev pub uses_net : Option Command → Bool
 uses_net (Some Node) = true
+uses_net (Some Record) = true
 uses_net other = false

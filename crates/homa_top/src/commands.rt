@@ -6,10 +6,10 @@ ghost use Rattle.node_trace.specs.Traces.{around};
 ghost use Rattle.generated_runs.specs.Generated.{generated_settings, schedule_text, summary_text};
 ghost use Rattle.homa_generate.specs.Made.{run_of};
 ghost use Rattle.box_laws.specs.First.{AreReady, AreAllowed};
-ghost use Rattle.box_laws.specs.First as nodes;
+ghost use Rattle.node_hosts.specs.Fair.{AreFairlyAllowed};
 ghost use Rattle.homa_top.specs.Words.{usage_line};
-ghost use Rattle.homa_top.specs.Commands.{HasMade, HasCounted, HasJudged, HasRun};
-ghost use Rattle.homa_top.specs.Exits.{status_of, status_of_node};
+ghost use Rattle.homa_top.specs.Commands.{HasMade, HasCounted, HasJudged, HasRun, HasRecorded};
+ghost use Rattle.homa_top.specs.Exits.{status_of, status_of_node, status_of_recorded};
 ghost use Rattle.homa_top.specs.declared.exit.ExitStatus.TheVariants as status;
 
 use crate::exit::ExitStatus;
@@ -20,8 +20,9 @@ use homa_plain::Settings;
 use homa_replay::Stop;
 use homa_service::Service;
 use homa_world::World;
-use node_hosts::NodeHosts;
+use node_hosts::{Fair, NodeHosts};
 use node_io::{Clock, Net};
+use node_record::{Recorded, print_recording};
 use node_trace::{Broken, NodeEnd, print_node};
 use quiet_call::{put_quiet, quiet_rounds};
 use std::alloc::Global;
@@ -170,7 +171,52 @@ pub(crate) fn put_node<V: Service, S: Source, K: Sink, N: Net, C: Clock>(
 ) -> ExitStatus
     requires ready { AreReady V.served services.items }
     requires none_known { (h : Host) → N.known net.old h ≡ false }
-    ensures run { (bytes : List ℕ) → S.left source.old ≡ Some bytes → HasRun (nodes.AreAllowed V.served V.allows services.items) bytes (S.left source.new)
+    ensures run { (bytes : List ℕ) → S.left source.old ≡ Some bytes → HasRun (AreFairlyAllowed V.served V.allows services.items) bytes (S.left source.new)
+        (around (K.taken sink.old) (N.sent net.old) (N.gave net.old) (C.ticks clock.old))
+        (around (K.taken sink.new) (N.sent net.new) (N.gave net.new) (C.ticks clock.new)) result }
+    ensures command { result ≢ status.NoCommand }
+    ensures usual { result ≢ status.Stranger }
+    ensures read { result ≡ status.ReadFailed → HasRisen (S.faults source.old) (S.faults source.new) }
+    ensures read_fault { S.faults source.new ≢ S.faults source.old → result ≡ status.ReadFailed }
+    ensures write { result ≡ status.WriteFailed → HasRisen (K.faults sink.old) (K.faults sink.new) }
+    ensures write_fault { K.faults sink.new ≢ K.faults sink.old → result ≡ status.WriteFailed }
+    ensures net { result ≡ status.NetFailed → HasRisen (N.faults net.old) (N.faults net.new) }
+    ensures net_fault { N.faults net.new ≢ N.faults net.old → result ≡ status.NetFailed }
+{
+    status_of_node(print_node::<Vec<V>, NodeHosts<Fair<V>>, S, K, N, C>(
+        alloc, source, sink, net, clock, services,
+    ))
+}
+
+// The status of a recording.
+fn status_of_recorded(answer: Recorded) -> ExitStatus
+    ensures { result ≡ status_of_recorded answer }
+{
+    match answer {
+        Recorded::Done => ExitStatus::Done,
+        Recorded::Refused => ExitStatus::Refused,
+        Recorded::Stalled => ExitStatus::Stalled,
+        Recorded::Stranger => ExitStatus::Stranger,
+        Recorded::ReadFailed => ExitStatus::ReadFailed,
+        Recorded::WriteFailed => ExitStatus::WriteFailed,
+        Recorded::NetFailed => ExitStatus::NetFailed,
+        Recorded::NoMemory => ExitStatus::NoMemory,
+    }
+}
+
+/// Runs the node of the script that the source has, and prints its run as a schedule, with its last line.
+pub(crate) fn put_record<V: Service, S: Source, K: Sink, N: Net, C: Clock>(
+    alloc: Global,
+    source: &mut S,
+    sink: &mut K,
+    net: &mut N,
+    clock: &mut C,
+    services: Vec<V>,
+) -> ExitStatus
+    requires ready { AreReady V.served services.items }
+    requires none_known { (h : Host) → N.known net.old h ≡ false }
+    ensures recorded { (bytes : List ℕ) → S.left source.old ≡ Some bytes
+        → HasRecorded (AreFairlyAllowed V.served V.allows services.items) bytes (S.left source.new)
         (around (K.taken sink.old) (N.sent net.old) (N.gave net.old) (C.ticks clock.old))
         (around (K.taken sink.new) (N.sent net.new) (N.gave net.new) (C.ticks clock.new)) result }
     ensures command { result ≢ status.NoCommand }
@@ -181,7 +227,7 @@ pub(crate) fn put_node<V: Service, S: Source, K: Sink, N: Net, C: Clock>(
     ensures net { result ≡ status.NetFailed → HasRisen (N.faults net.old) (N.faults net.new) }
     ensures net_fault { N.faults net.new ≢ N.faults net.old → result ≡ status.NetFailed }
 {
-    status_of_node(print_node::<Vec<V>, NodeHosts<V>, S, K, N, C>(
+    status_of_recorded(print_recording::<Vec<V>, NodeHosts<Fair<V>>, S, K, N, C>(
         alloc, source, sink, net, clock, services,
     ))
 }

@@ -21,10 +21,12 @@ pub enum ExitStatus {
     NetFailed,
     /// 7: a node did its last loop turn before the clock came to the end.
     Stalled,
+    /// 8: a datagram came to a node that is recorded which is a packet, and which no host of the run sent in its life.
+    Stranger,
 }
 
 impl ExitStatus {
-    /// The code, from 0 to 7.
+    /// The code, from 0 to 8.
     pub fn code(self) -> u8
         ensures { result ≡ code self }
     {
@@ -37,6 +39,7 @@ impl ExitStatus {
             ExitStatus::NoMemory => 5,
             ExitStatus::NetFailed => 6,
             ExitStatus::Stalled => 7,
+            ExitStatus::Stranger => 8,
         }
     }
 }

@@ -10,18 +10,20 @@ ghost use Rattle.homa_replay.specs.Stream.{is_refusal};
 ghost use Rattle.generated_runs.specs.Generated.{generated_settings, schedule_text, summary_text};
 ghost use Rattle.homa_generate.specs.Made.{run_of};
 ghost use Rattle.box_laws.specs.First.{AreReady, AreAllowed};
-ghost use Rattle.box_laws.specs.First as nodes;
+ghost use Rattle.node_hosts.specs.Fair.{AreFairlyAllowed};
 ghost use Rattle.node_trace.specs.Traces.{around};
+ghost use Rattle.node_print_laws.specs.Printed.{OpensNode};
 ghost use Rattle.replay_laws.specs.Replays.{OpensWorld};
 ghost use Rattle.homa_top.specs.declared.words.Command.TheVariants as command;
-ghost use Rattle.homa_top.specs.Commands.{HasMade, HasCounted, HasJudged, HasRun, IsNeverRefused};
+ghost use Rattle.homa_top.specs.Commands.{HasMade, HasCounted, HasJudged, HasRun, HasRecorded, IsNeverRefused};
 ghost use Rattle.homa_top.specs.Exits.{is_broken_off, prints_all};
 ghost use Rattle.homa_top.specs.declared.exit.ExitStatus.TheVariants as status;
-ghost use Rattle.homa_top.specs.Lawful.{TookLawful};
+ghost use Rattle.homa_top.specs.Lawful.{TookLawful, TookLawfulLines};
 ghost use Rattle.homa_top.specs.Words.{said, reads, uses_net, usage_line};
 
 use crate::commands::{
-    put_judgement, put_node, put_rounds, put_schedule, put_summary, put_usage, status_of,
+    put_judgement, put_node, put_record, put_rounds, put_schedule, put_summary, put_usage,
+    status_of,
 };
 use crate::exit::ExitStatus;
 use crate::words::{Command, read_words};
@@ -33,14 +35,16 @@ use node_io::{Clock, Net};
 use std::alloc::Global;
 
 /// Carries out a command line, `words` without the program's name: `replay`, `make SEED CALLS`, `gen SEED CALLS`, `node`,
-/// `check` or `quiet N M`.
+/// `record`, `check` or `quiet N M`.
 ///
 /// `replay` reads a schedule from the source and prints its trace. `check` reads a trace and prints the verdict on it,
 /// `Done` where it is yes and `Refused` where it is no. `make` prints a schedule of generated traffic, and `gen`
 /// the summary of its trace. `node` reads a node script, runs its local hosts over the net and the clock, and prints their
-/// trace, each line as it comes. `quiet` prints in how many rounds a call is done. Service h serves host h, and the others are
-/// there for hosts that restart, the last one first. What is said of the bytes holds where the source tells what it has
-/// left, and the sink what it took, as those in memory do; so does what is said of datagrams and ticks of net and clock.
+/// trace, each line as it comes. `record` does the same, and prints a schedule in place of the trace, whose replay tells the
+/// run again; it stops with `Stranger` at a datagram that is a packet which no host of the run sent in its life. `quiet`
+/// prints in how many rounds a call is done. Service h serves host h, and the others are there for hosts that restart, the
+/// last one first. What is said of the bytes holds where the source tells what it has left, and the sink what it took, as
+/// those in memory do; so does what is said of datagrams and ticks of net and clock.
 pub fn run<V: Service, S: Source, K: Sink, N: Net, C: Clock>(
     alloc: Global,
     words: &[&str],
@@ -59,14 +63,15 @@ pub fn run<V: Service, S: Source, K: Sink, N: Net, C: Clock>(
     ensures usage_text { result ≡ status.NoCommand → K.taken sink.new ≡ appended (K.taken sink.old) usage_line }
     ensures usage_front { said words.now ≡ None → TookFront (K.taken sink.old) (K.taken sink.new) usage_line }
 
-    // `replay`, `node` and `check` alone read, and refuse a line.
+    // `replay`, `node`, `record` and `check` alone read, and refuse a line.
     ensures source_stays { reads (said words.now) ≡ false → source.new ≡ source.old }
     ensures reads { (result ≡ status.Refused) ⊎ (result ≡ status.ReadFailed) → reads (said words.now) ≡ true }
 
-    // `node` alone uses the net and the clock, and stalls.
+    // `node` and `record` alone use the net and the clock, and stall; `record` alone meets a stranger.
     ensures net_stays { uses_net (said words.now) ≡ false → net.new ≡ net.old }
     ensures clock_stays { uses_net (said words.now) ≡ false → clock.new ≡ clock.old }
     ensures uses_net { (result ≡ status.NetFailed) ⊎ (result ≡ status.Stalled) → uses_net (said words.now) ≡ true }
+    ensures stranger { result ≡ status.Stranger → said words.now ≡ Some command.Record }
 
     // `replay`: what was printed is the replay of the bytes that the source had, with the answers that its own `run` lines
     // show, of which each is allowed; it refuses no line, or its last line refuses one.
@@ -92,7 +97,21 @@ pub fn run<V: Service, S: Source, K: Sink, N: Net, C: Clock>(
     // `run` lines show, of which each is allowed, and the ticks and receives that clock and net gave; the net took its
     // datagrams, and the status is that of its end. A fault or want of memory leaves a front of it.
     ensures node { said words.now ≡ Some command.Node → (bytes : List ℕ) → S.left source.old ≡ Some bytes
-        → HasRun (nodes.AreAllowed V.served V.allows services.items) bytes (S.left source.new)
+        → HasRun (AreFairlyAllowed V.served V.allows services.items) bytes (S.left source.new)
+        (around (K.taken sink.old) (N.sent net.old) (N.gave net.old) (C.ticks clock.old))
+        (around (K.taken sink.new) (N.sent net.new) (N.gave net.new) (C.ticks clock.new)) result }
+
+    // Where the script is opened, and the net was honest in the lines that the sink took whole, each of these obeys all laws,
+    // however the run ended or was broken off.
+    ensures node_laws { said words.now ≡ Some command.Node → (bytes : List ℕ) → S.left source.old ≡ Some bytes → OpensNode bytes
+        → TookLawfulLines bytes (around (K.taken sink.old) (N.sent net.old) (N.gave net.old) (C.ticks clock.old))
+        (around (K.taken sink.new) (N.sent net.new) (N.gave net.new) (C.ticks clock.new)) result }
+
+    // `record`: what was printed is the recording of the node's run, the same way: a schedule of the events that the run stands
+    // for, up to its end or to the first datagram that is strange. The net took its datagrams up to there, and the status is that
+    // of its end, or `Stranger`. A fault or want of memory leaves a front of it.
+    ensures recorded { said words.now ≡ Some command.Record → (bytes : List ℕ) → S.left source.old ≡ Some bytes
+        → HasRecorded (AreFairlyAllowed V.served V.allows services.items) bytes (S.left source.new)
         (around (K.taken sink.old) (N.sent net.old) (N.gave net.old) (C.ticks clock.old))
         (around (K.taken sink.new) (N.sent net.new) (N.gave net.new) (C.ticks clock.new)) result }
 
@@ -126,10 +145,15 @@ pub fn run<V: Service, S: Source, K: Sink, N: Net, C: Clock>(
         → (HasRisen (S.faults source.old) (S.faults source.new) → ⊥) → (HasRisen (K.faults sink.old) (K.faults sink.new) → ⊥) → (result ≡ status.Done)
         ⊎ (result ≡ status.NoMemory) }
     ensures complete_node { said words.now ≡ Some command.Node → (bytes : List ℕ) → S.left source.old ≡ Some bytes
-        → IsNeverRefused (nodes.AreAllowed V.served V.allows services.items) bytes (C.ticks clock.old)
+        → IsNeverRefused (AreFairlyAllowed V.served V.allows services.items) bytes (C.ticks clock.old)
         → (HasRisen (S.faults source.old) (S.faults source.new) → ⊥) → (HasRisen (K.faults sink.old) (K.faults sink.new) → ⊥)
         → (HasRisen (N.faults net.old) (N.faults net.new) → ⊥)
         → (result ≡ status.Done) ⊎ (result ≡ status.Stalled) ⊎ (result ≡ status.NoMemory) }
+    ensures complete_record { said words.now ≡ Some command.Record → (bytes : List ℕ) → S.left source.old ≡ Some bytes
+        → IsNeverRefused (AreFairlyAllowed V.served V.allows services.items) bytes (C.ticks clock.old)
+        → (HasRisen (S.faults source.old) (S.faults source.new) → ⊥) → (HasRisen (K.faults sink.old) (K.faults sink.new) → ⊥)
+        → (HasRisen (N.faults net.old) (N.faults net.new) → ⊥)
+        → (result ≡ status.Done) ⊎ (result ≡ status.Stalled) ⊎ (result ≡ status.Stranger) ⊎ (result ≡ status.NoMemory) }
     ensures complete_check { said words.now ≡ Some command.Check → (HasRisen (S.faults source.old) (S.faults source.new) → ⊥)
         → (HasRisen (K.faults sink.old) (K.faults sink.new) → ⊥) → (result ≡ status.Done) ⊎ (result ≡ status.Refused) ⊎ (result ≡ status.NoMemory) }
 {
@@ -138,6 +162,7 @@ pub fn run<V: Service, S: Source, K: Sink, N: Net, C: Clock>(
         Some(Command::Make { seed, calls }) => put_schedule(alloc, sink, services, seed, calls),
         Some(Command::Gen { seed, calls }) => put_summary(alloc, sink, services, seed, calls),
         Some(Command::Node) => put_node(alloc, source, sink, net, clock, services),
+        Some(Command::Record) => put_record(alloc, source, sink, net, clock, services),
         Some(Command::Check) => put_judgement(alloc, source, sink),
         Some(Command::Quiet { request, response }) => put_rounds(alloc, sink, request, response),
         Some(Command::Replay) => {

@@ -17,6 +17,8 @@ pub enum Command {
     Gen { seed: u64, calls: u32 },
     /// The run of a node.
     Node,
+    /// The recording of a node's run.
+    Record,
     /// The verdict on a trace.
     Check,
     /// The rounds of a quiet call: how many bytes it asks and how many it is answered, each from 1 to 1,000,000.
@@ -82,6 +84,7 @@ fn single(word: &str) -> Option<Command>
     match word {
         "replay" => Some(Command::Replay),
         "node" => Some(Command::Node),
+        "record" => Some(Command::Record),
         "check" => Some(Command::Check),
         _ => None,
     }

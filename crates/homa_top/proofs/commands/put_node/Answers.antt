@@ -1,5 +1,5 @@
 use Rattle.std.proofs.Common.{◌∙◌, sym}
-use Rattle.homa_top.proofs.NodeEnds.{has_run, is_command, have_status}
+use Rattle.homa_top.proofs.NodeEnds.{has_run, is_command, is_usual, have_status}
 use Rattle.homa_top.proofs.commands.put_node.Goals as goal
 
 -- a node's services are ready as a world's are
@@ -11,6 +11,9 @@ returns-clause-run g c = λ bytes had. rw c.status_of_node.ensures (has_run _ by
 
 pub returns-clause-command : goal.returns-clause-command
 returns-clause-command g c = λ e. is_command c.print_node.result (sym c.status_of_node.ensures ∙ e)
+
+pub returns-clause-usual : goal.returns-clause-usual
+returns-clause-usual g c = λ e. is_usual c.print_node.result (sym c.status_of_node.ensures ∙ e)
 
 pub returns-clause-read : goal.returns-clause-read
 returns-clause-read g c = λ e. (have_status _ _ c.print_node.result c.print_node.ensures.faults).read (sym c.status_of_node.ensures ∙ e)

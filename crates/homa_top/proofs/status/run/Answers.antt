@@ -5,7 +5,8 @@ use Rattle.box_laws.specs.First.{AreAllowed}
 use Rattle.homa_top.specs.Exits.{prints_all}
 use Rattle.homa_top.proofs.Completing.{completed}
 use Rattle.homa_top.proofs.Exits.{prints_same}
-use Rattle.homa_top.proofs.Lawful.{lawful}
+use Rattle.homa_top.proofs.RecordEnds as recordings
+use Rattle.homa_top.proofs.Lawful.{lawful, lawful_lines}
 use Rattle.homa_top.proofs.Numbered.{quiet_sizes, same_make, same_gen}
 use Rattle.homa_top.proofs.status.run.Goals as goal
 
@@ -48,4 +49,13 @@ returns-in-Err-clause-front g c =
 pub returns-in-Some-Node-clause-complete_node : goal.returns-in-Some-Node-clause-complete_node
 returns-in-Some-Node-clause-complete_node g c = λ is bytes had never no_read no_write no_net.
     completed _ bytes _ _ _ _ (c.put_node.ensures.run bytes had) never c.put_node.ensures.command
-    (λ e. no_read (c.put_node.ensures.read e)) (λ e. no_write (c.put_node.ensures.write e)) (λ e. no_net (c.put_node.ensures.net e))
+    (λ e. no_read (c.put_node.ensures.read e)) (λ e. no_write (c.put_node.ensures.write e)) (λ e. no_net (c.put_node.ensures.net e)) c.put_node.ensures.usual
+
+pub returns-in-Some-Node-clause-node_laws : goal.returns-in-Some-Node-clause-node_laws
+returns-in-Some-Node-clause-node_laws g c = λ is bytes had opens.
+    lawful_lines _ (λ told allowed. allowed.1) bytes opens _ _ _ _ (c.put_node.ensures.run bytes had)
+
+pub returns-in-Some-Record-clause-complete_record : goal.returns-in-Some-Record-clause-complete_record
+returns-in-Some-Record-clause-complete_record g c = λ is bytes had never no_read no_write no_net.
+    recordings.completed _ bytes _ _ _ _ (c.put_record.ensures.recorded bytes had) never c.put_record.ensures.command
+    (λ e. no_read (c.put_record.ensures.read e)) (λ e. no_write (c.put_record.ensures.write e)) (λ e. no_net (c.put_record.ensures.net e))
