@@ -34,8 +34,8 @@ enum {
     HOMA_OTHER = 0,    /* something that a program needn't know: a packet, a timer, a row */
     HOMA_RAN = 1,      /* a request was answered */
     HOMA_DONE = 2,     /* a call is done: its response is whole */
-    HOMA_TIMEOUT = 3,  /* a call failed: its server was silent. The request may have been served */
-    HOMA_FORGOTTEN = 4 /* a call failed: its server began anew. The request may have been served */
+    HOMA_TIMEOUT = 3,  /* a call failed: its server was silent. The request was served once, or not at all */
+    HOMA_FORGOTTEN = 4 /* a call failed: its server served it, and doesn't have the response any more */
 };
 
 /* A host. It owns all memory of the host while it is open. */
