@@ -34,7 +34,7 @@ enum {
     HOMA_OTHER = 0,    /* something that a program needn't know: a packet, a timer, a row */
     HOMA_RAN = 1,      /* a request was answered */
     HOMA_DONE = 2,     /* a call is done: its response is whole */
-    HOMA_TIMEOUT = 3,  /* a call failed: its server was silent. The request was served once, or not at all */
+    HOMA_TIMEOUT = 3,  /* a call failed: its server was silent. The request was served at most once in each life of the server */
     HOMA_FORGOTTEN = 4 /* a call failed: its server served it, and doesn't have the response any more */
 };
 
@@ -45,7 +45,7 @@ typedef struct {
 } homa_host;
 #define HOMA_CLOSED { NULL, false }
 
-/* Settings. All hosts of a net have the same, but for pages, calls and served. */
+/* Settings. All hosts of a net have the same: what is proved of many hosts is proved of such a net. */
 typedef struct {
     uint32_t hosts;      /* how many hosts there are: 2 to 32 */
     uint32_t seg;        /* most payload bytes of a packet: 1 to 1400. A frame has its header beside them: 1500 bytes at most */
