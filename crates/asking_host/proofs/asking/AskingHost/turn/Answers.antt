@@ -1,0 +1,17 @@
+use Rattle.std.proofs.Common.{[], subst, arith, refl}
+use Rattle.homa_plain.specs.Steps.{turn_step}
+use Rattle.host_view.specs.Done.{IsDone}
+use Rattle.driven_host.specs.Driven.{Driven}
+use Rattle.asking_host.proofs.Steps.{stepped}
+use Rattle.asking_host.proofs.asking.AskingHost.turn.Goals as goal
+
+pub invariant_of-self : goal.invariant_of-self
+invariant_of-self c =
+    let d = c.self.inside in
+    stepped d.host c.turn.new.self d.served d.served d.out c.turn.new.out d.id d.hosts d.steps
+    c.self.invariant (c.if-not-may_begin.ensures.0 refl).few c.turn.ensures.steady (omega arith) (c.turn.ensures.step []).sent
+
+pub returns-clause-step : goal.returns-clause-step
+returns-clause-step c =
+    subst (λ (d : Driven). IsDone d.host (turn_step d.host.settings d.host.host c.args.now) c.turn.new.self c.turn.new.out c.self.inside.scratch)
+    c.self.view_is (c.turn.ensures.step c.self.inside.scratch)

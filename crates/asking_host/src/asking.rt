@@ -1,0 +1,264 @@
+// A host whose requests its caller answers.
+ghost use Rattle.std.specs.Prelude.{List, ◌-◌, ◌≡◌, ◌≢◌, ◌<◌, ◌≤◌, ◌+◌, ◌↔◌, IsTrue, IsSome, Some, None, [], length, slice_get, IfOk, IfSome, IfNone};
+ghost use Rattle.std.specs.List.{AllByRecursion};
+ghost use Rattle.homa_plain.specs.Settings.{IsValid};
+ghost use Rattle.homa_plain.specs.Entries.{plain};
+ghost use Rattle.homa_plain.specs.Rules.{Answer};
+ghost use Rattle.homa_plain.specs.Steps.{start_fault, next_id, call_step, arrival_step, turn_step};
+ghost use Rattle.host_view.specs.Marks.{shown_entries, IsAllowed};
+ghost use Rattle.host_view.specs.Done.{arriving};
+ghost use Rattle.host_view.specs.Seen.{AreArmed};
+ghost use Rattle.homa_timers.specs.Armed.{Timer, NoneDue};
+ghost use Rattle.homa_host.specs.declared.asked.Asked.{Asked};
+ghost use Rattle.homa_host.specs.Asking.{HasAsked};
+ghost use Rattle.driven_host.specs.Driven.{IsStep, IsStill, IsOther};
+ghost use Rattle.asking_host.specs.declared.asking.Came.TheVariants.{Taken, Asks, NoMemory, Refused};
+ghost use Rattle.asking_host.specs.Asking.{opened, MayBegin, IsGiven};
+
+use crate::given::{Given, MOST_BYTES};
+use homa_host::{Asked, Host};
+use homa_plain::{CallId, Entry, HostId, Settings};
+use homa_timers::Timers;
+use host_view::Outbox;
+use msg_pool::Scratch;
+use place_books::first;
+use std::alloc::{AllocError, Global};
+use std::marker::Model;
+
+/// The last tick of a host's own clock.
+const LAST_TICK: u64 = 1_000_000_002_000;
+
+/// The most steps that a host is driven.
+const MOST_STEPS: u64 = 1 << 56;
+
+/// What came of a datagram.
+#[derive(Clone, Copy, Debug, PartialEq, Eq)]
+pub enum Came {
+    /// The host took its step.
+    Taken,
+    /// It makes the request of this call whole, and no answer is in hand. Nothing happened.
+    Asks(Asked),
+    /// It makes a request whole, and there is no memory for the answer. Nothing happened.
+    NoMemory,
+    /// No step may begin, there is no other host of this name, or the answer has over 1,000,000 bytes. Nothing happened.
+    Refused,
+}
+
+/// A host with all that a step of it is lent: room for its frames and for a whole message.
+#[derive(Drop)]
+pub struct AskingHost {
+    host: Host,
+    served: u64,
+    out: Outbox,
+    scratch: Scratch,
+    id: HostId,
+    // How many hosts there are.
+    hosts: u32,
+    // How many steps were begun.
+    steps: u64,
+}
+
+impl Model for AskingHost {
+    ghost use Rattle.driven_host.specs.Driven.{Driven};
+    ghost use Rattle.asking_host.specs.Asking.{IsKept};
+
+    ghost Value = { Driven };
+
+    ghost view = { λ d. record { host = d.host; served = d.served; steps = d.steps; out = d.out; whole = d.scratch } };
+
+    ghost invariant = { λ d. IsKept d.host d.served d.out d.id d.hosts d.steps };
+}
+
+impl AskingHost {
+    /// A host without calls, in this incarnation, whose own clock stood at `last` at its last step in an earlier life. Only
+    /// this takes memory that is kept, but for messages. It fails by want of memory alone.
+    pub fn open(
+        alloc: Global,
+        id: HostId,
+        inc: u32,
+        last: u64,
+        settings: &Settings,
+    ) -> Result<AskingHost, AllocError>
+        requires valid { IsValid settings.now }
+        requires id { id.0 < settings.now.hosts }
+        requires inc { 1 ≤ inc }
+        requires last { last ≤ 1000000002000 }
+        ensures { IfOk result (λ d. d ≡ opened settings.now id inc last) }
+    {
+        let out = Outbox::new(alloc)?;
+        let scratch = Scratch::new(alloc)?;
+        Ok(AskingHost {
+            host: Host::open_at(alloc, id, inc, last, settings)?,
+            served: 0,
+            out,
+            scratch,
+            id,
+            hosts: settings.hosts,
+            steps: 0,
+        })
+    }
+
+    /// Calls a service of another host, at tick `now` of the host's own clock. None where the call can't start, where there
+    /// is no other host of this name, and where no step may begin; the request is dropped then.
+    pub fn call(&mut self, server: HostId, number: u8, request: Vec<u8>, now: u64) -> Option<CallId>
+        ensures begins { MayBegin self.old.host self.old.steps now → IsOther self.old.host server
+            → start_fault self.old.host.settings self.old.host.host server request.items ≡ None → IsSome result }
+        ensures id { IfSome result (λ id. id ≡ next_id self.old.host.host) }
+        ensures step { IfSome result (λ _. IsStep (call_step self.old.host.settings self.old.host.host now server number request.items) self.old self.new) }
+        ensures served { self.new.served ≡ self.old.served }
+        ensures same { IfNone result (IsStill self.old self.new) }
+        ensures steps { self.new.steps ≤ self.old.steps + 1 }
+    {
+        if !is_other(self.id, self.hosts, server) || !may_begin(&self.host, self.steps, now) {
+            return None;
+        }
+        self.steps += 1;
+        let Ok(id) = self.host.call(server, number, request, now, &mut self.out) else {
+            return None;
+        };
+        Some(id)
+    }
+
+    /// A datagram comes from another host, at tick `now` of the host's own clock, with the answer to the request that it may
+    /// make whole: of 1 to 1,000,000 bytes, or empty where none is in hand yet. Where it asks, the call, the service and the
+    /// request, in `whole`, are those that the step begins to serve, whatever the answer will be.
+    pub fn deliver(
+        &mut self,
+        alloc: Global,
+        from: HostId,
+        frame: &[u8],
+        now: u64,
+        answer: &[u8],
+    ) -> Came
+        ensures begins { MayBegin self.old.host self.old.steps now → IsOther self.old.host from → length answer.now ≤ 1000000
+            → result ≢ Refused }
+        ensures step { result ≡ Taken → (a : Answer)
+            × IsStep (arrival_step self.old.host.settings self.old.host.host now (arriving self.old.host from frame.now) a) self.old self.new }
+        ensures given { result ≡ Taken
+            → AllByRecursion (IsAllowed self.new.host.host (IsGiven answer.now) self.new.whole) self.new.host.marks }
+        ensures asks { (e : Asked) → result ≡ Asks e → (a : Answer) → HasAsked e.id e.number self.new.whole
+            (arrival_step self.old.host.settings self.old.host.host now (arriving self.old.host from frame.now) a).told }
+        ensures unanswered { (e : Asked) → result ≡ Asks e → answer.now ≡ [] }
+        ensures answered { result ≡ NoMemory → answer.now ≢ [] }
+        ensures same { result ≢ Taken → IsStill self.old self.new }
+        ensures steps { self.new.steps ≤ self.old.steps + 1 }
+    {
+        if answer.len() > MOST_BYTES
+            || !is_other(self.id, self.hosts, from)
+            || !may_begin(&self.host, self.steps, now)
+        {
+            return Came::Refused;
+        }
+        self.steps += 1;
+        let mut given = Given {
+            answer,
+            served: self.served,
+        };
+        let came = self.host.deliver(
+            alloc,
+            from,
+            frame,
+            now,
+            &mut given,
+            &mut self.out,
+            &mut self.scratch,
+        );
+        self.served = given.served;
+        match came {
+            Ok(()) => Came::Taken,
+            Err(asked) if answer.is_empty() => Came::Asks(asked),
+            Err(_) => Came::NoMemory,
+        }
+    }
+
+    /// A turn at tick `now` of the host's own clock. None where no step may begin.
+    pub fn turn(&mut self, now: u64) -> Option<()>
+        ensures begins { MayBegin self.old.host self.old.steps now → IsSome result }
+        ensures step { IfSome result (λ _. IsStep (turn_step self.old.host.settings self.old.host.host now) self.old self.new) }
+        ensures served { self.new.served ≡ self.old.served }
+        ensures same { IfNone result (IsStill self.old self.new) }
+        ensures steps { self.new.steps ≤ self.old.steps + 1 }
+    {
+        if !may_begin(&self.host, self.steps, now) {
+            return None;
+        }
+        self.steps += 1;
+        self.host.turn(now, &mut self.out);
+        Some(())
+    }
+
+    /// The earliest tick at which a turn may do anything: the next one while bytes wait to be sent, else the first deadline
+    /// of a row. None while no row has one. The clauses speak of deadlines alone: no row is due before that tick, and where
+    /// there is none, no row has a deadline.
+    pub fn next_turn(&self) -> Option<u64>
+        ensures none { IfNone result ((book : List Timer) → AreArmed self.now.host book → book ≡ []) }
+        ensures quiet { IfSome result (λ at. (book : List Timer) → AreArmed self.now.host book → self.now.host.host.last + 1 < at
+            → NoneDue (at - 1) book) }
+    {
+        if self.host.pacer().heap().len() > 0 {
+            return Some(self.host.last().saturating_add(1));
+        }
+        first_deadline(self.host.timers())
+    }
+
+    /// The host.
+    pub fn host(&self) -> &Host
+        ensures { result.now ≡ self.now.host }
+    {
+        &self.host
+    }
+
+    /// The frames of its last step.
+    pub fn out(&self) -> &Outbox
+        ensures { result.now ≡ self.now.out }
+    {
+        &self.out
+    }
+
+    /// The message that became whole in its last step: the request that is asked about, the one that was answered, or the
+    /// response of a call that is done.
+    pub fn whole(&self) -> &[u8]
+        ensures { result.now ≡ self.now.whole }
+    {
+        self.scratch.bytes()
+    }
+
+    /// The entry of its last step with this number, counted from 0. A packet has its number within the step.
+    pub fn entry(&self, i: usize) -> Entry<'_>
+        requires i { i < length self.now.host.marks }
+        ensures { slice_get (shown_entries self.now.host self.now.out self.now.whole) i ≡ Some (plain result) }
+    {
+        self.host.entry(i, &self.out, &self.scratch)
+    }
+}
+
+// Whether there is another host of this name.
+fn is_other(id: HostId, hosts: u32, other: HostId) -> bool
+    ensures { IsTrue result ↔ ((other.0 < hosts) × (other ≢ id)) }
+{
+    u32::from(other.0) < hosts && other != id
+}
+
+// Whether a host that began so many steps may begin one at this tick of its own clock.
+fn may_begin(host: &Host, steps: u64, now: u64) -> bool
+    ensures { IsTrue result ↔ MayBegin host.now steps now }
+{
+    now <= LAST_TICK && host.last() <= now && steps < MOST_STEPS
+}
+
+// The earliest deadline. None where no timer is armed.
+fn first_deadline(timers: &Timers) -> Option<u64>
+    ensures none { IfNone result (timers.now.timers ≡ []) }
+    ensures quiet { IfSome result (λ at. 0 < at → NoneDue (at - 1) timers.now.timers) }
+{
+    match first(timers.heap()) {
+        None => None,
+        Some((_, key)) => {
+            let at = key.first;
+            if at == 0 || timers.due(at - 1).is_some() {
+                return Some(0);
+            }
+            Some(at)
+        }
+    }
+}

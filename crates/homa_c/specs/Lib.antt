@@ -1,0 +1,4 @@
+pub mod Followed
+pub mod Owned
+pub mod Shown
+pub mod Begun

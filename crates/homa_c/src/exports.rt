@@ -1,0 +1,223 @@
+// What C begins: a host, its steps, and its end.
+ghost use Rattle.std.specs.Prelude.{◌≡◌, ◌≢◌, ◌≤◌, ◌<◌, ◌+◌, ◌-◌, List, true, false, [], None, length};
+ghost use Rattle.std.specs.List.{AllByRecursion};
+ghost use Rattle.homa_plain.specs.Settings.{IsValid};
+ghost use Rattle.homa_plain.specs.Rules.{Answer};
+ghost use Rattle.homa_plain.specs.Steps.{start_fault, next_id};
+ghost use Rattle.host_view.specs.Marks.{IsAllowed};
+ghost use Rattle.host_view.specs.Seen.{AreArmed};
+ghost use Rattle.homa_timers.specs.Armed.{Timer, NoneDue};
+ghost use Rattle.homa_host.specs.declared.asked.Asked.{Asked};
+ghost use Rattle.homa_host.specs.Asking.{HasAsked};
+ghost use Rattle.driven_host.specs.Driven.{IsStep, IsStill, IsOther};
+ghost use Rattle.asking_host.specs.Asking.{opened, MayBegin, IsGiven};
+ghost use Rattle.homa_c.specs.Shown.{shown_call, shown_asked, given_settings};
+ghost use Rattle.homa_c.specs.Begun.{calling, receiving, turning};
+
+use crate::entries::{HomaAsked, HomaCall, asked_of, call_of};
+use crate::handle::Handle;
+use crate::handle::slot::Slot;
+use crate::results::{ASKS, NO_MEMORY, OK, REFUSED};
+use crate::settings::HomaSettings;
+use asking_host::{AskingHost, Came};
+use homa_plain::HostId;
+use std::alloc::Global;
+use std::mem::replace;
+
+/// The last tick of a host's own clock.
+const LAST_TICK: u64 = 1_000_000_002_000;
+
+/// The most bytes of a datagram of any net.
+const MOST_DATAGRAM: usize = 65_535;
+
+/// Opens a host without calls in a handle that is closed: in this incarnation, at least 1, with its own clock at `last`, at
+/// most 1,000,000,002,000, the tick of its last step in an earlier life. Refused where the handle is open, the settings
+/// aren't valid, or `id` isn't below `hosts`.
+#[unsafe(no_mangle)]
+pub extern "C" fn homa_open(
+    alloc: Global,
+    settings: &HomaSettings,
+    id: u16,
+    inc: u32,
+    last: u64,
+    host: &mut Handle,
+) -> u32
+    ensures opened { result ≡ 0 → host.new.slot.held ≡ opened (given_settings settings.now) (record { 0 = id }) inc last }
+    ensures is_open { result ≡ 0 → host.new.is_open ≡ true }
+    ensures was_open { host.old.is_open ≡ true → result ≡ 2 }
+    ensures begins { host.old.is_open ≡ false → IsValid (given_settings settings.now) → id < settings.now.hosts → 1 ≤ inc
+        → last ≤ 1000000002000 → result ≢ 2 }
+    ensures same { result ≢ 0 → host.new ≡ host.old }
+{
+    let settings = settings.get();
+    if host.is_open
+        || settings.check().is_err()
+        || u32::from(id) >= settings.hosts
+        || inc == 0
+        || last > LAST_TICK
+    {
+        return REFUSED;
+    }
+    let Ok(opened) = AskingHost::open(alloc, HostId(id), inc, last, &settings) else {
+        return NO_MEMORY;
+    };
+    match Box::new(alloc, opened) {
+        Ok(held) => {
+            *host = Handle {
+                slot: Slot::of(held),
+                is_open: true,
+            };
+            OK
+        }
+        Err(_) => NO_MEMORY,
+    }
+}
+
+/// Closes a host, and gives its memory back. Refused where the handle isn't open.
+#[unsafe(no_mangle)]
+pub extern "C" fn homa_close(alloc: Global, host: &mut Handle) -> u32
+    ensures closed { host.new.is_open ≡ false }
+    ensures was_closed { host.old.is_open ≡ false → result ≡ 2 }
+    ensures begins { host.old.is_open ≡ true → result ≡ 0 }
+    ensures or_refused { result ≢ 0 → result ≡ 2 }
+    ensures same { result ≢ 0 → host.new ≡ host.old }
+{
+    if !host.is_open {
+        return REFUSED;
+    }
+    let none = Handle {
+        slot: Slot::none(alloc),
+        is_open: false,
+    };
+    let Handle { slot, .. } = replace(host, none);
+    drop(slot.into_box());
+    OK
+}
+
+/// Calls service `number` of another host, at tick `now` of the host's own clock. Refused where the handle isn't open, no step
+/// may begin at that tick, there is no other host of this name, or the call can't start.
+#[unsafe(no_mangle)]
+pub extern "C" fn homa_call(
+    alloc: Global,
+    host: &mut Handle,
+    server: u16,
+    number: u8,
+    request: &[u8],
+    now: u64,
+    id: &mut HomaCall,
+) -> u32
+    ensures closed { host.old.is_open ≡ false → result ≡ 2 }
+    ensures begins { host.old.is_open ≡ true → MayBegin host.old.slot.held.host host.old.slot.held.steps now
+        → IsOther host.old.slot.held.host (record { 0 = server })
+        → start_fault host.old.slot.held.host.settings host.old.slot.held.host.host (record { 0 = server }) request.now ≡ None
+        → result ≢ 2 }
+    ensures id { result ≡ 0 → id.new ≡ shown_call (next_id host.old.slot.held.host.host) }
+    ensures step { result ≡ 0 → IsStep (calling host.old.slot.held now server number request.now) host.old.slot.held host.new.slot.held }
+    ensures same { result ≢ 0 → IsStill host.old.slot.held host.new.slot.held }
+    ensures unwritten { result ≢ 0 → id.new ≡ id.old }
+    ensures open { host.new.is_open ≡ host.old.is_open }
+{
+    if !host.is_open {
+        return REFUSED;
+    }
+    let held = host.slot.as_mut();
+    let Ok(request) = Vec::from_slice(alloc, request) else {
+        return NO_MEMORY;
+    };
+    match held.call(HostId(server), number, request, now) {
+        Some(call) => {
+            *id = call_of(call);
+            OK
+        }
+        None => REFUSED,
+    }
+}
+
+/// A datagram comes from another host, at tick `now` of the host's own clock, with the answer to the request that it may make
+/// whole, of 1 to 1,000,000 bytes, or with none, of no bytes. Where it asks, `asked` says which call asks which service, the
+/// request is what [`crate::shows::homa_whole`] gives, and the datagram is to come again with the answer. Refused where the
+/// handle isn't open, no step may begin at that tick, there is no other host of this name, the frame has over 65,535 bytes, or
+/// the answer over 1,000,000.
+#[unsafe(no_mangle)]
+pub extern "C" fn homa_deliver(
+    alloc: Global,
+    host: &mut Handle,
+    from: u16,
+    frame: &[u8],
+    now: u64,
+    answer: &[u8],
+    asked: &mut HomaAsked,
+) -> u32
+    ensures closed { host.old.is_open ≡ false → result ≡ 2 }
+    ensures long { 65535 < length frame.now → result ≡ 2 }
+    ensures begins { host.old.is_open ≡ true → MayBegin host.old.slot.held.host host.old.slot.held.steps now
+        → IsOther host.old.slot.held.host (record { 0 = from }) → length frame.now ≤ 65535 → length answer.now ≤ 1000000 → result ≢ 2 }
+    ensures step { result ≡ 0 → (a : Answer) × IsStep (receiving host.old.slot.held now from frame.now a) host.old.slot.held host.new.slot.held }
+    ensures given { result ≡ 0 → AllByRecursion (IsAllowed host.new.slot.held.host.host (IsGiven answer.now) host.new.slot.held.whole)
+        host.new.slot.held.host.marks }
+    ensures asks { result ≡ 1 → (e : Asked) × (asked.new ≡ shown_asked e)
+        × ((a : Answer) → HasAsked e.id e.number host.new.slot.held.whole (receiving host.old.slot.held now from frame.now a).told) }
+    ensures unanswered { result ≡ 1 → answer.now ≡ [] }
+    ensures answered { result ≡ 3 → answer.now ≢ [] }
+    ensures same { result ≢ 0 → IsStill host.old.slot.held host.new.slot.held }
+    ensures unwritten { result ≢ 1 → asked.new ≡ asked.old }
+    ensures open { host.new.is_open ≡ host.old.is_open }
+{
+    if !host.is_open || frame.len() > MOST_DATAGRAM {
+        return REFUSED;
+    }
+    let held = host.slot.as_mut();
+    match held.deliver(alloc, HostId(from), frame, now, answer) {
+        Came::Taken => OK,
+        Came::Asks(call) => {
+            *asked = asked_of(call);
+            ASKS
+        }
+        Came::NoMemory => NO_MEMORY,
+        Came::Refused => REFUSED,
+    }
+}
+
+/// A turn at tick `now` of the host's own clock. Refused where the handle isn't open, or no step may begin at that tick.
+#[unsafe(no_mangle)]
+pub extern "C" fn homa_turn(host: &mut Handle, now: u64) -> u32
+    ensures closed { host.old.is_open ≡ false → result ≡ 2 }
+    ensures begins { host.old.is_open ≡ true → MayBegin host.old.slot.held.host host.old.slot.held.steps now → result ≡ 0 }
+    ensures or_refused { result ≢ 0 → result ≡ 2 }
+    ensures step { result ≡ 0 → IsStep (turning host.old.slot.held now) host.old.slot.held host.new.slot.held }
+    ensures same { result ≢ 0 → IsStill host.old.slot.held host.new.slot.held }
+    ensures open { host.new.is_open ≡ host.old.is_open }
+{
+    if !host.is_open {
+        return REFUSED;
+    }
+    match host.slot.as_mut().turn(now) {
+        Some(()) => OK,
+        None => REFUSED,
+    }
+}
+
+/// The earliest tick at which a turn may do anything. Refused where the handle isn't open, or there is none. The clauses speak
+/// of deadlines alone, as those of [`AskingHost::next_turn`].
+#[unsafe(no_mangle)]
+pub extern "C" fn homa_next_turn(host: &mut Handle, at: &mut u64) -> u32
+    ensures closed { host.old.is_open ≡ false → result ≡ 2 }
+    ensures or_refused { result ≢ 0 → result ≡ 2 }
+    ensures none { host.old.is_open ≡ true → result ≢ 0 → (book : List Timer) → AreArmed host.old.slot.held.host book → book ≡ [] }
+    ensures quiet { result ≡ 0 → (book : List Timer) → AreArmed host.old.slot.held.host book
+        → host.old.slot.held.host.host.last + 1 < at.new → NoneDue (at.new - 1) book }
+    ensures same { host.new.slot.held ≡ host.old.slot.held }
+    ensures unwritten { result ≢ 0 → at.new ≡ at.old }
+    ensures open { host.new.is_open ≡ host.old.is_open }
+{
+    if !host.is_open {
+        return REFUSED;
+    }
+    match host.slot.as_mut().next_turn() {
+        Some(tick) => {
+            *at = tick;
+            OK
+        }
+        None => REFUSED,
+    }
+}

@@ -1,0 +1,150 @@
+// What C reads of a host's last step. Each call answers the same until the next step.
+ghost use Rattle.std.specs.Prelude.{◌≡◌, ◌≢◌, ◌≤◌, ◌<◌, IfSome, true, false, length, take, slice_get};
+ghost use Rattle.host_view.specs.Marks.{shown_entries};
+ghost use Rattle.homa_c.specs.Shown.{shown_entry};
+
+use crate::entries::{HomaEntry, entry_of};
+use crate::handle::Handle;
+use crate::results::{OK, REFUSED};
+
+/// A frame: who sent it, to whom, and how many bytes it has.
+#[repr(C)]
+#[derive(Drop)]
+pub struct HomaFrame {
+    pub from: u16,
+    pub to: u16,
+    pub len: usize,
+}
+
+/// How many frames the last step sent, at most 64. None where the handle isn't open.
+#[unsafe(no_mangle)]
+pub extern "C" fn homa_frames(host: &mut Handle) -> usize
+    ensures closed { host.old.is_open ≡ false → result ≡ 0 }
+    ensures count { host.old.is_open ≡ true → result ≡ length host.old.slot.held.out }
+    ensures few { result ≤ 64 }
+    ensures same { host.new.slot.held ≡ host.old.slot.held }
+    ensures open { host.new.is_open ≡ host.old.is_open }
+{
+    if !host.is_open {
+        return 0;
+    }
+    host.slot.as_mut().out().len()
+}
+
+/// The frame of the last step with this number, counted from 0. Its bytes go to the front of `room`. Refused where the handle
+/// isn't open, there is no such frame, or the room is too small.
+#[unsafe(no_mangle)]
+pub extern "C" fn homa_frame(
+    host: &mut Handle,
+    i: usize,
+    room: &mut [u8],
+    info: &mut HomaFrame,
+) -> u32
+    ensures closed { host.old.is_open ≡ false → result ≡ 2 }
+    ensures or_refused { result ≢ 0 → result ≡ 2 }
+    ensures within { result ≡ 0 → i < length host.old.slot.held.out }
+    ensures sent { result ≡ 0 → IfSome (slice_get host.old.slot.held.out i)
+        (λ f. (info.new.from ≡ f.from.0) × (info.new.to ≡ f.to.0) × (take info.new.len room.new ≡ f.frame)) }
+    ensures begins { host.old.is_open ≡ true → i < length host.old.slot.held.out
+        → IfSome (slice_get host.old.slot.held.out i) (λ f. length f.frame ≤ length room.old) → result ≡ 0 }
+    ensures same { host.new.slot.held ≡ host.old.slot.held }
+    ensures unwritten { result ≢ 0 → (room.new ≡ room.old) × (info.new ≡ info.old) }
+    ensures open { host.new.is_open ≡ host.old.is_open }
+{
+    if !host.is_open {
+        return REFUSED;
+    }
+    let sent = host.slot.as_mut().out();
+    if i >= sent.len() {
+        return REFUSED;
+    }
+    let bytes = sent.bytes(i);
+    if bytes.len() > room.len() {
+        return REFUSED;
+    }
+    *info = HomaFrame {
+        from: sent.sender(i).0,
+        to: sent.receiver(i).0,
+        len: bytes.len(),
+    };
+    room[..bytes.len()].copy_from_slice(bytes);
+    OK
+}
+
+/// How many entries the last step has, at most 128. None where the handle isn't open.
+#[unsafe(no_mangle)]
+pub extern "C" fn homa_entries(host: &mut Handle) -> usize
+    ensures closed { host.old.is_open ≡ false → result ≡ 0 }
+    ensures count { host.old.is_open ≡ true → result ≡ length host.old.slot.held.host.marks }
+    ensures few { result ≤ 128 }
+    ensures same { host.new.slot.held ≡ host.old.slot.held }
+    ensures open { host.new.is_open ≡ host.old.is_open }
+{
+    if !host.is_open {
+        return 0;
+    }
+    host.slot.as_mut().host().entries()
+}
+
+/// The entry of the last step with this number, counted from 0. Refused where the handle isn't open, or there is none.
+#[unsafe(no_mangle)]
+pub extern "C" fn homa_entry(host: &mut Handle, i: usize, info: &mut HomaEntry) -> u32
+    ensures closed { host.old.is_open ≡ false → result ≡ 2 }
+    ensures or_refused { result ≢ 0 → result ≡ 2 }
+    ensures within { result ≡ 0 → i < length host.old.slot.held.host.marks }
+    ensures told { result ≡ 0 → IfSome (slice_get (shown_entries host.old.slot.held.host host.old.slot.held.out host.old.slot.held.whole) i)
+        (λ e. info.new ≡ shown_entry e) }
+    ensures begins { host.old.is_open ≡ true → i < length host.old.slot.held.host.marks → result ≡ 0 }
+    ensures same { host.new.slot.held ≡ host.old.slot.held }
+    ensures unwritten { result ≢ 0 → info.new ≡ info.old }
+    ensures open { host.new.is_open ≡ host.old.is_open }
+{
+    if !host.is_open {
+        return REFUSED;
+    }
+    let held = host.slot.as_mut();
+    if i >= held.host().entries() {
+        return REFUSED;
+    }
+    *info = entry_of(&held.entry(i));
+    OK
+}
+
+/// How many bytes the message has that became whole in the last step, at most 1,000,000. None where the handle isn't open.
+#[unsafe(no_mangle)]
+pub extern "C" fn homa_whole_len(host: &mut Handle) -> usize
+    ensures closed { host.old.is_open ≡ false → result ≡ 0 }
+    ensures len { host.old.is_open ≡ true → result ≡ length host.old.slot.held.whole }
+    ensures same { host.new.slot.held ≡ host.old.slot.held }
+    ensures open { host.new.is_open ≡ host.old.is_open }
+{
+    if !host.is_open {
+        return 0;
+    }
+    host.slot.as_mut().whole().len()
+}
+
+/// The message that became whole in the last step: the request that is asked about or was answered, or the response of a call
+/// that is done. Its bytes go to the front of `room`. Refused where the handle isn't open, or the room is too small.
+#[unsafe(no_mangle)]
+pub extern "C" fn homa_whole(host: &mut Handle, room: &mut [u8], len: &mut usize) -> u32
+    ensures closed { host.old.is_open ≡ false → result ≡ 2 }
+    ensures or_refused { result ≢ 0 → result ≡ 2 }
+    ensures len { result ≡ 0 → len.new ≡ length host.old.slot.held.whole }
+    ensures bytes { result ≡ 0 → take len.new room.new ≡ host.old.slot.held.whole }
+    ensures begins { host.old.is_open ≡ true → length host.old.slot.held.whole ≤ length room.old → result ≡ 0 }
+    ensures same { host.new.slot.held ≡ host.old.slot.held }
+    ensures unwritten { result ≢ 0 → (room.new ≡ room.old) × (len.new ≡ len.old) }
+    ensures open { host.new.is_open ≡ host.old.is_open }
+{
+    if !host.is_open {
+        return REFUSED;
+    }
+    let bytes = host.slot.as_mut().whole();
+    if bytes.len() > room.len() {
+        return REFUSED;
+    }
+    room[..bytes.len()].copy_from_slice(bytes);
+    *len = bytes.len();
+    OK
+}
