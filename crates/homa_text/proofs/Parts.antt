@@ -29,7 +29,7 @@ turns_nil ys = refl
 pub turns_more : (high low out : List ℕ) (i : ℕ) → i < length high → length low ≡ length high → length out ≡ 2 * length high
     → take (2 * i) out ++ by_turns (drop i high) (drop i low) ≡ by_turns high low
     → take (2 * (i + 1)) (slice_set (slice_set out (2 * i) (slice_index high i)) (2 * i + 1) (slice_index low i)) ++ by_turns (drop (i + 1) high)
-        (drop (i + 1) low) ≡ by_turns high low
+    (drop (i + 1) low) ≡ by_turns high low
 turns_more high low out i within same fits so_far =
     let two : 2 * (i + 1) ≡ 2 * i + 2 = omega arith in
     let x = slice_index high i in
@@ -48,7 +48,7 @@ pub turns_all : (high low out : List ℕ) (i : ℕ) → length high ≤ i → le
 turns_all high low out i past fits so_far =
     sym (append-nil out)
     ∙ ((λ j. sym (take_all (2 * i) out (omega arith)) j ++ sym
-        (ap (λ (xs : List ℕ). by_turns xs (drop i low)) (drop_all i high past) ∙ turns_nil (drop i low)) j)
+    (ap (λ (xs : List ℕ). by_turns xs (drop i low)) (drop_all i high past) ∙ turns_nil (drop i low)) j)
     ∙ so_far)
 
 -- the digits of each byte by turns are those of the bytes

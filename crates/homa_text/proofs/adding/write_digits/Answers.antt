@@ -13,7 +13,7 @@ loop-done-preserved c =
     record {
       so_far =
           ap (λ (xs : List ℕ). xs ++ encode_lower (drop (done + 64) bytes))
-              (take-put_mid (2 * done) (2 * done + 128 - 2 * done) c.loop-done.out digits (2 * (done + 64)) (omega arith) (omega arith))
+          (take-put_mid (2 * done) (2 * done + 128 - 2 * done) c.loop-done.out digits (2 * (done + 64)) (omega arith) (omega arith))
           ∙ part_next bytes (take (2 * done) c.loop-done.out) digits done 64 (rw part_length at c.write_part.ensures) c.loop-done.invariant.so_far;
       within = omega arith;
     }

@@ -10,7 +10,7 @@ returns-in_err-flush-clause-err g c =
 pub returns-clause-ok : goal.returns-clause-ok
 returns-clause-ok g c =
     on_ok_weaker c.write_all.result (λ all. put_all _ _ _ _ _ _ c.in_ok-flush.ensures.ok all c.in_ok-flush.ensures.empty)
-        (rw c.write_digits.ensures at c.write_all.ensures.ok)
+    (rw c.write_digits.ensures at c.write_all.ensures.ok)
 
 pub returns-clause-err : goal.returns-clause-err
 returns-clause-err g c =
