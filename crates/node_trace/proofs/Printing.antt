@@ -12,7 +12,7 @@ use Rattle.node_runs.specs.Recorder.{Notes, no_notes}
 use Rattle.node_runs.specs.Observed.{observed, never, same_notes}
 use Rattle.node_runs.specs.Texts.{end_entry, last_text, printed, node_text}
 use Rattle.node_io.specs.declared.observer.SeenFault.TheVariants as seen
-use Rattle.node_acts.specs.Told.{AreFront, AreStrange}
+use Rattle.node_acts.specs.Told.{ListedFront, AreFront, AreStrange}
 use Rattle.node_acts.specs.declared.stop.NodeStop.{NodeStop}
 use Rattle.node_acts.specs.declared.stop.NodeStop.TheVariants as stop
 use Rattle.homa_node.specs.Served.{Outside, outside, IsServed, IsPart, IsAnswered, BeginsRun}
@@ -58,7 +58,7 @@ module _ (may_tell : List PlainEntry → Type 0) (bytes : List ℕ) (t0 t1 t2 : 
     lines_printed = told_observed prints same_notes never t0 t1 no_notes n1 (node_run bytes is.answers is.ticks is.gave).reports is.told_all
 
     from_is : IsGiven may_tell bytes (around t0 s0 g0 k0) (around t2 s1 g1 k1) is.answers is.ticks is.gave (node_run bytes is.answers is.ticks is.gave)
-    from_is = record { given = is.given; ticked = is.ticked; rises = is.rises; shows = is.shows; allowed = is.allowed }
+    from_is = record { given = is.given; received = is.received; ticked = is.ticked; rises = is.rises; shows = is.shows; allowed = is.allowed }
 
     -- the last line was printed behind them
     pub whole : (mid : Option (List ℕ)) → mid ≡ t1 → t2 ≡ appended mid (line_text (end_entry end))
@@ -93,7 +93,7 @@ module _ (may_tell : List PlainEntry → Type 0) (bytes : List ℕ) (t0 t1 t2 : 
         }
 
   module _ (left : Option (List ℕ)) (is : IsPart node_run prints same_notes never may_tell bytes left (outside t0 no_notes s0 g0 k0) (outside t1 n1 s1 g1 k1)
-      (AreFront prints same_notes never t0 no_notes t1)) where
+      (AreFront prints same_notes never t0 no_notes t1) (ListedFront s0 s1)) where
     front_of : (run : Run) → BeginsRun run is.reports is.sent → IsFrontOf may_tell run is.reports (around t0 s0 g0 k0) (around t1 s1 g1 k1)
     front_of run b = record {
       more = b.more;
@@ -118,6 +118,7 @@ module _ (may_tell : List PlainEntry → Type 0) (bytes : List ℕ) (t0 t1 t2 : 
       gave = is.gave;
       reports = is.reports;
       given = is.given;
+      received = is.received;
       ticked = is.ticked;
       rises = is.rises;
       shows = is.shows;
@@ -165,6 +166,7 @@ module _ (may_tell : List PlainEntry → Type 0) (bytes : List ℕ) (left : Opti
   pub answered_none : (answer : Result ℕ NodeStop) (broken : Broken) → Err broken ≡ end_told answer
       → IsAnswered node_run prints same_notes never may_tell bytes left old new answer
       → IsPart node_run prints same_notes never may_tell bytes left old new (AreFront prints same_notes never old.taken old.notes new.taken)
+      (ListedFront old.sent new.sent)
   answered_none (Ok n) broken e a = absurd cc
   answered_none (Err (stop.Script line fault)) broken e a = absurd cc
   answered_none (Err (stop.Start line fault)) broken e a = absurd cc
@@ -173,6 +175,6 @@ module _ (may_tell : List PlainEntry → Type 0) (bytes : List ℕ) (left : Opti
   answered_none (Err stop.Read) broken e a = a
   answered_none (Err stop.Net) broken e a = a
   answered_none (Err (stop.Seen (seen.Write failed))) broken e a = a
-  answered_none (Err (stop.Seen seen.Stranger)) broken e a = absurd (never_strange old.taken new.taken old.notes a.reports a.told_part)
+  answered_none (Err (stop.Seen seen.Stranger)) broken e a = absurd (never_strange old.taken new.taken old.notes a.part.reports a.part.told_part)
   answered_none (Err (stop.Seen seen.NoMemory)) broken e a = a
   answered_none (Err stop.NoMemory) broken e a = a
