@@ -1,5 +1,6 @@
 -- A node's run goes on, or ends.
-use Rattle.std.proofs.Common.{◌≡◌, ◌≤◌, ◌⊎◌, inl, inr, ℕ, Bool, true, false, Option, None, Some, List, [], ◌∷◌, ◌++◌, length, refl, sym, ap, ◌∙◌, subst, append_assoc}
+use Rattle.std.proofs.Common.{◌≡◌, ◌≤◌, ◌⊎◌, inl, inr, ℕ, Bool, true, false, Option, None, Some, List, [], ◌∷◌, ◌++◌, length}
+use Rattle.std.proofs.Common.{refl, sym, ap, ◌∙◌, subst, append_assoc}
 use mathlib.Core.Path.{fun_ext}
 use Rattle.std.specs.Prelude.{IfSome}
 use Rattle.std.proofs.lemmas.List.{append-nil}
@@ -204,8 +205,10 @@ module _ (whole : Whole) (told : Notes → Report → List ℕ) (kept : Notes �
             (λ more. fun_ext (λ later. fun_ext (λ on. fun_ext (λ next. e more later on next))));
       }
 
-      by_end : (new2 : Outside) (tell : List Report → Type 0) (take : List Datagram → Type 0) (r : List Report) (more_sent : List Datagram) (g : List (Option Arrival))
-          → tell (reports ++ r) → take (sent ++ more_sent) → length more_sent ≡ length (numbers_of r) → new2.gave ≡ listed new.gave g → AreReceived g → AreTicks least [] → after (entries r)
+      by_end : (new2 : Outside) (tell : List Report → Type 0) (take : List Datagram → Type 0) (r : List Report)
+          (more_sent : List Datagram) (g : List (Option Arrival))
+          → tell (reports ++ r) → take (sent ++ more_sent) → length more_sent ≡ length (numbers_of r)
+          → new2.gave ≡ listed new.gave g → AreReceived g → AreTicks least [] → after (entries r)
           → ((more : List ℕ) (later : List Answer) (on : List ℕ) (next : List (Option Arrival))
           → BeginsRun (rest more (shown (entries r) ++ later) on (g ++ next)) (reports ++ r) (sent ++ more_sent))
           → (t : Bool) → d.read.ended ≡ t → IsPart whole told kept strange may_tell bytes left old new2 tell take
@@ -257,8 +260,10 @@ module _ (whole : Whole) (told : Notes → Report → List ℕ) (kept : Notes �
         by_flag false e = inl (λ more later on next. begun more later on next (λ k. absurd cc))
 
       -- the hosts stopped
-      pub far_part : (new2 : Outside) (tell : List Report → Type 0) (take : List Datagram → Type 0) (r : List Report) (more_sent : List Datagram) (g : List (Option Arrival))
-          → tell (reports ++ r) → take (sent ++ more_sent) → length more_sent ≡ length (numbers_of r) → new2.gave ≡ listed new.gave g → AreReceived g → after (entries r)
+      pub far_part : (new2 : Outside) (tell : List Report → Type 0) (take : List Datagram → Type 0) (r : List Report)
+          (more_sent : List Datagram) (g : List (Option Arrival))
+          → tell (reports ++ r) → take (sent ++ more_sent) → length more_sent ≡ length (numbers_of r)
+          → new2.gave ≡ listed new.gave g → AreReceived g → after (entries r)
           → ((more : List ℕ) (later : List Answer) (on : List ℕ) (next : List (Option Arrival))
           → BeginsRun (rest more (shown (entries r) ++ later) on (g ++ next)) (reports ++ r) (sent ++ more_sent))
           → IsPart whole told kept strange may_tell bytes left old new2 tell take

@@ -65,7 +65,8 @@ module _ (told : Notes → Report → List ℕ) (kept : Notes → Report → Not
 
   -- a run of which nothing was told
   nothing_told : (left2 : Option (List ℕ)) (rest : Whole) → IsFar node_run told kept strange may_tell bytes left2 old old may_tell 0 [] [] rest
-      → IsPart node_run told kept strange may_tell bytes left2 old old (AreFront told kept strange old.taken old.notes old.taken) (ListedFront old.sent old.sent)
+      → IsPart node_run told kept strange may_tell bytes left2 old old (AreFront told kept strange old.taken old.notes old.taken)
+      (ListedFront old.sent old.sent)
   nothing_told left2 rest d =
       far_part node_run told kept strange may_tell bytes left2 old old may_tell 0 [] [] rest d old
       (AreFront told kept strange old.taken old.notes old.taken) (ListedFront old.sent old.sent) [] [] []
@@ -74,19 +75,23 @@ module _ (told : Notes → Report → List ℕ) (kept : Notes → Report → Not
 
   -- in the end, in other words
   pub part_as : (left2 : Option (List ℕ)) (new : Outside) → new ≡ old
-      → IsPart node_run told kept strange may_tell bytes left2 old old (AreFront told kept strange old.taken old.notes old.taken) (ListedFront old.sent old.sent)
-      → IsPart node_run told kept strange may_tell bytes left2 old new (AreFront told kept strange old.taken old.notes new.taken) (ListedFront old.sent new.sent)
+      → IsPart node_run told kept strange may_tell bytes left2 old old (AreFront told kept strange old.taken old.notes old.taken)
+      (ListedFront old.sent old.sent)
+      → IsPart node_run told kept strange may_tell bytes left2 old new (AreFront told kept strange old.taken old.notes new.taken)
+      (ListedFront old.sent new.sent)
   part_as left2 new same p = subst
       (λ o. IsPart node_run told kept strange may_tell bytes left2 old o (AreFront told kept strange old.taken old.notes o.taken) (ListedFront old.sent o.sent))
       (sym same) p
 
   -- nothing was done
-  pub open_none : IsPart node_run told kept strange may_tell bytes left old old (AreFront told kept strange old.taken old.notes old.taken) (ListedFront old.sent old.sent)
+  pub open_none : IsPart node_run told kept strange may_tell bytes left old old (AreFront told kept strange old.taken old.notes old.taken)
+      (ListedFront old.sent old.sent)
   open_none = nothing_told left node_run start
 
   -- reading stopped
   pub open_cut : (left2 : Option (List ℕ)) → ((rest : List ℕ) → left ≡ Some rest → IsCut rest left2)
-      → IsPart node_run told kept strange may_tell bytes left2 old old (AreFront told kept strange old.taken old.notes old.taken) (ListedFront old.sent old.sent)
+      → IsPart node_run told kept strange may_tell bytes left2 old old (AreFront told kept strange old.taken old.notes old.taken)
+      (ListedFront old.sent old.sent)
   open_cut left2 f =
       let d = far_stop node_run told kept strange may_tell bytes left old old may_tell 0 [] [] node_run start left2 f in
       nothing_told left2 (λ more. node_run (d.0 ++ more)) d.1
@@ -120,7 +125,8 @@ module _ (told : Notes → Report → List ℕ) (kept : Notes → Report → Not
     opened_run more later on next = run_of setup.settings (loop_turns setup 1 on (new_node setup (calls more) later next))
 
     -- nothing of it was told
-    pub open_untold : IsPart node_run told kept strange may_tell bytes left2 old old (AreFront told kept strange old.taken old.notes old.taken) (ListedFront old.sent old.sent)
+    pub open_untold : IsPart node_run told kept strange may_tell bytes left2 old old (AreFront told kept strange old.taken old.notes old.taken)
+        (ListedFront old.sent old.sent)
     open_untold = nothing_told left2 opened_run (opens left2 (λ more. Opened setup (calls more)) f)
 
     -- it begins with its settings
@@ -146,7 +152,8 @@ module _ (told : Notes → Report → List ℕ) (kept : Notes → Report → Not
         (sent : new.sent ≡ old.sent) (gave : new.gave ≡ old.gave) (ticks : new.ticks ≡ old.ticks) where
       -- they were told, and no more
       pub settings_told : may_tell (PlainSettings setup.settings ∷ [])
-          → IsPart node_run told kept strange may_tell bytes left2 old new (AreFront told kept strange old.taken old.notes new.taken) (ListedFront old.sent new.sent)
+          → IsPart node_run told kept strange may_tell bytes left2 old new (AreFront told kept strange old.taken old.notes new.taken)
+          (ListedFront old.sent new.sent)
       settings_told may =
           settings_part new (AreFront told kept strange old.taken old.notes new.taken)
           (front_more told kept strange old.taken new.taken new.taken old.notes new.notes (Tells (PlainSettings setup.settings) ∷ []) [] tells

@@ -8,11 +8,17 @@ use Rattle.homa_plain.specs.declared.event.Event.TheVariants as event
 use Rattle.homa_plain.specs.declared.settings.Settings.{Settings}
 use Rattle.homa_plain.specs.Script.{event_text}
 use Rattle.homa_plain.specs.Replay.{Happening}
-use Rattle.node_runs.specs.Course.{Report}
+use Rattle.homa_plain.specs.Entries.{PlainRecv}
+use Rattle.node_runs.specs.Course.{Report, Tells}
 use Rattle.node_runs.specs.Recorder.{Notes, Kind, Sent, Junk, Strange, stranger_text, told, kept, strange}
 use Rattle.node_io.specs.declared.observer.SeenFault.{SeenFault}
 use Rattle.node_io.specs.declared.observer.SeenFault.TheVariants.{Stranger}
-use Rattle.node_io.specs.Observer.{OnWrite, UnlessWrite, OnStranger}
+use Rattle.node_io.specs.Observer.{IsComing, OnWrite, UnlessWrite, OnStranger}
+
+-- only a datagram that comes is strange
+pub strange_comes : (n : Notes) (report : Report) → strange n report ≡ true → IsComing report
+strange_comes n (Tells (PlainRecv host from bytes)) e = tt
+strange_comes n report e = absurd cc
 
 -- the lines of events
 abbrev pub texts : List Happening → List ℕ

@@ -238,11 +238,11 @@ impl<K: Sink> Observer for Recorder<K> {
         }
     }
 
-    ghost use Rattle.std.specs.Prelude.{refl};
+    ghost use Rattle.homa_record.specs.Seen.{strange_comes};
 
     ghost same_self = { λ a. K.same_self (sink_of a) };
 
     ghost same_on = { λ a b c p q. K.same_on (sink_of a) (sink_of b) (sink_of c) p q };
 
-    ghost turnings_usual = { λ _ _. refl };
+    ghost strange_comes = { strange_comes };
 }

@@ -115,7 +115,8 @@ module _ (s : Settings) (id : HostId) where
       → (w : World) (b : List PlainEntry → Type 0) (tell : List Report → Type 0) (take : List Datagram → Type 0) (g0 g1 : Option (List (Option Arrival)))
       → ((later : List Answer) → IsBegun (λ v. arrival_outcome t v id (record { from = from; bytes = z })) (PlainRecv id from z ∷ []) t w later)
       → tell (Tells (PlainRecv id from y) ∷ []) → take []
-      → g1 ≡ added g0 (arrival_of g z) → IsReceived (record { from = from; bytes = z }) → b (PlainRecv id from z ∷ []) → IsCut (hears s id k) s w b tell take g0 g1
+      → g1 ≡ added g0 (arrival_of g z) → IsReceived (record { from = from; bytes = z }) → b (PlainRecv id from z ∷ [])
+      → IsCut (hears s id k) s w b tell take g0 g1
   recv_cut k n e t same from y z ey g is w b tell take g0 g1 begun tells sent given came none =
       subst (λ m. IsCut (hears s id m) s w b tell take g0 g1) (sym e)
       (cut_recv n (record { from = from; bytes = z }) w b tell take g0 g1

@@ -56,8 +56,7 @@ pub fn has_turn<H: Hosting, N: Net, O: Observer>(
 fn is_received(bytes: &[u8])
     requires { length bytes.now ≤ 1500 }
     ensures { (from : Host) → IsReceived (record { from = from; bytes = bytes.now }) }
-{
-}
+{}
 
 /// A host receives up to 64 datagrams, until there is none.
 pub fn hears<H: Hosting, N: Net, O: Observer>(

@@ -34,7 +34,8 @@ use Rattle.node_hosts.specs.Boxes.{Allows, counted, all_counted, may_tell}
 use Rattle.node_hosts.specs.Standing.{StandsFor, SeatFits, IsKept, Steps, told_of, may_tell_of}
 use Rattle.node_hosts.proofs.BoxLaws.{quiet_tell}
 use Rattle.node_hosts.proofs.ShownLaws.{none_shown}
-use Rattle.node_hosts.proofs.StepLaws.{found, of_some, if_some, host_there, clock_there, within, fits_there, seat_later, after, stands_after, sent_after, told_after, kept_after}
+use Rattle.node_hosts.proofs.StepLaws.{found, of_some, if_some, host_there, clock_there, within, fits_there, seat_later}
+use Rattle.node_hosts.proofs.StepLaws.{after, stands_after, sent_after, numbers_after, told_after, kept_after}
 
 -- a step of a host by its own settings and clock
 step_by : (s t : Settings) (m now : ℕ) (p : World) (id : HostId) (e : Event) (bytes : List ℕ) (step : Settings → ℕ → Work) → s ≡ t → m ≡ now → IsStepBy [] s p id e bytes [] (step s m) → IsStepBy [] s p id e bytes [] (step t now)
@@ -54,6 +55,7 @@ module _ {S : Type 0} (served : S → ℕ) (allows : Allows S) (n : NodeParts S)
             ap (λ given. outcome n.settings (answering (given ++ later) p) e bytes) (ap shown told ∙ none_shown (length p.packets) step.told quiet)
             ∙ event p stands later ∙ ap (λ t. Done (record { world = answering later (stepped_world p id step); told = t })) (sym told);
         sent = sent_after served n kept now id h step st at stepped p;
+        numbers = numbers_after served n kept now id h step st at stepped own.said;
         allowed = λ more may.
             subst (λ t. may_tell_of served allows n (t ++ more)) (sym told)
             (quiet_tell allows (map (counted served) (spares_of n.stage)) (all_counted served (seats_of n.stage)) (length p.packets) step.told more own.said quiet

@@ -35,7 +35,8 @@ use Rattle.node_hosts.specs.Boxes.{Allows}
 use Rattle.node_hosts.specs.Standing.{StandsFor, SeatFits, IsKept, IsLast, Steps, told_of, may_tell_of}
 use Rattle.node_hosts.proofs.ShownLaws.{one_shown, all_show}
 use Rattle.node_hosts.proofs.TellLaws.{tells}
-use Rattle.node_hosts.proofs.StepLaws.{found, of_some, if_some, host_there, clock_there, within, fits_there, seat_later, set_fits, after, stands_after, sent_after, told_after, kept_after}
+use Rattle.node_hosts.proofs.StepLaws.{found, of_some, if_some, host_there, clock_there, within, fits_there, seat_later, set_fits}
+use Rattle.node_hosts.proofs.StepLaws.{after, stands_after, sent_after, numbers_after, told_after, kept_after}
 
 -- ---- the plain world
 
@@ -160,6 +161,7 @@ module _ {S : Type 0} (served : S → ℕ) (allows : Allows S) (n : NodeParts S)
             ∙ one_shown (length p.packets) step.told come.answer (one.asked_once h.settings h.host now o come.answer) (all_show come.answer step.told (one.answer_told h.settings h.host now o come.answer)))
             ∙ event p stands later ∙ ap (λ t. Done (record { world = answering later (stepped_world p to step); told = PlainRecv to from bytes ∷ t })) (sym told);
         sent = sent_after served n kept now to h step st at come.stepped p;
+        numbers = numbers_after served n kept now to h step st at come.stepped own.said;
         allowed = λ more may.
             subst (λ t. may_tell_of served allows n (PlainRecv to from bytes ∷ (t ++ more))) (sym told)
             (tt, tells served allows n.stage now to h (fits_there served n kept to h at).name.name o st come (length p.packets) more may);

@@ -1,10 +1,10 @@
 -- The entries of a step may be told to any observer.
-use Rattle.std.proofs.Common.{ℕ, suc, Option, None, Some, List, [], ◌∷◌, arith}
-use Rattle.std.specs.Prelude.{map, slice_get}
+use Rattle.std.proofs.Common.{◌≡◌, refl, ap, ℕ, suc, Option, None, Some, List, [], ◌∷◌, arith}
+use Rattle.std.specs.Prelude.{map, slice_get, length}
 use Rattle.std.specs.List.{AllByRecursion}
 use Rattle.homa_plain.specs.declared.settings.Settings.{Settings}
 use Rattle.homa_plain.specs.declared.packet.Packet.{Packet as WirePacket}
-use Rattle.homa_plain.specs.Entries.{PlainEntry, PlainSend, PlainSettings, PlainClock}
+use Rattle.homa_plain.specs.Entries.{PlainEntry, PlainSend, PlainSettings, PlainClock, PlainRecv}
 use Rattle.homa_plain.specs.Packets.{Packet}
 use Rattle.homa_plain.specs.Host.{Told, Says, Sends, packets_in, entries_from}
 use Rattle.host_view.specs.declared.mark.Mark.{Mark}
@@ -14,12 +14,16 @@ use Rattle.host_view.specs.Frames.{IsFormed, read_line, line_of, packet_of}
 use Rattle.host_view.specs.Marks.{shown}
 use Rattle.host_view.specs.Seen.{Seen}
 use Rattle.node_io.specs.Observer.{IsSeen}
+use Rattle.node_runs.specs.Course.{Tells}
+use Rattle.node_acts.specs.Told.{numbers_of}
+use Rattle.node_acts.specs.Acting.{IsOwn}
 use Rattle.event_laws.specs.Named.{IsOfStep}
 
--- no settings, and no tick of the clock
+-- no settings, no tick of the clock, and not that a datagram comes
 abbrev pub IsOfHost : PlainEntry → Type 0
 IsOfHost (PlainSettings s) = ⊥
 IsOfHost (PlainClock tick) = ⊥
+IsOfHost (PlainRecv host from bytes) = ⊥
 IsOfHost entry = Unit {0}
 
 read_of : (n : ℕ) (f : SentFrame) (o : Option (WirePacket × List ℕ)) → IsOfHost (read_line n f o)
@@ -64,3 +68,22 @@ all_seen s m k (Says entry ∷ told) formed said of = (by_entry entry said.0 of.
   by_entry (PlainSettings s) said of = absurd of
   by_entry (PlainClock tick) said of = absurd of
   by_entry entry said of = tt
+
+-- none of them tells that a datagram comes
+pub all_own : (m k : ℕ) (told : List Told) → AllByRecursion IsOfHost (entries_from k told) → AllByRecursion IsOwn (entries_from m told)
+all_own m k [] of = tt
+all_own m k (Sends p ∷ told) of = (tt, all_own (suc m) (suc k) told of.1)
+all_own m k (Says entry ∷ told) of = (by_entry entry of.0, all_own m k told of.1) where
+  by_entry : (entry : PlainEntry) → IsOfHost entry → IsOwn entry
+  by_entry (PlainRecv host from bytes) of = of
+  by_entry entry of = tt
+
+-- they tell each packet once
+pub numbers_told : (k : ℕ) (told : List Told) → AllByRecursion IsOfStep told → length (packets_in told) ≡ length (numbers_of (map Tells (entries_from k told)))
+numbers_told k [] said = refl
+numbers_told k (Sends p ∷ told) said = ap suc (numbers_told (suc k) told said.1)
+numbers_told k (Says entry ∷ told) said = by_entry entry said.0 (numbers_told k told said.1) where
+  by_entry : (entry : PlainEntry) → IsOfStep (Says entry) → length (packets_in told) ≡ length (numbers_of (map Tells (entries_from k told)))
+      → length (packets_in told) ≡ length (numbers_of (Tells entry ∷ map Tells (entries_from k told)))
+  by_entry (PlainSend number from to inc role id level what payload) said rest = absurd said
+  by_entry entry said rest = rest

@@ -27,13 +27,14 @@ use Rattle.host_table.specs.Staged.{Known, known, known_of, hosts_of, seats_of, 
 use Rattle.host_table.specs.Left.{IsFew, HasLeft, entries_of}
 use Rattle.host_table.proofs.StageLaws.{map_at}
 use Rattle.host_table.proofs.EntryLaws.{at_index}
-use Rattle.node_runs.specs.Course.{datagrams}
-use Rattle.node_acts.specs.Acting.{frame_datagram}
+use Rattle.node_runs.specs.Course.{Tells, datagrams}
+use Rattle.node_acts.specs.Told.{numbers_of}
+use Rattle.node_acts.specs.Acting.{frame_datagram, IsOwn}
 use Rattle.node_hosts.specs.declared.parts.Last.{Last}
 use Rattle.node_hosts.specs.declared.parts.Last.TheVariants as last
 use Rattle.node_hosts.specs.declared.parts.NodeParts.{NodeParts}
 use Rattle.node_hosts.specs.Standing.{StandsFor, HostFits, SeatFits, IsKept, IsLast, told_of, told_by}
-use Rattle.node_hosts.proofs.SeenLaws.{IsOfHost, marks_of, all_seen}
+use Rattle.node_hosts.proofs.SeenLaws.{IsOfHost, marks_of, all_seen, all_own, numbers_told}
 
 -- what stands at a place of a list
 pub record IsAt (xs : List Seen) (i : ℕ) : Type 0 where
@@ -133,6 +134,13 @@ module _ {S : Type 0} (served : S → ℕ) where
 pub seen_at : {S : Type 0} (n : NodeParts S) (host : HostId) (base i : ℕ) (e x : PlainEntry) → IsLast n (last.Stepped host base) → slice_get (entries_of n.stage (slice_get (hosts_of n.stage) host.0)) i ≡ Some e → x ≡ numbered base e → IsSeen x
 seen_at n host base i e x is at same = subst IsSeen (sym same) (at_index IsSeen (told_by n (last.Stepped host base)) i (numbered base e) is.2 (map_at (numbered base) (entries_of n.stage (slice_get (hosts_of n.stage) host.0)) i e at))
 
+-- and it doesn't tell that a datagram comes
+pub own_at : {S : Type 0} (n : NodeParts S) (host : HostId) (base i : ℕ) (e x : PlainEntry) → IsLast n (last.Stepped host base)
+    → slice_get (entries_of n.stage (slice_get (hosts_of n.stage) host.0)) i ≡ Some e → x ≡ numbered base e → IsOwn x
+own_at n host base i e x is at same =
+    subst IsOwn (sym same) (at_index IsOwn (told_by n (last.Stepped host base)) i (numbered base e) is.3
+    (map_at (numbered base) (entries_of n.stage (slice_get (hosts_of n.stage) host.0)) i e at))
+
 -- ---- a step
 
 module _ {S : Type 0} (served : S → ℕ) (n : NodeParts S) (kept : IsKept served n)
@@ -191,6 +199,11 @@ module _ {S : Type 0} (served : S → ℕ) (n : NodeParts S) (kept : IsKept serv
   pub told_after : (p : World) → StandsFor n p → AllByRecursion IsOfStep step.told → told_of after ≡ entries_from (length p.packets) step.told
   told_after p stands said = entries_after said ∙ ap (λ m. entries_from m step.told) (sym stands.packets)
 
+  -- each frame's packet is told once
+  pub numbers_after : AllByRecursion IsOfStep step.told → length st.outbox ≡ length (numbers_of (map Tells (told_of after)))
+  numbers_after said =
+      sym frames ∙ numbers_told n.sent step.told said ∙ ap (λ es. length (numbers_of (map Tells es))) (sym (entries_after said))
+
   pub kept_after : IsOwnStep id step → IsApartStep id step → length st.outbox ≤ 64 → n.steps < 2 ^ 57 → now ≤ n.clock + n.settings.skew
       → ((i : ℕ) → i < n.settings.hosts → SeatFits served (n.steps + 1) (place_of (seats_of st) i)) → IsKept served after
   kept_after own apart few room clock seats = record {
@@ -203,10 +216,13 @@ module _ {S : Type 0} (served : S → ℕ) (n : NodeParts S) (kept : IsKept serv
     last = (
       omega (arith, kept.sent, room),
       subst (HasLeft st) (sym here_after) (stepped.done.sent, subst (AllByRecursion IsFew) (sym stepped.done.entries) (few_from 0 step.told own.said (omega (arith, frames, few)))),
-      subst (AllByRecursion IsSeen) (sym (entries_after own.said))
-          (all_seen h.settings n.sent 0 step.told stepped.done.formed own.said (subst (AllByRecursion IsOfHost) stepped.done.entries (marks_of stepped.after st.outbox st.scratch stepped.after.marks))),
+      subst (AllByRecursion IsSeen) (sym (entries_after own.said)) (all_seen h.settings n.sent 0 step.told stepped.done.formed own.said of_host),
+      subst (AllByRecursion IsOwn) (sym (entries_after own.said)) (all_own n.sent 0 step.told of_host),
     );
   } where
+    of_host : AllByRecursion IsOfHost (entries_from 0 step.told)
+    of_host = subst (AllByRecursion IsOfHost) stepped.done.entries (marks_of stepped.after st.outbox st.scratch stepped.after.marks)
+
     fits_after : HostFits n.settings (n.clock + n.settings.skew) (n.steps + 1) id (known stepped.after)
     fits_after = record {
       settings = stepped.same.settings ∙ fits.settings;

@@ -14,7 +14,7 @@ use Rattle.node_io.specs.Observer.{IsSeen}
 use Rattle.host_table.specs.declared.stage.Stage.{Stage}
 use Rattle.host_table.specs.Left.{entries_of, HasLeft}
 use Rattle.host_table.specs.Staged.{Known, hosts_of, frames_of, known_of, seats_of, spares_of}
-use Rattle.node_acts.specs.Acting.{IsStep}
+use Rattle.node_acts.specs.Acting.{IsStep, IsOwn}
 use Rattle.node_hosts.specs.declared.parts.Last.{Last}
 use Rattle.node_hosts.specs.declared.parts.Last.TheVariants as last
 use Rattle.node_hosts.specs.declared.parts.NodeParts.{NodeParts}
@@ -59,7 +59,9 @@ module _ {S : Type 0} where
   -- a step left its packets at its host, and there are numbers for them
   abbrev pub IsLast : NodeParts S → Last → Type 0
   IsLast n last.Nothing = Unit {0}
-  IsLast n (last.Stepped host base) = (base + 64 < 2 ^ 64) × HasLeft n.stage (slice_get (hosts_of n.stage) host.0) × AllByRecursion IsSeen (told_by n (last.Stepped host base))
+  IsLast n (last.Stepped host base) =
+      (base + 64 < 2 ^ 64) × HasLeft n.stage (slice_get (hosts_of n.stage) host.0) × AllByRecursion IsSeen (told_by n (last.Stepped host base))
+      × AllByRecursion IsOwn (told_by n (last.Stepped host base))
 
   -- a box stands there, which answered no more often than there were steps
   pub record SeatFits (served : S → ℕ) (steps : ℕ) (o : Option S) : Type 0 where

@@ -13,7 +13,7 @@ ghost use Rattle.event_laws.specs.Named.{numbered as plain_numbered};
 ghost use Rattle.host_table.specs.Left.{IsFew};
 ghost use Rattle.host_table.specs.Staged.{frames_of, seats_of, spares_of};
 ghost use Rattle.node_runs.specs.Course.{arrival_outcome};
-ghost use Rattle.node_acts.specs.Acting.{IsRefused};
+ghost use Rattle.node_acts.specs.Acting.{IsRefused, IsOwn};
 ghost use Rattle.homa_node.specs.Served.{IsFirstIn};
 ghost use Rattle.node_hosts.specs.declared.parts.Last.TheVariants as last;
 ghost use Rattle.node_hosts.specs.Standing.{IsKept, StandsFor, Steps, told_of};
@@ -208,6 +208,7 @@ impl<S: Service> NodeParts<S> {
         ensures entry { slice_get (told_of self.now) i ≡ Some (plain result) }
         ensures line { HasLine (plain result) }
         ensures seen { IsSeen (plain result) }
+        ensures own { IsOwn (plain result) }
     {
         match self.last {
             Last::Nothing => unreachable!(),

@@ -94,7 +94,8 @@ returns-in_err-from-clause-cut g c =
     (λ _ w h. cut_on s (hears s c.args.host 64) (hears s c.args.host (64 - i)) w (g.H.Hosting.stands l.hosts) _ (g.H.Hosting.allows l.hosts) _ _ _ _ _ _
     (g.N.Net.sent l.net) _ (g.N.Net.gave l.net) _ (l.invariant.acted w h)
     (λ v st. cut_before s c.args.host (64 - i) v _ _ _ _ _
-    (front_rest o.told o.kept o.strange _ _ []) (front_none _ _ c.in_err-from.ensures.sent) c.in_err-from.ensures.err_gave (g.met.H.Hosting.allows_none l.hosts))
+    (front_rest o.told o.kept o.strange _ _ []) (front_none _ _ c.in_err-from.ensures.sent) c.in_err-from.ensures.err_gave
+    (g.met.H.Hosting.allows_none l.hosts))
     (λ x y p q. front_more o.told o.kept o.strange _ (o.taken l.observer) _ _ (o.notes l.observer) x y p q)
     (λ x y p q. front_listed _ (g.N.Net.sent l.net) _ x y p q))
 
@@ -110,8 +111,8 @@ returns-in_err-seen-clause-cut g c =
     (λ _ w h. cut_on s (hears s c.args.host 64) (hears s c.args.host (64 - i)) w (g.H.Hosting.stands l.hosts) _ (g.H.Hosting.allows l.hosts) _ _ _ _ _ _
     (g.N.Net.sent l.net) _ (g.N.Net.gave l.net) _ (l.invariant.acted w h)
     (λ v st. recv_cut s c.args.host (64 - i) (64 - (i + 1)) next
-    (g.H.Hosting.settings l.hosts) l.invariant.settings c.in-Frame.from c.bytes-bytes.result.now c.recv.new.frame c.bytes-bytes.ensures.bytes c.in_ok-from.field-0
-    c.in-Frame.is
+    (g.H.Hosting.settings l.hosts) l.invariant.settings c.in-Frame.from c.bytes-bytes.result.now c.recv.new.frame c.bytes-bytes.ensures.bytes
+    c.in_ok-from.field-0 c.in-Frame.is
     v (g.H.Hosting.allows l.hosts) _ _ _ _
     (g.met.H.Hosting.comes l.hosts v st c.args.host (record { from = c.in-Frame.from; bytes = c.recv.new.frame })
     (subst (λ q. c.args.host.0 < q.hosts) (sym l.invariant.settings) c.requires.host))
@@ -136,8 +137,8 @@ returns-in_err-hear-clause-cut g c =
     (λ _ w h. cut_on s (hears s c.args.host 64) (hears s c.args.host (64 - i)) w (g.H.Hosting.stands l.hosts) _ (g.H.Hosting.allows l.hosts) _ _ _ _ _ _
     (g.N.Net.sent l.net) _ (g.N.Net.gave l.net) _ (l.invariant.acted w h)
     (λ v st. recv_cut s c.args.host (64 - i) (64 - (i + 1)) next
-    (g.H.Hosting.settings l.hosts) l.invariant.settings c.in-Frame.from c.bytes-bytes.result.now c.recv.new.frame c.bytes-bytes.ensures.bytes c.in_ok-from.field-0
-    c.in-Frame.is
+    (g.H.Hosting.settings l.hosts) l.invariant.settings c.in-Frame.from c.bytes-bytes.result.now c.recv.new.frame c.bytes-bytes.ensures.bytes
+    c.in_ok-from.field-0 c.in-Frame.is
     v (g.H.Hosting.allows l.hosts) _ _ _ _
     (g.met.H.Hosting.comes l.hosts v st c.args.host (record { from = c.in-Frame.from; bytes = c.recv.new.frame })
     (subst (λ q. c.args.host.0 < q.hosts) (sym l.invariant.settings) c.requires.host))
@@ -219,8 +220,8 @@ returns-in_err-seen-clause-strange g c =
     (λ k m w h. cut_on s (hears s c.args.host 64) (hears s c.args.host (64 - i)) w (g.H.Hosting.stands l.hosts) _ (g.H.Hosting.allows l.hosts) _ _ _ _ _ _
     (g.N.Net.sent l.net) _ (g.N.Net.gave l.net) _ (l.invariant.acted w h)
     (λ v st. recv_cut s c.args.host (64 - i) (64 - (i + 1)) next
-    (g.H.Hosting.settings l.hosts) l.invariant.settings c.in-Frame.from c.bytes-bytes.result.now c.recv.new.frame c.bytes-bytes.ensures.bytes c.in_ok-from.field-0
-    c.in-Frame.is
+    (g.H.Hosting.settings l.hosts) l.invariant.settings c.in-Frame.from c.bytes-bytes.result.now c.recv.new.frame c.bytes-bytes.ensures.bytes
+    c.in_ok-from.field-0 c.in-Frame.is
     v (g.H.Hosting.allows l.hosts) _ _ _ _
     (g.met.H.Hosting.comes l.hosts v st c.args.host (record { from = c.in-Frame.from; bytes = c.recv.new.frame })
     (subst (λ q. c.args.host.0 < q.hosts) (sym l.invariant.settings) c.requires.host))
