@@ -84,14 +84,14 @@ module _ {S T : Type 0} (f : S → T) (allows : Allows S) (fair : Allows T)
         → Tells seats spares (e ∷ told)
     by_entry (PlainRun host id service request response hold) m rest =
         let here = answer_fair (place_of seats host.0) service hold request response
-            (subst (λ o. MayAnswer fair o service request response hold) (place_fair seats host.0) m.0) in
+        (subst (λ o. MayAnswer fair o service request response hold) (place_fair seats host.0) m.0) in
         let later = rest (slice_set seats host.0 (option_map (λ b. (b.0, b.1 + 1)) (place_of seats host.0))) spares
-            (subst (λ xs. may_tell fair xs (map as_fair spares) told) (ran_fair seats host.0) m.1) in
+        (subst (λ xs. may_tell fair xs (map as_fair spares) told) (ran_fair seats host.0) m.1) in
         ((here.0, later.0), (here.1, later.1))
     by_entry (PlainRestart host inc) m rest =
         let later = rest (slice_set seats host.0 (last_of spares)) (front_of spares)
-            (subst (λ xs. may_tell fair xs (map as_fair (front_of spares)) told) (restarted_fair seats spares host.0)
-            (subst (λ ys. may_tell fair (slice_set (seats_fair seats) host.0 (last_of (map as_fair spares))) ys told) (front_fair spares) m.1)) in
+        (subst (λ xs. may_tell fair xs (map as_fair (front_of spares)) told) (restarted_fair seats spares host.0)
+        (subst (λ ys. may_tell fair (slice_set (seats_fair seats) host.0 (last_of (map as_fair spares))) ys told) (front_fair spares) m.1)) in
         ((tt, later.0), later.1)
     by_entry e m rest = let later = rest seats spares m.1 in ((tt, later.0), later.1)
 

@@ -1,5 +1,5 @@
 -- The recording of a node that was served.
-use Rattle.std.proofs.Common.{◌≡◌, ◌⊎◌, inl, inr, ℕ, Bool, true, false, Option, Some, Result, Ok, Err, List, [], ◌∷◌, ◌++◌, refl, sym, ap, ◌∙◌, subst, append_assoc}
+use Rattle.std.proofs.Common.{◌≡◌, ◌⊎◌, inl, inr, ℕ, Bool, true, false, Option, Some, Result, Ok, Err, List, [], ◌++◌, refl, sym, ap, ◌∙◌, subst, append_assoc}
 use Rattle.std.specs.Prelude.{if◌then◌else◌}
 use Rattle.std.specs.Option.{option_map}
 use Rattle.std.proofs.lemmas.List.{append-nil}
@@ -12,13 +12,13 @@ use Rattle.homa_plain.specs.declared.fault.LineFault.TheVariants.{Script as ByWo
 use Rattle.homa_plain.specs.declared.fault.WorldFault.TheVariants.{NoSuchHost, Start as CantStart}
 use Rattle.node_runs.specs.Course.{Report, Datagram, Arrival, End, Ended, RefusedAt, StalledAt, Run, node_run}
 use Rattle.node_runs.specs.Recorder.{Notes, no_notes, told, kept, strange}
-use Rattle.node_runs.specs.Observed.{Observed, observed}
+use Rattle.node_runs.specs.Observed.{Observed}
 use Rattle.node_runs.specs.Texts.{recorded, last_text, recorded_end, recording_text, end_status, node_status, recording_status, recorded_sent}
 use Rattle.node_io.specs.declared.observer.SeenFault.TheVariants as seen
 use Rattle.node_acts.specs.Told.{listed, Listed, ListedFront, AreFront, AreStrange}
 use Rattle.node_acts.specs.declared.stop.NodeStop.{NodeStop}
 use Rattle.node_acts.specs.declared.stop.NodeStop.TheVariants as stop
-use Rattle.homa_node.specs.Served.{Outside, outside, IsServed, IsPart, IsAnswered, BeginsRun}
+use Rattle.homa_node.specs.Served.{outside, IsServed, IsPart, IsAnswered, BeginsRun}
 use Rattle.homa_node.proofs.Observing.{observed_whole, told_observed, strange_observed, front_observed}
 use Rattle.node_trace.specs.Traces.{around, IsGiven}
 use Rattle.node_record.specs.declared.end.Recorded.{Recorded}

@@ -76,7 +76,8 @@ pub fn print_recording<B: Drop, H: OpensIn<B> + Drop, S: Source, K: Sink, N: Net
         Ok(recorder) => recorder,
         Err(_) => return Recorded::NoMemory,
     };
-    let (end, _sink) =
-        record_to::<B, H, S, &mut K, N, C>(alloc, source, recorder, net, clock, boxes);
+    let (end, _sink) = record_to::<B, H, S, &mut K, N, C>(
+        alloc, source, recorder, net, clock, boxes,
+    );
     end
 }
