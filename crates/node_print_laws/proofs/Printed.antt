@@ -1,5 +1,5 @@
 -- What a node printed are lines that obey all laws.
-use Rattle.std.proofs.Common.{◌≡◌, ◌⊎◌, inl, inr, ℕ, Bool, true, false, Option, List, [], ◌∷◌, ◌++◌, refl, sym, ap, ◌∙◌, subst}
+use Rattle.std.proofs.Common.{◌≡◌, ◌⊎◌, inl, inr, ℕ, true, false, Option, List, [], ◌++◌, refl, sym, ap, ◌∙◌, subst}
 use Rattle.std.specs.List.{AllByRecursion}
 use Rattle.std.proofs.lemmas.List.{append-nil}
 use Rattle.homa_io.specs.Outside.{TookFront}
@@ -8,7 +8,7 @@ use Rattle.homa_plain.specs.Rules.{Answer}
 use Rattle.homa_plain.specs.Answers.{shown}
 use Rattle.homa_plain.specs.Script.{most_bytes}
 use Rattle.node_runs.specs.Script.{Setup, Calls, Opening, Opened, Unopened, opening}
-use Rattle.node_runs.specs.Course.{Arrival, End, Run, node_run}
+use Rattle.node_runs.specs.Course.{Arrival, End, node_run}
 use Rattle.node_runs.specs.Replayed.{IsAnswer}
 use Rattle.node_runs.specs.Texts.{entries, node_text}
 use Rattle.node_trace.specs.Traces.{Around, IsWhole, IsBrokenOff, IsEndCut, IsFrontOf}

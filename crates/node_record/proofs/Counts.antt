@@ -1,5 +1,5 @@
 -- The counts of faults behind a recording.
-use Rattle.std.proofs.Common.{◌≡◌, ◌⊎◌, inl, inr, ℕ, Option, Result, Ok, Err, List, refl, sym, ap, ◌∙◌, subst}
+use Rattle.std.proofs.Common.{◌≡◌, ◌⊎◌, inl, inr, ℕ, Option, Result, Ok, Err, List, sym, ap, ◌∙◌, subst}
 use Rattle.homa_io.specs.Outside.{HasRisen}
 use Rattle.node_io.specs.declared.observer.SeenFault.TheVariants as seen
 use Rattle.node_acts.specs.Faults.{Counts, counts, AreFaults}

@@ -1,5 +1,5 @@
 -- The recording of a node that was served.
-use Rattle.std.proofs.Common.{◌≡◌, ◌⊎◌, inl, inr, ℕ, Bool, true, false, Option, Some, Result, Ok, Err, List, [], ◌∷◌, ◌++◌, refl, sym, ap, ◌∙◌, subst, append_assoc}
+use Rattle.std.proofs.Common.{◌≡◌, ◌⊎◌, inl, inr, ℕ, Bool, true, false, Option, Some, Result, Ok, Err, List, [], ◌++◌, refl, sym, ap, ◌∙◌, subst, append_assoc}
 use Rattle.std.specs.Prelude.{if◌then◌else◌}
 use Rattle.std.specs.Option.{option_map}
 use Rattle.std.proofs.lemmas.List.{append-nil}
@@ -12,13 +12,13 @@ use Rattle.homa_plain.specs.declared.fault.LineFault.TheVariants.{Script as ByWo
 use Rattle.homa_plain.specs.declared.fault.WorldFault.TheVariants.{NoSuchHost, Start as CantStart}
 use Rattle.node_runs.specs.Course.{Report, Datagram, Arrival, End, Ended, RefusedAt, StalledAt, Run, node_run}
 use Rattle.node_runs.specs.Recorder.{Notes, no_notes, told, kept, strange}
-use Rattle.node_runs.specs.Observed.{Observed, observed}
+use Rattle.node_runs.specs.Observed.{Observed}
 use Rattle.node_runs.specs.Texts.{recorded, last_text, recorded_end, recording_text, end_status, node_status, recording_status, recorded_sent}
 use Rattle.node_io.specs.declared.observer.SeenFault.TheVariants as seen
-use Rattle.node_acts.specs.Told.{listed, AreFront, AreStrange}
+use Rattle.node_acts.specs.Told.{listed, Listed, ListedFront, AreFront, AreStrange}
 use Rattle.node_acts.specs.declared.stop.NodeStop.{NodeStop}
 use Rattle.node_acts.specs.declared.stop.NodeStop.TheVariants as stop
-use Rattle.homa_node.specs.Served.{Outside, outside, IsServed, IsPart, IsAnswered, BeginsRun}
+use Rattle.homa_node.specs.Served.{outside, IsServed, IsPart, IsAnswered, BeginsRun}
 use Rattle.homa_node.proofs.Observing.{observed_whole, told_observed, strange_observed, front_observed}
 use Rattle.node_trace.specs.Traces.{around, IsGiven}
 use Rattle.node_record.specs.declared.end.Recorded.{Recorded}
@@ -65,7 +65,7 @@ module _ (may_tell : List PlainEntry → Type 0) (bytes : List ℕ) (t0 t1 t2 : 
     lines_printed = told_observed told kept strange t0 t1 no_notes n1 run.reports is.told_all
 
     from_is : IsGiven may_tell bytes (around t0 s0 g0 k0) (around t2 s1 g1 k1) is.answers is.ticks is.gave run
-    from_is = record { given = is.given; ticked = is.ticked; rises = is.rises; shows = is.shows; allowed = is.allowed }
+    from_is = record { given = is.given; received = is.received; ticked = is.ticked; rises = is.rises; shows = is.shows; allowed = is.allowed }
 
     -- the last line was printed behind it
     whole : t2 ≡ appended t1 (recorded_end end) → IsWhole may_tell bytes (around t0 s0 g0 k0) (around t2 s1 g1 k1) (end_status end)
@@ -95,7 +95,7 @@ module _ (may_tell : List PlainEntry → Type 0) (bytes : List ℕ) (t0 t1 t2 : 
   -- ---- a run that was broken off
 
   module _ (left : Option (List ℕ)) (is : IsPart node_run told kept strange may_tell bytes left (outside t0 no_notes s0 g0 k0) (outside t1 n1 s1 g1 k1)
-      (AreFront told kept strange t0 no_notes t1)) where
+      (AreFront told kept strange t0 no_notes t1) (ListedFront s0 s1)) where
     text_begun : (run : Run) (more : List Report) → run.reports ≡ is.reports ++ more → TookFront t0 t1 (recording_text run)
     text_begun run more e =
         let rest = text_more run in
@@ -127,6 +127,7 @@ module _ (may_tell : List PlainEntry → Type 0) (bytes : List ℕ) (t0 t1 t2 : 
       gave = is.gave;
       reports = is.reports;
       given = is.given;
+      received = is.received;
       ticked = is.ticked;
       rises = is.rises;
       shows = is.shows;
@@ -145,7 +146,7 @@ module _ (may_tell : List PlainEntry → Type 0) (bytes : List ℕ) (t0 t1 t2 : 
   -- ---- a datagram was strange
 
   module _ (left : Option (List ℕ)) (is : IsPart node_run told kept strange may_tell bytes left (outside t0 no_notes s0 g0 k0) (outside t1 n1 s1 g1 k1)
-      (AreStrange told kept strange t0 no_notes t1)) where
+      (AreStrange told kept strange t0 no_notes t1) (Listed s0 s1)) where
     -- the run of all bytes and of what was given begins with what was come to
     begins_all : BeginsRun (node_run bytes is.answers is.ticks is.gave) is.reports is.sent
     begins_all = by_front is.front where
@@ -184,6 +185,7 @@ module _ (may_tell : List PlainEntry → Type 0) (bytes : List ℕ) (t0 t1 t2 : 
               ∙ sym (text_by run true cut)));
           took = took;
           given = is.given;
+          received = is.received;
           ticked = is.ticked;
           rises = is.rises;
           shows = is.shows;
@@ -214,7 +216,7 @@ module _ (may_tell : List PlainEntry → Type 0) (bytes : List ℕ) (t0 t1 t2 : 
     by_answer (Err (stop.Start line fault)) result a p = by_put (RefusedAt line (ByWorld (CantStart fault))) result status.Refused (λ w. w) a p
     by_answer (Err (stop.Host line)) result a p = by_put (RefusedAt line (ByWorld NoSuchHost)) result status.Refused (λ w. w) a p
     by_answer (Err (stop.Stalled turns now)) result a p = by_put (StalledAt turns now) result status.Stalled (λ w. w) a p
-    by_answer (Err (stop.Seen seen.Stranger)) result a p = subst Leaves (sym p.2) (cut_short left a p.0 ?)
+    by_answer (Err (stop.Seen seen.Stranger)) result a p = subst Leaves (sym p.2) (cut_short left a.part p.0 (a.took (node_run bytes a.part.answers a.part.ticks a.part.gave) (begins_all left a.part)))
     by_answer (Err (stop.Seen (seen.Write failed))) result a p = subst Leaves (sym p.2) (inl (cut left a p.0))
     by_answer (Err (stop.Seen seen.NoMemory)) result a p = subst Leaves (sym p.2) (inl (cut left a p.0))
     by_answer (Err stop.Read) result a p = subst Leaves (sym p.2) (inl (cut left a p.0))

@@ -4,7 +4,7 @@ use Rattle.homa_io.specs.Outside.{appended, TookFront}
 use Rattle.homa_plain.specs.Entries.{PlainEntry}
 use Rattle.homa_plain.specs.Rules.{Answer}
 use Rattle.homa_plain.specs.Answers.{shown}
-use Rattle.node_runs.specs.Course.{Report, Arrival, AreTicks, End, Run, node_run}
+use Rattle.node_runs.specs.Course.{Report, Arrival, AreReceived, AreTicks, End, Run, node_run}
 use Rattle.node_runs.specs.Texts.{entries, recording_text, recording_status, recorded_sent}
 use Rattle.node_acts.specs.Told.{listed, ListedFront}
 use Rattle.homa_node.specs.Served.{AreGiven}
@@ -36,6 +36,7 @@ module _ (may_tell : List PlainEntry → Type 0) where
     pub text : new.taken ≡ appended old.taken (recording_text (node_run bytes answers ticks gave))
     pub took : new.sent ≡ listed old.sent (recorded_sent (node_run bytes answers ticks gave))
     pub given : new.gave ≡ listed old.gave gave
+    pub received : AreReceived gave
     pub ticked : AreGiven old.ticks ticks
     pub rises : AreTicks 0 ticks
     pub shows : shown (entries reports) ≡ answers
@@ -71,6 +72,7 @@ module _ (may_tell : List PlainEntry → Type 0) where
     pub gave : List (Option Arrival)
     pub reports : List Report
     pub given : new.gave ≡ listed old.gave gave
+    pub received : AreReceived gave
     pub ticked : AreGiven old.ticks ticks
     pub rises : AreTicks 0 ticks
     pub shows : shown (entries reports) ≡ answers

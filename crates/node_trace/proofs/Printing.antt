@@ -58,7 +58,7 @@ module _ (may_tell : List PlainEntry → Type 0) (bytes : List ℕ) (t0 t1 t2 : 
     lines_printed = told_observed prints same_notes never t0 t1 no_notes n1 (node_run bytes is.answers is.ticks is.gave).reports is.told_all
 
     from_is : IsGiven may_tell bytes (around t0 s0 g0 k0) (around t2 s1 g1 k1) is.answers is.ticks is.gave (node_run bytes is.answers is.ticks is.gave)
-    from_is = record { given = is.given; ticked = is.ticked; rises = is.rises; shows = is.shows; allowed = is.allowed }
+    from_is = record { given = is.given; received = is.received; ticked = is.ticked; rises = is.rises; shows = is.shows; allowed = is.allowed }
 
     -- the last line was printed behind them
     pub whole : (mid : Option (List ℕ)) → mid ≡ t1 → t2 ≡ appended mid (line_text (end_entry end))
@@ -118,6 +118,7 @@ module _ (may_tell : List PlainEntry → Type 0) (bytes : List ℕ) (t0 t1 t2 : 
       gave = is.gave;
       reports = is.reports;
       given = is.given;
+      received = is.received;
       ticked = is.ticked;
       rises = is.rises;
       shows = is.shows;

@@ -4,7 +4,7 @@ use Rattle.homa_io.specs.Outside.{appended, TookFront}
 use Rattle.homa_plain.specs.Answers.{shown}
 use Rattle.homa_plain.specs.Entries.{PlainEntry}
 use Rattle.homa_plain.specs.Rules.{Answer}
-use Rattle.node_runs.specs.Course.{Report, Datagram, Arrival, AreTicks, End, Run, node_run}
+use Rattle.node_runs.specs.Course.{Report, Datagram, Arrival, AreReceived, AreTicks, End, Run, node_run}
 use Rattle.node_runs.specs.Texts.{entries, node_text}
 use Rattle.node_acts.specs.Told.{listed, ListedFront}
 use Rattle.homa_node.specs.Served.{AreGiven}
@@ -31,8 +31,10 @@ IsReadOut (Stalled turns now) left = Unit {0}
 
 module _ (may_tell : List PlainEntry → Type 0) where
   -- What a run was given: answers that its `run` lines show, which the boxes allow, and the ticks and receives that were given, where that is told.
+  -- What was received are bytes, at most 1,500 at once.
   pub record IsGiven (bytes : List ℕ) (old new : Around) (answers : List Answer) (ticks : List ℕ) (gave : List (Option Arrival)) (run : Run) : Type 0 where
     pub given : new.gave ≡ listed old.gave gave
+    pub received : AreReceived gave
     pub ticked : AreGiven old.ticks ticks
     pub rises : AreTicks 0 ticks
     pub shows : shown (entries run.reports) ≡ answers
@@ -78,6 +80,7 @@ module _ (may_tell : List PlainEntry → Type 0) where
     pub gave : List (Option Arrival)
     pub reports : List Report
     pub given : new.gave ≡ listed old.gave gave
+    pub received : AreReceived gave
     pub ticked : AreGiven old.ticks ticks
     pub rises : AreTicks 0 ticks
     pub shows : shown (entries reports) ≡ answers

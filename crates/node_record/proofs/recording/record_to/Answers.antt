@@ -1,4 +1,4 @@
-use Rattle.std.proofs.Common.{ℕ, List, Option, ap, subst}
+use Rattle.std.proofs.Common.{ap, subst}
 use Rattle.node_runs.specs.Course.{node_run}
 use Rattle.node_runs.specs.Recorder.{Notes, told, kept, strange}
 use Rattle.homa_record.specs.Printing.{sink_of, notes_of}
