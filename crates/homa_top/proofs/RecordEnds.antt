@@ -1,12 +1,11 @@
 -- What a recording printed and which count of faults rose, by the status.
-use Rattle.std.proofs.Common.{◌≡◌, ◌≢◌, ◌⊎◌, inl, inr, ℕ, Bool, false, true, Option, None, Some, List, [], refl, sym, ap, subst}
+use Rattle.std.proofs.Common.{◌≡◌, ◌≢◌, ◌⊎◌, inl, inr, ℕ, Bool, false, true, Option, None, Some, List, refl}
 use Rattle.std.specs.Prelude.{if◌then◌else◌}
 use Rattle.std.specs.Option.{option_map}
 use Rattle.homa_plain.specs.Entries.{PlainEntry}
 use Rattle.homa_plain.specs.declared.fault.LineFault.{LineFault}
-use Rattle.node_runs.specs.Course.{End, Ended, RefusedAt, StalledAt, Run}
-use Rattle.node_runs.specs.Recorder.{no_notes}
-use Rattle.node_runs.specs.Texts.{recorded, end_status, recording_status}
+use Rattle.node_runs.specs.Course.{End, Ended, RefusedAt, StalledAt}
+use Rattle.node_runs.specs.Texts.{end_status}
 use Rattle.node_acts.specs.Faults.{Counts}
 use Rattle.node_trace.specs.Traces.{Around}
 use Rattle.node_record.specs.declared.end.Recorded.{Recorded}
