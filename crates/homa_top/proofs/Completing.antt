@@ -8,7 +8,7 @@ use Rattle.homa_top.specs.Commands.{HasRun, IsNeverRefused}
 
 pub completed : (may_tell : List PlainEntry → Type 0) (bytes : List ℕ) (left : Option (List ℕ)) (old new : Around) (status : ExitStatus)
     → HasRun may_tell bytes left old new status → IsNeverRefused may_tell bytes old.ticks → status ≢ NoCommand → status ≢ ReadFailed → status ≢ WriteFailed
-        → status ≢ NetFailed
+    → status ≢ NetFailed
     → (status ≡ Done) ⊎ (status ≡ Stalled) ⊎ (status ≡ NoMemory)
 completed may_tell bytes left old new Done run never command read write net = inl refl
 completed may_tell bytes left old new NoCommand run never command read write net = absurd (command refl)

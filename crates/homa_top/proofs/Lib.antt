@@ -1,5 +1,5 @@
 mod Lawful
 mod Numbered
 mod Completing
-pub mod Stalls
+mod NodeEnds
 pub mod Exits

@@ -1,7 +1,11 @@
 -- How the program ends.
-use Rattle.std.specs.Prelude.{ℕ, Bool, true, false}
+use Rattle.std.specs.Prelude.{ℕ, Bool, true, false, Result, Ok, Err}
 use Rattle.homa_replay.specs.declared.stop.Stop.{Stop}
 use Rattle.homa_replay.specs.declared.stop.Stop.TheVariants as stop
+use Rattle.node_trace.specs.declared.end.NodeEnd.{NodeEnd}
+use Rattle.node_trace.specs.declared.end.NodeEnd.TheVariants as end
+use Rattle.node_trace.specs.declared.end.Broken.{Broken}
+use Rattle.node_trace.specs.declared.end.Broken.TheVariants as broken
 use Rattle.homa_top.specs.declared.exit.ExitStatus.{ExitStatus}
 use Rattle.homa_top.specs.declared.exit.ExitStatus.TheVariants.{Done, NoCommand, Refused, ReadFailed, WriteFailed, NoMemory, NetFailed, Stalled}
 
@@ -43,3 +47,13 @@ abbrev pub status_of : Stop → ExitStatus
 status_of stop.Read = ReadFailed
 status_of stop.Write = WriteFailed
 status_of stop.NoMemory = NoMemory
+
+-- the status of a node's run that came to this end, or was broken off
+abbrev pub status_of_node : Result NodeEnd Broken → ExitStatus
+status_of_node (Ok (end.Ended turns)) = Done
+status_of_node (Ok (end.Refused line fault)) = Refused
+status_of_node (Ok (end.Stalled turns now)) = Stalled
+status_of_node (Err broken.Read) = ReadFailed
+status_of_node (Err broken.Write) = WriteFailed
+status_of_node (Err broken.Net) = NetFailed
+status_of_node (Err broken.NoMemory) = NoMemory

@@ -9,7 +9,7 @@ ghost use Rattle.homa_world.specs.First.{AreReady, AreAllowed};
 ghost use Rattle.node_hosts.specs.First as nodes;
 ghost use Rattle.homa_top.specs.Words.{usage_line};
 ghost use Rattle.homa_top.specs.Commands.{HasMade, HasCounted, HasJudged, HasRun};
-ghost use Rattle.homa_top.specs.Exits.{status_of};
+ghost use Rattle.homa_top.specs.Exits.{status_of, status_of_node};
 ghost use Rattle.homa_top.specs.declared.exit.ExitStatus.TheVariants as status;
 
 use crate::exit::ExitStatus;
@@ -144,6 +144,21 @@ pub(crate) fn put_judgement<S: Source, K: Sink>(
     }
 }
 
+// The status of a node's run.
+fn status_of_node(answer: Result<NodeEnd, Broken>) -> ExitStatus
+    ensures { result ≡ status_of_node answer }
+{
+    match answer {
+        Ok(NodeEnd::Ended { .. }) => ExitStatus::Done,
+        Ok(NodeEnd::Refused { .. }) => ExitStatus::Refused,
+        Ok(NodeEnd::Stalled { .. }) => ExitStatus::Stalled,
+        Err(Broken::Read) => ExitStatus::ReadFailed,
+        Err(Broken::Write) => ExitStatus::WriteFailed,
+        Err(Broken::Net) => ExitStatus::NetFailed,
+        Err(Broken::NoMemory) => ExitStatus::NoMemory,
+    }
+}
+
 /// Runs the node of the script that the source has, and prints its trace with its last line.
 pub(crate) fn put_node<V: Service, S: Source, K: Sink, N: Net, C: Clock>(
     alloc: Global,
@@ -160,21 +175,13 @@ pub(crate) fn put_node<V: Service, S: Source, K: Sink, N: Net, C: Clock>(
         (around (K.taken sink.new) (N.sent net.new) (N.gave net.new) (C.ticks clock.new)) result }
     ensures command { result ≢ status.NoCommand }
     ensures read { result ≡ status.ReadFailed → HasRisen (S.faults source.old) (S.faults source.new) }
-    ensures read_quiet { result ≢ status.ReadFailed → S.faults source.new ≡ S.faults source.old }
+    ensures read_fault { S.faults source.new ≢ S.faults source.old → result ≡ status.ReadFailed }
     ensures write { result ≡ status.WriteFailed → HasRisen (K.faults sink.old) (K.faults sink.new) }
-    ensures write_quiet { result ≢ status.WriteFailed → K.faults sink.new ≡ K.faults sink.old }
+    ensures write_fault { K.faults sink.new ≢ K.faults sink.old → result ≡ status.WriteFailed }
     ensures net { result ≡ status.NetFailed → HasRisen (N.faults net.old) (N.faults net.new) }
-    ensures net_quiet { result ≢ status.NetFailed → N.faults net.new ≡ N.faults net.old }
+    ensures net_fault { N.faults net.new ≢ N.faults net.old → result ≡ status.NetFailed }
 {
-    match print_node::<Vec<V>, NodeHosts<V>, S, K, N, C>(
+    status_of_node(print_node::<Vec<V>, NodeHosts<V>, S, K, N, C>(
         alloc, source, sink, net, clock, services,
-    ) {
-        Ok(NodeEnd::Ended { .. }) => ExitStatus::Done,
-        Ok(NodeEnd::Refused { .. }) => ExitStatus::Refused,
-        Ok(NodeEnd::Stalled { .. }) => ExitStatus::Stalled,
-        Err(Broken::Read) => ExitStatus::ReadFailed,
-        Err(Broken::Write) => ExitStatus::WriteFailed,
-        Err(Broken::Net) => ExitStatus::NetFailed,
-        Err(Broken::NoMemory) => ExitStatus::NoMemory,
-    }
+    ))
 }
