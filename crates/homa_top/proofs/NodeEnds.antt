@@ -1,5 +1,5 @@
 -- What a node's run printed and which count of faults rose, by the status.
-use Rattle.std.proofs.Common.{◌≡◌, ◌≢◌, ℕ, false, true, Option, Result, Ok, Err, List, refl, ap}
+use Rattle.std.proofs.Common.{◌≡◌, ◌≢◌, ℕ, Option, Result, Ok, Err, List, refl, ap}
 use Rattle.homa_io.specs.Outside.{HasRisen}
 use Rattle.homa_plain.specs.Entries.{PlainEntry}
 use Rattle.node_acts.specs.Faults.{Counts}
