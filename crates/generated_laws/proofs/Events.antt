@@ -1,7 +1,6 @@
 -- Events that are carried out in a world between so many hosts.
-use Rattle.std.proofs.Common.{◌≡◌, ℕ, zero, suc, ◌+◌, ◌*◌, ◌<◌, ◌≤◌, Bool, true, false, Option, Some, None, List, [], ◌∷◌, ◌++◌, length, refl, sym, ap, ◌∙◌, subst, arith, append_assoc, length-append}
-use Rattle.std.specs.Prelude.{slice_get, ◌==◌, nat_lt, nat_le, is_some, if◌then◌else◌, ◌&&◌}
-use Rattle.std.specs.List.{AllByRecursion}
+use Rattle.std.proofs.Common.{◌≡◌, ℕ, zero, suc, ◌+◌, ◌*◌, ◌<◌, ◌≤◌, Bool, false, Option, Some, None, List, [], ◌∷◌, ◌++◌, length, refl, sym, ap, ◌∙◌, subst, arith, append_assoc, length-append}
+use Rattle.std.specs.Prelude.{slice_get, ◌==◌, nat_lt, nat_le, is_some, if◌then◌else◌}
 use Rattle.std.proofs.lemmas.List.{append-nil}
 use Rattle.std.proofs.lemmas.Bool.{ne_eqb}
 use Rattle.std.proofs.lemmas.Bool.Decides.{nat_tests}
@@ -9,14 +8,13 @@ use Rattle.plain_sets.specs.Maps.{len}
 use Rattle.homa_plain.specs.declared.id.HostId.{HostId}
 use Rattle.homa_plain.specs.declared.settings.Settings.{Settings}
 use Rattle.homa_plain.specs.declared.event.Event.TheVariants as event
-use Rattle.homa_plain.specs.declared.fault.StartFault.{StartFault}
-use Rattle.homa_plain.specs.declared.fault.WorldFault.TheVariants.{NoSuchHost, NoSuchPacket, Late, ClockEnd}
+use Rattle.homa_plain.specs.declared.fault.WorldFault.TheVariants.{NoSuchHost, Late, ClockEnd}
 use Rattle.homa_plain.specs.Entries.{PlainEntry, PlainDeliver, PlainClock}
-use Rattle.homa_plain.specs.Packets.{Packet, sender, receiver}
+use Rattle.homa_plain.specs.Packets.{Packet, receiver}
 use Rattle.homa_plain.specs.Host.{Host, packets_in, entries_from}
 use Rattle.homa_plain.specs.Steps.{Work, most_packets, start_fault, call_step, arrival_step, turn_step}
-use Rattle.homa_plain.specs.World.{World, SentPacket, After, Outcome, Refused, Done, host_at, own_clock, next_answer, stamped, stepped, started, calls_from, arrives_at, is_late, delivered, last_tick, clock_outcome, turns, outcome}
-use Rattle.homa_plain.specs.Replay.{Happening, Run, bare, turns_of, ticks, after_event, carried}
+use Rattle.homa_plain.specs.World.{World, SentPacket, After, Refused, Done, host_at, own_clock, next_answer, stamped, stepped, started, calls_from, arrives_at, is_late, delivered, last_tick, turns, outcome}
+use Rattle.homa_plain.specs.Replay.{Happening, Run, bare, turns_of, ticks, carried}
 use Rattle.step_laws.specs.StepLaws.{IsBounded}
 use Rattle.step_laws.proofs.Bounds.{call-bounded, arrival-bounded, turn-bounded}
 use Rattle.event_laws.specs.Among.{IsAmongStep, IsBelow}
@@ -25,7 +23,7 @@ use Rattle.event_laws.proofs.Among.{call_among, arrival_among, turn_among}
 use Rattle.event_laws.proofs.Names.{call_named, arrival_named, turn_named}
 use Rattle.generated_laws.proofs.Listed.{there_is, all_get}
 use Rattle.generated_laws.proofs.Carried.{by_outcome, first_event, no_event}
-use Rattle.generated_laws.proofs.Peopled.{IsPerson, IsPost, IsPeopled, behind, behind_peopled, calls_more}
+use Rattle.generated_laws.proofs.Peopled.{IsPost, IsPeopled, behind, behind_peopled}
 
 -- an event is carried out: the packets that it sends, at most 64, stand behind the others, and the clock is this one
 pub record Happens (n calls clock : ℕ) (s : Settings) (w : World) (e : Happening) : Type 0 where

@@ -10,15 +10,15 @@ use Rattle.homa_plain.specs.Entries.{PlainEntry}
 use Rattle.homa_plain.specs.declared.event.Event.TheVariants as event
 use Rattle.homa_plain.specs.Script.{Given, GivenEvent, GivenTicks}
 use Rattle.homa_plain.specs.World.{World, SentPacket}
-use Rattle.homa_plain.specs.Replay.{Happening, Run, carried, events_of}
-use Rattle.generated_runs.specs.Fabric.{Fabric, destination}
+use Rattle.homa_plain.specs.Replay.{Happening, carried, events_of}
+use Rattle.generated_runs.specs.Fabric.{destination}
 use Rattle.generated_runs.specs.Rounds.{Generated, all_sent, with_line}
 use Rattle.step_laws.proofs.Places.{all-append}
 use Rattle.generated_laws.specs.Unrefused.{IsRunLine}
 use Rattle.generated_laws.proofs.Carried.{joined}
 use Rattle.generated_laws.proofs.Peopled.{IsPeopled}
 use Rattle.generated_laws.proofs.Events.{HasRun}
-use Rattle.generated_laws.proofs.Ways.{IsWay, AreWays, HasEntered, new_entered}
+use Rattle.generated_laws.proofs.Ways.{AreWays, HasEntered, new_entered}
 
 -- the events of the lines make the run's world and tell what it told, and none is refused
 pub record IsTaken (s : Settings) (first : World) (g : Generated) : Type 0 where

@@ -1,5 +1,5 @@
 -- Elements of lists that are set, mapped and joined.
-use Rattle.std.proofs.Common.{◌≡◌, ℕ, zero, suc, ◌+◌, ◌<◌, Option, Some, None, List, [], ◌∷◌, ◌++◌, length, refl, sym, ap, ◌∙◌, subst, arith}
+use Rattle.std.proofs.Common.{◌≡◌, ℕ, zero, suc, ◌<◌, Some, None, List, [], ◌∷◌, ◌++◌, length, refl, ap, subst, arith}
 use Rattle.std.specs.Prelude.{slice_get, slice_set, slice_index_or, map, replicate}
 use Rattle.std.specs.List.{AllByRecursion}
 

@@ -1,11 +1,10 @@
 -- What is so of a world between so many hosts: each is in its place, and rows and packets are among them.
-use Rattle.std.proofs.Common.{◌≡◌, ℕ, zero, suc, ◌+◌, ◌<◌, ◌≤◌, Bool, true, false, Option, Some, None, List, [], ◌∷◌, ◌++◌, length, refl, sym, ap, ◌∙◌, subst, arith}
+use Rattle.std.proofs.Common.{◌≡◌, ℕ, zero, suc, ◌+◌, ◌<◌, ◌≤◌, Bool, true, false, Some, List, [], ◌∷◌, ◌++◌, length, refl, sym, ap, ◌∙◌, subst, arith}
 use Rattle.std.specs.Prelude.{slice_get, slice_set, replicate}
 use Rattle.std.specs.List.{AllByRecursion}
 use Rattle.homa_plain.specs.declared.id.HostId.{HostId}
 use Rattle.homa_plain.specs.declared.settings.Settings.{Settings}
 use Rattle.homa_plain.specs.Calls.{is_host}
-use Rattle.homa_plain.specs.Entries.{PlainEntry}
 use Rattle.homa_plain.specs.Packets.{Packet, sender, receiver}
 use Rattle.homa_plain.specs.Host.{Host, new_host, packets_in}
 use Rattle.homa_plain.specs.Rules.{Answer}

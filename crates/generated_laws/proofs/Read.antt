@@ -1,5 +1,5 @@
 -- The schedule of a run that is printed, as it is read.
-use Rattle.std.proofs.Common.{◌≡◌, ℕ, suc, ◌+◌, ◌*◌, ◌^◌, ◌<◌, ◌≤◌, true, None, Some, Ok, List, [], ◌∷◌, ◌++◌, length, refl, sym, ap, ◌∙◌, subst, arith, length-append}
+use Rattle.std.proofs.Common.{◌≡◌, ℕ, suc, ◌+◌, ◌^◌, ◌<◌, ◌≤◌, true, None, Ok, List, [], ◌∷◌, ◌++◌, length, refl, sym, ap, ◌∙◌, subst, arith, length-append}
 use Rattle.std.specs.Prelude.{codes, nat_le}
 use Rattle.std.proofs.lemmas.Bool.Decides.{nat_tests}
 use Rattle.std.specs.List.{AllByRecursion, flat_map, join_with_byte}
@@ -11,7 +11,6 @@ use lib.Utf8.{encode}
 use Rattle.homa_plain.specs.declared.id.HostId.{HostId}
 use Rattle.homa_plain.specs.declared.event.Event.{Event}
 use Rattle.homa_plain.specs.declared.event.Event.TheVariants as event
-use Rattle.homa_plain.specs.declared.settings.Settings.{Settings}
 use Rattle.homa_plain.specs.Bytes.{IsBytes}
 use Rattle.homa_plain.specs.Entries.{PlainSettings}
 use Rattle.homa_plain.specs.Input.{lines_of, ends_in_feed}
@@ -23,7 +22,6 @@ use Rattle.script_lines.proofs.LinesOf.{lines_of-feed}
 use Rattle.homa_script.proofs.Printed.{AllWords, IsWord, word-tested, total, line_feed, phrase_words}
 use Rattle.homa_script.proofs.Decimals.{word-decimal, number_of-decimal, operand-decimal}
 use Rattle.homa_script.proofs.Events.{line_is, words_good}
-use Rattle.generated_runs.specs.Rounds.{Generated}
 use Rattle.generated_runs.specs.Generated.{generated, generated_settings, given_text, schedule_text}
 use Rattle.generated_laws.specs.Unrefused.{steps_of, IsRunLine, IsReplayed}
 use Rattle.generated_laws.proofs.Runs.{generated_sound, unrefused}

@@ -1,5 +1,5 @@
 -- A round of a run: its tick, what each host is handed, and its calls.
-use Rattle.std.proofs.Common.{◌≡◌, ℕ, zero, suc, ◌+◌, ◌-◌, ◌*◌, ◌<◌, ◌≤◌, ◌%◌, Bool, true, false, if◌then◌else◌, Option, Some, None, List, [], ◌∷◌, ◌++◌, length, refl, sym, ap, ◌∙◌, subst, arith}
+use Rattle.std.proofs.Common.{◌≡◌, ℕ, zero, suc, ◌+◌, ◌-◌, ◌*◌, ◌<◌, ◌≤◌, ◌%◌, Bool, true, false, if◌then◌else◌, Option, Some, None, List, [], ◌++◌, length, refl, sym, ap, ◌∙◌, subst, arith}
 use Rattle.std.specs.Prelude.{nat_le, nat_lt, ◌==◌, ◌&&◌, is_some, map, slice_get}
 use Rattle.std.specs.Option.{IfSome}
 use Rattle.std.proofs.lemmas.Bool.{cond_both, true≢false, eq-eqb}
@@ -10,19 +10,18 @@ use Rattle.std.proofs.lemmas.List.{length-map}
 use Rattle.plain_sets.specs.Maps.{len}
 use Rattle.rand_pcg.specs.Lcg.{Lcg}
 use Rattle.rand_pcg.specs.Pcg.{pcg32}
-use Rattle.homa_plain.specs.declared.id.HostId.{HostId}
 use Rattle.homa_plain.specs.declared.settings.Settings.{Settings}
 use Rattle.homa_plain.specs.declared.event.Event.TheVariants as event
 use Rattle.homa_plain.specs.Host.{Host}
-use Rattle.homa_plain.specs.Script.{Given, GivenEvent, GivenTicks, counting}
-use Rattle.homa_plain.specs.World.{World, SentPacket, host_at, last_tick, is_late}
+use Rattle.homa_plain.specs.Script.{GivenEvent, GivenTicks, counting}
+use Rattle.homa_plain.specs.World.{World, SentPacket, host_at, last_tick}
 use Rattle.generated_runs.specs.Draws.{Traffic, draw, sized, next_traffic}
-use Rattle.generated_runs.specs.Fabric.{Destination, Handed, idle, destination, with_destination, refilled, next_of, after_next, round_bytes}
+use Rattle.generated_runs.specs.Fabric.{Destination, Handed, idle, destination, refilled, next_of, after_next}
 use Rattle.generated_runs.specs.Rounds.{Generated, with_line, host_round, hosts_round, most_handed, live_at, with_call, calls_round, calls_a_round, round_begun, next_round}
 use Rattle.trace_induction.proofs.Hosts.{length-set, within}
 use Rattle.generated_laws.specs.Unrefused.{IsRunLine}
 use Rattle.generated_laws.proofs.Listed.{set_at, set_here, map_at, there_is, get_front}
-use Rattle.generated_laws.proofs.Peopled.{IsPerson, IsPeopled, calls_more}
+use Rattle.generated_laws.proofs.Peopled.{calls_more}
 use Rattle.generated_laws.proofs.Events.{IsDeliverable, one_run, tick_run, most_turns, turns_within, delivery_happens, call_happens}
 use Rattle.generated_laws.proofs.Ways.{IsWay, AreWays, idle_way}
 use Rattle.generated_laws.proofs.Handing.{pending, left_to, IsHanded, next_handed}

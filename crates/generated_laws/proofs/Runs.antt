@@ -1,11 +1,11 @@
 -- A whole run: no event of it is refused.
-use Rattle.std.proofs.Common.{◌≡◌, ℕ, zero, suc, ◌+◌, ◌<◌, ◌≤◌, Bool, true, false, if◌then◌else◌, None, List, [], refl, sym, ap, ◌∙◌, subst, arith}
+use Rattle.std.proofs.Common.{◌≡◌, ℕ, zero, suc, ◌+◌, ◌≤◌, Bool, true, false, if◌then◌else◌, List, refl, sym, ap, ◌∙◌, subst, arith}
 use Rattle.std.specs.Prelude.{replicate, length}
 use Rattle.homa_plain.specs.declared.settings.Settings.{Settings}
 use Rattle.homa_plain.specs.Entries.{PlainEntry}
 use Rattle.homa_plain.specs.Rules.{Answer}
 use Rattle.homa_plain.specs.World.{World, new_world, last_tick}
-use Rattle.homa_plain.specs.Replay.{Run, Finished, carried}
+use Rattle.homa_plain.specs.Replay.{Run, Finished}
 use Rattle.generated_runs.specs.Draws.{seeded}
 use Rattle.generated_runs.specs.Fabric.{Destination, idle, destination, new_fabric}
 use Rattle.generated_runs.specs.Rounds.{Generated, first_generated, next_round, is_over, rounds}
@@ -13,7 +13,7 @@ use Rattle.generated_runs.specs.Generated.{generated_settings, most_rounds, gene
 use Rattle.generated_laws.specs.Unrefused.{first_world, IsUnrefused}
 use Rattle.generated_laws.proofs.Listed.{replicated}
 use Rattle.generated_laws.proofs.Carried.{no_event, replayed_whole}
-use Rattle.generated_laws.proofs.Peopled.{first_peopled, many_replicated}
+use Rattle.generated_laws.proofs.Peopled.{first_peopled}
 use Rattle.generated_laws.proofs.Ways.{IsWay, idle_way}
 use Rattle.generated_laws.proofs.Lines.{IsTaken, IsSound}
 use Rattle.generated_laws.proofs.Rounds.{IsFit, IsCalm, round_calm}
