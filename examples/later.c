@@ -1,5 +1,5 @@
 /* A server that answers some ticks after it was asked: it keeps the datagram, and delivers it again with the answer. Two hosts in one
- * process, the usual settings; ticks are counted by hand, and no datagram is lost. Prints a line for each delay. */
+ * process, the usual settings but for `life`; ticks are counted by hand, and no datagram is lost. Prints a line for each delay. */
 #include "homa.h"
 #include <stdio.h>
 #include <stdlib.h>
