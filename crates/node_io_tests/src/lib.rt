@@ -3,3 +3,7 @@
 
 #[cfg(test)]
 mod outside;
+#[cfg(test)]
+mod real;
+#[cfg(test)]
+mod steps;

@@ -1,25 +1,17 @@
-// A net and a clock in memory, a printer, and the real ones over loopback.
+// A net and a clock in memory, a net that never fails, and a printer.
 ghost use Rattle.homa_plain.specs.Entries.{plain};
 ghost use Rattle.homa_text.specs.Told.{HasLine};
 ghost use Rattle.node_io.specs.Observer.{IsSeen};
 
+use crate::steps::{A, B, C, binds, holds, receives, routes, sends};
 use homa_io::{MemSink, WriteFailed};
 use homa_plain::{Entry, Frame, HostId};
 use node_io::{
-    Clock, Got, MemClock, MemNet, Net, NetFailed, Observer, Printer, SeenFault, SureNet, TickClock,
-    UdpNet,
+    Clock, Got, MemClock, MemNet, Net, NetFailed, Observer, Printer, SeenFault, SureNet,
 };
 use std::alloc::Global;
-use std::net::{Ipv4Addr, SocketAddr, SocketAddrV4, UdpSocket};
 use std::process::Abort;
 use std::test::Fail;
-use std::time::Duration;
-
-const A: HostId = HostId(0);
-
-const B: HostId = HostId(1);
-
-const C: HostId = HostId(2);
 
 fn frame(bytes: &[u8]) -> Result<Frame, Fail> {
     let mut frame = Frame::empty();
@@ -28,63 +20,6 @@ fn frame(bytes: &[u8]) -> Result<Frame, Fail> {
     }
     frame.set(bytes);
     Ok(frame)
-}
-
-// A host is bound so.
-fn binds<N: Net>(
-    rt: &impl Abort,
-    net: &mut N,
-    host: HostId,
-    port: u16,
-    wanted: Result<(), NetFailed>,
-) {
-    assert_eq!(rt; net.bind(host, port), wanted);
-}
-
-// A host elsewhere is known.
-fn routes<N: Net>(rt: &impl Abort, net: &mut N, host: HostId, port: u16) {
-    assert_eq!(rt; net.route(host, port), Ok(()));
-}
-
-// Bytes are sent so.
-fn sends<N: Net>(
-    rt: &impl Abort,
-    net: &mut N,
-    from: HostId,
-    to: HostId,
-    bytes: &[u8],
-    wanted: Result<(), NetFailed>,
-) {
-    assert_eq!(rt; net.send(from, to, bytes), wanted);
-}
-
-// A host receives so.
-fn receives<N: Net>(
-    rt: &impl Abort,
-    net: &mut N,
-    got: &mut Frame,
-    host: HostId,
-    wanted: Result<Got, NetFailed>,
-) {
-    assert_eq!(rt; net.recv(host, got), wanted);
-}
-
-// What was received is this.
-fn holds(rt: &impl Abort, got: &Frame, bytes: &[u8]) {
-    assert!(rt; got.bytes() == bytes);
-}
-
-// What a host receives is this, from there, and it may come late.
-fn hears<N: Net>(
-    rt: &impl Abort,
-    net: &mut N,
-    got: &mut Frame,
-    host: HostId,
-    from: HostId,
-    bytes: &[u8],
-) {
-    assert_eq!(rt; receive(net, host, got), Ok(Got::Frame { from }));
-    holds(rt, got, bytes);
 }
 
 // Datagrams of a stranger, to another host, of the host itself, and two of a host that it knows.
@@ -194,107 +129,5 @@ fn entries_are_printed_and_turnings_are_not(rt: HostRuntime) -> Result<(), Fail>
     prints(&rt, &mut printer, &Entry::Junk { host }, failed);
     let _sink = printer.into_sink();
     assert_eq!(rt; sink.bytes(), b"clock 7\nrecv 1 0 6869\n".as_slice());
-    Ok(())
-}
-
-// Binds a host at a free port.
-fn bind_somewhere<N: Net>(net: &mut N, host: HostId) -> Result<u16, Fail> {
-    for port in 20_000..60_000 {
-        if net.bind(host, port).is_ok() {
-            return Ok(port);
-        }
-    }
-    Err(Fail::from("no port is free"))
-}
-
-fn at(port: u16) -> SocketAddr {
-    SocketAddr::V4(SocketAddrV4::new(Ipv4Addr::LOCALHOST, port))
-}
-
-// What a receive gives, which may come late.
-fn receive<N: Net>(net: &mut N, host: HostId, frame: &mut Frame) -> Result<Got, NetFailed> {
-    for _ in 0..1000 {
-        let got = net.recv(host, frame)?;
-        if got != Got::Nothing {
-            return Ok(got);
-        }
-    }
-    Ok(Got::Nothing)
-}
-
-// A request and its response.
-fn exchange<N: Net>(rt: &impl Abort, net: &mut N, got: &mut Frame) {
-    receives(rt, net, got, A, Ok(Got::Nothing));
-    sends(rt, net, A, B, b"request", Ok(()));
-    hears(rt, net, got, B, A, b"request");
-    sends(rt, net, B, A, b"response", Ok(()));
-    hears(rt, net, got, A, B, b"response");
-}
-
-// What a stranger sends is passed over, and a datagram that is too long is cut.
-fn passes_over<N: Net>(
-    rt: &impl Abort,
-    net: &mut N,
-    got: &mut Frame,
-    stranger: &UdpSocket,
-    port: u16,
-) -> Result<(), Fail> {
-    assert_eq!(rt; stranger.send_to(b"stranger", at(port))?, 8);
-    sends(rt, net, A, B, &[7; 1501], Ok(()));
-    hears(rt, net, got, B, A, &[7; 1500]);
-    Ok(())
-}
-
-// A host without a socket or a port.
-fn lacks<N: Net>(rt: &impl Abort, net: &mut N, got: &mut Frame, port: u16) {
-    receives(rt, net, got, C, Err(NetFailed));
-    sends(rt, net, C, A, b"x", Err(NetFailed));
-    sends(rt, net, A, C, b"x", Err(NetFailed));
-    binds(rt, net, C, port, Err(NetFailed));
-}
-
-// A host elsewhere.
-fn goes_elsewhere<N: Net>(
-    rt: &impl Abort,
-    net: &mut N,
-    got: &mut Frame,
-    other: &UdpSocket,
-    port: u16,
-) -> Result<(), Fail> {
-    routes(rt, net, C, other.local_addr()?.port());
-    sends(rt, net, B, C, b"hello", Ok(()));
-    let mut bytes = [0; 9];
-    other.set_read_timeout(Some(Duration::from_secs(1)))?;
-    assert_eq!(rt; other.recv_from(&mut bytes)?, (5, at(port)));
-    assert_eq!(rt; other.send_to(b"answer", at(port))?, 6);
-    hears(rt, net, got, B, C, b"answer");
-    Ok(())
-}
-
-fn meet<N: Net>(rt: &impl Abort, net: &mut N, stranger: &UdpSocket) -> Result<(), Fail> {
-    let mut got = Frame::empty();
-    bind_somewhere(net, A)?;
-    let port = bind_somewhere(net, B)?;
-    exchange(rt, net, &mut got);
-    passes_over(rt, net, &mut got, stranger, port)?;
-    lacks(rt, net, &mut got, port);
-    goes_elsewhere(rt, net, &mut got, stranger, port)
-}
-
-#[test]
-fn two_hosts_exchange_datagrams_over_loopback(rt: HostRuntime) -> Result<(), Fail> {
-    let stranger = UdpSocket::bind(&rt, at(0))?;
-    let mut net = UdpNet::new(rt.alloc(), &rt)?;
-    meet(&rt, &mut net, &stranger)
-}
-
-#[test]
-fn the_clock_goes_on(rt: HostRuntime) -> Result<(), Fail> {
-    let mut clock = TickClock::new(&rt);
-    let first = clock.now();
-    let socket = UdpSocket::bind(&rt, at(0))?;
-    socket.set_read_timeout(Some(Duration::from_millis(30)))?;
-    assert!(rt; socket.recv_from(&mut [0; 1]).is_err());
-    assert!(rt; clock.now() >= first + 2);
     Ok(())
 }
