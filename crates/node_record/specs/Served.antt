@@ -1,0 +1,107 @@
+-- How a node's run ends, and what was told, sent and given in it.
+use Rattle.std.specs.Prelude.{◌≡◌, ◌⊎◌, ℕ, zero, suc, Bool, Option, None, Some, Result, Ok, Err, List, [], ◌∷◌, ◌++◌, length}
+use Rattle.homa_plain.specs.declared.settings.Settings.{Settings}
+use Rattle.homa_plain.specs.declared.fault.LineFault.TheVariants.{Script as ByWords, World as ByWorld}
+use Rattle.homa_plain.specs.declared.fault.WorldFault.TheVariants.{NoSuchHost, Start as CantStart}
+use Rattle.homa_plain.specs.Entries.{PlainEntry}
+use Rattle.homa_plain.specs.Rules.{Answer}
+use Rattle.homa_plain.specs.World.{World, new_world}
+use Rattle.homa_plain.specs.Answers.{shown, answering}
+use Rattle.node_io.specs.declared.observer.SeenFault.TheVariants.{Stranger}
+use Rattle.node_io.specs.Clock.{next_tick, ticks_after}
+use Rattle.node_runs.specs.Course.{Report, Datagram, Arrival, AreTicks, End, Ended, RefusedAt, StalledAt, Run}
+use Rattle.node_runs.specs.Recorder.{Notes}
+use Rattle.node_runs.specs.Texts.{entries}
+use Rattle.node_record.specs.Told.{listed, ListedFront, AreTold, AreFront, AreStrange}
+use Rattle.node_record.specs.declared.stop.NodeStop.{NodeStop}
+use Rattle.node_record.specs.declared.stop.NodeStop.TheVariants.{Script, Start, Host, Seen, Stalled}
+
+-- the world with which a node begins, in these incarnations, whatever its services will answer
+pub record IsFirstIn (s : Settings) (incs : List ℕ) (stands : World → Type 0) : Type 0 where
+  pub first : World
+  pub stood : stands first
+  pub is_first : (answers : List Answer) → answering answers first ≡ new_world s incs 0 0 answers
+
+-- what so many readings of a clock give that holds these ticks
+abbrev pub ticks_given : ℕ → List ℕ → List ℕ
+ticks_given zero ticks = []
+ticks_given (suc n) ticks = next_tick ticks ∷ ticks_given n (ticks_after ticks)
+
+-- these are the ticks that a clock gave, where it can tell
+abbrev pub AreGiven : Option (List ℕ) → List ℕ → Type 0
+AreGiven None ticks = Unit {0}
+AreGiven (Some held) ticks = ticks ≡ ticks_given (length ticks) held
+
+-- what the observer's sink took, the observer's notes, what the net took and gave, and the ticks that the clock is to give, where they can tell
+pub record Outside : Type 0 where
+  pub taken : Option (List ℕ)
+  pub notes : Notes
+  pub sent : Option (List Datagram)
+  pub gave : Option (List (Option Arrival))
+  pub ticks : Option (List ℕ)
+
+abbrev pub outside : Option (List ℕ) → Notes → Option (List Datagram) → Option (List (Option Arrival)) → Option (List ℕ) → Outside
+outside taken notes sent gave ticks = record { taken = taken; notes = notes; sent = sent; gave = gave; ticks = ticks }
+
+-- a run, of the bytes of a script, what the services answer, the ticks of the clock, and what each receive gives
+abbrev pub Whole : Type 0
+Whole = List ℕ → List Answer → List ℕ → List (Option Arrival) → Run
+
+-- a run that begins so
+pub record BeginsRun (run : Run) (reports : List Report) (sent : List Datagram) : Type 0 where
+  pub more : List Report
+  pub later : List Datagram
+  pub reports_are : run.reports ≡ reports ++ more
+  pub sent_is : run.sent ≡ sent ++ later
+
+module _ (whole : Whole) (told : Notes → Report → List ℕ) (kept : Notes → Report → Notes) (strange : Notes → Report → Bool) (may_tell : List PlainEntry → Type 0) where
+  -- The run of these bytes came to this end. There are answers, ticks and receives of which it is the run: the answers are those that
+  -- its `run` lines show, which the boxes allow; the ticks and receives are those that were given, where that is told. All of it was told, and nothing was strange.
+  pub record IsServed (bytes : List ℕ) (old new : Outside) (end : End) : Type 0 where
+    pub answers : List Answer
+    pub ticks : List ℕ
+    pub gave : List (Option Arrival)
+    pub ended : (whole bytes answers ticks gave).end ≡ Some end
+    pub told_all : AreTold told kept strange old.taken old.notes new.taken new.notes (whole bytes answers ticks gave).reports
+    pub took : new.sent ≡ listed old.sent (whole bytes answers ticks gave).sent
+    pub given : new.gave ≡ listed old.gave gave
+    pub ticked : AreGiven old.ticks ticks
+    pub rises : AreTicks 0 ticks
+    pub shows : shown (entries (whole bytes answers ticks gave).reports) ≡ answers
+    pub allowed : may_tell (entries (whole bytes answers ticks gave).reports)
+
+  -- The run stopped. Some of the bytes came. Of what it tells a front was told, and of what it sends a front was sent: of every input
+  -- that begins with the bytes that came, and whatever is answered, read and received later; or nothing more is left, and it is the run of what came.
+  pub record IsPart (bytes : List ℕ) (left : Option (List ℕ)) (old new : Outside) (tell : List Report → Type 0) : Type 0 where
+    pub came : List ℕ
+    pub rest : List ℕ
+    pub split : bytes ≡ came ++ rest
+    pub has_left : left ≡ Some rest
+    pub answers : List Answer
+    pub ticks : List ℕ
+    pub gave : List (Option Arrival)
+    pub reports : List Report
+    pub sent : List Datagram
+    pub told_part : tell reports
+    pub took : ListedFront old.sent new.sent sent
+    pub given : new.gave ≡ listed old.gave gave
+    pub ticked : AreGiven old.ticks ticks
+    pub rises : AreTicks 0 ticks
+    pub shows : shown (entries reports) ≡ answers
+    pub allowed : may_tell (entries reports)
+    pub front : ((more : List ℕ) (later : List Answer) (on : List ℕ) (next : List (Option Arrival)) → BeginsRun (whole (came ++ more) (answers ++ later) (ticks ++ on) (gave ++ next)) reports sent)
+        ⊎ ((rest ≡ []) × ((later : List Answer) (on : List ℕ) (next : List (Option Arrival)) → BeginsRun (whole came (answers ++ later) (ticks ++ on) (gave ++ next)) reports sent))
+
+  -- how it stopped: at a line, after its last loop turn, at a report that is strange, or in its midst
+  abbrev pub IsStopped : List ℕ → Option (List ℕ) → Outside → Outside → NodeStop → Type 0
+  IsStopped bytes left old new (Script line fault) = IsServed bytes old new (RefusedAt line (ByWords fault))
+  IsStopped bytes left old new (Start line fault) = IsServed bytes old new (RefusedAt line (ByWorld (CantStart fault)))
+  IsStopped bytes left old new (Host line) = IsServed bytes old new (RefusedAt line (ByWorld NoSuchHost))
+  IsStopped bytes left old new (Stalled turns now) = IsServed bytes old new (StalledAt turns now)
+  IsStopped bytes left old new (Seen Stranger) = IsPart bytes left old new (AreStrange told kept strange old.taken old.notes new.taken)
+  IsStopped bytes left old new stop = IsPart bytes left old new (AreFront told kept strange old.taken old.notes new.taken)
+
+  -- what was served
+  abbrev pub IsAnswered : List ℕ → Option (List ℕ) → Outside → Outside → Result ℕ NodeStop → Type 0
+  IsAnswered bytes left old new (Ok n) = IsServed bytes old new (Ended n) × (left ≡ Some [])
+  IsAnswered bytes left old new (Err stop) = IsStopped bytes left old new stop
