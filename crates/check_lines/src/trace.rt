@@ -1,5 +1,5 @@
 // What is kept of the lines of a trace.
-ghost use Rattle.std.specs.Prelude.{◌≡◌, ◌+◌, ◌<◌, ◌≤◌, Some, None, [], length, slice_get, unwrap_or, if◌then◌else◌, IfSome, IfNone, is_some, OnOk};
+ghost use Rattle.std.specs.Prelude.{◌≡◌, ◌+◌, ◌<◌, ◌≤◌, Some, None, [], length, slice_get, unwrap_or, max, if◌then◌else◌, IfSome, IfNone, is_some, OnOk};
 ghost use Rattle.check_lines.specs.Changes.{SameHosts, SameLists, SameRest, SameSets, Notes, StandsAt, Changes, call_or, noted};
 ghost use Rattle.check_lines.specs.Traces.{call_at, host_at, IsPlace, lead_of, life_in, lives_in, own_tick_in, Follows, Keeps, asked_of, awaited_of};
 ghost use Rattle.check_laws.specs.Spots as spots;
@@ -114,9 +114,11 @@ impl Trace {
         }
     }
 
-    /// Makes room for a host.
+    /// Makes room for a host, and for no host behind it.
     pub(crate) fn know(&mut self, alloc: Global, host: HostId) -> Result<(), AllocError>
         ensures known { OnOk result (host.0 < length self.new.hosts.items) }
+        ensures grown { OnOk result (length self.new.hosts.items ≡ max (length self.old.hosts.items) (host.0 + 1)) }
+        ensures most { length self.new.hosts.items ≤ max (length self.old.hosts.items) (host.0 + 1) }
         ensures hosts { SameHosts self.old self.new }
         ensures lists { SameLists self.old self.new }
         ensures rest { self.new ≡ record self.old { hosts = self.new.hosts } }
