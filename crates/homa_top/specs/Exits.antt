@@ -45,6 +45,7 @@ prints_all WriteFailed = false
 prints_all NoMemory = true
 prints_all NetFailed = true
 prints_all Stalled = false
+prints_all Stranger = false
 
 -- the status of a command that stopped
 abbrev pub status_of : Stop → ExitStatus
