@@ -213,7 +213,7 @@ impl Call {
                     offset,
                     len,
                 };
-                if is_of_client(packet.role) {
+                if packet.role.is_of_client() {
                     self.asked_more(packet, lives, arrival, delivered)
                 } else if counts {
                     self.answered_more(size, arrival, delivered)
@@ -279,16 +279,6 @@ impl Call {
             done: becomes_whole(delivered.now.response, after),
             ..delivered
         }
-    }
-}
-
-// The client of a call sent the packet.
-fn is_of_client(role: Role) -> bool
-    ensures { result ≡ is_client role }
-{
-    match role {
-        Role::Client => true,
-        Role::Server => false,
     }
 }
 

@@ -104,16 +104,6 @@ fn client_of(role: Role, host: HostId, from: HostId) -> HostId
     }
 }
 
-// The client of a call sent the packet.
-fn is_of_client(role: Role) -> bool
-    ensures { result ≡ is_client role }
-{
-    match role {
-        Role::Client => true,
-        Role::Server => false,
-    }
-}
-
 // There was a last line, or this is one.
 fn is_ended(ended: bool, line: &Entry<'_>) -> bool
     ensures { result ≡ (ended || lines.is_last (plain line.now)) }
@@ -349,10 +339,10 @@ impl Trace {
                     tick: self.own_tick(packet.id.client),
                     gap: self.settings.resend,
                 };
-                change_if(is_of_client(packet.role), told)
+                change_if(packet.role.is_of_client(), told)
             }
             Body::Data { .. } => change_if(
-                is_of_client(packet.role) && !call.sent_last,
+                packet.role.is_of_client() && !call.sent_last,
                 Change::Renewed,
             ),
             _ => Change::Nothing,

@@ -1,7 +1,7 @@
 //! What `check` says of a node's text, proved.
 //!
 //! The model: a node's text is the lines of its run, one behind the other (`node_runs`); a text is a trace where each line
-//! is that of an entry and obeys the shape and all laws (`check_text`). No code stands here; a law is the contract of a
+//! is that of an entry and obeys the shape and all laws (`check_verdict`). No code stands here; a law is the contract of a
 //! function that does nothing.
 //! Main promise: where a node's net is honest and hands up datagrams, the text is a trace (`node_texts_are_traces`): each
 //! line fits its types, is read back, and obeys the laws.

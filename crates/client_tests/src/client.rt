@@ -274,24 +274,31 @@ fn waits(rt: &impl Abort, table: &ClientTable) {
     assert!(rt; table.deadline(slot).is_none());
 }
 
+// A call of five bytes goes out, and waits.
+fn goes_out(rt: &impl Abort, client: &mut Client, request: Vec<u8>)
+    requires { AreIn client.old.pool (part_at client.old.table.rows) }
+{
+    starts(rt, client, request);
+    waits(rt, &client.table);
+    emits(rt, client, 11, 4, Emitted::Short);
+    emits(rt, client, 12, 5, Emitted::Sent(0, 5));
+    emits(rt, client, 12, 5, Emitted::Rests);
+    assert!(rt; deadline(rt, &client.table) == Some(16));
+}
+
 #[test]
 fn one_call(rt: HostRuntime) -> Result<(), Fail> {
     let request = Vec::from_slice(rt.alloc(), b"abcde")?;
     let mut client = Client::open(rt.alloc(), &Settings::usual(), 7, 2)?;
-    starts(&rt, &mut client, request);
-    waits(&rt, &client.table);
-    emits(&rt, &mut client, 11, 4, Emitted::Short);
-    emits(&rt, &mut client, 12, 5, Emitted::Sent(0, 5));
-    emits(&rt, &mut client, 12, 5, Emitted::Rests);
-    let at = deadline(&rt, &client.table);
-    assert_eq!(rt; at, Some(16));
+    goes_out(&rt, &mut client, request);
     Ok(())
 }
 
-// Three bytes come in two pieces.
-fn is_answered(rt: &impl Abort, client: &mut Client, slot: u32)
+// A call is answered by three bytes, which come in two pieces.
+fn is_answered(rt: &impl Abort, client: &mut Client, request: Vec<u8>)
     requires { AreIn client.old.pool (part_at client.old.table.rows) }
 {
+    let slot = starts(rt, client, request);
     let free = gets(
         rt,
         client,
@@ -319,12 +326,11 @@ fn is_answered(rt: &impl Abort, client: &mut Client, slot: u32)
 fn a_response(rt: HostRuntime) -> Result<(), Fail> {
     let request = Vec::from_slice(rt.alloc(), b"a")?;
     let mut client = Client::open(rt.alloc(), &Settings::usual(), 7, 2)?;
-    let slot = starts(&rt, &mut client, request);
-    is_answered(&rt, &mut client, slot);
+    is_answered(&rt, &mut client, request);
     Ok(())
 }
 
-// A response of 12,000 bytes is granted.
+// What was opened of a response of 12,000 bytes is granted.
 fn is_granted(rt: &impl Abort, client: &mut Client) {
     let slot = client.table.find(ID).expect(rt, "a row");
     assert!(rt;
@@ -341,21 +347,29 @@ fn is_granted(rt: &impl Abort, client: &mut Client) {
     assert!(rt; deadline(rt, &client.table) == Some(16));
 }
 
+// A response of 12,000 bytes is opened, and granted.
+fn opens_and_is_granted(rt: &impl Abort, client: &mut Client, request: Vec<u8>)
+    requires { AreIn client.old.pool (part_at client.old.table.rows) }
+{
+    let slot = starts(rt, client, request);
+    let opened = ClientDid::Opened(slot);
+    gets(rt, client, 1, piece(12000, 0), b"xy", 10, opened);
+    is_granted(rt, client);
+}
+
 #[test]
 fn a_grant(rt: HostRuntime) -> Result<(), Fail> {
     let request = Vec::from_slice(rt.alloc(), b"a")?;
     let mut client = Client::open(rt.alloc(), &Settings::usual(), 7, 4)?;
-    let slot = starts(&rt, &mut client, request);
-    let opened = ClientDid::Opened(slot);
-    gets(&rt, &mut client, 1, piece(12000, 0), b"xy", 10, opened);
-    is_granted(&rt, &mut client);
+    opens_and_is_granted(&rt, &mut client, request);
     Ok(())
 }
 
 // The server is asked once before anything comes, and once after.
-fn times_out(rt: &impl Abort, client: &mut Client, slot: u32)
+fn times_out(rt: &impl Abort, client: &mut Client, request: Vec<u8>)
     requires { AreIn client.old.pool (part_at client.old.table.rows) }
 {
+    let slot = starts(rt, client, request);
     emits(rt, client, 10, 1400, Emitted::Sent(0, 2));
     acts(rt, client, 13, None);
     acts(rt, client, 14, Some(ClientAct::Resend(0, 10000)));
@@ -378,8 +392,7 @@ fn times_out(rt: &impl Abort, client: &mut Client, slot: u32)
 fn a_timeout(rt: HostRuntime) -> Result<(), Fail> {
     let request = Vec::from_slice(rt.alloc(), b"ab")?;
     let mut client = Client::open(rt.alloc(), &one_try(), 7, 1)?;
-    let slot = starts(&rt, &mut client, request);
-    times_out(&rt, &mut client, slot);
+    times_out(&rt, &mut client, request);
     Ok(())
 }
 
@@ -436,13 +449,20 @@ fn is_forgotten(rt: &impl Abort, client: &mut Client, slot: u32)
     assert!(rt; free == 1);
 }
 
+// Both lives are heard of, and the later one has forgotten the call.
+fn hears_and_is_forgotten(rt: &impl Abort, client: &mut Client, request: Vec<u8>)
+    requires { AreIn client.old.pool (part_at client.old.table.rows) }
+{
+    let slot = starts(rt, client, request);
+    hears_two_lives(rt, client, slot);
+    is_forgotten(rt, client, slot);
+}
+
 #[test]
 fn two_lives_of_the_server(rt: HostRuntime) -> Result<(), Fail> {
     let request = Vec::from_slice(rt.alloc(), b"a")?;
     let mut client = Client::open(rt.alloc(), &Settings::usual(), 7, 1)?;
-    let slot = starts(&rt, &mut client, request);
-    hears_two_lives(&rt, &mut client, slot);
-    is_forgotten(&rt, &mut client, slot);
+    hears_and_is_forgotten(&rt, &mut client, request);
     Ok(())
 }
 
@@ -482,29 +502,42 @@ fn calls_that_cannot_start(rt: HostRuntime) -> Result<(), Fail> {
     Ok(())
 }
 
+// No sequence number is left.
+fn is_spent(rt: &impl Abort, client: &mut Client, request: Vec<u8>)
+    requires { AreIn client.old.pool (part_at client.old.table.rows) }
+{
+    let spent = tried(client, SERVER, request);
+    assert!(rt; spent == Err((StartFault::SeqSpent, 2)));
+}
+
 #[test]
 fn sequence_numbers_are_spent(rt: HostRuntime) -> Result<(), Fail> {
     let request = Vec::from_slice(rt.alloc(), b"ab")?;
     let mut client = Client::open(rt.alloc(), &one_call_at_a_time(), u32::MAX, 1)?;
-    let spent = tried(&mut client, SERVER, request);
-    assert!(rt; spent == Err((StartFault::SeqSpent, 2)));
+    is_spent(&rt, &mut client, request);
     Ok(())
 }
 
-#[test]
-fn full_pages(rt: HostRuntime) -> Result<(), Fail> {
-    let request = Vec::from_slice(rt.alloc(), b"a")?;
-    let mut client = Client::open(rt.alloc(), &Settings::usual(), 7, 1)?;
-    let slot = starts(&rt, &mut client, request);
+// A response that needs two pages, of which there is one.
+fn lacks_a_page(rt: &impl Abort, client: &mut Client, request: Vec<u8>)
+    requires { AreIn client.old.pool (part_at client.old.table.rows) }
+{
+    let slot = starts(rt, client, request);
     let full = ClientDid::Full {
         slot,
         id: ID,
         need: 2,
         free: 1,
     };
-    let free = gets(&rt, &mut client, 1, piece(4097, 0), b"ab", 11, full);
-    let missing = left(&rt, &client.table);
-    assert_eq!(rt; missing, None);
-    assert_eq!(rt; free, 1);
+    let free = gets(rt, client, 1, piece(4097, 0), b"ab", 11, full);
+    assert!(rt; left(rt, &client.table).is_none());
+    assert!(rt; free == 1);
+}
+
+#[test]
+fn full_pages(rt: HostRuntime) -> Result<(), Fail> {
+    let request = Vec::from_slice(rt.alloc(), b"a")?;
+    let mut client = Client::open(rt.alloc(), &Settings::usual(), 7, 1)?;
+    lacks_a_page(&rt, &mut client, request);
     Ok(())
 }

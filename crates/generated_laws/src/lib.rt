@@ -1,8 +1,9 @@
-//! No event of a generated run is refused.
+//! No event of a generated run is refused, where it makes at most 4,294,967,295 calls, a sequence number each.
 //!
 //! The model: the definitions of `generated_runs` over the plain world of `homa_plain`. No code stands here, only laws; each
 //! is the contract of a function that does nothing.
-//! Main promise: the schedule of a run, as it is printed, is replayed to its end, and tells what the run told.
+//! Main promise: the schedule of a run, as it is printed and where it is no longer than an input may be, is replayed to its
+//! end, and tells what the run told.
 #![tactic(auto)]
 
 ghost use Rattle.std.specs.Prelude.{◌≤◌, ℕ, List, length};

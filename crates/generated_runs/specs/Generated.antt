@@ -60,12 +60,12 @@ abbrev pub is_done : PlainEntry → Bool
 is_done (PlainDone id bytes) = true
 is_done e = false
 
--- a `fail` line of a call that wasn't answered in time
+-- a `fail` line of a call whose cause is `Timeout`
 abbrev pub is_timeout : PlainEntry → Bool
 is_timeout (PlainFail id Timeout) = true
 is_timeout e = false
 
--- a `fail` line of a call of which its server has no record any more
+-- a `fail` line of a call whose cause is `Forgotten`
 abbrev pub is_forgotten : PlainEntry → Bool
 is_forgotten (PlainFail id Forgotten) = true
 is_forgotten e = false

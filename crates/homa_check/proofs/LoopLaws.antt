@@ -15,8 +15,8 @@ use Rattle.check_reader.specs.Forms.{entry_of}
 use Rattle.script_lines.proofs.NextLine.{read_line, Got}
 use Rattle.script_lines.proofs.ReadParts.{some_left, at_end, none_left}
 use Rattle.script_lines.proofs.LinesOf.{lines_of-feed, lines_of-last, lines_of-front}
-use Rattle.check_text.specs.Verdict as plain
-use Rattle.check_text.proofs.TextLaws.{short_line, long_line, over_line, place-seen}
+use Rattle.check_verdict.specs.Verdict as plain
+use Rattle.check_verdict.proofs.TextLaws.{short_line, long_line, over_line, place-seen}
 use Rattle.check_lines.specs.declared.trace.Trace.{Trace}
 use Rattle.homa_check.specs.declared.verdict.Clause.{Clause}
 use Rattle.homa_check.specs.Clauses.{clause_of}

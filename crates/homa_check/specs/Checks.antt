@@ -7,7 +7,7 @@ use Rattle.homa_plain.specs.View.{View, nothing_seen}
 use Rattle.homa_plain.specs.Judge.{Clause, ShapeClause, OnceClause, ReturnedClause, HandedUpClause, FailsClause, GrantingClause}
 use Rattle.homa_plain.specs.Text.{line_of_words}
 use Rattle.homa_text.specs.Lines.{Reading}
-use Rattle.check_text.specs.Verdict as plain
+use Rattle.check_verdict.specs.Verdict as plain
 use Rattle.homa_check.specs.declared.text.Next.{Next}
 use Rattle.homa_check.specs.declared.text.Next.TheVariants.{Taken, End, Fails}
 use Rattle.check_lines.specs.declared.trace.Trace.{Trace}
@@ -101,7 +101,7 @@ pub record IsSoFar (bytes : List ℕ) (left : Option (List ℕ)) (r : Reading) (
   pub fold : (more : List (List ℕ)) → plain.verdict_from nothing_seen 0 (lines_of lines ++ more) ≡ plain.verdict_from v r.read more
   pub joins : ((more : List ℕ) → lines_of (lines ++ more) ≡ lines_of lines ++ lines_of more) ⊎ ((r.pending ≡ []) × (rest ≡ []))
 
--- Reading failed in the midst of a line: the lines that came whole obey all laws.
+-- Reading failed, perhaps in the midst of a line: the lines that came whole obey all laws.
 pub record IsCutShort (bytes : List ℕ) (left : Option (List ℕ)) : Type 0 where
   pub lines : List ℕ
   pub front : List ℕ

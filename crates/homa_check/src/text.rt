@@ -12,8 +12,8 @@ ghost use Rattle.check_reader.specs.Forms.{entry_of};
 ghost use Rattle.homa_plain.specs.Input.{has_no_feed};
 ghost use Rattle.homa_plain.specs.View.{View, nothing_seen};
 ghost use Rattle.homa_text.specs.Lines.{reading};
-ghost use Rattle.check_text.specs.Text.{IsTrace, IsNoTrace};
-ghost use Rattle.check_text.specs.Verdict.{verdict_of, judged_text, seen_text};
+ghost use Rattle.check_verdict.specs.Text.{IsTrace, IsNoTrace};
+ghost use Rattle.check_verdict.specs.Verdict.{verdict_of, judged_text, seen_text};
 
 use crate::step::step_entry;
 use crate::verdict::{CheckStop, Clause, Verdict};

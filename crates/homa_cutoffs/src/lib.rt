@@ -4,9 +4,9 @@
 //! list of numbers, the oldest first, and works out its cutoffs from them. Who sends to it takes the
 //! level of each message from these cutoffs, by the trait `Levels`.
 //!
-//! Main promise: `Recent::balance` answers the cutoffs by which the levels from k to 7 get equal parts of
-//! the noted messages' weight, each bound the least number with its share, and `Levels::level` answers the
-//! greatest level whose bound a length doesn't exceed.
+//! Main promise: `Recent::balance` answers the cutoffs that share the noted messages' weight among the levels
+//! from k to 7: each bound is the least length up to which the messages have their levels' share of it. And
+//! `Levels::level` answers the greatest level whose bound a length doesn't exceed.
 #![tactic(auto)]
 
 mod bounds;

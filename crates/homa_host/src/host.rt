@@ -96,7 +96,7 @@ impl Host {
     }
 
     /// Calls service `number` of another host, at tick `now` of the host's own clock. Where the call can't start, the
-    /// request is given back, and nothing happens.
+    /// request is given back, nothing is told or sent, and the host is as before.
     #[tactic(none)]
     pub fn call(
         &mut self,
@@ -135,8 +135,8 @@ impl Host {
     }
 
     /// A datagram comes from a host, at tick `now` of this host's own clock. Where its service finds no memory for a
-    /// request that the datagram makes whole, the answer is the call and the service, and nothing but `scratch` changes,
-    /// which then holds the request.
+    /// request that the datagram makes whole, the answer is the call and the service, `scratch` holds the request, nothing
+    /// is told or sent, and the host is as before.
     #[tactic(none)]
     pub fn deliver<V: Service>(
         &mut self,

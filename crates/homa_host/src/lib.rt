@@ -9,10 +9,10 @@
 mod asked;
 mod at_client;
 mod at_server;
-mod ends;
 mod host;
 mod outcome;
 mod parts;
+mod step_end;
 
 pub use asked::Asked;
 pub use host::Host;

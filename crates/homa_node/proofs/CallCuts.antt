@@ -17,9 +17,9 @@ use Rattle.host_view.specs.declared.outbox.SentFrame.{SentFrame}
 use Rattle.node_runs.specs.Script.{TimedCall, Calls, Refusal}
 use Rattle.node_runs.specs.Course.{Report, Tells, Datagram, Arrival, Node, GoesOn, datagrams, goes, follows, starts}
 use Rattle.homa_plain.specs.Answers.{shown, answering}
-use Rattle.node_acts.specs.Acting.{node_at, node_of, frame_datagram, IsStep, IsCut, Begins}
-use Rattle.node_acts.proofs.Lists.{listed_none, entries_tells}
-use Rattle.node_acts.proofs.Grows.{Grown, grown_on, grown_none, begins_self}
+use Rattle.node_turns.specs.Acting.{node_at, node_of, frame_datagram, IsStep, IsCut, Begins}
+use Rattle.node_turns.proofs.Lists.{listed_none, entries_tells}
+use Rattle.node_turns.proofs.Grows.{Grown, grown_on, grown_none, begins_self}
 use Rattle.homa_node.specs.Starting.{starting}
 use Rattle.homa_node.proofs.Starting.{call_then, starts_due, starts_later}
 

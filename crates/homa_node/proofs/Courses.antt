@@ -10,8 +10,8 @@ use Rattle.homa_plain.specs.Answers.{answering}
 use Rattle.node_runs.specs.Script.{Setup, Calls}
 use Rattle.node_runs.specs.Course.{Report, Datagram, Arrival, Node, Course, GoesOn, Stops, ◌>>=◌, End, Ended, StalledAt, run_of, datagrams}
 use Rattle.node_runs.specs.Course.{clock_stands, starts, hosts_act, locals, ends, loop_turn, loop_turns}
-use Rattle.node_acts.specs.Acting.{node_at, Begins, clock_reports}
-use Rattle.node_acts.proofs.Grows.{grown_on, begins_self, begins_then, hosts_grow}
+use Rattle.node_turns.specs.Acting.{node_at, Begins, clock_reports}
+use Rattle.node_turns.proofs.Grows.{grown_on, begins_self, begins_then, hosts_grow}
 use Rattle.node_script.specs.Standing.{Standing}
 use Rattle.homa_node.specs.declared.ahead.Ahead.{Ahead}
 use Rattle.homa_node.specs.declared.ahead.Ahead.TheVariants.{Unread, Call, Ended as NoCall}

@@ -12,9 +12,9 @@ use Rattle.node_io.specs.Clock.{next_tick, if_ticks}
 use Rattle.node_runs.specs.Course.{Report, Datagram, Arrival, AreReceived, AreTicks, End, Run}
 use Rattle.node_runs.specs.Recorder.{Notes}
 use Rattle.node_runs.specs.Texts.{entries}
-use Rattle.node_acts.specs.Told.{listed, numbers_of, AreTold}
-use Rattle.node_acts.proofs.Lists.{listed_none, listed_more, received_more, numbers_more, entries_parts, shown_parts}
-use Rattle.node_acts.proofs.Tellings.{told_none, told_more}
+use Rattle.node_turns.specs.Told.{listed, numbers_of, AreTold}
+use Rattle.node_turns.proofs.Lists.{listed_none, listed_more, received_more, numbers_more, entries_parts, shown_parts}
+use Rattle.node_turns.proofs.Tellings.{told_none, told_more}
 use Rattle.script_lines.specs.Read.{IsRead, IsCut}
 use Rattle.script_lines.proofs.ReadParts.{read_start, read_on, read_map, read_whole}
 use Rattle.homa_node.specs.Served.{Outside, Whole, AreGiven, BeginsRun, IsServed, IsPart}

@@ -10,7 +10,7 @@ use Rattle.node_runs.specs.Recorder.{Notes}
 use Rattle.node_runs.specs.Observed.{Observed, observed, behind}
 use Rattle.node_runs.specs.Texts.{sent_number, sent_by}
 use Rattle.node_runs.proofs.Observing.{observed-usual, observed-strange}
-use Rattle.node_acts.specs.Told.{text_by, notes_by, numbers_of, AreUsual, AreTold, BeginsNext, AreFront, AreStrange}
+use Rattle.node_turns.specs.Told.{text_by, notes_by, numbers_of, AreUsual, AreTold, BeginsNext, AreFront, AreStrange}
 use Rattle.homa_node.specs.Served.{BeginsRun}
 
 front_taken : {A : Type 0} (xs ys : List A) → take (length xs) (xs ++ ys) ≡ xs

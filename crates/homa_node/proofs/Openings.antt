@@ -11,12 +11,12 @@ use Rattle.homa_plain.specs.Answers.{answering}
 use Rattle.node_runs.specs.Script.{Setup, Calls, Opening, Opened, unopened, opening}
 use Rattle.node_runs.specs.Course.{Report, Tells, Datagram, Arrival, RefusedAt, run_of, run_opened, node_run, new_node, first_inc, datagrams, loop_turns}
 use Rattle.node_runs.specs.Recorder.{Notes}
-use Rattle.node_acts.specs.Told.{ListedFront, AreTold, AreFront}
-use Rattle.node_acts.specs.Acting.{node_at, Begins, OnStrange}
-use Rattle.node_acts.specs.declared.stop.NodeStop.{NodeStop}
-use Rattle.node_acts.specs.declared.stop.NodeStop.TheVariants.{Script, Start, Host, Read, Net, Seen, Stalled, NoMemory}
-use Rattle.node_acts.proofs.Lists.{listed_none, front_none}
-use Rattle.node_acts.proofs.Tellings.{front_rest, front_more}
+use Rattle.node_turns.specs.Told.{ListedFront, AreTold, AreFront}
+use Rattle.node_turns.specs.Acting.{node_at, Begins, OnStrange}
+use Rattle.node_turns.specs.declared.stop.NodeStop.{NodeStop}
+use Rattle.node_turns.specs.declared.stop.NodeStop.TheVariants.{Script, Start, Host, Read, Net, Seen, Stalled, NoMemory}
+use Rattle.node_turns.proofs.Lists.{listed_none, front_none}
+use Rattle.node_turns.proofs.Tellings.{front_rest, front_more}
 use Rattle.script_lines.specs.Read.{IsRead, IsCut}
 use Rattle.script_lines.specs.Place.{Place}
 use Rattle.homa_node.specs.Served.{Outside, outside, Whole, BeginsRun, IsServed, IsPart, IsStopped, IsFirstIn}

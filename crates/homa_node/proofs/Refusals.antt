@@ -9,7 +9,7 @@ use Rattle.homa_plain.specs.declared.fault.LineFault.TheVariants.{Script as ByWo
 use Rattle.homa_plain.specs.declared.fault.WorldFault.{WorldFault}
 use Rattle.homa_plain.specs.declared.fault.WorldFault.TheVariants.{NoSuchHost}
 use Rattle.node_runs.specs.Script.{Setup, TimedCall, Refusal, Calls, calls_from, timed_of, timed_given, between_hosts, is_local, place_of, words_in, with_call}
-use Rattle.node_acts.specs.declared.stop.NodeStop.{NodeStop}
+use Rattle.node_turns.specs.declared.stop.NodeStop.{NodeStop}
 use Rattle.script_lines.specs.Place.{lines_left}
 use Rattle.script_lines.specs.Read.{IsRead}
 use Rattle.script_lines.proofs.ReadParts.{read_to, read_whole}

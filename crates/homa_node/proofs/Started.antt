@@ -11,11 +11,11 @@ use Rattle.homa_plain.specs.World.{World}
 use Rattle.homa_plain.specs.Answers.{answering}
 use Rattle.node_runs.specs.Script.{TimedCall, Calls, with_call}
 use Rattle.node_runs.specs.Course.{Report, Datagram, Arrival, End, RefusedAt, datagrams}
-use Rattle.node_acts.specs.Acting.{node_at, IsRefused, HasActed, IsCut}
-use Rattle.node_acts.specs.Told.{ListedFront}
-use Rattle.node_acts.proofs.Lists.{listed_none, front_none, front_listed}
-use Rattle.node_acts.proofs.Acted.{acted_none, acted_on}
-use Rattle.node_acts.proofs.Cuts.{cut_on}
+use Rattle.node_turns.specs.Acting.{node_at, IsRefused, HasActed, IsCut}
+use Rattle.node_turns.specs.Told.{ListedFront}
+use Rattle.node_turns.proofs.Lists.{listed_none, front_none, front_listed}
+use Rattle.node_turns.proofs.Acted.{acted_none, acted_on}
+use Rattle.node_turns.proofs.Cuts.{cut_on}
 use Rattle.script_lines.specs.Read.{IsRead, IsCut as IsReadCut}
 use Rattle.script_lines.proofs.ReadParts.{none_left, read_to, read_on, read_map}
 use Rattle.homa_node.specs.Starting.{with_calls, starting}

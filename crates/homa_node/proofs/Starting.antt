@@ -15,10 +15,10 @@ use Rattle.node_runs.specs.Texts.{entries}
 use Rattle.homa_plain.specs.declared.fault.StartFault.{StartFault}
 use Rattle.homa_plain.specs.declared.fault.WorldFault.TheVariants.{Start as CantStart}
 use Rattle.homa_plain.specs.Answers.{shown, answering}
-use Rattle.node_acts.specs.Acting.{IsRefused}
-use Rattle.node_acts.specs.Told.{listed}
-use Rattle.node_acts.specs.Acting.{node_at, frame_datagram, IsStep, HasActed}
-use Rattle.node_acts.proofs.Lists.{listed_none, entries_tells}
+use Rattle.node_turns.specs.Acting.{IsRefused}
+use Rattle.node_turns.specs.Told.{listed}
+use Rattle.node_turns.specs.Acting.{node_at, frame_datagram, IsStep, HasActed}
+use Rattle.node_turns.proofs.Lists.{listed_none, entries_tells}
 use Rattle.homa_node.specs.Starting.{with_calls, starting, waiting, StopsAt}
 
 -- what a call does, and what stands behind it

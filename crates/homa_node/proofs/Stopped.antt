@@ -4,10 +4,10 @@ use Rattle.homa_plain.specs.Entries.{PlainEntry}
 use Rattle.node_io.specs.declared.observer.SeenFault.TheVariants.{Write, Stranger, NoMemory as NoRoom}
 use Rattle.node_runs.specs.Course.{Report}
 use Rattle.node_runs.specs.Recorder.{Notes}
-use Rattle.node_acts.specs.Told.{listed, Listed, ListedFront, AreFront, AreStrange}
-use Rattle.node_acts.specs.Acting.{OnStrange, IsMidst, IsHeardStop}
-use Rattle.node_acts.specs.declared.stop.NodeStop.{NodeStop}
-use Rattle.node_acts.specs.declared.stop.NodeStop.TheVariants.{Script, Start, Host, Read, Net, Seen, Stalled, NoMemory}
+use Rattle.node_turns.specs.Told.{listed, Listed, ListedFront, AreFront, AreStrange}
+use Rattle.node_turns.specs.Acting.{OnStrange, IsMidst, IsHeardStop}
+use Rattle.node_turns.specs.declared.stop.NodeStop.{NodeStop}
+use Rattle.node_turns.specs.declared.stop.NodeStop.TheVariants.{Script, Start, Host, Read, Net, Seen, Stalled, NoMemory}
 use Rattle.homa_node.specs.Served.{Outside, Whole, IsPart, IsStranger, IsStopped}
 use Rattle.homa_node.proofs.Observing.{strange_sent}
 

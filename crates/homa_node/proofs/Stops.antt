@@ -10,11 +10,11 @@ use Rattle.node_runs.specs.Script as script
 use Rattle.node_runs.specs.Script.{TimedCall, Calls, with_call}
 use Rattle.node_runs.specs.Course.{Report, Datagram, Arrival, RefusedAt}
 use Rattle.node_runs.specs.Recorder.{Notes}
-use Rattle.node_acts.specs.Told.{ListedFront, AreTold, AreFront}
-use Rattle.node_acts.specs.Acting.{HasActed, IsCut, OnStrange}
-use Rattle.node_acts.specs.declared.stop.NodeStop.{NodeStop}
-use Rattle.node_acts.specs.declared.stop.NodeStop.TheVariants.{Script, Start, Host, Read, Net, Seen, Stalled, NoMemory}
-use Rattle.node_acts.proofs.Tellings.{told_more, front_rest, front_more}
+use Rattle.node_turns.specs.Told.{ListedFront, AreTold, AreFront}
+use Rattle.node_turns.specs.Acting.{HasActed, IsCut, OnStrange}
+use Rattle.node_turns.specs.declared.stop.NodeStop.{NodeStop}
+use Rattle.node_turns.specs.declared.stop.NodeStop.TheVariants.{Script, Start, Host, Read, Net, Seen, Stalled, NoMemory}
+use Rattle.node_turns.proofs.Tellings.{told_more, front_rest, front_more}
 use Rattle.node_script.specs.Standing.{Standing}
 use Rattle.homa_node.specs.declared.ahead.Ahead.{Ahead}
 use Rattle.homa_node.specs.Coming.{calls_ahead, HasLooked, IsLookStop}

@@ -17,12 +17,12 @@ use Rattle.node_runs.specs.Course.{Report, Tells, Datagram, Node, Course, ◌>>=
 use Rattle.node_runs.specs.Course.{locals, ends, loop_turns}
 use Rattle.node_runs.specs.Recorder.{Notes}
 use Rattle.node_runs.specs.Texts.{entries}
-use Rattle.node_acts.specs.Told.{Listed, ListedFront, numbers_of, AreTold, AreFront}
-use Rattle.node_acts.specs.Acting.{node_at, HasActed, IsCut, Begins, with_left, goes_on, clock_reports}
-use Rattle.node_acts.specs.declared.stop.NodeStop.{NodeStop}
-use Rattle.node_acts.specs.declared.stop.NodeStop.TheVariants.{Script, Start, Host, Read, Net, Seen, Stalled, NoMemory}
-use Rattle.node_acts.proofs.Lists.{listed_none, front_none, front_listed}
-use Rattle.node_acts.proofs.Tellings.{front_more}
+use Rattle.node_turns.specs.Told.{Listed, ListedFront, numbers_of, AreTold, AreFront}
+use Rattle.node_turns.specs.Acting.{node_at, HasActed, IsCut, Begins, with_left, goes_on, clock_reports}
+use Rattle.node_turns.specs.declared.stop.NodeStop.{NodeStop}
+use Rattle.node_turns.specs.declared.stop.NodeStop.TheVariants.{Script, Start, Host, Read, Net, Seen, Stalled, NoMemory}
+use Rattle.node_turns.proofs.Lists.{listed_none, front_none, front_listed}
+use Rattle.node_turns.proofs.Tellings.{front_more}
 use Rattle.script_lines.specs.Read.{IsRead}
 use Rattle.node_script.specs.Standing.{Standing}
 use Rattle.node_script.specs.Calls.{refused_at}

@@ -4,8 +4,8 @@ use Rattle.homa_plain.specs.declared.fault.LineFault.TheVariants.{Script as ByWo
 use Rattle.homa_plain.specs.declared.fault.WorldFault.TheVariants.{NoSuchHost}
 use Rattle.node_runs.specs.Script as script
 use Rattle.node_runs.specs.Script.{Calls, with_call}
-use Rattle.node_acts.specs.declared.stop.NodeStop.{NodeStop}
-use Rattle.node_acts.specs.declared.stop.NodeStop.TheVariants.{Script, Host, Read}
+use Rattle.node_turns.specs.declared.stop.NodeStop.{NodeStop}
+use Rattle.node_turns.specs.declared.stop.NodeStop.TheVariants.{Script, Host, Read}
 use Rattle.script_lines.specs.Place.{IsCounted}
 use Rattle.script_lines.specs.Read.{IsRead, IsCut}
 use Rattle.node_script.specs.declared.setup.Setup.{Setup}

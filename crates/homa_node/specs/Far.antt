@@ -9,8 +9,8 @@ use Rattle.node_runs.specs.Course.{Report, Datagram, Arrival, AreReceived, AreTi
 use Rattle.node_runs.specs.Course.{hosts_act, locals, ends, loop_turns}
 use Rattle.node_runs.specs.Recorder.{Notes}
 use Rattle.node_runs.specs.Texts.{entries}
-use Rattle.node_acts.specs.Told.{listed, numbers_of, AreTold}
-use Rattle.node_acts.specs.Acting.{node_at}
+use Rattle.node_turns.specs.Told.{listed, numbers_of, AreTold}
+use Rattle.node_turns.specs.Acting.{node_at}
 use Rattle.script_lines.specs.Read.{IsRead}
 use Rattle.homa_node.specs.Served.{Outside, Whole, AreGiven}
 

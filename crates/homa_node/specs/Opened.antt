@@ -1,8 +1,8 @@
 -- A script that is read up to `go`.
 use Rattle.std.specs.Prelude.{ℕ, Option, Result, Ok, Err, List}
 use Rattle.node_runs.specs.Script.{opening, Opened, unopened}
-use Rattle.node_acts.specs.declared.stop.NodeStop.{NodeStop}
-use Rattle.node_acts.specs.declared.stop.NodeStop.TheVariants.{Script, Read, NoMemory}
+use Rattle.node_turns.specs.declared.stop.NodeStop.{NodeStop}
+use Rattle.node_turns.specs.declared.stop.NodeStop.TheVariants.{Script, Read, NoMemory}
 use Rattle.script_lines.specs.Place.{Place}
 use Rattle.script_lines.specs.Read.{IsRead, IsCut}
 use Rattle.node_script.specs.declared.setup.Setup.{Setup}

@@ -12,9 +12,9 @@ use Rattle.node_io.specs.Clock.{next_tick, ticks_after}
 use Rattle.node_runs.specs.Course.{Report, Datagram, Arrival, AreReceived, AreTicks, End, Ended, RefusedAt, StalledAt, Run}
 use Rattle.node_runs.specs.Recorder.{Notes}
 use Rattle.node_runs.specs.Texts.{entries, sent_by}
-use Rattle.node_acts.specs.Told.{listed, Listed, ListedFront, numbers_of, AreTold, AreFront, AreStrange}
-use Rattle.node_acts.specs.declared.stop.NodeStop.{NodeStop}
-use Rattle.node_acts.specs.declared.stop.NodeStop.TheVariants.{Script, Start, Host, Seen, Stalled}
+use Rattle.node_turns.specs.Told.{listed, Listed, ListedFront, numbers_of, AreTold, AreFront, AreStrange}
+use Rattle.node_turns.specs.declared.stop.NodeStop.{NodeStop}
+use Rattle.node_turns.specs.declared.stop.NodeStop.TheVariants.{Script, Start, Host, Seen, Stalled}
 
 -- the world with which a node begins, in these incarnations, whatever its services will answer
 pub record IsFirstIn (s : Settings) (incs : List ℕ) (stands : World → Type 0) : Type 0 where

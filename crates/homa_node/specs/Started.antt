@@ -9,10 +9,10 @@ use Rattle.node_io.specs.declared.observer.SeenFault.TheVariants.{Stranger}
 use Rattle.node_runs.specs.Script.{TimedCall, Calls}
 use Rattle.node_runs.specs.Course.{Report, Datagram, Arrival, End, Stops, RefusedAt}
 use Rattle.node_runs.specs.Recorder.{Notes}
-use Rattle.node_acts.specs.Told.{ListedFront, AreTold, AreFront}
-use Rattle.node_acts.specs.Acting.{Part, HasActed, IsCut}
-use Rattle.node_acts.specs.declared.stop.NodeStop.{NodeStop}
-use Rattle.node_acts.specs.declared.stop.NodeStop.TheVariants.{Script, Start, Host, Seen, Stalled}
+use Rattle.node_turns.specs.Told.{ListedFront, AreTold, AreFront}
+use Rattle.node_turns.specs.Acting.{Part, HasActed, IsCut}
+use Rattle.node_turns.specs.declared.stop.NodeStop.{NodeStop}
+use Rattle.node_turns.specs.declared.stop.NodeStop.TheVariants.{Script, Start, Host, Seen, Stalled}
 use Rattle.script_lines.specs.Read.{IsRead}
 use Rattle.node_script.specs.Calls.{refused_at}
 use Rattle.homa_node.specs.Starting.{with_calls, starting}

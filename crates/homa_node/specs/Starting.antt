@@ -9,9 +9,9 @@ use Rattle.homa_plain.specs.Rules.{Answer}
 use Rattle.homa_plain.specs.World.{World}
 use Rattle.node_runs.specs.Course.{Report, Arrival, GoesOn, Stops, RefusedAt, starts}
 use Rattle.homa_plain.specs.Answers.{answering}
-use Rattle.node_acts.specs.Acting.{Part, node_at, IsMidst}
-use Rattle.node_acts.specs.declared.stop.NodeStop.{NodeStop}
-use Rattle.node_acts.specs.declared.stop.NodeStop.TheVariants.{Start}
+use Rattle.node_turns.specs.Acting.{Part, node_at, IsMidst}
+use Rattle.node_turns.specs.declared.stop.NodeStop.{NodeStop}
+use Rattle.node_turns.specs.declared.stop.NodeStop.TheVariants.{Start}
 use Rattle.node_script.specs.declared.timed.TimedCall.{TimedCall as Call}
 
 -- these calls in front of others

@@ -1,14 +1,14 @@
 // What is known of the calls that are still to be made.
 ghost use Rattle.std.specs.Prelude.{◌≡◌, ◌≤◌, ◌<◌, ℕ, List, Some, false, true, length, IfSome, IfNone, IfErr, OnOk};
-ghost use Rattle.node_acts.specs.Faults.{counts, AreFaults};
+ghost use Rattle.node_turns.specs.Faults.{counts, AreFaults};
 ghost use Rattle.node_script.specs.Heads.{setup_seen};
 ghost use Rattle.homa_node.specs.Coming.{HasLooked, IsLooked, IsOpenAt, IsIdle, HasRoom, IsLookStop, lines_ahead, look_stop};
 ghost use Rattle.homa_node.specs.declared.ahead.Ahead.TheVariants.{Unread, Call};
 
 use homa_io::Source;
 use homa_plain::LineFault;
-use node_acts::NodeStop;
 use node_script::{CallStop, Reader, Setup, TimedCall};
+use node_turns::NodeStop;
 
 /// What is known of the calls that are still to be made.
 #[derive(Clone, Copy)]

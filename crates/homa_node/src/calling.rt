@@ -5,9 +5,9 @@ ghost use Rattle.homa_plain.specs.declared.fault.WorldFault.TheVariants.{Start a
 ghost use Rattle.homa_plain.specs.World.{World};
 ghost use Rattle.node_runs.specs.Course.{RefusedAt};
 ghost use Rattle.node_runs.specs.Script.{Calls};
-ghost use Rattle.node_acts.specs.Told.{ListedFront, AreTold, AreFront};
-ghost use Rattle.node_acts.specs.Faults.{counts, AreFaults};
-ghost use Rattle.node_acts.specs.Acting.{HasActed, IsCut};
+ghost use Rattle.node_turns.specs.Told.{ListedFront, AreTold, AreFront};
+ghost use Rattle.node_turns.specs.Faults.{counts, AreFaults};
+ghost use Rattle.node_turns.specs.Acting.{HasActed, IsCut};
 ghost use Rattle.node_script.specs.Heads.{IsSound, setup_seen};
 ghost use Rattle.homa_node.specs.Starting.{starting, called, OnStart, OnCut, IsCallStop};
 ghost use Rattle.homa_node.specs.Coming.{calls_ahead, IsOpenAt, IsIdle, IsAllRead, HasRoom};
@@ -15,9 +15,9 @@ ghost use Rattle.homa_node.specs.Started.{stopping, HasStarted, HasStopped};
 
 use crate::{Ahead, look, take_due};
 use homa_io::Source;
-use node_acts::{Hosting, NodeStop, send_frames, tell_entries};
 use node_io::{Net, Observer};
 use node_script::{Reader, Setup, TimedCall};
+use node_turns::{Hosting, NodeStop, send_frames, tell_entries};
 use std::alloc::Global;
 
 /// A call whose tick has come is started.

@@ -16,8 +16,8 @@ mod serving;
 
 pub use ahead::{Ahead, look, take_due};
 pub use calling::{start_call, starts};
-pub use node_acts::NodeStop;
 pub use node_io::Printer;
+pub use node_turns::NodeStop;
 pub use opening::{MOST_BYTES, Node, open_node, read_setup};
 pub use opens::OpensIn;
 pub use places::{connect, first_incs, locals};

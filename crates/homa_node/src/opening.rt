@@ -2,8 +2,8 @@
 ghost use Rattle.std.specs.Prelude.{◌≡◌, ◌≤◌, ◌^◌, ℕ, Option, List, Some, [], false, nat_lt, length, IfOk, IfErr};
 ghost use Rattle.homa_plain.specs.declared.id.HostId.{HostId as Host};
 ghost use Rattle.node_runs.specs.Course.{locals as local_hosts, loop_turns, node_run};
-ghost use Rattle.node_acts.specs.Acting.{OnStrange};
-ghost use Rattle.node_acts.specs.Faults.{counts, AreFaults};
+ghost use Rattle.node_turns.specs.Acting.{OnStrange};
+ghost use Rattle.node_turns.specs.Faults.{counts, AreFaults};
 ghost use Rattle.script_lines.specs.Place.{first_place, IsCounted};
 ghost use Rattle.node_script.specs.Heads.{IsSound, setup_seen};
 ghost use Rattle.node_script.specs.Calls.{calls_left};
@@ -15,9 +15,9 @@ use crate::OpensIn;
 use crate::places::{connect, first_incs, locals};
 use homa_io::Source;
 use homa_plain::{Entry, HostId};
-use node_acts::NodeStop;
 use node_io::{Net, Observer};
 use node_script::{Reader, Setup, SetupStop};
+use node_turns::NodeStop;
 use std::alloc::Global;
 
 /// The most bytes of a script.

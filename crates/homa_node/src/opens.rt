@@ -7,7 +7,7 @@ ghost use Rattle.homa_plain.specs.Answers.{shown};
 ghost use Rattle.homa_node.specs.Served.{IsFirstIn};
 
 use homa_plain::Settings;
-use node_acts::Hosting;
+use node_turns::Hosting;
 use std::alloc::{AllocError, Global};
 
 /// Hosts that are opened with boxes `B`, in which services answer.

@@ -2,16 +2,16 @@
 ghost use Rattle.std.specs.Prelude.{◌≡◌, ℕ, List, Some, false};
 ghost use Rattle.homa_plain.specs.declared.id.HostId.{HostId as Host};
 ghost use Rattle.node_runs.specs.Course.{node_run};
-ghost use Rattle.node_acts.specs.Told.{SomeStrange};
-ghost use Rattle.node_acts.specs.Acting.{OnStrange};
-ghost use Rattle.node_acts.specs.Faults.{counts, AreFaults};
+ghost use Rattle.node_turns.specs.Told.{SomeStrange};
+ghost use Rattle.node_turns.specs.Acting.{OnStrange};
+ghost use Rattle.node_turns.specs.Faults.{counts, AreFaults};
 ghost use Rattle.homa_node.specs.Served.{outside, IsAnswered};
 
 use crate::opening::{Node, open_node};
 use crate::{Ahead, OpensIn, starts};
 use homa_io::Source;
-use node_acts::{NodeStop, clock_stands, hosts_act};
 use node_io::{Clock, Net, Observer};
+use node_turns::{NodeStop, clock_stands, hosts_act};
 use std::alloc::Global;
 
 /// Runs a node by its script, and answers how many loop turns it took. The input was then read to its end.

@@ -25,7 +25,7 @@ sender m = m.peer.0
 abbrev pub choice_key : Message → ℕ × ℕ
 choice_key m = (m.length - m.arrived, m.order)
 
--- the end that is granted to a chosen message: `window` bytes beyond as many as have arrived
+-- the end that is granted to a chosen message: `window` bytes beyond as many as have arrived, at most its length
 abbrev pub new_end : ℕ → Message → ℕ
 new_end window m = min m.length (m.arrived + window)
 

@@ -1,5 +1,6 @@
 // Packets.
 ghost use Rattle.std.specs.Prelude.{◌≡◌, ◌<◌, ◌≤◌, [], ◌∷◌, ◌++◌, length};
+ghost use Rattle.homa_plain.specs.Wire.{is_client};
 
 use arrayvec::ArrayVec;
 use std::marker::Model;
@@ -9,6 +10,18 @@ use std::marker::Model;
 pub enum Role {
     Client,
     Server,
+}
+
+impl Role {
+    /// The client of a call sent the packet.
+    pub fn is_of_client(self) -> bool
+        ensures { result ≡ is_client self }
+    {
+        match self {
+            Role::Client => true,
+            Role::Server => false,
+        }
+    }
 }
 
 /// A receiver's cutoffs: `upto[i]` is the greatest length, in bytes, of a message that goes at level `i`

@@ -27,8 +27,8 @@ pub trait Playing {
     ghost allows: { Self → List PlainEntry → Type 0 };
 
     /// Applies an event, with the request of a call or the datagram that is injected beside it. It is the plain world's
-    /// outcome, or the plain world's fault, or there is no memory. After an error the world is as before, and its boxes allow no
-    /// more.
+    /// outcome, or the plain world's fault, or there is no memory. After an error it stands for the plain worlds that it stood
+    /// for, and its boxes allow no more than before.
     fn apply(&mut self, alloc: Global, event: &Event, bytes: &[u8]) -> Result<(), WorldFault>
         requires few { events self.old < 2 ^ 57 }
         ensures done { OnOk result ((w : World) → stands self.old w

@@ -395,7 +395,7 @@ impl Row {
 
     /// The client has finished the call: a tombstone stays for as long as packets of it may come. Answers up to which
     /// tick; none where the row is neither held nor replied to, which then stays.
-    pub fn ack(&mut self, now: u64, settings: &Settings) -> Option<u64>
+    pub fn bury_at_ack(&mut self, now: u64, settings: &Settings) -> Option<u64>
         requires valid { IsValid settings.now }
         requires now { now ≤ 1000000002000 }
         ensures did { (id : CallId) (host : HostId) (order free rows : ℕ) (pool : Pool)

@@ -284,7 +284,7 @@ impl ServerTable {
             → ServerMoved id self.old pool self.new pool (server_at pool self.new.rows id) }
     {
         let settings = self.settings;
-        self.rows.row_mut(slot).ack(now, &settings)
+        self.rows.row_mut(slot).bury_at_ack(now, &settings)
     }
 
     /// Takes the next bytes of the row's response to be sent, where some wait and the credit is enough.

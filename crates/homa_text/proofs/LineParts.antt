@@ -5,8 +5,8 @@ use Rattle.homa_plain.specs.Entries.{PlainCall, PlainInject, PlainRun, PlainDone
 use Rattle.homa_plain.specs.Text.{line_text, line_of_words, hex_word, route_word, role_word, id_word, ack_word}
 use Rattle.homa_plain.specs.declared.id.CallId.{CallId}
 use Rattle.homa_plain.specs.declared.id.HostId.{HostId}
-use Rattle.homa_text.specs.declared.quick.Head.{Head}
-use Rattle.homa_text.specs.declared.quick.Piece.{Piece}
+use Rattle.homa_text.specs.declared.frequent_lines.Head.{Head}
+use Rattle.homa_text.specs.declared.frequent_lines.Piece.{Piece}
 use Rattle.hex.specs.Hex.{encode_lower}
 use Rattle.homa_text.proofs.Texts.{hex_word-some}
 use Rattle.homa_text.specs.Quick.{head_text, piece_text, grant_sent, piece_sent}

@@ -5,8 +5,8 @@ use Rattle.homa_plain.specs.declared.packet.Body.{Body}
 use Rattle.homa_plain.specs.declared.packet.Body.TheVariants as body
 use Rattle.homa_plain.specs.Entries.{PlainEntry, PlainSend}
 use Rattle.homa_plain.specs.Text.{id_word, role_word, route_word, ack_word}
-use Rattle.homa_text.specs.declared.quick.Head.{Head}
-use Rattle.homa_text.specs.declared.quick.Piece.{Piece}
+use Rattle.homa_text.specs.declared.frequent_lines.Head.{Head}
+use Rattle.homa_text.specs.declared.frequent_lines.Piece.{Piece}
 
 -- the first words; the kind has a space before and behind it
 abbrev pub head_text : Head → List ℕ → List ℕ

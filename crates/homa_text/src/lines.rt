@@ -3,6 +3,7 @@ ghost use Rattle.std.specs.Prelude.{◌≡◌, ◌+◌, ◌-◌, ◌^◌, ◌<�
 ghost use Rattle.homa_io.specs.Outside.{HasRisen, unread, IsAtEnd};
 ghost use Rattle.homa_plain.specs.Input.{has_no_feed};
 ghost use Rattle.homa_text.specs.LineRoom.{room};
+ghost use Rattle.homa_text.specs.declared.lines.LineGot.TheVariants.{End};
 
 use crate::input::Input;
 use crate::line_room::LineRoom;
@@ -79,6 +80,10 @@ impl Lines {
         ensures stays { has_no_feed (reading self.old).pending ≡ false → source.new ≡ source.old }
         ensures unended { OnErr result ((came : List ℕ) × (S.left source.old ≡ unread came (S.left source.new))
             × (has_no_feed ((reading self.old).pending ++ came) ≡ true)) }
+
+        // At the end nothing is read and nothing is pending.
+        ensures ends { IfOk result (λ got. got ≡ End → (S.left source.new ≡ S.left source.old) × ((reading self.new).pending ≡ [])) }
+
         ensures ahead { length (reading self.new).pending ≤ 65536 }
 
         ensures risen { OnErr result (HasRisen (S.faults source.old) (S.faults source.new)) }

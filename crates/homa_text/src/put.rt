@@ -13,11 +13,11 @@ ghost use Rattle.homa_text.specs.Written.{word_text, spaced_word};
 use crate::Word;
 use crate::adding::write_digits;
 use crate::entry_words::words_of_entry;
-use crate::quick::{
-    Head, Piece, ShortLine, clock_line, deliver_line, grant_line, piece_line, piece_numbers,
-};
-use crate::quick_calls::{
+use crate::frequent_calls::{
     bury_line, call_line, done_line, free_line, inject_line, junk_line, run_line,
+};
+use crate::frequent_lines::{
+    Head, Piece, ShortLine, clock_line, deliver_line, grant_line, piece_line, piece_numbers,
 };
 use crate::written::{call_text, id_text, number_text, route_text};
 use arrayvec::ArrayVec;

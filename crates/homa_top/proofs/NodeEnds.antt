@@ -2,7 +2,7 @@
 use Rattle.std.proofs.Common.{◌≡◌, ◌≢◌, ℕ, Option, Result, Ok, Err, List, refl, ap}
 use Rattle.homa_io.specs.Outside.{HasRisen}
 use Rattle.homa_plain.specs.Entries.{PlainEntry}
-use Rattle.node_acts.specs.Faults.{Counts}
+use Rattle.node_turns.specs.Faults.{Counts}
 use Rattle.node_trace.specs.declared.end.NodeEnd.{NodeEnd}
 use Rattle.node_trace.specs.declared.end.NodeEnd.TheVariants as end
 use Rattle.node_trace.specs.declared.end.Broken.{Broken}

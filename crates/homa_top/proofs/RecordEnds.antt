@@ -6,7 +6,7 @@ use Rattle.homa_plain.specs.Entries.{PlainEntry}
 use Rattle.homa_plain.specs.declared.fault.LineFault.{LineFault}
 use Rattle.node_runs.specs.Course.{End, Ended, RefusedAt, StalledAt}
 use Rattle.node_runs.specs.Texts.{end_status}
-use Rattle.node_acts.specs.Faults.{Counts}
+use Rattle.node_turns.specs.Faults.{Counts}
 use Rattle.node_trace.specs.Traces.{Around}
 use Rattle.node_record.specs.declared.end.Recorded.{Recorded}
 use Rattle.node_record.specs.declared.end.Recorded.TheVariants as how

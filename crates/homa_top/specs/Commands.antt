@@ -13,9 +13,9 @@ use Rattle.node_runs.specs.Texts.{entries}
 use Rattle.homa_node.specs.Served.{AreGiven}
 use Rattle.node_trace.specs.Traces.{Around, IsWhole, IsBrokenOff, IsEndCut}
 use Rattle.node_record.specs.Recorded as recording
-use Rattle.check_text.specs.Text.{IsTrace, IsNoTrace}
-use Rattle.check_text.specs.Verdict as verdict
-use Rattle.check_text.specs.Verdict.{verdict_of}
+use Rattle.check_verdict.specs.Text.{IsTrace, IsNoTrace}
+use Rattle.check_verdict.specs.Verdict as verdict
+use Rattle.check_verdict.specs.Verdict.{verdict_of}
 use Rattle.homa_check.specs.Checks.{verdict_text, IsCutShort}
 use Rattle.generated_runs.specs.Rounds.{Generated}
 use Rattle.homa_generate.specs.Made.{Run, IsMade, IsPartMade}

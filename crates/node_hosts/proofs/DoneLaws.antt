@@ -27,7 +27,7 @@ use Rattle.event_laws.specs.Stepping.{stepped_world, step_told, IsStepBy}
 use Rattle.host_table.specs.declared.stage.Stage.{Stage}
 use Rattle.host_table.specs.Staged.{hosts_of, frames_of, seats_of, spares_of, HasStepped}
 use Rattle.homa_plain.specs.Answers.{shown}
-use Rattle.node_acts.specs.Acting.{IsRefused}
+use Rattle.node_turns.specs.Acting.{IsRefused}
 use Rattle.node_hosts.specs.declared.parts.Last.TheVariants as last
 use Rattle.node_hosts.specs.declared.parts.NodeParts.{NodeParts}
 use Rattle.box_laws.specs.Boxes.{Allows, counted, all_counted, may_tell}

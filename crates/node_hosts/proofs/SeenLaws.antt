@@ -15,8 +15,8 @@ use Rattle.host_view.specs.Marks.{shown}
 use Rattle.host_view.specs.Seen.{Seen}
 use Rattle.node_io.specs.Observer.{IsSeen}
 use Rattle.node_runs.specs.Course.{Tells}
-use Rattle.node_acts.specs.Told.{numbers_of}
-use Rattle.node_acts.specs.Acting.{IsOwn}
+use Rattle.node_turns.specs.Told.{numbers_of}
+use Rattle.node_turns.specs.Acting.{IsOwn}
 use Rattle.event_laws.specs.Named.{IsOfStep}
 
 -- no settings, no tick of the clock, and not that a datagram comes

@@ -28,8 +28,8 @@ use Rattle.host_table.specs.Left.{IsFew, HasLeft, entries_of}
 use Rattle.host_table.proofs.StageLaws.{map_at}
 use Rattle.host_table.proofs.EntryLaws.{at_index}
 use Rattle.node_runs.specs.Course.{Tells, datagrams}
-use Rattle.node_acts.specs.Told.{numbers_of}
-use Rattle.node_acts.specs.Acting.{frame_datagram, IsOwn}
+use Rattle.node_turns.specs.Told.{numbers_of}
+use Rattle.node_turns.specs.Acting.{frame_datagram, IsOwn}
 use Rattle.node_hosts.specs.declared.parts.Last.{Last}
 use Rattle.node_hosts.specs.declared.parts.Last.TheVariants as last
 use Rattle.node_hosts.specs.declared.parts.NodeParts.{NodeParts}

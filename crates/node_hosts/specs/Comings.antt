@@ -16,7 +16,7 @@ use Rattle.event_laws.proofs.Events as events
 use Rattle.homa_plain.specs.Answers.{answering}
 use Rattle.event_laws.specs.Stepping.{stepped_world}
 use Rattle.node_runs.specs.Course.{Arrival, arrival_outcome, packet_from}
-use Rattle.node_acts.specs.Acting.{IsBegun}
+use Rattle.node_turns.specs.Acting.{IsBegun}
 use Rattle.node_hosts.specs.declared.parts.NodeParts.{NodeParts}
 use Rattle.node_hosts.specs.Standing.{StandsFor}
 

@@ -14,7 +14,7 @@ use Rattle.node_io.specs.Observer.{IsSeen}
 use Rattle.host_table.specs.declared.stage.Stage.{Stage}
 use Rattle.host_table.specs.Left.{entries_of, HasLeft}
 use Rattle.host_table.specs.Staged.{Known, hosts_of, frames_of, known_of, seats_of, spares_of}
-use Rattle.node_acts.specs.Acting.{IsStep, IsOwn}
+use Rattle.node_turns.specs.Acting.{IsStep, IsOwn}
 use Rattle.node_hosts.specs.declared.parts.Last.{Last}
 use Rattle.node_hosts.specs.declared.parts.Last.TheVariants as last
 use Rattle.node_hosts.specs.declared.parts.NodeParts.{NodeParts}

@@ -4,7 +4,7 @@ use homa_node::OpensIn;
 use homa_plain::{Entry, HostId, Settings, StartFault};
 use homa_service::Service;
 use host_view::Outbox;
-use node_acts::Hosting;
+use node_turns::Hosting;
 use std::alloc::{AllocError, Global};
 use std::marker::Model;
 

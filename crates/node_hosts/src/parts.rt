@@ -13,7 +13,7 @@ ghost use Rattle.event_laws.specs.Named.{numbered as plain_numbered};
 ghost use Rattle.host_table.specs.Left.{IsFew};
 ghost use Rattle.host_table.specs.Staged.{frames_of, seats_of, spares_of};
 ghost use Rattle.node_runs.specs.Course.{arrival_outcome};
-ghost use Rattle.node_acts.specs.Acting.{IsRefused, IsOwn};
+ghost use Rattle.node_turns.specs.Acting.{IsRefused, IsOwn};
 ghost use Rattle.homa_node.specs.Served.{IsFirstIn};
 ghost use Rattle.node_hosts.specs.declared.parts.Last.TheVariants as last;
 ghost use Rattle.node_hosts.specs.Standing.{IsKept, StandsFor, Steps, told_of};

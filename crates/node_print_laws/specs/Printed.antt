@@ -8,7 +8,7 @@ use Rattle.homa_plain.specs.Script.{most_bytes}
 use Rattle.node_runs.specs.Script.{Opening, Opened, Unopened, opening}
 use Rattle.node_runs.specs.Course.{Arrival, End, Run, node_run}
 use Rattle.node_runs.specs.Replayed.{IsAnswer}
-use Rattle.node_acts.specs.Told.{listed}
+use Rattle.node_turns.specs.Told.{listed}
 use Rattle.node_trace.specs.Traces.{Around, IsWhole, IsBrokenOff, IsEndCut}
 use Rattle.node_trace_laws.specs.Taken.{TookLawfulRun, TookLawfulFront}
 

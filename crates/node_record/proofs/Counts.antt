@@ -2,9 +2,9 @@
 use Rattle.std.proofs.Common.{◌≡◌, ◌⊎◌, inl, inr, ℕ, Option, Result, Ok, Err, List, sym, ap, ◌∙◌, subst}
 use Rattle.homa_io.specs.Outside.{HasRisen}
 use Rattle.node_io.specs.declared.observer.SeenFault.TheVariants as seen
-use Rattle.node_acts.specs.Faults.{Counts, counts, AreFaults}
-use Rattle.node_acts.specs.declared.stop.NodeStop.{NodeStop}
-use Rattle.node_acts.specs.declared.stop.NodeStop.TheVariants as stop
+use Rattle.node_turns.specs.Faults.{Counts, counts, AreFaults}
+use Rattle.node_turns.specs.declared.stop.NodeStop.{NodeStop}
+use Rattle.node_turns.specs.declared.stop.NodeStop.TheVariants as stop
 use Rattle.node_record.specs.declared.end.Recorded.{Recorded}
 use Rattle.node_record.specs.declared.end.Recorded.TheVariants as status
 use Rattle.node_record.specs.Ends.{PutsEnd, HaveFaults, end_of}

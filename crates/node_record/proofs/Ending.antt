@@ -15,9 +15,9 @@ use Rattle.node_runs.specs.Recorder.{Notes, no_notes, told, kept, strange}
 use Rattle.node_runs.specs.Observed.{Observed}
 use Rattle.node_runs.specs.Texts.{recorded, last_text, recorded_end, recording_text, end_status, node_status, recording_status, recorded_sent}
 use Rattle.node_io.specs.declared.observer.SeenFault.TheVariants as seen
-use Rattle.node_acts.specs.Told.{listed, Listed, ListedFront, AreFront, AreStrange}
-use Rattle.node_acts.specs.declared.stop.NodeStop.{NodeStop}
-use Rattle.node_acts.specs.declared.stop.NodeStop.TheVariants as stop
+use Rattle.node_turns.specs.Told.{listed, Listed, ListedFront, AreFront, AreStrange}
+use Rattle.node_turns.specs.declared.stop.NodeStop.{NodeStop}
+use Rattle.node_turns.specs.declared.stop.NodeStop.TheVariants as stop
 use Rattle.homa_node.specs.Served.{outside, IsServed, IsPart, IsAnswered, BeginsRun}
 use Rattle.homa_node.proofs.Observing.{observed_whole, told_observed, strange_observed, front_observed}
 use Rattle.node_trace.specs.Traces.{around, IsGiven}

@@ -6,9 +6,9 @@ use Rattle.homa_plain.specs.declared.fault.WorldFault.TheVariants.{NoSuchHost, S
 use Rattle.node_io.specs.declared.observer.SeenFault.TheVariants as seen
 use Rattle.node_runs.specs.Course.{End, Ended, RefusedAt, StalledAt}
 use Rattle.node_runs.specs.Texts.{recorded_end}
-use Rattle.node_acts.specs.Faults.{Counts}
-use Rattle.node_acts.specs.declared.stop.NodeStop.{NodeStop}
-use Rattle.node_acts.specs.declared.stop.NodeStop.TheVariants as stop
+use Rattle.node_turns.specs.Faults.{Counts}
+use Rattle.node_turns.specs.declared.stop.NodeStop.{NodeStop}
+use Rattle.node_turns.specs.declared.stop.NodeStop.TheVariants as stop
 use Rattle.node_record.specs.declared.end.Recorded.{Recorded}
 use Rattle.node_record.specs.declared.end.Recorded.TheVariants.{Done, Refused, Stalled, Stranger, ReadFailed, WriteFailed, NetFailed, NoMemory}
 

@@ -6,7 +6,7 @@ use Rattle.homa_plain.specs.Rules.{Answer}
 use Rattle.homa_plain.specs.Answers.{shown}
 use Rattle.node_runs.specs.Course.{Report, Arrival, AreReceived, AreTicks, End, Run, node_run}
 use Rattle.node_runs.specs.Texts.{entries, recording_text, recording_status, recorded_sent}
-use Rattle.node_acts.specs.Told.{listed, ListedFront}
+use Rattle.node_turns.specs.Told.{listed, ListedFront}
 use Rattle.homa_node.specs.Served.{AreGiven}
 use Rattle.node_trace.specs.Traces.{Around, IsGiven}
 use Rattle.node_record.specs.declared.end.Recorded.{Recorded}

@@ -11,8 +11,8 @@ use homa_io::Sink;
 use homa_plain::{Entry, LineFault, WorldFault};
 use homa_text::Word::{Number, Text};
 use homa_text::{put_entry, put_line};
-use node_acts::NodeStop;
 use node_io::SeenFault;
+use node_turns::NodeStop;
 
 /// How a recording ended, or why it was broken off.
 #[derive(Clone, Copy, Debug, PartialEq, Eq)]

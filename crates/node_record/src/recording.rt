@@ -2,7 +2,7 @@
 ghost use Rattle.std.specs.Prelude.{◌≡◌, ℕ, List, Some, false};
 ghost use Rattle.homa_plain.specs.declared.id.HostId.{HostId as Host};
 ghost use Rattle.node_runs.specs.Recorder.{no_notes};
-ghost use Rattle.node_acts.specs.Faults.{counts};
+ghost use Rattle.node_turns.specs.Faults.{counts};
 ghost use Rattle.homa_record.specs.Printing.{sink_of, notes_of};
 ghost use Rattle.node_trace.specs.Traces.{around};
 ghost use Rattle.node_record.specs.Ends.{HaveFaults};

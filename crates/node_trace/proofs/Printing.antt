@@ -12,9 +12,9 @@ use Rattle.node_runs.specs.Recorder.{Notes, no_notes}
 use Rattle.node_runs.specs.Observed.{observed, never, same_notes}
 use Rattle.node_runs.specs.Texts.{end_entry, last_text, printed, node_text}
 use Rattle.node_io.specs.declared.observer.SeenFault.TheVariants as seen
-use Rattle.node_acts.specs.Told.{ListedFront, AreFront, AreStrange}
-use Rattle.node_acts.specs.declared.stop.NodeStop.{NodeStop}
-use Rattle.node_acts.specs.declared.stop.NodeStop.TheVariants as stop
+use Rattle.node_turns.specs.Told.{ListedFront, AreFront, AreStrange}
+use Rattle.node_turns.specs.declared.stop.NodeStop.{NodeStop}
+use Rattle.node_turns.specs.declared.stop.NodeStop.TheVariants as stop
 use Rattle.homa_node.specs.Served.{Outside, outside, IsServed, IsPart, IsAnswered, BeginsRun}
 use Rattle.homa_node.proofs.Observing.{told_observed, front_observed}
 use Rattle.node_trace.specs.declared.end.NodeEnd.{NodeEnd}

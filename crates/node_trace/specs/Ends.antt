@@ -6,9 +6,9 @@ use Rattle.homa_plain.specs.declared.fault.WorldFault.TheVariants.{NoSuchHost, S
 use Rattle.homa_plain.specs.Shape.{IsCause}
 use Rattle.node_runs.specs.Course as run
 use Rattle.node_io.specs.declared.observer.SeenFault.TheVariants as seen
-use Rattle.node_acts.specs.Faults.{Counts}
-use Rattle.node_acts.specs.declared.stop.NodeStop.{NodeStop}
-use Rattle.node_acts.specs.declared.stop.NodeStop.TheVariants as stop
+use Rattle.node_turns.specs.Faults.{Counts}
+use Rattle.node_turns.specs.declared.stop.NodeStop.{NodeStop}
+use Rattle.node_turns.specs.declared.stop.NodeStop.TheVariants as stop
 use Rattle.node_trace.specs.declared.end.NodeEnd.{NodeEnd}
 use Rattle.node_trace.specs.declared.end.NodeEnd.TheVariants.{Ended, Refused, Stalled}
 use Rattle.node_trace.specs.declared.end.Broken.{Broken}

@@ -6,7 +6,7 @@ use Rattle.homa_plain.specs.Entries.{PlainEntry}
 use Rattle.homa_plain.specs.Rules.{Answer}
 use Rattle.node_runs.specs.Course.{Report, Datagram, Arrival, AreReceived, AreTicks, End, Run, node_run}
 use Rattle.node_runs.specs.Texts.{entries, node_text}
-use Rattle.node_acts.specs.Told.{listed, ListedFront}
+use Rattle.node_turns.specs.Told.{listed, ListedFront}
 use Rattle.homa_node.specs.Served.{AreGiven}
 use Rattle.node_trace.specs.declared.end.NodeEnd.{NodeEnd}
 use Rattle.node_trace.specs.declared.end.NodeEnd.TheVariants.{Ended, Refused, Stalled}

@@ -3,8 +3,8 @@ ghost use Rattle.std.specs.Prelude.{◌≡◌, IfOk};
 ghost use Rattle.node_trace.specs.Ends.{end_told, IsTold};
 
 use homa_plain::{LineFault, WorldFault};
-use node_acts::NodeStop;
 use node_io::SeenFault;
+use node_turns::NodeStop;
 
 /// How a run ended, as its last line tells.
 #[derive(Clone, Copy, Debug, PartialEq, Eq)]

@@ -4,7 +4,7 @@ ghost use Rattle.homa_io.specs.Outside.{HasRisen, appended, TookFront};
 ghost use Rattle.homa_plain.specs.declared.id.HostId.{HostId as Host};
 ghost use Rattle.homa_plain.specs.Text.{line_text};
 ghost use Rattle.node_runs.specs.Texts.{end_entry};
-ghost use Rattle.node_acts.specs.Faults.{counts};
+ghost use Rattle.node_turns.specs.Faults.{counts};
 ghost use Rattle.node_trace.specs.Ends.{end_seen, IsTold, HaveFaults};
 ghost use Rattle.node_trace.specs.Traces.{around, IsPrinted};
 

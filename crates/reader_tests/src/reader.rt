@@ -14,15 +14,20 @@ use std::alloc::{AllocError, Global};
 use std::process::Abort;
 use std::test::Fail;
 
+// An entry's line goes to a sink.
+fn puts(rt: &impl Abort, sink: &mut MemSink, entry: &Entry<'_>, line: &[u8])
+    requires { HasLine (plain entry.now) }
+{
+    assert_eq!(rt; put_entry(sink, entry), Ok(()));
+    assert!(rt; sink.bytes().strip_suffix(b"\n") == Some(line));
+}
+
 // An entry is printed as this line.
 fn is_printed(rt: &impl Abort, alloc: Global, entry: &Entry<'_>, line: &[u8]) -> Result<(), Fail>
     requires { HasLine (plain entry.now) }
 {
-    let mut expected = Vec::from_slice(alloc, line)?;
-    expected.push(b'\n')?;
     let mut sink = MemSink::new(alloc, 300, Vec::new(alloc))?;
-    assert_eq!(rt; put_entry(&mut sink, entry), Ok(()));
-    assert_eq!(rt; sink.bytes(), expected.as_slice());
+    puts(rt, &mut sink, entry, line);
     Ok(())
 }
 

@@ -6,7 +6,7 @@ use node_io::{MemClock, MemNet};
 use std::alloc::{AllocError, Global};
 
 // The most bytes that a run prints.
-const MOST_BYTES: u32 = 100_000;
+const MOST_BYTES: u32 = 2_100_000;
 
 // The most reads, or writes, that fail in turn.
 const MOST_TURNS: u64 = 1000;

@@ -1,9 +1,10 @@
-// Schedules that are read, refused and printed. What is expected is written out by hand.
+// Schedules that are read, refused and printed. What is expected is written out by hand. Short ones that are refused are rows
+// of the program run_rows.
 ghost use Rattle.std.specs.Prelude.{◌≡◌, ◌<◌, ◌-◌, ◌^◌, true, false, Ok};
 ghost use Rattle.homa_script.specs.Script.{opened, is_end};
 
 use homa_io::{MemSink, MemSource, ReadFailed, WriteFailed};
-use homa_plain::{Event, HostId, Name, ScriptFault, SettingFault, Settings};
+use homa_plain::{Event, HostId, ScriptFault, Settings};
 use homa_script::{Next, Reader, ScriptStop, put_event, put_settings};
 use std::alloc::{AllocError, Global};
 use std::process::Abort;
@@ -46,12 +47,19 @@ fn stops(rt: &impl Abort, reader: &mut Reader, source: &mut MemSource, stop: Scr
     assert_eq!(rt; reader.next(source), Err(stop));
 }
 
-// The settings are refused so, and what comes next is too.
-fn refuses(rt: &impl Abort, reader: &mut Reader, source: &mut MemSource, stop: ScriptStop)
+// The settings are refused so, with so many lines read, and what comes next is too.
+fn refuses(
+    rt: &impl Abort,
+    reader: &mut Reader,
+    source: &mut MemSource,
+    stop: ScriptStop,
+    lines: u64,
+)
     requires { reader.old ≡ opened reader.old.place.limit }
 {
     assert_eq!(rt; reader.settings(source), Err(stop));
     assert_eq!(rt; reader.next(source), Err(stop));
+    assert_eq!(rt; reader.line(), lines);
 }
 
 // What the events give behind the settings, of which there are at most a hundred: how many they are, or
@@ -103,117 +111,6 @@ fn behind_go(alloc: Global, line: &[u8]) -> Result<Vec<u8>, AllocError> {
     let mut text = Vec::from_slice(alloc, b"go\n")?;
     text.extend_from_slice(line)?;
     Ok(text)
-}
-
-#[test]
-fn schedules_that_are_refused(rt: HostRuntime) -> Result<(), Fail> {
-    let setting = |fault| ScriptFault::Setting(fault);
-    let rows: [(&[u8], u64, ScriptFault); 16] = [
-        (b"window 8\ngo", 2, setting(SettingFault::UnschedOverWindow)),
-        (b"rate 1000\ngo\n", 2, setting(SettingFault::RateUnderSeg)),
-        (
-            b"seg 1401\ngo",
-            2,
-            setting(SettingFault::OutOfRange(Name::Seg)),
-        ),
-        (b"turn 0", 1, ScriptFault::NoGo),
-        (b"go\nseg 4", 2, ScriptFault::UnknownWord),
-        (b"go\ndeliver", 2, ScriptFault::Missing),
-        (b"go\ndeliver 01", 2, ScriptFault::BadNumber),
-        (b"go\ncall 0 1 0 *1000002", 2, ScriptFault::BadNumber),
-        (b"go\ncall 0 1 0 6", 2, ScriptFault::BadHex),
-        (b"go\nturn 0 0", 2, ScriptFault::Extra),
-        (b"", 1, ScriptFault::NoGo),
-        (b"hosts 2", 2, ScriptFault::NoGo),
-        (b"hosts 2\n", 2, ScriptFault::NoGo),
-        (b"# none\n\nhosts 2\r\n", 4, ScriptFault::NoGo),
-        (
-            b"hosts 4294967295\ngo",
-            2,
-            setting(SettingFault::OutOfRange(Name::Hosts)),
-        ),
-        (
-            b"go\nclock\n\n# one\nclock\nclock 1\nclock",
-            6,
-            ScriptFault::Extra,
-        ),
-    ];
-    for (text, line, fault) in rows {
-        refused(&rt, rt.alloc(), text, line, fault)?;
-    }
-    Ok(())
-}
-
-#[test]
-fn lines_before_go_that_are_refused(rt: HostRuntime) -> Result<(), Fail> {
-    let rows: [(&[u8], ScriptFault); 11] = [
-        (b"hosts\n", ScriptFault::Missing),
-        (b"hosts 01\n", ScriptFault::BadNumber),
-        (b"hosts 4294967296\n", ScriptFault::BadNumber),
-        (b"hosts 2 2\n", ScriptFault::Extra),
-        (b"hosts x 2\n", ScriptFault::BadNumber),
-        (b"go 1\n", ScriptFault::Extra),
-        (b"go\r\r\n", ScriptFault::UnknownWord),
-        (b"\tgo\n", ScriptFault::UnknownWord),
-        (b"call x\n", ScriptFault::NoGo),
-        (b"shift\n", ScriptFault::NoGo),
-        (b"local 0\n", ScriptFault::UnknownWord),
-    ];
-    for (text, fault) in rows {
-        refused(&rt, rt.alloc(), text, 1, fault)?;
-    }
-    refused(&rt, rt.alloc(), b"window 8\ngo 1", 2, ScriptFault::Extra)?;
-    Ok(())
-}
-
-#[test]
-fn lines_behind_go_that_are_refused(rt: HostRuntime) -> Result<(), Fail> {
-    let rows: [(&[u8], ScriptFault); 39] = [
-        (b"call", ScriptFault::Missing),
-        (b"call x", ScriptFault::BadNumber),
-        (b"call 0", ScriptFault::Missing),
-        (b"call 65536 1 0 -", ScriptFault::BadNumber),
-        (b"call 0 65536 0 -", ScriptFault::BadNumber),
-        (b"call 0 1", ScriptFault::Missing),
-        (b"call 0 1 256 -", ScriptFault::BadNumber),
-        (b"call 0 1 0", ScriptFault::Missing),
-        (b"call 0 1 0 6g", ScriptFault::BadHex),
-        (b"call 0 1 0 -6", ScriptFault::BadHex),
-        (b"call 0 1 0 --", ScriptFault::BadHex),
-        (b"call 0 1 0 6*", ScriptFault::BadHex),
-        (b"call 0 1 0 *", ScriptFault::BadNumber),
-        (b"call 0 1 0 *01", ScriptFault::BadNumber),
-        (b"call 0 1 0 *x", ScriptFault::BadNumber),
-        (b"call 0 1 0 - -", ScriptFault::Extra),
-        (b"deliver -1", ScriptFault::BadNumber),
-        (b"deliver 18446744073709551616", ScriptFault::BadNumber),
-        (b"deliver 1 2", ScriptFault::Extra),
-        (b"clock 1", ScriptFault::Extra),
-        (b"turn", ScriptFault::Missing),
-        (b"turn 65536", ScriptFault::BadNumber),
-        (b"tick 0", ScriptFault::BadNumber),
-        (b"tick 100001", ScriptFault::BadNumber),
-        (b"tick 0 1", ScriptFault::BadNumber),
-        (b"tick 1 1", ScriptFault::Extra),
-        (b"restart", ScriptFault::Missing),
-        (b"restart 1 1", ScriptFault::Extra),
-        (b"inject 0", ScriptFault::Missing),
-        (b"inject 0 0", ScriptFault::BadHex),
-        (b"inject 65536 00", ScriptFault::BadNumber),
-        (b"inject 0 00 0", ScriptFault::Extra),
-        (b"shift 0", ScriptFault::Missing),
-        (b"shift 0 4294967296", ScriptFault::BadNumber),
-        (b"shift 0 1 1", ScriptFault::Extra),
-        (b"go", ScriptFault::UnknownWord),
-        (b"hosts x", ScriptFault::UnknownWord),
-        (b"Clock", ScriptFault::UnknownWord),
-        (b"clock\r\r", ScriptFault::UnknownWord),
-    ];
-    for (line, fault) in rows {
-        let text = behind_go(rt.alloc(), line)?;
-        refused(&rt, rt.alloc(), &text, 2, fault)?;
-    }
-    Ok(())
 }
 
 // The line behind `go` stands for this, with these bytes.
@@ -415,11 +312,20 @@ fn is_too_long(rt: &impl Abort, alloc: Global, text: &[u8], limit: u64) -> Resul
 {
     let mut source = source_of(alloc, text)?;
     let mut reader = Reader::open(alloc, limit)?;
-    let stop = ScriptStop::Fault(ScriptFault::InputTooLong);
-    begins(rt, &mut reader, &mut source, &Settings::usual());
-    stops(rt, &mut reader, &mut source, stop);
-    assert_eq!(rt; reader.line(), 2);
+    stops_behind_go(rt, &mut reader, &mut source, ScriptFault::InputTooLong);
     Ok(())
+}
+
+// The line behind `go` is refused so, and whatever comes next is too.
+fn stops_behind_go(rt: &impl Abort, reader: &mut Reader, source: &mut MemSource, fault: ScriptFault)
+    requires { reader.old ≡ opened reader.old.place.limit }
+{
+    let stop = ScriptStop::Fault(fault);
+    begins(rt, reader, source, &Settings::usual());
+    stops(rt, reader, source, stop);
+    stops(rt, reader, source, stop);
+    stops(rt, reader, source, stop);
+    assert_eq!(rt; reader.line(), 2);
 }
 
 #[test]
@@ -436,11 +342,17 @@ fn an_input_that_is_too_long(rt: HostRuntime) -> Result<(), Fail> {
 fn an_input_that_ends_at_the_limit(rt: HostRuntime) -> Result<(), Fail> {
     let mut source = source_of(rt.alloc(), b"go\nclock")?;
     let mut reader = Reader::open(rt.alloc(), 8)?;
-    begins(&rt, &mut reader, &mut source, &Settings::usual());
-    let clock = Next::Event(Event::Clock);
-    goes_on(&rt, &mut reader, &mut source, clock, b"");
-    goes_on(&rt, &mut reader, &mut source, Next::End, b"");
+    reads_a_clock(&rt, &mut reader, &mut source);
     Ok(())
+}
+
+// The usual settings, the clock, and the end.
+fn reads_a_clock(rt: &impl Abort, reader: &mut Reader, source: &mut MemSource)
+    requires { reader.old ≡ opened reader.old.place.limit }
+{
+    begins(rt, reader, source, &Settings::usual());
+    goes_on(rt, reader, source, Next::Event(Event::Clock), b"");
+    goes_on(rt, reader, source, Next::End, b"");
 }
 
 // A source of these bytes, of which the read with this number, from 0, fails.
@@ -455,12 +367,7 @@ fn the_first_stop_stays(rt: HostRuntime) -> Result<(), Fail> {
     let bytes = Vec::from_slice(rt.alloc(), b"go\nclock x\nclock\n")?;
     let mut source = failing(rt.alloc(), bytes, 1)?;
     let mut reader = Reader::open(rt.alloc(), MOST_BYTES)?;
-    let stop = ScriptStop::Fault(ScriptFault::Extra);
-    begins(&rt, &mut reader, &mut source, &Settings::usual());
-    stops(&rt, &mut reader, &mut source, stop);
-    stops(&rt, &mut reader, &mut source, stop);
-    stops(&rt, &mut reader, &mut source, stop);
-    assert_eq!(rt; reader.line(), 2);
+    stops_behind_go(&rt, &mut reader, &mut source, ScriptFault::Extra);
     Ok(())
 }
 
@@ -469,8 +376,7 @@ fn a_first_stop_before_go_stays(rt: HostRuntime) -> Result<(), Fail> {
     let mut source = source_of(rt.alloc(), b"hosts\ngo\nclock")?;
     let mut reader = Reader::open(rt.alloc(), MOST_BYTES)?;
     let stop = ScriptStop::Fault(ScriptFault::Missing);
-    refuses(&rt, &mut reader, &mut source, stop);
-    assert_eq!(rt; reader.line(), 1);
+    refuses(&rt, &mut reader, &mut source, stop, 1);
     Ok(())
 }
 
@@ -480,7 +386,7 @@ fn a_first_read_that_fails(rt: HostRuntime) -> Result<(), Fail> {
     let mut source = failing(rt.alloc(), bytes, 0)?;
     let mut reader = Reader::open(rt.alloc(), MOST_BYTES)?;
     let stop = ScriptStop::Read(ReadFailed);
-    refuses(&rt, &mut reader, &mut source, stop);
+    refuses(&rt, &mut reader, &mut source, stop, 0);
     Ok(())
 }
 
@@ -500,27 +406,36 @@ fn a_read_that_fails_in_an_event(rt: HostRuntime) -> Result<(), Fail> {
     let bytes = more_than_a_read(rt.alloc())?;
     let mut source = failing(rt.alloc(), bytes, 1)?;
     let mut reader = Reader::open(rt.alloc(), MOST_BYTES)?;
-    begins(&rt, &mut reader, &mut source, &Settings::usual());
-    let clock = Next::Event(Event::Clock);
-    goes_on(&rt, &mut reader, &mut source, clock, b"");
-    let stop = ScriptStop::Read(ReadFailed);
-    stops(&rt, &mut reader, &mut source, stop);
-    stops(&rt, &mut reader, &mut source, stop);
+    reads_a_clock_and_fails(&rt, &mut reader, &mut source);
     Ok(())
 }
 
-// The line of an event, which is then read back.
+// The usual settings, the clock, and a read that fails.
+fn reads_a_clock_and_fails(rt: &impl Abort, reader: &mut Reader, source: &mut MemSource)
+    requires { reader.old ≡ opened reader.old.place.limit }
+{
+    begins(rt, reader, source, &Settings::usual());
+    goes_on(rt, reader, source, Next::Event(Event::Clock), b"");
+    let stop = ScriptStop::Read(ReadFailed);
+    stops(rt, reader, source, stop);
+    stops(rt, reader, source, stop);
+}
+
+// An event's line goes to a sink.
+fn puts(rt: &impl Abort, sink: &mut MemSink, event: &Event, bytes: &[u8], line: &[u8]) {
+    assert_eq!(rt; put_event(sink, event, bytes), Ok(()));
+    assert_eq!(rt; sink.bytes(), line);
+}
+
 fn printed(
     rt: &impl Abort,
     alloc: Global,
     event: Event,
     bytes: &[u8],
     line: &[u8],
-) -> Result<(), Fail> {
+) -> Result<(), AllocError> {
     let mut sink = MemSink::new(alloc, 200, Vec::new(alloc))?;
-    assert_eq!(rt; put_event(&mut sink, &event, bytes), Ok(()));
-    assert_eq!(rt; sink.bytes(), line);
-    stands_for(rt, alloc, sink.bytes(), Next::Event(event), bytes)?;
+    puts(rt, &mut sink, &event, bytes, line);
     Ok(())
 }
 
@@ -531,34 +446,26 @@ fn events_that_are_printed(rt: HostRuntime) -> Result<(), Fail> {
         server: HostId(1),
         number: 255,
     };
-    let (host, n) = (HostId(31), u32::MAX);
-    printed(&rt, rt.alloc(), call, b"hi", b"call 0 1 255 6869\n")?;
-    printed(&rt, rt.alloc(), call, b"", b"call 0 1 255 -\n")?;
-    let deliver = Event::Deliver { packet: 12 };
-    printed(&rt, rt.alloc(), deliver, b"", b"deliver 12\n")?;
-    printed(&rt, rt.alloc(), Event::Clock, b"", b"clock\n")?;
-    printed(&rt, rt.alloc(), Event::Turn { host }, b"", b"turn 31\n")?;
-    printed(
-        &rt,
-        rt.alloc(),
-        Event::Restart { host },
-        b"",
-        b"restart 31\n",
-    )?;
-    printed(
-        &rt,
-        rt.alloc(),
-        Event::Inject { host },
-        b"\x0a\xff",
-        b"inject 31 0aff\n",
-    )?;
-    printed(
-        &rt,
-        rt.alloc(),
-        Event::Shift { host, n },
-        b"",
-        b"shift 31 4294967295\n",
-    )
+    let host = HostId(31);
+    let rows: [(Event, &[u8], &[u8]); 8] = [
+        (call, b"hi", b"call 0 1 255 6869\n"),
+        (call, b"", b"call 0 1 255 -\n"),
+        (Event::Deliver { packet: 12 }, b"", b"deliver 12\n"),
+        (Event::Clock, b"", b"clock\n"),
+        (Event::Turn { host }, b"", b"turn 31\n"),
+        (Event::Restart { host }, b"", b"restart 31\n"),
+        (Event::Inject { host }, b"\x0a\xff", b"inject 31 0aff\n"),
+        (
+            Event::Shift { host, n: u32::MAX },
+            b"",
+            b"shift 31 4294967295\n",
+        ),
+    ];
+    for (event, bytes, line) in rows {
+        printed(&rt, rt.alloc(), event, bytes, line)?;
+        stands_for(&rt, rt.alloc(), line, Next::Event(event), bytes)?;
+    }
+    Ok(())
 }
 
 // The lines of the usual settings, and these last ones.
@@ -570,14 +477,33 @@ fn usual_lines(alloc: Global, last: &[u8]) -> Result<Vec<u8>, AllocError> {
     Ok(text)
 }
 
-// Settings are printed as the usual lines with these last ones, which are then read back.
-fn prints(rt: &impl Abort, alloc: Global, settings: &Settings, last: &[u8]) -> Result<(), Fail> {
-    let text = usual_lines(alloc, last)?;
+// Settings are printed as these lines.
+fn puts_settings(rt: &impl Abort, sink: &mut MemSink, settings: &Settings, text: &[u8]) {
+    assert_eq!(rt; put_settings(sink, settings), Ok(()));
+    assert_eq!(rt; sink.bytes(), text);
+}
+
+fn prints_settings(
+    rt: &impl Abort,
+    alloc: Global,
+    settings: &Settings,
+    text: &[u8],
+) -> Result<(), AllocError> {
     let mut sink = MemSink::new(alloc, 300, Vec::new(alloc))?;
-    assert_eq!(rt; put_settings(&mut sink, settings), Ok(()));
-    assert_eq!(rt; sink.bytes(), text.as_slice());
-    reads_back(rt, alloc, settings, &text)?;
+    puts_settings(rt, &mut sink, settings, text);
     Ok(())
+}
+
+// Settings are printed as the usual lines with these last ones, which are then read back.
+fn prints(
+    rt: &impl Abort,
+    alloc: Global,
+    settings: &Settings,
+    last: &[u8],
+) -> Result<(), AllocError> {
+    let text = usual_lines(alloc, last)?;
+    prints_settings(rt, alloc, settings, &text)?;
+    reads_back(rt, alloc, settings, &text)
 }
 
 fn reads_back(
@@ -595,38 +521,43 @@ fn reads_back(
 #[test]
 fn settings_that_are_printed(rt: HostRuntime) -> Result<(), Fail> {
     let usual = Settings::usual();
-    prints(&rt, rt.alloc(), &usual, b"go\n")?;
-    prints(
-        &rt,
-        rt.alloc(),
-        &Settings { skew: 2, ..usual },
-        b"skew 2\ngo\n",
-    )?;
-    prints(
-        &rt,
-        rt.alloc(),
-        &Settings { wire: 2, ..usual },
-        b"skew 0\nwire 2\ngo\n",
-    )
+    let rows: [(Settings, &[u8]); 3] = [
+        (usual, b"go\n"),
+        (Settings { skew: 2, ..usual }, b"skew 2\ngo\n"),
+        (Settings { wire: 2, ..usual }, b"skew 0\nwire 2\ngo\n"),
+    ];
+    for (settings, last) in rows {
+        prints(&rt, rt.alloc(), &settings, last)?;
+    }
+    Ok(())
+}
+
+// The fourth line fails.
+fn fails_at_the_fourth(rt: &impl Abort, sink: &mut MemSink) {
+    let usual = Settings::usual();
+    assert_eq!(rt; put_settings(sink, &usual), Err(WriteFailed));
+    let lines = b"hosts 2\nseg 1400\nwindow 10000\n".as_slice();
+    assert_eq!(rt; sink.bytes(), lines);
+    assert_eq!(rt; put_event(sink, &Event::Clock, b""), Ok(()));
 }
 
 #[test]
 fn writes_that_fail(rt: HostRuntime) -> Result<(), Fail> {
-    // The fourth line fails.
     let fails = Vec::from_slice(rt.alloc(), &[3])?;
     let mut sink = MemSink::new(rt.alloc(), 300, fails)?;
-    let usual = Settings::usual();
-    assert_eq!(rt; put_settings(&mut sink, &usual), Err(WriteFailed));
-    let lines = b"hosts 2\nseg 1400\nwindow 10000\n".as_slice();
-    assert_eq!(rt; sink.bytes(), lines);
-    assert_eq!(rt; put_event(&mut sink, &Event::Clock, b""), Ok(()));
+    fails_at_the_fourth(&rt, &mut sink);
     Ok(())
+}
+
+// Four bytes of a line go in.
+fn is_full(rt: &impl Abort, full: &mut MemSink) {
+    assert_eq!(rt; put_event(full, &Event::Clock, b""), Err(WriteFailed));
+    assert_eq!(rt; full.bytes(), b"cloc".as_slice());
 }
 
 #[test]
 fn a_write_that_finds_no_room(rt: HostRuntime) -> Result<(), Fail> {
     let mut full = MemSink::new(rt.alloc(), 4, Vec::new(rt.alloc()))?;
-    assert_eq!(rt; put_event(&mut full, &Event::Clock, b""), Err(WriteFailed));
-    assert_eq!(rt; full.bytes(), b"cloc".as_slice());
+    is_full(&rt, &mut full);
     Ok(())
 }

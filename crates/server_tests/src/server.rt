@@ -164,21 +164,20 @@ impl Server {
 }
 
 // A request that comes in two pieces runs.
-fn runs(rt: &impl Abort, alloc: Global, server: &mut Server) -> Result<(), AllocError>
+fn runs(rt: &impl Abort, alloc: Global, server: &mut Server)
     requires { AreIn server.old.pool (request_at server.old.table.rows) }
 {
-    opens(rt, alloc, server, piece(5, 0, 2), 10, 0)?;
+    opens(rt, alloc, server, piece(5, 0, 2), 10, 0);
     assert!(rt; server.table.rows() == 1);
-    let last = server.get(alloc, FROM, &piece(5, 2, 2), b"cde", 11, 1)?;
+    let last = server.get(alloc, FROM, &piece(5, 2, 2), b"cde", 11, 1).ok();
     let ran = ServerDid::Ran {
         slot: slot(rt, &server.table),
         opened: false,
         hold: 0,
     };
-    assert!(rt; last == ran);
+    assert!(rt; last == Some(ran));
     assert!(rt; server.scratch.bytes() == b"abcde".as_slice());
     assert!(rt; server.pool.free() == 2);
-    Ok(())
 }
 
 // The slot of the call's row.
@@ -189,14 +188,7 @@ fn slot(rt: &impl Abort, table: &ServerTable) -> u32
 }
 
 // A request's piece with the bytes "ab" opens it.
-fn opens(
-    rt: &impl Abort,
-    alloc: Global,
-    server: &mut Server,
-    packet: Packet,
-    now: u64,
-    order: u64,
-) -> Result<(), AllocError>
+fn opens(rt: &impl Abort, alloc: Global, server: &mut Server, packet: Packet, now: u64, order: u64)
     requires role { packet.role ≡ Role.Client }
     requires fits { IsFit packet.body (97 ∷ 98 ∷ []) }
     requires now { now ≤ 1000000002000 }
@@ -204,10 +196,9 @@ fn opens(
     requires pool { AreIn server.old.pool (request_at server.old.table.rows) }
     ensures { AreIn server.new.pool (request_at server.new.table.rows) }
 {
-    let first = server.get(alloc, FROM, &packet, b"ab", now, order)?;
+    let first = server.get(alloc, FROM, &packet, b"ab", now, order).ok();
     let opened = ServerDid::Opened(slot(rt, &server.table));
-    assert!(rt; first == opened);
-    Ok(())
+    assert!(rt; first == Some(opened));
 }
 
 // The call's row acts at a tick, if it is due, and does this.
@@ -243,16 +234,23 @@ fn leaves(rt: &impl Abort, table: &mut ServerTable) {
     assert!(rt; table.rows() == 1);
 }
 
+// A call from its first piece to its ACK.
+fn comes_to_its_end(rt: &impl Abort, alloc: Global, server: &mut Server)
+    requires { AreIn server.old.pool (request_at server.old.table.rows) }
+{
+    runs(rt, alloc, server);
+    stands(rt, &server.table);
+    leaves(rt, &mut server.table);
+}
+
 #[test]
 fn one_call(rt: HostRuntime) -> Result<(), Fail> {
     let mut server = Server::open(rt.alloc(), &Settings::usual(), 2)?;
-    runs(&rt, rt.alloc(), &mut server)?;
-    stands(&rt, &server.table);
-    leaves(&rt, &mut server.table);
+    comes_to_its_end(&rt, rt.alloc(), &mut server);
     Ok(())
 }
 
-// A request of 12,000 bytes is granted.
+// What was opened of a request of 12,000 bytes is granted.
 fn is_granted(rt: &impl Abort, table: &mut ServerTable) {
     let at = slot(rt, table);
     assert!(rt; table.deadline(at) == Some(14));
@@ -263,30 +261,36 @@ fn is_granted(rt: &impl Abort, table: &mut ServerTable) {
     assert!(rt; granted == Some(12000));
 }
 
+// A request of 12,000 bytes is opened and granted.
+fn opens_and_is_granted(rt: &impl Abort, alloc: Global, server: &mut Server)
+    requires { AreIn server.old.pool (request_at server.old.table.rows) }
+{
+    opens(rt, alloc, server, piece(12000, 0, 0), 10, 0);
+    is_granted(rt, &mut server.table);
+}
+
 #[test]
 fn a_grant(rt: HostRuntime) -> Result<(), Fail> {
     let mut server = Server::open(rt.alloc(), &Settings::usual(), 8)?;
-    opens(&rt, rt.alloc(), &mut server, piece(12000, 0, 0), 10, 0)?;
-    is_granted(&rt, &mut server.table);
+    opens_and_is_granted(&rt, rt.alloc(), &mut server);
     Ok(())
 }
 
 // A service that holds its reply back is asked once.
-fn runs_and_waits(rt: &impl Abort, alloc: Global, server: &mut Server) -> Result<(), AllocError>
+fn runs_and_waits(rt: &impl Abort, alloc: Global, server: &mut Server)
     requires { AreIn server.old.pool (request_at server.old.table.rows) }
     ensures { AreIn server.new.pool (request_at server.new.table.rows) }
 {
-    let first = server.get(alloc, FROM, &piece(2, 0, 3), b"hi", 10, 0)?;
+    let first = server.get(alloc, FROM, &piece(2, 0, 3), b"hi", 10, 0).ok();
     let at = slot(rt, &server.table);
     let ran = ServerDid::Ran {
         slot: at,
         opened: true,
         hold: 10,
     };
-    assert!(rt; first == ran);
-    let again = server.get(alloc, FROM, &piece(2, 0, 3), b"hi", 11, 1)?;
-    assert!(rt; again == ServerDid::Nothing);
-    Ok(())
+    assert!(rt; first == Some(ran));
+    let again = server.get(alloc, FROM, &piece(2, 0, 3), b"hi", 11, 1).ok();
+    assert!(rt; again == Some(ServerDid::Nothing));
 }
 
 // The reply goes out when it has been held for 10 ticks.
@@ -301,30 +305,40 @@ fn is_released(rt: &impl Abort, server: &mut Server)
     assert!(rt; server.table.emit(at, 20, 1400) == Emitted::Sent(0, 2));
 }
 
+// A reply is held back, and goes out.
+fn holds_and_releases(rt: &impl Abort, alloc: Global, server: &mut Server)
+    requires { AreIn server.old.pool (request_at server.old.table.rows) }
+{
+    runs_and_waits(rt, alloc, server);
+    is_released(rt, server);
+}
+
 #[test]
 fn a_held_reply(rt: HostRuntime) -> Result<(), Fail> {
     let mut server = Server::open(rt.alloc(), &Settings::usual(), 2)?;
-    runs_and_waits(&rt, rt.alloc(), &mut server)?;
-    is_released(&rt, &mut server);
+    holds_and_releases(&rt, rt.alloc(), &mut server);
     Ok(())
 }
 
 // Too few pages for the first request, and too few rows for the third.
-fn fills(rt: &impl Abort, alloc: Global, server: &mut Server) -> Result<(), AllocError>
+fn fills(rt: &impl Abort, alloc: Global, server: &mut Server)
     requires { AreIn server.old.pool (request_at server.old.table.rows) }
 {
-    let full = server.get(alloc, FROM, &piece(5000, 0, 0), b"ab", 10, 0)?;
-    assert!(rt; full == (ServerDid::FullPages { need: 2, free: 1 }));
-    opens(rt, alloc, server, piece(50, 10, 0), 10, 0)?;
-    let other = server.get(alloc, HostId(2), &piece(5, 0, 0), b"ab", 11, 1)?;
-    assert!(rt; other == (ServerDid::FullRows { rows: 1 }));
-    Ok(())
+    let full = server
+        .get(alloc, FROM, &piece(5000, 0, 0), b"ab", 10, 0)
+        .ok();
+    assert!(rt; full == Some(ServerDid::FullPages { need: 2, free: 1 }));
+    opens(rt, alloc, server, piece(50, 10, 0), 10, 0);
+    let other = server
+        .get(alloc, HostId(2), &piece(5, 0, 0), b"ab", 11, 1)
+        .ok();
+    assert!(rt; other == Some(ServerDid::FullRows { rows: 1 }));
 }
 
 #[test]
 fn too_little_room(rt: HostRuntime) -> Result<(), Fail> {
     let mut server = Server::open(rt.alloc(), &one_row(), 1)?;
-    fills(&rt, rt.alloc(), &mut server)?;
+    fills(&rt, rt.alloc(), &mut server);
     Ok(())
 }
 
@@ -340,12 +354,19 @@ fn gives_up(rt: &impl Abort, server: &mut Server)
     assert!(rt; server.pool.free() == 1);
 }
 
+// A request is given up, and opened again.
+fn drops_and_reopens(rt: &impl Abort, alloc: Global, server: &mut Server)
+    requires { AreIn server.old.pool (request_at server.old.table.rows) }
+{
+    opens(rt, alloc, server, piece(50, 10, 0), 10, 0);
+    gives_up(rt, server);
+    opens(rt, alloc, server, piece(50, 10, 0), 19, 1);
+}
+
 #[test]
 fn a_drop_and_its_reopening(rt: HostRuntime) -> Result<(), Fail> {
     let mut server = Server::open(rt.alloc(), &one_row(), 1)?;
-    opens(&rt, rt.alloc(), &mut server, piece(50, 10, 0), 10, 0)?;
-    gives_up(&rt, &mut server);
-    opens(&rt, rt.alloc(), &mut server, piece(50, 10, 0), 19, 1)?;
+    drops_and_reopens(&rt, rt.alloc(), &mut server);
     Ok(())
 }
 

@@ -42,11 +42,16 @@ fn goes_late(rt: &impl Abort, alloc: Global, packets: &mut Packets) -> Result<()
     Ok(())
 }
 
+// There was memory.
+fn has_memory(rt: &impl Abort, answer: Result<(), AllocError>) {
+    assert!(rt; answer.is_ok());
+}
+
 #[test]
 fn late_after_its_life(rt: HostRuntime) -> Result<(), Fail> {
     let settings = settings(1)?;
     let mut packets = Packets::open(rt.alloc(), &settings);
-    goes_late(&rt, rt.alloc(), &mut packets)?;
+    has_memory(&rt, goes_late(&rt, rt.alloc(), &mut packets));
     Ok(())
 }
 
@@ -95,7 +100,7 @@ fn goes_stale(
 fn stale_by_its_clock(rt: HostRuntime) -> Result<(), Fail> {
     let settings = settings(2)?;
     let mut packets = Packets::open(rt.alloc(), &settings);
-    goes_stale(&rt, rt.alloc(), &mut packets, &busy())?;
+    has_memory(&rt, goes_stale(&rt, rt.alloc(), &mut packets, &busy()));
     Ok(())
 }
 
@@ -127,7 +132,7 @@ fn are_late(rt: &impl Abort, packets: &Packets) {
 fn late_by_its_number(rt: HostRuntime) -> Result<(), Fail> {
     let settings = settings(1)?;
     let mut packets = Packets::open(rt.alloc(), &settings);
-    go_late(rt.alloc(), &mut packets)?;
+    has_memory(&rt, go_late(rt.alloc(), &mut packets));
     are_late(&rt, &packets);
     Ok(())
 }

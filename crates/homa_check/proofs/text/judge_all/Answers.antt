@@ -3,7 +3,7 @@ use Rattle.std.proofs.lemmas.Result.{err_from_is_err_and}
 use Rattle.homa_io.specs.Outside.{HasRisen}
 use Rattle.homa_plain.specs.View.{nothing_seen}
 use Rattle.homa_text.specs.Lines.{reading}
-use Rattle.check_text.specs.Verdict as plain
+use Rattle.check_verdict.specs.Verdict as plain
 use Rattle.homa_check.specs.Clauses.{clause_of}
 use Rattle.homa_check.specs.Checks.{plain_verdict}
 use Rattle.homa_check.proofs.LoopLaws.{start_due, start_so_far, cut_short, read_further, taken_start, taken_more, up_to, end_no}

@@ -1,7 +1,7 @@
 use Rattle.std.proofs.Common.{◌≡◌, ◌-◌, ◌≤◌, ℕ, List, Some, length}
 use Rattle.homa_plain.specs.View.{View}
 use Rattle.homa_text.specs.Lines.{reading}
-use Rattle.check_text.specs.Verdict.{verdict_of}
+use Rattle.check_verdict.specs.Verdict.{verdict_of}
 use Rattle.check_lines.specs.Traces.{Follows}
 use Rattle.homa_check.specs.Checks.{verdict_next, IsSoFar, HasTaken}
 use Rattle.homa_check.proofs.text.judge_all.Given as goal

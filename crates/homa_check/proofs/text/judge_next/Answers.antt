@@ -2,7 +2,7 @@ use Rattle.std.proofs.Common.{◌∙◌, arith, sym, ap, subst, List, ℕ}
 use Rattle.std.specs.Option.{option_map}
 use Rattle.homa_text.specs.Lines.{reading}
 use Rattle.check_reader.specs.Forms.{entry_of}
-use Rattle.check_text.specs.Verdict.{judged_text, seen_text}
+use Rattle.check_verdict.specs.Verdict.{judged_text, seen_text}
 use Rattle.homa_check.specs.Clauses.{clause_of}
 use Rattle.check_lines.specs.Traces.{Follows}
 use Rattle.homa_check.proofs.LoopLaws.{none_ends, long_fails, over_fails, line_fails, line_taken, read_more, took_line, took_over, took_none}

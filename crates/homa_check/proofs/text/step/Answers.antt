@@ -4,8 +4,8 @@ use Rattle.std.specs.Option.{option_map}
 use Rattle.homa_plain.specs.Entries.{PlainEntry, plain}
 use Rattle.homa_plain.specs.View.{View}
 use Rattle.check_reader.specs.Forms.{entry_of}
-use Rattle.check_text.specs.Verdict.{judged_text, seen_text}
-use Rattle.check_text.proofs.TextLaws.{entry_read}
+use Rattle.check_verdict.specs.Verdict.{judged_text, seen_text}
+use Rattle.check_verdict.proofs.TextLaws.{entry_read}
 use Rattle.homa_check.specs.Clauses.{clause_of}
 use Rattle.check_lines.specs.Traces.{Follows}
 use Rattle.homa_check.proofs.text.step.Goals as goal

@@ -1,7 +1,7 @@
 use Rattle.std.proofs.Common.{ap, refl, Ok, [], ◌∷◌}
 use Rattle.std.proofs.lemmas.Result.{err_from_is_err_and}
-use Rattle.node_acts.proofs.Lists.{whole_listed, front_none}
-use Rattle.node_acts.proofs.Tellings.{told_none, front_rest, seen_midst}
+use Rattle.node_turns.proofs.Lists.{whole_listed, front_none}
+use Rattle.node_turns.proofs.Tellings.{told_none, front_rest, seen_midst}
 use Rattle.homa_node.specs.Starting.{called}
 use Rattle.homa_node.proofs.Starting.{acted_call}
 use Rattle.homa_node.proofs.CallCuts.{cut_uncalled, cut_called}

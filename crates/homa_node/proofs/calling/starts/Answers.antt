@@ -1,8 +1,8 @@
 use Rattle.std.proofs.Common.{◌≡◌, ◌≤◌, List, Some, refl, sym, ap, ◌∙◌, subst, ℕ}
 use Rattle.std.proofs.lemmas.Result.{err_from_is_err_and}
 use Rattle.node_runs.specs.Script.{with_call}
-use Rattle.node_acts.specs.Told.{AreTold}
-use Rattle.node_acts.proofs.Tellings.{told_none, told_more}
+use Rattle.node_turns.specs.Told.{AreTold}
+use Rattle.node_turns.proofs.Tellings.{told_none, told_more}
 use Rattle.script_lines.specs.Read.{IsRead}
 use Rattle.script_lines.proofs.ReadParts.{read_start}
 use Rattle.node_script.specs.Heads.{setup_seen}

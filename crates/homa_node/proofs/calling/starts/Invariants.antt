@@ -1,5 +1,5 @@
 use Rattle.std.proofs.Common.{◌≡◌, ℕ, Some, List}
-use Rattle.node_acts.specs.Told.{AreTold}
+use Rattle.node_turns.specs.Told.{AreTold}
 use Rattle.node_script.specs.Heads.{setup_seen}
 use Rattle.homa_node.specs.Coming.{calls_ahead, IsLooked, IsOpenAt, IsAllRead, HasRoom, lines_ahead}
 use Rattle.homa_node.specs.Started.{HasStarted}

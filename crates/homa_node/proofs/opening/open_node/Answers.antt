@@ -5,9 +5,9 @@ use Rattle.homa_plain.specs.Entries.{PlainSettings}
 use Rattle.homa_plain.specs.Script.{most_bytes}
 use Rattle.node_runs.specs.Script.{Opened, opening}
 use Rattle.node_runs.specs.Course.{Tells, node_run, first_inc}
-use Rattle.node_acts.specs.Told.{AreFront}
-use Rattle.node_acts.specs.declared.stop.NodeStop.TheVariants.{Seen}
-use Rattle.node_acts.proofs.Tellings.{told_one, front_first, never_own, seen_midst, seen_never}
+use Rattle.node_turns.specs.Told.{AreFront}
+use Rattle.node_turns.specs.declared.stop.NodeStop.TheVariants.{Seen}
+use Rattle.node_turns.proofs.Tellings.{told_one, front_first, never_own, seen_midst, seen_never}
 use Rattle.script_lines.specs.Read.{IsRead}
 use Rattle.node_script.specs.Setup.{place_seen}
 use Rattle.node_script.specs.Heads.{setup_seen}

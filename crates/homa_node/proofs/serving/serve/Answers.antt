@@ -3,9 +3,9 @@ use Rattle.std.specs.List.{AllByRecursion}
 use Rattle.std.proofs.lemmas.Result.{err_from_is_err_and}
 use Rattle.homa_plain.specs.declared.id.HostId.{HostId}
 use Rattle.node_runs.specs.Course.{StalledAt, node_run}
-use Rattle.node_acts.specs.Told.{Listed, ListedFront, AreTold, AreFront, AreStrange}
-use Rattle.node_acts.proofs.Lists.{listed_more, front_listed}
-use Rattle.node_acts.proofs.Tellings.{front_more, strange_more, on_stop, midst_never}
+use Rattle.node_turns.specs.Told.{Listed, ListedFront, AreTold, AreFront, AreStrange}
+use Rattle.node_turns.proofs.Lists.{listed_more, front_listed}
+use Rattle.node_turns.proofs.Tellings.{front_more, strange_more, on_stop, midst_never}
 use Rattle.node_script.specs.Heads.{setup_seen}
 use Rattle.node_script.specs.Calls.{no_calls}
 use Rattle.homa_node.specs.Coming.{calls_ahead, IsIdle, IsAllRead, HasRoom}

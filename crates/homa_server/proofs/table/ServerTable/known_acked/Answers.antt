@@ -24,19 +24,19 @@ returns-clause-acked c =
     let t = c.self.inside in
     let rows = t.rows.rows in
     let row = c.row_mut.result.now in
-    let after = c.ack.new.self in
+    let after = c.bury_at_ack.new.self in
     let placed = subst (λ (v : Servers). ArePlaced v.settings.served v.rows) (sym c.self.view_is) c.requires.placed in
     let here = subst (λ (v : Servers). Some c.args.slot ≡ slot_at v.rows c.args.id) (sym c.self.view_is) c.requires.stands in
     let stands = known_stands t.settings.served rows c.args.id c.args.slot placed here row c.row_mut.ensures.row in
     subst (λ (v : Servers). (pool : Pool) (order : ℕ) → AreIn pool (request_at v.rows)
     → server_acked v.settings (server_moment v c.args.now order pool c.args.id) c.args.id (server_at pool v.rows c.args.id)
-    ≡ acked_of (server_moment v c.args.now order pool c.args.id) c.args.id (server_at pool (set_at rows c.args.slot after) c.args.id) c.ack.result) c.self.view_is
+    ≡ acked_of (server_moment v c.args.now order pool c.args.id) c.args.id (server_at pool (set_at rows c.args.slot after) c.args.id) c.bury_at_ack.result) c.self.view_is
     (λ pool order are.
     let v : Servers = record { host = t.host; settings = t.settings; rows = rows } in
     let m = server_moment v c.args.now order pool c.args.id in
     acked_at t.settings.served rows c.args.slot placed t.host t.settings c.args.id row stands pool pool after are
-    (known_still t.settings.served rows c.args.id c.args.slot placed here row c.row_mut.ensures.row after pool c.ack.ensures.part are) m c.ack.result
-    (c.ack.ensures.did c.args.id t.host order m.free m.rows pool))
+    (known_still t.settings.served rows c.args.id c.args.slot placed here row c.row_mut.ensures.row after pool c.bury_at_ack.ensures.part are) m c.bury_at_ack.result
+    (c.bury_at_ack.ensures.did c.args.id t.host order m.free m.rows pool))
 
 pub returns-clause-slot : goal.returns-clause-slot
 returns-clause-slot c =
@@ -45,21 +45,21 @@ returns-clause-slot c =
     let placed = subst (λ (v : Servers). ArePlaced v.settings.served v.rows) (sym c.self.view_is) c.requires.placed in
     let here = subst (λ (v : Servers). Some c.args.slot ≡ slot_at v.rows c.args.id) (sym c.self.view_is) c.requires.stands in
     slot_new t.settings.served rows c.args.slot placed t.host t.settings c.args.id c.row_mut.result.now
-    (known_stands t.settings.served rows c.args.id c.args.slot placed here c.row_mut.result.now c.row_mut.ensures.row) c.ack.new.self
+    (known_stands t.settings.served rows c.args.id c.args.slot placed here c.row_mut.result.now c.row_mut.ensures.row) c.bury_at_ack.new.self
 
 pub returns-clause-moved : goal.returns-clause-moved
 returns-clause-moved c =
     let t = c.self.inside in
     let rows = t.rows.rows in
     let row = c.row_mut.result.now in
-    let after = c.ack.new.self in
+    let after = c.bury_at_ack.new.self in
     let placed = subst (λ (v : Servers). ArePlaced v.settings.served v.rows) (sym c.self.view_is) c.requires.placed in
     let here = subst (λ (v : Servers). Some c.args.slot ≡ slot_at v.rows c.args.id) (sym c.self.view_is) c.requires.stands in
     let stands = known_stands t.settings.served rows c.args.id c.args.slot placed here row c.row_mut.ensures.row in
     subst (λ (v : Servers). (pool : Pool) → AreIn pool (request_at v.rows)
     → ServerMoved c.args.id v pool (record { host = t.host; settings = t.settings; rows = set_at rows c.args.slot after }) pool (server_at pool (set_at rows c.args.slot after) c.args.id)) c.self.view_is
     (λ pool are.
-    let moves = known_still t.settings.served rows c.args.id c.args.slot placed here row c.row_mut.ensures.row after pool c.ack.ensures.part are in
+    let moves = known_still t.settings.served rows c.args.id c.args.slot placed here row c.row_mut.ensures.row after pool c.bury_at_ack.ensures.part are in
     moved_new t.settings.served rows c.args.slot placed t.host t.settings c.args.id row stands pool pool after are moves)
 
 none_so : (o : Option ℕ) (P Q : Type 0) → (P → Q) → IfNone o P → IfNone o Q
@@ -71,11 +71,11 @@ returns-clause-same c =
     let t = c.self.inside in
     let rows = t.rows.rows in
     let row = c.row_mut.result.now in
-    let after = c.ack.new.self in
+    let after = c.bury_at_ack.new.self in
     let placed = subst (λ (v : Servers). ArePlaced v.settings.served v.rows) (sym c.self.view_is) c.requires.placed in
     let here = subst (λ (v : Servers). Some c.args.slot ≡ slot_at v.rows c.args.id) (sym c.self.view_is) c.requires.stands in
     let stands = known_stands t.settings.served rows c.args.id c.args.slot placed here row c.row_mut.ensures.row in
-    subst (λ (v : Servers). IfNone c.ack.result (record { host = t.host; settings = t.settings; rows = set_at rows c.args.slot after } ≡ v)) c.self.view_is
-    (none_so c.ack.result (after ≡ row) _ (λ same.
+    subst (λ (v : Servers). IfNone c.bury_at_ack.result (record { host = t.host; settings = t.settings; rows = set_at rows c.args.slot after } ≡ v)) c.self.view_is
+    (none_so c.bury_at_ack.result (after ≡ row) _ (λ same.
     ap (λ (r : HeldServer). record { host = t.host; settings = t.settings; rows = set_at rows c.args.slot r }) same
-    ∙ ap (λ (m : ServerRows). record { host = t.host; settings = t.settings; rows = m }) (new-same t.settings.served rows c.args.slot placed t.host t.settings c.args.id row stands)) c.ack.ensures.same)
+    ∙ ap (λ (m : ServerRows). record { host = t.host; settings = t.settings; rows = m }) (new-same t.settings.served rows c.args.slot placed t.host t.settings c.args.id row stands)) c.bury_at_ack.ensures.same)

@@ -1,7 +1,7 @@
 use Rattle.std.proofs.Common.{◌<◌, sym, ap, subst, arith}
 use Rattle.homa_plain.specs.declared.event.Event.TheVariants as event
 use Rattle.homa_plain.specs.declared.fault.WorldFault.TheVariants as fault_word
-use Rattle.node_acts.specs.Acting.{IsRefused}
+use Rattle.node_turns.specs.Acting.{IsRefused}
 use Rattle.node_hosts.specs.Standing.{StandsFor}
 use Rattle.node_hosts.proofs.StepLaws.{within, may_step, skew_fits}
 use Rattle.node_hosts.proofs.DoneLaws.{known_there, start_refused, called}

@@ -1,0 +1,5 @@
+mod Alike
+mod Told
+mod Seats
+mod Cases
+mod Runs

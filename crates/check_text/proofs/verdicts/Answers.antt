@@ -1,5 +1,0 @@
-use Rattle.check_text.proofs.TextLaws.{yes_is, no_is}
-use Rattle.check_text.proofs.verdicts.Goals as goal
-
-pub returns : goal.returns
-returns c = record { yes = yes_is; no = no_is }

@@ -1,5 +1,0 @@
-use Rattle.std.proofs.Common.{◌<◌, arith}
-use Rattle.node_acts.proofs.acts.is_received.Goals as goal
-
-pub returns : goal.returns
-returns c = λ from. record { bytes = λ i. omega (arith, c.type_inv.bytes i); few = c.requires }

@@ -1,0 +1,27 @@
+use Rattle.std.proofs.Common.{◌≡◌, ◌≤◌, ◌+◌, ◌*◌, drop}
+use Rattle.homa_plain.specs.World.{World}
+use Rattle.node_runs.specs.Course.{hosts_act}
+use Rattle.node_turns.specs.Told.{AreTold}
+use Rattle.node_turns.specs.Acting.{HasActed, with_left}
+use Rattle.node_turns.proofs.acts.hosts_act.Given as goal
+
+-- so many hosts acted
+abbrev pub invariant-loop-i : goal.invariant-loop-i
+invariant-loop-i g l =
+    let o = g.O.Observer in
+    let n = g.N.Net in
+    let h = g.H.Hosting in
+    record {
+      acted : (w : World) → h.stands l.fn.hosts w
+          → HasActed (with_left (hosts_act (h.settings l.fn.hosts) l.locals)) (with_left (hosts_act (h.settings l.fn.hosts) (drop l.i l.locals)))
+          (h.settings l.fn.hosts) w (h.stands l.hosts) (h.allows l.fn.hosts) (h.allows l.hosts)
+          (AreTold o.told o.kept o.strange (o.taken l.fn.observer) (o.notes l.fn.observer) (o.taken l.observer) (o.notes l.observer)) (n.sent l.fn.net)
+          (n.sent l.net) (n.gave l.fn.net) (n.gave l.net);
+      settings : h.settings l.hosts ≡ h.settings l.fn.hosts;
+      clock : h.clock l.hosts ≡ h.clock l.fn.hosts;
+      steps : h.steps l.hosts ≤ h.steps l.fn.hosts + 65 * l.i;
+      known : n.known l.net ≡ n.known l.fn.net;
+      net : n.faults l.net ≡ n.faults l.fn.net;
+      sink : o.faults l.observer ≡ o.faults l.fn.observer;
+      same : o.is_same l.fn.observer l.observer;
+    }
