@@ -9,3 +9,4 @@ pub mod Putting
 pub mod Texts
 pub mod LineParts
 pub mod Parts
+pub mod Told
