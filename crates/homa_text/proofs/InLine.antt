@@ -4,7 +4,7 @@ use Rattle.std.proofs.lemmas.Bool.{cases_lt, eqb-true}
 use Rattle.std.proofs.lemmas.Bool.Decides.{nat_tests}
 use Rattle.std.proofs.lemmas.List.{length-take-le, take-append-le, take_all, append-nil, nil_from_length}
 use Rattle.std.proofs.Math.Seq.{take-nil, take-append-add}
-use Rattle.homa_io.specs.Outside.{HasRisen, IsAtEnd}
+use Rattle.homa_io.specs.Outside.{IsAtEnd}
 use Rattle.homa_plain.specs.Input.{has_no_feed}
 use Rattle.homa_text.specs.Rest.{Rest, Takes, StopsInLine}
 use Rattle.homa_text.specs.Scan.{IsInLine, IsWhole}
@@ -99,10 +99,3 @@ has_bytes part is test f = grind (arith, nat_tests)
 
 pub some_bytes : (part pending : List ℕ) (is : Bool) → part ≡ pending → is ≡ (length part == 0) → is ≡ false → 0 < length pending
 some_bytes part pending is same test f = subst (λ (xs : List ℕ). 0 < length xs) same (has_bytes part is test f)
-
--- a count that stayed, and then rose, or didn't fall
-pub risen_behind : (a b c : ℕ) → b ≡ a → HasRisen b c → HasRisen a c
-risen_behind a b c same risen = subst (λ (k : ℕ). HasRisen k c) same risen
-
-pub kept_behind : (a b c : ℕ) → b ≡ a → b ≤ c → a ≤ c
-kept_behind a b c same up = subst (λ (k : ℕ). k ≤ c) same up

@@ -10,3 +10,4 @@ pub mod Texts
 pub mod LineParts
 pub mod Parts
 pub mod Told
+pub mod Counts
