@@ -1,5 +1,5 @@
 -- What stands before the first line feed of some bytes.
-use Rattle.std.proofs.Common.{◌≡◌, ◌<◌, ◌≤◌, ℕ, ◌+◌, ◌==◌, true, suc, List, ◌∷◌, length, take, drop, get_or, sym, ap, subst, ◌∙◌, drop-cons, add-one, arith}
+use Rattle.std.proofs.Common.{◌≡◌, ◌<◌, ◌≤◌, ℕ, ◌+◌, ◌==◌, true, suc, min, List, ◌∷◌, length, take, drop, get_or, sym, ap, subst, ◌∙◌, drop-cons, add-one, arith}
 use Rattle.std.proofs.lemmas.Bool.{eqb-true}
 use Rattle.std.proofs.lemmas.List.{take-take, get_or-take, length-take, length-take-le}
 use Rattle.memchr.specs.Find.{Nowhere, NoneBefore, Passes, is_byte}
@@ -28,3 +28,13 @@ module _ (bytes : List ℕ) (n i : ℕ) (first : NoneBefore (Passes (is_byte 10)
   feed_at =
       let is : get_or bytes i 0 ≡ 10 = sym (get_or-take n bytes i 0 feed_within.0) ∙ eqb-true _ 10 first.1 in
       rw add-one (drop-cons bytes i 0 feed_within.1 ∙ ap (λ (b : ℕ). b ∷ drop (suc i) bytes) is)
+
+-- how many bytes of a front there are
+pub front_within : (bytes : List ℕ) (n : ℕ) → length (take n bytes) ≤ length bytes
+front_within bytes n = omega (arith, length-take n bytes)
+
+pub front_most : (bytes : List ℕ) (n most : ℕ) → n ≤ most → length (take n bytes) ≤ most
+front_most bytes n most few = omega (arith, few, length-take n bytes)
+
+pub front_all : (bytes : List ℕ) (n most : ℕ) → n ≡ min (length bytes) most → length (take n bytes) ≡ min (length bytes) most
+front_all bytes n most is = omega (arith, is, length-take n bytes)

@@ -1,7 +1,8 @@
 -- A line that is taken in parts.
-use Rattle.std.proofs.Common.{◌≡◌, ◌<◌, ◌≤◌, ℕ, ◌+◌, ◌-◌, true, add-zero, arith, List, [], ◌∷◌, ◌++◌, length, take, drop, refl, sym, ap, ◌∙◌, subst, length-append, inl, inr, ◌⊎◌}
-use Rattle.std.proofs.lemmas.Bool.{cases_lt}
-use Rattle.std.proofs.lemmas.List.{length-take-le, take-append-le, take_all, append-nil}
+use Rattle.std.proofs.Common.{◌≡◌, ◌<◌, ◌≤◌, ℕ, ◌+◌, ◌-◌, ◌==◌, Bool, true, false, add-zero, arith, List, [], ◌∷◌, ◌++◌, length, take, drop, refl, sym, ap, ◌∙◌, subst, length-append, inl, inr, ◌⊎◌}
+use Rattle.std.proofs.lemmas.Bool.{cases_lt, eqb-true}
+use Rattle.std.proofs.lemmas.Bool.Decides.{nat_tests}
+use Rattle.std.proofs.lemmas.List.{length-take-le, take-append-le, take_all, append-nil, nil_from_length}
 use Rattle.std.proofs.Math.Seq.{take-nil, take-append-add}
 use Rattle.homa_io.specs.Outside.{IsAtEnd}
 use Rattle.homa_plain.specs.Input.{has_no_feed}
@@ -88,3 +89,13 @@ pub in_line_over : (old mid : Rest) (room : ℕ) (line : List ℕ) (n most : ℕ
 in_line_over old mid room line n most so_far some all =
     let next = takes_first mid.pending mid.left some in
     (next.0, subst (λ (k : ℕ). IsInLine old (record { pending = drop 1 mid.pending; left = mid.left }) room line k (next.0 ∷ [])) all (in_line_then old mid (record { pending = drop 1 mid.pending; left = mid.left }) room line n (next.0 ∷ []) so_far next.1))
+
+-- whether a part has bytes, by its test
+pub no_bytes : (part pending : List ℕ) (is : Bool) → part ≡ pending → is ≡ (length part == 0) → is ≡ true → pending ≡ []
+no_bytes part pending is same test t = sym same ∙ nil_from_length part (eqb-true (length part) 0 (sym test ∙ t))
+
+has_bytes : (part : List ℕ) (is : Bool) → is ≡ (length part == 0) → is ≡ false → 0 < length part
+has_bytes part is test f = grind (arith, nat_tests)
+
+pub some_bytes : (part pending : List ℕ) (is : Bool) → part ≡ pending → is ≡ (length part == 0) → is ≡ false → 0 < length pending
+some_bytes part pending is same test f = subst (λ (xs : List ℕ). 0 < length xs) same (has_bytes part is test f)

@@ -9,3 +9,5 @@ pub mod Putting
 pub mod Texts
 pub mod LineParts
 pub mod Parts
+pub mod Told
+pub mod Counts

@@ -1,13 +1,16 @@
 -- What the next line is, from what a scan found.
-use Rattle.std.proofs.Common.{◌≡◌, ◌<◌, ◌≤◌, ℕ, ◌+◌, arith, true, Option, List, [], ◌∷◌, ◌++◌, length, sym, ap, ◌∙◌, length-append, inl, inr, ◌⊎◌}
-use Rattle.std.proofs.lemmas.List.{take_all, append-nil}
+use Rattle.std.proofs.Common.{◌≡◌, ◌<◌, ◌≤◌, ℕ, ◌+◌, ◌-◌, arith, true, Option, List, [], ◌∷◌, ◌++◌, length, drop, sym, ap, subst, ◌∙◌, length-append, inl, inr, ◌⊎◌}
+use Rattle.std.proofs.lemmas.List.{take_all, append-nil, nil_from_length, length-take}
 use Rattle.homa_io.specs.Outside.{unread, IsAtEnd}
 use Rattle.homa_plain.specs.Input.{without_feed, has_no_feed, ends_in_feed}
-use Rattle.homa_text.specs.Rest.{Rest}
+use Rattle.homa_text.specs.declared.input.Input.{Input}
+use Rattle.homa_text.specs.Input.{pending_of}
+use Rattle.homa_text.specs.Rest.{Rest, StopsInLine}
 use Rattle.homa_text.specs.Scan.{IsInLine, IsEnded, IsWhole}
 use Rattle.homa_text.specs.Lines.{Reading, TakesLine, IsNext}
 use Rattle.homa_text.specs.declared.lines.LineGot.{LineGot}
-use Rattle.homa_text.specs.declared.lines.LineGot.TheVariants.{Line, Long, Over}
+use Rattle.homa_text.specs.declared.lines.LineGot.TheVariants.{Line, Long, Over, End}
+use Rattle.homa_text.proofs.Taking.{unread-nil}
 use Rattle.homa_text.proofs.Feeds.{without_feed-feed, without_feed-none, ends_in_feed-feed, ends_or_not}
 
 -- what a reader has still to give
@@ -80,3 +83,52 @@ is_over old new before now room line most b w all = (
     },
   ),
 )
+
+none_by : (old new : Rest) (room : ℕ) (line : List ℕ) (n size : ℕ) (w : IsWhole old new room line n size) → size ≡ 0
+    → (w.last ≡ 10 ∷ []) ⊎ ((w.last ≡ []) × IsEnded new) → (old.pending ++ w.in_line.taken.came ≡ []) × IsEnded new
+none_by old new room line n size w none (inl e) =
+    let one : length w.last ≡ 1 = ap length e in
+    absurd (omega (arith, one, w.total, none))
+none_by old new room line n size w none (inr (e, ended)) =
+    let empty = nil_from_length (w.in_line.bytes ++ w.last) (omega (arith, length-append w.in_line.bytes w.last, w.in_line.count, w.total, none)) in
+    (w.in_line.taken.bytes ∙ (ap (λ (zs : List ℕ). zs ++ new.pending) empty ∙ ended.none_pending), ended)
+
+-- the end of the input, where no byte was taken
+pub is_end : (old new : Reading) (before now : Option (List ℕ)) (room : ℕ) (line : List ℕ) (n size : ℕ)
+    → IsWhole (rest old before) (rest new now) room line n size → size ≡ 0 → new.read ≡ old.read → Next old new before now End
+is_end old new before now room line n size w none read =
+    let end = none_by (rest old before) (rest new now) room line n size w none w.ended in (
+      w.in_line.taken.came,
+      w.in_line.taken.source,
+      record { none_came = end.0; none_pending = end.1.none_pending; read = read; at_end = end.1.none_left },
+    )
+
+came_none : (pending came : List ℕ) → pending ++ came ≡ [] → came ≡ []
+came_none [] came e = e
+came_none (x ∷ xs) came e = absurd cc
+
+-- at the end the source is as it was
+pub end_stays : (old new : Rest) (room : ℕ) (line : List ℕ) (n size : ℕ) → IsWhole old new room line n size → size ≡ 0 → (new.left ≡ old.left) × (new.pending ≡ [])
+end_stays old new room line n size w none =
+    let end = none_by old new room line n size w none w.ended in
+    let empty = came_none old.pending w.in_line.taken.came end.0 in
+    (sym (w.in_line.taken.source ∙ (ap (λ (xs : List ℕ). unread xs new.left) empty ∙ unread-nil new.left)), end.1.none_pending)
+
+-- what came before a failed read
+pub stops_came : (old new : Rest) → StopsInLine old new → (came : List ℕ) × (old.left ≡ unread came new.left)
+stops_came old new stops = (stops.takes.came, stops.takes.source)
+
+-- and that no line feed is among it
+pub stops_unended : (old new : Rest) → StopsInLine old new
+    → (came : List ℕ) × (old.left ≡ unread came new.left) × (has_no_feed (old.pending ++ came) ≡ true)
+stops_unended old new stops = (
+  stops.takes.came,
+  stops.takes.source,
+  subst (λ (xs : List ℕ). has_no_feed xs ≡ true)
+      (sym (stops.takes.bytes ∙ (ap (λ (zs : List ℕ). stops.taken ++ zs) stops.none_pending ∙ append-nil stops.taken))) stops.one_line,
+)
+
+-- no more is pending than the buffer has room for
+pub pending_short : (input : Input) → length (pending_of input) ≤ 65536
+pending_short input =
+    omega (arith, length-take (input.end - input.start) (drop input.start input.buf.items), input.within, input.sized)

@@ -1,6 +1,6 @@
 -- Bytes that are taken one after another.
 use Rattle.std.proofs.Common.{◌≡◌, ◌<◌, ◌≤◌, ℕ, ◌+◌, ◌-◌, arith, Option, None, Some, List, [], ◌∷◌, ◌++◌, length, take, drop, refl, sym, ap, ◌∙◌, append_assoc}
-use Rattle.std.proofs.lemmas.List.{append-nil, take-append-drop, length-take, drop-take, drop-drop}
+use Rattle.std.proofs.lemmas.List.{append-nil, take-append-drop, length-take, length-drop, drop-take, drop-drop}
 use Rattle.homa_io.specs.Outside.{unread}
 use Rattle.homa_text.specs.Rest.{Rest, Takes}
 
@@ -54,3 +54,22 @@ part_rest buf start end n within =
     sym
     (ap (λ (k : ℕ). drop n (take k (drop start buf))) (sym sum)
     ∙ (drop-take n rest (drop start buf) ∙ ap (λ (xs : List ℕ). take rest xs) (drop-drop n start buf)))
+
+-- where a part ends at its start there is no byte in it, and otherwise some
+pub no_pending : (buf : List ℕ) (start end : ℕ) → end ≤ start → take (end - start) (drop start buf) ≡ []
+no_pending buf start end past =
+    let none : end - start ≡ 0 = omega (arith, past) in
+    ap (λ (k : ℕ). take k (drop start buf)) none
+
+pub some_pending : (buf : List ℕ) (start end : ℕ) → start < end → end ≤ length buf → take (end - start) (drop start buf) ≡ [] → ⊥
+some_pending buf start end some within none =
+    let empty : length (take (end - start) (drop start buf)) ≡ 0 = ap length none in
+    omega (arith, some, within, empty, length-take (end - start) (drop start buf), length-drop start buf)
+
+-- a read failed, where no byte was pending
+pub takes_failed : (p q : List ℕ) (old new : Option (List ℕ)) → p ≡ [] → q ≡ [] → new ≡ old → Takes (record { pending = p; left = old }) (record { pending = q; left = new }) []
+takes_failed p q old new before after same = record {
+  came = [];
+  source = sym (unread-nil new ∙ same);
+  bytes = append-nil p ∙ (before ∙ sym after);
+}
