@@ -20,3 +20,7 @@ pub not_written : {A : Type 0} (r : Result A Stop) (stop : Stop) → r ≡ Err s
 not_written r Read e k h = let same = sym e ∙ h in absurd cc
 not_written r Write e k h = absurd cc
 not_written r NoMemory e k h = let same = sym e ∙ h in absurd cc
+
+-- nor did it where there was an answer
+pub answered : {A : Type 0} (r : Result A Stop) (x : A) → r ≡ Ok x → IsErrOf r Write → ⊥
+answered r x e h = let same = sym e ∙ h in absurd cc

@@ -8,3 +8,4 @@ pub mod LineSteps
 pub mod Begins
 pub mod Composed
 pub mod Exits
+pub mod Behinds

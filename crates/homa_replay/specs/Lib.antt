@@ -8,3 +8,4 @@ pub mod Counting
 pub mod Came
 pub mod Opens
 pub mod Stops
+pub mod Behind

@@ -5,6 +5,7 @@ ghost use Rattle.homa_io.specs.Outside.{HasRisen, unread, IsAtEnd};
 ghost use Rattle.homa_plain.specs.Settings.{IsValid};
 ghost use Rattle.script_lines.specs.Place.{IsCounted};
 ghost use Rattle.script_lines.specs.Read.{IsCut};
+ghost use Rattle.script_lines.specs.Taking.{TakesLines};
 ghost use Rattle.homa_script.specs.Script.{opened, IsOpening, IsNext, IsInRange, IsOn, is_end};
 ghost use Rattle.homa_replay.specs.Came.{answer_of, opening_of};
 
@@ -117,6 +118,8 @@ pub(crate) fn read_settings<S: Source, K: Holding>(
     ensures settings { IfOk result (λ answer. (bytes : List ℕ) → S.left source.old ≡ Some bytes
         → IsOpening reader.old.place.limit reader.new.place bytes (S.left source.new) (opening_of answer)) }
     ensures cut { OnErr result ((bytes : List ℕ) → S.left source.old ≡ Some bytes → IsCut bytes (S.left source.new)) }
+    ensures took { OnOk result (TakesLines reader.old.place reader.new.place (S.left source.old) (S.left source.new)) }
+    ensures pending { OnOk result (length reader.new.place.pending ≤ 65536) }
     ensures valid { IfOk result (λ answer. IfOk answer IsValid) }
     ensures started { reader.new.started ≡ true }
     ensures not_ended { reader.new.ended ≡ false }
@@ -170,6 +173,8 @@ pub(crate) fn read_next<S: Source, K: Holding>(
     ensures next { IfOk result (λ came. (bytes : List ℕ) → S.left source.old ≡ Some bytes
         → IsNext reader.old.place reader.new.place reader.new.operand bytes (S.left source.new) (answer_of came)) }
     ensures cut { OnErr result ((bytes : List ℕ) → S.left source.old ≡ Some bytes → IsCut bytes (S.left source.new)) }
+    ensures took { OnOk result (TakesLines reader.old.place reader.new.place (S.left source.old) (S.left source.new)) }
+    ensures pending { OnOk result (length reader.new.place.pending ≤ 65536) }
     ensures started { reader.new.started ≡ true }
     ensures ended { IfOk result (λ came. reader.new.ended ≡ is_end (answer_of came)) }
     ensures stopped { IfOk result (λ came. reader.new.stopped ≡ result_err (answer_of came)) }

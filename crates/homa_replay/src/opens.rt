@@ -7,6 +7,7 @@ ghost use Rattle.homa_plain.specs.Settings.{IsValid};
 ghost use Rattle.homa_plain.specs.World.{World};
 ghost use Rattle.homa_plain.specs.Answers.{shown};
 ghost use Rattle.homa_replay.specs.Opens.{IsOpened, may_write};
+ghost use Rattle.homa_replay.specs.Behind.{IsReadUpTo};
 ghost use Rattle.homa_replay.specs.Stops.{prints_all};
 ghost use Rattle.homa_replay.specs.Far.{replay_of, ArePrinted, AreParts};
 
@@ -51,6 +52,8 @@ fn replay_held<B: Drop, P: Opens<B> + Drop, S: Source, K: Holding>(
     ensures printed { IfOk result (λ accepted. ArePrinted (replay_of (P.many boxes)) (S.left source.old) (K.taken sink.old) (K.taken sink.new)
         (P.are_allowed boxes) accepted) }
     ensures to_end { result ≡ Ok true → (bytes : List ℕ) → S.left source.old ≡ Some bytes → S.left source.new ≡ Some [] }
+    ensures behind { result ≡ Ok false → (bytes : List ℕ) → S.left source.old ≡ Some bytes
+        → IsReadUpTo bytes (S.left source.new) (K.taken sink.old) (K.taken sink.new) }
     ensures part { IfErr result (λ stop. AreParts (replay_of (P.many boxes)) (S.left source.old) (S.left source.new) (K.taken sink.old)
         (K.taken sink.new) (P.are_allowed boxes) (prints_all stop)) }
     ensures front { OnOk result (AreParts (replay_of (P.many boxes)) (S.left source.old) (S.left source.new) (K.taken sink.old) (K.taken sink.new)
@@ -108,6 +111,8 @@ fn replay_through<B: Drop, P: Opens<B> + Drop, S: Source, K: Sink + Drop>(
     ensures printed { IfOk result (λ accepted. ArePrinted (replay_of (P.many boxes)) (S.left source.old) (K.taken (sink_below held.old))
         (K.taken (sink_below held.new)) (P.are_allowed boxes) accepted) }
     ensures to_end { result ≡ Ok true → (bytes : List ℕ) → S.left source.old ≡ Some bytes → S.left source.new ≡ Some [] }
+    ensures behind { result ≡ Ok false → (bytes : List ℕ) → S.left source.old ≡ Some bytes
+        → IsReadUpTo bytes (S.left source.new) (K.taken (sink_below held.old)) (K.taken (sink_below held.new)) }
     ensures part { IfErr result (λ stop. AreParts (replay_of (P.many boxes)) (S.left source.old) (S.left source.new) (K.taken (sink_below held.old))
         (K.taken (sink_below held.new)) (P.are_allowed boxes) (prints_all stop)) }
     ensures same { K.is_same (sink_below held.old) (sink_below held.new) }
@@ -143,6 +148,10 @@ pub fn replay<B: Drop, P: Opens<B> + Drop, S: Source, K: Sink>(
     ensures printed { IfOk result (λ accepted. ArePrinted (replay_of (P.many boxes)) (S.left source.old) (K.taken sink.old) (K.taken sink.new)
         (P.are_allowed boxes) accepted) }
     ensures to_end { result ≡ Ok true → (bytes : List ℕ) → S.left source.old ≡ Some bytes → S.left source.new ≡ Some [] }
+
+    // Behind a line that is refused at most one part of the source was read, of 65,536 bytes.
+    ensures behind { result ≡ Ok false → (bytes : List ℕ) → S.left source.old ≡ Some bytes
+        → IsReadUpTo bytes (S.left source.new) (K.taken sink.old) (K.taken sink.new) }
 
     // Otherwise it is a front of that; unless the sink failed, all that was told until then was printed.
     ensures part { IfErr result (λ stop. AreParts (replay_of (P.many boxes)) (S.left source.old) (S.left source.new) (K.taken sink.old)

@@ -10,12 +10,14 @@ ghost use Rattle.homa_plain.specs.Replay.{events_of};
 ghost use Rattle.script_lines.specs.Place.{IsCounted};
 ghost use Rattle.homa_script.specs.Steps.{steps_left};
 ghost use Rattle.script_lines.specs.Read.{IsRead};
+ghost use Rattle.script_lines.specs.Taking.{TakesLines};
 ghost use Rattle.homa_script.specs.Script.{opened, IsInRange};
 ghost use Rattle.homa_plain.specs.World.{World};
 ghost use Rattle.homa_replay.specs.Playing.{is_memory};
 ghost use Rattle.homa_replay.specs.Lines.{ArePlayed, AreRefused, AreCut};
 ghost use Rattle.homa_replay.specs.Came.{given_of, line_events, is_end};
 ghost use Rattle.homa_replay.specs.Far.{left_at, replay_of, is_unasked, ArePrinted, AreParts};
+ghost use Rattle.homa_replay.specs.Behind.{RefusesLast};
 ghost use Rattle.homa_replay.specs.Stops.{prints_all};
 
 use crate::ahead::{read_next, read_settings};
@@ -121,6 +123,9 @@ pub fn begin<S: Source, K: Holding>(
         → AreParts (replay_of boxes) (S.left source.old) (S.left source.new) (K.taken sink.old) (K.taken sink.new) is_unasked (prints_all stop)) }
     ensures front { result ≡ Ok None → (boxes : ℕ)
         → AreParts (replay_of boxes) (S.left source.old) (S.left source.new) (K.taken sink.old) (K.taken sink.new) is_unasked false }
+    ensures took { OnOk result (TakesLines reader.old.place reader.new.place (S.left source.old) (S.left source.new)) }
+    ensures behind { result ≡ Ok None
+        → RefusesLast reader.old.place reader.new.place (S.left source.old) (S.left source.new) (K.taken sink.old) (K.taken sink.new) }
 
     ensures started { reader.new.started ≡ true }
     ensures not_ended { reader.new.ended ≡ false }
@@ -179,6 +184,8 @@ pub fn carry_on<P: Playing, S: Source, K: Holding>(
     ensures front { OnOk result ((w : World) → P.stands world.old w
         → AreParts (left_at (P.settings world.old) w 0 reader.old.place) (S.left source.old) (S.left source.new) (K.taken sink.old) (K.taken sink.new)
         (P.allows world.old) false) }
+    ensures behind { result ≡ Ok false → (w : World) → P.stands world.old w → (bytes : List ℕ) → S.left source.old ≡ Some bytes
+        → RefusesLast reader.old.place reader.new.place (S.left source.old) (S.left source.new) (K.taken sink.old) (K.taken sink.new) }
 
     ensures quiet_source { OnOk result (S.faults source.new ≡ S.faults source.old) }
     ensures quiet_sink { OnOk result (K.faults sink.new ≡ K.faults sink.old) }

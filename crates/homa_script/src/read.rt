@@ -5,6 +5,7 @@ ghost use Rattle.homa_plain.specs.Settings.{IsValid};
 ghost use Rattle.homa_text.specs.Lines.{reading};
 ghost use Rattle.script_lines.specs.Place.{place_of, IsCounted};
 ghost use Rattle.script_lines.specs.Stops.{is_read, has_failed_read};
+ghost use Rattle.script_lines.specs.Taking.{TakesLines};
 ghost use Rattle.homa_script.specs.Given.{IsWithin};
 ghost use Rattle.homa_script.specs.Script.{opened, IsOpening};
 ghost use Rattle.homa_script.specs.Lines.{IsNextGiven, IsGivenOn};
@@ -26,6 +27,9 @@ pub(crate) fn read_settings<S: Source>(
     requires first { place_of (reading lines.old) ≡ (opened (reading lines.old).limit).place }
     ensures settings { (bytes : List ℕ) → S.left source.old ≡ Some bytes
         → IsOpening (reading lines.old).limit (place_of (reading lines.new)) bytes (S.left source.new) result }
+    ensures took { has_failed_read result ≡ false → TakesLines (place_of (reading lines.old)) (place_of (reading lines.new)) (S.left source.old)
+        (S.left source.new) }
+    ensures ahead { length (reading lines.new).pending ≤ 65536 }
     ensures valid { IfOk result IsValid }
     ensures counted { IfOk result (λ settings. IsCounted (place_of (reading lines.new))) }
     ensures limit { (reading lines.new).limit ≡ (reading lines.old).limit }
@@ -60,6 +64,9 @@ pub(crate) fn next_given<S: Source>(
     requires counted { IsCounted (place_of (reading lines.old)) }
     ensures given { (bytes : List ℕ) → S.left source.old ≡ Some bytes
         → IsNextGiven (place_of (reading lines.old)) (place_of (reading lines.new)) out.new bytes (S.left source.new) result }
+    ensures took { has_failed_read result ≡ false → TakesLines (place_of (reading lines.old)) (place_of (reading lines.new)) (S.left source.old)
+        (S.left source.new) }
+    ensures ahead { length (reading lines.new).pending ≤ 65536 }
     ensures within { IfOk result (λ given. IfSome given (λ g. IsWithin g (length out.new))) }
     ensures on { IfOk result (IsGivenOn (place_of (reading lines.old)) (place_of (reading lines.new))) }
     ensures limit { (reading lines.new).limit ≡ (reading lines.old).limit }

@@ -58,6 +58,7 @@ impl Model for Reader {
 impl Reader {
     ghost use Rattle.script_lines.specs.Place.{IsCounted};
     ghost use Rattle.script_lines.specs.Stops.{is_read, has_failed_read};
+    ghost use Rattle.script_lines.specs.Taking.{TakesLines};
     ghost use Rattle.homa_script.specs.Script.{opened, has_operand, is_end, IsOpening, IsNext, IsInRange, IsOn};
 
     /// A reader of a schedule of at most `limit` bytes.
@@ -80,6 +81,10 @@ impl Reader {
         // They are those of the definition, whatever stands behind; or its refusal.
         ensures settings { (bytes : List ℕ) → S.left source.old ≡ Some bytes → IsOpening self.old.place.limit self.new.place bytes (S.left source.new) result }
         ensures valid { IfOk result IsValid }
+
+        // Behind the last line that it took no byte was read, but for at most the 65,536 of one part that are pending.
+        ensures took { has_failed_read result ≡ false → TakesLines self.old.place self.new.place (S.left source.old) (S.left source.new) }
+        ensures ahead { length self.new.place.pending ≤ 65536 }
 
         ensures started { self.new.started ≡ true }
         ensures not_ended { self.new.ended ≡ false }
@@ -110,6 +115,11 @@ impl Reader {
         // It is the next step of the definition, or its refusal or end, whatever stands behind.
         ensures next { self.old.stopped ≡ None → (bytes : List ℕ) → S.left source.old ≡ Some bytes
             → IsNext self.old.place self.new.place self.new.operand bytes (S.left source.new) result }
+
+        // Behind the last line that it took no byte was read, but for at most the 65,536 of one part that are pending.
+        ensures took { self.old.stopped ≡ None → has_failed_read result ≡ false
+            → TakesLines self.old.place self.new.place (S.left source.old) (S.left source.new) }
+        ensures ahead { self.old.stopped ≡ None → length self.new.place.pending ≤ 65536 }
 
         ensures started { self.new.started ≡ true }
         ensures ended { self.new.ended ≡ is_end result }

@@ -6,6 +6,7 @@ ghost use Rattle.homa_text.specs.Lines.{reading};
 ghost use Rattle.script_lines.specs.Place.{place_of, IsCounted};
 ghost use Rattle.script_lines.specs.Stops.{is_read, has_failed_read};
 ghost use Rattle.script_lines.specs.Lines.{IsNextLine, IsNumbered};
+ghost use Rattle.script_lines.specs.Taking.{TakesLines};
 
 use crate::ScriptStop;
 use homa_io::Source;
@@ -19,6 +20,9 @@ pub fn next_line<S: Source>(lines: &mut Lines, source: &mut S) -> Result<bool, S
     requires longest { (reading lines.old).longest ≡ 2100000 }
     requires counted { IsCounted (place_of (reading lines.old)) }
     ensures line { (bytes : List ℕ) → S.left source.old ≡ Some bytes → IsNextLine (reading lines.old) (reading lines.new) bytes (S.left source.new) result }
+    ensures took { has_failed_read result ≡ false → TakesLines (place_of (reading lines.old)) (place_of (reading lines.new)) (S.left source.old)
+        (S.left source.new) }
+    ensures ahead { length (reading lines.new).pending ≤ 65536 }
     ensures numbered { IsNumbered (place_of (reading lines.old)) (place_of (reading lines.new)) result }
     ensures short { IfOk result (λ there. there ≡ true → length (reading lines.new).line ≤ 2100000) }
     ensures sized { IfOk result (λ there. there ≡ true → (reading lines.old).read + length (reading lines.new).line ≤ (reading lines.new).read) }

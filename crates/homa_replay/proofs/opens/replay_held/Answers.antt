@@ -1,5 +1,7 @@
 use Rattle.std.proofs.Common.{ap, refl, Ok, [], false}
 use Rattle.homa_replay.specs.Far.{replay_of, is_unasked}
+use Rattle.homa_script.specs.Script.{Script}
+use Rattle.homa_replay.proofs.Behinds.{refuses_behind, read_up_to}
 use Rattle.homa_replay.proofs.Exits.{err_if}
 use Rattle.homa_replay.proofs.Fronts.{front_whole}
 use Rattle.homa_replay.proofs.Begins.{settings_cut}
@@ -76,3 +78,20 @@ returns-clause-front g c =
     (g.P.Playing.allows c.in_ok-world.world) read line w.is_first c.in_ok-world.ensures.allows _ false
     (parts_settings _ c.in-Some.settings w.first c.begin.new.reader.place _ _ _ _
     (g.P.Playing.allows c.in_ok-world.world) false c.in_ok-world.ensures.settings (c.in_ok-accepted.ensures.front w.first w.stood))
+
+pub returns-in_default-clause-behind : goal.returns-in_default-clause-behind
+returns-in_default-clause-behind g c =
+    let first = ap (λ (r : Script). r.place) c.in_ok-reader.ensures in
+    λ _. read_up_to _ _ _ _ _ _ _ first (c.in_ok-settings.ensures.behind (ap Ok c.in_default.is))
+
+pub returns-clause-behind : goal.returns-clause-behind
+returns-clause-behind g c =
+    let first = ap (λ (r : Script). r.place) c.in_ok-reader.ensures in
+    let e = c.in_ok-settings.ensures in
+    let read = rw c.in-Some.is at e.opened in
+    let line = rw c.in-Some.is at e.line in
+    let w = c.in_ok-world.ensures.opened in
+    λ k bytes h.
+    let r = read bytes h in
+    read_up_to _ _ _ _ _ _ _ first
+    (refuses_behind _ _ _ _ _ _ _ _ _ c.in-Some.settings e.took line (c.in_ok-accepted.ensures.behind k w.first w.stood r.rest r.has_left)) bytes h

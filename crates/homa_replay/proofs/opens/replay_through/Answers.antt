@@ -1,6 +1,8 @@
 use Rattle.homa_replay.specs.declared.stop.Stop.TheVariants.{Write}
 use Rattle.homa_replay.specs.Far.{replay_of}
-use Rattle.homa_replay.proofs.Exits.{err_if, stop_of, not_written}
+use Rattle.std.proofs.Common.{◌∙◌}
+use Rattle.homa_replay.proofs.Behinds.{up_to_below}
+use Rattle.homa_replay.proofs.Exits.{err_if, stop_of, not_written, answered}
 use Rattle.homa_replay.proofs.Composed.{parts_any, parts_at, parts_written}
 use Rattle.homa_replay.proofs.opens.replay_through.Goals as goal
 
@@ -25,3 +27,9 @@ returns-in_err-accepted-clause-part g c =
 
 pub returns-clause-same : goal.returns-clause-same
 returns-clause-same g c = g.met.K.Sink.same_on _ _ _ c.replay_held-answer.ensures.same_sink.0 c.finish.ensures.same
+
+pub returns-clause-behind : goal.returns-clause-behind
+returns-clause-behind g c =
+    let e = c.replay_held-answer.ensures in
+    λ k bytes h. up_to_below bytes _ _ _ _ _ _ _ c.requires.none (c.in_ok-finish.ensures.none (answered _ _ c.in_ok-accepted.was)) c.finish.ensures.whole
+    (e.behind (c.in_ok-accepted.was ∙ k) bytes h)

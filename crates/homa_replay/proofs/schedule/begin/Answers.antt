@@ -1,6 +1,7 @@
 use Rattle.std.proofs.Common.{ap, false}
 use Rattle.homa_script.specs.Script.{Script}
 use Rattle.homa_replay.specs.declared.stop.Stop.TheVariants.{Write}
+use Rattle.homa_replay.proofs.Behinds.{refuses_first}
 use Rattle.homa_replay.proofs.Exits.{err_if, stop_of}
 use Rattle.homa_replay.proofs.Fronts.{front_whole}
 use Rattle.homa_replay.proofs.Begins.{begin_cut, settings_cut, begin_refused, begin_refused_cut, opened_at, unopened_at}
@@ -38,3 +39,8 @@ returns-in_ok-put_refused-in-Err-clause-front g c =
     let limit = ap (λ (r : Script). r.place.limit) c.requires in
     let read = rw c.in-Err.is at c.in_ok-settings.ensures.settings in
     λ _ boxes. begin_refused_cut boxes _ _ _ _ c.in_ok-settings.ensures.taken _ c.line.result c.in-Err.fault (unopened_at _ c.line.result c.read_settings.new.reader.place _ _ c.in-Err.fault limit c.line.ensures read) (front_whole _ _ _ c.in_ok-put_refused-in-Err.ensures.ok)
+
+pub returns-in_ok-put_refused-in-Err-clause-behind : goal.returns-in_ok-put_refused-in-Err-clause-behind
+returns-in_ok-put_refused-in-Err-clause-behind g c =
+    let e = c.in_ok-settings.ensures in
+    λ _. refuses_first _ _ _ _ _ _ _ _ _ e.taken c.in_ok-put_refused-in-Err.ensures.ok c.line.ensures e.took e.pending

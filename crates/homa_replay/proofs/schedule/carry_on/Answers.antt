@@ -4,6 +4,11 @@ use Rattle.homa_plain.specs.Replay.{Finished, RefusedAt, events_of}
 use Rattle.homa_replay.specs.Came.{given_of}
 use Rattle.homa_replay.specs.Far.{left_at}
 use Rattle.homa_replay.specs.declared.stop.Stop.TheVariants.{Write}
+use Rattle.homa_plain.specs.Text.{line_text}
+use Rattle.homa_plain.specs.Entries.{PlainRefused}
+use Rattle.homa_io.specs.Outside.{appended}
+use Rattle.script_lines.proofs.Takings.{lines_none, lines_on}
+use Rattle.homa_replay.proofs.Behinds.{refuses_far}
 use Rattle.homa_replay.proofs.Exits.{err_if, stop_of}
 use Rattle.homa_replay.proofs.Fronts.{front_whole}
 use Rattle.homa_replay.proofs.Fars.{far_start, fars_end}
@@ -16,6 +21,7 @@ lines-init g c =
     let p = g.P.Playing in
     record {
       due = λ w h. (w, h, λ bytes e. far_start (left_at (p.settings c.args.world.now) w 0 c.args.reader.now.place) bytes _ _ (p.allows c.args.world.now) e);
+      took = lines_none _ _;
       settings = refl;
       started = c.requires.started;
       not_ended = c.requires.not_ended;
@@ -176,6 +182,7 @@ lines-preserved g c =
                 (at_line (left_at s w 0 c.args.reader.now.place) _ _ _ _ _ _ _ _ s d.0 l.events l.reader.place new.place new.operand e.taken d.2 c.in-Line.next given c.args.hosts going (ap (given_of c.in-Line.next) (sym c.bytes.ensures.bytes)) (sym c.requires.hosts) next)
                 _ _ n (length-events c.args.hosts c.in-Line.next c.bytes.result.now going ∙ sym c.line_events-events.ensures) a,
           );
+      took = lines_on _ _ _ _ _ _ l.invariant.took e.took;
       settings = r.settings ∙ l.invariant.settings;
       started = e.started;
       not_ended = rw c.in-Line.is at e.ended ∙ line_ended c.in-Line.next going;
@@ -231,3 +238,36 @@ returns-in-Some-clause-front g c =
     (at_line (left_at s w 0 c.args.reader.now.place) _ _ _ _ _ _ _ _ s d.0 l.events l.reader.place new.place new.operand c.in_ok-next.ensures.taken d.2 c.in-Line.next given c.args.hosts going (ap (given_of c.in-Line.next) (sym c.bytes.ensures.bytes)) (sym c.requires.hosts) next)
     c.in-Some.fault (refused_at _ s d.0 _ _ _ l.invariant.settings es c.in-Some.fault (refused d.0 d.1))))
     refl (front_whole _ _ _ c.in_ok-put_refused.ensures.ok))
+
+pub returns-in-Refused-clause-behind : goal.returns-in-Refused-clause-behind
+returns-in-Refused-clause-behind g c =
+    let l = c.lines in
+    let s = g.P.Playing.settings c.args.world.now in
+    let e = c.in_ok-next.ensures in
+    let text = line_text (PlainRefused c.line.result (ByScript c.in-Refused.fault)) in
+    λ _ w h.
+    let d = l.invariant.due w h in
+    refuses_far c.args.reader.now.place c.read_next.new.reader.place _ _ _ _ _ c.line.result (ByScript c.in-Refused.fault)
+    (c.in_ok-put_refused-in-Refused.ensures.ok ∙ ap (λ o. appended o text) e.taken) c.line.ensures
+    (lines_on _ _ _ _ _ _ l.invariant.took e.took) e.pending (left_at s w 0 c.args.reader.now.place)
+    (left_at s d.0 l.events l.reader.place) _ _ _ d.2
+
+pub returns-in-Some-clause-behind : goal.returns-in-Some-clause-behind
+returns-in-Some-clause-behind g c =
+    let l = c.lines in
+    let s = g.P.Playing.settings c.args.world.now in
+    let new = c.read_next.new.reader in
+    let e = c.in_ok-next.ensures in
+    let next = rw c.in-Line.is at e.next in
+    let going = sym c.is_end.ensures ∙ c.if-is_end.false in
+    let given = given_of c.in-Line.next c.bytes.result.now in
+    let es = events_of c.args.hosts given in
+    let refused = rw c.in-Some.is at c.in_ok-refused.ensures.refused in
+    λ _ w h.
+    let d = l.invariant.due w h in
+    refuses_far c.args.reader.now.place new.place _ _ _ _ _ c.line-in-Some.result (ByWorld c.in-Some.fault)
+    c.in_ok-put_refused.ensures.ok c.line-in-Some.ensures (lines_on _ _ _ _ _ _ l.invariant.took e.took) e.pending
+    (left_at s w 0 c.args.reader.now.place) _ _ _ _
+    (line_refused (left_at s w 0 c.args.reader.now.place) _ _ _ _ _ _ _ s d.0 l.events new.place.number es new.place
+    (at_line (left_at s w 0 c.args.reader.now.place) _ _ _ _ _ _ _ _ s d.0 l.events l.reader.place new.place new.operand e.taken d.2 c.in-Line.next given c.args.hosts going (ap (given_of c.in-Line.next) (sym c.bytes.ensures.bytes)) (sym c.requires.hosts) next)
+    c.in-Some.fault (refused_at _ s d.0 _ _ _ l.invariant.settings es c.in-Some.fault (refused d.0 d.1)))

@@ -1,6 +1,7 @@
 use Rattle.std.proofs.Common.{◌≡◌, ◌≤◌, ◌-◌, ◌*◌, true, false, None}
 use Rattle.homa_plain.specs.World.{World}
 use Rattle.script_lines.specs.Place.{IsCounted}
+use Rattle.script_lines.specs.Taking.{TakesLines}
 use Rattle.homa_replay.specs.Far.{AreFar, left_at}
 use Rattle.homa_replay.proofs.schedule.carry_on.Given as goal
 
@@ -13,6 +14,7 @@ invariant-lines g l =
     record {
       due : (first : World) → p.stands l.fn.world first → (w : World) × p.stands l.world w
           × AreFar (left_at (p.settings l.fn.world) first 0 l.fn.reader.place) (src.left l.fn.source) (src.left l.source) (snk.taken l.fn.sink) (snk.taken l.sink) (p.allows l.fn.world) (p.allows l.world) (left_at (p.settings l.fn.world) w l.events l.reader.place);
+      took : TakesLines l.fn.reader.place l.reader.place (src.left l.fn.source) (src.left l.source);
       settings : p.settings l.world ≡ p.settings l.fn.world;
       started : l.reader.started ≡ true;
       not_ended : l.reader.ended ≡ false;

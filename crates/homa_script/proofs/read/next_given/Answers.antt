@@ -2,6 +2,7 @@ use Rattle.std.proofs.Common.{arith, refl, ◌∙◌}
 use Rattle.std.proofs.lemmas.Result.{err_from_is_err_and}
 use Rattle.homa_text.specs.Lines.{reading}
 use Rattle.homa_script.specs.Given.{given_seen}
+use Rattle.script_lines.proofs.Takings.{lines_none, lines_on}
 use Rattle.script_lines.proofs.Taken.{taken, counted_on}
 use Rattle.homa_script.proofs.Steps.{due_start, due_blank, due_given, due_fault, due_end, due_stop}
 use Rattle.homa_script.proofs.Sized.{long_line}
@@ -10,6 +11,7 @@ use Rattle.homa_script.proofs.read.next_given.Goals as goal
 pub lines-init : goal.lines-init
 lines-init g c = record {
   due = due_start (reading c.args.lines.now) _;
+  took = lines_none _ _;
   counted = c.requires.counted;
   on = omega arith;
   limit = refl;
@@ -27,6 +29,7 @@ lines-preserved g c =
     (reading c.next_line.new.lines) _ _ _ c.last_line.result.now c.if-branch.true e.line e.numbered e.limit c.last_line.ensures.value in
     record {
       due = due_blank (reading c.args.lines.now) _ _ _ _ _ _ l.invariant.due t (rw c.in_default.is at c.in_ok-given.ensures.phrase);
+      took = lines_on _ _ _ _ _ _ l.invariant.took (e.took refl);
       counted = counted_on _ _ _ _ _ l.invariant.counted t;
       on = omega (arith, t.on, l.invariant.on);
       limit = e.limit ∙ l.invariant.limit;
@@ -76,3 +79,17 @@ returns-in-Some-clause-on g c =
     let two = long_line c.last_line.result.now (given_seen c.in-Some.given c.read_event_line.new.out) (rw c.in-Some.is at c.in_ok-given.ensures.phrase) in
     let sized = e.sized c.if-branch.true in
     (counted_on _ _ _ _ _ l.invariant.counted t, omega (arith, two, sized, c.last_line.ensures.short, l.invariant.on))
+
+pub returns-in-Some-clause-took : goal.returns-in-Some-clause-took
+returns-in-Some-clause-took g c = λ _. lines_on _ _ _ _ _ _ c.lines.invariant.took (c.in_ok-next_line.ensures.took refl)
+
+pub returns-clause-took : goal.returns-clause-took
+returns-clause-took g c = λ _. lines_on _ _ _ _ _ _ c.lines.invariant.took (c.in_ok-next_line.ensures.took refl)
+
+pub returns-in_err-given-clause-took : goal.returns-in_err-given-clause-took
+returns-in_err-given-clause-took g c = λ _. lines_on _ _ _ _ _ _ c.lines.invariant.took (c.in_ok-next_line.ensures.took refl)
+
+pub returns-in_err-next_line-clause-took : goal.returns-in_err-next_line-clause-took
+returns-in_err-next_line-clause-took g c =
+    let p = err_from_is_err_and c.from_residual.result c.from_residual.ensures.1 in
+    rw (p.1, p.2) (λ k. lines_on _ _ _ _ _ _ c.lines.invariant.took (c.in_err-next_line.ensures.took k))

@@ -1,6 +1,7 @@
 use Rattle.std.proofs.Common.{◌≡◌, ◌≤◌, ◌-◌}
 use Rattle.homa_text.specs.Lines.{reading}
 use Rattle.script_lines.specs.Place.{place_of, IsCounted}
+use Rattle.script_lines.specs.Taking.{TakesLines}
 use Rattle.homa_script.proofs.Steps.{IsDue}
 use Rattle.homa_script.proofs.read.next_given.Given as goal
 
@@ -11,6 +12,7 @@ invariant-lines g l =
     let faults = g.S.Source.faults in
     record {
       due : IsDue (reading l.fn.lines) (reading l.lines) (left l.fn.source) (left l.source);
+      took : TakesLines (place_of (reading l.fn.lines)) (place_of (reading l.lines)) (left l.fn.source) (left l.source);
       counted : IsCounted (place_of (reading l.lines));
       on : (reading l.fn.lines).read ≤ (reading l.lines).read;
       limit : (reading l.lines).limit ≡ (reading l.fn.lines).limit;

@@ -1,6 +1,7 @@
 use Rattle.std.proofs.Common.{arith, refl, ◌∙◌}
 use Rattle.std.proofs.lemmas.Result.{err_from_is_err_and}
 use Rattle.homa_text.specs.Lines.{reading}
+use Rattle.script_lines.proofs.Takings.{lines_none, lines_on}
 use Rattle.script_lines.proofs.Taken.{taken, counted_on, end_number}
 use Rattle.homa_script.proofs.Openings.{open_start, open_blank, open_setting, open_go, open_not, open_fault, open_end, open_stop}
 use Rattle.homa_script.proofs.read.read_settings.Goals as goal
@@ -8,6 +9,7 @@ use Rattle.homa_script.proofs.read.read_settings.Goals as goal
 pub lines-init : goal.lines-init
 lines-init g c = record {
   due = open_start (reading c.args.lines.now) c.usual-settings.result _ c.requires.first c.usual-settings.ensures.usual;
+  took = lines_none _ _;
   counted = c.requires.counted;
   limit = refl;
   longest = refl;
@@ -24,6 +26,7 @@ lines-preserved-in-Blank g c =
     (reading c.next_line.new.lines) _ _ _ c.last_line.result.now c.if-branch.true e.line e.numbered e.limit c.last_line.ensures.value in
     record {
       due = open_blank _ _ _ l.settings _ _ _ _ l.invariant.due t (rw c.in-Blank.is at c.in_ok-read_opening_line.ensures);
+      took = lines_on _ _ _ _ _ _ l.invariant.took (e.took refl);
       counted = counted_on _ _ _ _ _ l.invariant.counted t;
       limit = e.limit ∙ l.invariant.limit;
       longest = e.longest ∙ l.invariant.longest;
@@ -41,6 +44,7 @@ lines-preserved g c =
     record {
       due = open_setting _ _ _ l.settings _ _ _ _ l.invariant.due t c.set.new.settings c.in-Setting.name c.in-Setting.n
           (rw c.in-Setting.is at c.in_ok-read_opening_line.ensures) c.set.ensures;
+      took = lines_on _ _ _ _ _ _ l.invariant.took (e.took refl);
       counted = counted_on _ _ _ _ _ l.invariant.counted t;
       limit = e.limit ∙ l.invariant.limit;
       longest = e.longest ∙ l.invariant.longest;
@@ -94,3 +98,20 @@ returns-clause-settings g c =
     let e = c.in_ok-next_line.ensures in
     open_end (reading c.args.lines.now).limit (reading l.lines) (reading c.next_line.new.lines) l.settings _ _ _ _ l.invariant.due c.if-branch.false e.line
     (end_number (reading l.lines) (reading c.next_line.new.lines) _ c.if-branch.false e.numbered)
+
+pub returns-in-Go-clause-took : goal.returns-in-Go-clause-took
+returns-in-Go-clause-took g c = λ _. lines_on _ _ _ _ _ _ c.lines.invariant.took (c.in_ok-next_line.ensures.took refl)
+
+pub returns-clause-took : goal.returns-clause-took
+returns-clause-took g c = λ _. lines_on _ _ _ _ _ _ c.lines.invariant.took (c.in_ok-next_line.ensures.took refl)
+
+pub returns-in_err-read_opening_line-clause-took : goal.returns-in_err-read_opening_line-clause-took
+returns-in_err-read_opening_line-clause-took g c = λ _. lines_on _ _ _ _ _ _ c.lines.invariant.took (c.in_ok-next_line.ensures.took refl)
+
+pub returns-in_err-check-in-Go-clause-took : goal.returns-in_err-check-in-Go-clause-took
+returns-in_err-check-in-Go-clause-took g c = λ _. lines_on _ _ _ _ _ _ c.lines.invariant.took (c.in_ok-next_line.ensures.took refl)
+
+pub returns-in_err-next_line-clause-took : goal.returns-in_err-next_line-clause-took
+returns-in_err-next_line-clause-took g c =
+    let p = err_from_is_err_and c.from_residual.result c.from_residual.ensures.1 in
+    rw (p.1, p.2) (λ k. lines_on _ _ _ _ _ _ c.lines.invariant.took (c.in_err-next_line.ensures.took k))

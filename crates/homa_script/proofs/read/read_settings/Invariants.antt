@@ -1,6 +1,7 @@
 use Rattle.std.proofs.Common.{◌≡◌, ◌≤◌, ◌-◌}
 use Rattle.homa_text.specs.Lines.{reading}
 use Rattle.script_lines.specs.Place.{place_of, IsCounted}
+use Rattle.script_lines.specs.Taking.{TakesLines}
 use Rattle.homa_script.proofs.Openings.{IsOpen}
 use Rattle.homa_script.proofs.read.read_settings.Given as goal
 
@@ -11,6 +12,7 @@ invariant-lines g l =
     let faults = g.S.Source.faults in
     record {
       due : IsOpen (reading l.fn.lines).limit (reading l.lines) l.settings (left l.fn.source) (left l.source);
+      took : TakesLines (place_of (reading l.fn.lines)) (place_of (reading l.lines)) (left l.fn.source) (left l.source);
       counted : IsCounted (place_of (reading l.lines));
       limit : (reading l.lines).limit ≡ (reading l.fn.lines).limit;
       longest : (reading l.lines).longest ≡ (reading l.fn.lines).longest;
