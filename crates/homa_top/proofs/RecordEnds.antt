@@ -5,9 +5,9 @@ use Rattle.std.specs.Option.{option_map}
 use Rattle.homa_plain.specs.Entries.{PlainEntry}
 use Rattle.homa_plain.specs.declared.fault.LineFault.{LineFault}
 use Rattle.node_runs.specs.Course.{End, Ended, RefusedAt, StalledAt}
-use Rattle.node_runs.specs.Texts.{end_status}
+use Rattle.node_runs.specs.Texts.{end_status, recording_text}
 use Rattle.node_turns.specs.Faults.{Counts}
-use Rattle.node_trace.specs.Traces.{Around}
+use Rattle.node_trace.specs.Traces.{Around, IsBrokenOff, IsEndCut}
 use Rattle.node_record.specs.declared.end.Recorded.{Recorded}
 use Rattle.node_record.specs.declared.end.Recorded.TheVariants as how
 use Rattle.node_record.specs.Ends.{HaveFaults}
@@ -21,7 +21,7 @@ use Rattle.homa_top.proofs.NodeEnds.{HaveStatus, no_fault}
 -- the recording was printed, or a front of it
 module _ (may_tell : List PlainEntry → Type 0) (bytes : List ℕ) (left : Option (List ℕ)) (old new : Around) where
   broken_off : (status : ExitStatus) → status ≢ Done → status ≢ Refused → status ≢ Stalled → status ≢ Stranger
-      → recording.IsBrokenOff may_tell bytes left old new ⊎ recording.IsEndCut may_tell bytes old new → HasRecorded may_tell bytes left old new status
+      → IsBrokenOff may_tell recording_text bytes left old new ⊎ IsEndCut may_tell recording_text bytes old new → HasRecorded may_tell bytes left old new status
   broken_off status done refused stalled stranger p = record {
     ended = λ e. absurd (done e);
     refused = λ e. absurd (refused e);

@@ -9,7 +9,7 @@ use Rattle.homa_plain.specs.Quiet.{IsQuiet}
 use Rattle.homa_plain.specs.Answers.{shown}
 use Rattle.homa_plain.specs.Rules.{Answer}
 use Rattle.node_runs.specs.Course.{Arrival, AreTicks, Ended, RefusedAt, StalledAt, node_run}
-use Rattle.node_runs.specs.Texts.{entries}
+use Rattle.node_runs.specs.Texts.{entries, node_text, recording_text}
 use Rattle.homa_node.specs.Served.{AreGiven}
 use Rattle.node_trace.specs.Traces.{Around, IsWhole, IsBrokenOff, IsEndCut}
 use Rattle.node_record.specs.Recorded as recording
@@ -97,7 +97,7 @@ module _ (may_tell : List PlainEntry → Type 0) where
     pub ended : status ≡ Done → HasEnded bytes left old new
     pub refused : status ≡ Refused → HasRefused bytes old new
     pub stalled : status ≡ Stalled → HasStalled bytes old new
-    pub front : is_broken_off status ≡ true → IsBrokenOff may_tell bytes left old new ⊎ IsEndCut may_tell bytes old new
+    pub front : is_broken_off status ≡ true → IsBrokenOff may_tell node_text bytes left old new ⊎ IsEndCut may_tell node_text bytes old new
 
   -- whatever the services may answer, the clock may give of its ticks and the net may give, no line of the script is refused
   abbrev pub IsNeverRefused : List ℕ → Option (List ℕ) → Type 0
@@ -116,4 +116,4 @@ module _ (may_tell : List PlainEntry → Type 0) where
     pub refused : status ≡ Refused → recording.IsWhole may_tell bytes old new 2
     pub stalled : status ≡ Stalled → recording.IsWhole may_tell bytes old new 7
     pub stranger : status ≡ Stranger → recording.IsCutShort may_tell bytes old new
-    pub front : is_broken_off status ≡ true → recording.IsBrokenOff may_tell bytes left old new ⊎ recording.IsEndCut may_tell bytes old new
+    pub front : is_broken_off status ≡ true → IsBrokenOff may_tell recording_text bytes left old new ⊎ IsEndCut may_tell recording_text bytes old new

@@ -8,6 +8,7 @@ use Rattle.homa_plain.specs.Script.{most_bytes}
 use Rattle.node_runs.specs.Script.{Opening, Opened, Unopened, opening}
 use Rattle.node_runs.specs.Course.{Arrival, End, Run, node_run}
 use Rattle.node_runs.specs.Replayed.{IsAnswer}
+use Rattle.node_runs.specs.Texts.{node_text}
 use Rattle.node_turns.specs.Told.{listed}
 use Rattle.node_trace.specs.Traces.{Around, IsWhole, IsBrokenOff, IsEndCut}
 use Rattle.node_trace_laws.specs.Taken.{TookLawfulRun, TookLawfulFront}
@@ -49,4 +50,4 @@ WholePrintsObey = (bytes : List ℕ) → OpensNode bytes → (old new : Around) 
 abbrev pub PartPrintsObey : Type 0
 PartPrintsObey =
     (bytes : List ℕ) → OpensNode bytes → (left : Option (List ℕ)) (old new : Around)
-    → IsBrokenOff AreFair bytes left old new ⊎ IsEndCut AreFair bytes old new → TookSome bytes old new
+    → IsBrokenOff AreFair node_text bytes left old new ⊎ IsEndCut AreFair node_text bytes old new → TookSome bytes old new

@@ -20,11 +20,11 @@ use Rattle.node_turns.specs.declared.stop.NodeStop.{NodeStop}
 use Rattle.node_turns.specs.declared.stop.NodeStop.TheVariants as stop
 use Rattle.homa_node.specs.Served.{outside, IsServed, IsPart, IsAnswered, BeginsRun}
 use Rattle.homa_node.proofs.Observing.{observed_whole, told_observed, strange_observed, front_observed}
-use Rattle.node_trace.specs.Traces.{around, IsGiven}
+use Rattle.node_trace.specs.Traces.{around, IsGiven, IsEndCut, IsFrontOf, IsBrokenOff}
 use Rattle.node_record.specs.declared.end.Recorded.{Recorded}
 use Rattle.node_record.specs.declared.end.Recorded.TheVariants as status
 use Rattle.node_record.specs.Ends.{PutsEnd, end_of}
-use Rattle.node_record.specs.Recorded.{IsWhole, IsCutShort, IsEndCut, IsFrontOf, IsBrokenOff, HasRecorded}
+use Rattle.node_record.specs.Recorded.{IsWhole, IsCutShort, HasRecorded}
 
 -- ---- the text and the status of a recording
 
@@ -64,7 +64,7 @@ module _ (may_tell : List PlainEntry → Type 0) (bytes : List ℕ) (t0 t1 t2 : 
     lines_printed : t1 ≡ appended t0 (lines run)
     lines_printed = told_observed told kept strange t0 t1 no_notes n1 run.reports is.told_all
 
-    from_is : IsGiven may_tell bytes (around t0 s0 g0 k0) (around t2 s1 g1 k1) is.answers is.ticks is.gave run
+    from_is : IsGiven may_tell (around t0 s0 g0 k0) (around t2 s1 g1 k1) is.answers is.ticks is.gave run.reports
     from_is = record { given = is.given; received = is.received; ticked = is.ticked; rises = is.rises; shows = is.shows; allowed = is.allowed }
 
     -- the last line was printed behind it
@@ -80,7 +80,7 @@ module _ (may_tell : List PlainEntry → Type 0) (bytes : List ℕ) (t0 t1 t2 : 
     }
 
     -- a front of it was
-    end_cut : TookFront t1 t2 (recorded_end end) → IsEndCut may_tell bytes (around t0 s0 g0 k0) (around t2 s1 g1 k1)
+    end_cut : TookFront t1 t2 (recorded_end end) → IsEndCut may_tell recording_text bytes (around t0 s0 g0 k0) (around t2 s1 g1 k1)
     end_cut last = record {
       answers = is.answers;
       ticks = is.ticks;
@@ -103,7 +103,7 @@ module _ (may_tell : List PlainEntry → Type 0) (bytes : List ℕ) (t0 t1 t2 : 
         (subst (λ (rs : List Report). TookFront t0 t1 (recorded no_notes rs).told) (sym e)
         (front_observed told kept strange t0 t1 no_notes is.reports more is.told_part)) rest.1
 
-    front_of : (run : Run) → BeginsRun run is.reports is.sent → IsFrontOf may_tell run is.reports (around t0 s0 g0 k0) (around t1 s1 g1 k1)
+    front_of : (run : Run) → BeginsRun run is.reports is.sent → IsFrontOf recording_text run is.reports (around t0 s0 g0 k0) (around t1 s1 g1 k1)
     front_of run b = record {
       more = b.more;
       begins = b.reports_are;
@@ -116,7 +116,7 @@ module _ (may_tell : List PlainEntry → Type 0) (bytes : List ℕ) (t0 t1 t2 : 
       };
     }
 
-    cut_there : IsBrokenOff may_tell bytes left (around t0 s0 g0 k0) (around t1 s1 g1 k1)
+    cut_there : IsBrokenOff may_tell recording_text bytes left (around t0 s0 g0 k0) (around t1 s1 g1 k1)
     cut_there = record {
       came = is.came;
       rest = is.rest;
@@ -126,12 +126,7 @@ module _ (may_tell : List PlainEntry → Type 0) (bytes : List ℕ) (t0 t1 t2 : 
       ticks = is.ticks;
       gave = is.gave;
       reports = is.reports;
-      given = is.given;
-      received = is.received;
-      ticked = is.ticked;
-      rises = is.rises;
-      shows = is.shows;
-      allowed = is.allowed;
+      from = record { given = is.given; received = is.received; ticked = is.ticked; rises = is.rises; shows = is.shows; allowed = is.allowed };
       front = elim (is.front) [
         | inl f ↦ inl (λ more later on next. front_of (node_run (is.came ++ more) (is.answers ++ later) (is.ticks ++ on) (is.gave ++ next))
             (f more later on next))
@@ -140,8 +135,8 @@ module _ (may_tell : List PlainEntry → Type 0) (bytes : List ℕ) (t0 t1 t2 : 
     }
 
     -- nothing was printed behind it
-    cut : t2 ≡ t1 → IsBrokenOff may_tell bytes left (around t0 s0 g0 k0) (around t2 s1 g1 k1)
-    cut same = subst (λ (t : Option (List ℕ)). IsBrokenOff may_tell bytes left (around t0 s0 g0 k0) (around t s1 g1 k1)) (sym same) cut_there
+    cut : t2 ≡ t1 → IsBrokenOff may_tell recording_text bytes left (around t0 s0 g0 k0) (around t2 s1 g1 k1)
+    cut same = subst (λ (t : Option (List ℕ)). IsBrokenOff may_tell recording_text bytes left (around t0 s0 g0 k0) (around t s1 g1 k1)) (sym same) cut_there
 
   -- ---- a datagram was strange
 
@@ -184,12 +179,7 @@ module _ (may_tell : List PlainEntry → Type 0) (bytes : List ℕ) (t0 t1 t2 : 
           text = same ∙ (k.0 ∙ ap (appended t0) (ap (λ (rs : List Report). (recorded no_notes rs).told) (sym begins_all.reports_are)
               ∙ sym (text_by run true cut)));
           took = took;
-          given = is.given;
-          received = is.received;
-          ticked = is.ticked;
-          rises = is.rises;
-          shows = is.shows;
-          allowed = is.allowed;
+          from = record { given = is.given; received = is.received; ticked = is.ticked; rises = is.rises; shows = is.shows; allowed = is.allowed };
         }
 
   -- ---- what a node answered, and what was printed behind it

@@ -57,7 +57,7 @@ module _ (may_tell : List PlainEntry → Type 0) (bytes : List ℕ) (t0 t1 t2 : 
     lines_printed : t1 ≡ appended t0 (lines (node_run bytes is.answers is.ticks is.gave))
     lines_printed = told_observed prints same_notes never t0 t1 no_notes n1 (node_run bytes is.answers is.ticks is.gave).reports is.told_all
 
-    from_is : IsGiven may_tell bytes (around t0 s0 g0 k0) (around t2 s1 g1 k1) is.answers is.ticks is.gave (node_run bytes is.answers is.ticks is.gave)
+    from_is : IsGiven may_tell (around t0 s0 g0 k0) (around t2 s1 g1 k1) is.answers is.ticks is.gave (node_run bytes is.answers is.ticks is.gave).reports
     from_is = record { given = is.given; received = is.received; ticked = is.ticked; rises = is.rises; shows = is.shows; allowed = is.allowed }
 
     -- the last line was printed behind them
@@ -77,7 +77,7 @@ module _ (may_tell : List PlainEntry → Type 0) (bytes : List ℕ) (t0 t1 t2 : 
 
     -- a front of it was
     pub end_cut : (mid : Option (List ℕ)) → mid ≡ t1 → TookFront mid t2 (line_text (end_entry end))
-        → IsEndCut may_tell bytes (around t0 s0 g0 k0) (around t2 s1 g1 k1)
+        → IsEndCut may_tell node_text bytes (around t0 s0 g0 k0) (around t2 s1 g1 k1)
     end_cut mid same last =
         let run = node_run bytes is.answers is.ticks is.gave in
         record {
@@ -94,7 +94,7 @@ module _ (may_tell : List PlainEntry → Type 0) (bytes : List ℕ) (t0 t1 t2 : 
 
   module _ (left : Option (List ℕ)) (is : IsPart node_run prints same_notes never may_tell bytes left (outside t0 no_notes s0 g0 k0) (outside t1 n1 s1 g1 k1)
       (AreFront prints same_notes never t0 no_notes t1) (ListedFront s0 s1)) where
-    front_of : (run : Run) → BeginsRun run is.reports is.sent → IsFrontOf may_tell run is.reports (around t0 s0 g0 k0) (around t1 s1 g1 k1)
+    front_of : (run : Run) → BeginsRun run is.reports is.sent → IsFrontOf node_text run is.reports (around t0 s0 g0 k0) (around t1 s1 g1 k1)
     front_of run b = record {
       more = b.more;
       begins = b.reports_are;
@@ -107,7 +107,7 @@ module _ (may_tell : List PlainEntry → Type 0) (bytes : List ℕ) (t0 t1 t2 : 
       };
     }
 
-    cut_there : IsBrokenOff may_tell bytes left (around t0 s0 g0 k0) (around t1 s1 g1 k1)
+    cut_there : IsBrokenOff may_tell node_text bytes left (around t0 s0 g0 k0) (around t1 s1 g1 k1)
     cut_there = record {
       came = is.came;
       rest = is.rest;
@@ -117,12 +117,7 @@ module _ (may_tell : List PlainEntry → Type 0) (bytes : List ℕ) (t0 t1 t2 : 
       ticks = is.ticks;
       gave = is.gave;
       reports = is.reports;
-      given = is.given;
-      received = is.received;
-      ticked = is.ticked;
-      rises = is.rises;
-      shows = is.shows;
-      allowed = is.allowed;
+      from = record { given = is.given; received = is.received; ticked = is.ticked; rises = is.rises; shows = is.shows; allowed = is.allowed };
       front = elim (is.front) [
         | inl f ↦ inl (λ more later on next. front_of (node_run (is.came ++ more) (is.answers ++ later) (is.ticks ++ on) (is.gave ++ next))
             (f more later on next))
@@ -131,8 +126,8 @@ module _ (may_tell : List PlainEntry → Type 0) (bytes : List ℕ) (t0 t1 t2 : 
     }
 
     -- the run was broken off
-    pub cut : t2 ≡ t1 → IsBrokenOff may_tell bytes left (around t0 s0 g0 k0) (around t2 s1 g1 k1)
-    cut same = subst (λ (t : Option (List ℕ)). IsBrokenOff may_tell bytes left (around t0 s0 g0 k0) (around t s1 g1 k1)) (sym same) cut_there
+    pub cut : t2 ≡ t1 → IsBrokenOff may_tell node_text bytes left (around t0 s0 g0 k0) (around t2 s1 g1 k1)
+    cut same = subst (λ (t : Option (List ℕ)). IsBrokenOff may_tell node_text bytes left (around t0 s0 g0 k0) (around t s1 g1 k1)) (sym same) cut_there
 
 -- ---- what a node answered
 

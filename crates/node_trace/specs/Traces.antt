@@ -29,47 +29,39 @@ IsReadOut (Ended turns) left = left ≡ Some []
 IsReadOut (Refused line fault) left = Unit {0}
 IsReadOut (Stalled turns now) left = Unit {0}
 
-module _ (may_tell : List PlainEntry → Type 0) where
-  -- What a run was given: answers that its `run` lines show, which the boxes allow, and the ticks and receives that were given, where that is told.
-  -- What was received are bytes, at most 1,500 at once.
-  pub record IsGiven (bytes : List ℕ) (old new : Around) (answers : List Answer) (ticks : List ℕ) (gave : List (Option Arrival)) (run : Run) : Type 0 where
-    pub given : new.gave ≡ listed old.gave gave
-    pub received : AreReceived gave
-    pub ticked : AreGiven old.ticks ticks
-    pub rises : AreTicks 0 ticks
-    pub shows : shown (entries run.reports) ≡ answers
-    pub allowed : may_tell (entries run.reports)
+-- What these reports of a run were given: answers that their `run` lines show, which the boxes allow, and the ticks and receives that were given,
+-- where that is told. What was received are bytes, at most 1,500 at once.
+pub record IsGiven (may_tell : List PlainEntry → Type 0) (old new : Around) (answers : List Answer) (ticks : List ℕ) (gave : List (Option Arrival))
+    (reports : List Report) : Type 0 where
+  pub given : new.gave ≡ listed old.gave gave
+  pub received : AreReceived gave
+  pub ticked : AreGiven old.ticks ticks
+  pub rises : AreTicks 0 ticks
+  pub shows : shown (entries reports) ≡ answers
+  pub allowed : may_tell (entries reports)
 
-  -- the run of these bytes came to this end; its whole text was printed, and the net took its datagrams
-  pub record IsWhole (bytes : List ℕ) (old new : Around) (end : End) : Type 0 where
-    pub answers : List Answer
-    pub ticks : List ℕ
-    pub gave : List (Option Arrival)
-    pub from : IsGiven bytes old new answers ticks gave (node_run bytes answers ticks gave)
-    pub ended : (node_run bytes answers ticks gave).end ≡ Some end
-    pub text : new.taken ≡ appended old.taken (node_text (node_run bytes answers ticks gave))
-    pub took : new.sent ≡ listed old.sent (node_run bytes answers ticks gave).sent
+-- a front of a run's text was printed, within what these of its reports tell, and a front of its datagrams was taken
+pub record IsFrontOf (text_of : Run → List ℕ) (run : Run) (reports : List Report) (old new : Around) : Type 0 where
+  pub more : List Report
+  pub begins : run.reports ≡ reports ++ more
+  pub text : TookFront old.taken new.taken (text_of run)
+  pub took : ListedFront old.sent new.sent run.sent
 
-  -- the same, but that the sink took a front of the text: a write failed at its last line
+-- what is printed of a run is its text: the trace of a node, or its recording
+module _ (may_tell : List PlainEntry → Type 0) (text_of : Run → List ℕ) where
+  -- the run of these bytes came to this end, and its datagrams were taken; the sink took a front of the text: a write failed at its last line
   pub record IsEndCut (bytes : List ℕ) (old new : Around) : Type 0 where
     pub answers : List Answer
     pub ticks : List ℕ
     pub gave : List (Option Arrival)
     pub end : End
-    pub from : IsGiven bytes old new answers ticks gave (node_run bytes answers ticks gave)
+    pub from : IsGiven may_tell old new answers ticks gave (node_run bytes answers ticks gave).reports
     pub ended : (node_run bytes answers ticks gave).end ≡ Some end
-    pub text : TookFront old.taken new.taken (node_text (node_run bytes answers ticks gave))
+    pub text : TookFront old.taken new.taken (text_of (node_run bytes answers ticks gave))
     pub took : new.sent ≡ listed old.sent (node_run bytes answers ticks gave).sent
 
-  -- a front of a run's text was printed, within what these of its reports tell, and a front of its datagrams was taken
-  pub record IsFrontOf (run : Run) (reports : List Report) (old new : Around) : Type 0 where
-    pub more : List Report
-    pub begins : run.reports ≡ reports ++ more
-    pub text : TookFront old.taken new.taken (node_text run)
-    pub took : ListedFront old.sent new.sent run.sent
-
-  -- Some of the bytes came. A front was printed of each run that begins so: of every input that begins with the bytes that came, and
-  -- whatever is answered, read and received later; or no byte is left, and it is the run of those that came.
+  -- Some of the bytes came. A front was printed of the text of each run that begins so: of every input that begins with the bytes that came,
+  -- and whatever is answered, read and received later; or no byte is left, and it is that of the run of those that came.
   pub record IsBrokenOff (bytes : List ℕ) (left : Option (List ℕ)) (old new : Around) : Type 0 where
     pub came : List ℕ
     pub rest : List ℕ
@@ -79,18 +71,24 @@ module _ (may_tell : List PlainEntry → Type 0) where
     pub ticks : List ℕ
     pub gave : List (Option Arrival)
     pub reports : List Report
-    pub given : new.gave ≡ listed old.gave gave
-    pub received : AreReceived gave
-    pub ticked : AreGiven old.ticks ticks
-    pub rises : AreTicks 0 ticks
-    pub shows : shown (entries reports) ≡ answers
-    pub allowed : may_tell (entries reports)
+    pub from : IsGiven may_tell old new answers ticks gave reports
     pub front : ((more : List ℕ) (later : List Answer) (on : List ℕ) (next : List (Option Arrival))
-        → IsFrontOf (node_run (came ++ more) (answers ++ later) (ticks ++ on) (gave ++ next)) reports old new)
+        → IsFrontOf text_of (node_run (came ++ more) (answers ++ later) (ticks ++ on) (gave ++ next)) reports old new)
         ⊎ ((rest ≡ []) × ((later : List Answer) (on : List ℕ) (next : List (Option Arrival))
-        → IsFrontOf (node_run came (answers ++ later) (ticks ++ on) (gave ++ next)) reports old new))
+        → IsFrontOf text_of (node_run came (answers ++ later) (ticks ++ on) (gave ++ next)) reports old new))
+
+module _ (may_tell : List PlainEntry → Type 0) where
+  -- the run of these bytes came to this end; its whole text was printed, and the net took its datagrams
+  pub record IsWhole (bytes : List ℕ) (old new : Around) (end : End) : Type 0 where
+    pub answers : List Answer
+    pub ticks : List ℕ
+    pub gave : List (Option Arrival)
+    pub from : IsGiven may_tell old new answers ticks gave (node_run bytes answers ticks gave).reports
+    pub ended : (node_run bytes answers ticks gave).end ≡ Some end
+    pub text : new.taken ≡ appended old.taken (node_text (node_run bytes answers ticks gave))
+    pub took : new.sent ≡ listed old.sent (node_run bytes answers ticks gave).sent
 
   -- what was printed
   abbrev pub IsPrinted : List ℕ → Option (List ℕ) → Around → Around → Result NodeEnd Broken → Type 0
   IsPrinted bytes left old new (Ok end) = IsWhole bytes old new (end_seen end) × IsReadOut end left
-  IsPrinted bytes left old new (Err broken) = IsBrokenOff bytes left old new ⊎ IsEndCut bytes old new
+  IsPrinted bytes left old new (Err broken) = IsBrokenOff may_tell node_text bytes left old new ⊎ IsEndCut may_tell node_text bytes old new
