@@ -24,9 +24,13 @@ LIBRARY = r"""
 static unsigned long allocations, reads, writes, nets, sends, readings;
 static int looking_up;
 static unsigned long number(const char *name) { const char *it = getenv(name); return it ? strtoul(it, 0, 10) : 0; }
+/* the call of this number fails, and with FROM each later one, too; with the error number ERRNO, or EIO */
 static int fails(unsigned long *count, const char *name) {
-    unsigned long at = number(name);
-    return ++*count == at;
+    unsigned long at = number(name), error = number("ERRNO");
+    ++*count;
+    if (!at || *count < at || (*count > at && !number("FROM"))) return 0;
+    errno = error ? error : EIO;
+    return 1;
 }
 __attribute__((destructor)) static void tell(void) {
     if (getenv("TELL")) dprintf(2, "calls %lu %lu %lu %lu\n", allocations, reads, writes, nets);
@@ -43,16 +47,16 @@ static size_t shorter(size_t n) { unsigned long most = number("SHORT"); return m
 ssize_t read(int fd, void *to, size_t n) {
     REAL(read);
     if (fd) return real(fd, to, n);
-    if (fails(&reads, "FAIL_READ")) { errno = EIO; return -1; }
+    if (fails(&reads, "FAIL_READ")) return -1;
     return real(fd, to, shorter(n));
 }
 ssize_t write(int fd, const void *from, size_t n) {
     REAL(write);
     if (fd != 1) return real(fd, from, n);
-    if (fails(&writes, "FAIL_WRITE")) { errno = EIO; return -1; }
+    if (fails(&writes, "FAIL_WRITE")) return -1;
     return real(fd, from, shorter(n));
 }
-#define NET if (fails(&nets, "FAIL_NET")) { errno = EIO; return -1; }
+#define NET if (fails(&nets, "FAIL_NET")) return -1;
 int socket(int domain, int type, int protocol) { REAL(socket); NET return real(domain, type, protocol); }
 int bind(int fd, const struct sockaddr *at, socklen_t size) { REAL(bind); NET return real(fd, at, size); }
 int setsockopt(int fd, int level, int name, const void *value, socklen_t size) { REAL(setsockopt); NET return real(fd, level, name, value, size); }
@@ -117,7 +121,7 @@ class Faults:
 
     def environment(self, **faults):
         """The surroundings of a run with these faults; each name is that of one in the library: REFUSE, FAIL_READ, FAIL_WRITE, FAIL_NET
-        (the number of the call that fails), SHORT, LOSE, LOG, STEP."""
+        (the number of the call that fails), FROM (1: each later one fails, too), ERRNO, SHORT, LOSE, LOG, STEP."""
         return {**os.environ, "LD_PRELOAD": self.library, **{name: str(value) for name, value in faults.items()}}
 
     def run(self, words, given=b"", program=PROGRAM, **faults):

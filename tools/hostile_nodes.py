@@ -62,13 +62,14 @@ def echoed(lines, client, count):
 
 
 def failing_nets(faults, chosen):
-    """Each call of the net fails in turn: status 6, and a front of the whole run; one beyond the last isn't met."""
+    """Each call of the net fails in turn, and that one with all behind it: status 6, and a front of the whole run; one beyond the last isn't met."""
     for word in chosen.words:
         given = smallest()
         (*_, nets), whole = faults.count([word], given, **STEPS)
         for k in range(1, nets + 1):
-            got = faults.run([word], given, FAIL_NET=k, **STEPS)
-            yield got.returncode == 6 and whole.stdout.startswith(got.stdout), f"{word} FAIL_NET {k}: status {got.returncode}"
+            for more in ({}, {"FROM": 1}):
+                got = faults.run([word], given, FAIL_NET=k, **more, **STEPS)
+                yield got.returncode == 6 and whole.stdout.startswith(got.stdout), f"{word} FAIL_NET {k} {more}: status {got.returncode}"
         got = faults.run([word], given, FAIL_NET=nets + 1, **STEPS)
         yield nets > 0 and (got.returncode, got.stdout) == (0, whole.stdout), f"{word} FAIL_NET {nets + 1}, which isn't met"
 
