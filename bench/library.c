@@ -1,7 +1,9 @@
 /* Times calls over loopback UDP through the library, beside a bare UDP echo and a TCP echo of the same bytes, one server process each.
  *
- * usage: library homa|udp|tcp BYTES CALLS AT_A_TIME      (udp and tcp: one at a time)
- *        library homa|tcp mixed CALLS                     (calls of 100 bytes, while calls of 1,000,000 bytes run beside them)
+ * usage: library homa BYTES CALLS AT_A_TIME
+ *        library udp|runs|tcp BYTES CALLS       (one at a time; runs: UDP, the datagrams of up to 61,600 bytes in one call of the system)
+ *        library core BYTES CALLS               (both hosts in one process, without a net: what the library takes)
+ *        library homa|tcp mixed CALLS           (calls of 100 bytes, while calls of 1,000,000 bytes run beside them)
  * Prints the middle and the 99th of a hundred of the times in us, calls a second, and long ones a second. Every response is compared.
  */
 #define _GNU_SOURCE
@@ -57,6 +59,16 @@ static void tell(size_t calls, size_t long_calls, uint64_t all) {
     printf(" %.0f\n", (double)long_calls * 1e9 / (double)all);
 }
 
+/* Datagrams of `piece` bytes, the last one perhaps of fewer, in one call of the system. */
+static void send_run(int socket, struct iovec *run, size_t count, uint16_t piece) {
+    char control[CMSG_SPACE(sizeof piece)] = { 0 };
+    struct msghdr head = { .msg_iov = run, .msg_iovlen = count, .msg_control = control, .msg_controllen = sizeof control };
+    struct cmsghdr *of_piece = CMSG_FIRSTHDR(&head);
+    *of_piece = (struct cmsghdr){ .cmsg_level = IPPROTO_UDP, .cmsg_type = UDP_SEGMENT, .cmsg_len = CMSG_LEN(sizeof piece) };
+    memcpy(CMSG_DATA(of_piece), &piece, sizeof piece);
+    (void)!sendmsg(socket, &head, 0);
+}
+
 /* ---- the library */
 
 typedef struct {
@@ -71,20 +83,10 @@ typedef struct {
     bool is_long[NUMBERS];
 } node;
 
-/* Frames of several steps, which leave before the next wait: a run of one length in one call of the system (UDP_SEGMENT). */
+/* Frames of several steps, which leave before the next wait: those of one length in one call of the system. */
 static uint8_t frames[MOST_FRAMES][1536], handed[MOST_FRAMES][1536];
 static struct iovec parts[MOST_FRAMES], handed_parts[MOST_FRAMES];
 static size_t waiting;
-
-static void send_run(int socket, struct iovec *run, size_t count) {
-    uint16_t len = (uint16_t)run->iov_len;
-    char control[CMSG_SPACE(sizeof len)] = { 0 };
-    struct msghdr head = { .msg_iov = run, .msg_iovlen = count, .msg_control = control, .msg_controllen = sizeof control };
-    struct cmsghdr *of_len = CMSG_FIRSTHDR(&head);
-    *of_len = (struct cmsghdr){ .cmsg_level = IPPROTO_UDP, .cmsg_type = UDP_SEGMENT, .cmsg_len = CMSG_LEN(sizeof len) };
-    memcpy(CMSG_DATA(of_len), &len, sizeof len);
-    (void)!sendmsg(socket, &head, 0);
-}
 
 /* A datagram that the system doesn't take is lost, as on any net. The last one of a run may be shorter. */
 static void send_waiting(node *n) {
@@ -92,7 +94,7 @@ static void send_waiting(node *n) {
         size_t len = parts[i].iov_len;
         for (end = i + 1; end < waiting && end - i < MOST_RUN && parts[end - 1].iov_len == len && parts[end].iov_len <= len;) end++;
         if (end == i + 1) (void)!send(n->socket, frames[i], len, 0);
-        else send_run(n->socket, parts + i, end - i);
+        else send_run(n->socket, parts + i, end - i, (uint16_t)len);
     }
     waiting = 0;
 }
@@ -254,23 +256,34 @@ static void core_calls(const int sockets[2], size_t len, size_t calls) {
 
 /* ---- the same bytes there and back, bare */
 
-static void udp_echo(int socket) {
-    static uint8_t piece[2048];
-    for (;;) {
-        ssize_t len = recv(socket, piece, sizeof piece, 0);
-        if (len >= 0) (void)!send(socket, piece, (size_t)len, 0);
+static void send_pieces(int socket, uint8_t *at, size_t len, bool in_runs) {
+    for (size_t k, had = 0; had < len; had += k) {
+        size_t most = in_runs ? MOST_RUN * PIECE : PIECE;
+        k = len - had < most ? len - had : most;
+        if (k > PIECE) send_run(socket, &(struct iovec){ at + had, k }, 1, PIECE);
+        else (void)!send(socket, at + had, k, 0);
     }
 }
 
-static void udp_calls(const int sockets[2], size_t len, size_t calls) {
+static void udp_echo(int socket, bool in_runs) {
+    static uint8_t room[MOST_DATAGRAM];
+    for (;;) {
+        ssize_t len = recv(socket, room, sizeof room, 0);
+        if (len >= 0) send_pieces(socket, room, (size_t)len, in_runs);
+    }
+}
+
+static void udp_calls(const int sockets[2], size_t len, size_t calls, bool in_runs) {
     struct timeval limit = { 0, 200000 };
-    if ((server = fork()) == 0) udp_echo(sockets[1]);
+    int is_on = in_runs;
     setsockopt(sockets[0], SOL_SOCKET, SO_RCVTIMEO, &limit, sizeof limit);
+    for (int i = 0; i < 2; i++) setsockopt(sockets[i], IPPROTO_UDP, UDP_GRO, &is_on, sizeof is_on);
+    if ((server = fork()) == 0) udp_echo(sockets[1], in_runs);
     uint64_t began = nanoseconds();
     for (size_t i = 0; i < calls; i++) {
         uint64_t since = nanoseconds();
         size_t back = 0;
-        for (size_t at = 0; at < len; at += PIECE) (void)!send(sockets[0], sent + at, len - at < PIECE ? len - at : PIECE, 0);
+        send_pieces(sockets[0], sent, len, in_runs);
         for (ssize_t k; back < len && (k = recv(sockets[0], got + back, len - back, 0)) >= 0;) back += (size_t)k;
         need(back < len || memcmp(got, sent, len) == 0, "a datagram"); /* one that is lost counts with the time that was waited */
         times[i] = nanoseconds() - since;
@@ -366,10 +379,11 @@ int main(int argc, char **argv) {
     for (size_t i = 0; i < MOST; i++) sent[i] = (uint8_t)(i * 7 + i / 251);
     open_sockets(sockets);
     if (strcmp(argv[1], "homa") == 0) homa_calls(sockets, len, calls, at_a_time, is_mixed ? 2 : 0);
-    else if (strcmp(argv[1], "udp") == 0) udp_calls(sockets, len, calls);
+    else if (strcmp(argv[1], "udp") == 0) udp_calls(sockets, len, calls, false);
+    else if (strcmp(argv[1], "runs") == 0) udp_calls(sockets, len, calls, true);
     else if (strcmp(argv[1], "tcp") == 0) tcp_calls(len, calls, is_mixed);
     else if (strcmp(argv[1], "core") == 0) core_calls(sockets, len, calls);
-    else need(false, "homa, udp, tcp or core");
+    else need(false, "homa, udp, runs, tcp or core");
     if (server > 0) {
         kill(server, SIGKILL);
         waitpid(server, NULL, 0);
