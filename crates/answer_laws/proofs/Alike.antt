@@ -12,11 +12,11 @@ use Rattle.homa_plain.specs.declared.packet.Body.TheVariants as body
 use Rattle.homa_plain.specs.declared.settings.Settings.{Settings}
 use Rattle.homa_plain.specs.Incoming.{Incoming, with_bytes, leaves_too_many_gaps, is_whole, message}
 use Rattle.homa_plain.specs.Incoming as incoming
-use Rattle.homa_plain.specs.Entries.{PlainRun, PlainJunk, PlainStale}
+use Rattle.homa_plain.specs.Entries.{PlainRun, PlainStale}
 use Rattle.homa_plain.specs.Packets.{Packet, sender, acks}
 use Rattle.homa_plain.specs.Rows.{ServerRow, State, Receiving, Held, Replying, Buried, set_row}
 use Rattle.homa_plain.specs.Host.{Host, pages_for, tuned, peer_cutoffs, Told, Says, packets_in}
-use Rattle.homa_plain.specs.Rules.{Moment, Answer, Piece, Say, Tells, Did, leaves, opening, version_of}
+use Rattle.homa_plain.specs.Rules.{Moment, Answer, Piece, Tells, Did, leaves, opening, version_of}
 use Rattle.homa_plain.specs.AtServer.{runs, piece_added, piece_comes, opens, piece_of, unknown_gets, receiving_gets, row_gets, server_gets}
 use Rattle.homa_plain.specs.Steps.{Work, begun, now_of, moment, said, served, comes_to_row, acked, takes, is_stale, is_newer, comes, tells, posts, notes, tells_cutoffs, gives_grants, ended, arrival_step, hears_cutoffs}
 use Rattle.step_laws.specs.StepLaws.{run_count}

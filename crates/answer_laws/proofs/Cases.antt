@@ -1,8 +1,8 @@
 -- An event with two lists of answers: it is refused, or no service is asked, or one is.
-use Rattle.std.proofs.Common.{◌≡◌, ℕ, zero, suc, ◌+◌, ◌-◌, ◌<◌, ◌≤◌, Bool, true, false, cond, Option, Some, None, List, [], ◌∷◌, ◌++◌, length, refl, sym, ap, subst, ◌∙◌, arith, append_assoc, ◌⊎◌, inl, inr, length-append}
+use Rattle.std.proofs.Common.{◌≡◌, ℕ, zero, suc, ◌+◌, ◌-◌, ◌≤◌, Bool, true, false, cond, Option, Some, None, List, [], ◌∷◌, ◌++◌, length, refl, sym, ap, subst, ◌∙◌, arith, append_assoc, ◌⊎◌, inl, inr}
 use Rattle.std.proofs.lemmas.List.{length-set, length-take}
 use Rattle.std.proofs.lemmas.Option.{slice_get_within}
-use Rattle.std.specs.Prelude.{◌==◌, nat_lt, is_some, drop, map, slice_get, slice_set, IfSome}
+use Rattle.std.specs.Prelude.{◌==◌, nat_lt, is_some, drop, slice_get, slice_set, IfSome}
 use Rattle.std.specs.Option.{option_map}
 use Rattle.std.specs.List.{AllByRecursion, Contains}
 use Rattle.std.proofs.lemmas.List.Elements.{Contains-append_right}
@@ -18,7 +18,7 @@ use Rattle.homa_plain.specs.Settings.{band}
 use Rattle.homa_plain.specs.Wire.{packet_in}
 use Rattle.homa_plain.specs.Entries.{PlainEntry, PlainRun, PlainDeliver, PlainInject, PlainClock, PlainRestart, PlainShift}
 use Rattle.homa_plain.specs.Packets.{Packet, receiver}
-use Rattle.homa_plain.specs.Host.{Host, new_host, Told, Says, entries_from}
+use Rattle.homa_plain.specs.Host.{Host, new_host, Told, Says, packets_in, entries_from}
 use Rattle.homa_plain.specs.Rules.{Answer}
 use Rattle.homa_plain.specs.Steps.{Work, has_run, call_step, arrival_step, turn_step, start_fault}
 use Rattle.homa_plain.specs.World.{World, SentPacket, Outcome, Done, Refused, outcome, host_at, own_clock, is_late, last_tick, next_answer, answers_left, stepped, started, calls_from, arrives_at, delivered, turns, restarts, injected, shifted}
@@ -31,11 +31,12 @@ use Rattle.event_laws.specs.Named.{IsOwnStep, IsOfStep}
 use Rattle.event_laws.specs.Stepping.{stepped_world, step_told}
 use Rattle.event_laws.proofs.Names.{call_named, arrival_named, turn_named, new_named}
 use Rattle.trace_lines.specs.Told.{HasOwnName}
-use Rattle.homa_world.specs.Boxes.{Allows, may_tell}
+use Rattle.trace_lines.proofs.Lines.{entries_from-append}
+use Rattle.box_laws.specs.Boxes.{Allows, MayAnswer, may_tell}
 use Rattle.answer_laws.specs.Answers.{AnswersOneWay}
 use Rattle.answer_laws.proofs.Alike.{Parts, Alike, arrival_alike}
-use Rattle.answer_laws.proofs.Seats.{AllNamed, named, named_set, AllFull, In, full, full_set, full_change, Last, last}
-use Rattle.answer_laws.proofs.Told.{shown-append, shown-quiet, Joined, joined, of_parts, passed, Found, found, no_run}
+use Rattle.answer_laws.proofs.Seats.{AllNamed, named, named_set, AllFull, In, full, full_set, full_change, last}
+use Rattle.answer_laws.proofs.Told.{shown-append, shown-quiet, of_parts, passed, found, no_run}
 
 -- a world with its boxes: hosts have their own names, each has a box, and there are as many spares
 pub record Stands {A : Type 0} (w : World) (seats : List (Option (A × ℕ))) (spares : List (A × ℕ)) : Type 0 where
@@ -144,34 +145,34 @@ module _ {A : Type 0} (allows : Allows A) (one_way : AnswersOneWay allows) (s : 
     reached : (a : Answer) (work : Work) (before after : List Told) (run : PlainEntry) (more : List PlainEntry) → work.told ≡ before ++ (Says run ∷ after) → AllByRecursion IsOfStep work.told → run_count before ≡ 0
         → may_tell allows seats spares (step_told w first work ++ more) → (k : ℕ) × may_tell allows seats spares (run ∷ (entries_from k after ++ more))
     reached a work before after run more is own quiet may =
-        let j = joined n before (Says run ∷ after) in
+        let next : ℕ = n + length (packets_in before) in
         let parts = of_parts before (Says run ∷ after) (subst (AllByRecursion IsOfStep) is own) in
-        let lines : entries_from n work.told ≡ entries_from n before ++ (run ∷ entries_from j.next after) = ap (entries_from n) is ∙ j.is in
+        let lines : entries_from n work.told ≡ entries_from n before ++ (run ∷ entries_from next after) = ap (entries_from n) is ∙ entries_from-append n before (Says run ∷ after) in
         let in_step = enters (entries_from n work.told ++ more) (subst (may_tell allows seats spares) (append_assoc first (entries_from n work.told) more) may) in
         let cut = subst (λ es. may_tell allows seats spares (es ++ more)) lines in_step in
-        (j.next, passed allows spares seats n before (run ∷ (entries_from j.next after ++ more)) parts.0 quiet (subst (may_tell allows seats spares) (append_assoc (entries_from n before) (run ∷ entries_from j.next after) more) cut))
+        (next, passed allows spares seats n before (run ∷ (entries_from next after ++ more)) parts.0 quiet (subst (may_tell allows seats spares) (append_assoc (entries_from n before) (run ∷ entries_from next after) more) cut))
 
-    seats_behind : HostId → List (Option (A × ℕ))
+    abbrev seats_behind : HostId → List (Option (A × ℕ))
     seats_behind host = slice_set seats host.0 (option_map (λ b. (b.0, b.1 + 1)) (place_of seats host.0))
 
     -- an answer that is told of this host is one that its box may give
-    allowed : (request response : List ℕ) (service hold : ℕ) → IfSome (place_of seats h.id.0) (λ b. allows b.0 b.1 service request response hold) → allows seat.box.0 seat.box.1 service request response hold
+    allowed : (request response : List ℕ) (service hold : ℕ) → MayAnswer allows (place_of seats h.id.0) service request response hold → allows seat.box.0 seat.box.1 service request response hold
     allowed request response service hold may =
         let is : place_of seats h.id.0 ≡ Some seat.box = ap (λ (x : HostId). place_of seats x.0) name ∙ seat.is in
-        subst (λ o. IfSome o (λ b. allows b.0 b.1 service request response hold)) is may
+        subst (λ o. MayAnswer allows o service request response hold) is may
 
     -- what an arrival shows where its service answered
     one_shown : (a : Answer) (work : Work) (before after : List Told) (p : PlainEntry) → work.told ≡ before ++ (Says p ∷ after) → run_count before ≡ 0 → run_count after ≡ 0 → ((es : List PlainEntry) → shown (p ∷ es) ≡ a ∷ shown es)
         → shown (step_told w first work) ≡ a ∷ []
     one_shown a work before after p is quiet calm tells =
-        let j = joined n before (Says p ∷ after) in
-        let lines : entries_from n work.told ≡ entries_from n before ++ (p ∷ entries_from j.next after) = ap (entries_from n) is ∙ j.is in
+        let next : ℕ = n + length (packets_in before) in
+        let lines : entries_from n work.told ≡ entries_from n before ++ (p ∷ entries_from next after) = ap (entries_from n) is ∙ entries_from-append n before (Says p ∷ after) in
         shown-append first (entries_from n work.told)
         ∙ (ap (λ xs. xs ++ shown (entries_from n work.told)) none
         ∙ (ap shown lines
-        ∙ (shown-append (entries_from n before) (p ∷ entries_from j.next after)
-        ∙ (ap (λ xs. xs ++ shown (p ∷ entries_from j.next after)) (shown-quiet n before quiet)
-        ∙ (tells (entries_from j.next after) ∙ ap (λ xs. a ∷ xs) (shown-quiet j.next after calm))))))
+        ∙ (shown-append (entries_from n before) (p ∷ entries_from next after)
+        ∙ (ap (λ xs. xs ++ shown (p ∷ entries_from next after)) (shown-quiet n before quiet)
+        ∙ (tells (entries_from next after) ∙ ap (λ xs. a ∷ xs) (shown-quiet next after calm))))))
 
     few : (work : Work) (before after : List Told) (p : PlainEntry) → run_count work.told ≤ 1 → work.told ≡ before ++ (Says p ∷ after) → run_count before ≡ 0 → ((ts : List Told) → run_count (Says p ∷ ts) ≡ suc (run_count ts)) → run_count after ≡ 0
     few work before after p most is quiet counts =

@@ -3,3 +3,4 @@ mod Told
 mod Seats
 mod Cases
 mod Runs
+mod Worked

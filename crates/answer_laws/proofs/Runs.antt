@@ -1,5 +1,5 @@
 -- Runs with two lists of answers, each of which the run itself shows.
-use Rattle.std.proofs.Common.{◌≡◌, ℕ, zero, suc, ◌+◌, ◌-◌, ◌<◌, ◌≤◌, Option, Some, None, List, [], ◌∷◌, ◌++◌, length, refl, sym, ap, subst, ◌∙◌, arith, ◌⊎◌, inl, inr, replicate}
+use Rattle.std.proofs.Common.{◌≡◌, ℕ, suc, ◌-◌, ◌≤◌, Option, Some, List, [], ◌∷◌, ◌++◌, length, refl, sym, ap, subst, ◌∙◌, arith, ◌⊎◌, inl, inr, replicate}
 use Rattle.std.proofs.lemmas.List.{length-map, length-take-le, length-drop, length-replicate}
 use Rattle.std.specs.Prelude.{drop, take, map}
 use Rattle.std.specs.Option.{option_map}
@@ -7,7 +7,7 @@ use Rattle.homa_plain.specs.declared.settings.Settings.{Settings}
 use Rattle.homa_plain.specs.declared.fault.WorldFault.{WorldFault}
 use Rattle.homa_plain.specs.declared.fault.LineFault.TheVariants.{World as ByWorld}
 use Rattle.homa_plain.specs.Entries.{PlainEntry, PlainSettings}
-use Rattle.homa_plain.specs.Script.{Steps, Opening, Opened, Unopened, opening, most_bytes}
+use Rattle.homa_plain.specs.Script.{Opening, Opened, Unopened, opening, most_bytes}
 use Rattle.homa_plain.specs.Rules.{Answer}
 use Rattle.homa_plain.specs.World.{World, After, Outcome, Done, Refused, outcome, next_answer, new_world, new_hosts}
 use Rattle.homa_plain.specs.Replay.{Happening, Run, after_event, carried, replay, replay_opened}
@@ -17,8 +17,8 @@ use Rattle.trace_induction.proofs.Always.{length-new}
 use Rattle.replay_laws.specs.Replays.{events_in}
 use Rattle.replay_laws.proofs.Openings.{opening_valid}
 use Rattle.replay_laws.proofs.Obeyed.{replay_told}
-use Rattle.homa_world.specs.Boxes.{Allows, counted, all_counted, may_tell}
-use Rattle.homa_world.specs.First.{AreAllowed}
+use Rattle.box_laws.specs.Boxes.{Allows, counted, all_counted, may_tell}
+use Rattle.box_laws.specs.First.{AreAllowed}
 use Rattle.answer_laws.specs.Answers.{AnswersOneWay}
 use Rattle.answer_laws.proofs.Told.{shown-append}
 use Rattle.answer_laws.proofs.Seats.{AllNamed, AllFull}

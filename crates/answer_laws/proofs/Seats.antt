@@ -1,10 +1,9 @@
 -- Hosts with their own names, and a box for each of them.
-use Rattle.std.proofs.Common.{◌≡◌, ℕ, zero, suc, ◌+◌, ◌-◌, ◌<◌, ◌≤◌, Bool, true, false, Option, Some, None, List, [], ◌∷◌, ◌++◌, length, refl, sym, ap, subst, ◌∙◌, arith}
-use Rattle.std.specs.Prelude.{map, slice_set, slice_get, take}
+use Rattle.std.proofs.Common.{◌≡◌, ℕ, zero, suc, ◌+◌, ◌-◌, ◌<◌, Option, Some, None, List, [], ◌∷◌, length, refl, ap, subst, ◌∙◌, arith}
+use Rattle.std.specs.Prelude.{map, slice_set, slice_get}
 use Rattle.std.specs.Option.{option_map}
-use Rattle.homa_plain.specs.declared.id.HostId.{HostId}
 use Rattle.homa_plain.specs.Host.{Host}
-use Rattle.homa_service.specs.Table.{place_of, last_of, front_of}
+use Rattle.homa_service.specs.Table.{place_of, last_of}
 use Rattle.trace_lines.specs.Told.{HasOwnName}
 
 -- the hosts from number n on have their own names
@@ -13,7 +12,7 @@ AllNamed n [] = Unit {0}
 AllNamed n (h ∷ hs) = HasOwnName (record { 0 = n }) h × AllNamed (suc n) hs
 
 pub named : (n : ℕ) (hs : List Host) (i : ℕ) (h : Host) → AllNamed n hs → slice_get hs i ≡ Some h → HasOwnName (record { 0 = n + i }) h
-named n [] i h all e = absurd (let no : None {A = Host} ≡ Some h = e in cc)
+named n [] i h all e = absurd (let no : None ≡ Some h = e in cc)
 named n (g ∷ hs) zero h all e = subst (λ k. HasOwnName (record { 0 = k }) h) (omega arith) (subst (λ x. HasOwnName (record { 0 = n }) x) (let same : g ≡ h = cc in same) all.0)
 named n (g ∷ hs) (suc i) h all e = subst (λ k. HasOwnName (record { 0 = k }) h) (omega arith) (named (suc n) hs i h all.1 e)
 

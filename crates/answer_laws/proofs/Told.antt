@@ -1,19 +1,15 @@
 -- The lines of a step, and what boxes allow of them.
-use Rattle.std.proofs.Common.{◌≡◌, ℕ, zero, suc, ◌+◌, ◌-◌, ◌<◌, ◌≤◌, Bool, true, false, Option, Some, None, List, [], ◌∷◌, ◌++◌, length, refl, sym, ap, subst, ◌∙◌, arith, append_assoc}
-use Rattle.std.specs.Prelude.{is_some, slice_set, slice_index_or}
-use Rattle.std.specs.Option.{option_map}
-use Rattle.std.specs.List.{AllByRecursion, Contains}
+use Rattle.std.proofs.Common.{◌≡◌, ℕ, suc, true, false, Option, List, [], ◌∷◌, ◌++◌, refl, ap, ◌∙◌, arith}
+use Rattle.std.specs.List.{AllByRecursion}
 use Rattle.homa_plain.specs.declared.id.CallId.{CallId}
 use Rattle.homa_plain.specs.declared.id.HostId.{HostId}
-use Rattle.homa_plain.specs.Entries.{PlainEntry, PlainRun, PlainRestart, PlainSend}
-use Rattle.homa_plain.specs.Host.{Told, Says, Sends, send_line, entries_from}
-use Rattle.homa_plain.specs.Rules.{Answer}
+use Rattle.homa_plain.specs.Entries.{PlainEntry, PlainRun, PlainRestart}
+use Rattle.homa_plain.specs.Host.{Told, Says, Sends, entries_from}
 use Rattle.homa_plain.specs.Steps.{has_run}
 use Rattle.homa_plain.specs.Answers.{shown}
-use Rattle.homa_service.specs.Table.{place_of}
 use Rattle.step_laws.specs.StepLaws.{run_count}
 use Rattle.event_laws.specs.Named.{IsOfStep}
-use Rattle.homa_world.specs.Boxes.{Allows, may_tell}
+use Rattle.box_laws.specs.Boxes.{Allows, may_tell}
 
 pub shown-append : (xs ys : List PlainEntry) → shown (xs ++ ys) ≡ shown xs ++ shown ys
 shown-append [] ys = refl
@@ -28,16 +24,6 @@ shown-quiet n (Says e ∷ told) none = by_entry e none (λ f. shown-quiet n told
   by_entry : (e : PlainEntry) → run_count (Says e ∷ told) ≡ 0 → (run_count told ≡ 0 → shown (entries_from n told) ≡ []) → shown (e ∷ entries_from n told) ≡ []
   by_entry (PlainRun host id service request response hold) none rest = absurd (omega (arith, none))
   by_entry e none rest = rest none
-
--- the lines of two parts
-pub record Joined (n : ℕ) (xs ys : List Told) : Type 0 where
-  pub next : ℕ
-  pub is : entries_from n (xs ++ ys) ≡ entries_from n xs ++ entries_from next ys
-
-pub joined : (n : ℕ) (xs ys : List Told) → Joined n xs ys
-joined n [] ys = record { next = n; is = refl }
-joined n (Sends p ∷ xs) ys = let r = joined (suc n) xs ys in record { next = r.next; is = ap (λ es. send_line n p ∷ es) r.is }
-joined n (Says e ∷ xs) ys = let r = joined n xs ys in record { next = r.next; is = ap (λ es. e ∷ es) r.is }
 
 pub of_parts : (xs ys : List Told) → AllByRecursion IsOfStep (xs ++ ys) → AllByRecursion IsOfStep xs × AllByRecursion IsOfStep ys
 of_parts [] ys all = (tt, all)

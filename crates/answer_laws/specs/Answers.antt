@@ -1,7 +1,11 @@
--- Boxes that answer one way.
-use Rattle.std.specs.Prelude.{◌≡◌, ℕ, List}
+-- Boxes that answer one way, and what a replay shows that they answered.
+use Rattle.std.specs.Prelude.{◌≡◌, ℕ, List, length}
+use Rattle.homa_plain.specs.Rules.{Answer}
+use Rattle.homa_plain.specs.Replay.{replay}
+use Rattle.homa_plain.specs.Answers.{shown}
 use Rattle.homa_service.specs.Suite.{suite_answer}
-use Rattle.homa_world.specs.Boxes.{Allows}
+use Rattle.box_laws.specs.Boxes.{Allows}
+use Rattle.box_laws.specs.First.{AreAllowed}
 
 -- what a box may answer to a request, after so many answers, is one response with one hold
 abbrev pub AnswersOneWay : {A : Type 0} → Allows A → Type 0
@@ -10,3 +14,12 @@ AnswersOneWay {A} allows = (box : A) (count number hold hold' : ℕ) (q r r' : L
 -- what a suite of services may answer
 abbrev pub suite_allows : ℕ → ℕ → ℕ → List ℕ → List ℕ → ℕ → Type 0
 suite_allows suite count number q r hold = record { bytes = r; hold = hold } ≡ suite_answer count number q
+
+-- what boxes may answer that answer as they like
+abbrev pub any_answer : ℕ → ℕ → ℕ → List ℕ → List ℕ → ℕ → Type 0
+any_answer box count number q r hold = Unit {0}
+
+-- with these answers the replay of an input shows these, and the boxes of its hosts may give them
+abbrev pub MayAnswerSo : {A : Type 0} → (A → ℕ) → Allows A → List A → List ℕ → List Answer → Type 0
+MayAnswerSo served allows boxes bytes answers =
+    let told = (replay bytes answers (length boxes)).told in (shown told ≡ answers) × AreAllowed served allows boxes told

@@ -7,16 +7,20 @@
 
 ghost use Rattle.std.specs.Prelude.{◌≡◌, ◌≤◌, ℕ, List, length};
 ghost use Rattle.homa_plain.specs.Rules.{Answer};
-ghost use Rattle.homa_plain.specs.Replay.{replay};
-ghost use Rattle.homa_plain.specs.Answers.{shown};
-ghost use Rattle.homa_world.specs.First.{AreAllowed};
-ghost use Rattle.answer_laws.specs.Answers.{suite_allows};
+ghost use Rattle.homa_plain.specs.Replay.{replay_text};
+ghost use Rattle.answer_laws.specs.Answers.{MayAnswerSo, suite_allows, any_answer};
 
-/// Two lists of answers of `Suite`s, each of which the replay of an input shows and its boxes allow, are one list, for 32
+/// Two lists of answers of `Suite`s, each of which the replay of an input shows and its boxes may give, are one list, for 32
 /// boxes and more. So the text of a replay is a function of the input.
 pub fn one_replay()
-    ensures { (boxes : List ℕ) (bytes : List ℕ) (these those : List Answer) → 32 ≤ length boxes
-        → shown (replay bytes these (length boxes)).told ≡ these → AreAllowed (λ n. n) suite_allows boxes (replay bytes these (length boxes)).told
-        → shown (replay bytes those (length boxes)).told ≡ those → AreAllowed (λ n. n) suite_allows boxes (replay bytes those (length boxes)).told
-        → these ≡ those }
+    ensures answers { (boxes bytes : List ℕ) (these those : List Answer) → 32 ≤ length boxes → MayAnswerSo (λ n. n) suite_allows boxes bytes these
+        → MayAnswerSo (λ n. n) suite_allows boxes bytes those → these ≡ those }
+    ensures text { (boxes bytes : List ℕ) (these those : List Answer) → 32 ≤ length boxes → MayAnswerSo (λ n. n) suite_allows boxes bytes these
+        → MayAnswerSo (λ n. n) suite_allows boxes bytes those → replay_text bytes these (length boxes) ≡ replay_text bytes those (length boxes) }
+{}
+
+/// It isn't so of boxes that answer as they like: a schedule of a call and its delivery has two such lists.
+pub fn boxes_may_choose()
+    ensures { ((boxes bytes : List ℕ) (these those : List Answer) → 32 ≤ length boxes → MayAnswerSo (λ n. n) any_answer boxes bytes these
+        → MayAnswerSo (λ n. n) any_answer boxes bytes those → these ≡ those) → ⊥ }
 {}

@@ -1,11 +1,19 @@
-use Rattle.std.proofs.Common.{◌≡◌, ℕ, List, sym, ap, ◌∙◌}
+use Rattle.std.proofs.Common.{◌≡◌, ◌≤◌, ℕ, List, length, sym, ap, ◌∙◌}
+use Rattle.homa_plain.specs.Rules.{Answer}
+use Rattle.homa_plain.specs.Replay.{replay_text}
 use Rattle.homa_service.specs.Answer.{Answer as Given}
-use Rattle.answer_laws.specs.Answers.{AnswersOneWay, suite_allows}
+use Rattle.answer_laws.specs.Answers.{AnswersOneWay, MayAnswerSo, suite_allows}
 use Rattle.answer_laws.proofs.Runs.{one_replay as one_list}
 use Rattle.answer_laws.proofs.one_replay.Goals as goal
 
 suite_one_way : AnswersOneWay suite_allows
 suite_one_way suite count number hold hold' q r r' a b = (ap (λ (x : Given). x.bytes) (a ∙ sym b), ap (λ (x : Given). x.hold) (a ∙ sym b))
 
-pub returns : goal.returns
-returns c boxes bytes these those enough shows may shows' may' = one_list (λ n. n) suite_allows suite_one_way boxes bytes enough these those shows may shows' may'
+only : (boxes bytes : List ℕ) (these those : List Answer) → 32 ≤ length boxes → MayAnswerSo (λ n. n) suite_allows boxes bytes these → MayAnswerSo (λ n. n) suite_allows boxes bytes those → these ≡ those
+only boxes bytes these those enough a b = one_list (λ n. n) suite_allows suite_one_way boxes bytes enough these those a.0 a.1 b.0 b.1
+
+pub returns-clause-answers : goal.returns-clause-answers
+returns-clause-answers c = only
+
+pub returns-clause-text : goal.returns-clause-text
+returns-clause-text c boxes bytes these those enough a b = ap (λ l. replay_text bytes l (length boxes)) (only boxes bytes these those enough a b)
