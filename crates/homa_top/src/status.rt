@@ -4,6 +4,7 @@ ghost use Rattle.homa_io.specs.Outside.{HasRisen, appended, TookFront};
 ghost use Rattle.homa_plain.specs.declared.id.HostId.{HostId as Host};
 ghost use Rattle.homa_plain.specs.Rules.{Answer};
 ghost use Rattle.homa_plain.specs.Replay.{replay};
+ghost use Rattle.homa_replay.specs.Behind.{IsReadUpTo};
 ghost use Rattle.homa_replay.specs.Far.{replay_of, ArePrinted, AreParts};
 ghost use Rattle.homa_plain.specs.Answers.{shown};
 ghost use Rattle.homa_replay.specs.Stream.{is_refusal};
@@ -74,7 +75,8 @@ pub fn run<V: Service, S: Source, K: Sink, N: Net, C: Clock>(
     ensures stranger { result ≡ status.Stranger → said words.now ≡ Some command.Record }
 
     // `replay`: what was printed is the replay of the bytes that the source had, with the answers that its own `run` lines
-    // show, of which each is allowed; it refuses no line, or its last line refuses one.
+    // show, of which each is allowed; it refuses no line and the source was read to its end, or its last line refuses one, behind
+    // which at most one part of the source was read.
     ensures accepted { said words.now ≡ Some command.Replay → result ≡ status.Done
         → ArePrinted (replay_of (length services.items)) (S.left source.old) (K.taken sink.old) (K.taken sink.new)
         (AreAllowed V.served V.allows services.items) true }
@@ -83,6 +85,8 @@ pub fn run<V: Service, S: Source, K: Sink, N: Net, C: Clock>(
         (AreAllowed V.served V.allows services.items) false }
     ensures to_end { said words.now ≡ Some command.Replay → result ≡ status.Done → (bytes : List ℕ) → S.left source.old ≡ Some bytes
         → S.left source.new ≡ Some [] }
+    ensures behind { said words.now ≡ Some command.Replay → result ≡ status.Refused → (bytes : List ℕ) → S.left source.old ≡ Some bytes
+        → IsReadUpTo bytes (S.left source.new) (K.taken sink.old) (K.taken sink.new) }
 
     // Where the schedule opens a world, each of these lines obeys all laws.
     ensures laws { said words.now ≡ Some command.Replay → (result ≡ status.Done) ⊎ (result ≡ status.Refused) → (bytes : List ℕ)
