@@ -130,7 +130,10 @@ HOMA_POINTERS uint32_t homa_deliver(homa_host *host, uint16_t from, const uint8_
 /* A turn: what is due at this tick is done. REFUSED: the clock falls. */
 HOMA_POINTERS uint32_t homa_turn(homa_host *host, uint64_t now);
 
-/* The tick up to which no turn is needed. REFUSED: no turn is needed before the next call or datagram; `at` isn't written. */
+/* The tick before which no turn does anything: at each tick after the last step and before `at`, a turn would send no frame, have
+ * no entry, and change nothing but the host's clock and how many bytes it may send in that tick. It is the next tick, where bytes of
+ * a message wait to be sent, or the deadline of a row, which may be past.
+ * REFUSED: no turn does anything before the next call or datagram; `at` isn't written. */
 HOMA_POINTERS uint32_t homa_next_turn(homa_host *host, uint64_t *at);
 
 /* How many frames the last step sent: 0 to 64. */

@@ -1,5 +1,5 @@
 -- What a step leaves of an asking host's numbers.
-use Rattle.std.proofs.Common.{◌∷◌, None, map, refl, ◌≡◌, ◌<◌, ◌≤◌, ◌+◌, ◌^◌, ℕ, Bool, true, false, List, [], Result, Ok, Err, ap, ◌∙◌, arith}
+use Rattle.std.proofs.Common.{◌≡◌, ◌<◌, ◌≤◌, ◌+◌, ◌^◌, ℕ, Bool, true, false, List, [], Result, Ok, Err, ap, ◌∙◌, arith}
 use Rattle.std.specs.Prelude.{if◌then◌else◌, OnOk, OnErr}
 use Rattle.homa_plain.specs.declared.id.HostId.{HostId}
 use Rattle.homa_plain.specs.Rules.{Answer}
@@ -9,8 +9,8 @@ use Rattle.host_view.specs.Seen.{Seen}
 use Rattle.host_view.specs.Marks.{IsAnswer}
 use Rattle.host_view.specs.Done.{IsDone, HoldsSent}
 use Rattle.homa_host.specs.Public.{IsSameHost}
-use Rattle.place_heap.specs.Order.{Item, first_of}
 use Rattle.asking_host.specs.Asking.{IsKept}
+use Rattle.asking_host.specs.Turns.{IsAtRest}
 
 -- where nothing was told, no packet was
 pub none_sent : (h : Seen) (out : List SentFrame) → h.marks ≡ [] → HoldsSent h out
@@ -18,15 +18,16 @@ none_sent h out e n has = grind (arith, e, has)
 
 -- after a step
 pub stepped : (h g : Seen) (served served_then : ℕ) (out sent : List SentFrame) (id : HostId) (hosts steps : ℕ)
-    → IsKept h served out id hosts steps → steps < 2 ^ 56 → IsSameHost h g → served_then ≤ served + 1 → HoldsSent g sent
+    → IsKept h served out id hosts steps → steps < 2 ^ 56 → IsSameHost h g → served_then ≤ served + 1 → HoldsSent g sent → IsAtRest g
     → IsKept g served_then sent id hosts (steps + 1)
-stepped h g served served_then out sent id hosts steps kept few same more holds = record {
+stepped h g served served_then out sent id hosts steps kept few same more holds rest = record {
   name = same.id ∙ kept.name;
   hosts_are = ap (λ s. s.hosts) same.settings ∙ kept.hosts_are;
   order = omega (arith, same.order, kept.order);
   served_few = omega (arith, more, kept.served_few);
   few = omega (arith, few);
   sent = holds;
+  rest = rest;
 }
 
 -- the packets of a call's step are held, and where it can't start, nothing was told
@@ -48,8 +49,3 @@ pub asked_once : {T E : Type 0} (r : Result T E) (ran : Bool) (served served_the
 asked_once (Ok x) true served served_then e same = omega (arith, e)
 asked_once (Ok x) false served served_then e same = omega (arith, e)
 asked_once (Err e) ran served served_then e' same = omega (arith, same)
-
--- a list of which nothing comes first is empty
-pub none_first : {X : Type 0} (f : X → Item) (xs : List X) (ys : List Item) → ys ≡ map f xs → None ≡ first_of ys → xs ≡ []
-none_first f [] ys e is = refl
-none_first f (x ∷ xs) ys e is = absurd (grind (arith, e, is))

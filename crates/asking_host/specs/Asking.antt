@@ -8,6 +8,7 @@ use Rattle.host_view.specs.declared.outbox.SentFrame.{SentFrame}
 use Rattle.host_view.specs.Seen.{Seen}
 use Rattle.host_view.specs.Done.{HoldsSent}
 use Rattle.driven_host.specs.Driven.{Driven}
+use Rattle.asking_host.specs.Turns.{IsAtRest}
 
 -- a host without calls, in this incarnation, whose own clock stood at this tick: it sent and told nothing yet
 abbrev pub opened : Settings → HostId → ℕ → ℕ → Driven
@@ -37,3 +38,4 @@ pub record IsKept (h : Seen) (served : ℕ) (out : List SentFrame) (id : HostId)
   pub served_few : served ≤ steps
   pub few : steps ≤ 2 ^ 56
   pub sent : HoldsSent h out
+  pub rest : IsAtRest h

@@ -1,19 +1,20 @@
 // A host whose requests its caller answers.
-ghost use Rattle.std.specs.Prelude.{List, ◌-◌, ◌≡◌, ◌≢◌, ◌<◌, ◌≤◌, ◌+◌, ◌↔◌, IsTrue, IsSome, Some, None, [], length, slice_get, IfOk, IfSome, IfNone};
+ghost use Rattle.std.specs.Prelude.{ℕ, List, ◌≡◌, ◌≢◌, ◌<◌, ◌≤◌, ◌+◌, ◌↔◌, IsTrue, IsSome, Some, None, [], length, slice_get, IfOk, IfSome, IfNone};
 ghost use Rattle.std.specs.List.{AllByRecursion};
+ghost use Rattle.std.specs.Option.{option_map};
+ghost use Rattle.plain_sets.specs.Ordered.{first_of};
 ghost use Rattle.homa_plain.specs.Settings.{IsValid};
 ghost use Rattle.homa_plain.specs.Entries.{plain};
 ghost use Rattle.homa_plain.specs.Rules.{Answer};
 ghost use Rattle.homa_plain.specs.Steps.{start_fault, next_id, call_step, arrival_step, turn_step};
 ghost use Rattle.host_view.specs.Marks.{shown_entries, IsAllowed};
 ghost use Rattle.host_view.specs.Done.{arriving};
-ghost use Rattle.host_view.specs.Seen.{AreArmed};
-ghost use Rattle.homa_timers.specs.Armed.{Timer, NoneDue};
 ghost use Rattle.homa_host.specs.declared.asked.Asked.{Asked};
 ghost use Rattle.homa_host.specs.Asking.{HasAsked};
 ghost use Rattle.driven_host.specs.Driven.{IsStep, IsStill, IsOther};
 ghost use Rattle.asking_host.specs.declared.asking.Came.TheVariants.{Taken, Asks, NoMemory, Refused};
 ghost use Rattle.asking_host.specs.Asking.{opened, MayBegin, IsGiven};
+ghost use Rattle.asking_host.specs.Turns.{IsIdleTurn, MayAct};
 
 use crate::given::{Given, MOST_BYTES};
 use homa_host::{Asked, Host};
@@ -187,16 +188,16 @@ impl AskingHost {
         Some(())
     }
 
-    /// The earliest tick at which a turn may do anything: the next one while bytes wait to be sent, else the first deadline
-    /// of a row. None while no row has one. The clauses speak of deadlines alone: no row is due before that tick, and where
-    /// there is none, no row has a deadline.
+    /// The tick before which no turn does anything: at each earlier one, later than the last step, a turn tells and sends
+    /// nothing and leaves the host as it is, but for its clock and its credit. Either it is the next tick, and bytes of a
+    /// message wait to be sent, or the deadline of a row. None where no turn does anything before the next call or datagram.
     pub fn next_turn(&self) -> Option<u64>
-        ensures none { IfNone result ((book : List Timer) → AreArmed self.now.host book → book ≡ []) }
-        ensures quiet { IfSome result (λ at. (book : List Timer) → AreArmed self.now.host book → self.now.host.host.last + 1 < at
-            → NoneDue (at - 1) book) }
+        ensures idle { IfSome result (λ at. (now : ℕ) → self.now.host.host.last < now → now < at → IsIdleTurn self.now.host now) }
+        ensures may_act { IfSome result (MayAct self.now.host) }
+        ensures none { IfNone result ((now : ℕ) → self.now.host.host.last ≤ now → IsIdleTurn self.now.host now) }
     {
-        if self.host.pacer().heap().len() > 0 {
-            return Some(self.host.last().saturating_add(1));
+        if self.host.pacer().pick().is_some() {
+            return Some(self.host.last() + 1);
         }
         first_deadline(self.host.timers())
     }
@@ -248,17 +249,8 @@ fn may_begin(host: &Host, steps: u64, now: u64) -> bool
 
 // The earliest deadline. None where no timer is armed.
 fn first_deadline(timers: &Timers) -> Option<u64>
-    ensures none { IfNone result (timers.now.timers ≡ []) }
-    ensures quiet { IfSome result (λ at. 0 < at → NoneDue (at - 1) timers.now.timers) }
+    ensures { result ≡ option_map (λ t. t.at) (first_of timers.now.timers) }
 {
-    match first(timers.heap()) {
-        None => None,
-        Some((_, key)) => {
-            let at = key.first;
-            if at == 0 || timers.due(at - 1).is_some() {
-                return Some(0);
-            }
-            Some(at)
-        }
-    }
+    let (_, key) = first(timers.heap())?;
+    Some(key.first)
 }

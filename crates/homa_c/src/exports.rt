@@ -1,16 +1,15 @@
 // What C begins: a host, its steps, and its end.
-ghost use Rattle.std.specs.Prelude.{◌≡◌, ◌≢◌, ◌≤◌, ◌<◌, ◌+◌, ◌-◌, List, true, false, [], None, length};
+ghost use Rattle.std.specs.Prelude.{◌≡◌, ◌≢◌, ◌≤◌, ◌<◌, ℕ, List, true, false, [], None, length};
 ghost use Rattle.std.specs.List.{AllByRecursion};
 ghost use Rattle.homa_plain.specs.Settings.{IsValid};
 ghost use Rattle.homa_plain.specs.Rules.{Answer};
 ghost use Rattle.homa_plain.specs.Steps.{start_fault, next_id};
 ghost use Rattle.host_view.specs.Marks.{IsAllowed};
-ghost use Rattle.host_view.specs.Seen.{AreArmed};
-ghost use Rattle.homa_timers.specs.Armed.{Timer, NoneDue};
 ghost use Rattle.homa_host.specs.declared.asked.Asked.{Asked};
 ghost use Rattle.homa_host.specs.Asking.{HasAsked};
 ghost use Rattle.driven_host.specs.Driven.{IsStep, IsStill, IsOther};
 ghost use Rattle.asking_host.specs.Asking.{opened, MayBegin, IsGiven};
+ghost use Rattle.asking_host.specs.Turns.{IsIdleTurn, MayAct};
 ghost use Rattle.homa_c.specs.Shown.{shown_call, shown_asked, given_settings};
 ghost use Rattle.homa_c.specs.Begun.{calling, receiving, turning};
 
@@ -197,15 +196,16 @@ pub extern "C" fn homa_turn(host: &mut Handle, now: u64) -> u32
     }
 }
 
-/// The earliest tick at which a turn may do anything. Refused where the handle isn't open, or there is none. The clauses speak
-/// of deadlines alone, as those of [`AskingHost::next_turn`].
+/// The tick before which no turn does anything, as [`AskingHost::next_turn`] has it. Refused where the handle isn't open, or no
+/// turn does anything before the next call or datagram.
 #[unsafe(no_mangle)]
 pub extern "C" fn homa_next_turn(host: &mut Handle, at: &mut u64) -> u32
     ensures closed { host.old.is_open ≡ false → result ≡ 2 }
     ensures or_refused { result ≢ 0 → result ≡ 2 }
-    ensures none { host.old.is_open ≡ true → result ≢ 0 → (book : List Timer) → AreArmed host.old.slot.held.host book → book ≡ [] }
-    ensures quiet { result ≡ 0 → (book : List Timer) → AreArmed host.old.slot.held.host book
-        → host.old.slot.held.host.host.last + 1 < at.new → NoneDue (at.new - 1) book }
+    ensures idle { result ≡ 0 → (now : ℕ) → host.old.slot.held.host.host.last < now → now < at.new → IsIdleTurn host.old.slot.held.host now }
+    ensures may_act { result ≡ 0 → MayAct host.old.slot.held.host at.new }
+    ensures none { host.old.is_open ≡ true → result ≢ 0 → (now : ℕ) → host.old.slot.held.host.host.last ≤ now
+        → IsIdleTurn host.old.slot.held.host now }
     ensures same { host.new.slot.held ≡ host.old.slot.held }
     ensures unwritten { result ≢ 0 → at.new ≡ at.old }
     ensures open { host.new.is_open ≡ host.old.is_open }

@@ -1,0 +1,34 @@
+-- Turns that do nothing, and ticks at which a turn may do something.
+use Rattle.std.specs.Prelude.{◌≡◌, ◌≢◌, ◌⊎◌, ◌+◌, ◌≤◌, ℕ, List, [], Contains}
+use Rattle.homa_plain.specs.declared.settings.Settings.{Settings}
+use Rattle.homa_plain.specs.Choice.{Granted, grants}
+use Rattle.homa_plain.specs.Host.{Host}
+use Rattle.homa_plain.specs.Timers.{Timer, timers}
+use Rattle.homa_plain.specs.Sending.{Arriving, arrivals}
+use Rattle.homa_plain.specs.Steps.{refilled, turn_step}
+use Rattle.host_view.specs.Seen.{Seen, waiting}
+
+-- a turn at this tick tells and sends nothing, and leaves the host as it is, but for its clock, and its credit where that is filled up
+abbrev pub IsIdleTurn : Seen → ℕ → Type 0
+IsIdleTurn h now = turn_step h.settings h.host now ≡ record { host = refilled h.settings (record h.host { last = now }); told = [] }
+
+-- bytes of a message wait to be sent, and this is the tick after that of the last step
+abbrev pub IsNextWithBytes : Seen → ℕ → Type 0
+IsNextWithBytes h at = (at ≡ h.host.last + 1) × (waiting h.host ≢ [])
+
+-- this is the deadline of a row
+abbrev pub IsDeadline : Seen → ℕ → Type 0
+IsDeadline h at = (t : Timer) × Contains (timers h.settings h.host) t × (t.at ≡ at)
+
+-- why a turn at this tick may do something
+abbrev pub MayAct : Seen → ℕ → Type 0
+MayAct h at = IsNextWithBytes h at ⊎ IsDeadline h at
+
+-- the GRANTs that the end of a step gives to the messages that arrive at this host
+abbrev pub due_grants : Settings → Host → List (Granted Arriving)
+due_grants s h = grants (λ (a : Arriving). a.message) s.overcommit s.window (arrivals h)
+
+-- no GRANT is due, and the host's own clock hasn't passed its last tick
+pub record IsAtRest (h : Seen) : Type 0 where
+  pub clock : h.host.last ≤ 1000000002000
+  pub granted : due_grants h.settings h.host ≡ []
