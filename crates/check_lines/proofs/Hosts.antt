@@ -6,10 +6,12 @@ use Rattle.homa_plain.specs.Calls.{is_host, is_call}
 use Rattle.homa_plain.specs.declared.id.CallId.{CallId}
 use Rattle.homa_plain.proofs.CallOrder.{calls_are, hosts_are}
 use Rattle.homa_plain.specs.declared.id.HostId.{HostId}
+use Rattle.homa_plain.specs.declared.packet.Role.{Role}
+use Rattle.homa_plain.specs.declared.packet.Role.TheVariants.{Client, Server}
 use Rattle.check_lines.specs.declared.host.Host.{Host}
 use Rattle.check_lines.specs.declared.trace.Trace.{Trace}
-use Rattle.check_lines.specs.Traces.{host_at, lead_of, first_of, restarts_in}
-use Rattle.check_lines.specs.Changes.{SameHosts, noted}
+use Rattle.check_lines.specs.Traces.{host_at, lead_of, first_of, restarts_in, incoming_of}
+use Rattle.check_lines.specs.Changes.{SameHosts, SameLists, noted}
 use Rattle.check_lines.proofs.Places.{same_tests}
 
 -- what isn't changed is the same at each place
@@ -64,6 +66,11 @@ changed_by {A} f change t u host h old new same e c =
 
 pub call_turned : (a b : CallId) → is_call a b ≡ is_call b a
 call_turned a b = same_tests _ _ (a ≡ b) (calls_are a b) (λ e. sym ((calls_are b a).0 e), λ e. (calls_are b a).1 (sym e))
+
+-- the messages that one side sends are the same
+pub incoming_same : (side : Role) (t u : Trace) → SameLists t u → (h : HostId) (q : CallId) → incoming_of side (host_at u h) q ≡ incoming_of side (host_at t h) q
+incoming_same Client t u s = s.asked
+incoming_same Server t u s = s.awaited
 
 -- one call is noted at one host
 pub noted_at : (f : Option Host → CallId → Bool) (t u : Trace) (host : HostId) (id : CallId) (is : Bool) (old new : Host) → ((h : HostId) (q : CallId) → f (host_at u h) q ≡ f (host_at t h) q) → slice_get u.hosts.items host.0 ≡ Some old

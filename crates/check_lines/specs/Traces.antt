@@ -7,6 +7,8 @@ use Rattle.std.specs.BTreeSet.{contains}
 use Rattle.plain_sets.specs.Maps.{get}
 use Rattle.homa_plain.specs.declared.id.CallId.{CallId}
 use Rattle.homa_plain.specs.declared.id.HostId.{HostId}
+use Rattle.homa_plain.specs.declared.packet.Role.{Role}
+use Rattle.homa_plain.specs.declared.packet.Role.TheVariants.{Client, Server}
 use Rattle.homa_plain.specs.Calls.{is_host, is_call, call_cmp}
 use Rattle.homa_plain.specs.Wire.{Between}
 use Rattle.homa_plain.specs.Parts.{Part, is_message}
@@ -113,6 +115,16 @@ asked_of (Some h) q = contains call_cmp h.asked q
 abbrev pub awaited_of : Option Host → CallId → Bool
 awaited_of None q = false
 awaited_of (Some h) q = contains call_cmp h.awaited q
+
+-- and of both, by the side of the call that sends it
+abbrev pub incoming_of : Role → Option Host → CallId → Bool
+incoming_of Client o q = asked_of o q
+incoming_of Server o q = awaited_of o q
+
+-- the other side of a call
+abbrev pub other : Role → Role
+other Client = Server
+other Server = Client
 
 -- whether a part, if there is one, is an incoming message of a host
 abbrev pub is_incoming_at : HostId → Option Part → Bool

@@ -2,11 +2,11 @@
 ghost use Rattle.std.specs.Prelude.{◌≡◌, Some, None, [], if◌then◌else◌, OnOk};
 ghost use Rattle.std.specs.BTreeSet.{contains};
 ghost use Rattle.check_lines.specs.Sends.{first_after};
-ghost use Rattle.check_lines.specs.Traces.{incarnation_of};
+ghost use Rattle.check_lines.specs.Traces.{incarnation_of, incoming_of, other};
 ghost use Rattle.homa_plain.specs.Calls.{is_call, is_host, call_cmp};
 ghost use Rattle.homa_plain.specs.declared.id.CallId.{CallId as ACall};
 
-use homa_plain::{CallId, HostId};
+use homa_plain::{CallId, HostId, Role};
 use std::alloc::{AllocError, Global};
 use std::collections::BTreeSet;
 
@@ -17,8 +17,8 @@ pub fn is_same_host(a: HostId, b: HostId) -> bool
     a == b
 }
 
-/// Notes whether a call is in a set.
-pub(crate) fn note(calls: &mut BTreeSet<CallId>, id: CallId, is_in: bool) -> Result<(), AllocError>
+// Notes whether a call is in a set.
+fn note(calls: &mut BTreeSet<CallId>, id: CallId, is_in: bool) -> Result<(), AllocError>
     ensures { OnOk result ((q : ACall) → contains call_cmp calls.new q ≡ (if is_call id q then is_in else contains call_cmp calls.old q)) }
 {
     if is_in {
@@ -55,6 +55,19 @@ impl Host {
             restarts: Vec::new(alloc),
             asked: BTreeSet::new(alloc),
             awaited: BTreeSet::new(alloc),
+        }
+    }
+
+    /// Notes whether a call's message is an incoming one here: its request, where its client sends it, or its response.
+    pub(crate) fn note(&mut self, sender: Role, id: CallId, is_in: bool) -> Result<(), AllocError>
+        ensures noted { OnOk result ((q : ACall)
+            → incoming_of sender (Some self.new) q ≡ (if is_call id q then is_in else incoming_of sender (Some self.old) q)) }
+        ensures other { OnOk result ((q : ACall) → incoming_of (other sender) (Some self.new) q ≡ incoming_of (other sender) (Some self.old) q) }
+        ensures rest { OnOk result (self.new ≡ record self.old { asked = self.new.asked; awaited = self.new.awaited }) }
+    {
+        match sender {
+            Role::Client => note(&mut self.asked, id, is_in),
+            Role::Server => note(&mut self.awaited, id, is_in),
         }
     }
 

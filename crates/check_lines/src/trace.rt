@@ -1,7 +1,7 @@
 // What is kept of the lines of a trace.
 ghost use Rattle.std.specs.Prelude.{◌≡◌, ◌+◌, ◌<◌, ◌≤◌, Some, None, [], length, slice_get, unwrap_or, max, if◌then◌else◌, IfSome, IfNone, is_some, OnOk};
 ghost use Rattle.check_lines.specs.Changes.{SameHosts, SameLists, SameRest, SameSets, Notes, StandsAt, Changes, call_or, noted};
-ghost use Rattle.check_lines.specs.Traces.{call_at, host_at, IsPlace, lead_of, life_in, lives_in, own_tick_in, Follows, Keeps, asked_of, awaited_of};
+ghost use Rattle.check_lines.specs.Traces.{call_at, host_at, IsPlace, lead_of, life_in, lives_in, own_tick_in, Follows, Keeps, asked_of, awaited_of, incoming_of, other};
 ghost use Rattle.check_laws.specs.Spots as spots;
 ghost use Rattle.check_call.specs.Calls.{spot_in};
 ghost use Rattle.check_call.specs.Kept.{Beside, StandsFor, is_incoming};
@@ -10,9 +10,9 @@ ghost use Rattle.homa_plain.specs.declared.id.CallId.{CallId as ACall};
 ghost use Rattle.homa_plain.specs.declared.id.HostId.{HostId as AHost};
 
 use crate::block::{Delivery, Here};
-use crate::host::{Host, note};
+use crate::host::Host;
 use check_call::{Call, Lives, OwnTick, Packet, Spot};
-use homa_plain::{CallId, HostId, Settings};
+use homa_plain::{CallId, HostId, Role, Settings};
 use indexmap::IndexSet;
 use std::alloc::{AllocError, Global};
 
@@ -186,9 +186,17 @@ impl Trace {
         ensures hosts { OnOk result (SameHosts self.old self.new) }
         ensures rest { OnOk result (self.new ≡ record self.old { hosts = self.new.hosts }) }
     {
-        self.note_asked(alloc, server, id, before.is_asked(), after.is_asked())?;
-        self.note_awaited(
+        self.note_incoming(
             alloc,
+            Role::Client,
+            server,
+            id,
+            before.is_asked(),
+            after.is_asked(),
+        )?;
+        self.note_incoming(
+            alloc,
+            Role::Server,
             id.client,
             id,
             before.is_awaited(),
@@ -196,18 +204,20 @@ impl Trace {
         )
     }
 
-    // Notes whether a call's request is an incoming message at its server.
-    fn note_asked(
+    // Notes whether the message that this side of a call sends is an incoming one at a host.
+    fn note_incoming(
         &mut self,
         alloc: Global,
+        sender: Role,
         host: HostId,
         id: CallId,
         was_in: bool,
         is_in: bool,
     ) -> Result<(), AllocError>
-        ensures asked { OnOk result (asked_of (host_at self.old host) id ≡ was_in → (h : AHost) (q : ACall)
-            → asked_of (host_at self.new h) q ≡ noted host id is_in (λ h q. asked_of (host_at self.old h) q) h q) }
-        ensures awaited { OnOk result ((h : AHost) (q : ACall) → awaited_of (host_at self.new h) q ≡ awaited_of (host_at self.old h) q) }
+        ensures noted { OnOk result (incoming_of sender (host_at self.old host) id ≡ was_in → (h : AHost) (q : ACall)
+            → incoming_of sender (host_at self.new h) q ≡ noted host id is_in (λ h q. incoming_of sender (host_at self.old h) q) h q) }
+        ensures other { OnOk result ((h : AHost) (q : ACall)
+            → incoming_of (other sender) (host_at self.new h) q ≡ incoming_of (other sender) (host_at self.old h) q) }
         ensures hosts { OnOk result (SameHosts self.old self.new) }
         ensures rest { OnOk result (self.new ≡ record self.old { hosts = self.new.hosts }) }
     {
@@ -215,30 +225,7 @@ impl Trace {
             return Ok(());
         }
         self.know(alloc, host)?;
-        note(&mut self.hosts[host.0 as usize].asked, id, is_in)?;
-        Ok(())
-    }
-
-    // Notes whether a call's response is an incoming message at its client.
-    fn note_awaited(
-        &mut self,
-        alloc: Global,
-        host: HostId,
-        id: CallId,
-        was_in: bool,
-        is_in: bool,
-    ) -> Result<(), AllocError>
-        ensures awaited { OnOk result (awaited_of (host_at self.old host) id ≡ was_in → (h : AHost) (q : ACall)
-            → awaited_of (host_at self.new h) q ≡ noted host id is_in (λ h q. awaited_of (host_at self.old h) q) h q) }
-        ensures asked { OnOk result ((h : AHost) (q : ACall) → asked_of (host_at self.new h) q ≡ asked_of (host_at self.old h) q) }
-        ensures hosts { OnOk result (SameHosts self.old self.new) }
-        ensures rest { OnOk result (self.new ≡ record self.old { hosts = self.new.hosts }) }
-    {
-        if was_in == is_in {
-            return Ok(());
-        }
-        self.know(alloc, host)?;
-        note(&mut self.hosts[host.0 as usize].awaited, id, is_in)?;
+        self.hosts[host.0 as usize].note(sender, id, is_in)?;
         Ok(())
     }
 }
