@@ -1,6 +1,6 @@
 -- Packets that aren't too old yet.
 use Rattle.std.proofs.Common.{◌≡◌, ◌≤◌, ◌<◌, ℕ, zero, suc, ◌+◌, ◌*◌, Some, List, [], ◌∷◌, ◌++◌, length, inl, inr, refl, ◌∙◌, arith}
-use Rattle.std.specs.Prelude.{true, ◌&&◌, map, nat_lt, replicate, slice_get}
+use Rattle.std.specs.Prelude.{true, map, nat_lt, replicate, slice_get}
 use Rattle.std.specs.List.{flat_map, list_all}
 use Rattle.std.proofs.lemmas.Bool.Decides.{nat_tests}
 use Rattle.std.proofs.lemmas.Option.{slice_get_within}
@@ -12,9 +12,9 @@ use Rattle.world_packets.specs.declared.past.Old.{Old}
 use Rattle.world_packets.specs.declared.past.Past.{Past}
 use Rattle.world_packets.specs.declared.past.Past.TheVariants.{Late, Stale}
 use Rattle.world_packets.specs.Blocks.{Frame, frames_of}
-use Rattle.world_packets.specs.Olds.{IsNotOld, HasNotOld}
+use Rattle.world_packets.specs.Olds.{HasNotOld}
 use Rattle.world_packets.specs.Kept.{KeptPacket, WholePacket, LatePacket, StalePacket, IsRecent, HasRecent, HasNoOld}
-use Rattle.world_packets.specs.Later.{later_kept, late_kept}
+use Rattle.world_packets.specs.Later.{later_kept}
 use Rattle.world_packets.specs.Lates.{late_of}
 use Rattle.world_packets.specs.Ticks.{kept_of}
 use Rattle.world_packets.specs.Past.{past_kept, olds_kept}

@@ -31,7 +31,7 @@ pub(crate) struct LateTicks {
 }
 
 impl LateTicks {
-    ghost use Rattle.world_packets.specs.Lates.{late_of};
+    ghost use Rattle.world_packets.specs.Lates.{late_of, fits_in};
 
     /// So many packets of one tick.
     pub(crate) fn open(first: u64, tick: u64, many: u64) -> LateTicks
@@ -59,6 +59,7 @@ impl LateTicks {
     /// Adds so many packets of a later tick; false where they don't fit in, and then nothing is added.
     pub(crate) fn push(&mut self, tick: u64, count: u64) -> bool
         requires { self.old.first + length (late_of self.old) + count < 2 ^ 64 }
+        ensures fits { result ≡ fits_in self.old tick count }
         ensures kept { late_of self.new ≡ (if result then late_of self.old ++ replicate count (LatePacket tick) else late_of self.old) }
         ensures first { self.new.first ≡ self.old.first }
     {

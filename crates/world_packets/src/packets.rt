@@ -110,8 +110,9 @@ impl Packets {
         Ok(())
     }
 
-    // The next packets are sent in this tick.
+    // The next packets are sent in this tick. A block is begun only with a new tick or where the last one is full.
     fn turn_over(&mut self, alloc: Global, now: u64) -> Result<(), AllocError>
+        ensures stays { self.old.tick ≡ now → size_of self.old.front ≤ 2 ^ 30 → self.new ≡ self.old }
         ensures kept { kept_all self.new ≡ kept_all self.old }
         ensures tick { OnOk result (self.new.tick ≡ now) }
         ensures small { OnOk result (size_of self.new.front ≤ 2 ^ 30) }
