@@ -68,7 +68,7 @@ pub call_turned : (a b : CallId) → is_call a b ≡ is_call b a
 call_turned a b = same_tests _ _ (a ≡ b) (calls_are a b) (λ e. sym ((calls_are b a).0 e), λ e. (calls_are b a).1 (sym e))
 
 -- the messages that one side sends are the same
-pub incoming_same : (side : Role) (t u : Trace) → SameLists t u → (h : HostId) (q : CallId) → incoming_of side (host_at u h) q ≡ incoming_of side (host_at t h) q
+pub incoming_same : (r : Role) (t u : Trace) → SameLists t u → (h : HostId) (q : CallId) → incoming_of r (host_at u h) q ≡ incoming_of r (host_at t h) q
 incoming_same Client t u s = s.asked
 incoming_same Server t u s = s.awaited
 

@@ -1,7 +1,8 @@
 // What is kept of the lines of a trace.
 ghost use Rattle.std.specs.Prelude.{◌≡◌, ◌+◌, ◌<◌, ◌≤◌, Some, None, [], length, slice_get, unwrap_or, max, if◌then◌else◌, IfSome, IfNone, is_some, OnOk};
 ghost use Rattle.check_lines.specs.Changes.{SameHosts, SameLists, SameRest, SameSets, Notes, StandsAt, Changes, call_or, noted};
-ghost use Rattle.check_lines.specs.Traces.{call_at, host_at, IsPlace, lead_of, life_in, lives_in, own_tick_in, Follows, Keeps, asked_of, awaited_of, incoming_of, other};
+ghost use Rattle.check_lines.specs.Traces.{call_at, host_at, IsPlace, lead_of, life_in, lives_in, own_tick_in, Follows, Keeps};
+ghost use Rattle.check_lines.specs.Traces.{asked_of, awaited_of, incoming_of, other};
 ghost use Rattle.check_laws.specs.Spots as spots;
 ghost use Rattle.check_call.specs.Calls.{spot_in};
 ghost use Rattle.check_call.specs.Kept.{Beside, StandsFor, is_incoming};
