@@ -104,6 +104,8 @@ impl Generating for Echo {
 // Whether these lines are the schedule of a seed with so many calls.
 fn plays(alloc: Global, seed: u64, calls: u32, lines: &[u8]) -> Result<bool, Fail> {
     let setup = Setup::new(alloc, Settings::usual(), true)?;
+    let fabric = Fabric::open(alloc, &setup.settings, seed)?;
+    let mut sink = MemSink::new(alloc, 1000, Vec::new(alloc))?;
     let mut world = Echo {
         settings: setup.settings,
         events: 0,
@@ -114,13 +116,12 @@ fn plays(alloc: Global, seed: u64, calls: u32, lines: &[u8]) -> Result<bool, Fai
         live: false,
     };
     let mut progress = Progress {
-        fabric: Fabric::open(alloc, &setup.settings, seed)?,
+        fabric,
         counts: Counts::new(),
         left: calls,
     };
-    let mut sink = MemSink::new(alloc, 1000, Vec::new(alloc))?;
-    play_rounds(&setup, &mut world, &mut sink, &mut progress)?;
-    Ok(sink.bytes() == lines)
+    let played = play_rounds(&setup, &mut world, &mut sink, &mut progress);
+    Ok(played.is_ok() && sink.bytes() == lines)
 }
 
 #[test]
