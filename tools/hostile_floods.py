@@ -7,7 +7,6 @@ import time
 
 from hostile_nodes import Live, waits
 from nodes import LOOPBACK, PROGRAM, free_ports, is_bound, memory, script_of, until
-from tracing import USUAL
 
 # Of each flood in a world: what its calls take of the server, the settings, the bytes of its requests, whether all of a request comes or its
 # first packet alone, the bytes of the other client's requests, and after how many ticks it makes the next one. What the server sends to the flood
