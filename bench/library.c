@@ -125,7 +125,7 @@ static void after_step(node *n) {
     }
 }
 
-/* Waits for a datagram, or for several that were sent as one run, whose length is `piece`. The receive itself waits, for 4 ms at most;
+/* Waits for a datagram, or for several that were sent as one run, whose length is `piece`. The receive itself waits, by a limit of 4 ms;
  * where frames may be held back for a turn, the wait is for one tick, which costs a timer of the system each time. */
 static ssize_t receive(node *n, uint8_t *room, size_t *piece) {
     char control[CMSG_SPACE(sizeof(int))];
