@@ -6,7 +6,8 @@
  * may end what is shown of the last step. docs/library.md shows the loops of a client and of a server.
  *
  * Ticks: `now` counts ticks of the host's own clock, 0 to 1,000,000,002,000. The program says how long a tick is. A host's clock
- * never falls; two steps may have one tick. Link with libhoma_c.a and liblibc_c.a; memory comes from malloc, realloc and free.
+ * never falls; two steps may have one tick. Link with libhoma, as tools/install-library puts it, or with libhoma_c.a and liblibc_c.a of
+ * the kit; memory comes from malloc, realloc and free.
  *
  * What is proved holds as long as the program keeps to this, which no call can see:
  * - no pointer is NULL (not even that of 0 bytes), each is valid for its length, and none overlaps another or the handle;
@@ -131,8 +132,8 @@ HOMA_POINTERS uint32_t homa_deliver(homa_host *host, uint16_t from, const uint8_
 HOMA_POINTERS uint32_t homa_turn(homa_host *host, uint64_t now);
 
 /* The tick before which no turn does anything: at each tick after the last step and before `at`, a turn would send no frame, have
- * no entry, and change nothing but the host's clock and how many bytes it may send in that tick. It is the next tick, where bytes of
- * a message wait to be sent, or the deadline of a row, which may be past.
+ * no entry, and change nothing but the host's clock and how many bytes it may send in that tick. `at` is the tick after that of the
+ * last step, where bytes of a message wait to be sent, or the deadline of a row, which may be past.
  * REFUSED: no turn does anything before the next call or datagram; `at` isn't written. */
 HOMA_POINTERS uint32_t homa_next_turn(homa_host *host, uint64_t *at);
 
