@@ -33,7 +33,7 @@ use Rattle.event_laws.proofs.Names.{call_named, arrival_named, turn_named, new_n
 use Rattle.trace_lines.specs.Told.{HasOwnName}
 use Rattle.trace_lines.proofs.Lines.{entries_from-append}
 use Rattle.box_laws.specs.Boxes.{Allows, MayAnswer, may_tell}
-use Rattle.answer_laws.specs.Answers.{AnswersOneWay}
+use Rattle.answer_laws.proofs.OneWay.{AnswersOneWay}
 use Rattle.answer_laws.proofs.Alike.{Parts, Alike, arrival_alike}
 use Rattle.answer_laws.proofs.Seats.{AllNamed, named, named_set, AllFull, In, full, full_set, full_change, last}
 use Rattle.answer_laws.proofs.Told.{shown-append, shown-quiet, of_parts, passed, found, no_run}

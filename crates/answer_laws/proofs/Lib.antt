@@ -1,3 +1,4 @@
+mod OneWay
 mod Alike
 mod Told
 mod Seats

@@ -19,7 +19,7 @@ use Rattle.replay_laws.proofs.Openings.{opening_valid}
 use Rattle.replay_laws.proofs.Obeyed.{replay_told}
 use Rattle.box_laws.specs.Boxes.{Allows, counted, all_counted, may_tell}
 use Rattle.box_laws.specs.First.{AreAllowed}
-use Rattle.answer_laws.specs.Answers.{AnswersOneWay}
+use Rattle.answer_laws.proofs.OneWay.{AnswersOneWay}
 use Rattle.answer_laws.proofs.Told.{shown-append}
 use Rattle.answer_laws.proofs.Seats.{AllNamed, AllFull}
 use Rattle.answer_laws.proofs.Cases.{Stands, Stops, Quiet, Asks, verdict}

@@ -1,4 +1,4 @@
--- Boxes that answer one way, and what a replay shows that they answered.
+-- What boxes may answer, and what a replay shows that they answered.
 use Rattle.std.specs.Prelude.{◌≡◌, ℕ, List, length}
 use Rattle.homa_plain.specs.Rules.{Answer}
 use Rattle.homa_plain.specs.Replay.{replay}
@@ -6,10 +6,6 @@ use Rattle.homa_plain.specs.Answers.{shown}
 use Rattle.homa_service.specs.Suite.{suite_answer}
 use Rattle.box_laws.specs.Boxes.{Allows}
 use Rattle.box_laws.specs.First.{AreAllowed}
-
--- what a box may answer to a request, after so many answers, is one response with one hold
-abbrev pub AnswersOneWay : {A : Type 0} → Allows A → Type 0
-AnswersOneWay {A} allows = (box : A) (count number hold hold' : ℕ) (q r r' : List ℕ) → allows box count number q r hold → allows box count number q r' hold' → (r ≡ r') × (hold ≡ hold')
 
 -- what a suite of services may answer
 abbrev pub suite_allows : ℕ → ℕ → ℕ → List ℕ → List ℕ → ℕ → Type 0

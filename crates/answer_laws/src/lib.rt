@@ -1,4 +1,4 @@
-//! Where services answer one way, a run is a function of its input: the answers that it shows are the only ones that it may.
+//! Where services are `Suite`s, a replay is a function of its bytes: the answers that it shows are the only ones that it may.
 //!
 //! The model: the replay of a schedule, whose `run` lines show the answers that it is given, each of which the box of its
 //! host may give. No code stands here, only laws; each is the contract of a function that does nothing.

@@ -1,5 +1,5 @@
 -- A host whose requests its caller answers.
-use Rattle.std.specs.Prelude.{◌≡◌, ◌<◌, ◌≤◌, ◌*◌, ◌^◌, ℕ, List, []}
+use Rattle.std.specs.Prelude.{◌≡◌, ◌≢◌, ◌<◌, ◌≤◌, ◌*◌, ◌^◌, ℕ, List, []}
 use Rattle.plain_sets.specs.Maps.{empty}
 use Rattle.homa_plain.specs.declared.id.HostId.{HostId}
 use Rattle.homa_plain.specs.declared.settings.Settings.{Settings}
@@ -26,9 +26,9 @@ pub record MayBegin (h : Seen) (steps now : ℕ) : Type 0 where
   pub later : h.host.last ≤ now
   pub few : steps < 2 ^ 56
 
--- the answer that the caller has in hand, and no other
+-- the answer that the caller has in hand, which is none where it has no bytes
 abbrev pub IsGiven : List ℕ → ℕ → List ℕ → List ℕ → ℕ → Type 0
-IsGiven answer number request response hold = (response ≡ answer) × (hold ≡ 0)
+IsGiven answer number request response hold = (answer ≢ []) × (response ≡ answer) × (hold ≡ 0)
 
 -- what stands beside a host is the host's, and its numbers grow with its steps
 pub record IsKept (h : Seen) (served : ℕ) (out : List SentFrame) (id : HostId) (hosts steps : ℕ) : Type 0 where

@@ -189,8 +189,9 @@ impl AskingHost {
     }
 
     /// The tick before which no turn does anything: at each earlier one, later than the last step, a turn tells and sends
-    /// nothing and leaves the host as it is, but for its clock and its credit. Either it is the next tick, and bytes of a
-    /// message wait to be sent, or the deadline of a row. None where no turn does anything before the next call or datagram.
+    /// nothing and leaves the host as it is, but for its clock and its credit. Either it is the tick after that of the last
+    /// step, and bytes of a message wait to be sent, or the deadline of a row. None where no turn does anything before the next
+    /// call or datagram.
     pub fn next_turn(&self) -> Option<u64>
         ensures idle { IfSome result (λ at. (now : ℕ) → self.now.host.host.last < now → now < at → IsIdleTurn self.now.host now) }
         ensures may_act { IfSome result (MayAct self.now.host) }

@@ -2,7 +2,8 @@ use Rattle.std.proofs.Common.{◌≡◌, ◌≤◌, ℕ, List, length, sym, ap, 
 use Rattle.homa_plain.specs.Rules.{Answer}
 use Rattle.homa_plain.specs.Replay.{replay_text}
 use Rattle.homa_service.specs.Answer.{Answer as Given}
-use Rattle.answer_laws.specs.Answers.{AnswersOneWay, MayAnswerSo, suite_allows}
+use Rattle.answer_laws.specs.Answers.{MayAnswerSo, suite_allows}
+use Rattle.answer_laws.proofs.OneWay.{AnswersOneWay}
 use Rattle.answer_laws.proofs.Runs.{one_replay as one_list}
 use Rattle.answer_laws.proofs.one_replay.Goals as goal
 
