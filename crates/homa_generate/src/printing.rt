@@ -25,8 +25,7 @@ fn generated_settings() -> Settings
     settings
 }
 
-// Prints the schedule of a run, or its settings alone into a sink that can't tell what it took, and answers the counts of its
-// trace.
+// Prints the schedule of a run, or no line of it where the sink can't tell what it took, and answers the counts of its trace.
 fn generate<B: Drop, P: Generating + Opens<B> + Drop, K: Sink>(
     alloc: Global,
     sink: &mut K,

@@ -24,7 +24,7 @@ impl First {
 }
 
 impl<S: Service> WorldParts<S> {
-    /// How many entries are told. Behind an event that was refused there may be none, or those of the event before it.
+    /// How many entries the last event has; none after a fault.
     pub fn entries(&self) -> usize
         requires kept { IsKept S.served self.now }
         ensures { result ≡ length (told_of self.now) }
