@@ -88,9 +88,13 @@ abbrev pub counted : List ℕ → List PlainEntry → List ℕ
 counted counts [] = counts
 counted counts (e ∷ es) = counted (one_more counts (kind_of e)) es
 
+-- it is a kind whose number has no room left
+abbrev pub IsFullOf : List ℕ → Option Kind → Type 0
+IsFullOf counts kind = (k : Kind) × (kind ≡ Some k) × (number_of counts k ≡ 2 ^ 64 - 1)
+
 -- an entry is of a kind whose number has no room left
 abbrev pub IsFull : List ℕ → PlainEntry → Type 0
-IsFull counts e = (k : Kind) × (kind_of e ≡ Some k) × (number_of counts k ≡ 2 ^ 64 - 1)
+IsFull counts e = IsFullOf counts (kind_of e)
 
 -- no line was counted
 abbrev pub no_counts : List ℕ

@@ -1,5 +1,5 @@
 -- How far the code has come with a run, and what stays.
-use Rattle.std.specs.Prelude.{◌≡◌, ◌≤◌, ◌+◌, ◌^◌, ℕ, Option, Result, List, length, OnOk, IsErrOf}
+use Rattle.std.specs.Prelude.{◌≡◌, ◌≤◌, ◌+◌, ◌^◌, ℕ, Bool, false, None, Option, Result, List, length, OnOk, IsErrOf}
 use Rattle.homa_io.specs.Outside.{HasRisen}
 use Rattle.homa_plain.specs.declared.settings.Settings.{Settings}
 use Rattle.homa_replay.specs.declared.stop.Stop.{Stop}
@@ -18,6 +18,11 @@ pub record IsReady (own worlds : Settings) (p : Progress) (events most : ℕ) : 
   pub hosts : length p.fabric.fabric.destinations ≡ worlds.hosts
   pub version : worlds.wire ≡ 1
   pub few : events + most ≤ 2 ^ 57
+
+module _ {K : Type 0} where
+  -- the lines of a run are printed, or no sink of this kind tells what it took
+  abbrev pub IsHeard : Bool → (K → Option (List ℕ)) → Type 0
+  IsHeard prints taken = prints ≡ false → (k : K) → taken k ≡ None
 
 -- settings, life and the number of hosts stay, and at most so many events more were applied
 pub record IsSteady (old new : Settings) (p q : Progress) (before after most : ℕ) : Type 0 where

@@ -15,12 +15,12 @@ use homa_replay::Playing;
 use std::alloc::{AllocError, Global};
 
 // Counts the entries of the last event.
-fn count_entries<P: Playing>(world: &P, counts: &mut Counts) -> Result<(), AllocError>
+fn count_entries<P: Generating>(world: &P, counts: &mut Counts) -> Result<(), AllocError>
     ensures { OnOk result (counts.new ≡ counted counts.old (P.told world.now)) }
 {
     let count = world.entries();
     for i in 0..count {
-        counts.note(&world.entry(i))?;
+        counts.note_kind(world.kind(i))?;
     }
     Ok(())
 }
@@ -36,7 +36,7 @@ fn refused(fault: WorldFault) -> Result<bool, AllocError>
 }
 
 /// Does an event and counts its entries; whether the world did it. An event that the world refuses changes nothing.
-pub(crate) fn happen<P: Playing>(
+pub(crate) fn happen<P: Generating>(
     alloc: Global,
     world: &mut P,
     counts: &mut Counts,
@@ -59,7 +59,7 @@ pub(crate) fn happen<P: Playing>(
 }
 
 // A turn of each host, up to one that the world refuses; whether it refused none.
-fn turns<P: Playing>(
+fn turns<P: Generating>(
     alloc: Global,
     world: &mut P,
     counts: &mut Counts,
@@ -84,7 +84,7 @@ fn turns<P: Playing>(
 }
 
 /// The clock goes on, and then each host has a turn, up to one that the world refuses; whether it refused none.
-pub(crate) fn tick<P: Playing>(
+pub(crate) fn tick<P: Generating>(
     alloc: Global,
     world: &mut P,
     counts: &mut Counts,

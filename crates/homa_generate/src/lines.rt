@@ -8,7 +8,7 @@ ghost use Rattle.generated_runs.specs.Rounds.{Generated, with_line};
 ghost use Rattle.generated_runs.specs.Generated.{given_text};
 ghost use Rattle.homa_generate.specs.Carried.{IsCarried};
 ghost use Rattle.homa_generate.specs.Lines.{given_of, IsShort};
-ghost use Rattle.homa_generate.specs.Progress.{holds_of, IsReady, IsSteady, IsFaulted};
+ghost use Rattle.homa_generate.specs.Progress.{holds_of, IsHeard, IsReady, IsSteady, IsFaulted};
 ghost use Rattle.homa_generate.specs.Going.{IsAt, HasGone, HasStopped};
 
 use crate::events::{enter, happen, tick};
@@ -88,8 +88,23 @@ fn put<K: Sink>(sink: &mut K, line: &Line) -> Result<(), WriteFailed>
     }
 }
 
+// Prints a line, where the lines of this run are printed.
+fn show<K: Sink>(setup: &Setup, sink: &mut K, line: &Line) -> Result<(), WriteFailed>
+    requires heard { IsHeard setup.now.prints K.taken }
+    ensures ok { OnOk result (K.taken sink.new ≡ appended (K.taken sink.old) (given_text (given_of line.now))) }
+    ensures err { OnErr result (TookFront (K.taken sink.old) (K.taken sink.new) (given_text (given_of line.now))) }
+    ensures risen { OnErr result (HasRisen (K.faults sink.old) (K.faults sink.new)) }
+    ensures quiet { OnOk result (K.faults sink.new ≡ K.faults sink.old) }
+    ensures same { K.is_same sink.old sink.new }
+{
+    if !setup.prints {
+        return Ok(());
+    }
+    put(sink, line)
+}
+
 // Carries out a line, up to an event that the world refuses; whether it refused none.
-fn carry<P: Playing>(
+fn carry<P: Generating>(
     setup: &Setup,
     world: &mut P,
     counts: &mut Counts,
@@ -121,7 +136,7 @@ fn carry<P: Playing>(
     }
 }
 
-/// Prints a line and carries it out; the packets that it sends enter the fabric.
+/// Prints a line, where the lines of this run are printed, and carries it out; the packets that it sends enter the fabric.
 pub(crate) fn play<P: Generating, K: Sink>(
     setup: &Setup,
     world: &mut P,
@@ -130,6 +145,7 @@ pub(crate) fn play<P: Generating, K: Sink>(
     line: &Line,
 ) -> Result<(), Stop>
     requires ready { IsReady setup.now.settings (P.settings world.old) progress.old (P.events world.old) 33 }
+    requires heard { IsHeard setup.now.prints K.taken }
     requires short { IsShort line.now }
     ensures gone { OnOk result ((g : Generated) → IsAt (holds_of progress.old (K.taken sink.old)) (P.stands world.old) g
         → HasGone (with_line (P.settings world.old) (given_of line.now)) (λ x. x) g (holds_of progress.old (K.taken sink.old))
@@ -141,7 +157,7 @@ pub(crate) fn play<P: Generating, K: Sink>(
     ensures faulted { IsFaulted result (K.faults sink.old) (K.faults sink.new) }
     ensures same { K.is_same sink.old sink.new }
 {
-    put(sink, line)?;
+    show(setup, sink, line)?;
     let first = world.packets();
     carry(setup, world, &mut progress.counts, line)?;
     enter(world, &mut progress.fabric, first);

@@ -2,7 +2,7 @@
 ghost use Rattle.std.specs.Prelude.{◌≡◌, ◌≤◌, OnOk, OnErr, IfOk, IsErrOf};
 ghost use Rattle.homa_io.specs.Outside.{HasRisen, appended};
 ghost use Rattle.generated_runs.specs.Generated.{generated_settings, schedule_text, summary_text};
-ghost use Rattle.homa_generate.specs.Progress.{IsFaulted};
+ghost use Rattle.homa_generate.specs.Progress.{IsHeard, IsFaulted};
 ghost use Rattle.homa_generate.specs.Made.{run_of, HasRun, IsMade, IsPartMade};
 
 use crate::lines::Progress;
@@ -25,22 +25,24 @@ fn generated_settings() -> Settings
     settings
 }
 
-// Prints the schedule of a run, and answers the counts of its trace.
+// Prints the schedule of a run, or no line of it where the sink can't tell what it took, and answers the counts of its trace.
 fn generate<B: Drop, P: Generating + Opens<B> + Drop, K: Sink>(
     alloc: Global,
     sink: &mut K,
     boxes: B,
     seed: u64,
     calls: u32,
+    prints: bool,
 ) -> Result<Counts, Stop>
-    requires { P.are_ready boxes }
+    requires ready { P.are_ready boxes }
+    requires heard { IsHeard prints K.taken }
     ensures ran { IfOk result (HasRun (run_of seed calls (P.many boxes)) (K.taken sink.old) (K.taken sink.new) (P.are_allowed boxes)) }
     ensures part { OnErr result (IsPartMade (run_of seed calls (P.many boxes)) (schedule_text generated_settings) (K.taken sink.old) (K.taken sink.new)
         (P.are_allowed boxes)) }
     ensures faulted { IsFaulted result (K.faults sink.old) (K.faults sink.new) }
     ensures same { K.is_same sink.old sink.new }
 {
-    let setup = Setup::new(alloc, generated_settings())?;
+    let setup = Setup::new(alloc, generated_settings(), prints)?;
     let mut world = P::open(alloc, &setup.settings, boxes)?;
     let mut progress = Progress {
         fabric: Fabric::open(alloc, &setup.settings, seed)?,
@@ -68,7 +70,7 @@ pub fn make<B: Drop, P: Generating + Opens<B> + Drop, K: Sink>(
     ensures faulted { IsFaulted result (K.faults sink.old) (K.faults sink.new) }
     ensures same { K.is_same sink.old sink.new }
 {
-    generate::<B, P, K>(alloc, sink, boxes, seed, calls)?;
+    generate::<B, P, K>(alloc, sink, boxes, seed, calls, true)?;
     Ok(())
 }
 
@@ -89,7 +91,14 @@ pub fn count<B: Drop, P: Generating + Opens<B> + Drop, K: Sink>(
     ensures faulted { IsFaulted result (K.faults sink.old) (K.faults sink.new) }
     ensures same { K.is_same sink.old sink.new }
 {
-    let counts = generate::<B, P, SureSink>(alloc, &mut SureSink::new(), boxes, seed, calls)?;
+    let counts = generate::<B, P, SureSink>(
+        alloc,
+        &mut SureSink::new(),
+        boxes,
+        seed,
+        calls,
+        false,
+    )?;
     counts.put(sink)?;
     Ok(())
 }

@@ -4,7 +4,7 @@ ghost use Rattle.homa_io.specs.Outside.{HasRisen};
 ghost use Rattle.homa_plain.specs.World.{World};
 ghost use Rattle.generated_runs.specs.Rounds.{Generated, host_round, hosts_round, calls_round, next_round, rounds, is_over, most_handed, calls_a_round};
 ghost use Rattle.generated_runs.specs.Generated.{most_rounds};
-ghost use Rattle.homa_generate.specs.Progress.{holds_of, IsReady, IsSteady, IsFaulted};
+ghost use Rattle.homa_generate.specs.Progress.{holds_of, IsHeard, IsReady, IsSteady, IsFaulted};
 ghost use Rattle.homa_generate.specs.Going.{IsAt, HasGone, HasStopped};
 ghost use Rattle.homa_generate.specs.Steps.{one_call};
 
@@ -33,6 +33,7 @@ fn host_round<P: Generating, K: Sink>(
     to: HostId,
 ) -> Result<(), Stop>
     requires ready { IsReady setup.now.settings (P.settings world.old) progress.old (P.events world.old) 1056000 }
+    requires heard { IsHeard setup.now.prints K.taken }
     requires inside { to.0 < (P.settings world.old).hosts }
     ensures gone { OnOk result ((g : Generated) → IsAt (holds_of progress.old (K.taken sink.old)) (P.stands world.old) g
         → HasGone (host_round most_handed (P.settings world.old) to.0) (λ x. x) g (holds_of progress.old (K.taken sink.old))
@@ -60,6 +61,7 @@ fn hosts_round<P: Generating, K: Sink>(
     progress: &mut Progress,
 ) -> Result<(), Stop>
     requires ready { IsReady setup.now.settings (P.settings world.old) progress.old (P.events world.old) 33792000 }
+    requires heard { IsHeard setup.now.prints K.taken }
     ensures gone { OnOk result ((g : Generated) → IsAt (holds_of progress.old (K.taken sink.old)) (P.stands world.old) g
         → HasGone (hosts_round (P.settings world.old) 0 (P.settings world.old).hosts) (λ x. x) g (holds_of progress.old (K.taken sink.old))
         (holds_of progress.new (K.taken sink.new)) (P.stands world.new) (P.allows world.old) (P.allows world.new)) }
@@ -83,6 +85,7 @@ fn call<P: Generating, K: Sink>(
     progress: &mut Progress,
 ) -> Result<(), Stop>
     requires ready { IsReady setup.now.settings (P.settings world.old) progress.old (P.events world.old) 33 }
+    requires heard { IsHeard setup.now.prints K.taken }
     requires some { 0 < progress.old.left }
     ensures gone { OnOk result ((g : Generated) → IsAt (holds_of progress.old (K.taken sink.old)) (P.stands world.old) g
         → HasGone (one_call (P.settings world.old)) (λ x. x) g (holds_of progress.old (K.taken sink.old)) (holds_of progress.new (K.taken sink.new))
@@ -110,6 +113,7 @@ fn calls_round<P: Generating, K: Sink>(
     progress: &mut Progress,
 ) -> Result<(), Stop>
     requires ready { IsReady setup.now.settings (P.settings world.old) progress.old (P.events world.old) 660 }
+    requires heard { IsHeard setup.now.prints K.taken }
     ensures gone { OnOk result ((g : Generated) → IsAt (holds_of progress.old (K.taken sink.old)) (P.stands world.old) g
         → HasGone (calls_round calls_a_round (P.settings world.old)) (λ x. x) g (holds_of progress.old (K.taken sink.old))
         (holds_of progress.new (K.taken sink.new)) (P.stands world.new) (P.allows world.old) (P.allows world.new)) }
@@ -136,6 +140,7 @@ fn round<P: Generating, K: Sink>(
     progress: &mut Progress,
 ) -> Result<(), Stop>
     requires ready { IsReady setup.now.settings (P.settings world.old) progress.old (P.events world.old) 40000000 }
+    requires heard { IsHeard setup.now.prints K.taken }
     ensures gone { OnOk result ((g : Generated) → IsAt (holds_of progress.old (K.taken sink.old)) (P.stands world.old) g
         → HasGone (next_round (P.settings world.old)) (λ x. x) g (holds_of progress.old (K.taken sink.old)) (holds_of progress.new (K.taken sink.new))
         (P.stands world.new) (P.allows world.old) (P.allows world.new)) }
@@ -167,6 +172,7 @@ pub(crate) fn play_rounds<P: Generating, K: Sink>(
     progress: &mut Progress,
 ) -> Result<(), Stop>
     requires ready { IsReady setup.now.settings (P.settings world.old) progress.old (P.events world.old) 4000000000000 }
+    requires heard { IsHeard setup.now.prints K.taken }
     ensures gone { OnOk result ((g : Generated) → IsAt (holds_of progress.old (K.taken sink.old)) (P.stands world.old) g
         → HasGone (rounds most_rounds (P.settings world.old)) (λ x. x) g (holds_of progress.old (K.taken sink.old)) (holds_of progress.new (K.taken sink.new))
         (P.stands world.new) (P.allows world.old) (P.allows world.new)) }

@@ -4,7 +4,7 @@ ghost use Rattle.std.specs.Option.{option_map};
 ghost use Rattle.std.specs.List.{flat_map};
 ghost use Rattle.homa_io.specs.Outside.{HasRisen, appended, TookFront};
 ghost use Rattle.homa_plain.specs.Entries.{plain};
-ghost use Rattle.homa_generate.specs.Counts.{IsFull, kind_of, packet_kind, name, place, number_of, counted, no_counts, counts_text};
+ghost use Rattle.homa_generate.specs.Counts.{IsFull, IsFullOf, kind_of, packet_kind, name, place, number_of, one_more, counted, no_counts, counts_text};
 
 use homa_io::{Sink, WriteFailed};
 use homa_plain::{Body, Entry, Why};
@@ -15,7 +15,7 @@ use std::marker::Model;
 
 /// The kinds of lines that are counted, in the order of the summary: those of a run's steps, and packets by their kind.
 #[derive(Clone, Copy)]
-pub(crate) enum Kind {
+pub enum Kind {
     Call,
     Run,
     Done,
@@ -73,7 +73,7 @@ impl Kind {
     }
 
     // The kind of an entry's line, if it is counted.
-    fn of(entry: &Entry<'_>) -> Option<Kind>
+    pub(crate) fn of(entry: &Entry<'_>) -> Option<Kind>
         ensures { result ≡ kind_of (plain entry.now) }
     {
         match entry {
@@ -153,7 +153,16 @@ impl Counts {
         ensures full { OnErr result (IsFull self.old (plain entry.now)) }
         ensures same { OnErr result (self.new ≡ self.old) }
     {
-        if let Some(kind) = Kind::of(entry) {
+        self.note_kind(Kind::of(entry))
+    }
+
+    /// Counts a line of this kind, if it is one. Fails where its number has no room left, and then counts nothing.
+    pub fn note_kind(&mut self, kind: Option<Kind>) -> Result<(), AllocError>
+        ensures ok { OnOk result (self.new ≡ one_more self.old kind) }
+        ensures full { OnErr result (IsFullOf self.old kind) }
+        ensures same { OnErr result (self.new ≡ self.old) }
+    {
+        if let Some(kind) = kind {
             let number = &mut self.numbers[kind.place()];
             *number = number.checked_add(1).ok_or(AllocError)?;
         }

@@ -4,6 +4,7 @@ use super::*;
 use crate::lines::Progress;
 use crate::rounds::play_rounds;
 use crate::setup::Setup;
+use crate::tally::Kind;
 use homa_fabric::Fabric;
 use homa_io::MemSink;
 use homa_plain::{Body, CallId, Entry, Event, HostId, Role, Settings, Why, WorldFault};
@@ -87,6 +88,10 @@ impl Generating for Echo {
         })
     }
 
+    fn kind(&self, _i: usize) -> Option<Kind> {
+        None
+    }
+
     fn live(&self, _host: HostId) -> u32 {
         u32::from(self.live)
     }
@@ -98,7 +103,7 @@ impl Generating for Echo {
 
 // Whether these lines are the schedule of a seed with so many calls.
 fn plays(alloc: Global, seed: u64, calls: u32, lines: &[u8]) -> Result<bool, Fail> {
-    let setup = Setup::new(alloc, Settings::usual())?;
+    let setup = Setup::new(alloc, Settings::usual(), true)?;
     let mut world = Echo {
         settings: setup.settings,
         events: 0,

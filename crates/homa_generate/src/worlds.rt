@@ -1,12 +1,15 @@
 //! A world in which traffic is generated.
-ghost use Rattle.std.specs.Prelude.{◌≡◌, ◌==◌, length};
+ghost use Rattle.std.specs.Prelude.{◌≡◌, ◌==◌, ◌<◌, Some, length, slice_get};
+ghost use Rattle.std.specs.Option.{option_map};
 ghost use Rattle.std.specs.List.{list_all};
 ghost use Rattle.plain_sets.specs.Maps.{len};
 ghost use Rattle.homa_plain.specs.Host.{Host};
 ghost use Rattle.homa_plain.specs.World.{World as PlainWorld, host_at};
 ghost use Rattle.generated_runs.specs.Rounds.{live_at};
 ghost use Rattle.homa_world.specs.Passing.{IsOf};
+ghost use Rattle.homa_generate.specs.Counts.{kind_of};
 
+use crate::tally::Kind;
 use homa_plain::HostId;
 use homa_replay::Playing;
 use homa_service::Service;
@@ -28,6 +31,11 @@ pub trait Generating: Playing {
     fn packet(&self, n: u64) -> Option<Passing>
         ensures { (w : PlainWorld) → Self.stands self.now w → IsOf (Self.settings self.now) w n result };
 
+    /// The kind of the line of the last event's entry with this number, if it is counted.
+    fn kind(&self, i: usize) -> Option<Kind>
+        requires { i < length (Self.told self.now) }
+        ensures { option_map kind_of (slice_get (Self.told self.now) i) ≡ Some result };
+
     /// How many live calls a host has; none where there is no such host.
     fn live(&self, host: HostId) -> u32
         ensures { (w : PlainWorld) → Self.stands self.now w → result ≡ live_at (host_at w host) };
@@ -48,6 +56,10 @@ impl<S: Service> Generating for World<S> {
 
     fn packet(&self, n: u64) -> Option<Passing> {
         World::packet(self, n)
+    }
+
+    fn kind(&self, i: usize) -> Option<Kind> {
+        Kind::of(&self.own_entry(i))
     }
 
     fn live(&self, host: HostId) -> u32 {

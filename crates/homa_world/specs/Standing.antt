@@ -32,6 +32,11 @@ first_told host first.Nothing bytes = []
 first_told host (first.Delivered packet) bytes = PlainDeliver packet ∷ []
 first_told host first.Injected bytes = PlainInject host bytes ∷ []
 
+-- the number of the first packet of an event; 0 where it sends none
+abbrev pub base_of : Last → ℕ
+base_of (last.Stepped host first base) = base
+base_of l = 0
+
 -- a host with its own name, whose clock and numbers are within their bounds
 pub record HostFits (s : Settings) (now applied spares : ℕ) (id : HostId) (k : Known) : Type 0 where
   pub settings : k.settings ≡ s

@@ -4,7 +4,7 @@ ghost use Rattle.homa_plain.specs.Entries.{plain};
 ghost use Rattle.homa_text.specs.Told.{HasLine};
 ghost use Rattle.event_laws.specs.Named.{numbered as plain_numbered};
 ghost use Rattle.host_table.specs.Left.{IsFew};
-ghost use Rattle.homa_world.specs.Standing.{first_told, told_of, IsKept};
+ghost use Rattle.homa_world.specs.Standing.{first_told, told_of, base_of, IsKept};
 
 use crate::parts::{First, Last, WorldParts};
 use homa_plain::{Entry, HostId};
@@ -24,7 +24,7 @@ impl First {
 }
 
 impl<S: Service> WorldParts<S> {
-    /// How many entries the last event has; none after a fault.
+    /// How many entries are told. Behind an event that was refused there may be none, or those of the event before it.
     pub fn entries(&self) -> usize
         requires kept { IsKept S.served self.now }
         ensures { result ≡ length (told_of self.now) }
@@ -43,18 +43,41 @@ impl<S: Service> WorldParts<S> {
         ensures entry { slice_get (told_of self.now) i ≡ Some (plain result) }
         ensures line { HasLine (plain result) }
     {
+        numbered(self.base(), self.own_entry(i))
+    }
+
+    /// The same, where a packet has its number within the step that sent it.
+    pub fn own_entry(&self, i: usize) -> Entry<'_>
+        requires kept { IsKept S.served self.now }
+        requires i { i < length (told_of self.now) }
+        ensures entry { slice_get (told_of self.now) i ≡ Some (plain_numbered (base_of self.now.last) (plain result)) }
+        ensures few { IsFew (plain result) }
+        ensures line { HasLine (plain result) }
+    {
         match self.last {
             Last::Nothing => unreachable!(),
             Last::Ticked => Entry::Clock { tick: self.clock },
             Last::Restarted { host, inc } => Entry::Restart { host, inc },
             Last::Shifted { host, n } => Entry::Shift { host, n },
-            Last::Stepped { host, first, base } => {
+            Last::Stepped { host, first, .. } => {
                 let before = first.entries();
                 if i < before {
                     return self.first_entry(host, first);
                 }
-                numbered(base, self.stage.entry(host, i - before))
+                self.stage.entry(host, i - before)
             }
+        }
+    }
+
+    // The number of the first packet of the last event.
+    fn base(&self) -> u64
+        requires kept { IsKept S.served self.now }
+        ensures base { result ≡ base_of self.now.last }
+        ensures few { result + 64 < 2 ^ 64 }
+    {
+        match self.last {
+            Last::Stepped { base, .. } => base,
+            _ => 0,
         }
     }
 
@@ -62,6 +85,8 @@ impl<S: Service> WorldParts<S> {
     fn first_entry(&self, host: HostId, first: First) -> Entry<'_>
         requires some { 0 < length (first_told host first self.now.injected.items) }
         ensures entry { slice_get (first_told host first self.now.injected.items) 0 ≡ Some (plain result) }
+        ensures no_packet { (base : ℕ) → plain_numbered base (plain result) ≡ plain result }
+        ensures few { IsFew (plain result) }
         ensures line { HasLine (plain result) }
     {
         match first {

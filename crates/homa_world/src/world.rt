@@ -34,12 +34,13 @@ impl<S: Service> Model for World<S> {
 
 impl<S: Service> World<S> {
     ghost use Rattle.std.specs.Prelude.{IfOk, List, ◌∷◌};
-    ghost use Rattle.homa_plain.specs.Entries.{PlainEntry, PlainSettings};
+    ghost use Rattle.homa_plain.specs.Entries.{PlainEntry, PlainSettings, plain};
+    ghost use Rattle.event_laws.specs.Named.{numbered};
     ghost use Rattle.homa_plain.specs.Settings.{IsValid};
     ghost use Rattle.host_table.specs.Staged.{hosts_of};
     ghost use Rattle.homa_world.specs.First.{IsFirstAt};
     ghost use Rattle.box_laws.specs.First.{AreAllowed};
-    ghost use Rattle.homa_world.specs.Standing.{StandsFor, may_tell_of};
+    ghost use Rattle.homa_world.specs.Standing.{StandsFor, told_of, base_of, may_tell_of};
 
     /// A world in which nothing has happened, at tick `start` of its clock: so many hosts as the settings say, each in its first
     /// life. Service h serves host h, and the others are spare.
@@ -100,6 +101,14 @@ impl<S: Service> World<S> {
         ensures { (w : PlainWorld) → StandsFor self.now w → result ≡ list_all (λ (h : PlainHost). len h.clients == 0) w.hosts }
     {
         self.parts.is_idle()
+    }
+
+    /// The entry of the last event with this number, counted from 0, where a packet has its number within the event.
+    pub fn own_entry(&self, i: usize) -> Entry<'_>
+        requires { i < length (told_of self.now) }
+        ensures { slice_get (told_of self.now) i ≡ Some (numbered (base_of self.now.last) (plain result)) }
+    {
+        self.parts.own_entry(i)
     }
 
     /// What is shown of the packet with this number, counted from 0; None where it was sent at an earlier tick and is too old

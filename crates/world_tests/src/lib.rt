@@ -2,6 +2,8 @@
 #![tactic(auto)]
 
 #[cfg(test)]
+mod heaps;
+#[cfg(test)]
 mod packets;
 #[cfg(test)]
 mod quiet;

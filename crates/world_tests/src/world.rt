@@ -2,48 +2,48 @@
 ghost use Rattle.std.specs.Prelude.{◌≡◌, ◌≤◌, ◌+◌, ◌<◌, length, IfOk};
 ghost use Rattle.std.specs.List.{AllByRecursion};
 
-use homa_plain::{Event, HostId, Settings, WorldFault};
+use homa_plain::{Body, CallId, Entry, Event, HostId, Role, Settings, WorldFault};
 use homa_replay::Playing;
-use homa_service::{Reply, Service};
+use homa_service::{Reply, Service, Suite};
 use homa_world::*;
 use std::alloc::{AllocError, Global};
 use std::process::Abort;
 use std::test::Fail;
 
-/// A service that finds no memory at its first call, and answers one byte afterwards.
+/// A service that finds no memory at its first call, and answers as a `Suite` afterwards.
 #[derive(Drop)]
 struct Fickle {
     is_ready: bool,
-    served: u64,
+    suite: Suite,
 }
 
 impl Service for Fickle {
-    ghost use Rattle.std.specs.Prelude.{◌≡◌, [], ◌∷◌};
+    ghost use Rattle.std.specs.Prelude.{◌≡◌};
+    ghost use Rattle.homa_service.specs.Suite.{suite_answer};
 
-    ghost served = { λ fickle. fickle.served };
+    ghost served = { λ fickle. fickle.suite };
 
-    ghost allows = { λ fickle count number q r hold. (r ≡ 7 ∷ []) × (hold ≡ 0) };
+    ghost allows = { λ fickle count number q r hold.
+        record { bytes = r; hold = hold } ≡ suite_answer count number q };
 
-    fn serve(&mut self, alloc: Global, _number: u8, _request: &[u8]) -> Result<Reply, AllocError> {
+    fn serve(&mut self, alloc: Global, number: u8, request: &[u8]) -> Result<Reply, AllocError> {
         if !self.is_ready {
             self.is_ready = true;
             return Err(AllocError);
         }
-        let bytes = vec![in alloc; 7]?;
-        self.served += 1;
-        Ok(Reply::new(bytes, 0))
+        self.suite.serve(alloc, number, request)
     }
 }
 
 fn two(alloc: Global) -> Result<Vec<Fickle>, AllocError>
     ensures count { IfOk result (λ all. length all.items ≡ 2) }
-    ensures none { IfOk result (λ all. AllByRecursion (λ fickle. fickle.served ≡ 0) all.items) }
+    ensures none { IfOk result (λ all. AllByRecursion (λ fickle. fickle.suite ≡ 0) all.items) }
 {
     let mut all = Vec::new(alloc);
     for made in 0..2u32 {
         all.push(Fickle {
             is_ready: false,
-            served: 0,
+            suite: Suite::new(),
         })?;
     }
     Ok(all)
@@ -56,8 +56,9 @@ fn happens(
     event: &Event,
     bytes: &[u8],
 ) -> Result<(), WorldFault>
-    requires { world.old.applied < 10 }
-    ensures { world.new.applied ≤ world.old.applied + 1 }
+    requires { world.old.applied < 100 }
+    ensures applied { world.new.applied ≤ world.old.applied + 1 }
+    ensures settings { world.new.settings ≡ world.old.settings }
 {
     world.apply(alloc, event, bytes)
 }
@@ -82,40 +83,155 @@ fn the_clock_ends(rt: HostRuntime) -> Result<(), Fail> {
     Ok(())
 }
 
-// A request is on its way, and the service finds no memory for it.
-fn is_refused(rt: &impl Abort, alloc: Global, world: &mut World<Fickle>, delivery: &Event)
-    requires { world.old.applied ≡ 0 }
-    ensures { world.new.applied ≤ 2 }
-{
-    let call = Event::Call {
+// These are the entries of the last event.
+fn tells(rt: &impl Abort, world: &World<Fickle>, wanted: &[Entry<'_>]) {
+    assert!(rt; world.entries() == wanted.len());
+    for i in 0..wanted.len() {
+        assert!(rt; world.entry(i) == wanted[i]);
+    }
+}
+
+// The call of host 0.
+fn first() -> CallId {
+    CallId {
         client: HostId(0),
-        server: HostId(1),
-        number: 0,
+        inc: 1,
+        seq: 0,
+    }
+}
+
+// A message of one piece is sent.
+fn sent(number: u64, role: Role, service: u8, payload: &[u8]) -> Entry<'_>
+    requires { length payload.now ≤ 8 }
+{
+    let (from, to) = match role {
+        Role::Client => (HostId(0), HostId(1)),
+        Role::Server => (HostId(1), HostId(0)),
+    };
+    Entry::Send {
+        number,
+        from,
+        to,
+        inc: 1,
+        role,
+        id: first(),
+        level: 7,
+        body: Body::Data {
+            length: payload.len() as u32,
+            offset: 0,
+            version: 0,
+            service,
+            ack: None,
+        },
+        payload,
+    }
+}
+
+// Host 0 calls a service of host 1.
+fn calls(rt: &impl Abort, alloc: Global, world: &mut World<Fickle>, number: u8)
+    requires { world.old.applied ≡ 0 }
+    ensures applied { world.new.applied ≤ 1 }
+    ensures settings { world.new.settings ≡ world.old.settings }
+{
+    let (client, server) = (HostId(0), HostId(1));
+    let call = Event::Call {
+        client,
+        server,
+        number,
     };
     let called = happens(alloc, world, &call, b"hi");
     assert!(rt; called.is_ok());
-    let refused = happens(alloc, world, delivery, b"");
-    assert!(rt; refused == Err(WorldFault::NoMemory));
-    assert!(rt; world.packets() == 1);
+    let told = Entry::Call {
+        id: first(),
+        server,
+        service: number,
+        bytes: b"hi",
+    };
+    tells(rt, world, &[told, sent(0, Role::Client, number, b"hi")]);
 }
 
-// The same delivery again: the service answers, and its response is on its way.
-fn is_answered(rt: &impl Abort, alloc: Global, world: &mut World<Fickle>, delivery: &Event)
-    requires { world.old.applied ≤ 2 }
+// The service finds no memory for the request: the clock, the packets and the live calls stay.
+fn is_refused(rt: &impl Abort, alloc: Global, world: &mut World<Fickle>)
+    requires { world.old.applied ≤ 1 }
+    ensures { world.new.applied ≤ 2 }
 {
-    let delivered = happens(alloc, world, delivery, b"");
+    let refused = happens(alloc, world, &Event::Deliver { packet: 0 }, b"");
+    assert!(rt; refused == Err(WorldFault::NoMemory));
+    assert!(rt; (world.now(), world.packets()) == (0, 1));
+    assert!(rt; (world.live(HostId(0)), world.live(HostId(1))) == (1, 0));
+}
+
+// The same delivery again: the service answers this.
+fn is_answered(
+    rt: &impl Abort,
+    alloc: Global,
+    world: &mut World<Fickle>,
+    number: u8,
+    response: &[u8],
+)
+    requires applied { world.old.applied ≤ 2 }
+    requires short { length response.now ≤ 8 }
+    ensures { world.new.applied ≤ 3 }
+{
+    let delivered = happens(alloc, world, &Event::Deliver { packet: 0 }, b"");
     assert!(rt; delivered.is_ok());
-    assert!(rt; world.entries() == 3);
-    assert!(rt; world.packets() == 2);
+    let run = Entry::Run {
+        host: HostId(1),
+        id: first(),
+        service: number,
+        request: b"hi",
+        response,
+        hold: 0,
+    };
+    let send = sent(1, Role::Server, 0, response);
+    tells(rt, world, &[Entry::Deliver { packet: 0 }, run, send]);
+}
+
+// The response comes, and the call is done.
+fn is_done(rt: &impl Abort, alloc: Global, world: &mut World<Fickle>, response: &[u8])
+    requires { world.old.applied ≤ 3 }
+{
+    let delivered = happens(alloc, world, &Event::Deliver { packet: 1 }, b"");
+    assert!(rt; delivered.is_ok());
+    let done = Entry::Done {
+        id: first(),
+        bytes: response,
+    };
+    tells(rt, world, &[Entry::Deliver { packet: 1 }, done]);
+}
+
+// A service is called, finds no memory, and answers when the request comes again.
+fn answers_again(
+    rt: &impl Abort,
+    alloc: Global,
+    world: &mut World<Fickle>,
+    number: u8,
+    response: &[u8],
+)
+    requires applied { world.old.applied ≡ 0 }
+    requires short { length response.now ≤ 8 }
+{
+    calls(rt, alloc, world, number);
+    is_refused(rt, alloc, world);
+    is_answered(rt, alloc, world, number, response);
+    is_done(rt, alloc, world, response);
 }
 
 #[test]
 fn want_of_memory_is_no_delivery(rt: HostRuntime) -> Result<(), Fail> {
     let alloc = rt.alloc();
     let services = two(alloc)?;
-    let delivery = Event::Deliver { packet: 0 };
     let mut world = World::open_at(alloc, &Settings::usual(), services, 0)?;
-    is_refused(&rt, alloc, &mut world, &delivery);
-    is_answered(&rt, alloc, &mut world, &delivery);
+    answers_again(&rt, alloc, &mut world, 0, b"hi");
+    Ok(())
+}
+
+// Number 1 answers how often its service has answered with this answer: the refusal is no answer.
+#[test]
+fn want_of_memory_is_no_answer(rt: HostRuntime) -> Result<(), Fail> {
+    let alloc = rt.alloc();
+    let services = two(alloc)?;
+    let mut world = World::open_at(alloc, &Settings::usual(), services, 0)?;
+    answers_again(&rt, alloc, &mut world, 1, &[0, 0, 0, 0, 0, 0, 0, 1]);
     Ok(())
 }
