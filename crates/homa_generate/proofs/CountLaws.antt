@@ -30,7 +30,7 @@ pub kind_counted : (old mid new : List ℕ) (es : List PlainEntry) (i : ℕ) (k 
 kind_counted old mid new es i k inside is so_far one =
     let e = get_or es i (PlainClock 0) in
     let kind : k ≡ kind_of e = ap (λ (o : Option (Option Kind)). unwrap_or o None) (sym is ∙ ap (option_map kind_of) (slice_get-get_or es i (PlainClock 0) inside)) in
-    counted_next old mid new es i e inside (get_or_default es i (PlainClock 0) e inside) so_far (one ∙ ap (one_more mid) kind)
+    counted_next old mid new es i e inside (get_or_default es i e (PlainClock 0) inside) so_far (one ∙ ap (one_more mid) kind)
 
 -- a packet's number has no say in the kind of its line
 pub kind-numbered : (n : ℕ) (e : PlainEntry) → kind_of (numbered n e) ≡ kind_of e
