@@ -1,0 +1,19 @@
+use Rattle.std.proofs.Common.{refl}
+use Rattle.check_reader.specs.Forms.{done_in}
+use Rattle.check_reader.proofs.entries.read_done.Goals as goal
+
+pub returns-in_err-id : goal.returns-in_err-id
+unfolding done_in
+returns-in_err-id c = rw (c.from_residual.ensures, ← c.in_err-id.ensures.value) refl
+
+pub returns-in_err-bytes : goal.returns-in_err-bytes
+unfolding done_in
+returns-in_err-bytes c = rw (c.from_residual-in_err-bytes.ensures, ← c.in_ok-id.ensures.value, ← c.in_err-bytes.ensures.value) refl
+
+pub returns-in_err-end : goal.returns-in_err-end
+unfolding done_in
+returns-in_err-end c = rw (c.from_residual-in_err-end.ensures, ← c.in_ok-id.ensures.value, ← c.in_ok-bytes.ensures.value, ← c.in_err-end.ensures) refl
+
+pub returns : goal.returns
+unfolding done_in
+returns c = rw (← c.in_ok-id.ensures.value, ← c.in_ok-bytes.ensures.value, ← c.in_ok-end.ensures) refl

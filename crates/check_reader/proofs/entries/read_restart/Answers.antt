@@ -1,0 +1,19 @@
+use Rattle.std.proofs.Common.{refl}
+use Rattle.check_reader.specs.Forms.{restart_in}
+use Rattle.check_reader.proofs.entries.read_restart.Goals as goal
+
+pub returns-in_err-host : goal.returns-in_err-host
+unfolding restart_in
+returns-in_err-host c = rw (c.from_residual.ensures, ← c.in_err-host.ensures.value) refl
+
+pub returns-in_err-inc : goal.returns-in_err-inc
+unfolding restart_in
+returns-in_err-inc c = rw (c.from_residual-in_err-inc.ensures, ← c.in_ok-host.ensures.value, ← c.in_err-inc.ensures.value) refl
+
+pub returns-in_err-end : goal.returns-in_err-end
+unfolding restart_in
+returns-in_err-end c = rw (c.from_residual-in_err-end.ensures, ← c.in_ok-host.ensures.value, ← c.in_ok-inc.ensures.value, ← c.in_err-end.ensures) refl
+
+pub returns : goal.returns
+unfolding restart_in
+returns c = rw (← c.in_ok-host.ensures.value, ← c.in_ok-inc.ensures.value, ← c.in_ok-end.ensures) refl
