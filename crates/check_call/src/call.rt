@@ -5,7 +5,6 @@ ghost use Rattle.plain_sets.specs.Maps.{get};
 ghost use Rattle.plain_sets.specs.Numbers.{Numbers};
 ghost use Rattle.homa_plain.specs.declared.id.HostId.{HostId as AHost};
 ghost use Rattle.homa_plain.specs.declared.id.CallId.{CallId as ACall};
-ghost use Rattle.homa_plain.specs.Wire.{is_client};
 ghost use Rattle.homa_plain.specs.Calls.{is_host};
 ghost use Rattle.homa_plain.specs.Parts as plain;
 ghost use Rattle.homa_plain.specs.View.{Sent, View, Ends};

@@ -116,7 +116,7 @@ abbrev pub awaited_of : Option Host → CallId → Bool
 awaited_of None q = false
 awaited_of (Some h) q = contains call_cmp h.awaited q
 
--- and of both, by the side of the call that sends it
+-- and of either, by the side that sends it: the request is the client's, the response the server's
 abbrev pub incoming_of : Role → Option Host → CallId → Bool
 incoming_of Client o q = asked_of o q
 incoming_of Server o q = awaited_of o q

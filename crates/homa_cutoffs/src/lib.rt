@@ -6,7 +6,7 @@
 //!
 //! Main promise: `Recent::balance` answers the cutoffs that share the noted messages' weight among the levels
 //! from k to 7: each bound is the least length up to which the messages have their levels' share of it. And
-//! `Levels::level` answers the greatest level whose bound a length doesn't exceed.
+//! `Levels::level` answers the greatest level from k on whose bound a length doesn't exceed, and k where there is none.
 #![tactic(auto)]
 
 mod bounds;

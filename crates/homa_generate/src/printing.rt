@@ -25,7 +25,7 @@ fn generated_settings() -> Settings
     settings
 }
 
-// Prints the schedule of a run, or no line of it where the sink can't tell what it took, and answers the counts of its trace.
+// Prints the schedule of a run where `prints` says so, and answers the counts of its trace. Without, the sink is one that doesn't tell what it took.
 fn generate<B: Drop, P: Generating + Opens<B> + Drop, K: Sink>(
     alloc: Global,
     sink: &mut K,
@@ -74,8 +74,7 @@ pub fn make<B: Drop, P: Generating + Opens<B> + Drop, K: Sink>(
     Ok(())
 }
 
-/// Prints the summary of the generated run of a seed with so many calls, in a world with these boxes. Neither its
-/// schedule nor its trace is kept.
+/// Prints the summary of the generated run of a seed with so many calls, in a world with these boxes.
 pub fn count<B: Drop, P: Generating + Opens<B> + Drop, K: Sink>(
     alloc: Global,
     sink: &mut K,

@@ -9,7 +9,7 @@ use Rattle.homa_plain.specs.Text.{line_text}
 use Rattle.script_lines.specs.Place.{Place}
 use Rattle.script_lines.specs.Taking.{TakesLines}
 
--- The last line that was printed refuses the last line that the reader took, behind which at most the 65,536 bytes of one part were read.
+-- The last line that was printed refuses the last line that the reader took, behind which at most 65,536 bytes were read.
 pub record RefusesLast (old new : Place) (left left_then taken taken_then : Option (List ℕ)) : Type 0 where
   pub told : List PlainEntry
   pub fault : LineFault
@@ -17,8 +17,8 @@ pub record RefusesLast (old new : Place) (left left_then taken taken_then : Opti
   pub took : TakesLines old new left left_then
   pub ahead : length new.pending ≤ 65536
 
--- The last line that was printed refuses this line of the schedule. The bytes that were read stand in the lines up to it, but for at most the
--- 65,536 of one part behind it.
+-- The last line that was printed refuses this line of the schedule. The bytes that were read stand in the lines up to it, but for at most
+-- 65,536 behind it.
 pub record IsReadUpTo (bytes : List ℕ) (left old new : Option (List ℕ)) : Type 0 where
   pub told : List PlainEntry
   pub line : ℕ

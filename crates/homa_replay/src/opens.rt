@@ -149,7 +149,7 @@ pub fn replay<B: Drop, P: Opens<B> + Drop, S: Source, K: Sink>(
         (P.are_allowed boxes) accepted) }
     ensures to_end { result ≡ Ok true → (bytes : List ℕ) → S.left source.old ≡ Some bytes → S.left source.new ≡ Some [] }
 
-    // Behind a line that is refused at most one part of the source was read, of 65,536 bytes.
+    // Behind a line that is refused at most 65,536 bytes were read.
     ensures behind { result ≡ Ok false → (bytes : List ℕ) → S.left source.old ≡ Some bytes
         → IsReadUpTo bytes (S.left source.new) (K.taken sink.old) (K.taken sink.new) }
 

@@ -82,7 +82,7 @@ impl Reader {
         ensures settings { (bytes : List ℕ) → S.left source.old ≡ Some bytes → IsOpening self.old.place.limit self.new.place bytes (S.left source.new) result }
         ensures valid { IfOk result IsValid }
 
-        // Behind the last line that it took no byte was read, but for at most the 65,536 of one part that are pending.
+        // Behind the last line that it took no byte was read, but for at most 65,536 that are pending.
         ensures took { has_failed_read result ≡ false → TakesLines self.old.place self.new.place (S.left source.old) (S.left source.new) }
         ensures ahead { length self.new.place.pending ≤ 65536 }
 
@@ -116,7 +116,7 @@ impl Reader {
         ensures next { self.old.stopped ≡ None → (bytes : List ℕ) → S.left source.old ≡ Some bytes
             → IsNext self.old.place self.new.place self.new.operand bytes (S.left source.new) result }
 
-        // Behind the last line that it took no byte was read, but for at most the 65,536 of one part that are pending.
+        // Behind the last line that it took no byte was read, but for at most 65,536 that are pending.
         ensures took { self.old.stopped ≡ None → has_failed_read result ≡ false
             → TakesLines self.old.place self.new.place (S.left source.old) (S.left source.new) }
         ensures ahead { self.old.stopped ≡ None → length self.new.place.pending ≤ 65536 }

@@ -9,7 +9,7 @@ use Rattle.homa_text.specs.declared.frequent_lines.Head.{Head}
 use Rattle.homa_text.specs.declared.frequent_lines.Piece.{Piece}
 use Rattle.hex.specs.Hex.{encode_lower}
 use Rattle.homa_text.proofs.Texts.{hex_word-some}
-use Rattle.homa_text.specs.Quick.{head_text, piece_text, grant_sent, piece_sent}
+use Rattle.homa_text.specs.FrequentLines.{head_text, piece_text, grant_sent, piece_sent}
 
 -- a part that is added behind the parts so far
 pub part_on : (i j old d e all : List ℕ) → i ≡ old ++ d → j ≡ i ++ e → d ++ e ≡ all → j ≡ old ++ all

@@ -5,6 +5,6 @@ pub mod Input
 pub mod Scan
 pub mod Written
 pub mod Put
-pub mod Quick
+pub mod FrequentLines
 pub mod Told
 pub mod Turns

@@ -3,7 +3,7 @@ ghost use Rattle.std.specs.Prelude.{◌∷◌, codes, decimal, ◌≡◌, ◌≤
 ghost use Rattle.homa_plain.specs.declared.packet.Body.TheVariants as body;
 ghost use Rattle.homa_plain.specs.Text.{id_word, role_word, route_word, call_word, ack_word, hex_word, line_text};
 ghost use Rattle.homa_plain.specs.Entries.{PlainClock, PlainDeliver};
-ghost use Rattle.homa_text.specs.Quick.{head_text, numbers_text, piece_text, grant_sent, piece_sent};
+ghost use Rattle.homa_text.specs.FrequentLines.{head_text, numbers_text, piece_text, grant_sent, piece_sent};
 ghost use Rattle.arrayvec.specs.ArrayVec.{array_vec_len};
 
 use crate::adding::{add, add_hex, add_number};

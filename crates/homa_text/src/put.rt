@@ -6,7 +6,7 @@ ghost use Rattle.homa_io.specs.Outside.{HasRisen, appended, TookFront};
 ghost use Rattle.homa_plain.specs.Entries.{PlainCall, PlainInject, PlainRun, PlainDone, plain};
 ghost use Rattle.homa_plain.specs.Text.{line_of_words, line_text};
 ghost use Rattle.homa_text.specs.Put.{IsPut};
-ghost use Rattle.homa_text.specs.Quick.{grant_sent, piece_sent, packet_sent};
+ghost use Rattle.homa_text.specs.FrequentLines.{grant_sent, piece_sent, packet_sent};
 ghost use Rattle.homa_text.specs.Told.{HasLine};
 ghost use Rattle.homa_text.specs.Written.{word_text, spaced_word};
 

@@ -76,7 +76,7 @@ pub fn run<V: Service, S: Source, K: Sink, N: Net, C: Clock>(
 
     // `replay`: what was printed is the replay of the bytes that the source had, with the answers that its own `run` lines
     // show, of which each is allowed; it refuses no line and the source was read to its end, or its last line refuses one, behind
-    // which at most one part of the source was read.
+    // which at most 65,536 bytes were read.
     ensures accepted { said words.now ≡ Some command.Replay → result ≡ status.Done
         → ArePrinted (replay_of (length services.items)) (S.left source.old) (K.taken sink.old) (K.taken sink.new)
         (AreAllowed V.served V.allows services.items) true }

@@ -24,7 +24,7 @@ impl First {
 }
 
 impl<S: Service> WorldParts<S> {
-    /// How many entries the last event has; none after a fault.
+    /// How many entries the last event has. Behind an event that was refused there may be none, or those of the event before it.
     pub fn entries(&self) -> usize
         requires kept { IsKept S.served self.now }
         ensures { result ≡ length (told_of self.now) }

@@ -25,7 +25,7 @@ const LAST_TICK: u64 = 1_000_000_000_000;
 /// What the last event was, as far as its entries need it.
 #[derive(Clone, Copy)]
 pub enum Last {
-    /// Nothing is told: there was none yet, or it was refused.
+    /// Nothing is told: there was none yet, or one was refused.
     Nothing,
     /// The clock went on.
     Ticked,

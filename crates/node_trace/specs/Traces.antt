@@ -40,16 +40,16 @@ pub record IsGiven (may_tell : List PlainEntry → Type 0) (old new : Around) (a
   pub shows : shown (entries reports) ≡ answers
   pub allowed : may_tell (entries reports)
 
--- a front of a run's text was printed, within what these of its reports tell, and a front of its datagrams was taken
+-- a run begins with these reports; a front of its text was printed, and a front of its datagrams was taken
 pub record IsFrontOf (text_of : Run → List ℕ) (run : Run) (reports : List Report) (old new : Around) : Type 0 where
   pub more : List Report
   pub begins : run.reports ≡ reports ++ more
   pub text : TookFront old.taken new.taken (text_of run)
   pub took : ListedFront old.sent new.sent run.sent
 
--- what is printed of a run is its text: the trace of a node, or its recording
+-- what is printed of a run, by `text_of`: the trace of a node, or its recording
 module _ (may_tell : List PlainEntry → Type 0) (text_of : Run → List ℕ) where
-  -- the run of these bytes came to this end, and its datagrams were taken; the sink took a front of the text: a write failed at its last line
+  -- the run of these bytes came to this end, and its datagrams were taken; the sink took a front of the text
   pub record IsEndCut (bytes : List ℕ) (old new : Around) : Type 0 where
     pub answers : List Answer
     pub ticks : List ℕ

@@ -9,7 +9,7 @@ abbrev pub late_of : LateTicks → List KeptPacket
 late_of t = late_kept t.tick t.many t.later.items
 
 -- so many packets of a tick fit in behind them: it isn't below their last tick nor more than 65,535 above it, they are at most 65,535, and
--- fewer than 64 ticks stand behind the first
+-- fewer than 64 counts of packets stand behind the first one
 abbrev pub fits_in : LateTicks → ℕ → ℕ → Bool
 fits_in t tick count =
     let last = last_tick t.tick t.later.items in

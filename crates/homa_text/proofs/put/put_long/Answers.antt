@@ -1,7 +1,7 @@
 use Rattle.std.proofs.Common.{refl, ◌∙◌, ◌++◌, [], ◌∷◌, codes}
 use Rattle.std.proofs.lemmas.Result.{MatchResult-from_err, on_ok_weaker, on_err_weaker, IfOk-from_err}
 use Rattle.hex.specs.Hex.{encode_lower}
-use Rattle.homa_text.specs.Quick.{head_text, piece_text}
+use Rattle.homa_text.specs.FrequentLines.{head_text, piece_text}
 use Rattle.homa_text.proofs.Counts.{risen_behind, kept_behind}
 use Rattle.homa_text.proofs.Putting.{put_on, put_whole, put_front_last, put_front_held, front_more}
 use Rattle.homa_text.proofs.LineParts.{long_line_text}
