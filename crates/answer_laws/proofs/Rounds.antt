@@ -70,7 +70,7 @@ module _ {A : Type 0} (allows : Allows A) (one_way : AnswersOneWay allows) (s : 
     tells = λ g. k.tells (change g) ∙ ap (λ l. l ++ k.more (change g)) (beside.told g);
     one = λ g seats spares st these those a b.
         let goes : (cs : List Answer) → Goes allows seats spares cs (k.more (change (answered cs g)))
-            → Goes allows seats spares cs (k.more (answered cs (change g)))
+        → Goes allows seats spares cs (k.more (answered cs (change g)))
         = λ cs. subst (λ (x : Generated). Goes allows seats spares cs (k.more x)) (beside.same cs g) in
         k.one (change g) seats spares (subst (λ (w : World). Stands w seats spares) (sym (beside.world g)) st) these those (goes these a) (goes those b);
   }
@@ -83,7 +83,7 @@ module _ {A : Type 0} (allows : Allows A) (one_way : AnswersOneWay allows) (s : 
     tells = λ g. (k (of g)).tells g;
     one = λ g seats spares st these those a b.
         let goes : (cs : List Answer) → Goes allows seats spares cs ((k (of (answered cs g))).more (answered cs g))
-            → Goes allows seats spares cs ((k (of g)).more (answered cs g))
+        → Goes allows seats spares cs ((k (of g)).more (answered cs g))
         = λ cs. subst (λ (i : I). Goes allows seats spares cs ((k i).more (answered cs g))) (same cs g) in
         (k (of g)).one g seats spares st these those (goes these a) (goes those b);
   }

@@ -54,20 +54,20 @@ pub record Goes {A : Type 0} (allows : Allows A) (seats : List (Option (A × ℕ
   pub shows : shown told ≡ these
   pub allowed : may_tell allows seats spares told
 
--- two lists of answers from a world on, each of which what is told with it shows and the boxes allow, are one
+-- from a world on two lists of answers are one, where what is told with each of them shows it and the boxes allow it
 abbrev pub HasOneList : {A : Type 0} → Allows A → List (Option (A × ℕ)) → List (A × ℕ) → World → (World → List PlainEntry) → Type 0
 HasOneList allows seats spares w tells =
     (these those : List Answer) → Goes allows seats spares these (tells (answering these w))
     → Goes allows seats spares those (tells (answering those w)) → these ≡ those
 
 module _ {A : Type 0} (allows : Allows A) (one_way : AnswersOneWay allows) (s : Settings) (patient : 1 ≤ s.resend) where
-  -- so it is behind events, whatever they make and tell
+  -- what comes behind events has one list, whatever world they make and whatever they tell
   abbrev pub HasOneRest : Rest → Type 0
   HasOneRest rest =
       (w : World) (seats : List (Option (A × ℕ))) (spares : List (A × ℕ)) (told : List PlainEntry) → Stands w seats spares
       → HasOneList allows seats spares w (λ v. rest v told)
 
-  -- so it is of these events and behind them
+  -- these events with what comes behind them have one list
   abbrev pub HasOneRun : List Happening → Rest → Type 0
   HasOneRun es rest =
       (w : World) (seats : List (Option (A × ℕ))) (spares : List (A × ℕ)) → Stands w seats spares
@@ -144,7 +144,7 @@ module _ {A : Type 0} (allows : Allows A) (one_way : AnswersOneWay allows) (s : 
     one_more st (inr (inl q)) a b = quiet q a b
     one_more st (inr (inr k)) a b = asked k a b
 
-  -- events have one list of answers, where what comes behind them has one
+  -- events with what comes behind them have one list, where what comes behind them has
   pub one_list : (es : List Happening) (rest : Rest) → HasOneRest rest → HasOneRun es rest
   one_list [] rest one w seats spares st these those a b = one w seats spares [] st these those (goes these a) (goes those b) where
     goes : (cs : List Answer) → Goes allows seats spares cs (with_rest rest (carried s (answering cs w) []))
@@ -213,10 +213,10 @@ module _ {A : Type 0} (served : A → ℕ) (allows : Allows A) (one_way : Answer
         let es : List Happening = events_in s.hosts steps.steps in
         let told : (cs : List Answer) → (replay bytes cs (length boxes)).told ≡ PlainSettings s ∷ with_rest no_rest (carried s (answering cs w) es)
         = λ cs. replay_told bytes s steps cs (length boxes) e
-            ∙ (ap (λ (v : World). PlainSettings s ∷ (carried s v es).told) (first_world s (length boxes) cs)
-            ∙ ap (λ l. PlainSettings s ∷ l) (sym (append-nil (carried s (answering cs w) es).told))) in
+        ∙ (ap (λ (v : World). PlainSettings s ∷ (carried s v es).told) (first_world s (length boxes) cs)
+        ∙ ap (λ l. PlainSettings s ∷ l) (sym (append-nil (carried s (answering cs w) es).told))) in
         let goes : (cs : List Answer) → MayAnswerSo served allows boxes bytes cs
-            → Goes allows (first_seats served s boxes fits) (first_spares served s boxes fits) cs (with_rest no_rest (carried s (answering cs w) es))
+        → Goes allows (first_seats served s boxes fits) (first_spares served s boxes fits) cs (with_rest no_rest (carried s (answering cs w) es))
         = λ cs m. record { shows = sym (ap shown (told cs)) ∙ m.0; allowed = subst (AreAllowed served allows boxes) (told cs) m.1 } in
         one_list allows one_way s valid.in_range.2.2.2.2.2.2.0 es no_rest (λ v xs ys said st cs ds c d. sym c.shows ∙ d.shows)
         w (first_seats served s boxes fits) (first_spares served s boxes fits) (opened served s boxes fits) these those (goes these a) (goes those b)

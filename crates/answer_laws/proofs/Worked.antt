@@ -53,7 +53,10 @@ lines bytes =
     []
 
 told_so : (byte : ℕ) → (replay schedule (answered (byte ∷ [])) (length boxes)).told ≡ lines (byte ∷ [])
-unfolding is_utf8 chars digits decode_pairs encode_with encode empty checked get insert retain remove len keys values key_set insert_all with_range without_range within ranges first_in missing ordered firsts due level_of noted least_from bounds opening opening_from steps_from phrase_in bytes_of_word tuned client_gets server_gets server_acked client_deadline server_deadline asked served takes pumped_once pumps start_fault call_step arrival_step turn_step new_world outcome carried replayed replay
+unfolding is_utf8 chars digits decode_pairs encode_with encode empty checked get insert retain remove len keys values key_set insert_all with_range
+    without_range within ranges first_in missing ordered firsts due level_of noted least_from bounds opening opening_from steps_from phrase_in
+    bytes_of_word tuned client_gets server_gets server_acked client_deadline server_deadline asked served takes pumped_once pumps start_fault call_step
+    arrival_step turn_step new_world outcome carried replayed replay
 told_so byte = refl
 
 -- boxes that answer as they like may answer so
@@ -68,7 +71,8 @@ abbrev first : List Answer → ℕ
 first [] = 0
 first (a ∷ more) = slice_index_or a.bytes 0 0
 
-pub two_lists : ((boxes bytes : List ℕ) (these those : List Answer) → 32 ≤ length boxes → MayAnswerSo (λ n. n) any_answer boxes bytes these → MayAnswerSo (λ n. n) any_answer boxes bytes those → these ≡ those) → ⊥
+pub two_lists : ((boxes bytes : List ℕ) (these those : List Answer) → 32 ≤ length boxes → MayAnswerSo (λ n. n) any_answer boxes bytes these
+    → MayAnswerSo (λ n. n) any_answer boxes bytes those → these ≡ those) → ⊥
 two_lists law =
     let enough : 32 ≤ length boxes = (let e : 32 ≤ 32 = omega arith in e) in
     let one = law boxes schedule (answered (98 ∷ [])) (answered (99 ∷ [])) enough (so 98) (so 99) in
@@ -93,7 +97,10 @@ run_lines bytes =
     []
 
 run_told : (byte : ℕ) → (generated 12799 1 (length boxes) (answered (byte ∷ []))).told ≡ run_lines (byte ∷ [])
-unfolding is_utf8 chars digits decode_pairs encode_with encode empty checked get insert retain remove len keys values key_set insert_all with_range without_range within ranges first_in missing ordered firsts due level_of noted least_from bounds tuned client_gets server_gets server_acked client_deadline server_deadline asked served takes pumped_once pumps start_fault call_step arrival_step turn_step new_world outcome carried next_traffic handed host_round hosts_round calls_round next_round rounds
+unfolding is_utf8 chars digits decode_pairs encode_with encode empty checked get insert retain remove len keys values key_set insert_all with_range
+    without_range within ranges first_in missing ordered firsts due level_of noted least_from bounds tuned client_gets server_gets server_acked
+    client_deadline server_deadline asked served takes pumped_once pumps start_fault call_step arrival_step turn_step new_world outcome carried
+    next_traffic handed host_round hosts_round calls_round next_round rounds
 run_told byte = refl
 
 run_allowed : (bytes : List ℕ) → AreAllowed (λ n. n) any_answer boxes (PlainSettings generated_settings ∷ run_lines bytes)
