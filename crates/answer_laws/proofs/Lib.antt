@@ -4,4 +4,5 @@ mod Told
 mod Seats
 mod Cases
 mod Runs
+mod Rounds
 mod Worked

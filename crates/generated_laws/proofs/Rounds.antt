@@ -1,5 +1,6 @@
 -- A round of a run: its tick, what each host is handed, and its calls.
-use Rattle.std.proofs.Common.{◌≡◌, ℕ, zero, suc, ◌+◌, ◌-◌, ◌*◌, ◌<◌, ◌≤◌, ◌%◌, Bool, true, false, if◌then◌else◌, Option, Some, None, List, [], ◌++◌, length, refl, sym, ap, ◌∙◌, subst, arith}
+use Rattle.std.proofs.Common.{◌≡◌, ℕ, zero, suc, ◌+◌, ◌-◌, ◌*◌, ◌<◌, ◌≤◌, ◌%◌, Bool, true, false, Option, Some, None, List, [], ◌++◌, length}
+use Rattle.std.proofs.Common.{refl, sym, ap, ◌∙◌, subst, arith}
 use Rattle.std.specs.Prelude.{nat_le, nat_lt, ◌==◌, ◌&&◌, is_some, map, slice_get}
 use Rattle.std.specs.Option.{IfSome}
 use Rattle.std.proofs.lemmas.Bool.{cond_both, true≢false, eq-eqb}
@@ -16,7 +17,7 @@ use Rattle.homa_plain.specs.Host.{Host}
 use Rattle.homa_plain.specs.Script.{GivenEvent, GivenTicks, counting}
 use Rattle.homa_plain.specs.World.{World, SentPacket, host_at, last_tick}
 use Rattle.generated_runs.specs.Draws.{Traffic, draw, sized, next_traffic}
-use Rattle.generated_runs.specs.Fabric.{Destination, Handed, idle, destination, refilled, next_of, after_next}
+use Rattle.generated_runs.specs.Fabric.{Destination, Handed, idle, destination, refilled}
 use Rattle.generated_runs.specs.Rounds.{Generated, with_line, host_round, hosts_round, most_handed, live_at, with_call, calls_round, calls_a_round, round_begun, next_round}
 use Rattle.trace_induction.proofs.Hosts.{length-set, within}
 use Rattle.generated_laws.specs.Unrefused.{IsRunLine}
@@ -25,6 +26,8 @@ use Rattle.generated_laws.proofs.Peopled.{calls_more}
 use Rattle.generated_laws.proofs.Events.{IsDeliverable, one_run, tick_run, most_turns, turns_within, delivery_happens, call_happens}
 use Rattle.generated_laws.proofs.Ways.{IsWay, AreWays, idle_way}
 use Rattle.generated_laws.proofs.Handing.{pending, left_to, IsHanded, next_handed}
+use Rattle.generated_laws.proofs.Going.{handed_to, after_handed, by_number, host_step, host_none, hosts_step, hosts_none}
+use Rattle.generated_laws.proofs.Going.{by_left, calls_step, calls_none, round_is}
 use Rattle.generated_laws.proofs.Lines.{IsSound, line_taken}
 
 -- settings of a run
@@ -49,25 +52,6 @@ record IsAmid (s : Settings) (first : World) (calls clock n to : ℕ) (g : Gener
   may : IfSome (destination g.fabric to).again (IsDeliverable s g.world)
   few : left_to (destination g.fabric to) ≤ n
   at : g.world.clock ≡ clock
-
-abbrev handed_to : Settings → ℕ → Generated → Handed
-handed_to s to g = next_of s.life g.world.clock (destination g.fabric to) g.fabric.random
-
-abbrev after_handed : Settings → ℕ → Generated → Generated
-after_handed s to g = record g { fabric = after_next g.fabric to (handed_to s to g) }
-
-abbrev by_number : ℕ → Settings → ℕ → Generated → Option ℕ → Generated
-by_number n s to after None = after
-by_number n s to after (Some number) = host_round n s to (with_line s (GivenEvent (event.Deliver number) []) after)
-
-host_step : (n : ℕ) (s : Settings) (to : ℕ) (g : Generated)
-    → host_round (suc n) s to g ≡ by_number n s to (after_handed s to g) (handed_to s to g).number
-unfolding host_round
-host_step n s to g = refl
-
-host_none : (s : Settings) (to : ℕ) (g : Generated) → host_round zero s to g ≡ g
-unfolding host_round
-host_none s to g = refl
 
 still_may : (s : Settings) (old new : World) (more : List SentPacket) → new.packets ≡ old.packets ++ more → new.clock ≡ old.clock → (o : Option ℕ)
     → IfSome o (IsDeliverable s old) → IfSome o (IsDeliverable s new)
@@ -171,19 +155,11 @@ module _ (s : Settings) (fit : IsFit s) (first : World) (calls clock : ℕ) wher
     at = k.at;
   }
 
-  hosts_step : (to n : ℕ) (g : Generated) → hosts_round s to (suc n) g ≡ hosts_round s (suc to) n (host_round most_handed s to g)
-  unfolding hosts_round
-  hosts_step to n g = refl
-
-  hosts_none : (to : ℕ) (g : Generated) → hosts_round s to zero g ≡ g
-  unfolding hosts_round
-  hosts_none to g = refl
-
   -- each host from number `to` on
   pub hosts_calm : (n to : ℕ) (g : Generated) → to + n ≤ s.hosts → IsCalm s first calls clock g → IsCalm s first calls clock (hosts_round s to n g)
-  hosts_calm zero to g l k = rw (hosts_none to g) k
+  hosts_calm zero to g l k = rw (hosts_none s to g) k
   hosts_calm (suc n) to g l k =
-      rw (hosts_step to n g)
+      rw (hosts_step s to n g)
       (hosts_calm n (suc to) (host_round most_handed s to g) (omega (arith, l)) (host_calm most_handed to g (omega (arith, l)) (amid_of to g k)))
 
 -- ---- the calls that are drawn
@@ -245,23 +221,6 @@ pub length-counting : (i n : ℕ) → length (counting i n) ≡ n
 length-counting i zero = refl
 length-counting i (suc n) = ap suc (length-counting (suc i) n)
 
-abbrev by_left : ℕ → Settings → Generated → Bool → Generated
-by_left n s g true = g
-by_left n s g false = let t = next_traffic s.hosts g.fabric.random in calls_round n s (with_call s t.0 (record g { fabric = record g.fabric { random = t.1 } }))
-
-calls_step : (n : ℕ) (s : Settings) (g : Generated) → calls_round (suc n) s g ≡ by_left n s g (g.left == 0)
-unfolding calls_round
-calls_step n s g = by_test (g.left == 0) where
-  by_test : (t : Bool) → (if t then g
-      else (let t = next_traffic s.hosts g.fabric.random in calls_round n s (with_call s t.0 (record g { fabric = record g.fabric { random = t.1 } }))))
-      ≡ by_left n s g t
-  by_test true = refl
-  by_test false = refl
-
-calls_none : (s : Settings) (g : Generated) → calls_round zero s g ≡ g
-unfolding calls_round
-calls_none s g = refl
-
 module _ (s : Settings) (fit : IsFit s) (first : World) (calls clock : ℕ) (most : calls ≤ 4294967295) where
   call_calm : (g : Generated) (t : Traffic) → IsTraffic s.hosts t → (g.left ≡ 0 → ⊥) → IsCalm s first calls clock g
       → IsCalm s first calls clock (with_call s t g)
@@ -322,11 +281,6 @@ module _ (s : Settings) (fit : IsFit s) (first : World) (calls clock : ℕ) (mos
         (call_calm drawn t.0 (is_traffic s.hosts g.fabric.random fit.two) (λ f. true≢false (sym (eq-eqb g.left 0 f) ∙ e)) same)
 
 -- ---- a whole round
-
-round_is : (s : Settings) (g : Generated)
-    → next_round s g ≡ calls_round calls_a_round s (hosts_round s 0 s.hosts (round_begun (with_line s (GivenTicks 1) g)))
-unfolding next_round
-round_is s g = refl
 
 -- a round goes on by a tick
 pub round_calm : (s : Settings) (first : World) (calls clock : ℕ) → calls ≤ 4294967295 → IsFit s → clock < last_tick

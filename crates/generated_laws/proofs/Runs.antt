@@ -1,5 +1,5 @@
 -- A whole run: no event of it is refused.
-use Rattle.std.proofs.Common.{◌≡◌, ℕ, zero, suc, ◌+◌, ◌≤◌, Bool, true, false, if◌then◌else◌, List, refl, sym, ap, ◌∙◌, subst, arith}
+use Rattle.std.proofs.Common.{◌≡◌, ℕ, zero, suc, ◌+◌, ◌≤◌, Bool, true, false, List, refl, sym, ap, ◌∙◌, subst, arith}
 use Rattle.std.specs.Prelude.{replicate, length}
 use Rattle.homa_plain.specs.declared.settings.Settings.{Settings}
 use Rattle.homa_plain.specs.Entries.{PlainEntry}
@@ -16,24 +16,10 @@ use Rattle.generated_laws.proofs.Carried.{no_event, replayed_whole}
 use Rattle.generated_laws.proofs.Peopled.{first_peopled}
 use Rattle.generated_laws.proofs.Ways.{IsWay, idle_way}
 use Rattle.generated_laws.proofs.Lines.{IsTaken, IsSound}
+use Rattle.generated_laws.proofs.Going.{by_end, rounds_step, rounds_none}
 use Rattle.generated_laws.proofs.Rounds.{IsFit, IsCalm, round_calm}
 
 -- ---- the rounds
-
-abbrev by_end : ℕ → Settings → Generated → Bool → Generated
-by_end n s after true = after
-by_end n s after false = rounds n s after
-
-rounds_step : (n : ℕ) (s : Settings) (g : Generated) → rounds (suc n) s g ≡ by_end n s (next_round s g) (is_over (next_round s g))
-unfolding rounds
-rounds_step n s g = by_test (is_over (next_round s g)) where
-  by_test : (t : Bool) → (if t then next_round s g else rounds n s (next_round s g)) ≡ by_end n s (next_round s g) t
-  by_test true = refl
-  by_test false = refl
-
-rounds_none : (s : Settings) (g : Generated) → rounds zero s g ≡ g
-unfolding rounds
-rounds_none s g = refl
 
 rounds_sound : (s : Settings) (first : World) (calls : ℕ) → calls ≤ 4294967295 → IsFit s → (n clock : ℕ) (g : Generated)
     → clock + n ≤ last_tick → IsCalm s first calls clock g → IsSound s first calls (rounds n s g)

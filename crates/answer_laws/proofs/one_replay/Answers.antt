@@ -1,17 +1,14 @@
-use Rattle.std.proofs.Common.{◌≡◌, ◌≤◌, ℕ, List, length, sym, ap, ◌∙◌}
+use Rattle.std.proofs.Common.{◌≡◌, ◌≤◌, ℕ, List, length, ap}
 use Rattle.homa_plain.specs.Rules.{Answer}
 use Rattle.homa_plain.specs.Replay.{replay_text}
-use Rattle.homa_service.specs.Answer.{Answer as Given}
 use Rattle.answer_laws.specs.Answers.{MayAnswerSo, suite_allows}
-use Rattle.answer_laws.proofs.OneWay.{AnswersOneWay}
+use Rattle.answer_laws.proofs.OneWay.{suite_one_way}
 use Rattle.answer_laws.proofs.Runs.{one_replay as one_list}
 use Rattle.answer_laws.proofs.one_replay.Goals as goal
 
-suite_one_way : AnswersOneWay suite_allows
-suite_one_way suite count number hold hold' q r r' a b = (ap (λ (x : Given). x.bytes) (a ∙ sym b), ap (λ (x : Given). x.hold) (a ∙ sym b))
-
-only : (boxes bytes : List ℕ) (these those : List Answer) → 32 ≤ length boxes → MayAnswerSo (λ n. n) suite_allows boxes bytes these → MayAnswerSo (λ n. n) suite_allows boxes bytes those → these ≡ those
-only boxes bytes these those enough a b = one_list (λ n. n) suite_allows suite_one_way boxes bytes enough these those a.0 a.1 b.0 b.1
+only : (boxes bytes : List ℕ) (these those : List Answer) → 32 ≤ length boxes → MayAnswerSo (λ n. n) suite_allows boxes bytes these
+    → MayAnswerSo (λ n. n) suite_allows boxes bytes those → these ≡ those
+only boxes bytes these those enough a b = one_list (λ n. n) suite_allows suite_one_way boxes bytes enough these those a b
 
 pub returns-clause-answers : goal.returns-clause-answers
 returns-clause-answers c = only
