@@ -1,5 +1,5 @@
 -- What a source that writes what is held before each read has its reader answer.
-use Rattle.std.proofs.Common.{◌≡◌, ℕ, false, None, Some, Result, Ok, Err, refl, subst, arith}
+use Rattle.std.proofs.Common.{◌≡◌, false, None, Some, Result, Ok, Err, refl, subst, arith}
 use Rattle.homa_io.specs.Outside.{HasRisen}
 use Rattle.script_lines.specs.declared.stop.ScriptStop.{ScriptStop}
 use Rattle.script_lines.specs.declared.stop.ScriptStop.TheVariants.{Read, Fault}
