@@ -8,4 +8,5 @@ pub mod LineSteps
 pub mod Begins
 pub mod Composed
 pub mod Exits
+pub mod Aheads
 pub mod Behinds

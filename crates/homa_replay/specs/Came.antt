@@ -1,24 +1,8 @@
 -- What came next of a schedule.
-use Rattle.std.specs.Prelude.{ℕ, ◌+◌, ◌*◌, Bool, true, false, Result, Ok, Err, List}
+use Rattle.std.specs.Prelude.{ℕ, ◌+◌, ◌*◌, Bool, true, false, List}
 use Rattle.homa_plain.specs.Script.{Given, GivenEvent, GivenTicks}
-use Rattle.homa_plain.specs.declared.fault.ScriptFault.{ScriptFault}
-use Rattle.homa_plain.specs.declared.settings.Settings.{Settings}
-use Rattle.script_lines.specs.declared.stop.ScriptStop.{ScriptStop}
-use Rattle.script_lines.specs.declared.stop.ScriptStop.TheVariants.{Fault}
 use Rattle.homa_script.specs.declared.next.Next.{Next}
 use Rattle.homa_script.specs.declared.next.Next.TheVariants.{Event, Ticks, End}
-use Rattle.homa_replay.specs.declared.came.Came.{Came}
-use Rattle.homa_replay.specs.declared.came.Came.TheVariants as came
-
--- the reader's answer
-abbrev pub answer_of : Came → Result Next ScriptStop
-answer_of (came.Line next) = Ok next
-answer_of (came.Refused fault) = Err (Fault fault)
-
--- the reader's answer up to `go`
-abbrev pub opening_of : Result Settings ScriptFault → Result Settings ScriptStop
-opening_of (Ok settings) = Ok settings
-opening_of (Err fault) = Err (Fault fault)
 
 -- what a line stands for, with these bytes beside it; the end stands for no ticks
 abbrev pub given_of : Next → List ℕ → Given

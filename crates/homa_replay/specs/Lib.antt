@@ -6,6 +6,7 @@ pub mod Ahead
 pub mod Heeding
 pub mod Counting
 pub mod Came
+pub mod Part
 pub mod Opens
 pub mod Stops
 pub mod Behind

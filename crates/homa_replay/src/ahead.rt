@@ -1,18 +1,14 @@
 // A source that writes what is held before each read.
-ghost use Rattle.std.specs.Prelude.{◌≡◌, ◌≤◌, ◌<◌, ◌+◌, ◌^◌, ℕ, List, [], None, Some, true, false, length, take, IfOk, OnErr, OnOk, IsErrOf};
+ghost use Rattle.std.specs.Prelude.{◌≡◌, ◌≤◌, ◌<◌, [], None, true, length, take, IfOk, OnErr, OnOk, IsErrOf};
 ghost use Rattle.std.specs.Result.{result_err};
 ghost use Rattle.homa_io.specs.Outside.{HasRisen, unread, IsAtEnd};
-ghost use Rattle.homa_plain.specs.Settings.{IsValid};
-ghost use Rattle.script_lines.specs.Place.{IsCounted};
-ghost use Rattle.script_lines.specs.Read.{IsCut};
 ghost use Rattle.script_lines.specs.Taking.{TakesLines};
-ghost use Rattle.homa_script.specs.Script.{opened, IsOpening, IsNext, IsInRange, IsOn, is_end};
-ghost use Rattle.homa_replay.specs.Came.{answer_of, opening_of};
+ghost use Rattle.homa_replay.specs.Part.{answer_of};
 
-use crate::came::Came;
+use crate::part::Part;
 use crate::{Holding, Stop};
 use homa_io::{ReadFailed, Source};
-use homa_plain::{ScriptFault, Settings};
+use homa_plain::ScriptFault;
 use homa_script::{Reader, ScriptStop};
 
 /// A source over another one. Before each read it writes what the sink holds, so that a fault of the source finds nothing
@@ -108,24 +104,19 @@ impl<'a, S: Source, K: Holding> Source for Ahead<'a, S, K> {
     }
 }
 
-/// Reads up to `go`: the settings that hold there, or why a line is refused.
-pub(crate) fn read_settings<S: Source, K: Holding>(
+/// Reads a part, or why its line is refused. Before the source is read what is held is written.
+pub(crate) fn read_ahead<T: Part, S: Source, K: Holding>(
     reader: &mut Reader,
     source: &mut S,
     sink: &mut K,
-) -> Result<Result<Settings, ScriptFault>, Stop>
-    requires first { reader.old ≡ opened reader.old.place.limit }
-    ensures settings { IfOk result (λ answer. (bytes : List ℕ) → S.left source.old ≡ Some bytes
-        → IsOpening reader.old.place.limit reader.new.place bytes (S.left source.new) (opening_of answer)) }
-    ensures cut { OnErr result ((bytes : List ℕ) → S.left source.old ≡ Some bytes → IsCut bytes (S.left source.new)) }
-    ensures took { OnOk result (TakesLines reader.old.place reader.new.place (S.left source.old) (S.left source.new)) }
-    ensures pending { OnOk result (length reader.new.place.pending ≤ 65536) }
-    ensures valid { IfOk result (λ answer. IfOk answer IsValid) }
+) -> Result<Result<T, ScriptFault>, Stop>
+    requires { T.may_come reader.old }
+    ensures gives { T.gives reader.old reader.new (S.left source.old) (S.left source.new) (answer_of result) }
     ensures started { reader.new.started ≡ true }
-    ensures not_ended { reader.new.ended ≡ false }
-    ensures stopped { IfOk result (λ answer. reader.new.stopped ≡ result_err (opening_of answer)) }
-    ensures counted { IfOk result (λ answer. IfOk answer (λ settings. IsCounted reader.new.place)) }
+    ensures stopped { reader.new.stopped ≡ result_err (answer_of result) }
     ensures limit { reader.new.place.limit ≡ reader.old.place.limit }
+    ensures took { OnOk result (TakesLines reader.old.place reader.new.place (S.left source.old) (S.left source.new)) }
+    ensures pending { length reader.new.place.pending ≤ 65536 }
     ensures taken { K.taken sink.new ≡ K.taken sink.old }
     ensures quiet_source { OnOk result (S.faults source.new ≡ S.faults source.old) }
     ensures quiet_sink { OnOk result (K.faults sink.new ≡ K.faults sink.old) }
@@ -144,7 +135,7 @@ pub(crate) fn read_settings<S: Source, K: Holding>(
         stop: None,
         faults: 0,
     };
-    let answer = reader.settings(&mut ahead);
+    let answer = T::read(reader, &mut ahead);
     let Ahead {
         source: _,
         sink: _,
@@ -155,63 +146,8 @@ pub(crate) fn read_settings<S: Source, K: Holding>(
         return Err(stop);
     }
     match answer {
-        Ok(settings) => Ok(Ok(settings)),
+        Ok(part) => Ok(Ok(part)),
         Err(ScriptStop::Fault(fault)) => Ok(Err(fault)),
-        Err(ScriptStop::Read(_)) => unreachable!(),
-    }
-}
-
-/// Reads up to the next line with words. Before the source is read what is held is written.
-pub(crate) fn read_next<S: Source, K: Holding>(
-    reader: &mut Reader,
-    source: &mut S,
-    sink: &mut K,
-) -> Result<Came, Stop>
-    requires started { reader.old.started ≡ true }
-    requires not_ended { reader.old.ended ≡ false }
-    requires running { reader.old.stopped ≡ None }
-    ensures next { IfOk result (λ came. (bytes : List ℕ) → S.left source.old ≡ Some bytes
-        → IsNext reader.old.place reader.new.place reader.new.operand bytes (S.left source.new) (answer_of came)) }
-    ensures cut { OnErr result ((bytes : List ℕ) → S.left source.old ≡ Some bytes → IsCut bytes (S.left source.new)) }
-    ensures took { OnOk result (TakesLines reader.old.place reader.new.place (S.left source.old) (S.left source.new)) }
-    ensures pending { OnOk result (length reader.new.place.pending ≤ 65536) }
-    ensures started { reader.new.started ≡ true }
-    ensures ended { IfOk result (λ came. reader.new.ended ≡ is_end (answer_of came)) }
-    ensures stopped { IfOk result (λ came. reader.new.stopped ≡ result_err (answer_of came)) }
-    ensures range { IfOk result (λ came. IfOk (answer_of came) IsInRange) }
-    ensures on { IfOk result (λ came. IfOk (answer_of came) (IsOn reader.old.place reader.new.place)) }
-    ensures limit { reader.new.place.limit ≡ reader.old.place.limit }
-    ensures taken { K.taken sink.new ≡ K.taken sink.old }
-    ensures quiet_source { OnOk result (S.faults source.new ≡ S.faults source.old) }
-    ensures quiet_sink { OnOk result (K.faults sink.new ≡ K.faults sink.old) }
-    ensures read_risen { IsErrOf result Stop.Read → HasRisen (S.faults source.old) (S.faults source.new) }
-    ensures read_quiet { IsErrOf result Stop.Read → K.faults sink.new ≡ K.faults sink.old }
-    ensures write_risen { IsErrOf result Stop.Write → HasRisen (K.faults sink.old) (K.faults sink.new) }
-    ensures write_quiet { IsErrOf result Stop.Write → S.faults source.new ≡ S.faults source.old }
-    ensures read_none { IsErrOf result Stop.Read → K.held sink.new ≡ [] }
-    ensures memory { IsErrOf result Stop.NoMemory → ⊥ }
-    ensures same_source { S.is_same source.old source.new }
-    ensures same_sink { K.is_same sink.old sink.new }
-{
-    let mut ahead = Ahead {
-        source,
-        sink,
-        stop: None,
-        faults: 0,
-    };
-    let answer = reader.next(&mut ahead);
-    let Ahead {
-        source: _,
-        sink: _,
-        stop,
-        faults: _,
-    } = ahead;
-    if let Some(stop) = stop {
-        return Err(stop);
-    }
-    match answer {
-        Ok(next) => Ok(Came::Line(next)),
-        Err(ScriptStop::Fault(fault)) => Ok(Came::Refused(fault)),
         Err(ScriptStop::Read(_)) => unreachable!(),
     }
 }

@@ -7,10 +7,10 @@
 #![tactic(auto)]
 
 mod ahead;
-mod came;
 mod holding;
 mod lines;
 mod opens;
+mod part;
 mod playing;
 mod print;
 mod schedule;

@@ -1,6 +1,6 @@
 // The replay of a schedule.
-ghost use Rattle.std.specs.Prelude.{◌≡◌, ◌≤◌, ◌<◌, ◌+◌, ◌*◌, ◌^◌, ℕ, List, [], Some, None, Ok, true, false, not, IfOk, IfErr, IfSome, OnOk, OnErr, IsErrOf};
-ghost use Rattle.homa_io.specs.Outside.{HasRisen, appended, IsAtEnd, TookFront};
+ghost use Rattle.std.specs.Prelude.{◌≡◌, ◌≤◌, ◌<◌, ◌+◌, ◌*◌, ◌^◌, ℕ, List, [], Some, None, Ok, true, false, IfOk, IfErr, IfSome, OnOk, OnErr, IsErrOf};
+ghost use Rattle.homa_io.specs.Outside.{HasRisen, appended, TookFront};
 ghost use Rattle.homa_plain.specs.Entries.{PlainSettings, PlainRefused};
 ghost use Rattle.homa_plain.specs.Text.{line_text};
 ghost use Rattle.homa_plain.specs.Settings.{IsValid};
@@ -20,8 +20,7 @@ ghost use Rattle.homa_replay.specs.Far.{left_at, replay_of, is_unasked, ArePrint
 ghost use Rattle.homa_replay.specs.Behind.{RefusesLast};
 ghost use Rattle.homa_replay.specs.Stops.{prints_all};
 
-use crate::ahead::{read_next, read_settings};
-use crate::came::Came;
+use crate::ahead::read_ahead;
 use crate::lines::{play, play_ticks};
 use crate::{Holding, Playing, Stop};
 use homa_io::{Sink, Source};
@@ -144,7 +143,7 @@ pub fn begin<S: Source, K: Holding>(
     ensures same_source { S.is_same source.old source.new }
     ensures same_sink { K.is_same sink.old sink.new }
 {
-    match read_settings(reader, source, sink)? {
+    match read_ahead::<Settings, S, K>(reader, source, sink)? {
         Ok(settings) => {
             put_entry(sink, &Entry::Settings(settings))?;
             Ok(Some(settings))
@@ -201,9 +200,9 @@ pub fn carry_on<P: Playing, S: Source, K: Holding>(
 {
     let mut events: u64 = 0;
     'lines: loop {
-        let next = match read_next(reader, source, sink)? {
-            Came::Line(next) => next,
-            Came::Refused(fault) => {
+        let next = match read_ahead::<Next, S, K>(reader, source, sink)? {
+            Ok(next) => next,
+            Err(fault) => {
                 put_refused(sink, reader.line(), LineFault::Script(fault))?;
                 return Ok(false);
             }

@@ -13,6 +13,7 @@ use Rattle.homa_top.specs.declared.exit.ExitStatus.{ExitStatus}
 use Rattle.homa_top.specs.declared.exit.ExitStatus.TheVariants.{Done, NoCommand, Refused, ReadFailed, WriteFailed, NoMemory, NetFailed, Stalled, Stranger}
 use Rattle.homa_top.specs.Exits.{status_of_node}
 use Rattle.homa_top.specs.Commands.{HasRun}
+use Rattle.homa_top.specs.Faults.{HaveStatus}
 
 -- the text of the run was printed, or a front of it
 module _ (may_tell : List PlainEntry → Type 0) (bytes : List ℕ) (left : Option (List ℕ)) (old new : Around) where
@@ -61,16 +62,7 @@ is_command (Err broken.Net) = λ e. cc
 is_command (Err broken.NoMemory) = λ e. cc
 
 module _ (old new : Counts) where
-  -- a fault has its status, and each such status its fault
-  pub record HaveStatus (status : ExitStatus) : Type 0 where
-    pub read : status ≡ ReadFailed → HasRisen old.source new.source
-    pub read_fault : new.source ≢ old.source → status ≡ ReadFailed
-    pub write : status ≡ WriteFailed → HasRisen old.sink new.sink
-    pub write_fault : new.sink ≢ old.sink → status ≡ WriteFailed
-    pub net : status ≡ NetFailed → HasRisen old.net new.net
-    pub net_fault : new.net ≢ old.net → status ≡ NetFailed
-
-  pub no_fault : (status : ExitStatus) → new ≡ old → status ≢ ReadFailed → status ≢ WriteFailed → status ≢ NetFailed → HaveStatus status
+  pub no_fault : (status : ExitStatus) → new ≡ old → status ≢ ReadFailed → status ≢ WriteFailed → status ≢ NetFailed → HaveStatus old new status
   no_fault status same no_read no_write no_net = record {
     read = λ e. absurd (no_read e);
     read_fault = λ ne. absurd (ne (ap (λ (c : Counts). c.source) same));
@@ -80,11 +72,8 @@ module _ (old new : Counts) where
     net_fault = λ ne. absurd (ne (ap (λ (c : Counts). c.net) same));
   }
 
-  pub have_status : (answer : Result NodeEnd Broken) → HaveFaults old new answer → HaveStatus (status_of_node answer)
-  have_status (Ok (end.Ended turns)) same = no_fault Done same (λ e. cc) (λ e. cc) (λ e. cc)
-  have_status (Ok (end.Refused line fault)) same = no_fault Refused same (λ e. cc) (λ e. cc) (λ e. cc)
-  have_status (Ok (end.Stalled turns now)) same = no_fault Stalled same (λ e. cc) (λ e. cc) (λ e. cc)
-  have_status (Err broken.Read) h = record {
+  pub read_failed : HasRisen old.source new.source × (new.net ≡ old.net) × (new.sink ≡ old.sink) → HaveStatus old new ReadFailed
+  read_failed h = record {
     read = λ _. h.0;
     read_fault = λ _. refl;
     write = λ e. absurd cc;
@@ -92,7 +81,9 @@ module _ (old new : Counts) where
     net = λ e. absurd cc;
     net_fault = λ ne. absurd (ne h.1);
   }
-  have_status (Err broken.Write) h = record {
+
+  pub write_failed : HasRisen old.sink new.sink × (new.source ≡ old.source) × (new.net ≡ old.net) → HaveStatus old new WriteFailed
+  write_failed h = record {
     read = λ e. absurd cc;
     read_fault = λ ne. absurd (ne h.1);
     write = λ _. h.0;
@@ -100,7 +91,9 @@ module _ (old new : Counts) where
     net = λ e. absurd cc;
     net_fault = λ ne. absurd (ne h.2);
   }
-  have_status (Err broken.Net) h = record {
+
+  pub net_failed : HasRisen old.net new.net × (new.source ≡ old.source) × (new.sink ≡ old.sink) → HaveStatus old new NetFailed
+  net_failed h = record {
     read = λ e. absurd cc;
     read_fault = λ ne. absurd (ne h.1);
     write = λ e. absurd cc;
@@ -108,4 +101,12 @@ module _ (old new : Counts) where
     net = λ _. h.0;
     net_fault = λ _. refl;
   }
+
+  pub have_status : (answer : Result NodeEnd Broken) → HaveFaults old new answer → HaveStatus old new (status_of_node answer)
+  have_status (Ok (end.Ended turns)) same = no_fault Done same (λ e. cc) (λ e. cc) (λ e. cc)
+  have_status (Ok (end.Refused line fault)) same = no_fault Refused same (λ e. cc) (λ e. cc) (λ e. cc)
+  have_status (Ok (end.Stalled turns now)) same = no_fault Stalled same (λ e. cc) (λ e. cc) (λ e. cc)
+  have_status (Err broken.Read) h = read_failed h
+  have_status (Err broken.Write) h = write_failed h
+  have_status (Err broken.Net) h = net_failed h
   have_status (Err broken.NoMemory) same = no_fault NoMemory same (λ e. cc) (λ e. cc) (λ e. cc)

@@ -16,7 +16,8 @@ use Rattle.homa_top.specs.declared.exit.ExitStatus.{ExitStatus}
 use Rattle.homa_top.specs.declared.exit.ExitStatus.TheVariants.{Done, NoCommand, Refused, ReadFailed, WriteFailed, NoMemory, NetFailed, Stalled, Stranger}
 use Rattle.homa_top.specs.Exits.{status_of_recorded}
 use Rattle.homa_top.specs.Commands.{HasRecorded, IsNeverRefused}
-use Rattle.homa_top.proofs.NodeEnds.{HaveStatus, no_fault}
+use Rattle.homa_top.specs.Faults.{HaveStatus}
+use Rattle.homa_top.proofs.NodeEnds.{no_fault, read_failed, write_failed, net_failed}
 
 -- the recording was printed, or a front of it
 module _ (may_tell : List PlainEntry → Type 0) (bytes : List ℕ) (left : Option (List ℕ)) (old new : Around) where
@@ -83,30 +84,9 @@ module _ (old new : Counts) where
   have_status how.Stalled same = no_fault old new Stalled same (λ e. cc) (λ e. cc) (λ e. cc)
   have_status how.Stranger same = no_fault old new Stranger same (λ e. cc) (λ e. cc) (λ e. cc)
   have_status how.NoMemory same = no_fault old new NoMemory same (λ e. cc) (λ e. cc) (λ e. cc)
-  have_status how.ReadFailed h = record {
-    read = λ _. h.0;
-    read_fault = λ _. refl;
-    write = λ e. absurd cc;
-    write_fault = λ ne. absurd (ne h.2);
-    net = λ e. absurd cc;
-    net_fault = λ ne. absurd (ne h.1);
-  }
-  have_status how.WriteFailed h = record {
-    read = λ e. absurd cc;
-    read_fault = λ ne. absurd (ne h.1);
-    write = λ _. h.0;
-    write_fault = λ _. refl;
-    net = λ e. absurd cc;
-    net_fault = λ ne. absurd (ne h.2);
-  }
-  have_status how.NetFailed h = record {
-    read = λ e. absurd cc;
-    read_fault = λ ne. absurd (ne h.1);
-    write = λ e. absurd cc;
-    write_fault = λ ne. absurd (ne h.2);
-    net = λ _. h.0;
-    net_fault = λ _. refl;
-  }
+  have_status how.ReadFailed h = read_failed old new h
+  have_status how.WriteFailed h = write_failed old new h
+  have_status how.NetFailed h = net_failed old new h
 
 -- ---- what keeps a recording whose script is never refused from its end
 

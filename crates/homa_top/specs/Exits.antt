@@ -25,27 +25,16 @@ code Stranger = 8
 
 -- the command was broken off, by a fault or for want of memory
 abbrev pub is_broken_off : ExitStatus → Bool
-is_broken_off Done = false
-is_broken_off NoCommand = false
-is_broken_off Refused = false
 is_broken_off ReadFailed = true
 is_broken_off WriteFailed = true
 is_broken_off NoMemory = true
 is_broken_off NetFailed = true
-is_broken_off Stalled = false
-is_broken_off Stranger = false
+is_broken_off other = false
 
--- it was broken off, and not by a fault of the sink: all that was told until then was printed
+-- the sink didn't fail: all that was told until then was printed
 abbrev pub prints_all : ExitStatus → Bool
-prints_all Done = false
-prints_all NoCommand = false
-prints_all Refused = false
-prints_all ReadFailed = true
 prints_all WriteFailed = false
-prints_all NoMemory = true
-prints_all NetFailed = true
-prints_all Stalled = false
-prints_all Stranger = false
+prints_all other = true
 
 -- the status of a command that stopped
 abbrev pub status_of : Stop → ExitStatus

@@ -2,6 +2,7 @@
 ghost use Rattle.std.specs.Prelude.{◌≡◌, ◌≢◌, ◌≤◌, ◌⊎◌, ℕ, List, Some, false, length};
 ghost use Rattle.homa_io.specs.Outside.{HasRisen, appended, TookFront};
 ghost use Rattle.homa_plain.specs.declared.id.HostId.{HostId as Host};
+ghost use Rattle.node_turns.specs.Faults.{counts};
 ghost use Rattle.node_trace.specs.Traces.{around};
 ghost use Rattle.generated_runs.specs.Generated.{generated_settings, schedule_text, summary_text};
 ghost use Rattle.homa_generate.specs.Made.{run_of};
@@ -10,6 +11,7 @@ ghost use Rattle.node_hosts.specs.Fair.{AreFairlyAllowed};
 ghost use Rattle.homa_top.specs.Words.{usage_line};
 ghost use Rattle.homa_top.specs.Commands.{HasMade, HasCounted, HasJudged, HasRun, HasRecorded};
 ghost use Rattle.homa_top.specs.Exits.{status_of, status_of_node, status_of_recorded};
+ghost use Rattle.homa_top.specs.Faults.{HaveStatus};
 ghost use Rattle.homa_top.specs.declared.exit.ExitStatus.TheVariants as status;
 
 use crate::exit::ExitStatus;
@@ -176,12 +178,8 @@ pub(crate) fn put_node<V: Service, S: Source, K: Sink, N: Net, C: Clock>(
         (around (K.taken sink.new) (N.sent net.new) (N.gave net.new) (C.ticks clock.new)) result }
     ensures command { result ≢ status.NoCommand }
     ensures usual { result ≢ status.Stranger }
-    ensures read { result ≡ status.ReadFailed → HasRisen (S.faults source.old) (S.faults source.new) }
-    ensures read_fault { S.faults source.new ≢ S.faults source.old → result ≡ status.ReadFailed }
-    ensures write { result ≡ status.WriteFailed → HasRisen (K.faults sink.old) (K.faults sink.new) }
-    ensures write_fault { K.faults sink.new ≢ K.faults sink.old → result ≡ status.WriteFailed }
-    ensures net { result ≡ status.NetFailed → HasRisen (N.faults net.old) (N.faults net.new) }
-    ensures net_fault { N.faults net.new ≢ N.faults net.old → result ≡ status.NetFailed }
+    ensures faults { HaveStatus (counts (S.faults source.old) (N.faults net.old) (K.faults sink.old))
+        (counts (S.faults source.new) (N.faults net.new) (K.faults sink.new)) result }
 {
     status_of_node(print_node::<Vec<V>, NodeHosts<Fair<V>>, S, K, N, C>(
         alloc, source, sink, net, clock, services,
@@ -220,12 +218,8 @@ pub(crate) fn put_record<V: Service, S: Source, K: Sink, N: Net, C: Clock>(
         (around (K.taken sink.old) (N.sent net.old) (N.gave net.old) (C.ticks clock.old))
         (around (K.taken sink.new) (N.sent net.new) (N.gave net.new) (C.ticks clock.new)) result }
     ensures command { result ≢ status.NoCommand }
-    ensures read { result ≡ status.ReadFailed → HasRisen (S.faults source.old) (S.faults source.new) }
-    ensures read_fault { S.faults source.new ≢ S.faults source.old → result ≡ status.ReadFailed }
-    ensures write { result ≡ status.WriteFailed → HasRisen (K.faults sink.old) (K.faults sink.new) }
-    ensures write_fault { K.faults sink.new ≢ K.faults sink.old → result ≡ status.WriteFailed }
-    ensures net { result ≡ status.NetFailed → HasRisen (N.faults net.old) (N.faults net.new) }
-    ensures net_fault { N.faults net.new ≢ N.faults net.old → result ≡ status.NetFailed }
+    ensures faults { HaveStatus (counts (S.faults source.old) (N.faults net.old) (K.faults sink.old))
+        (counts (S.faults source.new) (N.faults net.new) (K.faults sink.new)) result }
 {
     status_of_recorded(print_recording::<Vec<V>, NodeHosts<Fair<V>>, S, K, N, C>(
         alloc, source, sink, net, clock, services,

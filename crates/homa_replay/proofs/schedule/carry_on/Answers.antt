@@ -42,92 +42,92 @@ returns-in_err-next-clause-part g c =
     let s = g.P.Playing.settings c.args.world.now in
     err_if _ _ _ c.from_residual.ensures.1
     (λ w h. let d = l.invariant.due w h in
-    at_cut (left_at s w 0 c.args.reader.now.place) _ _ _ _ _ _ _ _ s d.0 l.events l.reader.place c.read_next.new.reader.place [] c.in_err-next.ensures.taken
-    d.2 _ (g.met.P.Playing.allows_none l.world) c.in_err-next.ensures.cut)
+    at_cut (left_at s w 0 c.args.reader.now.place) _ _ _ _ _ _ _ _ s d.0 l.events l.reader.place c.read_ahead.new.reader.place [] c.in_err-next.ensures.taken
+    d.2 _ (g.met.P.Playing.allows_none l.world) c.in_err-next.ensures.gives.read)
 
-pub returns-in_err-put_refused-in-Refused-clause-part : goal.returns-in_err-put_refused-in-Refused-clause-part
-returns-in_err-put_refused-in-Refused-clause-part g c =
+pub returns-in_err-put_refused-in-Err-clause-part : goal.returns-in_err-put_refused-in-Err-clause-part
+returns-in_err-put_refused-in-Err-clause-part g c =
     let l = c.lines in
     let s = g.P.Playing.settings c.args.world.now in
-    let new = c.read_next.new.reader in
-    let next = rw c.in-Refused.is at c.in_ok-next.ensures.next in
-    err_if _ Write _ (stop_of _ _ _ c.from_residual-in_err-put_refused-in-Refused.ensures.1 c.in_err-put_refused-in-Refused.ensures.stop)
+    let new = c.read_ahead.new.reader in
+    let next = rw c.in-Err.is at c.in_ok-next.ensures.gives.read in
+    err_if _ Write _ (stop_of _ _ _ c.from_residual-in_err-put_refused-in-Err.ensures.1 c.in_err-put_refused-in-Err.ensures.stop)
     (λ w h. let d = l.invariant.due w h in
-    last_cut (left_at s w 0 c.args.reader.now.place) _ _ _ _ _ _ _ (RefusedAt c.line.result (ByScript c.in-Refused.fault))
-    (renumbered (left_at s w 0 c.args.reader.now.place) _ _ _ _ _ _ c.line.result new.place.number (ByScript c.in-Refused.fault) c.line.ensures
-    (at_refusal (left_at s w 0 c.args.reader.now.place) _ _ _ _ _ _ _ _ s d.0 l.events l.reader.place new.place new.operand c.in_ok-next.ensures.taken d.2 c.in-Refused.fault next))
-    (g.met.P.Playing.allows_none l.world) c.in_err-put_refused-in-Refused.ensures.err)
+    last_cut (left_at s w 0 c.args.reader.now.place) _ _ _ _ _ _ _ (RefusedAt c.line.result (ByScript c.in-Err.fault))
+    (renumbered (left_at s w 0 c.args.reader.now.place) _ _ _ _ _ _ c.line.result new.place.number (ByScript c.in-Err.fault) c.line.ensures
+    (at_refusal (left_at s w 0 c.args.reader.now.place) _ _ _ _ _ _ _ _ s d.0 l.events l.reader.place new.place new.operand c.in_ok-next.ensures.taken d.2 c.in-Err.fault next))
+    (g.met.P.Playing.allows_none l.world) c.in_err-put_refused-in-Err.ensures.err)
 
-pub returns-in-Refused-clause-printed : goal.returns-in-Refused-clause-printed
-returns-in-Refused-clause-printed g c =
+pub returns-in-Err-clause-printed : goal.returns-in-Err-clause-printed
+returns-in-Err-clause-printed g c =
     let l = c.lines in
     let s = g.P.Playing.settings c.args.world.now in
-    let new = c.read_next.new.reader in
-    let next = rw c.in-Refused.is at c.in_ok-next.ensures.next in
+    let new = c.read_ahead.new.reader in
+    let next = rw c.in-Err.is at c.in_ok-next.ensures.gives.read in
     λ w h. let d = l.invariant.due w h in
-    fars_end (left_at s w 0 c.args.reader.now.place) _ _ _ _ _ _ _ (RefusedAt c.line.result (ByScript c.in-Refused.fault)) false
-    (renumbered (left_at s w 0 c.args.reader.now.place) _ _ _ _ _ _ c.line.result new.place.number (ByScript c.in-Refused.fault) c.line.ensures
-    (at_refusal (left_at s w 0 c.args.reader.now.place) _ _ _ _ _ _ _ _ s d.0 l.events l.reader.place new.place new.operand c.in_ok-next.ensures.taken d.2 c.in-Refused.fault next))
-    (g.met.P.Playing.allows_none l.world) c.in_ok-put_refused-in-Refused.ensures.ok refl
+    fars_end (left_at s w 0 c.args.reader.now.place) _ _ _ _ _ _ _ (RefusedAt c.line.result (ByScript c.in-Err.fault)) false
+    (renumbered (left_at s w 0 c.args.reader.now.place) _ _ _ _ _ _ c.line.result new.place.number (ByScript c.in-Err.fault) c.line.ensures
+    (at_refusal (left_at s w 0 c.args.reader.now.place) _ _ _ _ _ _ _ _ s d.0 l.events l.reader.place new.place new.operand c.in_ok-next.ensures.taken d.2 c.in-Err.fault next))
+    (g.met.P.Playing.allows_none l.world) c.in_ok-put_refused-in-Err.ensures.ok refl
 
 pub returns-in_err-put_entry-clause-part : goal.returns-in_err-put_entry-clause-part
 returns-in_err-put_entry-clause-part g c =
     let l = c.lines in
     let s = g.P.Playing.settings c.args.world.now in
-    let new = c.read_next.new.reader in
-    let next = rw c.in-Line.is at c.in_ok-next.ensures.next in
+    let new = c.read_ahead.new.reader in
+    let next = rw c.in-Ok.is at c.in_ok-next.ensures.gives.read in
     let ended = sym c.is_end.ensures ∙ c.if-is_end.true in
     err_if _ _ _ c.from_residual-in_err-put_entry.ensures.1
     (λ w h. let d = l.invariant.due w h in
     last_cut (left_at s w 0 c.args.reader.now.place) _ _ _ _ _ _ _ (Finished l.events)
-    (at_end (left_at s w 0 c.args.reader.now.place) _ _ _ _ _ _ _ _ s d.0 l.events l.reader.place new.place new.operand c.in_ok-next.ensures.taken d.2 c.in-Line.next ended next)
+    (at_end (left_at s w 0 c.args.reader.now.place) _ _ _ _ _ _ _ _ s d.0 l.events l.reader.place new.place new.operand c.in_ok-next.ensures.taken d.2 c.in-Ok.next ended next)
     (g.met.P.Playing.allows_none l.world) c.in_err-put_entry.ensures.err)
 
 pub returns-then-is_end-clause-printed : goal.returns-then-is_end-clause-printed
 returns-then-is_end-clause-printed g c =
     let l = c.lines in
     let s = g.P.Playing.settings c.args.world.now in
-    let new = c.read_next.new.reader in
-    let next = rw c.in-Line.is at c.in_ok-next.ensures.next in
+    let new = c.read_ahead.new.reader in
+    let next = rw c.in-Ok.is at c.in_ok-next.ensures.gives.read in
     let ended = sym c.is_end.ensures ∙ c.if-is_end.true in
     λ w h. let d = l.invariant.due w h in
     fars_end (left_at s w 0 c.args.reader.now.place) _ _ _ _ _ _ _ (Finished l.events) true
-    (at_end (left_at s w 0 c.args.reader.now.place) _ _ _ _ _ _ _ _ s d.0 l.events l.reader.place new.place new.operand c.in_ok-next.ensures.taken d.2 c.in-Line.next ended next)
+    (at_end (left_at s w 0 c.args.reader.now.place) _ _ _ _ _ _ _ _ s d.0 l.events l.reader.place new.place new.operand c.in_ok-next.ensures.taken d.2 c.in-Ok.next ended next)
     (g.met.P.Playing.allows_none l.world) c.in_ok-put_entry.ensures.ok refl
 
 pub returns-then-is_end-clause-to_end : goal.returns-then-is_end-clause-to_end
 returns-then-is_end-clause-to_end g c =
     let l = c.lines in
     let s = g.P.Playing.settings c.args.world.now in
-    let new = c.read_next.new.reader in
-    let next = rw c.in-Line.is at c.in_ok-next.ensures.next in
+    let new = c.read_ahead.new.reader in
+    let next = rw c.in-Ok.is at c.in_ok-next.ensures.gives.read in
     let ended = sym c.is_end.ensures ∙ c.if-is_end.true in
     λ _ w h bytes e. let d = l.invariant.due w h in
-    end_left (left_at s w 0 c.args.reader.now.place) _ _ _ _ _ _ _ l.reader.place new.place new.operand (left_at s d.0 l.events l.reader.place) c.in-Line.next d.2 ended next bytes e
+    end_left (left_at s w 0 c.args.reader.now.place) _ _ _ _ _ _ _ l.reader.place new.place new.operand (left_at s d.0 l.events l.reader.place) c.in-Ok.next d.2 ended next bytes e
 
 pub returns-in_err-refused-clause-part : goal.returns-in_err-refused-clause-part
 returns-in_err-refused-clause-part g c =
     let l = c.lines in
     let s = g.P.Playing.settings c.args.world.now in
-    let new = c.read_next.new.reader in
-    let next = rw c.in-Line.is at c.in_ok-next.ensures.next in
+    let new = c.read_ahead.new.reader in
+    let next = rw c.in-Ok.is at c.in_ok-next.ensures.gives.read in
     let going = sym c.is_end.ensures ∙ c.if-is_end.false in
-    let given = given_of c.in-Line.next c.bytes.result.now in
+    let given = given_of c.in-Ok.next c.bytes.result.now in
     let es = events_of c.args.hosts given in
     err_if _ _ _ c.from_residual-in_err-refused.ensures.1
     (λ w h. let d = l.invariant.due w h in
     line_cut (left_at s w 0 c.args.reader.now.place) _ _ _ _ _ _ _ s d.0 l.events new.place.number es new.place
-    (at_line (left_at s w 0 c.args.reader.now.place) _ _ _ _ _ _ _ _ s d.0 l.events l.reader.place new.place new.operand c.in_ok-next.ensures.taken d.2 c.in-Line.next given c.args.hosts going (ap (given_of c.in-Line.next) (sym c.bytes.ensures.bytes)) (sym c.requires.hosts) next)
+    (at_line (left_at s w 0 c.args.reader.now.place) _ _ _ _ _ _ _ _ s d.0 l.events l.reader.place new.place new.operand c.in_ok-next.ensures.taken d.2 c.in-Ok.next given c.args.hosts going (ap (given_of c.in-Ok.next) (sym c.bytes.ensures.bytes)) (sym c.requires.hosts) next)
     _ (cut_at _ s d.0 _ _ _ l.invariant.settings es _ (c.in_err-refused.ensures.cut d.0 d.1)))
 
 pub returns-in_err-put_refused-clause-part : goal.returns-in_err-put_refused-clause-part
 returns-in_err-put_refused-clause-part g c =
     let l = c.lines in
     let s = g.P.Playing.settings c.args.world.now in
-    let new = c.read_next.new.reader in
-    let next = rw c.in-Line.is at c.in_ok-next.ensures.next in
+    let new = c.read_ahead.new.reader in
+    let next = rw c.in-Ok.is at c.in_ok-next.ensures.gives.read in
     let going = sym c.is_end.ensures ∙ c.if-is_end.false in
-    let given = given_of c.in-Line.next c.bytes.result.now in
+    let given = given_of c.in-Ok.next c.bytes.result.now in
     let es = events_of c.args.hosts given in
     let refused = rw c.in-Some.is at c.in_ok-refused.ensures.refused in
     err_if _ Write _ (stop_of _ _ _ c.from_residual-in_err-put_refused.ensures.1 c.in_err-put_refused.ensures.stop)
@@ -135,7 +135,7 @@ returns-in_err-put_refused-clause-part g c =
     last_cut (left_at s w 0 c.args.reader.now.place) _ _ _ _ _ _ (λ more. more ≡ []) (RefusedAt c.line-in-Some.result (ByWorld c.in-Some.fault))
     (renumbered (left_at s w 0 c.args.reader.now.place) _ _ _ _ _ (λ more. more ≡ []) c.line-in-Some.result new.place.number (ByWorld c.in-Some.fault) c.line-in-Some.ensures
     (line_refused (left_at s w 0 c.args.reader.now.place) _ _ _ _ _ _ _ s d.0 l.events new.place.number es new.place
-    (at_line (left_at s w 0 c.args.reader.now.place) _ _ _ _ _ _ _ _ s d.0 l.events l.reader.place new.place new.operand c.in_ok-next.ensures.taken d.2 c.in-Line.next given c.args.hosts going (ap (given_of c.in-Line.next) (sym c.bytes.ensures.bytes)) (sym c.requires.hosts) next)
+    (at_line (left_at s w 0 c.args.reader.now.place) _ _ _ _ _ _ _ _ s d.0 l.events l.reader.place new.place new.operand c.in_ok-next.ensures.taken d.2 c.in-Ok.next given c.args.hosts going (ap (given_of c.in-Ok.next) (sym c.bytes.ensures.bytes)) (sym c.requires.hosts) next)
     c.in-Some.fault (refused_at _ s d.0 _ _ _ l.invariant.settings es c.in-Some.fault (refused d.0 d.1))))
     refl c.in_err-put_refused.ensures.err)
 
@@ -143,17 +143,17 @@ pub returns-in-Some-clause-printed : goal.returns-in-Some-clause-printed
 returns-in-Some-clause-printed g c =
     let l = c.lines in
     let s = g.P.Playing.settings c.args.world.now in
-    let new = c.read_next.new.reader in
-    let next = rw c.in-Line.is at c.in_ok-next.ensures.next in
+    let new = c.read_ahead.new.reader in
+    let next = rw c.in-Ok.is at c.in_ok-next.ensures.gives.read in
     let going = sym c.is_end.ensures ∙ c.if-is_end.false in
-    let given = given_of c.in-Line.next c.bytes.result.now in
+    let given = given_of c.in-Ok.next c.bytes.result.now in
     let es = events_of c.args.hosts given in
     let refused = rw c.in-Some.is at c.in_ok-refused.ensures.refused in
     λ w h. let d = l.invariant.due w h in
     fars_end (left_at s w 0 c.args.reader.now.place) _ _ _ _ _ (λ more. more ≡ []) _ (RefusedAt c.line-in-Some.result (ByWorld c.in-Some.fault)) false
     (renumbered (left_at s w 0 c.args.reader.now.place) _ _ _ _ _ (λ more. more ≡ []) c.line-in-Some.result new.place.number (ByWorld c.in-Some.fault) c.line-in-Some.ensures
     (line_refused (left_at s w 0 c.args.reader.now.place) _ _ _ _ _ _ _ s d.0 l.events new.place.number es new.place
-    (at_line (left_at s w 0 c.args.reader.now.place) _ _ _ _ _ _ _ _ s d.0 l.events l.reader.place new.place new.operand c.in_ok-next.ensures.taken d.2 c.in-Line.next given c.args.hosts going (ap (given_of c.in-Line.next) (sym c.bytes.ensures.bytes)) (sym c.requires.hosts) next)
+    (at_line (left_at s w 0 c.args.reader.now.place) _ _ _ _ _ _ _ _ s d.0 l.events l.reader.place new.place new.operand c.in_ok-next.ensures.taken d.2 c.in-Ok.next given c.args.hosts going (ap (given_of c.in-Ok.next) (sym c.bytes.ensures.bytes)) (sym c.requires.hosts) next)
     c.in-Some.fault (refused_at _ s d.0 _ _ _ l.invariant.settings es c.in-Some.fault (refused d.0 d.1))))
     refl c.in_ok-put_refused.ensures.ok refl
 
@@ -161,17 +161,17 @@ pub lines-preserved : goal.lines-preserved
 lines-preserved g c =
     let l = c.lines in
     let s = g.P.Playing.settings c.args.world.now in
-    let new = c.read_next.new.reader in
+    let new = c.read_ahead.new.reader in
     let e = c.in_ok-next.ensures in
     let r = c.in_ok-refused.ensures in
-    let next = rw c.in-Line.is at e.next in
-    let range = rw c.in-Line.is at e.range in
+    let next = rw c.in-Ok.is at e.gives.read in
+    let range = rw c.in-Ok.is at e.gives.range in
     let going = sym c.is_end.ensures ∙ c.if-is_end.false in
-    let given = given_of c.in-Line.next c.bytes.result.now in
+    let given = given_of c.in-Ok.next c.bytes.result.now in
     let es = events_of c.args.hosts given in
     let n = c.line_events-events.result in
-    let on = line_on l.reader.place new.place c.in-Line.next going (rw c.in-Line.is at e.on) in
-    let most : n ≤ 3300000 = omega (arith, c.line_events-events.ensures, few_events c.args.hosts c.in-Line.next c.requires.few range) in
+    let on = line_on l.reader.place new.place c.in-Ok.next going (rw c.in-Ok.is at e.gives.on) in
+    let most : n ≤ 3300000 = omega (arith, c.line_events-events.ensures, few_events c.args.hosts c.in-Ok.next c.requires.few range) in
     record {
       due = λ w h.
           let d = l.invariant.due w h in
@@ -179,14 +179,14 @@ lines-preserved g c =
             a.next,
             a.stood,
             line_done (left_at s w 0 c.args.reader.now.place) _ _ _ _ _ _ _ s d.0 l.events new.place.number es new.place
-                (at_line (left_at s w 0 c.args.reader.now.place) _ _ _ _ _ _ _ _ s d.0 l.events l.reader.place new.place new.operand e.taken d.2 c.in-Line.next given c.args.hosts going (ap (given_of c.in-Line.next) (sym c.bytes.ensures.bytes)) (sym c.requires.hosts) next)
-                _ _ n (length-events c.args.hosts c.in-Line.next c.bytes.result.now going ∙ sym c.line_events-events.ensures) a,
+                (at_line (left_at s w 0 c.args.reader.now.place) _ _ _ _ _ _ _ _ s d.0 l.events l.reader.place new.place new.operand e.taken d.2 c.in-Ok.next given c.args.hosts going (ap (given_of c.in-Ok.next) (sym c.bytes.ensures.bytes)) (sym c.requires.hosts) next)
+                _ _ n (length-events c.args.hosts c.in-Ok.next c.bytes.result.now going ∙ sym c.line_events-events.ensures) a,
           );
       took = lines_on _ _ _ _ _ _ l.invariant.took e.took;
       settings = r.settings ∙ l.invariant.settings;
       started = e.started;
-      not_ended = rw c.in-Line.is at e.ended ∙ line_ended c.in-Line.next going;
-      running = rw c.in-Line.is at e.stopped;
+      not_ended = rw c.in-Ok.is at e.gives.ended ∙ line_ended c.in-Ok.next going;
+      running = rw c.in-Ok.is at e.stopped;
       counted = on.0;
       limit = e.limit ∙ l.invariant.limit;
       few = omega (arith, most, on.1, l.invariant.few);
@@ -197,58 +197,58 @@ lines-preserved g c =
       same_sink = g.met.K.Sink.same_on _ _ _ l.invariant.same_sink (g.met.K.Sink.same_on _ _ _ e.same_sink r.same);
     }
 
-pub returns-in-Refused-clause-front : goal.returns-in-Refused-clause-front
-returns-in-Refused-clause-front g c =
+pub returns-in-Err-clause-front : goal.returns-in-Err-clause-front
+returns-in-Err-clause-front g c =
     let l = c.lines in
     let s = g.P.Playing.settings c.args.world.now in
-    let new = c.read_next.new.reader in
-    let next = rw c.in-Refused.is at c.in_ok-next.ensures.next in
+    let new = c.read_ahead.new.reader in
+    let next = rw c.in-Err.is at c.in_ok-next.ensures.gives.read in
     (λ w h. let d = l.invariant.due w h in
-    last_cut (left_at s w 0 c.args.reader.now.place) _ _ _ _ _ _ _ (RefusedAt c.line.result (ByScript c.in-Refused.fault))
-    (renumbered (left_at s w 0 c.args.reader.now.place) _ _ _ _ _ _ c.line.result new.place.number (ByScript c.in-Refused.fault) c.line.ensures
-    (at_refusal (left_at s w 0 c.args.reader.now.place) _ _ _ _ _ _ _ _ s d.0 l.events l.reader.place new.place new.operand c.in_ok-next.ensures.taken d.2 c.in-Refused.fault next))
-    (g.met.P.Playing.allows_none l.world) (front_whole _ _ _ c.in_ok-put_refused-in-Refused.ensures.ok))
+    last_cut (left_at s w 0 c.args.reader.now.place) _ _ _ _ _ _ _ (RefusedAt c.line.result (ByScript c.in-Err.fault))
+    (renumbered (left_at s w 0 c.args.reader.now.place) _ _ _ _ _ _ c.line.result new.place.number (ByScript c.in-Err.fault) c.line.ensures
+    (at_refusal (left_at s w 0 c.args.reader.now.place) _ _ _ _ _ _ _ _ s d.0 l.events l.reader.place new.place new.operand c.in_ok-next.ensures.taken d.2 c.in-Err.fault next))
+    (g.met.P.Playing.allows_none l.world) (front_whole _ _ _ c.in_ok-put_refused-in-Err.ensures.ok))
 
 pub returns-then-is_end-clause-front : goal.returns-then-is_end-clause-front
 returns-then-is_end-clause-front g c =
     let l = c.lines in
     let s = g.P.Playing.settings c.args.world.now in
-    let new = c.read_next.new.reader in
-    let next = rw c.in-Line.is at c.in_ok-next.ensures.next in
+    let new = c.read_ahead.new.reader in
+    let next = rw c.in-Ok.is at c.in_ok-next.ensures.gives.read in
     let ended = sym c.is_end.ensures ∙ c.if-is_end.true in
     (λ w h. let d = l.invariant.due w h in
     last_cut (left_at s w 0 c.args.reader.now.place) _ _ _ _ _ _ _ (Finished l.events)
-    (at_end (left_at s w 0 c.args.reader.now.place) _ _ _ _ _ _ _ _ s d.0 l.events l.reader.place new.place new.operand c.in_ok-next.ensures.taken d.2 c.in-Line.next ended next)
+    (at_end (left_at s w 0 c.args.reader.now.place) _ _ _ _ _ _ _ _ s d.0 l.events l.reader.place new.place new.operand c.in_ok-next.ensures.taken d.2 c.in-Ok.next ended next)
     (g.met.P.Playing.allows_none l.world) (front_whole _ _ _ c.in_ok-put_entry.ensures.ok))
 
 pub returns-in-Some-clause-front : goal.returns-in-Some-clause-front
 returns-in-Some-clause-front g c =
     let l = c.lines in
     let s = g.P.Playing.settings c.args.world.now in
-    let new = c.read_next.new.reader in
-    let next = rw c.in-Line.is at c.in_ok-next.ensures.next in
+    let new = c.read_ahead.new.reader in
+    let next = rw c.in-Ok.is at c.in_ok-next.ensures.gives.read in
     let going = sym c.is_end.ensures ∙ c.if-is_end.false in
-    let given = given_of c.in-Line.next c.bytes.result.now in
+    let given = given_of c.in-Ok.next c.bytes.result.now in
     let es = events_of c.args.hosts given in
     let refused = rw c.in-Some.is at c.in_ok-refused.ensures.refused in
     (λ w h. let d = l.invariant.due w h in
     last_cut (left_at s w 0 c.args.reader.now.place) _ _ _ _ _ _ (λ more. more ≡ []) (RefusedAt c.line-in-Some.result (ByWorld c.in-Some.fault))
     (renumbered (left_at s w 0 c.args.reader.now.place) _ _ _ _ _ (λ more. more ≡ []) c.line-in-Some.result new.place.number (ByWorld c.in-Some.fault) c.line-in-Some.ensures
     (line_refused (left_at s w 0 c.args.reader.now.place) _ _ _ _ _ _ _ s d.0 l.events new.place.number es new.place
-    (at_line (left_at s w 0 c.args.reader.now.place) _ _ _ _ _ _ _ _ s d.0 l.events l.reader.place new.place new.operand c.in_ok-next.ensures.taken d.2 c.in-Line.next given c.args.hosts going (ap (given_of c.in-Line.next) (sym c.bytes.ensures.bytes)) (sym c.requires.hosts) next)
+    (at_line (left_at s w 0 c.args.reader.now.place) _ _ _ _ _ _ _ _ s d.0 l.events l.reader.place new.place new.operand c.in_ok-next.ensures.taken d.2 c.in-Ok.next given c.args.hosts going (ap (given_of c.in-Ok.next) (sym c.bytes.ensures.bytes)) (sym c.requires.hosts) next)
     c.in-Some.fault (refused_at _ s d.0 _ _ _ l.invariant.settings es c.in-Some.fault (refused d.0 d.1))))
     refl (front_whole _ _ _ c.in_ok-put_refused.ensures.ok))
 
-pub returns-in-Refused-clause-behind : goal.returns-in-Refused-clause-behind
-returns-in-Refused-clause-behind g c =
+pub returns-in-Err-clause-behind : goal.returns-in-Err-clause-behind
+returns-in-Err-clause-behind g c =
     let l = c.lines in
     let s = g.P.Playing.settings c.args.world.now in
     let e = c.in_ok-next.ensures in
-    let text = line_text (PlainRefused c.line.result (ByScript c.in-Refused.fault)) in
+    let text = line_text (PlainRefused c.line.result (ByScript c.in-Err.fault)) in
     λ _ w h.
     let d = l.invariant.due w h in
-    refuses_far c.args.reader.now.place c.read_next.new.reader.place _ _ _ _ _ c.line.result (ByScript c.in-Refused.fault)
-    (c.in_ok-put_refused-in-Refused.ensures.ok ∙ ap (λ o. appended o text) e.taken) c.line.ensures
+    refuses_far c.args.reader.now.place c.read_ahead.new.reader.place _ _ _ _ _ c.line.result (ByScript c.in-Err.fault)
+    (c.in_ok-put_refused-in-Err.ensures.ok ∙ ap (λ o. appended o text) e.taken) c.line.ensures
     (lines_on _ _ _ _ _ _ l.invariant.took e.took) e.pending (left_at s w 0 c.args.reader.now.place)
     (left_at s d.0 l.events l.reader.place) _ _ _ d.2
 
@@ -256,11 +256,11 @@ pub returns-in-Some-clause-behind : goal.returns-in-Some-clause-behind
 returns-in-Some-clause-behind g c =
     let l = c.lines in
     let s = g.P.Playing.settings c.args.world.now in
-    let new = c.read_next.new.reader in
+    let new = c.read_ahead.new.reader in
     let e = c.in_ok-next.ensures in
-    let next = rw c.in-Line.is at e.next in
+    let next = rw c.in-Ok.is at e.gives.read in
     let going = sym c.is_end.ensures ∙ c.if-is_end.false in
-    let given = given_of c.in-Line.next c.bytes.result.now in
+    let given = given_of c.in-Ok.next c.bytes.result.now in
     let es = events_of c.args.hosts given in
     let refused = rw c.in-Some.is at c.in_ok-refused.ensures.refused in
     λ _ w h.
@@ -269,5 +269,5 @@ returns-in-Some-clause-behind g c =
     c.in_ok-put_refused.ensures.ok c.line-in-Some.ensures (lines_on _ _ _ _ _ _ l.invariant.took e.took) e.pending
     (left_at s w 0 c.args.reader.now.place) _ _ _ _
     (line_refused (left_at s w 0 c.args.reader.now.place) _ _ _ _ _ _ _ s d.0 l.events new.place.number es new.place
-    (at_line (left_at s w 0 c.args.reader.now.place) _ _ _ _ _ _ _ _ s d.0 l.events l.reader.place new.place new.operand e.taken d.2 c.in-Line.next given c.args.hosts going (ap (given_of c.in-Line.next) (sym c.bytes.ensures.bytes)) (sym c.requires.hosts) next)
+    (at_line (left_at s w 0 c.args.reader.now.place) _ _ _ _ _ _ _ _ s d.0 l.events l.reader.place new.place new.operand e.taken d.2 c.in-Ok.next given c.args.hosts going (ap (given_of c.in-Ok.next) (sym c.bytes.ensures.bytes)) (sym c.requires.hosts) next)
     c.in-Some.fault (refused_at _ s d.0 _ _ _ l.invariant.settings es c.in-Some.fault (refused d.0 d.1)))

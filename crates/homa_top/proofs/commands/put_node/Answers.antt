@@ -15,20 +15,5 @@ returns-clause-command g c = λ e. is_command c.print_node.result (sym c.status_
 pub returns-clause-usual : goal.returns-clause-usual
 returns-clause-usual g c = λ e. is_usual c.print_node.result (sym c.status_of_node.ensures ∙ e)
 
-pub returns-clause-read : goal.returns-clause-read
-returns-clause-read g c = λ e. (have_status _ _ c.print_node.result c.print_node.ensures.faults).read (sym c.status_of_node.ensures ∙ e)
-
-pub returns-clause-read_fault : goal.returns-clause-read_fault
-returns-clause-read_fault g c = λ ne. c.status_of_node.ensures ∙ (have_status _ _ c.print_node.result c.print_node.ensures.faults).read_fault ne
-
-pub returns-clause-write : goal.returns-clause-write
-returns-clause-write g c = λ e. (have_status _ _ c.print_node.result c.print_node.ensures.faults).write (sym c.status_of_node.ensures ∙ e)
-
-pub returns-clause-write_fault : goal.returns-clause-write_fault
-returns-clause-write_fault g c = λ ne. c.status_of_node.ensures ∙ (have_status _ _ c.print_node.result c.print_node.ensures.faults).write_fault ne
-
-pub returns-clause-net : goal.returns-clause-net
-returns-clause-net g c = λ e. (have_status _ _ c.print_node.result c.print_node.ensures.faults).net (sym c.status_of_node.ensures ∙ e)
-
-pub returns-clause-net_fault : goal.returns-clause-net_fault
-returns-clause-net_fault g c = λ ne. c.status_of_node.ensures ∙ (have_status _ _ c.print_node.result c.print_node.ensures.faults).net_fault ne
+pub returns-clause-faults : goal.returns-clause-faults
+returns-clause-faults g c = rw c.status_of_node.ensures (have_status _ _ c.print_node.result c.print_node.ensures.faults)

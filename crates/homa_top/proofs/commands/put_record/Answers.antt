@@ -12,20 +12,5 @@ returns-clause-recorded g c = λ bytes had. rw c.status_of_recorded.ensures (has
 pub returns-clause-command : goal.returns-clause-command
 returns-clause-command g c = λ e. is_command c.print_recording.result (sym c.status_of_recorded.ensures ∙ e)
 
-pub returns-clause-read : goal.returns-clause-read
-returns-clause-read g c = λ e. (have_status _ _ c.print_recording.result c.print_recording.ensures.faults).read (sym c.status_of_recorded.ensures ∙ e)
-
-pub returns-clause-read_fault : goal.returns-clause-read_fault
-returns-clause-read_fault g c = λ ne. c.status_of_recorded.ensures ∙ (have_status _ _ c.print_recording.result c.print_recording.ensures.faults).read_fault ne
-
-pub returns-clause-write : goal.returns-clause-write
-returns-clause-write g c = λ e. (have_status _ _ c.print_recording.result c.print_recording.ensures.faults).write (sym c.status_of_recorded.ensures ∙ e)
-
-pub returns-clause-write_fault : goal.returns-clause-write_fault
-returns-clause-write_fault g c = λ ne. c.status_of_recorded.ensures ∙ (have_status _ _ c.print_recording.result c.print_recording.ensures.faults).write_fault ne
-
-pub returns-clause-net : goal.returns-clause-net
-returns-clause-net g c = λ e. (have_status _ _ c.print_recording.result c.print_recording.ensures.faults).net (sym c.status_of_recorded.ensures ∙ e)
-
-pub returns-clause-net_fault : goal.returns-clause-net_fault
-returns-clause-net_fault g c = λ ne. c.status_of_recorded.ensures ∙ (have_status _ _ c.print_recording.result c.print_recording.ensures.faults).net_fault ne
+pub returns-clause-faults : goal.returns-clause-faults
+returns-clause-faults g c = rw c.status_of_recorded.ensures (have_status _ _ c.print_recording.result c.print_recording.ensures.faults)

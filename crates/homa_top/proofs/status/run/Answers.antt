@@ -49,7 +49,7 @@ returns-in-Err-clause-front g c =
 pub returns-in-Some-Node-clause-complete_node : goal.returns-in-Some-Node-clause-complete_node
 returns-in-Some-Node-clause-complete_node g c = λ is bytes had never no_read no_write no_net.
     completed _ bytes _ _ _ _ (c.put_node.ensures.run bytes had) never c.put_node.ensures.command
-    (λ e. no_read (c.put_node.ensures.read e)) (λ e. no_write (c.put_node.ensures.write e)) (λ e. no_net (c.put_node.ensures.net e)) c.put_node.ensures.usual
+    (λ e. no_read (c.put_node.ensures.faults.read e)) (λ e. no_write (c.put_node.ensures.faults.write e)) (λ e. no_net (c.put_node.ensures.faults.net e)) c.put_node.ensures.usual
 
 pub returns-in-Some-Node-clause-node_laws : goal.returns-in-Some-Node-clause-node_laws
 returns-in-Some-Node-clause-node_laws g c = λ is bytes had opens.
@@ -58,4 +58,4 @@ returns-in-Some-Node-clause-node_laws g c = λ is bytes had opens.
 pub returns-in-Some-Record-clause-complete_record : goal.returns-in-Some-Record-clause-complete_record
 returns-in-Some-Record-clause-complete_record g c = λ is bytes had never no_read no_write no_net.
     recordings.completed _ bytes _ _ _ _ (c.put_record.ensures.recorded bytes had) never c.put_record.ensures.command
-    (λ e. no_read (c.put_record.ensures.read e)) (λ e. no_write (c.put_record.ensures.write e)) (λ e. no_net (c.put_record.ensures.net e))
+    (λ e. no_read (c.put_record.ensures.faults.read e)) (λ e. no_write (c.put_record.ensures.faults.write e)) (λ e. no_net (c.put_record.ensures.faults.net e))
