@@ -97,12 +97,6 @@ behind [] b i j e = ap (slice_get b) (omega (arith, e))
 behind (x ∷ a) b i zero e = absurd (omega (arith, e))
 behind (x ∷ a) b i (suc j) e = behind a b i j (omega (arith, e))
 
--- what stands at the front
-pub in_front : {A : Type 0} (a b : List A) (i : ℕ) → i < length a → length a ≤ 1 → slice_get (a ++ b) i ≡ slice_get a 0
-in_front [] b i inside few = absurd (omega (arith, inside))
-in_front (x ∷ a) b zero inside few = refl
-in_front (x ∷ a) b (suc i) inside few = absurd (omega (arith, inside, few))
-
 -- the kind of the entry of a mark, behind other entries
 pub mark_kind : (h : Seen) (frames : List SentFrame) (whole : List ℕ) (base : ℕ) (before : List PlainEntry) (i j : ℕ) (m : Mark) (k : Option Kind) → j ≡ length before + i
     → slice_get h.marks i ≡ Some m → k ≡ kind_of (shown h frames whole m) → option_map kind_of (slice_get (before ++ map (numbered base) (shown_entries h frames whole)) j) ≡ Some k

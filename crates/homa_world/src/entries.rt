@@ -111,7 +111,7 @@ impl<S: Service> WorldParts<S> {
     }
 }
 
-// Of an entry of a step, a packet's number becomes that in the world.
+// Gives a packet of a step the number that it has in the world.
 fn number_on(base: u64, entry: &mut Entry<'_>)
     requires few { IsFew (plain entry.old) }
     requires base { base + 64 < 2 ^ 64 }

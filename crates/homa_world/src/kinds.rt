@@ -58,7 +58,7 @@ impl Kind {
         Kind::numbered(*bytes.get(KIND_AT)?)
     }
 
-    /// The kind of the line of the entry that a host's mark shows, if it is counted. A packet stands in the outbox.
+    // The kind of the line of the entry that a host's mark shows, if it is counted. A packet stands in the outbox.
     pub(crate) fn of_mark(mark: &Mark, out: &Outbox) -> Option<Kind>
         requires { (h : Seen) × IsHeld h out.now mark.now }
         ensures { (h : Seen) (whole : List ℕ) → IsHeld h out.now mark.now → result ≡ kind_of (shown h out.now whole mark.now) }
