@@ -1,5 +1,6 @@
 -- As what the entries of a step are counted, by their marks and by their datagrams.
-use Rattle.std.proofs.Common.{◌≡◌, ◌<◌, ◌≤◌, ℕ, zero, suc, ◌+◌, ◌-◌, Option, Some, None, List, [], ◌∷◌, ◌++◌, length, map, slice_get, IfSome, IsSome, Contains, option_map, option_and_then, refl, sym, ap, subst, ◌∙◌, arith, true≢false}
+use Rattle.std.proofs.Common.{◌≡◌, ◌<◌, ℕ, zero, suc, ◌+◌, Option, Some, None, List, [], ◌∷◌, ◌++◌, length, map, slice_get, IfSome, IsSome, Contains}
+use Rattle.std.proofs.Common.{option_map, option_and_then, refl, sym, ap, subst, ◌∙◌, arith, true≢false}
 use Rattle.std.proofs.lemmas.List.Elements.{Contains-get_or}
 use Rattle.std.proofs.lemmas.Option.{slice_get-map, slice_get_within, get_or_from_slice_get}
 use Rattle.homa_plain.specs.declared.packet.Packet.{Packet}
@@ -38,20 +39,22 @@ named body.NeedAck = refl
 named (body.Ack more) = refl
 
 -- the second byte of a packet's datagram is its kind's number
-second_byte : (wire : ℕ) (bytes : List ℕ) (p : Packet) (payload : List ℕ) → IsBytes bytes → packet_in wire bytes ≡ Some (p, payload) → slice_get bytes 1 ≡ Some (kind p.body)
+second_byte : (wire : ℕ) (bytes : List ℕ) (p : Packet) (payload : List ℕ) → IsBytes bytes → packet_in wire bytes ≡ Some (p, payload)
+    → slice_get bytes 1 ≡ Some (kind p.body)
 second_byte wire bytes p payload fits read = ap (λ (b : List ℕ). slice_get b 1) (read_is_spelled wire bytes p payload fits read).1
 
 some_is : {A : Type 0} (x y : A) → Some x ≡ Some y → x ≡ y
 some_is x y e = cc
 
 -- so the second byte names the packet's kind
-pub kind_at : (wire : ℕ) (bytes : List ℕ) (p : Packet) (payload : List ℕ) (n : ℕ) (k : Option Kind) → IsBytes bytes → packet_in wire bytes ≡ Some (p, payload) → slice_get bytes 1 ≡ Some n
-    → k ≡ kind_numbered n → k ≡ Some (packet_kind p.body)
+pub kind_at : (wire : ℕ) (bytes : List ℕ) (p : Packet) (payload : List ℕ) (n : ℕ) (k : Option Kind) → IsBytes bytes
+    → packet_in wire bytes ≡ Some (p, payload) → slice_get bytes 1 ≡ Some n → k ≡ kind_numbered n → k ≡ Some (packet_kind p.body)
 kind_at wire bytes p payload n k fits read at is =
     is ∙ ap kind_numbered (some_is n (kind p.body) (sym at ∙ second_byte wire bytes p payload fits read)) ∙ named p.body
 
 -- a packet's datagram has a second byte
-pub no_second : (wire : ℕ) (bytes : List ℕ) (p : Packet) (payload : List ℕ) → IsBytes bytes → packet_in wire bytes ≡ Some (p, payload) → slice_get bytes 1 ≡ None → ⊥
+pub no_second : (wire : ℕ) (bytes : List ℕ) (p : Packet) (payload : List ℕ) → IsBytes bytes → packet_in wire bytes ≡ Some (p, payload)
+    → slice_get bytes 1 ≡ None → ⊥
 no_second wire bytes p payload fits read at = no (sym at ∙ second_byte wire bytes p payload fits read) where
   no : {n : ℕ} → None ≡ Some n → ⊥
   no e = cc
@@ -98,12 +101,16 @@ behind (x ∷ a) b i zero e = absurd (omega (arith, e))
 behind (x ∷ a) b i (suc j) e = behind a b i j (omega (arith, e))
 
 -- the kind of the entry of a mark, behind other entries
-pub mark_kind : (h : Seen) (frames : List SentFrame) (whole : List ℕ) (base : ℕ) (before : List PlainEntry) (i j : ℕ) (m : Mark) (k : Option Kind) → j ≡ length before + i
-    → slice_get h.marks i ≡ Some m → k ≡ kind_of (shown h frames whole m) → option_map kind_of (slice_get (before ++ map (numbered base) (shown_entries h frames whole)) j) ≡ Some k
+pub mark_kind : (h : Seen) (frames : List SentFrame) (whole : List ℕ) (base : ℕ) (before : List PlainEntry) (i j : ℕ) (m : Mark) (k : Option Kind)
+    → j ≡ length before + i → slice_get h.marks i ≡ Some m → k ≡ kind_of (shown h frames whole m)
+    → option_map kind_of (slice_get (before ++ map (numbered base) (shown_entries h frames whole)) j) ≡ Some k
 mark_kind h frames whole base before i j m k place at is =
+    let entry = shown h frames whole in
     let es = shown_entries h frames whole in
-    ap (option_map kind_of) (behind before (map (numbered base) es) i j place ∙ slice_get-map (numbered base) es i ∙ ap (option_map (numbered base)) (slice_get-map (shown h frames whole) h.marks i ∙ ap (option_map (shown h frames whole)) at))
-    ∙ ap Some (kind-numbered base (shown h frames whole m) ∙ sym is)
+    let there : slice_get es i ≡ Some (entry m) = slice_get-map entry h.marks i ∙ ap (option_map entry) at in
+    let numbers = numbered base in
+    let at_place : slice_get (map numbers es) i ≡ Some (numbers (entry m)) = slice_get-map numbers es i ∙ ap (option_map numbers) there in
+    ap (option_map kind_of) (behind before (map numbers es) i j place ∙ at_place) ∙ ap Some (kind-numbered base (entry m) ∙ sym is)
 
 -- a mark that is read is one of the step's
 pub marked : (h : Seen) (i : ℕ) (m : Mark) → slice_get h.marks i ≡ Some m → Contains h.marks m
@@ -114,13 +121,15 @@ marked h i m at =
 
 module _ {S : Type 0} (st : Stage S) where
   -- a mark that a host's last step left is held
-  pub left_held : (o : Option Seen) (i : ℕ) (m : Mark) → HasLeft st o → IfSome o (λ h. slice_get h.marks i ≡ Some m) → (h : Seen) × IsHeld h (frames_of st) m
+  pub left_held : (o : Option Seen) (i : ℕ) (m : Mark) → HasLeft st o → IfSome o (λ h. slice_get h.marks i ≡ Some m)
+      → (h : Seen) × IsHeld h (frames_of st) m
   left_held None i m left at = absurd left
   left_held (Some h) i m left at = (h, held h (frames_of st) m left.0 (marked h i m at))
 
   -- the kind of an entry that a host's last step left, behind other entries
-  pub left_kind : (o : Option Seen) (base : ℕ) (before : List PlainEntry) (i j : ℕ) (m : Mark) (k : Option Kind) → HasLeft st o → IfSome o (λ h. slice_get h.marks i ≡ Some m)
-      → j ≡ length before + i → ((h : Seen) (whole : List ℕ) → IsHeld h (frames_of st) m → k ≡ kind_of (shown h (frames_of st) whole m))
+  pub left_kind : (o : Option Seen) (base : ℕ) (before : List PlainEntry) (i j : ℕ) (m : Mark) (k : Option Kind) → HasLeft st o
+      → IfSome o (λ h. slice_get h.marks i ≡ Some m) → j ≡ length before + i
+      → ((h : Seen) (whole : List ℕ) → IsHeld h (frames_of st) m → k ≡ kind_of (shown h (frames_of st) whole m))
       → option_map kind_of (slice_get (before ++ map (numbered base) (entries_of st o)) j) ≡ Some k
   left_kind None base before i j m k left at place is = absurd left
   left_kind (Some h) base before i j m k left at place is =

@@ -1,5 +1,5 @@
 -- The second byte names the kind.
-use Rattle.std.proofs.Common.{refl, arith}
+use Rattle.std.proofs.Common.{length, refl, arith}
 use Rattle.std.proofs.lemmas.Option.{slice_get_past, slice_get_read}
 use Rattle.homa_world.proofs.KindLaws.{kind_at, no_second}
 use Rattle.homa_world.proofs.kinds.Kind.of_datagram.Goals as goal
@@ -14,4 +14,5 @@ returns c = λ wire p payload read.
     let bytes = c.args.bytes.now in
     let n = c.in_ok-get.field-0.now in
     let found = c.in_ok-get.ensures.lookup in
-    kind_at wire bytes p payload n c.numbered.result (λ k. omega (arith, c.type_inv.bytes k)) read (slice_get_read _ _ 1 n refl found.3.0 found.1) c.numbered.ensures
+    let at = slice_get_read bytes (length bytes) 1 n refl found.3.0 found.1 in
+    kind_at wire bytes p payload n c.numbered.result (λ k. omega (arith, c.type_inv.bytes k)) read at c.numbered.ensures

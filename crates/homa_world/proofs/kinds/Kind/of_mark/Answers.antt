@@ -12,4 +12,5 @@ returns-in-Sent c = λ h whole is.
     let out = c.args.out.now in
     let kind = c.of_datagram.result in
     let held = subst (λ (m : Mark). IsHeld h out m) c.in-Sent.is is in
-    subst (λ (m : Mark). kind ≡ kind_of (shown h out whole m)) (sym c.in-Sent.is) (frame_kind h out c.in-Sent.number c.bytes.result.now whole kind c.bytes.ensures c.of_datagram.ensures held)
+    subst (λ (m : Mark). kind ≡ kind_of (shown h out whole m)) (sym c.in-Sent.is)
+    (frame_kind h out c.in-Sent.number c.bytes.result.now whole kind c.bytes.ensures c.of_datagram.ensures held)

@@ -26,7 +26,9 @@ returns-else-i-before g c =
     let kind = c.of_mark.result in
     let told = first_told c.in-Stepped.host c.in-Stepped.first w.injected.items in
     let left = (subst (λ (l : Last). IsLast w l) c.in-Stepped.is c.requires.kept.last).1 in
-    let is = subst (λ (frames : List SentFrame). (h : Seen) (whole : List ℕ) → IsHeld h frames m → kind ≡ kind_of (shown h frames whole m)) c.outbox.ensures c.of_mark.ensures in
+    let is = subst (λ (frames : List SentFrame). (h : Seen) (whole : List ℕ) → IsHeld h frames m → kind ≡ kind_of (shown h frames whole m))
+    c.outbox.ensures c.of_mark.ensures in
+    let i = c.args.i - c.entries-before.result in
     subst (λ (l : Last). option_map kind_of (slice_get (told_by w l) c.args.i) ≡ Some kind) (sym c.in-Stepped.is)
-    (left_kind w.stage (slice_get (hosts_of w.stage) c.in-Stepped.host.0) c.in-Stepped.base told (c.args.i - c.entries-before.result) c.args.i m kind left c.mark.ensures
+    (left_kind w.stage (slice_get (hosts_of w.stage) c.in-Stepped.host.0) c.in-Stepped.base told i c.args.i m kind left c.mark.ensures
     (omega (arith, c.entries-before.ensures.told c.in-Stepped.host w.injected.items, c.if-i-before.false)) is)
