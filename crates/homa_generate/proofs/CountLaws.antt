@@ -8,8 +8,9 @@ use Rattle.std.proofs.lemmas.Option.{slice_get-get_or}
 use Rattle.std.specs.Fmt.{decimal}
 use Rattle.homa_plain.specs.Entries.{PlainEntry, PlainClock}
 use Rattle.homa_plain.specs.Text.{line_of_words}
-use Rattle.homa_generate.specs.declared.tally.Kind.{Kind}
-use Rattle.homa_generate.specs.Counts.{kind_of, place, name, one_more, counted, count_line}
+use Rattle.homa_world.specs.declared.kinds.Kind.{Kind}
+use Rattle.homa_world.specs.Kinds.{kind_of}
+use Rattle.homa_generate.specs.Counts.{place, name, one_more, counted, count_line}
 
 pub counted-append : (counts : List ℕ) (a b : List PlainEntry) → counted counts (a ++ b) ≡ counted (counted counts a) b
 counted-append counts [] b = refl

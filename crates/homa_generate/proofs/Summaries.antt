@@ -7,7 +7,8 @@ use Rattle.homa_plain.specs.declared.packet.Body.TheVariants as body
 use Rattle.homa_plain.specs.declared.entry.Why.TheVariants.{Timeout, Forgotten}
 use Rattle.homa_plain.specs.Entries.{PlainEntry, PlainSettings, PlainCall, PlainDeliver, PlainClock, PlainRestart, PlainInject, PlainShift, PlainJunk, PlainStale, PlainSend, PlainRun, PlainDone, PlainFail, PlainDrop, PlainGaps, PlainBury, PlainFree, PlainFullRows, PlainFullPages, PlainBalance, PlainRecv, PlainFinished, PlainRefused, PlainStalled}
 use Rattle.generated_runs.specs.Generated.{count_of, is_run, is_done, is_timeout, is_forgotten, is_deliver, is_clock, is_call, is_kind, summary_line, summary_text}
-use Rattle.homa_generate.specs.Counts.{kind_of, one_more, counted, no_counts, counts_text}
+use Rattle.homa_world.specs.Kinds.{kind_of}
+use Rattle.homa_generate.specs.Counts.{one_more, counted, no_counts, counts_text}
 
 -- one more where a test holds
 abbrev more_if : Bool → ℕ → ℕ

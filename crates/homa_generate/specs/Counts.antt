@@ -1,36 +1,11 @@
 -- How many lines of each kind a trace has, in the order of the summary.
 use Rattle.std.specs.Prelude.{◌≡◌, ℕ, ◌+◌, ◌-◌, ◌^◌, Option, None, Some, List, [], ◌∷◌, replicate, slice_set, slice_index_or, codes}
 use Rattle.std.specs.List.{flat_map}
-use Rattle.homa_plain.specs.declared.packet.Body.{Body}
-use Rattle.homa_plain.specs.declared.packet.Body.TheVariants as body
-use Rattle.homa_plain.specs.declared.entry.Why.TheVariants.{Timeout, Forgotten}
-use Rattle.homa_plain.specs.Entries.{PlainEntry, PlainCall, PlainDeliver, PlainClock, PlainSend, PlainRun, PlainDone, PlainFail}
+use Rattle.homa_plain.specs.Entries.{PlainEntry}
 use Rattle.generated_runs.specs.Generated.{summary_line}
-use Rattle.homa_generate.specs.declared.tally.Kind.{Kind}
-use Rattle.homa_generate.specs.declared.tally.Kind.TheVariants as kind
-
--- the kind of a packet's line
-abbrev pub packet_kind : Body → Kind
-packet_kind (body.Data size offset version service ack) = kind.Data
-packet_kind (body.Grant offset prio) = kind.Grant
-packet_kind (body.Resend from to prio) = kind.Resend
-packet_kind body.Busy = kind.Busy
-packet_kind (body.Cutoffs cutoffs) = kind.Cutoffs
-packet_kind (body.Unknown reason) = kind.Unknown
-packet_kind body.NeedAck = kind.NeedAck
-packet_kind (body.Ack more) = kind.Ack
-
--- the kind of an entry's line, if it is counted
-abbrev pub kind_of : PlainEntry → Option Kind
-kind_of (PlainCall id server service bytes) = Some kind.Call
-kind_of (PlainRun host id service request response hold) = Some kind.Run
-kind_of (PlainDone id bytes) = Some kind.Done
-kind_of (PlainFail id Timeout) = Some kind.Timeout
-kind_of (PlainFail id Forgotten) = Some kind.Forgotten
-kind_of (PlainDeliver packet) = Some kind.Deliver
-kind_of (PlainClock tick) = Some kind.Clock
-kind_of (PlainSend number from to inc role id level what payload) = Some (packet_kind what)
-kind_of e = None
+use Rattle.homa_world.specs.declared.kinds.Kind.{Kind}
+use Rattle.homa_world.specs.declared.kinds.Kind.TheVariants as kind
+use Rattle.homa_world.specs.Kinds.{kind_of}
 
 -- all kinds, in the order of the summary
 abbrev pub kinds : List Kind
@@ -91,10 +66,6 @@ counted counts (e ∷ es) = counted (one_more counts (kind_of e)) es
 -- it is a kind whose number has no room left
 abbrev pub IsFullOf : List ℕ → Option Kind → Type 0
 IsFullOf counts kind = (k : Kind) × (kind ≡ Some k) × (number_of counts k ≡ 2 ^ 64 - 1)
-
--- an entry is of a kind whose number has no room left
-abbrev pub IsFull : List ℕ → PlainEntry → Type 0
-IsFull counts e = IsFullOf counts (kind_of e)
 
 -- no line was counted
 abbrev pub no_counts : List ℕ

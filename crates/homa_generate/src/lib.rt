@@ -17,5 +17,5 @@ mod tests;
 mod worlds;
 
 pub use printing::{count, make};
-pub use tally::{Counts, Kind};
+pub use tally::Counts;
 pub use worlds::Generating;

@@ -1,37 +1,15 @@
 //! How many lines of each kind a trace has.
-ghost use Rattle.std.specs.Prelude.{◌≡◌, ◌<◌, [], ◌∷◌, OnOk, OnErr};
-ghost use Rattle.std.specs.Option.{option_map};
+ghost use Rattle.std.specs.Prelude.{◌≡◌, ◌<◌, OnOk, OnErr};
 ghost use Rattle.std.specs.List.{flat_map};
 ghost use Rattle.homa_io.specs.Outside.{HasRisen, appended, TookFront};
-ghost use Rattle.homa_plain.specs.Entries.{plain};
-ghost use Rattle.homa_generate.specs.Counts.{IsFull, IsFullOf, kind_of, packet_kind, name, place, number_of, one_more, counted, no_counts, counts_text};
+ghost use Rattle.homa_generate.specs.Counts.{IsFullOf, name, place, one_more, no_counts, counts_text};
 
 use homa_io::{Sink, WriteFailed};
-use homa_plain::{Body, Entry, Why};
 use homa_text::Word::{Number, Text};
 use homa_text::put_line;
+use homa_world::Kind;
 use std::alloc::AllocError;
 use std::marker::Model;
-
-/// The kinds of lines that are counted, in the order of the summary: those of a run's steps, and packets by their kind.
-#[derive(Clone, Copy)]
-pub enum Kind {
-    Call,
-    Run,
-    Done,
-    Timeout,
-    Forgotten,
-    Deliver,
-    Clock,
-    Data,
-    Grant,
-    Resend,
-    Busy,
-    Cutoffs,
-    Unknown,
-    NeedAck,
-    Ack,
-}
 
 // How many kinds there are.
 const COUNT: usize = 15;
@@ -55,71 +33,34 @@ const KINDS: [Kind; COUNT] = [
     Kind::Ack,
 ];
 
-impl Kind {
-    // The kind of a packet's line.
-    fn of_packet(body: &Body) -> Kind
-        ensures { result ≡ packet_kind body.now }
-    {
-        match body {
-            Body::Data { .. } => Kind::Data,
-            Body::Grant { .. } => Kind::Grant,
-            Body::Resend { .. } => Kind::Resend,
-            Body::Busy => Kind::Busy,
-            Body::Cutoffs(_) => Kind::Cutoffs,
-            Body::Unknown { .. } => Kind::Unknown,
-            Body::NeedAck => Kind::NeedAck,
-            Body::Ack { .. } => Kind::Ack,
-        }
-    }
+// The place of a kind's number.
+fn place_of(kind: Kind) -> usize
+    ensures place { result ≡ place kind }
+    ensures inside { result < 15 }
+{
+    kind as usize
+}
 
-    // The kind of an entry's line, if it is counted.
-    pub(crate) fn of(entry: &Entry<'_>) -> Option<Kind>
-        ensures { result ≡ kind_of (plain entry.now) }
-    {
-        match entry {
-            Entry::Call { .. } => Some(Kind::Call),
-            Entry::Run { .. } => Some(Kind::Run),
-            Entry::Done { .. } => Some(Kind::Done),
-            Entry::Fail { why, .. } => match why {
-                Why::Timeout => Some(Kind::Timeout),
-                Why::Forgotten => Some(Kind::Forgotten),
-            },
-            Entry::Deliver { .. } => Some(Kind::Deliver),
-            Entry::Clock { .. } => Some(Kind::Clock),
-            Entry::Send { body, .. } => Some(Kind::of_packet(body)),
-            _ => None,
-        }
-    }
-
-    // The place of its number.
-    fn place(self) -> usize
-        ensures place { result ≡ place self }
-        ensures inside { result < 15 }
-    {
-        self as usize
-    }
-
-    // Its name in the summary.
-    fn name(self) -> &'static [u8]
-        ensures { result.now ≡ name self }
-    {
-        match self {
-            Kind::Call => b"calls",
-            Kind::Run => b"runs",
-            Kind::Done => b"done",
-            Kind::Timeout => b"timeout",
-            Kind::Forgotten => b"forgotten",
-            Kind::Deliver => b"deliver",
-            Kind::Clock => b"clock",
-            Kind::Data => b"DATA",
-            Kind::Grant => b"GRANT",
-            Kind::Resend => b"RESEND",
-            Kind::Busy => b"BUSY",
-            Kind::Cutoffs => b"CUTOFFS",
-            Kind::Unknown => b"UNKNOWN",
-            Kind::NeedAck => b"NEED_ACK",
-            Kind::Ack => b"ACK",
-        }
+// A kind's name in the summary.
+fn name_of(kind: Kind) -> &'static [u8]
+    ensures { result.now ≡ name kind }
+{
+    match kind {
+        Kind::Call => b"calls",
+        Kind::Run => b"runs",
+        Kind::Done => b"done",
+        Kind::Timeout => b"timeout",
+        Kind::Forgotten => b"forgotten",
+        Kind::Deliver => b"deliver",
+        Kind::Clock => b"clock",
+        Kind::Data => b"DATA",
+        Kind::Grant => b"GRANT",
+        Kind::Resend => b"RESEND",
+        Kind::Busy => b"BUSY",
+        Kind::Cutoffs => b"CUTOFFS",
+        Kind::Unknown => b"UNKNOWN",
+        Kind::NeedAck => b"NEED_ACK",
+        Kind::Ack => b"ACK",
     }
 }
 
@@ -147,15 +88,6 @@ impl Counts {
         }
     }
 
-    /// Counts an entry. Fails where the number of its kind has no room left, and then counts nothing.
-    pub fn note(&mut self, entry: &Entry<'_>) -> Result<(), AllocError>
-        ensures ok { OnOk result (self.new ≡ counted self.old (plain entry.now ∷ [])) }
-        ensures full { OnErr result (IsFull self.old (plain entry.now)) }
-        ensures same { OnErr result (self.new ≡ self.old) }
-    {
-        self.note_kind(Kind::of(entry))
-    }
-
     /// Counts a line of this kind, if it is one. Fails where its number has no room left, and then counts nothing.
     pub fn note_kind(&mut self, kind: Option<Kind>) -> Result<(), AllocError>
         ensures ok { OnOk result (self.new ≡ one_more self.old kind) }
@@ -163,7 +95,7 @@ impl Counts {
         ensures same { OnErr result (self.new ≡ self.old) }
     {
         if let Some(kind) = kind {
-            let number = &mut self.numbers[kind.place()];
+            let number = &mut self.numbers[place_of(kind)];
             *number = number.checked_add(1).ok_or(AllocError)?;
         }
         Ok(())
@@ -181,7 +113,7 @@ impl Counts {
         for kind in KINDS {
             put_line(
                 sink,
-                &[Text(kind.name()), Number(self.numbers[kind.place()])],
+                &[Text(name_of(kind)), Number(self.numbers[place_of(kind)])],
             )?;
         }
         Ok(())

@@ -4,12 +4,11 @@ use super::*;
 use crate::lines::Progress;
 use crate::rounds::play_rounds;
 use crate::setup::Setup;
-use crate::tally::Kind;
 use homa_fabric::Fabric;
 use homa_io::MemSink;
-use homa_plain::{Body, CallId, Entry, Event, HostId, Role, Settings, Why, WorldFault};
+use homa_plain::{Entry, Event, HostId, Settings, WorldFault};
 use homa_replay::Playing;
-use homa_world::Passing;
+use homa_world::{Kind, Passing};
 use std::alloc::Global;
 use std::test::Fail;
 
@@ -143,27 +142,10 @@ fn a_repeated_packet(rt: HostRuntime) -> Result<(), Fail> {
 #[test]
 fn the_summary_of_three_lines(rt: HostRuntime) -> Result<(), Fail> {
     let mut counts = Counts::new();
-    let id = CallId {
-        client: HostId(0),
-        inc: 1,
-        seq: 0,
-    };
-    counts.note(&Entry::Clock { tick: 1 })?;
-    counts.note(&Entry::Fail {
-        id,
-        why: Why::Forgotten,
-    })?;
-    counts.note(&Entry::Send {
-        number: 0,
-        from: HostId(0),
-        to: HostId(1),
-        inc: 1,
-        role: Role::Client,
-        id,
-        level: 7,
-        body: Body::Busy,
-        payload: b"",
-    })?;
+    counts.note_kind(Some(Kind::Clock))?;
+    counts.note_kind(None)?;
+    counts.note_kind(Some(Kind::Forgotten))?;
+    counts.note_kind(Some(Kind::Busy))?;
     let mut sink = MemSink::new(rt.alloc(), 1000, Vec::new(rt.alloc()))?;
     counts.put(&mut sink)?;
     let front = b"calls 0\nruns 0\ndone 0\ntimeout 0\nforgotten 1\ndeliver 0\nclock 1\n";

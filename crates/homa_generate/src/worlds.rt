@@ -6,14 +6,13 @@ ghost use Rattle.plain_sets.specs.Maps.{len};
 ghost use Rattle.homa_plain.specs.Host.{Host};
 ghost use Rattle.homa_plain.specs.World.{World as PlainWorld, host_at};
 ghost use Rattle.generated_runs.specs.Rounds.{live_at};
+ghost use Rattle.homa_world.specs.Kinds.{kind_of};
 ghost use Rattle.homa_world.specs.Passing.{IsOf};
-ghost use Rattle.homa_generate.specs.Counts.{kind_of};
 
-use crate::tally::Kind;
 use homa_plain::HostId;
 use homa_replay::Playing;
 use homa_service::Service;
-use homa_world::{Passing, World};
+use homa_world::{Kind, Passing, World};
 
 /// A world in which traffic is generated: it also shows its clock, the packets that were sent, and which hosts have
 /// live calls.
@@ -59,7 +58,7 @@ impl<S: Service> Generating for World<S> {
     }
 
     fn kind(&self, i: usize) -> Option<Kind> {
-        Kind::of(&self.entry(i))
+        World::kind(self, i)
     }
 
     fn live(&self, host: HostId) -> u32 {

@@ -214,6 +214,14 @@ impl Host {
         self.parts.control.marks().len()
     }
 
+    /// The mark of the last step's entry with this number, counted from 0: what is known of it without its bytes.
+    pub fn mark(&self, i: usize) -> &Mark
+        requires { i < length self.now.marks }
+        ensures { slice_get self.now.marks i ≡ Some result.now }
+    {
+        &self.parts.control.marks()[i]
+    }
+
     /// The entry of the last step with this number, counted from 0. A packet has its number within the step.
     pub fn entry<'a>(&'a self, i: usize, out: &'a Outbox, scratch: &'a Scratch) -> Entry<'a>
         requires i { i < length self.now.marks }

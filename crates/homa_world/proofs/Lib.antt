@@ -11,3 +11,4 @@ pub mod FirstLaws
 pub mod BytesLaws
 pub mod AllowLaws
 pub mod LookLaws
+pub mod KindLaws

@@ -3,3 +3,4 @@ pub mod Standing
 pub mod Arrived
 pub mod First
 pub mod Passing
+pub mod Kinds

@@ -1,11 +1,14 @@
 // What the last event of a world told.
 ghost use Rattle.std.specs.Prelude.{◌≡◌, ◌≤◌, ◌<◌, ◌+◌, ◌^◌, ℕ, Some, List, length, slice_get};
+ghost use Rattle.std.specs.Option.{option_map};
 ghost use Rattle.homa_plain.specs.Entries.{plain};
 ghost use Rattle.homa_text.specs.Told.{HasLine};
 ghost use Rattle.event_laws.specs.Named.{numbered as plain_numbered};
 ghost use Rattle.host_table.specs.Left.{IsFew};
+ghost use Rattle.homa_world.specs.Kinds.{kind_of};
 ghost use Rattle.homa_world.specs.Standing.{first_told, told_of, IsKept};
 
+use crate::kinds::Kind;
 use crate::parts::{First, Last, WorldParts};
 use homa_plain::{Entry, HostId};
 use homa_service::Service;
@@ -19,6 +22,17 @@ impl First {
         match self {
             First::Nothing => 0,
             First::Delivered(_) | First::Injected => 1,
+        }
+    }
+
+    // The kind of its line, if it is counted.
+    fn kind(self) -> Option<Kind>
+        ensures { (host : HostId) (bytes : List ℕ) → 0 < length (first_told host self bytes)
+            → option_map kind_of (slice_get (first_told host self bytes) 0) ≡ Some result }
+    {
+        match self {
+            First::Delivered(_) => Some(Kind::Deliver),
+            First::Nothing | First::Injected => None,
         }
     }
 }
@@ -53,7 +67,29 @@ impl<S: Service> WorldParts<S> {
                 if i < before {
                     return self.first_entry(host, first);
                 }
-                numbered(base, self.stage.entry(host, i - before))
+                let mut entry = self.stage.entry(host, i - before);
+                number_on(base, &mut entry);
+                entry
+            }
+        }
+    }
+
+    /// The kind of the line of the last event's entry with this number, if it is counted.
+    pub fn kind(&self, i: usize) -> Option<Kind>
+        requires kept { IsKept S.served self.now }
+        requires i { i < length (told_of self.now) }
+        ensures { option_map kind_of (slice_get (told_of self.now) i) ≡ Some result }
+    {
+        match self.last {
+            Last::Nothing => unreachable!(),
+            Last::Ticked => Some(Kind::Clock),
+            Last::Restarted { .. } | Last::Shifted { .. } => None,
+            Last::Stepped { host, first, .. } => {
+                let before = first.entries();
+                if i < before {
+                    return first.kind();
+                }
+                Kind::of_mark(self.stage.mark(host, i - before), self.stage.outbox())
             }
         }
     }
@@ -75,36 +111,15 @@ impl<S: Service> WorldParts<S> {
     }
 }
 
-// An entry of a step, where a packet has its number in the world.
-fn numbered(base: u64, entry: Entry<'_>) -> Entry<'_>
-    requires few { IsFew (plain entry) }
+// Gives a packet of a step the number that it has in the world.
+fn number_on(base: u64, entry: &mut Entry<'_>)
+    requires few { IsFew (plain entry.old) }
     requires base { base + 64 < 2 ^ 64 }
-    requires line { HasLine (plain entry) }
-    ensures entry { plain result ≡ plain_numbered base (plain entry.entry) }
-    ensures line { HasLine (plain result) }
+    requires line { HasLine (plain entry.old) }
+    ensures entry { plain entry.new ≡ plain_numbered base (plain entry.old) }
+    ensures line { HasLine (plain entry.new) }
 {
-    match entry {
-        Entry::Send {
-            number,
-            from,
-            to,
-            inc,
-            role,
-            id,
-            level,
-            body,
-            payload,
-        } => Entry::Send {
-            number: base + number,
-            from,
-            to,
-            inc,
-            role,
-            id,
-            level,
-            body,
-            payload,
-        },
-        other => other,
+    if let Entry::Send { number, .. } = entry {
+        *number += base;
     }
 }

@@ -8,12 +8,14 @@
 
 mod arrivals;
 mod entries;
+mod kinds;
 mod opening;
 mod parts;
 mod rest;
 mod shown;
 mod world;
 
+pub use kinds::Kind;
 pub use parts::{First, Last, WorldParts};
 pub use shown::Passing;
 pub use world::World;

@@ -1,13 +1,14 @@
 // The world that is played.
 ghost use Rattle.std.specs.Prelude.{◌≡◌, ◌≤◌, ◌<◌, ◌==◌, Some, MatchOption, length, slice_get};
 ghost use Rattle.std.specs.List.{AllByRecursion, list_all};
+ghost use Rattle.std.specs.Option.{option_map};
 ghost use Rattle.plain_sets.specs.Maps.{len};
 ghost use Rattle.homa_plain.specs.Host.{Host as PlainHost};
 ghost use Rattle.homa_plain.specs.World.{World as PlainWorld, host_at};
 ghost use Rattle.homa_world.specs.Passing.{IsOf};
 
-use crate::Passing;
 use crate::parts::WorldParts;
+use crate::{Kind, Passing};
 use homa_host::Host;
 use homa_plain::{Entry, Event, HostId, Settings, WorldFault};
 use homa_replay::{Opens, Playing};
@@ -39,7 +40,8 @@ impl<S: Service> World<S> {
     ghost use Rattle.host_table.specs.Staged.{hosts_of};
     ghost use Rattle.homa_world.specs.First.{IsFirstAt};
     ghost use Rattle.box_laws.specs.First.{AreAllowed};
-    ghost use Rattle.homa_world.specs.Standing.{StandsFor, may_tell_of};
+    ghost use Rattle.homa_world.specs.Kinds.{kind_of};
+    ghost use Rattle.homa_world.specs.Standing.{StandsFor, told_of, may_tell_of};
 
     /// A world in which nothing has happened, at tick `start` of its clock: so many hosts as the settings say, each in its first
     /// life. Service h serves host h, and the others are spare.
@@ -100,6 +102,14 @@ impl<S: Service> World<S> {
         ensures { (w : PlainWorld) → StandsFor self.now w → result ≡ list_all (λ (h : PlainHost). len h.clients == 0) w.hosts }
     {
         self.parts.is_idle()
+    }
+
+    /// The kind of the line of the last event's entry with this number, if it is counted.
+    pub fn kind(&self, i: usize) -> Option<Kind>
+        requires { i < length (told_of self.now) }
+        ensures { option_map kind_of (slice_get (told_of self.now) i) ≡ Some result }
+    {
+        self.parts.kind(i)
     }
 
     /// What is shown of the packet with this number, counted from 0; None where it was sent at an earlier tick and is too old

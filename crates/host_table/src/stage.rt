@@ -21,7 +21,7 @@ ghost use Rattle.host_table.specs.Restarted.{HasRestarted, HasNoSpare};
 use homa_host::{Asked, Host};
 use homa_plain::{Entry, HostId, Settings, StartFault, WorldFault};
 use homa_service::{Service, ServiceTable};
-use host_view::Outbox;
+use host_view::{Mark, Outbox};
 use msg_pool::Scratch;
 use std::alloc::{AllocError, Global};
 
@@ -217,6 +217,15 @@ impl<S: Service> Stage<S> {
         ensures few { result ≤ 128 }
     {
         self.hosts[host.0 as usize].entries()
+    }
+
+    /// The mark of the entry of a host's last step with this number, counted from 0.
+    pub fn mark(&self, host: HostId, i: usize) -> &Mark
+        requires host { host.0 < length (hosts_of self.now) }
+        requires i { i < length (entries_of self.now (slice_get (hosts_of self.now) host.0)) }
+        ensures { IfSome (slice_get (hosts_of self.now) host.0) (λ h. slice_get h.marks i ≡ Some result.now) }
+    {
+        self.hosts[host.0 as usize].mark(i)
     }
 
     /// The entry of a host's last step with this number, counted from 0.

@@ -3,8 +3,8 @@ use Rattle.std.proofs.Common.{◌<◌, ◌∙◌, ap, List, ℕ, slice_index, ge
 use Rattle.std.proofs.lemmas.List.{get_or_default}
 use Rattle.std.proofs.lemmas.Result.{MatchResult-from_err}
 use Rattle.homa_replay.proofs.Fronts.{wrote_entry, took_entry}
-use Rattle.homa_generate.specs.declared.tally.Kind.{Kind}
-use Rattle.homa_generate.specs.declared.tally.Kind.TheVariants as kind
+use Rattle.homa_world.specs.declared.kinds.Kind.{Kind}
+use Rattle.homa_world.specs.declared.kinds.Kind.TheVariants as kind
 use Rattle.homa_generate.specs.Counts.{kinds, count_line}
 use Rattle.homa_generate.proofs.CountLaws.{line_is}
 use Rattle.homa_generate.proofs.tally.Counts.put.Goals as goal
@@ -14,18 +14,24 @@ returns-in_err-put_line-clause-err g c =
     let i = c.loop-kind.kind-index in
     let inside : i < 15 = omega (arith, c.loop-kind-test.true) in
     let k : Kind = get_or kinds i kind.Call in
-    let n = slice_index c.self.inside.numbers c.place.result in
+    let n = slice_index c.self.inside.numbers c.place_of.result in
+    let read = ap (λ (l : List ℕ). slice_index l c.place_of.result) c.self.view_is in
+    let line = line_is c.args.self.now k c.name_of.result.now c.place_of.result n c.name_of.ensures c.place_of.ensures.place read in
+    let at = get_or_default kinds i k kind.Call inside in
     MatchResult-from_err _ _ _ c.from_residual.ensures.0
-    (λ _. took_entry (count_line c.args.self.now) kinds i k _ _ _ _ inside (get_or_default kinds i k kind.Call inside) (line_is c.args.self.now k c.name.result.now c.place.result n c.name.ensures c.place.ensures.place (ap (λ (l : List ℕ). slice_index l c.place.result) c.self.view_is)) c.loop-kind.invariant.so_far c.in_err-put_line.ensures.err)
+    (λ _. took_entry (count_line c.args.self.now) kinds i k _ _ _ _ inside at line c.loop-kind.invariant.so_far c.in_err-put_line.ensures.err)
 
 pub loop-kind-preserved : goal.loop-kind-preserved
 loop-kind-preserved g c =
     let i = c.loop-kind.kind-index in
     let inside : i < 15 = omega (arith, c.loop-kind-test.true) in
     let k : Kind = get_or kinds i kind.Call in
-    let n = slice_index c.self.inside.numbers c.place.result in
+    let n = slice_index c.self.inside.numbers c.place_of.result in
+    let read = ap (λ (l : List ℕ). slice_index l c.place_of.result) c.self.view_is in
+    let line = line_is c.args.self.now k c.name_of.result.now c.place_of.result n c.name_of.ensures c.place_of.ensures.place read in
+    let at = get_or_default kinds i k kind.Call inside in
     record {
-      so_far = wrote_entry (count_line c.args.self.now) kinds i k _ _ _ _ inside (get_or_default kinds i k kind.Call inside) (line_is c.args.self.now k c.name.result.now c.place.result n c.name.ensures c.place.ensures.place (ap (λ (l : List ℕ). slice_index l c.place.result) c.self.view_is)) c.loop-kind.invariant.so_far c.in_ok-put_line.ensures.ok;
+      so_far = wrote_entry (count_line c.args.self.now) kinds i k _ _ _ _ inside at line c.loop-kind.invariant.so_far c.in_ok-put_line.ensures.ok;
       quiet = c.in_ok-put_line.ensures.quiet ∙ c.loop-kind.invariant.quiet;
       same = g.met.K.Sink.same_on _ _ _ c.loop-kind.invariant.same c.in_ok-put_line.ensures.same;
     }
