@@ -41,6 +41,22 @@ module _ {K A E : Type 0} {taken : K → Option (List ℕ)} {faults : K → ℕ}
     same = on a b c first.same second.same;
   }
 
+  -- both went well
+  pub went_on : {u v : A} {a b c : K} {x y all : List ℕ} {before next done : Type 0}
+    → ((a b c : K) → is_same a b → is_same b c → is_same a c)
+    → WriteEnds {E = E} taken faults is_same (Ok u) a b x before
+    → WriteEnds {E = E} taken faults is_same (Ok v) b c y next
+    → done
+    → WriteEnds {E = E} taken faults is_same (Ok v) a c all done
+  went_on {a} {b} {c} on first second well = record {
+    ok = well;
+    err = tt;
+    risen = tt;
+    quiet = second.quiet ∙ first.quiet;
+    never_falls = kept_behind (faults a) (faults b) (faults c) first.quiet second.never_falls;
+    same = on a b c first.same second.same;
+  }
+
   -- nothing is written
   pub none_written : {u : A} {a : K} → is_same a a → IsWritten {E = E} taken faults is_same (Ok u) a a []
   none_written {a} same = record { ok = sym (appended-nil (taken a)); err = tt; risen = tt; quiet = refl; never_falls = omega arith; same = same }
