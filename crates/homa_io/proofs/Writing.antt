@@ -11,10 +11,10 @@ use Rattle.homa_io.proofs.Fronts.{two_put, front_after}
 module _ {K A E : Type 0} {taken : K → Option (List ℕ)} {faults : K → ℕ} {is_same : K → K → Type 0} where
   -- the error of a part is handed on
   pub handed_on : {e : E} {a b : K} {x all : List ℕ} {before done : Type 0} (r : Result A E)
-    → IsErr r
-    → WriteEnds {A = A} taken faults is_same (Err e) a b x before
-    → (TookFront (taken a) (taken b) x → TookFront (taken a) (taken b) all)
-    → WriteEnds taken faults is_same r a b all done
+      → IsErr r
+      → WriteEnds {A = A} taken faults is_same (Err e) a b x before
+      → (TookFront (taken a) (taken b) x → TookFront (taken a) (taken b) all)
+      → WriteEnds taken faults is_same r a b all done
   handed_on r failed part more = record {
     ok = IfOk-from_err r _ failed;
     err = MatchResult-from_err r _ _ failed (λ _. more part.err);
@@ -26,12 +26,12 @@ module _ {K A E : Type 0} {taken : K → Option (List ℕ)} {faults : K → ℕ}
 
   -- the first went well, and then the next ended
   pub ends_on : {u : A} {r : Result A E} {a b c : K} {x y all : List ℕ} {before next done : Type 0}
-    → ((a b c : K) → is_same a b → is_same b c → is_same a c)
-    → WriteEnds {E = E} taken faults is_same (Ok u) a b x before
-    → WriteEnds taken faults is_same r b c y next
-    → (next → done)
-    → (TookFront (taken b) (taken c) y → TookFront (taken a) (taken c) all)
-    → WriteEnds taken faults is_same r a c all done
+      → ((a b c : K) → is_same a b → is_same b c → is_same a c)
+      → WriteEnds {E = E} taken faults is_same (Ok u) a b x before
+      → WriteEnds taken faults is_same r b c y next
+      → (next → done)
+      → (TookFront (taken b) (taken c) y → TookFront (taken a) (taken c) all)
+      → WriteEnds taken faults is_same r a c all done
   ends_on {r} {a} {b} {c} on first second well failed = record {
     ok = on_ok_weaker r well second.ok;
     err = on_err_weaker r failed second.err;
@@ -43,11 +43,11 @@ module _ {K A E : Type 0} {taken : K → Option (List ℕ)} {faults : K → ℕ}
 
   -- both went well
   pub went_on : {u v : A} {a b c : K} {x y all : List ℕ} {before next done : Type 0}
-    → ((a b c : K) → is_same a b → is_same b c → is_same a c)
-    → WriteEnds {E = E} taken faults is_same (Ok u) a b x before
-    → WriteEnds {E = E} taken faults is_same (Ok v) b c y next
-    → done
-    → WriteEnds {E = E} taken faults is_same (Ok v) a c all done
+      → ((a b c : K) → is_same a b → is_same b c → is_same a c)
+      → WriteEnds {E = E} taken faults is_same (Ok u) a b x before
+      → WriteEnds {E = E} taken faults is_same (Ok v) b c y next
+      → done
+      → WriteEnds {E = E} taken faults is_same (Ok v) a c all done
   went_on {a} {b} {c} on first second well = record {
     ok = well;
     err = tt;
@@ -63,12 +63,12 @@ module _ {K A E : Type 0} {taken : K → Option (List ℕ)} {faults : K → ℕ}
 
   -- a text is written, and then the next
   pub written_on : {u : A} {r : Result A E} {a b c : K} {all : List ℕ}
-    → ((a b c : K) → is_same a b → is_same b c → is_same a c)
-    → (x y : List ℕ)
-    → IsWritten {E = E} taken faults is_same (Ok u) a b x
-    → IsWritten taken faults is_same r b c y
-    → x ++ y ≡ all
-    → IsWritten taken faults is_same r a c all
+      → ((a b c : K) → is_same a b → is_same b c → is_same a c)
+      → (x y : List ℕ)
+      → IsWritten {E = E} taken faults is_same (Ok u) a b x
+      → IsWritten taken faults is_same r b c y
+      → x ++ y ≡ all
+      → IsWritten taken faults is_same r a c all
   written_on {a} {b} {c} on x y first second same =
       ends_on on first second
       (λ more. two_put (taken a) (taken b) (taken c) x y first.ok more ∙ ap (λ (text : List ℕ). appended (taken a) text) same)

@@ -71,28 +71,28 @@ module _ {K A E : Type 0} {taken : K → Option (List ℕ)} {faults : K → ℕ}
   module _ (on : (a b c : K) → is_same a b → is_same b c → is_same a c) where
     -- a part was put, and then the next
     pub puts_on : {u : A} {r : Result A E} {a b c : K} {h k all : List ℕ} (base x y : List ℕ)
-      → Puts {E = E} taken faults is_same (Ok u) a b h (base ++ x)
-      → Puts taken faults is_same r b c k (h ++ y)
-      → x ++ y ≡ all
-      → Puts taken faults is_same r a c k (base ++ all)
+        → Puts {E = E} taken faults is_same (Ok u) a b h (base ++ x)
+        → Puts taken faults is_same r b c k (h ++ y)
+        → x ++ y ≡ all
+        → Puts taken faults is_same r a c k (base ++ all)
     puts_on base x y first second same =
         ends_on on first second (λ put. put_on _ _ _ _ _ base x y _ first.ok put same) (λ front. put_front_last _ _ _ _ base x y _ first.ok front same)
 
     -- a part was put, and the next failed
     pub failed_on : {u : A} {e : E} {a b c : K} {h k all : List ℕ} {done : Type 0} (base x y rest : List ℕ) (r : Result A E)
-      → IsErr r
-      → Puts {E = E} taken faults is_same (Ok u) a b h (base ++ x)
-      → Puts {A = A} taken faults is_same (Err e) b c k (h ++ y)
-      → x ++ (y ++ rest) ≡ all
-      → WriteEnds taken faults is_same r a c (base ++ all) done
+        → IsErr r
+        → Puts {E = E} taken faults is_same (Ok u) a b h (base ++ x)
+        → Puts {A = A} taken faults is_same (Err e) b c k (h ++ y)
+        → x ++ (y ++ rest) ≡ all
+        → WriteEnds taken faults is_same r a c (base ++ all) done
     failed_on base x y rest r failed first second same =
         handed_on r failed (ends_on on first second (λ put. put) (λ front. put_front _ _ _ _ base x y rest _ first.ok front same)) (λ front. front)
 
     -- a text was put, and then what was held is written
     pub whole_on : {u : A} {r : Result A E} {a b c : K} {h x all : List ℕ}
-      → Puts {E = E} taken faults is_same (Ok u) a b h x
-      → IsWritten taken faults is_same r b c h
-      → x ≡ all
-      → IsWritten taken faults is_same r a c all
+        → Puts {E = E} taken faults is_same (Ok u) a b h x
+        → IsWritten taken faults is_same r b c h
+        → x ≡ all
+        → IsWritten taken faults is_same r a c all
     whole_on first second same =
         ends_on on first second (λ whole. put_whole _ _ _ _ _ _ first.ok whole same) (λ front. put_front_held _ _ _ _ _ _ first.ok front same)
