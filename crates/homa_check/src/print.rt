@@ -1,7 +1,6 @@
 // The line that tells a verdict.
-ghost use Rattle.std.specs.Prelude.{◌≡◌, ◌≤◌, OnOk, OnErr};
 ghost use Rattle.homa_check.specs.Checks.{plain_verdict, verdict_text};
-ghost use Rattle.homa_io.specs.Outside.{HasRisen, appended, TookFront};
+ghost use Rattle.homa_io.specs.Writing.{IsWritten};
 
 use crate::verdict::Verdict;
 use homa_io::{Sink, WriteFailed};
@@ -10,12 +9,7 @@ use homa_text::{Word, put_line};
 /// Writes the line that tells a verdict: `yes`, and how many lines there are; or `no`, the line's number, counted from 1,
 /// and the word of the clause. After an error the sink took a front of the line.
 pub fn put_verdict<K: Sink>(sink: &mut K, verdict: Verdict) -> Result<(), WriteFailed>
-    ensures ok { OnOk result (K.taken sink.new ≡ appended (K.taken sink.old) (verdict_text (plain_verdict verdict))) }
-    ensures err { OnErr result (TookFront (K.taken sink.old) (K.taken sink.new) (verdict_text (plain_verdict verdict))) }
-    ensures risen { OnErr result (HasRisen (K.faults sink.old) (K.faults sink.new)) }
-    ensures quiet { OnOk result (K.faults sink.new ≡ K.faults sink.old) }
-    ensures never_falls { K.faults sink.old ≤ K.faults sink.new }
-    ensures same { K.is_same sink.old sink.new }
+    ensures { IsWritten K.taken K.faults K.is_same result sink.old sink.new (verdict_text (plain_verdict verdict)) }
 {
     match verdict {
         Verdict::Yes { lines } => put_line(sink, &[Word::Text(b"yes"), Word::Number(lines)]),

@@ -4,3 +4,4 @@ pub mod Sure
 pub mod Real
 pub mod Held
 pub mod Growing
+pub mod Writing

@@ -1,6 +1,7 @@
 // What bytes are written to.
 ghost use Rattle.std.specs.Prelude.{◌≡◌, ◌<◌, ◌≤◌, ℕ, List, Option, length, take, OnOk, OnErr, IfOk};
-ghost use Rattle.homa_io.specs.Outside.{HasRisen, appended, TookFront};
+ghost use Rattle.homa_io.specs.Outside.{HasRisen, appended};
+ghost use Rattle.homa_io.specs.Writing.{IsWritten};
 
 /// A write failed, and the sink counted a fault.
 #[derive(Clone, Copy, Debug, PartialEq, Eq)]
@@ -39,12 +40,7 @@ pub trait Sink {
 /// Writes all of the bytes, in as many calls as the sink needs. After an error, which is the first
 /// that a call gave, it took a front of them.
 pub fn write_all<K: Sink>(sink: &mut K, bytes: &[u8]) -> Result<(), WriteFailed>
-    ensures ok { OnOk result (K.taken sink.new ≡ appended (K.taken sink.old) bytes.now) }
-    ensures err { OnErr result (TookFront (K.taken sink.old) (K.taken sink.new) bytes.now) }
-    ensures risen { OnErr result (HasRisen (K.faults sink.old) (K.faults sink.new)) }
-    ensures quiet { OnOk result (K.faults sink.new ≡ K.faults sink.old) }
-    ensures never_falls { K.faults sink.old ≤ K.faults sink.new }
-    ensures same { K.is_same sink.old sink.new }
+    ensures { IsWritten K.taken K.faults K.is_same result sink.old sink.new bytes.now }
 {
     let mut written = 0;
     while written < bytes.len() {

@@ -1,7 +1,7 @@
 // An observer that prints a schedule.
-ghost use Rattle.std.specs.Prelude.{◌≡◌, ◌≤◌, IsOk, IfOk, OnOk, OnErr};
+ghost use Rattle.std.specs.Prelude.{◌≡◌, ◌≤◌, IsOk, IfOk};
 ghost use Rattle.std.specs.Option.{option_map};
-ghost use Rattle.homa_io.specs.Outside.{appended, HasRisen, TookFront};
+ghost use Rattle.homa_io.specs.Writing.{IsWritten};
 ghost use Rattle.homa_plain.specs.Settings.{IsValid};
 ghost use Rattle.homa_plain.specs.World.{last_tick};
 ghost use Rattle.homa_plain.specs.Entries.{PlainSettings, PlainCall, PlainClock, PlainRecv};
@@ -22,12 +22,7 @@ use std::alloc::Global;
 
 // Writes so many ticks of the clock, one by one.
 fn put_clocks<K: Sink>(sink: &mut K, n: u64) -> Result<(), WriteFailed>
-    ensures ok { OnOk result (K.taken sink.new ≡ appended (K.taken sink.old) (texts (clocks n))) }
-    ensures err { OnErr result (TookFront (K.taken sink.old) (K.taken sink.new) (texts (clocks n))) }
-    ensures risen { OnErr result (HasRisen (K.faults sink.old) (K.faults sink.new)) }
-    ensures quiet { OnOk result (K.faults sink.new ≡ K.faults sink.old) }
-    ensures never_falls { K.faults sink.old ≤ K.faults sink.new }
-    ensures same { K.is_same sink.old sink.new }
+    ensures { IsWritten K.taken K.faults K.is_same result sink.old sink.new (texts (clocks n)) }
 {
     for _ in 0..n {
         match put_event(sink, &Event::Clock, &[]) {
@@ -46,12 +41,7 @@ fn put_kind<K: Sink>(
     bytes: &[u8],
     kind: Option<Kind>,
 ) -> Result<(), WriteFailed>
-    ensures ok { OnOk result (K.taken sink.new ≡ appended (K.taken sink.old) (kind_text host from bytes.now (option_map kind_seen kind))) }
-    ensures err { OnErr result (TookFront (K.taken sink.old) (K.taken sink.new) (kind_text host from bytes.now (option_map kind_seen kind))) }
-    ensures risen { OnErr result (HasRisen (K.faults sink.old) (K.faults sink.new)) }
-    ensures quiet { OnOk result (K.faults sink.new ≡ K.faults sink.old) }
-    ensures never_falls { K.faults sink.old ≤ K.faults sink.new }
-    ensures same { K.is_same sink.old sink.new }
+    ensures { IsWritten K.taken K.faults K.is_same result sink.old sink.new (kind_text host from bytes.now (option_map kind_seen kind)) }
 {
     match kind {
         None => Ok(()),

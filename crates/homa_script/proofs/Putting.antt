@@ -1,5 +1,5 @@
 -- Lines that are written one after another.
-use Rattle.std.proofs.Common.{◌≡◌, ◌<◌, ℕ, suc, Option, List, ◌++◌, length, take, drop, get_or, ap, ◌∙◌, subst, append_assoc}
+use Rattle.std.proofs.Common.{◌≡◌, ◌<◌, ℕ, suc, Option, List, ◌++◌, length, take, drop, get_or, ap, ◌∙◌, append_assoc}
 use Rattle.std.specs.Prelude.{codes}
 use Rattle.std.specs.List.{flat_map, zip}
 use Rattle.homa_io.specs.Outside.{appended, TookFront}
@@ -21,7 +21,8 @@ took_line {X} f xs i d old mid new h e t =
 abbrev pub first_settings : Settings → ℕ → List ℕ
 first_settings s n = flat_map setting_text (take n (zip names (settings_numbers s)))
 
-whole_text : (s : Settings) (n : ℕ) → n ≡ told_numbers s → first_settings s n ++ codes "go\n" ≡ settings_text s
+-- and `go`
+pub whole_text : (s : Settings) (n : ℕ) → n ≡ told_numbers s → first_settings s n ++ codes "go\n" ≡ settings_text s
 unfolding settings_text
 whole_text s n e = ap (λ (k : ℕ). first_settings s k ++ codes "go\n") e
 
@@ -29,8 +30,3 @@ whole_text s n e = ap (λ (k : ℕ). first_settings s k ++ codes "go\n") e
 pub took_settings : (s : Settings) (n : ℕ) (old new : Option (List ℕ)) → n ≡ told_numbers s → TookFront old new (first_settings s n)
     → TookFront old new (settings_text s)
 took_settings s n old new e t = front_more old new (first_settings s n) (codes "go\n") (settings_text s) t (whole_text s n e)
-
--- and a front of what follows
-pub took_go : (s : Settings) (n : ℕ) (old mid new : Option (List ℕ)) → n ≡ told_numbers s → mid ≡ appended old (first_settings s n)
-    → TookFront mid new (codes "go\n") → TookFront old new (settings_text s)
-took_go s n old mid new e h t = subst (λ (xs : List ℕ). TookFront old new xs) (whole_text s n e) (front_on old mid new (first_settings s n) (codes "go\n") h t)

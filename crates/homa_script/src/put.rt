@@ -1,7 +1,6 @@
 // Schedules that are printed.
-ghost use Rattle.std.specs.Prelude.{◌≡◌, ◌≤◌, OnOk, OnErr};
 ghost use Rattle.std.specs.List.{flat_map};
-ghost use Rattle.homa_io.specs.Outside.{HasRisen, appended, TookFront};
+ghost use Rattle.homa_io.specs.Writing.{IsWritten};
 ghost use Rattle.homa_plain.specs.Script.{event_text, setting_text, settings_text};
 
 use homa_io::{Sink, WriteFailed};
@@ -13,12 +12,7 @@ use homa_text::{name_bytes, put_line, told_settings};
 /// of `homa_text` does. After an error the sink took a front of the line.
 #[tactic(auto, unfolding(homa_plain::specs::Script::event_text))]
 pub fn put_event<K: Sink>(sink: &mut K, event: &Event, bytes: &[u8]) -> Result<(), WriteFailed>
-    ensures ok { OnOk result (K.taken sink.new ≡ appended (K.taken sink.old) (event_text event.now bytes.now)) }
-    ensures err { OnErr result (TookFront (K.taken sink.old) (K.taken sink.new) (event_text event.now bytes.now)) }
-    ensures risen { OnErr result (HasRisen (K.faults sink.old) (K.faults sink.new)) }
-    ensures quiet { OnOk result (K.faults sink.new ≡ K.faults sink.old) }
-    ensures never_falls { K.faults sink.old ≤ K.faults sink.new }
-    ensures same { K.is_same sink.old sink.new }
+    ensures { IsWritten K.taken K.faults K.is_same result sink.old sink.new (event_text event.now bytes.now) }
 {
     match *event {
         Event::Call {
@@ -49,12 +43,7 @@ pub fn put_event<K: Sink>(sink: &mut K, event: &Event, bytes: &[u8]) -> Result<(
 
 // Writes the lines of settings with their numbers.
 fn put_numbers<K: Sink>(sink: &mut K, numbers: &[(Name, u32)]) -> Result<(), WriteFailed>
-    ensures ok { OnOk result (K.taken sink.new ≡ appended (K.taken sink.old) (flat_map setting_text numbers.now)) }
-    ensures err { OnErr result (TookFront (K.taken sink.old) (K.taken sink.new) (flat_map setting_text numbers.now)) }
-    ensures risen { OnErr result (HasRisen (K.faults sink.old) (K.faults sink.new)) }
-    ensures quiet { OnOk result (K.faults sink.new ≡ K.faults sink.old) }
-    ensures never_falls { K.faults sink.old ≤ K.faults sink.new }
-    ensures same { K.is_same sink.old sink.new }
+    ensures { IsWritten K.taken K.faults K.is_same result sink.old sink.new (flat_map setting_text numbers.now) }
 {
     for (name, n) in numbers {
         put_line(sink, &[Text(name_bytes(*name)), Number(u64::from(*n))])?;
@@ -66,12 +55,7 @@ fn put_numbers<K: Sink>(sink: &mut K, numbers: &[(Name, u32)]) -> Result<(), Wri
 /// error the sink took a front of them.
 #[tactic(auto, unfolding(homa_plain::specs::Script::settings_text))]
 pub fn put_settings<K: Sink>(sink: &mut K, settings: &Settings) -> Result<(), WriteFailed>
-    ensures ok { OnOk result (K.taken sink.new ≡ appended (K.taken sink.old) (settings_text settings.now)) }
-    ensures err { OnErr result (TookFront (K.taken sink.old) (K.taken sink.new) (settings_text settings.now)) }
-    ensures risen { OnErr result (HasRisen (K.faults sink.old) (K.faults sink.new)) }
-    ensures quiet { OnOk result (K.faults sink.new ≡ K.faults sink.old) }
-    ensures never_falls { K.faults sink.old ≤ K.faults sink.new }
-    ensures same { K.is_same sink.old sink.new }
+    ensures { IsWritten K.taken K.faults K.is_same result sink.old sink.new (settings_text settings.now) }
 {
     let s = settings;
     let numbers = [

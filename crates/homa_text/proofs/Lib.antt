@@ -10,4 +10,3 @@ pub mod Texts
 pub mod LineParts
 pub mod Parts
 pub mod Told
-pub mod Counts

@@ -1,9 +1,12 @@
 -- A text that is written and held part by part.
-use Rattle.std.proofs.Common.{◌≡◌, ℕ, Option, List, [], ◌++◌, sym, ap, ◌∙◌, append_assoc}
+use Rattle.std.proofs.Common.{◌≡◌, ℕ, Option, List, [], ◌++◌, arith, refl, sym, ap, ◌∙◌, append_assoc}
+use Rattle.std.specs.Prelude.{Result, Ok, Err, IsErr}
 use Rattle.std.proofs.lemmas.List.{append-nil}
 use Rattle.homa_io.specs.Outside.{appended, TookFront}
 use Rattle.homa_io.specs.Growing.{appended-appended, appended-nil}
-use Rattle.homa_text.specs.Put.{IsPut}
+use Rattle.homa_io.specs.Writing.{WriteEnds, IsWritten}
+use Rattle.homa_io.proofs.Writing.{handed_on, ends_on}
+use Rattle.homa_text.specs.Put.{IsPut, Puts}
 
 -- what was taken, and then more
 taken_on : (a b c : Option (List ℕ)) (x y : List ℕ) → b ≡ appended a x → c ≡ appended b y → c ≡ appended a (x ++ y)
@@ -58,3 +61,38 @@ put_front_held a b c h x all so_far f same =
 -- a part, and then a front of the last
 pub put_front_last : (a b c : Option (List ℕ)) (h base x y all : List ℕ) → IsPut a b h (base ++ x) → TookFront b c (h ++ y) → x ++ y ≡ all → TookFront a c (base ++ all)
 put_front_last a b c h base x y all so_far f same = put_front a b c h base x y [] all so_far f (ap (λ (zs : List ℕ). x ++ zs) (append-nil y) ∙ same)
+
+-- how parts end, and how the whole does
+module _ {K A E : Type 0} {taken : K → Option (List ℕ)} {faults : K → ℕ} {is_same : K → K → Type 0} where
+  -- nothing is put
+  pub none_put : {u : A} {a : K} {held : List ℕ} → is_same a a → Puts {E = E} taken faults is_same (Ok u) a a held (held ++ [])
+  none_put {a} {held} same = record { ok = put_start (taken a) held; err = tt; risen = tt; quiet = refl; never_falls = omega arith; same = same }
+
+  module _ (on : (a b c : K) → is_same a b → is_same b c → is_same a c) where
+    -- a part was put, and then the next
+    pub puts_on : {u : A} {r : Result A E} {a b c : K} {h k all : List ℕ} (base x y : List ℕ)
+        → Puts {E = E} taken faults is_same (Ok u) a b h (base ++ x)
+        → Puts taken faults is_same r b c k (h ++ y)
+        → x ++ y ≡ all
+        → Puts taken faults is_same r a c k (base ++ all)
+    puts_on base x y first second same =
+        ends_on on first second (λ put. put_on _ _ _ _ _ base x y _ first.ok put same) (λ front. put_front_last _ _ _ _ base x y _ first.ok front same)
+
+    -- a part was put, and the next failed
+    pub failed_on : {u : A} {e : E} {a b c : K} {h k all : List ℕ} {done : Type 0} (base x y rest : List ℕ) (r : Result A E)
+        → IsErr r
+        → Puts {E = E} taken faults is_same (Ok u) a b h (base ++ x)
+        → Puts {A = A} taken faults is_same (Err e) b c k (h ++ y)
+        → x ++ (y ++ rest) ≡ all
+        → WriteEnds taken faults is_same r a c (base ++ all) done
+    failed_on base x y rest r failed first second same =
+        handed_on r failed (ends_on on first second (λ put. put) (λ front. put_front _ _ _ _ base x y rest _ first.ok front same)) (λ front. front)
+
+    -- a text was put, and then what was held is written
+    pub whole_on : {u : A} {r : Result A E} {a b c : K} {h x all : List ℕ}
+        → Puts {E = E} taken faults is_same (Ok u) a b h x
+        → IsWritten taken faults is_same r b c h
+        → x ≡ all
+        → IsWritten taken faults is_same r a c all
+    whole_on first second same =
+        ends_on on first second (λ whole. put_whole _ _ _ _ _ _ first.ok whole same) (λ front. put_front_held _ _ _ _ _ _ first.ok front same)

@@ -1,11 +1,11 @@
 // Lines that are written: the frequent ones at once, any other word by word through a buffer.
-ghost use Rattle.std.specs.Prelude.{◌≡◌, ◌≤◌, ◌<◌, ◌+◌, ◌*◌, ◌++◌, ◌∷◌, [], true, length, map, OnOk, OnErr};
+ghost use Rattle.std.specs.Prelude.{◌≡◌, ◌≤◌, ◌<◌, ◌+◌, ◌++◌, ◌∷◌, [], true, length, map, OnOk};
 ghost use Rattle.std.specs.List.{flat_map};
 ghost use Rattle.hex.specs.Hex.{encode_lower};
-ghost use Rattle.homa_io.specs.Outside.{HasRisen, appended, TookFront};
+ghost use Rattle.homa_io.specs.Writing.{IsWritten};
 ghost use Rattle.homa_plain.specs.Entries.{PlainCall, PlainInject, PlainRun, PlainDone, plain};
 ghost use Rattle.homa_plain.specs.Text.{line_of_words, line_text};
-ghost use Rattle.homa_text.specs.Put.{IsPut};
+ghost use Rattle.homa_text.specs.Put.{Puts};
 ghost use Rattle.homa_text.specs.FrequentLines.{grant_sent, piece_sent, packet_sent};
 ghost use Rattle.homa_text.specs.Told.{HasLine};
 ghost use Rattle.homa_text.specs.Written.{word_text, spaced_word};
@@ -49,13 +49,8 @@ type Held<const N: usize> = ArrayVec<u8, N>;
 
 // Writes what is held.
 fn flush<K: Sink, const N: usize>(sink: &mut K, held: &mut Held<N>) -> Result<(), WriteFailed>
-    ensures ok { OnOk result (K.taken sink.new ≡ appended (K.taken sink.old) held.old.items) }
+    ensures written { IsWritten K.taken K.faults K.is_same result sink.old sink.new held.old.items }
     ensures empty { OnOk result (held.new.items ≡ []) }
-    ensures err { OnErr result (TookFront (K.taken sink.old) (K.taken sink.new) held.old.items) }
-    ensures risen { OnErr result (HasRisen (K.faults sink.old) (K.faults sink.new)) }
-    ensures quiet { OnOk result (K.faults sink.new ≡ K.faults sink.old) }
-    ensures never_falls { K.faults sink.old ≤ K.faults sink.new }
-    ensures same { K.is_same sink.old sink.new }
 {
     write_all(sink, held.as_slice())?;
     held.clear();
@@ -68,12 +63,7 @@ fn append<K: Sink, const N: usize>(
     held: &mut Held<N>,
     bytes: &[u8],
 ) -> Result<(), WriteFailed>
-    ensures ok { OnOk result (IsPut (K.taken sink.old) (K.taken sink.new) held.new.items (held.old.items ++ bytes.now)) }
-    ensures err { OnErr result (TookFront (K.taken sink.old) (K.taken sink.new) (held.old.items ++ bytes.now)) }
-    ensures risen { OnErr result (HasRisen (K.faults sink.old) (K.faults sink.new)) }
-    ensures quiet { OnOk result (K.faults sink.new ≡ K.faults sink.old) }
-    ensures never_falls { K.faults sink.old ≤ K.faults sink.new }
-    ensures same { K.is_same sink.old sink.new }
+    ensures { Puts K.taken K.faults K.is_same result sink.old sink.new held.new.items (held.old.items ++ bytes.now) }
 {
     if bytes.len() <= held.remaining_capacity() {
         held.try_extend_from_slice(bytes).unwrap();
@@ -94,12 +84,7 @@ fn put_digits<K: Sink, const N: usize>(
     bytes: &[u8],
 ) -> Result<(), WriteFailed>
     requires { length bytes.now ≤ 1408 }
-    ensures ok { OnOk result (IsPut (K.taken sink.old) (K.taken sink.new) held.new.items (held.old.items ++ encode_lower bytes.now)) }
-    ensures err { OnErr result (TookFront (K.taken sink.old) (K.taken sink.new) (held.old.items ++ encode_lower bytes.now)) }
-    ensures risen { OnErr result (HasRisen (K.faults sink.old) (K.faults sink.new)) }
-    ensures quiet { OnOk result (K.faults sink.new ≡ K.faults sink.old) }
-    ensures never_falls { K.faults sink.old ≤ K.faults sink.new }
-    ensures same { K.is_same sink.old sink.new }
+    ensures { Puts K.taken K.faults K.is_same result sink.old sink.new held.new.items (held.old.items ++ encode_lower bytes.now) }
 {
     let mut digits = [0; 2 * PART];
     let out = &mut digits[..2 * bytes.len()];
@@ -117,12 +102,7 @@ fn put_hex<K: Sink, const N: usize>(
     held: &mut Held<N>,
     bytes: &[u8],
 ) -> Result<(), WriteFailed>
-    ensures ok { OnOk result (IsPut (K.taken sink.old) (K.taken sink.new) held.new.items (held.old.items ++ encode_lower bytes.now)) }
-    ensures err { OnErr result (TookFront (K.taken sink.old) (K.taken sink.new) (held.old.items ++ encode_lower bytes.now)) }
-    ensures risen { OnErr result (HasRisen (K.faults sink.old) (K.faults sink.new)) }
-    ensures quiet { OnOk result (K.faults sink.new ≡ K.faults sink.old) }
-    ensures never_falls { K.faults sink.old ≤ K.faults sink.new }
-    ensures same { K.is_same sink.old sink.new }
+    ensures { Puts K.taken K.faults K.is_same result sink.old sink.new held.new.items (held.old.items ++ encode_lower bytes.now) }
 {
     let mut done = 0;
     while done < bytes.len() {
@@ -139,12 +119,7 @@ fn put_word<K: Sink, const N: usize>(
     held: &mut Held<N>,
     word: Word<'_>,
 ) -> Result<(), WriteFailed>
-    ensures ok { OnOk result (IsPut (K.taken sink.old) (K.taken sink.new) held.new.items (held.old.items ++ word_text word.entry)) }
-    ensures err { OnErr result (TookFront (K.taken sink.old) (K.taken sink.new) (held.old.items ++ word_text word.entry)) }
-    ensures risen { OnErr result (HasRisen (K.faults sink.old) (K.faults sink.new)) }
-    ensures quiet { OnOk result (K.faults sink.new ≡ K.faults sink.old) }
-    ensures never_falls { K.faults sink.old ≤ K.faults sink.new }
-    ensures same { K.is_same sink.old sink.new }
+    ensures { Puts K.taken K.faults K.is_same result sink.old sink.new held.new.items (held.old.items ++ word_text word.entry) }
 {
     match word {
         Word::Text(bytes) => append(sink, held, bytes),
@@ -164,12 +139,7 @@ fn put_spaced<K: Sink, const N: usize>(
     held: &mut Held<N>,
     word: Word<'_>,
 ) -> Result<(), WriteFailed>
-    ensures ok { OnOk result (IsPut (K.taken sink.old) (K.taken sink.new) held.new.items (held.old.items ++ spaced_word word.entry)) }
-    ensures err { OnErr result (TookFront (K.taken sink.old) (K.taken sink.new) (held.old.items ++ spaced_word word.entry)) }
-    ensures risen { OnErr result (HasRisen (K.faults sink.old) (K.faults sink.new)) }
-    ensures quiet { OnOk result (K.faults sink.new ≡ K.faults sink.old) }
-    ensures never_falls { K.faults sink.old ≤ K.faults sink.new }
-    ensures same { K.is_same sink.old sink.new }
+    ensures { Puts K.taken K.faults K.is_same result sink.old sink.new held.new.items (held.old.items ++ spaced_word word.entry) }
 {
     append(sink, held, b" ")?;
     put_word(sink, held, word)
@@ -181,12 +151,7 @@ fn put_others<K: Sink, const N: usize>(
     held: &mut Held<N>,
     words: &[Word<'_>],
 ) -> Result<(), WriteFailed>
-    ensures ok { OnOk result (IsPut (K.taken sink.old) (K.taken sink.new) held.new.items (held.old.items ++ flat_map spaced_word words.now)) }
-    ensures err { OnErr result (TookFront (K.taken sink.old) (K.taken sink.new) (held.old.items ++ flat_map spaced_word words.now)) }
-    ensures risen { OnErr result (HasRisen (K.faults sink.old) (K.faults sink.new)) }
-    ensures quiet { OnOk result (K.faults sink.new ≡ K.faults sink.old) }
-    ensures never_falls { K.faults sink.old ≤ K.faults sink.new }
-    ensures same { K.is_same sink.old sink.new }
+    ensures { Puts K.taken K.faults K.is_same result sink.old sink.new held.new.items (held.old.items ++ flat_map spaced_word words.now) }
 {
     for word in words {
         put_spaced(sink, held, *word)?;
@@ -202,12 +167,7 @@ fn put_words<K: Sink, const N: usize>(
     others: &[Word<'_>],
 ) -> Result<(), WriteFailed>
     requires { held.old.items ≡ [] }
-    ensures ok { OnOk result (K.taken sink.new ≡ appended (K.taken sink.old) (line_of_words (word_text first.entry ∷ map word_text others.now))) }
-    ensures err { OnErr result (TookFront (K.taken sink.old) (K.taken sink.new) (line_of_words (word_text first.entry ∷ map word_text others.now))) }
-    ensures risen { OnErr result (HasRisen (K.faults sink.old) (K.faults sink.new)) }
-    ensures quiet { OnOk result (K.faults sink.new ≡ K.faults sink.old) }
-    ensures never_falls { K.faults sink.old ≤ K.faults sink.new }
-    ensures same { K.is_same sink.old sink.new }
+    ensures { IsWritten K.taken K.faults K.is_same result sink.old sink.new (line_of_words (word_text first.entry ∷ map word_text others.now)) }
 {
     put_word(sink, held, first)?;
     put_others(sink, held, others)?;
@@ -218,12 +178,7 @@ fn put_words<K: Sink, const N: usize>(
 /// Writes words with one space between two, and a line feed. This is one `write`, unless a word of bytes in hex is
 /// longer than 128 digits, the words than 256 bytes, or the sink takes only a part. After an error it took a front of the line.
 pub fn put_line<K: Sink>(sink: &mut K, words: &[Word<'_>]) -> Result<(), WriteFailed>
-    ensures ok { OnOk result (K.taken sink.new ≡ appended (K.taken sink.old) (line_of_words (map word_text words.now))) }
-    ensures err { OnErr result (TookFront (K.taken sink.old) (K.taken sink.new) (line_of_words (map word_text words.now))) }
-    ensures risen { OnErr result (HasRisen (K.faults sink.old) (K.faults sink.new)) }
-    ensures quiet { OnOk result (K.faults sink.new ≡ K.faults sink.old) }
-    ensures never_falls { K.faults sink.old ≤ K.faults sink.new }
-    ensures same { K.is_same sink.old sink.new }
+    ensures { IsWritten K.taken K.faults K.is_same result sink.old sink.new (line_of_words (map word_text words.now)) }
 {
     match words {
         [] => write_all(sink, b"\n"),
@@ -233,12 +188,7 @@ pub fn put_line<K: Sink>(sink: &mut K, words: &[Word<'_>]) -> Result<(), WriteFa
 
 // Writes the line of an entry, word by word.
 fn put_words_of<K: Sink>(sink: &mut K, entry: &Entry<'_>) -> Result<(), WriteFailed>
-    ensures ok { OnOk result (K.taken sink.new ≡ appended (K.taken sink.old) (line_text (plain entry.now))) }
-    ensures err { OnErr result (TookFront (K.taken sink.old) (K.taken sink.new) (line_text (plain entry.now))) }
-    ensures risen { OnErr result (HasRisen (K.faults sink.old) (K.faults sink.new)) }
-    ensures quiet { OnOk result (K.faults sink.new ≡ K.faults sink.old) }
-    ensures never_falls { K.faults sink.old ≤ K.faults sink.new }
-    ensures same { K.is_same sink.old sink.new }
+    ensures { IsWritten K.taken K.faults K.is_same result sink.old sink.new (line_text (plain entry.now)) }
 {
     put_line(sink, words_of_entry(entry).as_slice())
 }
@@ -252,12 +202,7 @@ fn put_grant<K: Sink>(
     prio: u64,
     payload: &[u8],
 ) -> Result<(), WriteFailed>
-    ensures ok { OnOk result (K.taken sink.new ≡ appended (K.taken sink.old) (line_text (grant_sent head level offset prio payload.now))) }
-    ensures err { OnErr result (TookFront (K.taken sink.old) (K.taken sink.new) (line_text (grant_sent head level offset prio payload.now))) }
-    ensures risen { OnErr result (HasRisen (K.faults sink.old) (K.faults sink.new)) }
-    ensures quiet { OnOk result (K.faults sink.new ≡ K.faults sink.old) }
-    ensures never_falls { K.faults sink.old ≤ K.faults sink.new }
-    ensures same { K.is_same sink.old sink.new }
+    ensures { IsWritten K.taken K.faults K.is_same result sink.old sink.new (line_text (grant_sent head level offset prio payload.now)) }
 {
     let mut text = ShortLine::new();
     grant_line(&mut text, head, offset, prio);
@@ -273,12 +218,7 @@ fn put_short<K: Sink>(
     payload: &[u8],
 ) -> Result<(), WriteFailed>
     requires { length payload.now ≤ 350 }
-    ensures ok { OnOk result (K.taken sink.new ≡ appended (K.taken sink.old) (line_text (piece_sent head piece payload.now))) }
-    ensures err { OnErr result (TookFront (K.taken sink.old) (K.taken sink.new) (line_text (piece_sent head piece payload.now))) }
-    ensures risen { OnErr result (HasRisen (K.faults sink.old) (K.faults sink.new)) }
-    ensures quiet { OnOk result (K.faults sink.new ≡ K.faults sink.old) }
-    ensures never_falls { K.faults sink.old ≤ K.faults sink.new }
-    ensures same { K.is_same sink.old sink.new }
+    ensures { IsWritten K.taken K.faults K.is_same result sink.old sink.new (line_text (piece_sent head piece payload.now)) }
 {
     let mut text = FewLine::new();
     piece_line(&mut text, head, piece, payload);
@@ -293,12 +233,7 @@ fn put_long<K: Sink>(
     payload: &[u8],
 ) -> Result<(), WriteFailed>
     requires { 0 < length payload.now }
-    ensures ok { OnOk result (K.taken sink.new ≡ appended (K.taken sink.old) (line_text (piece_sent head piece payload.now))) }
-    ensures err { OnErr result (TookFront (K.taken sink.old) (K.taken sink.new) (line_text (piece_sent head piece payload.now))) }
-    ensures risen { OnErr result (HasRisen (K.faults sink.old) (K.faults sink.new)) }
-    ensures quiet { OnOk result (K.faults sink.new ≡ K.faults sink.old) }
-    ensures never_falls { K.faults sink.old ≤ K.faults sink.new }
-    ensures same { K.is_same sink.old sink.new }
+    ensures { IsWritten K.taken K.faults K.is_same result sink.old sink.new (line_text (piece_sent head piece payload.now)) }
 {
     let mut text = Held::<NUMBERS>::new();
     piece_numbers(&mut text, head, piece);
@@ -315,12 +250,7 @@ fn put_piece<K: Sink>(
     payload: &[u8],
 ) -> Result<(), WriteFailed>
     requires { length payload.now ≤ 1400 }
-    ensures ok { OnOk result (K.taken sink.new ≡ appended (K.taken sink.old) (line_text (piece_sent head piece payload.now))) }
-    ensures err { OnErr result (TookFront (K.taken sink.old) (K.taken sink.new) (line_text (piece_sent head piece payload.now))) }
-    ensures risen { OnErr result (HasRisen (K.faults sink.old) (K.faults sink.new)) }
-    ensures quiet { OnOk result (K.faults sink.new ≡ K.faults sink.old) }
-    ensures never_falls { K.faults sink.old ≤ K.faults sink.new }
-    ensures same { K.is_same sink.old sink.new }
+    ensures { IsWritten K.taken K.faults K.is_same result sink.old sink.new (line_text (piece_sent head piece payload.now)) }
 {
     if payload.len() <= FEW {
         return put_short(sink, head, piece, payload);
@@ -337,12 +267,7 @@ fn put_call<K: Sink>(
     bytes: &[u8],
 ) -> Result<(), WriteFailed>
     requires { length bytes.now ≤ 350 }
-    ensures ok { OnOk result (K.taken sink.new ≡ appended (K.taken sink.old) (line_text (PlainCall id server service bytes.now))) }
-    ensures err { OnErr result (TookFront (K.taken sink.old) (K.taken sink.new) (line_text (PlainCall id server service bytes.now))) }
-    ensures risen { OnErr result (HasRisen (K.faults sink.old) (K.faults sink.new)) }
-    ensures quiet { OnOk result (K.faults sink.new ≡ K.faults sink.old) }
-    ensures never_falls { K.faults sink.old ≤ K.faults sink.new }
-    ensures same { K.is_same sink.old sink.new }
+    ensures { IsWritten K.taken K.faults K.is_same result sink.old sink.new (line_text (PlainCall id server service bytes.now)) }
 {
     let mut text = FewLine::new();
     call_line(&mut text, id, server, service, bytes);
@@ -360,12 +285,7 @@ fn put_run<K: Sink>(
     hold: u64,
 ) -> Result<(), WriteFailed>
     requires { length request.now + length response.now ≤ 400 }
-    ensures ok { OnOk result (K.taken sink.new ≡ appended (K.taken sink.old) (line_text (PlainRun host id service request.now response.now hold))) }
-    ensures err { OnErr result (TookFront (K.taken sink.old) (K.taken sink.new) (line_text (PlainRun host id service request.now response.now hold))) }
-    ensures risen { OnErr result (HasRisen (K.faults sink.old) (K.faults sink.new)) }
-    ensures quiet { OnOk result (K.faults sink.new ≡ K.faults sink.old) }
-    ensures never_falls { K.faults sink.old ≤ K.faults sink.new }
-    ensures same { K.is_same sink.old sink.new }
+    ensures { IsWritten K.taken K.faults K.is_same result sink.old sink.new (line_text (PlainRun host id service request.now response.now hold)) }
 {
     let mut text = FewLine::new();
     run_line(&mut text, host, id, service, request, response, hold);
@@ -375,12 +295,7 @@ fn put_run<K: Sink>(
 // Writes the line of a call that is done.
 fn put_done<K: Sink>(sink: &mut K, id: CallId, bytes: &[u8]) -> Result<(), WriteFailed>
     requires { length bytes.now ≤ 350 }
-    ensures ok { OnOk result (K.taken sink.new ≡ appended (K.taken sink.old) (line_text (PlainDone id bytes.now))) }
-    ensures err { OnErr result (TookFront (K.taken sink.old) (K.taken sink.new) (line_text (PlainDone id bytes.now))) }
-    ensures risen { OnErr result (HasRisen (K.faults sink.old) (K.faults sink.new)) }
-    ensures quiet { OnOk result (K.faults sink.new ≡ K.faults sink.old) }
-    ensures never_falls { K.faults sink.old ≤ K.faults sink.new }
-    ensures same { K.is_same sink.old sink.new }
+    ensures { IsWritten K.taken K.faults K.is_same result sink.old sink.new (line_text (PlainDone id bytes.now)) }
 {
     let mut text = FewLine::new();
     done_line(&mut text, id, bytes);
@@ -390,12 +305,7 @@ fn put_done<K: Sink>(sink: &mut K, id: CallId, bytes: &[u8]) -> Result<(), Write
 // Writes the line of a datagram that is injected.
 fn put_inject<K: Sink>(sink: &mut K, host: HostId, bytes: &[u8]) -> Result<(), WriteFailed>
     requires { length bytes.now ≤ 350 }
-    ensures ok { OnOk result (K.taken sink.new ≡ appended (K.taken sink.old) (line_text (PlainInject host bytes.now))) }
-    ensures err { OnErr result (TookFront (K.taken sink.old) (K.taken sink.new) (line_text (PlainInject host bytes.now))) }
-    ensures risen { OnErr result (HasRisen (K.faults sink.old) (K.faults sink.new)) }
-    ensures quiet { OnOk result (K.faults sink.new ≡ K.faults sink.old) }
-    ensures never_falls { K.faults sink.old ≤ K.faults sink.new }
-    ensures same { K.is_same sink.old sink.new }
+    ensures { IsWritten K.taken K.faults K.is_same result sink.old sink.new (line_text (PlainInject host bytes.now)) }
 {
     let mut text = FewLine::new();
     inject_line(&mut text, host, bytes);
@@ -404,12 +314,7 @@ fn put_inject<K: Sink>(sink: &mut K, host: HostId, bytes: &[u8]) -> Result<(), W
 
 // Writes the line of an entry of a call, or of an injection.
 fn put_messages<K: Sink>(sink: &mut K, entry: &Entry<'_>) -> Result<(), WriteFailed>
-    ensures ok { OnOk result (K.taken sink.new ≡ appended (K.taken sink.old) (line_text (plain entry.now))) }
-    ensures err { OnErr result (TookFront (K.taken sink.old) (K.taken sink.new) (line_text (plain entry.now))) }
-    ensures risen { OnErr result (HasRisen (K.faults sink.old) (K.faults sink.new)) }
-    ensures quiet { OnOk result (K.faults sink.new ≡ K.faults sink.old) }
-    ensures never_falls { K.faults sink.old ≤ K.faults sink.new }
-    ensures same { K.is_same sink.old sink.new }
+    ensures { IsWritten K.taken K.faults K.is_same result sink.old sink.new (line_text (plain entry.now)) }
 {
     match *entry {
         Entry::Call {
@@ -453,12 +358,7 @@ fn add_few(text: &mut ShortLine, entry: &Entry<'_>) -> bool
 
 // Writes the line of an entry of numbers and words.
 fn put_few<K: Sink>(sink: &mut K, entry: &Entry<'_>) -> Result<(), WriteFailed>
-    ensures ok { OnOk result (K.taken sink.new ≡ appended (K.taken sink.old) (line_text (plain entry.now))) }
-    ensures err { OnErr result (TookFront (K.taken sink.old) (K.taken sink.new) (line_text (plain entry.now))) }
-    ensures risen { OnErr result (HasRisen (K.faults sink.old) (K.faults sink.new)) }
-    ensures quiet { OnOk result (K.faults sink.new ≡ K.faults sink.old) }
-    ensures never_falls { K.faults sink.old ≤ K.faults sink.new }
-    ensures same { K.is_same sink.old sink.new }
+    ensures { IsWritten K.taken K.faults K.is_same result sink.old sink.new (line_text (plain entry.now)) }
 {
     let mut text = ShortLine::new();
     if add_few(&mut text, entry) {
@@ -469,12 +369,7 @@ fn put_few<K: Sink>(sink: &mut K, entry: &Entry<'_>) -> Result<(), WriteFailed>
 
 // Writes the line of an entry that isn't a packet.
 fn put_other<K: Sink>(sink: &mut K, entry: &Entry<'_>) -> Result<(), WriteFailed>
-    ensures ok { OnOk result (K.taken sink.new ≡ appended (K.taken sink.old) (line_text (plain entry.now))) }
-    ensures err { OnErr result (TookFront (K.taken sink.old) (K.taken sink.new) (line_text (plain entry.now))) }
-    ensures risen { OnErr result (HasRisen (K.faults sink.old) (K.faults sink.new)) }
-    ensures quiet { OnOk result (K.faults sink.new ≡ K.faults sink.old) }
-    ensures never_falls { K.faults sink.old ≤ K.faults sink.new }
-    ensures same { K.is_same sink.old sink.new }
+    ensures { IsWritten K.taken K.faults K.is_same result sink.old sink.new (line_text (plain entry.now)) }
 {
     match *entry {
         Entry::Call { .. } | Entry::Run { .. } | Entry::Done { .. } | Entry::Inject { .. } => {
@@ -494,12 +389,7 @@ fn put_packet<K: Sink>(
     payload: &[u8],
 ) -> Result<(), WriteFailed>
     requires { plain entry.now ≡ packet_sent head level body.now payload.now }
-    ensures ok { OnOk result (K.taken sink.new ≡ appended (K.taken sink.old) (line_text (plain entry.now))) }
-    ensures err { OnErr result (TookFront (K.taken sink.old) (K.taken sink.new) (line_text (plain entry.now))) }
-    ensures risen { OnErr result (HasRisen (K.faults sink.old) (K.faults sink.new)) }
-    ensures quiet { OnOk result (K.faults sink.new ≡ K.faults sink.old) }
-    ensures never_falls { K.faults sink.old ≤ K.faults sink.new }
-    ensures same { K.is_same sink.old sink.new }
+    ensures { IsWritten K.taken K.faults K.is_same result sink.old sink.new (line_text (plain entry.now)) }
 {
     match *body {
         Body::Grant { offset, prio } => {
@@ -531,12 +421,7 @@ fn put_packet<K: Sink>(
 /// that is handed in.
 pub fn put_entry<K: Sink>(sink: &mut K, entry: &Entry<'_>) -> Result<(), WriteFailed>
     requires { HasLine (plain entry.now) }
-    ensures ok { OnOk result (K.taken sink.new ≡ appended (K.taken sink.old) (line_text (plain entry.now))) }
-    ensures err { OnErr result (TookFront (K.taken sink.old) (K.taken sink.new) (line_text (plain entry.now))) }
-    ensures risen { OnErr result (HasRisen (K.faults sink.old) (K.faults sink.new)) }
-    ensures quiet { OnOk result (K.faults sink.new ≡ K.faults sink.old) }
-    ensures never_falls { K.faults sink.old ≤ K.faults sink.new }
-    ensures same { K.is_same sink.old sink.new }
+    ensures { IsWritten K.taken K.faults K.is_same result sink.old sink.new (line_text (plain entry.now)) }
 {
     let Entry::Send {
         number,

@@ -1,6 +1,6 @@
 // A node's run, printed.
-ghost use Rattle.std.specs.Prelude.{◌≡◌, ℕ, List, Some, false, OnOk, OnErr};
-ghost use Rattle.homa_io.specs.Outside.{HasRisen, appended, TookFront};
+ghost use Rattle.std.specs.Prelude.{◌≡◌, ℕ, List, Some, false};
+ghost use Rattle.homa_io.specs.Writing.{IsWritten};
 ghost use Rattle.homa_plain.specs.declared.id.HostId.{HostId as Host};
 ghost use Rattle.homa_plain.specs.Text.{line_text};
 ghost use Rattle.node_runs.specs.Texts.{end_entry};
@@ -19,11 +19,7 @@ use std::alloc::Global;
 /// Prints the last line of a run. After an error the sink took a front of it.
 pub fn put_end<K: Sink>(sink: &mut K, end: &NodeEnd) -> Result<(), WriteFailed>
     requires told { IsTold end.now }
-    ensures ok { OnOk result (K.taken sink.new ≡ appended (K.taken sink.old) (line_text (end_entry (end_seen end.now)))) }
-    ensures err { OnErr result (TookFront (K.taken sink.old) (K.taken sink.new) (line_text (end_entry (end_seen end.now)))) }
-    ensures risen { OnErr result (HasRisen (K.faults sink.old) (K.faults sink.new)) }
-    ensures quiet { OnOk result (K.faults sink.new ≡ K.faults sink.old) }
-    ensures same { K.is_same sink.old sink.new }
+    ensures { IsWritten K.taken K.faults K.is_same result sink.old sink.new (line_text (end_entry (end_seen end.now))) }
 {
     let entry = match *end {
         NodeEnd::Ended { turns } => Entry::Finished { n: turns },

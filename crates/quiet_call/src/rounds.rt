@@ -1,6 +1,6 @@
 // In how many rounds the quiet call is done.
-ghost use Rattle.std.specs.Prelude.{◌≡◌, ◌+◌, ◌*◌, ◌≤◌, IfOk, OnOk, OnErr};
-ghost use Rattle.homa_io.specs.Outside.{HasRisen, appended, TookFront};
+ghost use Rattle.std.specs.Prelude.{◌+◌, ◌*◌, ◌≤◌, IfOk};
+ghost use Rattle.homa_io.specs.Writing.{IsWritten};
 ghost use Rattle.homa_plain.specs.Quiet.{IsQuiet};
 ghost use Rattle.quiet_laws.specs.Ends.{IsCalm};
 ghost use Rattle.quiet_call.specs.Text.{quiet_text};
@@ -23,12 +23,7 @@ pub fn quiet_rounds(alloc: Global, settings: &Settings, n: u32, m: u32) -> Resul
 
 /// Writes the line `quiet N M rounds R bound B`. After an error it took a front of the line.
 pub fn put_quiet<K: Sink>(sink: &mut K, n: u32, m: u32, rounds: u64) -> Result<(), WriteFailed>
-    ensures ok { OnOk result (K.taken sink.new ≡ appended (K.taken sink.old) (quiet_text n m rounds)) }
-    ensures err { OnErr result (TookFront (K.taken sink.old) (K.taken sink.new) (quiet_text n m rounds)) }
-    ensures risen { OnErr result (HasRisen (K.faults sink.old) (K.faults sink.new)) }
-    ensures quiet { OnOk result (K.faults sink.new ≡ K.faults sink.old) }
-    ensures never_falls { K.faults sink.old ≤ K.faults sink.new }
-    ensures same { K.is_same sink.old sink.new }
+    ensures { IsWritten K.taken K.faults K.is_same result sink.old sink.new (quiet_text n m rounds) }
 {
     put_line(
         sink,

@@ -1,13 +1,23 @@
 use Rattle.std.proofs.Common.{arith, length-drop, ◌∙◌}
 use Rattle.std.proofs.lemmas.List.{take_rest}
-use Rattle.std.proofs.lemmas.Result.{MatchResult-from_err}
+use Rattle.std.proofs.lemmas.Result.{MatchResult-from_err, IfOk-from_err}
+use Rattle.homa_io.proofs.Counts.{risen_behind, kept_behind}
 use Rattle.homa_io.proofs.Parts.{part_taken, took_front}
 use Rattle.homa_io.proofs.sink.write_all.Goals as goal
 
-pub returns-in_err-written-clause-err : goal.returns-in_err-written-clause-err
-returns-in_err-written-clause-err g c =
-    MatchResult-from_err _ _ _ c.from_residual.ensures.0
-    (λ _. took_front _ _ _ c.args.bytes.now c.loop-written.written c.loop-written.invariant.so_far c.in_err-written.ensures.err)
+pub returns-in_err-written : goal.returns-in_err-written
+returns-in_err-written g c =
+    let failed = c.from_residual.ensures.0 in
+    let so_far = c.loop-written.invariant in
+    let last = c.in_err-written.ensures in
+    record {
+      ok = IfOk-from_err _ _ failed;
+      err = MatchResult-from_err _ _ _ failed (λ _. took_front _ _ _ c.args.bytes.now c.loop-written.written so_far.so_far last.err);
+      risen = MatchResult-from_err _ _ _ failed (λ _. risen_behind _ _ _ so_far.quiet last.risen);
+      quiet = IfOk-from_err _ _ failed;
+      never_falls = kept_behind _ _ _ so_far.quiet last.never_falls;
+      same = g.met.K.Sink.same_on _ _ _ so_far.same last.same;
+    }
 
 pub loop-written-preserved : goal.loop-written-preserved
 loop-written-preserved g c = record {

@@ -3,7 +3,7 @@ use Rattle.std.proofs.lemmas.Result.{MatchResult-from_err, IfOk-from_err}
 use Rattle.homa_plain.specs.Input.{has_no_feed}
 use Rattle.homa_text.specs.Input.{pending_of}
 use Rattle.homa_text.proofs.Feeds.{feed_behind, feed_is_byte}
-use Rattle.homa_text.proofs.Counts.{risen_behind, kept_behind}
+use Rattle.homa_io.proofs.Counts.{risen_behind, kept_behind}
 use Rattle.homa_text.proofs.InLine.{in_line_start, in_line_then, in_line_more, in_line_over, in_line_stops, whole_end, whole_feed, no_bytes, some_bytes}
 use Rattle.homa_text.proofs.scan.find_feed.Goals as goal
 
