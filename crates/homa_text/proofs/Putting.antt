@@ -46,7 +46,8 @@ pub front_on : (a b c : Option (List ℕ)) (x y : List ℕ) → b ≡ appended a
 front_on a b c x y first f = (x ++ f.0, f.1, append_assoc x f.0 f.1 ∙ ap (λ (zs : List ℕ). x ++ zs) f.2, taken_on a b c x f.0 first f.3)
 
 -- a part, and then a front of the next
-put_front : (a b c : Option (List ℕ)) (h base x y rest all : List ℕ) → IsPut a b h (base ++ x) → TookFront b c (h ++ y) → x ++ (y ++ rest) ≡ all → TookFront a c (base ++ all)
+put_front : (a b c : Option (List ℕ)) (h base x y rest all : List ℕ) → IsPut a b h (base ++ x) → TookFront b c (h ++ y)
+    → x ++ (y ++ rest) ≡ all → TookFront a c (base ++ all)
 put_front a b c h base x y rest all so_far f same =
     front_more a c (so_far.written ++ (h ++ y)) rest (base ++ all)
     (front_on a b c so_far.written (h ++ y) so_far.taken f)
@@ -59,7 +60,8 @@ put_front_held a b c h x all so_far f same =
     front_more a c (so_far.written ++ h) [] all (front_on a b c so_far.written h so_far.taken f) (append-nil (so_far.written ++ h) ∙ (so_far.text ∙ same))
 
 -- a part, and then a front of the last
-put_front_last : (a b c : Option (List ℕ)) (h base x y all : List ℕ) → IsPut a b h (base ++ x) → TookFront b c (h ++ y) → x ++ y ≡ all → TookFront a c (base ++ all)
+put_front_last : (a b c : Option (List ℕ)) (h base x y all : List ℕ) → IsPut a b h (base ++ x) → TookFront b c (h ++ y)
+    → x ++ y ≡ all → TookFront a c (base ++ all)
 put_front_last a b c h base x y all so_far f same = put_front a b c h base x y [] all so_far f (ap (λ (zs : List ℕ). x ++ zs) (append-nil y) ∙ same)
 
 -- and how the whole ends
