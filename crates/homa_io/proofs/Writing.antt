@@ -1,4 +1,4 @@
--- A write that fails, and two writes one after the other.
+-- How a write ends, put together of how its parts end.
 use Rattle.std.proofs.Common.{◌≡◌, ℕ, Option, List, [], ◌++◌, arith, refl, sym, ap, subst, ◌∙◌}
 use Rattle.std.specs.Prelude.{Result, Ok, Err, IsErr}
 use Rattle.std.proofs.lemmas.Result.{MatchResult-from_err, IfOk-from_err, on_ok_weaker, on_err_weaker}
@@ -9,12 +9,12 @@ use Rattle.homa_io.proofs.Counts.{risen_behind, kept_behind}
 use Rattle.homa_io.proofs.Fronts.{two_put, front_after}
 
 module _ {K A E : Type 0} {taken : K → Option (List ℕ)} {faults : K → ℕ} {is_same : K → K → Type 0} where
-  -- the error of a part is handed on
+  -- a part failed, and its error is handed on
   pub handed_on : {e : E} {a b : K} {x all : List ℕ} {before done : Type 0} (r : Result A E)
-    → IsErr r
-    → WriteEnds {A = A} taken faults is_same (Err e) a b x before
-    → (TookFront (taken a) (taken b) x → TookFront (taken a) (taken b) all)
-    → WriteEnds taken faults is_same r a b all done
+      → IsErr r
+      → WriteEnds {A = A} taken faults is_same (Err e) a b x before
+      → (TookFront (taken a) (taken b) x → TookFront (taken a) (taken b) all)
+      → WriteEnds taken faults is_same r a b all done
   handed_on r failed part more = record {
     ok = IfOk-from_err r _ failed;
     err = MatchResult-from_err r _ _ failed (λ _. more part.err);
@@ -24,14 +24,14 @@ module _ {K A E : Type 0} {taken : K → Option (List ℕ)} {faults : K → ℕ}
     same = part.same;
   }
 
-  -- the first went well, and then the next ended
+  -- a part went well, and then the next ended
   pub ends_on : {u : A} {r : Result A E} {a b c : K} {x y all : List ℕ} {before next done : Type 0}
-    → ((a b c : K) → is_same a b → is_same b c → is_same a c)
-    → WriteEnds {E = E} taken faults is_same (Ok u) a b x before
-    → WriteEnds taken faults is_same r b c y next
-    → (next → done)
-    → (TookFront (taken b) (taken c) y → TookFront (taken a) (taken c) all)
-    → WriteEnds taken faults is_same r a c all done
+      → ((a b c : K) → is_same a b → is_same b c → is_same a c)
+      → WriteEnds {E = E} taken faults is_same (Ok u) a b x before
+      → WriteEnds taken faults is_same r b c y next
+      → (next → done)
+      → (TookFront (taken b) (taken c) y → TookFront (taken a) (taken c) all)
+      → WriteEnds taken faults is_same r a c all done
   ends_on {r} {a} {b} {c} on first second well failed = record {
     ok = on_ok_weaker r well second.ok;
     err = on_err_weaker r failed second.err;
@@ -41,13 +41,13 @@ module _ {K A E : Type 0} {taken : K → Option (List ℕ)} {faults : K → ℕ}
     same = on a b c first.same second.same;
   }
 
-  -- both went well
+  -- a part went well, and so did the next
   pub went_on : {u v : A} {a b c : K} {x y all : List ℕ} {before next done : Type 0}
-    → ((a b c : K) → is_same a b → is_same b c → is_same a c)
-    → WriteEnds {E = E} taken faults is_same (Ok u) a b x before
-    → WriteEnds {E = E} taken faults is_same (Ok v) b c y next
-    → done
-    → WriteEnds {E = E} taken faults is_same (Ok v) a c all done
+      → ((a b c : K) → is_same a b → is_same b c → is_same a c)
+      → WriteEnds {E = E} taken faults is_same (Ok u) a b x before
+      → WriteEnds {E = E} taken faults is_same (Ok v) b c y next
+      → done
+      → WriteEnds {E = E} taken faults is_same (Ok v) a c all done
   went_on {a} {b} {c} on first second well = record {
     ok = well;
     err = tt;
@@ -61,14 +61,14 @@ module _ {K A E : Type 0} {taken : K → Option (List ℕ)} {faults : K → ℕ}
   pub none_written : {u : A} {a : K} → is_same a a → IsWritten {E = E} taken faults is_same (Ok u) a a []
   none_written {a} same = record { ok = sym (appended-nil (taken a)); err = tt; risen = tt; quiet = refl; never_falls = omega arith; same = same }
 
-  -- a text is written, and then the next
+  -- a text was written, and then the next
   pub written_on : {u : A} {r : Result A E} {a b c : K} {all : List ℕ}
-    → ((a b c : K) → is_same a b → is_same b c → is_same a c)
-    → (x y : List ℕ)
-    → IsWritten {E = E} taken faults is_same (Ok u) a b x
-    → IsWritten taken faults is_same r b c y
-    → x ++ y ≡ all
-    → IsWritten taken faults is_same r a c all
+      → ((a b c : K) → is_same a b → is_same b c → is_same a c)
+      → (x y : List ℕ)
+      → IsWritten {E = E} taken faults is_same (Ok u) a b x
+      → IsWritten taken faults is_same r b c y
+      → x ++ y ≡ all
+      → IsWritten taken faults is_same r a c all
   written_on {a} {b} {c} on x y first second same =
       ends_on on first second
       (λ more. two_put (taken a) (taken b) (taken c) x y first.ok more ∙ ap (λ (text : List ℕ). appended (taken a) text) same)

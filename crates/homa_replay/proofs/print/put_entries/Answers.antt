@@ -27,6 +27,6 @@ loop-i-preserved g c =
     let inside : c.loop-i.i < length told = omega (arith, c.entries-count.ensures, c.loop-i-test.true) in
     record {
       so_far = went_on g.met.K.Sink.same_on c.loop-i.invariant.so_far c.in_ok-put_entry.ensures
-        (wrote_entry line_text told c.loop-i.i e (line_text e) _ _ _ inside (get_or_from_slice_get told c.loop-i.i e e c.entry.ensures.entry) refl
-        c.loop-i.invariant.so_far.ok c.in_ok-put_entry.ensures.ok);
+          (wrote_entry line_text told c.loop-i.i e (line_text e) _ _ _ inside (get_or_from_slice_get told c.loop-i.i e e c.entry.ensures.entry) refl
+          c.loop-i.invariant.so_far.ok c.in_ok-put_entry.ensures.ok);
     }

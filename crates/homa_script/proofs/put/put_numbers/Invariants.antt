@@ -11,5 +11,6 @@ abbrev pub invariant-loop-name : goal.invariant-loop-name
 invariant-loop-name g l =
     let sink = g.K.Sink in
     record {
-      so_far : IsWritten {E = WriteFailed} sink.taken sink.faults sink.is_same (Ok (tt {0})) l.fn.sink l.sink (flat_map setting_text (take l.name-index l.numbers));
+      so_far : IsWritten {E = WriteFailed} sink.taken sink.faults sink.is_same (Ok (tt {0})) l.fn.sink l.sink
+          (flat_map setting_text (take l.name-index l.numbers));
     }

@@ -10,4 +10,5 @@ returns-in_err-put_numbers g c =
 
 pub returns : goal.returns
 returns g c =
-    written_on g.met.K.Sink.same_on _ _ c.in_ok-put_numbers.ensures c.put_line.ensures (whole_text c.args.settings.now _ (omega (arith, c.told_settings.ensures.value)))
+    written_on g.met.K.Sink.same_on _ _ c.in_ok-put_numbers.ensures c.put_line.ensures
+    (whole_text c.args.settings.now _ (omega (arith, c.told_settings.ensures.value)))

@@ -14,7 +14,8 @@ returns-in_err-put_digits g c =
 
 pub loop-done-preserved : goal.loop-done-preserved
 loop-done-preserved g c = record {
-  so_far = puts_on g.met.K.Sink.same_on _ _ _ c.loop-done.invariant.so_far (rw part_length at c.in_ok-put_digits.ensures) (encode_lower-more c.args.bytes.now c.loop-done.done c.min-n.result);
+  so_far = puts_on g.met.K.Sink.same_on _ _ _ c.loop-done.invariant.so_far (rw part_length at c.in_ok-put_digits.ensures)
+      (encode_lower-more c.args.bytes.now c.loop-done.done c.min-n.result);
   within = omega arith;
 }
 

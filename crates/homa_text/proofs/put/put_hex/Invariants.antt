@@ -10,7 +10,8 @@ abbrev pub invariant-loop-done : goal.invariant-loop-done
 invariant-loop-done g l =
     let sink = g.K.Sink in
     record {
-      so_far : Puts {E = WriteFailed} sink.taken sink.faults sink.is_same (Ok (tt {0})) l.fn.sink l.sink l.held.items (l.fn.held.items ++ encode_lower (take l.done l.bytes));
+      so_far : Puts {E = WriteFailed} sink.taken sink.faults sink.is_same (Ok (tt {0})) l.fn.sink l.sink l.held.items
+          (l.fn.held.items ++ encode_lower (take l.done l.bytes));
       within : l.done ≤ length l.bytes;
     }
 

@@ -15,7 +15,8 @@ returns-in_err-put_spaced g c =
 
 pub loop-word-preserved : goal.loop-word-preserved
 loop-word-preserved g c = record {
-  so_far = puts_on g.met.K.Sink.same_on _ _ _ c.loop-word.invariant.so_far c.in_ok-put_spaced.ensures (flat_map-more spaced_word c.args.words.now c.loop-word.word-index _ c.loop-word-test.true);
+  so_far = puts_on g.met.K.Sink.same_on _ _ _ c.loop-word.invariant.so_far c.in_ok-put_spaced.ensures
+      (flat_map-more spaced_word c.args.words.now c.loop-word.word-index _ c.loop-word-test.true);
 }
 
 pub returns : goal.returns

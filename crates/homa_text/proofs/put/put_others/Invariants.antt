@@ -11,5 +11,6 @@ abbrev pub invariant-loop-word : goal.invariant-loop-word
 invariant-loop-word g l =
     let sink = g.K.Sink in
     record {
-      so_far : Puts {E = WriteFailed} sink.taken sink.faults sink.is_same (Ok (tt {0})) l.fn.sink l.sink l.held.items (l.fn.held.items ++ flat_map spaced_word (take l.word-index l.words));
+      so_far : Puts {E = WriteFailed} sink.taken sink.faults sink.is_same (Ok (tt {0})) l.fn.sink l.sink l.held.items
+          (l.fn.held.items ++ flat_map spaced_word (take l.word-index l.words));
     }

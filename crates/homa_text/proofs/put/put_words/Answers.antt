@@ -31,6 +31,7 @@ returns g c =
     let on = g.met.K.Sink.same_on in
     let first = word_text c.args.first in
     let others = flat_map spaced_word c.args.others.now in
-    whole_on on (puts_on on [] (first ++ others) (10 ∷ []) (puts_on on [] first others (rw c.requires at c.in_ok-put_word.ensures) c.in_ok-put_others.ensures refl)
-    c.in_ok-append.ensures refl)
+    whole_on on
+    (puts_on on [] (first ++ others) (10 ∷ [])
+    (puts_on on [] first others (rw c.requires at c.in_ok-put_word.ensures) c.in_ok-put_others.ensures refl) c.in_ok-append.ensures refl)
     (rw c.as_slice.ensures.value at c.write_all.ensures) (line_of_words-spaced first c.args.others.now)

@@ -10,4 +10,6 @@ unfolding line_text
 returns g c =
     let sink = g.K.Sink in
     let texts = ap (λ (words : List Word). map word_text words) c.as_slice.ensures.value ∙ c.words_of_entry.ensures in
-    subst (λ (words : List (List ℕ)). IsWritten sink.taken sink.faults sink.is_same c.put_line.result c.args.sink.now c.put_line.new.sink (line_of_words words)) texts c.put_line.ensures
+    subst
+    (λ (words : List (List ℕ)).
+    IsWritten sink.taken sink.faults sink.is_same c.put_line.result c.args.sink.now c.put_line.new.sink (line_of_words words)) texts c.put_line.ensures
