@@ -1,4 +1,4 @@
--- A write that fails, and two writes one after the other.
+-- How a write ends, put together of how its parts end.
 use Rattle.std.proofs.Common.{◌≡◌, ℕ, Option, List, [], ◌++◌, arith, refl, sym, ap, subst, ◌∙◌}
 use Rattle.std.specs.Prelude.{Result, Ok, Err, IsErr}
 use Rattle.std.proofs.lemmas.Result.{MatchResult-from_err, IfOk-from_err, on_ok_weaker, on_err_weaker}
@@ -9,7 +9,7 @@ use Rattle.homa_io.proofs.Counts.{risen_behind, kept_behind}
 use Rattle.homa_io.proofs.Fronts.{two_put, front_after}
 
 module _ {K A E : Type 0} {taken : K → Option (List ℕ)} {faults : K → ℕ} {is_same : K → K → Type 0} where
-  -- the error of a part is handed on
+  -- a part failed, and its error is handed on
   pub handed_on : {e : E} {a b : K} {x all : List ℕ} {before done : Type 0} (r : Result A E)
       → IsErr r
       → WriteEnds {A = A} taken faults is_same (Err e) a b x before
@@ -24,7 +24,7 @@ module _ {K A E : Type 0} {taken : K → Option (List ℕ)} {faults : K → ℕ}
     same = part.same;
   }
 
-  -- the first went well, and then the next ended
+  -- a part went well, and then the next ended
   pub ends_on : {u : A} {r : Result A E} {a b c : K} {x y all : List ℕ} {before next done : Type 0}
       → ((a b c : K) → is_same a b → is_same b c → is_same a c)
       → WriteEnds {E = E} taken faults is_same (Ok u) a b x before
@@ -41,7 +41,7 @@ module _ {K A E : Type 0} {taken : K → Option (List ℕ)} {faults : K → ℕ}
     same = on a b c first.same second.same;
   }
 
-  -- both went well
+  -- a part went well, and so did the next
   pub went_on : {u v : A} {a b c : K} {x y all : List ℕ} {before next done : Type 0}
       → ((a b c : K) → is_same a b → is_same b c → is_same a c)
       → WriteEnds {E = E} taken faults is_same (Ok u) a b x before
@@ -61,7 +61,7 @@ module _ {K A E : Type 0} {taken : K → Option (List ℕ)} {faults : K → ℕ}
   pub none_written : {u : A} {a : K} → is_same a a → IsWritten {E = E} taken faults is_same (Ok u) a a []
   none_written {a} same = record { ok = sym (appended-nil (taken a)); err = tt; risen = tt; quiet = refl; never_falls = omega arith; same = same }
 
-  -- a text is written, and then the next
+  -- a text was written, and then the next
   pub written_on : {u : A} {r : Result A E} {a b c : K} {all : List ℕ}
       → ((a b c : K) → is_same a b → is_same b c → is_same a c)
       → (x y : List ℕ)

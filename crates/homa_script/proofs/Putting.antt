@@ -21,7 +21,7 @@ took_line {X} f xs i d old mid new h e t =
 abbrev pub first_settings : Settings → ℕ → List ℕ
 first_settings s n = flat_map setting_text (take n (zip names (settings_numbers s)))
 
--- and `go`
+-- with `go` they are the text of the settings, where as many are told
 pub whole_text : (s : Settings) (n : ℕ) → n ≡ told_numbers s → first_settings s n ++ codes "go\n" ≡ settings_text s
 unfolding settings_text
 whole_text s n e = ap (λ (k : ℕ). first_settings s k ++ codes "go\n") e

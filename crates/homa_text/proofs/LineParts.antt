@@ -2,18 +2,23 @@
 use Rattle.std.proofs.Common.{◌≡◌, ◌<◌, ℕ, length, List, [], ◌∷◌, ◌++◌, codes, decimal, refl, ap, sym, ◌∙◌, append_assoc}
 use Rattle.std.specs.List.{join_with_byte}
 use Rattle.homa_plain.specs.Entries.{PlainCall, PlainInject, PlainRun, PlainDone, PlainBury, PlainFree}
-use Rattle.homa_plain.specs.Text.{line_text, line_of_words, hex_word, route_word, role_word, id_word, ack_word}
+use Rattle.homa_plain.specs.Text.{line_text, line_of_words, hex_word, route_word, role_word, id_word, ack_word, kind_word, body_words}
+use Rattle.homa_plain.specs.declared.packet.Body.{Body}
 use Rattle.homa_plain.specs.declared.id.CallId.{CallId}
 use Rattle.homa_plain.specs.declared.id.HostId.{HostId}
 use Rattle.homa_text.specs.declared.frequent_lines.Head.{Head}
 use Rattle.homa_text.specs.declared.frequent_lines.Piece.{Piece}
 use Rattle.hex.specs.Hex.{encode_lower}
 use Rattle.homa_text.proofs.Texts.{hex_word-some}
-use Rattle.homa_text.specs.FrequentLines.{head_text, piece_text, grant_sent, piece_sent}
+use Rattle.homa_text.specs.FrequentLines.{head_text, piece_text, grant_sent, piece_sent, packet_sent, spaced_text}
 
 -- a part that is added behind the parts so far
 pub part_on : (i j old d e all : List ℕ) → i ≡ old ++ d → j ≡ i ++ e → d ++ e ≡ all → j ≡ old ++ all
 part_on i j old d e all f g h = g ∙ (ap (λ (l : List ℕ). l ++ e) f ∙ (append_assoc old d e ∙ ap (λ (l : List ℕ). old ++ l) h))
+
+-- three parts that were added to nothing
+pub three : (i0 i1 i2 i3 x y z : List ℕ) → i0 ≡ [] → i1 ≡ i0 ++ x → i2 ≡ i1 ++ y → i3 ≡ i2 ++ z → i3 ≡ x ++ (y ++ z)
+three i0 i1 i2 i3 x y z e0 e1 e2 e3 = e3 ∙ (ap (λ (l : List ℕ). l ++ z) (e2 ∙ ap (λ (l : List ℕ). l ++ y) (e1 ∙ ap (λ (l : List ℕ). l ++ x) e0)) ∙ append_assoc x y z)
 
 -- four parts that were added to nothing
 pub four : (i0 i1 i2 i3 i4 x y z w : List ℕ) → i0 ≡ [] → i1 ≡ i0 ++ x → i2 ≡ i1 ++ y → i3 ≡ i2 ++ z → i4 ≡ i3 ++ w → i4 ≡ x ++ (y ++ (z ++ w))
@@ -46,6 +51,23 @@ unfolding line_text
 grant_text head level offset prio payload =
     head_on head (codes " GRANT ") _
     ∙ sym (line_spread (codes "send") (decimal head.number ∷ route_word head.from head.to ∷ decimal head.inc ∷ codes "GRANT" ∷ role_word head.role ∷ id_word head.id ∷ decimal offset ∷ decimal prio ∷ []))
+
+spread-spaced : (w : List ℕ) (ws : List (List ℕ)) → spread w ws ≡ w ++ (spaced_text ws ++ 10 ∷ [])
+spread-spaced w [] = refl
+spread-spaced w (v ∷ ws) = ap (λ (l : List ℕ). w ++ (32 ∷ l)) (spread-spaced v ws ∙ sym (append_assoc v (spaced_text ws) (10 ∷ [])))
+
+-- the line of any packet, by its first words and the others, each behind a space
+pub packet_text : (head : Head) (level : ℕ) (body : Body) (payload : List ℕ)
+    → head_text head (32 ∷ (kind_word body ++ codes " ")) ++ (spaced_text (body_words level body payload) ++ 10 ∷ []) ≡ line_text (packet_sent head level body payload)
+unfolding line_text
+packet_text head level body payload =
+    let words = body_words level body payload in
+    let end = spaced_text words ++ 10 ∷ [] in
+    let front : List ℕ → List ℕ = λ x. codes "send" ++ ((32 ∷ decimal head.number) ++ ((32 ∷ route_word head.from head.to) ++ ((32 ∷ decimal head.inc) ++ (32 ∷ x)))) in
+    head_on head (32 ∷ (kind_word body ++ codes " ")) end
+    ∙ (ap front (append_assoc (kind_word body) (codes " ") (role_word head.role ++ ((32 ∷ id_word head.id) ++ end)))
+    ∙ (ap (λ (x : List ℕ). front (kind_word body ++ (32 ∷ (role_word head.role ++ (32 ∷ x))))) (sym (spread-spaced (id_word head.id) words))
+    ∙ sym (line_spread (codes "send") (decimal head.number ∷ route_word head.from head.to ∷ decimal head.inc ∷ kind_word body ∷ role_word head.role ∷ id_word head.id ∷ words))))
 
 pub piece_line_text : (head : Head) (piece : Piece) (payload : List ℕ)
     → head_text head (codes " DATA ") ++ (piece_text piece ++ (hex_word payload ++ 10 ∷ [])) ≡ line_text (piece_sent head piece payload)

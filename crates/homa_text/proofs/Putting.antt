@@ -13,7 +13,7 @@ taken_on : (a b c : Option (List ℕ)) (x y : List ℕ) → b ≡ appended a x �
 taken_on a b c x y first then = then ∙ (ap (λ (o : Option (List ℕ)). appended o y) first ∙ appended-appended a x y)
 
 -- nothing was written yet
-pub put_start : (taken : Option (List ℕ)) (held : List ℕ) → IsPut taken taken held (held ++ [])
+put_start : (taken : Option (List ℕ)) (held : List ℕ) → IsPut taken taken held (held ++ [])
 put_start taken held = record { written = []; taken = sym (appended-nil taken); text = sym (append-nil held) }
 
 -- all was written
@@ -21,11 +21,11 @@ pub put_all : (a b c : Option (List ℕ)) (held x y : List ℕ) → b ≡ append
 put_all a b c held x y first then none = record { written = x ++ y; taken = taken_on a b c x y first then; text = ap (λ (zs : List ℕ). (x ++ y) ++ zs) none ∙ append-nil (x ++ y) }
 
 -- what was held is written
-pub put_whole : (a b c : Option (List ℕ)) (held x all : List ℕ) → IsPut a b held x → c ≡ appended b held → x ≡ all → c ≡ appended a all
+put_whole : (a b c : Option (List ℕ)) (held x all : List ℕ) → IsPut a b held x → c ≡ appended b held → x ≡ all → c ≡ appended a all
 put_whole a b c held x all so_far then same = taken_on a b c so_far.written held so_far.taken then ∙ ap (λ (zs : List ℕ). appended a zs) (so_far.text ∙ same)
 
 -- a part, and then the next
-pub put_on : (a b c : Option (List ℕ)) (h k base x y all : List ℕ) → IsPut a b h (base ++ x) → IsPut b c k (h ++ y) → x ++ y ≡ all → IsPut a c k (base ++ all)
+put_on : (a b c : Option (List ℕ)) (h k base x y all : List ℕ) → IsPut a b h (base ++ x) → IsPut b c k (h ++ y) → x ++ y ≡ all → IsPut a c k (base ++ all)
 put_on a b c h k base x y all so_far next same = record {
   written = so_far.written ++ next.written;
   taken = taken_on a b c so_far.written next.written so_far.taken next.taken;
@@ -46,7 +46,8 @@ pub front_on : (a b c : Option (List ℕ)) (x y : List ℕ) → b ≡ appended a
 front_on a b c x y first f = (x ++ f.0, f.1, append_assoc x f.0 f.1 ∙ ap (λ (zs : List ℕ). x ++ zs) f.2, taken_on a b c x f.0 first f.3)
 
 -- a part, and then a front of the next
-pub put_front : (a b c : Option (List ℕ)) (h base x y rest all : List ℕ) → IsPut a b h (base ++ x) → TookFront b c (h ++ y) → x ++ (y ++ rest) ≡ all → TookFront a c (base ++ all)
+put_front : (a b c : Option (List ℕ)) (h base x y rest all : List ℕ) → IsPut a b h (base ++ x) → TookFront b c (h ++ y)
+    → x ++ (y ++ rest) ≡ all → TookFront a c (base ++ all)
 put_front a b c h base x y rest all so_far f same =
     front_more a c (so_far.written ++ (h ++ y)) rest (base ++ all)
     (front_on a b c so_far.written (h ++ y) so_far.taken f)
@@ -54,15 +55,16 @@ put_front a b c h base x y rest all so_far f same =
     ∙ (append_assoc base (x ++ y) rest ∙ ap (λ (zs : List ℕ). base ++ zs) (append_assoc x y rest ∙ same)))
 
 -- a front of what was held
-pub put_front_held : (a b c : Option (List ℕ)) (h x all : List ℕ) → IsPut a b h x → TookFront b c h → x ≡ all → TookFront a c all
+put_front_held : (a b c : Option (List ℕ)) (h x all : List ℕ) → IsPut a b h x → TookFront b c h → x ≡ all → TookFront a c all
 put_front_held a b c h x all so_far f same =
     front_more a c (so_far.written ++ h) [] all (front_on a b c so_far.written h so_far.taken f) (append-nil (so_far.written ++ h) ∙ (so_far.text ∙ same))
 
 -- a part, and then a front of the last
-pub put_front_last : (a b c : Option (List ℕ)) (h base x y all : List ℕ) → IsPut a b h (base ++ x) → TookFront b c (h ++ y) → x ++ y ≡ all → TookFront a c (base ++ all)
+put_front_last : (a b c : Option (List ℕ)) (h base x y all : List ℕ) → IsPut a b h (base ++ x) → TookFront b c (h ++ y)
+    → x ++ y ≡ all → TookFront a c (base ++ all)
 put_front_last a b c h base x y all so_far f same = put_front a b c h base x y [] all so_far f (ap (λ (zs : List ℕ). x ++ zs) (append-nil y) ∙ same)
 
--- how parts end, and how the whole does
+-- and how the whole ends
 module _ {K A E : Type 0} {taken : K → Option (List ℕ)} {faults : K → ℕ} {is_same : K → K → Type 0} where
   -- nothing is put
   pub none_put : {u : A} {a : K} {held : List ℕ} → is_same a a → Puts {E = E} taken faults is_same (Ok u) a a held (held ++ [])

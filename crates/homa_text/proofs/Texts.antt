@@ -1,14 +1,16 @@
 -- The texts of bytes, words and lines, part by part.
-use Rattle.std.proofs.Common.{◌≡◌, ◌<◌, ◌≤◌, ℕ, ◌+◌, ◌-◌, ◌/◌, ◌%◌, decimal, suc, arith, List, []}
-use Rattle.std.proofs.Common.{◌∷◌, ◌++◌, length, map, take, drop, get_or, refl, sym, ap, ◌∙◌, append_assoc}
+use Rattle.std.proofs.Common.{◌≡◌, ◌<◌, ◌≤◌, ℕ, ◌+◌, ◌-◌, ◌^◌, ◌/◌, ◌%◌, decimal, suc, arith, List, []}
+use Rattle.std.proofs.Common.{◌∷◌, ◌++◌, length, map, take, drop, get_or, refl, sym, ap, ◌∙◌, append_assoc, length-append}
 use Rattle.std.specs.List.{flat_map, join_with_byte}
 use Rattle.std.proofs.lemmas.List.{take_more, take_rest, take-append-drop, append-nil}
-use Rattle.std.proofs.lemmas.Fmt.{decimal_digit, decimal_step}
+use Rattle.std.proofs.lemmas.Fmt.{decimal_digit, decimal_step, length-decimal-le}
 use Rattle.std.proofs.lemmas.Grind.{flat_map-append}
+use Rattle.std.proofs.lemmas.List.Folds.{flat_map-map}
 use Rattle.std.proofs.Math.Seq.{take-add, split_at}
 use Rattle.hex.specs.Hex.{encode_with, lower_digits, encode_lower}
-use Rattle.homa_plain.specs.Text.{hex_word, line_of_words}
+use Rattle.homa_plain.specs.Text.{hex_word, line_of_words, call_word}
 use Rattle.homa_text.specs.declared.written.Word.{Word}
+use Rattle.homa_text.specs.FrequentLines.{spaced_text}
 use Rattle.homa_text.specs.Written.{word_text, spaced_word}
 
 encode_with-append : (t xs ys : List ℕ) → encode_with t (xs ++ ys) ≡ encode_with t xs ++ encode_with t ys
@@ -54,6 +56,14 @@ pub flat_map-more : {X : Type 0} (f : X → List ℕ) (xs : List X) (i : ℕ) (d
 flat_map-more {X} f xs i d h =
     sym (ap (λ (ys : List X). flat_map f ys) (take_more xs i d h) ∙ (flat_map-append f (take i xs) (get_or xs i d ∷ []) ∙ ap (λ (ys : List ℕ). flat_map f (take i xs) ++ ys) (append-nil (f (get_or xs i d)))))
 
+-- the calls so far and the next one, each behind a space
+pub calls-more : (calls : List (ℕ × ℕ)) (i : ℕ) (d : ℕ × ℕ) → i < length calls
+    → spaced_text (map call_word (take i calls)) ++ (32 ∷ call_word (get_or calls i d)) ≡ spaced_text (map call_word (take (i + 1) calls))
+calls-more calls i d h =
+    let spaced : List ℕ → List ℕ = λ word. 32 ∷ word in
+    ap (λ (ys : List ℕ). ys ++ (32 ∷ call_word (get_or calls i d))) (flat_map-map spaced call_word (take i calls))
+    ∙ (flat_map-more (λ (call : ℕ × ℕ). 32 ∷ call_word call) calls i d h ∙ sym (flat_map-map spaced call_word (take (i + 1) calls)))
+
 join : (w : List ℕ) (ws : List Word) → w ++ flat_map spaced_word ws ≡ join_with_byte 32 (w ∷ map word_text ws)
 join w [] = append-nil w
 join w (v ∷ vs) = ap (λ (zs : List ℕ). w ++ (32 ∷ zs)) (join (word_text v) vs)
@@ -78,3 +88,9 @@ one_digit n small = decimal_digit n small
 -- and of two
 pub two_digits : (n : ℕ) → 10 ≤ n → n < 100 → decimal n ≡ (48 + n / 10) ∷ (48 + n % 10) ∷ []
 two_digits n some small = decimal_step n some (omega arith) ∙ ap (λ (ds : List ℕ). ds ++ (48 + n % 10) ∷ []) (decimal_digit (n / 10) (omega arith))
+
+-- a number of 32 bits has at most ten
+pub ten_digits : (old new : List ℕ) (n : ℕ) → n < 2 ^ 32 → new ≡ old ++ decimal n → length new ≤ length old + 10
+ten_digits old new n small same =
+    let few : length (decimal n) ≤ 10 = length-decimal-le 10 n (omega arith) (omega arith) (omega arith) in
+    omega (arith, few, ap (λ (xs : List ℕ). length xs) same, length-append old (decimal n))

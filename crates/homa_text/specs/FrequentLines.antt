@@ -1,6 +1,7 @@
 -- Parts of the line of a packet.
 use Rattle.std.specs.Prelude.{ℕ, List, ◌∷◌, ◌++◌, codes}
 use Rattle.std.specs.Fmt.{decimal}
+use Rattle.std.specs.List.{flat_map}
 use Rattle.homa_plain.specs.declared.packet.Body.{Body}
 use Rattle.homa_plain.specs.declared.packet.Body.TheVariants as body
 use Rattle.homa_plain.specs.Entries.{PlainEntry, PlainSend}
@@ -33,3 +34,16 @@ grant_sent head level offset prio payload = packet_sent head level (body.Grant o
 -- a piece of a message
 abbrev pub piece_sent : Head → Piece → List ℕ → PlainEntry
 piece_sent head piece payload = packet_sent head piece.level (body.Data piece.size piece.offset piece.version piece.service piece.ack) payload
+
+-- a RESEND, BUSY, UNKNOWN, NEED_ACK or ACK
+abbrev pub IsBare : Body → Type 0
+IsBare (body.Resend from to prio) = Unit {0}
+IsBare body.Busy = Unit {0}
+IsBare (body.Unknown reason) = Unit {0}
+IsBare body.NeedAck = Unit {0}
+IsBare (body.Ack more) = Unit {0}
+IsBare other = ⊥
+
+-- words, each behind a space
+abbrev pub spaced_text : List (List ℕ) → List ℕ
+spaced_text words = flat_map (λ (word : List ℕ). 32 ∷ word) words

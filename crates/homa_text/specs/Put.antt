@@ -9,6 +9,6 @@ pub record IsPut (old new : Option (List ℕ)) (held whole : List ℕ) : Type 0 
   pub taken : new ≡ appended old written
   pub text : written ++ held ≡ whole
 
--- a text is put, or a write failed
+-- where it went well a front of the text was written and the rest is held
 abbrev pub Puts : {K A E : Type 0} → (K → Option (List ℕ)) → (K → ℕ) → (K → K → Type 0) → Result A E → K → K → List ℕ → List ℕ → Type 0
 Puts taken faults is_same r old new held whole = WriteEnds taken faults is_same r old new whole (IsPut (taken old) (taken new) held whole)

@@ -1,14 +1,14 @@
 // Lines of the entries that a trace has most of, straight into one buffer.
-ghost use Rattle.std.specs.Prelude.{◌∷◌, codes, decimal, ◌≡◌, ◌≤◌, ◌+◌, ◌*◌, ◌++◌, ◌<◌, ℕ, List, [], length};
+ghost use Rattle.std.specs.Prelude.{◌∷◌, codes, decimal, ◌≡◌, ◌≤◌, ◌+◌, ◌*◌, ◌++◌, ◌<◌, ℕ, List, [], length, map};
 ghost use Rattle.homa_plain.specs.declared.packet.Body.TheVariants as body;
-ghost use Rattle.homa_plain.specs.Text.{id_word, role_word, route_word, call_word, ack_word, hex_word, line_text};
+ghost use Rattle.homa_plain.specs.Text.{id_word, role_word, route_word, call_word, ack_word, hex_word, kind_word, body_words, line_text};
 ghost use Rattle.homa_plain.specs.Entries.{PlainClock, PlainDeliver};
-ghost use Rattle.homa_text.specs.FrequentLines.{head_text, numbers_text, piece_text, grant_sent, piece_sent};
+ghost use Rattle.homa_text.specs.FrequentLines.{head_text, numbers_text, piece_text, grant_sent, piece_sent, packet_sent, spaced_text, IsBare};
 ghost use Rattle.arrayvec.specs.ArrayVec.{array_vec_len};
 
 use crate::adding::{add, add_hex, add_number};
 use arrayvec::ArrayVec;
-use homa_plain::{CallId, HostId, Role};
+use homa_plain::{Body, CallId, HostId, Role};
 
 /// Room for a line of words without bytes.
 pub(crate) type ShortLine = ArrayVec<u8, 256>;
@@ -58,12 +58,12 @@ pub(crate) fn deliver_line(text: &mut ShortLine, packet: u64)
     add(text, b"\n");
 }
 
-// Adds an incarnation and a sequence number.
+// Adds an incarnation and a sequence number, of at most ten digits each.
 #[inline(always)]
 fn add_call<const N: usize>(text: &mut ArrayVec<u8, N>, inc: u32, seq: u32)
     requires { array_vec_len text.old + 41 ≤ N }
     ensures items { text.new.items ≡ text.old.items ++ call_word (inc, seq) }
-    ensures len { array_vec_len text.new ≤ array_vec_len text.old + 41 }
+    ensures len { array_vec_len text.new ≤ array_vec_len text.old + 21 }
 {
     add_number(text, u64::from(inc));
     add(text, b".");
@@ -75,7 +75,7 @@ fn add_call<const N: usize>(text: &mut ArrayVec<u8, N>, inc: u32, seq: u32)
 pub(crate) fn add_id<const N: usize>(text: &mut ArrayVec<u8, N>, id: CallId)
     requires { array_vec_len text.old + 62 ≤ N }
     ensures items { text.new.items ≡ text.old.items ++ id_word id }
-    ensures len { array_vec_len text.new ≤ array_vec_len text.old + 62 }
+    ensures len { array_vec_len text.new ≤ array_vec_len text.old + 42 }
 {
     add_number(text, u64::from(id.client.0));
     add(text, b".");
@@ -149,7 +149,7 @@ pub(crate) fn add_spaced<const N: usize>(text: &mut ArrayVec<u8, N>, n: u64)
 fn add_head<const N: usize>(text: &mut ArrayVec<u8, N>, head: Head, kind: &[u8])
     requires { array_vec_len text.old + length kind.now + 156 ≤ N }
     ensures items { text.new.items ≡ text.old.items ++ head_text head kind.now }
-    ensures len { array_vec_len text.new ≤ array_vec_len text.old + length kind.now + 156 }
+    ensures len { array_vec_len text.new ≤ array_vec_len text.old + length kind.now + 136 }
 {
     add(text, b"send");
     add_spaced(text, head.number);
@@ -170,6 +170,69 @@ pub(crate) fn grant_line(text: &mut ShortLine, head: Head, offset: u64, prio: u6
     add_head(text, head, b" GRANT ");
     add_spaced(text, offset);
     add_spaced(text, prio);
+    add(text, b"\n");
+}
+
+// The kind of a packet, with a space before and behind it.
+#[inline(always)]
+fn spaced_kind(body: &Body) -> &'static [u8]
+    ensures kind { result.now ≡ 32 ∷ (kind_word body.now ++ codes " ") }
+    ensures few { length result.now ≤ 10 }
+{
+    match body {
+        Body::Data { .. } => b" DATA ",
+        Body::Grant { .. } => b" GRANT ",
+        Body::Resend { .. } => b" RESEND ",
+        Body::Busy => b" BUSY ",
+        Body::Cutoffs(_) => b" CUTOFFS ",
+        Body::Unknown { .. } => b" UNKNOWN ",
+        Body::NeedAck => b" NEED_ACK ",
+        Body::Ack { .. } => b" ACK ",
+    }
+}
+
+// Adds calls, each behind a space.
+#[inline(always)]
+fn add_calls(text: &mut ShortLine, calls: &[(u32, u32)])
+    requires { array_vec_len text.old + 22 * length calls.now + 20 ≤ 256 }
+    ensures items { text.new.items ≡ text.old.items ++ spaced_text (map call_word calls.now) }
+    ensures len { array_vec_len text.new ≤ array_vec_len text.old + 22 * length calls.now }
+{
+    for (inc, seq) in calls {
+        add(text, b" ");
+        add_call(text, *inc, *seq);
+    }
+}
+
+// Adds what a packet says, each word behind a space.
+#[inline(always)]
+fn add_bare(text: &mut ShortLine, body: &Body)
+    requires bare { IsBare body.now }
+    requires room { array_vec_len text.old ≤ 148 }
+    ensures items { (level : ℕ) (payload : List ℕ) → text.new.items ≡ text.old.items ++ spaced_text (body_words level body.now payload) }
+    ensures len { array_vec_len text.new ≤ array_vec_len text.old + 88 }
+{
+    match *body {
+        Body::Resend { from, to, prio } => {
+            add_spaced(text, u64::from(from));
+            add_spaced(text, u64::from(to));
+            add_spaced(text, u64::from(prio));
+        }
+        Body::Unknown { reason } => add_spaced(text, u64::from(reason)),
+        Body::Ack { ref more } => add_calls(text, more.calls()),
+        Body::Busy | Body::NeedAck => {}
+        Body::Data { .. } | Body::Grant { .. } | Body::Cutoffs(_) => unreachable!(),
+    }
+}
+
+/// A RESEND, BUSY, UNKNOWN, NEED_ACK or ACK.
+pub(crate) fn bare_line(text: &mut ShortLine, head: Head, body: &Body)
+    requires empty { text.old.items ≡ [] }
+    requires bare { IsBare body.now }
+    ensures { (level : ℕ) (payload : List ℕ) → text.new.items ≡ line_text (packet_sent head level body.now payload) }
+{
+    add_head(text, head, spaced_kind(body));
+    add_bare(text, body);
     add(text, b"\n");
 }
 

@@ -6,7 +6,7 @@ ghost use Rattle.homa_io.specs.Writing.{IsWritten};
 ghost use Rattle.homa_plain.specs.Entries.{PlainCall, PlainInject, PlainRun, PlainDone, plain};
 ghost use Rattle.homa_plain.specs.Text.{line_of_words, line_text};
 ghost use Rattle.homa_text.specs.Put.{Puts};
-ghost use Rattle.homa_text.specs.FrequentLines.{grant_sent, piece_sent, packet_sent};
+ghost use Rattle.homa_text.specs.FrequentLines.{grant_sent, piece_sent, packet_sent, IsBare};
 ghost use Rattle.homa_text.specs.Told.{HasLine};
 ghost use Rattle.homa_text.specs.Written.{word_text, spaced_word};
 
@@ -17,7 +17,8 @@ use crate::frequent_calls::{
     bury_line, call_line, done_line, free_line, inject_line, junk_line, run_line,
 };
 use crate::frequent_lines::{
-    Head, Piece, ShortLine, clock_line, deliver_line, grant_line, piece_line, piece_numbers,
+    Head, Piece, ShortLine, bare_line, clock_line, deliver_line, grant_line, piece_line,
+    piece_numbers,
 };
 use crate::written::{call_text, id_text, number_text, route_text};
 use arrayvec::ArrayVec;
@@ -206,6 +207,22 @@ fn put_grant<K: Sink>(
 {
     let mut text = ShortLine::new();
     grant_line(&mut text, head, offset, prio);
+    write_all(sink, text.as_slice())
+}
+
+// Writes the line of a RESEND, BUSY, UNKNOWN, NEED_ACK or ACK.
+fn put_bare<K: Sink>(
+    sink: &mut K,
+    head: Head,
+    level: u8,
+    body: &Body,
+    payload: &[u8],
+) -> Result<(), WriteFailed>
+    requires { IsBare body.now }
+    ensures { IsWritten K.taken K.faults K.is_same result sink.old sink.new (line_text (packet_sent head level body.now payload.now)) }
+{
+    let mut text = ShortLine::new();
+    bare_line(&mut text, head, body);
     write_all(sink, text.as_slice())
 }
 
@@ -413,7 +430,12 @@ fn put_packet<K: Sink>(
             };
             put_piece(sink, head, piece, payload)
         }
-        _ => put_words_of(sink, entry),
+        Body::Data { .. } | Body::Cutoffs(_) => put_words_of(sink, entry),
+        Body::Resend { .. }
+        | Body::Busy
+        | Body::Unknown { .. }
+        | Body::NeedAck
+        | Body::Ack { .. } => put_bare(sink, head, level, body, payload),
     }
 }
 
