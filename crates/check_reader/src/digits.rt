@@ -7,7 +7,7 @@ ghost use Rattle.check_reader.specs.Digits.{digit_value, is_value, joined, lower
 const NO_DIGIT: u8 = 255;
 
 // How many bytes are read at once.
-const PART: usize = 32;
+const PART: usize = 16;
 
 // The value of a lower-case digit, or more than each for another byte. It is computed without a branch, so that it is
 // done for many digits at once.
@@ -62,7 +62,7 @@ fn both(a: bool, b: bool) -> bool
 #[inline(always)]
 fn read_part(word: &[u8], out: &mut [u8]) -> bool
     requires pairs { length word.now ≡ 2 * length out.old }
-    requires few { length out.old ≤ 32 }
+    requires few { length out.old ≤ 16 }
     ensures { (if result then Some out.new else None) ≡ lower_pairs word.now }
 {
     let mut room = [0; 2 * PART];

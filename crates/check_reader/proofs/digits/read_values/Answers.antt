@@ -1,7 +1,7 @@
-use Rattle.std.proofs.Common.{◌≡◌, ℕ, ◌∙◌, ◌++◌, ◌&&◌, [], ◌∷◌, ap, arith, max, refl, sym}
+use Rattle.std.proofs.Common.{◌≡◌, ℕ, ◌∙◌, ◌++◌, ◌&&◌, [], ◌∷◌, ap, arith, max, sym}
 use Rattle.std.specs.Ordering.{ord_max, nat_cmp}
 use Rattle.std.proofs.lemmas.Bool.Decides.{nat_tests}
-use Rattle.std.proofs.lemmas.List.{map_more, take_all, take_more_set}
+use Rattle.std.proofs.lemmas.List.{map_more, take_more_set}
 use Rattle.std.proofs.lemmas.List.Folds.{list_all_more}
 use Rattle.check_reader.specs.Digits.{digit_value, is_value}
 use Rattle.check_reader.proofs.DigitLaws.{greatest_is}
