@@ -80,13 +80,13 @@ some_bytes [] some = absurd (omega arith)
 some_bytes (b ∷ bytes) some = refl
 
 -- a test that no digit passes
-none_passes : (test : ℕ → Bool) → ((k : ℕ) → test (slice_index lower_digits k) ≡ false) → (bytes : List ℕ) → list_any test (encode_lower bytes) ≡ false
+pub none_passes : (test : ℕ → Bool) → ((k : ℕ) → test (slice_index lower_digits k) ≡ false) → (bytes : List ℕ) → list_any test (encode_lower bytes) ≡ false
 unfolding encode_with
 none_passes test h [] = refl
 none_passes test h (b ∷ bytes) =
     or_none (test (slice_index lower_digits (b / 16))) _ (h (b / 16)) (or_none (test (slice_index lower_digits (b % 16))) _ (h (b % 16)) (none_passes test h bytes))
 
-none_at : (test : ℕ → Bool) → test 0 ≡ false → (t : List ℕ) → list_any test t ≡ false → (k : ℕ) → test (slice_index t k) ≡ false
+pub none_at : (test : ℕ → Bool) → test 0 ≡ false → (t : List ℕ) → list_any test t ≡ false → (k : ℕ) → test (slice_index t k) ≡ false
 none_at test z [] e k = z
 none_at test z (c ∷ cs) e zero = (or_parts (test c) (list_any test cs) e).0
 none_at test z (c ∷ cs) e (suc k) = none_at test z cs (or_parts (test c) (list_any test cs) e).1 k

@@ -6,6 +6,7 @@ pub mod NumberWords
 pub mod Readers
 pub mod WordLaws
 pub mod HexLaws
+pub mod LastWords
 pub mod BodyLaws
 pub mod FaultLaws
 pub mod SettingsLaws

@@ -2,7 +2,15 @@
 use Rattle.std.specs.Prelude.{ℕ, Option, None, Some, List, [], length}
 use Rattle.std.specs.Option.{option_map}
 use Rattle.check_reader.specs.declared.fields.Fields.{Fields}
+use Rattle.check_reader.specs.declared.fields.Separator.{Separator}
+use Rattle.check_reader.specs.declared.fields.Separator.TheVariants.{Space, Dot, Arrow}
 use Rattle.check_reader.specs.Fields.{parts}
+
+-- the byte that stands between two words
+abbrev pub byte_of : Separator → ℕ
+byte_of Space = 32
+byte_of Dot = 46
+byte_of Arrow = 62
 
 -- the parts of the text that is left, if one is
 abbrev pub parts_left : ℕ → Option (List ℕ) → List (List ℕ)
@@ -11,7 +19,7 @@ parts_left separator (Some text) = parts separator text
 
 -- the words
 abbrev pub left : Fields → List (List ℕ)
-left fields = parts_left fields.separator (option_map (λ text. text.now) fields.rest)
+left fields = parts_left (byte_of fields.separator) (option_map (λ text. text.now) fields.rest)
 
 -- how long the text is, if one is left
 abbrev pub length_or_none : Option (List ℕ) → ℕ

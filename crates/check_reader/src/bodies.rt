@@ -5,7 +5,7 @@ ghost use Rattle.check_reader.specs.Fields.{times, word_at, number_at, cutoffs_a
 ghost use Rattle.check_reader.specs.FieldsLeft.{left, size};
 ghost use Rattle.check_reader.specs.Bodies.{kind_name, kind_of, calls_in, piece_at, data_in, grant_in, resend_in, body_in};
 
-use crate::fields::{Fields, call_from, read_ack, read_hex, read_u8, read_u16, read_u32};
+use crate::fields::{Fields, call_from, read_ack, read_last_hex, read_u8, read_u16, read_u32};
 use homa_plain::{Body, Cutoffs, More};
 
 // A packet's kind.
@@ -139,8 +139,7 @@ fn read_data<'a>(words: Fields<'_>, out: &'a mut [u8]) -> Option<(u8, Body, &'a 
 {
     let (level, words) = read_u8(words)?;
     let (body, words) = read_piece(words)?;
-    let (payload, _, words) = read_hex(words, out)?;
-    words.end()?;
+    let payload = read_last_hex(words, out)?;
     Some((level, body, payload))
 }
 

@@ -1,32 +1,27 @@
 // Bytes that pairs of lower-case hex digits spell.
-ghost use Rattle.std.specs.Prelude.{◌≡◌, ◌*◌, ◌≤◌, ◌&&◌, Some, None, if◌then◌else◌, length, map};
-ghost use Rattle.std.specs.List.{list_all};
-ghost use Rattle.check_reader.specs.Digits.{digit_value, is_value, joined, lower_pairs};
-
-// What a byte that is no digit stands for.
-const NO_DIGIT: u8 = 255;
+ghost use Rattle.std.specs.Prelude.{◌≡◌, ◌*◌, ◌≤◌, ◌&&◌, Some, None, if◌then◌else◌, length};
+ghost use Rattle.check_reader.specs.Digits.{digit_value, is_value, joined, lower_pairs, values_of};
 
 // How many bytes are read at once.
-const PART: usize = 32;
+const PART: usize = 16;
 
 // The value of a lower-case digit, or more than each for another byte. It is computed without a branch, so that it is
 // done for many digits at once.
 #[inline(always)]
 fn value(digit: u8) -> u8
-    ensures { result ≡ digit_value digit }
+    ensures { (if is_value result then Some result else None) ≡ digit_value digit }
 {
     let number = digit.wrapping_sub(b'0');
-    let letter = digit.wrapping_sub(b'a');
-    let of_letter = if letter < 6 { letter + 10 } else { NO_DIGIT };
-    if number < 10 { number } else { of_letter }
+    let letter = digit.wrapping_sub(b'a').saturating_add(10);
+    if number < 10 { number } else { letter }
 }
 
 // Reads the values of digits, and answers the greatest of them.
 #[inline(always)]
+#[tactic(auto, unfolding(crate::specs::Digits::values_of))]
 fn read_values(word: &[u8], values: &mut [u8]) -> u8
     requires { length values.old ≡ length word.now }
-    ensures values { values.new ≡ map digit_value word.now }
-    ensures are { is_value result ≡ list_all (λ digit. is_value (digit_value digit)) word.now }
+    ensures { (if is_value result then Some values.new else None) ≡ values_of word.now }
 {
     let mut greatest = 0;
     for i in 0..word.len() {
@@ -62,7 +57,7 @@ fn both(a: bool, b: bool) -> bool
 #[inline(always)]
 fn read_part(word: &[u8], out: &mut [u8]) -> bool
     requires pairs { length word.now ≡ 2 * length out.old }
-    requires few { length out.old ≤ 32 }
+    requires few { length out.old ≤ 16 }
     ensures { (if result then Some out.new else None) ≡ lower_pairs word.now }
 {
     let mut room = [0; 2 * PART];

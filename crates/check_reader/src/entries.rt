@@ -12,8 +12,8 @@ ghost use Rattle.check_reader.specs.Told.{Fits, IsUsual};
 use crate::bodies::{read_body, read_cutoffs, read_kind, read_numbers};
 use crate::faults::read_fault;
 use crate::fields::{
-    Fields, read_hex, read_host, read_id, read_role, read_route, read_u8, read_u32, read_u64,
-    read_why,
+    Fields, Separator, read_hex, read_host, read_id, read_last_hex, read_role, read_route, read_u8,
+    read_u32, read_u64, read_why,
 };
 use homa_plain::{Entry, Settings};
 
@@ -172,8 +172,7 @@ fn read_call<'a>(words: Fields<'_>, out: &'a mut [u8]) -> Option<Entry<'a>>
     let (id, words) = read_id(words)?;
     let (server, words) = read_host(words)?;
     let (service, words) = read_u8(words)?;
-    let (bytes, _, words) = read_hex(words, out)?;
-    words.end()?;
+    let bytes = read_last_hex(words, out)?;
     Some(Entry::Call {
         id,
         server,
@@ -230,8 +229,7 @@ fn read_inject<'a>(words: Fields<'_>, out: &'a mut [u8]) -> Option<Entry<'a>>
     ensures { option_map plain result ≡ inject_in (left words.entry) }
 {
     let (host, words) = read_host(words)?;
-    let (bytes, _, words) = read_hex(words, out)?;
-    words.end()?;
+    let bytes = read_last_hex(words, out)?;
     Some(Entry::Inject { host, bytes })
 }
 
@@ -314,8 +312,7 @@ fn read_done<'a>(words: Fields<'_>, out: &'a mut [u8]) -> Option<Entry<'a>>
     ensures { option_map plain result ≡ done_in (left words.entry) }
 {
     let (id, words) = read_id(words)?;
-    let (bytes, _, words) = read_hex(words, out)?;
-    words.end()?;
+    let bytes = read_last_hex(words, out)?;
     Some(Entry::Done { id, bytes })
 }
 
@@ -444,8 +441,7 @@ fn read_recv<'a>(words: Fields<'_>, out: &'a mut [u8]) -> Option<Entry<'a>>
 {
     let (host, words) = read_host(words)?;
     let (from, words) = read_host(words)?;
-    let (bytes, _, words) = read_hex(words, out)?;
-    words.end()?;
+    let bytes = read_last_hex(words, out)?;
     Some(Entry::Recv { host, from, bytes })
 }
 
@@ -519,7 +515,7 @@ fn read_line<'a>(line: &[u8], bytes: &'a mut [u8]) -> Option<Entry<'a>>
     requires { length line.now ≤ 2 * length bytes.old }
     ensures { option_map plain result ≡ entry_of line.now }
 {
-    let (word, words) = Fields::of(line, b' ').next()?;
+    let (word, words) = Fields::of(line, Separator::Space).next()?;
     let form = form_from(word)?;
     read_form(form, words, bytes)
 }

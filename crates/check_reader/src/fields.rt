@@ -2,19 +2,40 @@
 ghost use Rattle.std.specs.Prelude.{◌≡◌, ◌+◌, ◌*◌, ◌^◌, ◌≤◌, ◌∷◌, length, is_some, IfSome};
 ghost use Rattle.std.specs.Option.{option_map};
 ghost use Rattle.check_reader.specs.Fields.{word_at, number_at, number_below, host_at, id_of, id_at, call_of, route_of, route_at, hex_of, hex_at};
-ghost use Rattle.check_reader.specs.Fields.{ack_of, ack_at, role_of, role_at, why_of, why_at, is_empty, parts};
-ghost use Rattle.check_reader.specs.FieldsLeft.{left, size, parts_left, length_or_none};
+ghost use Rattle.check_reader.specs.Fields.{ack_of, ack_at, role_of, role_at, why_of, why_at, is_empty, parts, whole};
+ghost use Rattle.check_reader.specs.FieldsLeft.{byte_of, left, size, parts_left, length_or_none};
 
 use crate::digits::read_pairs;
 use homa_plain::{CallId, HostId, Role, Why};
 use homa_text::read_number;
 use memchr::memchr;
 
+// What stands between two words.
+#[derive(Clone, Copy)]
+pub(crate) enum Separator {
+    Space,
+    Dot,
+    Arrow,
+}
+
+impl Separator {
+    // Its byte.
+    fn byte(self) -> u8
+        ensures { result ≡ byte_of self }
+    {
+        match self {
+            Separator::Space => b' ',
+            Separator::Dot => b'.',
+            Separator::Arrow => b'>',
+        }
+    }
+}
+
 // What is left of a text's words, between which `separator` stands.
 #[derive(Clone, Copy)]
 pub(crate) struct Fields<'a> {
     rest: Option<&'a [u8]>,
-    separator: u8,
+    separator: Separator,
 }
 
 // What stands before the first separator, and what stands behind it, if there is one.
@@ -30,8 +51,8 @@ fn cut(text: &[u8], separator: u8) -> (&[u8], Option<&[u8]>)
 
 impl<'a> Fields<'a> {
     // The words of a text.
-    pub(crate) fn of(text: &'a [u8], separator: u8) -> Fields<'a>
-        ensures words { left result ≡ parts separator text.now }
+    pub(crate) fn of(text: &'a [u8], separator: Separator) -> Fields<'a>
+        ensures words { left result ≡ parts (byte_of separator) text.now }
         ensures size { size result ≡ length text.now }
     {
         Fields {
@@ -45,8 +66,8 @@ impl<'a> Fields<'a> {
         ensures word { option_map (λ x. (x.0.now, left x.1)) result ≡ word_at (λ word. Some word) (left self.entry) }
         ensures shorter { IfSome result (λ x. length x.0.now + size x.1 ≤ size self.entry) }
     {
-        let (word, rest) = cut(self.rest?, self.separator);
         let separator = self.separator;
+        let (word, rest) = cut(self.rest?, separator.byte());
         Some((word, Fields { rest, separator }))
     }
 
@@ -119,7 +140,7 @@ pub(crate) fn read_host(fields: Fields<'_>) -> Option<(HostId, Fields<'_>)>
 fn id_from(word: &[u8]) -> Option<CallId>
     ensures { result ≡ id_of word.now }
 {
-    let parts = Fields::of(word, b'.');
+    let parts = Fields::of(word, Separator::Dot);
     let (client, parts) = read_host(parts)?;
     let (inc, parts) = read_u32(parts)?;
     let (seq, parts) = read_u32(parts)?;
@@ -141,7 +162,7 @@ pub(crate) fn read_id(fields: Fields<'_>) -> Option<(CallId, Fields<'_>)>
 pub(crate) fn call_from(word: &[u8]) -> Option<(u32, u32)>
     ensures { result ≡ call_of word.now }
 {
-    let parts = Fields::of(word, b'.');
+    let parts = Fields::of(word, Separator::Dot);
     let (inc, parts) = read_u32(parts)?;
     let (seq, parts) = read_u32(parts)?;
     parts.end()?;
@@ -153,7 +174,7 @@ pub(crate) fn call_from(word: &[u8]) -> Option<(u32, u32)>
 fn route_from(word: &[u8]) -> Option<(HostId, HostId)>
     ensures { result ≡ route_of word.now }
 {
-    let parts = Fields::of(word, b'>');
+    let parts = Fields::of(word, Separator::Arrow);
     let (from, parts) = read_host(parts)?;
     let (to, parts) = read_host(parts)?;
     parts.end()?;
@@ -269,4 +290,13 @@ pub(crate) fn read_hex<'a, 'b>(
     let (word, rest) = fields.next()?;
     let (bytes, out) = hex_from(word, out)?;
     Some((bytes, out, rest))
+}
+
+// Bytes, which are the last word. No separator is looked for: it is no digit, so that hex in which one stands is refused.
+pub(crate) fn read_last_hex<'a>(fields: Fields<'_>, out: &'a mut [u8]) -> Option<&'a [u8]>
+    requires { size fields ≤ 2 * length out.old }
+    ensures { option_map (λ x. x.now) result ≡ whole (λ bytes. bytes) hex_at (left fields.entry) }
+{
+    let (bytes, _) = hex_from(fields.rest?, out)?;
+    Some(bytes)
 }

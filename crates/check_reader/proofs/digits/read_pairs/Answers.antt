@@ -12,12 +12,12 @@ loop-out-preserved c =
     let out = c.loop-out.out in
     let done = c.loop-out.done in
     let bytes = c.read_part-part.new.out in
-    let even = length-take-le 64 (drop (2 * done) word) (omega (arith, length-drop (2 * done) word)) in
-    let two : 2 * done + 2 * 32 ≡ 2 * (done + 32) = omega arith in
-    let front = take-put_mid done (done + 32 - done) out bytes (done + 32) (omega arith) (omega arith) in
+    let even = length-take-le 32 (drop (2 * done) word) (omega (arith, length-drop (2 * done) word)) in
+    let two : 2 * done + 2 * 16 ≡ 2 * (done + 16) = omega arith in
+    let front = take-put_mid done (done + 16 - done) out bytes (done + 16) (omega arith) (omega arith) in
     record {
       so_far =
-          spelled_more word bytes (take done out) c.loop-out.are c.read_part-part.result (2 * done) 32 even
+          spelled_more word bytes (take done out) c.loop-out.are c.read_part-part.result (2 * done) 16 even
           (rw part_length at c.read_part-part.ensures) c.loop-out.invariant.so_far
           ∙ (λ j. spelled (sym c.both-now.ensures j) (sym front j) (lower_pairs (drop (two j) word)));
       within = omega arith;
