@@ -9,4 +9,5 @@ pub mod Came
 pub mod Part
 pub mod Opens
 pub mod Stops
+pub mod Faults
 pub mod Behind

@@ -3,6 +3,7 @@ ghost use Rattle.std.specs.Prelude.{◌≡◌, ◌≤◌, ◌<◌, [], None, tru
 ghost use Rattle.std.specs.Result.{result_err};
 ghost use Rattle.homa_io.specs.Outside.{HasRisen, unread, IsAtEnd};
 ghost use Rattle.script_lines.specs.Taking.{TakesLines};
+ghost use Rattle.homa_replay.specs.Faults.{AreFaults};
 ghost use Rattle.homa_replay.specs.Part.{answer_of};
 
 use crate::part::Part;
@@ -118,12 +119,7 @@ pub(crate) fn read_ahead<T: Part, S: Source, K: Holding>(
     ensures took { OnOk result (TakesLines reader.old.place reader.new.place (S.left source.old) (S.left source.new)) }
     ensures pending { length reader.new.place.pending ≤ 65536 }
     ensures taken { K.taken sink.new ≡ K.taken sink.old }
-    ensures quiet_source { OnOk result (S.faults source.new ≡ S.faults source.old) }
-    ensures quiet_sink { OnOk result (K.faults sink.new ≡ K.faults sink.old) }
-    ensures read_risen { IsErrOf result Stop.Read → HasRisen (S.faults source.old) (S.faults source.new) }
-    ensures read_quiet { IsErrOf result Stop.Read → K.faults sink.new ≡ K.faults sink.old }
-    ensures write_risen { IsErrOf result Stop.Write → HasRisen (K.faults sink.old) (K.faults sink.new) }
-    ensures write_quiet { IsErrOf result Stop.Write → S.faults source.new ≡ S.faults source.old }
+    ensures faults { AreFaults (S.faults source.old) (S.faults source.new) (K.faults sink.old) (K.faults sink.new) result }
     ensures read_none { IsErrOf result Stop.Read → K.held sink.new ≡ [] }
     ensures memory { IsErrOf result Stop.NoMemory → ⊥ }
     ensures same_source { S.is_same source.old source.new }

@@ -1,14 +1,14 @@
 // The replay of a schedule, from its settings to its last line.
-ghost use Rattle.std.specs.Prelude.{◌≡◌, ◌≤◌, ◌<◌, ℕ, List, [], ◌∷◌, Some, Ok, true, false, IfOk, IfErr, OnOk, OnErr, IsErrOf};
+ghost use Rattle.std.specs.Prelude.{◌≡◌, ℕ, List, [], ◌∷◌, Some, Ok, true, false, IfOk, IfErr, OnOk, OnErr, IsErrOf};
 ghost use Rattle.homa_io.specs.Outside.{HasRisen, Grows, appended};
 ghost use Rattle.homa_io.specs.Held.{sink_below, held_bytes};
 ghost use Rattle.homa_plain.specs.Entries.{PlainEntry, PlainSettings};
 ghost use Rattle.homa_plain.specs.Settings.{IsValid};
-ghost use Rattle.homa_plain.specs.World.{World};
 ghost use Rattle.homa_plain.specs.Answers.{shown};
 ghost use Rattle.homa_replay.specs.Opens.{IsOpened, may_write};
 ghost use Rattle.homa_replay.specs.Behind.{IsReadUpTo};
 ghost use Rattle.homa_replay.specs.Stops.{prints_all};
+ghost use Rattle.homa_replay.specs.Faults.{AreFaults};
 ghost use Rattle.homa_replay.specs.Far.{replay_of, ArePrinted, AreParts};
 
 use crate::{Holding, MOST_BYTES, Playing, Stop, begin, carry_on};
@@ -59,15 +59,8 @@ fn replay_held<B: Drop, P: Opens<B> + Drop, S: Source, K: Holding>(
     ensures front { OnOk result (AreParts (replay_of (P.many boxes)) (S.left source.old) (S.left source.new) (K.taken sink.old) (K.taken sink.new)
         (P.are_allowed boxes) false) }
 
-    ensures quiet_source { OnOk result (S.faults source.new ≡ S.faults source.old) }
-    ensures quiet_sink { OnOk result (K.faults sink.new ≡ K.faults sink.old) }
-    ensures read_risen { IsErrOf result Stop.Read → HasRisen (S.faults source.old) (S.faults source.new) }
-    ensures read_quiet { IsErrOf result Stop.Read → K.faults sink.new ≡ K.faults sink.old }
+    ensures faults { AreFaults (S.faults source.old) (S.faults source.new) (K.faults sink.old) (K.faults sink.new) result }
     ensures read_none { IsErrOf result Stop.Read → K.held sink.new ≡ [] }
-    ensures write_risen { IsErrOf result Stop.Write → HasRisen (K.faults sink.old) (K.faults sink.new) }
-    ensures write_quiet { IsErrOf result Stop.Write → S.faults source.new ≡ S.faults source.old }
-    ensures memory_source { IsErrOf result Stop.NoMemory → S.faults source.new ≡ S.faults source.old }
-    ensures memory_sink { IsErrOf result Stop.NoMemory → K.faults sink.new ≡ K.faults sink.old }
     ensures same_source { S.is_same source.old source.new }
     ensures same_sink { K.is_same sink.old sink.new }
 {
@@ -116,14 +109,7 @@ fn replay_through<B: Drop, P: Opens<B> + Drop, S: Source, K: Sink + Drop>(
     ensures part { IfErr result (λ stop. AreParts (replay_of (P.many boxes)) (S.left source.old) (S.left source.new) (K.taken (sink_below held.old))
         (K.taken (sink_below held.new)) (P.are_allowed boxes) (prints_all stop)) }
     ensures same { K.is_same (sink_below held.old) (sink_below held.new) }
-    ensures quiet_source { OnOk result (S.faults source.new ≡ S.faults source.old) }
-    ensures quiet_sink { OnOk result (K.faults (sink_below held.new) ≡ K.faults (sink_below held.old)) }
-    ensures read_risen { IsErrOf result Stop.Read → HasRisen (S.faults source.old) (S.faults source.new) }
-    ensures read_quiet { IsErrOf result Stop.Read → K.faults (sink_below held.new) ≡ K.faults (sink_below held.old) }
-    ensures write_risen { IsErrOf result Stop.Write → HasRisen (K.faults (sink_below held.old)) (K.faults (sink_below held.new)) }
-    ensures write_quiet { IsErrOf result Stop.Write → S.faults source.new ≡ S.faults source.old }
-    ensures memory_source { IsErrOf result Stop.NoMemory → S.faults source.new ≡ S.faults source.old }
-    ensures memory_sink { IsErrOf result Stop.NoMemory → K.faults (sink_below held.new) ≡ K.faults (sink_below held.old) }
+    ensures faults { AreFaults (S.faults source.old) (S.faults source.new) (K.faults (sink_below held.old)) (K.faults (sink_below held.new)) result }
 {
     let answer = replay_held::<B, P, S, HeldSink<K>>(alloc, source, held, boxes);
     finish(held, &answer)?;

@@ -1,5 +1,5 @@
 // The replay of a schedule.
-ghost use Rattle.std.specs.Prelude.{◌≡◌, ◌≤◌, ◌<◌, ◌+◌, ◌*◌, ◌^◌, ℕ, List, [], Some, None, Ok, true, false, IfOk, IfErr, IfSome, OnOk, OnErr, IsErrOf};
+ghost use Rattle.std.specs.Prelude.{◌≡◌, ◌≤◌, ◌+◌, ◌*◌, ◌^◌, ℕ, List, [], Some, None, Ok, true, false, IfOk, IfErr, IfSome, OnOk, OnErr, IsErrOf};
 ghost use Rattle.homa_io.specs.Outside.{HasRisen, appended, TookFront};
 ghost use Rattle.homa_plain.specs.Entries.{PlainSettings, PlainRefused};
 ghost use Rattle.homa_plain.specs.Text.{line_text};
@@ -19,6 +19,7 @@ ghost use Rattle.homa_replay.specs.Came.{given_of, line_events, is_end};
 ghost use Rattle.homa_replay.specs.Far.{left_at, replay_of, is_unasked, ArePrinted, AreParts};
 ghost use Rattle.homa_replay.specs.Behind.{RefusesLast};
 ghost use Rattle.homa_replay.specs.Stops.{prints_all};
+ghost use Rattle.homa_replay.specs.Faults.{AreFaults};
 
 use crate::ahead::read_ahead;
 use crate::lines::{play, play_ticks};
@@ -132,13 +133,8 @@ pub fn begin<S: Source, K: Holding>(
     ensures counted { IfOk result (λ r. IfSome r (λ s. IsCounted reader.new.place)) }
     ensures limit { reader.new.place.limit ≡ MOST_BYTES }
 
-    ensures quiet_source { OnOk result (S.faults source.new ≡ S.faults source.old) }
-    ensures quiet_sink { OnOk result (K.faults sink.new ≡ K.faults sink.old) }
-    ensures read_risen { IsErrOf result Stop.Read → HasRisen (S.faults source.old) (S.faults source.new) }
-    ensures read_quiet { IsErrOf result Stop.Read → K.faults sink.new ≡ K.faults sink.old }
+    ensures faults { AreFaults (S.faults source.old) (S.faults source.new) (K.faults sink.old) (K.faults sink.new) result }
     ensures read_none { IsErrOf result Stop.Read → K.held sink.new ≡ [] }
-    ensures write_risen { IsErrOf result Stop.Write → HasRisen (K.faults sink.old) (K.faults sink.new) }
-    ensures write_quiet { IsErrOf result Stop.Write → S.faults source.new ≡ S.faults source.old }
     ensures memory { IsErrOf result Stop.NoMemory → ⊥ }
     ensures same_source { S.is_same source.old source.new }
     ensures same_sink { K.is_same sink.old sink.new }
@@ -186,15 +182,8 @@ pub fn carry_on<P: Playing, S: Source, K: Holding>(
     ensures behind { result ≡ Ok false → (w : World) → P.stands world.old w → (bytes : List ℕ) → S.left source.old ≡ Some bytes
         → RefusesLast reader.old.place reader.new.place (S.left source.old) (S.left source.new) (K.taken sink.old) (K.taken sink.new) }
 
-    ensures quiet_source { OnOk result (S.faults source.new ≡ S.faults source.old) }
-    ensures quiet_sink { OnOk result (K.faults sink.new ≡ K.faults sink.old) }
-    ensures read_risen { IsErrOf result Stop.Read → HasRisen (S.faults source.old) (S.faults source.new) }
-    ensures read_quiet { IsErrOf result Stop.Read → K.faults sink.new ≡ K.faults sink.old }
+    ensures faults { AreFaults (S.faults source.old) (S.faults source.new) (K.faults sink.old) (K.faults sink.new) result }
     ensures read_none { IsErrOf result Stop.Read → K.held sink.new ≡ [] }
-    ensures write_risen { IsErrOf result Stop.Write → HasRisen (K.faults sink.old) (K.faults sink.new) }
-    ensures write_quiet { IsErrOf result Stop.Write → S.faults source.new ≡ S.faults source.old }
-    ensures memory_source { IsErrOf result Stop.NoMemory → S.faults source.new ≡ S.faults source.old }
-    ensures memory_sink { IsErrOf result Stop.NoMemory → K.faults sink.new ≡ K.faults sink.old }
     ensures same_source { S.is_same source.old source.new }
     ensures same_sink { K.is_same sink.old sink.new }
 {

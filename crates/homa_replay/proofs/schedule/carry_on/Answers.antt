@@ -191,8 +191,8 @@ lines-preserved g c =
       limit = e.limit ∙ l.invariant.limit;
       few = omega (arith, most, on.1, l.invariant.few);
       applied = omega (arith, r.counted, l.invariant.applied, c.line_events-events.ensures);
-      quiet_source = e.quiet_source ∙ l.invariant.quiet_source;
-      quiet_sink = r.quiet ∙ (e.quiet_sink ∙ l.invariant.quiet_sink);
+      quiet_source = e.faults.quiet_source ∙ l.invariant.quiet_source;
+      quiet_sink = r.quiet ∙ (e.faults.quiet_sink ∙ l.invariant.quiet_sink);
       same_source = g.met.S.Source.same_on _ _ _ l.invariant.same_source e.same_source;
       same_sink = g.met.K.Sink.same_on _ _ _ l.invariant.same_sink (g.met.K.Sink.same_on _ _ _ e.same_sink r.same);
     }
