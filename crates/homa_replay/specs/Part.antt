@@ -1,5 +1,6 @@
 -- What a reader of a schedule gives at a call: its settings, or what comes next behind them.
 use Rattle.std.specs.Prelude.{◌≡◌, ℕ, true, false, Option, None, Some, Result, Ok, Err, List, IfOk}
+use Rattle.std.specs.Result.{result_err}
 use Rattle.homa_plain.specs.declared.fault.ScriptFault.{ScriptFault}
 use Rattle.homa_plain.specs.declared.settings.Settings.{Settings}
 use Rattle.homa_plain.specs.Settings.{IsValid}
@@ -25,6 +26,7 @@ pub record IsGoing (reader : Script) : Type 0 where
 -- the settings are those of the bytes, and lines may follow
 pub record GivesSettings (old new : Script) (left left_then : Option (List ℕ)) (answer : Result Settings ScriptStop) : Type 0 where
   pub read : (bytes : List ℕ) → left ≡ Some bytes → IsOpening old.place.limit new.place bytes left_then answer
+  pub stopped : new.stopped ≡ result_err answer
   pub valid : IfOk answer IsValid
   pub not_ended : new.ended ≡ false
   pub counted : IfOk answer (λ settings. IsCounted new.place)
@@ -32,6 +34,7 @@ pub record GivesSettings (old new : Script) (left left_then : Option (List ℕ))
 -- the next line, or the end, is that of the bytes
 pub record GivesNext (old new : Script) (left left_then : Option (List ℕ)) (answer : Result Next ScriptStop) : Type 0 where
   pub read : (bytes : List ℕ) → left ≡ Some bytes → IsNext old.place new.place new.operand bytes left_then answer
+  pub stopped : new.stopped ≡ result_err answer
   pub ended : new.ended ≡ is_end answer
   pub range : IfOk answer IsInRange
   pub on : IfOk answer (IsOn old.place new.place)

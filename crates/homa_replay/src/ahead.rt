@@ -1,6 +1,5 @@
 // A source that writes what is held before each read.
 ghost use Rattle.std.specs.Prelude.{◌≡◌, ◌≤◌, ◌<◌, [], None, true, length, take, IfOk, OnErr, OnOk, IsErrOf};
-ghost use Rattle.std.specs.Result.{result_err};
 ghost use Rattle.homa_io.specs.Outside.{HasRisen, unread, IsAtEnd};
 ghost use Rattle.script_lines.specs.Taking.{TakesLines};
 ghost use Rattle.homa_replay.specs.Faults.{AreFaults};
@@ -114,7 +113,6 @@ pub(crate) fn read_ahead<T: Part, S: Source, K: Holding>(
     requires { T.may_come reader.old }
     ensures gives { T.gives reader.old reader.new (S.left source.old) (S.left source.new) (answer_of result) }
     ensures started { reader.new.started ≡ true }
-    ensures stopped { reader.new.stopped ≡ result_err (answer_of result) }
     ensures limit { reader.new.place.limit ≡ reader.old.place.limit }
     ensures took { OnOk result (TakesLines reader.old.place reader.new.place (S.left source.old) (S.left source.new)) }
     ensures pending { length reader.new.place.pending ≤ 65536 }

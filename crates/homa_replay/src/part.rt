@@ -1,6 +1,5 @@
 // What a reader of a schedule gives at a call.
 ghost use Rattle.std.specs.Prelude.{◌≡◌, ◌≤◌, ℕ, List, Option, Result, true, false, length, IfErr};
-ghost use Rattle.std.specs.Result.{result_err};
 ghost use Rattle.homa_io.specs.Outside.{HasRisen};
 ghost use Rattle.script_lines.specs.declared.stop.ScriptStop.{ScriptStop as Stopped};
 ghost use Rattle.script_lines.specs.Stops.{is_read, has_failed_read};
@@ -25,7 +24,6 @@ pub(crate) trait Part: Drop {
         requires { may_come reader.old }
         ensures gives { gives reader.old reader.new (S.left source.old) (S.left source.new) result }
         ensures started { reader.new.started ≡ true }
-        ensures stopped { reader.new.stopped ≡ result_err result }
         ensures limit { reader.new.place.limit ≡ reader.old.place.limit }
         ensures took { has_failed_read result ≡ false → TakesLines reader.old.place reader.new.place (S.left source.old) (S.left source.new) }
         ensures pending { length reader.new.place.pending ≤ 65536 }

@@ -6,32 +6,7 @@ use homa_service::{NoSpare, Reply, Seat, Service, ServiceTable, Suite};
 use std::alloc::{AllocError, Global};
 use std::process::Abort;
 use std::test::Fail;
-
-/// A service that finds no memory at its first call, and answers its letter afterwards.
-#[derive(Drop)]
-struct Fickle {
-    letter: u8,
-    is_ready: bool,
-    served: u64,
-}
-
-impl Service for Fickle {
-    ghost use Rattle.std.specs.Prelude.{◌≡◌, [], ◌∷◌};
-
-    ghost served = { λ fickle. fickle.served };
-
-    ghost allows = { λ fickle count number q r hold. (r ≡ fickle.letter ∷ []) × (hold ≡ 0) };
-
-    fn serve(&mut self, alloc: Global, _number: u8, _request: &[u8]) -> Result<Reply, AllocError> {
-        if !self.is_ready {
-            self.is_ready = true;
-            return Err(AllocError);
-        }
-        let bytes = vec![in alloc; self.letter]?;
-        self.served += 1;
-        Ok(Reply::new(bytes, 0))
-    }
-}
+use test_services::{Fickle, Letter};
 
 fn is_answer(reply: &Reply, bytes: &[u8], hold: u32) -> bool {
     reply.bytes() == bytes && reply.hold() == hold
@@ -107,32 +82,21 @@ fn each_number_answers_its_own(rt: HostRuntime) -> Result<(), Fail> {
 
 #[test]
 fn want_of_memory_is_no_answer(rt: HostRuntime) -> Result<(), Fail> {
-    let mut fickle = Fickle {
-        letter: b'f',
-        is_ready: false,
-        served: 0,
-    };
+    let mut fickle = Fickle::over(Letter::new(b'f'));
     assert!(rt; fickle.serve(rt.alloc(), 1, b"abc").is_err());
-    assert_eq!(rt; fickle.served, 0);
+    assert_eq!(rt; fickle.then.served, 0);
     let (first, second) = ask_twice(rt.alloc(), &mut fickle, b"abc")?;
     assert!(rt; is_answer(&first, b"f", 0));
     assert!(rt; is_answer(&second, b"f", 0));
-    assert_eq!(rt; fickle.served, 2);
+    assert_eq!(rt; fickle.then.served, 2);
     Ok(())
 }
 
 /// A box that answers this letter.
-fn letter_box(alloc: Global, letter: u8) -> Result<Box<Fickle>, AllocError>
-    ensures { IfOk result (λ b. b.value.served ≡ 0) }
+fn letter_box(alloc: Global, letter: u8) -> Result<Box<dyn Service>, AllocError>
+    ensures { IfOk result (λ b. served b ≡ 0) }
 {
-    Ok(Box::new(
-        alloc,
-        Fickle {
-            letter,
-            is_ready: true,
-            served: 0,
-        },
-    )?)
+    Ok(Box::new(alloc, Letter::new(letter))?)
 }
 
 // A service that answered nothing yet sends a request back, and counts two.

@@ -6,7 +6,6 @@ ghost use Rattle.driven_host.specs.Driven.{IsKept};
 use driven_host::DrivenHost;
 use homa_host::Host;
 use homa_plain::{CallId, Entry, HostId, Settings};
-use homa_service::{Reply, Service};
 use host_view::Outbox;
 use msg_pool::Scratch;
 use place_books::first;
@@ -14,6 +13,7 @@ use place_heap::Key;
 use std::alloc::{AllocError, Global};
 use std::process::Abort;
 use std::test::*;
+use test_services::{Fickle, Letter};
 
 const CLIENT: HostId = HostId(0);
 
@@ -170,52 +170,24 @@ const RESPONSE: [u8; 37] = [
     0, 0, 0, 0, 7,
 ];
 
-/// A service that finds no memory at its first call, and answers one byte afterwards.
-#[derive(Drop)]
-struct Fickle {
-    is_ready: bool,
-    served: u64,
-}
-
-impl Service for Fickle {
-    ghost use Rattle.std.specs.Prelude.{◌≡◌, [], ◌∷◌};
-
-    ghost served = { λ fickle. fickle.served };
-
-    ghost allows = { λ fickle count number q r hold. (r ≡ 7 ∷ []) × (hold ≡ 0) };
-
-    fn serve(&mut self, alloc: Global, _number: u8, _request: &[u8]) -> Result<Reply, AllocError> {
-        if !self.is_ready {
-            self.is_ready = true;
-            return Err(AllocError);
-        }
-        let bytes = vec![in alloc; 7]?;
-        self.served += 1;
-        Ok(Reply::new(bytes, 0))
-    }
-}
-
-// A host with such a service.
+// A host with a service that finds no memory at its first call.
 #[derive(Drop)]
 struct Lent {
     host: Host,
-    service: Fickle,
+    service: Fickle<Letter>,
     out: Outbox,
     scratch: Scratch,
 }
 
 fn opened(alloc: Global) -> Result<Lent, AllocError>
-    ensures kept { IfOk result (λ it. IsKept it.host it.service.served it.out it.host.host.id 2 0) }
+    ensures kept { IfOk result (λ it. IsKept it.host it.service.then.served it.out it.host.host.id 2 0) }
     ensures id { IfOk result (λ it. it.host.host.id.0 ≡ 1) }
 {
     let out = Outbox::new(alloc)?;
     let scratch = Scratch::new(alloc)?;
     Ok(Lent {
         host: Host::open(alloc, SERVER, 1, &Settings::usual())?,
-        service: Fickle {
-            is_ready: false,
-            served: 0,
-        },
+        service: Fickle::over(Letter::new(7)),
         out,
         scratch,
     })
@@ -224,9 +196,9 @@ fn opened(alloc: Global) -> Result<Lent, AllocError>
 // A datagram comes from the client at tick 0, after so many steps. Tells whether there was memory.
 fn comes(rt: &impl Abort, alloc: Global, it: &mut Lent, steps: u64, frame: &[u8]) -> bool
     requires few { steps < 2 ^ 32 }
-    requires kept { IsKept it.old.host it.old.service.served it.old.out it.old.host.host.id 2 steps }
+    requires kept { IsKept it.old.host it.old.service.then.served it.old.out it.old.host.host.id 2 steps }
     requires id { it.old.host.host.id.0 ≡ 1 }
-    ensures kept { IsKept it.new.host it.new.service.served it.new.out it.new.host.host.id 2 (steps + 1) }
+    ensures kept { IsKept it.new.host it.new.service.then.served it.new.out it.new.host.host.id 2 (steps + 1) }
     ensures id { it.new.host.host.id.0 ≡ 1 }
 {
     assert!(rt; it.host.last() == 0);
@@ -254,9 +226,9 @@ fn want_of_memory_is_no_delivery(rt: HostRuntime) -> Result<(), Fail> {
 // Beside the other call's row a request comes, and the service finds no memory. Nothing happens: no entry, no packet, no row
 // but the one that there was.
 fn is_refused(rt: &impl Abort, alloc: Global, it: &mut Lent)
-    requires kept { IsKept it.old.host it.old.service.served it.old.out it.old.host.host.id 2 0 }
+    requires kept { IsKept it.old.host it.old.service.then.served it.old.out it.old.host.host.id 2 0 }
     requires id { it.old.host.host.id.0 ≡ 1 }
-    ensures kept { IsKept it.new.host it.new.service.served it.new.out it.new.host.host.id 2 2 }
+    ensures kept { IsKept it.new.host it.new.service.then.served it.new.out it.new.host.host.id 2 2 }
     ensures id { it.new.host.host.id.0 ≡ 1 }
 {
     assert!(rt; comes(rt, alloc, it, 0, &OTHER));
@@ -264,19 +236,19 @@ fn is_refused(rt: &impl Abort, alloc: Global, it: &mut Lent)
     assert!(rt; !comes(rt, alloc, it, 1, &DATA));
     assert!(rt; it.host.entries() == 0);
     assert!(rt; it.out.is_empty());
-    assert!(rt; it.service.served == 0);
+    assert!(rt; it.service.then.served == 0);
     has_the_other(rt, &it.host);
 }
 
 // The client is told that the call isn't known. The same packet again: the service answers, and its response is sent.
 fn is_served(rt: &impl Abort, alloc: Global, it: &mut Lent)
-    requires kept { IsKept it.old.host it.old.service.served it.old.out it.old.host.host.id 2 2 }
+    requires kept { IsKept it.old.host it.old.service.then.served it.old.out it.old.host.host.id 2 2 }
     requires id { it.old.host.host.id.0 ≡ 1 }
 {
     assert!(rt; comes(rt, alloc, it, 2, &RESEND));
     has_sent(rt, &it.out, &UNKNOWN);
     assert!(rt; comes(rt, alloc, it, 3, &DATA));
-    assert!(rt; it.service.served == 1);
+    assert!(rt; it.service.then.served == 1);
     has_sent(rt, &it.out, &RESPONSE);
     assert!(rt; it.host.entries() == 2);
     assert!(rt; it.host.entry(0, &it.out, &it.scratch) == answered(&[7]));

@@ -4,47 +4,20 @@ ghost use Rattle.std.specs.List.{AllByRecursion};
 
 use homa_plain::{Body, CallId, Entry, Event, HostId, Role, Settings, WorldFault};
 use homa_replay::Playing;
-use homa_service::{Reply, Service, Suite};
+use homa_service::Suite;
 use homa_world::*;
 use std::alloc::{AllocError, Global};
 use std::process::Abort;
 use std::test::Fail;
+use test_services::Fickle;
 
-/// A service that finds no memory at its first call, and answers as a `Suite` afterwards.
-#[derive(Drop)]
-struct Fickle {
-    is_ready: bool,
-    suite: Suite,
-}
-
-impl Service for Fickle {
-    ghost use Rattle.std.specs.Prelude.{◌≡◌};
-    ghost use Rattle.homa_service.specs.Suite.{suite_answer};
-
-    ghost served = { λ fickle. fickle.suite };
-
-    ghost allows = { λ fickle count number q r hold.
-        record { bytes = r; hold = hold } ≡ suite_answer count number q };
-
-    fn serve(&mut self, alloc: Global, number: u8, request: &[u8]) -> Result<Reply, AllocError> {
-        if !self.is_ready {
-            self.is_ready = true;
-            return Err(AllocError);
-        }
-        self.suite.serve(alloc, number, request)
-    }
-}
-
-fn two(alloc: Global) -> Result<Vec<Fickle>, AllocError>
+fn two(alloc: Global) -> Result<Vec<Fickle<Suite>>, AllocError>
     ensures count { IfOk result (λ all. length all.items ≡ 2) }
-    ensures none { IfOk result (λ all. AllByRecursion (λ fickle. fickle.suite ≡ 0) all.items) }
+    ensures none { IfOk result (λ all. AllByRecursion (λ fickle. fickle.then ≡ 0) all.items) }
 {
     let mut all = Vec::new(alloc);
     for made in 0..2u32 {
-        all.push(Fickle {
-            is_ready: false,
-            suite: Suite::new(),
-        })?;
+        all.push(Fickle::over(Suite::new()))?;
     }
     Ok(all)
 }
@@ -52,7 +25,7 @@ fn two(alloc: Global) -> Result<Vec<Fickle>, AllocError>
 // What comes of an event.
 fn happens(
     alloc: Global,
-    world: &mut World<Fickle>,
+    world: &mut World<Fickle<Suite>>,
     event: &Event,
     bytes: &[u8],
 ) -> Result<(), WorldFault>
@@ -64,7 +37,7 @@ fn happens(
 }
 
 // No tick is left for the clock, and a host has its turn.
-fn has_no_tick_left(rt: &impl Abort, alloc: Global, world: &mut World<Fickle>)
+fn has_no_tick_left(rt: &impl Abort, alloc: Global, world: &mut World<Fickle<Suite>>)
     requires { world.old.applied ≡ 0 }
 {
     let ended = happens(alloc, world, &Event::Clock, b"");
@@ -84,7 +57,7 @@ fn the_clock_ends(rt: HostRuntime) -> Result<(), Fail> {
 }
 
 // These are the entries of the last event.
-fn tells(rt: &impl Abort, world: &World<Fickle>, wanted: &[Entry<'_>]) {
+fn tells(rt: &impl Abort, world: &World<Fickle<Suite>>, wanted: &[Entry<'_>]) {
     assert!(rt; world.entries() == wanted.len());
     for i in 0..wanted.len() {
         assert!(rt; world.entry(i) == wanted[i]);
@@ -128,7 +101,7 @@ fn sent(number: u64, role: Role, service: u8, payload: &[u8]) -> Entry<'_>
 }
 
 // Host 0 calls a service of host 1.
-fn calls(rt: &impl Abort, alloc: Global, world: &mut World<Fickle>, number: u8)
+fn calls(rt: &impl Abort, alloc: Global, world: &mut World<Fickle<Suite>>, number: u8)
     requires { world.old.applied ≡ 0 }
     ensures applied { world.new.applied ≤ 1 }
     ensures settings { world.new.settings ≡ world.old.settings }
@@ -151,7 +124,7 @@ fn calls(rt: &impl Abort, alloc: Global, world: &mut World<Fickle>, number: u8)
 }
 
 // The service finds no memory for the request: the clock, the packets and the live calls stay.
-fn is_refused(rt: &impl Abort, alloc: Global, world: &mut World<Fickle>)
+fn is_refused(rt: &impl Abort, alloc: Global, world: &mut World<Fickle<Suite>>)
     requires { world.old.applied ≤ 1 }
     ensures { world.new.applied ≤ 2 }
 {
@@ -165,7 +138,7 @@ fn is_refused(rt: &impl Abort, alloc: Global, world: &mut World<Fickle>)
 fn is_answered(
     rt: &impl Abort,
     alloc: Global,
-    world: &mut World<Fickle>,
+    world: &mut World<Fickle<Suite>>,
     number: u8,
     response: &[u8],
 )
@@ -188,7 +161,7 @@ fn is_answered(
 }
 
 // The response comes, and the call is done.
-fn is_done(rt: &impl Abort, alloc: Global, world: &mut World<Fickle>, response: &[u8])
+fn is_done(rt: &impl Abort, alloc: Global, world: &mut World<Fickle<Suite>>, response: &[u8])
     requires { world.old.applied ≤ 3 }
 {
     let delivered = happens(alloc, world, &Event::Deliver { packet: 1 }, b"");
@@ -204,7 +177,7 @@ fn is_done(rt: &impl Abort, alloc: Global, world: &mut World<Fickle>, response: 
 fn answers_again(
     rt: &impl Abort,
     alloc: Global,
-    world: &mut World<Fickle>,
+    world: &mut World<Fickle<Suite>>,
     number: u8,
     response: &[u8],
 )

@@ -1,6 +1,5 @@
 -- Where it stopped, a read failed for the reader.
-use Rattle.std.proofs.Common.{None, Err, refl, ap, subst, ◌∙◌, rules}
-use Rattle.std.specs.Result.{result_err}
+use Rattle.std.proofs.Common.{None, Err, refl, subst, rules}
 use Rattle.script_lines.specs.declared.stop.ScriptStop.TheVariants.{Read}
 use Rattle.homa_replay.specs.Counting.{counts}
 use Rattle.homa_replay.proofs.Aheads.{failed_read}
@@ -18,13 +17,3 @@ returns-in-Some-clause-gives g c =
     (counts a.stop a.faults (s.faults a.source.now) (k.faults a.sink.now) (g.K.Holding.held a.sink.now)) _ r.result r.ensures.same.5 c.in-Some.is refl r.ensures.quiet)
     r.ensures.gives in
     search rules
-
-pub returns-in-Some-clause-stopped : goal.returns-in-Some-clause-stopped
-returns-in-Some-clause-stopped g c =
-    let s = g.S.Source in
-    let k = g.K.Sink in
-    let r = c.read-answer in
-    let a = r.new.source in
-    r.ensures.stopped ∙ ap result_err
-    (failed_read (counts None 0 (s.faults c.args.source.now) (k.faults c.args.sink.now) (g.K.Holding.held c.args.sink.now))
-    (counts a.stop a.faults (s.faults a.source.now) (k.faults a.sink.now) (g.K.Holding.held a.sink.now)) _ r.result r.ensures.same.5 c.in-Some.is refl r.ensures.quiet)

@@ -3,4 +3,4 @@ use Rattle.std.specs.List.{AllByRecursion}
 use Rattle.world_tests.proofs.world.two.Given as goal
 
 abbrev pub invariant-loop-made : goal.invariant-loop-made
-invariant-loop-made l = (length l.all.items ≡ l.made) × AllByRecursion (λ fickle. fickle.suite ≡ 0) l.all.items
+invariant-loop-made l = (length l.all.items ≡ l.made) × AllByRecursion (λ fickle. fickle.then ≡ 0) l.all.items
