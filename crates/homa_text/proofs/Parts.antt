@@ -1,11 +1,12 @@
 -- The digits of bytes, part by part.
 use Rattle.std.proofs.Common.{◌≡◌, ◌<◌, ◌≤◌, ℕ, ◌+◌, ◌*◌, arith, List, [], ◌∷◌, ◌++◌}
 use Rattle.std.proofs.Common.{length, map, take, drop, slice_index, slice_set, refl, sym, ap, ◌∙◌, append_assoc}
-use Rattle.std.proofs.lemmas.List.{append-nil, drop-drop, drop_all, drop_more, map_more, take_all, take_more_set}
-use Rattle.hex.specs.Hex.{encode_with, encode_lower}
+use Rattle.std.proofs.lemmas.List.{append-nil, drop_all, drop_more, map_more, take_all, take_at, take_more_set, take-take, length-take-le}
+use Rattle.hex.specs.Hex.{encode_with, lower_digits, encode_lower}
+use Rattle.hex.proofs.HexLemmas.{length-encode_with}
 use Rattle.hex.proofs.Pairs.{take-two_writes}
 use Rattle.homa_text.specs.Turns.{by_turns, high_digit, low_digit}
-use Rattle.homa_text.proofs.Texts.{encode_lower-parts}
+use Rattle.homa_text.proofs.Texts.{encode_lower-more, encode_lower-parts}
 
 -- one byte more
 pub mapped_more : (f : ℕ → ℕ) (bytes out : List ℕ) (i y : ℕ) → i < length bytes → i < length out → y ≡ f (slice_index bytes i)
@@ -57,13 +58,19 @@ unfolding by_turns encode_with
 turns_encoded [] = refl
 turns_encoded (b ∷ bytes) = ap (λ (xs : List ℕ). high_digit b ∷ low_digit b ∷ xs) (turns_encoded bytes)
 
--- the digits of the bytes before one place, of a part and of the bytes behind it
-pub part_next : (bytes out ys : List ℕ) (done n : ℕ) → ys ≡ encode_lower (take n (drop done bytes)) → out ++ encode_lower (drop done bytes) ≡ encode_lower bytes
-    → (out ++ ys) ++ encode_lower (drop (done + n) bytes) ≡ encode_lower bytes
-part_next bytes out ys done n are so_far =
-    append_assoc out ys (encode_lower (drop (done + n) bytes))
-    ∙ (ap (λ (xs : List ℕ). out ++ xs)
-    (ap (λ (xs : List ℕ). xs ++ encode_lower (drop (done + n) bytes)) are
-    ∙ (ap (λ (xs : List ℕ). encode_lower (take n (drop done bytes)) ++ encode_lower xs) (sym (drop-drop n done bytes))
-    ∙ encode_lower-parts (drop done bytes) n))
-    ∙ so_far)
+-- the digits of the first bytes stand first
+encoded_front : (xs : List ℕ) (k : ℕ) → k ≤ length xs → take (2 * k) (encode_lower xs) ≡ encode_lower (take k xs)
+encoded_front xs k fits =
+    let len : length (encode_lower (take k xs)) ≡ 2 * k = length-encode_with lower_digits (take k xs) ∙ ap (λ (n : ℕ). 2 * n) (length-take-le k xs fits) in
+    ap (λ (ds : List ℕ). take (2 * k) ds) (sym (encode_lower-parts xs k)) ∙ take_at (encode_lower (take k xs)) (encode_lower (drop k xs)) (2 * k) len
+
+-- the digits of the bytes before one place, and then of a part that begins there or before it
+pub part_over : (bytes out ys : List ℕ) (done from n : ℕ) → done ≤ length bytes → from ≤ done → ys ≡ encode_lower (take n (drop from bytes))
+    → take (2 * done) out ≡ encode_lower (take done bytes) → take (2 * from) out ++ ys ≡ encode_lower (take (from + n) bytes)
+part_over bytes out ys done from n within before are so_far =
+    let front : take (2 * from) out ≡ encode_lower (take from bytes) =
+    sym (take-take (2 * from) (2 * done) out (omega arith))
+    ∙ (ap (λ (ds : List ℕ). take (2 * from) ds) so_far
+    ∙ (encoded_front (take done bytes) from (omega (arith, length-take-le done bytes within))
+    ∙ ap encode_lower (take-take from done bytes before))) in
+    (λ j. front j ++ are j) ∙ encode_lower-more bytes from n

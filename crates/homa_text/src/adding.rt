@@ -62,21 +62,36 @@ fn write_part(bytes: &[u8], out: &mut [u8])
     join_digits(high, low, out);
 }
 
+// Writes the digits of fewer bytes than a part has.
+fn write_few(bytes: &[u8], out: &mut [u8])
+    requires { length out.old ≡ 2 * length bytes.now }
+    ensures { out.new ≡ encode_lower bytes.now }
+{
+    'digits: for i in 0..bytes.len() {
+        let byte = bytes[i];
+        out[2 * i] = digit(byte >> 4);
+        out[2 * i + 1] = digit(byte & 0x0f);
+    }
+}
+
 /// Writes the digits of bytes: those that the crate `hex` writes. A digit is computed and not looked up, and parts have
-/// a fixed length, so that many are at once.
+/// a fixed length, so that many are at once. The last part ends where the bytes end, and so writes some digits again.
 pub(crate) fn write_digits(bytes: &[u8], out: &mut [u8])
     requires { length out.old ≡ 2 * length bytes.now }
     ensures { out.new ≡ encode_lower bytes.now }
 {
-    let mut done = 0;
-    while bytes.len() - done >= CHUNK {
-        write_part(
-            &bytes[done..done + CHUNK],
-            &mut out[2 * done..2 * done + 2 * CHUNK],
-        );
-        done += CHUNK;
+    if bytes.len() < CHUNK {
+        return write_few(bytes, out);
     }
-    write_part(&bytes[done..], &mut out[2 * done..]);
+    let mut done = 0;
+    while done < bytes.len() {
+        let from = done.min(bytes.len() - CHUNK);
+        write_part(
+            &bytes[from..from + CHUNK],
+            &mut out[2 * from..2 * from + 2 * CHUNK],
+        );
+        done = from + CHUNK;
+    }
 }
 
 /// Adds bytes.

@@ -78,16 +78,18 @@ fn append<K: Sink, const N: usize>(
     Ok(())
 }
 
-// Holds a few bytes in hex, or writes them behind what was held.
+// Holds a few bytes in hex, or writes them behind what was held. Their digits are made in room that is lent.
 fn put_digits<K: Sink, const N: usize>(
     sink: &mut K,
     held: &mut Held<N>,
     bytes: &[u8],
+    digits: &mut [u8],
 ) -> Result<(), WriteFailed>
-    requires { length bytes.now ≤ 1408 }
-    ensures { Puts K.taken K.faults K.is_same result sink.old sink.new held.new.items (held.old.items ++ encode_lower bytes.now) }
+    requires few { length bytes.now ≤ 1408 }
+    requires room { length digits.old ≡ 2816 }
+    ensures put { Puts K.taken K.faults K.is_same result sink.old sink.new held.new.items (held.old.items ++ encode_lower bytes.now) }
+    ensures room { length digits.new ≡ length digits.old }
 {
-    let mut digits = [0; 2 * PART];
     let out = &mut digits[..2 * bytes.len()];
     write_digits(bytes, out);
     if bytes.len() < 64 {
@@ -97,7 +99,7 @@ fn put_digits<K: Sink, const N: usize>(
     write_all(sink, out)
 }
 
-// Holds bytes in hex, a few at a time.
+// Holds bytes in hex, a few at a time. The room for their digits is filled with zeros once, not for each part.
 fn put_hex<K: Sink, const N: usize>(
     sink: &mut K,
     held: &mut Held<N>,
@@ -105,10 +107,11 @@ fn put_hex<K: Sink, const N: usize>(
 ) -> Result<(), WriteFailed>
     ensures { Puts K.taken K.faults K.is_same result sink.old sink.new held.new.items (held.old.items ++ encode_lower bytes.now) }
 {
+    let mut digits = [0; 2 * PART];
     let mut done = 0;
     while done < bytes.len() {
         let n = (bytes.len() - done).min(PART);
-        put_digits(sink, held, &bytes[done..done + n])?;
+        put_digits(sink, held, &bytes[done..done + n], &mut digits)?;
         done += n;
     }
     Ok(())

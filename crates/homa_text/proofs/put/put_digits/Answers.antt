@@ -3,11 +3,11 @@ use Rattle.homa_io.proofs.Writing.{ends_on, handed_on}
 use Rattle.homa_text.proofs.Putting.{put_all, front_more, front_on}
 use Rattle.homa_text.proofs.put.put_digits.Goals as goal
 
-pub returns-in_err-flush : goal.returns-in_err-flush
-returns-in_err-flush g c = handed_on _ c.from_residual.ensures.0 c.in_err-flush.ensures.written (λ front. front_more _ _ _ _ _ front refl)
+pub returns-in_err-flush-clause-put : goal.returns-in_err-flush-clause-put
+returns-in_err-flush-clause-put g c = handed_on _ c.from_residual.ensures.0 c.in_err-flush.ensures.written (λ front. front_more _ _ _ _ _ front refl)
 
-pub returns : goal.returns
-returns g c =
+pub returns-clause-put : goal.returns-clause-put
+returns-clause-put g c =
     ends_on g.met.K.Sink.same_on c.in_ok-flush.ensures.written (rw c.write_digits.ensures at c.write_all.ensures)
     (λ all. put_all _ _ _ _ _ _ c.in_ok-flush.ensures.written.ok all c.in_ok-flush.ensures.empty)
     (λ front. front_on _ _ _ _ _ c.in_ok-flush.ensures.written.ok front)

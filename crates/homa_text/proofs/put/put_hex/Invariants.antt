@@ -1,4 +1,4 @@
-use Rattle.std.proofs.Common.{◌≤◌, ◌-◌, ◌++◌, length, take}
+use Rattle.std.proofs.Common.{◌≡◌, ◌≤◌, ◌-◌, ◌++◌, length, take}
 use Rattle.std.specs.Prelude.{Ok}
 use Rattle.hex.specs.Hex.{encode_lower}
 use Rattle.homa_io.specs.declared.sink.WriteFailed.{WriteFailed}
@@ -13,6 +13,7 @@ invariant-loop-done g l =
       so_far : Puts {E = WriteFailed} sink.taken sink.faults sink.is_same (Ok (tt {0})) l.fn.sink l.sink l.held.items
           (l.fn.held.items ++ encode_lower (take l.done l.bytes));
       within : l.done ≤ length l.bytes;
+      room : length l.digits ≡ 2816;
     }
 
 abbrev pub decreases-loop-done : goal.decreases-loop-done
