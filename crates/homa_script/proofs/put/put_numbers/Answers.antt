@@ -23,5 +23,5 @@ loop-name-preserved g c =
     let m = c.from.ensures in
     record {
       so_far = written_on g.met.K.Sink.same_on _ _ c.loop-name.invariant.so_far (rw (n, m) at c.in_ok-put_line.ensures)
-        (flat_map-more setting_text c.args.numbers.now c.loop-name.name-index _ c.loop-name-test.true);
+          (flat_map-more setting_text c.args.numbers.now c.loop-name.name-index _ c.loop-name-test.true);
     }
