@@ -1,5 +1,5 @@
 -- A reader's fields, as contracts see them.
-use Rattle.std.specs.Prelude.{◌≡◌, ◌≤◌, Bool, true, false, Option, None, Some, take, length}
+use Rattle.std.specs.Prelude.{◌≡◌, ◌≤◌, Bool, true, false, Option, None, Some, take, length, vec_capacity}
 use Rattle.homa_text.specs.Lines.{reading}
 use Rattle.script_lines.specs.declared.stop.ScriptStop.{ScriptStop}
 use Rattle.script_lines.specs.Place.{place_of, IsCounted}
@@ -41,8 +41,9 @@ script_of r = record {
 
 -- there is room for a line and its bytes, and lines are counted while more may come
 pub record IsSound (r : Inside) : Type 0 where
-  pub room : length r.operand.items ≡ 1050000
-  pub fits : r.len ≤ 1050000
+  pub room : 1050000 ≤ vec_capacity r.operand
+  pub fits : r.len ≤ length r.operand.items
+  pub most : r.len ≤ 1050000
   pub longest : (reading r.lines).longest ≡ 2100000
   pub opening : r.stage ≡ Opened → IsCounted (place_of (reading r.lines))
   pub going : r.stage ≡ Started → IsCounted (place_of (reading r.lines))

@@ -1,5 +1,5 @@
 // The lines behind `go`: events, and ticks.
-ghost use Rattle.std.specs.Prelude.{◌≡◌, ◌≤◌, [], true, length, IfOk, IfSome};
+ghost use Rattle.std.specs.Prelude.{◌≡◌, ◌≤◌, [], true, length, vec_capacity, IfOk, IfSome};
 ghost use Rattle.std.specs.Option.{option_map};
 ghost use Rattle.homa_plain.specs.Input.{words_of};
 ghost use Rattle.homa_plain.specs.Script.{GivenEvent, event_word, alone, call_given, deliver_given, host_given, tick_given, inject_given};
@@ -49,10 +49,12 @@ pub(crate) fn read_event_word(word: &[u8]) -> Option<EventWord>
 }
 
 // The operands of `call`.
-fn read_call(words: &mut Words<'_>, out: &mut [u8]) -> Result<Given, ScriptFault>
-    requires room { 1050000 ≤ length out.old }
-    ensures given { call_given words.old ≡ given_of result out.new }
-    ensures within { IfOk result (λ given. IsWithin given (length out.new)) }
+fn read_call(words: &mut Words<'_>, out: &mut Vec<u8>) -> Result<Given, ScriptFault>
+    requires room { 1050000 ≤ vec_capacity out.old }
+    ensures given { call_given words.old ≡ given_of result out.new.items }
+    ensures within { IfOk result (λ given. IsWithin given (length out.new.items)) }
+    ensures most { IfOk result (λ given. IsWithin given 1050000) }
+    ensures capacity { vec_capacity out.old ≤ vec_capacity out.new }
 {
     let client = words.host()?;
     let server = words.host()?;
@@ -68,10 +70,12 @@ fn read_call(words: &mut Words<'_>, out: &mut [u8]) -> Result<Given, ScriptFault
 }
 
 // The operands of `inject`.
-fn read_inject(words: &mut Words<'_>, out: &mut [u8]) -> Result<Given, ScriptFault>
-    requires room { 1050000 ≤ length out.old }
-    ensures given { inject_given words.old ≡ given_of result out.new }
-    ensures within { IfOk result (λ given. IsWithin given (length out.new)) }
+fn read_inject(words: &mut Words<'_>, out: &mut Vec<u8>) -> Result<Given, ScriptFault>
+    requires room { 1050000 ≤ vec_capacity out.old }
+    ensures given { inject_given words.old ≡ given_of result out.new.items }
+    ensures within { IfOk result (λ given. IsWithin given (length out.new.items)) }
+    ensures most { IfOk result (λ given. IsWithin given 1050000) }
+    ensures capacity { vec_capacity out.old ≤ vec_capacity out.new }
 {
     let host = words.host()?;
     let len = words.bytes(out)?;
@@ -150,10 +154,16 @@ fn bare(event: Event) -> Given
 }
 
 // What stands behind an event's word.
-fn read_given(word: EventWord, words: &mut Words<'_>, out: &mut [u8]) -> Result<Given, ScriptFault>
-    requires room { 1050000 ≤ length out.old }
-    ensures given { event_given (word_seen word) words.old ≡ given_of result out.new }
-    ensures within { IfOk result (λ given. IsWithin given (length out.new)) }
+fn read_given(
+    word: EventWord,
+    words: &mut Words<'_>,
+    out: &mut Vec<u8>,
+) -> Result<Given, ScriptFault>
+    requires room { 1050000 ≤ vec_capacity out.old }
+    ensures given { event_given (word_seen word) words.old ≡ given_of result out.new.items }
+    ensures within { IfOk result (λ given. IsWithin given (length out.new.items)) }
+    ensures most { IfOk result (λ given. IsWithin given 1050000) }
+    ensures capacity { vec_capacity out.old ≤ vec_capacity out.new }
 {
     match word {
         EventWord::Call => read_call(words, out),
@@ -169,11 +179,13 @@ fn read_given(word: EventWord, words: &mut Words<'_>, out: &mut [u8]) -> Result<
 
 /// What a line behind `go` stands for: nothing, where it has no words or is a comment. The bytes of
 /// its event go to the front of `out`.
-pub(crate) fn read_event_line(line: &[u8], out: &mut [u8]) -> Result<Option<Given>, ScriptFault>
+pub(crate) fn read_event_line(line: &[u8], out: &mut Vec<u8>) -> Result<Option<Given>, ScriptFault>
     requires short { length line.now ≤ 2100000 }
-    requires room { 1050000 ≤ length out.old }
-    ensures phrase { phrase_of true (words_of line.now) ≡ phrase_given result out.new }
-    ensures within { IfOk result (λ given. IfSome given (λ g. IsWithin g (length out.new))) }
+    requires room { 1050000 ≤ vec_capacity out.old }
+    ensures phrase { phrase_of true (words_of line.now) ≡ phrase_given result out.new.items }
+    ensures within { IfOk result (λ given. IfSome given (λ g. IsWithin g (length out.new.items))) }
+    ensures most { IfOk result (λ given. IfSome given (λ g. IsWithin g 1050000)) }
+    ensures capacity { vec_capacity out.old ≤ vec_capacity out.new }
 {
     let mut words = Words::new(line);
     let Some(word) = words.next() else {

@@ -1,5 +1,5 @@
 // What comes next of a schedule.
-ghost use Rattle.std.specs.Prelude.{◌≡◌, ◌≤◌, ℕ, List, Some, true, false, length, IfOk, IfErr, IfSome};
+ghost use Rattle.std.specs.Prelude.{◌≡◌, ◌≤◌, ℕ, List, Some, true, false, length, vec_capacity, IfOk, IfErr, IfSome};
 ghost use Rattle.homa_io.specs.Outside.{HasRisen};
 ghost use Rattle.homa_plain.specs.Settings.{IsValid};
 ghost use Rattle.homa_text.specs.Lines.{reading};
@@ -57,17 +57,19 @@ pub(crate) fn read_settings<S: Source>(
 pub(crate) fn next_given<S: Source>(
     lines: &mut Lines,
     source: &mut S,
-    out: &mut [u8],
+    out: &mut Vec<u8>,
 ) -> Result<Option<Given>, ScriptStop>
-    requires room { 1050000 ≤ length out.old }
+    requires room { 1050000 ≤ vec_capacity out.old }
     requires longest { (reading lines.old).longest ≡ 2100000 }
     requires counted { IsCounted (place_of (reading lines.old)) }
     ensures given { (bytes : List ℕ) → S.left source.old ≡ Some bytes
-        → IsNextGiven (place_of (reading lines.old)) (place_of (reading lines.new)) out.new bytes (S.left source.new) result }
+        → IsNextGiven (place_of (reading lines.old)) (place_of (reading lines.new)) out.new.items bytes (S.left source.new) result }
     ensures took { has_failed_read result ≡ false → TakesLines (place_of (reading lines.old)) (place_of (reading lines.new)) (S.left source.old)
         (S.left source.new) }
     ensures ahead { length (reading lines.new).pending ≤ 65536 }
-    ensures within { IfOk result (λ given. IfSome given (λ g. IsWithin g (length out.new))) }
+    ensures within { IfOk result (λ given. IfSome given (λ g. IsWithin g (length out.new.items))) }
+    ensures most { IfOk result (λ given. IfSome given (λ g. IsWithin g 1050000)) }
+    ensures capacity { vec_capacity out.old ≤ vec_capacity out.new }
     ensures on { IfOk result (IsGivenOn (place_of (reading lines.old)) (place_of (reading lines.new))) }
     ensures limit { (reading lines.new).limit ≡ (reading lines.old).limit }
     ensures longest { (reading lines.new).longest ≡ (reading lines.old).longest }

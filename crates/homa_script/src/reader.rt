@@ -68,7 +68,7 @@ impl Reader {
     {
         Ok(Reader {
             lines: Lines::open(alloc, limit, LONGEST_LINE)?,
-            operand: vec![in alloc; 0; ROOM]?,
+            operand: Vec::with_capacity(alloc, ROOM)?,
             len: 0,
             stage: Stage::Opened,
         })

@@ -1,5 +1,5 @@
 // The lines up to `go`, and the next call behind it.
-ghost use Rattle.std.specs.Prelude.{◌≡◌, ◌≤◌, ◌<◌, ℕ, List, Some, true, false, length, IfOk, IfErr, IfSome};
+ghost use Rattle.std.specs.Prelude.{◌≡◌, ◌≤◌, ◌<◌, ℕ, List, Some, true, false, length, vec_capacity, IfOk, IfErr, IfSome};
 ghost use Rattle.homa_io.specs.Outside.{HasRisen};
 ghost use Rattle.homa_text.specs.Lines.{reading};
 ghost use Rattle.script_lines.specs.Place.{place_of, first_place, IsCounted};
@@ -54,16 +54,17 @@ pub(crate) fn read_call<S: Source>(
     setup: &Setup,
     least: u64,
     source: &mut S,
-    out: &mut [u8],
+    out: &mut Vec<u8>,
 ) -> Result<Option<TimedCall>, CallStop>
-    requires room { 1050000 ≤ length out.old }
+    requires room { 1050000 ≤ vec_capacity out.old }
     requires end { 1 ≤ setup.now.end }
     requires longest { (reading lines.old).longest ≡ 2100000 }
     requires counted { IsCounted (place_of (reading lines.old)) }
     ensures call { (bytes : List ℕ) → S.left source.old ≡ Some bytes
-        → IsNext (setup_seen setup.now) least (place_of (reading lines.old)) (place_of (reading lines.new)) out.new bytes (S.left source.new) result }
+        → IsNext (setup_seen setup.now) least (place_of (reading lines.old)) (place_of (reading lines.new)) out.new.items bytes (S.left source.new) result }
     ensures there { IfOk result (λ call. IfSome call (λ c. (c.client.0 < length setup.now.places.items) × (c.server.0 < length setup.now.places.items))) }
-    ensures fits { IfOk result (λ call. IfSome call (λ c. c.len ≤ length out.new)) }
+    ensures fits { IfOk result (λ call. IfSome call (λ c. c.len ≤ length out.new.items)) }
+    ensures capacity { vec_capacity out.old ≤ vec_capacity out.new }
     ensures least { IfOk result (λ call. IfSome call (λ c. least ≤ c.tick)) }
     ensures most { IfOk result (λ call. IfSome call (λ c. c.tick < setup.now.end)) }
     ensures on { IfOk result (IsOn (place_of (reading lines.old)) (place_of (reading lines.new))) }

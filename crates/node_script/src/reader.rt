@@ -54,7 +54,7 @@ impl Reader {
     {
         Ok(Reader {
             lines: Lines::open(alloc, limit, LONGEST_LINE)?,
-            operand: vec![in alloc; 0; ROOM]?,
+            operand: Vec::with_capacity(alloc, ROOM)?,
             least: 0,
         })
     }

@@ -1,5 +1,5 @@
 // The lines behind `go`.
-ghost use Rattle.std.specs.Prelude.{◌≡◌, ◌≤◌, ◌<◌, ◌&&◌, true, length, Ok, IfOk, IfSome, is_some};
+ghost use Rattle.std.specs.Prelude.{◌≡◌, ◌≤◌, ◌<◌, ◌&&◌, true, length, vec_capacity, Ok, IfOk, IfSome, is_some};
 ghost use Rattle.homa_plain.specs.Input.{words_of};
 ghost use Rattle.homa_plain.specs.declared.fault.ScriptFault.TheVariants.{UnknownWord};
 ghost use Rattle.script_lines.specs.Operands.{end_of};
@@ -44,13 +44,14 @@ fn read_timed(
     bounds: &Bounds<'_>,
     line: u64,
     words: &mut Words<'_>,
-    out: &mut [u8],
+    out: &mut Vec<u8>,
 ) -> Result<TimedCall, ScriptFault>
-    requires room { 1050000 ≤ length out.old }
+    requires room { 1050000 ≤ vec_capacity out.old }
     requires end { 1 ≤ bounds.now.end }
     ensures given { (setup : script.Setup) → within bounds.now.places.now bounds.now.end setup
-        → script.timed_given setup bounds.now.least line words.old ≡ call_given result out.new }
-    ensures fits { IfOk result (λ c. c.len ≤ length out.new) }
+        → script.timed_given setup bounds.now.least line words.old ≡ call_given result out.new.items }
+    ensures fits { IfOk result (λ c. c.len ≤ length out.new.items) }
+    ensures capacity { vec_capacity out.old ≤ vec_capacity out.new }
     ensures least { IfOk result (λ c. bounds.now.least ≤ c.tick) }
     ensures most { IfOk result (λ c. c.tick < bounds.now.end) }
 {
@@ -96,15 +97,16 @@ pub(crate) fn read_timed_line(
     bounds: &Bounds<'_>,
     number: u64,
     line: &[u8],
-    out: &mut [u8],
+    out: &mut Vec<u8>,
 ) -> Result<Option<TimedCall>, LineFault>
     requires short { length line.now ≤ 2100000 }
-    requires room { 1050000 ≤ length out.old }
+    requires room { 1050000 ≤ vec_capacity out.old }
     requires end { 1 ≤ bounds.now.end }
     ensures given { (setup : script.Setup) → within bounds.now.places.now bounds.now.end setup
-        → script.timed_of setup bounds.now.least number (Ok (script.spoken (words_of line.now))) ≡ timed_given result out.new }
+        → script.timed_of setup bounds.now.least number (Ok (script.spoken (words_of line.now))) ≡ timed_given result out.new.items }
     ensures there { IfOk result (λ r. IfSome r (λ c. (c.client.0 < length bounds.now.places.now) × (c.server.0 < length bounds.now.places.now))) }
-    ensures fits { IfOk result (λ r. IfSome r (λ c. c.len ≤ length out.new)) }
+    ensures fits { IfOk result (λ r. IfSome r (λ c. c.len ≤ length out.new.items)) }
+    ensures capacity { vec_capacity out.old ≤ vec_capacity out.new }
     ensures least { IfOk result (λ r. IfSome r (λ c. bounds.now.least ≤ c.tick)) }
     ensures most { IfOk result (λ r. IfSome r (λ c. c.tick < bounds.now.end)) }
 {

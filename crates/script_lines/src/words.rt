@@ -1,5 +1,5 @@
 // The words of a line, one after another, and the operands that they are.
-ghost use Rattle.std.specs.Prelude.{◌≡◌, ◌≤◌, ◌+◌, ◌==◌, ◌∷◌, [], length, IfOk, IfSome, IfNone};
+ghost use Rattle.std.specs.Prelude.{◌≡◌, ◌≤◌, ◌+◌, ◌==◌, ◌∷◌, [], length, vec_capacity, IfOk, IfSome, IfNone};
 ghost use Rattle.std.specs.List.{position_or_len};
 ghost use Rattle.homa_plain.specs.Input.{words_of};
 ghost use Rattle.homa_plain.specs.Numbers.{number_of};
@@ -107,10 +107,12 @@ impl<'a> Words<'a> {
     }
 
     /// The next word as bytes, which go to the front of `out`, and how many they are.
-    pub fn bytes(&mut self, out: &mut [u8]) -> Result<usize, ScriptFault>
-        requires room { 1050000 ≤ length out.old }
-        ensures operand { bytes_operand self.old ≡ with_words (taken result out.new) self.new }
-        ensures fits { IfOk result (λ n. n ≤ length out.new) }
+    pub fn bytes(&mut self, out: &mut Vec<u8>) -> Result<usize, ScriptFault>
+        requires room { 1050000 ≤ vec_capacity out.old }
+        ensures operand { bytes_operand self.old ≡ with_words (taken result out.new.items) self.new }
+        ensures fits { IfOk result (λ n. n ≤ length out.new.items) }
+        ensures most { IfOk result (λ n. n ≤ 1050000) }
+        ensures capacity { vec_capacity out.old ≤ vec_capacity out.new }
     {
         match self.next() {
             None => Err(ScriptFault::Missing),

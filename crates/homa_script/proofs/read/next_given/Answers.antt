@@ -16,6 +16,7 @@ lines-init g c = record {
   on = omega arith;
   limit = refl;
   longest = refl;
+  capacity = omega arith;
   quiet = refl;
   never_falls = omega arith;
   same = g.met.S.Source.same_self _;
@@ -34,6 +35,7 @@ lines-preserved g c =
       on = omega (arith, t.on, l.invariant.on);
       limit = e.limit ∙ l.invariant.limit;
       longest = e.longest ∙ l.invariant.longest;
+      capacity = omega (arith, c.in_ok-given.ensures.capacity, l.invariant.capacity);
       quiet = e.quiet refl ∙ l.invariant.quiet;
       never_falls = omega (arith, e.never_falls, l.invariant.never_falls);
       same = g.met.S.Source.same_on _ _ _ l.invariant.same e.same;
@@ -45,7 +47,7 @@ returns-in_err-next_line-clause-given g c =
     let e = c.in_err-next_line.ensures in
     let p = err_from_is_err_and c.from_residual.result c.from_residual.ensures.1 in
     rw (p.1, p.2) (due_stop (reading c.args.lines.now) (reading l.lines)
-    (reading c.next_line.new.lines) _ _ _ l.out c.in_err-next_line.field-0.0 l.invariant.due e.line e.numbered)
+    (reading c.next_line.new.lines) _ _ _ l.out.items c.in_err-next_line.field-0.0 l.invariant.due e.line e.numbered)
 
 pub returns-in_err-given-clause-given : goal.returns-in_err-given-clause-given
 returns-in_err-given-clause-given g c =
@@ -62,7 +64,7 @@ returns-in-Some-clause-given g c =
     let e = c.in_ok-next_line.ensures in
     let t = taken (reading l.lines)
     (reading c.next_line.new.lines) _ _ _ c.last_line.result.now c.if-branch.true e.line e.numbered e.limit c.last_line.ensures.value in
-    due_given (reading c.args.lines.now) _ _ _ _ _ _ l.invariant.due t (given_seen c.in-Some.given c.read_event_line.new.out)
+    due_given (reading c.args.lines.now) _ _ _ _ _ _ l.invariant.due t (given_seen c.in-Some.given c.read_event_line.new.out.items)
     (rw c.in-Some.is at c.in_ok-given.ensures.phrase)
 
 pub returns-clause-given : goal.returns-clause-given
@@ -76,7 +78,7 @@ returns-in-Some-clause-on g c =
     let e = c.in_ok-next_line.ensures in
     let t = taken (reading l.lines)
     (reading c.next_line.new.lines) _ _ _ c.last_line.result.now c.if-branch.true e.line e.numbered e.limit c.last_line.ensures.value in
-    let two = long_line c.last_line.result.now (given_seen c.in-Some.given c.read_event_line.new.out) (rw c.in-Some.is at c.in_ok-given.ensures.phrase) in
+    let two = long_line c.last_line.result.now (given_seen c.in-Some.given c.read_event_line.new.out.items) (rw c.in-Some.is at c.in_ok-given.ensures.phrase) in
     let sized = e.sized c.if-branch.true in
     (counted_on _ _ _ _ _ l.invariant.counted t, omega (arith, two, sized, c.last_line.ensures.short, l.invariant.on))
 

@@ -1,4 +1,4 @@
-use Rattle.std.proofs.Common.{◌≡◌, ◌≤◌, ◌-◌}
+use Rattle.std.proofs.Common.{◌≡◌, ◌≤◌, ◌-◌, vec_capacity}
 use Rattle.homa_text.specs.Lines.{reading}
 use Rattle.script_lines.specs.Place.{place_of, IsCounted}
 use Rattle.script_lines.specs.Taking.{TakesLines}
@@ -17,6 +17,7 @@ invariant-lines g l =
       on : (reading l.fn.lines).read ≤ (reading l.lines).read;
       limit : (reading l.lines).limit ≡ (reading l.fn.lines).limit;
       longest : (reading l.lines).longest ≡ (reading l.fn.lines).longest;
+      capacity : vec_capacity l.fn.out ≤ vec_capacity l.out;
       quiet : faults l.source ≡ faults l.fn.source;
       never_falls : faults l.fn.source ≤ faults l.source;
       same : g.S.Source.is_same l.fn.source l.source;

@@ -22,6 +22,7 @@ lines-preserved g c =
       on = omega (arith, t.on, l.invariant.on);
       limit = e.limit ∙ l.invariant.limit;
       longest = e.longest ∙ l.invariant.longest;
+      capacity = omega (arith, c.in_ok-call.ensures.capacity, l.invariant.capacity);
       quiet = e.quiet refl ∙ l.invariant.quiet;
       never_falls = omega (arith, e.never_falls, l.invariant.never_falls);
       same = g.met.S.Source.same_on _ _ _ l.invariant.same e.same;
@@ -33,7 +34,7 @@ returns-in_err-next_line-clause-call g c =
     let e = c.in_err-next_line.ensures in
     let p = err_from_is_err_and c.from_residual.result c.from_residual.ensures.1 in
     rw (p.1, p.2) (due_stop (setup_seen c.args.setup.now) c.args.least (reading c.args.lines.now) (reading l.lines)
-    (reading c.next_line.new.lines) _ _ _ l.out c.in_err-next_line.field-0.0 l.invariant.due e.line e.numbered)
+    (reading c.next_line.new.lines) _ _ _ l.out.items c.in_err-next_line.field-0.0 l.invariant.due e.line e.numbered)
 
 pub returns-in_err-call-clause-call : goal.returns-in_err-call-clause-call
 returns-in_err-call-clause-call g c =
@@ -54,7 +55,7 @@ returns-in-Some-clause-call g c =
     (reading c.next_line.new.lines) _ _ _ c.last_line.result.now c.if-branch.true e.line e.numbered e.limit c.last_line.ensures.value in
     let s = setup_seen c.args.setup.now in
     due_call s c.args.least (reading c.args.lines.now) _ _ _ _ _ _ l.invariant.due t c.number-number.result c.number-number.ensures
-    (call_seen c.in-Some.call c.read_timed_line.new.out)
+    (call_seen c.in-Some.call c.read_timed_line.new.out.items)
     (rw c.in-Some.is at (c.in_ok-call.ensures.given s (ap (map place_seen) (sym c.deref.ensures.value), refl)))
 
 pub returns-in-Some-clause-on : goal.returns-in-Some-clause-on
@@ -64,7 +65,7 @@ returns-in-Some-clause-on g c =
     let t = taken (reading l.lines)
     (reading c.next_line.new.lines) _ _ _ c.last_line.result.now c.if-branch.true e.line e.numbered e.limit c.last_line.ensures.value in
     let s = setup_seen c.args.setup.now in
-    let two = long_call s c.args.least c.number-number.result c.last_line.result.now (call_seen c.in-Some.call c.read_timed_line.new.out)
+    let two = long_call s c.args.least c.number-number.result c.last_line.result.now (call_seen c.in-Some.call c.read_timed_line.new.out.items)
     (rw c.in-Some.is at (c.in_ok-call.ensures.given s (ap (map place_seen) (sym c.deref.ensures.value), refl))) in
     let sized = e.sized c.if-branch.true in
     (counted_on _ _ _ _ _ l.invariant.counted t, omega (arith, two, sized, c.last_line.ensures.short, l.invariant.on))

@@ -8,8 +8,9 @@ invariant_of-result c =
     let number = ap (λ (r : Reading). r.number) c.in_ok-open.ensures in
     let limit = ap (λ (r : Reading). r.limit) c.in_ok-open.ensures in
     record {
-      room = omega (arith, c.in_ok-vec.ensures.len, c.in_ok-vec.field-0.ok.0);
+      room = c.in_ok-with_capacity.ensures.capacity;
       fits = omega arith;
+      most = omega arith;
       longest = ap (λ (r : Reading). r.longest) c.in_ok-open.ensures;
       opening = λ k. record { counted = omega (arith, read, number); within = omega (arith, read); countable = omega (arith, limit, c.requires.limit) };
       going = λ k. absurd cc;
