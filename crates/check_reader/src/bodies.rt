@@ -1,9 +1,9 @@
 // Packets that are read from the words behind their call.
 ghost use Rattle.std.specs.Prelude.{◌≡◌, ◌*◌, ◌^◌, ◌≤◌, length, IfSome};
 ghost use Rattle.std.specs.Option.{option_map};
-ghost use Rattle.check_reader.specs.Fields.{times, word_at, number_at, cutoffs_at};
+ghost use Rattle.check_reader.specs.Fields.{times, word_at, number_at, cutoffs_at, ended};
 ghost use Rattle.check_reader.specs.FieldsLeft.{left, size};
-ghost use Rattle.check_reader.specs.Bodies.{kind_name, kind_of, calls_in, piece_at, data_in, grant_in, resend_in, body_in};
+ghost use Rattle.check_reader.specs.Bodies.{bare, kind_name, kind_of, calls_in, piece_at, data_in, grant_in, resend_in, body_in};
 
 use crate::fields::{Fields, call_from, read_ack, read_last_hex, read_u8, read_u16, read_u32};
 use homa_plain::{Body, Cutoffs, More};
@@ -143,6 +143,14 @@ fn read_data<'a>(words: Fields<'_>, out: &'a mut [u8]) -> Option<(u8, Body, &'a 
     Some((level, body, payload))
 }
 
+// A packet with no payload, whose level isn't told, where no word is left.
+fn bare<'a>(words: Fields<'_>, body: Body) -> Option<(u8, Body, &'a [u8])>
+    ensures { option_map (λ x. (x.0, x.1, x.2.now)) result ≡ ended (bare body) (left words.entry) }
+{
+    words.end()?;
+    Some((7, body, &[]))
+}
+
 // A GRANT.
 #[tactic(auto, unfolding(crate::specs::Bodies::grant_in))]
 fn read_grant<'a>(words: Fields<'_>) -> Option<(u8, Body, &'a [u8])>
@@ -150,8 +158,7 @@ fn read_grant<'a>(words: Fields<'_>) -> Option<(u8, Body, &'a [u8])>
 {
     let (offset, words) = read_u32(words)?;
     let (prio, words) = read_u8(words)?;
-    words.end()?;
-    Some((7, Body::Grant { offset, prio }, &[]))
+    bare(words, Body::Grant { offset, prio })
 }
 
 // A RESEND.
@@ -162,8 +169,7 @@ fn read_resend<'a>(words: Fields<'_>) -> Option<(u8, Body, &'a [u8])>
     let (from, words) = read_u32(words)?;
     let (to, words) = read_u32(words)?;
     let (prio, words) = read_u8(words)?;
-    words.end()?;
-    Some((7, Body::Resend { from, to, prio }, &[]))
+    bare(words, Body::Resend { from, to, prio })
 }
 
 // Level, body and payload of a packet of this kind. But for DATA, the level isn't told and is 7.
@@ -180,24 +186,16 @@ pub(crate) fn read_body<'a>(
         Kind::Data => read_data(words, out),
         Kind::Grant => read_grant(words),
         Kind::Resend => read_resend(words),
-        Kind::Busy => {
-            words.end()?;
-            Some((7, Body::Busy, &[]))
-        }
+        Kind::Busy => bare(words, Body::Busy),
         Kind::Cutoffs => {
             let (cutoffs, words) = read_cutoffs(words)?;
-            words.end()?;
-            Some((7, Body::Cutoffs(cutoffs), &[]))
+            bare(words, Body::Cutoffs(cutoffs))
         }
         Kind::Unknown => {
             let (reason, words) = read_u8(words)?;
-            words.end()?;
-            Some((7, Body::Unknown { reason }, &[]))
+            bare(words, Body::Unknown { reason })
         }
-        Kind::NeedAck => {
-            words.end()?;
-            Some((7, Body::NeedAck, &[]))
-        }
+        Kind::NeedAck => bare(words, Body::NeedAck),
         Kind::Ack => Some((
             7,
             Body::Ack {

@@ -3,6 +3,7 @@ ghost use Rattle.std.specs.Prelude.{◌≡◌, ◌≢◌, ◌*◌, ◌≤◌, []
 ghost use Rattle.std.specs.Option.{option_map};
 ghost use Rattle.homa_plain.specs.Entries.{PlainEntry, plain};
 ghost use Rattle.homa_plain.specs.Text.{line_text};
+ghost use Rattle.check_reader.specs.Fields.{ended};
 ghost use Rattle.check_reader.specs.FieldsLeft.{left, size};
 ghost use Rattle.check_reader.specs.Forms.{form_name, form_of, last_two_in, settings_in, call_in, deliver_in, clock_in, restart_in, inject_in};
 ghost use Rattle.check_reader.specs.Forms.{shift_in, stale_in, send_in, run_in, done_in, fail_in, drop_in, gaps_in, free_in, bury_in, junk_in};
@@ -163,6 +164,14 @@ fn read_settings(words: Fields<'_>) -> Option<Settings>
     })
 }
 
+// The entry, where no word is left.
+fn ended<'a>(words: Fields<'_>, entry: Entry<'a>) -> Option<Entry<'a>>
+    ensures { option_map plain result ≡ ended (plain entry.entry) (left words.entry) }
+{
+    words.end()?;
+    Some(entry)
+}
+
 // A call that starts.
 #[tactic(auto, unfolding(crate::specs::Forms::call_in))]
 fn read_call<'a>(words: Fields<'_>, out: &'a mut [u8]) -> Option<Entry<'a>>
@@ -187,8 +196,7 @@ fn read_deliver<'a>(words: Fields<'_>) -> Option<Entry<'a>>
     ensures { option_map plain result ≡ deliver_in (left words.entry) }
 {
     let (packet, words) = read_u64(words)?;
-    words.end()?;
-    Some(Entry::Deliver { packet })
+    ended(words, Entry::Deliver { packet })
 }
 
 // The clock's new tick.
@@ -197,8 +205,7 @@ fn read_clock<'a>(words: Fields<'_>) -> Option<Entry<'a>>
     ensures { option_map plain result ≡ clock_in (left words.entry) }
 {
     let (tick, words) = read_u64(words)?;
-    words.end()?;
-    Some(Entry::Clock { tick })
+    ended(words, Entry::Clock { tick })
 }
 
 // Bytes that are no packet.
@@ -207,8 +214,7 @@ fn read_junk<'a>(words: Fields<'_>) -> Option<Entry<'a>>
     ensures { option_map plain result ≡ junk_in (left words.entry) }
 {
     let (host, words) = read_host(words)?;
-    words.end()?;
-    Some(Entry::Junk { host })
+    ended(words, Entry::Junk { host })
 }
 
 // A restart.
@@ -218,8 +224,7 @@ fn read_restart<'a>(words: Fields<'_>) -> Option<Entry<'a>>
 {
     let (host, words) = read_host(words)?;
     let (inc, words) = read_u32(words)?;
-    words.end()?;
-    Some(Entry::Restart { host, inc })
+    ended(words, Entry::Restart { host, inc })
 }
 
 // An injection.
@@ -240,8 +245,7 @@ fn read_shift<'a>(words: Fields<'_>) -> Option<Entry<'a>>
 {
     let (host, words) = read_host(words)?;
     let (n, words) = read_u32(words)?;
-    words.end()?;
-    Some(Entry::Shift { host, n })
+    ended(words, Entry::Shift { host, n })
 }
 
 // A packet that comes too late.
@@ -252,8 +256,7 @@ fn read_stale<'a>(words: Fields<'_>) -> Option<Entry<'a>>
     let (host, words) = read_host(words)?;
     let (at, words) = read_u64(words)?;
     let (now, words) = read_u64(words)?;
-    words.end()?;
-    Some(Entry::Stale { host, at, now })
+    ended(words, Entry::Stale { host, at, now })
 }
 
 // A packet that is sent.
@@ -294,15 +297,15 @@ fn read_run<'a>(words: Fields<'_>, out: &'a mut [u8]) -> Option<Entry<'a>>
     let (request, out, words) = read_hex(words, out)?;
     let (response, _, words) = read_hex(words, out)?;
     let (hold, words) = read_u32(words)?;
-    words.end()?;
-    Some(Entry::Run {
+    let entry = Entry::Run {
         host,
         id,
         service,
         request,
         response,
         hold,
-    })
+    };
+    ended(words, entry)
 }
 
 // A response that is whole.
@@ -323,8 +326,7 @@ fn read_fail<'a>(words: Fields<'_>) -> Option<Entry<'a>>
 {
     let (id, words) = read_id(words)?;
     let (why, words) = read_why(words)?;
-    words.end()?;
-    Some(Entry::Fail { id, why })
+    ended(words, Entry::Fail { id, why })
 }
 
 // A request that is given up.
@@ -334,8 +336,7 @@ fn read_drop<'a>(words: Fields<'_>) -> Option<Entry<'a>>
 {
     let (host, words) = read_host(words)?;
     let (id, words) = read_id(words)?;
-    words.end()?;
-    Some(Entry::Drop { host, id })
+    ended(words, Entry::Drop { host, id })
 }
 
 // A message with too many gaps.
@@ -345,8 +346,7 @@ fn read_gaps<'a>(words: Fields<'_>) -> Option<Entry<'a>>
 {
     let (host, words) = read_host(words)?;
     let (id, words) = read_id(words)?;
-    words.end()?;
-    Some(Entry::Gaps { host, id })
+    ended(words, Entry::Gaps { host, id })
 }
 
 // A call that is forgotten.
@@ -356,8 +356,7 @@ fn read_free<'a>(words: Fields<'_>) -> Option<Entry<'a>>
 {
     let (host, words) = read_host(words)?;
     let (id, words) = read_id(words)?;
-    words.end()?;
-    Some(Entry::Free { host, id })
+    ended(words, Entry::Free { host, id })
 }
 
 // A call of which only that it ran is kept.
@@ -368,8 +367,7 @@ fn read_bury<'a>(words: Fields<'_>) -> Option<Entry<'a>>
     let (host, words) = read_host(words)?;
     let (id, words) = read_id(words)?;
     let (until, words) = read_u64(words)?;
-    words.end()?;
-    Some(Entry::Bury { host, id, until })
+    ended(words, Entry::Bury { host, id, until })
 }
 
 // What a host has no room for, as a word.
@@ -429,8 +427,7 @@ fn read_balance<'a>(words: Fields<'_>) -> Option<Entry<'a>>
 {
     let (host, words) = read_host(words)?;
     let (cutoffs, words) = read_cutoffs(words)?;
-    words.end()?;
-    Some(Entry::Balance { host, cutoffs })
+    ended(words, Entry::Balance { host, cutoffs })
 }
 
 // A datagram that reached a node's host.
@@ -461,8 +458,7 @@ fn read_finished<'a>(words: Fields<'_>) -> Option<Entry<'a>>
     ensures { option_map plain result ≡ finished_in (left words.entry) }
 {
     let (n, words) = read_u64(words)?;
-    words.end()?;
-    Some(Entry::Finished { n })
+    ended(words, Entry::Finished { n })
 }
 
 // A node that did its last turn.
@@ -472,8 +468,7 @@ fn read_stalled<'a>(words: Fields<'_>) -> Option<Entry<'a>>
 {
     let (turns, words) = read_u64(words)?;
     let (now, words) = read_u64(words)?;
-    words.end()?;
-    Some(Entry::Stalled { turns, now })
+    ended(words, Entry::Stalled { turns, now })
 }
 
 // The entry of a line that begins with this word.
