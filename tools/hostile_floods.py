@@ -157,7 +157,7 @@ def flooded(kind, a_second, length, size, ticks):
     """Two processes, a client and a server, under a flood that begins with them; at half of its time the server is killed, and another with the
     next incarnation takes its port. Yields as a row does."""
     ports, settings = free_ports(3), {"resend": 50, "life": 1000}
-    client = Live(script_of(ports, [f"at {k} call 1 2 0 {k:08x}" for k in range(10, ticks, 5)], here=[1], end=ticks + 400, **settings))
+    client = Live(script_of(ports, [f"at {k} call 1 2 0 {k:08x}" for k in range(10, ticks, 5)], here=[1], end=ticks + 600, **settings))
     server = Live(script_of(ports, here=[2], end=10**6, **settings))
     until(lambda: is_bound(ports[1]) and is_bound(ports[2]))
     flood = Sender(ports, a_second, length, size)

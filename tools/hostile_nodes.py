@@ -7,7 +7,7 @@ import subprocess
 import threading
 import time
 
-from nodes import LOOPBACK, PROGRAM, Flow, answers, free_ports, is_bound, memory, script_of, until
+from nodes import LOOPBACK, PROGRAM, Flow, answers, dropped, free_ports, is_bound, memory, script_of, until
 
 # With these the run of a script is the same each time: the clock goes on by a tick each loop turn, and no receive waits.
 STEPS = {"STEP": 10000}
@@ -227,10 +227,15 @@ def trickles(faults, chosen):
         for it in senders:
             it.join()
         lines = live.lines()
-        clock = [int(line.split()[1]) for line in lines if line.startswith("clock ")]
-        longest, took = max(b - a for a, b in zip(clock, clock[1:])), waits(lines)
+        longest, took = longest_turn(lines), waits(lines)
         what = f"{known} a second of a host elsewhere, {unknown} of a stranger: status {status}, {echoed(lines, 0, 60)} of 60 calls done, a loop turn of {longest} ticks"
         yield status == 0 and echoed(lines, 0, 60) == 60 and longest <= 50, what, f"{what}, calls took at most {took[-1] if took else '-'}"
+
+
+def longest_turn(lines):
+    """By how many ticks the clock of a node went on at most from one loop turn to the next."""
+    clock = [int(line.split()[1]) for line in lines if line.startswith("clock ")]
+    return max((b - a for a, b in zip(clock, clock[1:])), default=0)
 
 
 def waits(lines):
@@ -247,39 +252,55 @@ def waits(lines):
     return sorted(took)
 
 
-def foreign_datagrams(faults, chosen):
-    """A live node under foreign datagrams: each call runs once and is done with its own bytes, within its client's patience, and no
-    memory is asked for behind the run's first quarter (what was asked for at the opening is first written when it is used)."""
-    settings = {"resend": 50, "life": 1000}
-    seconds = min(60.0, max(4.0, chosen.minutes * 6))
-    for a_second in (0, 200, 1000, 5000):
-        ports, count = free_ports(3), int(seconds * 20)
-        live = Live(script_of(ports, calls_at(0, 1, count, every=5), here=[0, 1], end=int(seconds * 100) + 400, **settings))
+class Flooded:
+    """The run of a node with two hosts under so many foreign datagrams a second: its status, its lines, its memory as it went on (what it has asked for,
+    and what is resident), and how many datagrams the system dropped, as a socket's buffer was full."""
+
+    def __init__(self, chosen, a_second, seconds, count):
+        ports = free_ports(3)
+        live = Live(script_of(ports, calls_at(0, 1, count, every=5), here=[0, 1], end=int(seconds * 100) + 400, resend=50, life=1000))
         until(lambda: is_bound(ports[1]))
         flood = Flood(ports, random.Random(chosen.seed), a_second, chosen.changed)
         flood.start()
-        sizes = []
+        self.sizes, self.dropped = [], 0
         while live.process.poll() is None:
             time.sleep(0.2)
             try:
-                sizes.append((memory(live.process, "VmData"), memory(live.process)))
+                self.sizes.append((memory(live.process, "VmData"), memory(live.process)))
             except (FileNotFoundError, StopIteration, ProcessLookupError):
                 break
-        status = live.end()
+            self.dropped = max(self.dropped, dropped(ports[:2]))
+        self.status = live.end()
         flood.is_over = True
         flood.join()
-        lines = live.lines()
-        right, took = echoed(lines, 0, count), waits(lines)
-        failed = sum(line.startswith("fail 0.") for line in lines)
-        what = f"{a_second} a second: status {status}, {right} of {count} calls, {failed} failed"
-        for _ in range(right):
-            yield True, what
-        junk = sum(line.startswith("junk ") for line in lines)
-        came = sum(line.split(" ")[2] == "2" for line in lines if line.startswith("recv "))
-        figure = (f"{flood.sent} foreign datagrams, {came} of a host elsewhere came, {junk} junk; calls took {took[len(took) // 2]} ticks, at most {took[-1]}; "
-                  f"{sizes[len(sizes) // 4][1]} KB resident at a quarter, {sizes[-2][1]} at the end") if took and len(sizes) > 8 else "nothing was done"
-        for _ in range(count - right):
-            yield False, what, figure
-        yield status == 0, what, figure
-        yield bool(took) and took[-1] <= 300, f"{a_second} a second: a call took {took[-1] if took else 'no'} ticks, which is beyond a client's patience"
-        yield len(sizes) > 8 and sizes[-2][0] == sizes[len(sizes) // 4][0], f"{a_second} a second: memory went from {sizes[len(sizes) // 4]} to {sizes[-2]} KB"
+        self.sent, self.lines = flood.sent, live.lines()
+
+    def figure(self, right, count):
+        first, took = [line.split(" ")[0] for line in self.lines], waits(self.lines)
+        came = sum(line.startswith(("recv 0 2 ", "recv 1 2 ")) for line in self.lines)
+        early, late = self.sizes[len(self.sizes) // 4][1], self.sizes[-2][1]
+        return (f"{self.sent:,} foreign datagrams, {came:,} of a host elsewhere came, {first.count('junk'):,} junk, {self.dropped:,} dropped by the system: "
+                f"{right} of {count} calls done in {took[len(took) // 2]} ticks, at most {took[-1]}; {early:,} KB resident at a quarter, {late:,} at the end")
+
+
+def foreign_datagrams(faults, chosen):
+    """A live node under foreign datagrams: each call runs once and is done with its own bytes, within its client's patience; one may fail where the
+    system dropped datagrams, since the node had too little of the processor. No memory is asked for behind the run's first quarter (what was asked for
+    at the opening is first written when it is used)."""
+    seconds = min(60.0, max(4.0, chosen.minutes * 6))
+    for a_second in (0, 200, 1000, 5000):
+        count = int(seconds * 20)
+        ran = Flooded(chosen, a_second, seconds, count)
+        right, took, sizes = echoed(ran.lines, 0, count), waits(ran.lines), ran.sizes
+        if not took or len(sizes) <= 8:
+            yield False, f"{a_second} a second: status {ran.status}, {right} of {count} calls"
+            continue
+        timeouts = sum(line.startswith("fail 0.") and line.endswith(" timeout") for line in ran.lines)
+        what = f"{a_second} a second: status {ran.status}, {right} of {count} calls, {timeouts} failed, {ran.dropped} datagrams dropped"
+        for k in range(count):
+            yield k < right or ran.dropped > 0 and k < right + timeouts, what
+        yield ran.status == 0, what, ran.figure(right, count)
+        # A call asks once in each of six turns that come when its patience is over or later, so it lasts that much longer where turns are late.
+        most = 300 + 6 * longest_turn(ran.lines)
+        yield took[-1] <= most, f"{a_second} a second: a call took {took[-1]} ticks, which is beyond a client's patience of {most}"
+        yield sizes[-2][0] == sizes[len(sizes) // 4][0], f"{a_second} a second: memory went from {sizes[len(sizes) // 4]} to {sizes[-2]} KB"

@@ -60,12 +60,18 @@ def full_disks():
             yield got.returncode == status and out.read() == whole[:10000], f"a file of at most 10,000 bytes: status {got.returncode}"
 
 
+def as_usual():
+    """Sets back the signals that a process in the background, or under nohup, is started without; it is called in it before its program starts."""
+    for number in (signal.SIGINT, signal.SIGHUP):
+        signal.signal(number, signal.SIG_DFL)
+
+
 def sent_signals():
     """A signal ends a replay that waits for input: its number is the status, and what was printed are the lines up to there. Stopped and
     continued, it goes on."""
     whole = homa(["replay"], SMALLEST).stdout
     for number in (signal.SIGTERM, signal.SIGINT, signal.SIGHUP, signal.SIGKILL):
-        it = subprocess.Popen([PROGRAM, "replay"], stdin=subprocess.PIPE, stdout=subprocess.PIPE)
+        it = subprocess.Popen([PROGRAM, "replay"], stdin=subprocess.PIPE, stdout=subprocess.PIPE, preexec_fn=as_usual)
         it.stdin.write(SMALLEST)
         it.stdin.flush()
         told = b"".join(it.stdout.readline() for _ in range(whole.count(b"\n") - 1))

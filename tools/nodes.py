@@ -45,6 +45,13 @@ def is_bound(port):
         return any(line.split()[1].endswith(f":{port:04X}") for line in it.readlines()[1:])
 
 
+def dropped(ports):
+    """How many datagrams for these ports the system dropped, as their sockets' buffers were full: the last column of its table."""
+    with open("/proc/net/udp") as it:
+        rows = [line.split() for line in it.readlines()[1:]]
+    return sum(int(row[-1]) for row in rows if int(row[1].rpartition(":")[2], 16) in ports)
+
+
 def until(is_so, seconds=10, step=0.002):
     """Waits until something is so; whether it was in time."""
     last = time.monotonic() + seconds
