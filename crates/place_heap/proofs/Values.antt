@@ -7,48 +7,48 @@ use Rattle.std.proofs.lemmas.List.{get_or-set_same, get_or-set_other, get_or-rep
 use Rattle.std.proofs.lemmas.List.FromFn.{length-map-range_with_len, get_or-map-range_with_len, fill_by_all}
 use denote.RawPtr.{Ptr}
 use Rattle.place_heap.specs.declared.cells.Cell.{Cell}
-use Rattle.place_heap.specs.Cells.{cell_at, shown, unused_cell, values_of, IsMarked, IsWritten}
+use Rattle.place_heap.specs.Cells.{cell_at, noted_place, shown, unused_cell, values_of, IsMarked, IsWritten}
 
 -- what the place i shows
-abbrev at_place : List ℕ → List (Option Cell) → ℕ → Cell
-at_place marks places i = shown (slice_index marks i) (get_or places i None)
+abbrev at_place : ℕ → List ℕ → List (Option Cell) → ℕ → Cell
+at_place cap marks places i = shown cap (slice_index marks i) (get_or places i None)
 
 -- there are as many cells as places
 pub values_len : (marks : List ℕ) (places : List (Option Cell)) (cap : ℕ) → length (values_of marks places cap) ≡ cap
-values_len marks places cap = length-map-range_with_len (at_place marks places) 0 cap
+values_len marks places cap = length-map-range_with_len (at_place cap marks places) 0 cap
 
 -- each cell is what its place shows
-pub value_at : (marks : List ℕ) (places : List (Option Cell)) (cap i : ℕ) → i < cap → cell_at (values_of marks places cap) i ≡ at_place marks places i
-value_at marks places cap i inside = get_or-map-range_with_len (at_place marks places) 0 cap i i (unused_cell 0) inside (omega arith)
+pub value_at : (marks : List ℕ) (places : List (Option Cell)) (cap i : ℕ) → i < cap → cell_at (values_of marks places cap) i ≡ at_place cap marks places i
+value_at marks places cap i inside = get_or-map-range_with_len (at_place cap marks places) 0 cap i i (unused_cell 0) inside (omega arith)
 
 -- cells that are each what their place shows
 all_shown : (cells : List Cell) (marks : List ℕ) (places : List (Option Cell)) (cap : ℕ) → length cells ≡ cap
-    → ((k : ℕ) → k < cap → cell_at cells k ≡ at_place marks places k) → cells ≡ values_of marks places cap
-all_shown cells marks places cap len each = fill_by_all (at_place marks places) cells cap (unused_cell 0) len each
+    → ((k : ℕ) → k < cap → cell_at cells k ≡ at_place cap marks places k) → cells ≡ values_of marks places cap
+all_shown cells marks places cap len each = fill_by_all (at_place cap marks places) cells cap (unused_cell 0) len each
 
 -- a mark and its place, given another way
 both_marked : (m n : ℕ) (p q : Option Cell) → m ≡ n → p ≡ q → IsMarked m p → IsMarked n q
 both_marked m n p q e f marked = subst (λ (x : ℕ). IsMarked x q) e (subst (λ (y : Option Cell). IsMarked m y) f marked)
 
 -- a place with the mark of one that was written holds what it shows
-held_by : (mark : ℕ) (place : Option Cell) → IsMarked mark place → mark ≡ 65535 → place ≡ Some (shown mark place)
-held_by mark (Some cell) marked is = refl
-held_by mark None marked is = absurd (omega arith)
+held_by : (cap mark : ℕ) (place : Option Cell) → IsMarked mark place → mark ≡ 255 → place ≡ Some (shown cap mark place)
+held_by cap mark (Some cell) marked is = refl
+held_by cap mark None marked is = absurd (omega arith)
 
 -- and one with another mark holds nothing
-none_by : (mark : ℕ) (place : Option Cell) → IsMarked mark place → mark ≢ 65535 → place ≡ None
+none_by : (mark : ℕ) (place : Option Cell) → IsMarked mark place → mark ≢ 255 → place ≡ None
 none_by mark (Some cell) marked isnt = absurd (isnt marked)
 none_by mark None marked isnt = refl
 
 module _ {at base : Ptr} {marks : List ℕ} {places : List (Option Cell)} {cap : ℕ} (kept : IsWritten at base marks places cap) (i : ℕ) (inside : i < cap) where
   -- a place that was written holds its cell
-  pub place_holds : slice_index marks i ≡ 65535 → get_or places i None ≡ Some (cell_at (values_of marks places cap) i)
-  place_holds is = held_by (slice_index marks i) (get_or places i None) (kept.marked i inside) is ∙ ap Some (sym (value_at marks places cap i inside))
+  pub place_holds : slice_index marks i ≡ 255 → get_or places i None ≡ Some (cell_at (values_of marks places cap) i)
+  place_holds is = held_by cap (slice_index marks i) (get_or places i None) (kept.marked i inside) is ∙ ap Some (sym (value_at marks places cap i inside))
 
   -- a place that wasn't shows a cell with no item
-  pub place_blank : slice_index marks i ≢ 65535 → cell_at (values_of marks places cap) i ≡ unused_cell (slice_index marks i)
+  pub place_blank : slice_index marks i ≢ 255 → cell_at (values_of marks places cap) i ≡ unused_cell (noted_place cap (slice_index marks i))
   place_blank isnt =
-      value_at marks places cap i inside ∙ ap (shown (slice_index marks i)) (none_by (slice_index marks i) (get_or places i None) (kept.marked i inside) isnt)
+      value_at marks places cap i inside ∙ ap (shown cap (slice_index marks i)) (none_by (slice_index marks i) (get_or places i None) (kept.marked i inside) isnt)
 
   module _ (mark : ℕ) (place : Option Cell) (marks' : List ℕ) (places' : List (Option Cell)) (is_mark : marks' ≡ set marks i mark)
       (is_place : (k : ℕ) → k ≢ i → get_or places' k None ≡ get_or places k None)
@@ -74,63 +74,63 @@ module _ {at base : Ptr} {marks : List ℕ} {places : List (Option Cell)} {cap :
     }
 
     -- and one cell is another
-    pub changed_values : values_of marks' places' cap ≡ set (values_of marks places cap) i (shown mark place)
+    pub changed_values : values_of marks' places' cap ≡ set (values_of marks places cap) i (shown cap mark place)
     changed_values =
-        sym (all_shown (set (values_of marks places cap) i (shown mark place)) marks' places' cap
-        (length-set (values_of marks places cap) i (shown mark place) ∙ values_len marks places cap)
+        sym (all_shown (set (values_of marks places cap) i (shown cap mark place)) marks' places' cap
+        (length-set (values_of marks places cap) i (shown cap mark place) ∙ values_len marks places cap)
         (λ k below. ⊎_elim
-        (λ e. ap (λ n. cell_at (set (values_of marks places cap) i (shown mark place)) n) e
-        ∙ (get_or-set_same (values_of marks places cap) i (shown mark place) (unused_cell 0) (omega (arith, values_len marks places cap))
-        ∙ (λ j. shown (sym mark_at j) (sym there j)) ∙ ap (at_place marks' places') (sym e)))
-        (λ ne. get_or-set_other (values_of marks places cap) i k (shown mark place) (unused_cell 0) ne
-        ∙ (value_at marks places cap k below ∙ (λ j. shown (sym (mark_other k ne) j) (sym (is_place k ne) j)))) (cases_eq k i)))
+        (λ e. ap (λ n. cell_at (set (values_of marks places cap) i (shown cap mark place)) n) e
+        ∙ (get_or-set_same (values_of marks places cap) i (shown cap mark place) (unused_cell 0) (omega (arith, values_len marks places cap))
+        ∙ (λ j. shown cap (sym mark_at j) (sym there j)) ∙ ap (at_place cap marks' places') (sym e)))
+        (λ ne. get_or-set_other (values_of marks places cap) i k (shown cap mark place) (unused_cell 0) ne
+        ∙ (value_at marks places cap k below ∙ (λ j. shown cap (sym (mark_other k ne) j) (sym (is_place k ne) j)))) (cases_eq k i)))
 
   -- a cell is written
-  pub put_written : (cell : Cell) → IsWritten at base (set marks i 65535) (set places i (Some cell)) cap
+  pub put_written : (cell : Cell) → IsWritten at base (set marks i 255) (set places i (Some cell)) cap
   put_written cell =
-      changed_written 65535 (Some cell) (set marks i 65535) (set places i (Some cell)) refl (λ k ne. get_or-set_other places i k (Some cell) None ne)
+      changed_written 255 (Some cell) (set marks i 255) (set places i (Some cell)) refl (λ k ne. get_or-set_other places i k (Some cell) None ne)
       (get_or-set_same places i (Some cell) None (omega (arith, kept.len))) (length-set places i (Some cell)) refl
 
   -- which is then the one that is shown
-  pub put_values : (cell : Cell) → values_of (set marks i 65535) (set places i (Some cell)) cap ≡ set (values_of marks places cap) i cell
+  pub put_values : (cell : Cell) → values_of (set marks i 255) (set places i (Some cell)) cap ≡ set (values_of marks places cap) i cell
   put_values cell =
-      changed_values 65535 (Some cell) (set marks i 65535) (set places i (Some cell)) refl (λ k ne. get_or-set_other places i k (Some cell) None ne)
+      changed_values 255 (Some cell) (set marks i 255) (set places i (Some cell)) refl (λ k ne. get_or-set_other places i k (Some cell) None ne)
       (get_or-set_same places i (Some cell) None (omega (arith, kept.len))) (length-set places i (Some cell)) refl
 
   -- the mark of a place that wasn't written is another
-  pub noted_written : slice_index marks i ≢ 65535 → (mark : ℕ) → mark < 65535 → IsWritten at base (set marks i mark) places cap
+  pub noted_written : slice_index marks i ≢ 255 → (mark : ℕ) → mark < 255 → IsWritten at base (set marks i mark) places cap
   noted_written isnt mark small =
       changed_written mark None (set marks i mark) places refl (λ k ne. refl)
       (none_by (slice_index marks i) (get_or places i None) (kept.marked i inside) isnt) refl small
 
   -- and so is the place that is shown
-  pub noted_values : slice_index marks i ≢ 65535 → (mark : ℕ) → mark < 65535 → values_of (set marks i mark) places cap ≡ set
-      (values_of marks places cap) i (unused_cell mark)
+  pub noted_values : slice_index marks i ≢ 255 → (mark : ℕ) → mark < 255 → values_of (set marks i mark) places cap ≡ set
+      (values_of marks places cap) i (unused_cell (noted_place cap mark))
   noted_values isnt mark small =
       changed_values mark None (set marks i mark) places refl (λ k ne. refl)
       (none_by (slice_index marks i) (get_or places i None) (kept.marked i inside) isnt) refl small
 
 module _ (at base : Ptr) (cap : ℕ) (small : cap ≤ 8192) where
   -- the marks of places that weren't written
-  new_mark : (k : ℕ) → k < cap → slice_index (replicate cap cap) k ≡ cap
-  new_mark k below = get_or-replicate cap k cap 0 below
+  new_mark : (k : ℕ) → k < cap → slice_index (replicate cap 254) k ≡ 254
+  new_mark k below = get_or-replicate cap k 254 0 below
 
   -- the places
   new_place : (k : ℕ) → k < cap → get_or (replicate cap (let none : Option Cell = None in none)) k None ≡ None
   new_place k below = get_or-replicate cap k None None below
 
   -- a new block has a mark for each place
-  pub new_written : at ≡ base → IsWritten at base (replicate cap cap) (replicate cap None) cap
+  pub new_written : at ≡ base → IsWritten at base (replicate cap 254) (replicate cap None) cap
   new_written lies = record {
     lies = lies;
     len = length-replicate cap None;
     small = small;
-    many = length-replicate cap cap;
-    marked = λ k below. both_marked _ _ _ _ (sym (new_mark k below)) (sym (new_place k below)) (let less : cap < 65535 = omega arith in less);
+    many = length-replicate cap 254;
+    marked = λ k below. both_marked _ _ _ _ (sym (new_mark k below)) (sym (new_place k below)) (let less : 254 < 255 = omega arith in less);
   }
 
   -- and shows cells with no item
-  pub new_values : values_of (replicate cap cap) (replicate cap None) cap ≡ replicate cap (unused_cell cap)
+  pub new_values : values_of (replicate cap 254) (replicate cap None) cap ≡ replicate cap (unused_cell cap)
   new_values =
-      sym (all_shown (replicate cap (unused_cell cap)) (replicate cap cap) (replicate cap None) cap (length-replicate cap (unused_cell cap))
-      (λ k below. get_or-replicate cap k (unused_cell cap) (unused_cell 0) below ∙ (λ j. shown (sym (new_mark k below) j) (sym (new_place k below) j))))
+      sym (all_shown (replicate cap (unused_cell cap)) (replicate cap 254) (replicate cap None) cap (length-replicate cap (unused_cell cap))
+      (λ k below. get_or-replicate cap k (unused_cell cap) (unused_cell 0) below ∙ (λ j. shown cap (sym (new_mark k below) j) (sym (new_place k below) j))))

@@ -1,9 +1,9 @@
 //! A block of cells in raw memory, which are first written when they are put.
-ghost use Rattle.std.specs.Prelude.{◌≡◌, ℕ, ◌+◌, ◌<◌, ◌≤◌, List, Option, Some, None, length, replicate, slice_index_or, slice_set, IfOk};
+ghost use Rattle.std.specs.Prelude.{◌≡◌, ◌≢◌, ℕ, ◌+◌, ◌<◌, ◌≤◌, List, Option, Some, None, length, replicate, slice_index_or, slice_set, IfOk};
 ghost use denote.RawPtr.{Ptr};
 ghost use Rattle.place_heap.specs.declared.cells.Cell.{Cell};
 ghost use Rattle.place_heap.specs.Ownership.{block_owns, block_lends};
-ghost use Rattle.place_heap.specs.Cells.{cell_at, unused_cell};
+ghost use Rattle.place_heap.specs.Cells.{cell_at, noted_place, unused_cell};
 
 use crate::key::Key;
 use crate::steps::Steps;
@@ -87,7 +87,10 @@ impl Block {
 }
 
 // The mark of a cell that was written.
-const WRITTEN: u16 = 65535;
+const WRITTEN: u8 = 255;
+
+// The mark of a cell that wasn't written, whose slot is absent.
+const ABSENT: u8 = 254;
 
 /// A block of cells, each with a value. It is seen as the list of its cells. A cell is written when it is first put, so that
 /// the system hands out no memory for it before; until then its mark alone says the place of its slot.
@@ -95,7 +98,7 @@ pub struct Cells {
     base: Base,
     cap: u32,
     block: Block,
-    marks: Vec<u16>,
+    marks: Vec<u8>,
     alloc: Global,
 }
 
@@ -123,13 +126,36 @@ fn unused(at: u32) -> Cell
     Cell { key, slot: 0, at }
 }
 
+// Where the slot of a cell is by its mark.
+#[inline(always)]
+fn place_of_mark(mark: u8, cap: u32) -> u32
+    ensures { result ≡ noted_place cap mark }
+{
+    if mark == ABSENT { cap } else { u32::from(mark) }
+}
+
+// The mark that says where a slot is, and `WRITTEN` where none does.
+#[inline(always)]
+fn mark_of_place(at: u32, cap: u32) -> u8
+    ensures says { result < 255 → noted_place cap result ≡ at }
+    ensures none { result ≡ 255 → (254 ≤ at) × (at ≢ cap) }
+{
+    if at == cap {
+        ABSENT
+    } else if at < u32::from(ABSENT) {
+        at as u8
+    } else {
+        WRITTEN
+    }
+}
+
 impl Cells {
     /// `cap` cells, which no slot and no item is in. Fails where memory runs out.
     pub fn new(alloc: Global, cap: u32) -> Result<Cells, AllocError>
         requires { cap ≤ 8192 }
         ensures { IfOk result (λ cells. cells ≡ replicate cap (unused_cell cap)) }
     {
-        let marks = vec![in alloc; cap as u16; cap as usize]?;
+        let marks = vec![in alloc; ABSENT; cap as usize]?;
         let (base, block) = allocate(&alloc, cap as usize)?;
         Ok(Cells {
             base,
@@ -159,7 +185,7 @@ impl Cells {
         if mark == WRITTEN {
             *self.block.read(self.base, i as usize)
         } else {
-            unused(u32::from(mark))
+            unused(place_of_mark(mark, self.cap))
         }
     }
 
@@ -181,11 +207,12 @@ impl Cells {
         ensures steps { steps.new ≡ steps.old + 2 }
     {
         let cell = self.get(i, steps);
-        if self.marks[i as usize] == WRITTEN || at >= u32::from(WRITTEN) {
+        let mark = mark_of_place(at, self.cap);
+        if self.marks[i as usize] == WRITTEN || mark == WRITTEN {
             return self.put(i, Cell { at, ..cell }, steps);
         }
         steps.tick(); // a write
-        self.marks[i as usize] = at as u16;
+        self.marks[i as usize] = mark;
     }
 }
 

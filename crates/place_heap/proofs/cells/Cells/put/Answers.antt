@@ -19,5 +19,5 @@ pub returns-clause-cells : goal.returns-clause-cells
 returns-clause-cells g c =
     let s = c.self.inside in
     let long : length c.args.self.now ≡ s.cap = ap length (sym c.self.view_is) ∙ values_len s.marks.items s.block.slots s.cap in
-    ap (λ slots. values_of (set s.marks.items c.args.i 65535) slots s.cap) c.write.ensures.1
+    ap (λ slots. values_of (set s.marks.items c.args.i 255) slots s.cap) c.write.ensures.1
     ∙ (put_values c.self.invariant c.args.i (omega arith) c.args.cell ∙ ap (λ cells. set cells c.args.i c.args.cell) c.self.view_is)
