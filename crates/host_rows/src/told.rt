@@ -8,7 +8,8 @@ use homa_text::put_entry;
 /// couldn't be written.
 pub(crate) fn put_step<K: Sink>(sink: &mut K, driven: &DrivenHost, first: u64) -> Option<()> {
     for i in 0..driven.host().entries() {
-        let entry = numbered(first, driven.entry(i));
+        let mut entry = driven.entry(i);
+        number_on(first, &mut entry);
         // No host tells that a line is refused.
         if !matches!(entry, Entry::Refused { .. }) {
             put_entry(sink, &entry).ok()?;
@@ -17,30 +18,9 @@ pub(crate) fn put_step<K: Sink>(sink: &mut K, driven: &DrivenHost, first: u64) -
     Some(())
 }
 
-// An entry, in which a packet's number is counted on from `first`.
-fn numbered(first: u64, entry: Entry<'_>) -> Entry<'_> {
-    match entry {
-        Entry::Send {
-            number,
-            from,
-            to,
-            inc,
-            role,
-            id,
-            level,
-            body,
-            payload,
-        } => Entry::Send {
-            number: first.saturating_add(number),
-            from,
-            to,
-            inc,
-            role,
-            id,
-            level,
-            body,
-            payload,
-        },
-        other => other,
+// Counts a packet's number on from `first`.
+fn number_on(first: u64, entry: &mut Entry<'_>) {
+    if let Entry::Send { number, .. } = entry {
+        *number = number.saturating_add(first);
     }
 }

@@ -212,41 +212,24 @@ impl<S: Service> NodeParts<S> {
     {
         match self.last {
             Last::Nothing => unreachable!(),
-            Last::Stepped { host, base } => numbered(base, self.stage.entry(host, i)),
+            Last::Stepped { host, base } => {
+                let mut entry = self.stage.entry(host, i);
+                number_on(base, &mut entry);
+                entry
+            }
         }
     }
 }
 
-// An entry of a step, where a packet has its number among all that were sent.
-fn numbered(base: u64, entry: Entry<'_>) -> Entry<'_>
-    requires few { IsFew (plain entry) }
+// Gives a packet of a step the number that it has among all that were sent.
+fn number_on(base: u64, entry: &mut Entry<'_>)
+    requires few { IsFew (plain entry.old) }
     requires base { base + 64 < 2 ^ 64 }
-    requires line { HasLine (plain entry) }
-    ensures entry { plain result ≡ plain_numbered base (plain entry.entry) }
-    ensures line { HasLine (plain result) }
+    requires line { HasLine (plain entry.old) }
+    ensures entry { plain entry.new ≡ plain_numbered base (plain entry.old) }
+    ensures line { HasLine (plain entry.new) }
 {
-    match entry {
-        Entry::Send {
-            number,
-            from,
-            to,
-            inc,
-            role,
-            id,
-            level,
-            body,
-            payload,
-        } => Entry::Send {
-            number: base + number,
-            from,
-            to,
-            inc,
-            role,
-            id,
-            level,
-            body,
-            payload,
-        },
-        other => other,
+    if let Entry::Send { number, .. } = entry {
+        *number += base;
     }
 }
