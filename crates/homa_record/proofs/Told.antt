@@ -20,7 +20,8 @@ use Rattle.homa_plain.specs.Wire.{spelling}
 use Rattle.homa_io.specs.declared.sink.WriteFailed.{WriteFailed}
 use Rattle.homa_io.specs.Outside.{HasRisen}
 use Rattle.homa_io.specs.Growing.{appended-appended}
-use Rattle.homa_text.proofs.Putting.{front_on, front_more}
+use Rattle.homa_io.proofs.Fronts.{front_after}
+use Rattle.homa_text.proofs.Putting.{front_more}
 use Rattle.node_io.specs.declared.observer.SeenFault.{SeenFault}
 use Rattle.node_io.specs.declared.observer.SeenFault.TheVariants.{Write, Stranger}
 use Rattle.homa_record.specs.Seen.{texts, kind_text, strange_answer, dated, Sees}
@@ -151,7 +152,7 @@ clock_taken i old mid new so_far next =
 -- a front of the next line was taken
 pub clock_front : (i n : ℕ) (old mid new : Option (List ℕ)) → i < n → mid ≡ appended old (texts (clocks i)) → TookFront mid new (event_text event.Clock []) → TookFront old new (texts (clocks n))
 clock_front i n old mid new h so_far t =
-    let one = front_on old mid new (texts (clocks i)) (event_text event.Clock []) so_far t in
+    let one = front_after old mid new (texts (clocks i)) (event_text event.Clock []) so_far t in
     let rest : i + 1 + (n - (i + 1)) ≡ n = omega (arith, h) in
     front_more old new (texts (clocks i) ++ event_text event.Clock []) (texts (clocks (n - (i + 1)))) (texts (clocks n)) one
     (ap (λ (xs : List ℕ). xs ++ texts (clocks (n - (i + 1)))) (sym (clocks_more i)) ∙ (clocks_split (i + 1) (n - (i + 1)) ∙ ap (λ (k : ℕ). texts (clocks k)) rest))

@@ -6,7 +6,8 @@ use Rattle.homa_io.specs.Outside.{appended, TookFront}
 use Rattle.homa_plain.specs.declared.settings.Settings.{Settings}
 use Rattle.homa_plain.specs.Text.{settings_numbers, told_numbers}
 use Rattle.homa_plain.specs.Script.{names, setting_text, settings_text}
-use Rattle.homa_text.proofs.Putting.{front_on, front_more}
+use Rattle.homa_io.proofs.Fronts.{front_after}
+use Rattle.homa_text.proofs.Putting.{front_more}
 use Rattle.homa_text.proofs.Texts.{flat_map-split}
 
 -- a front of the next line was taken
@@ -14,7 +15,7 @@ pub took_line : {X : Type 0} (f : X → List ℕ) (xs : List X) (i : ℕ) (d : X
     → mid ≡ appended old (flat_map f (take i xs)) → TookFront mid new (f (get_or xs i d)) → TookFront old new (flat_map f xs)
 took_line {X} f xs i d old mid new h e t =
     front_more old new (flat_map f (take i xs) ++ f (get_or xs i d)) (flat_map f (drop (suc i) xs)) (flat_map f xs)
-    (front_on old mid new (flat_map f (take i xs)) (f (get_or xs i d)) e t)
+    (front_after old mid new (flat_map f (take i xs)) (f (get_or xs i d)) e t)
     (append_assoc (flat_map f (take i xs)) (f (get_or xs i d)) (flat_map f (drop (suc i) xs)) ∙ flat_map-split f xs i d h)
 
 -- the lines of the first n settings

@@ -3,14 +3,11 @@ use Rattle.std.proofs.Common.{◌≡◌, ℕ, Option, List, [], ◌++◌, arith,
 use Rattle.std.specs.Prelude.{Result, Ok, Err, IsErr}
 use Rattle.std.proofs.lemmas.List.{append-nil}
 use Rattle.homa_io.specs.Outside.{appended, TookFront}
-use Rattle.homa_io.specs.Growing.{appended-appended, appended-nil}
+use Rattle.homa_io.specs.Growing.{appended-nil}
 use Rattle.homa_io.specs.Writing.{WriteEnds, IsWritten}
+use Rattle.homa_io.proofs.Fronts.{two_put, front_after}
 use Rattle.homa_io.proofs.Writing.{handed_on, ends_on}
 use Rattle.homa_text.specs.Put.{IsPut, Puts}
-
--- what was taken, and then more
-taken_on : (a b c : Option (List ℕ)) (x y : List ℕ) → b ≡ appended a x → c ≡ appended b y → c ≡ appended a (x ++ y)
-taken_on a b c x y first then = then ∙ (ap (λ (o : Option (List ℕ)). appended o y) first ∙ appended-appended a x y)
 
 -- nothing was written yet
 put_start : (taken : Option (List ℕ)) (held : List ℕ) → IsPut taken taken held (held ++ [])
@@ -18,17 +15,17 @@ put_start taken held = record { written = []; taken = sym (appended-nil taken); 
 
 -- all was written
 pub put_all : (a b c : Option (List ℕ)) (held x y : List ℕ) → b ≡ appended a x → c ≡ appended b y → held ≡ [] → IsPut a c held (x ++ y)
-put_all a b c held x y first then none = record { written = x ++ y; taken = taken_on a b c x y first then; text = ap (λ (zs : List ℕ). (x ++ y) ++ zs) none ∙ append-nil (x ++ y) }
+put_all a b c held x y first then none = record { written = x ++ y; taken = two_put a b c x y first then; text = ap (λ (zs : List ℕ). (x ++ y) ++ zs) none ∙ append-nil (x ++ y) }
 
 -- what was held is written
 put_whole : (a b c : Option (List ℕ)) (held x all : List ℕ) → IsPut a b held x → c ≡ appended b held → x ≡ all → c ≡ appended a all
-put_whole a b c held x all so_far then same = taken_on a b c so_far.written held so_far.taken then ∙ ap (λ (zs : List ℕ). appended a zs) (so_far.text ∙ same)
+put_whole a b c held x all so_far then same = two_put a b c so_far.written held so_far.taken then ∙ ap (λ (zs : List ℕ). appended a zs) (so_far.text ∙ same)
 
 -- a part, and then the next
 put_on : (a b c : Option (List ℕ)) (h k base x y all : List ℕ) → IsPut a b h (base ++ x) → IsPut b c k (h ++ y) → x ++ y ≡ all → IsPut a c k (base ++ all)
 put_on a b c h k base x y all so_far next same = record {
   written = so_far.written ++ next.written;
-  taken = taken_on a b c so_far.written next.written so_far.taken next.taken;
+  taken = two_put a b c so_far.written next.written so_far.taken next.taken;
   text =
       append_assoc so_far.written next.written k
       ∙ (ap (λ (zs : List ℕ). so_far.written ++ zs) next.text
@@ -41,23 +38,19 @@ put_on a b c h k base x y all so_far next same = record {
 pub front_more : (a c : Option (List ℕ)) (x y all : List ℕ) → TookFront a c x → x ++ y ≡ all → TookFront a c all
 front_more a c x y all f same = (f.0, f.1 ++ y, sym (append_assoc f.0 f.1 y) ∙ (ap (λ (zs : List ℕ). zs ++ y) f.2 ∙ same), f.3)
 
--- what was taken, and then a front of more
-pub front_on : (a b c : Option (List ℕ)) (x y : List ℕ) → b ≡ appended a x → TookFront b c y → TookFront a c (x ++ y)
-front_on a b c x y first f = (x ++ f.0, f.1, append_assoc x f.0 f.1 ∙ ap (λ (zs : List ℕ). x ++ zs) f.2, taken_on a b c x f.0 first f.3)
-
 -- a part, and then a front of the next
 put_front : (a b c : Option (List ℕ)) (h base x y rest all : List ℕ) → IsPut a b h (base ++ x) → TookFront b c (h ++ y)
     → x ++ (y ++ rest) ≡ all → TookFront a c (base ++ all)
 put_front a b c h base x y rest all so_far f same =
     front_more a c (so_far.written ++ (h ++ y)) rest (base ++ all)
-    (front_on a b c so_far.written (h ++ y) so_far.taken f)
+    (front_after a b c so_far.written (h ++ y) so_far.taken f)
     (ap (λ (zs : List ℕ). zs ++ rest) (sym (append_assoc so_far.written h y) ∙ (ap (λ (zs : List ℕ). zs ++ y) so_far.text ∙ append_assoc base x y))
     ∙ (append_assoc base (x ++ y) rest ∙ ap (λ (zs : List ℕ). base ++ zs) (append_assoc x y rest ∙ same)))
 
 -- a front of what was held
 put_front_held : (a b c : Option (List ℕ)) (h x all : List ℕ) → IsPut a b h x → TookFront b c h → x ≡ all → TookFront a c all
 put_front_held a b c h x all so_far f same =
-    front_more a c (so_far.written ++ h) [] all (front_on a b c so_far.written h so_far.taken f) (append-nil (so_far.written ++ h) ∙ (so_far.text ∙ same))
+    front_more a c (so_far.written ++ h) [] all (front_after a b c so_far.written h so_far.taken f) (append-nil (so_far.written ++ h) ∙ (so_far.text ∙ same))
 
 -- a part, and then a front of the last
 put_front_last : (a b c : Option (List ℕ)) (h base x y all : List ℕ) → IsPut a b h (base ++ x) → TookFront b c (h ++ y)

@@ -1,6 +1,7 @@
 use Rattle.std.proofs.Common.{refl}
+use Rattle.homa_io.proofs.Fronts.{front_after}
 use Rattle.homa_io.proofs.Writing.{ends_on, handed_on}
-use Rattle.homa_text.proofs.Putting.{put_all, front_more, front_on}
+use Rattle.homa_text.proofs.Putting.{put_all, front_more}
 use Rattle.homa_text.proofs.put.append.Goals as goal
 
 pub returns-in_err-flush : goal.returns-in_err-flush
@@ -10,4 +11,4 @@ pub returns-then-bytes : goal.returns-then-bytes
 returns-then-bytes g c =
     ends_on g.met.K.Sink.same_on c.in_ok-flush.ensures.written c.write_all.ensures
     (λ all. put_all _ _ _ _ _ _ c.in_ok-flush.ensures.written.ok all c.in_ok-flush.ensures.empty)
-    (λ front. front_on _ _ _ _ _ c.in_ok-flush.ensures.written.ok front)
+    (λ front. front_after _ _ _ _ _ c.in_ok-flush.ensures.written.ok front)
