@@ -1,5 +1,5 @@
 // A service that has one answer in hand, or none.
-ghost use Rattle.std.specs.Prelude.{◌≡◌, ◌+◌, ◌<◌, ◌≤◌, ◌^◌, length, IfOk, OnOk, OnErr};
+ghost use Rattle.std.specs.Prelude.{◌+◌, ◌<◌};
 
 use homa_service::{Reply, Service};
 use std::alloc::{AllocError, Global};

@@ -1,5 +1,5 @@
 // Plain copies of as many bytes.
-ghost use Rattle.std.specs.Prelude.{◌≡◌, ◌≤◌, length, vec_len, IfOk};
+ghost use Rattle.std.specs.Prelude.{◌≡◌, length, vec_len, IfOk};
 
 use std::alloc::{AllocError, Global};
 

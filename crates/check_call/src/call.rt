@@ -1,5 +1,5 @@
 // What is kept of a call.
-ghost use Rattle.std.specs.Prelude.{◌≡◌, ◌&&◌, not, true, false, List, [], ◌∷◌, length, ℕ, IfSome, IfOk, OnOk, if◌then◌else◌};
+ghost use Rattle.std.specs.Prelude.{◌≡◌, ◌&&◌, not, true, false, [], ◌∷◌, length, ℕ, IfSome, IfOk, OnOk, if◌then◌else◌};
 ghost use Rattle.std.specs.Option.{option_map_or, option_map};
 ghost use Rattle.plain_sets.specs.Maps.{get};
 ghost use Rattle.plain_sets.specs.Numbers.{Numbers};

@@ -1,5 +1,5 @@
 // What has arrived of a message.
-ghost use Rattle.std.specs.Prelude.{◌≡◌, ◌+◌, ◌<◌, ◌≤◌, nat_le, not, ◌||◌, ◌==◌, if◌then◌else◌, min, unwrap_or, IfOk, IfSome};
+ghost use Rattle.std.specs.Prelude.{◌≡◌, ◌+◌, ◌<◌, ◌||◌, ◌==◌, if◌then◌else◌, min, unwrap_or, IfOk, IfSome};
 ghost use Rattle.std.specs.Option.{option_map};
 ghost use Rattle.check_call.specs.Calls.{more_of};
 ghost use Rattle.plain_sets.specs.Maps.{empty, len};
@@ -7,7 +7,7 @@ ghost use Rattle.plain_sets.specs.Numbers.{Numbers, with_range};
 ghost use Rattle.homa_plain.specs.declared.id.HostId.{HostId};
 ghost use Rattle.homa_plain.specs.Parts as plain;
 ghost use Rattle.homa_plain.specs.Judge.{is_within_at};
-ghost use Rattle.check_call.specs.Kept.{arrived_of, part_of, IsCounted, IsPlain};
+ghost use Rattle.check_call.specs.Kept.{part_of, IsCounted, IsPlain};
 
 use open_ranges::OpenRanges;
 use std::alloc::{AllocError, Global};

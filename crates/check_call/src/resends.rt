@@ -1,5 +1,5 @@
 // The RESENDs of a call since its last renewal.
-ghost use Rattle.std.specs.Prelude.{◌≡◌, ◌+◌, ◌==◌, ◌&&◌, nat_le, ℕ, List, [], ◌∷◌, length};
+ghost use Rattle.std.specs.Prelude.{◌≡◌, ◌+◌, ◌==◌, ◌&&◌, nat_le, ℕ, List, ◌∷◌, length};
 ghost use Rattle.homa_plain.specs.Judge.{are_spaced};
 ghost use Rattle.check_call.specs.Kept.{AreResends, own_value};
 

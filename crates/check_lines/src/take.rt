@@ -1,6 +1,6 @@
 // A line that is taken.
 ghost use Rattle.std.specs.Prelude.{ℕ, List, Option, Some, None, [], ◌∷◌, ◌++◌, length, slice_get, ◌≡◌, ◌+◌, ◌-◌, ◌^◌, ◌<◌, ◌&&◌, ◌||◌, true, false};
-ghost use Rattle.std.specs.Prelude.{if◌then◌else◌, IfOk, OnOk, IfSome};
+ghost use Rattle.std.specs.Prelude.{if◌then◌else◌, OnOk, IfSome};
 ghost use Rattle.std.specs.Option.{option_map};
 ghost use Rattle.check_lines.specs.Changes.{SameLists, SameSets, SameCount, SameNumbers, SameRest, IsChange, IsMade, IsAfter, IsTaken, Changes};
 ghost use Rattle.check_lines.specs.Changes.{Ready, Takes, call_or};

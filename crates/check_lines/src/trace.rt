@@ -1,5 +1,5 @@
 // What is kept of the lines of a trace.
-ghost use Rattle.std.specs.Prelude.{◌≡◌, ◌+◌, ◌<◌, ◌≤◌, Some, None, [], length, slice_get, unwrap_or, max, if◌then◌else◌, IfSome, IfNone, is_some, OnOk};
+ghost use Rattle.std.specs.Prelude.{◌≡◌, ◌+◌, ◌<◌, ◌≤◌, Some, None, length, slice_get, unwrap_or, max, IfSome, IfNone, is_some, OnOk};
 ghost use Rattle.check_lines.specs.Changes.{SameHosts, SameLists, SameRest, SameSets, Notes, StandsAt, Changes, call_or, noted};
 ghost use Rattle.check_lines.specs.Traces.{call_at, host_at, IsPlace, lead_of, life_in, lives_in, own_tick_in, Follows, Keeps};
 ghost use Rattle.check_lines.specs.Traces.{asked_of, awaited_of, incoming_of, other};

@@ -7,7 +7,7 @@
 //! else no with the first line that isn't or doesn't, and the first clause that fails there.
 #![tactic(auto)]
 
-ghost use Rattle.std.specs.Prelude.{◌≡◌, ◌↔◌, ℕ, List, codes};
+ghost use Rattle.std.specs.Prelude.{◌≡◌, ◌↔◌, ℕ, List};
 ghost use Rattle.homa_plain.specs.Judge.{Clause, ShapeClause, OnceClause, ReturnedClause, HandedUpClause, FailsClause, GrantingClause};
 ghost use Rattle.check_verdict.specs.Verdict.{verdict_of, Yes, No};
 ghost use Rattle.check_verdict.specs.Rows.{nothing, one_call, no_settings, run_twice, another_answer, done_is_missing, grant_too_far, timeout_too_early};

@@ -6,7 +6,7 @@
 //! answered later stays for later; or it is refused for the cause that its words say, whatever is answered.
 #![tactic(auto)]
 
-ghost use Rattle.std.specs.Prelude.{◌≡◌, ◌≢◌, ◌<◌, ◌≤◌, ◌+◌, ℕ, suc, true, false, is_some, Option, Some, None, List, [], ◌∷◌, ◌++◌, map, slice_get};
+ghost use Rattle.std.specs.Prelude.{◌≡◌, ◌≢◌, ◌<◌, ◌≤◌, ◌+◌, ℕ, suc, true, false, is_some, Option, Some, None, List, [], ◌∷◌, map, slice_get};
 ghost use Rattle.std.specs.Option.{IfSome};
 ghost use Rattle.std.specs.List.{AllByRecursion};
 ghost use Rattle.homa_plain.specs.declared.id.HostId.{HostId};
@@ -21,7 +21,7 @@ ghost use Rattle.homa_plain.specs.Packets.{Packet, sender, receiver};
 ghost use Rattle.homa_plain.specs.Host.{Host, Told, new_host, entries_from};
 ghost use Rattle.homa_plain.specs.Rules.{Answer};
 ghost use Rattle.homa_plain.specs.Steps.{call_step, arrival_step, turn_step, start_fault};
-ghost use Rattle.homa_plain.specs.World.{World, SentPacket, host_at, own_clock, is_late, last_tick, outcome, Refused};
+ghost use Rattle.homa_plain.specs.World.{World, SentPacket, host_at, own_clock, is_late, last_tick};
 ghost use Rattle.trace_lines.specs.Told.{HasOwnName};
 ghost use Rattle.event_laws.specs.Apart.{IsApart, IsApartStep};
 ghost use Rattle.event_laws.specs.Among.{IsAmong, IsAmongStep, IsBelow};

@@ -1,12 +1,12 @@
 // The tests of a line before it is taken.
-ghost use Rattle.std.specs.Prelude.{◌≡◌, ◌&&◌, ℕ, List, Option, Some, None, length, ◌==◌, nat_lt, not, bytes_eq, is_some, IfSome, IfNone, IfOk, map, ◌++◌};
+ghost use Rattle.std.specs.Prelude.{◌≡◌, ◌&&◌, ℕ, List, Option, Some, None, length, ◌==◌, nat_lt, not, bytes_eq, is_some, IfOk, map, ◌++◌};
 ghost use Rattle.std.specs.List.{list_any, filter_map};
 ghost use Rattle.std.specs.Option.{option_map};
 ghost use Rattle.std.specs.List.Sorted.{IsStrictlySortedBy};
 ghost use Rattle.homa_check.specs.Grants.{message_of, asked_message, awaited_message, plain_grant};
 ghost use Rattle.homa_check.specs.Judging.{is_allowed_line, judged_before};
 ghost use Rattle.homa_check.specs.Clauses.{clause_of};
-ghost use Rattle.check_lines.specs.Traces.{Follows, call_at, life_in, incarnation_in, is_answer_in};
+ghost use Rattle.check_lines.specs.Traces.{Follows, life_in, incarnation_in, is_answer_in};
 ghost use Rattle.check_call.specs.Calls.{ran_in};
 ghost use Rattle.check_call.specs.Kept.{AreResends, piece_is_data};
 ghost use Rattle.homa_plain.specs.Calls.{is_host, call_cmp};

@@ -10,7 +10,7 @@ ghost use Rattle.homa_plain.specs.Rules.{Moment, keeps};
 ghost use Rattle.msg_pool.specs.Pool.{Pool};
 ghost use Rattle.host_incoming.specs.Pooled.{seen_part, IsInPool, Moves};
 ghost use Rattle.host_incoming.specs.Pieces.{piece_in, IsFit};
-ghost use Rattle.homa_client.specs.Held.{HeldRow, seen_row};
+ghost use Rattle.homa_client.specs.Held.{seen_row};
 ghost use Rattle.homa_client.specs.Gives.{Gave, HasNone, moment_of, did_of};
 
 use crate::answers::RowDid;

@@ -11,7 +11,7 @@ ghost use Rattle.msg_pool.specs.Pool.{Pool};
 ghost use Rattle.host_incoming.specs.Pooled.{seen_part, IsInPool, Moves};
 ghost use Rattle.host_incoming.specs.Pieces.{moment_with};
 ghost use Rattle.host_incoming.specs.Sends.{IfSent, IsAffordable};
-ghost use Rattle.homa_client.specs.Held.{HeldRow, seen_row};
+ghost use Rattle.homa_client.specs.Held.{seen_row};
 ghost use Rattle.homa_client.specs.Gives.{row_emits, row_sends, row_left, IsAct, IsLeft, IsAsked};
 
 use crate::answers::ClientAct;

@@ -14,7 +14,7 @@ ghost use Rattle.homa_plain.specs.Timers.{client_deadline, client_acts};
 ghost use Rattle.homa_plain.specs.Sending.{client_granted};
 ghost use Rattle.msg_pool.specs.Pool.{Pool};
 ghost use Rattle.host_places.specs.Placed.{StandsAt, ArePlaced, spot_at};
-ghost use Rattle.host_incoming.specs.Pooled.{AreIn, IsInPool, Moves};
+ghost use Rattle.host_incoming.specs.Pooled.{AreIn, IsInPool};
 ghost use Rattle.host_incoming.specs.Pieces.{moment_with};
 ghost use Rattle.host_incoming.specs.Sends.{IfSent, IsAffordable};
 ghost use Rattle.homa_client.specs.Held.{HeldRow, seen_row, IsRow};

@@ -1,7 +1,7 @@
 //! What is on its way to one host.
-ghost use Rattle.std.specs.Prelude.{◌≡◌, ◌≤◌, ◌<◌, length, IfOk, IfSome};
+ghost use Rattle.std.specs.Prelude.{◌≡◌, ◌<◌, IfOk, IfSome};
 ghost use Rattle.generated_runs.specs.Draws.{draw};
-ghost use Rattle.generated_runs.specs.Fabric.{idle, refilled, level_of, highest, drawn, first_hop, level_hop, hop, next_of};
+ghost use Rattle.generated_runs.specs.Fabric.{idle, refilled, level_of, highest, drawn, first_hop, hop, next_of};
 ghost use Rattle.homa_fabric.specs.Queues.{entered};
 
 use crate::draws::draw;

@@ -1,13 +1,13 @@
 //! Incoming messages.
 
-ghost use Rattle.std.specs.Prelude.{◌≡◌, ℕ, ◌+◌, ◌-◌, ◌<◌, ◌≤◌, ◌↔◌, ◌==◌, true, false, if◌then◌else◌, length, IfSome};
+ghost use Rattle.std.specs.Prelude.{◌≡◌, ◌+◌, ◌-◌, ◌<◌, ◌≤◌, ◌↔◌, ◌==◌, true, false, if◌then◌else◌, length, IfSome};
 ghost use Rattle.std.specs.Bool.{OnTrue, OnFalse};
 ghost use Rattle.std.specs.Option.{option_map};
 ghost use Rattle.plain_sets.specs.Maps.{len};
 ghost use Rattle.plain_sets.specs.Numbers.{first_below};
 ghost use Rattle.range_set.specs.Fits.{bounds};
 ghost use Rattle.msg_pool.specs.Pool.{Pool, bytes_of, IsLeaseOf, with_bytes as pool_with};
-ghost use Rattle.homa_plain.specs.Incoming.{opened, arrived, remaining, first_gap, with_bytes, new_bytes, leaves_too_many_gaps, is_whole, message};
+ghost use Rattle.homa_plain.specs.Incoming.{opened, arrived, remaining, first_gap, with_bytes, new_bytes, leaves_too_many_gaps, message};
 ghost use Rattle.homa_plain.specs.Incoming.{granted_to, IsSound};
 ghost use Rattle.homa_in.specs.Part.{seen, unarrived, IsIn};
 ghost use Rattle.homa_in.specs.Accepts.{completes, answer};

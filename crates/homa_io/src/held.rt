@@ -1,5 +1,5 @@
 // A sink that holds lines back, so that many of them go out in one write.
-ghost use Rattle.std.specs.Prelude.{◌≡◌, ◌≤◌, ◌<◌, ◌+◌, ◌-◌, ◌++◌, ℕ, [], length, take, drop, vec_capacity, nat_eq, IfOk, OnOk, OnErr, if◌then◌else◌};
+ghost use Rattle.std.specs.Prelude.{◌≡◌, ◌≤◌, ◌<◌, ◌+◌, ◌-◌, ◌++◌, [], length, take, vec_capacity, nat_eq, IfOk, OnOk, OnErr, if◌then◌else◌};
 ghost use Rattle.homa_io.specs.Outside.{HasRisen, appended, Grows};
 
 use crate::{NoMemory, Sink, WriteFailed};

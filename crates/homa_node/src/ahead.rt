@@ -1,5 +1,5 @@
 // What is known of the calls that are still to be made.
-ghost use Rattle.std.specs.Prelude.{◌≡◌, ◌≤◌, ◌<◌, ℕ, List, Some, false, true, length, IfSome, IfNone, IfErr, OnOk};
+ghost use Rattle.std.specs.Prelude.{◌≡◌, ◌≤◌, ◌<◌, ℕ, List, Some, IfSome, IfNone, IfErr, OnOk};
 ghost use Rattle.node_turns.specs.Faults.{counts, AreFaults};
 ghost use Rattle.node_script.specs.Heads.{setup_seen};
 ghost use Rattle.homa_node.specs.Coming.{HasLooked, IsLooked, IsOpenAt, IsIdle, HasRoom, IsLookStop, lines_ahead, look_stop};

@@ -1,5 +1,5 @@
 // A node is opened: its script is read up to `go`, the net learns where the hosts are, and the settings are told.
-ghost use Rattle.std.specs.Prelude.{◌≡◌, ◌≤◌, ◌^◌, ℕ, Option, List, Some, [], false, nat_lt, length, IfOk, IfErr};
+ghost use Rattle.std.specs.Prelude.{◌≡◌, ◌^◌, ℕ, Option, List, Some, false, nat_lt, length, IfOk, IfErr};
 ghost use Rattle.homa_plain.specs.declared.id.HostId.{HostId as Host};
 ghost use Rattle.node_runs.specs.Course.{locals as local_hosts, loop_turns, node_run};
 ghost use Rattle.node_turns.specs.Acting.{OnStrange};

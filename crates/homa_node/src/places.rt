@@ -1,5 +1,5 @@
 // The net learns where the hosts are, and the node which of them are its own.
-ghost use Rattle.std.specs.Prelude.{◌≡◌, ◌≤◌, ◌<◌, ◌^◌, false, nat_lt, length, map, OnOk, OnErr, IfOk};
+ghost use Rattle.std.specs.Prelude.{◌≡◌, ◌≤◌, ◌<◌, false, nat_lt, length, map, OnOk, OnErr, IfOk};
 ghost use Rattle.std.specs.List.{All, AllByRecursion};
 ghost use Rattle.homa_io.specs.Outside.{HasRisen};
 ghost use Rattle.homa_plain.specs.declared.id.HostId.{HostId as Host};

@@ -1,6 +1,6 @@
 // The laws of packets as bytes, in versions 1 and 2. No code stands here, only theorems about the definitions
 // of `specs/Wire.antt`; each is the contract of a function that does nothing.
-ghost use Rattle.std.specs.Prelude.{◌≡◌, ◌↔◌, ℕ, ◌+◌, ◌≤◌, Option, None, Some, List, length, drop};
+ghost use Rattle.std.specs.Prelude.{◌≡◌, ◌↔◌, ℕ, ◌+◌, ◌≤◌, None, Some, List, length, drop};
 ghost use Rattle.homa_plain.specs.declared.packet.Packet.{Packet};
 ghost use Rattle.homa_plain.specs.Bytes.{IsBytes};
 ghost use Rattle.homa_plain.specs.Wire.{IsWellFormed, Spells, spelling, packet_in, header_len, body_len, longest};

@@ -1,5 +1,5 @@
 // The datagrams that may still be delivered.
-ghost use Rattle.std.specs.Prelude.{◌≡◌, true, ℕ, ◌<◌, ◌≤◌, ◌^◌, ◌++◌, ◌∷◌, [], max, length, map, filter, slice_index_or, OnOk, OnErr};
+ghost use Rattle.std.specs.Prelude.{◌≡◌, true, ℕ, ◌<◌, ◌≤◌, ◌^◌, ◌++◌, ◌∷◌, [], max, length, map, filter, slice_index_or, OnOk};
 ghost use Rattle.node_runs.specs.Recorder.{greatest, is_same as is_same_kept, Kept};
 ghost use Rattle.homa_record.specs.Places.{hash_on, bucket_of, place_of, place_after};
 ghost use Rattle.homa_record.specs.Stored.{kept_of, greater_of, is_in_life, are_rising, IsIndexed};

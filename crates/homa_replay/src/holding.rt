@@ -1,5 +1,5 @@
 // A sink that may hold lines back.
-ghost use Rattle.std.specs.Prelude.{◌≡◌, ◌≤◌, OnOk, OnErr, [], ℕ, List};
+ghost use Rattle.std.specs.Prelude.{◌≡◌, OnOk, OnErr, [], ℕ, List};
 ghost use Rattle.homa_io.specs.Outside.{HasRisen};
 
 use homa_io::{HeldSink, Sink, WriteFailed};

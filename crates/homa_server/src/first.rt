@@ -1,12 +1,11 @@
 // The first piece of a request.
-ghost use Rattle.std.specs.Prelude.{◌≡◌, ℕ, List, ◌+◌, ◌<◌, ◌≤◌, ◌^◌, length, true, None, Some, IfOk, OnOk, OnErr, if◌then◌else◌};
+ghost use Rattle.std.specs.Prelude.{◌≡◌, ℕ, List, ◌+◌, ◌<◌, ◌≤◌, ◌^◌, length, None, Some, IfOk, OnErr, if◌then◌else◌};
 ghost use Rattle.homa_plain.specs.declared.id.CallId.{CallId};
 ghost use Rattle.homa_plain.specs.declared.id.HostId.{HostId};
 ghost use Rattle.homa_plain.specs.Settings.{IsValid};
 ghost use Rattle.homa_plain.specs.Rules.{Moment, Answer};
 ghost use Rattle.homa_plain.specs.AtServer.{piece_of, opens};
-ghost use Rattle.homa_plain.specs.Host.{pages_for};
-ghost use Rattle.msg_pool.specs.Pool.{Pool, free_pages};
+ghost use Rattle.msg_pool.specs.Pool.{free_pages};
 ghost use Rattle.host_incoming.specs.Pooled.{Moves};
 ghost use Rattle.host_incoming.specs.Pieces.{moment_with};
 ghost use Rattle.homa_server.specs.Answers.{IsAnswered, IfRan, has_run, slot_in, IsAsked};

@@ -1,6 +1,6 @@
 // A call at its server.
-ghost use Rattle.std.specs.Prelude.{◌≡◌, ℕ, List, ◌+◌, ◌==◌, ◌&&◌, ◌||◌, not, ◌<◌, ◌≤◌, ◌^◌, length, true, false, Some, None, IfSome, IsSome};
-ghost use Rattle.std.specs.Prelude.{IfOk, OnOk, OnErr, option_copied, if◌then◌else◌, IfNone};
+ghost use Rattle.std.specs.Prelude.{◌≡◌, ℕ, List, ◌+◌, ◌==◌, ◌&&◌, ◌||◌, not, ◌<◌, ◌≤◌, ◌^◌, length, true, false, Some, None};
+ghost use Rattle.std.specs.Prelude.{IfOk, OnErr, option_copied, if◌then◌else◌, IfNone};
 ghost use Rattle.homa_plain.specs.declared.id.CallId.{CallId};
 ghost use Rattle.homa_plain.specs.declared.id.HostId.{HostId};
 ghost use Rattle.homa_plain.specs.Settings.{IsValid};
@@ -10,19 +10,19 @@ ghost use Rattle.homa_plain.specs.Rows.{ServerRow};
 ghost use Rattle.homa_plain.specs.Incoming as incoming;
 ghost use Rattle.homa_plain.specs.Outgoing as outgoing;
 ghost use Rattle.homa_plain.specs.Rules.{Moment, Answer, leaves};
-ghost use Rattle.homa_plain.specs.AtServer.{piece_of, piece_comes, receiving_gets, held_gets, replying_gets, buried_gets, row_gets, opens, state_acked};
+ghost use Rattle.homa_plain.specs.AtServer.{piece_of, piece_comes, receiving_gets, held_gets, replying_gets, buried_gets, row_gets, state_acked};
 ghost use Rattle.homa_plain.specs.Timers.{state_deadline, server_acts};
 ghost use Rattle.homa_plain.specs.Sending.{server_granted};
 ghost use Rattle.plain_sets.specs.Maps.{len};
 ghost use Rattle.msg_pool.specs.Pool.{Pool};
-ghost use Rattle.homa_in.specs.Part.{Part, IsIn, seen};
+ghost use Rattle.homa_in.specs.Part.{seen};
 ghost use Rattle.host_incoming.specs.Pooled.{Moves, IsInPool};
-ghost use Rattle.homa_server.specs.Held.{HeldServer, HeldState, Arriving, Keeping, Answering, Gone, IfArriving, IfKeeping, IfAnswering, is_arriving};
+ghost use Rattle.homa_server.specs.Held.{HeldServer, Arriving, Keeping, Answering, IfArriving, IfKeeping, IfAnswering, is_arriving};
 ghost use Rattle.homa_server.specs.Held.{is_keeping, is_answering, IsKept, state_part, state_response, response_in, seen_state, seen_server};
 ghost use Rattle.host_incoming.specs.Pieces.{piece_in, IsFit, moment_with};
 ghost use Rattle.host_incoming.specs.Sends.{IsAffordable, IfSent};
 ghost use Rattle.homa_server.specs.Answers.{IsAnswered, HasTimer, IsGrantable, after_act, IfRan, has_run, IsSlotOf, slot_in, slot_if, is_for, is_for_request};
-ghost use Rattle.homa_server.specs.Answers.{is_data, is_resend, is_ack, service_in, IsAsked, acked_of, acted_of, goes, IfSaid, IsAnswerBody, IfResend};
+ghost use Rattle.homa_server.specs.Answers.{is_data, is_resend, is_ack, service_in, IsAsked, acked_of, acted_of, IfSaid, IsAnswerBody, IfResend};
 ghost use Rattle.homa_server.specs.Answers.{IsAsking, state_emits, server_sends, out_facts};
 
 use crate::spans::{patience_of, span_of};

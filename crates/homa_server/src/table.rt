@@ -1,5 +1,5 @@
 // The calls that a host serves, at their places.
-ghost use Rattle.std.specs.Prelude.{◌≡◌, ℕ, ◌+◌, ◌<◌, ◌≤◌, ◌^◌, true, false, List, Some, None, IfOk, IfSome, IsSome, IsSomeAnd, OnOk, OnErr, length};
+ghost use Rattle.std.specs.Prelude.{◌≡◌, ℕ, ◌+◌, ◌<◌, ◌≤◌, ◌^◌, true, false, List, Some, None, IfOk, IfSome, IsSome, IsSomeAnd, OnErr, length};
 ghost use Rattle.std.specs.Prelude.{option_copied, if◌then◌else◌, IfNone};
 ghost use Rattle.std.specs.Option.{option_map, option_and_then};
 ghost use Rattle.plain_sets.specs.Maps.{empty, get, len};
@@ -44,7 +44,7 @@ pub struct ServerTable {
 }
 
 impl Model for ServerTable {
-    ghost use Rattle.homa_server.specs.Table.{packet_of, Servers, servers_code, IsTable};
+    ghost use Rattle.homa_server.specs.Table.{Servers, servers_code, IsTable};
 
     ghost Value = { Servers };
 

@@ -1,5 +1,5 @@
 // The words of a line that is written.
-ghost use Rattle.std.specs.Prelude.{◌≡◌, ◌+◌, ◌≤◌, ◌++◌, ◌∷◌, codes, decimal};
+ghost use Rattle.std.specs.Prelude.{◌≡◌, ◌+◌, ◌≤◌, ◌++◌, decimal};
 ghost use Rattle.homa_plain.specs.Text.{id_word, call_word, route_word};
 ghost use Rattle.arrayvec.specs.ArrayVec.{array_vec_len};
 

@@ -1,9 +1,9 @@
 // Packets written as bytes.
-ghost use Rattle.std.specs.Prelude.{◌≡◌, ◌+◌, ◌≤◌, ◌<◌, ◌++◌, ◌∷◌, [], length};
-ghost use Rattle.std.specs.Int.{w16, w32, to_be_bytes};
+ghost use Rattle.std.specs.Prelude.{◌≡◌, ◌+◌, ◌≤◌, ◌<◌, ◌++◌, length};
+ghost use Rattle.std.specs.Int.{w32, to_be_bytes};
 ghost use Rattle.std.specs.List.{flat_map};
 ghost use Rattle.homa_plain.specs.Bytes.{two};
-ghost use Rattle.homa_plain.specs.Wire.{Between, IsWellFormed, spelling, header_bytes, header_len, body_bytes, body_len, tick_bytes, ack_bytes, kind};
+ghost use Rattle.homa_plain.specs.Wire.{Between, IsWellFormed, spelling, header_bytes, body_bytes, body_len, ack_bytes, kind};
 ghost use Rattle.homa_plain.specs.Wire.{role_byte};
 
 use homa_plain::{Body, Cutoffs, Frame, More, Packet, Role};

@@ -1,16 +1,12 @@
 // The parts of a world, and what each event does with them.
-ghost use Rattle.std.specs.Prelude.{◌≡◌, ◌≤◌, ◌<◌, ◌+◌, ◌^◌, ◌++◌, ◌↔◌, ℕ, IsTrue, IfErr, OnOk, OnErr, Some, [], List, map, length, slice_get, slice_index_or};
+ghost use Rattle.std.specs.Prelude.{◌≡◌, ◌≤◌, ◌<◌, ◌+◌, ◌^◌, ◌++◌, IfErr, OnOk, OnErr, [], map, length, slice_index_or};
 ghost use Rattle.std.specs.List.{AllByRecursion};
 ghost use Rattle.homa_plain.specs.declared.event.Event.TheVariants as event;
-ghost use Rattle.homa_plain.specs.Entries.{plain};
-ghost use Rattle.host_view.specs.declared.outbox.SentFrame.{SentFrame};
-ghost use Rattle.world_packets.specs.Kept.{WholePacket};
 ghost use Rattle.world_packets.specs.All.{kept_all, settings_of, open_tick, HasRoomFor};
-ghost use Rattle.homa_text.specs.Told.{HasLine};
 ghost use Rattle.homa_world.specs.declared.parts.Last.TheVariants as last;
-ghost use Rattle.host_table.specs.Staged.{hosts_of, frames_of};
+ghost use Rattle.host_table.specs.Staged.{frames_of};
 ghost use Rattle.homa_world.specs.Packed.{frame_kept, IsShort};
-ghost use Rattle.homa_world.specs.Standing.{told_of, IsKept, Applies, Refuses, StillStands, AllowsNoMore};
+ghost use Rattle.homa_world.specs.Standing.{IsKept, Applies, Refuses, StillStands, AllowsNoMore};
 
 use homa_plain::{HostId, Settings, WorldFault};
 use homa_service::Service;

@@ -1,10 +1,7 @@
 // Events of a world that are no step of a host: a host's clock is set, and a host restarts.
-ghost use Rattle.std.specs.Prelude.{◌≡◌, ◌≤◌, ◌<◌, ◌+◌, ◌^◌, ℕ, IfOk, IfErr, OnOk, OnErr, [], length, replicate};
-ghost use Rattle.std.specs.List.{AllByRecursion};
-ghost use Rattle.homa_plain.specs.Settings.{IsValid};
-ghost use Rattle.homa_plain.specs.World.{new_world, last_tick};
+ghost use Rattle.std.specs.Prelude.{◌≡◌, ◌≤◌, ◌<◌, ◌+◌, ◌^◌, IfErr, OnOk, OnErr, []};
 ghost use Rattle.homa_plain.specs.declared.event.Event.TheVariants as event;
-ghost use Rattle.homa_world.specs.Standing.{StandsFor, IsKept, Applies, Refuses, StillStands, AllowsNoMore};
+ghost use Rattle.homa_world.specs.Standing.{IsKept, Applies, Refuses, StillStands, AllowsNoMore};
 
 use crate::parts::{Last, WorldParts};
 use homa_plain::{HostId, WorldFault};

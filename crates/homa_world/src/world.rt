@@ -37,7 +37,6 @@ impl<S: Service> World<S> {
     ghost use Rattle.std.specs.Prelude.{IfOk, List, ◌∷◌};
     ghost use Rattle.homa_plain.specs.Entries.{PlainEntry, PlainSettings};
     ghost use Rattle.homa_plain.specs.Settings.{IsValid};
-    ghost use Rattle.host_table.specs.Staged.{hosts_of};
     ghost use Rattle.homa_world.specs.First.{IsFirstAt};
     ghost use Rattle.box_laws.specs.First.{AreAllowed};
     ghost use Rattle.homa_world.specs.Kinds.{kind_of};
@@ -162,8 +161,7 @@ impl<S: Service> Playing for World<S> {
 }
 
 impl<S: Service> Opens<Vec<S>> for World<S> {
-    ghost use Rattle.std.specs.Prelude.{◌≡◌, ◌≤◌, length};
-    ghost use Rattle.std.specs.List.{AllByRecursion};
+    ghost use Rattle.std.specs.Prelude.{length};
     ghost use Rattle.box_laws.specs.First.{AreAllowed, AreReady};
     ghost use Rattle.box_laws.specs.Unasked.{unasked_allowed};
 

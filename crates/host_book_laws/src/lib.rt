@@ -6,7 +6,7 @@
 //! laws, and its body is empty.
 #![tactic(auto)]
 
-ghost use Rattle.std.specs.Prelude.{◌≡◌, ◌<◌, ◌≤◌, ◌+◌, ◌-◌, ℕ, Option, Some, None, List, ◌∷◌, length, Contains};
+ghost use Rattle.std.specs.Prelude.{◌≡◌, ◌<◌, ◌≤◌, ◌+◌, ◌-◌, ℕ, Some, None, List, ◌∷◌, length, Contains};
 ghost use Rattle.std.specs.List.{AllByRecursion};
 ghost use Rattle.plain_sets.specs.Maps.{get};
 ghost use Rattle.homa_plain.specs.declared.id.CallId.{CallId};

@@ -1,5 +1,5 @@
 // The books of a host's rows: when each is to act, which messages are granted to, which are sent.
-ghost use Rattle.std.specs.Prelude.{◌≡◌, ◌+◌, ◌<◌, [], IfOk, IfSome, None};
+ghost use Rattle.std.specs.Prelude.{◌≡◌, ◌<◌, [], IfOk, IfSome, None};
 ghost use Rattle.homa_plain.specs.Settings.{IsValid};
 ghost use Rattle.homa_timers.specs.Armed as armed;
 ghost use Rattle.homa_grants.specs.Entries as entry;

@@ -1,9 +1,8 @@
 //! Pieces of messages, and the parts that they go into.
 ghost use Rattle.std.specs.Prelude.{◌≡◌, ℕ, ◌+◌, ◌<◌, ◌≤◌, length, Some, None};
 ghost use Rattle.plain_sets.specs.Maps.{len};
-ghost use Rattle.msg_pool.specs.Pool.{Pool, free_pages};
 ghost use Rattle.homa_in.specs.Part.{IsIn};
-ghost use Rattle.host_incoming.specs.Pooled.{Moves, IsInPool};
+ghost use Rattle.host_incoming.specs.Pooled.{Moves};
 ghost use Rattle.host_incoming.specs.Putting.{WasPut, WasOpened};
 
 use homa_in::{Accepted, Incoming};

@@ -1,22 +1,22 @@
 // Laws of rows and entries. No function here does anything: each states laws, and its body is empty.
-ghost use Rattle.std.specs.Prelude.{◌≡◌, ◌<◌, ◌≤◌, ℕ, Option, None, Some, IfSome, List};
+ghost use Rattle.std.specs.Prelude.{◌≡◌, ℕ, Option, IfSome, List};
 ghost use Rattle.homa_plain.specs.declared.id.CallId.{CallId};
 ghost use Rattle.homa_plain.specs.declared.id.HostId.{HostId};
 ghost use Rattle.homa_plain.specs.declared.settings.Settings.{Settings};
 ghost use Rattle.homa_plain.specs.Packets.{Packet};
 ghost use Rattle.homa_plain.specs.Rows.{ClientRow, ServerRow, set_row};
-ghost use Rattle.homa_plain.specs.Host.{Host, new_host};
+ghost use Rattle.homa_plain.specs.Host.{Host};
 ghost use Rattle.homa_plain.specs.Rules.{Moment, Answer};
 ghost use Rattle.homa_plain.specs.AtClient.{client_gets};
-ghost use Rattle.homa_plain.specs.Timers.{client_acts, server_acts};
-ghost use Rattle.homa_plain.specs.Sending.{client_granted, client_sends, state_granted, state_sends};
+ghost use Rattle.homa_plain.specs.Timers.{client_acts};
+ghost use Rattle.homa_plain.specs.Sending.{client_granted, client_sends};
 ghost use Rattle.std.specs.List.{AllByRecursion};
 ghost use Rattle.homa_plain.specs.declared.packet.Role.TheVariants.{Server as OfServer};
 ghost use Rattle.homa_plain.specs.Steps.{Work, ended, call_step, arrival_step, turn_step};
 ghost use Rattle.host_view.specs.Seen.{Seen};
 ghost use Rattle.host_view.specs.Marks.{marks_from, IsAnswer, IsWhole, IsShown};
 ghost use Rattle.host_laws.specs.Bytes.{KeepsBytes};
-ghost use Rattle.host_laws.specs.Peers.{KnowsServer, KnowsSender, KnowsClient, KnowsPeers};
+ghost use Rattle.host_laws.specs.Peers.{KnowsServer, KnowsClient, KnowsPeers};
 
 /// The hosts that a host's rows name are among so many after each rule, and where one row becomes one whose hosts are
 /// among them, so are those of all.

@@ -1,6 +1,5 @@
 // Each public call once, with ample memory.
-ghost use Rattle.std.specs.Prelude.{◌≡◌, IsSome};
-ghost use Rattle.host_places.specs.Placed.{spot_at};
+ghost use Rattle.std.specs.Prelude.{◌≡◌};
 
 use homa_plain::{CallId, HostId};
 use host_places::Rows;

@@ -15,7 +15,7 @@ pub(crate) struct Marks {
 }
 
 impl Model for Marks {
-    ghost use Rattle.std.specs.Prelude.{◌≤◌, List, vec_len, vec_capacity};
+    ghost use Rattle.std.specs.Prelude.{◌≤◌, List, vec_capacity};
     ghost use Rattle.host_view.specs.declared.mark.Mark.{Mark};
 
     ghost Value = { List Mark };

@@ -1,16 +1,14 @@
 // The hosts and their services, with the room that a step needs.
-ghost use Rattle.std.specs.Prelude.{◌≡◌, ◌≢◌, ◌<◌, ◌≤◌, ◌+◌, ◌^◌, ◌↔◌, ℕ, true, IsTrue, IsSome, IfSome, IfOk, IfErr, OnOk, OnErr, Some, [], List};
-ghost use Rattle.std.specs.Prelude.{map, take, drop, length, slice_get, slice_set};
+ghost use Rattle.std.specs.Prelude.{◌≡◌, ◌≢◌, ◌<◌, ◌≤◌, ◌^◌, ◌↔◌, true, IsTrue, IsSome, IfSome, IfOk, IfErr, OnOk, OnErr, Some};
+ghost use Rattle.std.specs.Prelude.{map, take, drop, length, slice_get};
 ghost use Rattle.std.specs.List.{AllByRecursion};
 ghost use Rattle.homa_plain.specs.Settings.{IsValid};
 ghost use Rattle.homa_plain.specs.Host.{new_host};
 ghost use Rattle.homa_plain.specs.Rules.{Answer};
 ghost use Rattle.homa_plain.specs.Steps.{start_fault, call_step, arrival_step, turn_step, has_run};
-ghost use Rattle.host_view.specs.Seen.{Seen};
-ghost use Rattle.host_view.specs.Done.{arriving, HoldsSent};
-ghost use Rattle.host_view.specs.Marks.{shown_entries};
+ghost use Rattle.host_view.specs.Done.{arriving};
 ghost use Rattle.homa_plain.specs.Entries.{plain};
-ghost use Rattle.homa_service.specs.Table.{places, place_of, last_of, front_of};
+ghost use Rattle.homa_service.specs.Table.{place_of};
 ghost use Rattle.homa_text.specs.Told.{HasLine};
 ghost use Rattle.homa_host.specs.Asking.{HasAsked};
 ghost use Rattle.host_table.specs.Left.{entries_of, HasLeft, IsFew};

@@ -1,5 +1,5 @@
 // The frames that a step sends.
-ghost use Rattle.std.specs.Prelude.{◌≡◌, ◌+◌, ◌<◌, ◌≤◌, ◌++◌, ◌∷◌, [], length, IfOk, slice_get, IsTrue, ◌↔◌, IfSome, Some};
+ghost use Rattle.std.specs.Prelude.{◌≡◌, ◌+◌, ◌<◌, ◌≤◌, ◌++◌, ◌∷◌, [], length, IfOk, slice_get, IsTrue, ◌↔◌, IfSome};
 ghost use Rattle.homa_plain.specs.Wire.{IsWellFormed, spelling};
 ghost use Rattle.host_view.specs.declared.outbox.SentFrame.{SentFrame};
 

@@ -26,7 +26,6 @@ impl<S: Service> Model for NodeHosts<S> {
 }
 
 impl<S: Service> Hosting for NodeHosts<S> {
-    ghost use Rattle.host_view.specs.declared.outbox.SentFrame.{SentFrame};
     ghost use Rattle.host_table.specs.Staged.{frames_of};
     ghost use Rattle.node_hosts.specs.Standing.{StandsFor, told_of, may_tell_of};
     ghost use Rattle.node_hosts.specs.Comings.{comes, turns};

@@ -1,5 +1,5 @@
 // The parts of a node's hosts, and what each step does with them.
-ghost use Rattle.std.specs.Prelude.{◌≡◌, ◌≢◌, ◌≤◌, ◌<◌, ◌+◌, ◌*◌, ◌^◌, ℕ, List, IfOk, IfErr, OnOk, OnErr, Ok, Some, [], ◌∷◌};
+ghost use Rattle.std.specs.Prelude.{◌≡◌, ◌≢◌, ◌≤◌, ◌<◌, ◌+◌, ◌*◌, ◌^◌, IfOk, IfErr, OnOk, Ok, Some, [], ◌∷◌};
 ghost use Rattle.std.specs.Prelude.{length, map, take, drop, slice_get};
 ghost use Rattle.std.specs.List.{AllByRecursion};
 ghost use Rattle.homa_plain.specs.declared.event.Event.TheVariants as event;

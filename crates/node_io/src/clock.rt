@@ -1,7 +1,7 @@
 // What ticks come from, and a clock in memory.
 ghost use Rattle.std.specs.Prelude.{◌≡◌, ◌≤◌, ◌<◌, ℕ, Option, Some, List, length, slice_index_or, IfSome};
 ghost use Rattle.node_runs.specs.Course.{AreTicks};
-ghost use Rattle.node_io.specs.Clock.{Rises, next_tick, ticks_after, if_ticks};
+ghost use Rattle.node_io.specs.Clock.{Rises, next_tick, if_ticks};
 
 /// A clock. It has no faults.
 pub trait Clock {

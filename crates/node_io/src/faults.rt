@@ -1,5 +1,5 @@
 // The count of faults, and a plan of which calls are to fail.
-ghost use Rattle.std.specs.Prelude.{◌≡◌, ◌≤◌, ◌+◌, ◌-◌, ◌^◌, ◌↔◌, ◌⊎◌, false, min, IsTrue, Contains, IsErr, OnOk, OnErr};
+ghost use Rattle.std.specs.Prelude.{◌≡◌, ◌≤◌, ◌+◌, ◌-◌, ◌^◌, ◌↔◌, ◌⊎◌, false, min, Contains, IsErr, OnOk, OnErr};
 ghost use Rattle.homa_io.specs.Outside.{HasRisen};
 
 use crate::NetFailed;

@@ -1,5 +1,5 @@
 // A net in memory, whose faults are planned.
-ghost use Rattle.std.specs.Prelude.{◌≡◌, ◌≤◌, ◌<◌, ◌+◌, ◌-◌, ◌^◌, ◌↔◌, ◌⊎◌, ◌||◌, ℕ, false, true, Some, None, [], ◌∷◌, ◌++◌, length, map, min};
+ghost use Rattle.std.specs.Prelude.{◌≡◌, ◌≤◌, ◌<◌, ◌+◌, ◌-◌, ◌^◌, ◌↔◌, ◌⊎◌, ◌||◌, false, true, Some, None, [], ◌∷◌, ◌++◌, length, map, min};
 ghost use Rattle.std.specs.Prelude.{vec_capacity, Contains, IsErr, OnOk, OnErr, IfOk, IfSome, if◌then◌else◌};
 ghost use Rattle.homa_io.specs.Outside.{HasRisen};
 ghost use Rattle.homa_plain.specs.declared.id.HostId.{HostId as Host};

@@ -1,12 +1,11 @@
 // The system's sockets as a net, and its clock. What they carry and give is trusted: no contract says it.
-ghost use Rattle.std.specs.Prelude.{◌≡◌, ◌≤◌, ◌||◌, ◌++◌, ◌∷◌, ◌-◌, ◌/◌, ◌↔◌, [], length, min, false, true, None, Some};
+ghost use Rattle.std.specs.Prelude.{◌≡◌, ◌≤◌, ◌||◌, ◌++◌, ◌∷◌, ◌-◌, ◌/◌, ◌↔◌, [], length, min, false, None, Some};
 ghost use Rattle.std.specs.Prelude.{OnOk, OnErr, OnSome, IfOk, IfSome, IsErr, IsSome};
 ghost use Rattle.std.specs.Time.{instant_nanos};
 ghost use Rattle.homa_io.specs.Outside.{HasRisen};
 ghost use Rattle.homa_plain.specs.declared.id.HostId.{HostId as Host};
 ghost use Rattle.homa_plain.specs.Calls.{is_host};
 ghost use Rattle.homa_plain.specs.World.{last_tick};
-ghost use Rattle.node_io.specs.Net.{IfFrom, is_welcome};
 ghost use Rattle.node_io.specs.System.{tick_at};
 
 use crate::faults::FaultCount;

@@ -1,6 +1,6 @@
 // The sockets and ports of hosts. What sockets carry is trusted: no contract says it.
 ghost use Rattle.std.specs.Prelude.{◌≡◌, ◌≤◌, ◌<◌, ◌||◌, ◌++◌, ◌∷◌, ◌↔◌, ◌⊎◌, [], length, nat_le, vec_capacity, false, true, Some};
-ghost use Rattle.std.specs.Prelude.{OnOk, OnErr, IfOk, IsOk, IsErr, IsSome, option_and_then};
+ghost use Rattle.std.specs.Prelude.{OnOk, IfOk, IsOk, IsSome, option_and_then};
 ghost use Rattle.std.specs.Option.{option_copied};
 ghost use Rattle.std.specs.Result.{result_ok, OkIff};
 ghost use Rattle.homa_plain.specs.declared.id.HostId.{HostId as Host};

@@ -1,5 +1,5 @@
 // A net that never fails.
-ghost use Rattle.std.specs.Prelude.{◌≡◌, ◌||◌, ◌<◌, ℕ, false, None, IsOk, OnOk};
+ghost use Rattle.std.specs.Prelude.{◌≡◌, ◌||◌, ◌<◌, false, None, IsOk};
 ghost use Rattle.homa_plain.specs.declared.id.HostId.{HostId as Host};
 ghost use Rattle.homa_plain.specs.Calls.{is_host};
 ghost use Rattle.node_io.specs.declared.net.Got.TheVariants.{Nothing};

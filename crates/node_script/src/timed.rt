@@ -2,7 +2,6 @@
 ghost use Rattle.std.specs.Prelude.{◌≡◌, ◌≤◌, ◌<◌, ◌&&◌, true, length, vec_capacity, Ok, IfOk, IfSome, is_some};
 ghost use Rattle.homa_plain.specs.Input.{words_of};
 ghost use Rattle.homa_plain.specs.declared.fault.ScriptFault.TheVariants.{UnknownWord};
-ghost use Rattle.script_lines.specs.Operands.{end_of};
 ghost use Rattle.node_runs.specs.Script as script;
 ghost use Rattle.node_script.specs.Setup.{call_given, timed_given, within};
 

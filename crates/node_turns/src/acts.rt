@@ -1,5 +1,5 @@
 // What the hosts of a node do in a loop turn.
-ghost use Rattle.std.specs.Prelude.{◌≡◌, ◌==◌, ◌||◌, nat_lt, ◌≤◌, ◌<◌, ◌+◌, ◌^◌, ◌↔◌, ℕ, true, IsTrue, ◌*◌, List, IfErr, OnOk, OnErr, length};
+ghost use Rattle.std.specs.Prelude.{◌≡◌, ◌==◌, ◌||◌, nat_lt, ◌≤◌, ◌<◌, ◌+◌, ◌^◌, true, ◌*◌, List, IfErr, OnOk, OnErr, length};
 ghost use Rattle.homa_plain.specs.declared.id.HostId.{HostId as Host};
 ghost use Rattle.std.specs.List.{AllByRecursion};
 ghost use Rattle.homa_plain.specs.World.{World};

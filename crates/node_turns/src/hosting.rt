@@ -1,5 +1,5 @@
 // Hosts that act at a clock that is read outside.
-ghost use Rattle.std.specs.Prelude.{◌≡◌, ◌≢◌, ◌≤◌, ◌<◌, ◌+◌, ◌^◌, ℕ, List, [], ◌∷◌, ◌++◌, Some, length, map, slice_get, Ok, IfErr, OnOk, OnErr, IfOk};
+ghost use Rattle.std.specs.Prelude.{◌≡◌, ◌≢◌, ◌≤◌, ◌<◌, ◌+◌, ◌^◌, ℕ, List, [], ◌∷◌, Some, length, slice_get, Ok, IfErr, OnOk, IfOk};
 ghost use Rattle.homa_plain.specs.declared.settings.Settings.{Settings};
 ghost use Rattle.homa_plain.specs.declared.id.HostId.{HostId as Host};
 ghost use Rattle.homa_plain.specs.declared.event.Event.TheVariants as event;
@@ -11,7 +11,6 @@ ghost use Rattle.homa_text.specs.Told.{HasLine};
 ghost use Rattle.host_view.specs.declared.outbox.SentFrame.{SentFrame};
 ghost use Rattle.node_io.specs.Observer.{IsSeen};
 ghost use Rattle.node_runs.specs.Course.{arrival_outcome, Arrival};
-ghost use Rattle.homa_plain.specs.Answers.{shown};
 ghost use Rattle.node_turns.specs.Acting.{IsRefused};
 ghost use Rattle.node_turns.specs.Acting.{IsStep, IsBegun, IsOwn};
 

@@ -1,5 +1,5 @@
 // What a step left goes out: its frames to the net, and then its entries to the observer.
-ghost use Rattle.std.specs.Prelude.{◌≡◌, ◌≤◌, ℕ, map, IfErr, OnOk, OnErr};
+ghost use Rattle.std.specs.Prelude.{◌≡◌, ◌≤◌, map, OnOk, OnErr};
 ghost use Rattle.homa_io.specs.Outside.{HasRisen};
 ghost use Rattle.node_io.specs.Observer.{OnWrite, UnlessWrite, OnStranger};
 ghost use Rattle.node_runs.specs.Course.{Tells};

@@ -1,5 +1,5 @@
 //! A block of cells in raw memory, which are first written when they are put.
-ghost use Rattle.std.specs.Prelude.{◌≡◌, ◌≢◌, ℕ, ◌+◌, ◌<◌, ◌≤◌, List, Option, Some, None, length, replicate, slice_index_or, slice_set, IfOk};
+ghost use Rattle.std.specs.Prelude.{◌≡◌, ◌≢◌, ◌+◌, ◌<◌, ◌≤◌, List, Option, Some, None, length, replicate, slice_index_or, slice_set, IfOk};
 ghost use denote.RawPtr.{Ptr};
 ghost use Rattle.place_heap.specs.declared.cells.Cell.{Cell};
 ghost use Rattle.place_heap.specs.Ownership.{block_owns, block_lends};

@@ -1,5 +1,5 @@
 //! The first few items of a heap in order, by a frontier of places that may come next.
-ghost use Rattle.std.specs.Prelude.{◌≡◌, ℕ, ◌+◌, ◌*◌, ◌<◌, ◌≤◌, take, length, List};
+ghost use Rattle.std.specs.Prelude.{◌≡◌, ◌+◌, ◌*◌, ◌<◌, ◌≤◌, take, length};
 ghost use Rattle.arrayvec.specs.ArrayVec.{array_vec_len};
 ghost use Rattle.place_heap.specs.Held.{list_of, items_of};
 ghost use Rattle.place_heap.specs.Front.{IsLeast, with_child};

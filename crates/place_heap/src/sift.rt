@@ -1,6 +1,6 @@
 //! Reads and writes of items and of their index, and the moves that keep heap order.
 ghost use Rattle.std.specs.Prelude.{◌≡◌, ℕ, ◌+◌, ◌-◌, ◌*◌, ◌/◌, ◌^◌, ◌<◌, ◌≤◌, length, slice_set, slice_index};
-ghost use Rattle.place_heap.specs.Held.{items_of, places_of, at, IsIndexed};
+ghost use Rattle.place_heap.specs.Held.{items_of, places_of, at};
 ghost use Rattle.place_heap.specs.Sifted.{CanSiftUp, CanSiftDown, IsSifted, IsLeastChild};
 
 use crate::cells::{Cell, Cells};

@@ -1,11 +1,9 @@
 // Two hosts, one call, and the frames between them.
-ghost use Rattle.std.specs.Prelude.{◌≡◌, ◌≢◌, ◌+◌, ◌*◌, ◌<◌, ◌≤◌, ◌++◌, ◌∷◌, [], ◌^◌, ℕ, Bool, false, IfOk, IfSome, OnOk, List, length, slice_get};
-ghost use Rattle.std.specs.List.{AllByRecursion};
+ghost use Rattle.std.specs.Prelude.{◌≡◌, ◌≢◌, ◌+◌, ◌*◌, ◌<◌, ◌≤◌, ◌++◌, ◌∷◌, [], ◌^◌, false, IfOk, IfSome, OnOk, length, slice_get};
 ghost use Rattle.homa_plain.specs.Settings.{IsValid};
 ghost use Rattle.homa_plain.specs.Steps.{arrival_step, turn_step};
 ghost use Rattle.homa_plain.specs.Quiet.{has_done, IsQuiet};
 ghost use Rattle.homa_plain.specs.Entries.{plain};
-ghost use Rattle.host_view.specs.Seen.{Seen};
 ghost use Rattle.host_view.specs.Marks.{shown_entries};
 ghost use Rattle.host_view.specs.Done.{HoldsSent, arriving};
 ghost use Rattle.quiet_laws.specs.Ends.{IsCalm};

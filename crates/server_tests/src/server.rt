@@ -1,4 +1,4 @@
-ghost use Rattle.std.specs.Prelude.{◌≡◌, ◌<◌, ◌≤◌, ◌+◌, ◌^◌, ◌∷◌, [], IfOk, IsSome, length};
+ghost use Rattle.std.specs.Prelude.{◌≡◌, ◌<◌, ◌≤◌, ◌^◌, ◌∷◌, [], IfOk, IsSome, length};
 ghost use Rattle.msg_pool.specs.Pool.{Pool};
 ghost use Rattle.host_places.specs.Placed.{spot_at};
 ghost use Rattle.homa_plain.specs.Settings.{IsValid};
@@ -375,7 +375,6 @@ fn a_drop_and_its_reopening(rt: HostRuntime) -> Result<(), Fail> {
 struct Poor;
 
 impl Service for Poor {
-    ghost use Rattle.std.specs.Prelude.{ℕ};
 
     ghost served = { λ poor. 0 };
 

@@ -1,5 +1,5 @@
 // One block: packets that were sent in one tick, as datagrams behind one another.
-ghost use Rattle.std.specs.Prelude.{◌≡◌, true, ◌≤◌, ◌<◌, ◌+◌, ◌*◌, ◌^◌, ◌++◌, ◌∷◌, [], Some, length, slice_get, vec_capacity, IfOk, OnOk, OnErr};
+ghost use Rattle.std.specs.Prelude.{◌≡◌, true, ◌≤◌, ◌<◌, ◌+◌, ◌*◌, ◌^◌, ◌++◌, ◌∷◌, [], Some, length, slice_get, IfOk, OnOk};
 ghost use Rattle.world_packets.specs.Ends.{ends_at};
 
 use homa_plain::HostId;
@@ -27,7 +27,7 @@ pub(crate) struct Block {
 
 impl Block {
     ghost use Rattle.std.specs.Prelude.{ℕ};
-    ghost use Rattle.world_packets.specs.Blocks.{Frame, frames_of, size_of, start_at, end_of, HasRoom};
+    ghost use Rattle.world_packets.specs.Blocks.{frames_of, size_of, start_at, end_of, HasRoom};
 
     /// No packet.
     pub(crate) fn open(alloc: Global) -> Block

@@ -1,5 +1,5 @@
 // All packets that are late for good.
-ghost use Rattle.std.specs.Prelude.{◌≡◌, ◌≤◌, ◌<◌, ◌+◌, ◌-◌, ◌++◌, ◌^◌, [], ℕ, true, Some, length, replicate, slice_get, nat_le, OnOk, OnErr};
+ghost use Rattle.std.specs.Prelude.{◌≡◌, ◌<◌, ◌+◌, ◌-◌, ◌++◌, ◌^◌, [], true, Some, length, replicate, slice_get, nat_le, OnOk, OnErr};
 ghost use Rattle.world_packets.specs.declared.late_ticks.LateTicks.{LateTicks};
 ghost use Rattle.world_packets.specs.Kept.{LatePacket};
 ghost use Rattle.world_packets.specs.Firsts.{firsts_at};

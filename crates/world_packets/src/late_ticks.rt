@@ -1,5 +1,5 @@
 // Packets that are late for good, of a few ticks: of each the tick in which it was sent.
-ghost use Rattle.std.specs.Prelude.{◌≡◌, ◌≤◌, ◌<◌, ◌+◌, ◌-◌, ◌++◌, ◌^◌, [], ℕ, true, Some, length, replicate, slice_get, if◌then◌else◌};
+ghost use Rattle.std.specs.Prelude.{◌≡◌, ◌<◌, ◌+◌, ◌-◌, ◌++◌, ◌^◌, true, Some, length, replicate, slice_get, if◌then◌else◌};
 ghost use Rattle.world_packets.specs.Kept.{LatePacket};
 ghost use Rattle.world_packets.specs.Later.{last_tick, late_kept};
 

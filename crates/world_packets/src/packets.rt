@@ -1,6 +1,6 @@
 // All packets of a world, by their numbers.
-ghost use Rattle.std.specs.Prelude.{◌≡◌, ◌≤◌, ◌<◌, ◌+◌, ◌*◌, ◌^◌, ◌++◌, ◌∷◌, [], ℕ, true, Some, None, length, slice_get, nat_le, nat_lt, IfOk};
-ghost use Rattle.std.specs.Prelude.{IfSome, OnOk, OnErr, MatchOption};
+ghost use Rattle.std.specs.Prelude.{◌≡◌, ◌≤◌, ◌<◌, ◌+◌, ◌*◌, ◌^◌, ◌++◌, ◌∷◌, [], ℕ, true, Some, None, length, slice_get, nat_le, nat_lt};
+ghost use Rattle.std.specs.Prelude.{OnOk, MatchOption};
 ghost use Rattle.std.specs.List.{list_all, flat_map};
 ghost use Rattle.homa_plain.specs.declared.settings.Settings.{Settings};
 ghost use Rattle.homa_plain.specs.Settings.{IsValid};
