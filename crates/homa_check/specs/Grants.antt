@@ -20,12 +20,28 @@ message_of x = record { role = x.role; id = x.id; peer = x.part.peer; length = x
 -- .. of a call's request, if a part of it is kept
 abbrev pub asked_message : Trace → CallId → Option Message
 asked_message t q =
-    option_and_then (λ c. option_map (λ p. record { role = Server; id = q; peer = q.client; length = p.length; arrived = p.count; granted = p.granted; order = p.order }) (spot_in c (lives_in t q c.server)).request) (call_at t q)
+    option_and_then (λ c. option_map (λ p. record {
+      role = Server;
+      id = q;
+      peer = q.client;
+      length = p.length;
+      arrived = p.count;
+      granted = p.granted;
+      order = p.order;
+    }) (spot_in c (lives_in t q c.server)).request) (call_at t q)
 
 -- .. of its response
 abbrev pub awaited_message : Trace → CallId → Option Message
 awaited_message t q =
-    option_and_then (λ c. option_map (λ p. record { role = Client; id = q; peer = c.server; length = p.length; arrived = p.count; granted = p.granted; order = p.order }) (spot_in c (lives_in t q c.server)).response) (call_at t q)
+    option_and_then (λ c. option_map (λ p. record {
+      role = Client;
+      id = q;
+      peer = c.server;
+      length = p.length;
+      arrived = p.count;
+      granted = p.granted;
+      order = p.order;
+    }) (spot_in c (lives_in t q c.server)).response) (call_at t q)
 
 -- the end that is granted to a message where it is chosen
 abbrev pub new_end_of : ℕ → Message → ℕ

@@ -87,7 +87,10 @@ state_pages (Buried until) = 0
 
 -- the pages that the messages of all calls but one leave free
 abbrev pub free_beside : Settings → Host → CallId → ℕ
-free_beside s h id = s.pages - (sum_by (λ (r : ClientRow). part_pages r.part) (values (remove h.clients id)) + sum_by (λ (r : ServerRow). state_pages r.state) (values (remove h.servers id)))
+free_beside s h id =
+    s.pages
+    - (sum_by (λ (r : ClientRow). part_pages r.part) (values (remove h.clients id))
+    + sum_by (λ (r : ServerRow). state_pages r.state) (values (remove h.servers id)))
 
 -- ---- what is told
 

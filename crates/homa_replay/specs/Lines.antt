@@ -36,7 +36,8 @@ pub record ArePlayed (s : Settings) (w : World) (es : List Happening) (stands : 
   pub printed : new ≡ appended old (flat_map line_text told)
   pub allowed : (more : List PlainEntry) → after more → before (told ++ more)
   pub same : (events line : ℕ) (rest : List Happening) (steps : Steps) (later : List Answer)
-      → goes_on s (answering (shown told ++ later) w) events line (es ++ rest) steps ≡ with_told told (goes_on s (answering later next) (events + length es) line rest steps)
+      → goes_on s (answering (shown told ++ later) w) events line (es ++ rest) steps
+      ≡ with_told told (goes_on s (answering later next) (events + length es) line rest steps)
 
 -- One of these events is refused, and what was told before it was printed.
 pub record AreRefused (s : Settings) (w : World) (es : List Happening) (old new : Option (List ℕ)) (before : List PlainEntry → Type 0) (fault : WorldFault) : Type 0 where
