@@ -10,12 +10,12 @@ use Rattle.homa_plain.specs.declared.packet.Cutoffs.{Cutoffs}
 use Rattle.homa_plain.proofs.WireFields.{bind_some, some_is}
 use Rattle.check_reader.specs.declared.bodies.Kind.{Kind}
 use Rattle.check_reader.specs.declared.bodies.Kind.TheVariants.{Data, Grant, Resend, Busy, Cutoffs as CutoffsKind, Unknown, NeedAck, Ack}
-use Rattle.check_reader.specs.Fields.{◌⊗◌, number_below, number_at, ack_of, ack_at, hex_of, hex_at, cutoffs_at, call_of, times, ended}
+use Rattle.check_words.specs.Fields.{◌⊗◌, number_below, number_at, ack_of, ack_at, hex_of, hex_at, cutoffs_at, call_of, times, ended}
 use Rattle.check_reader.specs.Bodies.{kind_name, kinds, kind_of, bare, calls_in, piece_at, data_in, grant_in, resend_in, body_in}
 use Rattle.check_reader.specs.Told.{FitsCall, FitsCutoffs, FitsBody, IsBareButData}
-use Rattle.check_reader.proofs.Readers.{ReadsWord, Reads, ArePlain, reads_word, reads_both, reads_value, reads_times, whole_takes, whole_again, one_of-takes}
+use Rattle.check_words.proofs.Readers.{ReadsWord, Reads, ArePlain, reads_word, reads_both, reads_value, reads_times, whole_takes, whole_again, one_of-takes}
 use Rattle.check_reader.proofs.WordLaws.{reads_number, reads_numbers, reads_call, reads_ack, FitsAck, Any, wide8, wide16, wide32}
-use Rattle.check_reader.proofs.HexLaws.{reads_hex}
+use Rattle.check_words.proofs.HexLaws.{reads_hex}
 
 -- ---- cutoffs
 

@@ -21,16 +21,16 @@ use Rattle.check_reader.specs.declared.entries.Form.{Form}
 use Rattle.check_reader.specs.declared.entries.Form.TheVariants.{Settings, Call, Deliver, Clock, Restart, Inject, Shift, Junk, Stale, Send, Run, Done, Fail, Drop, Gaps, Bury, Free, Full, Balance, Recv, Finished, Refused, Stalled}
 use Rattle.check_reader.specs.declared.entries.Lack.{Lack}
 use Rattle.check_reader.specs.declared.entries.Lack.TheVariants.{Rows, Pages}
-use Rattle.check_reader.specs.Fields.{◌⊗◌, number_at, host_at, id_of, id_at, route_of, route_at, role_of, role_at, why_of, why_at, hex_of, hex_at, cutoffs_at, word_at, parts, whole}
+use Rattle.check_words.specs.Fields.{◌⊗◌, number_at, host_at, id_of, id_at, route_of, route_at, role_of, role_at, why_of, why_at, hex_of, hex_at, cutoffs_at, word_at, parts, whole}
 use Rattle.check_reader.specs.Bodies.{kind_name, kind_of, body_in}
 use Rattle.check_reader.specs.Refusals.{fault_in}
 use Rattle.check_reader.specs.Forms.{form_name, forms, form_of, settings_in, call_in, deliver_in, clock_in, restart_in, inject_in, shift_in, junk_in, stale_in, send_in, run_in, done_in, fail_in, drop_in, gaps_in, free_in, bury_in, lack_name, lack_of, lack_in, full_entry, full_in, balance_in, recv_in, finished_in, refused_in, stalled_in, form_in, entry_in, entry_of}
 use Rattle.check_reader.specs.Told.{FitsHost, FitsId, FitsCutoffs, FitsFault, Fits, IsUsual}
 use Rattle.homa_text.proofs.Feeds.{ends_in_feed-feed}
-use Rattle.check_reader.proofs.NumberWords.{HasNo, HasNoBlank, or_parts}
-use Rattle.check_reader.proofs.Readers.{Reads, ArePlain, reads_word, reads_both, whole_takes, whole_again, one_of-takes, parts-joined, ArePlain-no}
+use Rattle.check_words.proofs.NumberWords.{HasNo, HasNoBlank, or_parts}
+use Rattle.check_words.proofs.Readers.{Reads, ArePlain, reads_word, reads_both, whole_takes, whole_again, one_of-takes, parts-joined, ArePlain-no}
 use Rattle.check_reader.proofs.WordLaws.{none-append, reads_numbers, reads_hosts, reads_id, reads_route, FitsRoute, route_text, reads_role, reads_why, Any, wide8, wide32, wide64}
-use Rattle.check_reader.proofs.HexLaws.{reads_hex}
+use Rattle.check_words.proofs.HexLaws.{reads_hex}
 use Rattle.check_reader.proofs.BodyLaws.{Tells, body_takes, body_again, body_plain, shown_body, kind_of_body, kind_name-body, reads_kind, reads_cutoffs}
 use Rattle.check_reader.proofs.FaultLaws.{fault_takes, fault_again, fault_plain}
 use Rattle.check_reader.proofs.SettingsLaws.{settings_takes, settings_again, settings_plain}

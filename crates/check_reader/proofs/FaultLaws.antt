@@ -18,11 +18,11 @@ use Rattle.homa_plain.specs.declared.settings.Name.TheVariants.{Hosts, Seg, Wind
 use Rattle.homa_plain.specs.declared.settings.SettingFault.{SettingFault}
 use Rattle.homa_plain.specs.declared.settings.SettingFault.TheVariants.{OutOfRange, UnschedOverWindow, RateUnderSeg}
 use Rattle.homa_plain.proofs.WireFields.{bind_some, some_is}
-use Rattle.check_reader.specs.Fields.{◌⊗◌, number_at, word_at, ended}
+use Rattle.check_words.specs.Fields.{◌⊗◌, number_at, word_at, ended}
 use Rattle.check_reader.specs.Refusals.{fault_name, plain_faults, plain_of, name_of, starts, start_of, out_of_range_in, setting_in, two_in, start_in, world_in, long_in, plain_or_long, fault_in}
 use Rattle.check_reader.specs.Told.{FitsWorldFault, FitsFault}
-use Rattle.check_reader.proofs.NumberWords.{HasNoBlank}
-use Rattle.check_reader.proofs.Readers.{Reads, ArePlain, reads_word, reads_both, whole_takes, whole_again, one_of-takes}
+use Rattle.check_words.proofs.NumberWords.{HasNoBlank}
+use Rattle.check_words.proofs.Readers.{Reads, ArePlain, reads_word, reads_both, whole_takes, whole_again, one_of-takes}
 use Rattle.check_reader.proofs.WordLaws.{reads_numbers, Any, wide32, wide64}
 
 -- ---- words

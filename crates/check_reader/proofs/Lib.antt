@@ -1,12 +1,5 @@
-pub mod Cuts
 pub mod Times
-pub mod DigitLaws
-pub mod HexWords
-pub mod NumberWords
-pub mod Readers
 pub mod WordLaws
-pub mod HexLaws
-pub mod LastWords
 pub mod BodyLaws
 pub mod FaultLaws
 pub mod SettingsLaws

@@ -8,9 +8,9 @@ use Rattle.homa_plain.specs.Bytes.{◌>>=◌}
 use Rattle.homa_plain.specs.Text.{settings_numbers, told_numbers}
 use Rattle.homa_plain.specs.declared.settings.Settings.{Settings}
 use Rattle.homa_plain.proofs.WireFields.{bind_some, some_is}
-use Rattle.check_reader.specs.Fields.{number_below, number_at, times, is_empty, ended}
+use Rattle.check_words.specs.Fields.{number_below, number_at, times, is_empty, ended}
 use Rattle.check_reader.specs.Forms.{last_two_in, with_numbers, settings_in}
-use Rattle.check_reader.proofs.Readers.{Reads, ArePlain, ArePlain-map, reads_times}
+use Rattle.check_words.proofs.Readers.{Reads, ArePlain, ArePlain-map, reads_times}
 use Rattle.check_reader.proofs.WordLaws.{reads_number, reads_numbers, wide32}
 
 abbrev Small : ℕ → Type 0

@@ -3,7 +3,7 @@ use Rattle.std.proofs.Common.{◌≡◌, ◌<◌, ◌≤◌, ℕ, suc, ◌+◌, 
 use Rattle.std.proofs.lemmas.List.{take_more_set, take_all}
 use Rattle.homa_plain.specs.Bytes.{◌>>=◌}
 use Rattle.homa_plain.proofs.WireFields.{some_is}
-use Rattle.check_reader.specs.Fields.{times, word_at, call_of}
+use Rattle.check_words.specs.Fields.{times, word_at, call_of}
 use Rattle.check_reader.specs.Bodies.{calls_in}
 
 -- these values, and those that are read behind them

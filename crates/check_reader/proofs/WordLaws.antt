@@ -15,10 +15,10 @@ use Rattle.homa_plain.specs.declared.id.HostId.{HostId}
 use Rattle.homa_plain.specs.declared.packet.Role.{Role}
 use Rattle.homa_plain.specs.declared.packet.Role.TheVariants.{Client, Server}
 use Rattle.homa_plain.proofs.WireFields.{bind_some, some_is}
-use Rattle.check_reader.specs.Fields.{◌⊗◌, number_below, number_at, host_of, host_at, id_of, call_of, route_of, ack_of, role_of, why_of, is_hyphen}
+use Rattle.check_words.specs.Fields.{◌⊗◌, number_below, number_at, host_of, host_at, id_of, call_of, route_of, ack_of, role_of, why_of, is_hyphen}
 use Rattle.check_reader.specs.Told.{FitsHost, FitsCall, FitsId}
-use Rattle.check_reader.proofs.NumberWords.{HasNo, HasNoBlank, is_blank, number_of-takes, number_of-again, decimal-no, decimal-no_blank}
-use Rattle.check_reader.proofs.Readers.{ReadsWord, Reads, reads_word, reads_both, reads_parts, one_of-takes}
+use Rattle.check_words.proofs.NumberWords.{HasNo, HasNoBlank, is_blank, number_of-takes, number_of-again, decimal-no, decimal-no_blank}
+use Rattle.check_words.proofs.Readers.{ReadsWord, Reads, reads_word, reads_both, reads_parts, one_of-takes}
 
 pub none-append : (test : ℕ → Bool) (xs ys : List ℕ) → list_any test xs ≡ false → list_any test ys ≡ false → list_any test (xs ++ ys) ≡ false
 none-append test xs ys h k = list_any-append test xs ys ∙ rw (h, k) refl

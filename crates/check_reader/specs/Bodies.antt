@@ -5,7 +5,7 @@ use Rattle.homa_plain.specs.declared.packet.Body.{Body}
 use Rattle.homa_plain.specs.declared.packet.Body.TheVariants as body
 use Rattle.check_reader.specs.declared.bodies.Kind.{Kind}
 use Rattle.check_reader.specs.declared.bodies.Kind.TheVariants.{Data, Grant, Resend, Busy, Cutoffs, Unknown, NeedAck, Ack}
-use Rattle.check_reader.specs.Fields.{◌⊗◌, number_at, ack_at, hex_at, cutoffs_at, call_of, one_of, with_value, whole, ended}
+use Rattle.check_words.specs.Fields.{◌⊗◌, number_at, ack_at, hex_at, cutoffs_at, call_of, one_of, with_value, whole, ended}
 
 -- a packet's kind, as a word
 abbrev pub kind_name : Kind → List ℕ

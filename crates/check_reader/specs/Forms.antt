@@ -10,7 +10,7 @@ use Rattle.check_reader.specs.declared.entries.Form.{Form}
 use Rattle.check_reader.specs.declared.entries.Form.TheVariants.{Settings, Call, Deliver, Clock, Restart, Inject, Shift, Junk, Stale, Send, Run, Done, Fail, Drop, Gaps, Bury, Free, Full, Balance, Recv, Finished, Refused, Stalled}
 use Rattle.check_reader.specs.declared.entries.Lack.{Lack}
 use Rattle.check_reader.specs.declared.entries.Lack.TheVariants.{Rows, Pages}
-use Rattle.check_reader.specs.Fields.{◌⊗◌, number_at, host_at, id_at, route_at, role_at, why_at, hex_at, cutoffs_at, word_at, parts, times, one_of, whole, ended, is_empty}
+use Rattle.check_words.specs.Fields.{◌⊗◌, number_at, host_at, id_at, route_at, role_at, why_at, hex_at, cutoffs_at, word_at, parts, times, one_of, whole, ended, is_empty}
 use Rattle.check_reader.specs.Bodies.{kind_of, body_in}
 use Rattle.check_reader.specs.Refusals.{fault_in}
 

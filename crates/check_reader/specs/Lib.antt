@@ -1,6 +1,3 @@
-pub mod Digits
-pub mod Fields
-pub mod FieldsLeft
 pub mod Bodies
 pub mod Refusals
 pub mod Forms

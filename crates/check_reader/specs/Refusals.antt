@@ -14,7 +14,7 @@ use Rattle.homa_plain.specs.declared.fault.WorldFault.TheVariants.{NoSuchHost, N
 use Rattle.homa_plain.specs.declared.settings.Name.{Name}
 use Rattle.homa_plain.specs.declared.settings.SettingFault.{SettingFault}
 use Rattle.homa_plain.specs.declared.settings.SettingFault.TheVariants.{OutOfRange, UnschedOverWindow, RateUnderSeg}
-use Rattle.check_reader.specs.Fields.{◌⊗◌, number_at, word_at, one_of, whole, ended}
+use Rattle.check_words.specs.Fields.{◌⊗◌, number_at, word_at, one_of, whole, ended}
 
 -- the first of some words
 abbrev pub first_word : List (List ℕ) → List ℕ

@@ -1,11 +1,11 @@
 // Packets that are read from the words behind their call.
 ghost use Rattle.std.specs.Prelude.{◌≡◌, ◌*◌, ◌^◌, ◌≤◌, length, IfSome};
 ghost use Rattle.std.specs.Option.{option_map};
-ghost use Rattle.check_reader.specs.Fields.{times, word_at, number_at, cutoffs_at, ended};
-ghost use Rattle.check_reader.specs.FieldsLeft.{left, size};
+ghost use Rattle.check_words.specs.Fields.{times, word_at, number_at, cutoffs_at, ended};
+ghost use Rattle.check_words.specs.FieldsLeft.{left, size};
 ghost use Rattle.check_reader.specs.Bodies.{bare, kind_name, kind_of, calls_in, piece_at, data_in, grant_in, resend_in, body_in};
 
-use crate::fields::{Fields, call_from, read_ack, read_last_hex, read_u8, read_u16, read_u32};
+use check_words::{Fields, call_from, read_ack, read_last_hex, read_u8, read_u16, read_u32};
 use homa_plain::{Body, Cutoffs, More};
 
 // A packet's kind.
@@ -82,7 +82,7 @@ pub(crate) fn read_numbers<'a>(words: Fields<'a>, numbers: &mut [u32]) -> Option
 }
 
 // A version and eight bounds.
-#[tactic(auto, unfolding(crate::specs::Fields::cutoffs_at))]
+#[tactic(auto, unfolding(check_words::specs::Fields::cutoffs_at))]
 pub(crate) fn read_cutoffs(words: Fields<'_>) -> Option<(Cutoffs, Fields<'_>)>
     ensures value { option_map (λ x. (x.0, left x.1)) result ≡ cutoffs_at (left words.entry) }
     ensures shorter { IfSome result (λ x. size x.1 ≤ size words.entry) }

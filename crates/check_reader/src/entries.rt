@@ -3,8 +3,8 @@ ghost use Rattle.std.specs.Prelude.{◌≡◌, ◌≢◌, ◌*◌, ◌≤◌, []
 ghost use Rattle.std.specs.Option.{option_map};
 ghost use Rattle.homa_plain.specs.Entries.{PlainEntry, plain};
 ghost use Rattle.homa_plain.specs.Text.{line_text};
-ghost use Rattle.check_reader.specs.Fields.{ended};
-ghost use Rattle.check_reader.specs.FieldsLeft.{left, size};
+ghost use Rattle.check_words.specs.Fields.{ended};
+ghost use Rattle.check_words.specs.FieldsLeft.{left, size};
 ghost use Rattle.check_reader.specs.Forms.{form_name, form_of, last_two_in, settings_in, call_in, deliver_in, clock_in, restart_in, inject_in};
 ghost use Rattle.check_reader.specs.Forms.{shift_in, stale_in, send_in, run_in, done_in, fail_in, drop_in, gaps_in, free_in, bury_in, junk_in};
 ghost use Rattle.check_reader.specs.Forms.{lack_of, lack_in, full_in, balance_in, recv_in, finished_in, refused_in, stalled_in, form_in, entry_of};
@@ -12,7 +12,7 @@ ghost use Rattle.check_reader.specs.Told.{Fits, IsUsual};
 
 use crate::bodies::{read_body, read_cutoffs, read_kind, read_numbers};
 use crate::faults::read_fault;
-use crate::fields::{
+use check_words::{
     Fields, Separator, read_hex, read_host, read_id, read_last_hex, read_role, read_route, read_u8,
     read_u32, read_u64, read_why,
 };

@@ -1,10 +1,10 @@
 // Refusals that are read from the words of a line.
 ghost use Rattle.std.specs.Prelude.{◌≡◌, ◌^◌};
-ghost use Rattle.check_reader.specs.FieldsLeft.{left};
+ghost use Rattle.check_words.specs.FieldsLeft.{left};
 ghost use Rattle.check_reader.specs.Refusals.{script_name, world_name, fault_name, plain_of, name_of, start_of, start_in, out_of_range_in};
 ghost use Rattle.check_reader.specs.Refusals.{setting_in, two_in, world_in, long_in, fault_in};
 
-use crate::fields::{Fields, read_u32, read_u64};
+use check_words::{Fields, read_u32, read_u64};
 use homa_plain::{LineFault, Name, ScriptFault, SettingFault, StartFault, WorldFault};
 use homa_text::{read_name, start_bytes};
 

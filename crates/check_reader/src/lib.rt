@@ -8,10 +8,8 @@
 #![tactic(auto)]
 
 mod bodies;
-mod digits;
 mod entries;
 mod faults;
-mod fields;
 mod laws;
 
 pub use entries::read_entry;

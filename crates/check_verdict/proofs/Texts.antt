@@ -12,7 +12,7 @@ use Rattle.homa_plain.specs.Wire.{packet_in, packet_at, packet_of, body_at, tick
 use Rattle.homa_plain.specs.Seen.{seen}
 use Rattle.homa_plain.specs.Granting.{allowed}
 use Rattle.homa_plain.specs.Judge.{ShapeClause, OnceClause, ReturnedClause, HandedUpClause, FailsClause, GrantingClause, judged}
-use Rattle.check_reader.specs.Fields.{host_of, id_of, route_of, hex_of, ack_of, call_of, role_of, why_of, times}
+use Rattle.check_words.specs.Fields.{host_of, id_of, route_of, hex_of, ack_of, call_of, role_of, why_of, times}
 use Rattle.check_reader.specs.Bodies.{kind_of, piece_at, data_in, grant_in, resend_in, calls_in, body_in}
 use Rattle.check_reader.specs.Forms.{entry_of, entry_in, form_of, form_in, last_two_in, settings_in, call_in, deliver_in, clock_in, restart_in, stale_in, send_in, run_in, done_in, fail_in, free_in, bury_in, lack_of, lack_in, full_in, recv_in, finished_in, refused_in}
 use Rattle.check_reader.specs.Refusals.{two_in, plain_of, world_in, long_in, fault_in}

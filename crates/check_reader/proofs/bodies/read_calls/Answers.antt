@@ -1,5 +1,5 @@
 use Rattle.std.proofs.Common.{◌∙◌, sym, ap, length, [], ◌∷◌, arith, length-append}
-use Rattle.check_reader.specs.FieldsLeft.{left}
+use Rattle.check_words.specs.FieldsLeft.{left}
 use Rattle.check_reader.proofs.Times.{is_next, is_last, calls_in-more, calls_in-none, calls_in-over, calls_in-all}
 use Rattle.check_reader.proofs.bodies.read_calls.Goals as goal
 

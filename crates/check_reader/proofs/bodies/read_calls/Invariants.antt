@@ -1,5 +1,5 @@
 use Rattle.std.proofs.Common.{◌≡◌, ◌≤◌, ◌-◌, length}
-use Rattle.check_reader.specs.FieldsLeft.{left}
+use Rattle.check_words.specs.FieldsLeft.{left}
 use Rattle.check_reader.specs.Bodies.{calls_in}
 use Rattle.check_reader.proofs.Times.{calls_behind}
 use Rattle.check_reader.proofs.bodies.read_calls.Given as goal

@@ -1,7 +1,7 @@
 use Rattle.std.proofs.Common.{◌^◌, ◌∙◌, sym, length, arith}
 use Rattle.std.proofs.lemmas.List.{length-set}
-use Rattle.check_reader.specs.Fields.{number_at}
-use Rattle.check_reader.specs.FieldsLeft.{left}
+use Rattle.check_words.specs.Fields.{number_at}
+use Rattle.check_words.specs.FieldsLeft.{left}
 use Rattle.check_reader.proofs.Times.{times-more, times-none, times-all}
 use Rattle.check_reader.proofs.bodies.read_numbers.Goals as goal
 

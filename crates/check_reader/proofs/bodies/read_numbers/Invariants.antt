@@ -1,6 +1,6 @@
 use Rattle.std.proofs.Common.{◌≡◌, ◌^◌, ◌≤◌, ◌-◌, length, take}
-use Rattle.check_reader.specs.Fields.{times, number_at}
-use Rattle.check_reader.specs.FieldsLeft.{left, size}
+use Rattle.check_words.specs.Fields.{times, number_at}
+use Rattle.check_words.specs.FieldsLeft.{left, size}
 use Rattle.check_reader.proofs.Times.{behind}
 use Rattle.check_reader.proofs.bodies.read_numbers.Given as goal
 

@@ -1,8 +1,0 @@
-use Rattle.std.proofs.Common.{◌≡◌, None, Some, take}
-use Rattle.std.specs.Prelude.{if◌then◌else◌}
-use Rattle.check_reader.specs.Digits.{is_value, values_of}
-use Rattle.check_reader.proofs.digits.read_values.Given as goal
-
--- the values so far
-abbrev pub invariant-loop-i : goal.invariant-loop-i
-invariant-loop-i l = (if is_value l.greatest then Some (take l.i l.values) else None) ≡ values_of (take l.i l.word)
