@@ -1,7 +1,7 @@
 // Values that are read from the words of a line.
 ghost use Rattle.std.specs.Prelude.{◌≡◌, ◌+◌, ◌*◌, ◌^◌, ◌≤◌, ◌∷◌, length, is_some, IfSome};
 ghost use Rattle.std.specs.Option.{option_map};
-ghost use Rattle.check_words.specs.Fields.{word_at, number_at, number_below, host_at, id_of, id_at, call_of, route_of, route_at, hex_of, hex_at};
+ghost use Rattle.check_words.specs.Fields.{word_at, number_at, host_at, id_of, id_at, call_of, route_of, route_at, hex_of, hex_at};
 ghost use Rattle.check_words.specs.Fields.{ack_of, ack_at, role_of, role_at, why_of, why_at, is_empty, parts, whole};
 ghost use Rattle.check_words.specs.FieldsLeft.{byte_of, left, size, parts_left, length_or_none};
 
