@@ -3,7 +3,7 @@
 //! Model: a run is the definitions' (`generated_runs`), of a seed and a number of calls; what the services answer isn't
 //! known before, so a run goes on whatever they will answer.
 //! Main promise: `make` prints the schedule of the run, `count` its summary, with the answers that its own `run` lines
-//! show, which the boxes allow; where `make` stops early, a front of the schedule was printed.
+//! show, which the boxes allow; where `make` stops early, a front of the schedule was printed. Tests stand in `generate_tests`.
 #![tactic(auto)]
 
 mod events;
@@ -12,8 +12,6 @@ mod printing;
 mod rounds;
 mod setup;
 mod tally;
-#[cfg(test)]
-mod tests;
 mod worlds;
 
 pub use printing::{count, make};

@@ -1,0 +1,7 @@
+//! Tests of generated runs.
+#![tactic(auto)]
+
+#[cfg(test)]
+mod schedules;
+#[cfg(test)]
+mod summary;
