@@ -1,7 +1,7 @@
 //! The lines of a schedule: they are printed and carried out, and their packets enter the fabric.
 ghost use Rattle.std.specs.Prelude.{codes, ◌++◌, ◌≡◌, ◌≤◌, ◌<◌, ◌+◌, ◌^◌, ◌∷◌, [], length, OnOk, OnErr, IfOk, IsErrOf};
 ghost use Rattle.std.specs.Fmt.{decimal};
-ghost use Rattle.homa_io.specs.Outside.{HasRisen, appended, TookFront};
+ghost use Rattle.homa_io.specs.Writing.{IsWritten};
 ghost use Rattle.homa_plain.specs.World.{World};
 ghost use Rattle.homa_plain.specs.Replay.{events_of};
 ghost use Rattle.generated_runs.specs.Rounds.{Generated, with_line};
@@ -55,11 +55,7 @@ fn counting_word(n: u32) -> ArrayVec<u8, 24>
 
 // Prints the line of a call.
 fn put_call<K: Sink>(sink: &mut K, t: &Traffic) -> Result<(), WriteFailed>
-    ensures ok { OnOk result (K.taken sink.new ≡ appended (K.taken sink.old) (given_text (given_of (Line.Call t.now)))) }
-    ensures err { OnErr result (TookFront (K.taken sink.old) (K.taken sink.new) (given_text (given_of (Line.Call t.now)))) }
-    ensures risen { OnErr result (HasRisen (K.faults sink.old) (K.faults sink.new)) }
-    ensures quiet { OnOk result (K.faults sink.new ≡ K.faults sink.old) }
-    ensures same { K.is_same sink.old sink.new }
+    ensures { IsWritten K.taken K.faults K.is_same result sink.old sink.new (given_text (given_of (Line.Call t.now))) }
 {
     let bytes = counting_word(t.len);
     let words = [
@@ -75,11 +71,7 @@ fn put_call<K: Sink>(sink: &mut K, t: &Traffic) -> Result<(), WriteFailed>
 // Prints a line.
 #[tactic(auto, unfolding(homa_plain::specs::Script::event_text))]
 fn put<K: Sink>(sink: &mut K, line: &Line) -> Result<(), WriteFailed>
-    ensures ok { OnOk result (K.taken sink.new ≡ appended (K.taken sink.old) (given_text (given_of line.now))) }
-    ensures err { OnErr result (TookFront (K.taken sink.old) (K.taken sink.new) (given_text (given_of line.now))) }
-    ensures risen { OnErr result (HasRisen (K.faults sink.old) (K.faults sink.new)) }
-    ensures quiet { OnOk result (K.faults sink.new ≡ K.faults sink.old) }
-    ensures same { K.is_same sink.old sink.new }
+    ensures { IsWritten K.taken K.faults K.is_same result sink.old sink.new (given_text (given_of line.now)) }
 {
     match line {
         Line::Tick => put_line(sink, &[Text(b"tick")]),
@@ -91,11 +83,7 @@ fn put<K: Sink>(sink: &mut K, line: &Line) -> Result<(), WriteFailed>
 // Prints a line, where the lines of this run are printed.
 fn show<K: Sink>(setup: &Setup, sink: &mut K, line: &Line) -> Result<(), WriteFailed>
     requires heard { IsHeard setup.now.prints K.taken }
-    ensures ok { OnOk result (K.taken sink.new ≡ appended (K.taken sink.old) (given_text (given_of line.now))) }
-    ensures err { OnErr result (TookFront (K.taken sink.old) (K.taken sink.new) (given_text (given_of line.now))) }
-    ensures risen { OnErr result (HasRisen (K.faults sink.old) (K.faults sink.new)) }
-    ensures quiet { OnOk result (K.faults sink.new ≡ K.faults sink.old) }
-    ensures same { K.is_same sink.old sink.new }
+    ensures { IsWritten K.taken K.faults K.is_same result sink.old sink.new (given_text (given_of line.now)) }
 {
     if !setup.prints {
         return Ok(());

@@ -1,7 +1,7 @@
 //! How many lines of each kind a trace has.
 ghost use Rattle.std.specs.Prelude.{◌≡◌, ◌<◌, OnOk, OnErr};
 ghost use Rattle.std.specs.List.{flat_map};
-ghost use Rattle.homa_io.specs.Outside.{HasRisen, appended, TookFront};
+ghost use Rattle.homa_io.specs.Writing.{IsWritten};
 ghost use Rattle.homa_generate.specs.Counts.{IsFullOf, name, place, one_more, no_counts, counts_text};
 
 use homa_io::{Sink, WriteFailed};
@@ -104,11 +104,7 @@ impl Counts {
     /// Writes the summary: a line for each kind, with its name and its number. After an error the sink took a front
     /// of it.
     pub fn put<K: Sink>(&self, sink: &mut K) -> Result<(), WriteFailed>
-        ensures ok { OnOk result (K.taken sink.new ≡ appended (K.taken sink.old) (counts_text self.now)) }
-        ensures err { OnErr result (TookFront (K.taken sink.old) (K.taken sink.new) (counts_text self.now)) }
-        ensures risen { OnErr result (HasRisen (K.faults sink.old) (K.faults sink.new)) }
-        ensures quiet { OnOk result (K.faults sink.new ≡ K.faults sink.old) }
-        ensures same { K.is_same sink.old sink.new }
+        ensures { IsWritten K.taken K.faults K.is_same result sink.old sink.new (counts_text self.now) }
     {
         for kind in KINDS {
             put_line(

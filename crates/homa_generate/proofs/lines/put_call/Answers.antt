@@ -4,12 +4,7 @@ use Rattle.std.specs.Fmt.{decimal}
 use Rattle.homa_generate.proofs.LineLaws.{length-counting}
 use Rattle.homa_generate.proofs.lines.put_call.Goals as goal
 
-pub returns-clause-ok : goal.returns-clause-ok
-returns-clause-ok g c =
+pub returns : goal.returns
+returns g c =
     let word : c.as_slice.result.now ≡ 42 ∷ decimal c.args.t.now.len = c.as_slice.ensures.value ∙ c.counting_word-bytes.ensures in
-    rw (length-counting 0 c.args.t.now.len) (rw (word, c.from.ensures) at c.put_line.ensures.ok)
-
-pub returns-clause-err : goal.returns-clause-err
-returns-clause-err g c =
-    let word : c.as_slice.result.now ≡ 42 ∷ decimal c.args.t.now.len = c.as_slice.ensures.value ∙ c.counting_word-bytes.ensures in
-    rw (length-counting 0 c.args.t.now.len) (rw (word, c.from.ensures) at c.put_line.ensures.err)
+    rw (length-counting 0 c.args.t.now.len) (rw (word, c.from.ensures) at c.put_line.ensures)
