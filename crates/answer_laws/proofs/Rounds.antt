@@ -17,8 +17,8 @@ use Rattle.generated_runs.specs.Fabric.{Handed}
 use Rattle.generated_runs.specs.Rounds.{Generated, first_generated, all_sent, with_line, host_round, hosts_round, most_handed, live_at, with_call}
 use Rattle.generated_runs.specs.Rounds.{calls_round, calls_a_round, round_begun, next_round, is_over, rounds}
 use Rattle.generated_runs.specs.Generated.{generated_settings, most_rounds, generated}
-use Rattle.generated_laws.proofs.Going.{handed_to, behind_handed, by_number, host_step, host_none, hosts_step, hosts_none}
-use Rattle.generated_laws.proofs.Going.{by_left, calls_step, calls_none, round_is, by_end, rounds_step, rounds_none}
+use Rattle.generated_runs.proofs.Going.{handed_to, behind_handed, by_number, host_step, host_none, hosts_step, hosts_none}
+use Rattle.generated_runs.proofs.Going.{by_left, calls_step, calls_none, round_is, by_end, rounds_step, rounds_none}
 use Rattle.box_laws.specs.Boxes.{Allows}
 use Rattle.box_laws.specs.First.{AreAllowed}
 use Rattle.answer_laws.specs.Answers.{MayAnswerGenerated}

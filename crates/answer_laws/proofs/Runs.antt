@@ -11,7 +11,7 @@ use Rattle.homa_plain.specs.Rules.{Answer}
 use Rattle.homa_plain.specs.World.{World, After, Outcome, Done, Refused, outcome, next_answer, new_world, new_hosts}
 use Rattle.homa_plain.specs.Replay.{Happening, Run, carried, replay, replay_opened}
 use Rattle.homa_plain.specs.Answers.{answering, shown}
-use Rattle.generated_laws.proofs.Carried.{by_outcome, first_event, no_event}
+use Rattle.generated_runs.proofs.Carried.{by_outcome, first_event, no_event}
 use Rattle.event_laws.proofs.Names.{new_named}
 use Rattle.trace_induction.proofs.Always.{length-new}
 use Rattle.replay_laws.specs.Replays.{events_in}

@@ -15,6 +15,7 @@ use Rattle.homa_plain.specs.Host.{Host, packets_in, entries_from}
 use Rattle.homa_plain.specs.Steps.{Work, most_packets, start_fault, call_step, arrival_step, turn_step}
 use Rattle.homa_plain.specs.World.{World, SentPacket, After, Refused, Done, host_at, own_clock, next_answer, stamped, stepped, started, calls_from, arrives_at, is_late, delivered, last_tick, turns, outcome}
 use Rattle.homa_plain.specs.Replay.{Happening, Run, bare, turns_of, ticks, carried}
+use Rattle.generated_runs.proofs.Carried.{by_outcome, first_event, no_event}
 use Rattle.step_laws.specs.StepLaws.{IsBounded}
 use Rattle.step_laws.proofs.Bounds.{call-bounded, arrival-bounded, turn-bounded}
 use Rattle.event_laws.specs.Among.{IsAmongStep, IsBelow}
@@ -22,7 +23,6 @@ use Rattle.event_laws.specs.Named.{IsOwnStep}
 use Rattle.event_laws.proofs.Among.{call_among, arrival_among, turn_among}
 use Rattle.event_laws.proofs.Names.{call_named, arrival_named, turn_named}
 use Rattle.generated_laws.proofs.Listed.{there_is, all_get}
-use Rattle.generated_laws.proofs.Carried.{by_outcome, first_event, no_event}
 use Rattle.generated_laws.proofs.Peopled.{IsPost, IsPeopled, behind, behind_peopled}
 
 -- an event is carried out: the packets that it sends, at most 64, stand behind the others, and the clock is this one

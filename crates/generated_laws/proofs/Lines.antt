@@ -13,9 +13,9 @@ use Rattle.homa_plain.specs.World.{World, SentPacket}
 use Rattle.homa_plain.specs.Replay.{Happening, carried, events_of}
 use Rattle.generated_runs.specs.Fabric.{destination}
 use Rattle.generated_runs.specs.Rounds.{Generated, all_sent, with_line}
+use Rattle.generated_runs.proofs.Carried.{joined}
 use Rattle.step_laws.proofs.Places.{all-append}
 use Rattle.generated_laws.specs.Unrefused.{IsRunLine}
-use Rattle.generated_laws.proofs.Carried.{joined}
 use Rattle.generated_laws.proofs.Peopled.{IsPeopled}
 use Rattle.generated_laws.proofs.Events.{HasRun}
 use Rattle.generated_laws.proofs.Ways.{AreWays, HasEntered, new_entered}

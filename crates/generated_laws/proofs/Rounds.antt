@@ -19,6 +19,9 @@ use Rattle.homa_plain.specs.World.{World, SentPacket, host_at, last_tick}
 use Rattle.generated_runs.specs.Draws.{Traffic, draw, sized, next_traffic}
 use Rattle.generated_runs.specs.Fabric.{Destination, Handed, idle, destination, refilled}
 use Rattle.generated_runs.specs.Rounds.{Generated, with_line, host_round, hosts_round, most_handed, live_at, with_call, calls_round, calls_a_round, round_begun, next_round}
+use Rattle.generated_runs.proofs.Going.{handed_to, after_handed, by_number, host_step, host_none, hosts_step, hosts_none}
+use Rattle.generated_runs.proofs.Going.{by_left, calls_step, calls_none, round_is}
+use Rattle.generated_runs.proofs.Counting.{length-counting}
 use Rattle.trace_induction.proofs.Hosts.{length-set, within}
 use Rattle.generated_laws.specs.Unrefused.{IsRunLine}
 use Rattle.generated_laws.proofs.Listed.{set_at, set_here, map_at, there_is, get_front}
@@ -26,8 +29,6 @@ use Rattle.generated_laws.proofs.Peopled.{calls_more}
 use Rattle.generated_laws.proofs.Events.{IsDeliverable, one_run, tick_run, most_turns, turns_within, delivery_happens, call_happens}
 use Rattle.generated_laws.proofs.Ways.{IsWay, AreWays, idle_way}
 use Rattle.generated_laws.proofs.Handing.{pending, left_to, IsHanded, next_handed}
-use Rattle.generated_laws.proofs.Going.{handed_to, after_handed, by_number, host_step, host_none, hosts_step, hosts_none}
-use Rattle.generated_laws.proofs.Going.{by_left, calls_step, calls_none, round_is}
 use Rattle.generated_laws.proofs.Lines.{IsSound, line_taken}
 
 -- settings of a run
@@ -216,10 +217,6 @@ is_traffic hosts random two =
       some = size.0;
       long = size.1;
     }
-
-pub length-counting : (i n : ℕ) → length (counting i n) ≡ n
-length-counting i zero = refl
-length-counting i (suc n) = ap suc (length-counting (suc i) n)
 
 module _ (s : Settings) (fit : IsFit s) (first : World) (calls clock : ℕ) (most : calls ≤ 4294967295) where
   call_calm : (g : Generated) (t : Traffic) → IsTraffic s.hosts t → (g.left ≡ 0 → ⊥) → IsCalm s first calls clock g

@@ -10,13 +10,14 @@ use Rattle.generated_runs.specs.Draws.{seeded}
 use Rattle.generated_runs.specs.Fabric.{Destination, idle, destination, new_fabric}
 use Rattle.generated_runs.specs.Rounds.{Generated, first_generated, next_round, is_over, rounds}
 use Rattle.generated_runs.specs.Generated.{generated_settings, most_rounds, generated}
+use Rattle.generated_runs.proofs.Carried.{no_event}
+use Rattle.generated_runs.proofs.Going.{by_end, rounds_step, rounds_none}
 use Rattle.generated_laws.specs.Unrefused.{first_world, IsUnrefused}
 use Rattle.generated_laws.proofs.Listed.{replicated}
-use Rattle.generated_laws.proofs.Carried.{no_event, replayed_whole}
+use Rattle.generated_laws.proofs.Carried.{replayed_whole}
 use Rattle.generated_laws.proofs.Peopled.{first_peopled}
 use Rattle.generated_laws.proofs.Ways.{IsWay, idle_way}
 use Rattle.generated_laws.proofs.Lines.{IsTaken, IsSound}
-use Rattle.generated_laws.proofs.Going.{by_end, rounds_step, rounds_none}
 use Rattle.generated_laws.proofs.Rounds.{IsFit, IsCalm, round_calm}
 
 -- ---- the rounds

@@ -1,1 +1,4 @@
+pub mod Carried
+pub mod Counting
+pub mod Going
 pub mod Worked

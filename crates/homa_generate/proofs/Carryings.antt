@@ -1,7 +1,8 @@
 -- Events that are carried out one after the other.
-use Rattle.std.proofs.Common.{Bool, true, false, ◌≡◌, ℕ, is_none, None, Some, List, [], ◌∷◌, ◌++◌, refl, sym, ap, ◌∙◌, subst, append_assoc}
+use Rattle.std.proofs.Common.{Bool, true, false, ◌≡◌, ℕ, is_none, Option, None, Some, List, [], ◌∷◌, ◌++◌, refl, sym, ap, ◌∙◌, subst, append_assoc}
 use Rattle.std.proofs.lemmas.List.{append-nil}
 use Rattle.homa_plain.specs.declared.settings.Settings.{Settings}
+use Rattle.homa_plain.specs.declared.fault.LineFault.{LineFault}
 use Rattle.homa_plain.specs.declared.fault.LineFault.TheVariants.{World as ByWorld}
 use Rattle.homa_plain.specs.declared.fault.WorldFault.{WorldFault}
 use Rattle.homa_plain.specs.Entries.{PlainEntry}
@@ -11,44 +12,17 @@ use Rattle.homa_plain.specs.Replay.{Happening, Run, after_event, carried}
 use Rattle.homa_plain.specs.Answers.{shown, answering}
 use Rattle.homa_replay.specs.Playing.{IsApplied, IsNotApplied, is_memory}
 use Rattle.homa_replay.proofs.Streams.{shown_parts}
+use Rattle.generated_runs.proofs.Carried.{by_outcome, first_event, no_event, IsJoined, joined}
 use Rattle.homa_generate.specs.Counts.{counted}
 use Rattle.homa_generate.specs.Carried.{IsCarried}
 use Rattle.homa_generate.proofs.CountLaws.{counted-append}
 
--- what is carried, by the outcome of the first event
-abbrev pub by_outcome : Settings → World → List Happening → Outcome → Run
-by_outcome s w es (Refused fault) = record { world = w; told = []; count = 0; fault = Some (ByWorld fault) }
-by_outcome s w es (Done after) = after_event after.told (carried s after.world es)
-
-pub first_event : (s : Settings) (w : World) (e : Happening) (es : List Happening) → carried s w (e ∷ es) ≡ by_outcome s w es (outcome s w e.event e.bytes)
-unfolding carried
-first_event s w e es = refl
-
-pub no_event : (s : Settings) (w : World) → carried s w [] ≡ record { world = w; told = []; count = 0; fault = None }
-unfolding carried
-no_event s w = refl
-
--- what is carried in two parts, but for the number of events
-pub record IsJoined (whole a b : Run) : Type 0 where
-  pub world : whole.world ≡ b.world
-  pub told : whole.told ≡ a.told ++ b.told
-  pub fault : whole.fault ≡ b.fault
-
 abbrev is_done : Run → Bool
 is_done r = is_none r.fault
 
--- the first part is done
-joined_first : (s : Settings) (w : World) (a b : List Happening) (o : Outcome) → ((v : World) → is_done (carried s v a) ≡ true → IsJoined (carried s v (a ++ b)) (carried s v a) (carried s (carried s v a).world b))
-    → is_done (by_outcome s w a o) ≡ true → IsJoined (by_outcome s w (a ++ b) o) (by_outcome s w a o) (carried s (by_outcome s w a o).world b)
-joined_first s w a b (Refused fault) next done = cc
-joined_first s w a b (Done after) next done =
-    let rest = next after.world done in
-    record { world = rest.world; told = ap (λ (l : List PlainEntry). after.told ++ l) rest.told ∙ sym (append_assoc after.told (carried s after.world a).told (carried s (carried s after.world a).world b).told); fault = rest.fault }
-
-pub carried_parts : (s : Settings) (w : World) (a b : List Happening) → is_done (carried s w a) ≡ true → IsJoined (carried s w (a ++ b)) (carried s w a) (carried s (carried s w a).world b)
-carried_parts s w [] b done = rw (no_event s w) (record { world = refl; told = refl; fault = refl })
-carried_parts s w (e ∷ a) b done =
-    rw (first_event s w e (a ++ b), first_event s w e a) (joined_first s w a b (outcome s w e.event e.bytes) (λ v h. carried_parts s v a b h) (rw (sym (first_event s w e a)) done))
+no_fault : (o : Option LineFault) → is_none o ≡ true → o ≡ None
+no_fault None e = refl
+no_fault (Some fault) e = cc
 
 -- the first part is refused
 stopped_first : (s : Settings) (w : World) (a b : List Happening) (o : Outcome) → ((v : World) → is_done (carried s v a) ≡ false → carried s v (a ++ b) ≡ carried s v a)
@@ -122,7 +96,7 @@ pub more_carried : (s : Settings) (w : World) (a b : List Happening) (st su : Wo
 more_carried s w a b st su old mid new p q r done first next =
     let second = next first.next first.stood in
     let parts : (later : List Answer) → IsJoined (carried s (answering (shown (first.told ++ second.told) ++ later) w) (a ++ b)) (carried s (answering (shown first.told ++ (shown second.told ++ later)) w) a) (carried s (answering (shown second.told ++ later) first.next) b) =
-    λ later. rw (shown_parts first.told second.told later, ← (first.world (shown second.told ++ later))) (carried_parts s (answering (shown first.told ++ (shown second.told ++ later)) w) a b (first.ends (shown second.told ++ later))) in
+    λ later. rw (shown_parts first.told second.told later, ← (first.world (shown second.told ++ later))) (joined s (answering (shown first.told ++ (shown second.told ++ later)) w) a b (no_fault _ (first.ends (shown second.told ++ later)))) in
     record {
       next = second.next;
       stood = second.stood;

@@ -1,6 +1,8 @@
 -- Packets that enter the fabric one after the other.
-use Rattle.std.proofs.Common.{◌≡◌, ℕ, zero, suc, ◌+◌, ◌≤◌, ◌<◌, None, Some, List, [], ◌∷◌, drop, length, refl, sym, ap, ◌∙◌, arith}
+use Rattle.std.proofs.Common.{◌≡◌, ℕ, suc, ◌+◌, ◌≤◌, ◌<◌, None, Some, List, ◌∷◌, inl, inr, drop, length, refl, sym, ap, ◌∙◌, arith}
 use Rattle.std.specs.List.{slice_get}
+use Rattle.std.proofs.Math.Seq.{drop-cons}
+use Rattle.std.proofs.lemmas.Option.{slice_get_cases, slice_get_within, get_or_from_slice_get}
 use Rattle.homa_plain.specs.declared.settings.Settings.{Settings}
 use Rattle.homa_plain.specs.Packets.{receiver, datagram}
 use Rattle.homa_plain.specs.World.{World, SentPacket}
@@ -11,9 +13,7 @@ use Rattle.homa_world.specs.Passing.{IsPassing, IsOf}
 use Rattle.homa_generate.specs.Generating.{AreNew}
 
 drop_at : {X : Type 0} (xs : List X) (n : ℕ) (x : X) → slice_get xs n ≡ Some x → drop n xs ≡ x ∷ drop (suc n) xs
-drop_at [] n x is = cc
-drop_at (y ∷ ys) zero x is = cc
-drop_at (y ∷ ys) (suc n) x is = drop_at ys n x is
+drop_at {X} xs n x is = drop-cons xs n x (slice_get_within xs n x is) ∙ ap (λ (y : X). y ∷ drop (suc n) xs) (get_or_from_slice_get xs n x x is)
 
 -- the next one
 pub entered_next : (s : Settings) (packets : List SentPacket) (n : ℕ) (x : SentPacket) (p : Passing) (f g : Fabric) → slice_get packets n ≡ Some x → IsPassing s x p → g ≡ sent f p.to.0 p.level (record { number = n; size = p.len; tick = p.tick })
@@ -27,9 +27,7 @@ entered_next s packets n x p f g is passing entered =
 -- each packet that is new is shown
 pub all_shown : (s : Settings) (w : World) (first n : ℕ) → AreNew s w first → first ≤ n → n < length w.packets → IsOf s w n None → ⊥
 all_shown s w first n new from there none =
-    let x = is_there w.packets n there in
-    omega (arith, none x.0 x.1 new.version, new.now n x.0 from x.1) where
-      is_there : (xs : List SentPacket) (n : ℕ) → n < length xs → (x : SentPacket) × (slice_get xs n ≡ Some x)
-      is_there [] n h = absurd (omega (arith, h))
-      is_there (x ∷ xs) zero h = (x, refl)
-      is_there (x ∷ xs) (suc n) h = is_there xs n (omega (arith, h))
+    elim (slice_get_cases w.packets n).1 [
+      | inl x ↦ omega (arith, none x.0 x.2 new.version, new.now n x.0 from x.2)
+      | inr past ↦ omega (arith, there, past.0)
+    ]

@@ -1,37 +1,19 @@
 -- Each part of a round adds lines alone.
-use Rattle.std.proofs.Common.{◌≡◌, ℕ, zero, suc, Bool, true, false, if◌then◌else◌, nat_le, ◌==◌, ◌+◌, ◌-◌, Option, None, Some, [], ◌∷◌, refl}
+use Rattle.std.proofs.Common.{ℕ, zero, suc, Bool, true, false, if◌then◌else◌, nat_le, ◌==◌, ◌+◌, ◌-◌, Option, None, Some, [], ◌∷◌, refl}
 use Rattle.homa_plain.specs.declared.settings.Settings.{Settings}
 use Rattle.homa_plain.specs.declared.event.Event.TheVariants as event
 use Rattle.homa_plain.specs.Script.{Given, GivenEvent, GivenTicks, counting}
 use Rattle.homa_plain.specs.World.{host_at}
 use Rattle.homa_plain.specs.Replay.{carried, events_of}
 use Rattle.generated_runs.specs.Draws.{next_traffic}
-use Rattle.generated_runs.specs.Fabric.{Handed, destination, next_of, after_next}
 use Rattle.generated_runs.specs.Rounds.{Generated, with_line, host_round, hosts_round, most_handed, live_at, calls_round, calls_a_round, round_begun, next_round, is_over, rounds}
+use Rattle.generated_runs.proofs.Going.{handed_to, after_handed, by_number, host_step, host_none, hosts_step, hosts_none}
+use Rattle.generated_runs.proofs.Going.{by_left, calls_step, calls_none, round_is, by_end, rounds_step, rounds_none}
 use Rattle.homa_generate.specs.Steps.{one_call}
 use Rattle.homa_generate.proofs.Goings.{IsLonger, Extends, longer_self, longer_on}
 
 pub line_extends : (s : Settings) (line : Given) → Extends (with_line s line)
 line_extends s line g = record { more = line ∷ []; has = refl; further = (carried s g.world (events_of s.hosts line)).told; tells = refl }
-
--- what a host is handed next, by number
-abbrev pub by_number : ℕ → Settings → ℕ → Generated → Option ℕ → Generated
-by_number n s to after None = after
-by_number n s to after (Some number) = host_round n s to (with_line s (GivenEvent (event.Deliver number) []) after)
-
-abbrev pub next_handed : Settings → ℕ → Generated → Handed
-next_handed s to g = next_of s.life g.world.clock (destination g.fabric to) g.fabric.random
-
-abbrev pub after_handed : Settings → ℕ → Generated → Generated
-after_handed s to g = record g { fabric = after_next g.fabric to (next_handed s to g) }
-
-pub host_step : (n : ℕ) (s : Settings) (to : ℕ) (g : Generated) → host_round (suc n) s to g ≡ by_number n s to (after_handed s to g) (next_handed s to g).number
-unfolding host_round
-host_step n s to g = refl
-
-pub host_none : (s : Settings) (to : ℕ) (g : Generated) → host_round zero s to g ≡ g
-unfolding host_round
-host_none s to g = refl
 
 number_extends : (n : ℕ) (s : Settings) (to : ℕ) (after : Generated) (number : Option ℕ) → Extends (host_round n s to)
     → IsLonger after.lines after.told (by_number n s to after number).lines (by_number n s to after number).told
@@ -42,15 +24,7 @@ number_extends n s to after (Some number) rest =
 
 pub host_extends : (n : ℕ) (s : Settings) (to : ℕ) → Extends (host_round n s to)
 host_extends zero s to g = rw (host_none s to g) (longer_self g.lines g.told)
-host_extends (suc n) s to g = rw (host_step n s to g) (number_extends n s to (after_handed s to g) (next_handed s to g).number (host_extends n s to))
-
-pub hosts_step : (s : Settings) (to n : ℕ) (g : Generated) → hosts_round s to (suc n) g ≡ hosts_round s (suc to) n (host_round most_handed s to g)
-unfolding hosts_round
-hosts_step s to n g = refl
-
-pub hosts_none : (s : Settings) (to : ℕ) (g : Generated) → hosts_round s to zero g ≡ g
-unfolding hosts_round
-hosts_none s to g = refl
+host_extends (suc n) s to g = rw (host_step n s to g) (number_extends n s to (after_handed s to g) (handed_to s to g).number (host_extends n s to))
 
 pub hosts_extend : (s : Settings) (to n : ℕ) → Extends (hosts_round s to n)
 hosts_extend s to zero g = rw (hosts_none s to g) (longer_self g.lines g.told)
@@ -69,22 +43,6 @@ call_extends s g =
     let t = next_traffic s.hosts g.fabric.random in
     call_by s (GivenEvent (event.Call t.0.client t.0.server t.0.service) (counting 0 t.0.size)) (record g { fabric = record g.fabric { random = t.1 }; made = g.made + 1; left = g.left - 1 }) (nat_le s.calls (live_at (host_at g.world t.0.client)))
 
-abbrev pub by_left : ℕ → Settings → Generated → Bool → Generated
-by_left n s g true = g
-by_left n s g false = calls_round n s (one_call s g)
-
-pub calls_step : (n : ℕ) (s : Settings) (g : Generated) → calls_round (suc n) s g ≡ by_left n s g (g.left == 0)
-unfolding calls_round
-calls_step n s g = by_test (g.left == 0)
-  where
-    by_test : (none : Bool) → (if none then g else calls_round n s (one_call s g)) ≡ by_left n s g none
-    by_test true = refl
-    by_test false = refl
-
-pub calls_none : (s : Settings) (g : Generated) → calls_round zero s g ≡ g
-unfolding calls_round
-calls_none s g = refl
-
 left_extends : (n : ℕ) (s : Settings) (g : Generated) (none : Bool) → Extends (calls_round n s)
     → IsLonger g.lines g.told (by_left n s g none).lines (by_left n s g none).told
 left_extends n s g true rest = longer_self g.lines g.told
@@ -94,14 +52,6 @@ pub calls_extend : (n : ℕ) (s : Settings) → Extends (calls_round n s)
 calls_extend zero s g = rw (calls_none s g) (longer_self g.lines g.told)
 calls_extend (suc n) s g = rw (calls_step n s g) (left_extends n s g (g.left == 0) (calls_extend n s))
 
--- a round, in its order
-abbrev pub in_round : Settings → Generated → Generated
-in_round s g = calls_round calls_a_round s (hosts_round s 0 s.hosts (round_begun (with_line s (GivenTicks 1) g)))
-
-pub round_is : (s : Settings) (g : Generated) → next_round s g ≡ in_round s g
-unfolding next_round
-round_is s g = refl
-
 pub round_extends : (s : Settings) → Extends (next_round s)
 round_extends s g =
     let ticked = with_line s (GivenTicks 1) g in
@@ -110,23 +60,6 @@ round_extends s g =
     (longer_on g.lines ticked.lines _ g.told ticked.told _ (line_extends s (GivenTicks 1) g)
     (longer_on ticked.lines handed.lines _ ticked.told handed.told _ (hosts_extend s 0 s.hosts (round_begun ticked))
     (calls_extend calls_a_round s handed)))
-
--- rounds, by whether the run is over
-abbrev pub by_end : ℕ → Settings → Generated → Bool → Generated
-by_end n s after true = after
-by_end n s after false = rounds n s after
-
-pub rounds_step : (n : ℕ) (s : Settings) (g : Generated) → rounds (suc n) s g ≡ by_end n s (next_round s g) (is_over (next_round s g))
-unfolding rounds
-rounds_step n s g = by_test (is_over (next_round s g))
-  where
-    by_test : (over : Bool) → (if over then next_round s g else rounds n s (next_round s g)) ≡ by_end n s (next_round s g) over
-    by_test true = refl
-    by_test false = refl
-
-pub rounds_none : (s : Settings) (g : Generated) → rounds zero s g ≡ g
-unfolding rounds
-rounds_none s g = refl
 
 pub end_extends : (n : ℕ) (s : Settings) (after : Generated) (over : Bool) → Extends (rounds n s)
     → IsLonger after.lines after.told (by_end n s after over).lines (by_end n s after over).told

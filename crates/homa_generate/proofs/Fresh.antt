@@ -16,7 +16,7 @@ use Rattle.homa_plain.specs.Script.{Given, GivenEvent, GivenTicks}
 use Rattle.homa_plain.specs.Steps.{Work, start_fault, call_step, arrival_step, turn_step}
 use Rattle.homa_plain.specs.World.{World, SentPacket, Outcome, Refused, Done, outcome, stamped, stepped, started, calls_from, arrives_at, is_late, delivered, last_tick, turns, host_at, own_clock, next_answer}
 use Rattle.homa_plain.specs.Replay.{Happening, bare, turns_of, ticks, events_of, carried}
-use Rattle.homa_generate.proofs.Carryings.{by_outcome, first_event, no_event}
+use Rattle.generated_runs.proofs.Carried.{by_outcome, first_event, no_event}
 use Rattle.homa_generate.proofs.LineLaws.{one_tick}
 
 -- packets were sent at the clock's tick, and the clock stands

@@ -8,9 +8,9 @@ use Rattle.homa_plain.specs.Script.{GivenEvent}
 use Rattle.homa_plain.specs.World.{World}
 use Rattle.generated_runs.specs.Fabric.{Fabric, Handed, destination, next_of, after_next}
 use Rattle.generated_runs.specs.Rounds.{Generated, with_line, host_round}
+use Rattle.generated_runs.proofs.Going.{handed_to, after_handed, by_number, host_step, host_none}
 use Rattle.homa_generate.specs.Going.{answered, Holds, IsAt, HasGone}
 use Rattle.homa_generate.proofs.Goings.{gone_on, gone_beside, gone_as}
-use Rattle.homa_generate.proofs.Extending.{by_number, next_handed, after_handed, host_step, host_none}
 
 abbrev pub deliver : ℕ → Settings → Generated → Generated
 deliver number s = with_line s (GivenEvent (event.Deliver number) [])
@@ -18,7 +18,7 @@ deliver number s = with_line s (GivenEvent (event.Deliver number) [])
 module _ (s : Settings) (to n k : ℕ) (all : Generated → Generated) (g : Generated) (a b c : Holds) (st : World → Type 0) (p q : List PlainEntry → Type 0) (first : HasGone all (host_round n s to) g a b st p q)
     (life now : ℕ) (n_is : n ≡ suc k) (life_is : life ≡ s.life) (now_is : now ≡ first.next.world.clock) (handed : c.fabric ≡ after_next b.fabric to (next_of life now (destination b.fabric to) b.fabric.random))
     (left : c.left ≡ b.left) (counts : c.counts ≡ b.counts) (taken : c.taken ≡ b.taken) where
-  same_handed : next_of life now (destination b.fabric to) b.fabric.random ≡ next_handed s to first.next
+  same_handed : next_of life now (destination b.fabric to) b.fabric.random ≡ handed_to s to first.next
   same_handed = ap (λ (f : Fabric). next_of life now (destination f to) f.random) first.stood.fabric
       ∙ ap (λ (l : ℕ). next_of l now (destination first.next.fabric to) first.next.fabric.random) life_is
       ∙ ap (λ (t : ℕ). next_of s.life t (destination first.next.fabric to) first.next.fabric.random) now_is
@@ -26,7 +26,7 @@ module _ (s : Settings) (to n k : ℕ) (all : Generated → Generated) (g : Gene
   stood_after : IsAt c st (after_handed s to first.next)
   stood_after = record {
     world = first.stood.world;
-    fabric = handed ∙ ap (after_next b.fabric to) same_handed ∙ ap (λ (f : Fabric). after_next f to (next_handed s to first.next)) first.stood.fabric;
+    fabric = handed ∙ ap (after_next b.fabric to) same_handed ∙ ap (λ (f : Fabric). after_next f to (handed_to s to first.next)) first.stood.fabric;
     left = left ∙ first.stood.left;
   }
 

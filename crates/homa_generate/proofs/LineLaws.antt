@@ -1,5 +1,5 @@
 -- The lines of a generated schedule.
-use Rattle.std.proofs.Common.{◌≡◌, ◌≤◌, ℕ, zero, suc, ◌%◌, List, [], ◌∷◌, ◌++◌, length, take, refl, ap, arith}
+use Rattle.std.proofs.Common.{◌≡◌, ◌≤◌, ℕ, zero, suc, ◌%◌, List, [], ◌∷◌, ◌++◌, take, refl, ap, arith}
 use Rattle.std.proofs.lemmas.List.{append-nil}
 use Rattle.homa_plain.specs.declared.event.Event.TheVariants as event
 use Rattle.homa_plain.specs.Script.{counting}
@@ -8,11 +8,7 @@ use Rattle.homa_plain.specs.Replay.{Happening, turns_of, ticks, bare}
 pub one_tick : (hosts : ℕ) → ticks hosts 1 ≡ bare event.Clock ∷ [] ++ turns_of 0 hosts
 one_tick hosts = ap (λ (es : List Happening). bare event.Clock ∷ es) (append-nil (turns_of 0 hosts))
 
--- counting bytes: how many, and a front of them
-pub length-counting : (i n : ℕ) → length (counting i n) ≡ n
-length-counting i zero = refl
-length-counting i (suc n) = ap suc (length-counting (suc i) n)
-
+-- a front of counting bytes
 pub take-counting : (i n m : ℕ) → n ≤ m → take n (counting i m) ≡ counting i n
 take-counting i zero m few = refl
 take-counting i (suc n) zero few = absurd (omega arith)

@@ -10,10 +10,11 @@ use Rattle.rand_pcg.specs.Lcg.{Lcg}
 use Rattle.generated_runs.specs.Draws.{Traffic, next_traffic}
 use Rattle.generated_runs.specs.Fabric.{Destination, Fabric, refilled}
 use Rattle.generated_runs.specs.Rounds.{Generated, with_line, live_at, with_call, host_round, hosts_round, most_handed, calls_round, round_begun, next_round, is_over, rounds}
+use Rattle.generated_runs.proofs.Going.{hosts_step, hosts_none, by_left, calls_step, calls_none, round_is, by_end, rounds_step, rounds_none}
 use Rattle.homa_generate.specs.Going.{answered, Holds, IsAt, HasGone}
 use Rattle.homa_generate.specs.Steps.{one_call}
 use Rattle.homa_generate.proofs.Goings.{gone_on, gone_beside, gone_as}
-use Rattle.homa_generate.proofs.Extending.{hosts_step, hosts_none, by_left, calls_step, calls_none, round_is, by_end, rounds_step, rounds_none, after_begun, after_tick}
+use Rattle.homa_generate.proofs.Extending.{after_begun, after_tick}
 
 module _ (s : Settings) (all : Generated → Generated) (g : Generated) (a b : Holds) (st : World → Type 0) (p q : List PlainEntry → Type 0) where
   -- the next host

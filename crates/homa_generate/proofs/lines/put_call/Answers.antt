@@ -1,7 +1,7 @@
 -- The request is written by its length.
 use Rattle.std.proofs.Common.{◌≡◌, ◌∙◌, ◌∷◌}
 use Rattle.std.specs.Fmt.{decimal}
-use Rattle.homa_generate.proofs.LineLaws.{length-counting}
+use Rattle.generated_runs.proofs.Counting.{length-counting}
 use Rattle.homa_generate.proofs.lines.put_call.Goals as goal
 
 pub returns : goal.returns

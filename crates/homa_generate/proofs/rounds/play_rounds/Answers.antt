@@ -3,9 +3,10 @@ use Rattle.std.proofs.Common.{◌*◌, ◌≡◌, ◌∙◌, ◌+◌, ◌-◌, s
 use Rattle.std.proofs.lemmas.Result.{MatchResult-from_err}
 use Rattle.generated_runs.specs.Rounds.{next_round, is_over}
 use Rattle.generated_runs.specs.Generated.{most_rounds}
+use Rattle.generated_runs.proofs.Going.{by_end}
 use Rattle.homa_generate.proofs.Goings.{gone_none, then_gone, then_stopped}
 use Rattle.homa_generate.proofs.Steadiness.{steady_none, steady_on}
-use Rattle.homa_generate.proofs.Extending.{by_end, end_extends, round_extends, rounds_extend}
+use Rattle.homa_generate.proofs.Extending.{end_extends, round_extends, rounds_extend}
 use Rattle.homa_generate.proofs.MoreRounds.{next_rounds, run_over, run_on, rounds_spent}
 use Rattle.homa_generate.proofs.rounds.play_rounds.Goals as goal
 
