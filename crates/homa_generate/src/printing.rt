@@ -1,6 +1,5 @@
 //! The schedule of a generated run, and its summary.
-ghost use Rattle.std.specs.Prelude.{◌≡◌, ◌≤◌, OnOk, OnErr, IfOk, IsErrOf};
-ghost use Rattle.homa_io.specs.Outside.{HasRisen, appended};
+ghost use Rattle.std.specs.Prelude.{◌≡◌, OnOk, OnErr, IfOk};
 ghost use Rattle.generated_runs.specs.Generated.{generated_settings, schedule_text, summary_text};
 ghost use Rattle.homa_generate.specs.Progress.{IsHeard, IsFaulted};
 ghost use Rattle.homa_generate.specs.Made.{run_of, HasRun, IsMade, IsPartMade};

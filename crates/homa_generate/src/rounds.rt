@@ -1,7 +1,5 @@
 //! The rounds of a run.
-ghost use Rattle.std.specs.Prelude.{◌≡◌, ◌≤◌, ◌<◌, ◌+◌, ◌*◌, ◌^◌, length, OnOk, OnErr, IsErrOf};
-ghost use Rattle.homa_io.specs.Outside.{HasRisen};
-ghost use Rattle.homa_plain.specs.World.{World};
+ghost use Rattle.std.specs.Prelude.{◌≡◌, ◌<◌, OnOk, OnErr};
 ghost use Rattle.generated_runs.specs.Rounds.{Generated, host_round, hosts_round, calls_round, next_round, rounds, is_over, most_handed, calls_a_round};
 ghost use Rattle.generated_runs.specs.Generated.{most_rounds};
 ghost use Rattle.homa_generate.specs.Progress.{holds_of, IsHeard, IsReady, IsSteady, IsFaulted};

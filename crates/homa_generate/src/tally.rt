@@ -1,6 +1,5 @@
 //! How many lines of each kind a trace has.
 ghost use Rattle.std.specs.Prelude.{◌≡◌, ◌<◌, OnOk, OnErr};
-ghost use Rattle.std.specs.List.{flat_map};
 ghost use Rattle.homa_io.specs.Writing.{IsWritten};
 ghost use Rattle.homa_generate.specs.Counts.{IsFullOf, name, place, one_more, no_counts, counts_text};
 

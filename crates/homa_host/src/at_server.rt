@@ -1,5 +1,5 @@
 // The moves of the calls that a host serves.
-ghost use Rattle.std.specs.Prelude.{◌≡◌, ◌≢◌, ℕ, Option, None, ◌+◌, ◌<◌, ◌≤◌, ◌^◌, true, Some, [], List, OnOk, OnErr, IsSome, IsSomeAnd, Contains};
+ghost use Rattle.std.specs.Prelude.{◌≡◌, ◌≢◌, ℕ, Option, None, ◌+◌, ◌<◌, ◌≤◌, ◌^◌, Some, [], List, OnOk, OnErr, IsSome, IsSomeAnd, Contains};
 ghost use Rattle.std.specs.Prelude.{if◌then◌else◌};
 ghost use Rattle.std.specs.List.{AllByRecursion};
 ghost use Rattle.std.specs.Option.{option_map};
@@ -13,7 +13,7 @@ ghost use Rattle.homa_plain.specs.Rules.{Answer, Moment};
 ghost use Rattle.homa_plain.specs.AtServer.{server_acked};
 ghost use Rattle.homa_plain.specs.Timers.{OfServer, server_deadline};
 ghost use Rattle.homa_plain.specs.Sending.{Arriving, arrivals};
-ghost use Rattle.homa_plain.specs.Steps.{Work, begun, hears_cutoffs, comes_to_row, acts_at, served, moment, has_run};
+ghost use Rattle.homa_plain.specs.Steps.{Work, begun, hears_cutoffs, comes_to_row, acts_at, served, moment};
 ghost use Rattle.msg_pool.specs.Pool.{Pool};
 ghost use Rattle.host_incoming.specs.Pieces.{piece_in};
 ghost use Rattle.host_places.specs.Placed.{StandsAt, spot_at};

@@ -1,5 +1,5 @@
 // The parts of a host, and the moves of its steps beside those of one row.
-ghost use Rattle.std.specs.Prelude.{◌≡◌, ◌≢◌, ℕ, ◌+◌, ◌<◌, ◌≤◌, ◌^◌, true, Some, None, [], List, length, IfOk, IfErr, IfSome, OnOk, OnErr, IsSome};
+ghost use Rattle.std.specs.Prelude.{◌≡◌, ◌≢◌, ℕ, ◌+◌, ◌<◌, ◌≤◌, ◌^◌, Some, None, [], List, length, IfOk, IfErr, OnOk, OnErr, IsSome};
 ghost use Rattle.std.specs.Prelude.{if◌then◌else◌};
 ghost use Rattle.std.specs.List.{AllByRecursion};
 ghost use Rattle.plain_sets.specs.Maps.{empty};
@@ -10,17 +10,11 @@ ghost use Rattle.homa_plain.specs.Wire.{IsWellFormed, IsCall};
 ghost use Rattle.homa_plain.specs.Packets.{Packet as PlainPacket, acks, calls_of, packet_between};
 ghost use Rattle.homa_plain.specs.Host.{new_host};
 ghost use Rattle.homa_plain.specs.Rules.{Answer};
-ghost use Rattle.homa_plain.specs.Steps.{Work, begun, starts, comes, acked, is_stale, start_fault, next_id, has_run};
-ghost use Rattle.msg_pool.specs.Pool.{Pool};
-ghost use Rattle.host_incoming.specs.Pooled.{IsInPool, AreIn};
-ghost use Rattle.host_places.specs.Placed.{StandsAt, spot_at};
-ghost use Rattle.homa_client.specs.Held.{HeldRow, seen_row};
-ghost use Rattle.homa_server.specs.Held.{HeldServer, seen_server};
-ghost use Rattle.homa_server.specs.Table.{request_at};
+ghost use Rattle.homa_plain.specs.Steps.{Work, begun, starts, comes, acked, is_stale, start_fault, next_id};
+ghost use Rattle.host_places.specs.Placed.{spot_at};
 ghost use Rattle.host_view.specs.Marks.{has_ran, response_of, IsReply, IsAllowed, IsWhole};
 ghost use Rattle.host_view.specs.Done.{arriving};
 ghost use Rattle.host_books.specs.Duties.{HaveRoom};
-ghost use Rattle.host_book_laws.specs.Duty.{client_duty, server_duty};
 ghost use Rattle.homa_host.specs.Parts.{host_of, seen_of, IsKept};
 ghost use Rattle.homa_host.specs.Asking.{HasAsked};
 ghost use Rattle.homa_host.specs.Amid.{Amid, Steady, HasRoom, IsBegun, HasCome};
