@@ -1,5 +1,6 @@
 -- With two answers a step is the same up to its `run` line, and there the one answer stands or the other.
-use Rattle.std.proofs.Common.{◌≡◌, ℕ, ◌+◌, ◌-◌, Bool, true, false, not, cond, Option, Some, None, List, [], ◌∷◌, ◌++◌, length, refl, sym, ap, subst, ◌∙◌, arith, append_assoc, ◌⊎◌, inl, inr}
+use Rattle.std.proofs.Common.{◌≡◌, ℕ, ◌+◌, ◌-◌, Bool, true, false, not, cond, Option, Some, None, List, [], ◌∷◌, ◌++◌, length, refl, sym, ap, subst}
+use Rattle.std.proofs.Common.{◌∙◌, arith, append_assoc, ◌⊎◌, inl, inr}
 use Rattle.std.specs.Prelude.{◌==◌, ◌||◌, nat_lt, nat_le}
 use Rattle.std.proofs.lemmas.Bool.{cond_both}
 use Rattle.plain_sets.specs.Maps.{get}
@@ -18,7 +19,8 @@ use Rattle.homa_plain.specs.Rows.{ServerRow, State, Receiving, Held, Replying, B
 use Rattle.homa_plain.specs.Host.{Host, pages_for, tuned, peer_cutoffs, Told, Says, packets_in}
 use Rattle.homa_plain.specs.Rules.{Moment, Answer, Piece, Tells, Did, leaves, opening, version_of}
 use Rattle.homa_plain.specs.AtServer.{runs, piece_added, piece_comes, opens, piece_of, unknown_gets, receiving_gets, row_gets, server_gets}
-use Rattle.homa_plain.specs.Steps.{Work, begun, now_of, moment, said, served, comes_to_row, acked, takes, is_stale, is_newer, comes, tells, posts, notes, tells_cutoffs, gives_grants, ended, arrival_step, hears_cutoffs}
+use Rattle.homa_plain.specs.Steps.{Work, begun, now_of, moment, said, served, comes_to_row, acked, takes, is_stale, is_newer, comes, tells, posts}
+use Rattle.homa_plain.specs.Steps.{notes, tells_cutoffs, gives_grants, ended, arrival_step, hears_cutoffs}
 use Rattle.step_laws.specs.StepLaws.{run_count}
 use Rattle.step_laws.proofs.ToldBy.{run_count-append, Calm, calm_then, one_if_some, notes-calm, tells_cutoffs-calm, hears_cutoffs-calm}
 use Rattle.step_laws.proofs.OneAnswer.{acked-calm}
@@ -41,12 +43,14 @@ abbrev Pair : Answer → Answer → HostId → Did ServerRow → Did ServerRow �
 Pair a b host d e = (d ≡ e) ⊎ Apart a b host d e
 
 -- a choice that doesn't turn on the answer
-pair_if : (a b : Answer) (host : HostId) (c : Bool) (d e d' e' : Did ServerRow) → Pair a b host d d' → Pair a b host e e' → Pair a b host (cond c d e) (cond c d' e')
+pair_if : (a b : Answer) (host : HostId) (c : Bool) (d e d' e' : Did ServerRow) → Pair a b host d d' → Pair a b host e e'
+    → Pair a b host (cond c d e) (cond c d' e')
 pair_if a b host true d e d' e' on off = on
 pair_if a b host false d e d' e' on off = off
 
 module _ (s : Settings) (m : Moment) (id : CallId) where
-  runs_says : (service : ℕ) (request : List ℕ) (a : Answer) (row : ServerRow) (d : Did ServerRow) → (runs s m id service request a row d).says ≡ Tells (PlainRun m.host id service request a.bytes a.hold) ∷ []
+  runs_says : (service : ℕ) (request : List ℕ) (a : Answer) (row : ServerRow) (d : Did ServerRow)
+      → (runs s m id service request a row d).says ≡ Tells (PlainRun m.host id service request a.bytes a.hold) ∷ []
   runs_says service request a row d =
       cond_both (a.hold == 0) _ _ (λ (e : Did ServerRow). e.says ≡ Tells (PlainRun m.host id service request a.bytes a.hold) ∷ []) (λ _. refl) (λ _. refl)
 
@@ -56,7 +60,8 @@ module _ (s : Settings) (m : Moment) (id : CallId) where
   runs_version : (service : ℕ) (request : List ℕ) (a : Answer) (row : ServerRow) (d : Did ServerRow) → (runs s m id service request a row d).version ≡ d.version
   runs_version service request a row d = cond_both (a.hold == 0) _ _ (λ (e : Did ServerRow). e.version ≡ d.version) (λ _. refl) (λ _. refl)
 
-  ran : (service : ℕ) (request : List ℕ) (a b : Answer) (row : ServerRow) (d : Did ServerRow) → Apart a b m.host (runs s m id service request a row d) (runs s m id service request b row d)
+  ran : (service : ℕ) (request : List ℕ) (a b : Answer) (row : ServerRow) (d : Did ServerRow)
+      → Apart a b m.host (runs s m id service request a row d) (runs s m id service request b row d)
   ran service request a b row d = record {
     id = id;
     service = service;
@@ -85,7 +90,8 @@ module _ (s : Settings) (m : Moment) (id : CallId) where
       let part : Incoming = incoming.opened id.client piece.size m.order s.unsched in
       pair_if a b m.host (nat_le s.served m.rows) _ _ _ _ (inl refl)
       (pair_if a b m.host (nat_lt m.free (pages_for piece.size)) _ _ _ _ (inl refl)
-      (comes_piece piece.service part (record { order = m.order; state = Receiving piece.service part m.now 0 }) piece a b (opening piece.size (leaves m None))))
+      (comes_piece piece.service part (record { order = m.order; state = Receiving piece.service part m.now 0 }) piece a b
+      (opening piece.size (leaves m None))))
 
   unknown : (what : Body) (payload : List ℕ) (a b : Answer) → Pair a b m.host (unknown_gets s m id what payload a) (unknown_gets s m id what payload b)
   unknown (body.Data size offset version service ack) payload a b = opened (piece_of size offset version service payload) a b
@@ -131,7 +137,8 @@ abbrev pub Alike : Answer → Answer → HostId → Work → Work → Type 0
 Alike a b host w v = (w ≡ v) ⊎ Parts a b host w.told v.told
 
 -- a move that comes later
-later : (a b : Answer) (host : HostId) (bound : Work → ℕ) (move : Work → Work) → ((w : Work) → Calm (bound w) w (move w)) → (w v : Work) → Alike a b host w v → Alike a b host (move w) (move v)
+later : (a b : Answer) (host : HostId) (bound : Work → ℕ) (move : Work → Work) → ((w : Work) → Calm (bound w) w (move w)) → (w v : Work)
+    → Alike a b host w v → Alike a b host (move w) (move v)
 later a b host bound move calm w v (inl same) = inl (ap move same)
 later a b host bound move calm w v (inr p) =
     let c = calm w in
@@ -168,7 +175,8 @@ module _ (s : Settings) (id : CallId) (w : Work) where
   same_reply None None d e = refl
   same_reply (Some n) None d e = refl
   same_reply None (Some version) d e =
-      same_if (version == w.host.tuning.own.version) (put d) (posts s Server id w.host.id (body.Cutoffs w.host.tuning.own) (put d)) (put e) (posts s Server id w.host.id (body.Cutoffs w.host.tuning.own) (put e)) refl refl
+      same_if (version == w.host.tuning.own.version) (put d) (posts s Server id w.host.id (body.Cutoffs w.host.tuning.own) (put d)) (put e)
+      (posts s Server id w.host.id (body.Cutoffs w.host.tuning.own) (put e)) refl refl
   same_reply (Some n) (Some version) d e =
       let t = tuned s w.host.id w.host.tuning n in
       same_if (version == t.tuning.own.version) (notes s (Some n) (put d)) (posts s Server id w.host.id (body.Cutoffs t.tuning.own) (notes s (Some n) (put d)))
@@ -176,7 +184,8 @@ module _ (s : Settings) (id : CallId) (w : Work) where
 
   reply_quiet : (opened version : Option ℕ) (d : Did ServerRow) → run_count w.told ≡ 0 → run_count (reply opened version d).told ≡ 0
   reply_quiet opened version d none =
-      let c = calm_then 0 (one_if_some version) (put d) (notes s opened (put d)) (reply opened version d) (notes-calm s opened (put d)) (tells_cutoffs-calm s Server id w.host.id version (notes s opened (put d))) in
+      let c = calm_then 0 (one_if_some version) (put d) (notes s opened (put d)) (reply opened version d) (notes-calm s opened (put d))
+      (tells_cutoffs-calm s Server id w.host.id version (notes s opened (put d))) in
       ap run_count c.grown ∙ (let e : run_count (w.told ++ c.told) ≡ 0 = omega (arith, run_count-append w.told c.told, none, c.quiet) in e)
 
   served_alike : (a b : Answer) (d e : Did ServerRow) → run_count w.told ≡ 0 → Pair a b w.host.id d e → Alike a b w.host.id (served s id d w) (served s id e w)
@@ -194,16 +203,19 @@ module _ (s : Settings) (id : CallId) (w : Work) where
         quiet = reply_quiet d.opened d.version d none;
         first = ap (λ says. (reply d.opened d.version d).told ++ said s w.host Server id w.host.id says) p.first;
         second = ap (λ says. (reply e.opened e.version e).told ++ said s w.host Server id w.host.id says) p.second
-            ∙ ap (λ t. t ++ run' ∷ []) (ap (λ o. (reply o e.version e).told) (sym p.opened) ∙ (ap (λ v. (reply d.opened v e).told) (sym p.version) ∙ same_reply d.opened d.version e d));
+            ∙ ap (λ t. t ++ run' ∷ [])
+            (ap (λ o. (reply o e.version e).told) (sym p.opened) ∙ (ap (λ v. (reply d.opened v e).told) (sym p.version) ∙ same_reply d.opened d.version e d));
       })
 
 module _ (s : Settings) where
-  row_alike : (p : Packet) (a b : Answer) (role : Role) (w : Work) → run_count w.told ≡ 0 → Alike a b w.host.id (comes_to_row s p a role w) (comes_to_row s p b role w)
+  row_alike : (p : Packet) (a b : Answer) (role : Role) (w : Work) → run_count w.told ≡ 0
+      → Alike a b w.host.id (comes_to_row s p a role w) (comes_to_row s p b role w)
   row_alike p a b Client w none = served_alike s p.id w a b _ _ none (server_pair s (moment s p.id w) p a b (get w.host.servers p.id))
   row_alike p a b Server w none = inl refl
 
   heard_id : (peer : HostId) (inc : ℕ) (what : Body) (w : Work) → (hears_cutoffs s peer inc what w).host.id ≡ w.host.id
-  heard_id peer inc (body.Cutoffs cutoffs) w = cond_both (is_newer inc cutoffs (peer_cutoffs s w.host peer)) _ _ (λ (v : Work). v.host.id ≡ w.host.id) (λ _. refl) (λ _. refl)
+  heard_id peer inc (body.Cutoffs cutoffs) w =
+      cond_both (is_newer inc cutoffs (peer_cutoffs s w.host peer)) _ _ (λ (v : Work). v.host.id ≡ w.host.id) (λ _. refl) (λ _. refl)
   heard_id peer inc what w = refl
 
   takes_alike : (p : Packet) (a b : Answer) (w : Work) → run_count w.told ≡ 0 → Alike a b w.host.id (takes s p a w) (takes s p b w)
@@ -211,15 +223,18 @@ module _ (s : Settings) where
   takes_alike p a b w none =
       let heard : Work = hears_cutoffs s (sender p) p.inc p.body w in
       let c = hears_cutoffs-calm s (sender p) p.inc p.body w in
-      let quiet : run_count heard.told ≡ 0 = ap run_count c.grown ∙ (let e : run_count (w.told ++ c.told) ≡ 0 = omega (arith, run_count-append w.told c.told, none, c.quiet) in e) in
+      let quiet : run_count heard.told ≡ 0 =
+      ap run_count c.grown ∙ (let e : run_count (w.told ++ c.told) ≡ 0 = omega (arith, run_count-append w.told c.told, none, c.quiet) in e) in
       subst (λ (host : HostId). Alike a b host (takes s p a w) (takes s p b w)) (heard_id (sender p) p.inc p.body w)
-      (later a b heard.host.id (λ _. 0) (acked s (acks p)) (acked-calm s (acks p)) (comes_to_row s p a p.role heard) (comes_to_row s p b p.role heard) (row_alike p a b p.role heard quiet))
+      (later a b heard.host.id (λ _. 0) (acked s (acks p)) (acked-calm s (acks p)) (comes_to_row s p a p.role heard) (comes_to_row s p b p.role heard)
+      (row_alike p a b p.role heard quiet))
 
   comes_alike : (o : Option Packet) (a b : Answer) (w : Work) → run_count w.told ≡ 0 → Alike a b w.host.id (comes s o a w) (comes s o b w)
   comes_alike None a b w none = inl refl
   comes_alike (Some p) a b w none =
       elim (is_stale s (now_of w) p) as (λ c. Alike a b w.host.id
-      (cond c (tells (Says (PlainStale w.host.id p.at (now_of w)) ∷ []) w) (takes s p a w)) (cond c (tells (Says (PlainStale w.host.id p.at (now_of w)) ∷ []) w) (takes s p b w))) [
+      (cond c (tells (Says (PlainStale w.host.id p.at (now_of w)) ∷ []) w) (takes s p a w))
+      (cond c (tells (Says (PlainStale w.host.id p.at (now_of w)) ∷ []) w) (takes s p b w))) [
         | true ↦ inl refl
         | false ↦ takes_alike p a b w none
       ]
@@ -227,4 +242,5 @@ module _ (s : Settings) where
   pub arrival_alike : (h : Host) (now : ℕ) (o : Option Packet) (a b : Answer) → Alike a b h.id (arrival_step s h now o a) (arrival_step s h now o b)
   unfolding arrival_step
   arrival_alike h now o a b =
-      later a b h.id (λ w. s.overcommit + (64 - length (packets_in (gives_grants s w).told))) (ended s) (ended-calm s) (comes s o a (begun h now)) (comes s o b (begun h now)) (comes_alike o a b (begun h now) refl)
+      later a b h.id (λ w. s.overcommit + (64 - length (packets_in (gives_grants s w).told))) (ended s) (ended-calm s) (comes s o a (begun h now))
+      (comes s o b (begun h now)) (comes_alike o a b (begun h now) refl)

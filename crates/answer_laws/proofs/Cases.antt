@@ -1,5 +1,6 @@
 -- An event with two lists of answers: it is refused, or no service is asked, or one is.
-use Rattle.std.proofs.Common.{◌≡◌, ℕ, zero, suc, ◌+◌, ◌-◌, ◌≤◌, Bool, true, false, cond, Option, Some, None, List, [], ◌∷◌, ◌++◌, length, refl, sym, ap, subst, ◌∙◌, arith, append_assoc, ◌⊎◌, inl, inr}
+use Rattle.std.proofs.Common.{◌≡◌, ℕ, zero, suc, ◌+◌, ◌-◌, ◌≤◌, Bool, true, false, cond, Option, Some, None, List, [], ◌∷◌, ◌++◌, length, refl, sym}
+use Rattle.std.proofs.Common.{ap, subst, ◌∙◌, arith, append_assoc, ◌⊎◌, inl, inr}
 use Rattle.std.proofs.lemmas.List.{length-set, length-take}
 use Rattle.std.proofs.lemmas.Option.{slice_get_within}
 use Rattle.std.specs.Prelude.{◌==◌, nat_lt, is_some, drop, slice_get, slice_set, IfSome}
@@ -21,7 +22,8 @@ use Rattle.homa_plain.specs.Packets.{Packet, receiver}
 use Rattle.homa_plain.specs.Host.{Host, new_host, Told, Says, packets_in, entries_from}
 use Rattle.homa_plain.specs.Rules.{Answer}
 use Rattle.homa_plain.specs.Steps.{Work, has_run, call_step, arrival_step, turn_step, start_fault}
-use Rattle.homa_plain.specs.World.{World, SentPacket, Outcome, Done, Refused, outcome, host_at, own_clock, is_late, last_tick, next_answer, answers_left, stepped, started, calls_from, arrives_at, delivered, turns, restarts, injected, shifted}
+use Rattle.homa_plain.specs.World.{World, SentPacket, Outcome, Done, Refused, outcome, host_at, own_clock, is_late, last_tick, next_answer}
+use Rattle.homa_plain.specs.World.{answers_left, stepped, started, calls_from, arrives_at, delivered, turns, restarts, injected, shifted}
 use Rattle.homa_plain.specs.Answers.{answering, shown}
 use Rattle.homa_service.specs.Table.{place_of, last_of, front_of}
 use Rattle.step_laws.specs.StepLaws.{run_count}
@@ -53,7 +55,8 @@ pub record Stops (o p : Outcome) : Type 0 where
   pub second : p ≡ Refused other
 
 -- where two lists of answers are used, one for an event and one for the same event in another run
-pub record Quiet {A : Type 0} (allows : Allows A) (seats : List (Option (A × ℕ))) (spares : List (A × ℕ)) (these those : List Answer) (o p : Outcome) : Type 0 where
+pub record Quiet {A : Type 0} (allows : Allows A) (seats : List (Option (A × ℕ))) (spares : List (A × ℕ)) (these those : List Answer)
+    (o p : Outcome) : Type 0 where
   pub next : World
   pub told : List PlainEntry
   pub seats' : List (Option (A × ℕ))
@@ -65,7 +68,8 @@ pub record Quiet {A : Type 0} (allows : Allows A) (seats : List (Option (A × �
   pub second : p ≡ Done (record { world = answering those next; told = told })
 
 -- a service is asked, and both answers are the same
-pub record Asks {A : Type 0} (allows : Allows A) (seats : List (Option (A × ℕ))) (spares : List (A × ℕ)) (these those : List Answer) (o p : Outcome) : Type 0 where
+pub record Asks {A : Type 0} (allows : Allows A) (seats : List (Option (A × ℕ))) (spares : List (A × ℕ)) (these those : List Answer)
+    (o p : Outcome) : Type 0 where
   pub next : World
   pub next' : World
   pub told : List PlainEntry
@@ -74,7 +78,8 @@ pub record Asks {A : Type 0} (allows : Allows A) (seats : List (Option (A × ℕ
   pub stands : Stands next seats' spares
   pub shows : shown told ≡ next_answer these ∷ []
   pub shows' : shown told' ≡ next_answer those ∷ []
-  pub same : (more more' : List PlainEntry) → may_tell allows seats spares (told ++ more) → may_tell allows seats spares (told' ++ more') → next_answer these ≡ next_answer those
+  pub same : (more more' : List PlainEntry) → may_tell allows seats spares (told ++ more) → may_tell allows seats spares (told' ++ more')
+      → next_answer these ≡ next_answer those
   pub alike : next_answer these ≡ next_answer those → (next ≡ next') × (told ≡ told')
   pub passes : (more : List PlainEntry) → may_tell allows seats spares (told ++ more) → may_tell allows seats' spares more
   pub first : o ≡ Done (record { world = answering (drop 1 these) next; told = told })
@@ -106,7 +111,8 @@ module _ {A : Type 0} (allows : Allows A) (one_way : AnswersOneWay allows) (s : 
   own_name id h here = subst (λ (k : ℕ). HasOwnName (record { 0 = k }) h) (let e : 0 + id.0 ≡ id.0 = omega arith in e) (named 0 w.hosts id.0 h st.names here)
 
   after_names : (id : HostId) (h : Host) → HasOwnName id h → AllNamed 0 (slice_set w.hosts id.0 h)
-  after_names id h new = named_set 0 w.hosts id.0 h st.names (subst (λ (k : ℕ). HasOwnName (record { 0 = k }) h) (let e : id.0 ≡ 0 + id.0 = omega arith in e) new)
+  after_names id h new =
+      named_set 0 w.hosts id.0 h st.names (subst (λ (k : ℕ). HasOwnName (record { 0 = k }) h) (let e : id.0 ≡ 0 + id.0 = omega arith in e) new)
 
   -- a step that asks no service
   quiet_step : (id : HostId) (first : List PlainEntry) (work : Work) (o p : Outcome) → IsOwnStep id work → has_run work.told ≡ false
@@ -115,16 +121,20 @@ module _ {A : Type 0} (allows : Allows A) (one_way : AnswersOneWay allows) (s : 
   quiet_step id first work o p own unasked none passes e f =
       let n : ℕ = length w.packets in
       let quiet : run_count work.told ≡ 0 = no_run work.told unasked in
-      let done : (cs : List Answer) → stepped (answering cs w) id first work ≡ Done (record { world = answering cs (stepped_world w id work); told = step_told w first work })
-      = λ cs. ap (λ left. Done (record { world = answering left (stepped_world w id work); told = step_told w first work })) (unasked_left work.told cs unasked) in
+      let done : (cs : List Answer)
+      → stepped (answering cs w) id first work ≡ Done (record { world = answering cs (stepped_world w id work); told = step_told w first work })
+      = λ cs. ap (λ left. Done (record { world = answering left (stepped_world w id work); told = step_told w first work }))
+      (unasked_left work.told cs unasked) in
       inr (inl (record {
         next = stepped_world w id work;
         told = step_told w first work;
         seats' = seats;
         spares' = spares;
-        stands = record { names = after_names id work.host own.name; many = st.many ∙ sym (length-set w.hosts id.0 work.host); boxed = st.boxed; spare = st.spare };
+        stands =
+            record { names = after_names id work.host own.name; many = st.many ∙ sym (length-set w.hosts id.0 work.host); boxed = st.boxed; spare = st.spare };
         none = shown-append first (entries_from n work.told) ∙ (ap (λ xs. xs ++ shown (entries_from n work.told)) none ∙ shown-quiet n work.told quiet);
-        passes = λ more may. passed allows spares seats n work.told more own.said quiet (passes (entries_from n work.told ++ more) (subst (may_tell allows seats spares) (append_assoc first (entries_from n work.told) more) may));
+        passes = λ more may. passed allows spares seats n work.told more own.said quiet
+            (passes (entries_from n work.told ++ more) (subst (may_tell allows seats spares) (append_assoc first (entries_from n work.told) more) may));
         first = e ∙ done these;
         second = f ∙ done those;
       }))
@@ -142,31 +152,40 @@ module _ {A : Type 0} (allows : Allows A) (one_way : AnswersOneWay allows) (s : 
     seat = full seats id.0 st.boxed (omega (arith, slice_get_within w.hosts id.0 h here, st.many))
 
     -- what is told behind what stands before the `run` line
-    reached : (a : Answer) (work : Work) (before after : List Told) (run : PlainEntry) (more : List PlainEntry) → work.told ≡ before ++ (Says run ∷ after) → AllByRecursion IsOfStep work.told → run_count before ≡ 0
+    reached : (a : Answer) (work : Work) (before after : List Told) (run : PlainEntry) (more : List PlainEntry)
+        → work.told ≡ before ++ (Says run ∷ after) → AllByRecursion IsOfStep work.told → run_count before ≡ 0
         → may_tell allows seats spares (step_told w first work ++ more) → (k : ℕ) × may_tell allows seats spares (run ∷ (entries_from k after ++ more))
     reached a work before after run more is own quiet may =
         let next : ℕ = n + length (packets_in before) in
         let parts = of_parts before (Says run ∷ after) (subst (AllByRecursion IsOfStep) is own) in
-        let lines : entries_from n work.told ≡ entries_from n before ++ (run ∷ entries_from next after) = ap (entries_from n) is ∙ entries_from-append n before (Says run ∷ after) in
-        let in_step = enters (entries_from n work.told ++ more) (subst (may_tell allows seats spares) (append_assoc first (entries_from n work.told) more) may) in
-        let cut = subst (λ es. may_tell allows seats spares (es ++ more)) lines in_step in
-        (next, passed allows spares seats n before (run ∷ (entries_from next after ++ more)) parts.0 quiet (subst (may_tell allows seats spares) (append_assoc (entries_from n before) (run ∷ entries_from next after) more) cut))
+        let lines : entries_from n work.told ≡ entries_from n before ++ (run ∷ entries_from next after) =
+        ap (entries_from n) is ∙ entries_from-append n before (Says run ∷ after) in
+        let in_step =
+        enters (entries_from n work.told ++ more) (subst (may_tell allows seats spares) (append_assoc first (entries_from n work.told) more) may) in
+        let cut = subst (λ es. may_tell allows seats spares (es ++ more)) lines in_step in (
+          next,
+          passed allows spares seats n before (run ∷ (entries_from next after ++ more)) parts.0 quiet
+              (subst (may_tell allows seats spares) (append_assoc (entries_from n before) (run ∷ entries_from next after) more) cut),
+        )
 
     abbrev seats_behind : HostId → List (Option (A × ℕ))
     seats_behind host = slice_set seats host.0 (option_map (λ b. (b.0, b.1 + 1)) (place_of seats host.0))
 
     -- an answer that is told of this host is one that its box may give
-    allowed : (request response : List ℕ) (service hold : ℕ) → MayAnswer allows (place_of seats h.id.0) service request response hold → allows seat.box.0 seat.box.1 service request response hold
+    allowed : (request response : List ℕ) (service hold : ℕ) → MayAnswer allows (place_of seats h.id.0) service request response hold
+        → allows seat.box.0 seat.box.1 service request response hold
     allowed request response service hold may =
         let is : place_of seats h.id.0 ≡ Some seat.box = ap (λ (x : HostId). place_of seats x.0) name ∙ seat.is in
         subst (λ o. MayAnswer allows o service request response hold) is may
 
     -- what an arrival shows where its service answered
-    one_shown : (a : Answer) (work : Work) (before after : List Told) (p : PlainEntry) → work.told ≡ before ++ (Says p ∷ after) → run_count before ≡ 0 → run_count after ≡ 0 → ((es : List PlainEntry) → shown (p ∷ es) ≡ a ∷ shown es)
+    one_shown : (a : Answer) (work : Work) (before after : List Told) (p : PlainEntry) → work.told ≡ before ++ (Says p ∷ after) → run_count before ≡ 0
+        → run_count after ≡ 0 → ((es : List PlainEntry) → shown (p ∷ es) ≡ a ∷ shown es)
         → shown (step_told w first work) ≡ a ∷ []
     one_shown a work before after p is quiet calm tells =
         let next : ℕ = n + length (packets_in before) in
-        let lines : entries_from n work.told ≡ entries_from n before ++ (p ∷ entries_from next after) = ap (entries_from n) is ∙ entries_from-append n before (Says p ∷ after) in
+        let lines : entries_from n work.told ≡ entries_from n before ++ (p ∷ entries_from next after) =
+        ap (entries_from n) is ∙ entries_from-append n before (Says p ∷ after) in
         shown-append first (entries_from n work.told)
         ∙ (ap (λ xs. xs ++ shown (entries_from n work.told)) none
         ∙ (ap shown lines
@@ -174,7 +193,8 @@ module _ {A : Type 0} (allows : Allows A) (one_way : AnswersOneWay allows) (s : 
         ∙ (ap (λ xs. xs ++ shown (p ∷ entries_from next after)) (shown-quiet n before quiet)
         ∙ (tells (entries_from next after) ∙ ap (λ xs. a ∷ xs) (shown-quiet next after calm))))))
 
-    few : (work : Work) (before after : List Told) (p : PlainEntry) → run_count work.told ≤ 1 → work.told ≡ before ++ (Says p ∷ after) → run_count before ≡ 0 → ((ts : List Told) → run_count (Says p ∷ ts) ≡ suc (run_count ts)) → run_count after ≡ 0
+    few : (work : Work) (before after : List Told) (p : PlainEntry) → run_count work.told ≤ 1 → work.told ≡ before ++ (Says p ∷ after)
+        → run_count before ≡ 0 → ((ts : List Told) → run_count (Says p ∷ ts) ≡ suc (run_count ts)) → run_count after ≡ 0
     few work before after p most is quiet counts =
         let e : run_count work.told ≡ run_count before + run_count (Says p ∷ after) = ap run_count is ∙ run_count-append before (Says p ∷ after) in
         omega (arith, e, counts after, most, quiet)
@@ -190,9 +210,13 @@ module _ {A : Type 0} (allows : Allows A) (one_way : AnswersOneWay allows) (s : 
       told c = step_told w first (step c)
 
       -- an arrival whose service is asked
-      asked_step : (host : HostId) (p : Parts (next_answer these) (next_answer those) host (step (next_answer these)).told (step (next_answer those)).told) → has_run (step (next_answer these)).told ≡ true
-          → ((more more' : List PlainEntry) → may_tell allows seats spares (told (next_answer these) ++ more) → may_tell allows seats spares (told (next_answer those) ++ more') → next_answer these ≡ next_answer those)
-          → Asks allows seats spares these those (stepped (answering these w) id first (step (next_answer these))) (stepped (answering those w) id first (step (next_answer those)))
+      asked_step : (host : HostId)
+          (p : Parts (next_answer these) (next_answer those) host (step (next_answer these)).told (step (next_answer those)).told)
+          → has_run (step (next_answer these)).told ≡ true
+          → ((more more' : List PlainEntry) → may_tell allows seats spares (told (next_answer these) ++ more) → may_tell allows seats spares
+          (told (next_answer those) ++ more') → next_answer these ≡ next_answer those)
+          → Asks allows seats spares these those (stepped (answering these w) id first (step (next_answer these)))
+          (stepped (answering those w) id first (step (next_answer those)))
       asked_step host p asks same =
           let a : Answer = next_answer these in
           let b : Answer = next_answer those in
@@ -209,7 +233,8 @@ module _ {A : Type 0} (allows : Allows A) (one_way : AnswersOneWay allows) (s : 
             seats' = seats_behind host;
             stands = record {
               names = after_names id (step a).host (own a).name;
-              many = length-set seats host.0 (option_map (λ b. (b.0, b.1 + 1)) (place_of seats host.0)) ∙ (st.many ∙ sym (length-set w.hosts id.0 (step a).host));
+              many =
+                  length-set seats host.0 (option_map (λ b. (b.0, b.1 + 1)) (place_of seats host.0)) ∙ (st.many ∙ sym (length-set w.hosts id.0 (step a).host));
               boxed = full_change (λ b. (b.0, b.1 + 1)) seats host.0 st.boxed;
               spare = st.spare;
             };
@@ -219,35 +244,45 @@ module _ {A : Type 0} (allows : Allows A) (one_way : AnswersOneWay allows) (s : 
             alike = λ e. (ap (λ c. stepped_world w id (step c)) e, ap told e);
             passes = λ more may.
                 let r = reached a (step a) p.before p.after run more p.first (own a).said p.quiet may in
-                passed allows spares (seats_behind host) r.0 p.after more (of_parts p.before (Says run ∷ p.after) (subst (AllByRecursion IsOfStep) p.first (own a).said)).1.1 calm r.1.1;
+                passed allows spares (seats_behind host) r.0 p.after more
+                (of_parts p.before (Says run ∷ p.after) (subst (AllByRecursion IsOfStep) p.first (own a).said)).1.1 calm r.1.1;
             first = ap (λ left. Done (record { world = answering left (stepped_world w id (step a)); told = told a })) (asked_left (step a).told these asks);
             second = ap (λ left. Done (record { world = answering left (stepped_world w id (step b)); told = told b })) (asked_left (step b).told those asks');
           }
 
       -- two answers that the host's box may give
-      one_given : (p : Parts (next_answer these) (next_answer those) h.id (step (next_answer these)).told (step (next_answer those)).told) (more more' : List PlainEntry)
-          → may_tell allows seats spares (told (next_answer these) ++ more) → may_tell allows seats spares (told (next_answer those) ++ more') → next_answer these ≡ next_answer those
+      one_given : (p : Parts (next_answer these) (next_answer those) h.id (step (next_answer these)).told (step (next_answer those)).told)
+          (more more' : List PlainEntry)
+          → may_tell allows seats spares (told (next_answer these) ++ more) → may_tell allows seats spares (told (next_answer those) ++ more')
+          → next_answer these ≡ next_answer those
       one_given p more more' may may' =
           let a : Answer = next_answer these in
           let b : Answer = next_answer those in
           let r = reached a (step a) p.before p.after (PlainRun h.id p.id p.service p.request a.bytes a.hold) more p.first (own a).said p.quiet may in
           let r' = reached b (step b) p.before p.other (PlainRun h.id p.id p.service p.request b.bytes b.hold) more' p.second (own b).said p.quiet may' in
-          let e = one_way seat.box.0 seat.box.1 p.service a.hold b.hold p.request a.bytes b.bytes (allowed p.request a.bytes p.service a.hold r.1.0) (allowed p.request b.bytes p.service b.hold r'.1.0) in
+          let e = one_way seat.box.0 seat.box.1 p.service a.hold b.hold p.request a.bytes b.bytes (allowed p.request a.bytes p.service a.hold r.1.0)
+          (allowed p.request b.bytes p.service b.hold r'.1.0) in
           answer_eq a b e.0 e.1
 
       -- an arrival that is the same with both answers, and tells a RUN
-      same_step : step (next_answer these) ≡ step (next_answer those) → has_run (step (next_answer these)).told ≡ true → Asks allows seats spares these those (stepped (answering these w) id first (step (next_answer these))) (stepped (answering those w) id first (step (next_answer those)))
+      same_step : step (next_answer these) ≡ step (next_answer those) → has_run (step (next_answer these)).told ≡ true
+          → Asks allows seats spares these those (stepped (answering these w) id first (step (next_answer these)))
+          (stepped (answering those w) id first (step (next_answer those)))
       same_step same asks =
           let a : Answer = next_answer these in
           let b : Answer = next_answer those in
           let f = found (step a).told asks in
           let run : Told = Says (PlainRun f.host f.id f.service f.request f.response f.hold) in
-          let here' : Contains (step a).told run = subst (λ ts. Contains ts run) (sym f.is) (Contains-append_right f.before (run ∷ f.after) run (zero, omega arith, refl)) in
+          let here' : Contains (step a).told run =
+          subst (λ ts. Contains ts run) (sym f.is) (Contains-append_right f.before (run ∷ f.after) run (zero, omega arith, refl)) in
           let there : Contains (step b).told run = subst (λ (v : Work). Contains v.told run) same here' in
           let g = one.answer_told s h (own_clock w id) o a f.host f.id f.service f.request f.response f.hold here' in
           let g' = one.answer_told s h (own_clock w id) o b f.host f.id f.service f.request f.response f.hold there in
-          let by_answer : (bytes : List ℕ) (hold : ℕ) → f.response ≡ bytes → f.hold ≡ hold → (step a).told ≡ f.before ++ (Says (PlainRun f.host f.id f.service f.request bytes hold) ∷ f.after)
-          = λ bytes hold e k. f.is ∙ (ap (λ r. f.before ++ (Says (PlainRun f.host f.id f.service f.request r f.hold) ∷ f.after)) e ∙ ap (λ x. f.before ++ (Says (PlainRun f.host f.id f.service f.request bytes x) ∷ f.after)) k) in
+          let by_answer : (bytes : List ℕ) (hold : ℕ) → f.response ≡ bytes → f.hold ≡ hold
+          → (step a).told ≡ f.before ++ (Says (PlainRun f.host f.id f.service f.request bytes hold) ∷ f.after)
+          = λ bytes hold e k. f.is
+          ∙ (ap (λ r. f.before ++ (Says (PlainRun f.host f.id f.service f.request r f.hold) ∷ f.after)) e
+          ∙ ap (λ x. f.before ++ (Says (PlainRun f.host f.id f.service f.request bytes x) ∷ f.after)) k) in
           asked_step f.host
           (record {
             before = f.before;
@@ -265,25 +300,32 @@ module _ {A : Type 0} (allows : Allows A) (one_way : AnswersOneWay allows) (s : 
       -- an arrival
       arrival : Verdict (arrives_at s (answering these w) id first o (Some h)) (arrives_at s (answering those w) id first o (Some h))
       arrival = by_run (has_run (step (next_answer these)).told) refl where
-        by_alike : has_run (step (next_answer these)).told ≡ true → Alike (next_answer these) (next_answer those) h.id (step (next_answer these)) (step (next_answer those)) → Verdict (arrives_at s (answering these w) id first o (Some h)) (arrives_at s (answering those w) id first o (Some h))
+        by_alike : has_run (step (next_answer these)).told ≡ true
+            → Alike (next_answer these) (next_answer those) h.id (step (next_answer these)) (step (next_answer those))
+            → Verdict (arrives_at s (answering these w) id first o (Some h)) (arrives_at s (answering those w) id first o (Some h))
         by_alike asks (inl same) = inr (inr (same_step same asks))
         by_alike asks (inr parts) = inr (inr (asked_step h.id parts asks (one_given parts)))
 
-        by_run : (b : Bool) → has_run (step (next_answer these)).told ≡ b → Verdict (arrives_at s (answering these w) id first o (Some h)) (arrives_at s (answering those w) id first o (Some h))
+        by_run : (b : Bool) → has_run (step (next_answer these)).told ≡ b
+            → Verdict (arrives_at s (answering these w) id first o (Some h)) (arrives_at s (answering those w) id first o (Some h))
         by_run false unasked =
             quiet_step id first (step (next_answer these)) _ _ (own (next_answer these)) unasked none enters refl
-            (ap (λ (v : Work). stepped (answering those w) id first v) (one.same_unasked s h (own_clock w id) o (next_answer these) (next_answer those) unasked))
+            (ap (λ (v : Work). stepped (answering those w) id first v)
+            (one.same_unasked s h (own_clock w id) o (next_answer these) (next_answer those) unasked))
         by_run true asks = by_alike asks (arrival_alike s h (own_clock w id) o (next_answer these) (next_answer those))
 
   -- ---- events
 
-  calls_case : (client server : HostId) (number : ℕ) (request : List ℕ) (o : Option Host) → host_at w client ≡ o → Verdict (calls_from s (answering these w) client server number request o) (calls_from s (answering those w) client server number request o)
+  calls_case : (client server : HostId) (number : ℕ) (request : List ℕ) (o : Option Host) → host_at w client ≡ o
+      → Verdict (calls_from s (answering these w) client server number request o) (calls_from s (answering those w) client server number request o)
   calls_case client server number request None here = stops fault.NoSuchHost
   calls_case client server number request (Some h) here = by_cause (start_fault s h server request) where
-    by_cause : (c : Option StartFault) → Verdict (started s (answering these w) client server number request h c) (started s (answering those w) client server number request h c)
+    by_cause : (c : Option StartFault)
+        → Verdict (started s (answering these w) client server number request h c) (started s (answering those w) client server number request h c)
     by_cause (Some why) = stops (fault.Start why)
     by_cause None =
-        quiet_step client [] (call_step s h (own_clock w client) server number request) _ _ (call_named s client h (own_clock w client) server number request (own_name client h here))
+        quiet_step client [] (call_step s h (own_clock w client) server number request) _ _
+        (call_named s client h (own_clock w client) server number request (own_name client h here))
         (one.call_unasked s h (own_clock w client) server number request) refl (λ more may. may) refl refl
 
   arrives_case : (id : HostId) (first : List PlainEntry) (packet : Option Packet) → IfSome packet (λ p. receiver p ≡ id) → shown first ≡ []
@@ -301,9 +343,11 @@ module _ {A : Type 0} (allows : Allows A) (one_way : AnswersOneWay allows) (s : 
   turns_case : (id : HostId) (o : Option Host) → host_at w id ≡ o → Verdict (turns s (answering these w) id o) (turns s (answering those w) id o)
   turns_case id None here = stops fault.NoSuchHost
   turns_case id (Some h) here =
-      quiet_step id [] (turn_step s h (own_clock w id)) _ _ (turn_named s id patient h (own_clock w id) (own_name id h here)) (one.turn_unasked s h (own_clock w id)) refl (λ more may. may) refl refl
+      quiet_step id [] (turn_step s h (own_clock w id)) _ _ (turn_named s id patient h (own_clock w id) (own_name id h here))
+      (one.turn_unasked s h (own_clock w id)) refl (λ more may. may) refl refl
 
-  restarts_case : (id : HostId) (o : Option Host) (k : ℕ) → host_at w id ≡ o → w.spares ≡ k → Verdict (restarts s (answering these w) id o k) (restarts s (answering those w) id o k)
+  restarts_case : (id : HostId) (o : Option Host) (k : ℕ) → host_at w id ≡ o → w.spares ≡ k
+      → Verdict (restarts s (answering these w) id o k) (restarts s (answering those w) id o k)
   restarts_case id None k here e = stops fault.NoSuchHost
   restarts_case id (Some h) zero here e = stops fault.NoSpare
   restarts_case id (Some h) (suc k) here e =
@@ -326,7 +370,8 @@ module _ {A : Type 0} (allows : Allows A) (one_way : AnswersOneWay allows) (s : 
         second = refl;
       }))
 
-  injects_case : (id : HostId) (bytes : List ℕ) (o : Option Host) (read : Option (WirePacket × List ℕ)) → host_at w id ≡ o → Verdict (injected s (answering these w) id bytes o read) (injected s (answering those w) id bytes o read)
+  injects_case : (id : HostId) (bytes : List ℕ) (o : Option Host) (read : Option (WirePacket × List ℕ)) → host_at w id ≡ o
+      → Verdict (injected s (answering these w) id bytes o read) (injected s (answering those w) id bytes o read)
   injects_case id bytes None read here = stops fault.NoSuchHost
   injects_case id bytes (Some h) (Some read) here = stops fault.Decodes
   injects_case id bytes (Some h) None here = arrives_case id (PlainInject id bytes ∷ []) None tt refl (λ more may. may.1) (Some h) here
@@ -356,7 +401,8 @@ module _ {A : Type 0} (allows : Allows A) (one_way : AnswersOneWay allows) (s : 
 
   pub verdict : (e : Event) (bytes : List ℕ) → Verdict (outcome s (answering these w) e bytes) (outcome s (answering those w) e bytes)
   unfolding outcome
-  verdict (event.Call client server number) bytes = either (is_some (host_at w server)) _ _ _ _ (calls_case client server number bytes (host_at w client) refl) (stops fault.NoSuchHost)
+  verdict (event.Call client server number) bytes =
+      either (is_some (host_at w server)) _ _ _ _ (calls_case client server number bytes (host_at w client) refl) (stops fault.NoSuchHost)
   verdict (event.Deliver n) bytes = delivers_case n (slice_get w.packets n)
   verdict event.Clock bytes =
       either (w.clock == last_tick) _ _ _ _ (stops fault.ClockEnd)

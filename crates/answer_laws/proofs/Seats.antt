@@ -13,7 +13,8 @@ AllNamed n (h ∷ hs) = HasOwnName (record { 0 = n }) h × AllNamed (suc n) hs
 
 pub named : (n : ℕ) (hs : List Host) (i : ℕ) (h : Host) → AllNamed n hs → slice_get hs i ≡ Some h → HasOwnName (record { 0 = n + i }) h
 named n [] i h all e = absurd (let no : None ≡ Some h = e in cc)
-named n (g ∷ hs) zero h all e = subst (λ k. HasOwnName (record { 0 = k }) h) (omega arith) (subst (λ x. HasOwnName (record { 0 = n }) x) (let same : g ≡ h = cc in same) all.0)
+named n (g ∷ hs) zero h all e =
+    subst (λ k. HasOwnName (record { 0 = k }) h) (omega arith) (subst (λ x. HasOwnName (record { 0 = n }) x) (let same : g ≡ h = cc in same) all.0)
 named n (g ∷ hs) (suc i) h all e = subst (λ k. HasOwnName (record { 0 = k }) h) (omega arith) (named (suc n) hs i h all.1 e)
 
 pub named_set : (n : ℕ) (hs : List Host) (i : ℕ) (h : Host) → AllNamed n hs → HasOwnName (record { 0 = n + i }) h → AllNamed n (slice_set hs i h)

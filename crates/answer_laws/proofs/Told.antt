@@ -37,7 +37,8 @@ module _ {A : Type 0} (allows : Allows A) (spares : List (A × ℕ)) where
   passed seats n (Sends p ∷ told) more own none may = passed seats (suc n) told more own.1 none may.1
   passed seats n (Says e ∷ told) more own none may = by_entry e own.0 none may (λ f m. passed seats n told more own.1 f m) where
     by_entry : (e : PlainEntry) → IsOfStep (Says e) → run_count (Says e ∷ told) ≡ 0 → may_tell allows seats spares (e ∷ (entries_from n told ++ more))
-        → (run_count told ≡ 0 → may_tell allows seats spares (entries_from n told ++ more) → may_tell allows seats spares more) → may_tell allows seats spares more
+        → (run_count told ≡ 0 → may_tell allows seats spares (entries_from n told ++ more) → may_tell allows seats spares more)
+        → may_tell allows seats spares more
     by_entry (PlainRun host id service request response hold) o none may rest = absurd (omega (arith, none))
     by_entry (PlainRestart host inc) o none may rest = absurd o
     by_entry e o none may rest = rest none may.1
@@ -75,7 +76,18 @@ found (Sends p ∷ told) e = further (Sends p) told (λ ts. refl) (found told e)
 found (Says e ∷ told) is = by_entry e is (λ f. found told f) where
   by_entry : (e : PlainEntry) → has_run (Says e ∷ told) ≡ true → (has_run told ≡ true → Found told) → Found (Says e ∷ told)
   by_entry (PlainRun host id service request response hold) is rest =
-      record { before = []; host = host; id = id; service = service; request = request; response = response; hold = hold; after = told; is = refl; quiet = refl }
+      record {
+        before = [];
+        host = host;
+        id = id;
+        service = service;
+        request = request;
+        response = response;
+        hold = hold;
+        after = told;
+        is = refl;
+        quiet = refl;
+      }
   by_entry e is rest = further (Says e) told (λ ts. refl) (rest is)
 
 -- told without a RUN

@@ -1,5 +1,6 @@
 -- After a step no GRANT is due: each message that would be chosen is granted as far as it may be.
-use Rattle.std.proofs.Common.{◌≡◌, ℕ, zero, suc, ◌-◌, ◌≤◌, Bool, true, false, cond, Option, Some, None, List, [], ◌∷◌, ◌++◌, length, map, refl, sym, ap, subst, ◌∙◌, arith, inl, inr}
+use Rattle.std.proofs.Common.{◌≡◌, ℕ, zero, suc, ◌-◌, ◌≤◌, Bool, true, false, cond, Option, Some, None, List, [], ◌∷◌, ◌++◌, length, map, refl, sym}
+use Rattle.std.proofs.Common.{ap, subst, ◌∙◌, arith, inl, inr}
 use Rattle.std.specs.Prelude.{nat_lt}
 use Rattle.std.specs.List.{AllByRecursion, Contains}
 use Rattle.std.proofs.lemmas.List.{map-append}
@@ -16,8 +17,10 @@ use Rattle.homa_plain.specs.Outgoing.{next_range}
 use Rattle.homa_plain.specs.Rows.{ClientRow, ServerRow, State, Receiving, Held, Replying, Buried}
 use Rattle.homa_plain.specs.Host.{Host, packets_in, peer_cutoffs}
 use Rattle.homa_plain.specs.Timers.{Place, OfClient, OfServer}
-use Rattle.homa_plain.specs.Sending.{Arriving, arriving_at_client, arriving_at_server, arrivals, Leaving, leaving_key, departures, granted_part, client_granted, state_granted, server_granted, client_sends, state_sends, response_content}
-use Rattle.homa_plain.specs.Steps.{Work, now_of, client_is_granted, server_is_granted, grants_at, gives_grants, request_leaves, response_leaves, client_leaves, state_leaves, server_leaves, leaves_from, first_leaves, pumped_once, pumps, most_packets, ended}
+use Rattle.homa_plain.specs.Sending.{Arriving, arriving_at_client, arriving_at_server, arrivals, Leaving, leaving_key, departures, granted_part}
+use Rattle.homa_plain.specs.Sending.{client_granted, state_granted, server_granted, client_sends, state_sends, response_content}
+use Rattle.homa_plain.specs.Steps.{Work, now_of, client_is_granted, server_is_granted, grants_at, gives_grants, request_leaves, response_leaves}
+use Rattle.homa_plain.specs.Steps.{client_leaves, state_leaves, server_leaves, leaves_from, first_leaves, pumped_once, pumps, most_packets, ended}
 use Rattle.homa_plain.proofs.ChoiceLaws.{chosen-map}
 use Rattle.step_laws.specs.StepLaws.{LeavesOthers}
 use Rattle.step_laws.proofs.Places.{IsOne}
@@ -60,21 +63,26 @@ sent_response s now id (Replying response out order base count) = refl
 sent_response s now id (Buried until) = refl
 
 module _ (s : Settings) where
-  client_stays : (id : CallId) (o : Option ClientRow) (w v : Work) → client_leaves s id o w ≡ Some v → client_arrival id (get v.host.clients id) ≡ client_arrival id o
+  client_stays : (id : CallId) (o : Option ClientRow) (w v : Work) → client_leaves s id o w ≡ Some v
+      → client_arrival id (get v.host.clients id) ≡ client_arrival id o
   client_stays id None w v e = cc
   client_stays id (Some r) w v e =
       let l = left (next_range r.out s.seg) w v (λ range. request_leaves s id r range w) e in
       subst (λ (u : Work). client_arrival id (get u.host.clients id) ≡ arriving_at_client id r.part) l.is
       (ap (client_arrival id) (get-set_row w.host.clients id (Some (client_sends s (now_of w) r))) ∙ sent_request s (now_of w) id r)
 
-  state_stays : (id : CallId) (row : ServerRow) (state : State) (w v : Work) → state_leaves s id row state w ≡ Some v → server_arrival id (get v.host.servers id) ≡ server_arrival id (Some row)
+  state_stays : (id : CallId) (row : ServerRow) (state : State) (w v : Work) → state_leaves s id row state w ≡ Some v
+      → server_arrival id (get v.host.servers id) ≡ server_arrival id (Some row)
   state_stays id row (Replying response out order base count) w v e =
-      let l = left (next_range out s.seg) w v (λ range. response_leaves s id row (response_content s (peer_cutoffs s w.host id.client).cutoffs response out range) range w) e in
+      let l = left (next_range out s.seg) w v
+      (λ range. response_leaves s id row (response_content s (peer_cutoffs s w.host id.client).cutoffs response out range) range w) e in
       subst (λ (u : Work). server_arrival id (get u.host.servers id) ≡ arriving_at_server id row.state) l.is
-      (ap (server_arrival id) (get-set_row w.host.servers id (Some (record row { state = state_sends s (now_of w) row.state }))) ∙ sent_response s (now_of w) id row.state)
+      (ap (server_arrival id) (get-set_row w.host.servers id (Some (record row { state = state_sends s (now_of w) row.state })))
+      ∙ sent_response s (now_of w) id row.state)
   state_stays id row state w v e = cc
 
-  server_stays : (id : CallId) (o : Option ServerRow) (w v : Work) → server_leaves s id o w ≡ Some v → server_arrival id (get v.host.servers id) ≡ server_arrival id o
+  server_stays : (id : CallId) (o : Option ServerRow) (w v : Work) → server_leaves s id o w ≡ Some v
+      → server_arrival id (get v.host.servers id) ≡ server_arrival id o
   server_stays id None w v e = cc
   server_stays id (Some row) w v e = state_stays id row row.state w v e
 
@@ -123,11 +131,13 @@ one_is x y e = cc
 no_one : (x : Arriving) → [] ≡ x ∷ [] → ⊥
 no_one x e = cc
 
-part_raised : (id : CallId) (o : Option Incoming) (a : Arriving) (offset : ℕ) → arriving_at_client id o ≡ a ∷ [] → arriving_at_client id (granted_part offset o) ≡ raised offset a ∷ []
+part_raised : (id : CallId) (o : Option Incoming) (a : Arriving) (offset : ℕ) → arriving_at_client id o ≡ a ∷ []
+    → arriving_at_client id (granted_part offset o) ≡ raised offset a ∷ []
 part_raised id None a offset e = absurd (no_one a e)
 part_raised id (Some part) a offset e = ap (λ x. raised offset x ∷ []) (one_is _ a e)
 
-state_raised : (id : CallId) (state : State) (a : Arriving) (now offset : ℕ) → arriving_at_server id state ≡ a ∷ [] → arriving_at_server id (state_granted now offset state) ≡ raised offset a ∷ []
+state_raised : (id : CallId) (state : State) (a : Arriving) (now offset : ℕ) → arriving_at_server id state ≡ a ∷ []
+    → arriving_at_server id (state_granted now offset state) ≡ raised offset a ∷ []
 state_raised id (Receiving service part base count) a now offset e = ap (λ x. raised offset x ∷ []) (one_is _ a e)
 state_raised id (Held response release) a now offset e = absurd (no_one a e)
 state_raised id (Replying response out order base count) a now offset e = absurd (no_one a e)
@@ -146,14 +156,16 @@ module _ (s : Settings) where
   server_raised id (Some row) w a offset prio e =
       ap (server_arrival id) (get-set_row w.host.servers id (Some (server_granted (now_of w) offset row))) ∙ state_raised id row.state a (now_of w) offset e
 
-  place_raised : (p : Place) (w : Work) (a : Arriving) (offset prio : ℕ) → arrival w.host p ≡ a ∷ [] → arrival (grants_at s p offset prio w).host p ≡ raised offset a ∷ []
+  place_raised : (p : Place) (w : Work) (a : Arriving) (offset prio : ℕ) → arrival w.host p ≡ a ∷ []
+      → arrival (grants_at s p offset prio w).host p ≡ raised offset a ∷ []
   place_raised (OfClient id) w a offset prio e = client_raised id (get w.host.clients id) w a offset prio e
   place_raised (OfServer id) w a offset prio e = server_raised id (get w.host.servers id) w a offset prio e
 
   -- a message that arrives is the one of its row
   alone : (h : Host) (a : Arriving) → Contains (arrivals h) a → arrival h a.place ≡ a ∷ []
   alone h a c = by_list _ (arrival h a.place) (at_one arrival_things h a.place) (thing_at arrival_things h a.place a c refl) where
-    by_list : (number : Option ℕ) (xs : List Arriving) → IsOne (λ (x : Arriving). x.place) (λ x. x.message.order) a.place number xs → Contains xs a → xs ≡ a ∷ []
+    by_list : (number : Option ℕ) (xs : List Arriving) → IsOne (λ (x : Arriving). x.place) (λ x. x.message.order) a.place number xs → Contains xs a
+        → xs ≡ a ∷ []
     by_list number [] one d = absurd (none_in a d)
     by_list number (x ∷ []) one d = elim (at_head x a [] d) [ inl e ↦ ap (λ y. y ∷ []) e | inr none ↦ absurd (none_in a none) ]
     by_list number (x ∷ y ∷ xs) one d = absurd one
@@ -168,7 +180,8 @@ module _ (s : Settings) where
 
   lifted : (a : Arriving) (prio : ℕ) (w : Work) → Contains (arrivals w.host) a → Lifted a w (grant_to s a prio w)
   lifted a prio w c = by_test (nat_lt a.message.granted (new_end s.window a.message)) refl where
-    by_test : (b : Bool) → nat_lt a.message.granted (new_end s.window a.message) ≡ b → Lifted a w (cond b (grants_at s a.place (new_end s.window a.message) prio w) w)
+    by_test : (b : Bool) → nat_lt a.message.granted (new_end s.window a.message) ≡ b
+        → Lifted a w (cond b (grants_at s a.place (new_end s.window a.message) prio w) w)
     by_test true e = record {
       then = raised (new_end s.window a.message) a;
       here = place_raised a.place w a (new_end s.window a.message) prio (alone w.host a c);
@@ -179,7 +192,8 @@ module _ (s : Settings) where
     by_test false e = record { then = a; here = alone w.host a c; same = refl; place = refl; granted = grind (arith, nat_tests, e) }
 
   -- all messages are those that were, but for granted ends
-  all_same : (a : Arriving) (prio : ℕ) (w : Work) → Contains (arrivals w.host) a → map erased (arrivals (grant_to s a prio w).host) ≡ map erased (arrivals w.host)
+  all_same : (a : Arriving) (prio : ℕ) (w : Work) → Contains (arrivals w.host) a
+      → map erased (arrivals (grant_to s a prio w).host) ≡ map erased (arrivals w.host)
   all_same a prio w c =
       let v = grant_to s a prio w in
       let l = lifted a prio w c in
@@ -201,7 +215,8 @@ module _ (s : Settings) where
     pub granted : AllByRecursion (IsGrantedAt v.host) rest
     pub others : (a : Arriving) → AllByRecursion (λ b. a.place ≡ b.place → ⊥) rest → Contains (arrivals w.host) a → Contains (arrivals v.host) a
 
-  granting : (rest : List Arriving) (w : Work) → SendersDiffer (λ (b : Arriving). sender b.message) rest → AllByRecursion (λ b. Contains (arrivals w.host) b) rest → Granting rest w (granted_each s rest w)
+  granting : (rest : List Arriving) (w : Work) → SendersDiffer (λ (b : Arriving). sender b.message) rest
+      → AllByRecursion (λ b. Contains (arrivals w.host) b) rest → Granting rest w (granted_each s rest w)
   granting [] w differ all = record { same = refl; granted = tt; others = λ a ne c. c }
   granting (a ∷ rest) w differ all =
       let v = grant_to s a (length rest) w in
@@ -215,11 +230,13 @@ module _ (s : Settings) where
         others = λ b ne c. g.others b ne.1 (arrival_stays s a b (length rest) w ne.0 c);
       }
     where
-      stand : (v : Work) (bs : List Arriving) → AllByRecursion (λ b. (b.place ≡ a.place → ⊥) × Contains (arrivals v.host) b) bs → AllByRecursion (λ b. Contains (arrivals v.host) b) bs
+      stand : (v : Work) (bs : List Arriving) → AllByRecursion (λ b. (b.place ≡ a.place → ⊥) × Contains (arrivals v.host) b) bs
+          → AllByRecursion (λ b. Contains (arrivals v.host) b) bs
       stand v [] all = tt
       stand v (b ∷ bs) all = (all.0.1, stand v bs all.1)
 
-      apart : (x : Arriving) → x.place ≡ a.place → (v : Work) (bs : List Arriving) → AllByRecursion (λ b. (b.place ≡ a.place → ⊥) × Contains (arrivals v.host) b) bs → AllByRecursion (λ b. x.place ≡ b.place → ⊥) bs
+      apart : (x : Arriving) → x.place ≡ a.place → (v : Work) (bs : List Arriving)
+          → AllByRecursion (λ b. (b.place ≡ a.place → ⊥) × Contains (arrivals v.host) b) bs → AllByRecursion (λ b. x.place ≡ b.place → ⊥) bs
       apart x e v [] all = tt
       apart x e v (b ∷ bs) all = (λ is. all.0.0 (sym is ∙ e), apart x e v bs all.1)
 
@@ -230,17 +247,20 @@ module _ (s : Settings) where
 
 module _ (s : Settings) where
   -- the choice doesn't look at granted ends
-  chosen_same : (xs ys : List Arriving) → map erased ys ≡ map erased xs → map erased (chosen message_of s.overcommit ys) ≡ map erased (chosen message_of s.overcommit xs)
+  chosen_same : (xs ys : List Arriving) → map erased ys ≡ map erased xs
+      → map erased (chosen message_of s.overcommit ys) ≡ map erased (chosen message_of s.overcommit xs)
   chosen_same xs ys e =
       sym (blind ys) ∙ ap (chosen message_of s.overcommit) e ∙ blind xs where
         blind : (zs : List Arriving) → chosen message_of s.overcommit (map erased zs) ≡ map erased (chosen message_of s.overcommit zs)
-        blind zs = chosen-map (λ (a : Arriving). sender a.message) (λ a. sender a.message) erased (λ a. refl) (λ a. choice_key a.message) (λ a. choice_key a.message) (λ a. refl) s.overcommit zs
+        blind zs = chosen-map (λ (a : Arriving). sender a.message) (λ a. sender a.message) erased (λ a. refl) (λ a. choice_key a.message)
+            (λ a. choice_key a.message) (λ a. refl) s.overcommit zs
 
   heads_same : (x y : Arriving) (xs ys : List Arriving) → x ∷ xs ≡ y ∷ ys → (x ≡ y) × (xs ≡ ys)
   heads_same x y xs ys e = (cc, cc)
 
   -- what is chosen then was chosen before, so it is granted
-  all_granted_to : (h : Host) (cs ds : List Arriving) → map erased ds ≡ map erased cs → AllByRecursion (IsGrantedAt s h) cs → AllByRecursion (λ d. Contains (arrivals h) d) ds → AllByRecursion (IsGranted s) ds
+  all_granted_to : (h : Host) (cs ds : List Arriving) → map erased ds ≡ map erased cs → AllByRecursion (IsGrantedAt s h) cs
+      → AllByRecursion (λ d. Contains (arrivals h) d) ds → AllByRecursion (IsGranted s) ds
   all_granted_to h cs [] e granted all = tt
   all_granted_to h [] (d ∷ ds) e granted all = absurd cc
   all_granted_to h (c ∷ cs) (d ∷ ds) e granted all =

@@ -32,9 +32,11 @@ nothing_in (x ∷ xs) none = absurd (none x (here x xs))
 none_pumped : (s : Settings) (w : Work) → departures s w.host.last w.host ≡ [] → pumped_once s w ≡ None
 unfolding pumped_once
 none_pumped s w none =
-    ap (λ (ls : List Leaving). first_leaves s (least leaving_key ls) w) none ∙ ap (λ (ls : List Leaving). first_leaves s (first_of ls) w) (ordered-nil leaving_key)
+    ap (λ (ls : List Leaving). first_leaves s (least leaving_key ls) w) none ∙ ap (λ (ls : List Leaving). first_leaves s (first_of ls) w)
+    (ordered-nil leaving_key)
 
-nothing_done : (s : Settings) (w : Work) → due timer_key w.host.last (timers s w.host) ≡ [] → due_grants s w.host ≡ [] → departures s w.host.last w.host ≡ [] → ended s (acts s w) ≡ w
+nothing_done : (s : Settings) (w : Work) → due timer_key w.host.last (timers s w.host) ≡ [] → due_grants s w.host ≡ []
+    → departures s w.host.last w.host ≡ [] → ended s (acts s w) ≡ w
 nothing_done s w rows granted sent =
     ap (λ (ts : List Timer). ended s (all_act s ts w)) rows ∙ ap (λ gs. pump s (all_granted s gs w)) granted ∙ pump_ends s w (none_pumped s w sent)
 
@@ -72,12 +74,14 @@ module _ (h : Seen) where
   abbrev its : List armed.Timer
   its = map (timer_of h) (timers h.settings h.host)
 
-  later : (now : ℕ) (k : armed.Timer) → now < k.at → (ts : List Timer) → AllByRecursion (λ (y : armed.Timer). is_below (armed.timer_key y) (armed.timer_key k) ≡ false) (map (timer_of h) ts)
+  later : (now : ℕ) (k : armed.Timer) → now < k.at → (ts : List Timer)
+      → AllByRecursion (λ (y : armed.Timer). is_below (armed.timer_key y) (armed.timer_key k) ≡ false) (map (timer_of h) ts)
       → AllByRecursion (λ (t : Timer). now < t.at) ts
   later now k less [] all = tt
   later now k less (t ∷ ts) all = let le = first_number k.at k.order t.at t.order all.0 in (omega arith, later now k less ts all.1)
 
-  all_later : (now : ℕ) (o : Option armed.Timer) → MatchOption o (its ≡ []) (IsLeast armed.timer_key its) → IfSome (option_map (λ (t : armed.Timer). t.at) o) (λ at. now < at)
+  all_later : (now : ℕ) (o : Option armed.Timer) → MatchOption o (its ≡ []) (IsLeast armed.timer_key its)
+      → IfSome (option_map (λ (t : armed.Timer). t.at) o) (λ at. now < at)
       → AllByRecursion (λ (t : Timer). now < t.at) (timers h.settings h.host)
   all_later now None none less = empty (timers h.settings h.host) none where
     empty : (ts : List Timer) → map (timer_of h) ts ≡ [] → AllByRecursion (λ (t : Timer). now < t.at) ts
@@ -86,7 +90,8 @@ module _ (h : Seen) where
   all_later now (Some k) least less = later now k less (timers h.settings h.host) least.1
 
   -- before the first deadline, with nothing in the pacer, a turn does nothing
-  pub idle_before : (book : List armed.Timer) (ready : List pace.Ready) (now : ℕ) → due_grants h.settings h.host ≡ [] → AreArmed h book → AreReady h ready → ready ≡ []
+  pub idle_before : (book : List armed.Timer) (ready : List pace.Ready) (now : ℕ) → due_grants h.settings h.host ≡ [] → AreArmed h book
+      → AreReady h ready → ready ≡ []
       → h.host.last ≤ now → IfSome (first_at book) (λ at. now < at) → IsIdleTurn h now
   idle_before book ready now granted timed are none le less =
       idle h.settings h.host now
@@ -98,17 +103,19 @@ module _ (h : Seen) where
 
   -- the first deadline is a row's
   pub first_deadline : (book : List armed.Timer) → AreArmed h book → IfSome (first_at book) (IsDeadline h)
-  first_deadline book timed = subst (λ (b : List armed.Timer). IfSome (first_at b) (IsDeadline h)) (sym timed) (by_first (first_of (ordered armed.timer_key its)) (first-ordered armed.timer_key its)) where
-    from_map : (ts : List Timer) (k : armed.Timer) → Contains (map (timer_of h) ts) k → (t : Timer) × Contains ts t × (t.at ≡ k.at)
-    from_map [] k c = absurd (none_in k c)
-    from_map (t ∷ ts) k c = elim (at_head (timer_of h t) k (map (timer_of h) ts) c) [
-      | inl e ↦ (t, here t ts, ap (λ (x : armed.Timer). x.at) e)
-      | inr rest ↦ let r = from_map ts k rest in (r.0, there t r.0 ts r.1, r.2)
-    ]
+  first_deadline book timed = subst (λ (b : List armed.Timer). IfSome (first_at b) (IsDeadline h)) (sym timed)
+      (by_first (first_of (ordered armed.timer_key its)) (first-ordered armed.timer_key its)) where
+        from_map : (ts : List Timer) (k : armed.Timer) → Contains (map (timer_of h) ts) k → (t : Timer) × Contains ts t × (t.at ≡ k.at)
+        from_map [] k c = absurd (none_in k c)
+        from_map (t ∷ ts) k c = elim (at_head (timer_of h t) k (map (timer_of h) ts) c) [
+          | inl e ↦ (t, here t ts, ap (λ (x : armed.Timer). x.at) e)
+          | inr rest ↦ let r = from_map ts k rest in (r.0, there t r.0 ts r.1, r.2)
+        ]
 
-    by_first : (o : Option armed.Timer) → MatchOption o (its ≡ []) (IsLeast armed.timer_key its) → IfSome (option_map (λ (t : armed.Timer). t.at) o) (IsDeadline h)
-    by_first None is = tt
-    by_first (Some k) least = from_map (timers h.settings h.host) k least.0
+        by_first : (o : Option armed.Timer) → MatchOption o (its ≡ []) (IsLeast armed.timer_key its)
+            → IfSome (option_map (λ (t : armed.Timer). t.at) o) (IsDeadline h)
+        by_first None is = tt
+        by_first (Some k) least = from_map (timers h.settings h.host) k least.0
 
   -- a pacer that holds a message holds one of which bytes wait
   pub bytes_wait : (ready : List pace.Ready) → AreReady h ready → (ready ≡ [] → ⊥) → waiting h.host ≡ [] → ⊥
@@ -117,11 +124,13 @@ module _ (h : Seen) where
 
 -- ---- the first deadline as an answer
 
-module _ (h : Seen) (book : List armed.Timer) (ready : List pace.Ready) (granted : due_grants h.settings h.host ≡ []) (timed : AreArmed h book) (are : AreReady h ready) (none : ready ≡ []) where
+module _ (h : Seen) (book : List armed.Timer) (ready : List pace.Ready) (granted : due_grants h.settings h.host ≡ []) (timed : AreArmed h book)
+    (are : AreReady h ready) (none : ready ≡ []) where
   pub before_deadline : (o : Option ℕ) → o ≡ first_at book → IfSome o (λ at. (now : ℕ) → h.host.last < now → now < at → IsIdleTurn h now)
   before_deadline None e = tt
   before_deadline (Some at) e =
-      λ now later before. idle_before h book ready now granted timed are none (omega (arith, later)) (subst (λ (p : Option ℕ). IfSome p (λ n. now < n)) e before)
+      λ now later before. idle_before h book ready now granted timed are none (omega (arith, later))
+      (subst (λ (p : Option ℕ). IfSome p (λ n. now < n)) e before)
 
   pub no_deadline : (o : Option ℕ) → o ≡ first_at book → IfNone o ((now : ℕ) → h.host.last ≤ now → IsIdleTurn h now)
   no_deadline None e = λ now le. idle_before h book ready now granted timed are none le (subst (λ (p : Option ℕ). IfSome p (λ n. now < n)) e tt)

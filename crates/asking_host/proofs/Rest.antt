@@ -32,7 +32,8 @@ opened_rests h s id inc last is le = subst IsAtRest (sym is) (record {
 })
 
 -- after each step
-pub call_rests : (s : Settings) (h : Host) (now : ℕ) (server : HostId) (number : ℕ) (request : List ℕ) → due_grants s (call_step s h now server number request).host ≡ []
+pub call_rests : (s : Settings) (h : Host) (now : ℕ) (server : HostId) (number : ℕ) (request : List ℕ)
+    → due_grants s (call_step s h now server number request).host ≡ []
 unfolding call_step
 call_rests s h now server number request = ended_rests s (starts s server number request (begun h now))
 
@@ -59,13 +60,16 @@ module _ (h g : Seen) (frames : List SentFrame) (now : ℕ) (le : now ≤ 100000
   }
 
   -- a call, which may not start
-  pub after_call : {T E : Type 0} (r : Result T E) (step : Work) → due_grants h.settings step.host ≡ [] → OnOk r ((whole : List ℕ) → IsDone h step g frames whole) → OnOk r (g.host.last ≡ now)
+  pub after_call : {T E : Type 0} (r : Result T E) (step : Work) → due_grants h.settings step.host ≡ []
+      → OnOk r ((whole : List ℕ) → IsDone h step g frames whole) → OnOk r (g.host.last ≡ now)
       → OnErr r (g ≡ record h { marks = [] }) → IsAtRest h → IsAtRest g
   after_call (Ok x) step none done last same rest = after step [] none (done []) last
   after_call (Err e) step none done last same rest = still same rest
 
   -- a delivery, which may ask
-  pub after_delivery : {T E : Type 0} (r : Result T E) (step : Answer → Work) (whole : List ℕ) → ((a : Answer) → due_grants h.settings (step a).host ≡ []) → OnOk r ((a : Answer) × IsAnswer g a)
-      → OnOk r ((a : Answer) → IsAnswer g a → IsDone h (step a) g frames whole) → OnOk r (g.host.last ≡ now) → OnErr r (g ≡ record h { marks = [] }) → IsAtRest h → IsAtRest g
+  pub after_delivery : {T E : Type 0} (r : Result T E) (step : Answer → Work) (whole : List ℕ)
+      → ((a : Answer) → due_grants h.settings (step a).host ≡ []) → OnOk r ((a : Answer) × IsAnswer g a)
+      → OnOk r ((a : Answer) → IsAnswer g a → IsDone h (step a) g frames whole) → OnOk r (g.host.last ≡ now) → OnErr r (g ≡ record h { marks = [] })
+      → IsAtRest h → IsAtRest g
   after_delivery (Ok x) step whole none answered done last same rest = after (step answered.0) whole (none answered.0) (done answered.0 answered.1) last
   after_delivery (Err e) step whole none answered done last same rest = still same rest

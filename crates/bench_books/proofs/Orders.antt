@@ -15,4 +15,5 @@ own_order slot ts all = all_weaker (λ t. t.order ≡ t.slot) (λ t. t.order ≡
 pub order_kept : (slot at : ℕ) (ts : List Timer) → AllByRecursion (λ t. t.order ≡ t.slot) ts
     → AllByRecursion (λ t. t.order ≡ t.slot) (placed timer_key (record { slot = slot; at = at; order = slot }) (without slot ts))
 order_kept slot at ts all =
-    placed-all timer_key (λ t. t.order ≡ t.slot) (record { slot = slot; at = at; order = slot }) (without slot ts) refl (filter-all (λ t. t.order ≡ t.slot) (λ t. not (t.slot == slot)) ts all)
+    placed-all timer_key (λ t. t.order ≡ t.slot) (record { slot = slot; at = at; order = slot }) (without slot ts) refl
+    (filter-all (λ t. t.order ≡ t.slot) (λ t. not (t.slot == slot)) ts all)

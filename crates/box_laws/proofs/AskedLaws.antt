@@ -9,7 +9,8 @@ use Rattle.homa_plain.specs.declared.packet.Packet.{Packet as WirePacket}
 use Rattle.homa_plain.specs.Entries.{PlainEntry, PlainRun, PlainRestart}
 use Rattle.homa_plain.specs.Host.{Told, Says, Sends, entries_from}
 use Rattle.host_view.specs.declared.mark.Mark.{Mark}
-use Rattle.host_view.specs.declared.mark.Mark.TheVariants.{Called, Junk, Stale, Balanced, Ran, Done, Failed, Dropped, TooManyGaps, Entombed, Freed, NoRow, NoPages, Sent}
+use Rattle.host_view.specs.declared.mark.Mark.TheVariants.{Called, Junk, Stale, Balanced, Ran, Done, Failed, Dropped, TooManyGaps, Entombed, Freed}
+use Rattle.host_view.specs.declared.mark.Mark.TheVariants.{NoRow, NoPages, Sent}
 use Rattle.host_view.specs.declared.outbox.SentFrame.{SentFrame}
 use Rattle.host_view.specs.Frames.{packet_of, read_line, line_of}
 use Rattle.host_view.specs.Seen.{Seen}
@@ -86,7 +87,8 @@ module _ (h : Seen) (frames : List SentFrame) (whole : List ℕ) where
   marks_ran (Freed id ∷ ms) = marks_ran ms
   marks_ran (NoRow id rows limit ∷ ms) = marks_ran ms
   marks_ran (NoPages id need free ∷ ms) = marks_ran ms
-  marks_ran (Sent n ∷ ms) = marks_ran ms ∙ ap some_in (sym (line_runs h frames whole (λ _ _ _ _. Unit {0}) h.settings n (slice_get frames n) (map (shown h frames whole) ms)))
+  marks_ran (Sent n ∷ ms) =
+      marks_ran ms ∙ ap some_in (sym (line_runs h frames whole (λ _ _ _ _. Unit {0}) h.settings n (slice_get frames n) (map (shown h frames whole) ms)))
 
 pub told_runs : (n : ℕ) (told : List Told) → runs_in (entries_from n told) ≡ run_count told
 told_runs n [] = refl
@@ -140,43 +142,61 @@ module _ {A : Type 0} (allows : Allows A) where
   inc_under (Some x) None u = absurd u
   inc_under (Some x) (Some y) u = (ap (λ n. n + 1) u.0, u.1)
 
-  tell_under : (x y : Option (A × ℕ)) (service : ℕ) (request response : List ℕ) (hold : ℕ) → IsUnder x y → MayAnswer allows x service request response hold → MayAnswer allows y service request response hold
+  tell_under : (x y : Option (A × ℕ)) (service : ℕ) (request response : List ℕ) (hold : ℕ) → IsUnder x y
+      → MayAnswer allows x service request response hold → MayAnswer allows y service request response hold
   tell_under None None service request response hold u a = a
   tell_under None (Some y) service request response hold u a = absurd u
   tell_under (Some x) None service request response hold u a = absurd u
-  tell_under (Some x) (Some y) service request response hold u a = u.1 y.1 service hold request response (subst (λ n. allows x.0 n service request response hold) u.0 a)
+  tell_under (Some x) (Some y) service request response hold u a =
+      u.1 y.1 service hold request response (subst (λ n. allows x.0 n service request response hold) u.0 a)
 
-  pub under_tell : (xs ys : List (Option (A × ℕ))) (spares : List (A × ℕ)) (es : List PlainEntry) → AreUnder xs ys → may_tell allows xs spares es → may_tell allows ys spares es
+  pub under_tell : (xs ys : List (Option (A × ℕ))) (spares : List (A × ℕ)) (es : List PlainEntry) → AreUnder xs ys → may_tell allows xs spares es
+      → may_tell allows ys spares es
   under_tell xs ys spares [] u a = tt
   under_tell xs ys spares (e ∷ es) u a = by_entry e u a (λ vs ws spares v b. under_tell vs ws spares es v b) where
-    by_entry : (e : PlainEntry) → AreUnder xs ys → may_tell allows xs spares (e ∷ es) → ((vs ws : List (Option (A × ℕ))) (spares : List (A × ℕ)) → AreUnder vs ws → may_tell allows vs spares es → may_tell allows ws spares es) → may_tell allows ys spares (e ∷ es)
+    by_entry : (e : PlainEntry) → AreUnder xs ys → may_tell allows xs spares (e ∷ es)
+        → ((vs ws : List (Option (A × ℕ))) (spares : List (A × ℕ)) → AreUnder vs ws → may_tell allows vs spares es → may_tell allows ws spares es)
+        → may_tell allows ys spares (e ∷ es)
     by_entry (PlainRun host id service request response hold) u a rest =
-        let p = place_under xs ys host.0 u in
-        (tell_under (place_of xs host.0) (place_of ys host.0) service request response hold p a.0, rest _ _ spares (set_under xs ys host.0 _ _ u (inc_under (place_of xs host.0) (place_of ys host.0) p)) a.1)
-    by_entry (PlainRestart host inc) u a rest = (tt, rest _ _ (front_of spares) (set_under xs ys host.0 (last_of spares) (last_of spares) u (under_itself (last_of spares))) a.1)
+        let p = place_under xs ys host.0 u in (
+          tell_under (place_of xs host.0) (place_of ys host.0) service request response hold p a.0,
+          rest _ _ spares (set_under xs ys host.0 _ _ u (inc_under (place_of xs host.0) (place_of ys host.0) p)) a.1,
+        )
+    by_entry (PlainRestart host inc) u a rest =
+        (tt, rest _ _ (front_of spares) (set_under xs ys host.0 (last_of spares) (last_of spares) u (under_itself (last_of spares))) a.1)
     by_entry e u a rest = (tt, rest xs ys spares u a.1)
 
   -- lines without a `run` line
-  pub quiet_entries : (id : HostId) (may : ℕ → List ℕ → List ℕ → ℕ → Type 0) (seats : List (Option (A × ℕ))) (spares : List (A × ℕ)) (es more : List PlainEntry) → AllByRecursion (MayRun id may) es → runs_in es ≡ 0 → may_tell allows seats spares more → may_tell allows seats spares (es ++ more)
+  pub quiet_entries : (id : HostId) (may : ℕ → List ℕ → List ℕ → ℕ → Type 0) (seats : List (Option (A × ℕ))) (spares : List (A × ℕ))
+      (es more : List PlainEntry) → AllByRecursion (MayRun id may) es → runs_in es ≡ 0 → may_tell allows seats spares more
+      → may_tell allows seats spares (es ++ more)
   quiet_entries id may seats spares [] more all none a = a
   quiet_entries id may seats spares (e ∷ es) more all none a = by_entry e all.0 none (λ m. quiet_entries id may seats spares es more all.1 m a) where
-    by_entry : (e : PlainEntry) → MayRun id may e → runs_in (e ∷ es) ≡ 0 → (runs_in es ≡ 0 → may_tell allows seats spares (es ++ more)) → may_tell allows seats spares (e ∷ (es ++ more))
+    by_entry : (e : PlainEntry) → MayRun id may e → runs_in (e ∷ es) ≡ 0 → (runs_in es ≡ 0 → may_tell allows seats spares (es ++ more))
+        → may_tell allows seats spares (e ∷ (es ++ more))
     by_entry (PlainRun host q service request response hold) m none rest = absurd (omega (arith, none))
     by_entry (PlainRestart host inc) m none rest = absurd m
     by_entry e m none rest = (tt, rest none)
 
   -- lines with one at most
-  pub one_entry : (id : HostId) (had : A) (n : ℕ) (seats : List (Option (A × ℕ))) (spares : List (A × ℕ)) (es more : List PlainEntry) → place_of seats id.0 ≡ Some (had, n) → AllByRecursion (MayRun id (allows had n)) es → runs_in es ≤ 1
+  pub one_entry : (id : HostId) (had : A) (n : ℕ) (seats : List (Option (A × ℕ))) (spares : List (A × ℕ)) (es more : List PlainEntry)
+      → place_of seats id.0 ≡ Some (had, n) → AllByRecursion (MayRun id (allows had n)) es → runs_in es ≤ 1
       → may_tell allows (cond (some_in (runs_in es)) (slice_set seats id.0 (Some (had, n + 1))) seats) spares more → may_tell allows seats spares (es ++ more)
   one_entry id had n seats spares [] more at all few a = a
-  one_entry id had n seats spares (e ∷ es) more at all few a = by_entry e all.0 few a (λ m b. one_entry id had n seats spares es more at all.1 m b) (λ vs m b. quiet_entries id (allows had n) vs spares es more all.1 m b) where
-    by_entry : (e : PlainEntry) → MayRun id (allows had n) e → runs_in (e ∷ es) ≤ 1 → may_tell allows (cond (some_in (runs_in (e ∷ es))) (slice_set seats id.0 (Some (had, n + 1))) seats) spares more
-        → (runs_in es ≤ 1 → may_tell allows (cond (some_in (runs_in es)) (slice_set seats id.0 (Some (had, n + 1))) seats) spares more → may_tell allows seats spares (es ++ more))
-        → ((vs : List (Option (A × ℕ))) → runs_in es ≡ 0 → may_tell allows vs spares more → may_tell allows vs spares (es ++ more)) → may_tell allows seats spares (e ∷ (es ++ more))
-    by_entry (PlainRun host q service request response hold) m few a rest quiet =
-        let here : place_of seats host.0 ≡ Some (had, n) = ap (λ (x : HostId). place_of seats x.0) m.0 ∙ at in
-        let after : slice_set seats host.0 (option_map (λ b. (b.0, b.1 + 1)) (place_of seats host.0)) ≡ slice_set seats id.0 (Some (had, n + 1)) =
-        ap (λ o. slice_set seats host.0 (option_map (λ b. (b.0, b.1 + 1)) o)) here ∙ ap (λ (x : HostId). slice_set seats x.0 (Some (had, n + 1))) m.0 in
-        (subst (λ o. MayAnswer allows o service request response hold) (sym here) m.1, subst (λ vs. may_tell allows vs spares (es ++ more)) (sym after) (quiet (slice_set seats id.0 (Some (had, n + 1))) (omega (arith, few)) a))
-    by_entry (PlainRestart host inc) m few a rest quiet = absurd m
-    by_entry e m few a rest quiet = (tt, rest few a)
+  one_entry id had n seats spares (e ∷ es) more at all few a = by_entry e all.0 few a (λ m b. one_entry id had n seats spares es more at all.1 m b)
+      (λ vs m b. quiet_entries id (allows had n) vs spares es more all.1 m b) where
+        by_entry : (e : PlainEntry) → MayRun id (allows had n) e → runs_in (e ∷ es) ≤ 1
+            → may_tell allows (cond (some_in (runs_in (e ∷ es))) (slice_set seats id.0 (Some (had, n + 1))) seats) spares more
+            → (runs_in es ≤ 1 → may_tell allows (cond (some_in (runs_in es)) (slice_set seats id.0 (Some (had, n + 1))) seats) spares more →
+            may_tell allows seats spares (es ++ more))
+            → ((vs : List (Option (A × ℕ))) → runs_in es ≡ 0 → may_tell allows vs spares more → may_tell allows vs spares (es ++ more))
+            → may_tell allows seats spares (e ∷ (es ++ more))
+        by_entry (PlainRun host q service request response hold) m few a rest quiet =
+            let here : place_of seats host.0 ≡ Some (had, n) = ap (λ (x : HostId). place_of seats x.0) m.0 ∙ at in
+            let after : slice_set seats host.0 (option_map (λ b. (b.0, b.1 + 1)) (place_of seats host.0)) ≡ slice_set seats id.0 (Some (had, n + 1)) =
+            ap (λ o. slice_set seats host.0 (option_map (λ b. (b.0, b.1 + 1)) o)) here ∙ ap (λ (x : HostId). slice_set seats x.0 (Some (had, n + 1))) m.0 in (
+              subst (λ o. MayAnswer allows o service request response hold) (sym here) m.1,
+              subst (λ vs. may_tell allows vs spares (es ++ more)) (sym after) (quiet (slice_set seats id.0 (Some (had, n + 1))) (omega (arith, few)) a),
+            )
+        by_entry (PlainRestart host inc) m few a rest quiet = absurd m
+        by_entry e m few a rest quiet = (tt, rest few a)

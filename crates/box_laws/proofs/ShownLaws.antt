@@ -17,7 +17,8 @@ pub none_shown : (n : ℕ) (told : List Told) → has_run told ≡ false → sho
 none_shown n [] e = refl
 none_shown n (Sends p ∷ told) e = none_shown (suc n) told e
 none_shown n (Says entry ∷ told) e = by_entry entry e (λ f. none_shown n told f) where
-  by_entry : (entry : PlainEntry) → has_run (Says entry ∷ told) ≡ false → (has_run told ≡ false → shown (entries_from n told) ≡ []) → shown (entry ∷ entries_from n told) ≡ []
+  by_entry : (entry : PlainEntry) → has_run (Says entry ∷ told) ≡ false → (has_run told ≡ false → shown (entries_from n told) ≡ [])
+      → shown (entry ∷ entries_from n told) ≡ []
   by_entry (PlainRun host id service request response hold) e rest = absurd (no e) where
     no : true ≡ false → ⊥
     no e = cc
@@ -37,11 +38,13 @@ Shows a (Says (PlainRun host id service request response hold)) = (response ≡ 
 Shows a told = Unit {0}
 
 -- where it was asked once, its answer is
-pub one_shown : (n : ℕ) (told : List Told) (a : Answer) → run_count told ≤ 1 → AllByRecursion (Shows a) told → shown (entries_from n told) ≡ cond (has_run told) (a ∷ []) []
+pub one_shown : (n : ℕ) (told : List Told) (a : Answer) → run_count told ≤ 1 → AllByRecursion (Shows a) told
+    → shown (entries_from n told) ≡ cond (has_run told) (a ∷ []) []
 one_shown n [] a l all = refl
 one_shown n (Sends p ∷ told) a l all = one_shown (suc n) told a l all.1
 one_shown n (Says entry ∷ told) a l all = by_entry entry l all.0 (λ m. one_shown n told a m all.1) where
-  by_entry : (entry : PlainEntry) → run_count (Says entry ∷ told) ≤ 1 → Shows a (Says entry) → (run_count told ≤ 1 → shown (entries_from n told) ≡ cond (has_run told) (a ∷ []) [])
+  by_entry : (entry : PlainEntry) → run_count (Says entry ∷ told) ≤ 1 → Shows a (Says entry)
+      → (run_count told ≤ 1 → shown (entries_from n told) ≡ cond (has_run told) (a ∷ []) [])
       → shown (entry ∷ entries_from n told) ≡ cond (has_run (Says entry ∷ told)) (a ∷ []) []
   by_entry (PlainRun host id service request response hold) l one rest =
       ap (λ more. record { bytes = response; hold = hold } ∷ more) (none_shown n told (quiet told (omega (arith, l))))
@@ -50,7 +53,8 @@ one_shown n (Says entry ∷ told) a l all = by_entry entry l all.0 (λ m. one_sh
 
 -- what each `run` line that is told shows
 pub all_show : (a : Answer) (told : List Told)
-    → ((host : HostId) (id : CallId) (service : ℕ) (request response : List ℕ) (hold : ℕ) → Contains told (Says (PlainRun host id service request response hold)) → (response ≡ a.bytes) × (hold ≡ a.hold))
+    → ((host : HostId) (id : CallId) (service : ℕ) (request response : List ℕ) (hold : ℕ) → Contains told
+    (Says (PlainRun host id service request response hold)) → (response ≡ a.bytes) × (hold ≡ a.hold))
     → AllByRecursion (Shows a) told
 all_show a told each = all_from (Shows a) told (λ t c. by_told t c) where
   by_told : (t : Told) → Contains told t → Shows a t

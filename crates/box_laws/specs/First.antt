@@ -8,7 +8,8 @@ use Rattle.box_laws.specs.Boxes.{Allows, counted, all_counted, may_tell}
 -- Each answer that the entries of a run show is one that the box of its host then may give, with its number of answers before.
 -- Box h is at host h, and the others are spare.
 abbrev pub AreAllowed : {S : Type 0} → (S → ℕ) → Allows S → List S → List PlainEntry → Type 0
-AreAllowed served allows boxes (PlainSettings s ∷ told) = may_tell allows (all_counted served (map Some (take s.hosts boxes))) (map (counted served) (drop s.hosts boxes)) told
+AreAllowed served allows boxes (PlainSettings s ∷ told) =
+    may_tell allows (all_counted served (map Some (take s.hosts boxes))) (map (counted served) (drop s.hosts boxes)) told
 AreAllowed served allows boxes told = shown told ≡ []
 
 -- there are enough boxes, whatever the settings, and none has answered yet

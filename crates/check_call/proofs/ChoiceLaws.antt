@@ -19,7 +19,8 @@ pub record Enters (m : Message) (ws : List Message) (n : ℕ) : Type 0 where
   pub changes : is_blocked m (slice_get ws n) ≡ false → insert (others m ws) n m ≡ entered sender_of key_of m ws
   pub inside : is_blocked m (slice_get ws n) ≡ false → n ≤ length (others m ws)
 
-enters_behind : (m w : Message) (ws : List Message) (b c : Bool) → is_below (key_of m) (key_of w) ≡ b → (sender_of w == sender_of m) ≡ c → Enters m ws (place_in m ws) → Enters m (w ∷ ws) (if b || c then 0 else suc (place_in m ws))
+enters_behind : (m w : Message) (ws : List Message) (b c : Bool) → is_below (key_of m) (key_of w) ≡ b → (sender_of w == sender_of m) ≡ c
+    → Enters m ws (place_in m ws) → Enters m (w ∷ ws) (if b || c then 0 else suc (place_in m ws))
 enters_behind m w ws true c e f i =
     record {
       stays = λ h. let x : false ≡ true = rw e at h in absurd cc;
@@ -58,8 +59,10 @@ drop_all (x ∷ xs) zero e = absurd (omega (arith, e))
 drop_all (x ∷ xs) (suc n) e = drop_all xs n (omega (arith, e))
 
 -- one message more, from the back
-pub one_chosen : (k i : ℕ) (xs chosen with : List Message) (d : Message) → i < length xs → chosen ≡ take k (firsts sender_of (ordered key_of (drop (length xs - i) xs)))
-    → with ≡ entered sender_of key_of (get_or xs (length xs - 1 - i) d) chosen → take k with ≡ take k (firsts sender_of (ordered key_of (drop (length xs - (i + 1)) xs)))
+pub one_chosen : (k i : ℕ) (xs chosen with : List Message) (d : Message) → i < length xs
+    → chosen ≡ take k (firsts sender_of (ordered key_of (drop (length xs - i) xs)))
+    → with ≡ entered sender_of key_of (get_or xs (length xs - 1 - i) d) chosen
+    → take k with ≡ take k (firsts sender_of (ordered key_of (drop (length xs - (i + 1)) xs)))
 one_chosen k i xs chosen with d h c w =
     let n : ℕ = length xs - (i + 1) in
     let at : length xs - 1 - i ≡ n = omega arith in

@@ -1,5 +1,6 @@
 -- What is kept of one call, and what that stands for.
-use Rattle.std.specs.Prelude.{◌≡◌, ℕ, ◌+◌, ◌-◌, ◌^◌, ◌≤◌, min, Bool, true, false, ◌&&◌, ◌==◌, nat_lt, nat_le, if◌then◌else◌, Option, None, Some, IfSome, List, [], ◌∷◌, length}
+use Rattle.std.specs.Prelude.{◌≡◌, ℕ, ◌+◌, ◌-◌, ◌^◌, ◌≤◌, min, Bool, true, false, ◌&&◌, ◌==◌, nat_lt, nat_le, if◌then◌else◌, Option, None, Some}
+use Rattle.std.specs.Prelude.{IfSome, List, [], ◌∷◌, length}
 use Rattle.std.specs.Option.{option_map, option_map_or}
 use Rattle.plain_sets.specs.Maps.{empty, len}
 use Rattle.plain_sets.specs.Numbers.{Numbers, with_range}

@@ -1,5 +1,6 @@
 -- Of a packet the length of its payload is enough, and of runs those of the call.
-use Rattle.std.proofs.Common.{◌≡◌, ℕ, zero, suc, ◌+◌, Bool, true, false, ◌&&◌, ◌||◌, not, Option, Some, None, List, [], ◌∷◌, ◌++◌, length, map, cond, refl, sym, ap, subst, ◌∙◌}
+use Rattle.std.proofs.Common.{◌≡◌, ℕ, zero, suc, ◌+◌, Bool, true, false, ◌&&◌, ◌||◌, not, Option, Some, None, List, [], ◌∷◌, ◌++◌, length, map, cond}
+use Rattle.std.proofs.Common.{refl, sym, ap, subst, ◌∙◌}
 use Rattle.std.specs.Prelude.{if◌then◌else◌, filter, replicate, ◌==◌, nat_lt, nat_le}
 use Rattle.std.specs.Option.{option_map, option_map_or}
 use Rattle.std.specs.List.{list_any, AllByRecursion}
@@ -15,7 +16,8 @@ use Rattle.homa_plain.specs.View.{Called, Sent, Ran, Ends, View, life, is_server
 use Rattle.homa_plain.specs.Laws.{is_run_in, answers}
 use Rattle.homa_plain.specs.Judge.{is_returned}
 use Rattle.homa_plain.proofs.CallOrder.{calls_are}
-use Rattle.check_laws.specs.Spots.{Spot, counted_spot, admitted_spot, delivered_spot, request_spot, response_spot, due_spot, due_with, due_request, due_response}
+use Rattle.check_laws.specs.Spots.{Spot, counted_spot, admitted_spot, delivered_spot, request_spot, response_spot, due_spot, due_with, due_request}
+use Rattle.check_laws.specs.Spots.{due_response}
 use Rattle.check_laws.specs.Kept.{lean, runs_of, is_here, is_in, AreMade}
 
 and_assoc : (a b c : Bool) → ((a && b) && c) ≡ (a && (b && c))
@@ -75,13 +77,16 @@ module _ (v : View) (p : Sent) where
 
 any_of : {X : Type 0} (p q : X → Bool) (xs : List X) → list_any (λ x. p x && q x) xs ≡ list_any q (filter p xs)
 any_of p q [] = refl
-any_of p q (x ∷ xs) = elim (p x) as (λ b. ((b && q x) || list_any (λ y. p y && q y) xs) ≡ list_any q (cond b (x ∷ filter p xs) (filter p xs))) [ true ↦ ap (λ b. q x || b) (any_of p q xs) | false ↦ any_of p q xs ]
+any_of p q (x ∷ xs) = elim (p x) as (λ b. ((b && q x) || list_any (λ y. p y && q y) xs) ≡ list_any q (cond b (x ∷ filter p xs) (filter p xs)))
+    [ true ↦ ap (λ b. q x || b) (any_of p q xs) | false ↦ any_of p q xs ]
 
 filter_of : {X : Type 0} (p q : X → Bool) (xs : List X) → filter (λ x. p x && q x) xs ≡ filter q (filter p xs)
 filter_of p q [] = refl
 filter_of p q (x ∷ xs) =
     elim (p x) as (λ b. cond (b && q x) (x ∷ filter (λ y. p y && q y) xs) (filter (λ y. p y && q y) xs) ≡ filter q (cond b (x ∷ filter p xs) (filter p xs))) [
-      | true ↦ elim (q x) as (λ c. cond c (x ∷ filter (λ y. p y && q y) xs) (filter (λ y. p y && q y) xs) ≡ cond c (x ∷ filter q (filter p xs)) (filter q (filter p xs))) [ true ↦ ap (λ ys. x ∷ ys) (filter_of p q xs) | false ↦ filter_of p q xs ]
+      | true ↦ elim (q x) as
+          (λ c. cond c (x ∷ filter (λ y. p y && q y) xs) (filter (λ y. p y && q y) xs) ≡ cond c (x ∷ filter q (filter p xs)) (filter q (filter p xs)))
+          [ true ↦ ap (λ ys. x ∷ ys) (filter_of p q xs) | false ↦ filter_of p q xs ]
       | false ↦ filter_of p q xs
     ]
 
@@ -92,7 +97,8 @@ run_here v host id =
 
 pub answers_of : (v : View) (id : CallId) (inc : ℕ) → answers v id inc ≡ map (λ r. r.response) (filter (is_in v id inc) (runs_of v id))
 answers_of v id inc =
-    ap (λ (f : Ran → Bool). map (λ (r : Ran). r.response) (filter f v.runs)) (λ i r. and_assoc (is_call r.id id) (is_server_of v id r.host) (option_map_or (λ x. x == inc) (incarnation v r.host r.life) false) i)
+    ap (λ (f : Ran → Bool). map (λ (r : Ran). r.response) (filter f v.runs))
+    (λ i r. and_assoc (is_call r.id id) (is_server_of v id r.host) (option_map_or (λ x. x == inc) (incarnation v r.host r.life) false) i)
     ∙ ap (map (λ (r : Ran). r.response)) (filter_of (λ (r : Ran). is_call r.id id) (is_in v id inc) v.runs)
 
 -- ---- the last byte
@@ -110,6 +116,7 @@ none_sent id n v fresh all = of_packets v.packets all where
   differs p made = elim (is_call p.id id) as (λ b. is_call p.id id ≡ b → b ≡ false)
       [ true ↦ λ t. absurd (true≢false (sym made ∙ ap (contains_key v.calls) ((calls_are p.id id).0 t) ∙ fresh)) | false ↦ λ t. refl ] refl
 
-  of_packets : (ps : List Sent) → AllByRecursion (λ (p : Sent). contains_key v.calls p.id ≡ true) ps → list_any (λ (p : Sent). has_last id n p p.body) ps ≡ false
+  of_packets : (ps : List Sent) → AllByRecursion (λ (p : Sent). contains_key v.calls p.id ≡ true) ps
+      → list_any (λ (p : Sent). has_last id n p p.body) ps ≡ false
   of_packets [] all = refl
   of_packets (p ∷ ps) all = ap (λ b. b || list_any (λ (q : Sent). has_last id n q q.body) ps) (other_call id n p p.body (differs p all.0)) ∙ of_packets ps all.1

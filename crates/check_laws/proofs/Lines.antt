@@ -5,10 +5,13 @@ use Rattle.std.specs.Option.{option_map, option_map_or}
 use Rattle.homa_plain.specs.declared.id.CallId.{CallId}
 use Rattle.homa_plain.specs.declared.id.HostId.{HostId}
 use Rattle.homa_plain.specs.declared.entry.Why.TheVariants.{Timeout, Forgotten}
-use Rattle.homa_plain.specs.Entries.{PlainEntry, PlainSettings, PlainCall, PlainDeliver, PlainClock, PlainRestart, PlainInject, PlainShift, PlainStale, PlainSend, PlainRun, PlainDone, PlainFail, PlainDrop, PlainGaps, PlainFullRows, PlainFullPages, PlainRecv}
+use Rattle.homa_plain.specs.Entries.{PlainEntry, PlainSettings, PlainCall, PlainDeliver, PlainClock, PlainRestart, PlainInject, PlainShift}
+use Rattle.homa_plain.specs.Entries.{PlainStale, PlainSend, PlainRun, PlainDone, PlainFail, PlainDrop, PlainGaps, PlainFullRows, PlainFullPages}
+use Rattle.homa_plain.specs.Entries.{PlainRecv}
 use Rattle.homa_plain.specs.Calls.{is_host, is_call}
 use Rattle.homa_plain.specs.View.{Sent, Progress, View}
-use Rattle.homa_plain.specs.Seen.{seen, with_line, seen_all, in_each, started, finished, restarted, said, begun, delivered, delivery, refused, stale, is_delivery_to}
+use Rattle.homa_plain.specs.Seen.{seen, with_line, seen_all, in_each, started, finished, restarted, said, begun, delivered, delivery, refused, stale}
+use Rattle.homa_plain.specs.Seen.{is_delivery_to}
 use Rattle.check_laws.specs.Spots.{Spot, spot, only, said_spot, finished_spot, started_spot, restarted_spot, Undo, IsSame, IsBut, IsUndo, undo_each}
 use Rattle.check_laws.specs.Steps.{unmoved, is_undone, delivered_at, taken_back, undone, refused_at, dropped_at, line_at, undo_of, undo_after}
 use Rattle.check_laws.proofs.Each.{each_started, each_finished, each_said, each_dropped, each_restarted}
@@ -19,20 +22,26 @@ undone_is : (v : View) (o : Option Undo) (host : HostId) (id : CallId) → IsUnd
 undone_is v None host id is = ap (λ came. option_map_or (λ (p : Sent). is_call p.id id && is_host p.to host) came false) is.2
 undone_is v (Some u) host id is = ap (λ came. option_map_or (λ (p : Sent). is_call p.id id && is_host p.to host) came false) is.came
 
-refused_spot : (v : View) (o : Option Undo) (host : HostId) (id q : CallId) → IsUndo v o → spot (refused v host id).now q ≡ refused_at o host id q (spot v.now q)
-refused_spot v o host id q is = ap (λ b. spot (if b then record v { now = v.if_refused } else v).now q) (undone_is v o host id is) ∙ by_test (is_undone o host id) where
-  there : (o : Option Undo) → IsUndo v o → spot v.if_refused q ≡ taken_back o q (spot v.now q)
-  there None is = is.0.spots q
-  there (Some u) is = is.refused q
+refused_spot : (v : View) (o : Option Undo) (host : HostId) (id q : CallId) → IsUndo v o
+    → spot (refused v host id).now q ≡ refused_at o host id q (spot v.now q)
+refused_spot v o host id q is =
+    ap (λ b. spot (if b then record v { now = v.if_refused } else v).now q) (undone_is v o host id is) ∙ by_test (is_undone o host id) where
+      there : (o : Option Undo) → IsUndo v o → spot v.if_refused q ≡ taken_back o q (spot v.now q)
+      there None is = is.0.spots q
+      there (Some u) is = is.refused q
 
-  by_test : (b : Bool) → spot (if b then record v { now = v.if_refused } else v).now q ≡ (if b then taken_back o q (spot v.now q) else spot v.now q)
-  by_test true = there o is
-  by_test false = refl
+      by_test : (b : Bool) → spot (if b then record v { now = v.if_refused } else v).now q ≡ (if b then taken_back o q (spot v.now q) else spot v.now q)
+      by_test true = there o is
+      by_test false = refl
 
 refused_undo : (v : View) (o : Option Undo) (host : HostId) (id : CallId) → IsUndo v o → IsUndo (refused v host id) o
 refused_undo v o host id is = by_test (is_delivery_to v host id) where
   there : (o : Option Undo) → IsUndo v o → IsUndo (record v { now = v.if_refused }) o
-  there None is = (record { spots = λ q. refl; came = refl; due = refl }, record { spots = λ q. is.1.spots q ∙ sym (is.0.spots q); came = is.1.came ∙ sym is.0.came; due = is.1.due ∙ sym is.0.due }, is.0.came ∙ is.2)
+  there None is = (
+    record { spots = λ q. refl; came = refl; due = refl },
+    record { spots = λ q. is.1.spots q ∙ sym (is.0.spots q); came = is.1.came ∙ sym is.0.came; due = is.1.due ∙ sym is.0.due },
+    is.0.came ∙ is.2,
+  )
   there (Some u) is = undo_refused v u is
 
   by_test : (b : Bool) → IsUndo (if b then record v { now = v.if_refused } else v) o
@@ -89,18 +98,27 @@ carried v u (Some x) now refused stale is = record {
 
 -- what can be taken back after a line, its place aside
 with_line_undo : (v : View) (o : Option Undo) (line : PlainEntry) → IsUndo v o → IsUndo (with_line v line) (undo_after v o line)
-with_line_undo v o (PlainCall id server service bytes) is = carried (in_each (started id) (begun v)) (with_line v (PlainCall id server service bytes)) (undo_after v o (PlainCall id server service bytes)) refl refl refl (undo_in_each _ _ (each_started id) (begun v) None (undo_begun v))
+with_line_undo v o (PlainCall id server service bytes) is = carried (in_each (started id) (begun v)) (with_line v (PlainCall id server service bytes))
+    (undo_after v o (PlainCall id server service bytes)) refl refl refl (undo_in_each _ _ (each_started id) (begun v) None (undo_begun v))
 with_line_undo v o (PlainDeliver packet) is = delivered_undo v (delivery v (PlainDeliver packet))
 with_line_undo v o (PlainRecv host from bytes) is = delivered_undo v (delivery v (PlainRecv host from bytes))
 with_line_undo v o (PlainClock tick) is = carried (begun v) (with_line v (PlainClock tick)) (undo_after v o (PlainClock tick)) refl refl refl (undo_begun v)
-with_line_undo v o (PlainRestart host inc) is = carried (in_each (restarted v host) (begun v)) (with_line v (PlainRestart host inc)) (undo_after v o (PlainRestart host inc)) refl refl refl (undo_in_each _ _ (each_restarted v host) (begun v) None (undo_begun v))
+with_line_undo v o (PlainRestart host inc) is = carried (in_each (restarted v host) (begun v)) (with_line v (PlainRestart host inc))
+    (undo_after v o (PlainRestart host inc)) refl refl refl (undo_in_each _ _ (each_restarted v host) (begun v) None (undo_begun v))
 with_line_undo v o (PlainInject host bytes) is = undo_begun v
-with_line_undo v o (PlainShift host n) is = carried (begun v) (with_line v (PlainShift host n)) (undo_after v o (PlainShift host n)) refl refl refl (undo_begun v)
+with_line_undo v o (PlainShift host n) is =
+    carried (begun v) (with_line v (PlainShift host n)) (undo_after v o (PlainShift host n)) refl refl refl (undo_begun v)
 with_line_undo v o (PlainStale host at now) is = undo_stale v o is
-with_line_undo v o (PlainSend number from to inc role id level body payload) is = carried (in_each (said v (record { from = from; to = to; inc = inc; role = role; id = id; body = body; payload = payload }) body) v) (with_line v (PlainSend number from to inc role id level body payload)) (undo_after v o (PlainSend number from to inc role id level body payload)) refl refl refl (undo_in_each _ _ (each_said v (record { from = from; to = to; inc = inc; role = role; id = id; body = body; payload = payload }) body) v o is)
-with_line_undo v o (PlainDone id bytes) is = carried (in_each (finished id) v) (with_line v (PlainDone id bytes)) (undo_after v o (PlainDone id bytes)) refl refl refl (undo_in_each _ _ (each_finished id) v o is)
+with_line_undo v o (PlainSend number from to inc role id level body payload) is =
+    carried (in_each (said v (record { from = from; to = to; inc = inc; role = role; id = id; body = body; payload = payload }) body) v)
+    (with_line v (PlainSend number from to inc role id level body payload)) (undo_after v o (PlainSend number from to inc role id level body payload))
+    refl refl refl
+    (undo_in_each _ _ (each_said v (record { from = from; to = to; inc = inc; role = role; id = id; body = body; payload = payload }) body) v o is)
+with_line_undo v o (PlainDone id bytes) is = carried (in_each (finished id) v) (with_line v (PlainDone id bytes))
+    (undo_after v o (PlainDone id bytes)) refl refl refl (undo_in_each _ _ (each_finished id) v o is)
 with_line_undo v o (PlainFail id Timeout) is = undo_in_each _ _ (each_finished id) v o is
-with_line_undo v o (PlainFail id Forgotten) is = carried (in_each (finished id) v) (with_line v (PlainFail id Forgotten)) (undo_after v o (PlainFail id Forgotten)) refl refl refl (undo_in_each _ _ (each_finished id) v o is)
+with_line_undo v o (PlainFail id Forgotten) is = carried (in_each (finished id) v) (with_line v (PlainFail id Forgotten))
+    (undo_after v o (PlainFail id Forgotten)) refl refl refl (undo_in_each _ _ (each_finished id) v o is)
 with_line_undo v o (PlainDrop host id) is = undo_in_each _ _ (each_dropped v host id) v o is
 with_line_undo v o (PlainGaps host id) is = refused_undo v o host id is
 with_line_undo v o (PlainFullRows host id rows limit) is = refused_undo v o host id is

@@ -6,7 +6,9 @@ use Rattle.homa_plain.specs.declared.id.CallId.{CallId}
 use Rattle.homa_plain.specs.declared.id.HostId.{HostId}
 use Rattle.homa_plain.specs.declared.settings.Settings.{Settings}
 use Rattle.homa_plain.specs.declared.entry.Why.TheVariants.{Timeout, Forgotten}
-use Rattle.homa_plain.specs.Entries.{PlainEntry, PlainSettings, PlainCall, PlainDeliver, PlainClock, PlainRestart, PlainInject, PlainShift, PlainStale, PlainSend, PlainRun, PlainDone, PlainFail, PlainDrop, PlainGaps, PlainFullRows, PlainFullPages, PlainRecv}
+use Rattle.homa_plain.specs.Entries.{PlainEntry, PlainSettings, PlainCall, PlainDeliver, PlainClock, PlainRestart, PlainInject, PlainShift}
+use Rattle.homa_plain.specs.Entries.{PlainStale, PlainSend, PlainRun, PlainDone, PlainFail, PlainDrop, PlainGaps, PlainFullRows, PlainFullPages}
+use Rattle.homa_plain.specs.Entries.{PlainRecv}
 use Rattle.homa_plain.specs.Calls.{is_host, is_call}
 use Rattle.homa_plain.specs.Parts.{Part}
 use Rattle.homa_plain.specs.View.{Sent, Progress, View, is_server_of}
@@ -44,7 +46,8 @@ module _ (w : ℕ) where
   keeps_restarted v host q s is = (none_if (not (is_server_of v q host)) s.request is.0, none_if (not (is_host q.client host)) s.response is.1)
 
   -- where one call alone changes, it is enough that it is within afterwards
-  one_call : (m n : Progress) (id : CallId) (g : Spot → Spot) → ((q : CallId) → spot n q ≡ only id g q (spot m q)) → ((q : CallId) → IsWithinSpot w (spot m q)) → IsWithinSpot w (spot n id)
+  one_call : (m n : Progress) (id : CallId) (g : Spot → Spot) → ((q : CallId) → spot n q ≡ only id g q (spot m q))
+      → ((q : CallId) → IsWithinSpot w (spot m q)) → IsWithinSpot w (spot n id)
       → (q : CallId) → IsWithinSpot w (spot n q)
   one_call m n id g is all here q =
       elim (is_call q id) as (λ b. is_call q id ≡ b → IsWithinSpot w (spot n q)) [
@@ -52,18 +55,21 @@ module _ (w : ℕ) where
         | false ↦ λ t. subst (IsWithinSpot w) (sym (is q ∙ ap (λ b. cond b (g (spot m q)) (spot m q)) t)) (all q)
       ] refl
 
-  kept : (m n : Progress) (at : CallId → Spot → Spot) → Keeps at → ((q : CallId) → spot n q ≡ at q (spot m q)) → ((q : CallId) → IsWithinSpot w (spot m q)) → (q : CallId) → IsWithinSpot w (spot n q)
+  kept : (m n : Progress) (at : CallId → Spot → Spot) → Keeps at → ((q : CallId) → spot n q ≡ at q (spot m q))
+      → ((q : CallId) → IsWithinSpot w (spot m q)) → (q : CallId) → IsWithinSpot w (spot n q)
   kept m n at keeps is all q = subst (IsWithinSpot w) (sym (is q)) (keeps q (spot m q) (all q))
 
   -- a change of one call, if there is one
   maybe_one : {A : Type 0} (call : A → CallId) (g : A → Spot → Spot) (o : Option A) (at : Option A → CallId → Spot → Spot)
       → ((q : CallId) (s : Spot) → at None q s ≡ s) → ((x : A) (q : CallId) (s : Spot) → at (Some x) q s ≡ only (call x) (g x) q s)
-      → (m n : Progress) → ((q : CallId) → spot n q ≡ at o q (spot m q)) → ((q : CallId) → IsWithinSpot w (spot m q)) → AtCall (λ id. IsWithinSpot w (spot n id)) (option_map call o)
+      → (m n : Progress) → ((q : CallId) → spot n q ≡ at o q (spot m q)) → ((q : CallId) → IsWithinSpot w (spot m q))
+      → AtCall (λ id. IsWithinSpot w (spot n id)) (option_map call o)
       → (q : CallId) → IsWithinSpot w (spot n q)
   maybe_one call g None at none some m n is all here q = subst (IsWithinSpot w) (sym (is q ∙ none q (spot m q))) (all q)
   maybe_one call g (Some x) at none some m n is all here q = one_call m n (call x) (g x) (λ r. is r ∙ some x r (spot m r)) all here q
 
-  refused_one : (o : Option Undo) (host : HostId) (id : CallId) (m n : Progress) → ((q : CallId) → spot n q ≡ refused_at o host id q (spot m q)) → ((q : CallId) → IsWithinSpot w (spot m q))
+  refused_one : (o : Option Undo) (host : HostId) (id : CallId) (m n : Progress) → ((q : CallId) → spot n q ≡ refused_at o host id q (spot m q))
+      → ((q : CallId) → IsWithinSpot w (spot m q))
       → AtCall (λ id. IsWithinSpot w (spot n id)) (option_map (λ u. u.packet.id) o) → (q : CallId) → IsWithinSpot w (spot n q)
   refused_one None host id m n is all here q = subst (IsWithinSpot w) (sym (is q)) (all q)
   refused_one (Some u) host id m n is all here q =
@@ -105,22 +111,30 @@ same_settings v line other = refl
 
 -- by the old settings
 by_old : (v : View) (o : Option Undo) (line : PlainEntry) → IsUndo v o → IsOther line → IsWithin v
-    → AtCall (λ id. IsWithinSpot v.settings.window (spot (seen v line).now id)) (to_test v o line) → (q : CallId) → IsWithinSpot v.settings.window (spot (seen v line).now q)
+    → AtCall (λ id. IsWithinSpot v.settings.window (spot (seen v line).now id)) (to_test v o line) → (q : CallId)
+    → IsWithinSpot v.settings.window (spot (seen v line).now q)
 by_old v o line is other all here = at_line line other (λ q. line_spot v o line q is) here where
   w : ℕ
   w = v.settings.window
 
-  at_line : (line : PlainEntry) → IsOther line → ((q : CallId) → spot (seen v line).now q ≡ line_at v o line q (spot v.now q)) → AtCall (λ id. IsWithinSpot w (spot (seen v line).now id)) (to_test v o line)
+  at_line : (line : PlainEntry) → IsOther line → ((q : CallId) → spot (seen v line).now q ≡ line_at v o line q (spot v.now q))
+      → AtCall (λ id. IsWithinSpot w (spot (seen v line).now id)) (to_test v o line)
       → (q : CallId) → IsWithinSpot w (spot (seen v line).now q)
   at_line (PlainSettings settings) other at here = absurd other
-  at_line (PlainCall id server service bytes) other at here = kept w v.now (seen v (PlainCall id server service bytes)).now (only id started_spot) (keeps_started w id) at all
+  at_line (PlainCall id server service bytes) other at here =
+      kept w v.now (seen v (PlainCall id server service bytes)).now (only id started_spot) (keeps_started w id) at all
   at_line (PlainDeliver packet) other at here =
-      maybe_one w (λ (p : Sent). p.id) (delivered_spot (begun v)) (delivery v (PlainDeliver packet)) (delivered_at (begun v)) (λ q s. refl) (λ p q s. refl) v.now (seen v (PlainDeliver packet)).now at all here
+      maybe_one w (λ (p : Sent). p.id) (delivered_spot (begun v)) (delivery v (PlainDeliver packet)) (delivered_at (begun v)) (λ q s. refl)
+      (λ p q s. refl) v.now (seen v (PlainDeliver packet)).now at all here
   at_line (PlainRecv host from bytes) other at here =
-      maybe_one w (λ (p : Sent). p.id) (delivered_spot (begun v)) (delivery v (PlainRecv host from bytes)) (delivered_at (begun v)) (λ q s. refl) (λ p q s. refl) v.now (seen v (PlainRecv host from bytes)).now at all here
+      maybe_one w (λ (p : Sent). p.id) (delivered_spot (begun v)) (delivery v (PlainRecv host from bytes)) (delivered_at (begun v)) (λ q s. refl)
+      (λ p q s. refl) v.now (seen v (PlainRecv host from bytes)).now at all here
   at_line (PlainRestart host inc) other at here = kept w v.now (seen v (PlainRestart host inc)).now (restarted_spot v host) (keeps_restarted w v host) at all
-  at_line (PlainStale host t now) other at here = maybe_one w (λ (u : Undo). u.packet.id) (λ u _. u.stale) o undone (λ q s. refl) (λ u q s. refl) v.now (seen v (PlainStale host t now)).now at all here
-  at_line (PlainSend number from to inc role id level body payload) other at here = one_call w v.now (seen v (PlainSend number from to inc role id level body payload)).now id (said_spot v (record { from = from; to = to; inc = inc; role = role; id = id; body = body; payload = payload }) body) at all here
+  at_line (PlainStale host t now) other at here =
+      maybe_one w (λ (u : Undo). u.packet.id) (λ u _. u.stale) o undone (λ q s. refl) (λ u q s. refl) v.now (seen v (PlainStale host t now)).now at all here
+  at_line (PlainSend number from to inc role id level body payload) other at here =
+      one_call w v.now (seen v (PlainSend number from to inc role id level body payload)).now id
+      (said_spot v (record { from = from; to = to; inc = inc; role = role; id = id; body = body; payload = payload }) body) at all here
   at_line (PlainDone id bytes) other at here = kept w v.now (seen v (PlainDone id bytes)).now (only id finished_spot) (keeps_finished w id) at all
   at_line (PlainFail id why) other at here = kept w v.now (seen v (PlainFail id why)).now (only id finished_spot) (keeps_finished w id) at all
   at_line (PlainDrop host id) other at here = kept w v.now (seen v (PlainDrop host id)).now (only id (dropped_at v host id)) (keeps_dropped w v host id) at all
@@ -131,4 +145,5 @@ by_old v o line is other all here = at_line line other (λ q. line_spot v o line
 
 pub within_line : (v : View) (o : Option Undo) (line : PlainEntry) → IsUndo v o → IsOther line → IsWithin v
     → AtCall (λ id. IsWithinSpot v.settings.window (spot (seen v line).now id)) (to_test v o line) → IsWithin (seen v line)
-within_line v o line is other all here = subst (λ (s : Settings). (q : CallId) → IsWithinSpot s.window (spot (seen v line).now q)) (sym (same_settings v line other)) (by_old v o line is other all here)
+within_line v o line is other all here = subst (λ (s : Settings). (q : CallId) → IsWithinSpot s.window (spot (seen v line).now q))
+    (sym (same_settings v line other)) (by_old v o line is other all here)

@@ -1,5 +1,6 @@
 -- Lines of events, one kind after the other.
-use Rattle.std.proofs.Common.{◌≡◌, ℕ, zero, suc, ◌+◌, ◌≤◌, arith, Bool, true, false, cond, not, ◌&&◌, Option, Some, None, List, [], ◌∷◌, ◌++◌, length, map, refl, sym, ap, ◌∙◌, subst}
+use Rattle.std.proofs.Common.{◌≡◌, ℕ, zero, suc, ◌+◌, ◌≤◌, arith, Bool, true, false, cond, not, ◌&&◌, Option, Some, None, List, [], ◌∷◌, ◌++◌, length}
+use Rattle.std.proofs.Common.{map, refl, sym, ap, ◌∙◌, subst}
 use Rattle.std.specs.Prelude.{if◌then◌else◌, ◌==◌, unwrap_or, slice_get, IfSome}
 use Rattle.std.specs.Option.{option_map, option_map_or}
 use Rattle.std.specs.Ordering.{nat_cmp}
@@ -26,7 +27,8 @@ use Rattle.check_call.specs.Calls.{spot_in, beside}
 use Rattle.check_lines.specs.declared.block.Here.{Here}
 use Rattle.check_lines.specs.declared.block.Named.TheVariants.{Nobody}
 use Rattle.check_lines.specs.declared.trace.Trace.{Trace}
-use Rattle.check_lines.specs.Traces.{Keeps, IsCallAt, IsKept, IsAbsent, IsDelivered, IsHere, is_incoming_at, call_at, host_at, lead_of, first_of, restarts_in, asked_of, awaited_of, due_of}
+use Rattle.check_lines.specs.Traces.{Keeps, IsCallAt, IsKept, IsAbsent, IsDelivered, IsHere, is_incoming_at, call_at, host_at, lead_of, first_of}
+use Rattle.check_lines.specs.Traces.{restarts_in, asked_of, awaited_of, due_of}
 use Rattle.check_lines.specs.Changes.{SameLists, SameLines, IsAfter, Takes}
 use Rattle.check_lines.proofs.KeepLaws.{found_call, stands_now, absent_now, incoming_of, host_turned}
 use Rattle.check_lines.proofs.TakeLaws.{keeps_lines}
@@ -35,7 +37,8 @@ use Rattle.check_lines.proofs.SendLaws.{number_tests}
 abbrev nobody : Here
 nobody = record { runs = Nobody; dones = Nobody; forgotten = Nobody }
 
-pub event_takes : (v : View) (o : Option Undo) (line : PlainEntry) (u : Trace) → Keeps (seen v line) u → u.delivery ≡ None → undo_after v o line ≡ None → (seen v line).now.due ≡ no_ends → (seen v line).here ≡ no_ends → u.here ≡ nobody → Takes v o line u
+pub event_takes : (v : View) (o : Option Undo) (line : PlainEntry) (u : Trace) → Keeps (seen v line) u → u.delivery ≡ None
+    → undo_after v o line ≡ None → (seen v line).now.due ≡ no_ends → (seen v line).here ≡ no_ends → u.here ≡ nobody → Takes v o line u
 event_takes v o line u kept none after due here is = record {
   kept = kept;
   delivered = subst (λ x. IsDelivered u u.delivery x) (sym after) (subst (λ d. IsDelivered u d None) (sym none) tt);
@@ -46,7 +49,9 @@ event_takes v o line u kept none after due here is = record {
 -- ---- deliveries
 
 begun_keeps : (v : View) (t : Trace) → Keeps v t → Keeps (begun v) t
-begun_keeps v t k = keeps_lines v (begun v) t (record { settings = refl; tick = refl; leads = refl; firsts = refl; restarts = refl; calls = refl; packets = refl; runs = refl }) (λ q. refl) k
+begun_keeps v t k =
+    keeps_lines v (begun v) t
+    (record { settings = refl; tick = refl; leads = refl; firsts = refl; restarts = refl; calls = refl; packets = refl; runs = refl }) (λ q. refl) k
 
 pub begin_keeps : (v : View) (t : Trace) → Keeps v t → Keeps (begun v) t
 begin_keeps = begun_keeps
@@ -55,22 +60,31 @@ no_here : (v : View) (o : Option Sent) → (delivered (begun v) o).here ≡ no_e
 no_here v None = refl
 no_here v (Some p) = refl
 
-after_takes : (v : View) (o : Option Undo) (line : PlainEntry) (u : Trace) (x : Option Sent) → SameLines (delivered (begun v) x) (seen v line) → ((q : CallId) → spot (seen v line).now q ≡ spot (delivered (begun v) x).now q) → (seen v line).now.due ≡ (delivered (begun v) x).now.due
-    → (seen v line).here ≡ (delivered (begun v) x).here → undo_after v o line ≡ option_map (undo_of (begun v)) x → IsAfter (begun v) x u → u.here ≡ nobody → Takes v o line u
+after_takes : (v : View) (o : Option Undo) (line : PlainEntry) (u : Trace) (x : Option Sent) → SameLines (delivered (begun v) x) (seen v line)
+    → ((q : CallId) → spot (seen v line).now q ≡ spot (delivered (begun v) x).now q) → (seen v line).now.due ≡ (delivered (begun v) x).now.due
+    → (seen v line).here ≡ (delivered (begun v) x).here → undo_after v o line ≡ option_map (undo_of (begun v)) x → IsAfter (begun v) x u
+    → u.here ≡ nobody → Takes v o line u
 after_takes v o line u x same spots due here after is none = record {
   kept = keeps_lines (delivered (begun v) x) (seen v line) u same spots is.kept;
   delivered = subst (λ y. IsDelivered u u.delivery y) (sym after) is.undo;
   due = due ∙ is.due;
-  here = subst (λ h. IsHere h (seen v line).here) (sym none) (subst (IsHere nobody) (sym (here ∙ no_here v x)) (record { runs = refl; dones = refl; forgotten = refl }));
+  here = subst (λ h. IsHere h (seen v line).here) (sym none)
+      (subst (IsHere nobody) (sym (here ∙ no_here v x)) (record { runs = refl; dones = refl; forgotten = refl }));
 }
 
-pub deliver_takes : (v : View) (o : Option Undo) (u : Trace) (n : ℕ) → IsAfter (begun v) (delivery v (PlainDeliver n)) u → u.here ≡ nobody → Takes v o (PlainDeliver n) u
+pub deliver_takes : (v : View) (o : Option Undo) (u : Trace) (n : ℕ) → IsAfter (begun v) (delivery v (PlainDeliver n)) u → u.here ≡ nobody
+    → Takes v o (PlainDeliver n) u
 unfolding seen
-deliver_takes v o u n is none = after_takes v o (PlainDeliver n) u (delivery v (PlainDeliver n)) (record { settings = refl; tick = refl; leads = refl; firsts = refl; restarts = refl; calls = refl; packets = refl; runs = refl }) (λ q. refl) refl refl refl is none
+deliver_takes v o u n is none = after_takes v o (PlainDeliver n) u (delivery v (PlainDeliver n))
+    (record { settings = refl; tick = refl; leads = refl; firsts = refl; restarts = refl; calls = refl; packets = refl; runs = refl })
+    (λ q. refl) refl refl refl is none
 
-pub recv_takes : (v : View) (o : Option Undo) (u : Trace) (host from : HostId) (bytes : List ℕ) → IsAfter (begun v) (delivery v (PlainRecv host from bytes)) u → u.here ≡ nobody → Takes v o (PlainRecv host from bytes) u
+pub recv_takes : (v : View) (o : Option Undo) (u : Trace) (host from : HostId) (bytes : List ℕ)
+    → IsAfter (begun v) (delivery v (PlainRecv host from bytes)) u → u.here ≡ nobody → Takes v o (PlainRecv host from bytes) u
 unfolding seen
-recv_takes v o u host from bytes is none = after_takes v o (PlainRecv host from bytes) u (delivery v (PlainRecv host from bytes)) (record { settings = refl; tick = refl; leads = refl; firsts = refl; restarts = refl; calls = refl; packets = refl; runs = refl }) (λ q. refl) refl refl refl is none
+recv_takes v o u host from bytes is none = after_takes v o (PlainRecv host from bytes) u (delivery v (PlainRecv host from bytes))
+    (record { settings = refl; tick = refl; leads = refl; firsts = refl; restarts = refl; calls = refl; packets = refl; runs = refl })
+    (λ q. refl) refl refl refl is none
 
 -- a packet by its number
 map_got : {A B : Type 0} (f : A → B) (xs : List A) (n : ℕ) → slice_get (map f xs) n ≡ option_map f (slice_get xs n)
@@ -84,11 +98,14 @@ packet_got v t n keeps = ap (λ ps. slice_get ps n) (sym keeps.packets) ∙ map_
 -- ---- clocks
 
 -- a call of which the lines say the same
-call_begun : (v w : View) (q : CallId) (o : Option Call) → w.calls ≡ v.calls → w.packets ≡ v.packets → w.runs ≡ v.runs → w.restarts ≡ v.restarts → w.settings ≡ v.settings → ((q : CallId) → spot w.now q ≡ spot v.now q) → IsCallAt v q o → IsCallAt w q o
+call_begun : (v w : View) (q : CallId) (o : Option Call) → w.calls ≡ v.calls → w.packets ≡ v.packets → w.runs ≡ v.runs → w.restarts ≡ v.restarts
+    → w.settings ≡ v.settings → ((q : CallId) → spot w.now q ≡ spot v.now q) → IsCallAt v q o → IsCallAt w q o
 call_begun v w q o calls packets runs restarts settings spots k =
-    subst (λ x. IsCallAt x q o) (λ i. record w { calls = sym calls i; packets = sym packets i; runs = sym runs i; restarts = sym restarts i; settings = sym settings i }) (by_call o k)
+    subst (λ x. IsCallAt x q o)
+    (λ i. record w { calls = sym calls i; packets = sym packets i; runs = sym runs i; restarts = sym restarts i; settings = sym settings i }) (by_call o k)
   where
-    by_call : (o : Option Call) → IsCallAt v q o → IsCallAt (record w { calls = v.calls; packets = v.packets; runs = v.runs; restarts = v.restarts; settings = v.settings }) q o
+    by_call : (o : Option Call) → IsCallAt v q o
+        → IsCallAt (record w { calls = v.calls; packets = v.packets; runs = v.runs; restarts = v.restarts; settings = v.settings }) q o
     by_call None k = record { called = k.called; runs = k.runs; now = spots q ∙ k.now }
     by_call (Some c) k = record {
       called = k.called;
@@ -97,7 +114,8 @@ call_begun v w q o calls packets runs restarts settings spots k =
       runs = k.runs;
       client_life = k.client_life;
       server_life = k.server_life;
-      now = subst (StandsFor (beside q.client v.settings.resend c) (spot_in c (record { client = life v q.client; server = life v c.server }))) (sym (spots q)) k.now;
+      now = subst (StandsFor (beside q.client v.settings.resend c) (spot_in c (record { client = life v q.client; server = life v c.server })))
+          (sym (spots q)) k.now;
     }
 
 pub clock_keeps : (v : View) (t u : Trace) (tick : ℕ) → Keeps v t → u ≡ record t { tick = tick } → Keeps (seen v (PlainClock tick)) u
@@ -117,8 +135,10 @@ clock_keeps v t u tick k e = subst (Keeps (seen v (PlainClock tick))) (sym e) (r
 host_got : {X : Type 0} (m : Map nat_cmp X) (host h : HostId) (x : X) → get (insert m host.0 x) h.0 ≡ (if is_host h host then Some x else get m h.0)
 host_got m host h x = get-insert nat_cmp_total m host.0 x h.0 ∙ ap (λ b. cond b (Some x) (get m h.0)) (number_tests h.0 host.0)
 
-pub shift_keeps : (v : View) (t u : Trace) (host : HostId) (n : ℕ) → Keeps v t → u ≡ record t { hosts = u.hosts } → ((h : HostId) → lead_of (host_at u h) ≡ (if is_host h host then Some n else lead_of (host_at t h)))
-    → ((h : HostId) → first_of (host_at u h) ≡ first_of (host_at t h)) → ((h : HostId) → restarts_in (host_at u h) ≡ restarts_in (host_at t h)) → SameLists t u → Keeps (seen v (PlainShift host n)) u
+pub shift_keeps : (v : View) (t u : Trace) (host : HostId) (n : ℕ) → Keeps v t → u ≡ record t { hosts = u.hosts }
+    → ((h : HostId) → lead_of (host_at u h) ≡ (if is_host h host then Some n else lead_of (host_at t h)))
+    → ((h : HostId) → first_of (host_at u h) ≡ first_of (host_at t h)) → ((h : HostId) → restarts_in (host_at u h) ≡ restarts_in (host_at t h))
+    → SameLists t u → Keeps (seen v (PlainShift host n)) u
 unfolding seen
 shift_keeps v t u host n k e lead first restarts lists = subst (Keeps (seen v (PlainShift host n))) (sym e) (record {
   settings = k.settings;
@@ -138,7 +158,9 @@ shift_keeps v t u host n k e lead first restarts lists = subst (Keeps (seen v (P
 
 pub inject_keeps : (v : View) (t : Trace) (host : HostId) (bytes : List ℕ) → Keeps v t → Keeps (seen v (PlainInject host bytes)) t
 unfolding seen
-inject_keeps v t host bytes k = keeps_lines v (seen v (PlainInject host bytes)) t (record { settings = refl; tick = refl; leads = refl; firsts = refl; restarts = refl; calls = refl; packets = refl; runs = refl }) (λ q. refl) k
+inject_keeps v t host bytes k =
+    keeps_lines v (seen v (PlainInject host bytes)) t
+    (record { settings = refl; tick = refl; leads = refl; firsts = refl; restarts = refl; calls = refl; packets = refl; runs = refl }) (λ q. refl) k
 
 -- ---- the block that begins
 
@@ -195,7 +217,8 @@ module _ (v : View) (t : Trace) (host : HostId) (inc : ℕ) (keeps : Keeps v t) 
   restarts_after : (h : HostId) → restarts_of after h ≡ (if is_host h host then restarts_of v h ++ inc ∷ [] else restarts_of v h)
   unfolding seen
   restarts_after h = ap (λ o. unwrap_or o []) (host_got v.restarts host h (restarts_of v host ++ inc ∷ [])) ∙ by_test (is_host h host) refl where
-    by_test : (b : Bool) → is_host h host ≡ b → unwrap_or (if b then Some (restarts_of v host ++ inc ∷ []) else get v.restarts h.0) [] ≡ (if b then restarts_of v h ++ inc ∷ [] else restarts_of v h)
+    by_test : (b : Bool) → is_host h host ≡ b → unwrap_or (if b then Some (restarts_of v host ++ inc ∷ []) else get v.restarts h.0)
+        [] ≡ (if b then restarts_of v h ++ inc ∷ [] else restarts_of v h)
     by_test true e = ap (λ (x : HostId). restarts_of v x ++ inc ∷ []) (sym ((hosts_are h host).0 e))
     by_test false e = refl
 
@@ -210,14 +233,16 @@ module _ (v : View) (t : Trace) (host : HostId) (inc : ℕ) (keeps : Keeps v t) 
   life_else h e = ap length (restarts_after h ∙ ap (λ b. if b then restarts_of v h ++ inc ∷ [] else restarts_of v h) e)
 
   life_grows : (h : HostId) → life v h ≤ life after h
-  life_grows h = elim (is_host h host) as (λ b. is_host h host ≡ b → life v h ≤ life after h) [ true ↦ λ e. omega (arith, life_then h e) | false ↦ λ e. omega (arith, life_else h e) ] refl
+  life_grows h = elim (is_host h host) as (λ b. is_host h host ≡ b → life v h ≤ life after h)
+      [ true ↦ λ e. omega (arith, life_then h e) | false ↦ λ e. omega (arith, life_else h e) ] refl
 
   spots_after : (q : CallId) → spot after.now q ≡ restarted_spot v host q (spot v.now q)
   unfolding seen
   spots_after q = (each_restarted v host).spots (begun v).now q
 
   -- what is read in the present life: nothing of an earlier one
-  in_life : {A : Type 0} (h : HostId) (n : ℕ) (b : Bool) (k : Option A) → is_host h host ≡ b → n ≤ life v h → (if n == life after h then k else None) ≡ (if not b then (if n == life v h then k else None) else None)
+  in_life : {A : Type 0} (h : HostId) (n : ℕ) (b : Bool) (k : Option A) → is_host h host ≡ b → n ≤ life v h
+      → (if n == life after h then k else None) ≡ (if not b then (if n == life v h then k else None) else None)
   in_life h n true k e l = let test : (n == life after h) ≡ false = grind (arith, nat_tests, life_then h e, l) in ap (λ b. if b then k else None) test
   in_life h n false k e l = ap (λ m. if n == m then k else None) (life_else h e)
 
@@ -245,14 +270,24 @@ module _ (v : View) (t : Trace) (host : HostId) (inc : ℕ) (keeps : Keeps v t) 
         runs = k.runs;
         client_life = omega (arith, k.client_life, life_grows q.client);
         server_life = omega (arith, k.server_life, life_grows c.server);
-        now = subst (StandsFor (beside q.client v.settings.resend c) (spot_in c (record { client = life after q.client; server = life after c.server }))) (sym (spots_after q)) (record {
-          live = ap (λ x. if not (is_host q.client host) then x else None) s.live ∙ sym live_in;
-          request = (λ i. if not (server i) then s.request i else None) ∙ (sym (mapped_in (part_of c.server q.client c.asked) (is_host c.server host) (if c.lives.server == life v c.server then c.spot.request else None)) ∙ ap (option_map (part_of c.server q.client c.asked)) (sym request_in));
-          response = ap (λ x. if not (is_host q.client host) then x else None) s.response ∙ (sym (mapped_in (part_of q.client c.server c.answered) (is_host q.client host) (if c.lives.client == life v q.client then c.spot.response else None)) ∙ ap (option_map (part_of q.client c.server c.answered)) (sym response_in));
-          request_count = subst (λ x. IfSome x (IsCounted c.asked)) (sym request_in) (counted_in (IsCounted c.asked) (is_host c.server host) (if c.lives.server == life v c.server then c.spot.request else None) s.request_count);
-          response_count = subst (λ x. IfSome x (IsCounted c.answered)) (sym response_in) (counted_in (IsCounted c.answered) (is_host q.client host) (if c.lives.client == life v q.client then c.spot.response else None) s.response_count);
-          resends = s.resends;
-        });
+        now = subst (StandsFor (beside q.client v.settings.resend c)
+            (spot_in c (record { client = life after q.client; server = life after c.server }))) (sym (spots_after q)) (record {
+              live = ap (λ x. if not (is_host q.client host) then x else None) s.live ∙ sym live_in;
+              request = (λ i. if not (server i) then s.request i else None)
+                  ∙ (sym (mapped_in (part_of c.server q.client c.asked) (is_host c.server host)
+                  (if c.lives.server == life v c.server then c.spot.request else None)) ∙ ap (option_map (part_of c.server q.client c.asked)) (sym request_in));
+              response = ap (λ x. if not (is_host q.client host) then x else None) s.response
+                  ∙ (sym (mapped_in (part_of q.client c.server c.answered) (is_host q.client host)
+                  (if c.lives.client == life v q.client then c.spot.response else None)) ∙ ap (option_map (part_of q.client c.server c.answered))
+                  (sym response_in));
+              request_count =
+                  subst (λ x. IfSome x (IsCounted c.asked)) (sym request_in)
+                  (counted_in (IsCounted c.asked) (is_host c.server host) (if c.lives.server == life v c.server then c.spot.request else None) s.request_count);
+              response_count = subst (λ x. IfSome x (IsCounted c.answered)) (sym response_in)
+                  (counted_in (IsCounted c.answered) (is_host q.client host) (if c.lives.client == life v q.client then c.spot.response else None)
+                  s.response_count);
+              resends = s.resends;
+            });
       }
 
   none_of : (b : Bool) → (let o : Option Part = None in (if not b then o else None) ≡ o)
@@ -264,7 +299,13 @@ module _ (v : View) (t : Trace) (host : HostId) (inc : ℕ) (keeps : Keeps v t) 
   nothing_of false = refl
 
   restarted_none : (q : CallId) → restarted_spot v host q no_spot ≡ no_spot
-  restarted_none q = λ i. record { live = nothing_of (is_host q.client host) i; request = none_of (is_server_of v q host) i; response = none_of (is_host q.client host) i; resends = [] }
+  restarted_none q =
+      λ i. record {
+        live = nothing_of (is_host q.client host) i;
+        request = none_of (is_server_of v q host) i;
+        response = none_of (is_host q.client host) i;
+        resends = [];
+      }
 
   restarted_at : (q : CallId) (o : Option Call) → call_at t q ≡ o → IsCallAt after q o
   unfolding seen
@@ -274,7 +315,8 @@ module _ (v : View) (t : Trace) (host : HostId) (inc : ℕ) (keeps : Keeps v t) 
   restarted_at q (Some c) e = restarted_call q c e
 
   -- of the messages of a host that restarts none is left, and those of the others stay
-  list_by : (h mine peer : HostId) (set : Numbers) (o : Option Part) (k : Option KeptPart) (a : Bool) → o ≡ option_map (part_of mine peer set) k → a ≡ is_incoming_at h o
+  list_by : (h mine peer : HostId) (set : Numbers) (o : Option Part) (k : Option KeptPart) (a : Bool) → o ≡ option_map (part_of mine peer set) k
+      → a ≡ is_incoming_at h o
       → (b c : Bool) → is_host h host ≡ b → is_host mine host ≡ c → (if b then false else a) ≡ is_incoming_at h (if not c then o else None)
   list_by h mine peer set o k a e is true true x y = refl
   list_by h mine peer set o k a e is true false x y =
@@ -283,27 +325,34 @@ module _ (v : View) (t : Trace) (host : HostId) (inc : ℕ) (keeps : Keeps v t) 
       is ∙ (incoming_of h mine peer set o k e ∙ ap (λ b. b && is_incoming o) (host_turned mine h ∙ (ap (is_host h) ((hosts_are mine host).0 y) ∙ x)))
   list_by h mine peer set o k a e is false false x y = is
 
-  asked_after : (h : HostId) (q : CallId) (o : Option Call) → call_at t q ≡ o → (if is_host h host then false else asked_of (host_at t h) q) ≡ is_incoming_at h (restarted_spot v host q (spot v.now q)).request
+  asked_after : (h : HostId) (q : CallId) (o : Option Call) → call_at t q ≡ o
+      → (if is_host h host then false else asked_of (host_at t h) q) ≡ is_incoming_at h (restarted_spot v host q (spot v.now q)).request
   asked_after h q None e =
       let none : (spot v.now q).request ≡ None = ap (λ s. s.request) (absent_now v t q keeps e) in
       no_list h (asked_of (host_at t h) q) ((keeps.listed h).asked q ∙ ap (is_incoming_at h) none) (is_host h host)
       ∙ sym (ap (λ x. is_incoming_at h (if not (is_server_of v q host) then x else None)) none ∙ ap (is_incoming_at h) (none_of (is_server_of v q host)))
   asked_after h q (Some c) e =
-      let server : is_server_of v q host ≡ is_host c.server host = ap (λ (d : Option Called). option_map_or (λ y. is_host y.server host) d false) (found_call v t q c keeps e).called in
-      list_by h c.server q.client c.asked (spot v.now q).request _ (asked_of (host_at t h) q) (stands_now v t q c keeps e).request ((keeps.listed h).asked q) (is_host h host) (is_host c.server host) refl refl
+      let server : is_server_of v q host ≡ is_host c.server host =
+      ap (λ (d : Option Called). option_map_or (λ y. is_host y.server host) d false) (found_call v t q c keeps e).called in
+      list_by h c.server q.client c.asked (spot v.now q).request _ (asked_of (host_at t h) q) (stands_now v t q c keeps e).request
+      ((keeps.listed h).asked q) (is_host h host) (is_host c.server host) refl refl
       ∙ ap (λ b. is_incoming_at h (if not b then (spot v.now q).request else None)) (sym server)
 
-  awaited_after : (h : HostId) (q : CallId) (o : Option Call) → call_at t q ≡ o → (if is_host h host then false else awaited_of (host_at t h) q) ≡ is_incoming_at h (restarted_spot v host q (spot v.now q)).response
+  awaited_after : (h : HostId) (q : CallId) (o : Option Call) → call_at t q ≡ o
+      → (if is_host h host then false else awaited_of (host_at t h) q) ≡ is_incoming_at h (restarted_spot v host q (spot v.now q)).response
   awaited_after h q None e =
       let none : (spot v.now q).response ≡ None = ap (λ s. s.response) (absent_now v t q keeps e) in
       no_list h (awaited_of (host_at t h) q) ((keeps.listed h).awaited q ∙ ap (is_incoming_at h) none) (is_host h host)
       ∙ sym (ap (λ x. is_incoming_at h (if not (is_host q.client host) then x else None)) none ∙ ap (is_incoming_at h) (none_of (is_host q.client host)))
   awaited_after h q (Some c) e =
-      list_by h q.client c.server c.answered (spot v.now q).response _ (awaited_of (host_at t h) q) (stands_now v t q c keeps e).response ((keeps.listed h).awaited q) (is_host h host) (is_host q.client host) refl refl
+      list_by h q.client c.server c.answered (spot v.now q).response _ (awaited_of (host_at t h) q) (stands_now v t q c keeps e).response
+      ((keeps.listed h).awaited q) (is_host h host) (is_host q.client host) refl refl
 
-  pub restart_keeps : (u : Trace) → u ≡ record t { hosts = u.hosts } → ((h : HostId) → restarts_in (host_at u h) ≡ (if is_host h host then restarts_in (host_at t h) ++ inc ∷ [] else restarts_in (host_at t h)))
+  pub restart_keeps : (u : Trace) → u ≡ record t { hosts = u.hosts }
+      → ((h : HostId) → restarts_in (host_at u h) ≡ (if is_host h host then restarts_in (host_at t h) ++ inc ∷ [] else restarts_in (host_at t h)))
       → ((h : HostId) → lead_of (host_at u h) ≡ lead_of (host_at t h)) → ((h : HostId) → first_of (host_at u h) ≡ first_of (host_at t h))
-      → ((h : HostId) (q : CallId) → asked_of (host_at u h) q ≡ (if is_host h host then false else asked_of (host_at t h) q)) → ((h : HostId) (q : CallId) → awaited_of (host_at u h) q ≡ (if is_host h host then false else awaited_of (host_at t h) q)) → Keeps after u
+      → ((h : HostId) (q : CallId) → asked_of (host_at u h) q ≡ (if is_host h host then false else asked_of (host_at t h) q))
+      → ((h : HostId) (q : CallId) → awaited_of (host_at u h) q ≡ (if is_host h host then false else awaited_of (host_at t h) q)) → Keeps after u
   unfolding seen
   restart_keeps u e restarts lead first asked awaited = subst (Keeps after) (sym e) (record {
     settings = keeps.settings;

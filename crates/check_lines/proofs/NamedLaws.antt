@@ -42,12 +42,14 @@ pub other_due : (id d : CallId) (ids : List CallId) → id ≢ d → 0 < length 
 other_due id d ids n h all = ap (λ b. b && (has_call ids d && true)) (other_has id d ids n h all)
 
 -- one more, other than those before it
-pub one_more : (id other d : CallId) (ids : List CallId) → other ≢ id → 0 < length ids → AllByRecursion (λ q. q ≡ other) ids → ((is_call id d || false) && list_all (has_call (d ∷ [])) ids) ≡ false
+pub one_more : (id other d : CallId) (ids : List CallId) → other ≢ id → 0 < length ids → AllByRecursion (λ q. q ≡ other) ids
+    → ((is_call id d || false) && list_all (has_call (d ∷ [])) ids) ≡ false
 one_more id other d ids n h all =
     elim (is_call id d) as (λ b. is_call id d ≡ b → ((b || false) && list_all (has_call (d ∷ [])) ids) ≡ false)
     [ true ↦ λ e. other_has other d ids (λ p. n (p ∙ sym ((calls_are id d).0 e))) h all | false ↦ λ e. refl ] refl
 
 -- several
-pub several_due : (ids : List CallId) (due : Option CallId) → 0 < length ids → ((d : CallId) → list_all (has_call (d ∷ [])) ids ≡ false) → false ≡ are_same_calls ids (option_to_list due)
+pub several_due : (ids : List CallId) (due : Option CallId) → 0 < length ids → ((d : CallId) → list_all (has_call (d ∷ [])) ids ≡ false)
+    → false ≡ are_same_calls ids (option_to_list due)
 several_due ids None h s = sym (not_due ids h)
 several_due ids (Some d) h s = sym (ap (λ b. b && (has_call ids d && true)) (s d))

@@ -1,5 +1,6 @@
 -- Calls at the places of their ids.
-use Rattle.std.proofs.Common.{◌≡◌, ℕ, zero, suc, ◌+◌, ◌<◌, ◌≤◌, arith, Bool, true, false, ◌&&◌, cond, Some, None, List, [], ◌∷◌, ◌++◌, length, refl, sym, ap, ◌∙◌, Decides, subst}
+use Rattle.std.proofs.Common.{◌≡◌, ℕ, zero, suc, ◌+◌, ◌<◌, ◌≤◌, arith, Bool, true, false, ◌&&◌, cond, Some, None, List, [], ◌∷◌, ◌++◌, length, refl}
+use Rattle.std.proofs.Common.{sym, ap, ◌∙◌, Decides, subst}
 use Rattle.std.specs.Prelude.{if◌then◌else◌, ◌==◌, is_some, slice_get, slice_set, position}
 use Rattle.std.specs.Option.{option_map}
 use Rattle.std.specs.List.{position_from}
@@ -32,7 +33,8 @@ fields a b = (
       let y = eqb-true a.inc b.inc q.0 in
       let z = eqb-true a.seq b.seq q.1 in
       λ i. record { client = record { 0 = x i }; inc = y i; seq = z i },
-  λ e. subst (λ (c : CallId). (a.client.0 == c.client.0 && (a.inc == c.inc && a.seq == c.seq)) ≡ true) e (rw (eq-eqb a.client.0 a.client.0 refl, eq-eqb a.inc a.inc refl, eq-eqb a.seq a.seq refl) refl),
+  λ e. subst (λ (c : CallId). (a.client.0 == c.client.0 && (a.inc == c.inc && a.seq == c.seq)) ≡ true) e
+      (rw (eq-eqb a.client.0 a.client.0 refl, eq-eqb a.inc a.inc refl, eq-eqb a.seq a.seq refl) refl),
 )
 
 pub same_id : (a b : CallId) → (a.client.0 == b.client.0 && (a.inc == b.inc && a.seq == b.seq)) ≡ is_call a b
@@ -50,11 +52,13 @@ pub record IsFound (ks : List CallId) (cs : List Call) (q : CallId) (i m : ℕ) 
 some_is : {A : Type 0} (x y : A) → Some x ≡ Some y → x ≡ y
 some_is x y h = cc
 
-found_step : (k : CallId) (ks : List CallId) (cs : List Call) (q : CallId) (i m : ℕ) (b : Bool) → is_call q k ≡ b → cond b (Some i) (position_from (is_call q) (i + 1) ks) ≡ Some m
+found_step : (k : CallId) (ks : List CallId) (cs : List Call) (q : CallId) (i m : ℕ) (b : Bool) → is_call q k ≡ b
+    → cond b (Some i) (position_from (is_call q) (i + 1) ks) ≡ Some m
     → ((ds : List Call) → position_from (is_call q) (i + 1) ks ≡ Some m → IsFound ks ds q (i + 1) m) → IsFound (k ∷ ks) cs q i m
 found_step k ks [] q i m true e h rest = record { n = 0; at = sym (some_is i m h) ∙ omega arith; place = λ l. absurd (omega (arith, l)); beyond = λ l. refl }
 found_step k ks (c ∷ cs) q i m true e h rest = record { n = 0; at = sym (some_is i m h) ∙ omega arith; place = λ l. e; beyond = λ l. absurd (omega (arith, l)) }
-found_step k ks [] q i m false e h rest = let f = rest [] h in record { n = suc f.n; at = f.at ∙ omega arith; place = λ l. absurd (omega (arith, l)); beyond = λ l. refl }
+found_step k ks [] q i m false e h rest =
+    let f = rest [] h in record { n = suc f.n; at = f.at ∙ omega arith; place = λ l. absurd (omega (arith, l)); beyond = λ l. refl }
 found_step k ks (c ∷ cs) q i m false e h rest =
     let f = rest cs h in
     record {
@@ -68,7 +72,8 @@ found_from : (ks : List CallId) (cs : List Call) (q : CallId) (i m : ℕ) → po
 found_from [] cs q i m h = absurd cc
 found_from (k ∷ ks) cs q i m h = found_step k ks cs q i m (is_call q k) refl h (λ ds. found_from ks ds q (i + 1) m)
 
-none_step : (k : CallId) (ks : List CallId) (c : Call) (cs : List Call) (q : CallId) (i : ℕ) (b : Bool) → is_call q k ≡ b → cond b (Some i) (position_from (is_call q) (i + 1) ks) ≡ None
+none_step : (k : CallId) (ks : List CallId) (c : Call) (cs : List Call) (q : CallId) (i : ℕ) (b : Bool) → is_call q k ≡ b
+    → cond b (Some i) (position_from (is_call q) (i + 1) ks) ≡ None
     → (position_from (is_call q) (i + 1) ks ≡ None → call_in ks cs q ≡ None) → call_in (k ∷ ks) (c ∷ cs) q ≡ None
 none_step k ks c cs q i true e h rest = absurd cc
 none_step k ks c cs q i false e h rest = ap (λ b. cond b (Some c) (call_in ks cs q)) e ∙ rest h
@@ -79,11 +84,13 @@ none_from (k ∷ ks) [] q i h = refl
 none_from (k ∷ ks) (c ∷ cs) q i h = none_step k ks c cs q i (is_call q k) refl h (none_from ks cs q (i + 1))
 
 -- the test may be written otherwise
-pub place_found : (t : CallId → Bool) (ks : List CallId) (cs : List Call) (q : CallId) (m : ℕ) → ((k : CallId) → t k ≡ is_call q k) → position t ks ≡ Some m → IsFound ks cs q 0 m
+pub place_found : (t : CallId → Bool) (ks : List CallId) (cs : List Call) (q : CallId) (m : ℕ) → ((k : CallId) → t k ≡ is_call q k)
+    → position t ks ≡ Some m → IsFound ks cs q 0 m
 place_found t ks cs q m same h =
     found_from ks cs q 0 m (sym (position_from-zero (is_call q) ks) ∙ (sym (ap (λ (f : CallId → Bool). position f ks) (λ i k. same k i)) ∙ h))
 
-pub place_none : (t : CallId → Bool) (ks : List CallId) (cs : List Call) (q : CallId) → ((k : CallId) → t k ≡ is_call q k) → position t ks ≡ None → call_in ks cs q ≡ None
+pub place_none : (t : CallId → Bool) (ks : List CallId) (cs : List Call) (q : CallId) → ((k : CallId) → t k ≡ is_call q k) → position t ks ≡ None
+    → call_in ks cs q ≡ None
 place_none t ks cs q same h =
     none_from ks cs q 0 (sym (position_from-zero (is_call q) ks) ∙ (sym (ap (λ (f : CallId → Bool). position f ks) (λ i k. same k i)) ∙ h))
 
@@ -119,34 +126,44 @@ own_id id q k h =
     same_tests _ _ (q ≡ k) (calls_are q k) (λ e. sym ((calls_are id q).0 e) ∙ is, λ e. (calls_are id q).1 (is ∙ sym e))
 
 -- one call is replaced
-pub call_replaced : (ks : List CallId) (cs : List Call) (id : CallId) (n : ℕ) (d : Call) (q : CallId) → IsPlaceIn ks cs id n → call_in ks (slice_set cs n d) q ≡ (if is_call id q then Some d else call_in ks cs q)
+pub call_replaced : (ks : List CallId) (cs : List Call) (id : CallId) (n : ℕ) (d : Call) (q : CallId) → IsPlaceIn ks cs id n
+    → call_in ks (slice_set cs n d) q ≡ (if is_call id q then Some d else call_in ks cs q)
 call_replaced [] cs id n d q h = absurd h
 call_replaced (k ∷ ks) [] id n d q h = absurd h
 call_replaced (k ∷ ks) (c ∷ cs) id zero d q h =
-    elim (is_call q k) as (λ b. is_call q k ≡ b → cond b (Some d) (call_in ks cs q) ≡ cond (is_call id q) (Some d) (cond b (Some c) (call_in ks cs q)))
-    [ true ↦ λ e. sym (ap (λ b. cond b (Some d) (Some c)) (sym (own_id id q k h) ∙ e)) | false ↦ λ e. sym (ap (λ b. cond b (Some d) (call_in ks cs q)) (sym (own_id id q k h) ∙ e)) ] refl
+    elim (is_call q k) as (λ b. is_call q k ≡ b → cond b (Some d) (call_in ks cs q) ≡ cond (is_call id q) (Some d) (cond b (Some c) (call_in ks cs q))) [
+      | true ↦ λ e. sym (ap (λ b. cond b (Some d) (Some c)) (sym (own_id id q k h) ∙ e))
+      | false ↦
+          λ e. sym (ap (λ b. cond b (Some d) (call_in ks cs q)) (sym (own_id id q k h) ∙ e))
+    ] refl
 call_replaced (k ∷ ks) (c ∷ cs) id (suc n) d q h =
-    elim (is_call q k) as (λ b. is_call q k ≡ b → cond b (Some c) (call_in ks (slice_set cs n d) q) ≡ cond (is_call id q) (Some d) (cond b (Some c) (call_in ks cs q)))
+    elim (is_call q k) as
+    (λ b. is_call q k ≡ b → cond b (Some c) (call_in ks (slice_set cs n d) q) ≡ cond (is_call id q) (Some d) (cond b (Some c) (call_in ks cs q)))
     [ true ↦ λ e. sym (ap (λ b. cond b (Some d) (Some c)) (other_id id q k h.0 e)) | false ↦ λ e. call_replaced ks cs id n d q h.1 ] refl
 
 -- .. as a change of what stood there
-pub call_changed : (ks : List CallId) (cs : List Call) (id : CallId) (n : ℕ) (c : Call) (change : Call → Call) (q : CallId) → IsPlaceIn ks cs id n → slice_get cs n ≡ Some c
+pub call_changed : (ks : List CallId) (cs : List Call) (id : CallId) (n : ℕ) (c : Call) (change : Call → Call) (q : CallId) → IsPlaceIn ks cs id n
+    → slice_get cs n ≡ Some c
     → call_in ks (slice_set cs n (change c)) q ≡ call_or id change (call_in ks cs) q
 call_changed ks cs id n c change q h e =
     call_replaced ks cs id n (change c) q h
-    ∙ elim (is_call id q) as (λ b. is_call id q ≡ b → cond b (Some (change c)) (call_in ks cs q) ≡ cond b (option_map change (call_in ks cs q)) (call_in ks cs q))
+    ∙ elim (is_call id q) as
+    (λ b. is_call id q ≡ b → cond b (Some (change c)) (call_in ks cs q) ≡ cond b (option_map change (call_in ks cs q)) (call_in ks cs q))
     [ true ↦ λ t. sym (ap (option_map change) (ap (call_in ks cs) (sym ((calls_are id q).0 t)) ∙ (call_at_place ks cs id n h ∙ e))) | false ↦ λ t. refl ] refl
 
-added_step : (k : CallId) (ks : List CallId) (c : Call) (cs : List Call) (id : CallId) (d : Call) (q : CallId) (b : Bool) → is_call id k ≡ b → cond b (Some c) (call_in ks cs id) ≡ None
+added_step : (k : CallId) (ks : List CallId) (c : Call) (cs : List Call) (id : CallId) (d : Call) (q : CallId) (b : Bool) → is_call id k ≡ b
+    → cond b (Some c) (call_in ks cs id) ≡ None
     → (call_in ks cs id ≡ None → call_in (ks ++ id ∷ []) (cs ++ d ∷ []) q ≡ (if is_call id q then Some d else call_in ks cs q))
     → call_in ((k ∷ ks) ++ id ∷ []) ((c ∷ cs) ++ d ∷ []) q ≡ (if is_call id q then Some d else call_in (k ∷ ks) (c ∷ cs) q)
 added_step k ks c cs id d q true e h rest = absurd cc
 added_step k ks c cs id d q false e h rest =
-    elim (is_call q k) as (λ b. is_call q k ≡ b → cond b (Some c) (call_in (ks ++ id ∷ []) (cs ++ d ∷ []) q) ≡ cond (is_call id q) (Some d) (cond b (Some c) (call_in ks cs q)))
+    elim (is_call q k) as
+    (λ b. is_call q k ≡ b → cond b (Some c) (call_in (ks ++ id ∷ []) (cs ++ d ∷ []) q) ≡ cond (is_call id q) (Some d) (cond b (Some c) (call_in ks cs q)))
     [ true ↦ λ t. sym (ap (λ b. cond b (Some d) (Some c)) (other_id id q k e t)) | false ↦ λ t. rest h ] refl
 
 -- a call is added behind the others
-pub call_added : (ks : List CallId) (cs : List Call) (id : CallId) (d : Call) (q : CallId) → length ks ≡ length cs → call_in ks cs id ≡ None → call_in (ks ++ id ∷ []) (cs ++ d ∷ []) q ≡ (if is_call id q then Some d else call_in ks cs q)
+pub call_added : (ks : List CallId) (cs : List Call) (id : CallId) (d : Call) (q : CallId) → length ks ≡ length cs → call_in ks cs id ≡ None
+    → call_in (ks ++ id ∷ []) (cs ++ d ∷ []) q ≡ (if is_call id q then Some d else call_in ks cs q)
 call_added [] [] id d q l h = ap (λ b. cond b (Some d) None) (own_id id q id ((calls_are id id).1 refl))
 call_added [] (c ∷ cs) id d q l h = absurd (omega (arith, l))
 call_added (k ∷ ks) [] id d q l h = absurd (omega (arith, l))

@@ -1,5 +1,6 @@
 -- The runs of a call.
-use Rattle.std.proofs.Common.{◌≡◌, ℕ, zero, suc, Bool, true, false, not, ◌&&◌, ◌||◌, Option, Some, None, List, [], ◌∷◌, length, map, filter, refl, sym, ap, ◌∙◌, subst}
+use Rattle.std.proofs.Common.{◌≡◌, ℕ, zero, suc, Bool, true, false, not, ◌&&◌, ◌||◌, Option, Some, None, List, [], ◌∷◌, length, map, filter, refl}
+use Rattle.std.proofs.Common.{sym, ap, ◌∙◌, subst}
 use Rattle.std.specs.Prelude.{◌==◌, if◌then◌else◌, option_and_then, slice_get}
 use Rattle.std.specs.Option.{option_map_or}
 use Rattle.std.specs.List.{list_any}
@@ -55,41 +56,51 @@ any_step : (a b rest : Bool) (bytes response : List ℕ) (xs : List (List ℕ)) 
 any_step true b rest bytes response xs e f = ap (λ x. x || rest) e ∙ ap (λ x. bytes_eq bytes response || x) f
 any_step false b rest bytes response xs e f = f
 
-filter_step : (a : Bool) (r : Ran) (rs : List Ran) → map (λ (x : Ran). x.response) (if a then r ∷ rs else rs) ≡ (if a then r.response ∷ map (λ (x : Ran). x.response) rs else map (λ (x : Ran). x.response) rs)
+filter_step : (a : Bool) (r : Ran) (rs : List Ran)
+    → map (λ (x : Ran). x.response) (if a then r ∷ rs else rs) ≡ (if a then r.response ∷ map (λ (x : Ran). x.response) rs else map (λ (x : Ran). x.response) rs)
 filter_step true r rs = refl
 filter_step false r rs = refl
 
 any_answers : (v : View) (t : Trace) (q : CallId) (c : Call) (inc : ℕ) (bytes : List ℕ) → Keeps v t → IsKept v q c → (rs : List Run)
-    → list_any (is_answer_in t c.server inc bytes) rs ≡ list_any (bytes_eq bytes) (map (λ (x : Ran). x.response) (filter (is_in v q inc) (map (run_of q c.server) rs)))
+    → list_any (is_answer_in t c.server inc bytes) rs ≡ list_any (bytes_eq bytes)
+    (map (λ (x : Ran). x.response) (filter (is_in v q inc) (map (run_of q c.server) rs)))
 any_answers v t q c inc bytes f k [] = refl
 any_answers v t q c inc bytes f k (r ∷ rs) =
     let here : option_map_or (λ i. i == inc) (incarnation_in t c.server r.life) false ≡ is_in v q inc (run_of q c.server r) =
     ap (λ (o : Option ℕ). option_map_or (λ i. i == inc) o false) (incarnation_is v t c.server r.life f)
     ∙ sym (ap (λ b. b && option_map_or (λ i. i == inc) (incarnation v c.server r.life) false) (server_is v q c k)) in
     ap (λ b. (b && bytes_eq bytes r.response.items) || list_any (is_answer_in t c.server inc bytes) rs) here
-    ∙ (any_step (is_in v q inc (run_of q c.server r)) (bytes_eq bytes r.response.items) (list_any (is_answer_in t c.server inc bytes) rs) bytes r.response.items (map (λ (x : Ran). x.response) (filter (is_in v q inc) (map (run_of q c.server) rs))) refl (any_answers v t q c inc bytes f k rs)
-    ∙ ap (list_any (bytes_eq bytes)) (sym (filter_step (is_in v q inc (run_of q c.server r)) (run_of q c.server r) (filter (is_in v q inc) (map (run_of q c.server) rs)))))
+    ∙ (any_step (is_in v q inc (run_of q c.server r)) (bytes_eq bytes r.response.items) (list_any (is_answer_in t c.server inc bytes) rs) bytes
+    r.response.items (map (λ (x : Ran). x.response) (filter (is_in v q inc) (map (run_of q c.server) rs))) refl (any_answers v t q c inc bytes f k rs)
+    ∙ ap (list_any (bytes_eq bytes))
+    (sym (filter_step (is_in v q inc (run_of q c.server r)) (run_of q c.server r) (filter (is_in v q inc) (map (run_of q c.server) rs)))))
 
-pub answers_is : (v : View) (t : Trace) (q : CallId) (c : Call) (inc : ℕ) (bytes : List ℕ) → Keeps v t → call_at t q ≡ Some c → list_any (is_answer_in t c.server inc bytes) c.runs.items ≡ list_any (bytes_eq bytes) (answers v q inc)
+pub answers_is : (v : View) (t : Trace) (q : CallId) (c : Call) (inc : ℕ) (bytes : List ℕ) → Keeps v t → call_at t q ≡ Some c
+    → list_any (is_answer_in t c.server inc bytes) c.runs.items ≡ list_any (bytes_eq bytes) (answers v q inc)
 answers_is v t q c inc bytes f e =
     let k = kept_at v t q c f e in
     any_answers v t q c inc bytes f k c.runs.items
     ∙ ap (list_any (bytes_eq bytes)) (ap (λ rs. map (λ (x : Ran). x.response) (filter (is_in v q inc) rs)) (sym k.runs) ∙ sym (answers_of v q inc))
 
-pub no_answers : (v : View) (t : Trace) (q : CallId) (inc : ℕ) (bytes : List ℕ) → Keeps v t → call_at t q ≡ None → false ≡ list_any (bytes_eq bytes) (answers v q inc)
+pub no_answers : (v : View) (t : Trace) (q : CallId) (inc : ℕ) (bytes : List ℕ) → Keeps v t → call_at t q ≡ None
+    → false ≡ list_any (bytes_eq bytes) (answers v q inc)
 no_answers v t q inc bytes f e =
     let k = absent_at v t q f e in
     sym (ap (list_any (bytes_eq bytes)) (answers_of v q inc ∙ ap (λ rs. map (λ (x : Ran). x.response) (filter (is_in v q inc) rs)) k.runs))
 
 -- ---- runs in this life
 
-any_here : (q : CallId) (server host : HostId) (n : ℕ) (b : Bool) → is_host server host ≡ b → (rs : List Run) → list_any (is_here host n) (map (run_of q server) rs) ≡ (b && list_any (λ r. r.life == n) rs)
+any_here : (q : CallId) (server host : HostId) (n : ℕ) (b : Bool) → is_host server host ≡ b → (rs : List Run)
+    → list_any (is_here host n) (map (run_of q server) rs) ≡ (b && list_any (λ r. r.life == n) rs)
 any_here q server host n true e [] = refl
 any_here q server host n false e [] = refl
-any_here q server host n true e (r ∷ rs) = ap (λ x. (x && (r.life == n)) || list_any (is_here host n) (map (run_of q server) rs)) e ∙ ap (λ x. (r.life == n) || x) (any_here q server host n true e rs)
-any_here q server host n false e (r ∷ rs) = ap (λ x. (x && (r.life == n)) || list_any (is_here host n) (map (run_of q server) rs)) e ∙ any_here q server host n false e rs
+any_here q server host n true e (r ∷ rs) = ap (λ x. (x && (r.life == n)) || list_any (is_here host n) (map (run_of q server) rs)) e
+    ∙ ap (λ x. (r.life == n) || x) (any_here q server host n true e rs)
+any_here q server host n false e (r ∷ rs) =
+    ap (λ x. (x && (r.life == n)) || list_any (is_here host n) (map (run_of q server) rs)) e ∙ any_here q server host n false e rs
 
-pub ran_is : (v : View) (t : Trace) (q : CallId) (c : Call) (host : HostId) → Keeps v t → IsKept v q c → has_run v host q ≡ (is_host c.server host && ran_in c (life_in t host))
+pub ran_is : (v : View) (t : Trace) (q : CallId) (c : Call) (host : HostId) → Keeps v t → IsKept v q c
+    → has_run v host q ≡ (is_host c.server host && ran_in c (life_in t host))
 ran_is v t q c host f k =
     run_here v host q ∙ (ap (list_any (is_here host (life v host))) k.runs ∙ (any_here q c.server host (life v host) (is_host c.server host) refl c.runs.items
     ∙ ap (λ n. is_host c.server host && ran_in c n) (sym (life_is v t host f))))
@@ -105,7 +116,8 @@ pub once_is : (v : View) (t : Trace) (q : CallId) (c : Call) (host : HostId) (se
     ≡ (not (has_run v host q) && option_map_or (tests.is_called host service request) (get v.calls q) false)
 once_is v t q c host service request f e =
     let k = kept_at v t q c f e in
-    both_ways (is_host c.server host) (ran_in c (life_in t host)) (c.service == service) (bytes_eq c.request.items request) (has_run v host q) (ran_is v t q c host f k)
+    both_ways (is_host c.server host) (ran_in c (life_in t host)) (c.service == service) (bytes_eq c.request.items request) (has_run v host q)
+    (ran_is v t q c host f k)
     ∙ ap (λ (o : Option Called). not (has_run v host q) && option_map_or (tests.is_called host service request) o false) (sym k.called)
 
 -- one test behind another

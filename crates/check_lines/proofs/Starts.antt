@@ -16,14 +16,22 @@ use Rattle.check_call.specs.Kept.{no_spot}
 use Rattle.check_lines.specs.Traces.{Follows, host_at, IsHost, IsListed, is_incoming_at, IsCallAt, call_in, IsHere, IsDelivered, due_of}
 
 spot_none : (q : CallId) → spot no_progress q ≡ no_spot
-spot_none q = λ i. record { live = get-empty call_cmp q i; request = get-empty call_cmp q i; response = get-empty call_cmp q i; resends = unwrap_or (get-empty call_cmp q i) [] }
+spot_none q = λ i. record {
+  live = get-empty call_cmp q i;
+  request = get-empty call_cmp q i;
+  response = get-empty call_cmp q i;
+  resends = unwrap_or (get-empty call_cmp q i) [];
+}
 
 none_host : (h : HostId) (t : Trace) → t.hosts.items ≡ [] → IsHost nothing_seen h (host_at t h)
 none_host h t e = subst (λ hosts. IsHost nothing_seen h (slice_get hosts h.0)) (sym e)
     (record { lead = get-empty nat_cmp h.0; first = get-empty nat_cmp h.0; restarts = ap (λ (o : Option (List ℕ)). unwrap_or o []) (get-empty nat_cmp h.0) })
 
 within_none : IsWithin nothing_seen
-within_none id = (subst (IsWithinAt nothing_seen.settings.window) (sym (get-empty call_cmp id)) tt, subst (IsWithinAt nothing_seen.settings.window) (sym (get-empty call_cmp id)) tt)
+within_none id = (
+  subst (IsWithinAt nothing_seen.settings.window) (sym (get-empty call_cmp id)) tt,
+  subst (IsWithinAt nothing_seen.settings.window) (sym (get-empty call_cmp id)) tt,
+)
 
 same_none : IsSame no_progress no_progress
 same_none = record { spots = λ q. refl; came = refl; due = refl }
@@ -33,7 +41,8 @@ none_listed h t e = subst (λ hosts. IsListed nothing_seen h (slice_get hosts h.
     (record { asked = λ q. sym (ap (is_incoming_at h) (get-empty call_cmp q)); awaited = λ q. sym (ap (is_incoming_at h) (get-empty call_cmp q)) })
 
 -- nothing is kept
-pub at_first : (t : Trace) → t.settings ≡ usual → t.place ≡ 0 → t.ended ≡ false → t.tick ≡ 0 → t.hosts.items ≡ [] → t.ids.keys ≡ [] → t.calls.items ≡ [] → t.packets.items ≡ [] → t.here ≡ record { runs = Nobody; dones = Nobody; forgotten = Nobody } → t.delivery ≡ None
+pub at_first : (t : Trace) → t.settings ≡ usual → t.place ≡ 0 → t.ended ≡ false → t.tick ≡ 0 → t.hosts.items ≡ [] → t.ids.keys ≡ []
+    → t.calls.items ≡ [] → t.packets.items ≡ [] → t.here ≡ record { runs = Nobody; dones = Nobody; forgotten = Nobody } → t.delivery ≡ None
     → Follows nothing_seen t
 at_first t settings place ended tick hosts ids calls packets here delivery = record {
   place = sym place;
@@ -45,7 +54,8 @@ at_first t settings place ended tick hosts ids calls packets here delivery = rec
     hosts = λ h. none_host h t hosts;
     listed = λ h. none_listed h t hosts;
     aligned = ap length ids ∙ sym (ap length calls);
-    calls = λ q. subst (λ ks. IsCallAt nothing_seen q (call_in ks t.calls.items q)) (sym ids) (record { called = get-empty call_cmp q; runs = refl; now = spot_none q });
+    calls = λ q. subst (λ ks. IsCallAt nothing_seen q (call_in ks t.calls.items q)) (sym ids)
+        (record { called = get-empty call_cmp q; runs = refl; now = spot_none q });
     packets = sym packets;
     made = tt;
   };

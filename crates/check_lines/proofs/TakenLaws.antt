@@ -47,7 +47,8 @@ first_undo : (o : Option Undo) → IsUndo nothing_seen o → o ≡ None
 first_undo None is = refl
 first_undo (Some u) is = absurd (let both : None ≡ Some u.packet = is.came in cc)
 
-settings_first : (o : Option Undo) (t : Trace) (s : Settings) → Ready nothing_seen o t → is_ok (verdict s) ≡ true → Takes nothing_seen o (PlainSettings s) (record t { settings = s })
+settings_first : (o : Option Undo) (t : Trace) (s : Settings) → Ready nothing_seen o t → is_ok (verdict s) ≡ true
+    → Takes nothing_seen o (PlainSettings s) (record t { settings = s })
 unfolding seen
 settings_first o t s r valid =
     let k = r.kept in
@@ -74,7 +75,8 @@ settings_first o t s r valid =
     no_delivery t u None is = tt
     no_delivery t u (Some d) is = absurd is
 
-pub settings_takes : (v : View) (o : Option Undo) (t : Trace) (s : Settings) → Ready v o t → (v.place ≡ 0 → v ≡ nothing_seen) → has_shape v (PlainSettings s) ≡ true → Takes v o (PlainSettings s) (record t { settings = s })
+pub settings_takes : (v : View) (o : Option Undo) (t : Trace) (s : Settings) → Ready v o t → (v.place ≡ 0 → v ≡ nothing_seen)
+    → has_shape v (PlainSettings s) ≡ true → Takes v o (PlainSettings s) (record t { settings = s })
 settings_takes v o t s r first shape =
     let two = both (v.place == 0) (is_ok (verdict s)) shape in
     let is = first (eqb-true v.place 0 two.0) in
@@ -82,14 +84,17 @@ settings_takes v o t s r first shape =
 
 -- ---- a line that was taken
 
-pub taken_is : (v : View) (o : Option Undo) (t mid u : Trace) (line : PlainEntry) → Follows v t → (f : Ready v o t) → Takes v o line mid → SameNumbers t mid → v.place < 2 ^ 64 - 1 → u ≡ record mid { place = u.place; ended = u.ended } → u.place ≡ min (mid.place + 1) (2 ^ 64 - 1) → u.ended ≡ (mid.ended || is_last line)
+pub taken_is : (v : View) (o : Option Undo) (t mid u : Trace) (line : PlainEntry) → Follows v t → (f : Ready v o t) → Takes v o line mid
+    → SameNumbers t mid → v.place < 2 ^ 64 - 1 → u ≡ record mid { place = u.place; ended = u.ended } → u.place ≡ min (mid.place + 1) (2 ^ 64 - 1)
+    → u.ended ≡ (mid.ended || is_last line)
     → IsTaken v t line u
 unfolding seen
 taken_is v o t mid u line f r takes same small e place ended =
     let w = seen v line in
     let kept = keeps_rest w mid u u.place u.ended mid.here mid.delivery e takes.kept in
     let there = ap (λ z. z.delivery) e in
-    let behind : IsDelivered u u.delivery (undo_after v o line) = delivered_on mid u (undo_after v o line) (λ q. ap (λ z. beside_at z q) e) there takes.delivered in
+    let behind : IsDelivered u u.delivery (undo_after v o line) =
+    delivered_on mid u (undo_after v o line) (λ q. ap (λ z. beside_at z q) e) there takes.delivered in
     record {
       kept = kept;
       follows = λ within. record {

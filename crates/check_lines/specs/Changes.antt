@@ -15,7 +15,8 @@ use Rattle.check_call.specs.declared.spot.Spot.{Spot}
 use Rattle.check_call.specs.declared.spot.Change.{Change}
 use Rattle.check_call.specs.Kept.{Beside, StandsFor, IsApart, changed}
 use Rattle.check_lines.specs.declared.trace.Trace.{Trace}
-use Rattle.check_lines.specs.Traces.{host_at, lead_of, first_of, restarts_in, asked_of, awaited_of, beside_at, call_at, Keeps, Follows, IsDelivered, IsHere, due_of}
+use Rattle.check_lines.specs.Traces.{host_at, lead_of, first_of, restarts_in, asked_of, awaited_of, beside_at, call_at, Keeps, Follows, IsDelivered}
+use Rattle.check_lines.specs.Traces.{IsHere, due_of}
 
 -- ---- what is kept
 

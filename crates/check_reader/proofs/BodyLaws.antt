@@ -25,11 +25,14 @@ FitsPair x = (x.0 < 2 ^ 16) × ((length x.1 ≡ 8) × AllByRecursion (λ n. n < 
 reads_pair : Reads cutoffs_at (λ c. decimal c.version ∷ map decimal c.upto) (λ c. FitsPair (c.version, c.upto))
 unfolding cutoffs_at
 reads_pair =
-    reads_value (λ x. record { version = x.0; upto = x.1 }) (λ c. (c.version, c.upto)) (number_at (2 ^ 16) ⊗ times (number_at (2 ^ 32)) 8) (λ x. decimal x.0 ∷ map decimal x.1) FitsPair (λ x. refl) (λ c. refl)
-    (reads_both (number_at (2 ^ 16)) (times (number_at (2 ^ 32)) 8) (λ n. decimal n ∷ []) (λ ns. map decimal ns) (λ n. n < 2 ^ 16) (λ ns. (length ns ≡ 8) × AllByRecursion (λ n. n < 2 ^ 32) ns)
+    reads_value (λ x. record { version = x.0; upto = x.1 }) (λ c. (c.version, c.upto)) (number_at (2 ^ 16) ⊗ times (number_at (2 ^ 32)) 8)
+    (λ x. decimal x.0 ∷ map decimal x.1) FitsPair (λ x. refl) (λ c. refl)
+    (reads_both (number_at (2 ^ 16)) (times (number_at (2 ^ 32)) 8) (λ n. decimal n ∷ []) (λ ns. map decimal ns) (λ n. n < 2 ^ 16)
+    (λ ns. (length ns ≡ 8) × AllByRecursion (λ n. n < 2 ^ 32) ns)
     (reads_numbers (2 ^ 16) wide16) (reads_times (number_below (2 ^ 32)) decimal (λ n. n < 2 ^ 32) (reads_number (2 ^ 32) wide32) 8))
 
-cutoffs_take : (words : List (List ℕ)) (c : Cutoffs) (rest : List (List ℕ)) → cutoffs_at words ≡ Some (c, rest) → (words ≡ cutoffs_words c ++ rest) × FitsCutoffs c
+cutoffs_take : (words : List (List ℕ)) (c : Cutoffs) (rest : List (List ℕ)) → cutoffs_at words ≡ Some (c, rest)
+    → (words ≡ cutoffs_words c ++ rest) × FitsCutoffs c
 cutoffs_take words c rest e = let t = reads_pair.takes words c rest e in (t.0, (t.1.0, t.1.1.0, t.1.1.1))
 
 pub reads_cutoffs : Reads cutoffs_at cutoffs_words FitsCutoffs
@@ -41,9 +44,11 @@ reads_cutoffs = record {
 
 -- ---- further calls
 
-pub calls_take : (n : ℕ) (words : List (List ℕ)) (calls : List (ℕ × ℕ)) → calls_in n words ≡ Some calls → (words ≡ map call_word calls) × (length calls ≤ n) × AllByRecursion FitsCall calls
+pub calls_take : (n : ℕ) (words : List (List ℕ)) (calls : List (ℕ × ℕ)) → calls_in n words ≡ Some calls
+    → (words ≡ map call_word calls) × (length calls ≤ n) × AllByRecursion FitsCall calls
 unfolding calls_in
-calls_take n [] calls e = subst (λ (cs : List (ℕ × ℕ)). ([] ≡ map call_word cs) × (length cs ≤ n) × AllByRecursion FitsCall cs) (some_is [] calls e) (refl, omega arith, tt)
+calls_take n [] calls e =
+    subst (λ (cs : List (ℕ × ℕ)). ([] ≡ map call_word cs) × (length cs ≤ n) × AllByRecursion FitsCall cs) (some_is [] calls e) (refl, omega arith, tt)
 calls_take zero (word ∷ words) calls e = absurd (none-some calls e)
 calls_take (suc n) (word ∷ words) calls e =
     let a = bind_some (call_of word) _ calls e in
@@ -51,7 +56,8 @@ calls_take (suc n) (word ∷ words) calls e =
     let first = reads_call.takes word a.0 a.1 in
     let others = calls_take n words b.0 b.1 in
     let line : word ∷ words ≡ map call_word (a.0 ∷ b.0) = rw (first.0, ← others.0) refl in
-    subst (λ (cs : List (ℕ × ℕ)). (word ∷ words ≡ map call_word cs) × (length cs ≤ suc n) × AllByRecursion FitsCall cs) (some_is (a.0 ∷ b.0) calls b.2) (line, omega (arith, others.1), (first.1, others.2))
+    subst (λ (cs : List (ℕ × ℕ)). (word ∷ words ≡ map call_word cs) × (length cs ≤ suc n) × AllByRecursion FitsCall cs)
+    (some_is (a.0 ∷ b.0) calls b.2) (line, omega (arith, others.1), (first.1, others.2))
 
 pub calls_again : (n : ℕ) (calls : List (ℕ × ℕ)) → length calls ≤ n → AllByRecursion FitsCall calls → calls_in n (map call_word calls) ≡ Some calls
 unfolding calls_in
@@ -82,9 +88,12 @@ reads_acks = reads_word ack_of ack_word FitsAck reads_ack
 
 reads_fields : Reads (number_at (2 ^ 32) ⊗ number_at (2 ^ 32) ⊗ number_at (2 ^ 16) ⊗ number_at (2 ^ 8) ⊗ ack_at) piece_words FitsPiece
 reads_fields =
-    reads_both (number_at (2 ^ 32)) (number_at (2 ^ 32) ⊗ number_at (2 ^ 16) ⊗ number_at (2 ^ 8) ⊗ ack_at) (λ n. decimal n ∷ []) (λ x. decimal x.0 ∷ decimal x.1.0 ∷ decimal x.1.1.0 ∷ ack_word x.1.1.1 ∷ []) _ _ (reads_numbers (2 ^ 32) wide32)
-    (reads_both (number_at (2 ^ 32)) (number_at (2 ^ 16) ⊗ number_at (2 ^ 8) ⊗ ack_at) (λ n. decimal n ∷ []) (λ x. decimal x.0 ∷ decimal x.1.0 ∷ ack_word x.1.1 ∷ []) _ _ (reads_numbers (2 ^ 32) wide32)
-    (reads_both (number_at (2 ^ 16)) (number_at (2 ^ 8) ⊗ ack_at) (λ n. decimal n ∷ []) (λ x. decimal x.0 ∷ ack_word x.1 ∷ []) _ _ (reads_numbers (2 ^ 16) wide16)
+    reads_both (number_at (2 ^ 32)) (number_at (2 ^ 32) ⊗ number_at (2 ^ 16) ⊗ number_at (2 ^ 8) ⊗ ack_at) (λ n. decimal n ∷ [])
+    (λ x. decimal x.0 ∷ decimal x.1.0 ∷ decimal x.1.1.0 ∷ ack_word x.1.1.1 ∷ []) _ _ (reads_numbers (2 ^ 32) wide32)
+    (reads_both (number_at (2 ^ 32)) (number_at (2 ^ 16) ⊗ number_at (2 ^ 8) ⊗ ack_at) (λ n. decimal n ∷ [])
+    (λ x. decimal x.0 ∷ decimal x.1.0 ∷ ack_word x.1.1 ∷ []) _ _ (reads_numbers (2 ^ 32) wide32)
+    (reads_both (number_at (2 ^ 16)) (number_at (2 ^ 8) ⊗ ack_at) (λ n. decimal n ∷ []) (λ x. decimal x.0 ∷ ack_word x.1 ∷ []) _ _
+    (reads_numbers (2 ^ 16) wide16)
     (reads_both (number_at (2 ^ 8)) ack_at (λ n. decimal n ∷ []) (λ ack. ack_word ack ∷ []) _ _ (reads_numbers (2 ^ 8) wide8) reads_acks)))
 
 -- the words and the numbers of a DATA; no other body is read here
@@ -96,11 +105,13 @@ abbrev FitsData : Body → Type 0
 FitsData (body.Data size offset version service ack) = FitsPiece (size, (offset, (version, (service, ack))))
 FitsData what = ⊥
 
-piece_takes : (words : List (List ℕ)) (what : Body) (rest : List (List ℕ)) → piece_at words ≡ Some (what, rest) → (words ≡ data_words what ++ rest) × FitsData what
+piece_takes : (words : List (List ℕ)) (what : Body) (rest : List (List ℕ)) → piece_at words ≡ Some (what, rest)
+    → (words ≡ data_words what ++ rest) × FitsData what
 unfolding piece_at
 piece_takes words what rest e =
     let a = bind_some ((number_at (2 ^ 32) ⊗ number_at (2 ^ 32) ⊗ number_at (2 ^ 16) ⊗ number_at (2 ^ 8) ⊗ ack_at) words) _ (what, rest) e in
-    subst (λ (p : Body × List (List ℕ)). (words ≡ data_words p.0 ++ p.1) × FitsData p.0) (some_is (piece a.0.0, a.0.1) (what, rest) a.2) (reads_fields.takes words a.0.0 a.0.1 a.1)
+    subst (λ (p : Body × List (List ℕ)). (words ≡ data_words p.0 ++ p.1) × FitsData p.0) (some_is (piece a.0.0, a.0.1) (what, rest) a.2)
+    (reads_fields.takes words a.0.0 a.0.1 a.1)
 
 piece_again : (what : Body) (rest : List (List ℕ)) → FitsData what → piece_at (data_words what ++ rest) ≡ Some (what, rest)
 unfolding piece_at
@@ -134,13 +145,17 @@ pub record Tells (kind : Kind) (words : List (List ℕ)) (told : ℕ × Body × 
   pub bytes : IsBytes told.2
   pub usual : IsBareButData told.0 told.1 told.2
 
-reads_data : Reads (number_at (2 ^ 8) ⊗ piece_at ⊗ hex_at) (λ x. decimal x.0 ∷ (data_words x.1.0 ++ hex_word x.1.1 ∷ [])) (λ x. (x.0 < 2 ^ 8) × (FitsData x.1.0 × IsBytes x.1.1))
+reads_data : Reads (number_at (2 ^ 8) ⊗ piece_at ⊗ hex_at) (λ x. decimal x.0 ∷ (data_words x.1.0 ++ hex_word x.1.1 ∷ []))
+    (λ x. (x.0 < 2 ^ 8) × (FitsData x.1.0 × IsBytes x.1.1))
 reads_data =
     reads_both (number_at (2 ^ 8)) (piece_at ⊗ hex_at) (λ n. decimal n ∷ []) (λ x. data_words x.0 ++ hex_word x.1 ∷ []) _ _ (reads_numbers (2 ^ 8) wide8)
-    (reads_both piece_at hex_at data_words (λ bytes. hex_word bytes ∷ []) FitsData IsBytes (record { takes = piece_takes; again = piece_again; plain = piece_plain }) (reads_word hex_of hex_word IsBytes reads_hex))
+    (reads_both piece_at hex_at data_words (λ bytes. hex_word bytes ∷ []) FitsData IsBytes
+    (record { takes = piece_takes; again = piece_again; plain = piece_plain }) (reads_word hex_of hex_word IsBytes reads_hex))
 
-tells_data : (level : ℕ) (what : Body) (payload : List ℕ) → level < 2 ^ 8 → FitsData what → IsBytes payload → Tells Data (decimal level ∷ (data_words what ++ hex_word payload ∷ [])) (level, what, payload)
-tells_data level (body.Data size offset version service ack) payload l fits bytes = record { name = refl; line = refl; level = l; fits = (fits.0, fits.1.0, fits.1.1.0, fits.1.1.1.0, fits.1.1.1.1); bytes = bytes; usual = tt }
+tells_data : (level : ℕ) (what : Body) (payload : List ℕ) → level < 2 ^ 8 → FitsData what → IsBytes payload
+    → Tells Data (decimal level ∷ (data_words what ++ hex_word payload ∷ [])) (level, what, payload)
+tells_data level (body.Data size offset version service ack) payload l fits bytes =
+    record { name = refl; line = refl; level = l; fits = (fits.0, fits.1.0, fits.1.1.0, fits.1.1.1.0, fits.1.1.1.1); bytes = bytes; usual = tt }
 tells_data level (body.Grant offset prio) payload l fits bytes = absurd fits
 tells_data level (body.Resend from to prio) payload l fits bytes = absurd fits
 tells_data level body.Busy payload l fits bytes = absurd fits
@@ -168,15 +183,20 @@ no_bytes : IsBytes []
 no_bytes k = omega arith
 
 reads_grant : Reads (number_at (2 ^ 32) ⊗ number_at (2 ^ 8)) (λ x. decimal x.0 ∷ decimal x.1 ∷ []) (λ x. (x.0 < 2 ^ 32) × (x.1 < 2 ^ 8))
-reads_grant = reads_both (number_at (2 ^ 32)) (number_at (2 ^ 8)) (λ n. decimal n ∷ []) (λ n. decimal n ∷ []) _ _ (reads_numbers (2 ^ 32) wide32) (reads_numbers (2 ^ 8) wide8)
+reads_grant = reads_both (number_at (2 ^ 32)) (number_at (2 ^ 8)) (λ n. decimal n ∷ []) (λ n. decimal n ∷ []) _ _ (reads_numbers (2 ^ 32) wide32)
+    (reads_numbers (2 ^ 8) wide8)
 
-reads_resend : Reads (number_at (2 ^ 32) ⊗ number_at (2 ^ 32) ⊗ number_at (2 ^ 8)) (λ x. decimal x.0 ∷ decimal x.1.0 ∷ decimal x.1.1 ∷ []) (λ x. (x.0 < 2 ^ 32) × ((x.1.0 < 2 ^ 32) × (x.1.1 < 2 ^ 8)))
-reads_resend = reads_both (number_at (2 ^ 32)) (number_at (2 ^ 32) ⊗ number_at (2 ^ 8)) (λ n. decimal n ∷ []) (λ x. decimal x.0 ∷ decimal x.1 ∷ []) _ _ (reads_numbers (2 ^ 32) wide32) reads_grant
+reads_resend : Reads (number_at (2 ^ 32) ⊗ number_at (2 ^ 32) ⊗ number_at (2 ^ 8)) (λ x. decimal x.0 ∷ decimal x.1.0 ∷ decimal x.1.1 ∷ [])
+    (λ x. (x.0 < 2 ^ 32) × ((x.1.0 < 2 ^ 32) × (x.1.1 < 2 ^ 8)))
+reads_resend = reads_both (number_at (2 ^ 32)) (number_at (2 ^ 32) ⊗ number_at (2 ^ 8)) (λ n. decimal n ∷ [])
+    (λ x. decimal x.0 ∷ decimal x.1 ∷ []) _ _ (reads_numbers (2 ^ 32) wide32) reads_grant
 
 -- a packet with no payload
-tells_bare : (kind : Kind) (words : List (List ℕ)) (what : Body) (told : ℕ × Body × List ℕ) → bare what ≡ told → kind_name kind ≡ kind_word what → words ≡ body_words 7 what [] → FitsBody what → IsBareButData 7 what [] → Tells kind words told
+tells_bare : (kind : Kind) (words : List (List ℕ)) (what : Body) (told : ℕ × Body × List ℕ) → bare what ≡ told → kind_name kind ≡ kind_word what
+    → words ≡ body_words 7 what [] → FitsBody what → IsBareButData 7 what [] → Tells kind words told
 tells_bare kind words what told e name line fits usual =
-    subst (λ (t : ℕ × Body × List ℕ). Tells kind words t) e (record { name = name; line = line; level = omega arith; fits = fits; bytes = no_bytes; usual = usual })
+    subst (λ (t : ℕ × Body × List ℕ). Tells kind words t) e
+    (record { name = name; line = line; level = omega arith; fits = fits; bytes = no_bytes; usual = usual })
 
 pub body_takes : (kind : Kind) (words : List (List ℕ)) (told : ℕ × Body × List ℕ) → body_in kind words ≡ Some told → Tells kind words told
 unfolding body_in grant_in resend_in
@@ -227,14 +247,21 @@ shown_body level (body.Unknown reason) payload = bare (body.Unknown reason)
 shown_body level body.NeedAck payload = bare body.NeedAck
 shown_body level (body.Ack more) payload = bare (body.Ack more)
 
-pub body_again : (level : ℕ) (what : Body) (payload : List ℕ) → level < 2 ^ 8 → FitsBody what → IsBytes payload → body_in (kind_of_body what) (body_words level what payload) ≡ Some (shown_body level what payload)
+pub body_again : (level : ℕ) (what : Body) (payload : List ℕ) → level < 2 ^ 8 → FitsBody what → IsBytes payload
+    → body_in (kind_of_body what) (body_words level what payload) ≡ Some (shown_body level what payload)
 unfolding body_in data_in grant_in resend_in
-body_again level (body.Data size offset version service ack) payload l fits bytes = whole_again (λ x. (x.0, x.1.0, x.1.1)) (number_at (2 ^ 8) ⊗ piece_at ⊗ hex_at) _ _ reads_data (level, (body.Data size offset version service ack, payload)) (l, ((fits.0, (fits.1, (fits.2, (fits.3, fits.4)))), bytes))
-body_again level (body.Grant offset prio) payload l fits bytes = whole_again (λ x. bare (body.Grant x.0 x.1)) (number_at (2 ^ 32) ⊗ number_at (2 ^ 8)) _ _ reads_grant (offset, prio) fits
-body_again level (body.Resend from to prio) payload l fits bytes = whole_again (λ x. bare (body.Resend x.0 x.1.0 x.1.1)) (number_at (2 ^ 32) ⊗ number_at (2 ^ 32) ⊗ number_at (2 ^ 8)) _ _ reads_resend (from, (to, prio)) (fits.0, (fits.1, fits.2))
+body_again level (body.Data size offset version service ack) payload l fits bytes =
+    whole_again (λ x. (x.0, x.1.0, x.1.1)) (number_at (2 ^ 8) ⊗ piece_at ⊗ hex_at) _ _ reads_data
+    (level, (body.Data size offset version service ack, payload)) (l, ((fits.0, (fits.1, (fits.2, (fits.3, fits.4)))), bytes))
+body_again level (body.Grant offset prio) payload l fits bytes =
+    whole_again (λ x. bare (body.Grant x.0 x.1)) (number_at (2 ^ 32) ⊗ number_at (2 ^ 8)) _ _ reads_grant (offset, prio) fits
+body_again level (body.Resend from to prio) payload l fits bytes =
+    whole_again (λ x. bare (body.Resend x.0 x.1.0 x.1.1)) (number_at (2 ^ 32) ⊗ number_at (2 ^ 32) ⊗ number_at (2 ^ 8)) _ _ reads_resend
+    (from, (to, prio)) (fits.0, (fits.1, fits.2))
 body_again level body.Busy payload l fits bytes = refl
 body_again level (body.Cutoffs cutoffs) payload l fits bytes = whole_again (λ x. bare (body.Cutoffs x)) cutoffs_at _ _ reads_cutoffs cutoffs fits
-body_again level (body.Unknown reason) payload l fits bytes = whole_again (λ x. bare (body.Unknown x)) (number_at (2 ^ 8)) _ _ (reads_numbers (2 ^ 8) wide8) reason fits
+body_again level (body.Unknown reason) payload l fits bytes =
+    whole_again (λ x. bare (body.Unknown x)) (number_at (2 ^ 8)) _ _ (reads_numbers (2 ^ 8) wide8) reason fits
 body_again level body.NeedAck payload l fits bytes = refl
 body_again level (body.Ack more) payload l fits bytes = rw (calls_again 4 more fits.0 fits.1) refl
 

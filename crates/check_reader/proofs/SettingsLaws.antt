@@ -1,5 +1,6 @@
 -- The line of the settings: what is read is told so, and what is told is read so.
-use Rattle.std.proofs.Common.{◌≡◌, ◌<◌, ◌^◌, ℕ, zero, suc, ◌==◌, cond, if◌then◌else◌, Bool, true, false, Option, None, Some, List, [], ◌∷◌, ◌++◌, map, length, take, decimal, slice_index, refl, sym, ap, ◌∙◌, subst, arith}
+use Rattle.std.proofs.Common.{◌≡◌, ◌<◌, ◌^◌, ℕ, zero, suc, ◌==◌, cond, if◌then◌else◌, Bool, true, false, Option, None, Some, List, [], ◌∷◌, ◌++◌, map}
+use Rattle.std.proofs.Common.{length, take, decimal, slice_index, refl, sym, ap, ◌∙◌, subst, arith}
 use Rattle.std.specs.List.{AllByRecursion}
 use Rattle.std.proofs.lemmas.Bool.{eqb-true}
 use Rattle.std.proofs.lemmas.List.FromFn.{fill_by_all}
@@ -32,7 +33,8 @@ not_one : (wire : ℕ) (t : Bool) (both pair : ℕ × ℕ) → (wire == 1) ≡ t
 not_one wire true both pair e f = absurd (none-some both f)
 not_one wire false both pair e f = (e, some_is pair both f)
 
-two_told : (words : List (List ℕ)) (skew wire : ℕ) → (wire == 1) ≡ false → words ≡ decimal skew ∷ decimal wire ∷ [] → words ≡ map decimal (last_told (skew, wire))
+two_told : (words : List (List ℕ)) (skew wire : ℕ) → (wire == 1) ≡ false → words ≡ decimal skew ∷ decimal wire ∷ []
+    → words ≡ map decimal (last_told (skew, wire))
 two_told words skew wire other line = rw other line
 
 one_told : (words : List (List ℕ)) (skew : ℕ) → (skew == 0) ≡ false → words ≡ decimal skew ∷ [] → words ≡ map decimal (last_told (skew, 1))
@@ -48,7 +50,8 @@ behind_skew skew rest =
     if is_empty rest then (if skew == 0 then None else Some (skew, 1))
     else (number_at (2 ^ 32) rest >>= λ wire. ended (skew, wire.0) wire.1 >>= λ both. if both.1 == 1 then None else Some both)
 
-skew_takes : (words : List (List ℕ)) (skew : ℕ) (rest : List (List ℕ)) (both : ℕ × ℕ) → words ≡ decimal skew ∷ rest → Small skew → behind_skew skew rest ≡ Some both → TellsLast words both
+skew_takes : (words : List (List ℕ)) (skew : ℕ) (rest : List (List ℕ)) (both : ℕ × ℕ) → words ≡ decimal skew ∷ rest → Small skew
+    → behind_skew skew rest ≡ Some both → TellsLast words both
 skew_takes words skew [] both line fits e =
     let g = not_zero (skew == 0) refl e in
     subst (TellsLast words) g.1 (one_told words skew g.0 line, (fits, omega arith))
@@ -64,7 +67,8 @@ skew_takes words skew (word ∷ others) both line fits e =
     let g = not_one b.0.1 (b.0.1 == 1) both b.0 refl b.2 in
     let took = reads_small.takes (word ∷ others) a.0.0 a.0.1 a.1 in
     let other : (a.0.0 == 1) ≡ false = ap (λ (n : ℕ). n == 1) wire ∙ g.0 in
-    let all : words ≡ decimal skew ∷ decimal a.0.0 ∷ [] = line ∙ ap (λ (ws : List (List ℕ)). decimal skew ∷ ws) (took.0 ∙ ap (λ (ws : List (List ℕ)). decimal a.0.0 ∷ ws) last.0) in
+    let all : words ≡ decimal skew ∷ decimal a.0.0 ∷ [] =
+    line ∙ ap (λ (ws : List (List ℕ)). decimal skew ∷ ws) (took.0 ∙ ap (λ (ws : List (List ℕ)). decimal a.0.0 ∷ ws) last.0) in
     subst (TellsLast words) (last.1 ∙ g.1) (two_told words skew a.0.0 other all, (fits, took.1))
 
 last_takes : (words : List (List ℕ)) (both : ℕ × ℕ) → last_two_in words ≡ Some both → TellsLast words both
@@ -79,7 +83,8 @@ last_again : (skew wire : ℕ) → Small skew → Small wire → last_two_in (ma
 unfolding last_two_in
 last_again skew wire s w = by_tests (wire == 1) (skew == 0) refl refl
   where
-    by_tests : (t u : Bool) → (wire == 1) ≡ t → (skew == 0) ≡ u → last_two_in (map decimal (cond t (cond u [] (skew ∷ [])) (skew ∷ wire ∷ []))) ≡ Some (skew, wire)
+    by_tests : (t u : Bool) → (wire == 1) ≡ t → (skew == 0) ≡ u → last_two_in (map decimal (cond t (cond u [] (skew ∷ [])) (skew ∷ wire ∷ []))) ≡ Some
+        (skew, wire)
     by_tests true true e f =
         let one : wire ≡ 1 = eqb-true wire 1 e in
         let none : skew ≡ 0 = eqb-true skew 0 f in
@@ -99,12 +104,15 @@ thirteen ns =
 thirteen_is : (ns : List ℕ) → length ns ≡ 13 → thirteen ns ≡ ns
 thirteen_is ns len = sym (fill_by_all (λ k. slice_index ns k) ns 13 0 len (λ k within. refl))
 
-told_by : (ns : List ℕ) (skew wire : ℕ) (t u : Bool) → length ns ≡ 13 → map decimal (take (if t then (if u then 13 else 14) else 15) (thirteen ns ++ skew ∷ wire ∷ [])) ≡ map decimal ns ++ map decimal (if t then (if u then [] else skew ∷ []) else skew ∷ wire ∷ [])
+told_by : (ns : List ℕ) (skew wire : ℕ) (t u : Bool) → length ns ≡ 13
+    → map decimal (take (if t then (if u then 13 else 14) else 15) (thirteen ns ++ skew ∷ wire ∷ [])) ≡ map decimal ns
+    ++ map decimal (if t then (if u then [] else skew ∷ []) else skew ∷ wire ∷ [])
 told_by ns skew wire true true len = ap (λ (xs : List ℕ). map decimal xs ++ []) (thirteen_is ns len)
 told_by ns skew wire true false len = ap (λ (xs : List ℕ). map decimal xs ++ decimal skew ∷ []) (thirteen_is ns len)
 told_by ns skew wire false u len = ap (λ (xs : List ℕ). map decimal xs ++ decimal skew ∷ decimal wire ∷ []) (thirteen_is ns len)
 
-told_is : (ns : List ℕ) (both : ℕ × ℕ) → length ns ≡ 13 → map decimal (take (told_numbers (with_numbers ns both)) (settings_numbers (with_numbers ns both))) ≡ map decimal ns ++ map decimal (last_told both)
+told_is : (ns : List ℕ) (both : ℕ × ℕ) → length ns ≡ 13
+    → map decimal (take (told_numbers (with_numbers ns both)) (settings_numbers (with_numbers ns both))) ≡ map decimal ns ++ map decimal (last_told both)
 told_is ns both len = told_by ns both.0 both.1 (both.1 == 1) (both.0 == 0) len
 
 all_append : (xs ys : List ℕ) → AllByRecursion Small xs → AllByRecursion Small ys → AllByRecursion Small (xs ++ ys)
@@ -129,7 +137,8 @@ TellsSettings words s = (words ≡ map decimal (take (told_numbers s) (settings_
 reads_first : Reads (times (number_at (2 ^ 32)) 13) (λ ns. map decimal ns) (λ ns. (length ns ≡ 13) × AllByRecursion Small ns)
 reads_first = reads_times (number_below (2 ^ 32)) decimal Small (reads_number (2 ^ 32) wide32) 13
 
-with_told : (words : List (List ℕ)) (ns : List ℕ) (both : ℕ × ℕ) → length ns ≡ 13 → AllByRecursion Small ns → Small both.0 → Small both.1 → words ≡ map decimal ns ++ map decimal (last_told both) → TellsSettings words (with_numbers ns both)
+with_told : (words : List (List ℕ)) (ns : List ℕ) (both : ℕ × ℕ) → length ns ≡ 13 → AllByRecursion Small ns → Small both.0 → Small both.1
+    → words ≡ map decimal ns ++ map decimal (last_told both) → TellsSettings words (with_numbers ns both)
 with_told words ns both len fits s w line = (
   line ∙ sym (told_is ns both len),
   all_append (thirteen ns) (both.0 ∷ both.1 ∷ []) (subst (AllByRecursion Small) (sym (thirteen_is ns len)) fits) (s, (w, tt)),
@@ -148,7 +157,8 @@ settings_takes words s e =
 abbrev first_numbers : Settings → List ℕ
 first_numbers s = s.hosts ∷ s.seg ∷ s.window ∷ s.unsched ∷ s.overcommit ∷ s.rate ∷ s.resend ∷ s.tries ∷ s.life ∷ s.pages ∷ s.calls ∷ s.served ∷ s.rebalance ∷ []
 
-pub settings_again : (s : Settings) → AllByRecursion Small (settings_numbers s) → settings_in (map decimal (take (told_numbers s) (settings_numbers s))) ≡ Some s
+pub settings_again : (s : Settings) → AllByRecursion Small (settings_numbers s)
+    → settings_in (map decimal (take (told_numbers s) (settings_numbers s))) ≡ Some s
 unfolding settings_in
 settings_again s fits =
     let parts = all_front (first_numbers s) (s.skew ∷ s.wire ∷ []) fits in
@@ -156,4 +166,5 @@ settings_again s fits =
     ∙ rw (reads_first.again (first_numbers s) (map decimal (last_told (s.skew, s.wire))) (refl, parts.0), last_again s.skew s.wire parts.1.0 parts.1.1.0) refl
 
 pub settings_plain : (s : Settings) → AllByRecursion Small (settings_numbers s) → ArePlain (map decimal (take (told_numbers s) (settings_numbers s)))
-settings_plain s fits = ArePlain-map (number_below (2 ^ 32)) decimal Small (reads_number (2 ^ 32) wide32) (take (told_numbers s) (settings_numbers s)) (all_take (told_numbers s) (settings_numbers s) fits)
+settings_plain s fits = ArePlain-map (number_below (2 ^ 32)) decimal Small (reads_number (2 ^ 32) wide32) (take (told_numbers s) (settings_numbers s))
+    (all_take (told_numbers s) (settings_numbers s) fits)

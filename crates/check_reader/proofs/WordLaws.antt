@@ -1,5 +1,6 @@
 -- The words of a line: a value that is read has that word, and the word of a value is read as it.
-use Rattle.std.proofs.Common.{◌≡◌, ◌<◌, ◌≤◌, ◌^◌, ℕ, ◌==◌, nat_lt, cond, Bool, true, false, Option, None, Some, IfSome, List, [], ◌∷◌, ◌++◌, decimal, codes, refl, sym, ap, ◌∙◌, subst, append_assoc, arith, inl, inr}
+use Rattle.std.proofs.Common.{◌≡◌, ◌<◌, ◌≤◌, ◌^◌, ℕ, ◌==◌, nat_lt, cond, Bool, true, false, Option, None, Some, IfSome, List, [], ◌∷◌, ◌++◌, decimal}
+use Rattle.std.proofs.Common.{codes, refl, sym, ap, ◌∙◌, subst, append_assoc, arith, inl, inr}
 use Rattle.std.specs.List.{list_any}
 use Rattle.std.proofs.lemmas.Bool.{ltb-true}
 use Rattle.std.proofs.lemmas.Bool.Decides.{nat_tests}
@@ -81,7 +82,8 @@ call_joined : (inc seq : ℕ) → decimal inc ++ (46 ∷ decimal seq) ≡ call_w
 call_joined inc seq = sym (append_assoc (decimal inc) (46 ∷ []) (decimal seq))
 
 -- a test that neither digits nor the dot pass
-call_none : (test : ℕ → Bool) (inc seq : ℕ) → list_any test (decimal inc) ≡ false → list_any test (decimal seq) ≡ false → test 46 ≡ false → list_any test (call_word (inc, seq)) ≡ false
+call_none : (test : ℕ → Bool) (inc seq : ℕ) → list_any test (decimal inc) ≡ false → list_any test (decimal seq) ≡ false → test 46 ≡ false
+    → list_any test (call_word (inc, seq)) ≡ false
 call_none test inc seq i s dot = none-append test (decimal inc ++ 46 ∷ []) (decimal seq) (none-append test (decimal inc) (46 ∷ []) i (rw dot refl)) s
 
 call_no_blank : (inc seq : ℕ) → inc < 2 ^ 32 → seq < 2 ^ 32 → HasNoBlank (call_word (inc, seq))
@@ -91,7 +93,8 @@ pub reads_call : ReadsWord call_of call_word FitsCall
 unfolding call_of
 reads_call =
     reads_parts 46 (λ x. x) (λ x. x) (number_at (2 ^ 32) ⊗ number_at (2 ^ 32)) (λ x. decimal x.0 ∷ decimal x.1 ∷ []) FitsCall call_word
-    (reads_both (number_at (2 ^ 32)) (number_at (2 ^ 32)) (λ n. decimal n ∷ []) (λ n. decimal n ∷ []) (λ n. n < 2 ^ 32) (λ n. n < 2 ^ 32) (reads_numbers (2 ^ 32) wide32) (reads_numbers (2 ^ 32) wide32))
+    (reads_both (number_at (2 ^ 32)) (number_at (2 ^ 32)) (λ n. decimal n ∷ []) (λ n. decimal n ∷ []) (λ n. n < 2 ^ 32) (λ n. n < 2 ^ 32)
+    (reads_numbers (2 ^ 32) wide32) (reads_numbers (2 ^ 32) wide32))
     (record {
       back = λ x. refl;
       forth = λ y. refl;
@@ -119,8 +122,10 @@ reads_id =
     reads_parts 46 (λ x. record { client = x.0; inc = x.1.0; seq = x.1.1 }) (λ id. (id.client, (id.inc, id.seq)))
     (host_at ⊗ number_at (2 ^ 32) ⊗ number_at (2 ^ 32))
     (λ x. host_word x.0 ∷ decimal x.1.0 ∷ decimal x.1.1 ∷ []) (λ x. FitsHost x.0 × FitsCall x.1) id_word
-    (reads_both host_at (number_at (2 ^ 32) ⊗ number_at (2 ^ 32)) (λ host. host_word host ∷ []) (λ x. decimal x.0 ∷ decimal x.1 ∷ []) FitsHost FitsCall reads_hosts
-    (reads_both (number_at (2 ^ 32)) (number_at (2 ^ 32)) (λ n. decimal n ∷ []) (λ n. decimal n ∷ []) (λ n. n < 2 ^ 32) (λ n. n < 2 ^ 32) (reads_numbers (2 ^ 32) wide32) (reads_numbers (2 ^ 32) wide32)))
+    (reads_both host_at (number_at (2 ^ 32) ⊗ number_at (2 ^ 32)) (λ host. host_word host ∷ []) (λ x. decimal x.0 ∷ decimal x.1 ∷ []) FitsHost
+    FitsCall reads_hosts
+    (reads_both (number_at (2 ^ 32)) (number_at (2 ^ 32)) (λ n. decimal n ∷ []) (λ n. decimal n ∷ []) (λ n. n < 2 ^ 32) (λ n. n < 2 ^ 32)
+    (reads_numbers (2 ^ 32) wide32) (reads_numbers (2 ^ 32) wide32)))
     (record {
       back = λ x. refl;
       forth = λ y. refl;
@@ -194,7 +199,13 @@ ack_takes word ack e = by_test (is_hyphen word) refl e
 ack_again : (ack : Option (ℕ × ℕ)) → FitsAck ack → ack_of (ack_word ack) ≡ Some ack
 unfolding ack_of
 ack_again None fits = refl
-ack_again (Some call) fits = rw (no_hyphen (call_word call) (call_none (λ c. c == 45) call.0 call.1 (decimal-no 45 call.0 (inl (omega arith)) (omega (arith, fits.0))) (decimal-no 45 call.1 (inl (omega arith)) (omega (arith, fits.1))) refl), reads_call.again call fits) refl
+ack_again (Some call) fits =
+    rw (
+      no_hyphen (call_word call)
+          (call_none (λ c. c == 45) call.0 call.1 (decimal-no 45 call.0 (inl (omega arith)) (omega (arith, fits.0)))
+          (decimal-no 45 call.1 (inl (omega arith)) (omega (arith, fits.1))) refl),
+      reads_call.again call fits,
+    ) refl
 
 ack_plain : (ack : Option (ℕ × ℕ)) → FitsAck ack → HasNoBlank (ack_word ack)
 ack_plain None fits = refl

@@ -5,12 +5,16 @@ use Rattle.homa_plain.specs.Bytes.{◌>>=◌}
 use Rattle.homa_plain.specs.declared.id.CallId.{CallId}
 use Rattle.homa_plain.specs.declared.id.HostId.{HostId}
 use Rattle.homa_plain.specs.declared.settings.Settings.{Settings as TheSettings}
-use Rattle.homa_plain.specs.Entries.{PlainEntry, PlainSettings, PlainCall, PlainDeliver, PlainClock, PlainRestart, PlainInject, PlainShift, PlainJunk, PlainStale, PlainSend, PlainRun, PlainDone, PlainFail, PlainDrop, PlainGaps, PlainBury, PlainFree, PlainFullRows, PlainFullPages, PlainBalance, PlainRecv, PlainFinished, PlainRefused, PlainStalled}
+use Rattle.homa_plain.specs.Entries.{PlainEntry, PlainSettings, PlainCall, PlainDeliver, PlainClock, PlainRestart, PlainInject, PlainShift, PlainJunk}
+use Rattle.homa_plain.specs.Entries.{PlainStale, PlainSend, PlainRun, PlainDone, PlainFail, PlainDrop, PlainGaps, PlainBury, PlainFree, PlainFullRows}
+use Rattle.homa_plain.specs.Entries.{PlainFullPages, PlainBalance, PlainRecv, PlainFinished, PlainRefused, PlainStalled}
 use Rattle.check_reader.specs.declared.entries.Form.{Form}
-use Rattle.check_reader.specs.declared.entries.Form.TheVariants.{Settings, Call, Deliver, Clock, Restart, Inject, Shift, Junk, Stale, Send, Run, Done, Fail, Drop, Gaps, Bury, Free, Full, Balance, Recv, Finished, Refused, Stalled}
+use Rattle.check_reader.specs.declared.entries.Form.TheVariants.{Settings, Call, Deliver, Clock, Restart, Inject, Shift, Junk, Stale, Send, Run, Done}
+use Rattle.check_reader.specs.declared.entries.Form.TheVariants.{Fail, Drop, Gaps, Bury, Free, Full, Balance, Recv, Finished, Refused, Stalled}
 use Rattle.check_reader.specs.declared.entries.Lack.{Lack}
 use Rattle.check_reader.specs.declared.entries.Lack.TheVariants.{Rows, Pages}
-use Rattle.check_words.specs.Fields.{◌⊗◌, number_at, host_at, id_at, route_at, role_at, why_at, hex_at, cutoffs_at, word_at, parts, times, one_of, whole, ended, is_empty}
+use Rattle.check_words.specs.Fields.{◌⊗◌, number_at, host_at, id_at, route_at, role_at, why_at, hex_at, cutoffs_at, word_at, parts, times, one_of}
+use Rattle.check_words.specs.Fields.{whole, ended, is_empty}
 use Rattle.check_reader.specs.Bodies.{kind_of, body_in}
 use Rattle.check_reader.specs.Refusals.{fault_in}
 
@@ -42,7 +46,8 @@ form_name Stalled = codes "stalled"
 
 -- all forms of lines
 abbrev pub forms : List Form
-forms = Settings ∷ Call ∷ Deliver ∷ Clock ∷ Restart ∷ Inject ∷ Shift ∷ Junk ∷ Stale ∷ Send ∷ Run ∷ Done ∷ Fail ∷ Drop ∷ Gaps ∷ Bury ∷ Free ∷ Full ∷ Balance ∷ Recv ∷ Finished ∷ Refused ∷ Stalled ∷ []
+forms = Settings ∷ Call ∷ Deliver ∷ Clock ∷ Restart ∷ Inject ∷ Shift ∷ Junk ∷ Stale ∷ Send ∷ Run ∷ Done ∷ Fail ∷ Drop ∷ Gaps ∷ Bury ∷ Free ∷ Full ∷
+    Balance ∷ Recv ∷ Finished ∷ Refused ∷ Stalled ∷ []
 
 -- the form whose name a word is
 unfoldable pub form_of : List ℕ → Option Form
@@ -125,7 +130,8 @@ send_in words =
 
 -- `run HOST ID SERVICE REQUEST RESPONSE HOLD`
 unfoldable pub run_in : List (List ℕ) → Option PlainEntry
-run_in words = whole (λ x. PlainRun x.0 x.1.0 x.1.1.0 x.1.1.1.0 x.1.1.1.1.0 x.1.1.1.1.1) (host_at ⊗ id_at ⊗ number_at (2 ^ 8) ⊗ hex_at ⊗ hex_at ⊗ number_at (2 ^ 32)) words
+run_in words = whole (λ x. PlainRun x.0 x.1.0 x.1.1.0 x.1.1.1.0 x.1.1.1.1.0 x.1.1.1.1.1)
+    (host_at ⊗ id_at ⊗ number_at (2 ^ 8) ⊗ hex_at ⊗ hex_at ⊗ number_at (2 ^ 32)) words
 
 -- `done ID HEX`
 unfoldable pub done_in : List (List ℕ) → Option PlainEntry

@@ -6,7 +6,8 @@ use Rattle.homa_plain.specs.Text.{name_word, start_word, script_words, world_wor
 use Rattle.homa_plain.specs.declared.fault.LineFault.{LineFault}
 use Rattle.homa_plain.specs.declared.fault.LineFault.TheVariants.{Script, World}
 use Rattle.homa_plain.specs.declared.fault.ScriptFault.{ScriptFault}
-use Rattle.homa_plain.specs.declared.fault.ScriptFault.TheVariants.{LongLine, NotUtf8, UnknownWord, BadNumber, BadHex, Extra, Missing, Setting, NoGo, InputTooLong}
+use Rattle.homa_plain.specs.declared.fault.ScriptFault.TheVariants.{LongLine, NotUtf8, UnknownWord, BadNumber, BadHex, Extra, Missing, Setting, NoGo}
+use Rattle.homa_plain.specs.declared.fault.ScriptFault.TheVariants.{InputTooLong}
 use Rattle.homa_plain.specs.declared.fault.StartFault.{StartFault}
 use Rattle.homa_plain.specs.declared.fault.StartFault.TheVariants.{Empty, TooLong, SelfCall, CallsFull, SeqSpent}
 use Rattle.homa_plain.specs.declared.fault.WorldFault.{WorldFault}
@@ -37,7 +38,8 @@ fault_name (World fault) = world_name fault
 -- the refusals that are one word
 abbrev pub plain_faults : List LineFault
 plain_faults =
-    Script LongLine ∷ Script NotUtf8 ∷ Script UnknownWord ∷ Script BadNumber ∷ Script BadHex ∷ Script Extra ∷ Script Missing ∷ Script NoGo ∷ Script InputTooLong ∷
+    Script LongLine ∷ Script NotUtf8 ∷ Script UnknownWord ∷ Script BadNumber ∷ Script BadHex ∷ Script Extra ∷ Script Missing ∷ Script NoGo ∷
+    Script InputTooLong ∷
     World NoSuchHost ∷ World NoSuchPacket ∷ World NoSpare ∷ World ClockEnd ∷ World Decodes ∷ []
 
 -- the refusal that is this one word

@@ -1,5 +1,6 @@
 -- What the verdict says of a text.
-use Rattle.std.proofs.Common.{◌≡◌, ◌≢◌, ◌<◌, ◌≤◌, ◌⊎◌, inl, inr, ◌↔◌, ℕ, ◌+◌, arith, Bool, true, false, cond, ◌||◌, List, [], ◌∷◌, ◌++◌, length, Option, Some, None, refl, sym, ap, subst, ◌∙◌}
+use Rattle.std.proofs.Common.{◌≡◌, ◌≢◌, ◌<◌, ◌≤◌, ◌⊎◌, inl, inr, ◌↔◌, ℕ, ◌+◌, arith, Bool, true, false, cond, ◌||◌, List, [], ◌∷◌, ◌++◌, length}
+use Rattle.std.proofs.Common.{Option, Some, None, refl, sym, ap, subst, ◌∙◌}
 use Rattle.std.specs.Prelude.{nat_lt, IfSome, IfNone}
 use Rattle.std.specs.Option.{option_map}
 use Rattle.std.proofs.lemmas.Bool.Decides.{nat_tests}
@@ -27,7 +28,8 @@ read_again line e None fits usual text is = let some = entry_of-again line e fit
 read_again line e (Some f) fits usual text is = ap (λ x. Some x) (own line e f fits usual text (entry_of-takes line f is))
 
 -- what was read of a line, by the laws of a reader
-pub entry_read : {A : Type 0} (plain : A → PlainEntry) (read : Option A) (line : List ℕ) → IfSome read (λ e. line_text (plain e) ≡ line ++ 10 ∷ []) → IfSome read (λ e. Fits (plain e)) → IfSome read (λ e. IsUsual (plain e))
+pub entry_read : {A : Type 0} (plain : A → PlainEntry) (read : Option A) (line : List ℕ) → IfSome read (λ e. line_text (plain e) ≡ line ++ 10 ∷ [])
+    → IfSome read (λ e. Fits (plain e)) → IfSome read (λ e. IsUsual (plain e))
     → IfNone read ((e : PlainEntry) → Fits e → line_text e ≢ line ++ 10 ∷ []) → entry_of line ≡ option_map plain read
 entry_read plain (Some e) line text fits usual none = read_again line (plain e) (entry_of line) fits usual text refl
 entry_read plain None line text fits usual none = not_read (entry_of line) refl where
@@ -36,7 +38,8 @@ entry_read plain None line text fits usual none = not_read (entry_of line) refl 
   not_read (Some f) e = let h = entry_of-takes line f e in absurd (none f h.fits h.text)
 
 -- a line that is short and within the input
-pub short_line : (read : ℕ) (line : List ℕ) → length (without_feed line) ≤ longest_line → read + length line ≤ longest_input → stands_for read line ≡ entry_of (without_feed line)
+pub short_line : (read : ℕ) (line : List ℕ) → length (without_feed line) ≤ longest_line → read + length line ≤ longest_input
+    → stands_for read line ≡ entry_of (without_feed line)
 unfolding stands_for
 short_line read line short within =
     let a : nat_lt longest_input (read + length line) ≡ false = grind (arith, nat_tests) in
@@ -54,10 +57,12 @@ pub long_line : (read : ℕ) (line : List ℕ) → longest_line < length (withou
 unfolding stands_for
 long_line read line long =
     let b : nat_lt longest_line (length (without_feed line)) ≡ true = grind (arith, nat_tests) in
-    elim (nat_lt longest_input (read + length line)) as (λ a. cond (a || nat_lt longest_line (length (without_feed line))) None (entry_of (without_feed line)) ≡ None)
+    elim (nat_lt longest_input (read + length line)) as
+    (λ a. cond (a || nat_lt longest_line (length (without_feed line))) None (entry_of (without_feed line)) ≡ None)
     [ true ↦ refl | false ↦ rw b refl ]
 
-some_by : (read : ℕ) (line : List ℕ) (e : PlainEntry) (a b : Bool) → nat_lt longest_input (read + length line) ≡ a → nat_lt longest_line (length (without_feed line)) ≡ b
+some_by : (read : ℕ) (line : List ℕ) (e : PlainEntry) (a b : Bool) → nat_lt longest_input (read + length line) ≡ a
+    → nat_lt longest_line (length (without_feed line)) ≡ b
     → cond (a || b) None (entry_of (without_feed line)) ≡ Some e → Tells read line e
 some_by read line e true b p q h = absurd cc
 some_by read line e false true p q h = absurd cc
@@ -89,7 +94,8 @@ pub place-seen : (v : View) (line : PlainEntry) → (seen v line).place ≡ v.pl
 unfolding seen
 place-seen v line = refl
 
-yes_line : (v : View) (read n : ℕ) (line : List ℕ) (lines : List (List ℕ)) (o : Option PlainEntry) (c : Option Clause) → stands_for read line ≡ o → judged_text v o ≡ c
+yes_line : (v : View) (read n : ℕ) (line : List ℕ) (lines : List (List ℕ)) (o : Option PlainEntry) (c : Option Clause) → stands_for read line ≡ o
+    → judged_text v o ≡ c
     → no_or (v.place + 1) c (verdict_from (seen_text v o) (read + length line) lines) ≡ Yes n
     → ((u : View) → verdict_from u (read + length line) lines ≡ Yes n → IsYes u (read + length line) lines n) → IsYes v read (line ∷ lines) n
 yes_line v read n line lines o (Some c) is j h rest = absurd cc
@@ -110,17 +116,20 @@ yes_says [] v read n h = record { entries = []; told = tt; obeyed = refl; count 
 yes_says (line ∷ lines) v read n h =
     yes_line v read n line lines (stands_for read line) (judged_text v (stands_for read line)) refl refl h (λ u. yes_says lines u (read + length line) n)
 
-none_first : (v : View) (e : PlainEntry) (es : List PlainEntry) (c : Option Clause) → judged v e ≡ c → found_or (v.place + 1) c (first_from (seen v e) es) ≡ None → (judged v e ≡ None) × (first_from (seen v e) es ≡ None)
+none_first : (v : View) (e : PlainEntry) (es : List PlainEntry) (c : Option Clause) → judged v e ≡ c
+    → found_or (v.place + 1) c (first_from (seen v e) es) ≡ None → (judged v e ≡ None) × (first_from (seen v e) es ≡ None)
 none_first v e es None is h = (is, h)
 none_first v e es (Some c) is h = absurd cc
 
-says_yes : (lines : List (List ℕ)) (v : View) (read : ℕ) (entries : List PlainEntry) → AreTold read lines entries → first_from v entries ≡ None → verdict_from v read lines ≡ Yes (v.place + length entries)
+says_yes : (lines : List (List ℕ)) (v : View) (read : ℕ) (entries : List PlainEntry) → AreTold read lines entries → first_from v entries ≡ None
+    → verdict_from v read lines ≡ Yes (v.place + length entries)
 says_yes [] v read [] told h = ap (λ n. Yes n) (omega arith)
 says_yes [] v read (e ∷ es) told h = absurd told
 says_yes (line ∷ lines) v read [] told h = absurd told
 says_yes (line ∷ lines) v read (e ∷ es) told h =
     let both = none_first v e es (judged v e) refl h in
-    rw (stands_some read line e told.0, both.0) (says_yes lines (seen v e) (read + length line) es told.1 both.1 ∙ ap (λ n. Yes n) (omega (arith, place-seen v e)))
+    rw (stands_some read line e told.0, both.0)
+    (says_yes lines (seen v e) (read + length line) es told.1 both.1 ∙ ap (λ n. Yes n) (omega (arith, place-seen v e)))
 
 -- ---- no
 
@@ -134,22 +143,26 @@ record IsNo (v : View) (read : ℕ) (lines : List (List ℕ)) (k : ℕ) (clause 
   pub entries : List PlainEntry
   pub told : AreTold read before entries
   pub obeyed : first_from v entries ≡ None
-  pub fails : (((e : PlainEntry) → ¬ Tells (read + bytes_in before) line e) × (clause ≡ ShapeClause)) ⊎ ((e : PlainEntry) × Tells (read + bytes_in before) line e × (judged (seen_all v entries) e ≡ Some clause))
+  pub fails : (((e : PlainEntry) → ¬ Tells (read + bytes_in before) line e) × (clause ≡ ShapeClause))
+      ⊎ ((e : PlainEntry) × Tells (read + bytes_in before) line e × (judged (seen_all v entries) e ≡ Some clause))
 
 abbrev Fails : View → ℕ → List ℕ → Clause → Type 0
-Fails v read line clause = (((e : PlainEntry) → ¬ Tells read line e) × (clause ≡ ShapeClause)) ⊎ ((e : PlainEntry) × Tells read line e × (judged v e ≡ Some clause))
+Fails v read line clause =
+    (((e : PlainEntry) → ¬ Tells read line e) × (clause ≡ ShapeClause)) ⊎ ((e : PlainEntry) × Tells read line e × (judged v e ≡ Some clause))
 
 same_no : (j k : ℕ) (c d : Clause) → No j c ≡ No k d → (j ≡ k) × (c ≡ d)
 same_no j k c d h = (cc, cc)
 
-fails_here : (v : View) (read : ℕ) (line : List ℕ) (o : Option PlainEntry) (c : Clause) → stands_for read line ≡ o → judged_text v o ≡ Some c → Fails v read line c
+fails_here : (v : View) (read : ℕ) (line : List ℕ) (o : Option PlainEntry) (c : Clause) → stands_for read line ≡ o → judged_text v o ≡ Some c
+    → Fails v read line c
 fails_here v read line None c is j = inl (none_stands read line is, cc)
 fails_here v read line (Some e) c is j = inr (e, some_stands read line e is, j)
 
 at_read : (v : View) (a b : ℕ) (line : List ℕ) (c : Clause) → a ≡ b → Fails v a line c → Fails v b line c
 at_read v a b line c e f = subst (λ (n : ℕ). Fails v n line c) e f
 
-no_line : (v : View) (read k : ℕ) (clause : Clause) (line : List ℕ) (lines : List (List ℕ)) (o : Option PlainEntry) (c : Option Clause) → stands_for read line ≡ o → judged_text v o ≡ c
+no_line : (v : View) (read k : ℕ) (clause : Clause) (line : List ℕ) (lines : List (List ℕ)) (o : Option PlainEntry) (c : Option Clause)
+    → stands_for read line ≡ o → judged_text v o ≡ c
     → no_or (v.place + 1) c (verdict_from (seen_text v o) (read + length line) lines) ≡ No k clause
     → ((u : View) → verdict_from u (read + length line) lines ≡ No k clause → IsNo u (read + length line) lines k clause) → IsNo v read (line ∷ lines) k clause
 no_line v read k clause line lines o (Some c) is j h rest =
@@ -177,17 +190,20 @@ no_line v read k clause line lines (Some e) None is j h rest =
       entries = e ∷ r.entries;
       told = (some_stands read line e is, r.told);
       obeyed = rw j r.obeyed;
-      fails = at_read (seen_all (seen v e) r.entries) ((read + length line) + bytes_in r.before) (read + (length line + bytes_in r.before)) r.line clause (omega arith) r.fails;
+      fails = at_read (seen_all (seen v e) r.entries) ((read + length line) + bytes_in r.before) (read + (length line + bytes_in r.before)) r.line
+          clause (omega arith) r.fails;
     }
 
 no_says : (lines : List (List ℕ)) (v : View) (read k : ℕ) (clause : Clause) → verdict_from v read lines ≡ No k clause → IsNo v read lines k clause
 no_says [] v read k clause h = absurd cc
 no_says (line ∷ lines) v read k clause h =
-    no_line v read k clause line lines (stands_for read line) (judged_text v (stands_for read line)) refl refl h (λ u. no_says lines u (read + length line) k clause)
+    no_line v read k clause line lines (stands_for read line) (judged_text v (stands_for read line)) refl refl h
+    (λ u. no_says lines u (read + length line) k clause)
 
 -- ---- the clause of one line, by the clauses of lists of lines
 
-with_last : (es : List PlainEntry) (v : View) (e : PlainEntry) (c : Clause) → first_from v es ≡ None → judged (seen_all v es) e ≡ Some c → first_from v (es ++ e ∷ []) ≡ Some (v.place + length es + 1, c)
+with_last : (es : List PlainEntry) (v : View) (e : PlainEntry) (c : Clause) → first_from v es ≡ None → judged (seen_all v es) e ≡ Some c
+    → first_from v (es ++ e ∷ []) ≡ Some (v.place + length es + 1, c)
 with_last [] v e c h j = rw j (ap (λ (k : ℕ). Some (k, c)) (omega arith))
 with_last (x ∷ es) v e c h j =
     let both = none_first v x es (judged v x) refl h in
@@ -203,7 +219,8 @@ same_front {A} (a ∷ xs) (b ∷ ys) x y zs e n =
     let rest = same_front xs ys x y zs tails (omega (arith, n)) in
     (ap (λ (c : A). c ∷ xs) heads ∙ ap (λ (l : List A). b ∷ l) rest.0, rest.1)
 
-fails_first : (es : List PlainEntry) (e : PlainEntry) (c : Clause) → first_from nothing_seen es ≡ None → judged (seen_all nothing_seen es) e ≡ Some c → FailsFirst (seen_all nothing_seen es) e c
+fails_first : (es : List PlainEntry) (e : PlainEntry) (c : Clause) → first_from nothing_seen es ≡ None → judged (seen_all nothing_seen es) e ≡ Some c
+    → FailsFirst (seen_all nothing_seen es) e c
 fails_first es e c h j =
     let broken : IsFirstBroken (es ++ e ∷ []) (0 + length es + 1) c = (some_found (es ++ e ∷ []) (0 + length es + 1) c).0 (with_last es nothing_seen e c h j) in
     let same = same_front es broken.before e broken.line broken.behind broken.parts (omega (arith, broken.number)) in
@@ -240,11 +257,13 @@ text_yes bytes n (line ∷ lines) is t =
 pub yes_is : (bytes : List ℕ) (n : ℕ) → (verdict_of bytes ≡ Yes n) ↔ IsTrace bytes n
 yes_is bytes n = (yes_text bytes n (lines_of bytes) refl, text_yes bytes n (lines_of bytes) refl)
 
-fails_at : (es : List PlainEntry) (read : ℕ) (line : List ℕ) (c : Clause) → first_from nothing_seen es ≡ None → Fails (seen_all nothing_seen es) read line c → FailsAt (seen_all nothing_seen es) read line c
+fails_at : (es : List PlainEntry) (read : ℕ) (line : List ℕ) (c : Clause) → first_from nothing_seen es ≡ None
+    → Fails (seen_all nothing_seen es) read line c → FailsAt (seen_all nothing_seen es) read line c
 fails_at es read line c h (inl none) = inl none
 fails_at es read line c h (inr some) = inr (some.0, some.1, fails_first es some.0 c h some.2)
 
-no_text : (bytes : List ℕ) (k : ℕ) (clause : Clause) (lines : List (List ℕ)) → lines_of bytes ≡ lines → verdict_on lines ≡ No k clause → IsNoTrace bytes k clause
+no_text : (bytes : List ℕ) (k : ℕ) (clause : Clause) (lines : List (List ℕ)) → lines_of bytes ≡ lines → verdict_on lines ≡ No k clause
+    → IsNoTrace bytes k clause
 no_text bytes k clause [] is h = let both = same_no 1 k ShapeClause clause h in inl (is, sym both.0, sym both.1)
 no_text bytes k clause (line ∷ lines) is h =
     let n = no_says (line ∷ lines) nothing_seen 0 k clause h in
@@ -258,7 +277,8 @@ no_text bytes k clause (line ∷ lines) is h =
       entries = n.entries;
       told = n.told;
       obeyed = (none_found n.entries).0 n.obeyed;
-      fails = fails_at n.entries (bytes_in n.before) n.line clause n.obeyed (at_read (seen_all nothing_seen n.entries) (0 + bytes_in n.before) (bytes_in n.before) n.line clause (omega arith) n.fails);
+      fails = fails_at n.entries (bytes_in n.before) n.line clause n.obeyed
+          (at_read (seen_all nothing_seen n.entries) (0 + bytes_in n.before) (bytes_in n.before) n.line clause (omega arith) n.fails);
     } in
     inr first
 

@@ -17,7 +17,8 @@ longest_input = 68719476736
 
 -- what a line behind `read` bytes stands for: the entry whose line it is, unless it is too long, or the input is up to its end
 unfoldable pub stands_for : ℕ → List ℕ → Option PlainEntry
-stands_for read line = if nat_lt longest_input (read + length line) || nat_lt longest_line (length (without_feed line)) then None else entry_of (without_feed line)
+stands_for read line =
+    if nat_lt longest_input (read + length line) || nat_lt longest_line (length (without_feed line)) then None else entry_of (without_feed line)
 
 -- the first clause that fails at a line; one that stands for nothing hasn't the shape
 abbrev pub judged_text : View → Option PlainEntry → Option Clause

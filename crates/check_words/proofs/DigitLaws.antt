@@ -24,7 +24,8 @@ either_none false = refl
 -- one pair, and what the rest spells
 pair_by : (u w z : Bool) (a b : Option ℕ) (x y i : ℕ) (d : Result (List ℕ) FromHexError) (rest : Option (List ℕ)) → rest ≡ (if z then None else result_ok d)
     → paired (if u then None else a) (if w then None else b) rest
-    ≡ (if u || (w || z) then None else result_ok ((digit_or_error x i a >>= λ h. digit_or_error y (i + 1) b >>= λ l. Ok (h * 16 + l)) >>= λ byte. d >>= λ bytes. Ok (byte ∷ bytes)))
+    ≡ (if u || (w || z) then None
+    else result_ok ((digit_or_error x i a >>= λ h. digit_or_error y (i + 1) b >>= λ l. Ok (h * 16 + l)) >>= λ byte. d >>= λ bytes. Ok (byte ∷ bytes)))
 pair_by true w z a b x y i d rest g = refl
 pair_by false w z None b x y i d rest g = either_none (w || z)
 pair_by false true z (Some h) b x y i d rest g = refl

@@ -1,12 +1,14 @@
 -- Hex words: bytes that are read have that word, and the word of bytes is read as them.
-use Rattle.std.proofs.Common.{◌≡◌, ◌<◌, ℕ, zero, suc, ◌+◌, ◌*◌, ◌/◌, ◌%◌, ◌==◌, ◌&&◌, cond, Bool, true, false, Option, None, Some, Result, Ok, Err, List, [], ◌∷◌, length, codes, slice_index, refl, sym, ap, ◌∙◌, subst, arith}
+use Rattle.std.proofs.Common.{◌≡◌, ◌<◌, ℕ, zero, suc, ◌+◌, ◌*◌, ◌/◌, ◌%◌, ◌==◌, ◌&&◌, cond, Bool, true, false, Option, None, Some, Result, Ok, Err}
+use Rattle.std.proofs.Common.{List, [], ◌∷◌, length, codes, slice_index, refl, sym, ap, ◌∙◌, subst, arith}
 use Rattle.std.specs.Char.{is_ascii_uppercase}
 use Rattle.std.specs.List.{list_any}
 use Rattle.std.specs.Result.{result_ok, result_unwrap_or}
 use Rattle.std.proofs.lemmas.Bool.Decides.{nat_tests}
 use Rattle.std.proofs.lemmas.Option.{none-some}
 use Rattle.std.proofs.lemmas.Slice.Eq.{bytes_eq-Decides}
-use Rattle.hex.specs.Hex.{decode_of, decode_pairs, encode_lower, encode_with, lower_digits, hex_digit_value, digit_or_error, value_at, pair_value, IsBytes, ◌>>=◌}
+use Rattle.hex.specs.Hex.{decode_of, decode_pairs, encode_lower, encode_with, lower_digits, hex_digit_value, digit_or_error, value_at, pair_value}
+use Rattle.hex.specs.Hex.{IsBytes, ◌>>=◌}
 use Rattle.hex.specs.declared.error.FromHexError.{FromHexError}
 use Rattle.hex.proofs.HexLemmas.{IsDigits-lower_digits, decode_of-encode_lower, decode_of-even, decode_of-ok}
 use Rattle.homa_plain.specs.Text.{hex_word}
@@ -84,7 +86,8 @@ pub none_passes : (test : ℕ → Bool) → ((k : ℕ) → test (slice_index low
 unfolding encode_with
 none_passes test h [] = refl
 none_passes test h (b ∷ bytes) =
-    or_none (test (slice_index lower_digits (b / 16))) _ (h (b / 16)) (or_none (test (slice_index lower_digits (b % 16))) _ (h (b % 16)) (none_passes test h bytes))
+    or_none (test (slice_index lower_digits (b / 16))) _ (h (b / 16))
+    (or_none (test (slice_index lower_digits (b % 16))) _ (h (b % 16)) (none_passes test h bytes))
 
 pub none_at : (test : ℕ → Bool) → test 0 ≡ false → (t : List ℕ) → list_any test t ≡ false → (k : ℕ) → test (slice_index t k) ≡ false
 none_at test z [] e k = z
@@ -120,7 +123,8 @@ unfolding hex_of
 hex_takes [] bytes e = absurd (none-some bytes e)
 hex_takes (c ∷ cs) bytes e = by_hyphen (is_hyphen (c ∷ cs)) refl e
   where
-    by_value : (r : Result (List ℕ) FromHexError) → decode_of (c ∷ cs) ≡ r → list_any is_ascii_uppercase (c ∷ cs) ≡ false → result_ok r ≡ Some bytes → (hex_word bytes ≡ c ∷ cs) × IsBytes bytes
+    by_value : (r : Result (List ℕ) FromHexError) → decode_of (c ∷ cs) ≡ r → list_any is_ascii_uppercase (c ∷ cs) ≡ false → result_ok r ≡ Some bytes
+        → (hex_word bytes ≡ c ∷ cs) × IsBytes bytes
     by_value (Ok read) e lower same =
         let is : read ≡ bytes = some_is read bytes same in
         let ok = decode_of-ok (c ∷ cs) read e in
@@ -128,11 +132,14 @@ hex_takes (c ∷ cs) bytes e = by_hyphen (is_hyphen (c ∷ cs)) refl e
         subst (λ (xs : List ℕ). (hex_word xs ≡ c ∷ cs) × IsBytes xs) is (line, ok.3)
     by_value (Err d) e lower same = absurd (none-some bytes same)
 
-    by_upper : (t : Bool) → list_any is_ascii_uppercase (c ∷ cs) ≡ t → cond t None (result_ok (decode_of (c ∷ cs))) ≡ Some bytes → (hex_word bytes ≡ c ∷ cs) × IsBytes bytes
+    by_upper : (t : Bool) → list_any is_ascii_uppercase (c ∷ cs) ≡ t → cond t None (result_ok (decode_of (c ∷ cs))) ≡ Some bytes
+        → (hex_word bytes ≡ c ∷ cs) × IsBytes bytes
     by_upper true t e = absurd (none-some bytes e)
     by_upper false t e = by_value (decode_of (c ∷ cs)) refl t e
 
-    by_hyphen : (t : Bool) → is_hyphen (c ∷ cs) ≡ t → cond t (Some []) (cond (list_any is_ascii_uppercase (c ∷ cs)) None (result_ok (decode_of (c ∷ cs)))) ≡ Some bytes → (hex_word bytes ≡ c ∷ cs) × IsBytes bytes
+    by_hyphen : (t : Bool) → is_hyphen (c ∷ cs) ≡ t
+        → cond t (Some []) (cond (list_any is_ascii_uppercase (c ∷ cs)) None (result_ok (decode_of (c ∷ cs)))) ≡ Some bytes
+        → (hex_word bytes ≡ c ∷ cs) × IsBytes bytes
     by_hyphen true t e =
         subst (λ (xs : List ℕ). (hex_word xs ≡ c ∷ cs) × IsBytes xs) (some_is [] bytes e)
         (sym ((bytes_eq-Decides (c ∷ cs) (codes "-")).0 t), λ k. omega arith)

@@ -22,4 +22,5 @@ pub hex_of-pairs : (word : List ℕ) → (length word == 0) ≡ false → is_hyp
 unfolding hex_of
 hex_of-pairs [] some hyphen even = absurd cc
 hex_of-pairs (b ∷ bs) some hyphen even =
-    pairs_same 0 (b ∷ bs) ∙ even_by (is_hyphen (b ∷ bs)) (list_any is_ascii_uppercase (b ∷ bs)) (length (b ∷ bs) % 2 == 1) (decode_pairs 0 (b ∷ bs)) hyphen (ne_eqb (length (b ∷ bs) % 2) 1 even)
+    pairs_same 0 (b ∷ bs) ∙ even_by (is_hyphen (b ∷ bs)) (list_any is_ascii_uppercase (b ∷ bs)) (length (b ∷ bs) % 2 == 1)
+    (decode_pairs 0 (b ∷ bs)) hyphen (ne_eqb (length (b ∷ bs) % 2) 1 even)

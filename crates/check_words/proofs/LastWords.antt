@@ -45,5 +45,6 @@ whole_of separator text = by_value (hex_of text) refl
         rw (parts-joined (byte_of separator) (text ∷ []) (omega arith) (none, tt), e) refl
 
 -- what the text that is left is as hex
-pub hex_of-whole : (separator : Separator) (text : List ℕ) (read : Option (List ℕ)) → read ≡ hex_of text → read ≡ whole (λ bytes. bytes) hex_at (parts (byte_of separator) text)
+pub hex_of-whole : (separator : Separator) (text : List ℕ) (read : Option (List ℕ)) → read ≡ hex_of text
+    → read ≡ whole (λ bytes. bytes) hex_at (parts (byte_of separator) text)
 hex_of-whole separator text read e = e ∙ whole_of separator text

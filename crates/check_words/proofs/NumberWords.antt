@@ -1,5 +1,6 @@
 -- Numbers as words: a number that is read has that word, and the word of a number is read as it.
-use Rattle.std.proofs.Common.{◌≡◌, ◌<◌, ◌≤◌, ◌^◌, ℕ, zero, suc, ◌+◌, ◌-◌, ◌*◌, ◌==◌, ◌||◌, nat_lt, cond, Bool, true, false, Option, None, Some, List, [], ◌∷◌, length, get_or, decimal, refl, sym, ap, ◌∙◌, arith, ◌⊎◌}
+use Rattle.std.proofs.Common.{◌≡◌, ◌<◌, ◌≤◌, ◌^◌, ℕ, zero, suc, ◌+◌, ◌-◌, ◌*◌, ◌==◌, ◌||◌, nat_lt, cond, Bool, true, false, Option, None, Some, List}
+use Rattle.std.proofs.Common.{[], ◌∷◌, length, get_or, decimal, refl, sym, ap, ◌∙◌, arith, ◌⊎◌}
 use Rattle.std.specs.Char.{is_ascii_digit}
 use Rattle.std.specs.Int.{IsInRange}
 use Rattle.std.specs.List.{AllByRecursion, list_any}
@@ -20,7 +21,8 @@ value n [] = n
 value n (c ∷ cs) = value (n * 10 + (c - 48)) cs
 
 own : IsNumeralModel AreDigits (value 0)
-own = numerals_by_fold AreDigits (record { empty = tt; parts = λ c cs h. h; more = λ c cs h hs. (h, hs) }) value (record { empty = λ n. refl; more = λ n c cs h. refl })
+own = numerals_by_fold AreDigits (record { empty = tt; parts = λ c cs h. h; more = λ c cs h hs. (h, hs) }) value
+    (record { empty = λ n. refl; more = λ n c cs h. refl })
 
 in_range : (c : ℕ) → is_ascii_digit c ≡ true → IsInRange 48 57 c
 in_range c e = grind (arith, nat_tests)
@@ -56,7 +58,8 @@ bits_in : (n : ℕ) → n < 2 ^ 64 → in_64_bits (Some n) ≡ Some n
 bits_in n h = let small : nat_lt n (2 ^ 64) ≡ true = grind (arith, nat_tests) in rw small refl
 
 -- a word that is read
-written : (word : List ℕ) (n : ℕ) → 0 < length word → (get_or word 0 0 ≡ 48 → length word ≡ 1) → in_64_bits (digits_value 0 word) ≡ Some n → (decimal n ≡ word) × (n < 2 ^ 64)
+written : (word : List ℕ) (n : ℕ) → 0 < length word → (get_or word 0 0 ≡ 48 → length word ≡ 1) → in_64_bits (digits_value 0 word) ≡ Some n
+    → (decimal n ≡ word) × (n < 2 ^ 64)
 written word n some plain e =
     let bits = in_bits (digits_value 0 word) n e in
     let digits = some-digits 0 n word bits.0 in
@@ -75,7 +78,8 @@ number_of-takes (c ∷ d ∷ cs) n e =
     written (c ∷ d ∷ cs) n (omega arith) (λ z. absurd (grind (arith, nat_tests))) p.1
 
 -- a word that is written
-read_by : (word : List ℕ) (n : ℕ) → 0 < length word → (2 ≤ length word → get_or word 0 0 ≡ 48 → ⊥) → in_64_bits (digits_value 0 word) ≡ Some n → number_of word ≡ Some n
+read_by : (word : List ℕ) (n : ℕ) → 0 < length word → (2 ≤ length word → get_or word 0 0 ≡ 48 → ⊥) → in_64_bits (digits_value 0 word) ≡ Some n
+    → number_of word ≡ Some n
 read_by [] n some plain e = absurd (omega arith)
 read_by (c ∷ []) n some plain e = e
 read_by (c ∷ d ∷ cs) n some plain e =

@@ -29,7 +29,8 @@ word_at value_of (word ∷ words) = value_of word >>= λ x. Some (x, words)
 
 -- one value behind the other
 infixr 20 ◌⊗◌
-abbrev pub ◌⊗◌ : {A B : Type 0} → (List (List ℕ) → Option (A × List (List ℕ))) → (List (List ℕ) → Option (B × List (List ℕ))) → List (List ℕ) → Option ((A × B) × List (List ℕ))
+abbrev pub ◌⊗◌ : {A B : Type 0} → (List (List ℕ) → Option (A × List (List ℕ))) → (List (List ℕ) → Option (B × List (List ℕ))) → List (List ℕ)
+    → Option ((A × B) × List (List ℕ))
 (first ⊗ second) words = first words >>= λ x. second x.1 >>= λ y. Some ((x.0, y.0), y.1)
 
 -- what is made of a value

@@ -22,7 +22,8 @@ step_told w first step = first ++ entries_from (length w.packets) step.told
 -- an event is this step of a host, with these answers, and what is answered later stays
 abbrev pub IsStepBy : List Answer → Settings → World → HostId → Event → List ℕ → List PlainEntry → Work → Type 0
 IsStepBy given s w id e bytes first step =
-    (later : List Answer) → outcome s (answering (given ++ later) w) e bytes ≡ Done (record { world = answering later (stepped_world w id step); told = step_told w first step })
+    (later : List Answer)
+    → outcome s (answering (given ++ later) w) e bytes ≡ Done (record { world = answering later (stepped_world w id step); told = step_told w first step })
 
 -- an event is a step of a host in which no service is asked
 abbrev pub IsStep : Settings → World → HostId → Event → List ℕ → List PlainEntry → Work → Type 0

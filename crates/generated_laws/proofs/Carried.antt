@@ -43,7 +43,8 @@ no_line s w events line = refl
 pub replayed_whole : (s : Settings) (lines : List Given) (w : World) (events : ℕ) → (carried s w (flat_map (events_of s.hosts) lines)).fault ≡ None
     → (n : ℕ) × ((line : ℕ) → replayed s w events (steps_of line lines) None
     ≡ record { told = (carried s w (flat_map (events_of s.hosts) lines)).told; end = Finished n })
-replayed_whole s [] w events done = (events, λ line. no_line s w events line ∙ ap (λ (r : Run). record { told = r.told; end = Finished events }) (sym (no_event s w)))
+replayed_whole s [] w events done =
+    (events, λ line. no_line s w events line ∙ ap (λ (r : Run). record { told = r.told; end = Finished events }) (sym (no_event s w)))
 replayed_whole s (given ∷ rest) w events done =
     let a = events_of s.hosts given in
     let b = flat_map (events_of s.hosts) rest in

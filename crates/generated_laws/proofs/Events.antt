@@ -1,5 +1,6 @@
 -- Events that are carried out in a world between so many hosts.
-use Rattle.std.proofs.Common.{◌≡◌, ℕ, zero, suc, ◌+◌, ◌*◌, ◌<◌, ◌≤◌, Bool, false, Option, Some, None, List, [], ◌∷◌, ◌++◌, length, refl, sym, ap, ◌∙◌, subst, arith, append_assoc, length-append}
+use Rattle.std.proofs.Common.{◌≡◌, ℕ, zero, suc, ◌+◌, ◌*◌, ◌<◌, ◌≤◌, Bool, false, Option, Some, None, List, [], ◌∷◌, ◌++◌, length, refl, sym, ap, ◌∙◌}
+use Rattle.std.proofs.Common.{subst, arith, append_assoc, length-append}
 use Rattle.std.specs.Prelude.{slice_get, ◌==◌, nat_lt, nat_le, is_some, if◌then◌else◌}
 use Rattle.std.proofs.lemmas.List.{append-nil}
 use Rattle.std.proofs.lemmas.Bool.{ne_eqb}
@@ -13,7 +14,8 @@ use Rattle.homa_plain.specs.Entries.{PlainEntry, PlainDeliver, PlainClock}
 use Rattle.homa_plain.specs.Packets.{Packet, receiver}
 use Rattle.homa_plain.specs.Host.{Host, packets_in, entries_from}
 use Rattle.homa_plain.specs.Steps.{Work, most_packets, start_fault, call_step, arrival_step, turn_step}
-use Rattle.homa_plain.specs.World.{World, SentPacket, After, Refused, Done, host_at, own_clock, next_answer, stamped, stepped, started, calls_from, arrives_at, is_late, delivered, last_tick, turns, outcome}
+use Rattle.homa_plain.specs.World.{World, SentPacket, After, Refused, Done, host_at, own_clock, next_answer, stamped, stepped, started, calls_from}
+use Rattle.homa_plain.specs.World.{arrives_at, is_late, delivered, last_tick, turns, outcome}
 use Rattle.homa_plain.specs.Replay.{Happening, Run, bare, turns_of, ticks, carried}
 use Rattle.generated_runs.proofs.Carried.{by_outcome, first_event, no_event}
 use Rattle.step_laws.specs.StepLaws.{IsBounded}

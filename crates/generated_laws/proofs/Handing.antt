@@ -1,5 +1,6 @@
 -- What a host is handed may be delivered, and after that less is left.
-use Rattle.std.proofs.Common.{◌≡◌, ℕ, zero, suc, ◌+◌, ◌-◌, ◌*◌, ◌<◌, ◌≤◌, Bool, true, false, Option, Some, None, List, [], ◌∷◌, refl, sym, ap, ◌∙◌, subst, arith}
+use Rattle.std.proofs.Common.{◌≡◌, ℕ, zero, suc, ◌+◌, ◌-◌, ◌*◌, ◌<◌, ◌≤◌, Bool, true, false, Option, Some, None, List, [], ◌∷◌, refl, sym, ap, ◌∙◌}
+use Rattle.std.proofs.Common.{subst, arith}
 use Rattle.std.specs.Prelude.{nat_lt, is_some, ◌==◌, ◌&&◌}
 use Rattle.std.specs.Option.{IfSome}
 use Rattle.std.specs.List.{AllByRecursion}
@@ -9,7 +10,8 @@ use Rattle.rand_pcg.specs.Lcg.{Lcg}
 use Rattle.homa_plain.specs.declared.settings.Settings.{Settings}
 use Rattle.homa_plain.specs.World.{World, is_late}
 use Rattle.generated_runs.specs.Draws.{draw}
-use Rattle.generated_runs.specs.Fabric.{Queued, Destination, Hop, Ends, Loses, Hands, Handed, level_of, with_level, highest, drawn, first_hop, level_hop, again_hop, hop, handed, next_of, on_the_way}
+use Rattle.generated_runs.specs.Fabric.{Queued, Destination, Hop, Ends, Loses, Hands, Handed, level_of, with_level, highest, drawn, first_hop}
+use Rattle.generated_runs.specs.Fabric.{level_hop, again_hop, hop, handed, next_of, on_the_way}
 use Rattle.generated_laws.proofs.Events.{IsDeliverable}
 use Rattle.generated_laws.proofs.Ways.{IsKnown, IsWay, with_queue}
 
@@ -108,7 +110,8 @@ is_handed (suc n) s w d random way may last =
       by_first on (Loses rest later) k =
           let h = on rest later k.0 k.1 in
           record { way = h.way; given = h.given; again = h.again; ended = h.ended; less = λ e. omega (arith, h.less e, k.2) }
-      by_first on (Hands number rest later) k = record { way = k.1; given = k.0; again = k.2; ended = λ e. absurd (let f : Some number ≡ None = e in cc); less = λ _. k.3 }
+      by_first on (Hands number rest later) k =
+          record { way = k.1; given = k.0; again = k.2; ended = λ e. absurd (let f : Some number ≡ None = e in cc); less = λ _. k.3 }
 
 pub next_handed : (s : Settings) (w : World) (d : Destination) (random : Lcg) → IsWay w.packets d → MayCome s w d.again
     → IsHanded s w d (next_of s.life w.clock d random)

@@ -15,7 +15,9 @@ use Rattle.homa_plain.specs.Bytes.{IsBytes}
 use Rattle.homa_plain.specs.Entries.{PlainSettings}
 use Rattle.homa_plain.specs.Input.{lines_of, ends_in_feed}
 use Rattle.homa_plain.specs.Text.{host_word, line_of_words}
-use Rattle.homa_plain.specs.Script.{Given, GivenEvent, GivenTicks, Happens, Step, Steps, Opened, counting, most_counted, bytes_operand, bytes_of_word, host_operand, phrase_in, phrase_of, steps_from, opening, opening_from, most_bytes, event_words, event_text, settings_text}
+use Rattle.homa_plain.specs.Script.{Given, GivenEvent, GivenTicks, Happens, Step, Steps, Opened, counting, most_counted, bytes_operand, bytes_of_word}
+use Rattle.homa_plain.specs.Script.{host_operand, phrase_in, phrase_of, steps_from, opening, opening_from, most_bytes, event_words, event_text}
+use Rattle.homa_plain.specs.Script.{settings_text}
 use Rattle.homa_plain.specs.Rules.{Answer}
 use Rattle.homa_plain.specs.Replay.{replay, replay_opened, with_told}
 use Rattle.script_lines.proofs.LinesOf.{lines_of-feed}
@@ -105,7 +107,8 @@ module _ (client server : HostId) (service n : ℕ) (c : client.0 < 32) (s : ser
       record {
         ends = subst (λ (t : List ℕ). ends_in_feed t ≡ true) text (line_feed call_words call_good);
         reads = λ limit read.
-            subst (λ (t : List ℕ). read + length t ≤ limit → phrase_in limit true read t ≡ Ok (Happens (GivenEvent (event.Call client server service) bytes))) text
+            subst (λ (t : List ℕ). read + length t ≤ limit → phrase_in limit true read t ≡ Ok
+            (Happens (GivenEvent (event.Call client server service) bytes))) text
             (λ k. phrase_words limit true read call_words call_good call_short k
             ∙ (call_is ∙ ap (λ (bs : List ℕ). Ok (Happens (GivenEvent (event.Call client server service) bs))) (sym is)));
       }

@@ -18,7 +18,8 @@ use Rattle.homa_plain.specs.Script.{GivenEvent, GivenTicks, counting}
 use Rattle.homa_plain.specs.World.{World, SentPacket, host_at, last_tick}
 use Rattle.generated_runs.specs.Draws.{Traffic, draw, sized, next_traffic}
 use Rattle.generated_runs.specs.Fabric.{Destination, Handed, idle, destination, refilled}
-use Rattle.generated_runs.specs.Rounds.{Generated, with_line, host_round, hosts_round, most_handed, live_at, with_call, calls_round, calls_a_round, round_begun, next_round}
+use Rattle.generated_runs.specs.Rounds.{Generated, with_line, host_round, hosts_round, most_handed, live_at, with_call, calls_round, calls_a_round}
+use Rattle.generated_runs.specs.Rounds.{round_begun, next_round}
 use Rattle.generated_runs.proofs.Going.{handed_to, after_handed, by_number, host_step, host_none, hosts_step, hosts_none}
 use Rattle.generated_runs.proofs.Going.{by_left, calls_step, calls_none, round_is}
 use Rattle.generated_runs.proofs.Counting.{length-counting}
@@ -195,8 +196,10 @@ record IsTraffic (hosts : ℕ) (t : Traffic) : Type 0 where
 
 sized_within : (k : ℕ) (random : Lcg) → (0 < (sized k random).0) × ((sized k random).0 ≤ 1000000)
 sized_within k random =
-    cond_both (nat_lt k 70) _ _ (λ (x : ℕ × Lcg). (0 < x.0) × (x.0 ≤ 1000000)) (λ _. (omega arith, omega (arith, mod_below (pcg32 random).0 1000 (omega arith))))
-    (λ _. cond_both (nat_lt k 95) _ _ (λ (x : ℕ × Lcg). (0 < x.0) × (x.0 ≤ 1000000)) (λ _. (omega arith, omega (arith, mod_below (pcg32 random).0 10000 (omega arith))))
+    cond_both (nat_lt k 70) _ _ (λ (x : ℕ × Lcg). (0 < x.0) × (x.0 ≤ 1000000))
+    (λ _. (omega arith, omega (arith, mod_below (pcg32 random).0 1000 (omega arith))))
+    (λ _. cond_both (nat_lt k 95) _ _ (λ (x : ℕ × Lcg). (0 < x.0) × (x.0 ≤ 1000000))
+    (λ _. (omega arith, omega (arith, mod_below (pcg32 random).0 10000 (omega arith))))
     (λ _. (omega arith, omega (arith, mod_below (pcg32 random).0 90000 (omega arith)))))
 
 is_traffic : (hosts : ℕ) (random : Lcg) → 2 ≤ hosts → IsTraffic hosts (next_traffic hosts random).0
@@ -240,7 +243,8 @@ module _ (s : Settings) (fit : IsFit s) (first : World) (calls clock : ℕ) (mos
       (λ free.
       let room : nat_le s.calls (len (there.0).clients) ≡ false = ap (λ (o : Option Host). nat_le s.calls (live_at o)) (sym there.1) ∙ free in
       let size = length-counting 0 t.size in
-      let happens = call_happens s s.hosts g.world fit.overcommit g.made k.sound.world (omega (arith, most, k.sound.total, some_left g.left some)) t.client t.server t.service
+      let happens = call_happens s s.hosts g.world fit.overcommit g.made k.sound.world (omega (arith, most, k.sound.total, some_left g.left some))
+      t.client t.server t.service
       (counting 0 t.size) fits.server fits.other (omega (arith, size, fits.some)) (omega (arith, size, fits.long)) there.0 there.1 room in
       let run = one_run s s.hosts (g.made + 1) g.world.clock g.world
       (record { event = event.Call t.client t.server t.service; bytes = counting 0 t.size }) happens in

@@ -1,5 +1,6 @@
 -- A generated run: rounds of a tick, of what the fabric hands over, and of new calls.
-use Rattle.std.specs.Prelude.{ℕ, zero, suc, ◌+◌, ◌-◌, ◌&&◌, ◌==◌, Bool, nat_le, if◌then◌else◌, Option, None, Some, List, [], ◌∷◌, ◌++◌, drop, length, map, replicate}
+use Rattle.std.specs.Prelude.{ℕ, zero, suc, ◌+◌, ◌-◌, ◌&&◌, ◌==◌, Bool, nat_le, if◌then◌else◌, Option, None, Some, List, [], ◌∷◌, ◌++◌, drop, length}
+use Rattle.std.specs.Prelude.{map, replicate}
 use Rattle.std.specs.List.{list_all}
 use Rattle.plain_sets.specs.Maps.{len}
 use Rattle.homa_plain.specs.declared.settings.Settings.{Settings}

@@ -1,5 +1,6 @@
 -- The incoming messages of a host, and the GRANTs that it may send.
-use Rattle.std.proofs.Common.{◌≡◌, ℕ, suc, ◌-◌, Bool, true, false, not, cond, ◌&&◌, ◌||◌, T, Option, Some, List, [], ◌∷◌, ◌++◌, length, map, filter, take, refl, sym, ap, ◌∙◌, subst, Less, Equal, Greater, is_eq}
+use Rattle.std.proofs.Common.{◌≡◌, ℕ, suc, ◌-◌, Bool, true, false, not, cond, ◌&&◌, ◌||◌, T, Option, Some, List, [], ◌∷◌, ◌++◌, length, map, filter}
+use Rattle.std.proofs.Common.{take, refl, sym, ap, ◌∙◌, subst, Less, Equal, Greater, is_eq}
 use Rattle.std.specs.Prelude.{◌==◌, nat_lt, if◌then◌else◌}
 use Rattle.std.specs.Option.{option_map_or}
 use Rattle.std.specs.List.{AllByRecursion, list_any, filter_map, Contains, take-map}
@@ -67,17 +68,21 @@ turned : (x y : CallId) → call_cmp x y ≡ Greater → call_cmp y x ≡ Less
 turned x y e = call_total.antisymm y x ∙ ap ordering_reverse e
 
 -- a call is in both tails or in none
-tails : (x : CallId) (xs ys : List CallId) → IsStrictlySortedBy call_cmp (x ∷ xs) → IsStrictlySortedBy call_cmp (x ∷ ys) → (q : CallId) → list_any (is_call q) (x ∷ xs) ≡ list_any (is_call q) (x ∷ ys)
+tails : (x : CallId) (xs ys : List CallId) → IsStrictlySortedBy call_cmp (x ∷ xs) → IsStrictlySortedBy call_cmp (x ∷ ys) → (q : CallId)
+    → list_any (is_call q) (x ∷ xs) ≡ list_any (is_call q) (x ∷ ys)
     → list_any (is_call q) xs ≡ list_any (is_call q) ys
 tails x xs ys s t q =
-    elim (is_call q x) as (λ b. is_call q x ≡ b → (b || list_any (is_call q) xs) ≡ (b || list_any (is_call q) ys) → list_any (is_call q) xs ≡ list_any (is_call q) ys) [
+    elim (is_call q x) as
+    (λ b. is_call q x ≡ b → (b || list_any (is_call q) xs) ≡ (b || list_any (is_call q) ys) → list_any (is_call q) xs ≡ list_any (is_call q) ys) [
       | true ↦ λ e _. let is = (calls_are q x).0 e in
-          subst (λ (z : CallId). list_any (is_call z) xs ≡ list_any (is_call z) ys) (sym is) (none_above x xs (sorted_head call_cmp x xs s) ∙ sym (none_above x ys (sorted_head call_cmp x ys t)))
+          subst (λ (z : CallId). list_any (is_call z) xs ≡ list_any (is_call z) ys) (sym is)
+          (none_above x xs (sorted_head call_cmp x xs s) ∙ sym (none_above x ys (sorted_head call_cmp x ys t)))
       | false ↦ λ e h. h
     ] refl
 
 -- two lists in order with the same calls are one
-pub same_keys : (xs ys : List CallId) → IsStrictlySortedBy call_cmp xs → IsStrictlySortedBy call_cmp ys → ((q : CallId) → list_any (is_call q) xs ≡ list_any (is_call q) ys) → xs ≡ ys
+pub same_keys : (xs ys : List CallId) → IsStrictlySortedBy call_cmp xs → IsStrictlySortedBy call_cmp ys
+    → ((q : CallId) → list_any (is_call q) xs ≡ list_any (is_call q) ys) → xs ≡ ys
 same_keys [] [] s t m = refl
 same_keys [] (y ∷ ys) s t m = absurd (true≢false (sym (ap (λ b. b || list_any (is_call y) ys) (tied y)) ∙ sym (m y)))
 same_keys (x ∷ xs) [] s t m = absurd (true≢false (sym (ap (λ b. b || list_any (is_call x) xs) (tied x)) ∙ m x))
@@ -97,29 +102,38 @@ same_keys (x ∷ xs) (y ∷ ys) s t m =
 abbrev passing : (Part → Bool) → List (CallId × Part) → List CallId
 passing p es = map (λ e. e.0) (filter (λ e. p e.1) es)
 
-below_passing : (k : CallId) (p : Part → Bool) (es : List (CallId × Part)) → T (below_all call_cmp k es) → AllByRecursion (λ y. call_cmp k y ≡ Less) (passing p es)
+below_passing : (k : CallId) (p : Part → Bool) (es : List (CallId × Part)) → T (below_all call_cmp k es)
+    → AllByRecursion (λ y. call_cmp k y ≡ Less) (passing p es)
 below_passing k p [] h = tt
 below_passing k p (e ∷ es) h =
     let rest = below_passing k p es (second _ _ h) in
-    elim (p e.1) as (λ b. AllByRecursion (λ y. call_cmp k y ≡ Less) (map (λ e. e.0) (cond b (e ∷ filter (λ e. p e.1) es) (filter (λ e. p e.1) es)))) [ true ↦ (less _ (first _ _ h), rest) | false ↦ rest ]
+    elim (p e.1) as (λ b. AllByRecursion (λ y. call_cmp k y ≡ Less) (map (λ e. e.0) (cond b (e ∷ filter (λ e. p e.1) es) (filter (λ e. p e.1) es))))
+    [ true ↦ (less _ (first _ _ h), rest) | false ↦ rest ]
 
 sorted_passing : (p : Part → Bool) (es : List (CallId × Part)) → T (is_sorted call_cmp es) → IsStrictlySortedBy call_cmp (passing p es)
 unfolding IsStrictlySortedBy
 sorted_passing p [] h = tt
 sorted_passing p (e ∷ es) h =
     let rest = sorted_passing p es (second _ _ h) in
-    elim (p e.1) as (λ b. IsStrictlySortedBy call_cmp (map (λ e. e.0) (cond b (e ∷ filter (λ e. p e.1) es) (filter (λ e. p e.1) es)))) [ true ↦ (below_passing e.0 p es (first _ _ h), rest) | false ↦ rest ]
+    elim (p e.1) as (λ b. IsStrictlySortedBy call_cmp (map (λ e. e.0) (cond b (e ∷ filter (λ e. p e.1) es) (filter (λ e. p e.1) es))))
+    [ true ↦ (below_passing e.0 p es (first _ _ h), rest) | false ↦ rest ]
 
-member_passing : (p : Part → Bool) (es : List (CallId × Part)) (q : CallId) → T (is_sorted call_cmp es) → list_any (is_call q) (passing p es) ≡ option_map_or p (find call_cmp q es) false
+member_passing : (p : Part → Bool) (es : List (CallId × Part)) (q : CallId) → T (is_sorted call_cmp es)
+    → list_any (is_call q) (passing p es) ≡ option_map_or p (find call_cmp q es) false
 member_passing p [] q h = refl
 member_passing p (e ∷ es) q h =
     let rest = member_passing p es q (second _ _ h) in
-    elim (is_call q e.0) as (λ b. is_call q e.0 ≡ b → list_any (is_call q) (passing p (e ∷ es)) ≡ option_map_or p (cond b (Some e.1) (find call_cmp q es)) false) [
+    elim (is_call q e.0) as
+    (λ b. is_call q e.0 ≡ b → list_any (is_call q) (passing p (e ∷ es)) ≡ option_map_or p (cond b (Some e.1) (find call_cmp q es)) false) [
       | true ↦ λ t.
-          let none : list_any (is_call q) (passing p es) ≡ false = subst (λ (z : CallId). list_any (is_call z) (passing p es) ≡ false) (sym ((calls_are q e.0).0 t)) (none_above e.0 (passing p es) (below_passing e.0 p es (first _ _ h))) in
-          elim (p e.1) as (λ b. list_any (is_call q) (map (λ e. e.0) (cond b (e ∷ filter (λ e. p e.1) es) (filter (λ e. p e.1) es))) ≡ b) [ true ↦ ap (λ b. b || list_any (is_call q) (passing p es)) t | false ↦ none ]
+          let none : list_any (is_call q) (passing p es) ≡ false = subst (λ (z : CallId). list_any (is_call z) (passing p es) ≡ false)
+          (sym ((calls_are q e.0).0 t)) (none_above e.0 (passing p es) (below_passing e.0 p es (first _ _ h))) in
+          elim (p e.1) as (λ b. list_any (is_call q) (map (λ e. e.0) (cond b (e ∷ filter (λ e. p e.1) es) (filter (λ e. p e.1) es))) ≡ b)
+          [ true ↦ ap (λ b. b || list_any (is_call q) (passing p es)) t | false ↦ none ]
       | false ↦ λ t.
-          elim (p e.1) as (λ b. list_any (is_call q) (map (λ e. e.0) (cond b (e ∷ filter (λ e. p e.1) es) (filter (λ e. p e.1) es))) ≡ option_map_or p (find call_cmp q es) false) [ true ↦ ap (λ b. b || list_any (is_call q) (passing p es)) t ∙ rest | false ↦ rest ]
+          elim (p e.1) as
+          (λ b. list_any (is_call q) (map (λ e. e.0) (cond b (e ∷ filter (λ e. p e.1) es) (filter (λ e. p e.1) es))) ≡ option_map_or p
+          (find call_cmp q es) false) [ true ↦ ap (λ b. b || list_any (is_call q) (passing p es)) t ∙ rest | false ↦ rest ]
     ] refl
 
 -- ---- lists that are mapped and filtered
@@ -131,11 +145,14 @@ filter_of_map f p (x ∷ xs) =
     [ true ↦ ap (λ l. f x ∷ l) (filter_of_map f p xs) | false ↦ filter_of_map f p xs ]
 
 -- of each entry something is found under its key
-found_of : {Y : Type 0} (g : CallId → Option Y) (h : CallId × Part → Y) (p : Part → Bool) (es : List (CallId × Part)) → ((e : CallId × Part) → Contains es e → g e.0 ≡ Some (h e)) → filter_map g (passing p es) ≡ map h (filter (λ e. p e.1) es)
+found_of : {Y : Type 0} (g : CallId → Option Y) (h : CallId × Part → Y) (p : Part → Bool) (es : List (CallId × Part))
+    → ((e : CallId × Part) → Contains es e → g e.0 ≡ Some (h e)) → filter_map g (passing p es) ≡ map h (filter (λ e. p e.1) es)
 found_of g h p [] all = refl
 found_of g h p (e ∷ es) all =
     let rest = found_of g h p es (λ x c. all x (there e x es c)) in
-    elim (p e.1) as (λ b. filter_map g (map (λ e. e.0) (cond b (e ∷ filter (λ e. p e.1) es) (filter (λ e. p e.1) es))) ≡ map h (cond b (e ∷ filter (λ e. p e.1) es) (filter (λ e. p e.1) es)))
+    elim (p e.1) as
+    (λ b. filter_map g (map (λ e. e.0) (cond b (e ∷ filter (λ e. p e.1) es) (filter (λ e. p e.1) es))) ≡ map h
+    (cond b (e ∷ filter (λ e. p e.1) es) (filter (λ e. p e.1) es)))
     [ true ↦ rw (all e (here e es)) (ap (λ l. h e ∷ l) rest) | false ↦ rest ]
 
 pub length_of_map : {X Y : Type 0} (f : X → Y) (xs : List X) → length (map f xs) ≡ length xs
@@ -155,7 +172,8 @@ abbrev arrives : Role → CallId × Part → Arriving
 arrives role e = record { role = role; id = e.0; part = e.1 }
 
 -- the messages of one role
-pub role_messages : (host : HostId) (role : Role) (ks : List CallId) (m : Parts) (g : CallId → Option Message) → IsStrictlySortedBy call_cmp ks → ((q : CallId) → list_any (is_call q) ks ≡ is_incoming_at host (get m q))
+pub role_messages : (host : HostId) (role : Role) (ks : List CallId) (m : Parts) (g : CallId → Option Message) → IsStrictlySortedBy call_cmp ks
+    → ((q : CallId) → list_any (is_call q) ks ≡ is_incoming_at host (get m q))
     → ((q : CallId) (p : Part) → get m q ≡ Some p → g q ≡ Some (message_of (record { role = role; id = q; part = p })))
     → filter_map g ks ≡ map message_of (filter (λ x. is_host x.part.host host && is_message x.part) (arriving role m))
 role_messages host role ks m g s members found =
@@ -166,18 +184,24 @@ role_messages host role ks m g s members found =
     (λ q. members q ∙ (ap (λ o. option_map_or p o false) (get-list m q) ∙ sym (member_passing p es q in_order))) in
     ap (filter_map g) keys
     ∙ (found_of g (λ e. message_of (arrives role e)) p es (λ e c. found e.0 e.1 (get-entry call_total call_same m e.0 e.1 c))
-    ∙ (map_map message_of (arrives role) (filter (λ e. p e.1) es) ∙ ap (map message_of) (sym (filter_of_map (arrives role) (λ x. is_host x.part.host host && is_message x.part) es))))
+    ∙ (map_map message_of (arrives role) (filter (λ e. p e.1) es)
+    ∙ ap (map message_of) (sym (filter_of_map (arrives role) (λ x. is_host x.part.host host && is_message x.part) es))))
 
 -- all of them
-pub both_roles : (host : HostId) (xs ys : List Arriving) (ms ns : List Message) → ms ≡ map message_of (filter (λ x. is_host x.part.host host && is_message x.part) xs) → ns ≡ map message_of (filter (λ x. is_host x.part.host host && is_message x.part) ys)
+pub both_roles : (host : HostId) (xs ys : List Arriving) (ms ns : List Message)
+    → ms ≡ map message_of (filter (λ x. is_host x.part.host host && is_message x.part) xs)
+    → ns ≡ map message_of (filter (λ x. is_host x.part.host host && is_message x.part) ys)
     → ms ++ ns ≡ map message_of (filter (λ x. is_host x.part.host host && is_message x.part) (xs ++ ys))
 both_roles host xs ys ms ns e f =
     let p : Arriving → Bool = λ x. is_host x.part.host host && is_message x.part in
-    ap (λ l. l ++ ns) e ∙ (ap (λ l. map message_of (filter p xs) ++ l) f ∙ (sym (map-append message_of (filter p xs) (filter p ys)) ∙ ap (map message_of) (sym (filter-append p xs ys))))
+    ap (λ l. l ++ ns) e
+    ∙ (ap (λ l. map message_of (filter p xs) ++ l) f
+    ∙ (sym (map-append message_of (filter p xs) (filter p ys)) ∙ ap (map message_of) (sym (filter-append p xs ys))))
 
 -- ---- the choice
 
-firsts-map : {X Y : Type 0} (from : X → ℕ) (from' : Y → ℕ) (f : X → Y) → ((x : X) → from' (f x) ≡ from x) → (xs : List X) → firsts from' (map f xs) ≡ map f (firsts from xs)
+firsts-map : {X Y : Type 0} (from : X → ℕ) (from' : Y → ℕ) (f : X → Y) → ((x : X) → from' (f x) ≡ from x) → (xs : List X)
+    → firsts from' (map f xs) ≡ map f (firsts from xs)
 unfolding firsts
 firsts-map from from' f same [] = refl
 firsts-map from from' f same (x ∷ xs) =
@@ -194,18 +218,22 @@ chosen_is k xs =
     ∙ take-map message_of k (firsts (λ x. sender (message x)) (ordered (λ x. choice_key (message x)) xs)))
 
 -- the GRANTs to them
-granted_among : (window n r : ℕ) (g : Grant) (xs : List Arriving) → is_grant_among window n r g (map message_of xs) ≡ list_any (is_grant (plain_grant g)) (map told (grants_from message window n r xs))
+granted_among : (window n r : ℕ) (g : Grant) (xs : List Arriving)
+    → is_grant_among window n r g (map message_of xs) ≡ list_any (is_grant (plain_grant g)) (map told (grants_from message window n r xs))
 granted_among window n r g [] = refl
 granted_among window n r g (x ∷ xs) =
     let rest = granted_among window n (suc r) g xs in
     let end = new_end window (message x) in
     elim (nat_lt x.part.granted end) as (λ b. ((b && is_told_to end (n - 1 - r) g (message_of x)) || is_grant_among window n (suc r) g (map message_of xs))
-    ≡ list_any (is_grant (plain_grant g)) (map told ((if b then record { to = x; offset = end; prio = n - 1 - r } ∷ [] else []) ++ grants_from message window n (suc r) xs)))
+    ≡ list_any (is_grant (plain_grant g))
+    (map told ((if b then record { to = x; offset = end; prio = n - 1 - r } ∷ [] else []) ++ grants_from message window n (suc r) xs)))
     [ true ↦ ap (λ b. is_told_to end (n - 1 - r) g (message_of x) || b) rest | false ↦ rest ]
 
 -- whether a GRANT is one that its host may send
-pub granted_is : (v : View) (host : HostId) (g : Grant) (k window : ℕ) (ms : List Message) → v.settings.overcommit ≡ k → v.settings.window ≡ window → ms ≡ map message_of (incoming v.now host)
-    → is_grant_among window (length (take k (firsts sender_of (ordered key_of ms)))) 0 g (take k (firsts sender_of (ordered key_of ms))) ≡ list_any (is_grant (plain_grant g)) (allowed v host)
+pub granted_is : (v : View) (host : HostId) (g : Grant) (k window : ℕ) (ms : List Message) → v.settings.overcommit ≡ k → v.settings.window ≡ window
+    → ms ≡ map message_of (incoming v.now host)
+    → is_grant_among window (length (take k (firsts sender_of (ordered key_of ms)))) 0 g (take k (firsts sender_of (ordered key_of ms))) ≡ list_any
+    (is_grant (plain_grant g)) (allowed v host)
 unfolding allowed
 granted_is v host g k window ms a b e =
     let xs = incoming v.now host in

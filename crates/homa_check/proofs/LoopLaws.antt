@@ -31,46 +31,55 @@ pub record IsFirst (old new : Reading) (bytes : List ℕ) (left : Option (List �
   pub left_is : left ≡ Some rest
   pub lines : lines_of (old.pending ++ bytes) ≡ line ∷ lines_of (new.pending ++ rest)
 
-pub first_line : (old new : Reading) (came line bytes : List ℕ) (left left_then : Option (List ℕ)) → TakesLine old new came line (IsAtEnd left_then) → left ≡ unread came left_then → left ≡ Some bytes → IsFirst old new bytes left_then line
+pub first_line : (old new : Reading) (came line bytes : List ℕ) (left left_then : Option (List ℕ)) → TakesLine old new came line (IsAtEnd left_then)
+    → left ≡ unread came left_then → left ≡ Some bytes → IsFirst old new bytes left_then line
 first_line old new came line bytes left left_then t e k =
     let d = read_line old new came line bytes left left_then t e k in
     record { rest = d.rest; left_is = d.has_left; lines = ap (λ (b : List ℕ). lines_of (old.pending ++ b)) d.split ∙ d.same d.rest d.nothing }
 
 -- ---- a line that is judged
 
-judged_some : (v : View) (read : ℕ) (line : List ℕ) (lines : List (List ℕ)) (o : Option PlainEntry) (c : judge.Clause) → plain.stands_for read line ≡ o → plain.judged_text v o ≡ Some c → plain.verdict_from v read (line ∷ lines) ≡ plain.No (v.place + 1) c
+judged_some : (v : View) (read : ℕ) (line : List ℕ) (lines : List (List ℕ)) (o : Option PlainEntry) (c : judge.Clause)
+    → plain.stands_for read line ≡ o → plain.judged_text v o ≡ Some c → plain.verdict_from v read (line ∷ lines) ≡ plain.No (v.place + 1) c
 judged_some v read line lines o c e j = rw e (rw j refl)
 
 -- it fails
-pub fails_at : (v : View) (old : Reading) (bytes line : List ℕ) (lines : List (List ℕ)) (o : Option PlainEntry) (clause : Clause) → lines_of (old.pending ++ bytes) ≡ line ∷ lines → plain.stands_for old.read line ≡ o
+pub fails_at : (v : View) (old : Reading) (bytes line : List ℕ) (lines : List (List ℕ)) (o : Option PlainEntry) (clause : Clause)
+    → lines_of (old.pending ++ bytes) ≡ line ∷ lines → plain.stands_for old.read line ≡ o
     → plain.judged_text v o ≡ Some (clause_of clause) → verdict_next v old bytes ≡ plain.No (v.place + 1) (clause_of clause)
 fails_at v old bytes line lines o clause ls e j = ap (verdict_left v old.read) ls ∙ judged_some v old.read line lines o (clause_of clause) e j
 
 -- a line that is too long, or the input is
-pub long_fails : (v : View) (old new : Reading) (left left_then : Option (List ℕ)) → Got left left_then (λ came. (line : List ℕ) × IsLong old new came line (IsAtEnd left_then)) → old.longest ≡ 4100000
+pub long_fails : (v : View) (old new : Reading) (left left_then : Option (List ℕ))
+    → Got left left_then (λ came. (line : List ℕ) × IsLong old new came line (IsAtEnd left_then)) → old.longest ≡ 4100000
     → (bytes : List ℕ) → left ≡ Some bytes → verdict_next v old bytes ≡ plain.No (v.place + 1) judge.ShapeClause
 long_fails v old new left left_then g h bytes k =
     let line = g.2.0 in
     let is = g.2.1 in
     let f = first_line old new g.0 line bytes left left_then is.taken g.1 k in
-    ap (verdict_left v old.read) f.lines ∙ judged_some v old.read line (lines_of (new.pending ++ f.rest)) None judge.ShapeClause (long_line old.read line (omega (arith, is.long, h))) refl
+    ap (verdict_left v old.read) f.lines ∙ judged_some v old.read line (lines_of (new.pending ++ f.rest)) None judge.ShapeClause
+    (long_line old.read line (omega (arith, is.long, h))) refl
 
 -- the bytes that were taken, with what follows them
 follow : (a came b new more : List ℕ) → a ++ came ≡ b ++ new → a ++ (came ++ more) ≡ b ++ (new ++ more)
 follow a came b new more e = sym (append_assoc a came more) ∙ (ap (λ (xs : List ℕ). xs ++ more) e ∙ append_assoc b new more)
 
-pub over_fails : (v : View) (old new : Reading) (left left_then : Option (List ℕ)) → Got left left_then (λ came. (front : List ℕ) × IsOver old new came front) → old.limit ≡ 68719476736 → old.read ≤ old.limit
+pub over_fails : (v : View) (old new : Reading) (left left_then : Option (List ℕ))
+    → Got left left_then (λ came. (front : List ℕ) × IsOver old new came front) → old.limit ≡ 68719476736 → old.read ≤ old.limit
     → (bytes : List ℕ) → left ≡ Some bytes → verdict_next v old bytes ≡ plain.No (v.place + 1) judge.ShapeClause
 over_fails v old new left left_then g h w bytes k =
     let front = g.2.0 in
     let over = g.2.1 in
     let cut = some_left bytes g.0 left left_then k g.1 in
     let begins = lines_of-front front (new.pending ++ cut.0) over.one_line (omega (arith, over.count, w)) in
-    let lines : lines_of (old.pending ++ bytes) ≡ begins.line ∷ begins.later = ap (λ (b : List ℕ). lines_of (old.pending ++ b)) cut.1 ∙ (ap lines_of (follow old.pending g.0 front new.pending cut.0 over.bytes) ∙ begins.first) in
-    ap (verdict_left v old.read) lines ∙ judged_some v old.read begins.line begins.later None judge.ShapeClause (over_line old.read begins.line (omega (arith, over.count, begins.long, h))) refl
+    let lines : lines_of (old.pending ++ bytes) ≡ begins.line ∷ begins.later =
+    ap (λ (b : List ℕ). lines_of (old.pending ++ b)) cut.1 ∙ (ap lines_of (follow old.pending g.0 front new.pending cut.0 over.bytes) ∙ begins.first) in
+    ap (verdict_left v old.read) lines ∙ judged_some v old.read begins.line begins.later None judge.ShapeClause
+    (over_line old.read begins.line (omega (arith, over.count, begins.long, h))) refl
 
 -- no line is left
-pub none_ends : (v : View) (old new : Reading) (left left_then : Option (List ℕ)) → Got left left_then (λ came. IsEnd old new came (IsAtEnd left_then)) → (bytes : List ℕ) → left ≡ Some bytes → verdict_next v old bytes ≡ verdict_at_end v
+pub none_ends : (v : View) (old new : Reading) (left left_then : Option (List ℕ))
+    → Got left left_then (λ came. IsEnd old new came (IsAtEnd left_then)) → (bytes : List ℕ) → left ≡ Some bytes → verdict_next v old bytes ≡ verdict_at_end v
 none_ends v old new left left_then g bytes k =
     let cut = some_left bytes g.0 left left_then k g.1 in
     let none = none_left old.pending g.0 g.2.none_came in
@@ -79,16 +88,20 @@ none_ends v old new left left_then g bytes k =
     ap (λ (b : List ℕ). verdict_left v old.read (lines_of b)) all
 
 -- what a line that isn't too long stands for
-pub stands : (old new : Reading) (came line : List ℕ) (end : Type 0) → IsLine old new came line end → old.longest ≡ 4100000 → old.limit ≡ 68719476736 → plain.stands_for old.read line ≡ entry_of new.line
+pub stands : (old new : Reading) (came line : List ℕ) (end : Type 0) → IsLine old new came line end → old.longest ≡ 4100000 → old.limit ≡ 68719476736
+    → plain.stands_for old.read line ≡ entry_of new.line
 stands old new came line end is l m =
     short_line old.read line (omega (arith, is.short, l)) (omega (arith, is.taken.read, is.taken.within, m)) ∙ ap entry_of (sym is.kept)
 
-pub line_fails : (v : View) (old new : Reading) (left left_then : Option (List ℕ)) (clause : Clause) → Got left left_then (λ came. (line : List ℕ) × IsLine old new came line (IsAtEnd left_then)) → old.longest ≡ 4100000 → old.limit ≡ 68719476736
-    → Some (clause_of clause) ≡ plain.judged_text v (entry_of new.line) → (bytes : List ℕ) → left ≡ Some bytes → verdict_next v old bytes ≡ plain.No (v.place + 1) (clause_of clause)
+pub line_fails : (v : View) (old new : Reading) (left left_then : Option (List ℕ)) (clause : Clause)
+    → Got left left_then (λ came. (line : List ℕ) × IsLine old new came line (IsAtEnd left_then)) → old.longest ≡ 4100000 → old.limit ≡ 68719476736
+    → Some (clause_of clause) ≡ plain.judged_text v (entry_of new.line) → (bytes : List ℕ) → left ≡ Some bytes
+    → verdict_next v old bytes ≡ plain.No (v.place + 1) (clause_of clause)
 line_fails v old new left left_then clause g l m j bytes k =
     let line = g.2.0 in
     let f = first_line old new g.0 line bytes left left_then g.2.1.taken g.1 k in
-    fails_at v old bytes line (lines_of (new.pending ++ f.rest)) (entry_of new.line) clause f.lines (stands old new g.0 line (IsAtEnd left_then) g.2.1 l m) (sym j)
+    fails_at v old bytes line (lines_of (new.pending ++ f.rest)) (entry_of new.line) clause f.lines
+    (stands old new g.0 line (IsAtEnd left_then) g.2.1 l m) (sym j)
 
 -- a line is taken
 place_on : (v : View) (o : Option PlainEntry) → plain.judged_text v o ≡ None → (plain.seen_text v o).place ≡ v.place + 1
@@ -96,7 +109,8 @@ place_on v None h = absurd cc
 place_on v (Some e) h = place-seen v e
 
 behind : (w : View) (read n : ℕ) (lines : List (List ℕ)) → w.place ≡ n + 1 → plain.verdict_from w read lines ≡ verdict_left w read lines
-behind w read n [] e = let some : (w.place == 0) ≡ false = grind (arith, nat_tests) in sym (ap (λ b. if b then plain.No 1 judge.ShapeClause else plain.Yes w.place) some)
+behind w read n [] e =
+    let some : (w.place == 0) ≡ false = grind (arith, nat_tests) in sym (ap (λ b. if b then plain.No 1 judge.ShapeClause else plain.Yes w.place) some)
 behind w read n (line ∷ lines) e = refl
 
 taken_on : (v : View) (read : ℕ) (line : List ℕ) (lines : List (List ℕ)) (o : Option PlainEntry) → plain.stands_for read line ≡ o → plain.judged_text v o ≡ None
@@ -171,7 +185,8 @@ so_far_on first v w old new came line left left_then e t fold s =
     let cut = some_left s.rest came left left_then s.has_left e in
     by_joins first v w old new came line cut.0 left left_then s cut.1 cut.2 t.bytes fold s.joins t.whole
 
-pub line_taken : (v : View) (old new : Reading) (left left_then : Option (List ℕ)) (t : Trace) → Got left left_then (λ came. (line : List ℕ) × IsLine old new came line (IsAtEnd left_then)) → old.longest ≡ 4100000 → old.limit ≡ 68719476736
+pub line_taken : (v : View) (old new : Reading) (left left_then : Option (List ℕ)) (t : Trace)
+    → Got left left_then (λ came. (line : List ℕ) × IsLine old new came line (IsAtEnd left_then)) → old.longest ≡ 4100000 → old.limit ≡ 68719476736
     → None ≡ plain.judged_text v (entry_of new.line) → Follows (plain.seen_text v (entry_of new.line)) t → IsTaken v old new left left_then t
 line_taken v old new left left_then t g l m j follows =
     let line = g.2.0 in
@@ -196,7 +211,8 @@ line_taken v old new left left_then t g l m j follows =
     }
 
 -- a line has a byte
-pub read_more : (old new : Reading) (came line : List ℕ) (end : Type 0) → TakesLine old new came line end → old.limit ≡ 68719476736 → (old.read < new.read) × (new.read ≤ 68719476736)
+pub read_more : (old new : Reading) (came line : List ℕ) (end : Type 0) → TakesLine old new came line end → old.limit ≡ 68719476736
+    → (old.read < new.read) × (new.read ≤ 68719476736)
 read_more old new came line end t l = (by t.whole, omega (arith, t.within, l)) where
   by : (ends_in_feed line ≡ true) ⊎ ((has_no_feed line ≡ true) × (0 < length line) × (new.pending ≡ []) × end) → old.read < new.read
   by (inl h) = omega (arith, t.read, some_bytes line h)
@@ -239,11 +255,13 @@ cut_short bytes left left_then r v s h =
       obeyed = ap (λ (ls : List (List ℕ)). plain.verdict_from nothing_seen 0 ls) (sym (append-nil (lines_of s.lines))) ∙ s.fold [];
     }
 
-pub start_due : (r : Reading) (bytes : List ℕ) → r ≡ record { pending = []; line = []; read = 0; number = 0; limit = 68719476736; longest = 4100000 } → plain.verdict_of bytes ≡ verdict_next nothing_seen r bytes
+pub start_due : (r : Reading) (bytes : List ℕ) → r ≡ record { pending = []; line = []; read = 0; number = 0; limit = 68719476736; longest = 4100000 }
+    → plain.verdict_of bytes ≡ verdict_next nothing_seen r bytes
 start_due r bytes e = start_left (lines_of bytes) ∙ ap (λ x. verdict_next nothing_seen x bytes) (sym e)
 
 -- bytes were read, and then others
-pub read_further : (old mid new : Option (List ℕ)) → ((came : List ℕ) × (old ≡ unread came mid)) → ((came : List ℕ) × (mid ≡ unread came new)) → (came : List ℕ) × (old ≡ unread came new)
+pub read_further : (old mid new : Option (List ℕ)) → ((came : List ℕ) × (old ≡ unread came mid)) → ((came : List ℕ) × (mid ≡ unread came new))
+    → (came : List ℕ) × (old ≡ unread came new)
 read_further old mid new a b = (a.0 ++ b.0, a.1 ∙ (ap (unread a.0) b.1 ∙ sym (unread-append a.0 b.0 new)))
 
 -- ---- what was taken

@@ -29,8 +29,17 @@ some_is : {A : Type 0} (x y : A) → Some x ≡ Some y → x ≡ y
 some_is x y e = cc
 
 -- what the choice sees of a part that is kept
-message_kept : (role : Role) (q : CallId) (host peer : HostId) (set : Numbers) (k : Option KeptPart) (p : Part) → Some p ≡ option_map (part_of host peer set) k → IfSome k (IsCounted set)
-    → option_map (λ (x : KeptPart). record { role = role; id = q; peer = peer; length = x.length; arrived = x.count; granted = x.granted; order = x.order }) k ≡ Some (message_of (record { role = role; id = q; part = p }))
+message_kept : (role : Role) (q : CallId) (host peer : HostId) (set : Numbers) (k : Option KeptPart) (p : Part)
+    → Some p ≡ option_map (part_of host peer set) k → IfSome k (IsCounted set)
+    → option_map (λ (x : KeptPart). record {
+      role = role;
+      id = q;
+      peer = peer;
+      length = x.length;
+      arrived = x.count;
+      granted = x.granted;
+      order = x.order;
+    }) k ≡ Some (message_of (record { role = role; id = q; part = p }))
 message_kept role q host peer set None p e n = absurd cc
 message_kept role q host peer set (Some x) p e n =
     ap (λ (c : ℕ). Some (record { role = role; id = q; peer = peer; length = x.length; arrived = c; granted = x.granted; order = x.order })) n
@@ -38,34 +47,59 @@ message_kept role q host peer set (Some x) p e n =
 
 module _ (v : View) (t : Trace) (q : CallId) (p : Part) (keeps : Keeps v t) where
   asked_by : (o : Option Call) → call_at t q ≡ o → get v.now.requests q ≡ Some p
-      → option_and_then (λ (c : Call). option_map (λ (x : KeptPart). record { role = Server; id = q; peer = q.client; length = x.length; arrived = x.count; granted = x.granted; order = x.order }) (spot_in c (lives_in t q c.server)).request) o ≡ Some (message_of (record { role = Server; id = q; part = p }))
+      → option_and_then
+      (λ (c : Call). option_map
+      (λ (x : KeptPart). record {
+        role = Server;
+        id = q;
+        peer = q.client;
+        length = x.length;
+        arrived = x.count;
+        granted = x.granted;
+        order = x.order;
+      }) (spot_in c (lives_in t q c.server)).request) o ≡ Some (message_of (record { role = Server; id = q; part = p }))
   asked_by None e has = let none : get v.now.requests q ≡ None = ap (λ s. s.request) (absent_now v t q keeps e) in absurd cc
   asked_by (Some c) e has =
-      let st = stands_now v t q c keeps e in message_kept Server q c.server q.client c.asked (spot_in c (lives_in t q c.server)).request p (sym has ∙ st.request) st.request_count
+      let st = stands_now v t q c keeps e in message_kept Server q c.server q.client c.asked (spot_in c (lives_in t q c.server)).request p
+      (sym has ∙ st.request) st.request_count
 
   pub asked_found : get v.now.requests q ≡ Some p → asked_message t q ≡ Some (message_of (record { role = Server; id = q; part = p }))
   asked_found = asked_by (call_at t q) refl
 
   awaited_by : (o : Option Call) → call_at t q ≡ o → get v.now.responses q ≡ Some p
-      → option_and_then (λ (c : Call). option_map (λ (x : KeptPart). record { role = Client; id = q; peer = c.server; length = x.length; arrived = x.count; granted = x.granted; order = x.order }) (spot_in c (lives_in t q c.server)).response) o ≡ Some (message_of (record { role = Client; id = q; part = p }))
+      → option_and_then
+      (λ (c : Call). option_map
+      (λ (x : KeptPart). record {
+        role = Client;
+        id = q;
+        peer = c.server;
+        length = x.length;
+        arrived = x.count;
+        granted = x.granted;
+        order = x.order;
+      }) (spot_in c (lives_in t q c.server)).response) o ≡ Some (message_of (record { role = Client; id = q; part = p }))
   awaited_by None e has = let none : get v.now.responses q ≡ None = ap (λ s. s.response) (absent_now v t q keeps e) in absurd cc
   awaited_by (Some c) e has =
-      let st = stands_now v t q c keeps e in message_kept Client q q.client c.server c.answered (spot_in c (lives_in t q c.server)).response p (sym has ∙ st.response) st.response_count
+      let st = stands_now v t q c keeps e in message_kept Client q q.client c.server c.answered (spot_in c (lives_in t q c.server)).response p
+      (sym has ∙ st.response) st.response_count
 
   pub awaited_found : get v.now.responses q ≡ Some p → awaited_message t q ≡ Some (message_of (record { role = Client; id = q; part = p }))
   awaited_found = awaited_by (call_at t q) refl
 
 -- the messages of a host, where these calls are noted
-messages_with : (v : View) (t : Trace) (host : HostId) (o : Option Host) (asked awaited : List CallId) → Keeps v t → host_at t host ≡ o → IsStrictlySortedBy call_cmp asked → IsStrictlySortedBy call_cmp awaited
+messages_with : (v : View) (t : Trace) (host : HostId) (o : Option Host) (asked awaited : List CallId) → Keeps v t → host_at t host ≡ o
+    → IsStrictlySortedBy call_cmp asked → IsStrictlySortedBy call_cmp awaited
     → ((q : CallId) → list_any (is_call q) asked ≡ asked_of o q) → ((q : CallId) → list_any (is_call q) awaited ≡ awaited_of o q)
     → filter_map (asked_message t) asked ++ filter_map (awaited_message t) awaited ≡ map message_of (incoming v.now host)
 messages_with v t host o asked awaited keeps e s r a b =
     let is = subst (IsListed v host) e (keeps.listed host) in
-    both_roles host (arriving Server v.now.requests) (arriving Client v.now.responses) (filter_map (asked_message t) asked) (filter_map (awaited_message t) awaited)
+    both_roles host (arriving Server v.now.requests) (arriving Client v.now.responses) (filter_map (asked_message t) asked)
+    (filter_map (awaited_message t) awaited)
     (role_messages host Server asked v.now.requests (asked_message t) s (λ q. a q ∙ is.asked q) (λ q p. asked_found v t q p keeps))
     (role_messages host Client awaited v.now.responses (awaited_message t) r (λ q. b q ∙ is.awaited q) (λ q p. awaited_found v t q p keeps))
 
-pub known_messages : (v : View) (t : Trace) (host : HostId) (x : Host) → Keeps v t → host_at t host ≡ Some x → IsStrictlySortedBy call_cmp x.asked.keys → IsStrictlySortedBy call_cmp x.awaited.keys
+pub known_messages : (v : View) (t : Trace) (host : HostId) (x : Host) → Keeps v t → host_at t host ≡ Some x
+    → IsStrictlySortedBy call_cmp x.asked.keys → IsStrictlySortedBy call_cmp x.awaited.keys
     → filter_map (asked_message t) x.asked.keys ++ filter_map (awaited_message t) x.awaited.keys ≡ map message_of (incoming v.now host)
 known_messages v t host x keeps e s r = messages_with v t host (Some x) x.asked.keys x.awaited.keys keeps e s r (λ q. refl) (λ q. refl)
 

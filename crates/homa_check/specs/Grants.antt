@@ -15,7 +15,15 @@ use Rattle.check_lines.specs.Traces.{call_at, lives_in}
 
 -- what the choice sees of a part that arrives
 abbrev pub message_of : Arriving → Message
-message_of x = record { role = x.role; id = x.id; peer = x.part.peer; length = x.part.length; arrived = len x.part.arrived; granted = x.part.granted; order = x.part.order }
+message_of x = record {
+  role = x.role;
+  id = x.id;
+  peer = x.part.peer;
+  length = x.part.length;
+  arrived = len x.part.arrived;
+  granted = x.part.granted;
+  order = x.part.order;
+}
 
 -- .. of a call's request, if a part of it is kept
 abbrev pub asked_message : Trace → CallId → Option Message

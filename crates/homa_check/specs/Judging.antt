@@ -2,7 +2,8 @@
 use Rattle.std.specs.Prelude.{Bool, true, not, if◌then◌else◌, Option, None, Some}
 use Rattle.homa_plain.specs.Entries.{PlainEntry, PlainSend}
 use Rattle.homa_plain.specs.View.{View}
-use Rattle.homa_plain.specs.Judge.{Clause, ShapeClause, OnceClause, ReturnedClause, HandedUpClause, FailsClause, GrantingClause, has_shape, runs_once, returns_answer, hands_up, fails_in_time, is_allowed}
+use Rattle.homa_plain.specs.Judge.{Clause, ShapeClause, OnceClause, ReturnedClause, HandedUpClause, FailsClause, GrantingClause, has_shape, runs_once}
+use Rattle.homa_plain.specs.Judge.{returns_answer, hands_up, fails_in_time, is_allowed}
 
 -- a GRANT is one that its host may send
 abbrev pub is_allowed_line : View → PlainEntry → Bool

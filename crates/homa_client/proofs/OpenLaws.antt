@@ -22,11 +22,13 @@ use Rattle.homa_client.specs.declared.answers.RowDid.TheVariants.{Opened, Done}
 
 -- where there are pages, the piece is added
 pub piece-first : (s : Settings) (m : Moment) (id : CallId) (r : ClientRow) (p : Piece) → pages_for p.size ≤ m.free
-    → response_piece s m id r None p ≡ piece_added id r (with_bytes (opened r.server p.size m.order s.unsched) p.offset p.payload) (record (opening p.size (keeps m r)) { version = version_of p })
+    → response_piece s m id r None p ≡ piece_added id r (with_bytes (opened r.server p.size m.order s.unsched) p.offset p.payload)
+    (record (opening p.size (keeps m r)) { version = version_of p })
 piece-first s m id r p enough =
     rw (le-ltb m.free (pages_for p.size) enough, eq-eqb p.size p.size refl, first_taken r.server p.size m.order s.unsched p.offset p.payload) refl
 
-module _ (s : Settings) (id : CallId) (host : HostId) (now order rows version service size offset u : ℕ) (xs : List ℕ) (old new : Pool) (server : HostId) (r : HeldRow)
+module _ (s : Settings) (id : CallId) (host : HostId) (now order rows version service size offset u : ℕ) (xs : List ℕ) (old new : Pool)
+    (server : HostId) (r : HeldRow)
     (none : r.part ≡ None) (same : s.unsched ≡ u) (here : server ≡ r.server) where
   abbrev m : Moment
   m = moment_of host now order old r.part rows

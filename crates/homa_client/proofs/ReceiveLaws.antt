@@ -31,15 +31,19 @@ pub put_case : (P : Did ClientRow → Type 0) (s : Settings) (m : Moment) (id : 
 put_case P s m id r piece None is h = absurd (true≢false (sym is))
 put_case P s m id r piece (Some q) is h = h
 
-pub gave_after : (s : Settings) (id : CallId) (body : Body) (payload : List ℕ) (piece : Option Piece) (host : HostId) (now order rows : ℕ) (old mid new : Pool) (before between after : HeldRow) (told : List ℕ) (did : RowDid) (y : ClientRow)
+pub gave_after : (s : Settings) (id : CallId) (body : Body) (payload : List ℕ) (piece : Option Piece) (host : HostId) (now order rows : ℕ)
+    (old mid new : Pool) (before between after : HeldRow) (told : List ℕ) (did : RowDid) (y : ClientRow)
     → Moves old before.part mid between.part → seen_row mid between ≡ y
-    → Gave (moment_of host now order mid between.part rows) id piece (answered s (moment_of host now order mid between.part rows) id body payload (seen_row mid between)) mid between new after told did
-    → Gave (moment_of host now order old before.part rows) id piece (answered s (moment_of host now order old before.part rows) id body payload y) old before new after told did
+    → Gave (moment_of host now order mid between.part rows) id piece
+    (answered s (moment_of host now order mid between.part rows) id body payload (seen_row mid between)) mid between new after told did
+    → Gave (moment_of host now order old before.part rows) id piece (answered s (moment_of host now order old before.part rows) id body payload y) old
+    before new after told did
 gave_after s id body payload piece host now order rows old mid new before between after told did y moves e gave =
     let m : moment_of host now order mid between.part rows ≡ moment_of host now order old before.part rows =
     ap (λ f. record { host = host; now = now; order = order; free = f; rows = rows }) moves.free in
     record {
-      did = subst (λ (m : Moment). answered s m id body payload y ≡ did_of m id piece (seen_row new after) told did) m (ap (answered s (moment_of host now order mid between.part rows) id body payload) (sym e) ∙ gave.did);
+      did = subst (λ (m : Moment). answered s m id body payload y ≡ did_of m id piece (seen_row new after) told did) m
+          (ap (answered s (moment_of host now order mid between.part rows) id body payload) (sym e) ∙ gave.did);
       moves = then old mid new before.part between.part after.part moves gave.moves;
       gone = gave.gone;
     }

@@ -43,7 +43,8 @@ from_server from host w payload = record {
   payload = payload;
 }
 
-pub of_server : (from host : HostId) (w : WirePacket) (payload : List ℕ) → w.role ≡ Server → from_server from host w payload ≡ packet_between from host w payload
+pub of_server : (from host : HostId) (w : WirePacket) (payload : List ℕ) → w.role ≡ Server
+    → from_server from host w payload ≡ packet_between from host w payload
 of_server from host w payload e = ap (λ (role : Role). record {
   role = role;
   id = call_between role from host w.inc w.seq;
@@ -56,9 +57,12 @@ of_server from host w payload e = ap (λ (role : Role). record {
 }) (sym e)
 
 -- so what is known of one is known of the other
-pub between : (from : HostId) (w : WirePacket) (payload : List ℕ) → w.role ≡ Server → (t : Clients) (pool : Pool) (now order : ℕ) (new : Clients) (pool' : Pool) (told : List ℕ) (answer : ClientDid)
-    → Received t pool (from_server from t.host w payload) now order new pool' told answer → Received t pool (packet_between from t.host w payload) now order new pool' told answer
-between from w payload e t pool now order new pool' told answer is = subst (λ (p : Packet). Received t pool p now order new pool' told answer) (of_server from t.host w payload e) is
+pub between : (from : HostId) (w : WirePacket) (payload : List ℕ) → w.role ≡ Server
+    → (t : Clients) (pool : Pool) (now order : ℕ) (new : Clients) (pool' : Pool) (told : List ℕ) (answer : ClientDid)
+    → Received t pool (from_server from t.host w payload) now order new pool' told answer
+    → Received t pool (packet_between from t.host w payload) now order new pool' told answer
+between from w payload e t pool now order new pool' told answer is =
+    subst (λ (p : Packet). Received t pool p now order new pool' told answer) (of_server from t.host w payload e) is
 
 -- the place of a row, if the packet is for it
 abbrev taking : Packet → Option (Placed HeldRow) → Option ℕ
@@ -83,13 +87,15 @@ module _ (t : Clients) (pool : Pool) (p : Packet) (now order : ℕ) (told : List
   stays = moved_in p.id t t pool refl (changed-none t.rows p.id) (still pool (part_at t.rows p.id) (are.within p.id))
 
   -- the call isn't live
-  pub received_none : get t.rows p.id ≡ None → (answer : ClientDid) → ((m : Moment) → unasked m p.body ≡ answer_of m p None told answer) → slot_in answer ≡ None → IfSaid answer (λ what. what ≡ body.Busy)
+  pub received_none : get t.rows p.id ≡ None → (answer : ClientDid) → ((m : Moment) → unasked m p.body ≡ answer_of m p None told answer)
+      → slot_in answer ≡ None → IfSaid answer (λ what. what ≡ body.Busy)
       → Received t pool p now order t pool told answer
   unfolding client_gets
   received_none none answer did slot said = record {
     did = λ rows.
         let m = moment_of t.host now order pool (part_at t.rows p.id) rows in
-        subst (λ (o : Option ClientRow). client_gets t.settings m p o ≡ answer_of m p o told answer) (sym (ap (option_map (λ (x : Placed HeldRow). seen_row pool x.row)) none)) (did m);
+        subst (λ (o : Option ClientRow). client_gets t.settings m p o ≡ answer_of m p o told answer)
+        (sym (ap (option_map (λ (x : Placed HeldRow). seen_row pool x.row)) none)) (did m);
     slot = slot ∙ sym (ap (taking p) none);
     same = λ _. (refl, refl);
     left = nothing_left answer (row_at pool t.rows p.id) slot;
@@ -98,12 +104,14 @@ module _ (t : Clients) (pool : Pool) (p : Packet) (now order : ℕ) (told : List
   }
 
   -- the packet isn't for the row
-  pub received_other : (slot : ℕ) (r : HeldRow) → StandsAt t.rows p.id slot r → false ≡ (is_host (sender p) r.server && not (ltb p.inc r.seen)) → Received t pool p now order t pool told Nothing
+  pub received_other : (slot : ℕ) (r : HeldRow) → StandsAt t.rows p.id slot r → false ≡ (is_host (sender p) r.server && not (ltb p.inc r.seen))
+      → Received t pool p now order t pool told Nothing
   unfolding client_gets
   received_other slot r stands refused = record {
     did = λ rows.
         let m = moment_of t.host now order pool (part_at t.rows p.id) rows in
-        subst (λ (o : Option ClientRow). client_gets t.settings m p o ≡ answer_of m p o told Nothing) (sym (ap (option_map (λ (x : Placed HeldRow). seen_row pool x.row)) stands))
+        subst (λ (o : Option ClientRow). client_gets t.settings m p o ≡ answer_of m p o told Nothing)
+        (sym (ap (option_map (λ (x : Placed HeldRow). seen_row pool x.row)) stands))
         (other (is_host (sender p) r.server) (ltb p.inc r.seen) refused (keeps m (seen_row pool r)) _);
     slot = sym (ap (taking p) stands ∙ ap (λ b. cond b (Some slot) None) (sym refused));
     same = λ _. (refl, refl);
@@ -129,7 +137,8 @@ row_after Busy row = Some row
 row_after Forgotten row = None
 
 -- the answer of the table says what the row's does
-answers_are : (m : Moment) (p : Packet) (slot : ℕ) (row : ClientRow) (told : List ℕ) (d : RowDid) → did_of m p.id (piece_in p.body p.payload) row told d ≡ answer_of m p (row_after d row) told (told_of slot p.id d)
+answers_are : (m : Moment) (p : Packet) (slot : ℕ) (row : ClientRow) (told : List ℕ) (d : RowDid)
+    → did_of m p.id (piece_in p.body p.payload) row told d ≡ answer_of m p (row_after d row) told (told_of slot p.id d)
 answers_are m p slot row told Touched = refl
 answers_are m p slot row told Opened = refl
 answers_are m p slot row told (Done true) = refl
@@ -166,7 +175,8 @@ said_is slot id Gaps = tt
 said_is slot id Busy = refl
 said_is slot id Forgotten = tt
 
-module _ (t : Clients) (room : ℕ) (placed : ArePlaced room t.rows) (id : CallId) (slot : ℕ) (r new : HeldRow) (stands : StandsAt t.rows id slot r) (pool pool' : Pool) (are : AreIn pool (part_at t.rows))
+module _ (t : Clients) (room : ℕ) (placed : ArePlaced room t.rows) (id : CallId) (slot : ℕ) (r new : HeldRow) (stands : StandsAt t.rows id slot r)
+    (pool pool' : Pool) (are : AreIn pool (part_at t.rows))
     (moves : Moves pool r.part pool' new.part) where
   abbrev left : RowDid → Clients
   left d = record t { rows = rows_left (set_at t.rows slot new) id d }
@@ -198,22 +208,27 @@ module _ (t : Clients) (room : ℕ) (placed : ArePlaced room t.rows) (id : CallI
   in_left Busy none = put_in t room placed id slot r new stands pool pool' are moves
   in_left Forgotten none = gone_in t room placed id slot r new stands pool pool' are moves none
 
-module _ (t : Clients) (room : ℕ) (placed : ArePlaced room t.rows) (p : Packet) (slot : ℕ) (r new : HeldRow) (stands : StandsAt t.rows p.id slot r) (pool pool' : Pool) (are : AreIn pool (part_at t.rows)) (now order : ℕ) (told : List ℕ) (d : RowDid) where
+module _ (t : Clients) (room : ℕ) (placed : ArePlaced room t.rows) (p : Packet) (slot : ℕ) (r new : HeldRow) (stands : StandsAt t.rows p.id slot r)
+    (pool pool' : Pool) (are : AreIn pool (part_at t.rows)) (now order : ℕ) (told : List ℕ) (d : RowDid) where
   -- the row gave its answer
   pub received_gave : true ≡ (is_host (sender p) r.server && not (ltb p.inc r.seen))
       → ((rows : ℕ) → let m = moment_of t.host now order pool r.part rows in
-      Gave m p.id (piece_in p.body p.payload) (answered t.settings m p.id p.body p.payload (refreshed now p.body (renewed p.inc (seen_row pool r)))) pool r pool' new told d)
+      Gave m p.id (piece_in p.body p.payload) (answered t.settings m p.id p.body p.payload (refreshed now p.body (renewed p.inc (seen_row pool r))))
+      pool r pool' new told d)
       → Received t pool p now order (record t { rows = rows_left (set_at t.rows slot new) p.id d }) pool' told (told_of slot p.id d)
   unfolding client_gets
   received_gave takes gave = record {
     did = λ rows.
         let here = row_left_at t room placed p.id slot r new stands pool pool' are (gave 0).moves d in
         let m' = moment_of t.host now order pool r.part rows in
-        subst (λ (part : Option Part). let m = moment_of t.host now order pool part rows in client_gets t.settings m p (row_at pool t.rows p.id) ≡ answer_of m p (row_at pool' (rows_left (set_at t.rows slot new) p.id d) p.id) told (told_of slot p.id d))
+        subst (λ (part : Option Part). let m = moment_of t.host now order pool part rows in
+        client_gets t.settings m p (row_at pool t.rows p.id) ≡ answer_of m p (row_at pool' (rows_left (set_at t.rows slot new) p.id d) p.id) told
+        (told_of slot p.id d))
         (sym (ap (λ (o : Option (Placed HeldRow)). elim o [ None ↦ None | Some x ↦ x.row.part ]) stands))
         (ap (client_gets t.settings m' p) (ap (option_map (λ (x : Placed HeldRow). seen_row pool x.row)) stands)
         ∙ mine (is_host (sender p) r.server) (ltb p.inc r.seen) takes (keeps m' (seen_row pool r)) _
-        ∙ (gave rows).did ∙ answers_are m' p slot (seen_row pool' new) told d ∙ ap (λ (o : Option ClientRow). answer_of m' p o told (told_of slot p.id d)) (sym here));
+        ∙ (gave rows).did ∙ answers_are m' p slot (seen_row pool' new) told d
+        ∙ ap (λ (o : Option ClientRow). answer_of m' p o told (told_of slot p.id d)) (sym here));
     slot = slots_are slot p.id d ∙ sym (ap (taking p) stands ∙ ap (λ b. cond b (Some slot) None) (sym takes));
     same = λ none. absurd (nothing (sym (slots_are slot p.id d) ∙ none));
     left =
@@ -234,6 +249,7 @@ module _ (t : Clients) (room : ℕ) (placed : ArePlaced room t.rows) (p : Packet
     mine false b e x y = cc
 
   pub received_in : ((rows : ℕ) → let m = moment_of t.host now order pool r.part rows in
-      Gave m p.id (piece_in p.body p.payload) (answered t.settings m p.id p.body p.payload (refreshed now p.body (renewed p.inc (seen_row pool r)))) pool r pool' new told d)
+      Gave m p.id (piece_in p.body p.payload) (answered t.settings m p.id p.body p.payload (refreshed now p.body (renewed p.inc (seen_row pool r))))
+      pool r pool' new told d)
       → AreIn pool' (part_at (rows_left (set_at t.rows slot new) p.id d))
   received_in gave = in_left t room placed p.id slot r new stands pool pool' are (gave 0).moves d (gave 0).gone

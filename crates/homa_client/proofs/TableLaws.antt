@@ -13,7 +13,8 @@ use Rattle.homa_plain.proofs.CallOrder.{call_total, call_same}
 use Rattle.msg_pool.specs.Pool.{Pool}
 use Rattle.homa_in.specs.Part.{Part}
 use Rattle.host_places.specs.Placed.{Placed, Table, StandsAt, ArePlaced, Changed, spot_at, set_at}
-use Rattle.host_places.proofs.PlacedLaws.{one_call, get-insert_here, get-insert_else, get-remove_here, get-remove_else, changed-put, set_at-insert, get-spot, spot-stands}
+use Rattle.host_places.proofs.PlacedLaws.{one_call, get-insert_here, get-insert_else, get-remove_here, get-remove_else, changed-put, set_at-insert}
+use Rattle.host_places.proofs.PlacedLaws.{get-spot, spot-stands}
 use Rattle.host_places.proofs.MappedLaws.{get-mapped, mapped-insert}
 use Rattle.host_incoming.specs.Pooled.{Moves, AreIn, IsInPool, seen_part}
 use Rattle.host_incoming.proofs.MoveLaws.{still_in, seen_others}
@@ -52,9 +53,11 @@ module _ (old new : HeldRows) (pool pool' : Pool) (id : CallId) (others : (q : C
   part_others q ne = ap part_in (others q ne)
 
   -- the plain rows, where those of other calls are as before
-  rows_set : (row : Option ClientRow) → row_at pool' new id ≡ row → ((q : CallId) → (q ≡ id → ⊥) → row_at pool' new q ≡ row_at pool old q) → seen_rows pool' new ≡ set_row (seen_rows pool old) id row
+  rows_set : (row : Option ClientRow) → row_at pool' new id ≡ row → ((q : CallId) → (q ≡ id → ⊥) → row_at pool' new q ≡ row_at pool old q)
+      → seen_rows pool' new ≡ set_row (seen_rows pool old) id row
   rows_set row here else_ = same_map call_total call_same _ _ (λ q. get-mapped (λ (x : Placed HeldRow). seen_row pool' x.row) new q ∙ elim (one_call q id) [
-    | inl is ↦ subst (λ (p : CallId). row_at pool' new p ≡ get (set_row (seen_rows pool old) id row) p) (sym is) (here ∙ sym (set_here (seen_rows pool old) id row))
+    | inl is ↦ subst (λ (p : CallId). row_at pool' new p ≡ get (set_row (seen_rows pool old) id row) p) (sym is)
+        (here ∙ sym (set_here (seen_rows pool old) id row))
     | inr ne ↦ else_ q ne ∙ sym (get-mapped (λ (x : Placed HeldRow). seen_row pool x.row) old q) ∙ sym (set_else (seen_rows pool old) id row q ne)
   ])
 
@@ -70,18 +73,21 @@ module _ (old new : HeldRows) (pool pool' : Pool) (id : CallId) (others : (q : C
     in_after = still_in one_call pool pool' (part_at old) (part_at new) id part_others moves are
 
 -- a table moved, where only one call's row did
-pub moved_of : (id : CallId) (old new : Clients) (pool pool' : Pool) → new ≡ record old { rows = new.rows } → Changed id old.rows new.rows → AreIn pool (part_at old.rows) → Moves pool (part_at old.rows id) pool' (part_at new.rows id)
+pub moved_of : (id : CallId) (old new : Clients) (pool pool' : Pool) → new ≡ record old { rows = new.rows } → Changed id old.rows new.rows
+    → AreIn pool (part_at old.rows) → Moves pool (part_at old.rows id) pool' (part_at new.rows id)
     → Moved id old pool new pool' (row_at pool' new.rows id)
 moved_of id old new pool pool' kept changed are moves = record {
   here = refl;
-  rows = rows_set old.rows new.rows pool pool' id changed.others (row_at pool' new.rows id) refl (row_others old.rows new.rows pool pool' id changed.others are moves);
+  rows = rows_set old.rows new.rows pool pool' id changed.others (row_at pool' new.rows id) refl
+      (row_others old.rows new.rows pool pool' id changed.others are moves);
   changed = changed;
   moves = moves;
   kept = kept;
 }
 
 -- and in the same pool
-pub moved_in : (id : CallId) (old new : Clients) (pool : Pool) → new ≡ record old { rows = new.rows } → Changed id old.rows new.rows → Moves pool (part_at old.rows id) pool (part_at new.rows id)
+pub moved_in : (id : CallId) (old new : Clients) (pool : Pool) → new ≡ record old { rows = new.rows } → Changed id old.rows new.rows
+    → Moves pool (part_at old.rows id) pool (part_at new.rows id)
     → Moved id old pool new pool (row_at pool new.rows id)
 moved_in id old new pool kept changed moves = record {
   here = refl;
@@ -128,11 +134,13 @@ module _ (room : ℕ) (rows : HeldRows) (placed : ArePlaced room rows) (slot : �
   read a e id r stands = same_some a (id, r) (sym e ∙ spot-stands room rows placed id slot r stands)
 
   -- and so is what is lent
-  pub lent : (x : HeldRow) → option_map (λ (s : CallId × HeldRow). s.1) (spot_at rows slot) ≡ Some x → (id : CallId) (r : HeldRow) → StandsAt rows id slot r → x ≡ r
+  pub lent : (x : HeldRow) → option_map (λ (s : CallId × HeldRow). s.1) (spot_at rows slot) ≡ Some x → (id : CallId) (r : HeldRow)
+      → StandsAt rows id slot r → x ≡ r
   lent x e id r stands = same_some x r (sym e ∙ ap (option_map (λ (s : CallId × HeldRow). s.1)) (spot-stands room rows placed id slot r stands))
 
 -- what is lent stands at the place
-pub lent_stands : (rows : HeldRows) (slot : ℕ) (x : HeldRow) → option_map (λ (s : CallId × HeldRow). s.1) (spot_at rows slot) ≡ Some x → (id : CallId) × StandsAt rows id slot x
+pub lent_stands : (rows : HeldRows) (slot : ℕ) (x : HeldRow) → option_map (λ (s : CallId × HeldRow). s.1) (spot_at rows slot) ≡ Some x
+    → (id : CallId) × StandsAt rows id slot x
 lent_stands rows slot x e = at (spot_at rows slot) refl e where
   at : (o : Option (CallId × HeldRow)) → spot_at rows slot ≡ o → option_map (λ (s : CallId × HeldRow). s.1) o ≡ Some x → (id : CallId) × StandsAt rows id slot x
   at None is f = absurd (nothing f) where
@@ -141,7 +149,8 @@ lent_stands rows slot x e = at (spot_at rows slot) refl e where
   at (Some s) is f = (s.0, subst (StandsAt rows s.0 slot) (same_some s.1 x f) (get-spot rows slot s.0 s.1 is))
 
 -- the part of a row that stands in a table is in the pool
-pub part_stands : (pool : Pool) (rows : HeldRows) → AreIn pool (part_at rows) → (id : CallId) (slot : ℕ) (r : HeldRow) → StandsAt rows id slot r → IsInPool pool r.part
+pub part_stands : (pool : Pool) (rows : HeldRows) → AreIn pool (part_at rows) → (id : CallId) (slot : ℕ) (r : HeldRow) → StandsAt rows id slot r
+    → IsInPool pool r.part
 part_stands pool rows are id slot r stands = subst (IsInPool pool) (ap part_in stands) (are.within id)
 
 -- where the row at a place becomes another, each row stays at its place
@@ -178,14 +187,17 @@ module _ (t : Clients) (room : ℕ) (placed : ArePlaced room t.rows) (id : CallI
   put_spot = spot-stands room put.rows (placed_set room t.rows slot new placed) id slot new put_stands
 
   pub put_moves : (pool pool' : Pool) → Moves pool r.part pool' new.part → Moves pool (part_at t.rows id) pool' (part_at put.rows id)
-  put_moves pool pool' moves = subst (λ (o : Option Part). Moves pool o pool' (part_at put.rows id)) (sym (ap part_in stands)) (subst (λ (o : Option Part). Moves pool r.part pool' o) (sym (ap part_in put_stands)) moves)
+  put_moves pool pool' moves = subst (λ (o : Option Part). Moves pool o pool' (part_at put.rows id)) (sym (ap part_in stands))
+      (subst (λ (o : Option Part). Moves pool r.part pool' o) (sym (ap part_in put_stands)) moves)
 
   pub put_same : (pool : Pool) (row : Option ClientRow) → Moves pool r.part pool new.part → Some (seen_row pool new) ≡ row → Moved id t pool put pool row
-  put_same pool row moves e = subst (λ (o : Option ClientRow). Moved id t pool put pool o) (ap (row_in pool) put_stands ∙ e) (moved_in id t put pool refl put_changed (put_moves pool pool moves))
+  put_same pool row moves e = subst (λ (o : Option ClientRow). Moved id t pool put pool o) (ap (row_in pool) put_stands ∙ e)
+      (moved_in id t put pool refl put_changed (put_moves pool pool moves))
 
   module _ (pool pool' : Pool) (are : AreIn pool (part_at t.rows)) (moves : Moves pool r.part pool' new.part) where
     pub put_moved : (row : Option ClientRow) → Some (seen_row pool' new) ≡ row → Moved id t pool put pool' row
-    put_moved row e = subst (λ (o : Option ClientRow). Moved id t pool put pool' o) (ap (row_in pool') put_stands ∙ e) (moved_of id t put pool pool' refl put_changed are (put_moves pool pool' moves))
+    put_moved row e = subst (λ (o : Option ClientRow). Moved id t pool put pool' o) (ap (row_in pool') put_stands ∙ e)
+        (moved_of id t put pool pool' refl put_changed are (put_moves pool pool' moves))
 
     pub put_in : AreIn pool' (part_at put.rows)
     put_in = in_after t.rows put.rows pool pool' id put_changed.others are (put_moves pool pool' moves)
@@ -209,7 +221,8 @@ module _ (t : Clients) (room : ℕ) (placed : ArePlaced room t.rows) (id : CallI
         (subst (λ (o : Option Part). Moves pool r.part pool' o) (none ∙ sym (ap part_in (get-remove_here put.rows id))) moves)
 
     pub gone_moved : (row : Option ClientRow) → None ≡ row → Moved id t pool gone pool' row
-    gone_moved row e = subst (λ (o : Option ClientRow). Moved id t pool gone pool' o) (ap (row_in pool') (get-remove_here put.rows id) ∙ e) (moved_of id t gone pool pool' refl gone_changed are gone_moves)
+    gone_moved row e = subst (λ (o : Option ClientRow). Moved id t pool gone pool' o) (ap (row_in pool') (get-remove_here put.rows id) ∙ e)
+        (moved_of id t gone pool pool' refl gone_changed are gone_moves)
 
     pub gone_in : AreIn pool' (part_at gone.rows)
     gone_in = in_after t.rows gone.rows pool pool' id gone_changed.others are gone_moves
@@ -232,7 +245,11 @@ module _ (host : HostId) (inc seq : ℕ) (s : Settings) (t : Table HeldRow) (is 
     valid = is.valid;
     room = is.room;
     own = λ q y e. elim (one_call q next) [
-      | inl same ↦ record { of_host = ap (λ (p : CallId). p.client) same; of_life = ap (λ (p : CallId). p.inc) same; past = omega (arith, ap (λ (p : CallId). p.seq) same) }
+      | inl same ↦ record {
+        of_host = ap (λ (p : CallId). p.client) same;
+        of_life = ap (λ (p : CallId). p.inc) same;
+        past = omega (arith, ap (λ (p : CallId). p.seq) same);
+      }
       | inr ne ↦
           let own = is.own q y (sym (get-insert_else t.rows next x q ne) ∙ e) in
           record { of_host = own.of_host; of_life = own.of_life; past = omega (arith, own.past) }
@@ -240,11 +257,16 @@ module _ (host : HostId) (inc seq : ℕ) (s : Settings) (t : Table HeldRow) (is 
   }
 
 -- the rows with a new call's
-pub rows_started : (t : Clients) (id : CallId) (slot : ℕ) (row : HeldRow) (server : HostId) (service : ℕ) (request : List ℕ) (now order : ℕ) (pool : Pool) → row ≡ new_row t.settings now order server service request
-    → seen_rows pool (insert t.rows id (record { place = slot; row = row })) ≡ insert (seen_rows pool t.rows) id (new_call t.settings now order server service request)
+pub rows_started : (t : Clients) (id : CallId) (slot : ℕ) (row : HeldRow) (server : HostId) (service : ℕ) (request : List ℕ) (now order : ℕ)
+    (pool : Pool) → row ≡ new_row t.settings now order server service request
+    → seen_rows pool (insert t.rows id (record { place = slot; row = row })) ≡ insert (seen_rows pool t.rows) id
+    (new_call t.settings now order server service request)
 rows_started t id slot row server service request now order pool e =
-    mapped-insert call_total call_same (λ (x : Placed HeldRow). seen_row pool x.row) t.rows id _ ∙ ap (λ (r : HeldRow). insert (seen_rows pool t.rows) id (seen_row pool r)) e
+    mapped-insert call_total call_same (λ (x : Placed HeldRow). seen_row pool x.row) t.rows id _
+    ∙ ap (λ (r : HeldRow). insert (seen_rows pool t.rows) id (seen_row pool r)) e
 
 -- the call whose row stands at a place
-pub call_is : (room : ℕ) (rows : HeldRows) → ArePlaced room rows → (slot : ℕ) (q id : CallId) (r : HeldRow) → IsCallAt rows slot q → StandsAt rows id slot r → q ≡ id
-call_is room rows placed slot q id r at stands = same_some q id (sym at ∙ ap (option_map (λ (s : CallId × HeldRow). s.0)) (spot-stands room rows placed id slot r stands))
+pub call_is : (room : ℕ) (rows : HeldRows) → ArePlaced room rows → (slot : ℕ) (q id : CallId) (r : HeldRow) → IsCallAt rows slot q
+    → StandsAt rows id slot r → q ≡ id
+call_is room rows placed slot q id r at stands =
+    same_some q id (sym at ∙ ap (option_map (λ (s : CallId × HeldRow). s.0)) (spot-stands room rows placed id slot r stands))

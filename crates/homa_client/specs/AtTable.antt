@@ -1,5 +1,6 @@
 -- The table of a client's calls, and what its calls do.
-use Rattle.std.specs.Prelude.{◌≡◌, ◌+◌, ◌<◌, ◌≤◌, ℕ, ◌==◌, ◌&&◌, not, true, nat_lt, nat_le, if◌then◌else◌, Option, Some, None, List, [], ◌∷◌, length, IsSome, IsSomeAnd, refl}
+use Rattle.std.specs.Prelude.{◌≡◌, ◌+◌, ◌<◌, ◌≤◌, ℕ, ◌==◌, ◌&&◌, not, true, nat_lt, nat_le, if◌then◌else◌, Option, Some, None, List, [], ◌∷◌, length}
+use Rattle.std.specs.Prelude.{IsSome, IsSomeAnd, refl}
 use Rattle.std.specs.Option.{option_map, option_and_then}
 use Rattle.std.specs.Coded.{Coded, code_by, coded×, coded_ℕ}
 use Rattle.plain_sets.specs.Maps.{get, insert, remove, len}
@@ -52,8 +53,10 @@ pub record Clients : Type 0 where
 -- a table is stored as the tuple of its fields
 abbrev pub clients_code : Coded Clients
 clients_code =
-    code_by (HostId × (ℕ × (ℕ × (Settings × HeldRows)))) (coded× host_id.the_row.coded (coded× coded_ℕ (coded× coded_ℕ (coded× settings.the_row.coded (rows_code row_code)))))
-    (λ t. (t.host, (t.inc, (t.seq, (t.settings, t.rows))))) (λ c. record { host = c.0; inc = c.1.0; seq = c.1.1.0; settings = c.1.1.1.0; rows = c.1.1.1.1 }) (λ _. refl)
+    code_by (HostId × (ℕ × (ℕ × (Settings × HeldRows))))
+    (coded× host_id.the_row.coded (coded× coded_ℕ (coded× coded_ℕ (coded× settings.the_row.coded (rows_code row_code)))))
+    (λ t. (t.host, (t.inc, (t.seq, (t.settings, t.rows)))))
+    (λ c. record { host = c.0; inc = c.1.0; seq = c.1.1.0; settings = c.1.1.1.0; rows = c.1.1.1.1 }) (λ _. refl)
 
 -- the plain rows that the rows are with their pool
 abbrev pub seen_rows : Pool → HeldRows → RowsOf ClientRow
@@ -145,18 +148,22 @@ version_at piece (Some row) = version_in piece row.part
 abbrev pub answer_of : Moment → Packet → Option ClientRow → List ℕ → ClientDid → Did ClientRow
 answer_of m p row told did.Nothing = leaves m row
 answer_of m p row told (did.Touched slot) = record (leaves m row) { version = version_at (piece_in p.body p.payload) row }
-answer_of m p row told (did.Opened slot) = record (opening (size_in (piece_in p.body p.payload)) (leaves m row)) { version = first_version (piece_in p.body p.payload) }
+answer_of m p row told (did.Opened slot) =
+    record (opening (size_in (piece_in p.body p.payload)) (leaves m row)) { version = first_version (piece_in p.body p.payload) }
 answer_of m p row told (did.Done slot id opened) =
-    record (opening_if opened (size_in (piece_in p.body p.payload)) (leaves m row)) { version = first_version (piece_in p.body p.payload); says = Tells (PlainDone id told) ∷ []; finished = true }
+    record (opening_if opened (size_in (piece_in p.body p.payload)) (leaves m row))
+    { version = first_version (piece_in p.body p.payload); says = Tells (PlainDone id told) ∷ []; finished = true }
 answer_of m p row told (did.Full slot id need free) = says m row (Tells (PlainFullPages id.client id need free) ∷ [])
-answer_of m p row told (did.Gaps slot id) = record (leaves m row) { version = first_version (piece_in p.body p.payload); says = Tells (PlainGaps id.client id) ∷ [] }
+answer_of m p row told (did.Gaps slot id) =
+    record (leaves m row) { version = first_version (piece_in p.body p.payload); says = Tells (PlainGaps id.client id) ∷ [] }
 answer_of m p row told (did.Say slot what) = says m row (Posts what ∷ [])
 answer_of m p row told did.Ack = says m row (Posts (body.Ack []) ∷ [])
 answer_of m p row told (did.Forgotten slot id) = says m row (Tells (PlainFail id WhyForgotten) ∷ [])
 
 -- A packet of a server was taken by the table. The answer names a place exactly where the packet is for a row, and else
 -- nothing changed.
-pub record Received (old : Clients) (pool : Pool) (p : Packet) (now order : ℕ) (new : Clients) (pool' : Pool) (told : List ℕ) (answer : ClientDid) : Type 0 where
+pub record Received (old : Clients) (pool : Pool) (p : Packet) (now order : ℕ) (new : Clients) (pool' : Pool) (told : List ℕ)
+    (answer : ClientDid) : Type 0 where
   pub did : (rows : ℕ) → let m = moment_of old.host now order pool (part_at old.rows p.id) rows in
       client_gets old.settings m p (row_at pool old.rows p.id) ≡ answer_of m p (row_at pool' new.rows p.id) told answer
   pub slot : slot_in answer ≡ slot_for old.rows p

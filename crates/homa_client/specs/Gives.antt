@@ -33,7 +33,12 @@ abbrev pub did_of : Moment → CallId → Option Piece → ClientRow → List �
 did_of m id piece row bytes Touched = record (keeps m row) { version = version_in piece row.part }
 did_of m id piece row bytes Opened = record (opening (size_in piece) (keeps m row)) { version = first_version piece }
 did_of m id piece row bytes (Done opened) =
-    record (opening_if opened (size_in piece) (keeps m row)) { row = None; version = first_version piece; says = Tells (PlainDone id bytes) ∷ []; finished = true }
+    record (opening_if opened (size_in piece) (keeps m row)) {
+      row = None;
+      version = first_version piece;
+      says = Tells (PlainDone id bytes) ∷ [];
+      finished = true;
+    }
 did_of m id piece row bytes (Full need free) = says m (Some row) (Tells (PlainFullPages id.client id need free) ∷ [])
 did_of m id piece row bytes Gaps = record (keeps m row) { version = first_version piece; says = Tells (PlainGaps id.client id) ∷ [] }
 did_of m id piece row bytes Busy = says m (Some row) (Posts body.Busy ∷ [])
@@ -50,7 +55,8 @@ HasNone Busy part = Unit {0}
 HasNone Forgotten part = part ≡ None
 
 -- the plain rule did what the answer says, and of the pool only the row's own part changed
-pub record Gave (m : Moment) (id : CallId) (piece : Option Piece) (plain : Did ClientRow) (old : Pool) (before : HeldRow) (new : Pool) (after : HeldRow) (told : List ℕ) (answer : RowDid) : Type 0 where
+pub record Gave (m : Moment) (id : CallId) (piece : Option Piece) (plain : Did ClientRow) (old : Pool) (before : HeldRow) (new : Pool)
+    (after : HeldRow) (told : List ℕ) (answer : RowDid) : Type 0 where
   pub did : plain ≡ did_of m id piece (seen_row new after) told answer
   pub moves : Moves old before.part new after.part
   pub gone : HasNone answer after.part

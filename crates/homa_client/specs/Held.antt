@@ -73,6 +73,20 @@ pub record IsRow (r : HeldRow) : Type 0 where
 abbrev pub row_code : Coded HeldRow
 row_code =
     code_by (HostId × (ℕ × (List ℕ × (ℕ × (Outgoing × (ℕ × (ℕ × (ℕ × (ℕ × Option Part)))))))))
-    (coded× host_id.the_row.coded (coded× coded_ℕ (coded× (coded_list coded_ℕ) (coded× coded_ℕ (coded× outgoing_code (coded× coded_ℕ (coded× coded_ℕ (coded× coded_ℕ (coded× coded_ℕ (coded_option part_code))))))))))
+    (coded× host_id.the_row.coded
+    (coded× coded_ℕ
+    (coded× (coded_list coded_ℕ)
+    (coded× coded_ℕ (coded× outgoing_code (coded× coded_ℕ (coded× coded_ℕ (coded× coded_ℕ (coded× coded_ℕ (coded_option part_code))))))))))
     (λ r. (r.server, (r.service, (r.request, (r.order, (r.out, (r.heard, (r.base, (r.count, (r.seen, r.part))))))))))
-    (λ c. record { server = c.0; service = c.1.0; request = c.1.1.0; order = c.1.1.1.0; out = c.1.1.1.1.0; heard = c.1.1.1.1.1.0; base = c.1.1.1.1.1.1.0; count = c.1.1.1.1.1.1.1.0; seen = c.1.1.1.1.1.1.1.1.0; part = c.1.1.1.1.1.1.1.1.1 }) (λ _. refl)
+    (λ c. record {
+      server = c.0;
+      service = c.1.0;
+      request = c.1.1.0;
+      order = c.1.1.1.0;
+      out = c.1.1.1.1.0;
+      heard = c.1.1.1.1.1.0;
+      base = c.1.1.1.1.1.1.0;
+      count = c.1.1.1.1.1.1.1.0;
+      seen = c.1.1.1.1.1.1.1.1.0;
+      part = c.1.1.1.1.1.1.1.1.1;
+    }) (λ _. refl)

@@ -25,7 +25,8 @@ no_fault None e = refl
 no_fault (Some fault) e = cc
 
 -- the first part is refused
-stopped_first : (s : Settings) (w : World) (a b : List Happening) (o : Outcome) → ((v : World) → is_done (carried s v a) ≡ false → carried s v (a ++ b) ≡ carried s v a)
+stopped_first : (s : Settings) (w : World) (a b : List Happening) (o : Outcome)
+    → ((v : World) → is_done (carried s v a) ≡ false → carried s v (a ++ b) ≡ carried s v a)
     → is_done (by_outcome s w a o) ≡ false → by_outcome s w (a ++ b) o ≡ by_outcome s w a o
 stopped_first s w a b (Refused fault) next stopped = refl
 stopped_first s w a b (Done after) next stopped = ap (after_event after.told) (next after.world stopped)
@@ -35,16 +36,21 @@ stopped_part s w [] b stopped = absurd (no (ap is_done (sym (no_event s w)) ∙ 
   no : true ≡ false → ⊥
   no e = cc
 stopped_part s w (e ∷ a) b stopped =
-    rw (first_event s w e (a ++ b), first_event s w e a) (stopped_first s w a b (outcome s w e.event e.bytes) (λ v h. stopped_part s v a b h) (rw (sym (first_event s w e a)) stopped))
+    rw (first_event s w e (a ++ b), first_event s w e a)
+    (stopped_first s w a b (outcome s w e.event e.bytes) (λ v h. stopped_part s v a b h) (rw (sym (first_event s w e a)) stopped))
 
 -- ---- what the code did
 
 module _ (s : Settings) (w : World) (stands : World → Type 0) (old new : List ℕ) (before after : List PlainEntry → Type 0) where
   -- an event
-  pub one_carried : (e : Happening) (told : List PlainEntry) → IsApplied s w e stands told before after → new ≡ counted old told → IsCarried s w (e ∷ []) stands old new before after true
+  pub one_carried : (e : Happening) (told : List PlainEntry) → IsApplied s w e stands told before after → new ≡ counted old told
+      → IsCarried s w (e ∷ []) stands old new before after true
   one_carried e told a counts =
-      let runs : (later : List Answer) → carried s (answering (shown told ++ later) w) (e ∷ []) ≡ after_event told (record { world = answering later a.next; told = []; count = 0; fault = None }) =
-      λ later. first_event s (answering (shown told ++ later) w) e [] ∙ ap (by_outcome s (answering (shown told ++ later) w) []) (a.done later) ∙ ap (after_event told) (no_event s (answering later a.next)) in
+      let runs : (later : List Answer)
+      → carried s (answering (shown told ++ later) w) (e ∷ []) ≡ after_event told
+      (record { world = answering later a.next; told = []; count = 0; fault = None }) =
+      λ later. first_event s (answering (shown told ++ later) w) e [] ∙ ap (by_outcome s (answering (shown told ++ later) w) []) (a.done later)
+      ∙ ap (after_event told) (no_event s (answering later a.next)) in
       record {
         next = a.next;
         stood = a.stood;
@@ -57,10 +63,12 @@ module _ (s : Settings) (w : World) (stands : World → Type 0) (old new : List 
       }
 
 -- an event that the world refuses
-pub one_refused : (s : Settings) (w : World) (stands : World → Type 0) (old : List ℕ) (before after : List PlainEntry → Type 0) (e : Happening) (fault : WorldFault) → IsNotApplied s w e fault → is_memory fault ≡ false → stands w
+pub one_refused : (s : Settings) (w : World) (stands : World → Type 0) (old : List ℕ) (before after : List PlainEntry → Type 0) (e : Happening)
+    (fault : WorldFault) → IsNotApplied s w e fault → is_memory fault ≡ false → stands w
     → ((told : List PlainEntry) → after told → before told) → IsCarried s w (e ∷ []) stands old old before after false
 one_refused s w stands old before after e fault refused known stood no_more =
-    let runs : (later : List Answer) → carried s (answering later w) (e ∷ []) ≡ record { world = answering later w; told = []; count = 0; fault = Some (ByWorld fault) } =
+    let runs : (later : List Answer)
+    → carried s (answering later w) (e ∷ []) ≡ record { world = answering later w; told = []; count = 0; fault = Some (ByWorld fault) } =
     λ later. first_event s (answering later w) e [] ∙ ap (by_outcome s (answering later w) []) (refused.refused known later) in
     record {
       next = w;
@@ -74,11 +82,13 @@ one_refused s w stands old before after e fault refused known stood no_more =
     }
 
 -- whether all was done, under another name
-pub done_as : (s : Settings) (w : World) (es : List Happening) (stands : World → Type 0) (old new : List ℕ) (before after : List PlainEntry → Type 0) (d e : Bool) → IsCarried s w es stands old new before after d → d ≡ e → IsCarried s w es stands old new before after e
+pub done_as : (s : Settings) (w : World) (es : List Happening) (stands : World → Type 0) (old new : List ℕ) (before after : List PlainEntry → Type 0)
+    (d e : Bool) → IsCarried s w es stands old new before after d → d ≡ e → IsCarried s w es stands old new before after e
 done_as s w es stands old new before after d e c same = subst (IsCarried s w es stands old new before after) same c
 
 -- no event
-pub none_carried : (s : Settings) (w : World) (stands : World → Type 0) (old : List ℕ) (before : List PlainEntry → Type 0) → stands w → IsCarried s w [] stands old old before before true
+pub none_carried : (s : Settings) (w : World) (stands : World → Type 0) (old : List ℕ) (before : List PlainEntry → Type 0) → stands w
+    → IsCarried s w [] stands old old before before true
 none_carried s w stands old before h = record {
   next = w;
   stood = h;
@@ -91,12 +101,15 @@ none_carried s w stands old before h = record {
 }
 
 -- events behind others
-pub more_carried : (s : Settings) (w : World) (a b : List Happening) (st su : World → Type 0) (old mid new : List ℕ) (p q r : List PlainEntry → Type 0) (done : Bool) → IsCarried s w a st old mid p q true
+pub more_carried : (s : Settings) (w : World) (a b : List Happening) (st su : World → Type 0) (old mid new : List ℕ)
+    (p q r : List PlainEntry → Type 0) (done : Bool) → IsCarried s w a st old mid p q true
     → ((v : World) → st v → IsCarried s v b su mid new q r done) → IsCarried s w (a ++ b) su old new p r done
 more_carried s w a b st su old mid new p q r done first next =
     let second = next first.next first.stood in
-    let parts : (later : List Answer) → IsJoined (carried s (answering (shown (first.told ++ second.told) ++ later) w) (a ++ b)) (carried s (answering (shown first.told ++ (shown second.told ++ later)) w) a) (carried s (answering (shown second.told ++ later) first.next) b) =
-    λ later. rw (shown_parts first.told second.told later, ← (first.world (shown second.told ++ later))) (joined s (answering (shown first.told ++ (shown second.told ++ later)) w) a b (no_fault _ (first.ends (shown second.told ++ later)))) in
+    let parts : (later : List Answer) → IsJoined (carried s (answering (shown (first.told ++ second.told) ++ later) w) (a ++ b))
+    (carried s (answering (shown first.told ++ (shown second.told ++ later)) w) a) (carried s (answering (shown second.told ++ later) first.next) b) =
+    λ later. rw (shown_parts first.told second.told later, ← (first.world (shown second.told ++ later)))
+    (joined s (answering (shown first.told ++ (shown second.told ++ later)) w) a b (no_fault _ (first.ends (shown second.told ++ later)))) in
     record {
       next = second.next;
       stood = second.stood;
@@ -104,19 +117,22 @@ more_carried s w a b st su old mid new p q r done first next =
       counts = second.counts ∙ ap (λ (l : List ℕ). counted l second.told) first.counts ∙ sym (counted-append old first.told second.told);
       allowed = λ more h. subst p (sym (append_assoc first.told second.told more)) (first.allowed (second.told ++ more) (second.allowed more h));
       world = λ later. (parts later).world ∙ second.world later;
-      tells = λ later. (parts later).told ∙ ap (λ (l : List PlainEntry). l ++ (carried s (answering (shown second.told ++ later) first.next) b).told) (first.tells (shown second.told ++ later)) ∙ ap (λ (l : List PlainEntry). first.told ++ l) (second.tells later);
+      tells = λ later. (parts later).told ∙ ap (λ (l : List PlainEntry). l ++ (carried s (answering (shown second.told ++ later) first.next) b).told)
+          (first.tells (shown second.told ++ later)) ∙ ap (λ (l : List PlainEntry). first.told ++ l) (second.tells later);
       ends = λ later. ap is_none (parts later).fault ∙ second.ends later;
     }
 
 -- further events, where the settings stayed
-pub then_carried : (s t : Settings) (w : World) (a b : List Happening) (st su : World → Type 0) (old mid new : List ℕ) (p q r : List PlainEntry → Type 0) (done : Bool) → t ≡ s → IsCarried s w a st old mid p q true → (es : List Happening) → es ≡ a ++ b
+pub then_carried : (s t : Settings) (w : World) (a b : List Happening) (st su : World → Type 0) (old mid new : List ℕ)
+    (p q r : List PlainEntry → Type 0) (done : Bool) → t ≡ s → IsCarried s w a st old mid p q true → (es : List Happening) → es ≡ a ++ b
     → ((v : World) → st v → IsCarried t v b su mid new q r done) → IsCarried s w es su old new p r done
 then_carried s t w a b st su old mid new p q r done same first es k h =
     subst (λ (l : List Happening). IsCarried s w l su old new p r done) (sym k)
     (more_carried s w a b st su old mid new p q r done first (λ v x. subst (λ (o : Settings). IsCarried o v b su mid new q r done) same (h v x)))
 
 -- events behind one that the world refuses
-pub then_stopped : (s : Settings) (w : World) (a b : List Happening) (st : World → Type 0) (old new : List ℕ) (p q : List PlainEntry → Type 0) → IsCarried s w a st old new p q false → (es : List Happening) → es ≡ a ++ b → IsCarried s w es st old new p q false
+pub then_stopped : (s : Settings) (w : World) (a b : List Happening) (st : World → Type 0) (old new : List ℕ) (p q : List PlainEntry → Type 0)
+    → IsCarried s w a st old new p q false → (es : List Happening) → es ≡ a ++ b → IsCarried s w es st old new p q false
 then_stopped s w a b st old new p q first es k =
     let same : (later : List Answer) → carried s (answering (shown first.told ++ later) w) es ≡ carried s (answering (shown first.told ++ later) w) a =
     λ later. ap (carried s (answering (shown first.told ++ later) w)) k ∙ stopped_part s (answering (shown first.told ++ later) w) a b (first.ends later) in

@@ -16,12 +16,14 @@ drop_at : {X : Type 0} (xs : List X) (n : ℕ) (x : X) → slice_get xs n ≡ So
 drop_at {X} xs n x is = drop-cons xs n x (slice_get_within xs n x is) ∙ ap (λ (y : X). y ∷ drop (suc n) xs) (get_or_from_slice_get xs n x x is)
 
 -- the next one
-pub entered_next : (s : Settings) (packets : List SentPacket) (n : ℕ) (x : SentPacket) (p : Passing) (f g : Fabric) → slice_get packets n ≡ Some x → IsPassing s x p → g ≡ sent f p.to.0 p.level (record { number = n; size = p.len; tick = p.tick })
+pub entered_next : (s : Settings) (packets : List SentPacket) (n : ℕ) (x : SentPacket) (p : Passing) (f g : Fabric) → slice_get packets n ≡ Some x
+    → IsPassing s x p → g ≡ sent f p.to.0 p.level (record { number = n; size = p.len; tick = p.tick })
     → all_sent s n (drop n packets) f ≡ all_sent s (n + 1) (drop (n + 1) packets) g
 entered_next s packets n x p f g is passing entered =
     let next : suc n ≡ n + 1 = omega arith in
     ap (λ (l : List SentPacket). all_sent s n l f) (drop_at packets n x is)
-    ∙ ap (λ (k : ℕ). all_sent s k (drop k packets) (sent f (receiver x.packet).0 x.packet.level (record { number = n; size = length (datagram s x.packet); tick = x.tick }))) next
+    ∙ ap (λ (k : ℕ). all_sent s k (drop k packets)
+    (sent f (receiver x.packet).0 x.packet.level (record { number = n; size = length (datagram s x.packet); tick = x.tick }))) next
     ∙ ap (all_sent s (n + 1) (drop (n + 1) packets)) (sym (entered ∙ rw (passing.to, passing.level, passing.len, passing.tick) refl))
 
 -- each packet that is new is shown

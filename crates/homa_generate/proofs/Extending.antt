@@ -6,7 +6,8 @@ use Rattle.homa_plain.specs.Script.{Given, GivenEvent, GivenTicks, counting}
 use Rattle.homa_plain.specs.World.{host_at}
 use Rattle.homa_plain.specs.Replay.{carried, events_of}
 use Rattle.generated_runs.specs.Draws.{next_traffic}
-use Rattle.generated_runs.specs.Rounds.{Generated, with_line, host_round, hosts_round, most_handed, live_at, calls_round, calls_a_round, round_begun, next_round, is_over, rounds}
+use Rattle.generated_runs.specs.Rounds.{Generated, with_line, host_round, hosts_round, most_handed, live_at, calls_round, calls_a_round, round_begun}
+use Rattle.generated_runs.specs.Rounds.{next_round, is_over, rounds}
 use Rattle.generated_runs.proofs.Going.{handed_to, after_handed, by_number, host_step, host_none, hosts_step, hosts_none}
 use Rattle.generated_runs.proofs.Going.{by_left, calls_step, calls_none, round_is, by_end, rounds_step, rounds_none}
 use Rattle.homa_generate.specs.Steps.{one_call}
@@ -41,7 +42,8 @@ call_by s line counted false = line_extends s line counted
 pub call_extends : (s : Settings) → Extends (one_call s)
 call_extends s g =
     let t = next_traffic s.hosts g.fabric.random in
-    call_by s (GivenEvent (event.Call t.0.client t.0.server t.0.service) (counting 0 t.0.size)) (record g { fabric = record g.fabric { random = t.1 }; made = g.made + 1; left = g.left - 1 }) (nat_le s.calls (live_at (host_at g.world t.0.client)))
+    call_by s (GivenEvent (event.Call t.0.client t.0.server t.0.service) (counting 0 t.0.size))
+    (record g { fabric = record g.fabric { random = t.1 }; made = g.made + 1; left = g.left - 1 }) (nat_le s.calls (live_at (host_at g.world t.0.client)))
 
 left_extends : (n : ℕ) (s : Settings) (g : Generated) (none : Bool) → Extends (calls_round n s)
     → IsLonger g.lines g.told (by_left n s g none).lines (by_left n s g none).told

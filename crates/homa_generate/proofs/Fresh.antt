@@ -1,5 +1,6 @@
 -- The packets that a line of a generated schedule sends have the tick that the clock shows after it.
-use Rattle.std.proofs.Common.{Bool, true, false, ◌≡◌, ℕ, zero, suc, ◌+◌, ◌≤◌, ◌==◌, if◌then◌else◌, Option, None, Some, List, [], ◌∷◌, ◌++◌, length, refl, sym, ap, ◌∙◌, subst, append_assoc, arith}
+use Rattle.std.proofs.Common.{Bool, true, false, ◌≡◌, ℕ, zero, suc, ◌+◌, ◌≤◌, ◌==◌, if◌then◌else◌, Option, None, Some, List, [], ◌∷◌, ◌++◌, length}
+use Rattle.std.proofs.Common.{refl, sym, ap, ◌∙◌, subst, append_assoc, arith}
 use Rattle.std.proofs.lemmas.List.{append-nil}
 use Rattle.std.specs.List.{slice_get, AllByRecursion}
 use Rattle.std.specs.Option.{is_some}
@@ -14,7 +15,8 @@ use Rattle.homa_plain.specs.Packets.{Packet, receiver}
 use Rattle.homa_plain.specs.Host.{Host, packets_in}
 use Rattle.homa_plain.specs.Script.{Given, GivenEvent, GivenTicks}
 use Rattle.homa_plain.specs.Steps.{Work, start_fault, call_step, arrival_step, turn_step}
-use Rattle.homa_plain.specs.World.{World, SentPacket, Outcome, Refused, Done, outcome, stamped, stepped, started, calls_from, arrives_at, is_late, delivered, last_tick, turns, host_at, own_clock, next_answer}
+use Rattle.homa_plain.specs.World.{World, SentPacket, Outcome, Refused, Done, outcome, stamped, stepped, started, calls_from, arrives_at, is_late}
+use Rattle.homa_plain.specs.World.{delivered, last_tick, turns, host_at, own_clock, next_answer}
 use Rattle.homa_plain.specs.Replay.{Happening, bare, turns_of, ticks, events_of, carried}
 use Rattle.generated_runs.proofs.Carried.{by_outcome, first_event, no_event}
 use Rattle.homa_generate.proofs.LineLaws.{one_tick}
@@ -38,7 +40,8 @@ grew_then u v w a b = record {
   clock = b.clock ∙ a.clock;
   more = a.more ++ b.more;
   packets = b.packets ∙ (ap (λ (ps : List SentPacket). ps ++ b.more) a.packets ∙ append_assoc u.packets a.more b.more);
-  now = all_both (λ (x : SentPacket). x.tick ≡ u.clock) a.more b.more a.now (subst (λ (n : ℕ). AllByRecursion (λ (x : SentPacket). x.tick ≡ n) b.more) a.clock b.now);
+  now = all_both (λ (x : SentPacket). x.tick ≡ u.clock) a.more b.more a.now
+      (subst (λ (n : ℕ). AllByRecursion (λ (x : SentPacket). x.tick ≡ n) b.more) a.clock b.now);
 }
 
 -- ---- an event
@@ -52,14 +55,16 @@ stamped_now n [] = tt
 stamped_now n (p ∷ ps) = (refl, stamped_now n ps)
 
 step_grew : (w : World) (id : HostId) (first : List PlainEntry) (step : Work) → GrewBy w (stepped w id first step)
-step_grew w id first step = record { clock = refl; more = stamped w.clock (packets_in step.told); packets = refl; now = stamped_now w.clock (packets_in step.told) }
+step_grew w id first step =
+    record { clock = refl; more = stamped w.clock (packets_in step.told); packets = refl; now = stamped_now w.clock (packets_in step.told) }
 
 either_grew : (w : World) (b : Bool) (x y : Outcome) → GrewBy w x → GrewBy w y → GrewBy w (if b then x else y)
 either_grew w true x y p q = p
 either_grew w false x y p q = q
 
 module _ (s : Settings) (w : World) where
-  start_grew : (client server : HostId) (number : ℕ) (request : List ℕ) (h : Host) (fault : Option StartFault) → GrewBy w (started s w client server number request h fault)
+  start_grew : (client server : HostId) (number : ℕ) (request : List ℕ) (h : Host) (fault : Option StartFault)
+      → GrewBy w (started s w client server number request h fault)
   start_grew client server number request h (Some fault) = tt
   start_grew client server number request h None = step_grew w client [] (call_step s h (own_clock w client) server number request)
 
@@ -73,7 +78,9 @@ module _ (s : Settings) (w : World) where
 
   deliver_grew : (n : ℕ) (o : Option SentPacket) → GrewBy w (delivered s w n o)
   deliver_grew n None = tt
-  deliver_grew n (Some sent) = either_grew w (is_late s w sent.tick) _ _ tt (arrive_grew (receiver sent.packet) (PlainDeliver n ∷ []) (Some sent.packet) (host_at w (receiver sent.packet)))
+  deliver_grew n (Some sent) =
+      either_grew w (is_late s w sent.tick) _ _ tt
+      (arrive_grew (receiver sent.packet) (PlainDeliver n ∷ []) (Some sent.packet) (host_at w (receiver sent.packet)))
 
   turn_grew : (id : HostId) (o : Option Host) → GrewBy w (turns s w id o)
   turn_grew id None = tt
@@ -88,7 +95,8 @@ IsMade e = ⊥
 
 event_grew : (s : Settings) (w : World) (e : Event) (bytes : List ℕ) → IsMade e → GrewBy w (outcome s w e bytes)
 unfolding outcome
-event_grew s w (event.Call client server number) bytes made = either_grew w (is_some (host_at w server)) _ _ (from_grew s w client server number bytes (host_at w client)) tt
+event_grew s w (event.Call client server number) bytes made =
+    either_grew w (is_some (host_at w server)) _ _ (from_grew s w client server number bytes (host_at w client)) tt
 event_grew s w (event.Deliver packet) bytes made = deliver_grew s w packet (slice_get w.packets packet)
 event_grew s w event.Clock bytes made = absurd made
 event_grew s w (event.Turn host) bytes made = turn_grew s w host (host_at w host)
@@ -98,13 +106,15 @@ event_grew s w (event.Shift host n) bytes made = absurd made
 
 -- ---- events
 
-first_grew : (s : Settings) (w : World) (es : List Happening) (o : Outcome) → GrewBy w o → ((v : World) → Grew v (carried s v es).world) → Grew w (by_outcome s w es o).world
+first_grew : (s : Settings) (w : World) (es : List Happening) (o : Outcome) → GrewBy w o → ((v : World) → Grew v (carried s v es).world)
+    → Grew w (by_outcome s w es o).world
 first_grew s w es (Refused fault) one rest = grew_none w
 first_grew s w es (Done after) one rest = grew_then w after.world (carried s after.world es).world one (rest after.world)
 
 events_grew : (s : Settings) (w : World) (es : List Happening) → AllByRecursion (λ (e : Happening). IsMade e.event) es → Grew w (carried s w es).world
 events_grew s w [] made = rw (no_event s w) (grew_none w)
-events_grew s w (e ∷ es) made = rw (first_event s w e es) (first_grew s w es (outcome s w e.event e.bytes) (event_grew s w e.event e.bytes made.0) (λ v. events_grew s v es made.1))
+events_grew s w (e ∷ es) made =
+    rw (first_event s w e es) (first_grew s w es (outcome s w e.event e.bytes) (event_grew s w e.event e.bytes made.0) (λ v. events_grew s v es made.1))
 
 turns_made : (n hosts : ℕ) → AllByRecursion (λ (e : Happening). IsMade e.event) (turns_of n hosts)
 turns_made n zero = tt
@@ -116,7 +126,8 @@ turns_made n (suc hosts) = (tt, turns_made (suc n) hosts)
 abbrev pub IsSentNow : World → World → Type 0
 IsSentNow v w = (n : ℕ) (sent : SentPacket) → length v.packets ≤ n → slice_get w.packets n ≡ Some sent → sent.tick ≡ w.clock
 
-behind : (P : SentPacket → Type 0) (xs more : List SentPacket) (n : ℕ) (x : SentPacket) → length xs ≤ n → slice_get (xs ++ more) n ≡ Some x → AllByRecursion P more → P x
+behind : (P : SentPacket → Type 0) (xs more : List SentPacket) (n : ℕ) (x : SentPacket) → length xs ≤ n → slice_get (xs ++ more) n ≡ Some x
+    → AllByRecursion P more → P x
 behind P [] [] n x l is all = cc
 behind P [] (y ∷ ys) zero x l is all = subst P (some y x is) all.0 where
   some : (a b : SentPacket) → Some a ≡ Some b → a ≡ b
@@ -133,11 +144,15 @@ abbrev pub IsMadeLine : Given → Type 0
 IsMadeLine (GivenEvent e bytes) = IsMade e
 IsMadeLine (GivenTicks n) = n ≡ 1
 
-tick_now : (s : Settings) (w : World) (es : List Happening) → AllByRecursion (λ (e : Happening). IsMade e.event) es → (last : Bool) → IsSentNow w (by_outcome s w es (if last then Refused ClockEnd else Done (record { world = record w { clock = w.clock + 1 }; told = PlainClock (w.clock + 1) ∷ [] }))).world
+tick_now : (s : Settings) (w : World) (es : List Happening) → AllByRecursion (λ (e : Happening). IsMade e.event) es → (last : Bool)
+    → IsSentNow w
+    (by_outcome s w es
+    (if last then Refused ClockEnd else Done (record { world = record w { clock = w.clock + 1 }; told = PlainClock (w.clock + 1) ∷ [] }))).world
 tick_now s w es made true = grew_now w w (grew_none w)
 tick_now s w es made false = grew_now _ _ (events_grew s (record w { clock = w.clock + 1 }) es made)
 
-ticked_now : (s : Settings) (w : World) (es : List Happening) → AllByRecursion (λ (e : Happening). IsMade e.event) es → IsSentNow w (by_outcome s w es (outcome s w event.Clock [])).world
+ticked_now : (s : Settings) (w : World) (es : List Happening) → AllByRecursion (λ (e : Happening). IsMade e.event) es
+    → IsSentNow w (by_outcome s w es (outcome s w event.Clock [])).world
 unfolding outcome
 ticked_now s w es made = tick_now s w es made (w.clock == last_tick)
 

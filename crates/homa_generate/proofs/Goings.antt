@@ -53,7 +53,8 @@ id_extends g = longer_self g.lines g.told
 -- ---- going on
 
 -- the fabric and the number of calls change alone
-pub gone_beside : (f h : Generated → Generated) (g next : Generated) (a b : Holds) (st : World → Type 0) (p : List PlainEntry → Type 0) → IsAt b st next → next.told ≡ g.told → next.lines ≡ g.lines → b.counts ≡ a.counts → b.taken ≡ a.taken
+pub gone_beside : (f h : Generated → Generated) (g next : Generated) (a b : Holds) (st : World → Type 0) (p : List PlainEntry → Type 0)
+    → IsAt b st next → next.told ≡ g.told → next.lines ≡ g.lines → b.counts ≡ a.counts → b.taken ≡ a.taken
     → ((answers : List Answer) → f (answered answers g) ≡ h (answered answers next)) → HasGone f h g a b st p p
 gone_beside f h g next a b st p stood told lines counts taken same = record {
   next = next;
@@ -69,11 +70,13 @@ gone_beside f h g next a b st p stood told lines counts taken same = record {
 }
 
 -- nothing happens
-pub gone_none : (f : Generated → Generated) (g : Generated) (a : Holds) (st : World → Type 0) (p : List PlainEntry → Type 0) → IsAt a st g → HasGone f f g a a st p p
+pub gone_none : (f : Generated → Generated) (g : Generated) (a : Holds) (st : World → Type 0) (p : List PlainEntry → Type 0) → IsAt a st g
+    → HasGone f f g a a st p p
 gone_none f g a st p stood = gone_beside f f g g a a st p stood refl refl refl refl (λ answers. refl)
 
 -- one step and then another
-pub gone_on : (f h k : Generated → Generated) (g : Generated) (a b c : Holds) (st su : World → Type 0) (p q r : List PlainEntry → Type 0) (first : HasGone f h g a b st p q) → HasGone h k first.next b c su q r → HasGone f k g a c su p r
+pub gone_on : (f h k : Generated → Generated) (g : Generated) (a b c : Holds) (st su : World → Type 0) (p q r : List PlainEntry → Type 0)
+    (first : HasGone f h g a b st p q) → HasGone h k first.next b c su q r → HasGone f k g a c su p r
 gone_on f h k g a b c st su p q r first second = record {
   next = second.next;
   stood = second.stood;
@@ -82,13 +85,17 @@ gone_on f h k g a b c st su p q r first second = record {
   tells = second.tells ∙ (ap (λ (l : List PlainEntry). l ++ second.told) first.tells ∙ append_assoc g.told first.told second.told);
   has = second.has ∙ (ap (λ (l : List Given). l ++ second.lines) first.has ∙ append_assoc g.lines first.lines second.lines);
   counts = second.counts ∙ (ap (λ (l : List ℕ). counted l second.told) first.counts ∙ sym (counted-append a.counts first.told second.told));
-  printed = wrote_more a.taken b.taken c.taken (text first.lines) (text second.lines) first.printed second.printed ∙ ap (λ (l : List ℕ). appended a.taken l) (sym (flat_map-append given_text first.lines second.lines));
+  printed = wrote_more a.taken b.taken c.taken (text first.lines) (text second.lines) first.printed second.printed
+      ∙ ap (λ (l : List ℕ). appended a.taken l) (sym (flat_map-append given_text first.lines second.lines));
   allowed = λ more x. subst p (sym (append_assoc first.told second.told more)) (first.allowed (second.told ++ more) (second.allowed more x));
-  same = λ later. ap (λ (l : List Answer). f (answered l g)) (shown_parts first.told second.told later) ∙ (first.same (shown second.told ++ later) ∙ second.same later);
+  same = λ later. ap (λ (l : List Answer). f (answered l g)) (shown_parts first.told second.told later)
+      ∙ (first.same (shown second.told ++ later) ∙ second.same later);
 }
 
 -- the same step of other parts
-gone_with : (f h all rest : Generated → Generated) (g : Generated) (a b : Holds) (st : World → Type 0) (p q : List PlainEntry → Type 0) (first : HasGone f h g a b st p q) → ((later : List Answer) → all (answered (shown first.told ++ later) g) ≡ rest (answered later first.next)) → HasGone all rest g a b st p q
+gone_with : (f h all rest : Generated → Generated) (g : Generated) (a b : Holds) (st : World → Type 0) (p q : List PlainEntry → Type 0)
+    (first : HasGone f h g a b st p q) → ((later : List Answer) → all (answered (shown first.told ++ later) g) ≡ rest (answered later first.next))
+    → HasGone all rest g a b st p q
 gone_with f h all rest g a b st p q first same = record {
   next = first.next;
   stood = first.stood;
@@ -103,18 +110,24 @@ gone_with f h all rest g a b st p q first same = record {
 }
 
 -- the step of a part is one of the whole
-pub gone_under : (over f h : Generated → Generated) (g : Generated) (a b : Holds) (st : World → Type 0) (p q : List PlainEntry → Type 0) → HasGone f h g a b st p q → HasGone (λ x. over (f x)) (λ x. over (h x)) g a b st p q
+pub gone_under : (over f h : Generated → Generated) (g : Generated) (a b : Holds) (st : World → Type 0) (p q : List PlainEntry → Type 0)
+    → HasGone f h g a b st p q → HasGone (λ x. over (f x)) (λ x. over (h x)) g a b st p q
 gone_under over f h g a b st p q first = gone_with f h (λ x. over (f x)) (λ x. over (h x)) g a b st p q first (λ later. ap over (first.same later))
 
 -- the same under another name
-pub gone_as : (f h k : Generated → Generated) (g : Generated) (a b : Holds) (st : World → Type 0) (p q : List PlainEntry → Type 0) (first : HasGone f h g a b st p q) → ((answers : List Answer) → h (answered answers first.next) ≡ k (answered answers first.next)) → HasGone f k g a b st p q
+pub gone_as : (f h k : Generated → Generated) (g : Generated) (a b : Holds) (st : World → Type 0) (p q : List PlainEntry → Type 0)
+    (first : HasGone f h g a b st p q) → ((answers : List Answer) → h (answered answers first.next) ≡ k (answered answers first.next))
+    → HasGone f k g a b st p q
 gone_as f h k g a b st p q first same = gone_with f h f k g a b st p q first (λ later. first.same later ∙ same later)
 
 -- ---- a line
 
 -- it was printed, carried out, and its packets entered the fabric
-pub line_gone : (s : Settings) (line : Given) (done : Bool) (g : Generated) (a b : Holds) (st su : World → Type 0) (p q : List PlainEntry → Type 0) (first : ℕ) → IsAt a st g → b.left ≡ a.left → b.taken ≡ appended a.taken (given_text line)
-    → first ≡ length g.world.packets → s.wire ≡ 1 → IsMadeLine line → ((w : World) → st w → IsCarried s w (events_of s.hosts line) su a.counts b.counts p q done) → ((w : World) → su w → AreNew s w first → b.fabric ≡ all_sent s first (drop first w.packets) a.fabric)
+pub line_gone : (s : Settings) (line : Given) (done : Bool) (g : Generated) (a b : Holds) (st su : World → Type 0) (p q : List PlainEntry → Type 0)
+    (first : ℕ) → IsAt a st g → b.left ≡ a.left → b.taken ≡ appended a.taken (given_text line)
+    → first ≡ length g.world.packets → s.wire ≡ 1 → IsMadeLine line
+    → ((w : World) → st w → IsCarried s w (events_of s.hosts line) su a.counts b.counts p q done)
+    → ((w : World) → su w → AreNew s w first → b.fabric ≡ all_sent s first (drop first w.packets) a.fabric)
     → HasGone (with_line s line) (λ x. x) g a b su p q
 line_gone s line done g a b st su p q first stood left printed count version made_line carries enters =
     let c = carries g.world stood.world in
@@ -126,12 +139,20 @@ line_gone s line done g a b st su p q first stood left printed count version mad
     } in
     let before = length g.world.packets in
     let made : World → List PlainEntry → Generated = λ w told.
-    record { world = w; told = g.told ++ told; lines = g.lines ++ line ∷ []; fabric = all_sent s before (drop before w.packets) g.fabric; made = g.made; left = g.left } in
+    record {
+      world = w;
+      told = g.told ++ told;
+      lines = g.lines ++ line ∷ [];
+      fabric = all_sent s before (drop before w.packets) g.fabric;
+      made = g.made;
+      left = g.left;
+    } in
     record {
       next = made c.next c.told;
       stood = record {
         world = c.stood;
-        fabric = enters c.next c.stood fresh ∙ (ap (λ (n : ℕ). all_sent s n (drop n c.next.packets) a.fabric) count ∙ ap (all_sent s before (drop before c.next.packets)) stood.fabric);
+        fabric = enters c.next c.stood fresh
+            ∙ (ap (λ (n : ℕ). all_sent s n (drop n c.next.packets) a.fabric) count ∙ ap (all_sent s before (drop before c.next.packets)) stood.fabric);
         left = left ∙ stood.left;
       };
       told = c.told;
@@ -141,13 +162,15 @@ line_gone s line done g a b st su p q first stood left printed count version mad
       counts = c.counts;
       printed = printed ∙ ap (λ (l : List ℕ). appended a.taken l) (sym (append-nil (given_text line)));
       allowed = c.allowed;
-      same = λ later. ap (λ (w : World). made w (carried s (answering (shown c.told ++ later) g.world) (events_of s.hosts line)).told) (c.world later) ∙ ap (made (answering later c.next)) (c.tells later);
+      same = λ later. ap (λ (w : World). made w (carried s (answering (shown c.told ++ later) g.world) (events_of s.hosts line)).told) (c.world later)
+          ∙ ap (made (answering later c.next)) (c.tells later);
     }
 
 -- ---- stopping
 
 -- a step was done, and then it stopped
-pub stopped_on : (f h : Generated → Generated) (g : Generated) (a b : Holds) (new : Option (List ℕ)) (st : World → Type 0) (p q : List PlainEntry → Type 0) (first : HasGone f h g a b st p q) → Extends h → HasStopped h first.next b.taken new q → HasStopped f g a.taken new p
+pub stopped_on : (f h : Generated → Generated) (g : Generated) (a b : Holds) (new : Option (List ℕ)) (st : World → Type 0)
+    (p q : List PlainEntry → Type 0) (first : HasGone f h g a b st p q) → Extends h → HasStopped h first.next b.taken new q → HasStopped f g a.taken new p
 stopped_on f h g a b new st p q first extends stopped = record {
   told = first.told ++ stopped.told;
   allowed = first.allowed stopped.told stopped.allowed;
@@ -171,13 +194,15 @@ stopped_on f h g a b new st p q first extends stopped = record {
       ap (λ (l : List Answer). f (answered l g)) (shown_parts first.told stopped.told later) ∙ first.same (shown stopped.told ++ later) in
       let all : lines ≡ first.lines ++ more.more =
       append_cancel_left g.lines lines (first.lines ++ more.more)
-      (sym is ∙ (ap (λ (x : Generated). x.lines) runs ∙ (more.has ∙ (ap (λ (l : List Given). l ++ more.more) first.has ∙ append_assoc g.lines first.lines more.more)))) in
+      (sym is ∙ (ap (λ (x : Generated). x.lines) runs
+      ∙ (more.has ∙ (ap (λ (l : List Given). l ++ more.more) first.has ∙ append_assoc g.lines first.lines more.more)))) in
       front_same a.taken new (text first.lines ++ text more.more) (text lines) (sym (ap text all ∙ flat_map-append given_text first.lines more.more))
       (front_after a.taken b.taken new (text first.lines) (text more.more) first.printed (stopped.front later more.more more.has));
 }
 
 -- it stopped in a part
-pub stopped_under : (over f : Generated → Generated) (g : Generated) (old new : Option (List ℕ)) (p : List PlainEntry → Type 0) → Extends over → Extends f → HasStopped f g old new p → HasStopped (λ x. over (f x)) g old new p
+pub stopped_under : (over f : Generated → Generated) (g : Generated) (old new : Option (List ℕ)) (p : List PlainEntry → Type 0) → Extends over
+    → Extends f → HasStopped f g old new p → HasStopped (λ x. over (f x)) g old new p
 stopped_under over f g old new p extends part stopped = record {
   told = stopped.told;
   allowed = stopped.allowed;
@@ -196,13 +221,15 @@ stopped_under over f g old new p extends part stopped = record {
       let one = part start in
       let more = extends (f start) in
       let all : lines ≡ one.more ++ more.more =
-      append_cancel_left g.lines lines (one.more ++ more.more) (sym is ∙ (more.has ∙ (ap (λ (l : List Given). l ++ more.more) one.has ∙ append_assoc g.lines one.more more.more))) in
+      append_cancel_left g.lines lines (one.more ++ more.more)
+      (sym is ∙ (more.has ∙ (ap (λ (l : List Given). l ++ more.more) one.has ∙ append_assoc g.lines one.more more.more))) in
       front_same old new (text one.more ++ text more.more) (text lines) (sym (ap text all ∙ flat_map-append given_text one.more more.more))
       (front_wide old new (text one.more) (text more.more) (stopped.front later one.more one.has));
 }
 
 -- it stopped under another name
-pub stopped_as : (f h : Generated → Generated) (g : Generated) (old new : Option (List ℕ)) (p : List PlainEntry → Type 0) → ((answers : List Answer) → h (answered answers g) ≡ f (answered answers g)) → HasStopped f g old new p → HasStopped h g old new p
+pub stopped_as : (f h : Generated → Generated) (g : Generated) (old new : Option (List ℕ)) (p : List PlainEntry → Type 0)
+    → ((answers : List Answer) → h (answered answers g) ≡ f (answered answers g)) → HasStopped f g old new p → HasStopped h g old new p
 stopped_as f h g old new p same stopped = record {
   told = stopped.told;
   allowed = stopped.allowed;
@@ -211,7 +238,8 @@ stopped_as f h g old new p same stopped = record {
 }
 
 -- it stopped in a line, of which a front was printed
-pub line_stopped : (s : Settings) (line : Given) (g : Generated) (old new : Option (List ℕ)) (p : List PlainEntry → Type 0) → p [] → TookFront old new (given_text line) → HasStopped (with_line s line) g old new p
+pub line_stopped : (s : Settings) (line : Given) (g : Generated) (old new : Option (List ℕ)) (p : List PlainEntry → Type 0) → p []
+    → TookFront old new (given_text line) → HasStopped (with_line s line) g old new p
 line_stopped s line g old new p none front = record {
   told = [];
   allowed = none;
@@ -224,17 +252,21 @@ line_stopped s line g old new p none front = record {
 -- ---- a step of a part, as the code does it, where the settings stayed
 
 -- behind what was done, one step more
-pub then_gone : (s t : Settings) (all over : Generated → Generated) (part : Settings → Generated → Generated) (g : Generated) (a b c : Holds) (st su : World → Type 0) (p q r : List PlainEntry → Type 0) → t ≡ s → HasGone all (λ x. over (part s x)) g a b st p q
+pub then_gone : (s t : Settings) (all over : Generated → Generated) (part : Settings → Generated → Generated) (g : Generated) (a b c : Holds)
+    (st su : World → Type 0) (p q r : List PlainEntry → Type 0) → t ≡ s → HasGone all (λ x. over (part s x)) g a b st p q
     → ((x : Generated) → IsAt b st x → HasGone (part t) (λ y. y) x b c su q r) → HasGone all over g a c su p r
 then_gone s t all over part g a b c st su p q r same first next =
-    let second : HasGone (part s) (λ y. y) first.next b c su q r = subst (λ (o : Settings). HasGone (part o) (λ y. y) first.next b c su q r) same (next first.next first.stood) in
+    let second : HasGone (part s) (λ y. y) first.next b c su q r =
+    subst (λ (o : Settings). HasGone (part o) (λ y. y) first.next b c su q r) same (next first.next first.stood) in
     gone_on all (λ x. over (part s x)) over g a b c st su p q r first (gone_under over (part s) (λ y. y) first.next b c su q r second)
 
 -- or it stopped there
-pub then_stopped : (s t : Settings) (all over : Generated → Generated) (part : Settings → Generated → Generated) (g : Generated) (a b : Holds) (new : Option (List ℕ)) (st : World → Type 0) (p q : List PlainEntry → Type 0) → t ≡ s → Extends over → Extends (part s)
+pub then_stopped : (s t : Settings) (all over : Generated → Generated) (part : Settings → Generated → Generated) (g : Generated) (a b : Holds)
+    (new : Option (List ℕ)) (st : World → Type 0) (p q : List PlainEntry → Type 0) → t ≡ s → Extends over → Extends (part s)
     → HasGone all (λ x. over (part s x)) g a b st p q → ((x : Generated) → IsAt b st x → HasStopped (part t) x b.taken new q) → HasStopped all g a.taken new p
 then_stopped s t all over part g a b new st p q same over_extends part_extends first next =
-    let second : HasStopped (part s) first.next b.taken new q = subst (λ (o : Settings). HasStopped (part o) first.next b.taken new q) same (next first.next first.stood) in
+    let second : HasStopped (part s) first.next b.taken new q =
+    subst (λ (o : Settings). HasStopped (part o) first.next b.taken new q) same (next first.next first.stood) in
     let both : Extends (λ x. over (part s x)) =
     λ x. longer_on x.lines (part s x).lines (over (part s x)).lines x.told (part s x).told (over (part s x)).told (part_extends x)
     (over_extends (part s x)) in

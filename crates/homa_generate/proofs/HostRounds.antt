@@ -15,8 +15,10 @@ use Rattle.homa_generate.proofs.Goings.{gone_on, gone_beside, gone_as}
 abbrev pub deliver : ℕ → Settings → Generated → Generated
 deliver number s = with_line s (GivenEvent (event.Deliver number) [])
 
-module _ (s : Settings) (to n k : ℕ) (all : Generated → Generated) (g : Generated) (a b c : Holds) (st : World → Type 0) (p q : List PlainEntry → Type 0) (first : HasGone all (host_round n s to) g a b st p q)
-    (life now : ℕ) (n_is : n ≡ suc k) (life_is : life ≡ s.life) (now_is : now ≡ first.next.world.clock) (handed : c.fabric ≡ after_next b.fabric to (next_of life now (destination b.fabric to) b.fabric.random))
+module _ (s : Settings) (to n k : ℕ) (all : Generated → Generated) (g : Generated) (a b c : Holds) (st : World → Type 0)
+    (p q : List PlainEntry → Type 0) (first : HasGone all (host_round n s to) g a b st p q)
+    (life now : ℕ) (n_is : n ≡ suc k) (life_is : life ≡ s.life) (now_is : now ≡ first.next.world.clock)
+    (handed : c.fabric ≡ after_next b.fabric to (next_of life now (destination b.fabric to) b.fabric.random))
     (left : c.left ≡ b.left) (counts : c.counts ≡ b.counts) (taken : c.taken ≡ b.taken) where
   same_handed : next_of life now (destination b.fabric to) b.fabric.random ≡ handed_to s to first.next
   same_handed = ap (λ (f : Fabric). next_of life now (destination f to) f.random) first.stood.fabric
@@ -30,7 +32,8 @@ module _ (s : Settings) (to n k : ℕ) (all : Generated → Generated) (g : Gene
     left = left ∙ first.stood.left;
   }
 
-  step_is : (number : Option ℕ) → (next_of life now (destination b.fabric to) b.fabric.random).number ≡ number → (answers : List Answer) → host_round n s to (answered answers first.next) ≡ by_number k s to (answered answers (after_handed s to first.next)) number
+  step_is : (number : Option ℕ) → (next_of life now (destination b.fabric to) b.fabric.random).number ≡ number → (answers : List Answer)
+      → host_round n s to (answered answers first.next) ≡ by_number k s to (answered answers (after_handed s to first.next)) number
   step_is number is answers =
       ap (λ (m : ℕ). host_round m s to (answered answers first.next)) n_is
       ∙ host_step k s to (answered answers first.next)
@@ -43,12 +46,16 @@ module _ (s : Settings) (to n k : ℕ) (all : Generated → Generated) (g : Gene
       (gone_beside (host_round n s to) (λ x. x) first.next (after_handed s to first.next) b c st q stood_after refl refl counts taken (step_is None is))
 
   -- it is handed a packet
-  pub packet_handed : (number : ℕ) → (next_of life now (destination b.fabric to) b.fabric.random).number ≡ Some number → HasGone all (λ x. host_round k s to (deliver number s x)) g a c st p q
+  pub packet_handed : (number : ℕ) → (next_of life now (destination b.fabric to) b.fabric.random).number ≡ Some number
+      → HasGone all (λ x. host_round k s to (deliver number s x)) g a c st p q
   packet_handed number is =
       gone_on all (host_round n s to) (λ x. host_round k s to (deliver number s x)) g a b c st st p q q first
-      (gone_beside (host_round n s to) (λ x. host_round k s to (deliver number s x)) first.next (after_handed s to first.next) b c st q stood_after refl refl counts taken (step_is (Some number) is))
+      (gone_beside (host_round n s to) (λ x. host_round k s to (deliver number s x)) first.next (after_handed s to first.next) b c st q stood_after
+      refl refl counts taken (step_is (Some number) is))
 
 -- so many packets were handed over
-pub round_spent : (s : Settings) (to n : ℕ) (all : Generated → Generated) (g : Generated) (a b : Holds) (st : World → Type 0) (p q : List PlainEntry → Type 0) → n ≡ 0 → HasGone all (host_round n s to) g a b st p q → HasGone all (λ x. x) g a b st p q
+pub round_spent : (s : Settings) (to n : ℕ) (all : Generated → Generated) (g : Generated) (a b : Holds) (st : World → Type 0)
+    (p q : List PlainEntry → Type 0) → n ≡ 0 → HasGone all (host_round n s to) g a b st p q → HasGone all (λ x. x) g a b st p q
 round_spent s to n all g a b st p q none first =
-    gone_as all (host_round n s to) (λ x. x) g a b st p q first (λ answers. ap (λ (m : ℕ). host_round m s to (answered answers first.next)) none ∙ host_none s to (answered answers first.next))
+    gone_as all (host_round n s to) (λ x. x) g a b st p q first
+    (λ answers. ap (λ (m : ℕ). host_round m s to (answered answers first.next)) none ∙ host_none s to (answered answers first.next))

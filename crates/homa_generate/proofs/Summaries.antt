@@ -5,8 +5,11 @@ use Rattle.std.proofs.lemmas.List.{append-nil}
 use Rattle.std.proofs.lemmas.List.Elements.{filter-append}
 use Rattle.homa_plain.specs.declared.packet.Body.TheVariants as body
 use Rattle.homa_plain.specs.declared.entry.Why.TheVariants.{Timeout, Forgotten}
-use Rattle.homa_plain.specs.Entries.{PlainEntry, PlainSettings, PlainCall, PlainDeliver, PlainClock, PlainRestart, PlainInject, PlainShift, PlainJunk, PlainStale, PlainSend, PlainRun, PlainDone, PlainFail, PlainDrop, PlainGaps, PlainBury, PlainFree, PlainFullRows, PlainFullPages, PlainBalance, PlainRecv, PlainFinished, PlainRefused, PlainStalled}
-use Rattle.generated_runs.specs.Generated.{count_of, is_run, is_done, is_timeout, is_forgotten, is_deliver, is_clock, is_call, is_kind, summary_line, summary_text}
+use Rattle.homa_plain.specs.Entries.{PlainEntry, PlainSettings, PlainCall, PlainDeliver, PlainClock, PlainRestart, PlainInject, PlainShift, PlainJunk}
+use Rattle.homa_plain.specs.Entries.{PlainStale, PlainSend, PlainRun, PlainDone, PlainFail, PlainDrop, PlainGaps, PlainBury, PlainFree, PlainFullRows}
+use Rattle.homa_plain.specs.Entries.{PlainFullPages, PlainBalance, PlainRecv, PlainFinished, PlainRefused, PlainStalled}
+use Rattle.generated_runs.specs.Generated.{count_of, is_run, is_done, is_timeout, is_forgotten, is_deliver, is_clock, is_call, is_kind, summary_line}
+use Rattle.generated_runs.specs.Generated.{summary_text}
 use Rattle.homa_world.specs.Kinds.{kind_of}
 use Rattle.homa_generate.specs.Counts.{one_more, counted, no_counts, counts_text}
 
@@ -25,13 +28,19 @@ count_more is a e = ap length (filter-append is a (e ∷ [])) ∙ length-append 
 -- the numbers of a trace
 abbrev numbers : List PlainEntry → List ℕ
 numbers told =
-    count_of is_call told ∷ count_of is_run told ∷ count_of is_done told ∷ count_of is_timeout told ∷ count_of is_forgotten told ∷ count_of is_deliver told ∷ count_of is_clock told ∷
-    count_of (is_kind 0) told ∷ count_of (is_kind 1) told ∷ count_of (is_kind 2) told ∷ count_of (is_kind 3) told ∷ count_of (is_kind 4) told ∷ count_of (is_kind 5) told ∷ count_of (is_kind 6) told ∷ count_of (is_kind 7) told ∷ []
+    count_of is_call told ∷ count_of is_run told ∷ count_of is_done told ∷ count_of is_timeout told ∷ count_of is_forgotten told ∷
+    count_of is_deliver told ∷ count_of is_clock told ∷
+    count_of (is_kind 0) told ∷ count_of (is_kind 1) told ∷ count_of (is_kind 2) told ∷ count_of (is_kind 3) told ∷ count_of (is_kind 4) told ∷
+    count_of (is_kind 5) told ∷ count_of (is_kind 6) told ∷ count_of (is_kind 7) told ∷ []
 
 abbrev numbers_with : List PlainEntry → PlainEntry → List ℕ
 numbers_with told e =
-    more_if (is_call e) (count_of is_call told) ∷ more_if (is_run e) (count_of is_run told) ∷ more_if (is_done e) (count_of is_done told) ∷ more_if (is_timeout e) (count_of is_timeout told) ∷ more_if (is_forgotten e) (count_of is_forgotten told) ∷ more_if (is_deliver e) (count_of is_deliver told) ∷ more_if (is_clock e) (count_of is_clock told) ∷
-    more_if (is_kind 0 e) (count_of (is_kind 0) told) ∷ more_if (is_kind 1 e) (count_of (is_kind 1) told) ∷ more_if (is_kind 2 e) (count_of (is_kind 2) told) ∷ more_if (is_kind 3 e) (count_of (is_kind 3) told) ∷ more_if (is_kind 4 e) (count_of (is_kind 4) told) ∷ more_if (is_kind 5 e) (count_of (is_kind 5) told) ∷ more_if (is_kind 6 e) (count_of (is_kind 6) told) ∷ more_if (is_kind 7 e) (count_of (is_kind 7) told) ∷ []
+    more_if (is_call e) (count_of is_call told) ∷ more_if (is_run e) (count_of is_run told) ∷ more_if (is_done e) (count_of is_done told) ∷ more_if
+    (is_timeout e) (count_of is_timeout told) ∷ more_if (is_forgotten e) (count_of is_forgotten told) ∷ more_if (is_deliver e)
+    (count_of is_deliver told) ∷ more_if (is_clock e) (count_of is_clock told) ∷
+    more_if (is_kind 0 e) (count_of (is_kind 0) told) ∷ more_if (is_kind 1 e) (count_of (is_kind 1) told) ∷ more_if (is_kind 2 e)
+    (count_of (is_kind 2) told) ∷ more_if (is_kind 3 e) (count_of (is_kind 3) told) ∷ more_if (is_kind 4 e) (count_of (is_kind 4) told) ∷ more_if
+    (is_kind 5 e) (count_of (is_kind 5) told) ∷ more_if (is_kind 6 e) (count_of (is_kind 6) told) ∷ more_if (is_kind 7 e) (count_of (is_kind 7) told) ∷ []
 
 numbers_more : (a : List PlainEntry) (e : PlainEntry) → numbers (a ++ e ∷ []) ≡ numbers_with a e
 numbers_more a e =
@@ -93,7 +102,9 @@ counted_from a (e ∷ b) =
     ap (λ (l : List ℕ). counted l b) (placed a e ∙ sym (numbers_more a e)) ∙ counted_from (a ++ e ∷ []) b ∙ ap numbers (append_assoc a (e ∷ []) b)
 
 -- fifteen texts one behind the other
-fifteen : (a b c d e f g h i j k l m n o : List ℕ) → a ++ (b ++ (c ++ (d ++ (e ++ (f ++ (g ++ (h ++ (i ++ (j ++ (k ++ (l ++ (m ++ (n ++ (o ++ [])))))))))))))) ≡ a ++ b ++ c ++ d ++ e ++ f ++ g ++ h ++ i ++ j ++ k ++ l ++ m ++ n ++ o
+fifteen : (a b c d e f g h i j k l m n o : List ℕ)
+    → a ++ (b ++ (c ++ (d ++ (e ++ (f ++ (g ++ (h ++ (i ++ (j ++ (k ++ (l ++ (m ++ (n ++ (o ++ [])))))))))))))) ≡ a ++ b ++ c ++ d ++ e ++ f ++ g ++ h
+    ++ i ++ j ++ k ++ l ++ m ++ n ++ o
 fifteen a b c d e f g h i j k l m n o = simp (append_assoc, append-nil)
 
 line_of : List ℕ → (PlainEntry → Bool) → List PlainEntry → List ℕ
@@ -102,8 +113,12 @@ line_of name is told = summary_line name (count_of is told)
 text_of_numbers : (told : List PlainEntry) → counts_text (numbers told) ≡ summary_text told
 unfolding line_of
 text_of_numbers told =
-    fifteen (line_of (codes "calls") is_call told) (line_of (codes "runs") is_run told) (line_of (codes "done") is_done told) (line_of (codes "timeout") is_timeout told) (line_of (codes "forgotten") is_forgotten told) (line_of (codes "deliver") is_deliver told) (line_of (codes "clock") is_clock told)
-    (line_of (codes "DATA") (is_kind 0) told) (line_of (codes "GRANT") (is_kind 1) told) (line_of (codes "RESEND") (is_kind 2) told) (line_of (codes "BUSY") (is_kind 3) told) (line_of (codes "CUTOFFS") (is_kind 4) told) (line_of (codes "UNKNOWN") (is_kind 5) told) (line_of (codes "NEED_ACK") (is_kind 6) told) (line_of (codes "ACK") (is_kind 7) told)
+    fifteen (line_of (codes "calls") is_call told) (line_of (codes "runs") is_run told) (line_of (codes "done") is_done told)
+    (line_of (codes "timeout") is_timeout told) (line_of (codes "forgotten") is_forgotten told) (line_of (codes "deliver") is_deliver told)
+    (line_of (codes "clock") is_clock told)
+    (line_of (codes "DATA") (is_kind 0) told) (line_of (codes "GRANT") (is_kind 1) told) (line_of (codes "RESEND") (is_kind 2) told)
+    (line_of (codes "BUSY") (is_kind 3) told) (line_of (codes "CUTOFFS") (is_kind 4) told) (line_of (codes "UNKNOWN") (is_kind 5) told)
+    (line_of (codes "NEED_ACK") (is_kind 6) told) (line_of (codes "ACK") (is_kind 7) told)
 
 -- what was counted of a trace is its summary
 pub summary_counted : (told : List PlainEntry) → counts_text (counted no_counts told) ≡ summary_text told

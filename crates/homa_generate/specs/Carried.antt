@@ -9,7 +9,8 @@ use Rattle.homa_plain.specs.Answers.{shown, answering}
 use Rattle.homa_generate.specs.Counts.{counted}
 
 -- This was told and counted of them, with the answers that it shows; it is known whether none was refused.
-pub record IsCarried (s : Settings) (w : World) (es : List Happening) (stands : World → Type 0) (old new : List ℕ) (before after : List PlainEntry → Type 0) (done : Bool) : Type 0 where
+pub record IsCarried (s : Settings) (w : World) (es : List Happening) (stands : World → Type 0) (old new : List ℕ)
+    (before after : List PlainEntry → Type 0) (done : Bool) : Type 0 where
   pub next : World
   pub stood : stands next
   pub told : List PlainEntry

@@ -31,7 +31,8 @@ pub record IsAt (h : Holds) (stands : World → Type 0) (g : Generated) : Type 0
 
 -- The run went on: what `all` makes of it is what `rest` makes of the next one. These entries were counted and these lines printed;
 -- the boxes allow what was told, and `after` says what they allow from then on.
-pub record HasGone (all rest : Generated → Generated) (g : Generated) (a b : Holds) (stands : World → Type 0) (before after : List PlainEntry → Type 0) : Type 0 where
+pub record HasGone (all rest : Generated → Generated) (g : Generated) (a b : Holds) (stands : World → Type 0)
+    (before after : List PlainEntry → Type 0) : Type 0 where
   pub next : Generated
   pub stood : IsAt b stands next
   pub told : List PlainEntry
@@ -54,4 +55,5 @@ pub record HasStopped (all : Generated → Generated) (g : Generated) (old new :
   pub told : List PlainEntry
   pub allowed : before told
   pub is_first : (later : List Answer) → IsFirstTold (all (answered (shown told ++ later) g)) g.told told
-  pub front : (later : List Answer) (lines : List Given) → (all (answered (shown told ++ later) g)).lines ≡ g.lines ++ lines → TookFront old new (flat_map given_text lines)
+  pub front : (later : List Answer) (lines : List Given) → (all (answered (shown told ++ later) g)).lines ≡ g.lines ++ lines
+      → TookFront old new (flat_map given_text lines)

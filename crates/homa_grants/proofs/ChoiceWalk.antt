@@ -1,5 +1,6 @@
 -- The choice, as a walk over the first peers finds it.
-use Rattle.std.proofs.Common.{◌≡◌, ℕ, zero, suc, ◌+◌, ◌<◌, ◌≤◌, true, false, not, cond, eqb, List, [], ◌∷◌, ◌++◌, length, map, take, get_or, Option, Some, refl, sym, ap, subst, ◌∙◌, arith}
+use Rattle.std.proofs.Common.{◌≡◌, ℕ, zero, suc, ◌+◌, ◌<◌, ◌≤◌, true, false, not, cond, eqb, List, [], ◌∷◌, ◌++◌, length, map, take, get_or, Option}
+use Rattle.std.proofs.Common.{Some, refl, sym, ap, subst, ◌∙◌, arith}
 use Rattle.std.specs.List.{AllByRecursion}
 use Rattle.std.proofs.lemmas.Bool.{eq-eqb}
 use Rattle.std.proofs.lemmas.Bool.Decides.{nat_tests}
@@ -38,8 +39,10 @@ all-first [] = tt
 all-first (x ∷ xs) = (
   ap (λ b. first_item (map slot_item (cond b (x ∷ entries_of x.peer xs) (entries_of x.peer xs)))) (eq-eqb x.peer x.peer refl),
   filter-passed (λ e. first_item (slot_items e.peer (x ∷ xs)) ≡ Some (slot_item e)) (λ e. not (eqb e.peer x.peer)) (firsts entry_peer xs)
-      (all_weaker (λ e. first_item (slot_items e.peer xs) ≡ Some (slot_item e)) (λ e. not (eqb e.peer x.peer) ≡ true → first_item (slot_items e.peer (x ∷ xs)) ≡ Some (slot_item e))
-      (λ e is other. ap (λ b. first_item (map slot_item (cond b (x ∷ entries_of e.peer xs) (entries_of e.peer xs)))) (other_number e.peer x.peer other) ∙ is) (firsts entry_peer xs) (all-first xs)),
+      (all_weaker (λ e. first_item (slot_items e.peer xs) ≡ Some (slot_item e))
+      (λ e. not (eqb e.peer x.peer) ≡ true → first_item (slot_items e.peer (x ∷ xs)) ≡ Some (slot_item e))
+      (λ e is other. ap (λ b. first_item (map slot_item (cond b (x ∷ entries_of e.peer xs) (entries_of e.peer xs))))
+      (other_number e.peer x.peer other) ∙ is) (firsts entry_peer xs) (all-first xs)),
 )
 
 -- no message
@@ -52,7 +55,8 @@ chosen_of b = take b.most (firsts entry_peer b.entries)
 
 -- they are those of the choice
 pub chosen_is : (b : Book) → IsSound b → chosen_by entry_peer entry_key b.most b.entries ≡ chosen_of b
-chosen_is b sound = ap (λ es. take b.most (firsts entry_peer es)) (ordered-sorted entry_key b.entries sound.in_order (keys-differ entry_key b.entries sound.orders))
+chosen_is b sound =
+    ap (λ es. take b.most (firsts entry_peer es)) (ordered-sorted entry_key b.entries sound.in_order (keys-differ entry_key b.entries sound.orders))
 
 -- they are at most 7
 pub few_chosen : (b : Book) → length (chosen_of b) ≤ b.most
@@ -80,13 +84,22 @@ module _ {heaps : List Held} {peers : Held} {peer_of : List (Option HostId)} {b 
     -- and has a heap
     pub peer_in : (get_or items i (peer_item no_entry)).0 < length heaps
     peer_in =
-        let all = take-all (IsWithin b.slots b.hosts) b.most (firsts entry_peer b.entries) (firsts-all entry_peer (IsWithin b.slots b.hosts) b.entries kept.sound.within) in
+        let all = take-all (IsWithin b.slots b.hosts) b.most (firsts entry_peer b.entries)
+        (firsts-all entry_peer (IsWithin b.slots b.hosts) b.entries kept.sound.within) in
         omega (arith, peer_is, (all-at (IsWithin b.slots b.hosts) (chosen_of b) i no_entry all is_chosen).peer, kept.hosts)
 
     -- there is room for one more
     pub has_room : (told : List ℕ) → told ≡ map (λ e. e.slot) (take i (chosen_of b)) → length told < 8
     has_room told is =
-        omega (arith, ap length is, length-map (take i (chosen_of b)) (λ (e : Entry). e.slot), length-take i (chosen_of b), is_chosen, few_chosen b, kept.sound.few)
+        omega (
+          arith,
+          ap length is,
+          length-map (take i (chosen_of b)) (λ (e : Entry). e.slot),
+          length-take i (chosen_of b),
+          is_chosen,
+          few_chosen b,
+          kept.sound.few,
+        )
 
     module _ (heap : Held) (reads : heap ≡ get_or heaps (get_or items i (peer_item no_entry)).0 heap) where
       -- its first message is that which is chosen

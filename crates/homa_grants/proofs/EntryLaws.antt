@@ -1,5 +1,6 @@
 -- Lists after a filter, or with one thing more in its place.
-use Rattle.std.proofs.Common.{◌≡◌, ◌≢◌, ℕ, zero, suc, ◌<◌, Bool, true, false, not, cond, eqb, List, [], ◌∷◌, length, get_or, Some, None, refl, sym, ap, subst, ◌∙◌, inl, inr, arith}
+use Rattle.std.proofs.Common.{◌≡◌, ◌≢◌, ℕ, zero, suc, ◌<◌, Bool, true, false, not, cond, eqb, List, [], ◌∷◌, length, get_or, Some, None, refl, sym}
+use Rattle.std.proofs.Common.{ap, subst, ◌∙◌, inl, inr, arith}
 use Rattle.std.specs.List.{AllByRecursion, Contains, filter, find}
 use Rattle.std.proofs.lemmas.Bool.{cond_both, true≢false}
 use Rattle.plain_sets.specs.Ordered.{is_below, placed, IsInOrder, KeysDiffer, SendersDiffer, ordered, first_of}
@@ -21,7 +22,8 @@ filter-passed P t [] all = tt
 filter-passed P t (x ∷ xs) all = cond_both (t x) _ _ (AllByRecursion P) (λ e. (all.0 e, filter-passed P t xs all.1)) (λ _. filter-passed P t xs all.1)
 
 -- a filter of a list that begins with x or not
-filter-cond : {X : Type 0} (p : X → Bool) (b : Bool) (x : X) (xs : List X) → filter p (cond b (x ∷ xs) xs) ≡ cond b (cond (p x) (x ∷ filter p xs) (filter p xs)) (filter p xs)
+filter-cond : {X : Type 0} (p : X → Bool) (b : Bool) (x : X) (xs : List X)
+    → filter p (cond b (x ∷ xs) xs) ≡ cond b (cond (p x) (x ∷ filter p xs) (filter p xs)) (filter p xs)
 filter-cond p true x xs = refl
 filter-cond p false x xs = refl
 
@@ -36,7 +38,8 @@ either_order false false x xs ys e = e
 pub filter-swap : {X : Type 0} (p q : X → Bool) (xs : List X) → filter p (filter q xs) ≡ filter q (filter p xs)
 filter-swap p q [] = refl
 filter-swap p q (x ∷ xs) =
-    filter-cond p (q x) x (filter q xs) ∙ either_order (q x) (p x) x (filter p (filter q xs)) (filter q (filter p xs)) (filter-swap p q xs) ∙ sym (filter-cond q (p x) x (filter p xs))
+    filter-cond p (q x) x (filter q xs) ∙ either_order (q x) (p x) x (filter p (filter q xs)) (filter q (filter p xs)) (filter-swap p q xs)
+    ∙ sym (filter-cond q (p x) x (filter p xs))
 
 -- a filter that all pass keeps all
 pub filter-kept : {X : Type 0} (t : X → Bool) (xs : List X) → AllByRecursion (λ x. t x ≡ true) xs → filter t xs ≡ xs
@@ -53,7 +56,8 @@ pub filter-again : {X : Type 0} (t u : X → Bool) (xs : List X) → AllByRecurs
 filter-again t u xs all = filter-kept u (filter t xs) (filter-passed (λ x. u x ≡ true) t xs all)
 
 -- the first of those that pass
-pub first-passing : {X : Type 0} (P : X → Type 0) (t : X → Bool) (xs : List X) (y : X) → AllByRecursion P xs → first_of (filter t xs) ≡ Some y → P y × (t y ≡ true)
+pub first-passing : {X : Type 0} (P : X → Type 0) (t : X → Bool) (xs : List X) (y : X) → AllByRecursion P xs → first_of (filter t xs) ≡ Some y
+    → P y × (t y ≡ true)
 first-passing P t [] y all = λ e. absurd (cc e)
 first-passing P t (x ∷ xs) y all =
     elim (t x) as (λ b. t x ≡ b → first_of (cond b (x ∷ filter t xs) (filter t xs)) ≡ Some y → P y × (t y ≡ true)) [
@@ -68,7 +72,8 @@ filter-within t u (x ∷ xs) all =
     elim (u x) as (λ b. u x ≡ b → filter t (cond b (x ∷ filter u xs) (filter u xs)) ≡ cond (t x) (x ∷ filter t xs) (filter t xs)) [
       | true ↦ λ h. ap (λ l. cond (t x) (x ∷ l) l) (filter-within t u xs all.1)
       | false ↦ λ h. filter-within t u xs all.1
-          ∙ elim (t x) as (λ b. t x ≡ b → filter t xs ≡ cond b (x ∷ filter t xs) (filter t xs)) [ true ↦ λ e. absurd (true≢false (sym (all.0 e) ∙ h)) | false ↦ λ _. refl ] refl
+          ∙ elim (t x) as (λ b. t x ≡ b → filter t xs ≡ cond b (x ∷ filter t xs) (filter t xs))
+          [ true ↦ λ e. absurd (true≢false (sym (all.0 e) ∙ h)) | false ↦ λ _. refl ] refl
     ] refl
 
 -- nothing is found where none passes
@@ -83,7 +88,8 @@ find-filter p q (x ∷ xs) all =
     elim (q x) as (λ b. q x ≡ b → find p (cond b (x ∷ filter q xs) (filter q xs)) ≡ cond (p x) (Some x) (find p xs)) [
       | true ↦ λ h. ap (λ o. cond (p x) (Some x) o) (find-filter p q xs all.1)
       | false ↦ λ h. find-filter p q xs all.1
-          ∙ elim (p x) as (λ b. p x ≡ b → find p xs ≡ cond b (Some x) (find p xs)) [ true ↦ λ t. absurd (true≢false (sym (all.0 t) ∙ h)) | false ↦ λ _. refl ] refl
+          ∙ elim (p x) as (λ b. p x ≡ b → find p xs ≡ cond b (Some x) (find p xs))
+          [ true ↦ λ t. absurd (true≢false (sym (all.0 t) ∙ h)) | false ↦ λ _. refl ] refl
     ] refl
 
 -- what is found passes, and is as all are
@@ -106,7 +112,8 @@ none-passes p (x ∷ xs) =
 
 module _ {X : Type 0} (key : X → ℕ × ℕ) where
   -- a filter of things in order with one more that passes
-  pub placed-kept : (p : X → Bool) (x : X) (ys : List X) → p x ≡ true → IsInOrder key ys → KeysDiffer key ys → filter p (placed key x ys) ≡ placed key x (filter p ys)
+  pub placed-kept : (p : X → Bool) (x : X) (ys : List X) → p x ≡ true → IsInOrder key ys → KeysDiffer key ys
+      → filter p (placed key x ys) ≡ placed key x (filter p ys)
   placed-kept p x ys e up differ =
       let same : ordered key ys ≡ ys = ordered-sorted key ys up differ in
       ap (λ l. filter p (placed key x l)) (sym same) ∙ ap (filter p) (sym (ordered-cons key x ys)) ∙ sym (ordered-filter key p (x ∷ ys))
@@ -146,22 +153,31 @@ same_number f [] x y differ c d e = absurd (none_in x c)
 same_number f (z ∷ zs) x y differ c d e =
     elim (at_head z x zs c) [
       | inl is ↦ elim (at_head z y zs d) [ inl is' ↦ sym is ∙ is' | inr later ↦ absurd (all_at (λ w. f z ≢ f w) zs y differ.0 later (ap f is ∙ e)) ]
-      | inr later ↦ elim (at_head z y zs d) [ inl is' ↦ absurd (all_at (λ w. f z ≢ f w) zs x differ.0 later (ap f is' ∙ sym e)) | inr later' ↦ same_number f zs x y differ.1 later later' e ]
+      | inr later ↦ elim (at_head z y zs d) [
+        | inl is' ↦ absurd (all_at (λ w. f z ≢ f w) zs x differ.0 later (ap f is' ∙ sym e))
+        | inr later' ↦
+            same_number f zs x y differ.1 later later' e
+      ]
     ]
 
 -- nothing is taken out where there is no message of the slot
 pub without-absent : (slot : ℕ) (es : List Entry) → entry_of slot es ≡ None → without slot es ≡ es
-without-absent slot es none = filter-kept (λ e. not (eqb e.slot slot)) es (all_weaker (λ (e : Entry). eqb e.slot slot ≡ false) (λ (e : Entry). not (eqb e.slot slot) ≡ true) (λ e h. ap not h) es (none-passes (λ e. eqb e.slot slot) es none))
+without-absent slot es none =
+    filter-kept (λ e. not (eqb e.slot slot)) es
+    (all_weaker (λ (e : Entry). eqb e.slot slot ≡ false) (λ (e : Entry). not (eqb e.slot slot) ≡ true) (λ e h. ap not h) es
+    (none-passes (λ e. eqb e.slot slot) es none))
 
 -- the message of a slot is taken out once
 pub without-again : (slot : ℕ) (es : List Entry) → without slot (without slot es) ≡ without slot es
-without-again slot es = filter-again (λ e. not (eqb e.slot slot)) (λ e. not (eqb e.slot slot)) es (all_from (λ e. not (eqb e.slot slot) ≡ true → not (eqb e.slot slot) ≡ true) es (λ e c h. h))
+without-again slot es = filter-again (λ e. not (eqb e.slot slot)) (λ e. not (eqb e.slot slot)) es
+    (all_from (λ e. not (eqb e.slot slot) ≡ true → not (eqb e.slot slot) ≡ true) es (λ e c h. h))
 
 -- no message that is left is of the slot
 pub none-left : (slot : ℕ) (es : List Entry) → AllByRecursion (λ e. eqb e.slot slot ≡ false) (without slot es)
 none-left slot es =
     filter-passed (λ e. eqb e.slot slot ≡ false) (λ e. not (eqb e.slot slot)) es
-    (everywhere (λ e. not (eqb e.slot slot) ≡ true → eqb e.slot slot ≡ false) (λ e. elim (eqb e.slot slot) as (λ b. not b ≡ true → b ≡ false) [ true ↦ λ off. absurd (true≢false (sym off)) | false ↦ λ _. refl ]) es)
+    (everywhere (λ e. not (eqb e.slot slot) ≡ true → eqb e.slot slot ≡ false)
+    (λ e. elim (eqb e.slot slot) as (λ b. not b ≡ true → b ≡ false) [ true ↦ λ off. absurd (true≢false (sym off)) | false ↦ λ _. refl ]) es)
 
 -- and none is found
 pub entry_of-without : (slot : ℕ) (es : List Entry) → entry_of slot (without slot es) ≡ None

@@ -1,5 +1,6 @@
 -- A book that is kept in its heaps and its table.
-use Rattle.std.proofs.Common.{◌≡◌, ℕ, ◌<◌, eqb, List, length, map, Option, Some, None, IsSome, get_or, set, refl, sym, ap, subst, ◌∙◌, arith, length-set, ⊎_elim}
+use Rattle.std.proofs.Common.{◌≡◌, ℕ, ◌<◌, eqb, List, length, map, Option, Some, None, IsSome, get_or, set, refl, sym, ap, subst, ◌∙◌, arith}
+use Rattle.std.proofs.Common.{length-set, ⊎_elim}
 use Rattle.std.specs.List.{AllByRecursion, Contains}
 use Rattle.std.specs.Option.{option_map}
 use Rattle.std.proofs.lemmas.Bool.{cases_eq, eqb-true}
@@ -22,7 +23,8 @@ use Rattle.homa_grants.proofs.ViewLaws.{messages-same}
 use Rattle.homa_grants.proofs.PutLaws.{IsPut}
 
 -- the host of a message is its peer
-host_with : (slot peer : ℕ) (key : Option Key) → option_map (λ _. record { 0 = peer }) key ≡ option_map host_of (option_map (λ k. message_at peer (slot, k)) key)
+host_with : (slot peer : ℕ) (key : Option Key)
+    → option_map (λ _. record { 0 = peer }) key ≡ option_map host_of (option_map (λ k. message_at peer (slot, k)) key)
 host_with slot peer None = refl
 host_with slot peer (Some key) = refl
 
@@ -61,14 +63,16 @@ abbrev pub seen : List Held → List (Option HostId) → ℕ → Book
 seen heaps peer_of most = record { slots = length peer_of; hosts = length heaps; most = most; entries = messages heaps }
 
 -- a book that is kept, by the name that the code has for it
-pub kept_as : {heaps : List Held} {peers : Held} {peer_of : List (Option HostId)} {a b : Book} → a ≡ b → AreKept heaps peers peer_of a → AreKept heaps peers peer_of b
+pub kept_as : {heaps : List Held} {peers : Held} {peer_of : List (Option HostId)} {a b : Book} → a ≡ b → AreKept heaps peers peer_of a
+    → AreKept heaps peers peer_of b
 kept_as {heaps = heaps} {peers = peers} {peer_of = peer_of} same kept = subst (AreKept heaps peers peer_of) same kept
 
 module _ {heaps : List Held} {peers : Held} {peer_of : List (Option HostId)} {b : Book} (kept : AreKept heaps peers peer_of b) where
   -- the heaps of a kept book are seen as that book
   pub kept_view : (most : ℕ) → most ≡ b.most → seen heaps peer_of most ≡ b
   kept_view most most_is =
-      let within : AllByRecursion (λ e. e.peer < length heaps) b.entries = all_weaker (IsWithin b.slots b.hosts) (λ (e : Entry). e.peer < length heaps) (λ e w. omega (arith, w.peer, kept.hosts)) b.entries kept.sound.within in
+      let within : AllByRecursion (λ e. e.peer < length heaps) b.entries =
+      all_weaker (IsWithin b.slots b.hosts) (λ (e : Entry). e.peer < length heaps) (λ e w. omega (arith, w.peer, kept.hosts)) b.entries kept.sound.within in
       let same = messages-same heaps b.entries kept.sound.in_order kept.sound.orders within (λ p inside. (kept.heap p (omega (arith, kept.hosts))).list) in
       λ i. record { slots = kept.slots i; hosts = kept.hosts i; most = most_is i; entries = same i }
 
@@ -79,7 +83,8 @@ module _ {heaps : List Held} {peers : Held} {peer_of : List (Option HostId)} {b 
   -- a peer in the table has the message of the slot
   pub in_table : (slot : ℕ) (read : Option HostId) (host : HostId) → slot < b.slots → read ≡ get_or peer_of slot read → read ≡ Some host → IsFound b slot host.0
   in_table slot read host inside reads is =
-      let some = some_host (entry_of slot b.entries) host (sym (kept.table slot inside) ∙ sym (get_or_read peer_of slot read (omega (arith, inside, kept.slots)) reads None) ∙ is) in
+      let some = some_host (entry_of slot b.entries) host
+      (sym (kept.table slot inside) ∙ sym (get_or_read peer_of slot read (omega (arith, inside, kept.slots)) reads None) ∙ is) in
       let facts = found-passes (IsWithin b.slots b.hosts) (λ e. eqb e.slot slot) b.entries some.0 kept.sound.within some.1 in
       record {
         entry = some.0;
@@ -116,7 +121,8 @@ module _ {heaps : List Held} {peers : Held} {peer_of : List (Option HostId)} {b 
     module _ (heap : Held) (reads : heap ≡ get_or heaps peer heap) where
       -- the heap that is read is that of the peer
       heap_is : IsHeapOf heap b.slots (slot_items peer b.entries)
-      heap_is = subst (λ h. IsHeapOf h b.slots (slot_items peer b.entries)) (sym (get_or_read heaps peer heap (omega (arith, message.peer_in, kept.hosts)) reads no_heap)) (kept.heap peer message.peer_in)
+      heap_is = subst (λ h. IsHeapOf h b.slots (slot_items peer b.entries))
+          (sym (get_or_read heaps peer heap (omega (arith, message.peer_in, kept.hosts)) reads no_heap)) (kept.heap peer message.peer_in)
 
       -- it has a place for the slot
       pub slot_fits : slot < length heap.cells
@@ -126,7 +132,8 @@ module _ {heaps : List Held} {peers : Held} {peer_of : List (Option HostId)} {b 
       pub own_key : key_in slot (list_of heap) ≡ Some (record { first = message.entry.remaining; second = message.entry.order })
       own_key = ap (key_in slot) heap_is.list ∙ key_in-slot_items slot peer b.entries message.entry message.found message.peer_is
 
-  module _ (slot peer : ℕ) (key : Option Key) (new : List Entry) (put : IsPut b.slots b.hosts b.entries new slot peer key) (slot_in : slot < b.slots) (peer_in : peer < b.hosts)
+  module _ (slot peer : ℕ) (key : Option Key) (new : List Entry) (put : IsPut b.slots b.hosts b.entries new slot peer key) (slot_in : slot < b.slots)
+      (peer_in : peer < b.hosts)
       (heap peers' : Held) (host : Option HostId) (first : Option Key)
       (list : list_of heap ≡ replaced slot key (list_of (get_or heaps peer no_heap))) (cap : length heap.cells ≡ length (get_or heaps peer no_heap).cells)
       (first_is : first ≡ option_map (λ i. i.1) (first_item (list_of heap)))
@@ -160,13 +167,15 @@ module _ {heaps : List Held} {peers : Held} {peer_of : List (Option HostId)} {b 
     table_at : (s : ℕ) → s < b.slots → get_or (set peer_of slot host) s None ≡ option_map host_of (entry_of s new)
     table_at s inside =
         ⊎_elim (λ e. subst (λ n. get_or (set peer_of slot host) n None ≡ option_map host_of (entry_of n new)) (sym e)
-        (get_or-set_same peer_of slot host None (omega (arith, slot_in, kept.slots)) ∙ host_is ∙ host_with slot peer key ∙ ap (option_map host_of) (sym put.found)))
+        (get_or-set_same peer_of slot host None (omega (arith, slot_in, kept.slots)) ∙ host_is ∙ host_with slot peer key
+        ∙ ap (option_map host_of) (sym put.found)))
         (λ ne. get_or-set_other peer_of slot s host None ne ∙ kept.table s inside ∙ ap (option_map host_of) (sym (put.not_found s ne))) (cases_eq s slot)
 
     -- the new heaps and the new table keep the book with these messages
     pub kept_put : AreKept (set heaps peer heap) peers' (set peer_of slot host) put_book
     kept_put = record {
-      sound = record { in_order = put.in_order; slots = put.slots_differ; orders = put.orders; within = put.within; some = kept.sound.some; few = kept.sound.few };
+      sound =
+          record { in_order = put.in_order; slots = put.slots_differ; orders = put.orders; within = put.within; some = kept.sound.some; few = kept.sound.few };
       hosts = length-set heaps peer heap ∙ kept.hosts;
       slots = length-set peer_of slot host ∙ kept.slots;
       heap = heap_at;

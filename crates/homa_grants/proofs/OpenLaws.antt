@@ -25,7 +25,8 @@ abbrev pub empty_book : ℕ → ℕ → ℕ → Book
 empty_book slots hosts most = record { slots = slots; hosts = hosts; most = most; entries = [] }
 
 -- empty heaps keep it
-pub kept_empty : (slots hosts most : ℕ) (heaps : List Held) (peers : Held) → 1 ≤ most → most ≤ 7 → length heaps ≡ hosts → AllByRecursion (λ h. IsHeapOf h slots []) heaps → IsHeapOf peers hosts []
+pub kept_empty : (slots hosts most : ℕ) (heaps : List Held) (peers : Held) → 1 ≤ most → most ≤ 7 → length heaps ≡ hosts
+    → AllByRecursion (λ h. IsHeapOf h slots []) heaps → IsHeapOf peers hosts []
     → AreKept heaps peers (replicate slots none) (empty_book slots hosts most)
 kept_empty slots hosts most heaps peers some few count empty first = record {
   sound = record { in_order = tt; slots = tt; orders = tt; within = tt; some = some; few = few };

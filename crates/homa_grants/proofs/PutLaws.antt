@@ -7,14 +7,16 @@ use Rattle.std.proofs.lemmas.Bool.Decides.{nat_tests}
 use Rattle.place_heap.specs.declared.key.Key.{Key}
 use Rattle.place_heap.specs.Order.{placed as item_placed}
 use Rattle.place_books.specs.Replaced.{replaced}
-use Rattle.place_books.proofs.Books.{placed-items, without-items, key-differs, keys-differ, others-left, free-others, filter-in_order, filter-differ, placed-differ}
+use Rattle.place_books.proofs.Books.{placed-items, without-items, key-differs, keys-differ, others-left, free-others, filter-in_order, filter-differ}
+use Rattle.place_books.proofs.Books.{placed-differ}
 use Rattle.plain_sets.specs.Ordered.{placed, IsInOrder, DiffersFrom, SendersDiffer}
 use Rattle.plain_sets.proofs.OrderLaws.{all_weaker, placed-all, sorted-placed}
 use Rattle.plain_sets.proofs.OrderSame.{everywhere, filter-all}
 use Rattle.homa_grants.specs.Entries.{Entry, entry_key, entries_of, without, entry_of, placed_if, IsOwnOrder}
 use Rattle.homa_grants.specs.Books.{IsWithin}
 use Rattle.homa_grants.specs.Heaps.{slot_item, slot_items, message_at}
-use Rattle.homa_grants.proofs.EntryLaws.{filter-swap, filter-within, find-filter, placed-kept, placed-gone, find-placed_other, find-placed_same, none-left, entry_of-without}
+use Rattle.homa_grants.proofs.EntryLaws.{filter-swap, filter-within, find-filter, placed-kept, placed-gone, find-placed_other, find-placed_same}
+use Rattle.homa_grants.proofs.EntryLaws.{none-left, entry_of-without}
 use Rattle.homa_grants.proofs.FirstChanges.{others}
 
 -- the new messages are the old ones, of which that of a slot, which is of this peer, has this key, or is gone
@@ -43,15 +45,23 @@ not_denied : {P : Type 0} (b : Bool) → b ≡ true → not b ≡ true → P
 not_denied b e h = absurd (true≢false (sym h ∙ ap not e))
 
 -- each message of a slot is of the peer that its first one is of, where slots differ
-pub all_mine : (slot peer : ℕ) (es : List Entry) → SendersDiffer (λ e. e.slot) es → ((e : Entry) → entry_of slot es ≡ Some e → e.peer ≡ peer) → AllByRecursion (λ e. e.slot ≡ slot → e.peer ≡ peer) es
+pub all_mine : (slot peer : ℕ) (es : List Entry) → SendersDiffer (λ e. e.slot) es → ((e : Entry) → entry_of slot es ≡ Some e → e.peer ≡ peer)
+    → AllByRecursion (λ e. e.slot ≡ slot → e.peer ≡ peer) es
 all_mine slot peer [] differ = λ same. tt
 all_mine slot peer (e ∷ es) differ =
-    elim (eqb e.slot slot) as (λ b. eqb e.slot slot ≡ b → ((f : Entry) → cond b (Some e) (entry_of slot es) ≡ Some f → f.peer ≡ peer) → (e.slot ≡ slot → e.peer ≡ peer) × AllByRecursion (λ e. e.slot ≡ slot → e.peer ≡ peer) es) [
-      | true ↦ λ h same. (λ _. same e refl, all_weaker (λ (y : Entry). e.slot ≢ y.slot) (λ (y : Entry). y.slot ≡ slot → y.peer ≡ peer) (λ y ne is. absurd (ne (eqb-true e.slot slot h ∙ sym is))) es differ.0)
+    elim (eqb e.slot slot) as
+    (λ b. eqb e.slot slot ≡ b → ((f : Entry) → cond b (Some e) (entry_of slot es) ≡ Some f → f.peer ≡ peer) → (e.slot ≡ slot → e.peer ≡ peer)
+    × AllByRecursion (λ e. e.slot ≡ slot → e.peer ≡ peer) es) [
+      | true ↦ λ h same. (
+        λ _. same e refl,
+        all_weaker (λ (y : Entry). e.slot ≢ y.slot) (λ (y : Entry). y.slot ≡ slot → y.peer ≡ peer)
+            (λ y ne is. absurd (ne (eqb-true e.slot slot h ∙ sym is))) es differ.0,
+      )
       | false ↦ λ h same. (λ is. absurd (true≢false (sym (eq-eqb e.slot slot is) ∙ h)), all_mine slot peer es differ.1 same)
     ] refl
 
-module _ (slots hosts : ℕ) (es : List Entry) (slot peer : ℕ) (up : IsInOrder entry_key es) (slots_differ : SendersDiffer (λ e. e.slot) es) (orders : SendersDiffer (λ e. e.order) es)
+module _ (slots hosts : ℕ) (es : List Entry) (slot peer : ℕ) (up : IsInOrder entry_key es) (slots_differ : SendersDiffer (λ e. e.slot) es)
+    (orders : SendersDiffer (λ e. e.order) es)
     (within : AllByRecursion (IsWithin slots hosts) es) (mine : AllByRecursion (λ e. e.slot ≡ slot → e.peer ≡ peer) es) where
   -- whether a message is of another slot
   abbrev other_slot : Entry → Bool
@@ -59,7 +69,8 @@ module _ (slots hosts : ℕ) (es : List Entry) (slot peer : ℕ) (up : IsInOrder
 
   -- a message of another peer is of another slot
   apart : (t : Entry → Bool) → ((e : Entry) → t e ≡ true → e.peer ≡ peer → ⊥) → AllByRecursion (λ e. t e ≡ true → other_slot e ≡ true) es
-  apart t never = all_weaker (λ (e : Entry). e.slot ≡ slot → e.peer ≡ peer) (λ (e : Entry). t e ≡ true → other_slot e ≡ true) (λ e own h. denied (eqb e.slot slot) (λ is. never e h (own (eqb-true e.slot slot is)))) es mine
+  apart t never = all_weaker (λ (e : Entry). e.slot ≡ slot → e.peer ≡ peer) (λ (e : Entry). t e ≡ true → other_slot e ≡ true)
+      (λ e own h. denied (eqb e.slot slot) (λ is. never e h (own (eqb-true e.slot slot is)))) es mine
 
   -- the messages of another peer stay
   other_stays : (q : ℕ) → q ≢ peer → entries_of q (without slot es) ≡ entries_of q es
@@ -67,7 +78,8 @@ module _ (slots hosts : ℕ) (es : List Entry) (slot peer : ℕ) (up : IsInOrder
 
   -- and all together
   rest_stays : others peer (without slot es) ≡ others peer es
-  rest_stays = filter-within (λ e. not (eqb e.peer peer)) other_slot es (apart (λ e. not (eqb e.peer peer)) (λ e h is. not_denied (eqb e.peer peer) (eq-eqb e.peer peer is) h))
+  rest_stays = filter-within (λ e. not (eqb e.peer peer)) other_slot es
+      (apart (λ e. not (eqb e.peer peer)) (λ e h is. not_denied (eqb e.peer peer) (eq-eqb e.peer peer is) h))
 
   -- the messages of this peer
   mine_without : slot_items peer (without slot es) ≡ replaced slot None (slot_items peer es)
@@ -75,7 +87,9 @@ module _ (slots hosts : ℕ) (es : List Entry) (slot peer : ℕ) (up : IsInOrder
 
   -- another slot's message stays
   found_other : (s : ℕ) → s ≢ slot → entry_of s (without slot es) ≡ entry_of s es
-  found_other s ne = find-filter (λ e. eqb e.slot s) other_slot es (everywhere (λ e. eqb e.slot s ≡ true → other_slot e ≡ true) (λ e h. ap not (other_test e.slot s slot h ne)) es)
+  found_other s ne =
+      find-filter (λ e. eqb e.slot s) other_slot es
+      (everywhere (λ e. eqb e.slot s ≡ true → other_slot e ≡ true) (λ e h. ap not (other_test e.slot s slot h ne)) es)
 
   -- the message of the slot is gone
   pub put_none : IsPut slots hosts es (without slot es) slot peer None
@@ -114,12 +128,17 @@ module _ (slots hosts : ℕ) (es : List Entry) (slot peer : ℕ) (up : IsInOrder
           slots_differ = placed-differ (λ e. e.slot) entry_key now w (others-left (λ (e : Entry). e.slot) slot es) none.slots_differ;
           orders = placed-differ (λ e. e.order) entry_key now w order_differs none.orders;
           within = placed-all entry_key (IsWithin slots hosts) now w (record { slot = slot_in; peer = peer_in }) none.within;
-          mine = ap (map slot_item) (placed-kept entry_key (λ e. eqb e.peer peer) now w (eq-eqb peer peer refl) none.in_order (keys-differ entry_key w none.orders))
-              ∙ sym (placed-items slot_item now (entries_of peer w) (filter-all (λ y. entry_key now ≢ entry_key y) (λ e. eqb e.peer peer) w key_differs)) ∙ ap (item_placed (slot, key)) mine_without;
-          other_peers = λ q ne. placed-gone entry_key (λ e. eqb e.peer q) now w (other_test peer peer q (eq-eqb peer peer refl) (λ e. ne (sym e))) ∙ other_stays q ne;
+          mine =
+              ap (map slot_item)
+              (placed-kept entry_key (λ e. eqb e.peer peer) now w (eq-eqb peer peer refl) none.in_order (keys-differ entry_key w none.orders))
+              ∙ sym (placed-items slot_item now (entries_of peer w)
+              (filter-all (λ y. entry_key now ≢ entry_key y) (λ e. eqb e.peer peer) w key_differs)) ∙ ap (item_placed (slot, key)) mine_without;
+          other_peers =
+              λ q ne. placed-gone entry_key (λ e. eqb e.peer q) now w (other_test peer peer q (eq-eqb peer peer refl) (λ e. ne (sym e))) ∙ other_stays q ne;
           rest = placed-gone entry_key (λ e. not (eqb e.peer peer)) now w (ap not (eq-eqb peer peer refl)) ∙ rest_stays;
           found = find-placed_same entry_key (λ e. eqb e.slot slot) now w (eq-eqb slot slot refl) (none-left slot es);
-          not_found = λ s ne. find-placed_other entry_key (λ e. eqb e.slot s) now w (other_test slot slot s (eq-eqb slot slot refl) (λ e. ne (sym e))) ∙ found_other s ne;
+          not_found = λ s ne. find-placed_other entry_key (λ e. eqb e.slot s) now w (other_test slot slot s (eq-eqb slot slot refl) (λ e. ne (sym e)))
+              ∙ found_other s ne;
         }
 
   -- the message of the slot has this key, or is gone

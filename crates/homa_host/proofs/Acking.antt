@@ -19,23 +19,28 @@ over s id w = served s id (server_acked s (moment s id w) id (get w.host.servers
 
 -- of all these calls, these aren't over yet
 abbrev pub IsAcking : HostParts → List SentFrame → List CallId → HostParts → List SentFrame → List CallId → Type 0
-IsAcking old before all new after ids = (w : Work) → Amid w old before → (v : Work) × Amid v new after × (acked old.control.settings ids v ≡ acked old.control.settings all w)
+IsAcking old before all new after ids =
+    (w : Work) → Amid w old before → (v : Work) × Amid v new after × (acked old.control.settings ids v ≡ acked old.control.settings all w)
 
-pub acking_on : (old mid new : HostParts) (before between after : List SentFrame) (all ids : List CallId) (id : CallId) → mid.control.settings ≡ old.control.settings → IsAcking old before all mid between (id ∷ ids)
+pub acking_on : (old mid new : HostParts) (before between after : List SentFrame) (all ids : List CallId) (id : CallId)
+    → mid.control.settings ≡ old.control.settings → IsAcking old before all mid between (id ∷ ids)
     → ((w : Work) → Amid w mid between → Amid (over mid.control.settings id w) new after) → IsAcking old before all new after ids
 acking_on old mid new before between after all ids id settings acking step w amid =
     let t = acking w amid in
     (over old.control.settings id t.0, subst (λ (s : Settings). Amid (over s id t.0) new after) settings (step t.0 t.1), t.2)
 
-pub acking_done : (old new : HostParts) (before after : List SentFrame) (all : List CallId) → IsAcking old before all new after [] → (w : Work) → Amid w old before → Amid (acked old.control.settings all w) new after
+pub acking_done : (old new : HostParts) (before after : List SentFrame) (all : List CallId) → IsAcking old before all new after [] → (w : Work)
+    → Amid w old before → Amid (acked old.control.settings all w) new after
 acking_done old new before after all acking w amid = let t = acking w amid in subst (λ (v : Work). Amid v new after) t.2 t.1
 
 -- what holds of all calls holds of each
-all_drop : (P : CallId → Type 0) (client : HostId) (n : ℕ) (calls : List (ℕ × ℕ)) → AllByRecursion P (calls_of client calls) → AllByRecursion P (calls_of client (drop n calls))
+all_drop : (P : CallId → Type 0) (client : HostId) (n : ℕ) (calls : List (ℕ × ℕ)) → AllByRecursion P (calls_of client calls)
+    → AllByRecursion P (calls_of client (drop n calls))
 all_drop P client zero calls all = all
 all_drop P client (suc n) [] all = tt
 all_drop P client (suc n) (c ∷ calls) all = all_drop P client n calls all.1
 
 pub at_call : (P : CallId → Type 0) (client : HostId) (calls : List (ℕ × ℕ)) (i : ℕ) → i < length calls → AllByRecursion P (calls_of client calls)
     → P (record { client = client; inc = (get_or calls i (0, 0)).0; seq = (get_or calls i (0, 0)).1 })
-at_call P client calls i below all = (subst (λ (ys : List (ℕ × ℕ)). AllByRecursion P (calls_of client ys)) (drop_more calls i (0, 0) below) (all_drop P client i calls all)).0
+at_call P client calls i below all =
+    (subst (λ (ys : List (ℕ × ℕ)). AllByRecursion P (calls_of client ys)) (drop_more calls i (0, 0) below) (all_drop P client i calls all)).0

@@ -56,7 +56,8 @@ pub record RowActed (c : HostParts) (slot : ℕ) (clients : Clients) (pool : Poo
   pub inside : AreIn pool (part_at clients.rows)
 
 -- by the settings of the table, and the clock that it was told
-pub acted_by : (c : HostParts) (kept : IsKept c) (slot now : ℕ) → now ≡ c.control.last → (clients : Clients) (pool : Pool) (a : ClientAct) (id : CallId) (r : HeldRow) → StandsAt c.clients.rows id slot r
+pub acted_by : (c : HostParts) (kept : IsKept c) (slot now : ℕ) → now ≡ c.control.last
+    → (clients : Clients) (pool : Pool) (a : ClientAct) (id : CallId) (r : HeldRow) → StandsAt c.clients.rows id slot r
     → ((host : HostId) (order free rows : ℕ) → let m = moment_with host now order free rows in
     let did = client_acts c.clients.settings m id (seen_row c.pool r) in
     IsAct c.clients.settings m id did a × Moved id c.clients c.pool clients pool did.row)
@@ -70,12 +71,14 @@ acted_by c kept slot now now_is clients pool a id r stands acted left inside = r
   inside = inside;
 }
 
-module _ (c : HostParts) (kept : IsKept c) (slot : ℕ) (clients : Clients) (pool : Pool) (a : ClientAct) (id : CallId) (r : HeldRow) (x : RowActed c slot clients pool a id r) where
+module _ (c : HostParts) (kept : IsKept c) (slot : ℕ) (clients : Clients) (pool : Pool) (a : ClientAct) (id : CallId) (r : HeldRow)
+    (x : RowActed c slot clients pool a id r) where
   stood : place_at c.clients.rows id ≡ Some slot
   stood = ap (option_map (λ (x : Placed HeldRow). x.place)) x.stands
 
   row_get : get (seen_rows c.pool c.clients.rows) id ≡ Some (seen_row c.pool r)
-  row_get = get-mapped (λ (x : Placed HeldRow). seen_row c.pool x.row) c.clients.rows id ∙ ap (option_map (λ (x : Placed HeldRow). seen_row c.pool x.row)) x.stands
+  row_get =
+      get-mapped (λ (x : Placed HeldRow). seen_row c.pool x.row) c.clients.rows id ∙ ap (option_map (λ (x : Placed HeldRow). seen_row c.pool x.row)) x.stands
 
   -- the call's server is known, and the call is the host's own
   pub row_known : KnowsServer c.control.settings.hosts (seen_row c.pool r) × (1 ≤ id.inc)
@@ -84,7 +87,8 @@ module _ (c : HostParts) (kept : IsKept c) (slot : ℕ) (clients : Clients) (poo
   abbrev pub did_at : Work → Did ClientRow
   did_at w = client_acts c.control.settings (moment c.control.settings id w) id (seen_row c.pool r)
 
-  pub acted_at : (w : Work) → host_of c ≡ w.host → IsAct c.control.settings (moment c.control.settings id w) id (did_at w) a × Moved id c.clients c.pool clients pool (did_at w).row
+  pub acted_at : (w : Work) → host_of c ≡ w.host → IsAct c.control.settings (moment c.control.settings id w) id (did_at w) a
+      × Moved id c.clients c.pool clients pool (did_at w).row
   acted_at w e = subst (λ (now : ℕ). let m = moment_with w.host.id now w.host.order (free_beside c.control.settings w.host id) (len w.host.servers) in
       let did = client_acts c.control.settings m id (seen_row c.pool r) in
       IsAct c.control.settings m id did a × Moved id c.clients c.pool clients pool did.row) (ap (λ (h : Host). h.last) e)
@@ -100,7 +104,8 @@ module _ (c : HostParts) (kept : IsKept c) (slot : ℕ) (clients : Clients) (poo
   acts_known = client_acts-known c.control.settings.hosts c.control.settings (moment c.control.settings id (silent c)) id (seen_row c.pool r) row_known.0
 
   acts_own : Own (asked c.control.settings id r.server (did_at (silent c)) (silent c))
-  acts_own = subst (λ (o : Option ClientRow). Own (client_acted c.control.settings id o (silent c))) row_get (acts_at-own c.control.settings (OfClient id) (silent c) kept.own)
+  acts_own = subst (λ (o : Option ClientRow). Own (client_acted c.control.settings id o (silent c))) row_get
+      (acts_at-own c.control.settings (OfClient id) (silent c) kept.own)
 
   -- the books can follow
   module _ (change : Change) (change_is : change ≡ client_act_change slot a) where
@@ -123,19 +128,40 @@ module _ (c : HostParts) (kept : IsKept c) (slot : ℕ) (clients : Clients) (poo
       parts = record { control = control; clients = clients; servers = c.servers; pool = pool; books = books; order = c.order }
 
       followed_acted : (w : Work) → host_of c ≡ w.host → books ≡ followed slot (client_duty_in c.control.settings (did_at w).row) c.books
-      followed_acted w e = follow_books c kept id slot stood clients pool (did_at w).row (acted_at w e).1 x.inside (client_act_change slot a) books (change_at w e) (subst (λ (ch : Change). FollowedClient clients ch c.books books) change_is follows)
+      followed_acted w e = follow_books c kept id slot stood clients pool (did_at w).row (acted_at w e).1 x.inside (client_act_change slot a) books
+          (change_at w e) (subst (λ (ch : Change). FollowedClient clients ch c.books books) change_is follows)
 
-      pub acted_kept : IsSound control → control ≡ record c.control { tuning = control.tuning; finished = control.finished; marks = control.marks } → control.tuning.opened ≤ c.order → IsKept parts
+      pub acted_kept : IsSound control → control ≡ record c.control { tuning = control.tuning; finished = control.finished; marks = control.marks }
+          → control.tuning.opened ≤ c.order → IsKept parts
       acted_kept sound same opened =
           let did : Did ClientRow = did_at (silent c) in
           let count = order_at (silent c) refl in
-          let all = asked_kept c kept id slot stood clients pool r.server did (acted_at (silent c) refl).1 control sound same (subst (λ n. control.tuning.opened ≤ n) (sym count) opened) acts_known acts_own in
-          subst (λ (p : HostParts). IsKept p) (λ i. record { control = control; clients = clients; servers = c.servers; pool = pool; books = (sym (followed_acted (silent c) refl)) i; order = count i }) all
+          let all = asked_kept c kept id slot stood clients pool r.server did (acted_at (silent c) refl).1 control sound same
+          (subst (λ n. control.tuning.opened ≤ n) (sym count) opened) acts_known acts_own in
+          subst (λ (p : HostParts). IsKept p)
+          (λ i. record {
+            control = control;
+            clients = clients;
+            servers = c.servers;
+            pool = pool;
+            books = (sym (followed_acted (silent c) refl)) i;
+            order = count i;
+          }) all
 
       -- the plain row acts
-      pub acted_amid : (w : Work) (out out' : List SentFrame) → Amid w c out → IsAt (asked c.control.settings id r.server (did_at w) w) control out' → Amid (client_acted c.control.settings id (get w.host.clients id) w) parts out'
+      pub acted_amid : (w : Work) (out out' : List SentFrame) → Amid w c out → IsAt (asked c.control.settings id r.server (did_at w) w) control out'
+          → Amid (client_acted c.control.settings id (get w.host.clients id) w) parts out'
       acted_amid w out out' amid settled =
           let did : Did ClientRow = did_at w in
           let all = asked_amid c kept id slot stood clients pool r.server did (acted_at w amid.host).1 control w out out' amid settled in
-          subst (λ (o : Option ClientRow). Amid (client_acted c.control.settings id o w) parts out') (sym (sym (ap (λ (h : Host). get h.clients id) amid.host) ∙ row_get))
-          (subst (λ (p : HostParts). Amid (asked c.control.settings id r.server did w) p out') (λ i. record { control = control; clients = clients; servers = c.servers; pool = pool; books = (sym (followed_acted w amid.host)) i; order = order_at w amid.host i }) all)
+          subst (λ (o : Option ClientRow). Amid (client_acted c.control.settings id o w) parts out')
+          (sym (sym (ap (λ (h : Host). get h.clients id) amid.host) ∙ row_get))
+          (subst (λ (p : HostParts). Amid (asked c.control.settings id r.server did w) p out')
+          (λ i. record {
+            control = control;
+            clients = clients;
+            servers = c.servers;
+            pool = pool;
+            books = (sym (followed_acted w amid.host)) i;
+            order = order_at w amid.host i;
+          }) all)

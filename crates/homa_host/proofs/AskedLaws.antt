@@ -46,13 +46,15 @@ module _ (s : Settings) where
   cutoffs-aside : (role : Role) (id : CallId) (server : HostId) (o : Option ℕ) (w : Work) → Aside w (tells_cutoffs s role id server o w)
   cutoffs-aside role id server None w = record { seq = refl; credit = refl; refilled = refl }
   cutoffs-aside role id server (Some version) w =
-      cond_both (version == w.host.tuning.own.version) w (posts s role id server (body.Cutoffs w.host.tuning.own) w) (Aside w) (λ _. record { seq = refl; credit = refl; refilled = refl }) (λ _. record { seq = refl; credit = refl; refilled = refl })
+      cond_both (version == w.host.tuning.own.version) w (posts s role id server (body.Cutoffs w.host.tuning.own) w) (Aside w)
+      (λ _. record { seq = refl; credit = refl; refilled = refl }) (λ _. record { seq = refl; credit = refl; refilled = refl })
 
   acknowledged-aside : (server : HostId) (calls : List (ℕ × ℕ)) (w : Work) → Aside w (acknowledged s server calls w)
   acknowledged-aside server [] w = record { seq = refl; credit = refl; refilled = refl }
   acknowledged-aside server (call ∷ calls) w =
       cond_both (nat_lt (length calls) 4) (record w { host = with_finished server (call ∷ calls) w.host })
-      (posts s Client (record { client = w.host.id; inc = call.0; seq = call.1 }) server (body.Ack calls) (record w { host = with_finished server [] w.host })) (Aside w)
+      (posts s Client (record { client = w.host.id; inc = call.0; seq = call.1 }) server (body.Ack calls)
+      (record w { host = with_finished server [] w.host })) (Aside w)
       (λ _. record { seq = refl; credit = refl; refilled = refl }) (λ _. record { seq = refl; credit = refl; refilled = refl })
 
   finishes-aside : (id : CallId) (server : HostId) (done : Bool) (w : Work) → Aside w (finishes s id server done w)
@@ -83,14 +85,18 @@ module _ (s : Settings) where
 -- ---- in the midst of a step
 
 -- with what else the parts have of the host, what is so of the control is so of them
-pub amid_of : (v : Work) (c : HostParts) (frames : List SentFrame) → IsAt v c.control frames → c.clients.seq ≡ v.host.seq → c.order ≡ v.host.order → c.books.pacer.credit ≡ v.host.credit → c.books.pacer.refilled ≡ v.host.refilled
+pub amid_of : (v : Work) (c : HostParts) (frames : List SentFrame) → IsAt v c.control frames → c.clients.seq ≡ v.host.seq → c.order ≡ v.host.order
+    → c.books.pacer.credit ≡ v.host.credit → c.books.pacer.refilled ≡ v.host.refilled
     → seen_rows c.pool c.clients.rows ≡ v.host.clients → seen_servers c.pool c.servers.rows ≡ v.host.servers → Amid v c frames
-amid_of v c frames at seq order credit refilled clients servers = amid-at v c frames at (record { seq = seq; order = order; credit = credit; refilled = refilled; clients = clients; servers = servers })
+amid_of v c frames at seq order credit refilled clients servers =
+    amid-at v c frames at (record { seq = seq; order = order; credit = credit; refilled = refilled; clients = clients; servers = servers })
 
 -- what comes of a rule is so of the parts, where they have the rest of the host
-pub amid_asked : (c c' : HostParts) (id : CallId) (server : HostId) (did : Did ClientRow) (w : Work) (before frames : List SentFrame) → Amid w c before → IsAt (asked c.control.settings id server did w) c'.control frames
+pub amid_asked : (c c' : HostParts) (id : CallId) (server : HostId) (did : Did ClientRow) (w : Work) (before frames : List SentFrame)
+    → Amid w c before → IsAt (asked c.control.settings id server did w) c'.control frames
     → c'.clients.seq ≡ c.clients.seq → c'.order ≡ did.order → c'.books.pacer.credit ≡ c.books.pacer.credit → c'.books.pacer.refilled ≡ c.books.pacer.refilled
-    → seen_rows c'.pool c'.clients.rows ≡ set_row (seen_rows c.pool c.clients.rows) id did.row → seen_servers c'.pool c'.servers.rows ≡ seen_servers c.pool c.servers.rows
+    → seen_rows c'.pool c'.clients.rows ≡ set_row (seen_rows c.pool c.clients.rows) id did.row
+    → seen_servers c'.pool c'.servers.rows ≡ seen_servers c.pool c.servers.rows
     → Amid (asked c.control.settings id server did w) c' frames
 amid_asked c c' id server did w before frames amid at seq order credit refilled clients servers =
     let s = c.control.settings in
@@ -110,23 +116,28 @@ amid_asked c c' id server did w before frames amid at seq order credit refilled 
 abbrev pub silent : HostParts → Work
 silent c = record { host = host_of c; told = [] }
 
-module _ (c : HostParts) (kept : IsKept c) (id : CallId) (slot : ℕ) (stood : place_at c.clients.rows id ≡ Some slot) (clients : Clients) (pool : Pool) (server : HostId) (did : Did ClientRow)
+module _ (c : HostParts) (kept : IsKept c) (id : CallId) (slot : ℕ) (stood : place_at c.clients.rows id ≡ Some slot) (clients : Clients) (pool : Pool)
+    (server : HostId) (did : Did ClientRow)
     (moved : Moved id c.clients c.pool clients pool did.row) (control : Control) where
   abbrev pub after : HostParts
   after = parts_after c kept id slot stood clients pool did.row moved did.order control
 
-  pub asked_amid : (w : Work) (before frames : List SentFrame) → Amid w c before → IsAt (asked c.control.settings id server did w) control frames → Amid (asked c.control.settings id server did w) after frames
+  pub asked_amid : (w : Work) (before frames : List SentFrame) → Amid w c before → IsAt (asked c.control.settings id server did w) control frames
+      → Amid (asked c.control.settings id server did w) after frames
   asked_amid w before frames amid at =
-      amid_asked c after id server did w before frames amid at (ap (λ (t : Clients). t.seq) moved.kept) refl refl refl moved.rows (servers_same c kept id slot stood clients pool did.row moved)
+      amid_asked c after id server did w before frames amid at (ap (λ (t : Clients). t.seq) moved.kept) refl refl refl moved.rows
+      (servers_same c kept id slot stood clients pool did.row moved)
 
   -- the orders of its rows
-  pub asked_orders : Own (asked c.control.settings id server did (silent c)) → HasOwnOrders (host_after c kept id slot stood clients pool did.row moved did.order)
+  pub asked_orders : Own (asked c.control.settings id server did (silent c))
+      → HasOwnOrders (host_after c kept id slot stood clients pool did.row moved did.order)
   asked_orders own =
       let v : Work = asked c.control.settings id server did (silent c) in
       own_like v.host (host_after c kept id slot stood clients pool did.row moved did.order) (asked-carried c.control.settings id server did (silent c)).order
       (asked-clients c.control.settings id server did (silent c) ∙ sym moved.rows) (asked-servers c.control.settings id server did (silent c)) own
 
-  pub asked_kept : IsSound control → control ≡ record c.control { tuning = control.tuning; finished = control.finished; marks = control.marks } → control.tuning.opened ≤ did.order
+  pub asked_kept : IsSound control → control ≡ record c.control { tuning = control.tuning; finished = control.finished; marks = control.marks }
+      → control.tuning.opened ≤ did.order
       → IfSome did.row (KnowsServer c.control.settings.hosts) → Own (asked c.control.settings id server did (silent c)) → IsKept after
   asked_kept sound same opened known own =
       let s = c.control.settings in
@@ -134,11 +145,13 @@ module _ (c : HostParts) (kept : IsKept c) (id : CallId) (slot : ℕ) (stood : p
       let same_id = ap (λ (x : Control). x.id) same in
       let inc = ap (λ (x : Control). x.inc) same in
       let servers = servers_same c kept id slot stood clients pool did.row moved in
-      let orders = own_like (asked s id server did (silent c)).host (host_of after) (asked-carried s id server did (silent c)).order (asked-clients s id server did (silent c) ∙ sym moved.rows)
+      let orders = own_like (asked s id server did (silent c)).host (host_of after) (asked-carried s id server did (silent c)).order
+      (asked-clients s id server did (silent c) ∙ sym moved.rows)
       (asked-servers s id server did (silent c) ∙ sym servers) own in
       let call = own_call c kept id slot stood in
       let peers = known-client s (host_of c) (host_of after) same_id inc kept.known id did.row moved.rows servers (both did.row known call) in
-      kept_after c kept id slot stood clients pool did.row moved did.order control sound settings same_id inc (ap (λ (x : Control). x.last) same) orders (subst (λ (s : Settings). KnowsPeers s (host_of after)) (sym settings) peers) opened where
+      kept_after c kept id slot stood clients pool did.row moved did.order control sound settings same_id inc
+      (ap (λ (x : Control). x.last) same) orders (subst (λ (s : Settings). KnowsPeers s (host_of after)) (sym settings) peers) opened where
         both : (o : Option ClientRow) → IfSome o (KnowsServer c.control.settings.hosts) → (id.client ≡ c.control.id) × (id.inc ≡ c.control.inc)
             → IfSome o (λ r. KnowsServer c.control.settings.hosts r × ((id.client ≡ c.control.id) × (id.inc ≡ c.control.inc)))
         both None k o = tt

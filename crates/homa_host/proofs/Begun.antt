@@ -80,8 +80,10 @@ kept-control p c on sound kept = record {
       record { armed = kept.booked.armed; entered = kept.booked.entered; ready = record { all = ready.all; only = ready.only } }
 
 -- a step begins
-pub amid-begun : (p : HostParts) (c : Control) (now : ℕ) → c ≡ record p.control { last = now; marks = [] } → Amid (begun (host_of p) now) (record p { control = c }) []
-amid-begun p c now e = subst (λ c. Amid (begun (host_of p) now) (record p { control = c }) []) (sym e) (record { host = refl; marked = refl; sent = refl; formed = tt })
+pub amid-begun : (p : HostParts) (c : Control) (now : ℕ) → c ≡ record p.control { last = now; marks = [] }
+    → Amid (begun (host_of p) now) (record p { control = c }) []
+amid-begun p c now e =
+    subst (λ c. Amid (begun (host_of p) now) (record p { control = c }) []) (sym e) (record { host = refl; marked = refl; sent = refl; formed = tt })
 
 -- what the control is in the midst of
 pub at-amid : (w : Work) (p : HostParts) (out : List SentFrame) → Amid w p out → IsAt w p.control out
@@ -138,7 +140,8 @@ rest-amid w p out amid = record {
 }
 
 -- an entry is told
-pub amid-told : (w : Work) (p : HostParts) (c : Control) (out : List SentFrame) (entry : PlainEntry) → c ≡ record p.control { marks = p.control.marks ++ mark_of entry ∷ [] } → Amid w p out
+pub amid-told : (w : Work) (p : HostParts) (c : Control) (out : List SentFrame) (entry : PlainEntry)
+    → c ≡ record p.control { marks = p.control.marks ++ mark_of entry ∷ [] } → Amid w p out
     → Amid (tells (Says entry ∷ []) w) (record p { control = c }) out
 amid-told w p c out entry e amid =
     let rest = rest-amid w p out amid in
@@ -146,10 +149,18 @@ amid-told w p c out entry e amid =
     (record { seq = rest.seq; order = rest.order; credit = rest.credit; refilled = rest.refilled; clients = rest.clients; servers = rest.servers })
 
 -- a peer's cutoffs leave the rest of a host
-hears-rest : (s : Settings) (peer : HostId) (inc : ℕ) (what : Body) (w : Work) (p : HostParts) → IsRest p w.host → IsRest p (hears_cutoffs s peer inc what w).host
+hears-rest : (s : Settings) (peer : HostId) (inc : ℕ) (what : Body) (w : Work) (p : HostParts) → IsRest p w.host
+    → IsRest p (hears_cutoffs s peer inc what w).host
 hears-rest s peer inc (body.Cutoffs cutoffs) w p rest =
     cond_both (is_newer inc cutoffs (peer_cutoffs s w.host peer)) _ _ (λ (v : Work). IsRest p v.host)
-    (λ _. record { seq = rest.seq; order = rest.order; credit = rest.credit; refilled = rest.refilled; clients = rest.clients; servers = rest.servers }) (λ _. rest)
+    (λ _. record {
+      seq = rest.seq;
+      order = rest.order;
+      credit = rest.credit;
+      refilled = rest.refilled;
+      clients = rest.clients;
+      servers = rest.servers;
+    }) (λ _. rest)
 hears-rest s peer inc (body.Data size offset version service ack) w p rest = rest
 hears-rest s peer inc (body.Grant offset prio) w p rest = rest
 hears-rest s peer inc (body.Resend from to prio) w p rest = rest
@@ -159,7 +170,8 @@ hears-rest s peer inc body.NeedAck w p rest = rest
 hears-rest s peer inc (body.Ack more) w p rest = rest
 
 -- a peer tells its cutoffs
-pub amid-heard : (s : Settings) (peer : HostId) (inc : ℕ) (what : Body) (w : Work) (p : HostParts) (c : Control) (out : List SentFrame) → IsAt (hears_cutoffs s peer inc what w) c out → Amid w p out
+pub amid-heard : (s : Settings) (peer : HostId) (inc : ℕ) (what : Body) (w : Work) (p : HostParts) (c : Control) (out : List SentFrame)
+    → IsAt (hears_cutoffs s peer inc what w) c out → Amid w p out
     → Amid (hears_cutoffs s peer inc what w) (record p { control = c }) out
 amid-heard s peer inc what w p c out at amid =
     let rest = hears-rest s peer inc what w p (rest-amid w p out amid) in
@@ -167,7 +179,8 @@ amid-heard s peer inc what w p c out at amid =
     (record { seq = rest.seq; order = rest.order; credit = rest.credit; refilled = rest.refilled; clients = rest.clients; servers = rest.servers })
 
 -- a control whose step begins, and one that tells
-pub sound-begun : (c : Control) (now : ℕ) (marks : List Mark) → now ≤ 1000000002000 → length marks ≤ 128 → IsSound c → IsSound (record c { last = now; marks = marks })
+pub sound-begun : (c : Control) (now : ℕ) (marks : List Mark) → now ≤ 1000000002000 → length marks ≤ 128 → IsSound c
+    → IsSound (record c { last = now; marks = marks })
 sound-begun c now marks clock few sound = record {
   valid = sound.valid;
   host = sound.host;

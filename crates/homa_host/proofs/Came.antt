@@ -1,5 +1,6 @@
 -- A packet that comes: too old, of a server, of a client.
-use Rattle.std.proofs.Common.{inl, inr, ◌⊎◌, ◌≡◌, ◌≤◌, ◌+◌, ℕ, suc, Bool, true, false, not, cond, Option, Some, None, List, [], ◌∷◌, ◌++◌, length, refl, sym, ap, subst, ◌∙◌, arith}
+use Rattle.std.proofs.Common.{inl, inr, ◌⊎◌, ◌≡◌, ◌≤◌, ◌+◌, ℕ, suc, Bool, true, false, not, cond, Option, Some, None, List, [], ◌∷◌, ◌++◌, length}
+use Rattle.std.proofs.Common.{refl, sym, ap, subst, ◌∙◌, arith}
 use Rattle.std.specs.Prelude.{◌==◌}
 use Rattle.std.specs.List.{AllByRecursion}
 use Rattle.std.proofs.lemmas.Bool.{true≢false, cond_both}
@@ -20,12 +21,14 @@ use Rattle.homa_plain.specs.Rows.{ServerRow, State, Receiving, Held, Replying, B
 use Rattle.homa_plain.specs.Rules.{Answer, Moment, Say, Tells, Posts}
 use Rattle.homa_plain.specs.AtServer.{server_gets, server_acked, state_acked, row_gets, unknown_gets}
 use Rattle.homa_plain.specs.AtClient.{client_gets}
-use Rattle.homa_plain.specs.Steps.{Asked, asked_in, Work, begun, tells, said, served, moment, hears_cutoffs, is_newer, comes_to_row, acked, takes, is_stale, comes}
+use Rattle.homa_plain.specs.Steps.{Asked, asked_in, Work, begun, tells, said, served, moment, hears_cutoffs, is_newer, comes_to_row, acked, takes}
+use Rattle.homa_plain.specs.Steps.{is_stale, comes}
 use Rattle.homa_plain.specs.Wire.{FitsKind, latest}
 use Rattle.homa_plain.proofs.CallOrder.{calls_are}
 use Rattle.step_laws.specs.StepLaws.{run_count}
 use Rattle.step_laws.proofs.Places.{all-append}
-use Rattle.step_laws.proofs.ToldBy.{Calm, calm_none, calm_then, acked_one-calm, hears_cutoffs-calm, asked-carried, served-carried, Carried, said-runs, asks, run_count-append}
+use Rattle.step_laws.proofs.ToldBy.{Calm, calm_none, calm_then, acked_one-calm, hears_cutoffs-calm, asked-carried, served-carried, Carried, said-runs}
+use Rattle.step_laws.proofs.ToldBy.{asks, run_count-append}
 use Rattle.trace_moves.proofs.Own.{AllOwn, runs_said, gets_own, gets_quiet}
 use Rattle.host_view.specs.declared.mark.Mark.{Mark}
 use Rattle.host_view.specs.declared.mark.Mark.TheVariants.{Ran}
@@ -79,19 +82,24 @@ module _ (s : Settings) (h : Host) (now : ℕ) (from me : HostId) (w : WirePacke
   pub stale_comes : is_stale s now came ≡ true → comes s (Some came) a (begun h now) ≡ tells (Says (PlainStale h.id w.at now) ∷ []) (begun h now)
   stale_comes e = ap (λ b. cond b (tells (Says (PlainStale h.id w.at now) ∷ []) (begun h now)) (takes s came a (begun h now))) e
 
-  pub fresh_comes : is_stale s now came ≡ false → comes s (Some came) a (begun h now) ≡ acked s (acks came) (comes_to_row s came a w.role (hears_cutoffs s from w.sender w.body (begun h now)))
+  pub fresh_comes : is_stale s now came ≡ false
+      → comes s (Some came) a (begun h now) ≡ acked s (acks came) (comes_to_row s came a w.role (hears_cutoffs s from w.sender w.body (begun h now)))
   unfolding takes
   fresh_comes e =
       ap (λ b. cond b (tells (Says (PlainStale h.id w.at now) ∷ []) (begun h now)) (takes s came a (begun h now))) e
-      ∙ ap (λ peer. acked s (acks came) (comes_to_row s came a w.role (hears_cutoffs s peer w.sender w.body (begun h now)))) (sender_is w.role from me w.inc w.seq)
+      ∙ ap (λ peer. acked s (acks came) (comes_to_row s came a w.role (hears_cutoffs s peer w.sender w.body (begun h now))))
+      (sender_is w.role from me w.inc w.seq)
 
-  pub server_comes : is_stale s now came ≡ false → w.role ≡ Server → FitsKind w.role w.level w.body payload → comes s (Some came) a (begun h now) ≡ comes_to_row s came a Server (hears_cutoffs s from w.sender w.body (begun h now))
+  pub server_comes : is_stale s now came ≡ false → w.role ≡ Server → FitsKind w.role w.level w.body payload
+      → comes s (Some came) a (begun h now) ≡ comes_to_row s came a Server (hears_cutoffs s from w.sender w.body (begun h now))
   server_comes e role fits =
       fresh_comes e
-      ∙ ap (λ ids. acked s ids (comes_to_row s came a w.role (hears_cutoffs s from w.sender w.body (begun h now)))) (acks_none w.role came.id w.level w.body payload fits role)
+      ∙ ap (λ ids. acked s ids (comes_to_row s came a w.role (hears_cutoffs s from w.sender w.body (begun h now))))
+      (acks_none w.role came.id w.level w.body payload fits role)
       ∙ ap (λ r. comes_to_row s came a r (hears_cutoffs s from w.sender w.body (begun h now))) role
 
-  pub client_comes : is_stale s now came ≡ false → w.role ≡ Client → comes s (Some came) a (begun h now) ≡ acked s (acks came) (comes_to_row s came a Client (hears_cutoffs s from w.sender w.body (begun h now)))
+  pub client_comes : is_stale s now came ≡ false → w.role ≡ Client
+      → comes s (Some came) a (begun h now) ≡ acked s (acks came) (comes_to_row s came a Client (hears_cutoffs s from w.sender w.body (begun h now)))
   client_comes e role = fresh_comes e ∙ ap (λ r. acked s (acks came) (comes_to_row s came a r (hears_cutoffs s from w.sender w.body (begun h now)))) role
 
 -- ---- a step that tells one entry
@@ -104,14 +112,17 @@ pub record HasTold (o : HostParts) (now : ℕ) (entry : PlainEntry) (control : C
   pub quiet : has_ran control.marks ≡ false
 
 pub told_by : (o : HostParts) → IsKept o → (now : ℕ) → now ≤ 1000000002000 → o.control.last ≤ now → (entry : PlainEntry) → has_ran (mark_of entry ∷ []) ≡ false
-    → (first told : Control) → first ≡ record o.control { last = now; marks = [] } → told ≡ record first { marks = first.marks ++ mark_of entry ∷ [] } → HasTold o now entry told
+    → (first told : Control) → first ≡ record o.control { last = now; marks = [] } → told ≡ record first { marks = first.marks ++ mark_of entry ∷ [] }
+    → HasTold o now entry told
 told_by o kept now clock later entry quiet first told begins tells =
     let m = mark_of entry in
     let both : told ≡ record o.control { last = now; marks = m ∷ [] } = tells ∙ ap (λ (k : Control). record k { marks = k.marks ++ m ∷ [] }) begins in
     let marks : told.marks ≡ m ∷ [] = ap (λ (k : Control). k.marks) both in
     record {
       kept = subst (λ (k : Control). IsKept (record o { control = k })) (sym both)
-          (kept-control o (record o.control { last = now; marks = m ∷ [] }) (record { settings = refl; id = refl; inc = refl; last = later; opened = refl }) (sound-begun o.control now (m ∷ []) clock (omega arith) kept.control) kept);
+          (kept-control o (record o.control { last = now; marks = m ∷ [] })
+          (record { settings = refl; id = refl; inc = refl; last = later; opened = refl })
+          (sound-begun o.control now (m ∷ []) clock (omega arith) kept.control) kept);
       amid = amid-told (begun (host_of o) now) (record o { control = first }) told [] entry tells (amid-begun o first now begins);
       steady = λ out none. record {
         settings = ap (λ (k : Control). k.settings) both;
@@ -139,7 +150,8 @@ quiet_runs id [] e = tt
 quiet_runs id (Says (PlainRun host q service request response hold) ∷ told) e = absurd (omega arith)
 quiet_runs id (t ∷ told) e = (tt, quiet_runs id told e)
 
-said_runs : (s : Settings) (h : Host) (n : HostId) (role : Role) (id : CallId) (server : HostId) (says : List Say) → AllOwn n id says → AllByRecursion (IsRunOf id) (said s h role id server says)
+said_runs : (s : Settings) (h : Host) (n : HostId) (role : Role) (id : CallId) (server : HostId) (says : List Say) → AllOwn n id says
+    → AllByRecursion (IsRunOf id) (said s h role id server says)
 said_runs s h n role id server [] own = tt
 said_runs s h n role id server (Tells (PlainRun host q service request response hold) ∷ says) own = (own.0.1, said_runs s h n role id server says own.1)
 said_runs s h n role id server (Tells entry ∷ says) own = (tt, said_runs s h n role id server says own.1)
@@ -156,7 +168,14 @@ ran_of id n (Sends packet ∷ told) all = (tt, ran_of id (suc n) told all.1)
 carried_count : (n end : ℕ) (says : List Told) (w v : Work) → Carried n end says w v → run_count v.told ≡ run_count w.told + run_count says
 carried_count n end says w v c =
     ap run_count c.grown
-    ∙ (let e : run_count (w.told ++ (c.before ++ (says ++ c.after))) ≡ run_count w.told + run_count says = omega (arith, run_count-append w.told (c.before ++ (says ++ c.after)), run_count-append c.before (says ++ c.after), run_count-append says c.after, c.quiet_before, c.quiet_after) in e)
+    ∙ (let e : run_count (w.told ++ (c.before ++ (says ++ c.after))) ≡ run_count w.told + run_count says = omega (
+      arith,
+      run_count-append w.told (c.before ++ (says ++ c.after)),
+      run_count-append c.before (says ++ c.after),
+      run_count-append says c.after,
+      c.quiet_before,
+      c.quiet_after,
+    ) in e)
 
 asks_none : (says : List Say) → runs_said says ≡ false → asks says ≡ 0
 asks_none [] e = refl
@@ -176,7 +195,8 @@ client_unrun s p a v none =
     omega (arith, count, runs, asked, none)
 
 -- nor does an ACK
-ack_asks : (s : Settings) (m : Moment) (p : Packet) (a : Answer) (more : List (ℕ × ℕ)) (o : Option ServerRow) → p.body ≡ body.Ack more → asks (server_gets s m p a o).says ≡ 0
+ack_asks : (s : Settings) (m : Moment) (p : Packet) (a : Answer) (more : List (ℕ × ℕ)) (o : Option ServerRow) → p.body ≡ body.Ack more
+    → asks (server_gets s m p a o).says ≡ 0
 unfolding server_gets
 ack_asks s m p a more None e = subst (λ (b : Body). asks (unknown_gets s m p.id b p.payload a).says ≡ 0) (sym e) refl
 ack_asks s m p a more (Some row) e = subst (λ (b : Body). asks (row_gets s m p.id b p.payload a row row.state).says ≡ 0) (sym e) (by_state row.state) where
@@ -186,7 +206,8 @@ ack_asks s m p a more (Some row) e = subst (λ (b : Body). asks (row_gets s m p.
   by_state (Replying response out order base count) = refl
   by_state (Buried until) = refl
 
-pub ack_unrun : (s : Settings) (p : Packet) (a : Answer) (more : List (ℕ × ℕ)) (v : Work) → p.body ≡ body.Ack more → run_count v.told ≡ 0 → run_count (comes_to_row s p a Client v).told ≡ 0
+pub ack_unrun : (s : Settings) (p : Packet) (a : Answer) (more : List (ℕ × ℕ)) (v : Work) → p.body ≡ body.Ack more → run_count v.told ≡ 0
+    → run_count (comes_to_row s p a Client v).told ≡ 0
 ack_unrun s p a more v e none =
     let did = server_gets s (moment s p.id v) p a (get v.host.servers p.id) in
     let count = carried_count _ did.order (said s v.host Server p.id v.host.id did.says) v (comes_to_row s p a Client v) (served-carried s p.id did v) in
@@ -203,7 +224,9 @@ own_run s p a v none =
     subst (AllByRecursion (IsRunOf p.id)) (sym c.grown)
     (all-append (IsRunOf p.id) v.told (c.before ++ (said_here ++ c.after)) (quiet_runs p.id v.told none)
     (all-append (IsRunOf p.id) c.before (said_here ++ c.after) (quiet_runs p.id c.before c.quiet_before)
-    (all-append (IsRunOf p.id) said_here c.after (said_runs s v.host v.host.id Server p.id v.host.id did.says (gets_own s (moment s p.id v) p a (get v.host.servers p.id))) (quiet_runs p.id c.after c.quiet_after))))
+    (all-append (IsRunOf p.id) said_here c.after
+    (said_runs s v.host v.host.id Server p.id v.host.id did.says (gets_own s (moment s p.id v) p a (get v.host.servers p.id)))
+    (quiet_runs p.id c.after c.quiet_after))))
 
 -- a packet that is no ACK acknowledges other calls than its own
 pub acks_others : (id : CallId) (b : Body) → ((more : List (ℕ × ℕ)) × (b ≡ body.Ack more)) ⊎ AllByRecursion (λ q. id ≡ q → ⊥) (acks_in id b)
@@ -235,20 +258,28 @@ acked_calm s (id ∷ ids) w =
 pub acked_asks : (s : Settings) (ids : List CallId) (w : Work) (q : Asked) → asked_in w.told ≡ Some q → asked_in (acked s ids w).told ≡ Some q
 acked_asks s ids w q e = let c = acked_calm s ids w in ap asked_in c.1.grown ∙ asked_append w.told c.1.told q e
 
-replies_at : (h k : Host) (id : CallId) → response_of k id ≡ response_of h id → (a : Answer) (ms : List Mark) → AllByRecursion (IsRanOf id) ms → AllByRecursion (IsReply h a) ms → AllByRecursion (IsReply k a) ms
+replies_at : (h k : Host) (id : CallId) → response_of k id ≡ response_of h id → (a : Answer) (ms : List Mark) → AllByRecursion (IsRanOf id) ms
+    → AllByRecursion (IsReply h a) ms → AllByRecursion (IsReply k a) ms
 replies_at h k id same a [] own all = tt
-replies_at h k id same a (Ran q service hold ∷ ms) own all =
-    (all.0 ∙ ap (λ (bytes : List ℕ). record { bytes = bytes; hold = hold }) (ap (response_of h) own.0 ∙ sym same ∙ sym (ap (response_of k) own.0)), replies_at h k id same a ms own.1 all.1)
+replies_at h k id same a (Ran q service hold ∷ ms) own all = (
+  all.0 ∙ ap (λ (bytes : List ℕ). record { bytes = bytes; hold = hold }) (ap (response_of h) own.0 ∙ sym same ∙ sym (ap (response_of k) own.0)),
+  replies_at h k id same a ms own.1 all.1,
+)
 replies_at h k id same a (m ∷ ms) own all = (tt, replies_at h k id same a ms own.1 all.1)
 
-allowed_at : (h k : Host) (id : CallId) → response_of k id ≡ response_of h id → (allows : ℕ → List ℕ → List ℕ → ℕ → Type 0) (whole : List ℕ) (ms : List Mark) → AllByRecursion (IsRanOf id) ms → AllByRecursion (IsAllowed h allows whole) ms
+allowed_at : (h k : Host) (id : CallId) → response_of k id ≡ response_of h id
+    → (allows : ℕ → List ℕ → List ℕ → ℕ → Type 0) (whole : List ℕ) (ms : List Mark) → AllByRecursion (IsRanOf id) ms
+    → AllByRecursion (IsAllowed h allows whole) ms
     → AllByRecursion (IsAllowed k allows whole) ms
 allowed_at h k id same allows whole [] own all = tt
-allowed_at h k id same allows whole (Ran q service hold ∷ ms) own all =
-    (subst (λ bytes. allows service whole bytes hold) (ap (response_of h) own.0 ∙ sym same ∙ sym (ap (response_of k) own.0)) all.0, allowed_at h k id same allows whole ms own.1 all.1)
+allowed_at h k id same allows whole (Ran q service hold ∷ ms) own all = (
+  subst (λ bytes. allows service whole bytes hold) (ap (response_of h) own.0 ∙ sym same ∙ sym (ap (response_of k) own.0)) all.0,
+  allowed_at h k id same allows whole ms own.1 all.1,
+)
 allowed_at h k id same allows whole (m ∷ ms) own all = (tt, allowed_at h k id same allows whole ms own.1 all.1)
 
-module _ (n : ℕ) (w v : Work) (calm : Calm n w v) (mid q : HostParts) (before after : List SentFrame) (amid : Amid w mid before) (ends : Amid v q after) (id : CallId) (own : AllByRecursion (IsRunOf id) w.told)
+module _ (n : ℕ) (w v : Work) (calm : Calm n w v) (mid q : HostParts) (before after : List SentFrame) (amid : Amid w mid before)
+    (ends : Amid v q after) (id : CallId) (own : AllByRecursion (IsRunOf id) w.told)
     (same : (has_ran mid.control.marks ≡ false) ⊎ (response_of (host_of q) id ≡ response_of (host_of mid) id)) where
   more : List Mark
   more = marks_from (marks_append 0 w.told calm.told).0 calm.told
@@ -270,21 +301,25 @@ module _ (n : ℕ) (w v : Work) (calm : Calm n w v) (mid q : HostParts) (before 
   over_back : (a : Answer) → AllByRecursion (IsReply (host_of q) a) q.control.marks → AllByRecursion (IsReply (host_of mid) a) mid.control.marks
   over_back a all = elim same [
     | inl quiet ↦ no_replies (host_of mid) a mid.control.marks quiet
-    | inr e ↦ replies_at (host_of q) (host_of mid) id (sym e) a mid.control.marks own_marks (left_of_all (IsReply (host_of q) a) mid.control.marks more (subst (AllByRecursion (IsReply (host_of q) a)) marks_grown all))
+    | inr e ↦ replies_at (host_of q) (host_of mid) id (sym e) a mid.control.marks own_marks
+        (left_of_all (IsReply (host_of q) a) mid.control.marks more (subst (AllByRecursion (IsReply (host_of q) a)) marks_grown all))
   ]
 
   over_on : (a : Answer) → AllByRecursion (IsReply (host_of mid) a) mid.control.marks → AllByRecursion (IsReply (host_of q) a) q.control.marks
   over_on a all = elim same [
     | inl quiet ↦ no_replies (host_of q) a q.control.marks (over_ran ∙ quiet)
     | inr e ↦ subst (AllByRecursion (IsReply (host_of q) a)) (sym marks_grown)
-        (all-append (IsReply (host_of q) a) mid.control.marks more (replies_at (host_of mid) (host_of q) id e a mid.control.marks own_marks all) (no_replies (host_of q) a more none))
+        (all-append (IsReply (host_of q) a) mid.control.marks more (replies_at (host_of mid) (host_of q) id e a mid.control.marks own_marks all)
+        (no_replies (host_of q) a more none))
   ]
 
-  over_allowed : (allows : ℕ → List ℕ → List ℕ → ℕ → Type 0) (whole : List ℕ) → AllByRecursion (IsAllowed (host_of mid) allows whole) mid.control.marks → AllByRecursion (IsAllowed (host_of q) allows whole) q.control.marks
+  over_allowed : (allows : ℕ → List ℕ → List ℕ → ℕ → Type 0) (whole : List ℕ)
+      → AllByRecursion (IsAllowed (host_of mid) allows whole) mid.control.marks → AllByRecursion (IsAllowed (host_of q) allows whole) q.control.marks
   over_allowed allows whole all = elim same [
     | inl quiet ↦ none_allowed (host_of q) allows whole q.control.marks (over_ran ∙ quiet)
     | inr e ↦ subst (AllByRecursion (IsAllowed (host_of q) allows whole)) (sym marks_grown)
-        (all-append (IsAllowed (host_of q) allows whole) mid.control.marks more (allowed_at (host_of mid) (host_of q) id e allows whole mid.control.marks own_marks all) (none_allowed (host_of q) allows whole more none))
+        (all-append (IsAllowed (host_of q) allows whole) mid.control.marks more
+        (allowed_at (host_of mid) (host_of q) id e allows whole mid.control.marks own_marks all) (none_allowed (host_of q) allows whole more none))
   ]
 
   over_alike : TellsAlike mid q
@@ -308,7 +343,8 @@ pub at_most : (wire at : ℕ) → at ≤ latest wire → at ≤ 1000000002000
 at_most wire at h = cond_both (wire == 1) 0 1000000002000 (λ n. at ≤ n → at ≤ 1000000002000) (λ _ g. omega (arith, g)) (λ _ g. g) h
 
 -- what the parts tell then of RUNs: none, where a server's packet came
-pub server_marks : (s : Settings) (p : Packet) (a : Answer) (v : Work) → run_count v.told ≡ 0 → (mid : HostParts) (frames : List SentFrame) → Amid (comes_to_row s p a Server v) mid frames → has_ran mid.control.marks ≡ false
+pub server_marks : (s : Settings) (p : Packet) (a : Answer) (v : Work) → run_count v.told ≡ 0 → (mid : HostParts) (frames : List SentFrame)
+    → Amid (comes_to_row s p a Server v) mid frames → has_ran mid.control.marks ≡ false
 server_marks s p a v none mid frames amid = ap has_ran amid.marked ∙ quiet_ran 0 (comes_to_row s p a Server v).told (client_unrun s p a v none)
 
 acked_says : (s : Settings) (whole : List ℕ) (m : Moment) (id : CallId) (o : Option ServerRow) → SayWhole whole (server_acked s m id o).says
@@ -321,7 +357,8 @@ acked_says s whole m id (Some row) = by_state row.state where
   by_state (Replying response out order base count) = (tt, tt)
   by_state (Buried until) = tt
 
-acked_whole : (s : Settings) (whole : List ℕ) (ids : List CallId) (w : Work) → AllByRecursion (IsWhole whole) w.told → AllByRecursion (IsWhole whole) (acked s ids w).told
+acked_whole : (s : Settings) (whole : List ℕ) (ids : List CallId) (w : Work) → AllByRecursion (IsWhole whole) w.told
+    → AllByRecursion (IsWhole whole) (acked s ids w).told
 acked_whole s whole [] w all = all
 acked_whole s whole (id ∷ ids) w all =
     let did = server_acked s (moment s id w) id (get w.host.servers id) in
@@ -329,7 +366,8 @@ acked_whole s whole (id ∷ ids) w all =
 
 -- a packet of a client: its row, and then the calls that it acknowledges
 module _ (s : Settings) (p : Packet) (v : Work) (quiet : run_count v.told ≡ 0) (mid q : HostParts) (before after : List SentFrame)
-    (step : (w : Work) → Amid w mid before → Amid (acked s (acks p) w) q after) (others : AllByRecursion (λ (id : CallId). p.id ≡ id → ⊥) (acks p) → response_of (host_of q) p.id ≡ response_of (host_of mid) p.id)
+    (step : (w : Work) → Amid w mid before → Amid (acked s (acks p) w) q after)
+    (others : AllByRecursion (λ (id : CallId). p.id ≡ id → ⊥) (acks p) → response_of (host_of q) p.id ≡ response_of (host_of mid) p.id)
     (first : Answer) (amid : Amid (comes_to_row s p first Client v) mid before) where
   abbrev row : Work
   row = comes_to_row s p first Client v
@@ -344,9 +382,11 @@ module _ (s : Settings) (p : Packet) (v : Work) (quiet : run_count v.told ≡ 0)
   ]
 
   pub client_alike : TellsAlike mid q
-  client_alike = let c = acked_calm s (acks p) row in over_alike c.0 row (acked s (acks p) row) c.1 mid q before after amid ends p.id (own_run s p first v quiet) either
+  client_alike =
+      let c = acked_calm s (acks p) row in over_alike c.0 row (acked s (acks p) row) c.1 mid q before after amid ends p.id (own_run s p first v quiet) either
 
   -- and so with each answer that the marks agree to
-  pub client_done : (whole : List ℕ) (a : Answer) → (Amid (comes_to_row s p a Client v) mid before) × AllByRecursion (IsWhole whole) (comes_to_row s p a Client v).told
+  pub client_done : (whole : List ℕ) (a : Answer) → (Amid (comes_to_row s p a Client v) mid before) × AllByRecursion (IsWhole whole)
+      (comes_to_row s p a Client v).told
       → Amid (acked s (acks p) (comes_to_row s p a Client v)) q after × AllByRecursion (IsWhole whole) (acked s (acks p) (comes_to_row s p a Client v)).told
   client_done whole a came = (step (comes_to_row s p a Client v) came.0, acked_whole s whole (acks p) (comes_to_row s p a Client v) came.1)

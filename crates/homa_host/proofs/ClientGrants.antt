@@ -37,10 +37,12 @@ use Rattle.homa_host.proofs.ClientStays.{Beside, stood, knows, can_follow, follo
 
 -- a message that is granted as much already is left
 pub grant_none : (s : Settings) (a : Arriving) (prio : ℕ) (w : Work) → new_end s.window a.message ≤ a.message.granted → grant_to s a prio w ≡ w
-grant_none s a prio w l = cond_both (nat_lt a.message.granted (new_end s.window a.message)) _ _ (λ (v : Work). v ≡ w) (λ t. let l' = ltb-true a.message.granted (new_end s.window a.message) t in absurd (omega arith)) (λ _. refl)
+grant_none s a prio w l = cond_both (nat_lt a.message.granted (new_end s.window a.message)) _ _ (λ (v : Work). v ≡ w)
+    (λ t. let l' = ltb-true a.message.granted (new_end s.window a.message) t in absurd (omega arith)) (λ _. refl)
 
 -- and else it is granted to
-pub grant_some : (s : Settings) (a : Arriving) (prio offset : ℕ) (place : Place) (w : Work) → a.place ≡ place → new_end s.window a.message ≡ offset → a.message.granted < offset → grant_to s a prio w ≡ grants_at s place offset prio w
+pub grant_some : (s : Settings) (a : Arriving) (prio offset : ℕ) (place : Place) (w : Work) → a.place ≡ place → new_end s.window a.message ≡ offset
+    → a.message.granted < offset → grant_to s a prio w ≡ grants_at s place offset prio w
 grant_some s a prio offset place w at ends l =
     ap (λ b. cond b (grants_at s a.place (new_end s.window a.message) prio w) w) (lt-ltb a.message.granted (new_end s.window a.message) (omega (arith, ends)))
     ∙ (λ i. grants_at s (at i) (ends i) prio w)
@@ -76,23 +78,48 @@ module _ (c : HostParts) (kept : IsKept c) (id : CallId) (slot : ℕ) (r : HeldR
     parts = record { control = control; clients = clients; servers = c.servers; pool = c.pool; books = books; order = c.order }
 
     pub granted_kept : IsSound control → Beside c.control control → IsKept parts
-    granted_kept sound beside = kept_stays c kept id slot r stands clients granted_row moved granted_own granted_known control sound beside books followed_granted
+    granted_kept sound beside =
+        kept_stays c kept id slot r stands clients granted_row moved granted_own granted_known control sound beside books followed_granted
 
-    module _ (out out' : List SentFrame) (prio : ℕ) (posted : (w : Work) → IsAt w c.control out → IsAt (posts c.control.settings Client id r.server (body.Grant offset prio) w) control out') where
-      granted_work : (w : Work) → Amid w c out → Amid (client_is_granted c.control.settings id (body.Grant offset prio) offset (Some (seen_row c.pool r)) (record { host = host_of c; told = w.told })) parts out'
+    module _ (out out' : List SentFrame) (prio : ℕ)
+        (posted : (w : Work) → IsAt w c.control out → IsAt (posts c.control.settings Client id r.server (body.Grant offset prio) w) control out') where
+      granted_work : (w : Work) → Amid w c out
+          → Amid (client_is_granted c.control.settings id (body.Grant offset prio) offset (Some (seen_row c.pool r))
+          (record { host = host_of c; told = w.told })) parts out'
       granted_work w amid =
           let before = at-amid w c out amid in
           let e = followed_granted in
           let v : Work = record { host = record (host_of c) { clients = insert (host_of c).clients id granted_row }; told = w.told } in
-          let at : IsAt v c.control out = record { id = refl; inc = refl; last = refl; tuning = refl; peers = refl; finished = refl; marked = before.marked; sent = before.sent; formed = before.formed } in
+          let at : IsAt v c.control out =
+          record {
+            id = refl;
+            inc = refl;
+            last = refl;
+            tuning = refl;
+            peers = refl;
+            finished = refl;
+            marked = before.marked;
+            sent = before.sent;
+            formed = before.formed;
+          } in
           amid-at (posts c.control.settings Client id r.server (body.Grant offset prio) v) parts out' (posted v at)
-          (record { seq = ap (λ (t : Clients). t.seq) moved.kept; order = refl; credit = ap (λ (b : Books). b.pacer.credit) e; refilled = ap (λ (b : Books). b.pacer.refilled) e; clients = moved.rows; servers = refl })
+          (record {
+            seq = ap (λ (t : Clients). t.seq) moved.kept;
+            order = refl;
+            credit = ap (λ (b : Books). b.pacer.credit) e;
+            refilled = ap (λ (b : Books). b.pacer.refilled) e;
+            clients = moved.rows;
+            servers = refl;
+          })
 
-      pub client_granted_to : (a : Arriving) (w : Work) → a.place ≡ OfClient id → new_end c.control.settings.window a.message ≡ offset → a.message.granted < offset → Amid w c out → Amid (grant_to c.control.settings a prio w) parts out'
+      pub client_granted_to : (a : Arriving) (w : Work) → a.place ≡ OfClient id → new_end c.control.settings.window a.message ≡ offset
+          → a.message.granted < offset → Amid w c out → Amid (grant_to c.control.settings a prio w) parts out'
       client_granted_to a w place ends more amid =
           let is : w ≡ record { host = host_of c; told = w.told } = work_of c w out amid in
-          let same : grant_to c.control.settings a prio w ≡ client_is_granted c.control.settings id (body.Grant offset prio) offset (Some (seen_row c.pool r)) (record { host = host_of c; told = w.told }) =
+          let same : grant_to c.control.settings a prio w ≡ client_is_granted c.control.settings id (body.Grant offset prio) offset
+          (Some (seen_row c.pool r)) (record { host = host_of c; told = w.told }) =
           grant_some c.control.settings a prio offset (OfClient id) w place ends more
           ∙ (λ i. client_is_granted c.control.settings id (body.Grant offset prio) offset (get (is i).host.clients id) (is i))
-          ∙ ap (λ (o : Option ClientRow). client_is_granted c.control.settings id (body.Grant offset prio) offset o (record { host = host_of c; told = w.told })) (client_row c id slot r stands) in
+          ∙ ap (λ (o : Option ClientRow). client_is_granted c.control.settings id (body.Grant offset prio) offset o
+          (record { host = host_of c; told = w.told })) (client_row c id slot r stands) in
           subst (λ (v : Work). Amid v parts out') (sym same) (granted_work w amid)

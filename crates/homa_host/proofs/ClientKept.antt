@@ -51,13 +51,16 @@ pub client_parts : (c : HostParts) → AreIn c.pool (part_in c) → AreIn c.pool
 client_parts c are = record { within = λ k. are.within (OfClient k); apart = λ j k n a b. client_inject j k (are.apart (OfClient j) (OfClient k) n a b) }
 
 -- a server's row is seen as before where its part is
-same_state : (pool pool' : Pool) (state : HeldState) → seen_part pool' (state_part state) ≡ seen_part pool (state_part state) → seen_state pool' state ≡ seen_state pool state
-same_state pool pool' (Arriving service part base count) e = ap (λ (p : Incoming). Receiving service p base count) (same_some (seen pool' part) (seen pool part) e)
+same_state : (pool pool' : Pool) (state : HeldState) → seen_part pool' (state_part state) ≡ seen_part pool (state_part state)
+    → seen_state pool' state ≡ seen_state pool state
+same_state pool pool' (Arriving service part base count) e =
+    ap (λ (p : Incoming). Receiving service p base count) (same_some (seen pool' part) (seen pool part) e)
 same_state pool pool' (Keeping response release) e = refl
 same_state pool pool' (Answering response out order base count) e = refl
 same_state pool pool' (Gone until) e = refl
 
-same_server : (pool pool' : Pool) (x : HeldServer) → seen_part pool' (state_part x.state) ≡ seen_part pool (state_part x.state) → seen_server pool' x ≡ seen_server pool x
+same_server : (pool pool' : Pool) (x : HeldServer) → seen_part pool' (state_part x.state) ≡ seen_part pool (state_part x.state)
+    → seen_server pool' x ≡ seen_server pool x
 same_server pool pool' x e = ap (λ (state : State). record { order = x.order; state = state }) (same_state pool pool' x.state e)
 
 -- orders are of the rows alone
@@ -67,7 +70,8 @@ own_like h new order clients servers own =
     record { rows = middle.rows; arriving = middle.arriving; leaving = middle.leaving }
 
 -- the pages of a row are those of its part
-pub row_pages_at : (pool : Pool) (o : Option (Placed HeldRow)) → client_pages (option_map (λ (x : Placed HeldRow). seen_row pool x.row) o) ≡ pages_of (option_and_then (λ (x : Placed HeldRow). x.row.part) o)
+pub row_pages_at : (pool : Pool) (o : Option (Placed HeldRow)) → client_pages (option_map (λ (x : Placed HeldRow). seen_row pool x.row) o) ≡ pages_of
+    (option_and_then (λ (x : Placed HeldRow). x.row.part) o)
 row_pages_at pool None = refl
 row_pages_at pool (Some x) = of_part x.row.part where
   of_part : (part : Option Part) → part_pages (seen_part pool part) ≡ pages_of part
@@ -75,20 +79,26 @@ row_pages_at pool (Some x) = of_part x.row.part where
   of_part (Some p) = refl
 
 -- a live call is the host's own
-pub own_call : (c : HostParts) → IsKept c → (id : CallId) (slot : ℕ) → place_at c.clients.rows id ≡ Some slot → (id.client ≡ c.control.id) × (id.inc ≡ c.control.inc)
+pub own_call : (c : HostParts) → IsKept c → (id : CallId) (slot : ℕ) → place_at c.clients.rows id ≡ Some slot
+    → (id.client ≡ c.control.id) × (id.inc ≡ c.control.inc)
 own_call c kept id slot stood = of_row (get c.clients.rows id) refl stood where
-  of_row : (o : Option (Placed HeldRow)) → get c.clients.rows id ≡ o → option_map (λ (x : Placed HeldRow). x.place) o ≡ Some slot → (id.client ≡ c.control.id) × (id.inc ≡ c.control.inc)
+  of_row : (o : Option (Placed HeldRow)) → get c.clients.rows id ≡ o → option_map (λ (x : Placed HeldRow). x.place) o ≡ Some slot
+      → (id.client ≡ c.control.id) × (id.inc ≡ c.control.inc)
   of_row None e f = absurd (nothing f) where
     nothing : None ≡ Some slot → ⊥
     nothing f = cc
-  of_row (Some x) e f = kept.known.own id (seen_row c.pool x.row) (get-mapped (λ (x : Placed HeldRow). seen_row c.pool x.row) c.clients.rows id ∙ ap (option_map (λ (x : Placed HeldRow). seen_row c.pool x.row)) e)
+  of_row (Some x) e f =
+      kept.known.own id (seen_row c.pool x.row)
+      (get-mapped (λ (x : Placed HeldRow). seen_row c.pool x.row) c.clients.rows id ∙ ap (option_map (λ (x : Placed HeldRow). seen_row c.pool x.row)) e)
 
-module _ (c : HostParts) (kept : IsKept c) (id : CallId) (slot : ℕ) (stood : place_at c.clients.rows id ≡ Some slot) (clients : Clients) (pool : Pool) (row : Option ClientRow)
+module _ (c : HostParts) (kept : IsKept c) (id : CallId) (slot : ℕ) (stood : place_at c.clients.rows id ≡ Some slot) (clients : Clients) (pool : Pool)
+    (row : Option ClientRow)
     (moved : Moved id c.clients c.pool clients pool row) where
   -- the row before
   before : (x : Placed HeldRow) × (get c.clients.rows id ≡ Some x)
   before = has (get c.clients.rows id) refl stood where
-    has : (o : Option (Placed HeldRow)) → get c.clients.rows id ≡ o → option_map (λ (x : Placed HeldRow). x.place) o ≡ Some slot → (x : Placed HeldRow) × (get c.clients.rows id ≡ Some x)
+    has : (o : Option (Placed HeldRow)) → get c.clients.rows id ≡ o → option_map (λ (x : Placed HeldRow). x.place) o ≡ Some slot
+        → (x : Placed HeldRow) × (get c.clients.rows id ≡ Some x)
     has None e f = absurd (nothing f) where
       nothing : None ≡ Some slot → ⊥
       nothing f = cc
@@ -109,7 +119,8 @@ module _ (c : HostParts) (kept : IsKept c) (id : CallId) (slot : ℕ) (stood : p
           subst (λ n. n < c.control.settings.calls) (at_slot before.0 before.1 ∙ sym here) (kept.client_places.within id before.0 before.1)
       | inr ne ↦ kept.client_places.within q x (sym (moved.changed.others q ne) ∙ e)
     ];
-    apart = λ p q x y e f at. kept.client_places.apart p q (was p x e).0 (was q y f).0 (was p x e).1.0 (was q y f).1.0 ((was p x e).1.1 ∙ at ∙ sym ((was q y f).1.1));
+    apart = λ p q x y e f at. kept.client_places.apart p q (was p x e).0 (was q y f).0 (was p x e).1.0 (was q y f).1.0
+        ((was p x e).1.1 ∙ at ∙ sym ((was q y f).1.1));
   } where
     was : (q : CallId) (x : Placed HeldRow) → get clients.rows q ≡ Some x → (w : Placed HeldRow) × ((get c.clients.rows q ≡ Some w) × (w.place ≡ x.place))
     was q x e = elim (one_call q id) [
@@ -125,7 +136,8 @@ module _ (c : HostParts) (kept : IsKept c) (id : CallId) (slot : ℕ) (stood : p
   part_after = part_in (record c { clients = clients; pool = pool })
 
   parts_else : (p : Place) → (p ≡ OfClient id → ⊥) → part_after p ≡ part_in c p
-  parts_else (OfClient q) ne = ap (λ (o : Option (Placed HeldRow)). option_and_then (λ (x : Placed HeldRow). x.row.part) o) (moved.changed.others q (λ e. ne (ap OfClient e)))
+  parts_else (OfClient q) ne =
+      ap (λ (o : Option (Placed HeldRow)). option_and_then (λ (x : Placed HeldRow). x.row.part) o) (moved.changed.others q (λ e. ne (ap OfClient e)))
   parts_else (OfServer q) ne = refl
 
   pub parts_in : AreIn pool part_after
@@ -134,9 +146,12 @@ module _ (c : HostParts) (kept : IsKept c) (id : CallId) (slot : ℕ) (stood : p
   pub servers_same : seen_servers pool c.servers.rows ≡ seen_servers c.pool c.servers.rows
   servers_same = same_map call_total call_same _ _ (λ q.
       get-mapped (λ (x : Placed HeldServer). seen_server pool x.row) c.servers.rows q
-      ∙ same (get c.servers.rows q) (seen_others one_place c.pool pool (part_in c) part_after (OfClient id) parts_else moved.moves kept.parts (OfServer q) (λ e. two_sides id q (sym e)))
+      ∙ same (get c.servers.rows q)
+      (seen_others one_place c.pool pool (part_in c) part_after (OfClient id) parts_else moved.moves kept.parts (OfServer q) (λ e. two_sides id q (sym e)))
       ∙ sym (get-mapped (λ (x : Placed HeldServer). seen_server c.pool x.row) c.servers.rows q)) where
-        same : (o : Option (Placed HeldServer)) → seen_part pool (option_and_then (λ (x : Placed HeldServer). state_part x.row.state) o) ≡ seen_part c.pool (option_and_then (λ (x : Placed HeldServer). state_part x.row.state) o)
+        same : (o : Option (Placed HeldServer))
+            → seen_part pool (option_and_then (λ (x : Placed HeldServer). state_part x.row.state) o) ≡ seen_part c.pool
+            (option_and_then (λ (x : Placed HeldServer). state_part x.row.state) o)
             → option_map (λ (x : Placed HeldServer). seen_server pool x.row) o ≡ option_map (λ (x : Placed HeldServer). seen_server c.pool x.row) o
         same None e = refl
         same (Some x) e = ap Some (same_server c.pool pool x.row e)
@@ -164,11 +179,16 @@ module _ (c : HostParts) (kept : IsKept c) (id : CallId) (slot : ℕ) (stood : p
 
     pub changes : ChangesAt (OfClient id) slot (seen_of c) seen_after
     changes =
-        client_changes (λ (x : Placed HeldRow). seen_row c.pool x.row) (λ (x : Placed HeldRow). seen_row pool x.row) c.clients.rows clients.rows id row slot (seen_of c) seen_after
+        client_changes (λ (x : Placed HeldRow). seen_row c.pool x.row) (λ (x : Placed HeldRow). seen_row pool x.row) c.clients.rows clients.rows id
+        row slot (seen_of c) seen_after
         moved.changed moved.rows at_slot at_slot_after refl refl refl refl refl refl refl refl slots_before slots_after
 
     stood_there : has_row (seen_of c) (OfClient id)
-    stood_there = (seen_row c.pool before.0.row, get-mapped (λ (x : Placed HeldRow). seen_row c.pool x.row) c.clients.rows id ∙ ap (option_map (λ (x : Placed HeldRow). seen_row c.pool x.row)) before.1)
+    stood_there = (
+      seen_row c.pool before.0.row,
+      get-mapped (λ (x : Placed HeldRow). seen_row c.pool x.row) c.clients.rows id
+          ∙ ap (option_map (λ (x : Placed HeldRow). seen_row c.pool x.row)) before.1,
+    )
 
     pub row_is : get (seen_rows pool clients.rows) id ≡ row
     row_is = get-mapped (λ (x : Placed HeldRow). seen_row pool x.row) clients.rows id ∙ moved.here
@@ -186,18 +206,28 @@ module _ (c : HostParts) (kept : IsKept c) (id : CallId) (slot : ℕ) (stood : p
 
     module _ (own : HasOwnOrders host_after) where
       pub duty_own : AreOwn c.books slot (client_duty_in c.control.settings row)
-      duty_own = subst (λ (o : Option ClientRow). AreOwn c.books slot (client_duty_in c.control.settings o)) row_is (rebooked_own (OfClient id) slot (seen_of c) seen_after changes (inl stood_there) own c.books kept.booked)
+      duty_own = subst (λ (o : Option ClientRow). AreOwn c.books slot (client_duty_in c.control.settings o)) row_is
+          (rebooked_own (OfClient id) slot (seen_of c) seen_after changes (inl stood_there) own c.books kept.booked)
 
       pub booked_after : AreBooked seen_after (followed slot (client_duty_in c.control.settings row) c.books)
-      booked_after = subst (λ (o : Option ClientRow). AreBooked seen_after (followed slot (client_duty_in c.control.settings o) c.books)) row_is (rebooked (OfClient id) slot (seen_of c) seen_after changes (inl stood_there) own c.books kept.booked)
+      booked_after = subst (λ (o : Option ClientRow). AreBooked seen_after (followed slot (client_duty_in c.control.settings o) c.books)) row_is
+          (rebooked (OfClient id) slot (seen_of c) seen_after changes (inl stood_there) own c.books kept.booked)
 
     -- ---- and all holds again
 
     module _ (control : Control) where
       abbrev pub parts_after : HostParts
-      parts_after = record { control = control; clients = clients; servers = c.servers; pool = pool; books = followed slot (client_duty_in c.control.settings row) c.books; order = order }
+      parts_after = record {
+        control = control;
+        clients = clients;
+        servers = c.servers;
+        pool = pool;
+        books = followed slot (client_duty_in c.control.settings row) c.books;
+        order = order;
+      }
 
-      pub kept_after : IsSound control → control.settings ≡ c.control.settings → control.id ≡ c.control.id → control.inc ≡ c.control.inc → control.last ≡ c.control.last
+      pub kept_after : IsSound control → control.settings ≡ c.control.settings → control.id ≡ c.control.id → control.inc ≡ c.control.inc
+          → control.last ≡ c.control.last
           → HasOwnOrders (host_of parts_after) → KnowsPeers control.settings (host_of parts_after) → control.tuning.opened ≤ order → IsKept parts_after
       kept_after sound settings same_id inc last own known opened =
           let own' = own_like (host_of parts_after) host_after refl refl servers_same own in
@@ -220,6 +250,21 @@ module _ (c : HostParts) (kept : IsKept c) (id : CallId) (slot : ℕ) (stood : p
             client_places = subst (λ (s : Settings). ArePlaced s.calls clients.rows) (sym settings) places_after;
             server_places = subst (λ (s : Settings). ArePlaced s.served c.servers.rows) (sym settings) kept.server_places;
             room = subst (λ (s : Settings). HaveRoom s (followed slot (client_duty_in c.control.settings row) c.books)) (sym settings)
-                (record { timers = kept.room.timers; grants = kept.room.grants; hosts = kept.room.hosts; most = kept.room.most; pacer = kept.room.pacer; rate = kept.room.rate });
-            booked = books_stay seen_after (seen_of parts_after) _ (record { settings = sym settings; last = sym last; clients = refl; servers = sym servers_same; client_places = refl; server_places = refl }) (booked_after own');
+                (record {
+                  timers = kept.room.timers;
+                  grants = kept.room.grants;
+                  hosts = kept.room.hosts;
+                  most = kept.room.most;
+                  pacer = kept.room.pacer;
+                  rate = kept.room.rate;
+                });
+            booked = books_stay seen_after (seen_of parts_after) _
+                (record {
+                  settings = sym settings;
+                  last = sym last;
+                  clients = refl;
+                  servers = sym servers_same;
+                  client_places = refl;
+                  server_places = refl;
+                }) (booked_after own');
           }

@@ -1,5 +1,6 @@
 -- A client's row becomes another, at its place, and the pool stays.
-use Rattle.std.proofs.Common.{◌≡◌, ◌<◌, ◌≤◌, ℕ, ◌-◌, ◌⊎◌, inl, inr, Bool, true, false, Option, Some, None, IsSome, List, [], ◌∷◌, ◌++◌, length, refl, sym, ap, subst, ◌∙◌, arith}
+use Rattle.std.proofs.Common.{◌≡◌, ◌<◌, ◌≤◌, ℕ, ◌-◌, ◌⊎◌, inl, inr, Bool, true, false, Option, Some, None, IsSome, List, [], ◌∷◌, ◌++◌, length, refl}
+use Rattle.std.proofs.Common.{sym, ap, subst, ◌∙◌, arith}
 use Rattle.std.specs.List.{Contains}
 use Rattle.std.proofs.lemmas.List.{length-append}
 use Rattle.std.specs.Option.{IfSome, option_map, option_and_then}
@@ -69,7 +70,14 @@ beside_told old new m e = subst (Beside old) (sym e) (record { settings = refl; 
 
 -- a piece was sent
 pub beside_sent : (old new : Control) → new ≡ record old { finished = new.finished; marks = new.marks } → Beside old new
-beside_sent old new e = record { settings = ap (λ (c : Control). c.settings) e; id = ap (λ (c : Control). c.id) e; inc = ap (λ (c : Control). c.inc) e; last = ap (λ (c : Control). c.last) e; opened = ap (λ (c : Control). c.tuning.opened) e }
+beside_sent old new e =
+    record {
+      settings = ap (λ (c : Control). c.settings) e;
+      id = ap (λ (c : Control). c.id) e;
+      inc = ap (λ (c : Control). c.inc) e;
+      last = ap (λ (c : Control). c.last) e;
+      opened = ap (λ (c : Control). c.tuning.opened) e;
+    }
 
 pub sound_told : (old new : Control) (m : Mark) → new ≡ record old { marks = old.marks ++ m ∷ [] } → length old.marks < 128 → IsSound old → IsSound new
 sound_told old new m e room sound = subst IsSound (sym e) (record {
@@ -96,7 +104,13 @@ changes_like place n old g h same change = by_place place (subst (ChangesAt plac
   marks = g.marks;
 }) change) where
   middle : Seen
-  middle = record { settings = h.settings; host = record g.host { last = h.host.last; clients = h.host.clients; servers = h.host.servers }; client_places = h.client_places; server_places = h.server_places; marks = g.marks }
+  middle = record {
+    settings = h.settings;
+    host = record g.host { last = h.host.last; clients = h.host.clients; servers = h.host.servers };
+    client_places = h.client_places;
+    server_places = h.server_places;
+    marks = g.marks;
+  }
 
   by_place : (p : Place) → ChangesAt p n old middle → ChangesAt p n old h
   by_place (OfClient id) c = record {
@@ -140,7 +154,13 @@ spends n b = record b { pacer = record b.pacer { credit = b.pacer.credit - n } }
 pub kept_spent : (c : HostParts) (n : ℕ) → IsKept c → IsKept (record c { books = spends n c.books })
 kept_spent c n kept = record {
   control = kept.control;
-  one = record { client = kept.one.client; life = kept.one.life; client_settings = kept.one.client_settings; server = kept.one.server; server_settings = kept.one.server_settings };
+  one = record {
+    client = kept.one.client;
+    life = kept.one.life;
+    client_settings = kept.one.client_settings;
+    server = kept.one.server;
+    server_settings = kept.one.server_settings;
+  };
   own = record { rows = kept.own.rows; arriving = kept.own.arriving; leaving = kept.own.leaving };
   known = record { clients = kept.known.clients; own = kept.known.own; servers = kept.known.servers };
   foreign = kept.foreign;
@@ -150,9 +170,17 @@ kept_spent c n kept = record {
   leased = kept.leased;
   client_places = kept.client_places;
   server_places = kept.server_places;
-  room = record { timers = kept.room.timers; grants = kept.room.grants; hosts = kept.room.hosts; most = kept.room.most; pacer = kept.room.pacer; rate = kept.room.rate };
+  room = record {
+    timers = kept.room.timers;
+    grants = kept.room.grants;
+    hosts = kept.room.hosts;
+    most = kept.room.most;
+    pacer = kept.room.pacer;
+    rate = kept.room.rate;
+  };
   booked =
-      let b = books_stay (seen_of c) (seen_of (record c { books = spends n c.books })) c.books (record { settings = refl; last = refl; clients = refl; servers = refl; client_places = refl; server_places = refl }) kept.booked in
+      let b = books_stay (seen_of c) (seen_of (record c { books = spends n c.books })) c.books
+      (record { settings = refl; last = refl; clients = refl; servers = refl; client_places = refl; server_places = refl }) kept.booked in
       record { armed = b.armed; entered = b.entered; ready = b.ready };
 } where
   same : (k : Place) → part_in (record c { books = spends n c.books }) k ≡ part_in c k
@@ -201,11 +229,14 @@ module _ (c : HostParts) (kept : IsKept c) (id : CallId) (slot : ℕ) (r : HeldR
       }
 
   -- the message that arrives is its part
-  pub message_at : (p : Part) (a : Arriving) → r.part ≡ Some p → a.place ≡ OfClient id → Contains (arrivals (host_of c)) a → a.message ≡ seen (part.seen c.pool p)
+  pub message_at : (p : Part) (a : Arriving) → r.part ≡ Some p → a.place ≡ OfClient id → Contains (arrivals (host_of c)) a
+      → a.message ≡ seen (part.seen c.pool p)
   message_at p a e place arrives =
       let there : Contains (client_arrival id (get (host_of c).clients id)) a = thing_at arrival_things (host_of c) (OfClient id) a arrives place in
-      let here : Contains (arriving_at_client id (seen_part c.pool r.part)) a = subst (λ (o : Option ClientRow). Contains (client_arrival id o) a) (client_row c id slot r stands) there in
-      let only : Contains (arriving_at_client id (seen_part c.pool (Some p))) a = subst (λ (o : Option Part). Contains (arriving_at_client id (seen_part c.pool o)) a) e here in
+      let here : Contains (arriving_at_client id (seen_part c.pool r.part)) a =
+      subst (λ (o : Option ClientRow). Contains (client_arrival id o) a) (client_row c id slot r stands) there in
+      let only : Contains (arriving_at_client id (seen_part c.pool (Some p))) a =
+      subst (λ (o : Option Part). Contains (arriving_at_client id (seen_part c.pool o)) a) e here in
       all_at (λ (x : Arriving). x.message ≡ seen (part.seen c.pool p)) (arriving_at_client id (seen_part c.pool (Some p))) a (refl, tt) only
 
   module _ (clients : Clients) (row : ClientRow) (moved : Moved id c.clients c.pool clients c.pool (Some row)) where
@@ -220,7 +251,8 @@ module _ (c : HostParts) (kept : IsKept c) (id : CallId) (slot : ℕ) (r : HeldR
     settings_after = ap (λ (t : Clients). t.settings) moved.kept ∙ kept.one.client_settings
 
     pub spot_after : IsSome (spot_at clients.rows slot)
-    spot_after = rw (spot-stands c.control.settings.calls clients.rows (places_after c kept id slot stood clients c.pool (Some row) moved) id slot stands_after.0 stands_after.1) refl
+    spot_after = rw (spot-stands c.control.settings.calls clients.rows (places_after c kept id slot stood clients c.pool (Some row) moved) id slot
+        stands_after.0 stands_after.1) refl
 
     room_after : HaveRoom clients.settings c.books
     room_after = subst (λ (s : Settings). HaveRoom s c.books) (sym settings_after) kept.room
@@ -245,20 +277,25 @@ module _ (c : HostParts) (kept : IsKept c) (id : CallId) (slot : ℕ) (r : HeldR
         get-mapped (λ (x : Placed HeldRow). x.place) clients.rows q
         ∙ by_one q (one_call q id)
         ∙ sym (get-mapped (λ (x : Placed HeldRow). x.place) c.clients.rows q)) where
-          by_one : (q : CallId) → (q ≡ id) ⊎ (q ≡ id → ⊥) → option_map (λ (x : Placed HeldRow). x.place) (get clients.rows q) ≡ option_map (λ (x : Placed HeldRow). x.place) (get c.clients.rows q)
-          by_one q (inl is) = ap (λ k. option_map (λ (x : Placed HeldRow). x.place) (get clients.rows k)) is ∙ ap (option_map (λ (x : Placed HeldRow). x.place)) stands_after.1 ∙ sym (ap (option_map (λ (x : Placed HeldRow). x.place)) stands) ∙ ap (λ k. option_map (λ (x : Placed HeldRow). x.place) (get c.clients.rows k)) (sym is)
+          by_one : (q : CallId) → (q ≡ id) ⊎ (q ≡ id → ⊥) → option_map (λ (x : Placed HeldRow). x.place) (get clients.rows q) ≡ option_map
+              (λ (x : Placed HeldRow). x.place) (get c.clients.rows q)
+          by_one q (inl is) = ap (λ k. option_map (λ (x : Placed HeldRow). x.place) (get clients.rows k)) is
+              ∙ ap (option_map (λ (x : Placed HeldRow). x.place)) stands_after.1 ∙ sym (ap (option_map (λ (x : Placed HeldRow). x.place)) stands)
+              ∙ ap (λ k. option_map (λ (x : Placed HeldRow). x.place) (get c.clients.rows k)) (sym is)
           by_one q (inr ne) = ap (option_map (λ (x : Placed HeldRow). x.place)) (moved.changed.others q ne)
 
     -- what is seen changed there alone
     pub changes_to : (control : Control) → Beside c.control control → (books : Books)
-        → ChangesAt (OfClient id) slot (seen_of c) (seen_of (record { control = control; clients = clients; servers = c.servers; pool = c.pool; books = books; order = c.order }))
+        → ChangesAt (OfClient id) slot (seen_of c)
+        (seen_of (record { control = control; clients = clients; servers = c.servers; pool = c.pool; books = books; order = c.order }))
     changes_to control beside books =
         changes_like (OfClient id) slot (seen_of c) (seen_after c kept id slot stood clients c.pool (Some row) moved c.order)
         (seen_of (record { control = control; clients = clients; servers = c.servers; pool = c.pool; books = books; order = c.order }))
         (record { settings = sym beside.settings; last = sym beside.last; clients = refl; servers = refl; client_places = refl; server_places = refl })
         (changes c kept id slot stood clients c.pool (Some row) moved c.order)
 
-    module _ (own : HasOwnOrders (host_after c kept id slot stood clients c.pool (Some row) moved c.order)) (known : KnowsServer c.control.settings.hosts row) where
+    module _ (own : HasOwnOrders (host_after c kept id slot stood clients c.pool (Some row) moved c.order))
+        (known : KnowsServer c.control.settings.hosts row) where
       may_stay : MayStayClient clients c.books slot
       may_stay = record {
         id = id;
@@ -266,29 +303,51 @@ module _ (c : HostParts) (kept : IsKept c) (id : CallId) (slot : ℕ) (r : HeldR
         pool = c.pool;
         stands = stands_after.1;
         inside = inside_after;
-        peer = subst (λ (q : Settings × ClientRow). IfSome (client_duty q.0 q.1).arrival (λ (a : Arrival). a.peer.0 < q.0.hosts)) (λ i. (sym settings_after i, sym stands_after.2 i))
+        peer = subst (λ (q : Settings × ClientRow). IfSome (client_duty q.0 q.1).arrival (λ (a : Arrival). a.peer.0 < q.0.hosts))
+            (λ i. (sym settings_after i, sym stands_after.2 i))
             (arrival_known c.control.settings.hosts row.part known.sender);
         own = subst (AreOwn c.books slot) (sym duty_after) (duty_own c kept id slot stood clients c.pool (Some row) moved c.order own);
       }
 
       -- all holds again
-      pub kept_stays : (control : Control) → IsSound control → Beside c.control control → (books : Books) → books ≡ followed slot (client_duty c.control.settings row) c.books
+      pub kept_stays : (control : Control) → IsSound control → Beside c.control control → (books : Books)
+          → books ≡ followed slot (client_duty c.control.settings row) c.books
           → IsKept (record { control = control; clients = clients; servers = c.servers; pool = c.pool; books = books; order = c.order })
       kept_stays control sound beside books e =
-          subst (λ (b : Books). IsKept (record { control = control; clients = clients; servers = c.servers; pool = c.pool; books = b; order = c.order })) (sym e)
+          subst (λ (b : Books). IsKept
+          (record { control = control; clients = clients; servers = c.servers; pool = c.pool; books = b; order = c.order })) (sym e)
           (kept_after c kept id slot stood clients c.pool (Some row) moved c.order control sound beside.settings beside.id beside.inc beside.last
           (record { rows = own.rows; arriving = own.arriving; leaving = own.leaving }) peers (subst (λ n. n ≤ c.order) (sym beside.opened) kept.opened)) where
-            peers : KnowsPeers control.settings (host_of (record { control = control; clients = clients; servers = c.servers; pool = c.pool; books = followed slot (client_duty c.control.settings row) c.books; order = c.order }))
+            peers : KnowsPeers control.settings
+                (host_of (record {
+                  control = control;
+                  clients = clients;
+                  servers = c.servers;
+                  pool = c.pool;
+                  books = followed slot (client_duty c.control.settings row) c.books;
+                  order = c.order;
+                }))
             peers =
-                let h : Host = host_of (record { control = control; clients = clients; servers = c.servers; pool = c.pool; books = followed slot (client_duty c.control.settings row) c.books; order = c.order }) in
-                subst (λ (s : Settings). KnowsPeers s h) (sym beside.settings) (known-client c.control.settings (host_of c) h beside.id beside.inc kept.known id (Some row) moved.rows refl (known, owned))
+                let h : Host = host_of
+                (record {
+                  control = control;
+                  clients = clients;
+                  servers = c.servers;
+                  pool = c.pool;
+                  books = followed slot (client_duty c.control.settings row) c.books;
+                  order = c.order;
+                }) in
+                subst (λ (s : Settings). KnowsPeers s h) (sym beside.settings)
+                (known-client c.control.settings (host_of c) h beside.id beside.inc kept.known id (Some row) moved.rows refl (known, owned))
 
       -- the books can follow
       pub can_follow : (books : Books) → books ≡ c.books → CanFollowClient clients books (Stays slot)
-      can_follow books e = subst (λ (b : Books). CanFollowClient clients b (Stays slot)) (sym e) (record { stands = spot_after; may = may_stay; room = room_after; within = within_after })
+      can_follow books e = subst (λ (b : Books). CanFollowClient clients b (Stays slot)) (sym e)
+          (record { stands = spot_after; may = may_stay; room = room_after; within = within_after })
 
     -- the books followed
-    pub followed_by : (books after : Books) → books ≡ c.books → FollowedClient clients (Stays slot) books after → after ≡ followed slot (client_duty c.control.settings row) c.books
+    pub followed_by : (books after : Books) → books ≡ c.books → FollowedClient clients (Stays slot) books after
+        → after ≡ followed slot (client_duty c.control.settings row) c.books
     followed_by books after e f = follows after (subst (λ (b : Books). FollowedClient clients (Stays slot) b after) e f)
 
   -- ---- its row is seen as before
@@ -296,31 +355,51 @@ module _ (c : HostParts) (kept : IsKept c) (id : CallId) (slot : ℕ) (r : HeldR
   module _ (clients : Clients) (moved : Moved id c.clients c.pool clients c.pool (Some (seen_row c.pool r))) where
     pub rows_same : seen_rows c.pool clients.rows ≡ seen_rows c.pool c.clients.rows
     rows_same = moved.rows ∙ same_map call_total call_same _ _ (λ q. by_one q (is_call q id) refl) where
-      by_one : (q : CallId) (b : Bool) → is_call q id ≡ b → get (set_row (seen_rows c.pool c.clients.rows) id (Some (seen_row c.pool r))) q ≡ get (seen_rows c.pool c.clients.rows) q
+      by_one : (q : CallId) (b : Bool) → is_call q id ≡ b → get (set_row (seen_rows c.pool c.clients.rows) id (Some (seen_row c.pool r))) q ≡ get
+          (seen_rows c.pool c.clients.rows) q
       by_one q true e =
           let is = (calls_are q id).0 e in
-          ap (get (set_row (seen_rows c.pool c.clients.rows) id (Some (seen_row c.pool r)))) is ∙ get-set_row (seen_rows c.pool c.clients.rows) id (Some (seen_row c.pool r))
+          ap (get (set_row (seen_rows c.pool c.clients.rows) id (Some (seen_row c.pool r)))) is ∙ get-set_row (seen_rows c.pool c.clients.rows) id
+          (Some (seen_row c.pool r))
           ∙ sym (client_row c id slot r stands) ∙ ap (get (seen_rows c.pool c.clients.rows)) (sym is)
       by_one q false e = set_row-others (seen_rows c.pool c.clients.rows) id (Some (seen_row c.pool r)) q e
 
     module _ (books : Books) (credit : books.pacer.credit ≡ c.books.pacer.credit) (refilled : books.pacer.refilled ≡ c.books.pacer.refilled) where
       -- so is the host
-      pub amid_same : (w : Work) (out : List SentFrame) → Amid w c out → Amid w (record { control = c.control; clients = clients; servers = c.servers; pool = c.pool; books = books; order = c.order }) out
+      pub amid_same : (w : Work) (out : List SentFrame) → Amid w c out
+          → Amid w (record { control = c.control; clients = clients; servers = c.servers; pool = c.pool; books = books; order = c.order }) out
       amid_same w out amid =
           let rest = rest-amid w c out amid in
-          amid-at w (record { control = c.control; clients = clients; servers = c.servers; pool = c.pool; books = books; order = c.order }) out (at-amid w c out amid)
-          (record { seq = ap (λ (t : Clients). t.seq) moved.kept ∙ rest.seq; order = rest.order; credit = credit ∙ rest.credit; refilled = refilled ∙ rest.refilled; clients = rows_same ∙ rest.clients; servers = rest.servers })
+          amid-at w (record { control = c.control; clients = clients; servers = c.servers; pool = c.pool; books = books; order = c.order }) out
+          (at-amid w c out amid)
+          (record {
+            seq = ap (λ (t : Clients). t.seq) moved.kept ∙ rest.seq;
+            order = rest.order;
+            credit = credit ∙ rest.credit;
+            refilled = refilled ∙ rest.refilled;
+            clients = rows_same ∙ rest.clients;
+            servers = rest.servers;
+          })
 
       -- all holds with the same books, or with others that hold what the rows say
-      pub kept_same : HaveRoom c.control.settings books → AreBooked (seen_of c) books → IsKept (record { control = c.control; clients = clients; servers = c.servers; pool = c.pool; books = books; order = c.order })
+      pub kept_same : HaveRoom c.control.settings books → AreBooked (seen_of c) books
+          → IsKept (record { control = c.control; clients = clients; servers = c.servers; pool = c.pool; books = books; order = c.order })
       kept_same room booked =
           let row = seen_row c.pool r in
           let after : HostParts = record { control = c.control; clients = clients; servers = c.servers; pool = c.pool; books = books; order = c.order } in
-          let own : HasOwnOrders (host_after c kept id slot stood clients c.pool (Some row) moved c.order) = own_like (host_of c) (host_after c kept id slot stood clients c.pool (Some row) moved c.order) refl (sym rows_same) refl kept.own in
-          let k = kept_stays clients row moved own knows c.control kept.control (record { settings = refl; id = refl; inc = refl; last = refl; opened = refl }) (followed slot (client_duty c.control.settings row) c.books) refl in
+          let own : HasOwnOrders (host_after c kept id slot stood clients c.pool (Some row) moved c.order) =
+          own_like (host_of c) (host_after c kept id slot stood clients c.pool (Some row) moved c.order) refl (sym rows_same) refl kept.own in
+          let k = kept_stays clients row moved own knows c.control kept.control
+          (record { settings = refl; id = refl; inc = refl; last = refl; opened = refl }) (followed slot (client_duty c.control.settings row) c.books) refl in
           record {
             control = k.control;
-            one = record { client = k.one.client; life = k.one.life; client_settings = k.one.client_settings; server = k.one.server; server_settings = k.one.server_settings };
+            one = record {
+              client = k.one.client;
+              life = k.one.life;
+              client_settings = k.one.client_settings;
+              server = k.one.server;
+              server_settings = k.one.server_settings;
+            };
             own = record { rows = k.own.rows; arriving = k.own.arriving; leaving = k.own.leaving };
             known = record { clients = k.known.clients; own = k.known.own; servers = k.known.servers };
             foreign = k.foreign;
@@ -331,9 +410,25 @@ module _ (c : HostParts) (kept : IsKept c) (id : CallId) (slot : ℕ) (r : HeldR
             client_places = k.client_places;
             server_places = k.server_places;
             room = room;
-            booked = books_stay (seen_of c) (seen_of after) books (record { settings = refl; last = refl; clients = sym rows_same; servers = refl; client_places = sym (places_same clients row moved); server_places = refl }) booked;
+            booked = books_stay (seen_of c) (seen_of after) books
+                (record {
+                  settings = refl;
+                  last = refl;
+                  clients = sym rows_same;
+                  servers = refl;
+                  client_places = sym (places_same clients row moved);
+                  server_places = refl;
+                }) booked;
           } where
-            same : (p : Place) → part_in (record { control = c.control; clients = clients; servers = c.servers; pool = c.pool; books = books; order = c.order }) p
-                ≡ part_in (record { control = c.control; clients = clients; servers = c.servers; pool = c.pool; books = followed slot (client_duty c.control.settings (seen_row c.pool r)) c.books; order = c.order }) p
+            same : (p : Place)
+                → part_in (record { control = c.control; clients = clients; servers = c.servers; pool = c.pool; books = books; order = c.order }) p
+                ≡ part_in (record {
+                  control = c.control;
+                  clients = clients;
+                  servers = c.servers;
+                  pool = c.pool;
+                  books = followed slot (client_duty c.control.settings (seen_row c.pool r)) c.books;
+                  order = c.order;
+                }) p
             same (OfClient q) = refl
             same (OfServer q) = refl

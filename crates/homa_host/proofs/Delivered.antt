@@ -33,7 +33,8 @@ no_replies h a [] e = tt
 no_replies h a (Ran id service hold ∷ ms) e = absurd (true≢false e)
 no_replies h a (m ∷ ms) e = (tt, no_replies h a ms e)
 
-pub none_allowed : (h : Host) (allows : ℕ → List ℕ → List ℕ → ℕ → Type 0) (whole : List ℕ) (ms : List Mark) → has_ran ms ≡ false → AllByRecursion (IsAllowed h allows whole) ms
+pub none_allowed : (h : Host) (allows : ℕ → List ℕ → List ℕ → ℕ → Type 0) (whole : List ℕ) (ms : List Mark) → has_ran ms ≡ false
+    → AllByRecursion (IsAllowed h allows whole) ms
 none_allowed h allows whole [] e = tt
 none_allowed h allows whole (Ran id service hold ∷ ms) e = absurd (true≢false e)
 none_allowed h allows whole (m ∷ ms) e = (tt, none_allowed h allows whole ms e)
@@ -50,7 +51,8 @@ pub record TellsAlike (old new : HostParts) : Type 1 where
   pub ran : has_ran new.control.marks ≡ has_ran old.control.marks
   pub back : (a : Answer) → AllByRecursion (IsReply (host_of new) a) new.control.marks → AllByRecursion (IsReply (host_of old) a) old.control.marks
   pub on : (a : Answer) → AllByRecursion (IsReply (host_of old) a) old.control.marks → AllByRecursion (IsReply (host_of new) a) new.control.marks
-  pub allowed : (allows : ℕ → List ℕ → List ℕ → ℕ → Type 0) (whole : List ℕ) → AllByRecursion (IsAllowed (host_of old) allows whole) old.control.marks → AllByRecursion (IsAllowed (host_of new) allows whole) new.control.marks
+  pub allowed : (allows : ℕ → List ℕ → List ℕ → ℕ → Type 0) (whole : List ℕ) → AllByRecursion (IsAllowed (host_of old) allows whole) old.control.marks
+      → AllByRecursion (IsAllowed (host_of new) allows whole) new.control.marks
 
 pub ran_append : (ms more : List Mark) → has_ran more ≡ false → has_ran (ms ++ more) ≡ has_ran ms
 ran_append [] more e = e
@@ -90,12 +92,15 @@ left_of_all P (m ∷ ms) more all = (all.0, left_of_all P ms more all.1)
 module _ (h k : Host) (same : (id : CallId) → response_of k id ≡ response_of h id) where
   replies_move : (a : Answer) (ms : List Mark) → AllByRecursion (IsReply h a) ms → AllByRecursion (IsReply k a) ms
   replies_move a [] all = tt
-  replies_move a (Ran id service hold ∷ ms) all = (all.0 ∙ ap (λ (bytes : List ℕ). record { bytes = bytes; hold = hold }) (sym (same id)), replies_move a ms all.1)
+  replies_move a (Ran id service hold ∷ ms) all =
+      (all.0 ∙ ap (λ (bytes : List ℕ). record { bytes = bytes; hold = hold }) (sym (same id)), replies_move a ms all.1)
   replies_move a (m ∷ ms) all = (tt, replies_move a ms all.1)
 
-  allowed_move : (allows : ℕ → List ℕ → List ℕ → ℕ → Type 0) (whole : List ℕ) (ms : List Mark) → AllByRecursion (IsAllowed h allows whole) ms → AllByRecursion (IsAllowed k allows whole) ms
+  allowed_move : (allows : ℕ → List ℕ → List ℕ → ℕ → Type 0) (whole : List ℕ) (ms : List Mark) → AllByRecursion (IsAllowed h allows whole) ms
+      → AllByRecursion (IsAllowed k allows whole) ms
   allowed_move allows whole [] all = tt
-  allowed_move allows whole (Ran id service hold ∷ ms) all = (subst (λ bytes. allows service whole bytes hold) (sym (same id)) all.0, allowed_move allows whole ms all.1)
+  allowed_move allows whole (Ran id service hold ∷ ms) all =
+      (subst (λ bytes. allows service whole bytes hold) (sym (same id)) all.0, allowed_move allows whole ms all.1)
   allowed_move allows whole (m ∷ ms) all = (tt, allowed_move allows whole ms all.1)
 
 -- ---- the end of a step
@@ -115,7 +120,8 @@ module _ (s : Settings) (w : Work) (mid q : HostParts) (before after : List Sent
 
   marks_grown : q.control.marks ≡ mid.control.marks ++ more
   unfolding more
-  marks_grown = ends.marked ∙ ap (marks_from 0) (ended-calm s w).grown ∙ (marks_append 0 w.told (ended-calm s w).told).1 ∙ ap (λ ms. ms ++ more) (sym amid.marked)
+  marks_grown =
+      ends.marked ∙ ap (marks_from 0) (ended-calm s w).grown ∙ (marks_append 0 w.told (ended-calm s w).told).1 ∙ ap (λ ms. ms ++ more) (sym amid.marked)
 
   responses : (id : CallId) → response_of (host_of q) id ≡ response_of (host_of mid) id
   responses id = ap (λ (h : Host). response_of h id) ends.host ∙ (ended-keeps s w).responses id ∙ ap (λ (h : Host). response_of h id) (sym amid.host)
@@ -124,15 +130,19 @@ module _ (s : Settings) (w : Work) (mid q : HostParts) (before after : List Sent
   ran_same = ap has_ran marks_grown ∙ ran_append mid.control.marks more none
 
   replies_back : (a : Answer) → AllByRecursion (IsReply (host_of q) a) q.control.marks → AllByRecursion (IsReply (host_of mid) a) mid.control.marks
-  replies_back a all = replies_move (host_of q) (host_of mid) (λ id. sym (responses id)) a mid.control.marks (left_of_all (IsReply (host_of q) a) mid.control.marks more (subst (AllByRecursion (IsReply (host_of q) a)) marks_grown all))
+  replies_back a all = replies_move (host_of q) (host_of mid) (λ id. sym (responses id)) a mid.control.marks
+      (left_of_all (IsReply (host_of q) a) mid.control.marks more (subst (AllByRecursion (IsReply (host_of q) a)) marks_grown all))
 
   replies_on : (a : Answer) → AllByRecursion (IsReply (host_of mid) a) mid.control.marks → AllByRecursion (IsReply (host_of q) a) q.control.marks
   replies_on a all = subst (AllByRecursion (IsReply (host_of q) a)) (sym marks_grown)
-      (all-append (IsReply (host_of q) a) mid.control.marks more (replies_move (host_of mid) (host_of q) responses a mid.control.marks all) (no_replies (host_of q) a more none))
+      (all-append (IsReply (host_of q) a) mid.control.marks more (replies_move (host_of mid) (host_of q) responses a mid.control.marks all)
+      (no_replies (host_of q) a more none))
 
-  allowed_on : (allows : ℕ → List ℕ → List ℕ → ℕ → Type 0) (whole : List ℕ) → AllByRecursion (IsAllowed (host_of mid) allows whole) mid.control.marks → AllByRecursion (IsAllowed (host_of q) allows whole) q.control.marks
+  allowed_on : (allows : ℕ → List ℕ → List ℕ → ℕ → Type 0) (whole : List ℕ) → AllByRecursion (IsAllowed (host_of mid) allows whole) mid.control.marks
+      → AllByRecursion (IsAllowed (host_of q) allows whole) q.control.marks
   allowed_on allows whole all = subst (AllByRecursion (IsAllowed (host_of q) allows whole)) (sym marks_grown)
-      (all-append (IsAllowed (host_of q) allows whole) mid.control.marks more (allowed_move (host_of mid) (host_of q) responses allows whole mid.control.marks all) (none_allowed (host_of q) allows whole more none))
+      (all-append (IsAllowed (host_of q) allows whole) mid.control.marks more
+      (allowed_move (host_of mid) (host_of q) responses allows whole mid.control.marks all) (none_allowed (host_of q) allows whole more none))
 
   pub ended_alike : TellsAlike mid q
   ended_alike = record { ran = ran_same; back = replies_back; on = replies_on; allowed = allowed_on }

@@ -41,9 +41,11 @@ at_spot {R} rows n some = by_spot (spot_at rows n) refl some where
   by_spot (Some x) e some = (x.0, x.1, get-spot rows n x.0 x.1 e)
 
 -- the pacer has the slot that it picks
-pub picked_in : (book : List pace.Ready) (n : ℕ) → option_map (λ (r : pace.Ready). r.slot) (first_of (ordered pace.ready_key book)) ≡ Some n → (r : pace.Ready) × Contains book r × (r.slot ≡ n)
+pub picked_in : (book : List pace.Ready) (n : ℕ) → option_map (λ (r : pace.Ready). r.slot) (first_of (ordered pace.ready_key book)) ≡ Some n
+    → (r : pace.Ready) × Contains book r × (r.slot ≡ n)
 picked_in book n e = by_first (first_of (ordered pace.ready_key book)) (first-ordered pace.ready_key book) e where
-  by_first : (o : Option pace.Ready) → MatchOption o (book ≡ []) (IsLeast pace.ready_key book) → option_map (λ (r : pace.Ready). r.slot) o ≡ Some n → (r : pace.Ready) × Contains book r × (r.slot ≡ n)
+  by_first : (o : Option pace.Ready) → MatchOption o (book ≡ []) (IsLeast pace.ready_key book) → option_map (λ (r : pace.Ready). r.slot) o ≡ Some n
+      → (r : pace.Ready) × Contains book r × (r.slot ≡ n)
   by_first None least none = absurd (nothing none) where
     nothing : None ≡ Some n → ⊥
     nothing e = cc

@@ -14,7 +14,8 @@ use Rattle.homa_host.specs.Amid.{Amid}
 use Rattle.homa_host.specs.declared.parts.HostParts.{HostParts}
 
 -- it is done, as its marks are its entries
-pub finished : (old : Seen) (w : Work) (p : HostParts) (out : List SentFrame) (whole : List ℕ) → p.control.settings ≡ old.settings → Amid w p out → AllByRecursion (IsShown (seen_of p) whole) w.told
+pub finished : (old : Seen) (w : Work) (p : HostParts) (out : List SentFrame) (whole : List ℕ) → p.control.settings ≡ old.settings → Amid w p out
+    → AllByRecursion (IsShown (seen_of p) whole) w.told
     → IsDone old w (seen_of p) out whole
 finished old w p out whole same amid shows =
     let told = shown-told (seen_of p) whole out w.told amid.marked amid.sent amid.formed shows in

@@ -1,5 +1,6 @@
 -- A packet at a call's client, as the parts have it.
-use Rattle.std.proofs.Common.{◌≡◌, ◌≤◌, ◌+◌, ℕ, Bool, true, false, cond, ◌&&◌, not, nat_lt, if◌then◌else◌, refl, sym, ap, subst, ◌∙◌, arith, List, [], Option, Some, None}
+use Rattle.std.proofs.Common.{◌≡◌, ◌≤◌, ◌+◌, ℕ, Bool, true, false, cond, ◌&&◌, not, nat_lt, if◌then◌else◌, refl, sym, ap, subst, ◌∙◌, arith, List, []}
+use Rattle.std.proofs.Common.{Option, Some, None}
 use Rattle.std.specs.Option.{option_map, option_and_then, IfSome, IsSome}
 use Rattle.plain_sets.specs.Maps.{get, len}
 use Rattle.plain_sets.proofs.MapMembers.{same_some}
@@ -125,7 +126,8 @@ touched_stays P did.Ack h = tt
 touched_stays P (did.Forgotten n id) h = tt
 
 -- what is known of a row that was touched
-pub touched_row : (X : Type 0) (P : HeldRow → ℕ → Type 0) (d : ClientDid) (slot : ℕ) (row : Option ClientRow) → slot_in d ≡ Some slot → HasLeft d row → ((r : HeldRow) → IfTouched d (P r)) → (IsSome row → (r : HeldRow) × (P r slot → X)) → IfTouched d (λ _. X)
+pub touched_row : (X : Type 0) (P : HeldRow → ℕ → Type 0) (d : ClientDid) (slot : ℕ) (row : Option ClientRow) → slot_in d ≡ Some slot → HasLeft d row
+    → ((r : HeldRow) → IfTouched d (P r)) → (IsSome row → (r : HeldRow) × (P r slot → X)) → IfTouched d (λ _. X)
 touched_row X P did.Nothing slot row e left f k = tt
 touched_row X P (did.Touched n) slot row e left f k = (k left).1 (subst (P (k left).0) (same_some n slot e) (f (k left).0))
 touched_row X P (did.Opened n) slot row e left f k = tt
@@ -141,7 +143,8 @@ no_touch P d e = touched_stays P d (subst (λ (ch : Change). IfStays ch P) (sym 
 
 -- the place of a row that a packet is for is that of the call's row
 slot_stood : (p : Packet) (o : Option (Placed HeldRow)) (slot : ℕ)
-    → option_and_then (λ (x : Placed HeldRow). if is_host (sender p) x.row.server && not (nat_lt p.inc x.row.seen) then Some x.place else None) o ≡ Some slot → option_map (λ (x : Placed HeldRow). x.place) o ≡ Some slot
+    → option_and_then (λ (x : Placed HeldRow). if is_host (sender p) x.row.server && not (nat_lt p.inc x.row.seen) then Some x.place else None) o
+    ≡ Some slot → option_map (λ (x : Placed HeldRow). x.place) o ≡ Some slot
 slot_stood p None slot e = cc
 slot_stood p (Some x) slot e = at (is_host (sender p) x.row.server && not (nat_lt p.inc x.row.seen)) e where
   at : (b : Bool) → cond b (Some x.place) None ≡ Some slot → Some x.place ≡ Some slot
@@ -155,14 +158,16 @@ known_if c kept id (Some r) e = kept.known.clients id r e
 -- ---- the packet
 
 -- a packet of a server came to a host, whose table took it up
-pub record HasReceived (c : HostParts) (from : HostId) (packet : WirePacket) (payload : List ℕ) (now : ℕ) (clients : Clients) (pool : Pool) (told : List ℕ) (d : ClientDid) : Type 0 where
+pub record HasReceived (c : HostParts) (from : HostId) (packet : WirePacket) (payload : List ℕ) (now : ℕ) (clients : Clients) (pool : Pool)
+    (told : List ℕ) (d : ClientDid) : Type 0 where
   pub role : packet.role ≡ Server
   pub now_is : now ≡ c.control.last
   pub most : leased_pages c.pool.leases ≤ c.pool.pages
   pub received : Received c.clients c.pool (packet_between from c.clients.host packet payload) now c.order clients pool told d
   pub inside : AreIn pool (part_at clients.rows)
 
-module _ (c : HostParts) (kept : IsKept c) {from : HostId} {packet : WirePacket} {payload : List ℕ} {now : ℕ} {clients : Clients} {pool : Pool} {told : List ℕ} {d : ClientDid} (taken : HasReceived c from packet payload now clients pool told d) where
+module _ (c : HostParts) (kept : IsKept c) {from : HostId} {packet : WirePacket} {payload : List ℕ} {now : ℕ} {clients : Clients} {pool : Pool}
+    {told : List ℕ} {d : ClientDid} (taken : HasReceived c from packet payload now clients pool told d) where
   abbrev pub p : Packet
   p = from_server from c.control.id packet payload
 
@@ -201,21 +206,27 @@ module _ (c : HostParts) (kept : IsKept c) {from : HostId} {packet : WirePacket}
         free = (free_is ∙ ap (λ (h : Host). free_beside s h p.id) same) i;
         rows = rows;
       } in
-      let row : row_at c.pool c.clients.rows p.id ≡ get w.host.clients p.id = sym (get-mapped (λ (x : Placed HeldRow). seen_row c.pool x.row) c.clients.rows p.id) ∙ ap (λ (h : Host). get h.clients p.id) same in
+      let row : row_at c.pool c.clients.rows p.id ≡ get w.host.clients p.id =
+      sym (get-mapped (λ (x : Placed HeldRow). seen_row c.pool x.row) c.clients.rows p.id) ∙ ap (λ (h : Host). get h.clients p.id) same in
       subst (λ (o : Option ClientRow). client_gets s (moment s p.id w) p o ≡ answer_of (moment s p.id w) p (row_at pool clients.rows p.id) told d) row
       (subst (λ (m : Moment). client_gets s m p (row_at c.pool c.clients.rows p.id) ≡ answer_of m p (row_at pool clients.rows p.id) told d) m
-      (subst (λ (s : Settings). client_gets s (moment_with c.clients.host now c.order (free_pages c.pool + pages_of (part_at c.clients.rows p.id)) rows) p (row_at c.pool c.clients.rows p.id)
-      ≡ answer_of (moment_with c.clients.host now c.order (free_pages c.pool + pages_of (part_at c.clients.rows p.id)) rows) p (row_at pool clients.rows p.id) told d) kept.one.client_settings (got.did rows)))
+      (subst (λ (s : Settings). client_gets s
+      (moment_with c.clients.host now c.order (free_pages c.pool + pages_of (part_at c.clients.rows p.id)) rows) p (row_at c.pool c.clients.rows p.id)
+      ≡ answer_of (moment_with c.clients.host now c.order (free_pages c.pool + pages_of (part_at c.clients.rows p.id)) rows) p
+      (row_at pool clients.rows p.id) told d) kept.one.client_settings (got.did rows)))
 
   pub gets_row : (w : Work) → host_of c ≡ w.host → row_at pool clients.rows p.id ≡ (gets w).row
-  gets_row w same = sym (ap (λ (d : Did ClientRow). d.row) (gets_is w same) ∙ answer_row (moment c.control.settings p.id w) p (row_at pool clients.rows p.id) told d)
+  gets_row w same =
+      sym (ap (λ (d : Did ClientRow). d.row) (gets_is w same) ∙ answer_row (moment c.control.settings p.id w) p (row_at pool clients.rows p.id) told d)
 
   pub gets_order : (w : Work) → host_of c ≡ w.host → (gets w).order ≡ c.order + client_orders d
   gets_order w same =
-      ap (λ (d : Did ClientRow). d.order) (gets_is w same) ∙ answer_order (moment c.control.settings p.id w) p (row_at pool clients.rows p.id) told d ∙ ap (λ (h : Host). h.order + client_orders d) (sym same)
+      ap (λ (d : Did ClientRow). d.order) (gets_is w same) ∙ answer_order (moment c.control.settings p.id w) p (row_at pool clients.rows p.id) told d
+      ∙ ap (λ (h : Host). h.order + client_orders d) (sym same)
 
   pub gets_whole : (w : Work) → host_of c ≡ w.host → SayWhole told (gets w).says
-  gets_whole w same = subst (λ (x : Did ClientRow). SayWhole told x.says) (sym (gets_is w same)) (answer_whole (moment c.control.settings p.id w) p (row_at pool clients.rows p.id) told d)
+  gets_whole w same = subst (λ (x : Did ClientRow). SayWhole told x.says) (sym (gets_is w same))
+      (answer_whole (moment c.control.settings p.id w) p (row_at pool clients.rows p.id) told d)
 
   pub gets_moved : (w : Work) → host_of c ≡ w.host → Moved p.id c.clients c.pool clients pool (gets w).row
   gets_moved w same = subst (λ (o : Option ClientRow). Moved p.id c.clients c.pool clients pool o) (gets_row w same) got.moved
@@ -227,7 +238,8 @@ module _ (c : HostParts) (kept : IsKept c) {from : HostId} {packet : WirePacket}
   gets_change w same slot e = change_of d slot (gets w).row e (subst (λ (o : Option ClientRow). HasLeft d o) (gets_row w same) got.left)
 
   pub gets_known : IfSome (gets (silent c)).row (KnowsServer c.control.settings.hosts)
-  gets_known = client_gets-known c.control.settings.hosts c.control.settings (moment c.control.settings p.id (silent c)) p (get (host_of c).clients p.id) (known_if c kept p.id (get (host_of c).clients p.id) refl)
+  gets_known = client_gets-known c.control.settings.hosts c.control.settings (moment c.control.settings p.id (silent c)) p
+      (get (host_of c).clients p.id) (known_if c kept p.id (get (host_of c).clients p.id) refl)
 
   pub gets_own : Own (asked c.control.settings p.id from (gets (silent c)) (silent c))
   gets_own = row-own c.control.settings p (record { bytes = []; hold = 0 }) Server (silent c) kept.own

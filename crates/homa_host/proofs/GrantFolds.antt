@@ -40,28 +40,39 @@ pub record IsGranting (first : HostParts) (before : List SentFrame) (c : HostPar
 -- at first all are
 pub granting_first : (c : HostParts) (out : List SentFrame) → IsGranting c out c out (chosen_now c)
 granting_first c out = record {
-  step = λ w a. (w, grants_each c.control.settings w ∙ ap (λ (h : Host). granted_each c.control.settings (chosen (λ (b : Arriving). b.message) c.control.settings.overcommit (arrivals h)) w) (sym a.host), a);
-  arrive = all_weaker (λ (a : Arriving). Contains (arrivals (host_of c)) a) (ArrivesAt c c) (λ a there. (there, refl)) (chosen_now c) (chosen_arrive c.control.settings.overcommit (record { host = host_of c; told = [] }));
+  step = λ w a. (
+    w,
+    grants_each c.control.settings w
+        ∙ ap (λ (h : Host). granted_each c.control.settings (chosen (λ (b : Arriving). b.message) c.control.settings.overcommit (arrivals h)) w) (sym a.host),
+    a,
+  );
+  arrive = all_weaker (λ (a : Arriving). Contains (arrivals (host_of c)) a) (ArrivesAt c c) (λ a there. (there, refl)) (chosen_now c)
+      (chosen_arrive c.control.settings.overcommit (record { host = host_of c; told = [] }));
   differ = chosen_differ c.control.settings.overcommit (record { host = host_of c; told = [] });
 }
 
 -- then one fewer
-pub granting_on : (first : HostParts) (before : List SentFrame) (c d : HostParts) (out more : List SentFrame) (a : Arriving) (rest : List Arriving) (n prio : ℕ) → c.control.settings ≡ first.control.settings → prio ≡ length rest
-    → IsGranting first before c out (a ∷ rest) → ((w : Work) → Amid w c out → Amid (grant_to c.control.settings a prio w) d more) → ChangesAt a.place n (seen_of c) (seen_of d) → IsGranting first before d more rest
+pub granting_on : (first : HostParts) (before : List SentFrame) (c d : HostParts) (out more : List SentFrame) (a : Arriving) (rest : List Arriving)
+    (n prio : ℕ) → c.control.settings ≡ first.control.settings → prio ≡ length rest
+    → IsGranting first before c out (a ∷ rest) → ((w : Work) → Amid w c out → Amid (grant_to c.control.settings a prio w) d more)
+    → ChangesAt a.place n (seen_of c) (seen_of d) → IsGranting first before d more rest
 granting_on first before c d out more a rest n prio same last granting step change = record {
   step = λ w am.
       let p = granting.step w am in (
         grant_to first.control.settings a (length rest) p.0,
         p.1,
-        subst (λ (s : Settings). Amid (grant_to s a (length rest) p.0) d more) same (subst (λ (k : ℕ). Amid (grant_to c.control.settings a k p.0) d more) last (step p.0 p.2)),
+        subst (λ (s : Settings). Amid (grant_to s a (length rest) p.0) d more) same
+            (subst (λ (k : ℕ). Amid (grant_to c.control.settings a k p.0) d more) last (step p.0 p.2)),
       );
   arrive = each rest granting.arrive.1 granting.differ.0;
   differ = granting.differ.1;
 } where
-  each : (bs : List Arriving) → AllByRecursion (ArrivesAt first c) bs → AllByRecursion (λ b. sender a.message ≢ sender b.message) bs → AllByRecursion (ArrivesAt first d) bs
+  each : (bs : List Arriving) → AllByRecursion (ArrivesAt first c) bs → AllByRecursion (λ b. sender a.message ≢ sender b.message) bs
+      → AllByRecursion (ArrivesAt first d) bs
   each [] all differ = tt
   each (b ∷ bs) all differ =
-      let apart = λ (e : b.place ≡ a.place). differ.0 (ap (λ (x : Arriving). sender x.message) (one_thing arrival_things (host_of c) a b granting.arrive.0.0 all.0.0 (sym e))) in (
+      let apart = λ (e : b.place ≡ a.place). differ.0
+      (ap (λ (x : Arriving). sender x.message) (one_thing arrival_things (host_of c) a b granting.arrive.0.0 all.0.0 (sym e))) in (
         (
           thing_stays arrival_things a.place (host_of c) (host_of d) change.clients change.servers b apart all.0.0,
           slots_stay a.place n (seen_of c) (seen_of d) change b.place (λ e. apart (sym e)) ∙ all.0.1,
@@ -70,22 +81,26 @@ granting_on first before c d out more a rest n prio same last granting step chan
       )
 
 -- when none is left the grants are given
-pub granting_done : (first : HostParts) (before : List SentFrame) (c : HostParts) (out : List SentFrame) → IsGranting first before c out [] → (w : Work) → Amid w first before → Amid (gives_grants first.control.settings w) c out
+pub granting_done : (first : HostParts) (before : List SentFrame) (c : HostParts) (out : List SentFrame) → IsGranting first before c out []
+    → (w : Work) → Amid w first before → Amid (gives_grants first.control.settings w) c out
 granting_done first before c out granting w a = let p = granting.step w a in subst (λ (v : Work). Amid v c out) (sym p.1) p.2
 
 -- the slots that the book chooses are those of the messages
-pub chosen_slots : (c : HostParts) (slots : List ℕ) → IsKept c → slots ≡ map (λ (e : entry.Entry). e.slot) (chosen_by entry.entry_peer entry.entry_key c.books.grants.most c.books.grants.entries)
+pub chosen_slots : (c : HostParts) (slots : List ℕ) → IsKept c
+    → slots ≡ map (λ (e : entry.Entry). e.slot) (chosen_by entry.entry_peer entry.entry_key c.books.grants.most c.books.grants.entries)
     → slots ≡ map (λ (a : Arriving). slot_of (seen_of c) a.place) (chosen_now c)
 chosen_slots c slots kept e =
     e ∙ ap (λ k. map (λ (x : entry.Entry). x.slot) (chosen_by entry.entry_peer entry.entry_key k c.books.grants.entries)) kept.room.most
     ∙ ap (map (λ (x : entry.Entry). x.slot)) (chosen-book (seen_of c) c.books.grants.entries c.control.settings.overcommit kept.own kept.booked.entered)
     ∙ twice (chosen_now c) where
-      twice : (as_ : List Arriving) → map (λ (x : entry.Entry). x.slot) (map (entry_of (seen_of c)) as_) ≡ map (λ (a : Arriving). slot_of (seen_of c) a.place) as_
+      twice : (as_ : List Arriving)
+          → map (λ (x : entry.Entry). x.slot) (map (entry_of (seen_of c)) as_) ≡ map (λ (a : Arriving). slot_of (seen_of c) a.place) as_
       twice [] = refl
       twice (a ∷ rest) = ap (λ ns. slot_of (seen_of c) a.place ∷ ns) (twice rest)
 
 -- the next of them
-pub next_of : {X : Type 0} (f : X → ℕ) (xs : List X) (i : ℕ) → i < length (map f xs) → (x : X) × (drop i xs ≡ x ∷ drop (i + 1) xs) × (f x ≡ get_or (map f xs) i 0)
+pub next_of : {X : Type 0} (f : X → ℕ) (xs : List X) (i : ℕ) → i < length (map f xs)
+    → (x : X) × (drop i xs ≡ x ∷ drop (i + 1) xs) × (f x ≡ get_or (map f xs) i 0)
 next_of f [] i l = absurd (omega arith)
 next_of f (x ∷ xs) zero l = (x, refl, refl)
 next_of f (x ∷ xs) (suc i) l =
@@ -100,8 +115,10 @@ pub record IsNextGrant (first : HostParts) (before : List SentFrame) (c : HostPa
   pub there : Contains (arrivals (host_of c)) a
   pub at : slot_of (seen_of c) a.place ≡ slot
 
-pub next_grant : (first : HostParts) (before : List SentFrame) (c : HostParts) (out : List SentFrame) (slots : List ℕ) (i : ℕ) → slots ≡ map (λ (a : Arriving). slot_of (seen_of first) a.place) (chosen_now first)
-    → i < length slots → IsGranting first before c out (drop i (chosen_now first)) → IsNextGrant first before c out (get_or slots i 0) (drop (i + 1) (chosen_now first))
+pub next_grant : (first : HostParts) (before : List SentFrame) (c : HostParts) (out : List SentFrame) (slots : List ℕ) (i : ℕ)
+    → slots ≡ map (λ (a : Arriving). slot_of (seen_of first) a.place) (chosen_now first)
+    → i < length slots → IsGranting first before c out (drop i (chosen_now first))
+    → IsNextGrant first before c out (get_or slots i 0) (drop (i + 1) (chosen_now first))
 next_grant first before c out slots i e l granting =
     let f = λ (a : Arriving). slot_of (seen_of first) a.place in
     let n = next_of f (chosen_now first) i (omega (arith, ap length e)) in

@@ -85,7 +85,13 @@ module _ (s : Settings) (id : HostId) (inc last : ℕ) (b : Books) (credit : b.p
     servers = mapped-empty (λ (x : Placed HeldServer). seen_server (record { pages = s.pages; leases = empty }) x.row) i;
   }
 
-  pub new-seen : seen_of (new_parts s id inc last b) ≡ record { settings = s; host = new_host s id inc last; client_places = empty; server_places = empty; marks = [] }
+  pub new-seen : seen_of (new_parts s id inc last b) ≡ record {
+    settings = s;
+    host = new_host s id inc last;
+    client_places = empty;
+    server_places = empty;
+    marks = [];
+  }
   new-seen = λ i. record {
     settings = s;
     host = new-is i;
@@ -94,7 +100,8 @@ module _ (s : Settings) (id : HostId) (inc last : ℕ) (b : Books) (credit : b.p
     marks = [];
   }
 
-  new-booked : b.timers.timers ≡ [] → b.grants.entries ≡ [] → b.pacer.ready ≡ [] → AreBooked (record { settings = s; host = new_host s id inc last; client_places = empty; server_places = empty; marks = [] }) b
+  new-booked : b.timers.timers ≡ [] → b.grants.entries ≡ [] → b.pacer.ready ≡ []
+      → AreBooked (record { settings = s; host = new_host s id inc last; client_places = empty; server_places = empty; marks = [] }) b
   unfolding empty
   new-booked timers grants ready = record {
     armed = timers ∙ sym (no_things timer_key);
@@ -113,7 +120,8 @@ module _ (s : Settings) (id : HostId) (inc last : ℕ) (b : Books) (credit : b.p
   no_part (OfClient q) = ap (option_and_then (λ (x : Placed HeldRow). x.row.part)) (get-empty call_cmp q)
   no_part (OfServer q) = ap (option_and_then (λ (x : Placed HeldServer). state_part x.row.state)) (get-empty call_cmp q)
 
-  pub new-kept : IsValid s → id.0 < s.hosts → 1 ≤ inc → last ≤ 1000000002000 → HaveRoom s b → b.timers.timers ≡ [] → b.grants.entries ≡ [] → b.pacer.ready ≡ [] → IsKept (new_parts s id inc last b)
+  pub new-kept : IsValid s → id.0 < s.hosts → 1 ≤ inc → last ≤ 1000000002000 → HaveRoom s b → b.timers.timers ≡ [] → b.grants.entries ≡ []
+      → b.pacer.ready ≡ [] → IsKept (new_parts s id inc last b)
   new-kept valid named life clock room timers grants ready = record {
     control = new-sound s id inc last valid named life clock;
     one = record { client = refl; life = refl; client_settings = refl; server = refl; server_settings = refl };
@@ -126,16 +134,20 @@ module _ (s : Settings) (id : HostId) (inc last : ℕ) (b : Books) (credit : b.p
       apart = λ j k n a c. absurd (subst (HasNumber n) (no_part j) a);
     };
     pages = refl;
-    leased = no_pages ∙ sym (ap row_pages new-is ∙ (λ i. no_values (λ (r : ClientRow). part_pages r.part) i + no_values (λ (r : ServerRow). state_pages r.state) i));
-    client_places = record { within = λ q x is. none_some x (sym (get-empty call_cmp q) ∙ is); apart = λ p q x y a c e. none_some x (sym (get-empty call_cmp p) ∙ a) };
-    server_places = record { within = λ q x is. none_some x (sym (get-empty call_cmp q) ∙ is); apart = λ p q x y a c e. none_some x (sym (get-empty call_cmp p) ∙ a) };
+    leased =
+        no_pages ∙ sym (ap row_pages new-is ∙ (λ i. no_values (λ (r : ClientRow). part_pages r.part) i + no_values (λ (r : ServerRow). state_pages r.state) i));
+    client_places =
+        record { within = λ q x is. none_some x (sym (get-empty call_cmp q) ∙ is); apart = λ p q x y a c e. none_some x (sym (get-empty call_cmp p) ∙ a) };
+    server_places =
+        record { within = λ q x is. none_some x (sym (get-empty call_cmp q) ∙ is); apart = λ p q x y a c e. none_some x (sym (get-empty call_cmp p) ∙ a) };
     room = room;
     booked = subst (λ (h : Seen). AreBooked h b) (sym new-seen) (new-booked timers grants ready);
   }
 
   -- parts that are these
   pub opened-is : (control : Control) (clients : Clients) (servers : Servers) (pool : Pool) → control ≡ new_control s id inc last
-      → clients ≡ record { host = id; inc = inc; seq = 0; settings = s; rows = empty } → servers ≡ record { host = id; settings = s; rows = empty } → pool.pages ≡ s.pages → pool.leases ≡ empty
+      → clients ≡ record { host = id; inc = inc; seq = 0; settings = s; rows = empty } → servers ≡ record { host = id; settings = s; rows = empty }
+      → pool.pages ≡ s.pages → pool.leases ≡ empty
       → new_parts s id inc last b ≡ record { control = control; clients = clients; servers = servers; pool = pool; books = b; order = 0 }
   opened-is control clients servers pool c k v p l = λ i. record {
     control = sym c i;

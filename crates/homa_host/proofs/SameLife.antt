@@ -19,7 +19,11 @@ use Rattle.homa_plain.specs.Rules.{Answer, Did}
 use Rattle.homa_plain.specs.AtServer.{server_acked}
 use Rattle.homa_plain.specs.Timers.{Place, OfClient, OfServer, Timer, timer_key, timers, client_acts, server_acts}
 use Rattle.homa_plain.specs.Sending.{Arriving, arrivals, Leaving, leaving_key, departures, response_content}
-use Rattle.homa_plain.specs.Steps.{Work, now_of, begun, refilled, tells, notes, tells_cutoffs, acknowledged, finishes, said, asked, served, moment, is_newer, hears_cutoffs, comes_to_row, acked, takes, is_stale, comes, client_acted, server_acted, acts_at, all_act, acts, client_is_granted, server_is_granted, grants_at, all_granted, gives_grants, request_leaves, response_leaves, client_leaves, state_leaves, server_leaves, leaves_from, first_leaves, pumped_once, pumps, ended, starts, call_step, arrival_step, turn_step}
+use Rattle.homa_plain.specs.Steps.{Work, now_of, begun, refilled, tells, notes, tells_cutoffs, acknowledged, finishes, said, asked, served, moment}
+use Rattle.homa_plain.specs.Steps.{is_newer, hears_cutoffs, comes_to_row, acked, takes, is_stale, comes, client_acted, server_acted, acts_at, all_act}
+use Rattle.homa_plain.specs.Steps.{acts, client_is_granted, server_is_granted, grants_at, all_granted, gives_grants, request_leaves, response_leaves}
+use Rattle.homa_plain.specs.Steps.{client_leaves, state_leaves, server_leaves, leaves_from, first_leaves, pumped_once, pumps, ended, starts}
+use Rattle.homa_plain.specs.Steps.{call_step, arrival_step, turn_step}
 use Rattle.step_laws.proofs.StepEnd.{left}
 
 abbrev pub life : Host → HostId × ℕ × ℕ
@@ -32,9 +36,11 @@ notes-life : (s : Settings) (o : Option ℕ) (w : Work) → life (notes s o w).h
 notes-life s None w = refl
 notes-life s (Some n) w = refl
 
-cutoffs-life : (s : Settings) (role : Role) (id : CallId) (server : HostId) (o : Option ℕ) (w : Work) → life (tells_cutoffs s role id server o w).host ≡ life w.host
+cutoffs-life : (s : Settings) (role : Role) (id : CallId) (server : HostId) (o : Option ℕ) (w : Work)
+    → life (tells_cutoffs s role id server o w).host ≡ life w.host
 cutoffs-life s role id server None w = refl
-cutoffs-life s role id server (Some version) w = cond_both (version == w.host.tuning.own.version) _ _ (λ (v : Work). life v.host ≡ life w.host) (λ _. refl) (λ _. refl)
+cutoffs-life s role id server (Some version) w =
+    cond_both (version == w.host.tuning.own.version) _ _ (λ (v : Work). life v.host ≡ life w.host) (λ _. refl) (λ _. refl)
 
 acknowledged-life : (s : Settings) (server : HostId) (calls : List (ℕ × ℕ)) (w : Work) → life (acknowledged s server calls w).host ≡ life w.host
 acknowledged-life s server [] w = refl
@@ -50,7 +56,8 @@ asked-life s id server did w =
     let put : Work = record w { host = record w.host { order = did.order; clients = set_row w.host.clients id did.row } } in
     let noted : Work = notes s did.opened put in
     let reply : Work = tells_cutoffs s Client id server did.version noted in
-    finishes-life s id server did.finished (tells (said s w.host Client id server did.says) reply) ∙ cutoffs-life s Client id server did.version noted ∙ notes-life s did.opened put
+    finishes-life s id server did.finished (tells (said s w.host Client id server did.says) reply) ∙ cutoffs-life s Client id server did.version noted
+    ∙ notes-life s did.opened put
 
 served-life : (s : Settings) (id : CallId) (did : Did ServerRow) (w : Work) → life (served s id did w).host ≡ life w.host
 unfolding served
@@ -59,7 +66,8 @@ served-life s id did w =
     cutoffs-life s Server id w.host.id did.version (notes s did.opened put) ∙ notes-life s did.opened put
 
 hears-life : (s : Settings) (peer : HostId) (inc : ℕ) (what : Body) (w : Work) → life (hears_cutoffs s peer inc what w).host ≡ life w.host
-hears-life s peer inc (body.Cutoffs cutoffs) w = cond_both (is_newer inc cutoffs (peer_cutoffs s w.host peer)) _ _ (λ (v : Work). life v.host ≡ life w.host) (λ _. refl) (λ _. refl)
+hears-life s peer inc (body.Cutoffs cutoffs) w =
+    cond_both (is_newer inc cutoffs (peer_cutoffs s w.host peer)) _ _ (λ (v : Work). life v.host ≡ life w.host) (λ _. refl) (λ _. refl)
 hears-life s peer inc (body.Data size offset version service ack) w = refl
 hears-life s peer inc (body.Grant offset prio) w = refl
 hears-life s peer inc (body.Resend from to prio) w = refl
@@ -107,9 +115,11 @@ client_leaves-life s id (Some r) w v e =
     let l = left (next_range r.out s.seg) w v (λ range. request_leaves s id r range w) e in
     subst (λ (u : Work). life u.host ≡ life w.host) l.is refl
 
-state_leaves-life : (s : Settings) (id : CallId) (row : ServerRow) (state : State) (w v : Work) → state_leaves s id row state w ≡ Some v → life v.host ≡ life w.host
+state_leaves-life : (s : Settings) (id : CallId) (row : ServerRow) (state : State) (w v : Work) → state_leaves s id row state w ≡ Some v
+    → life v.host ≡ life w.host
 state_leaves-life s id row (Replying response out order base count) w v e =
-    let l = left (next_range out s.seg) w v (λ range. response_leaves s id row (response_content s (peer_cutoffs s w.host id.client).cutoffs response out range) range w) e in
+    let l = left (next_range out s.seg) w v
+    (λ range. response_leaves s id row (response_content s (peer_cutoffs s w.host id.client).cutoffs response out range) range w) e in
     subst (λ (u : Work). life u.host ≡ life w.host) l.is refl
 state_leaves-life s id row (Receiving service part base count) w v e = none v e
 state_leaves-life s id row (Held response release) w v e = none v e
@@ -170,7 +180,8 @@ all_act-life s (t ∷ ts) w = all_act-life s ts (acts_at s t.place w) ∙ acts_a
 refilled-life : (s : Settings) (h : Host) → life (refilled s h) ≡ life h
 refilled-life s h = cond_both (nat_lt h.refilled h.last) _ _ (λ (g : Host). life g ≡ life h) (λ _. refl) (λ _. refl)
 
-pub call-life : (s : Settings) (h : Host) (now : ℕ) (server : HostId) (service : ℕ) (request : List ℕ) → life (call_step s h now server service request).host ≡ (h.id, h.inc, now)
+pub call-life : (s : Settings) (h : Host) (now : ℕ) (server : HostId) (service : ℕ) (request : List ℕ)
+    → life (call_step s h now server service request).host ≡ (h.id, h.inc, now)
 unfolding call_step
 call-life s h now server service request = ended-life s (starts s server service request (begun h now))
 
@@ -182,4 +193,5 @@ pub turn-life : (s : Settings) (h : Host) (now : ℕ) → life (turn_step s h no
 unfolding turn_step
 turn-life s h now =
     let filled : Host = refilled s (record h { last = now }) in
-    ended-life s (acts s (begun filled now)) ∙ all_act-life s (due timer_key (now_of (begun filled now)) (timers s filled)) (begun filled now) ∙ ap (λ (l : HostId × ℕ × ℕ). (l.0, l.1, now)) (refilled-life s (record h { last = now }))
+    ended-life s (acts s (begun filled now)) ∙ all_act-life s (due timer_key (now_of (begun filled now)) (timers s filled)) (begun filled now)
+    ∙ ap (λ (l : HostId × ℕ × ℕ). (l.0, l.1, now)) (refilled-life s (record h { last = now }))

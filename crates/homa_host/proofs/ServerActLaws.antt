@@ -68,7 +68,8 @@ abbrev pub moment_of : Settings → CallId → Host → Moment
 moment_of s id h = record { host = h.id; now = h.last; order = h.order; free = free_beside s h id; rows = len h.servers }
 
 -- a row's client is known with its life where its sender is
-pub known_row : (hosts : ℕ) (id : CallId) → id.client.0 < hosts → 1 ≤ id.inc → (o : Option ServerRow) → IfSome o (λ row. KnowsSender hosts row.state) → IfSome o (KnowsClient hosts id)
+pub known_row : (hosts : ℕ) (id : CallId) → id.client.0 < hosts → 1 ≤ id.inc → (o : Option ServerRow) → IfSome o (λ row. KnowsSender hosts row.state)
+    → IfSome o (KnowsClient hosts id)
 known_row hosts id client life None k = tt
 known_row hosts id client life (Some row) k = record { client = client; life = life; sender = k }
 
@@ -78,7 +79,8 @@ module _ (c : HostParts) (kept : IsKept c) (slot : ℕ) (id : CallId) (r : HeldS
   at_slot x e = ap (λ (y : Placed HeldServer). y.place) (same_some _ _ (sym e ∙ stands))
 
   pub row_get : get (seen_servers c.pool c.servers.rows) id ≡ Some (seen_server c.pool r)
-  row_get = get-mapped (λ (x : Placed HeldServer). seen_server c.pool x.row) c.servers.rows id ∙ ap (option_map (λ (x : Placed HeldServer). seen_server c.pool x.row)) stands
+  row_get = get-mapped (λ (x : Placed HeldServer). seen_server c.pool x.row) c.servers.rows id
+      ∙ ap (option_map (λ (x : Placed HeldServer). seen_server c.pool x.row)) stands
 
   pub row_known : KnowsClient c.control.settings.hosts id (seen_server c.pool r)
   row_known = kept.known.servers id (seen_server c.pool r) row_get
@@ -89,7 +91,8 @@ module _ (c : HostParts) (kept : IsKept c) (slot : ℕ) (id : CallId) (r : HeldS
   pub slot_low : slot < c.control.settings.served
   slot_low = kept.server_places.within id (record { place = slot; row = r }) stands
 
-  pub stays_at : (servers : Servers) (pool : Pool) (row : Option ServerRow) → ServerMoved id c.servers c.pool servers pool row → (x : Placed HeldServer) → get servers.rows id ≡ Some x → x.place ≡ slot
+  pub stays_at : (servers : Servers) (pool : Pool) (row : Option ServerRow) → ServerMoved id c.servers c.pool servers pool row
+      → (x : Placed HeldServer) → get servers.rows id ≡ Some x → x.place ≡ slot
   stays_at servers pool row moved x e = moved.changed.place (record { place = slot; row = r }) x stands e
 
 -- there are few places
@@ -101,40 +104,50 @@ few_places c kept s t e f =
     omega (arith, range.2.2.2.2.2.2.2.2.2.2.1, range.2.2.2.2.2.2.2.2.2.2.2.1, calls, served)
 
 -- the places afterwards, by the settings of the host
-pub placed_in : (c : HostParts) → IsKept c → (id : CallId) (servers : Servers) (pool : Pool) (row : Option ServerRow) → ServerMoved id c.servers c.pool servers pool row → ArePlaced servers.settings.served servers.rows
+pub placed_in : (c : HostParts) → IsKept c → (id : CallId) (servers : Servers) (pool : Pool) (row : Option ServerRow)
+    → ServerMoved id c.servers c.pool servers pool row → ArePlaced servers.settings.served servers.rows
     → ArePlaced c.control.settings.served servers.rows
-placed_in c kept id servers pool row moved placed = subst (λ (s : Settings). ArePlaced s.served servers.rows) (ap (λ (t : Servers). t.settings) moved.kept ∙ kept.one.server_settings) placed
+placed_in c kept id servers pool row moved placed =
+    subst (λ (s : Settings). ArePlaced s.served servers.rows) (ap (λ (t : Servers). t.settings) moved.kept ∙ kept.one.server_settings) placed
 
 -- a row that stands at a place acted, and the table afterwards
 pub record RowActed (c : HostParts) (slot : ℕ) (servers : Servers) (pool : Pool) (a : ServerAct) (id : CallId) (r : HeldServer) : Type 0 where
   pub stands : StandsAt c.servers.rows id slot r
-  pub acted : (free rows : ℕ) → let m = moment_with c.control.id c.control.last c.order free rows in server_acts c.control.settings m id (seen_server c.pool r) ≡ acted_of c.control.settings m id (server_at pool servers.rows id) a
+  pub acted : (free rows : ℕ) → let m = moment_with c.control.id c.control.last c.order free rows in
+      server_acts c.control.settings m id (seen_server c.pool r) ≡ acted_of c.control.settings m id (server_at pool servers.rows id) a
   pub left : HasServerActed a (server_at pool servers.rows id)
   pub moved : ServerMoved id c.servers c.pool servers pool (server_at pool servers.rows id)
   pub placed : ArePlaced c.control.settings.served servers.rows
 
 -- by the host and the settings of the table, and the clock that it was told
-pub acted_by : (c : HostParts) (kept : IsKept c) (slot now : ℕ) → now ≡ c.control.last → (servers : Servers) (pool : Pool) (a : ServerAct) (id : CallId) (r : HeldServer) → StandsAt c.servers.rows id slot r
-    → ((free rows : ℕ) → let m = moment_with c.servers.host now c.order free rows in server_acts c.servers.settings m id (seen_server c.pool r) ≡ acted_of c.servers.settings m id (server_at pool servers.rows id) a)
-    → HasServerActed a (server_at pool servers.rows id) → ServerMoved id c.servers c.pool servers pool (server_at pool servers.rows id) → ArePlaced servers.settings.served servers.rows → RowActed c slot servers pool a id r
+pub acted_by : (c : HostParts) (kept : IsKept c) (slot now : ℕ) → now ≡ c.control.last
+    → (servers : Servers) (pool : Pool) (a : ServerAct) (id : CallId) (r : HeldServer) → StandsAt c.servers.rows id slot r
+    → ((free rows : ℕ) → let m = moment_with c.servers.host now c.order free rows in
+    server_acts c.servers.settings m id (seen_server c.pool r) ≡ acted_of c.servers.settings m id (server_at pool servers.rows id) a)
+    → HasServerActed a (server_at pool servers.rows id) → ServerMoved id c.servers c.pool servers pool (server_at pool servers.rows id)
+    → ArePlaced servers.settings.served servers.rows → RowActed c slot servers pool a id r
 acted_by c kept slot now now_is servers pool a id r stands acted left moved placed = record {
   stands = stands;
-  acted = λ free rows. subst (λ (t : ℕ × (HostId × Settings)). let m = moment_with t.1.0 t.0 c.order free rows in server_acts t.1.1 m id (seen_server c.pool r) ≡ acted_of t.1.1 m id (server_at pool servers.rows id) a)
+  acted = λ free rows. subst (λ (t : ℕ × (HostId × Settings)). let m = moment_with t.1.0 t.0 c.order free rows in
+      server_acts t.1.1 m id (seen_server c.pool r) ≡ acted_of t.1.1 m id (server_at pool servers.rows id) a)
       (λ i. (now_is i, (kept.one.server i, kept.one.server_settings i))) (acted free rows);
   left = left;
   moved = moved;
   placed = placed_in c kept id servers pool (server_at pool servers.rows id) moved placed;
 }
 
-module _ (c : HostParts) (kept : IsKept c) (slot : ℕ) (servers : Servers) (pool : Pool) (a : ServerAct) (id : CallId) (r : HeldServer) (x : RowActed c slot servers pool a id r) where
+module _ (c : HostParts) (kept : IsKept c) (slot : ℕ) (servers : Servers) (pool : Pool) (a : ServerAct) (id : CallId) (r : HeldServer)
+    (x : RowActed c slot servers pool a id r) where
   abbrev row_now : Option ServerRow
   row_now = server_at pool servers.rows id
 
   abbrev pub did_at : Work → Did ServerRow
   did_at w = server_acts c.control.settings (moment c.control.settings id w) id (seen_server c.pool r)
 
-  acted_on : (h : Host) → host_of c ≡ h → server_acts c.control.settings (moment_of c.control.settings id h) id (seen_server c.pool r) ≡ acted_of c.control.settings (moment_of c.control.settings id h) id row_now a
-  acted_on h e = subst (λ (h : Host). server_acts c.control.settings (moment_of c.control.settings id h) id (seen_server c.pool r) ≡ acted_of c.control.settings (moment_of c.control.settings id h) id row_now a) e
+  acted_on : (h : Host) → host_of c ≡ h → server_acts c.control.settings (moment_of c.control.settings id h) id (seen_server c.pool r)
+      ≡ acted_of c.control.settings (moment_of c.control.settings id h) id row_now a
+  acted_on h e = subst (λ (h : Host). server_acts c.control.settings (moment_of c.control.settings id h) id
+      (seen_server c.pool r) ≡ acted_of c.control.settings (moment_of c.control.settings id h) id row_now a) e
       (x.acted (free_beside c.control.settings (host_of c) id) (len (host_of c).servers))
 
   pub acted_at : (w : Work) → host_of c ≡ w.host → did_at w ≡ acted_of c.control.settings (moment c.control.settings id w) id row_now a
@@ -144,7 +157,8 @@ module _ (c : HostParts) (kept : IsKept c) (slot : ℕ) (servers : Servers) (poo
   row_at w e = ap (λ (d : Did ServerRow). d.row) (acted_at w e) ∙ acted_row c.control.settings (moment c.control.settings id w) id row_now a
 
   order_at : (w : Work) → host_of c ≡ w.host → (did_at w).order ≡ c.order + server_act_orders a
-  order_at w e = ap (λ (d : Did ServerRow). d.order) (acted_at w e) ∙ acted_order c.control.settings (moment c.control.settings id w) id row_now a ∙ ap (λ (h : Host). h.order + server_act_orders a) (sym e)
+  order_at w e = ap (λ (d : Did ServerRow). d.order) (acted_at w e) ∙ acted_order c.control.settings (moment c.control.settings id w) id row_now a
+      ∙ ap (λ (h : Host). h.order + server_act_orders a) (sym e)
 
   change_at : IsServerChange (server_act_change a slot) slot row_now
   change_at = act_change slot a row_now x.left
@@ -157,7 +171,8 @@ module _ (c : HostParts) (kept : IsKept c) (slot : ℕ) (servers : Servers) (poo
       (server_acts-known c.control.settings.hosts c.control.settings (moment c.control.settings id (silent c)) id (seen_server c.pool r) k.sender))
 
   acts_own : Own (served c.control.settings id (did_at (silent c)) (silent c))
-  acts_own = subst (λ (o : Option ServerRow). Own (server_acted c.control.settings id o (silent c))) (row_get c kept slot id r x.stands) (acts_at-own c.control.settings (OfServer id) (silent c) kept.own)
+  acts_own = subst (λ (o : Option ServerRow). Own (server_acted c.control.settings id o (silent c))) (row_get c kept slot id r x.stands)
+      (acts_at-own c.control.settings (OfServer id) (silent c) kept.own)
 
   -- its place stays
   before : (y : Placed HeldServer) → get c.servers.rows id ≡ Some y → y.place ≡ slot
@@ -178,15 +193,18 @@ module _ (c : HostParts) (kept : IsKept c) (slot : ℕ) (servers : Servers) (poo
         let orders = served_orders c kept id slot servers pool row_now x.moved before after x.placed did (row_at (silent c) refl) c.control acts_own in
         subst (λ (y : ℕ × Change). CanFollowServer servers y.0 c.books y.1) (λ i. (sym calls_are i, sym change_is i)) (record {
           stands = follow_stands c kept id slot servers pool row_now x.moved before after x.placed (server_act_change a slot) change_at;
-          may = follow_may c kept id slot servers pool row_now x.moved before after x.placed did.order (stood did.order) orders acts_known (server_act_change a slot) change_at;
+          may = follow_may c kept id slot servers pool row_now x.moved before after x.placed did.order (stood did.order) orders acts_known
+              (server_act_change a slot) change_at;
           room = follow_room c kept id slot servers pool row_now x.moved before after x.placed;
           calls = ap (λ (s : Settings). s.calls) (sym settings);
-          within = follow_within c kept id slot servers pool row_now x.moved before after x.placed (server_act_change a slot) (slot_low c kept slot id r x.stands) change_at;
+          within = follow_within c kept id slot servers pool row_now x.moved before after x.placed (server_act_change a slot)
+              (slot_low c kept slot id r x.stands) change_at;
           small = few_places c kept c.control.settings servers.settings refl settings;
         })
 
     -- they followed
-    module _ (books : Books) (follows : FollowedServer servers calls change c.books books) (order : ℕ) (order_is : order ≡ c.order + server_act_orders a) (control : Control) where
+    module _ (books : Books) (follows : FollowedServer servers calls change c.books books) (order : ℕ)
+        (order_is : order ≡ c.order + server_act_orders a) (control : Control) where
       abbrev parts : HostParts
       parts = record { control = control; clients = c.clients; servers = servers; pool = pool; books = books; order = order }
 
@@ -194,20 +212,27 @@ module _ (c : HostParts) (kept : IsKept c) (slot : ℕ) (servers : Servers) (poo
       followed_acted = follow_books c kept id slot servers pool row_now x.moved before after x.placed (server_act_change a slot) books change_at
           (subst (λ (y : ℕ × Change). FollowedServer servers y.0 y.1 c.books books) (λ i. (calls_are i, change_is i)) follows)
 
-      pub acted_kept : IsSound control → control ≡ record c.control { tuning = control.tuning; marks = control.marks } → control.tuning.opened ≤ order → IsKept parts
+      pub acted_kept : IsSound control → control ≡ record c.control { tuning = control.tuning; marks = control.marks } → control.tuning.opened ≤ order
+          → IsKept parts
       acted_kept sound same opened =
           let did : Did ServerRow = did_at (silent c) in
           let row_is = row_at (silent c) refl in
           let count : did.order ≡ order = order_at (silent c) refl ∙ sym order_is in
-          let all = served_kept c kept id slot servers pool row_now x.moved before after x.placed did row_is control (stood did.order) sound same (subst (λ n. control.tuning.opened ≤ n) (sym count) opened)
-          (subst (λ (o : Option ServerRow). IfSome o (KnowsClient c.control.settings.hosts id)) (sym row_is) acts_known) (not_own c kept slot id r x.stands) acts_own in
-          subst (λ (p : HostParts). IsKept p) (λ i. record { control = control; clients = c.clients; servers = servers; pool = pool; books = (sym followed_acted) i; order = count i }) all
+          let all = served_kept c kept id slot servers pool row_now x.moved before after x.placed did row_is control (stood did.order) sound same
+          (subst (λ n. control.tuning.opened ≤ n) (sym count) opened)
+          (subst (λ (o : Option ServerRow). IfSome o (KnowsClient c.control.settings.hosts id)) (sym row_is) acts_known)
+          (not_own c kept slot id r x.stands) acts_own in
+          subst (λ (p : HostParts). IsKept p)
+          (λ i. record { control = control; clients = c.clients; servers = servers; pool = pool; books = (sym followed_acted) i; order = count i }) all
 
       -- the plain row acts
-      pub acted_amid : (w : Work) (out out' : List SentFrame) → Amid w c out → IsAt (served c.control.settings id (did_at w) w) control out' → Amid (server_acted c.control.settings id (get w.host.servers id) w) parts out'
+      pub acted_amid : (w : Work) (out out' : List SentFrame) → Amid w c out → IsAt (served c.control.settings id (did_at w) w) control out'
+          → Amid (server_acted c.control.settings id (get w.host.servers id) w) parts out'
       acted_amid w out out' amid settled =
           let did : Did ServerRow = did_at w in
           let count : did.order ≡ order = order_at w amid.host ∙ sym order_is in
           let all = served_amid c kept id slot servers pool row_now x.moved before after x.placed did (row_at w amid.host) control w out out' amid settled in
-          subst (λ (o : Option ServerRow). Amid (server_acted c.control.settings id o w) parts out') (sym (sym (ap (λ (h : Host). get h.servers id) amid.host) ∙ row_get c kept slot id r x.stands))
-          (subst (λ (p : HostParts). Amid (served c.control.settings id did w) p out') (λ i. record { control = control; clients = c.clients; servers = servers; pool = pool; books = (sym followed_acted) i; order = count i }) all)
+          subst (λ (o : Option ServerRow). Amid (server_acted c.control.settings id o w) parts out')
+          (sym (sym (ap (λ (h : Host). get h.servers id) amid.host) ∙ row_get c kept slot id r x.stands))
+          (subst (λ (p : HostParts). Amid (served c.control.settings id did w) p out')
+          (λ i. record { control = control; clients = c.clients; servers = servers; pool = pool; books = (sym followed_acted) i; order = count i }) all)

@@ -180,8 +180,11 @@ seen_response pool (Gone until) = refl
 
 pub response_same : (pool : Pool) (rows : ServerRows) (id : CallId) (h : Host) → h.servers ≡ seen_servers pool rows → response_of h id ≡ response_at rows id
 response_same pool rows id h e = ap (λ m. unwrap_or (option_map (λ (r : ServerRow). mark_response r.state) (get m id)) []) e
-    ∙ ap (λ o. unwrap_or (option_map (λ (r : ServerRow). mark_response r.state) o) []) (get-mapped (λ (x : Placed HeldServer). seen_server pool x.row) rows id) ∙ by_row (get rows id) where
-      by_row : (o : Option (Placed HeldServer)) → unwrap_or (option_map (λ (r : ServerRow). mark_response r.state) (option_map (λ (x : Placed HeldServer). seen_server pool x.row) o)) [] ≡ option_map_or (λ (x : Placed HeldServer). held_response x.row.state) o []
+    ∙ ap (λ o. unwrap_or (option_map (λ (r : ServerRow). mark_response r.state) o) [])
+    (get-mapped (λ (x : Placed HeldServer). seen_server pool x.row) rows id) ∙ by_row (get rows id) where
+      by_row : (o : Option (Placed HeldServer))
+          → unwrap_or (option_map (λ (r : ServerRow). mark_response r.state) (option_map (λ (x : Placed HeldServer). seen_server pool x.row) o))
+          [] ≡ option_map_or (λ (x : Placed HeldServer). held_response x.row.state) o []
       by_row None = refl
       by_row (Some x) = seen_response pool x.row.state
 
@@ -199,7 +202,8 @@ from_client from host w payload = record {
   payload = payload;
 }
 
-pub of_client : (from host : HostId) (w : WirePacket) (payload : List ℕ) → w.role ≡ Client → from_client from host w payload ≡ packet_between from host w payload
+pub of_client : (from host : HostId) (w : WirePacket) (payload : List ℕ) → w.role ≡ Client
+    → from_client from host w payload ≡ packet_between from host w payload
 of_client from host w payload e = ap (λ (role : Role). record {
   role = role;
   id = call_between role from host w.inc w.seq;
@@ -212,7 +216,8 @@ of_client from host w payload e = ap (λ (role : Role). record {
 }) (sym e)
 
 -- the pages that all other messages leave free
-free_left : (c : HostParts) (kept : IsKept c) (id : CallId) → (id.client ≡ c.control.id → ⊥) → leased_pages c.pool.leases ≤ c.pool.pages → free_pages c.pool + pages_of (request_at c.servers.rows id) ≡ free_beside c.control.settings (host_of c) id
+free_left : (c : HostParts) (kept : IsKept c) (id : CallId) → (id.client ≡ c.control.id → ⊥) → leased_pages c.pool.leases ≤ c.pool.pages
+    → free_pages c.pool + pages_of (request_at c.servers.rows id) ≡ free_beside c.control.settings (host_of c) id
 free_left c kept id other most =
     let leased = kept.leased in
     let pages = kept.pages in
@@ -226,7 +231,8 @@ free_left c kept id other most =
       none_of (Some r) e = absurd (other (kept.known.own id r e).0)
 
 -- a packet of a client came to a host, whose table took it up
-pub record HasReceived (c : HostParts) (from : HostId) (packet : WirePacket) (payload : List ℕ) (now : ℕ) (servers : Servers) (pool : Pool) (told : List ℕ) (allowed : List ℕ → List ℕ → ℕ → Type 0) (d : ServerDid) : Type 0 where
+pub record HasReceived (c : HostParts) (from : HostId) (packet : WirePacket) (payload : List ℕ) (now : ℕ) (servers : Servers) (pool : Pool)
+    (told : List ℕ) (allowed : List ℕ → List ℕ → ℕ → Type 0) (d : ServerDid) : Type 0 where
   pub known : from.0 < c.control.settings.hosts
   pub other : from ≡ c.control.id → ⊥
   pub role : packet.role ≡ Client
@@ -236,7 +242,8 @@ pub record HasReceived (c : HostParts) (from : HostId) (packet : WirePacket) (pa
   pub received : Served c.servers c.pool (packet_between from c.servers.host packet payload) now c.order servers pool told allowed d
   pub placed : ArePlaced servers.settings.served servers.rows
 
-module _ (c : HostParts) (kept : IsKept c) {from : HostId} {packet : WirePacket} {payload : List ℕ} {now : ℕ} {servers : Servers} {pool : Pool} {told : List ℕ} {allowed : List ℕ → List ℕ → ℕ → Type 0} {d : ServerDid}
+module _ (c : HostParts) (kept : IsKept c) {from : HostId} {packet : WirePacket} {payload : List ℕ} {now : ℕ} {servers : Servers} {pool : Pool}
+    {told : List ℕ} {allowed : List ℕ → List ℕ → ℕ → Type 0} {d : ServerDid}
     (taken : HasReceived c from packet payload now servers pool told allowed d) where
   abbrev pub p : Packet
   p = from_client from c.control.id packet payload
@@ -247,7 +254,8 @@ module _ (c : HostParts) (kept : IsKept c) {from : HostId} {packet : WirePacket}
   pub got : Served c.servers c.pool p now c.order servers pool told allowed d
   got =
       subst (λ (q : Packet). Served c.servers c.pool q now c.order servers pool told allowed d) (sym is_p)
-      (subst (λ (h : HostId). Served c.servers c.pool (packet_between from h packet payload) now c.order servers pool told allowed d) kept.one.server taken.received)
+      (subst (λ (h : HostId). Served c.servers c.pool (packet_between from h packet payload) now c.order servers pool told allowed d) kept.one.server
+      taken.received)
 
   abbrev pub row_now : Option ServerRow
   row_now = server_at pool servers.rows p.id
@@ -262,22 +270,28 @@ module _ (c : HostParts) (kept : IsKept c) {from : HostId} {packet : WirePacket}
   abbrev pub Replies : Answer → Type 0
   Replies a = IsReply (response_at servers.rows p.id) a d
 
-  pub gets_is : (a : Answer) → Replies a → (w : Work) → host_of c ≡ w.host → gets a w ≡ served_of c.control.settings (moment c.control.settings p.id w) p.id (piece_in p.body p.payload) row_now told a d
+  pub gets_is : (a : Answer) → Replies a → (w : Work) → host_of c ≡ w.host
+      → gets a w ≡ served_of c.control.settings (moment c.control.settings p.id w) p.id (piece_in p.body p.payload) row_now told a d
   gets_is a reply w same =
       let s = c.control.settings in
       let piece = piece_in p.body p.payload in
-      let m : moment_with c.servers.host now c.order (free_pages c.pool + pages_of (request_at c.servers.rows p.id)) (len c.servers.rows) ≡ moment s p.id w = λ i. record {
+      let m : moment_with c.servers.host now c.order (free_pages c.pool + pages_of (request_at c.servers.rows p.id)) (len c.servers.rows) ≡ moment s p.id w =
+      λ i. record {
         host = (kept.one.server ∙ ap (λ (h : Host). h.id) same) i;
         now = (taken.now_is ∙ ap (λ (h : Host). h.last) same) i;
         order = ap (λ (h : Host). h.order) same i;
         free = (free_is ∙ ap (λ (h : Host). free_beside s h p.id) same) i;
         rows = (sym (len-mapped (λ (x : Placed HeldServer). seen_server c.pool x.row) c.servers.rows) ∙ ap (λ (h : Host). len h.servers) same) i;
       } in
-      let row : server_at c.pool c.servers.rows p.id ≡ get w.host.servers p.id = sym (get-mapped (λ (x : Placed HeldServer). seen_server c.pool x.row) c.servers.rows p.id) ∙ ap (λ (h : Host). get h.servers p.id) same in
+      let row : server_at c.pool c.servers.rows p.id ≡ get w.host.servers p.id =
+      sym (get-mapped (λ (x : Placed HeldServer). seen_server c.pool x.row) c.servers.rows p.id) ∙ ap (λ (h : Host). get h.servers p.id) same in
       subst (λ (o : Option ServerRow). server_gets s (moment s p.id w) p a o ≡ served_of s (moment s p.id w) p.id piece row_now told a d) row
       (subst (λ (m : Moment). server_gets s m p a (server_at c.pool c.servers.rows p.id) ≡ served_of s m p.id piece row_now told a d) m
-      (subst (λ (s : Settings). server_gets s (moment_with c.servers.host now c.order (free_pages c.pool + pages_of (request_at c.servers.rows p.id)) (len c.servers.rows)) p a (server_at c.pool c.servers.rows p.id)
-      ≡ served_of s (moment_with c.servers.host now c.order (free_pages c.pool + pages_of (request_at c.servers.rows p.id)) (len c.servers.rows)) p.id piece row_now told a d) kept.one.server_settings (got.did a reply)))
+      (subst (λ (s : Settings). server_gets s
+      (moment_with c.servers.host now c.order (free_pages c.pool + pages_of (request_at c.servers.rows p.id)) (len c.servers.rows)) p a
+      (server_at c.pool c.servers.rows p.id)
+      ≡ served_of s (moment_with c.servers.host now c.order (free_pages c.pool + pages_of (request_at c.servers.rows p.id)) (len c.servers.rows)) p.id
+      piece row_now told a d) kept.one.server_settings (got.did a reply)))
 
   abbrev pub answer : Answer
   answer = reply_of d (response_at servers.rows p.id)
@@ -286,11 +300,13 @@ module _ (c : HostParts) (kept : IsKept c) {from : HostId} {packet : WirePacket}
   replies = is_reply_of d (response_at servers.rows p.id)
 
   gets_row : (a : Answer) → Replies a → (w : Work) → host_of c ≡ w.host → (gets a w).row ≡ row_now
-  gets_row a reply w same = ap (λ (d : Did ServerRow). d.row) (gets_is a reply w same) ∙ answer_row c.control.settings (moment c.control.settings p.id w) p.id (piece_in p.body p.payload) row_now told a d
+  gets_row a reply w same = ap (λ (d : Did ServerRow). d.row) (gets_is a reply w same) ∙ answer_row c.control.settings
+      (moment c.control.settings p.id w) p.id (piece_in p.body p.payload) row_now told a d
 
   gets_order : (a : Answer) → Replies a → (w : Work) → host_of c ≡ w.host → (gets a w).order ≡ c.order + server_orders d
   gets_order a reply w same =
-      ap (λ (d : Did ServerRow). d.order) (gets_is a reply w same) ∙ answer_order c.control.settings (moment c.control.settings p.id w) p.id (piece_in p.body p.payload) row_now told a d
+      ap (λ (d : Did ServerRow). d.order) (gets_is a reply w same) ∙ answer_order c.control.settings (moment c.control.settings p.id w) p.id
+      (piece_in p.body p.payload) row_now told a d
       ∙ ap (λ (h : Host). h.order + server_orders d) (sym same)
 
   gets_own : Own (served c.control.settings p.id (gets answer (silent c)) (silent c))
@@ -299,7 +315,8 @@ module _ (c : HostParts) (kept : IsKept c) {from : HostId} {packet : WirePacket}
   gets_known : IfSome row_now (KnowsClient c.control.settings.hosts p.id)
   gets_known = subst (λ (o : Option ServerRow). IfSome o (KnowsClient c.control.settings.hosts p.id)) (gets_row answer replies (silent c) refl)
       (known_row c.control.settings.hosts p.id taken.known taken.life (gets answer (silent c)).row
-      (server_gets-known c.control.settings.hosts p.id taken.known c.control.settings (moment c.control.settings p.id (silent c)) p answer (get (host_of c).servers p.id) refl (old_known (get (host_of c).servers p.id) refl))) where
+      (server_gets-known c.control.settings.hosts p.id taken.known c.control.settings (moment c.control.settings p.id (silent c)) p answer
+      (get (host_of c).servers p.id) refl (old_known (get (host_of c).servers p.id) refl))) where
         old_known : (o : Option ServerRow) → get (host_of c).servers p.id ≡ o → IfSome o (λ row. KnowsSender c.control.settings.hosts row.state)
         old_known None e = tt
         old_known (Some row) e = (kept.known.servers p.id row e).sender
@@ -332,7 +349,11 @@ module _ (c : HostParts) (kept : IsKept c) {from : HostId} {packet : WirePacket}
     change = change_of d slot row_now e is_some
 
     stood : (order : ℕ) → Stood (OfServer p.id) (seen_of c) (seen_after c kept p.id slot servers pool row_now got.moved before after placed order)
-    stood order = inr (seen_server pool there.0.row, get-mapped (λ (x : Placed HeldServer). seen_server pool x.row) servers.rows p.id ∙ ap (option_map (λ (x : Placed HeldServer). seen_server pool x.row)) there.1.0)
+    stood order = inr (
+      seen_server pool there.0.row,
+      get-mapped (λ (x : Placed HeldServer). seen_server pool x.row) servers.rows p.id
+          ∙ ap (option_map (λ (x : Placed HeldServer). seen_server pool x.row)) there.1.0,
+    )
 
     row_is : (gets answer (silent c)).row ≡ row_now
     row_is = gets_row answer replies (silent c) refl
@@ -340,23 +361,29 @@ module _ (c : HostParts) (kept : IsKept c) {from : HostId} {packet : WirePacket}
     may_there : IfStays (server_change d) (MayStayServer servers c.control.settings.calls c.books)
     may_there =
         let orders = served_orders c kept p.id slot servers pool row_now got.moved before after placed (gets answer (silent c)) row_is c.control gets_own in
-        follow_may c kept p.id slot servers pool row_now got.moved before after placed (gets answer (silent c)).order (stood (gets answer (silent c)).order) orders gets_known (server_change d) change
+        follow_may c kept p.id slot servers pool row_now got.moved before after placed (gets answer (silent c)).order
+        (stood (gets answer (silent c)).order) orders gets_known (server_change d) change
 
     stands_there : IfStays (server_change d) (λ n. IsSome (spot_at servers.rows n))
     stands_there = follow_stands c kept p.id slot servers pool row_now got.moved before after placed (server_change d) change
 
-    books_there : (books : Books) → FollowedServer servers c.control.settings.calls (server_change d) c.books books → books ≡ followed (c.control.settings.calls + slot) (server_duty_in c.control.settings row_now) c.books
+    books_there : (books : Books) → FollowedServer servers c.control.settings.calls (server_change d) c.books books
+        → books ≡ followed (c.control.settings.calls + slot) (server_duty_in c.control.settings row_now) c.books
     books_there books f = follow_books c kept p.id slot servers pool row_now got.moved before after placed (server_change d) books change f
 
-    kept_there : (books : Books) (control : Control) (order : ℕ) → order ≡ c.order + server_orders d → FollowedServer servers c.control.settings.calls (server_change d) c.books books → IsSound control
-        → control ≡ record c.control { tuning = control.tuning; marks = control.marks } → control.tuning.opened ≤ order → IsKept (record { control = control; clients = c.clients; servers = servers; pool = pool; books = books; order = order })
+    kept_there : (books : Books) (control : Control) (order : ℕ) → order ≡ c.order + server_orders d
+        → FollowedServer servers c.control.settings.calls (server_change d) c.books books → IsSound control
+        → control ≡ record c.control { tuning = control.tuning; marks = control.marks } → control.tuning.opened ≤ order
+        → IsKept (record { control = control; clients = c.clients; servers = servers; pool = pool; books = books; order = order })
     kept_there books control order order_is f sound same opened =
         let b = books_there books f in
         let did : Did ServerRow = gets answer (silent c) in
         let count : did.order ≡ order = gets_order answer replies (silent c) refl ∙ sym order_is in
-        let all = served_kept c kept p.id slot servers pool row_now got.moved before after placed did row_is control (stood did.order) sound same (subst (λ n. control.tuning.opened ≤ n) (sym count) opened)
+        let all = served_kept c kept p.id slot servers pool row_now got.moved before after placed did row_is control (stood did.order) sound same
+        (subst (λ n. control.tuning.opened ≤ n) (sym count) opened)
         (subst (λ (o : Option ServerRow). IfSome o (KnowsClient c.control.settings.hosts p.id)) (sym row_is) gets_known) taken.other gets_own in
-        subst (λ (q : HostParts). IsKept q) (λ i. record { control = control; clients = c.clients; servers = servers; pool = pool; books = (sym b) i; order = count i }) all
+        subst (λ (q : HostParts). IsKept q)
+        (λ i. record { control = control; clients = c.clients; servers = servers; pool = pool; books = (sym b) i; order = count i }) all
 
     clients_there : seen_rows pool c.clients.rows ≡ seen_rows c.pool c.clients.rows
     clients_there = clients_same c kept p.id slot servers pool row_now got.moved before after placed
@@ -372,22 +399,29 @@ module _ (c : HostParts) (kept : IsKept c) {from : HostId} {packet : WirePacket}
   gets_may = by_slot _ (λ e. subst (λ (ch : Change). IfStays ch (MayStayServer servers c.control.settings.calls c.books)) (sym (no_change d e)) tt) may_there
 
   -- the version in a first piece of the row that was touched
-  pub gets_touched : (v : Option ℕ) (piece : Option Piece) → ((r : HeldServer) → IfServerTouched d (λ slot. StandsAt servers.rows p.id slot r → v ≡ version_there piece (Some (seen_server pool r))))
+  pub gets_touched : (v : Option ℕ) (piece : Option Piece)
+      → ((r : HeldServer) → IfServerTouched d (λ slot. StandsAt servers.rows p.id slot r → v ≡ version_there piece (Some (seen_server pool r))))
       → IfServerTouched d (λ _. v ≡ version_there piece row_now)
-  gets_touched v piece f = by_slot _ (λ e. touched_stays (λ _. v ≡ version_there piece row_now) d (subst (λ (ch : Change). IfStays ch (λ _. v ≡ version_there piece row_now)) (sym (no_change d e)) tt))
+  gets_touched v piece f =
+      by_slot _ (λ e. touched_stays (λ _. v ≡ version_there piece row_now) d
+      (subst (λ (ch : Change). IfStays ch (λ _. v ≡ version_there piece row_now)) (sym (no_change d e)) tt))
       (λ slot e.
       let x = there slot e in
-      touched_row (v ≡ version_there piece row_now) (λ n. StandsAt servers.rows p.id n x.0.row → v ≡ version_there piece (Some (seen_server pool x.0.row))) d slot e (f x.0.row)
-      (λ h. h (x.1.0 ∙ ap (λ (n : ℕ). Some (record { place = n; row = x.0.row })) x.1.1) ∙ ap (λ (o : Option (Placed HeldServer)). version_there piece (option_map (λ (x : Placed HeldServer). seen_server pool x.row) o)) (sym x.1.0)))
+      touched_row (v ≡ version_there piece row_now)
+      (λ n. StandsAt servers.rows p.id n x.0.row → v ≡ version_there piece (Some (seen_server pool x.0.row))) d slot e (f x.0.row)
+      (λ h. h (x.1.0 ∙ ap (λ (n : ℕ). Some (record { place = n; row = x.0.row })) x.1.1)
+      ∙ ap (λ (o : Option (Placed HeldServer)). version_there piece (option_map (λ (x : Placed HeldServer). seen_server pool x.row) o)) (sym x.1.0)))
 
-  module _ (control : Control) (books : Books) (order : ℕ) (order_is : order ≡ c.order + server_orders d) (follows : FollowedServer servers c.control.settings.calls (server_change d) c.books books) where
+  module _ (control : Control) (books : Books) (order : ℕ) (order_is : order ≡ c.order + server_orders d)
+      (follows : FollowedServer servers c.control.settings.calls (server_change d) c.books books) where
     abbrev pub parts : HostParts
     parts = record { control = control; clients = c.clients; servers = servers; pool = pool; books = books; order = order }
 
     same_books : slot_in d ≡ None → books ≡ c.books
     same_books e = subst (λ (ch : Change). FollowedServer servers c.control.settings.calls ch c.books books) (no_change d e) follows
 
-    pub gets_kept : (k : ℕ) → IsSound control → control ≡ record c.control { tuning = control.tuning; marks = control.marks } → control.tuning.opened ≡ c.control.tuning.opened + k → k ≤ server_orders d → IsKept parts
+    pub gets_kept : (k : ℕ) → IsSound control → control ≡ record c.control { tuning = control.tuning; marks = control.marks }
+        → control.tuning.opened ≡ c.control.tuning.opened + k → k ≤ server_orders d → IsKept parts
     gets_kept k sound same opened few = by_slot (IsKept parts)
         (λ e.
         let both = got.same e in
@@ -401,19 +435,30 @@ module _ (c : HostParts) (kept : IsKept c) {from : HostId} {packet : WirePacket}
         } in
         let all = kept-control c control on sound kept in
         let count : c.order ≡ order = omega (arith, order_is, none) in
-        subst (λ (x : HostParts). IsKept x) (λ i. record { control = control; clients = c.clients; servers = (sym both.0) i; pool = (sym both.1) i; books = (sym (same_books e)) i; order = count i }) all)
+        subst (λ (x : HostParts). IsKept x)
+        (λ i. record {
+          control = control;
+          clients = c.clients;
+          servers = (sym both.0) i;
+          pool = (sym both.1) i;
+          books = (sym (same_books e)) i;
+          order = count i;
+        }) all)
         (λ slot e. kept_there slot e books control order order_is follows sound same (omega (arith, opened, few, kept.opened, order_is)))
 
     clients_are : seen_rows pool c.clients.rows ≡ seen_rows c.pool c.clients.rows
     clients_are = by_slot _ (λ e. ap (λ (q : Pool). seen_rows q c.clients.rows) (got.same e).1) clients_there
 
     credit_is : books.pacer.credit ≡ c.books.pacer.credit
-    credit_is = by_slot _ (λ e. ap (λ (b : Books). b.pacer.credit) (same_books e)) (λ slot e. ap (λ (b : Books). b.pacer.credit) (books_there slot e books follows))
+    credit_is =
+        by_slot _ (λ e. ap (λ (b : Books). b.pacer.credit) (same_books e)) (λ slot e. ap (λ (b : Books). b.pacer.credit) (books_there slot e books follows))
 
     refilled_is : books.pacer.refilled ≡ c.books.pacer.refilled
-    refilled_is = by_slot _ (λ e. ap (λ (b : Books). b.pacer.refilled) (same_books e)) (λ slot e. ap (λ (b : Books). b.pacer.refilled) (books_there slot e books follows))
+    refilled_is =
+        by_slot _ (λ e. ap (λ (b : Books). b.pacer.refilled) (same_books e)) (λ slot e. ap (λ (b : Books). b.pacer.refilled) (books_there slot e books follows))
 
-    pub gets_amid : (a : Answer) → Replies a → (w : Work) (before frames : List SentFrame) → Amid w c before → IsAt (served c.control.settings p.id (gets a w) w) control frames → Amid (served c.control.settings p.id (gets a w) w) parts frames
+    pub gets_amid : (a : Answer) → Replies a → (w : Work) (before frames : List SentFrame) → Amid w c before
+        → IsAt (served c.control.settings p.id (gets a w) w) control frames → Amid (served c.control.settings p.id (gets a w) w) parts frames
     gets_amid a reply w before frames amid at =
         let s = c.control.settings in
         let did : Did ServerRow = gets a w in
@@ -425,16 +470,22 @@ module _ (c : HostParts) (kept : IsKept c) {from : HostId} {packet : WirePacket}
         (credit_is ∙ ap (λ (h : Host). h.credit) amid.host ∙ sym aside.credit)
         (refilled_is ∙ ap (λ (h : Host). h.refilled) amid.host ∙ sym aside.refilled)
         (clients_are ∙ ap (λ (h : Host). h.clients) amid.host ∙ sym (served-clients s p.id did w))
-        (got.moved.rows ∙ ap (λ (h : Host). set_row h.servers p.id row_now) amid.host ∙ ap (set_row w.host.servers p.id) (sym (gets_row a reply w amid.host)) ∙ sym (served-servers s p.id did w))
+        (got.moved.rows ∙ ap (λ (h : Host). set_row h.servers p.id row_now) amid.host ∙ ap (set_row w.host.servers p.id)
+        (sym (gets_row a reply w amid.host)) ∙ sym (served-servers s p.id did w))
 
 -- a host heard a packet of a client, which its table had taken up
-pub record HasTaken (host : HostParts) (from : HostId) (packet : WirePacket) (payload : List ℕ) (now : ℕ) (control : Control) (servers : Servers) (pool : Pool) (told : List ℕ) (allows : ℕ → List ℕ → List ℕ → ℕ → Type 0) (d : ServerDid) : Type 0 where
+pub record HasTaken (host : HostParts) (from : HostId) (packet : WirePacket) (payload : List ℕ) (now : ℕ) (control : Control) (servers : Servers)
+    (pool : Pool) (told : List ℕ) (allows : ℕ → List ℕ → List ℕ → ℕ → Type 0) (d : ServerDid) : Type 0 where
   pub heard : HasHeard host from packet now control
   pub taken : HasReceived (record host { control = control }) from packet payload now servers pool told (allows (service_in (piece_in packet.body payload))) d
 
-pub taken_by : (host : HostParts) (from : HostId) (packet : WirePacket) (payload : List ℕ) (now : ℕ) (control : Control) (servers : Servers) (pool : Pool) (told : List ℕ) (allows : ℕ → List ℕ → List ℕ → ℕ → Type 0) (d : ServerDid)
-    → HasHeard host from packet now control → from.0 < host.control.settings.hosts → (from ≡ host.control.id → ⊥) → packet.role ≡ Client → 1 ≤ packet.inc → leased_pages host.pool.leases ≤ host.pool.pages
-    → Served host.servers host.pool (packet_between from host.servers.host packet payload) now host.order servers pool told (allows (service_in (piece_in packet.body payload))) d → ArePlaced servers.settings.served servers.rows → HasTaken host from packet payload now control servers pool told allows d
+pub taken_by : (host : HostParts) (from : HostId) (packet : WirePacket) (payload : List ℕ) (now : ℕ) (control : Control) (servers : Servers)
+    (pool : Pool) (told : List ℕ) (allows : ℕ → List ℕ → List ℕ → ℕ → Type 0) (d : ServerDid)
+    → HasHeard host from packet now control → from.0 < host.control.settings.hosts → (from ≡ host.control.id → ⊥) → packet.role ≡ Client
+    → 1 ≤ packet.inc → leased_pages host.pool.leases ≤ host.pool.pages
+    → Served host.servers host.pool (packet_between from host.servers.host packet payload) now host.order servers pool told
+    (allows (service_in (piece_in packet.body payload))) d → ArePlaced servers.settings.served servers.rows
+    → HasTaken host from packet payload now control servers pool told allows d
 taken_by host from packet payload now control servers pool told allows d heard known other role life most received placed = record {
   heard = heard;
   taken = record {
@@ -451,14 +502,16 @@ taken_by host from packet payload now control servers pool told allows d heard k
 
 -- ---- where the service found no memory
 
-module _ (c : HostParts) (kept : IsKept c) (from : HostId) (other : from ≡ c.control.id → ⊥) (packet : WirePacket) (payload : List ℕ) (role : packet.role ≡ Client) (now : ℕ) (most : leased_pages c.pool.leases ≤ c.pool.pages) where
+module _ (c : HostParts) (kept : IsKept c) (from : HostId) (other : from ≡ c.control.id → ⊥) (packet : WirePacket) (payload : List ℕ)
+    (role : packet.role ≡ Client) (now : ℕ) (most : leased_pages c.pool.leases ≤ c.pool.pages) where
   abbrev q : Packet
   q = from_client from c.control.id packet payload
 
   pub gets_then : (a : Answer) (w : Work) (peers : List PeerCutoffs) → record (host_of c) { last = now; peers = peers } ≡ w.host
       → let x = packet_between from c.servers.host packet payload in
       let y = packet_between from c.control.id packet payload in
-      server_gets c.servers.settings (server_moment c.servers now c.order c.pool x.id) x a (server_at c.pool c.servers.rows x.id) ≡ server_gets c.control.settings (moment c.control.settings y.id w) y a (get w.host.servers y.id)
+      server_gets c.servers.settings (server_moment c.servers now c.order c.pool x.id) x a (server_at c.pool c.servers.rows x.id)
+      ≡ server_gets c.control.settings (moment c.control.settings y.id w) y a (get w.host.servers y.id)
   gets_then a w peers same =
       let s = c.control.settings in
       let h : Host = record (host_of c) { last = now; peers = peers } in
@@ -469,15 +522,21 @@ module _ (c : HostParts) (kept : IsKept c) (from : HostId) (other : from ≡ c.c
         free = (free_left c kept q.id other most ∙ ap (λ (h : Host). free_beside s h q.id) same) i;
         rows = (sym (len-mapped (λ (x : Placed HeldServer). seen_server c.pool x.row) c.servers.rows) ∙ ap (λ (h : Host). len h.servers) same) i;
       } in
-      let row : server_at c.pool c.servers.rows q.id ≡ get w.host.servers q.id = sym (get-mapped (λ (x : Placed HeldServer). seen_server c.pool x.row) c.servers.rows q.id) ∙ ap (λ (h : Host). get h.servers q.id) same in
-      ap (λ (t : HostId × Settings). let x = packet_between from t.0 packet payload in server_gets t.1 (server_moment c.servers now c.order c.pool x.id) x a (server_at c.pool c.servers.rows x.id)) (λ i. (kept.one.server i, kept.one.server_settings i))
-      ∙ ap (λ (x : Packet). server_gets s (server_moment c.servers now c.order c.pool x.id) x a (server_at c.pool c.servers.rows x.id)) (sym (of_client from c.control.id packet payload role))
+      let row : server_at c.pool c.servers.rows q.id ≡ get w.host.servers q.id =
+      sym (get-mapped (λ (x : Placed HeldServer). seen_server c.pool x.row) c.servers.rows q.id) ∙ ap (λ (h : Host). get h.servers q.id) same in
+      ap (λ (t : HostId × Settings). let x = packet_between from t.0 packet payload in
+      server_gets t.1 (server_moment c.servers now c.order c.pool x.id) x a (server_at c.pool c.servers.rows x.id))
+      (λ i. (kept.one.server i, kept.one.server_settings i))
+      ∙ ap (λ (x : Packet). server_gets s (server_moment c.servers now c.order c.pool x.id) x a (server_at c.pool c.servers.rows x.id))
+      (sym (of_client from c.control.id packet payload role))
       ∙ (λ i. server_gets s (m i) q a (row i))
       ∙ ap (λ (x : Packet). server_gets s (moment s x.id w) x a (get w.host.servers x.id)) (of_client from c.control.id packet payload role)
 
 -- a host that hears cutoffs goes on to another tick, with others' cutoffs
-pub heard_host : (s : Settings) (from : HostId) (inc : ℕ) (what : Body) (c : HostParts) (now : ℕ) → let w = hears_cutoffs s from inc what (begun (host_of c) now) in record (host_of c) { last = now; peers = w.host.peers } ≡ w.host
-heard_host s from inc (body.Cutoffs cutoffs) c now = cond_both (is_newer inc cutoffs (peer_cutoffs s (begun (host_of c) now).host from)) _ _ (λ (v : Work). record (host_of c) { last = now; peers = v.host.peers } ≡ v.host) (λ _. refl) (λ _. refl)
+pub heard_host : (s : Settings) (from : HostId) (inc : ℕ) (what : Body) (c : HostParts) (now : ℕ) → let w =
+    hears_cutoffs s from inc what (begun (host_of c) now) in record (host_of c) { last = now; peers = w.host.peers } ≡ w.host
+heard_host s from inc (body.Cutoffs cutoffs) c now = cond_both (is_newer inc cutoffs (peer_cutoffs s (begun (host_of c) now).host from)) _ _
+    (λ (v : Work). record (host_of c) { last = now; peers = v.host.peers } ≡ v.host) (λ _. refl) (λ _. refl)
 heard_host s from inc (body.Data size offset version service ack) c now = refl
 heard_host s from inc (body.Grant offset prio) c now = refl
 heard_host s from inc (body.Resend f to prio) c now = refl

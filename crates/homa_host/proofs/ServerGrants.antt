@@ -34,13 +34,20 @@ use Rattle.homa_host.proofs.CanFollow.{CanFollowServer}
 use Rattle.homa_host.proofs.ClientStays.{Beside}
 use Rattle.homa_host.proofs.ServerStays.{knows, host_put, can_follow, followed_by, kept_stays}
 
-module _ (c : HostParts) (kept : IsKept c) (id : CallId) (place : ℕ) (r : HeldServer) (stands : StandsAt c.servers.rows id place r) (offset : ℕ) (servers : Servers)
+module _ (c : HostParts) (kept : IsKept c) (id : CallId) (place : ℕ) (r : HeldServer) (stands : StandsAt c.servers.rows id place r) (offset : ℕ)
+    (servers : Servers)
     (moved : ServerMoved id c.servers c.pool servers c.pool (Some (server_granted c.control.last offset (seen_server c.pool r)))) where
   abbrev pub granted_row : ServerRow
   granted_row = server_granted c.control.last offset (seen_server c.pool r)
 
   granted_known : KnowsClient c.control.settings.hosts id granted_row
-  granted_known = let k = knows c kept id place r stands in record { client = k.client; life = k.life; sender = state_granted-known c.control.settings.hosts c.control.last offset (seen_server c.pool r).state k.sender }
+  granted_known = let k = knows c kept id place r stands in
+      record {
+        client = k.client;
+        life = k.life;
+        sender = state_granted-known c.control.settings.hosts c.control.last offset
+            (seen_server c.pool r).state k.sender;
+      }
 
   granted_own : HasOwnOrders (host_put c kept id place r stands servers granted_row moved)
   granted_own =
@@ -62,23 +69,48 @@ module _ (c : HostParts) (kept : IsKept c) (id : CallId) (place : ℕ) (r : Held
       parts = record { control = control; clients = c.clients; servers = servers; pool = c.pool; books = books; order = c.order }
 
       pub granted_kept : IsSound control → Beside c.control control → IsKept parts
-      granted_kept sound beside = kept_stays c kept id place r stands servers granted_row moved granted_own granted_known control sound beside books followed_granted
+      granted_kept sound beside =
+          kept_stays c kept id place r stands servers granted_row moved granted_own granted_known control sound beside books followed_granted
 
-      module _ (out out' : List SentFrame) (prio : ℕ) (posted : (w : Work) → IsAt w c.control out → IsAt (posts c.control.settings Server id c.control.id (body.Grant offset prio) w) control out') where
-        granted_work : (w : Work) → Amid w c out → Amid (server_is_granted c.control.settings id (body.Grant offset prio) offset (Some (seen_server c.pool r)) (record { host = host_of c; told = w.told })) parts out'
+      module _ (out out' : List SentFrame) (prio : ℕ)
+          (posted : (w : Work) → IsAt w c.control out → IsAt (posts c.control.settings Server id c.control.id (body.Grant offset prio) w) control out') where
+        granted_work : (w : Work) → Amid w c out
+            → Amid (server_is_granted c.control.settings id (body.Grant offset prio) offset (Some (seen_server c.pool r))
+            (record { host = host_of c; told = w.told })) parts out'
         granted_work w amid =
             let before = at-amid w c out amid in
             let e = followed_granted in
             let v : Work = record { host = record (host_of c) { servers = insert (host_of c).servers id granted_row }; told = w.told } in
-            let at : IsAt v c.control out = record { id = refl; inc = refl; last = refl; tuning = refl; peers = refl; finished = refl; marked = before.marked; sent = before.sent; formed = before.formed } in
+            let at : IsAt v c.control out =
+            record {
+              id = refl;
+              inc = refl;
+              last = refl;
+              tuning = refl;
+              peers = refl;
+              finished = refl;
+              marked = before.marked;
+              sent = before.sent;
+              formed = before.formed;
+            } in
             amid-at (posts c.control.settings Server id c.control.id (body.Grant offset prio) v) parts out' (posted v at)
-            (record { seq = refl; order = refl; credit = ap (λ (b : Books). b.pacer.credit) e; refilled = ap (λ (b : Books). b.pacer.refilled) e; clients = refl; servers = moved.rows })
+            (record {
+              seq = refl;
+              order = refl;
+              credit = ap (λ (b : Books). b.pacer.credit) e;
+              refilled = ap (λ (b : Books). b.pacer.refilled) e;
+              clients = refl;
+              servers = moved.rows;
+            })
 
-        pub server_granted_to : (a : Arriving) (w : Work) → a.place ≡ OfServer id → new_end c.control.settings.window a.message ≡ offset → a.message.granted < offset → Amid w c out → Amid (grant_to c.control.settings a prio w) parts out'
+        pub server_granted_to : (a : Arriving) (w : Work) → a.place ≡ OfServer id → new_end c.control.settings.window a.message ≡ offset
+            → a.message.granted < offset → Amid w c out → Amid (grant_to c.control.settings a prio w) parts out'
         server_granted_to a w at ends more amid =
             let is : w ≡ record { host = host_of c; told = w.told } = work_of c w out amid in
-            let same : grant_to c.control.settings a prio w ≡ server_is_granted c.control.settings id (body.Grant offset prio) offset (Some (seen_server c.pool r)) (record { host = host_of c; told = w.told }) =
+            let same : grant_to c.control.settings a prio w ≡ server_is_granted c.control.settings id (body.Grant offset prio) offset
+            (Some (seen_server c.pool r)) (record { host = host_of c; told = w.told }) =
             grant_some c.control.settings a prio offset (OfServer id) w at ends more
             ∙ (λ i. server_is_granted c.control.settings id (body.Grant offset prio) offset (get (is i).host.servers id) (is i))
-            ∙ ap (λ (o : Option ServerRow). server_is_granted c.control.settings id (body.Grant offset prio) offset o (record { host = host_of c; told = w.told })) (server_row c id place r stands) in
+            ∙ ap (λ (o : Option ServerRow). server_is_granted c.control.settings id (body.Grant offset prio) offset o
+            (record { host = host_of c; told = w.told })) (server_row c id place r stands) in
             subst (λ (v : Work). Amid v parts out') (sym same) (granted_work w amid)

@@ -23,10 +23,13 @@ pub record HasHeard (host : HostParts) (from : HostId) (packet : WirePacket) (no
   pub kept : IsKept (record host { control = control })
   pub amid : Amid (heard_work host from packet now) (record host { control = control }) []
 
-pub heard_by : (host : HostParts) → IsKept host → (from : HostId) (packet : WirePacket) (now : ℕ) → host.control.last ≤ now → (first heard : Control) → first ≡ record host.control { last = now; marks = [] } → heard ≡ record first { peers = heard.peers } → IsSound heard
-    → ((w : Work) (frames : List SentFrame) → IsAt w first frames → IsAt (hears_cutoffs first.settings from packet.sender packet.body w) heard frames) → HasHeard host from packet now heard
+pub heard_by : (host : HostParts) → IsKept host → (from : HostId) (packet : WirePacket) (now : ℕ) → host.control.last ≤ now → (first heard : Control)
+    → first ≡ record host.control { last = now; marks = [] } → heard ≡ record first { peers = heard.peers } → IsSound heard
+    → ((w : Work) (frames : List SentFrame) → IsAt w first frames → IsAt (hears_cutoffs first.settings from packet.sender packet.body w) heard frames)
+    → HasHeard host from packet now heard
 heard_by host kept from packet now later first heard begins hears sound step =
-    let is : heard ≡ record host.control { last = now; marks = []; peers = heard.peers } = hears ∙ ap (λ (k : Control). record k { peers = heard.peers }) begins in
+    let is : heard ≡ record host.control { last = now; marks = []; peers = heard.peers } =
+    hears ∙ ap (λ (k : Control). record k { peers = heard.peers }) begins in
     let last : heard.last ≡ now = ap (λ (k : Control). k.last) is in
     let on : GoesOn host.control heard = record {
       settings = ap (λ (k : Control). k.settings) is;
@@ -37,7 +40,9 @@ heard_by host kept from packet now later first heard begins hears sound step =
     } in
     let start : Amid (begun (host_of host) now) (record host { control = first }) [] = amid-begun host first now begins in
     let at : IsAt (heard_work host from packet now) heard [] =
-    subst (λ (s : Settings). IsAt (hears_cutoffs s from packet.sender packet.body (begun (host_of host) now)) heard []) (ap (λ (k : Control). k.settings) begins) (step (begun (host_of host) now) [] (at-amid (begun (host_of host) now) (record host { control = first }) [] start)) in
+    subst (λ (s : Settings). IsAt (hears_cutoffs s from packet.sender packet.body (begun (host_of host) now)) heard [])
+    (ap (λ (k : Control). k.settings) begins)
+    (step (begun (host_of host) now) [] (at-amid (begun (host_of host) now) (record host { control = first }) [] start)) in
     record {
       on = on;
       last = last;

@@ -61,7 +61,9 @@ same_client : (pool pool' : Pool) (x : HeldRow) → seen_part pool' x.part ≡ s
 same_client pool pool' x e = ap (λ part. record (seen_row pool x) { part = part }) e
 
 -- the pages of a row are those of its part
-pub state_pages_of : (pool : Pool) (o : Option (Placed HeldServer)) → server_pages (option_map (λ (x : Placed HeldServer). seen_server pool x.row) o) ≡ pages_of (option_and_then (λ (x : Placed HeldServer). state_part x.row.state) o)
+pub state_pages_of : (pool : Pool) (o : Option (Placed HeldServer))
+    → server_pages (option_map (λ (x : Placed HeldServer). seen_server pool x.row) o) ≡ pages_of
+    (option_and_then (λ (x : Placed HeldServer). state_part x.row.state) o)
 state_pages_of pool None = refl
 state_pages_of pool (Some x) = of_state x.row.order x.row.state where
   of_state : (order : ℕ) (state : HeldState) → server_pages (Some (seen_server pool (record { order = order; state = state }))) ≡ pages_of (state_part state)
@@ -70,8 +72,10 @@ state_pages_of pool (Some x) = of_state x.row.order x.row.state where
   of_state order (Answering response out sent base count) = refl
   of_state order (Gone until) = refl
 
-module _ (c : HostParts) (kept : IsKept c) (id : CallId) (slot : ℕ) (servers : Servers) (pool : Pool) (row : Option ServerRow) (moved : ServerMoved id c.servers c.pool servers pool row)
-    (at_slot : (x : Placed HeldServer) → get c.servers.rows id ≡ Some x → x.place ≡ slot) (at_slot_after : (x : Placed HeldServer) → get servers.rows id ≡ Some x → x.place ≡ slot)
+module _ (c : HostParts) (kept : IsKept c) (id : CallId) (slot : ℕ) (servers : Servers) (pool : Pool) (row : Option ServerRow)
+    (moved : ServerMoved id c.servers c.pool servers pool row)
+    (at_slot : (x : Placed HeldServer) → get c.servers.rows id ≡ Some x → x.place ≡ slot)
+    (at_slot_after : (x : Placed HeldServer) → get servers.rows id ≡ Some x → x.place ≡ slot)
     (placed : ArePlaced c.control.settings.served servers.rows) where
   -- ---- parts
 
@@ -80,7 +84,8 @@ module _ (c : HostParts) (kept : IsKept c) (id : CallId) (slot : ℕ) (servers :
 
   parts_else : (p : Place) → (p ≡ OfServer id → ⊥) → part_after p ≡ part_in c p
   parts_else (OfClient q) ne = refl
-  parts_else (OfServer q) ne = ap (λ (o : Option (Placed HeldServer)). option_and_then (λ (x : Placed HeldServer). state_part x.row.state) o) (moved.changed.others q (λ e. ne (ap OfServer e)))
+  parts_else (OfServer q) ne = ap (λ (o : Option (Placed HeldServer)). option_and_then (λ (x : Placed HeldServer). state_part x.row.state) o)
+      (moved.changed.others q (λ e. ne (ap OfServer e)))
 
   pub parts_in : AreIn pool part_after
   parts_in = still_in one_place c.pool pool (part_in c) part_after (OfServer id) parts_else moved.moves kept.parts
@@ -91,9 +96,11 @@ module _ (c : HostParts) (kept : IsKept c) (id : CallId) (slot : ℕ) (servers :
   pub clients_same : seen_rows pool c.clients.rows ≡ seen_rows c.pool c.clients.rows
   clients_same = same_map call_total call_same _ _ (λ q.
       get-mapped (λ (x : Placed HeldRow). seen_row pool x.row) c.clients.rows q
-      ∙ same (get c.clients.rows q) (seen_others one_place c.pool pool (part_in c) part_after (OfServer id) parts_else moved.moves kept.parts (OfClient q) (two_sides q id))
+      ∙ same (get c.clients.rows q)
+      (seen_others one_place c.pool pool (part_in c) part_after (OfServer id) parts_else moved.moves kept.parts (OfClient q) (two_sides q id))
       ∙ sym (get-mapped (λ (x : Placed HeldRow). seen_row c.pool x.row) c.clients.rows q)) where
-        same : (o : Option (Placed HeldRow)) → seen_part pool (option_and_then (λ (x : Placed HeldRow). x.row.part) o) ≡ seen_part c.pool (option_and_then (λ (x : Placed HeldRow). x.row.part) o)
+        same : (o : Option (Placed HeldRow)) → seen_part pool (option_and_then (λ (x : Placed HeldRow). x.row.part) o) ≡ seen_part c.pool
+            (option_and_then (λ (x : Placed HeldRow). x.row.part) o)
             → option_map (λ (x : Placed HeldRow). seen_row pool x.row) o ≡ option_map (λ (x : Placed HeldRow). seen_row c.pool x.row) o
         same None e = refl
         same (Some x) e = ap Some (same_client c.pool pool x.row e)
@@ -121,7 +128,8 @@ module _ (c : HostParts) (kept : IsKept c) (id : CallId) (slot : ℕ) (servers :
 
     pub changes : ChangesAt (OfServer id) (c.control.settings.calls + slot) (seen_of c) seen_after
     changes =
-        server_changes (λ (x : Placed HeldServer). seen_server c.pool x.row) (λ (x : Placed HeldServer). seen_server pool x.row) c.servers.rows servers.rows id row slot (seen_of c) seen_after
+        server_changes (λ (x : Placed HeldServer). seen_server c.pool x.row) (λ (x : Placed HeldServer). seen_server pool x.row) c.servers.rows
+        servers.rows id row slot (seen_of c) seen_after
         moved.changed moved.rows at_slot at_slot_after refl refl refl refl refl refl refl refl slots_before slots_after
 
     pub row_is : get (seen_servers pool servers.rows) id ≡ row
@@ -144,17 +152,27 @@ module _ (c : HostParts) (kept : IsKept c) (id : CallId) (slot : ℕ) (servers :
           (rebooked_own (OfServer id) (c.control.settings.calls + slot) (seen_of c) seen_after changes stood own c.books kept.booked)
 
       pub booked_after : AreBooked seen_after (followed (c.control.settings.calls + slot) (server_duty_in c.control.settings row) c.books)
-      booked_after = subst (λ (o : Option ServerRow). AreBooked seen_after (followed (c.control.settings.calls + slot) (server_duty_in c.control.settings o) c.books)) row_is
+      booked_after = subst
+          (λ (o : Option ServerRow). AreBooked seen_after (followed (c.control.settings.calls + slot) (server_duty_in c.control.settings o) c.books)) row_is
           (rebooked (OfServer id) (c.control.settings.calls + slot) (seen_of c) seen_after changes stood own c.books kept.booked)
 
     -- ---- and all holds again
 
     module _ (control : Control) where
       abbrev pub parts_after : HostParts
-      parts_after = record { control = control; clients = c.clients; servers = servers; pool = pool; books = followed (c.control.settings.calls + slot) (server_duty_in c.control.settings row) c.books; order = order }
+      parts_after = record {
+        control = control;
+        clients = c.clients;
+        servers = servers;
+        pool = pool;
+        books = followed (c.control.settings.calls + slot) (server_duty_in c.control.settings row) c.books;
+        order = order;
+      }
 
-      pub kept_after : Stood (OfServer id) (seen_of c) seen_after → IsSound control → control.settings ≡ c.control.settings → control.id ≡ c.control.id → control.inc ≡ c.control.inc → control.last ≡ c.control.last
-          → HasOwnOrders (host_of parts_after) → KnowsPeers control.settings (host_of parts_after) → ((q : CallId) → q.client ≡ control.id → get (host_of parts_after).servers q ≡ None) → control.tuning.opened ≤ order → IsKept parts_after
+      pub kept_after : Stood (OfServer id) (seen_of c) seen_after → IsSound control → control.settings ≡ c.control.settings
+          → control.id ≡ c.control.id → control.inc ≡ c.control.inc → control.last ≡ c.control.last
+          → HasOwnOrders (host_of parts_after) → KnowsPeers control.settings (host_of parts_after)
+          → ((q : CallId) → q.client ≡ control.id → get (host_of parts_after).servers q ≡ None) → control.tuning.opened ≤ order → IsKept parts_after
       kept_after stood sound settings same_id inc last own known foreign opened =
           let own' = own_like (host_of parts_after) host_after refl clients_same refl own in
           record {
@@ -175,9 +193,25 @@ module _ (c : HostParts) (kept : IsKept c) (id : CallId) (slot : ℕ) (servers :
             leased = leased_after ∙ ap (λ (clients : RowsOf ClientRow). row_pages (record host_after { clients = clients })) (sym clients_same);
             client_places = subst (λ (s : Settings). ArePlaced s.calls c.clients.rows) (sym settings) kept.client_places;
             server_places = subst (λ (s : Settings). ArePlaced s.served servers.rows) (sym settings) placed;
-            room = subst (λ (s : Settings). HaveRoom s (followed (c.control.settings.calls + slot) (server_duty_in c.control.settings row) c.books)) (sym settings)
-                (record { timers = kept.room.timers; grants = kept.room.grants; hosts = kept.room.hosts; most = kept.room.most; pacer = kept.room.pacer; rate = kept.room.rate });
-            booked = books_stay seen_after (seen_of parts_after) _ (record { settings = sym settings; last = sym last; clients = sym clients_same; servers = refl; client_places = refl; server_places = refl }) (booked_after stood own');
+            room =
+                subst (λ (s : Settings). HaveRoom s (followed (c.control.settings.calls + slot) (server_duty_in c.control.settings row) c.books)) (sym settings)
+                (record {
+                  timers = kept.room.timers;
+                  grants = kept.room.grants;
+                  hosts = kept.room.hosts;
+                  most = kept.room.most;
+                  pacer = kept.room.pacer;
+                  rate = kept.room.rate;
+                });
+            booked = books_stay seen_after (seen_of parts_after) _
+                (record {
+                  settings = sym settings;
+                  last = sym last;
+                  clients = sym clients_same;
+                  servers = refl;
+                  client_places = refl;
+                  server_places = refl;
+                }) (booked_after stood own');
           }
 
   -- ---- a rule at a call's server
@@ -186,7 +220,8 @@ module _ (c : HostParts) (kept : IsKept c) (id : CallId) (slot : ℕ) (servers :
     abbrev pub after : HostParts
     after = parts_after did.order control
 
-    pub served_amid : (w : Work) (before frames : List SentFrame) → Amid w c before → IsAt (served c.control.settings id did w) control frames → Amid (served c.control.settings id did w) after frames
+    pub served_amid : (w : Work) (before frames : List SentFrame) → Amid w c before → IsAt (served c.control.settings id did w) control frames
+        → Amid (served c.control.settings id did w) after frames
     served_amid w before frames amid at =
         let s = c.control.settings in
         let v : Work = served s id did w in
@@ -198,7 +233,9 @@ module _ (c : HostParts) (kept : IsKept c) (id : CallId) (slot : ℕ) (servers :
           credit = ap (λ (h : Host). h.credit) amid.host ∙ sym aside.credit;
           refilled = ap (λ (h : Host). h.refilled) amid.host ∙ sym aside.refilled;
           clients = clients_same ∙ ap (λ (h : Host). h.clients) amid.host ∙ sym (served-clients s id did w);
-          servers = moved.rows ∙ ap (λ (h : Host). set_row h.servers id row) amid.host ∙ ap (set_row w.host.servers id) (sym at_row) ∙ sym (served-servers s id did w);
+          servers =
+              moved.rows ∙ ap (λ (h : Host). set_row h.servers id row) amid.host ∙ ap (set_row w.host.servers id) (sym at_row)
+              ∙ sym (served-servers s id did w);
         })
 
     -- the orders of its rows
@@ -208,17 +245,22 @@ module _ (c : HostParts) (kept : IsKept c) (id : CallId) (slot : ℕ) (servers :
         own_like v.host (host_after did.order) (served-carried c.control.settings id did (silent c)).order (served-clients c.control.settings id did (silent c))
         (served-servers c.control.settings id did (silent c) ∙ ap (set_row (host_of c).servers id) at_row ∙ sym moved.rows) own
 
-    pub served_kept : Stood (OfServer id) (seen_of c) (seen_after did.order) → IsSound control → control ≡ record c.control { tuning = control.tuning; marks = control.marks } → control.tuning.opened ≤ did.order
-        → IfSome did.row (KnowsClient c.control.settings.hosts id) → (id.client ≡ c.control.id → ⊥) → Own (served c.control.settings id did (silent c)) → IsKept after
+    pub served_kept : Stood (OfServer id) (seen_of c) (seen_after did.order) → IsSound control
+        → control ≡ record c.control { tuning = control.tuning; marks = control.marks } → control.tuning.opened ≤ did.order
+        → IfSome did.row (KnowsClient c.control.settings.hosts id) → (id.client ≡ c.control.id → ⊥)
+        → Own (served c.control.settings id did (silent c)) → IsKept after
     served_kept stood sound same opened known other own =
         let s = c.control.settings in
         let settings = ap (λ (x : Control). x.settings) same in
         let same_id = ap (λ (x : Control). x.id) same in
         let inc = ap (λ (x : Control). x.inc) same in
         let orders = own_like (host_after did.order) (host_of after) refl (sym clients_same) refl (served_orders own) in
-        let peers = known-server s (host_of c) (host_of after) same_id inc kept.known id did.row (moved.rows ∙ ap (set_row (host_of c).servers id) (sym at_row)) clients_same known in
-        kept_after did.order control stood sound settings same_id inc (ap (λ (x : Control). x.last) same) orders (subst (λ (s : Settings). KnowsPeers s (host_of after)) (sym settings) peers)
-        (λ q own_q. ap (λ m. get m q) moved.rows ∙ set_row-else q (λ e. other (ap (λ (x : CallId). x.client) (sym e) ∙ own_q ∙ same_id)) ∙ kept.foreign q (own_q ∙ same_id)) opened where
+        let peers = known-server s (host_of c) (host_of after) same_id inc kept.known id did.row
+        (moved.rows ∙ ap (set_row (host_of c).servers id) (sym at_row)) clients_same known in
+        kept_after did.order control stood sound settings same_id inc (ap (λ (x : Control). x.last) same) orders
+        (subst (λ (s : Settings). KnowsPeers s (host_of after)) (sym settings) peers)
+        (λ q own_q. ap (λ m. get m q) moved.rows ∙ set_row-else q (λ e. other (ap (λ (x : CallId). x.client) (sym e) ∙ own_q ∙ same_id))
+        ∙ kept.foreign q (own_q ∙ same_id)) opened where
           set_row-else : (q : CallId) → (q ≡ id → ⊥) → get (set_row (host_of c).servers id row) q ≡ get (host_of c).servers q
           set_row-else q ne = by_row row where
             by_row : (o : Option ServerRow) → get (set_row (host_of c).servers id o) q ≡ get (host_of c).servers q

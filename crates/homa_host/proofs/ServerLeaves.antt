@@ -36,7 +36,8 @@ use Rattle.homa_pacer.specs.Pace as pace
 use Rattle.host_books.specs.declared.books.Books.{Books}
 use Rattle.host_books.specs.Duties.{ready_in}
 use Rattle.host_book_laws.specs.Duty.{server_duty, followed}
-use Rattle.host_book_laws.proofs.PumpOnce.{picked, idle_ready, sends_next, server_departs, server_waits, server_rests, RestsIn, server_sends_next, server_short, some_next, shorter, booked_length}
+use Rattle.host_book_laws.proofs.PumpOnce.{picked, idle_ready, sends_next, server_departs, server_waits, server_rests, RestsIn, server_sends_next}
+use Rattle.host_book_laws.proofs.PumpOnce.{server_short, some_next, shorter, booked_length}
 use Rattle.host_laws.specs.Peers.{KnowsClient}
 use Rattle.host_laws.proofs.Known.{state_sends-known}
 use Rattle.homa_host.specs.declared.parts.HostParts.{HostParts}
@@ -66,9 +67,11 @@ pub record IsAnswering (state : HeldState) : Type 0 where
 abbrev pub IsServerView : Settings → Pool → ℕ → HeldState → Emitted → Type 0
 IsServerView s pool credit state Rests = RestsIn (seen_state pool state)
 IsServerView s pool credit state Short = (a : IsAnswering state) × (rg : Range) × (next_range a.out s.seg ≡ Some rg) × (nat_lt credit (rg.to - rg.from) ≡ true)
-IsServerView s pool credit state (Sent from to) = (a : IsAnswering state) × (next_range a.out s.seg ≡ Some (range from to)) × (nat_lt credit (to - from) ≡ false)
+IsServerView s pool credit state (Sent from to) =
+    (a : IsAnswering state) × (next_range a.out s.seg ≡ Some (range from to)) × (nat_lt credit (to - from) ≡ false)
 
-server_view_of : (s : Settings) (pool : Pool) (credit : ℕ) (state : HeldState) → 0 < s.seg → held.IsKept state → IsServerView s pool credit state (state_emits s credit (seen_state pool state))
+server_view_of : (s : Settings) (pool : Pool) (credit : ℕ) (state : HeldState) → 0 < s.seg → held.IsKept state
+    → IsServerView s pool credit state (state_emits s credit (seen_state pool state))
 server_view_of s pool credit (Arriving service part base count) some k = tt
 server_view_of s pool credit (Keeping response release) some k = tt
 server_view_of s pool credit (Gone until) some k = tt
@@ -76,7 +79,8 @@ server_view_of s pool credit (Answering response out order base count) some k = 
   answers : IsAnswering (Answering response out order base count)
   answers = record { response = response; out = out; order = order; base = base; count = count; is = refl }
 
-  by_cost : (rg : Range) (b : Bool) → next_range out s.seg ≡ Some rg → nat_lt credit (rg.to - rg.from) ≡ b → IsServerView s pool credit (Answering response out order base count) (cond b Short (Sent rg.from rg.to))
+  by_cost : (rg : Range) (b : Bool) → next_range out s.seg ≡ Some rg → nat_lt credit (rg.to - rg.from) ≡ b
+      → IsServerView s pool credit (Answering response out order base count) (cond b Short (Sent rg.from rg.to))
   by_cost rg true n e = (answers, rg, n, e)
   by_cost rg false n e = (answers, n, e)
 
@@ -98,15 +102,19 @@ pub record HasEmitted (c : HostParts) (place : ℕ) (n : IsNext c place) (server
   pub moved : ServerMoved n.id c.servers c.pool servers c.pool (Some (server_sends c.control.settings c.control.last (seen_server c.pool n.row) e))
 
 -- by the settings of the table, and the clock and the credit that it was told
-pub emitted_at : (c : HostParts) (kept : IsKept c) (place : ℕ) (n : IsNext c place) (servers : Servers) (now credit : ℕ) (result e : Emitted) → now ≡ c.control.last → credit ≡ c.books.pacer.credit → result ≡ e
-    → (AreIn c.pool (request_at c.servers.rows) → ServerMoved n.id c.servers c.pool servers c.pool (Some (server_sends c.servers.settings now (seen_server c.pool n.row) result)))
+pub emitted_at : (c : HostParts) (kept : IsKept c) (place : ℕ) (n : IsNext c place) (servers : Servers) (now credit : ℕ) (result e : Emitted)
+    → now ≡ c.control.last → credit ≡ c.books.pacer.credit → result ≡ e
+    → (AreIn c.pool (request_at c.servers.rows) → ServerMoved n.id c.servers c.pool servers c.pool
+    (Some (server_sends c.servers.settings now (seen_server c.pool n.row) result)))
     → result ≡ state_emits c.servers.settings credit (seen_server c.pool n.row).state → HasEmitted c place n servers e
 emitted_at c kept place n servers now credit result e en ec ee moved is =
     let es = kept.one.server_settings in
     record {
-      view = subst (IsServerView c.control.settings c.pool c.books.pacer.credit n.row.state) (sym (λ i. state_emits (es i) (ec i) (seen_server c.pool n.row).state) ∙ sym is ∙ ee)
+      view = subst (IsServerView c.control.settings c.pool c.books.pacer.credit n.row.state)
+          (sym (λ i. state_emits (es i) (ec i) (seen_server c.pool n.row).state) ∙ sym is ∙ ee)
           (server_view_of c.control.settings c.pool c.books.pacer.credit n.row.state kept.control.valid.in_range.2.0 n.sound);
-      moved = subst (λ (row : ServerRow). ServerMoved n.id c.servers c.pool servers c.pool (Some row)) (λ i. server_sends (es i) (en i) (seen_server c.pool n.row) (ee i))
+      moved = subst (λ (row : ServerRow). ServerMoved n.id c.servers c.pool servers c.pool (Some row))
+          (λ i. server_sends (es i) (en i) (seen_server c.pool n.row) (ee i))
           (moved (all_inside c kept n.id place n.row n.stands));
     }
 
@@ -146,8 +154,10 @@ module _ (c : HostParts) (kept : IsKept c) (place : ℕ) (n : IsNext c place) wh
   some_seg : 0 < c.control.settings.seg
   some_seg = kept.control.valid.in_range.2.0
 
-  is_picked : (l : Leaving) × (first_of (ordered pace.ready_key c.books.pacer.ready) ≡ Some (ready_of (seen_of c) l)) × (l.place ≡ OfServer n.id) × Contains (waiting (host_of c)) l
-  is_picked = let at = server_standing c n.id place n.row n.stands in picked (seen_of c) (kept_slots c kept) (OfServer n.id) slot at.0 at.1 c.books.pacer.ready kept.booked.ready n.first
+  is_picked : (l : Leaving) × (first_of (ordered pace.ready_key c.books.pacer.ready) ≡ Some (ready_of (seen_of c) l)) × (l.place ≡ OfServer n.id)
+      × Contains (waiting (host_of c)) l
+  is_picked = let at = server_standing c n.id place n.row n.stands in
+      picked (seen_of c) (kept_slots c kept) (OfServer n.id) slot at.0 at.1 c.books.pacer.ready kept.booked.ready n.first
 
   -- ---- of a response that goes out
 
@@ -159,19 +169,22 @@ module _ (c : HostParts) (kept : IsKept c) (place : ℕ) (n : IsNext c place) wh
     replied = subst held.IsKept a.is n.sound
 
     -- where bytes wait it is sent next
-    next_here : (rg : Range) → next_range a.out c.control.settings.seg ≡ Some rg → (w : Work) → w.host ≡ host_of c → pumped_once c.control.settings w ≡ leaves_from c.control.settings (OfServer n.id) w
+    next_here : (rg : Range) → next_range a.out c.control.settings.seg ≡ Some rg → (w : Work) → w.host ≡ host_of c
+        → pumped_once c.control.settings w ≡ leaves_from c.control.settings (OfServer n.id) w
     next_here rg next w same =
         let at = server_standing c n.id place n.row n.stands in
         let l = is_picked in
         let is = server_waits (seen_of c) n.id row is_row a.response a.out a.order a.base a.count replies l.0 l.3 l.2 in
         sends_next (seen_of c) (kept_slots c kept) (OfServer n.id) slot at.0 at.1 c.books.pacer.ready w l.0 kept.own kept.booked.ready l.1 l.2
         (subst (Contains (departures c.control.settings c.control.last (host_of c))) (sym is)
-        (server_departs (seen_of c) n.id row is_row a.response a.out a.order a.base a.count replies (some_waits a.out c.control.settings.seg rg some_seg replied.sound next))) same
+        (server_departs (seen_of c) n.id row is_row a.response a.out a.order a.base a.count replies
+        (some_waits a.out c.control.settings.seg rg some_seg replied.sound next))) same
 
   -- ---- nothing is sent
 
   -- it rests
-  module _ (servers : Servers) (x : HasEmitted c place n servers Rests) (pacer : pace.Pace) (idle : pacer ≡ record c.books.pacer { ready = pace.without slot c.books.pacer.ready }) where
+  module _ (servers : Servers) (x : HasEmitted c place n servers Rests) (pacer : pace.Pace)
+      (idle : pacer ≡ record c.books.pacer { ready = pace.without slot c.books.pacer.ready }) where
     abbrev rested : Books
     rested = record c.books { pacer = record c.books.pacer { ready = pace.without slot c.books.pacer.ready } }
 
@@ -183,11 +196,19 @@ module _ (c : HostParts) (kept : IsKept c) (place : ℕ) (n : IsNext c place) wh
         let at = server_standing c n.id place n.row n.stands in
         subst (λ (p : pace.Pace). IsKept (parts (record c.books { pacer = p }))) (sym idle)
         (kept_same c kept n.id place n.row n.stands servers x.moved rested refl refl
-        (record { timers = kept.room.timers; grants = kept.room.grants; hosts = kept.room.hosts; most = kept.room.most; pacer = kept.room.pacer; rate = kept.room.rate })
+        (record {
+          timers = kept.room.timers;
+          grants = kept.room.grants;
+          hosts = kept.room.hosts;
+          most = kept.room.most;
+          pacer = kept.room.pacer;
+          rate = kept.room.rate;
+        })
         (record {
           armed = kept.booked.armed;
           entered = kept.booked.entered;
-          ready = idle_ready (seen_of c) (kept_slots c kept) (OfServer n.id) slot at.0 at.1 c.books.pacer.ready kept.booked.ready (server_rests (seen_of c) n.id row is_row x.view);
+          ready = idle_ready (seen_of c) (kept_slots c kept) (OfServer n.id) slot at.0 at.1 c.books.pacer.ready kept.booked.ready
+              (server_rests (seen_of c) n.id row is_row x.view);
         }))
 
     pub rests_idle : (out : List SentFrame) → WasIdle c out (parts (record c.books { pacer = pacer })) out
@@ -205,9 +226,11 @@ module _ (c : HostParts) (kept : IsKept c) (place : ℕ) (n : IsNext c place) wh
     pub short_kept : IsKept (record { control = c.control; clients = c.clients; servers = servers; pool = c.pool; books = c.books; order = c.order })
     short_kept = kept_same c kept n.id place n.row n.stands servers x.moved c.books refl refl kept.room kept.booked
 
-    pub short_ends : (out : List SentFrame) → WasShort c out (record { control = c.control; clients = c.clients; servers = servers; pool = c.pool; books = c.books; order = c.order }) out
+    pub short_ends : (out : List SentFrame)
+        → WasShort c out (record { control = c.control; clients = c.clients; servers = servers; pool = c.pool; books = c.books; order = c.order }) out
     short_ends out = record {
-      step = λ w amid. let a = x.view.0 in next_here a x.view.1 x.view.2 w (sym amid.host) ∙ server_short (seen_of c) n.id row is_row a.response a.out a.order a.base a.count (replies a) w x.view.1 (sym amid.host) x.view.2 x.view.3;
+      step = λ w amid. let a = x.view.0 in next_here a x.view.1 x.view.2 w (sym amid.host)
+          ∙ server_short (seen_of c) n.id row is_row a.response a.out a.order a.base a.count (replies a) w x.view.1 (sym amid.host) x.view.2 x.view.3;
       same = λ w amid. amid_same c kept n.id place n.row n.stands servers x.moved c.books refl refl w out amid;
     }
 
@@ -218,7 +241,8 @@ module _ (c : HostParts) (kept : IsKept c) (place : ℕ) (n : IsNext c place) wh
     sent_row = server_sends c.control.settings c.control.last row (Sent from to)
 
     sent_known : KnowsClient c.control.settings.hosts n.id sent_row
-    sent_known = let k = knows c kept n.id place n.row n.stands in record { client = k.client; life = k.life; sender = state_sends-known c.control.settings.hosts c.control.settings c.control.last row.state k.sender }
+    sent_known = let k = knows c kept n.id place n.row n.stands in
+        record { client = k.client; life = k.life; sender = state_sends-known c.control.settings.hosts c.control.settings c.control.last row.state k.sender }
 
     abbrev a : IsAnswering n.row.state
     a = x.view.0
@@ -229,13 +253,16 @@ module _ (c : HostParts) (kept : IsKept c) (place : ℕ) (n : IsNext c place) wh
         let y = stands_after c kept n.id place n.row n.stands servers sent_row x.moved in
         ap (option_and_then (λ (y : Placed HeldServer). state_response y.row.state)) y.1
         ∙ held_response c.pool y.0.state ∙ ap (λ (q : ServerRow). plain_response q.state) y.2
-        ∙ ap (λ (st : State). plain_response (server_sends c.control.settings c.control.last (record { order = n.row.order; state = st }) (Sent from to)).state) (replies a)
+        ∙ ap (λ (st : State). plain_response
+        (server_sends c.control.settings c.control.last (record { order = n.row.order; state = st }) (Sent from to)).state) (replies a)
 
     abbrev content : Work → Work
-    content w = response_leaves c.control.settings n.id row (response_content c.control.settings (peer_cutoffs c.control.settings w.host n.id.client).cutoffs a.response a.out (range from to)) (range from to) w
+    content w = response_leaves c.control.settings n.id row
+        (response_content c.control.settings (peer_cutoffs c.control.settings w.host n.id.client).cutoffs a.response a.out (range from to)) (range from to) w
 
     leaves_here : (w : Work) → w.host ≡ host_of c → leaves_from c.control.settings (OfServer n.id) w ≡ Some (content w)
-    leaves_here w same = server_sends_next (seen_of c) n.id row is_row a.response a.out a.order a.base a.count (replies a) w (range from to) same x.view.1 x.view.2
+    leaves_here w same =
+        server_sends_next (seen_of c) n.id row is_row a.response a.out a.order a.base a.count (replies a) w (range from to) same x.view.1 x.view.2
 
     abbrev paid : HostParts
     paid = record c { books = spends (to - from) c.books }
@@ -248,22 +275,30 @@ module _ (c : HostParts) (kept : IsKept c) (place : ℕ) (n : IsNext c place) wh
         let w : Work = record { host = host_of c; told = [] } in
         let v : Work = content w in
         own_like v.host (host_put paid paid_kept n.id place n.row n.stands servers sent_row x.moved) refl refl (sym x.moved.rows)
-        (server_leaves-own c.control.settings n.id (Some row) w v is_row (subst (λ (o : Option ServerRow). server_leaves c.control.settings n.id o w ≡ Some v) is_row (leaves_here w refl)) kept.own)
+        (server_leaves-own c.control.settings n.id (Some row) w v is_row
+        (subst (λ (o : Option ServerRow). server_leaves c.control.settings n.id o w ≡ Some v) is_row (leaves_here w refl)) kept.own)
 
     -- with its bytes paid for, the books can follow
-    module _ (calls : ℕ) (pacer : pace.Pace) (calls_are : calls ≡ c.control.settings.calls) (spent : pacer ≡ record c.books.pacer { credit = c.books.pacer.credit - (to - from) }) where
+    module _ (calls : ℕ) (pacer : pace.Pace) (calls_are : calls ≡ c.control.settings.calls)
+        (spent : pacer ≡ record c.books.pacer { credit = c.books.pacer.credit - (to - from) }) where
       pub sent_follows : CanFollowServer servers calls (record c.books { pacer = pacer }) (Stays place)
-      sent_follows = can_follow paid paid_kept n.id place n.row n.stands servers sent_row x.moved sent_own sent_known calls (record c.books { pacer = pacer }) calls_are (λ i. record c.books { pacer = spent i })
+      sent_follows = can_follow paid paid_kept n.id place n.row n.stands servers sent_row x.moved sent_own sent_known calls
+          (record c.books { pacer = pacer }) calls_are (λ i. record c.books { pacer = spent i })
 
       module _ (books : Books) (follows : FollowedServer servers calls (Stays place) (record c.books { pacer = pacer }) books) where
         followed_sent : books ≡ followed slot (server_duty c.control.settings sent_row) (spends (to - from) c.books)
-        followed_sent = followed_by paid paid_kept n.id place n.row n.stands servers sent_row x.moved calls (record c.books { pacer = pacer }) books calls_are (λ i. record c.books { pacer = spent i }) follows
+        followed_sent = followed_by paid paid_kept n.id place n.row n.stands servers sent_row x.moved calls (record c.books { pacer = pacer }) books
+            calls_are (λ i. record c.books { pacer = spent i }) follows
 
-        pub sent_kept : (control : Control) → IsSound control → Beside c.control control → IsKept (record { control = control; clients = c.clients; servers = servers; pool = c.pool; books = books; order = c.order })
-        sent_kept control sound beside = kept_stays paid paid_kept n.id place n.row n.stands servers sent_row x.moved sent_own sent_known control sound beside books followed_sent
+        pub sent_kept : (control : Control) → IsSound control → Beside c.control control
+            → IsKept (record { control = control; clients = c.clients; servers = servers; pool = c.pool; books = books; order = c.order })
+        sent_kept control sound beside =
+            kept_stays paid paid_kept n.id place n.row n.stands servers sent_row x.moved sent_own sent_known control sound beside books followed_sent
 
-        pub sent_step : (out : List SentFrame) (control : Control) (out' : List SentFrame) → ((w : Work) → IsAt w c.control out → IsAt (content w) control out') → length out' ≡ length out + 1
-            → length control.marks ≡ length c.control.marks + 1 → WasSent c out (record { control = control; clients = c.clients; servers = servers; pool = c.pool; books = books; order = c.order }) out'
+        pub sent_step : (out : List SentFrame) (control : Control) (out' : List SentFrame)
+            → ((w : Work) → IsAt w c.control out → IsAt (content w) control out') → length out' ≡ length out + 1
+            → length control.marks ≡ length c.control.marks + 1
+            → WasSent c out (record { control = control; clients = c.clients; servers = servers; pool = c.pool; books = books; order = c.order }) out'
         sent_step out control out' posted frames told =
             let y = picked_in c.books.pacer.ready slot n.first in
             let e = followed_sent in
@@ -272,14 +307,17 @@ module _ (c : HostParts) (kept : IsKept c) (place : ℕ) (n : IsNext c place) wh
                   let rest = rest-amid w c out amid in (
                     content w,
                     next_here a (range from to) x.view.1 w (sym amid.host) ∙ leaves_here w (sym amid.host),
-                    amid-at (content w) (record { control = control; clients = c.clients; servers = servers; pool = c.pool; books = books; order = c.order }) out' (posted w (at-amid w c out amid))
+                    amid-at (content w)
+                        (record { control = control; clients = c.clients; servers = servers; pool = c.pool; books = books; order = c.order }) out'
+                        (posted w (at-amid w c out amid))
                         (record {
                           seq = rest.seq;
                           order = rest.order;
                           credit = ap (λ (b : Books). b.pacer.credit) e ∙ ap (λ n. n - (to - from)) rest.credit;
                           refilled = ap (λ (b : Books). b.pacer.refilled) e ∙ rest.refilled;
                           clients = rest.clients;
-                          servers = x.moved.rows ∙ ap (λ (h : Host). insert h.servers n.id (server_sends c.control.settings h.last row (Sent from to))) amid.host;
+                          servers =
+                              x.moved.rows ∙ ap (λ (h : Host). insert h.servers n.id (server_sends c.control.settings h.last row (Sent from to))) amid.host;
                         }),
                   );
               frames = frames;
@@ -287,5 +325,6 @@ module _ (c : HostParts) (kept : IsKept c) (place : ℕ) (n : IsNext c place) wh
               ready =
                   let duty = server_duty c.control.settings sent_row in
                   subst (λ (b : Books). length b.pacer.ready ≤ length c.books.pacer.ready) (sym e)
-                  (booked_length pace.ready_key (λ (x : pace.Ready). x.slot) slot (ready_in slot duty.waiting) c.books.pacer.ready y.0 (few_ready slot duty.waiting) y.1 y.2);
+                  (booked_length pace.ready_key (λ (x : pace.Ready). x.slot) slot (ready_in slot duty.waiting) c.books.pacer.ready y.0
+                  (few_ready slot duty.waiting) y.1 y.2);
             }

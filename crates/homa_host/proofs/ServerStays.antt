@@ -67,7 +67,9 @@ module _ (c : HostParts) (kept : IsKept c) (id : CallId) (place : ℕ) (r : Held
 
   -- a part of it stands in the pool
   pub part_inside : (p : Part) → state_part r.state ≡ Some p → IsIn c.pool p
-  part_inside p e = subst (IsInPool c.pool) e (subst (IsInPool c.pool) (ap (option_and_then (λ (x : Placed HeldServer). state_part x.row.state)) stands) (kept.parts.within (OfServer id)))
+  part_inside p e =
+      subst (IsInPool c.pool) e
+      (subst (IsInPool c.pool) (ap (option_and_then (λ (x : Placed HeldServer). state_part x.row.state)) stands) (kept.parts.within (OfServer id)))
 
   -- nothing changes where the rows stay
   pub changes_none : ChangesAt (OfServer id) (c.control.settings.calls + place) (seen_of c) (seen_of c)
@@ -88,13 +90,17 @@ module _ (c : HostParts) (kept : IsKept c) (id : CallId) (place : ℕ) (r : Held
       }
 
   -- the message that arrives is its part
-  pub message_at : (p : Part) (a : Arrives) → state_part r.state ≡ Some p → a.place ≡ OfServer id → Contains (arrivals (host_of c)) a → a.message ≡ seen (part.seen c.pool p)
+  pub message_at : (p : Part) (a : Arrives) → state_part r.state ≡ Some p → a.place ≡ OfServer id → Contains (arrivals (host_of c)) a
+      → a.message ≡ seen (part.seen c.pool p)
   message_at p a e at arrives =
       let there : Contains (server_arrival id (get (host_of c).servers id)) a = thing_at arrival_things (host_of c) (OfServer id) a arrives at in
       by_state r.state e (subst (λ (o : Option ServerRow). Contains (server_arrival id o) a) (server_row c id place r stands) there) where
-        by_state : (state : HeldState) → state_part state ≡ Some p → Contains (arriving_at_server id (seen_state c.pool state)) a → a.message ≡ seen (part.seen c.pool p)
+        by_state : (state : HeldState) → state_part state ≡ Some p → Contains (arriving_at_server id (seen_state c.pool state)) a
+            → a.message ≡ seen (part.seen c.pool p)
         by_state (Arriving service q base count) e has =
-            all_at (λ (x : Arrives). x.message ≡ seen (part.seen c.pool p)) (arriving_at_server id (seen_state c.pool (Arriving service q base count))) a (ap (λ (q : Part). seen (part.seen c.pool q)) (same_some q p e), tt) has
+            all_at (λ (x : Arrives). x.message ≡ seen (part.seen c.pool p))
+            (arriving_at_server id (seen_state c.pool (Arriving service q base count))) a
+            (ap (λ (q : Part). seen (part.seen c.pool q)) (same_some q p e), tt) has
         by_state (Keeping response release) e has = absurd (none_in a has)
         by_state (Answering response out order base count) e has = absurd (none_in a has)
         by_state (Gone until) e has = absurd (none_in a has)
@@ -116,9 +122,11 @@ module _ (c : HostParts) (kept : IsKept c) (id : CallId) (place : ℕ) (r : Held
     pub places_after : ArePlaced c.control.settings.served servers.rows
     places_after = record {
       within = λ q x e. let w = was q x e in subst (λ n. n < c.control.settings.served) w.1.1 (kept.server_places.within q w.0 w.1.0);
-      apart = λ p q x y e f at. kept.server_places.apart p q (was p x e).0 (was q y f).0 (was p x e).1.0 (was q y f).1.0 ((was p x e).1.1 ∙ at ∙ sym ((was q y f).1.1));
+      apart = λ p q x y e f at. kept.server_places.apart p q (was p x e).0 (was q y f).0 (was p x e).1.0 (was q y f).1.0
+          ((was p x e).1.1 ∙ at ∙ sym ((was q y f).1.1));
     } where
-      was : (q : CallId) (x : Placed HeldServer) → get servers.rows q ≡ Some x → (w : Placed HeldServer) × ((get c.servers.rows q ≡ Some w) × (w.place ≡ x.place))
+      was : (q : CallId) (x : Placed HeldServer) → get servers.rows q ≡ Some x
+          → (w : Placed HeldServer) × ((get c.servers.rows q ≡ Some w) × (w.place ≡ x.place))
       was q x e = elim (one_call q id) [
         | inl is ↦ (record { place = place; row = r }, (ap (get c.servers.rows) is ∙ stands, sym (at_place_after x (sym (ap (get servers.rows) is) ∙ e))))
         | inr ne ↦ (x, (sym (moved.changed.others q ne) ∙ e, refl))
@@ -151,7 +159,8 @@ module _ (c : HostParts) (kept : IsKept c) (id : CallId) (place : ℕ) (r : Held
     inside_after : AreIn c.pool (request_at servers.rows)
     inside_after = requests_in c kept id place servers c.pool (Some row) moved at_place at_place_after places_after
 
-    follows : (books : Books) → FollowedServer servers c.control.settings.calls (Stays place) c.books books → books ≡ followed (c.control.settings.calls + place) (server_duty c.control.settings row) c.books
+    follows : (books : Books) → FollowedServer servers c.control.settings.calls (Stays place) c.books books
+        → books ≡ followed (c.control.settings.calls + place) (server_duty c.control.settings row) c.books
     follows books f = f id stands_after.0 c.pool stands_after.1 inside_after ∙ ap (λ d. followed (c.control.settings.calls + place) d c.books) duty_after
 
     -- its place stays
@@ -160,15 +169,20 @@ module _ (c : HostParts) (kept : IsKept c) (id : CallId) (place : ℕ) (r : Held
         get-mapped (λ (x : Placed HeldServer). x.place) servers.rows q
         ∙ by_one q (one_call q id)
         ∙ sym (get-mapped (λ (x : Placed HeldServer). x.place) c.servers.rows q)) where
-          by_one : (q : CallId) → (q ≡ id) ⊎ (q ≡ id → ⊥) → option_map (λ (x : Placed HeldServer). x.place) (get servers.rows q) ≡ option_map (λ (x : Placed HeldServer). x.place) (get c.servers.rows q)
-          by_one q (inl is) = ap (λ k. option_map (λ (x : Placed HeldServer). x.place) (get servers.rows k)) is ∙ ap (option_map (λ (x : Placed HeldServer). x.place)) stands_after.1 ∙ sym (ap (option_map (λ (x : Placed HeldServer). x.place)) stands) ∙ ap (λ k. option_map (λ (x : Placed HeldServer). x.place) (get c.servers.rows k)) (sym is)
+          by_one : (q : CallId) → (q ≡ id) ⊎ (q ≡ id → ⊥) → option_map (λ (x : Placed HeldServer). x.place) (get servers.rows q) ≡ option_map
+              (λ (x : Placed HeldServer). x.place) (get c.servers.rows q)
+          by_one q (inl is) = ap (λ k. option_map (λ (x : Placed HeldServer). x.place) (get servers.rows k)) is
+              ∙ ap (option_map (λ (x : Placed HeldServer). x.place)) stands_after.1 ∙ sym (ap (option_map (λ (x : Placed HeldServer). x.place)) stands)
+              ∙ ap (λ k. option_map (λ (x : Placed HeldServer). x.place) (get c.servers.rows k)) (sym is)
           by_one q (inr ne) = ap (option_map (λ (x : Placed HeldServer). x.place)) (moved.changed.others q ne)
 
     -- what is seen changed there alone
     pub changes_to : (control : Control) → Beside c.control control → (books : Books)
-        → ChangesAt (OfServer id) (c.control.settings.calls + place) (seen_of c) (seen_of (record { control = control; clients = c.clients; servers = servers; pool = c.pool; books = books; order = c.order }))
+        → ChangesAt (OfServer id) (c.control.settings.calls + place) (seen_of c)
+        (seen_of (record { control = control; clients = c.clients; servers = servers; pool = c.pool; books = books; order = c.order }))
     changes_to control beside books =
-        changes_like (OfServer id) (c.control.settings.calls + place) (seen_of c) (seen_after c kept id place servers c.pool (Some row) moved at_place at_place_after places_after c.order)
+        changes_like (OfServer id) (c.control.settings.calls + place) (seen_of c)
+        (seen_after c kept id place servers c.pool (Some row) moved at_place at_place_after places_after c.order)
         (seen_of (record { control = control; clients = c.clients; servers = servers; pool = c.pool; books = books; order = c.order }))
         (record { settings = sym beside.settings; last = sym beside.last; clients = refl; servers = refl; client_places = refl; server_places = refl })
         (changes c kept id place servers c.pool (Some row) moved at_place at_place_after places_after c.order)
@@ -177,15 +191,18 @@ module _ (c : HostParts) (kept : IsKept c) (id : CallId) (place : ℕ) (r : Held
     foreign_after : (q : CallId) → q.client ≡ c.control.id → get (seen_servers c.pool servers.rows) q ≡ None
     foreign_after q of_host = ap (λ m. get m q) moved.rows ∙ by_one (is_call q id) refl where
       by_one : (b : Bool) → is_call q id ≡ b → get (set_row (seen_servers c.pool c.servers.rows) id (Some row)) q ≡ None
-      by_one true e = absurd (both (sym (kept.foreign q of_host) ∙ ap (get (seen_servers c.pool c.servers.rows)) ((calls_are q id).0 e) ∙ server_row c id place r stands)) where
-        both : {x : ServerRow} → None ≡ Some x → ⊥
-        both e = cc
+      by_one true e =
+          absurd (both (sym (kept.foreign q of_host) ∙ ap (get (seen_servers c.pool c.servers.rows)) ((calls_are q id).0 e)
+          ∙ server_row c id place r stands)) where
+            both : {x : ServerRow} → None ≡ Some x → ⊥
+            both e = cc
       by_one false e = set_row-others (seen_servers c.pool c.servers.rows) id (Some row) q e ∙ kept.foreign q of_host
 
     stood_there : has_row (seen_of c) (OfServer id)
     stood_there = (server_standing c id place r stands).0
 
-    module _ (own : HasOwnOrders (host_after c kept id place servers c.pool (Some row) moved at_place at_place_after places_after c.order)) (known : KnowsClient c.control.settings.hosts id row) where
+    module _ (own : HasOwnOrders (host_after c kept id place servers c.pool (Some row) moved at_place at_place_after places_after c.order))
+        (known : KnowsClient c.control.settings.hosts id row) where
       may_stay : MayStayServer servers c.control.settings.calls c.books place
       may_stay = record {
         id = id;
@@ -193,23 +210,45 @@ module _ (c : HostParts) (kept : IsKept c) (id : CallId) (place : ℕ) (r : Held
         pool = c.pool;
         stands = stands_after.1;
         inside = inside_after;
-        peer = subst (λ (q : Settings × ServerRow). IfSome (server_duty q.0 q.1).arrival (λ (a : Arrival). a.peer.0 < q.0.hosts)) (λ i. (sym settings_after i, sym stands_after.2 i))
+        peer = subst (λ (q : Settings × ServerRow). IfSome (server_duty q.0 q.1).arrival (λ (a : Arrival). a.peer.0 < q.0.hosts))
+            (λ i. (sym settings_after i, sym stands_after.2 i))
             (arrival_known c.control.settings.hosts row.state known.sender);
         own = subst (AreOwn c.books (c.control.settings.calls + place)) (sym duty_after)
             (duty_own c kept id place servers c.pool (Some row) moved at_place at_place_after places_after c.order (inl stood_there) own);
       }
 
       -- all holds again
-      pub kept_stays : (control : Control) → IsSound control → Beside c.control control → (books : Books) → books ≡ followed (c.control.settings.calls + place) (server_duty c.control.settings row) c.books
+      pub kept_stays : (control : Control) → IsSound control → Beside c.control control → (books : Books)
+          → books ≡ followed (c.control.settings.calls + place) (server_duty c.control.settings row) c.books
           → IsKept (record { control = control; clients = c.clients; servers = servers; pool = c.pool; books = books; order = c.order })
       kept_stays control sound beside books e =
-          subst (λ (b : Books). IsKept (record { control = control; clients = c.clients; servers = servers; pool = c.pool; books = b; order = c.order })) (sym e)
-          (kept_after c kept id place servers c.pool (Some row) moved at_place at_place_after places_after c.order control (inl stood_there) sound beside.settings beside.id beside.inc beside.last
-          (record { rows = own.rows; arriving = own.arriving; leaving = own.leaving }) peers (λ q of_host. foreign_after q (of_host ∙ beside.id)) (subst (λ n. n ≤ c.order) (sym beside.opened) kept.opened)) where
-            peers : KnowsPeers control.settings (host_of (record { control = control; clients = c.clients; servers = servers; pool = c.pool; books = followed (c.control.settings.calls + place) (server_duty c.control.settings row) c.books; order = c.order }))
+          subst (λ (b : Books). IsKept
+          (record { control = control; clients = c.clients; servers = servers; pool = c.pool; books = b; order = c.order })) (sym e)
+          (kept_after c kept id place servers c.pool (Some row) moved at_place at_place_after places_after c.order control
+          (inl stood_there) sound beside.settings beside.id beside.inc beside.last
+          (record { rows = own.rows; arriving = own.arriving; leaving = own.leaving }) peers (λ q of_host. foreign_after q (of_host ∙ beside.id))
+          (subst (λ n. n ≤ c.order) (sym beside.opened) kept.opened)) where
+            peers : KnowsPeers control.settings
+                (host_of (record {
+                  control = control;
+                  clients = c.clients;
+                  servers = servers;
+                  pool = c.pool;
+                  books = followed (c.control.settings.calls + place) (server_duty c.control.settings row) c.books;
+                  order = c.order;
+                }))
             peers =
-                let h : Host = host_of (record { control = control; clients = c.clients; servers = servers; pool = c.pool; books = followed (c.control.settings.calls + place) (server_duty c.control.settings row) c.books; order = c.order }) in
-                subst (λ (s : Settings). KnowsPeers s h) (sym beside.settings) (known-server c.control.settings (host_of c) h beside.id beside.inc kept.known id (Some row) moved.rows refl known)
+                let h : Host = host_of
+                (record {
+                  control = control;
+                  clients = c.clients;
+                  servers = servers;
+                  pool = c.pool;
+                  books = followed (c.control.settings.calls + place) (server_duty c.control.settings row) c.books;
+                  order = c.order;
+                }) in
+                subst (λ (s : Settings). KnowsPeers s h) (sym beside.settings)
+                (known-server c.control.settings (host_of c) h beside.id beside.inc kept.known id (Some row) moved.rows refl known)
 
       -- the books can follow, where so many slots of clients' rows stand before
       pub can_follow : (calls : ℕ) (books : Books) → calls ≡ c.control.settings.calls → books ≡ c.books → CanFollowServer servers calls books (Stays place)
@@ -223,7 +262,8 @@ module _ (c : HostParts) (kept : IsKept c) (id : CallId) (place : ℕ) (r : Held
       })
 
     -- the books followed
-    pub followed_by : (calls : ℕ) (books after : Books) → calls ≡ c.control.settings.calls → books ≡ c.books → FollowedServer servers calls (Stays place) books after
+    pub followed_by : (calls : ℕ) (books after : Books) → calls ≡ c.control.settings.calls → books ≡ c.books
+        → FollowedServer servers calls (Stays place) books after
         → after ≡ followed (c.control.settings.calls + place) (server_duty c.control.settings row) c.books
     followed_by calls books after n e f = follows after (subst (λ (x : ℕ × Books). FollowedServer servers x.0 (Stays place) x.1 after) (λ i. (n i, e i)) f)
 
@@ -236,44 +276,81 @@ module _ (c : HostParts) (kept : IsKept c) (id : CallId) (place : ℕ) (r : Held
   module _ (servers : Servers) (moved : ServerMoved id c.servers c.pool servers c.pool (Some (seen_server c.pool r))) where
     pub rows_same : seen_servers c.pool servers.rows ≡ seen_servers c.pool c.servers.rows
     rows_same = moved.rows ∙ same_map call_total call_same _ _ (λ q. by_one q (is_call q id) refl) where
-      by_one : (q : CallId) (b : Bool) → is_call q id ≡ b → get (set_row (seen_servers c.pool c.servers.rows) id (Some (seen_server c.pool r))) q ≡ get (seen_servers c.pool c.servers.rows) q
+      by_one : (q : CallId) (b : Bool) → is_call q id ≡ b
+          → get (set_row (seen_servers c.pool c.servers.rows) id (Some (seen_server c.pool r))) q ≡ get (seen_servers c.pool c.servers.rows) q
       by_one q true e =
           let is = (calls_are q id).0 e in
-          ap (get (set_row (seen_servers c.pool c.servers.rows) id (Some (seen_server c.pool r)))) is ∙ get-set_row (seen_servers c.pool c.servers.rows) id (Some (seen_server c.pool r))
+          ap (get (set_row (seen_servers c.pool c.servers.rows) id (Some (seen_server c.pool r)))) is
+          ∙ get-set_row (seen_servers c.pool c.servers.rows) id (Some (seen_server c.pool r))
           ∙ sym (server_row c id place r stands) ∙ ap (get (seen_servers c.pool c.servers.rows)) (sym is)
       by_one q false e = set_row-others (seen_servers c.pool c.servers.rows) id (Some (seen_server c.pool r)) q e
 
     module _ (books : Books) (credit : books.pacer.credit ≡ c.books.pacer.credit) (refilled : books.pacer.refilled ≡ c.books.pacer.refilled) where
       -- so is the host
-      pub amid_same : (w : Work) (out : List SentFrame) → Amid w c out → Amid w (record { control = c.control; clients = c.clients; servers = servers; pool = c.pool; books = books; order = c.order }) out
+      pub amid_same : (w : Work) (out : List SentFrame) → Amid w c out
+          → Amid w (record { control = c.control; clients = c.clients; servers = servers; pool = c.pool; books = books; order = c.order }) out
       amid_same w out amid =
           let rest = rest-amid w c out amid in
-          amid-at w (record { control = c.control; clients = c.clients; servers = servers; pool = c.pool; books = books; order = c.order }) out (at-amid w c out amid)
-          (record { seq = rest.seq; order = rest.order; credit = credit ∙ rest.credit; refilled = refilled ∙ rest.refilled; clients = rest.clients; servers = rows_same ∙ rest.servers })
+          amid-at w (record { control = c.control; clients = c.clients; servers = servers; pool = c.pool; books = books; order = c.order }) out
+          (at-amid w c out amid)
+          (record {
+            seq = rest.seq;
+            order = rest.order;
+            credit = credit ∙ rest.credit;
+            refilled = refilled ∙ rest.refilled;
+            clients = rest.clients;
+            servers = rows_same ∙ rest.servers;
+          })
 
       -- all holds with the same books, or with others that hold what the rows say
-      pub kept_same : HaveRoom c.control.settings books → AreBooked (seen_of c) books → IsKept (record { control = c.control; clients = c.clients; servers = servers; pool = c.pool; books = books; order = c.order })
+      pub kept_same : HaveRoom c.control.settings books → AreBooked (seen_of c) books
+          → IsKept (record { control = c.control; clients = c.clients; servers = servers; pool = c.pool; books = books; order = c.order })
       kept_same room booked =
           let row = seen_server c.pool r in
           let after : HostParts = record { control = c.control; clients = c.clients; servers = servers; pool = c.pool; books = books; order = c.order } in
           let own : HasOwnOrders (host_put servers row moved) = own_like (host_of c) (host_put servers row moved) refl refl (sym rows_same) kept.own in
-          let k = kept_stays servers row moved own knows c.control kept.control (record { settings = refl; id = refl; inc = refl; last = refl; opened = refl }) (followed (c.control.settings.calls + place) (server_duty c.control.settings row) c.books) refl in
+          let k = kept_stays servers row moved own knows c.control kept.control
+          (record { settings = refl; id = refl; inc = refl; last = refl; opened = refl })
+          (followed (c.control.settings.calls + place) (server_duty c.control.settings row) c.books) refl in
           record {
             control = k.control;
-            one = record { client = k.one.client; life = k.one.life; client_settings = k.one.client_settings; server = k.one.server; server_settings = k.one.server_settings };
+            one = record {
+              client = k.one.client;
+              life = k.one.life;
+              client_settings = k.one.client_settings;
+              server = k.one.server;
+              server_settings = k.one.server_settings;
+            };
             own = record { rows = k.own.rows; arriving = k.own.arriving; leaving = k.own.leaving };
             known = record { clients = k.known.clients; own = k.known.own; servers = k.known.servers };
             foreign = k.foreign;
             opened = k.opened;
-            parts = parts_like (record after { books = followed (c.control.settings.calls + place) (server_duty c.control.settings row) c.books }) after (λ p. same p) k.parts;
+            parts = parts_like (record after { books = followed (c.control.settings.calls + place) (server_duty c.control.settings row) c.books })
+                after (λ p. same p) k.parts;
             pages = k.pages;
             leased = k.leased;
             client_places = k.client_places;
             server_places = k.server_places;
             room = room;
-            booked = books_stay (seen_of c) (seen_of after) books (record { settings = refl; last = refl; clients = refl; servers = sym rows_same; client_places = refl; server_places = sym (places_same servers row moved) }) booked;
+            booked = books_stay (seen_of c) (seen_of after) books
+                (record {
+                  settings = refl;
+                  last = refl;
+                  clients = refl;
+                  servers = sym rows_same;
+                  client_places = refl;
+                  server_places = sym (places_same servers row moved);
+                }) booked;
           } where
-            same : (p : Place) → part_in (record { control = c.control; clients = c.clients; servers = servers; pool = c.pool; books = books; order = c.order }) p
-                ≡ part_in (record { control = c.control; clients = c.clients; servers = servers; pool = c.pool; books = followed (c.control.settings.calls + place) (server_duty c.control.settings (seen_server c.pool r)) c.books; order = c.order }) p
+            same : (p : Place)
+                → part_in (record { control = c.control; clients = c.clients; servers = servers; pool = c.pool; books = books; order = c.order }) p
+                ≡ part_in (record {
+                  control = c.control;
+                  clients = c.clients;
+                  servers = servers;
+                  pool = c.pool;
+                  books = followed (c.control.settings.calls + place) (server_duty c.control.settings (seen_server c.pool r)) c.books;
+                  order = c.order;
+                }) p
             same (OfClient q) = refl
             same (OfServer q) = refl

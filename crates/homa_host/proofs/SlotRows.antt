@@ -33,10 +33,12 @@ use Rattle.homa_host.specs.Parts.{host_of, seen_of, IsKept}
 
 -- a row of a table at the place that a host sees
 module _ {R S : Type 0} (f : Placed R → S) (rows : RowsOf (Placed R)) (id : CallId) where
-  held_row : (s : S) (n : ℕ) → get (mapped f rows) id ≡ Some s → unwrap_or (get (mapped (λ (x : Placed R). x.place) rows) id) 0 ≡ n → (r : R) × StandsAt rows id n r × (f (record { place = n; row = r }) ≡ s)
+  held_row : (s : S) (n : ℕ) → get (mapped f rows) id ≡ Some s → unwrap_or (get (mapped (λ (x : Placed R). x.place) rows) id) 0 ≡ n
+      → (r : R) × StandsAt rows id n r × (f (record { place = n; row = r }) ≡ s)
   held_row s n e at =
       let x = made_of f (get rows id) s (sym (get-mapped f rows id) ∙ e) in
-      let place : x.0.place ≡ n = sym (ap (λ (o : Option ℕ). unwrap_or o 0) (get-mapped (λ (y : Placed R). y.place) rows id ∙ ap (option_map (λ (y : Placed R). y.place)) x.1)) ∙ at in
+      let place : x.0.place ≡ n =
+      sym (ap (λ (o : Option ℕ). unwrap_or o 0) (get-mapped (λ (y : Placed R). y.place) rows id ∙ ap (option_map (λ (y : Placed R). y.place)) x.1)) ∙ at in
       (x.0.row, x.1 ∙ (λ i. Some (record { place = place i; row = x.0.row })), ap f (λ i. record { place = sym place i; row = x.0.row }) ∙ x.2)
 
   seen_held : (r : R) (n : ℕ) → StandsAt rows id n r → get (mapped f rows) id ≡ Some (f (record { place = n; row = r }))
@@ -47,7 +49,8 @@ module _ {R S : Type 0} (f : Placed R → S) (rows : RowsOf (Placed R)) (id : Ca
 
 module _ (c : HostParts) where
   -- a client's row that stands at a place has that slot, and the other way round
-  pub client_standing : (id : CallId) (n : ℕ) (r : HeldRow) → StandsAt c.clients.rows id n r → has_row (seen_of c) (OfClient id) × (slot_of (seen_of c) (OfClient id) ≡ n)
+  pub client_standing : (id : CallId) (n : ℕ) (r : HeldRow) → StandsAt c.clients.rows id n r
+      → has_row (seen_of c) (OfClient id) × (slot_of (seen_of c) (OfClient id) ≡ n)
   client_standing id n r e = (
     (seen_row c.pool r, seen_held (λ (x : Placed HeldRow). seen_row c.pool x.row) c.clients.rows id r n e),
     place_held (λ (x : Placed HeldRow). seen_row c.pool x.row) c.clients.rows id r n e,
@@ -56,11 +59,13 @@ module _ (c : HostParts) where
   pub client_row : (id : CallId) (n : ℕ) (r : HeldRow) → StandsAt c.clients.rows id n r → get (host_of c).clients id ≡ Some (seen_row c.pool r)
   client_row id n r e = seen_held (λ (x : Placed HeldRow). seen_row c.pool x.row) c.clients.rows id r n e
 
-  pub client_held : (id : CallId) (n : ℕ) (s : ClientRow) → get (host_of c).clients id ≡ Some s → slot_of (seen_of c) (OfClient id) ≡ n → (r : HeldRow) × StandsAt c.clients.rows id n r × (seen_row c.pool r ≡ s)
+  pub client_held : (id : CallId) (n : ℕ) (s : ClientRow) → get (host_of c).clients id ≡ Some s → slot_of (seen_of c) (OfClient id) ≡ n
+      → (r : HeldRow) × StandsAt c.clients.rows id n r × (seen_row c.pool r ≡ s)
   client_held id n s e at = held_row (λ (x : Placed HeldRow). seen_row c.pool x.row) c.clients.rows id s n e at
 
   -- so has a server's
-  pub server_standing : (id : CallId) (n : ℕ) (r : HeldServer) → StandsAt c.servers.rows id n r → has_row (seen_of c) (OfServer id) × (slot_of (seen_of c) (OfServer id) ≡ c.control.settings.calls + n)
+  pub server_standing : (id : CallId) (n : ℕ) (r : HeldServer) → StandsAt c.servers.rows id n r
+      → has_row (seen_of c) (OfServer id) × (slot_of (seen_of c) (OfServer id) ≡ c.control.settings.calls + n)
   server_standing id n r e = (
     (seen_server c.pool r, seen_held (λ (x : Placed HeldServer). seen_server c.pool x.row) c.servers.rows id r n e),
     ap (λ k. c.control.settings.calls + k) (place_held (λ (x : Placed HeldServer). seen_server c.pool x.row) c.servers.rows id r n e),
@@ -69,7 +74,8 @@ module _ (c : HostParts) where
   pub server_row : (id : CallId) (n : ℕ) (r : HeldServer) → StandsAt c.servers.rows id n r → get (host_of c).servers id ≡ Some (seen_server c.pool r)
   server_row id n r e = seen_held (λ (x : Placed HeldServer). seen_server c.pool x.row) c.servers.rows id r n e
 
-  pub server_held : (id : CallId) (n : ℕ) (s : ServerRow) → get (host_of c).servers id ≡ Some s → slot_of (seen_of c) (OfServer id) ≡ c.control.settings.calls + n
+  pub server_held : (id : CallId) (n : ℕ) (s : ServerRow) → get (host_of c).servers id ≡ Some s
+      → slot_of (seen_of c) (OfServer id) ≡ c.control.settings.calls + n
       → (r : HeldServer) × StandsAt c.servers.rows id n r × (seen_server c.pool r ≡ s)
   server_held id n s e at = held_row (λ (x : Placed HeldServer). seen_server c.pool x.row) c.servers.rows id s n e (omega arith)
 
@@ -94,7 +100,8 @@ module _ (c : HostParts) where
     first_waits : (n : ℕ) → option_map (λ (r : pace.Ready). r.slot) (first_of (ordered pace.ready_key c.books.pacer.ready)) ≡ Some n
         → (l : Leaving) × has_row (seen_of c) l.place × (slot_of (seen_of c) l.place ≡ n)
     first_waits n e = by_first (first_of (ordered pace.ready_key c.books.pacer.ready)) (first-ordered pace.ready_key c.books.pacer.ready) e where
-      by_first : (o : Option pace.Ready) → MatchOption o (c.books.pacer.ready ≡ []) (IsLeast pace.ready_key c.books.pacer.ready) → option_map (λ (r : pace.Ready). r.slot) o ≡ Some n
+      by_first : (o : Option pace.Ready) → MatchOption o (c.books.pacer.ready ≡ []) (IsLeast pace.ready_key c.books.pacer.ready)
+          → option_map (λ (r : pace.Ready). r.slot) o ≡ Some n
           → (l : Leaving) × has_row (seen_of c) l.place × (slot_of (seen_of c) l.place ≡ n)
       by_first None least none = absurd (nothing none) where
         nothing : None ≡ Some n → ⊥
@@ -105,19 +112,22 @@ module _ (c : HostParts) where
           (l.0, row_of_number client_order reply_order (seen_of c) l.0.place l.0.order number, ap (λ (x : pace.Ready). x.slot) (sym l.2) ∙ same_some r.slot n e)
 
     -- what is picked has a row at its slot
-    pub picked_client : (n : ℕ) → option_map (λ (r : pace.Ready). r.slot) (first_of (ordered pace.ready_key c.books.pacer.ready)) ≡ Some n → n < c.control.settings.calls → IsSome (spot_at c.clients.rows n)
+    pub picked_client : (n : ℕ) → option_map (λ (r : pace.Ready). r.slot) (first_of (ordered pace.ready_key c.books.pacer.ready)) ≡ Some n
+        → n < c.control.settings.calls → IsSome (spot_at c.clients.rows n)
     picked_client n e below =
         by_place (first_waits n e).0.place (first_waits n e).1 (first_waits n e).2 where
           by_place : (p : Place) → has_row (seen_of c) p → slot_of (seen_of c) p ≡ n → IsSome (spot_at c.clients.rows n)
           by_place (OfClient id) row at = let h = client_held id n row.0 row.1 at in client_spot id n h.0 h.1
           by_place (OfServer id) row at = absurd (omega arith)
 
-    pub picked_server : (n : ℕ) → option_map (λ (r : pace.Ready). r.slot) (first_of (ordered pace.ready_key c.books.pacer.ready)) ≡ Some n → c.control.settings.calls ≤ n → IsSome (spot_at c.servers.rows (n - c.control.settings.calls))
+    pub picked_server : (n : ℕ) → option_map (λ (r : pace.Ready). r.slot) (first_of (ordered pace.ready_key c.books.pacer.ready)) ≡ Some n
+        → c.control.settings.calls ≤ n → IsSome (spot_at c.servers.rows (n - c.control.settings.calls))
     picked_server n e above =
         by_place (first_waits n e).0.place (first_waits n e).1 (first_waits n e).2 where
           by_place : (p : Place) → has_row (seen_of c) p → slot_of (seen_of c) p ≡ n → IsSome (spot_at c.servers.rows (n - c.control.settings.calls))
           by_place (OfClient id) row at = let h = client_held id n row.0 row.1 at in let l = client_below id n h.0 h.1 in absurd (omega arith)
-          by_place (OfServer id) row at = let h = server_held id (n - c.control.settings.calls) row.0 row.1 (omega arith) in server_spot id (n - c.control.settings.calls) h.0 h.1
+          by_place (OfServer id) row at =
+              let h = server_held id (n - c.control.settings.calls) row.0 row.1 (omega arith) in server_spot id (n - c.control.settings.calls) h.0 h.1
 
     -- a message that arrives is that of the row at its slot
     pub arriving_client : (a : Arrives) (id : CallId) (n : ℕ) → Contains (arrivals (host_of c)) a → a.place ≡ OfClient id → slot_of (seen_of c) a.place ≡ n
@@ -138,7 +148,8 @@ module _ (c : HostParts) where
           let h = client_held id n s e (ap (slot_of (seen_of c)) (sym place) ∙ at) in
           (h.0, h.1, by_part h.0 (subst (λ (o : Option ClientRow). Contains (client_arrival id o) a) (e ∙ ap Some (sym h.2)) there))
 
-    pub arriving_server : (a : Arrives) (id : CallId) (n : ℕ) → Contains (arrivals (host_of c)) a → a.place ≡ OfServer id → slot_of (seen_of c) a.place ≡ c.control.settings.calls + n
+    pub arriving_server : (a : Arrives) (id : CallId) (n : ℕ) → Contains (arrivals (host_of c)) a → a.place ≡ OfServer id
+        → slot_of (seen_of c) a.place ≡ c.control.settings.calls + n
         → (r : HeldServer) × StandsAt c.servers.rows id n r × IsSome (state_part r.state)
     arriving_server a id n arrives place at = by_row (get (host_of c).servers id) refl where
       there : Contains (server_arrival id (get (host_of c).servers id)) a
@@ -156,13 +167,15 @@ module _ (c : HostParts) where
             by_state (Gone until) has = absurd (none_in a has)
 
     -- the place of a message that is granted to, by its slot
-    pub arrives_at_client : (a : Arrives) (n : ℕ) → Contains (arrivals (host_of c)) a → slot_of (seen_of c) a.place ≡ n → n < c.control.settings.calls → (id : CallId) × (a.place ≡ OfClient id)
+    pub arrives_at_client : (a : Arrives) (n : ℕ) → Contains (arrivals (host_of c)) a → slot_of (seen_of c) a.place ≡ n → n < c.control.settings.calls
+        → (id : CallId) × (a.place ≡ OfClient id)
     arrives_at_client a n arrives at below = by_place a.place refl where
       by_place : (p : Place) → a.place ≡ p → (id : CallId) × (a.place ≡ OfClient id)
       by_place (OfClient id) e = (id, e)
       by_place (OfServer id) e = let slot : slot_of (seen_of c) (OfServer id) ≡ n = ap (slot_of (seen_of c)) (sym e) ∙ at in absurd (omega arith)
 
-    pub arrives_at_server : (a : Arrives) (n : ℕ) → Contains (arrivals (host_of c)) a → slot_of (seen_of c) a.place ≡ n → c.control.settings.calls ≤ n → (id : CallId) × (a.place ≡ OfServer id)
+    pub arrives_at_server : (a : Arrives) (n : ℕ) → Contains (arrivals (host_of c)) a → slot_of (seen_of c) a.place ≡ n → c.control.settings.calls ≤ n
+        → (id : CallId) × (a.place ≡ OfServer id)
     arrives_at_server a n arrives at above = by_place a.place refl where
       by_place : (p : Place) → a.place ≡ p → (id : CallId) × (a.place ≡ OfServer id)
       by_place (OfServer id) e = (id, e)

@@ -106,7 +106,8 @@ module _ (c : HostParts) (kept : IsKept c) (server : HostId) (service : ℕ) (re
 
   parts_same : (p : Place) → part_after p ≡ part_in c p
   parts_same (OfClient q) = elim (one_call q id) [
-    | inl is ↦ ap (part_at clients.rows) is ∙ started.part ∙ sym (ap (option_and_then (λ (x : Placed HeldRow). x.row.part)) started.first) ∙ sym (ap (part_at c.clients.rows) is)
+    | inl is ↦ ap (part_at clients.rows) is ∙ started.part ∙ sym (ap (option_and_then (λ (x : Placed HeldRow). x.row.part)) started.first)
+        ∙ sym (ap (part_at c.clients.rows) is)
     | inr ne ↦ ap (option_and_then (λ (x : Placed HeldRow). x.row.part)) (started.changed.others q ne)
   ]
   parts_same (OfServer q) = refl
@@ -125,7 +126,8 @@ module _ (c : HostParts) (kept : IsKept c) (server : HostId) (service : ℕ) (re
 
   module _ (settings : c.clients.settings ≡ c.control.settings) where
     pub placed_after : ArePlaced c.control.settings.calls clients.rows
-    placed_after = subst (λ (s : Settings). ArePlaced s.calls clients.rows) settings (places_after (subst (λ (s : Settings). ArePlaced s.calls c.clients.rows) (sym settings) kept.client_places))
+    placed_after = subst (λ (s : Settings). ArePlaced s.calls clients.rows) settings
+        (places_after (subst (λ (s : Settings). ArePlaced s.calls c.clients.rows) (sym settings) kept.client_places))
 
     slots_before : HasSlots (seen_of c)
     slots_before = record {
@@ -141,17 +143,21 @@ module _ (c : HostParts) (kept : IsKept c) (server : HostId) (service : ℕ) (re
 
     changes : ChangesAt (OfClient id) slot (seen_of c) seen_after
     changes =
-        client_changes (λ (x : Placed HeldRow). seen_row c.pool x.row) (λ (x : Placed HeldRow). seen_row c.pool x.row) c.clients.rows clients.rows id (Some row) slot (seen_of c) seen_after
+        client_changes (λ (x : Placed HeldRow). seen_row c.pool x.row) (λ (x : Placed HeldRow). seen_row c.pool x.row) c.clients.rows clients.rows id
+        (Some row) slot (seen_of c) seen_after
         started.changed (started.rows c.pool) (λ x e. none_before x e) at_slot_after refl refl refl refl refl refl refl refl slots_before slots_after
 
     row_is : get (seen_rows c.pool clients.rows) id ≡ Some row
     row_is = ap (λ rows. get rows id) (started.rows c.pool) ∙ get-set_row (seen_rows c.pool c.clients.rows) id (Some row)
 
     pub held_is : seen_row c.pool held.0 ≡ row
-    held_is = same_some (seen_row c.pool held.0) row (sym (get-mapped (λ (x : Placed HeldRow). seen_row c.pool x.row) clients.rows id ∙ ap (option_map (λ (x : Placed HeldRow). seen_row c.pool x.row)) held.1) ∙ row_is)
+    held_is = same_some (seen_row c.pool held.0) row
+        (sym (get-mapped (λ (x : Placed HeldRow). seen_row c.pool x.row) clients.rows id
+        ∙ ap (option_map (λ (x : Placed HeldRow). seen_row c.pool x.row)) held.1) ∙ row_is)
 
     none_seen : get (seen_rows c.pool c.clients.rows) id ≡ None
-    none_seen = get-mapped (λ (x : Placed HeldRow). seen_row c.pool x.row) c.clients.rows id ∙ ap (option_map (λ (x : Placed HeldRow). seen_row c.pool x.row)) started.first
+    none_seen = get-mapped (λ (x : Placed HeldRow). seen_row c.pool x.row) c.clients.rows id
+        ∙ ap (option_map (λ (x : Placed HeldRow). seen_row c.pool x.row)) started.first
 
     leased_after : leased_pages c.pool.leases ≡ row_pages host_after
     leased_after =
@@ -163,15 +169,26 @@ module _ (c : HostParts) (kept : IsKept c) (server : HostId) (service : ℕ) (re
 
     module _ (own : HasOwnOrders host_after) where
       pub duty_own : AreOwn c.books slot (client_duty c.control.settings row)
-      duty_own = subst (λ (o : Option ClientRow). AreOwn c.books slot (client_duty_in c.control.settings o)) row_is (rebooked_own (OfClient id) slot (seen_of c) seen_after changes (inr (row, row_is)) own c.books kept.booked)
+      duty_own = subst (λ (o : Option ClientRow). AreOwn c.books slot (client_duty_in c.control.settings o)) row_is
+          (rebooked_own (OfClient id) slot (seen_of c) seen_after changes (inr (row, row_is)) own c.books kept.booked)
 
       pub booked_after : AreBooked seen_after (followed slot (client_duty c.control.settings row) c.books)
-      booked_after = subst (λ (o : Option ClientRow). AreBooked seen_after (followed slot (client_duty_in c.control.settings o) c.books)) row_is (rebooked (OfClient id) slot (seen_of c) seen_after changes (inr (row, row_is)) own c.books kept.booked)
+      booked_after = subst (λ (o : Option ClientRow). AreBooked seen_after (followed slot (client_duty_in c.control.settings o) c.books)) row_is
+          (rebooked (OfClient id) slot (seen_of c) seen_after changes (inr (row, row_is)) own c.books kept.booked)
 
       abbrev pub parts_after : Control → HostParts
-      parts_after control = record { control = control; clients = clients; servers = c.servers; pool = c.pool; books = followed slot (client_duty c.control.settings row) c.books; order = order + 1 }
+      parts_after control =
+          record {
+            control = control;
+            clients = clients;
+            servers = c.servers;
+            pool = c.pool;
+            books = followed slot (client_duty c.control.settings row) c.books;
+            order = order + 1;
+          }
 
-      pub kept_after : (control : Control) → IsSound control → control.settings ≡ c.control.settings → control.id ≡ c.control.id → control.inc ≡ c.control.inc → control.last ≡ c.control.last
+      pub kept_after : (control : Control) → IsSound control → control.settings ≡ c.control.settings → control.id ≡ c.control.id
+          → control.inc ≡ c.control.inc → control.last ≡ c.control.last
           → KnowsPeers control.settings (host_of (parts_after control)) → control.tuning.opened ≤ order + 1 → IsKept (parts_after control)
       kept_after control sound same id_same inc last known opened = record {
         control = sound;
@@ -192,8 +209,16 @@ module _ (c : HostParts) (kept : IsKept c) (server : HostId) (service : ℕ) (re
         client_places = subst (λ (s : Settings). ArePlaced s.calls clients.rows) (sym same) placed_after;
         server_places = subst (λ (s : Settings). ArePlaced s.served c.servers.rows) (sym same) kept.server_places;
         room = subst (λ (s : Settings). HaveRoom s (followed slot (client_duty c.control.settings row) c.books)) (sym same)
-            (record { timers = kept.room.timers; grants = kept.room.grants; hosts = kept.room.hosts; most = kept.room.most; pacer = kept.room.pacer; rate = kept.room.rate });
-        booked = books_stay seen_after (seen_of (parts_after control)) _ (record { settings = sym same; last = sym last; clients = refl; servers = refl; client_places = refl; server_places = refl }) booked_after;
+            (record {
+              timers = kept.room.timers;
+              grants = kept.room.grants;
+              hosts = kept.room.hosts;
+              most = kept.room.most;
+              pacer = kept.room.pacer;
+              rate = kept.room.rate;
+            });
+        booked = books_stay seen_after (seen_of (parts_after control)) _
+            (record { settings = sym same; last = sym last; clients = refl; servers = refl; client_places = refl; server_places = refl }) booked_after;
       } where
         in_place : (k : Place) → IsInPool c.pool (part_in (parts_after control) k)
         in_place (OfClient q) = parts_in.within (OfClient q)
@@ -208,9 +233,12 @@ module _ (c : HostParts) (kept : IsKept c) (server : HostId) (service : ℕ) (re
 -- ---- the plain move
 
 -- the host after a call has started
-pub starts-is : (p : HostParts) (server : HostId) (service : ℕ) (request : List ℕ) (now : ℕ) (clients : Clients) (slot : ℕ) (id : CallId) → p.clients.host ≡ p.control.id → p.clients.inc ≡ p.control.inc → p.clients.settings ≡ p.control.settings
+pub starts-is : (p : HostParts) (server : HostId) (service : ℕ) (request : List ℕ) (now : ℕ) (clients : Clients) (slot : ℕ) (id : CallId)
+    → p.clients.host ≡ p.control.id → p.clients.inc ≡ p.control.inc → p.clients.settings ≡ p.control.settings
     → Started p.clients server service request now p.order clients slot id
-    → (id ≡ next_id (host_of p)) × ((starts p.control.settings server service request (begun (host_of p) now)).host ≡ record (host_of p) { seq = clients.seq; order = p.order + 1; last = now; clients = seen_rows p.pool clients.rows })
+    → (id ≡ next_id (host_of p))
+    × ((starts p.control.settings server service request (begun (host_of p) now)).host ≡ record (host_of p)
+    { seq = clients.seq; order = p.order + 1; last = now; clients = seen_rows p.pool clients.rows })
 starts-is p server service request now clients slot id host inc settings started =
     let named : id ≡ next_id (host_of p) = started.named ∙ (λ i. record { client = host i; inc = inc i; seq = p.clients.seq }) in (
       named,
@@ -218,7 +246,9 @@ starts-is p server service request now clients slot id host inc settings started
         seq = sym (ap (λ (t : Clients). t.seq) started.kept) i;
         order = p.order + 1;
         last = now;
-        clients = (sym (started.rows p.pool ∙ (λ j. insert (seen_rows p.pool p.clients.rows) (named j) (new_call (settings j) now p.order server service request)))) i;
+        clients =
+            (sym (started.rows p.pool
+            ∙ (λ j. insert (seen_rows p.pool p.clients.rows) (named j) (new_call (settings j) now p.order server service request)))) i;
       },
     )
 
@@ -228,7 +258,8 @@ starts-is p server service request now clients slot id host inc settings started
 pub no-arrival : (P : Arrival → Type 0) (d e : Duties) → d ≡ e → e.arrival ≡ None → IfSome d.arrival P
 no-arrival P d e same none = subst (λ (o : Option Arrival). IfSome o P) (sym (ap (λ (d : Duties). d.arrival) same ∙ none)) tt
 
-module _ (o : HostParts) (kept : IsKept o) (server : HostId) (service : ℕ) (request : List ℕ) (now : ℕ) (clients : Clients) (slot : ℕ) (id : CallId) (started : Started o.clients server service request now o.order clients slot id)
+module _ (o : HostParts) (kept : IsKept o) (server : HostId) (service : ℕ) (request : List ℕ) (now : ℕ) (clients : Clients) (slot : ℕ) (id : CallId)
+    (started : Started o.clients server service request now o.order clients slot id)
     (clock : now ≤ 1000000002000) (later : o.control.last ≤ now) where
   abbrev pub base : HostParts
   base = record o { control = record o.control { last = now; marks = [] } }
@@ -239,7 +270,8 @@ module _ (o : HostParts) (kept : IsKept o) (server : HostId) (service : ℕ) (re
 
   own_after : HasOwnOrders (host_after base base_kept server service request now o.order clients slot id started)
   own_after =
-      let own = subst (λ (h : Host). HasOwnOrders h) (starts-is o server service request now clients slot id kept.one.client kept.one.life kept.one.client_settings started).1
+      let own = subst (λ (h : Host). HasOwnOrders h)
+      (starts-is o server service request now clients slot id kept.one.client kept.one.life kept.one.client_settings started).1
       (starts-own o.control.settings server service request (begun (host_of o) now) (begun-own o.control.settings (host_of o) now kept.own)) in
       record { rows = own.rows; arriving = own.arriving; leaving = own.leaving }
 
@@ -274,15 +306,21 @@ module _ (o : HostParts) (kept : IsKept o) (server : HostId) (service : ℕ) (re
       e ∙ (λ i. client_duty (settings i) (held_is base base_kept server service request now o.order clients slot id started kept.one.client_settings i))
 
   pub own-there : (d : Duties) → d ≡ new_duty → AreOwn o.books slot d
-  own-there d e = subst (AreOwn o.books slot) (sym e) (duty_own base base_kept server service request now o.order clients slot id started kept.one.client_settings own_after)
+  own-there d e =
+      subst (AreOwn o.books slot) (sym e)
+      (duty_own base base_kept server service request now o.order clients slot id started kept.one.client_settings own_after)
 
-  pub kept-there : (control : Control) (books : Books) → control ≡ record o.control { last = now; marks = control.marks } → length control.marks ≤ 128 → books ≡ followed slot new_duty o.books → server.0 < o.control.settings.hosts
+  pub kept-there : (control : Control) (books : Books) → control ≡ record o.control { last = now; marks = control.marks } → length control.marks ≤ 128
+      → books ≡ followed slot new_duty o.books → server.0 < o.control.settings.hosts
       → IsKept (record { control = control; clients = clients; servers = o.servers; pool = o.pool; books = books; order = o.order + 1 })
   kept-there control books e few f known =
       let c1 : Control = record o.control { last = now; marks = control.marks } in
       let is = starts-is o server service request now clients slot id kept.one.client kept.one.life kept.one.client_settings started in
-      let peers = known-client o.control.settings (host_of o) (host_of (parts_after base base_kept server service request now o.order clients slot id started kept.one.client_settings own_after c1)) refl refl kept.known id (Some new_row)
+      let peers = known-client o.control.settings (host_of o)
+      (host_of (parts_after base base_kept server service request now o.order clients slot id started kept.one.client_settings own_after c1)) refl
+      refl kept.known id (Some new_row)
       (started.rows o.pool) refl (record { server = known; sender = tt }, (ap (λ (c : CallId). c.client) is.0, ap (λ (c : CallId). c.inc) is.0)) in
       let opened = kept.opened in
-      let all = kept_after base base_kept server service request now o.order clients slot id started kept.one.client_settings own_after c1 (sound-begun o.control now control.marks clock few kept.control) refl refl refl refl peers (omega (arith, opened)) in
+      let all = kept_after base base_kept server service request now o.order clients slot id started kept.one.client_settings own_after c1
+      (sound-begun o.control now control.marks clock few kept.control) refl refl refl refl peers (omega (arith, opened)) in
       subst IsKept (λ i. record { control = sym e i; clients = clients; servers = o.servers; pool = o.pool; books = sym f i; order = o.order + 1 }) all

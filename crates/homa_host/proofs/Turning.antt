@@ -18,11 +18,14 @@ use Rattle.homa_host.specs.declared.parts.HostParts.{HostParts}
 
 -- so many rows still may act
 abbrev pub IsTurning : HostParts → List SentFrame → HostParts → List SentFrame → ℕ → Type 0
-IsTurning old before new after n = (w : Work) → Amid w old before → (v : Work) × Amid v new after × (picked_anew old.control.settings n v ≡ picked_anew old.control.settings 32 w)
+IsTurning old before new after n =
+    (w : Work) → Amid w old before → (v : Work) × Amid v new after × (picked_anew old.control.settings n v ≡ picked_anew old.control.settings 32 w)
 
 -- one more acts
-pub turning_on : (old mid new : HostParts) (before between after : List SentFrame) (n : ℕ) → mid.control.settings ≡ old.control.settings → IsTurning old before mid between (suc n)
-    → ((w : Work) → Amid w mid between → Amid (first_acts mid.control.settings (first_of (due timer_key (now_of w) (timers mid.control.settings w.host))) w) new after)
+pub turning_on : (old mid new : HostParts) (before between after : List SentFrame) (n : ℕ) → mid.control.settings ≡ old.control.settings
+    → IsTurning old before mid between (suc n)
+    → ((w : Work) → Amid w mid between → Amid
+    (first_acts mid.control.settings (first_of (due timer_key (now_of w) (timers mid.control.settings w.host))) w) new after)
     → IsTurning old before new after n
 unfolding picked_anew
 turning_on old mid new before between after n settings turning step w amid =
@@ -39,12 +42,15 @@ picked_none s zero w none = refl
 picked_none s (suc n) w none = ap (λ o. picked_anew s n (first_acts s o w)) none ∙ picked_none s n w none
 
 -- by the book none is due
-pub none_due : (c : HostParts) → IsKept c → option_map (λ (t : armed.Timer). t.slot) (first_of (due armed.timer_key c.control.last c.books.timers.timers)) ≡ None
+pub none_due : (c : HostParts) → IsKept c
+    → option_map (λ (t : armed.Timer). t.slot) (first_of (due armed.timer_key c.control.last c.books.timers.timers)) ≡ None
     → first_of (due timer_key c.control.last (timers c.control.settings (host_of c))) ≡ None
-none_due c kept none = by_case _ (ap (option_map (λ (t : armed.Timer). t.slot)) (sym (first_due-book (seen_of c) c.books.timers.timers c.control.last kept.own kept.booked.armed)) ∙ none) where
-  by_case : (o : Option Timer) → option_map (λ (t : armed.Timer). t.slot) (option_map (timer_of (seen_of c)) o) ≡ None → o ≡ None
-  by_case None e = refl
-  by_case (Some t) e = cc
+none_due c kept none =
+    by_case _ (ap (option_map (λ (t : armed.Timer). t.slot))
+    (sym (first_due-book (seen_of c) c.books.timers.timers c.control.last kept.own kept.booked.armed)) ∙ none) where
+      by_case : (o : Option Timer) → option_map (λ (t : armed.Timer). t.slot) (option_map (timer_of (seen_of c)) o) ≡ None → o ≡ None
+      by_case None e = refl
+      by_case (Some t) e = cc
 
 module _ (old new : HostParts) (before after : List SentFrame) (kept : IsKept old) where
   resend : 1 ≤ old.control.settings.resend
@@ -54,7 +60,8 @@ module _ (old new : HostParts) (before after : List SentFrame) (kept : IsKept ol
   all_acted w v e amid = subst (λ (u : Work). Amid u new after) (e ∙ sym (acts-picked old.control.settings resend w)) amid
 
   -- the turn ends where none is due
-  pub turned_early : (n : ℕ) → new.control.settings ≡ old.control.settings → IsTurning old before new after n → first_of (due timer_key new.control.last (timers new.control.settings (host_of new))) ≡ None
+  pub turned_early : (n : ℕ) → new.control.settings ≡ old.control.settings → IsTurning old before new after n
+      → first_of (due timer_key new.control.last (timers new.control.settings (host_of new))) ≡ None
       → (w : Work) → Amid w old before → Amid (acts old.control.settings w) new after
   turned_early n settings turning none w amid =
       let t = turning w amid in

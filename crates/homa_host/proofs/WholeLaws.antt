@@ -33,34 +33,41 @@ module _ (s : Settings) (whole : List ℕ) where
   unfolding tuned
   tuned-whole host t n =
       let u = counted t n in
-      cond_both (is_balance_due s u) (record { tuning = rebalanced s u; told = Says (PlainBalance host (rebalanced s u).own) ∷ [] }) (record { tuning = u; told = [] }) (λ (x : Tuned). AllByRecursion (IsWhole whole) x.told) (λ _. (tt, tt)) (λ _. tt)
+      cond_both (is_balance_due s u) (record { tuning = rebalanced s u; told = Says (PlainBalance host (rebalanced s u).own) ∷ [] })
+      (record { tuning = u; told = [] }) (λ (x : Tuned). AllByRecursion (IsWhole whole) x.told) (λ _. (tt, tt)) (λ _. tt)
 
   notes-whole : (o : Option ℕ) (w : Work) → AreWhole whole w → AreWhole whole (notes s o w)
   notes-whole None w all = all
   notes-whole (Some n) w all = all-append (IsWhole whole) w.told (tuned s w.host.id w.host.tuning n).told all (tuned-whole w.host.id w.host.tuning n)
 
-  cutoffs-whole : (role : Role) (id : CallId) (server : HostId) (o : Option ℕ) (w : Work) → AreWhole whole w → AreWhole whole (tells_cutoffs s role id server o w)
+  cutoffs-whole : (role : Role) (id : CallId) (server : HostId) (o : Option ℕ) (w : Work) → AreWhole whole w
+      → AreWhole whole (tells_cutoffs s role id server o w)
   cutoffs-whole role id server None w all = all
   cutoffs-whole role id server (Some version) w all =
-      cond_both (version == w.host.tuning.own.version) w (posts s role id server (body.Cutoffs w.host.tuning.own) w) (AreWhole whole) (λ _. all) (λ _. posts-whole role id server (body.Cutoffs w.host.tuning.own) w all)
+      cond_both (version == w.host.tuning.own.version) w (posts s role id server (body.Cutoffs w.host.tuning.own) w) (AreWhole whole) (λ _. all)
+      (λ _. posts-whole role id server (body.Cutoffs w.host.tuning.own) w all)
 
   acknowledged-whole : (server : HostId) (calls : List (ℕ × ℕ)) (w : Work) → AreWhole whole w → AreWhole whole (acknowledged s server calls w)
   acknowledged-whole server [] w all = all
   acknowledged-whole server (call ∷ calls) w all =
       cond_both (nat_lt (length calls) 4) (record w { host = with_finished server (call ∷ calls) w.host })
-      (posts s Client (record { client = w.host.id; inc = call.0; seq = call.1 }) server (body.Ack calls) (record w { host = with_finished server [] w.host })) (AreWhole whole)
-      (λ _. all) (λ _. posts-whole Client (record { client = w.host.id; inc = call.0; seq = call.1 }) server (body.Ack calls) (record w { host = with_finished server [] w.host }) all)
+      (posts s Client (record { client = w.host.id; inc = call.0; seq = call.1 }) server (body.Ack calls)
+      (record w { host = with_finished server [] w.host })) (AreWhole whole)
+      (λ _. all) (λ _. posts-whole Client (record { client = w.host.id; inc = call.0; seq = call.1 }) server (body.Ack calls)
+      (record w { host = with_finished server [] w.host }) all)
 
   finishes-whole : (id : CallId) (server : HostId) (done : Bool) (w : Work) → AreWhole whole w → AreWhole whole (finishes s id server done w)
   finishes-whole id server false w all = all
   finishes-whole id server true w all = acknowledged-whole server (finished_at w.host server ++ (id.inc, id.seq) ∷ []) w all
 
-  said-whole : (h : Host) (role : Role) (id : CallId) (server : HostId) (says : List Say) → SayWhole whole says → AllByRecursion (IsWhole whole) (said s h role id server says)
+  said-whole : (h : Host) (role : Role) (id : CallId) (server : HostId) (says : List Say) → SayWhole whole says
+      → AllByRecursion (IsWhole whole) (said s h role id server says)
   said-whole h role id server [] all = tt
   said-whole h role id server (Tells entry ∷ says) all = (all.0, said-whole h role id server says all.1)
   said-whole h role id server (Posts what ∷ says) all = (tt, said-whole h role id server says all)
 
-  pub asked-whole : (id : CallId) (server : HostId) (did : Did ClientRow) (w : Work) → AreWhole whole w → SayWhole whole did.says → AreWhole whole (asked s id server did w)
+  pub asked-whole : (id : CallId) (server : HostId) (did : Did ClientRow) (w : Work) → AreWhole whole w → SayWhole whole did.says
+      → AreWhole whole (asked s id server did w)
   unfolding asked
   asked-whole id server did w all says =
       let put : Work = record w { host = record w.host { order = did.order; clients = set_row w.host.clients id did.row } } in
@@ -69,7 +76,8 @@ module _ (s : Settings) (whole : List ℕ) where
       let told : Work = tells (said s w.host Client id server did.says) reply in
       let a = notes-whole did.opened put all in
       let b = cutoffs-whole Client id server did.version noted a in
-      let d : AreWhole whole told = all-append (IsWhole whole) reply.told (said s w.host Client id server did.says) b (said-whole w.host Client id server did.says says) in
+      let d : AreWhole whole told =
+      all-append (IsWhole whole) reply.told (said s w.host Client id server did.says) b (said-whole w.host Client id server did.says says) in
       finishes-whole id server did.finished told d
 
   pub served-whole : (id : CallId) (did : Did ServerRow) (w : Work) → AreWhole whole w → SayWhole whole did.says → AreWhole whole (served s id did w)

@@ -156,5 +156,6 @@ pub record MayStayClient (t : Clients) (b : Books) (slot : ℕ) : Type 0 where
 -- the books when they followed a change of a client's row
 abbrev pub FollowedClient : Clients → Change → Books → Books → Type 0
 FollowedClient t Nothing old new = new ≡ old
-FollowedClient t (Stays slot) old new = (id : CallId) (r : HeldRow) (pool : Pool) → StandsAt t.rows id slot r → IsInPool pool r.part → new ≡ followed slot (client_duty t.settings (seen_row pool r)) old
+FollowedClient t (Stays slot) old new = (id : CallId) (r : HeldRow) (pool : Pool) → StandsAt t.rows id slot r → IsInPool pool r.part
+    → new ≡ followed slot (client_duty t.settings (seen_row pool r)) old
 FollowedClient t (Goes slot) old new = new ≡ followed slot no_duties old

@@ -1,5 +1,6 @@
 -- What is answered to a piece, by what it takes off the missing bytes.
-use Rattle.std.proofs.Common.{◌≡◌, ◌≢◌, ◌↔◌, ℕ, ◌+◌, ◌-◌, ◌<◌, ◌≤◌, Bool, true, false, not, ◌&&◌, cond, ltb, leb, eqb, List, length, get_or, refl, sym, ap, subst, ◌∙◌, arith, Some, None, inl, inr, min}
+use Rattle.std.proofs.Common.{◌≡◌, ◌≢◌, ◌↔◌, ℕ, ◌+◌, ◌-◌, ◌<◌, ◌≤◌, Bool, true, false, not, ◌&&◌, cond, ltb, leb, eqb, List, length, get_or, refl}
+use Rattle.std.proofs.Common.{sym, ap, subst, ◌∙◌, arith, Some, None, inl, inr, min}
 use Rattle.std.proofs.lemmas.List.{ext_get_or}
 use Rattle.std.specs.List.{slice_get}
 use Rattle.std.specs.Ordering.{nat_cmp}
@@ -46,7 +47,8 @@ repeat-kind false true w n is h = (λ e. eqb-true n 0 is, λ e. refl)
 repeat-kind false false true n is h = (λ e. (cc), λ e. absurd (true≢false (sym (eq-eqb n 0 e) ∙ is)))
 repeat-kind false false false n is h = (λ e. (cc), λ e. absurd (true≢false (sym (eq-eqb n 0 e) ∙ is)))
 
-whole-kind : (l z w : Bool) (n : ℕ) → eqb n 0 ≡ z → (l ≡ true → w ≡ false) → (cond l TooManyGaps (cond z Repeat (cond w Whole (Fresh n))) ≡ Whole) ↔ ((ltb 0 n && w) ≡ true)
+whole-kind : (l z w : Bool) (n : ℕ) → eqb n 0 ≡ z → (l ≡ true → w ≡ false)
+    → (cond l TooManyGaps (cond z Repeat (cond w Whole (Fresh n))) ≡ Whole) ↔ ((ltb 0 n && w) ≡ true)
 whole-kind true z w n is h = (λ e. (cc), λ e. absurd (true≢false (sym ((and_parts (ltb 0 n) w e).1) ∙ h refl)))
 whole-kind false true w n is h = (λ e. (cc), λ e. absurd (omega (arith, ltb-true 0 n (and_parts (ltb 0 n) w e).0, eqb-true n 0 is)))
 whole-kind false false true n is h =
@@ -79,7 +81,8 @@ module _ (pool : Pool) (part : Part) (is : IsSeen pool part) (a : ℕ) (piece : 
   counted : len left + new_bytes (seen pool part) a piece ≡ len part.missing
   counted =
       let less = len-without_range part.missing a (a + length piece) in
-      let n : len part.missing - len left ≡ new_bytes (seen pool part) a piece = new-seen pool part is a piece fits (len part.missing - len left) (omega (arith, less)) in
+      let n : len part.missing - len left ≡ new_bytes (seen pool part) a piece =
+      new-seen pool part is a piece fits (len part.missing - len left) (omega (arith, less)) in
       omega (arith, less, n)
 
   -- too many gaps are left only by a piece with new bytes
@@ -102,17 +105,21 @@ module _ (pool : Pool) (part : Part) (is : IsSeen pool part) (a : ℕ) (piece : 
 
   -- when each answer comes
   pub answer-many : (answer (seen pool part) a piece ≡ TooManyGaps) ↔ (leaves_too_many_gaps (seen pool part) a piece ≡ true)
-  answer-many = many-kind (leaves_too_many_gaps (seen pool part) a piece) (eqb (new_bytes (seen pool part) a piece) 0) (is_whole (with_bytes (seen pool part) a piece)) (new_bytes (seen pool part) a piece)
+  answer-many = many-kind (leaves_too_many_gaps (seen pool part) a piece) (eqb (new_bytes (seen pool part) a piece) 0)
+      (is_whole (with_bytes (seen pool part) a piece)) (new_bytes (seen pool part) a piece)
 
   pub answer-repeat : (answer (seen pool part) a piece ≡ Repeat) ↔ (new_bytes (seen pool part) a piece ≡ 0)
-  answer-repeat = repeat-kind (leaves_too_many_gaps (seen pool part) a piece) (eqb (new_bytes (seen pool part) a piece) 0) (is_whole (with_bytes (seen pool part) a piece)) (new_bytes (seen pool part) a piece) refl many-new
+  answer-repeat = repeat-kind (leaves_too_many_gaps (seen pool part) a piece) (eqb (new_bytes (seen pool part) a piece) 0)
+      (is_whole (with_bytes (seen pool part) a piece)) (new_bytes (seen pool part) a piece) refl many-new
 
   pub answer-whole : (answer (seen pool part) a piece ≡ Whole) ↔ (completes (seen pool part) a piece ≡ true)
-  answer-whole = whole-kind (leaves_too_many_gaps (seen pool part) a piece) (eqb (new_bytes (seen pool part) a piece) 0) (is_whole (with_bytes (seen pool part) a piece)) (new_bytes (seen pool part) a piece) refl many-part
+  answer-whole = whole-kind (leaves_too_many_gaps (seen pool part) a piece) (eqb (new_bytes (seen pool part) a piece) 0)
+      (is_whole (with_bytes (seen pool part) a piece)) (new_bytes (seen pool part) a piece) refl many-part
 
   -- the answer where too many ranges would be left
   pub is_many : 64 < length (ranges left) → TooManyGaps ≡ answer (seen pool part) a piece
-  is_many h = ap (λ l. kind l (new_bytes (seen pool part) a piece) (is_whole (with_bytes (seen pool part) a piece))) (sym (gaps-seen pool part is a piece ∙ lt-ltb 64 _ h))
+  is_many h = ap (λ l. kind l (new_bytes (seen pool part) a piece) (is_whole (with_bytes (seen pool part) a piece)))
+      (sym (gaps-seen pool part is a piece ∙ lt-ltb 64 _ h))
 
   module _ (m : Numbers) (n : ℕ) (gone : RemovesRange part.missing m a (a + length piece) n) (few : length (ranges m) ≤ 64) where
     is_new : new_bytes (seen pool part) a piece ≡ n
@@ -135,7 +142,8 @@ module _ (pool : Pool) (part : Part) (is : IsSeen pool part) (a : ℕ) (piece : 
       seen-taken =
           let size : a + length piece ≤ length (bytes_of pool part.lease) = omega (arith, fits, is.long) in
           ap (λ s. seen new (record part { missing = s })) gone.set
-          ∙ sym (ap (λ b. record (seen pool part) { bytes = b }) (bytes-taken (seen pool part) (bytes_of pool part.lease) (bytes_of new part.lease) part.missing a piece refl size fill))
+          ∙ sym (ap (λ b. record (seen pool part) { bytes = b })
+          (bytes-taken (seen pool part) (bytes_of pool part.lease) (bytes_of new part.lease) part.missing a piece refl size fill))
 
       -- where no byte is new, nothing changes
       pub missing-same : n ≡ 0 → m ≡ part.missing
@@ -146,7 +154,8 @@ module _ (pool : Pool) (part : Part) (is : IsSeen pool part) (a : ℕ) (piece : 
         stays : (q : ℕ) (b : Bool) → has part.missing q ≡ b → get_or (bytes_of new part.lease) q 0 ≡ get_or (bytes_of pool part.lease) q 0
         stays q false f = fill.kept q f
         stays q true f =
-            let none : (is_between a (a + length piece) q && has part.missing q) ≡ false = none_taken part.missing a (a + length piece) (omega (arith, e, gone.count, ap len gone.set)) q in
+            let none : (is_between a (a + length piece) q && has part.missing q) ≡ false =
+            none_taken part.missing a (a + length piece) (omega (arith, e, gone.count, ap len gone.set)) q in
             elim (cases_lt q a) [
               | inl h ↦ fill.around q (inl h)
               | inr h ↦ elim (cases_lt q (a + length piece)) [
@@ -176,29 +185,35 @@ module _ (pool : Pool) (part : Part) (is : IsSeen pool part) (a : ℕ) (piece : 
         absurd (never (λ e'. absurd (omega (arith, counted, some, len-none part.missing e')), empty_of_len left z))
 
   -- the whole message, where none is left
-  pub message-filled : (list : List ℕ) → left ≡ empty → IsFilled part.missing a (a + length piece) piece (bytes_of pool part.lease) list → list ≡ message (with_bytes (seen pool part) a piece)
+  pub message-filled : (list : List ℕ) → left ≡ empty → IsFilled part.missing a (a + length piece) piece (bytes_of pool part.lease) list
+      → list ≡ message (with_bytes (seen pool part) a piece)
   message-filled list none fill =
       let size : a + length piece ≤ length (bytes_of pool part.lease) = omega (arith, fits, is.long) in
       let bytes = bytes-taken (seen pool part) (bytes_of pool part.lease) list part.missing a piece refl size fill in
-      sym (message-whole (with_bytes (seen pool part) a piece) list (λ q x e. there q x (has left q) (sym (get-known list left q) ∙ ap (λ (b : Map nat_cmp ℕ). get b q) (sym bytes) ∙ e)) (sym (fill.length ∙ is.long))
+      sym (message-whole (with_bytes (seen pool part) a piece) list
+      (λ q x e. there q x (has left q) (sym (get-known list left q) ∙ ap (λ (b : Map nat_cmp ℕ). get b q) (sym bytes) ∙ e)) (sym (fill.length ∙ is.long))
       (whole-seen pool part is a piece fits ∙ eq-eqb (len left) 0 (len-none left none))) where
         there : (q x : ℕ) (b : Bool) → cond b None (slice_get list q) ≡ Some x → slice_get list q ≡ Some x
         there q x true e = cc
         there q x false e = e
 
 -- a part of which nothing has arrived is seen as a message that was just opened
-pub seen-unarrived : (pool : Pool) (peer : HostId) (n order granted : ℕ) (lease : Held) → IsLeaseOf pool lease → lease.len ≡ n → granted ≤ n → seen pool (unarrived peer n order granted lease) ≡ opened peer n order granted
+pub seen-unarrived : (pool : Pool) (peer : HostId) (n order granted : ℕ) (lease : Held) → IsLeaseOf pool lease → lease.len ≡ n → granted ≤ n
+    → seen pool (unarrived peer n order granted lease) ≡ opened peer n order granted
 seen-unarrived pool peer n order granted lease held long within_end =
     let end : granted ≡ min n granted = omega arith in
     let none : known (bytes_of pool lease) (set_of_range 0 n) ≡ empty = same_map nat_cmp_total nat_cmp-IsAntisymmetric _ _ (λ q.
-    get-known (bytes_of pool lease) (set_of_range 0 n) q ∙ ap (λ b. cond b None (slice_get (bytes_of pool lease) q)) (has-set_of_range 0 n q) ∙ gone q ∙ sym (get-empty nat_cmp q)) in
-    ap (λ b. record (seen pool (unarrived peer n order granted lease)) { bytes = b }) none ∙ ap (λ g. record (opened peer n order granted) { granted = g }) end where
+    get-known (bytes_of pool lease) (set_of_range 0 n) q ∙ ap (λ b. cond b None (slice_get (bytes_of pool lease) q)) (has-set_of_range 0 n q) ∙ gone q
+    ∙ sym (get-empty nat_cmp q)) in
+    ap (λ b. record (seen pool (unarrived peer n order granted lease)) { bytes = b }) none
+    ∙ ap (λ g. record (opened peer n order granted) { granted = g }) end where
       gone : (q : ℕ) → cond (leb 0 q && ltb q n) None (slice_get (bytes_of pool lease) q) ≡ None
       gone q =
           elim (cases_lt q n) [
             | inl h ↦ ap (λ b. cond b None (slice_get (bytes_of pool lease) q)) (range_in 0 n q (omega arith) h)
             | inr h ↦
-                let past : slice_get (bytes_of pool lease) q ≡ None = slice_get_past (bytes_of pool lease) q (omega (arith, h, long, length-bytes_of pool lease held)) in
+                let past : slice_get (bytes_of pool lease) q ≡ None =
+                slice_get_past (bytes_of pool lease) q (omega (arith, h, long, length-bytes_of pool lease held)) in
                 either (leb 0 q && ltb q n) past
           ] where
             either : (b : Bool) → slice_get (bytes_of pool lease) q ≡ None → cond b None (slice_get (bytes_of pool lease) q) ≡ None
@@ -216,7 +231,8 @@ part-unarrived n granted lease long small within_end = record {
 }
 
 -- and where a piece is taken off its missing bytes
-pub part-without : (n granted : ℕ) (m m' : Numbers) (lease : Held) (a b k : ℕ) → IsPart n granted m lease → RemovesRange m m' a b k → length (ranges m') ≤ 64 → IsPart n granted m' lease
+pub part-without : (n granted : ℕ) (m m' : Numbers) (lease : Held) (a b k : ℕ) → IsPart n granted m lease → RemovesRange m m' a b k
+    → length (ranges m') ≤ 64 → IsPart n granted m' lease
 part-without n granted m m' lease a b k is gone few = record {
   leased = is.leased;
   small = is.small;

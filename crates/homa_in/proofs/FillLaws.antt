@@ -18,7 +18,8 @@ pub filled_none : (m : Numbers) (a : ℕ) (piece old : List ℕ) → IsFilled m 
 filled_none m a piece old = record { length = refl; filled = λ q h k _. absurd (omega arith); kept = λ q _. refl; around = λ q _. refl }
 
 -- where no more is missing, all is filled in
-pub filled_rest : (m : Numbers) (a f end : ℕ) (piece old new : List ℕ) → f ≤ end → IsFilled m a f piece old new → NoneIn (has m) f end → IsFilled m a end piece old new
+pub filled_rest : (m : Numbers) (a f end : ℕ) (piece old new : List ℕ) → f ≤ end → IsFilled m a f piece old new → NoneIn (has m) f end
+    → IsFilled m a end piece old new
 filled_rest m a f end piece old new h done none = record {
   length = done.length;
   filled = λ q low high e. elim (cases_lt q f) [ inl l ↦ done.filled q low l e | inr l ↦ absurd (true≢false (sym e ∙ none q l high)) ];
@@ -79,7 +80,8 @@ module _ (m : Numbers) (a f from to : ℕ) (piece old mid : List ℕ) (done : Is
   }
 
 -- a piece of which all bytes were missing is filled in as a whole
-pub filled_whole : (m : Numbers) (a : ℕ) (piece old : List ℕ) → a + length piece ≤ length old → ((x : ℕ) → a ≤ x → x < a + length piece → has m x ≡ true) → IsFilled m a (a + length piece) piece old (overwritten old a piece)
+pub filled_whole : (m : Numbers) (a : ℕ) (piece old : List ℕ) → a + length piece ≤ length old
+    → ((x : ℕ) → a ≤ x → x < a + length piece → has m x ≡ true) → IsFilled m a (a + length piece) piece old (overwritten old a piece)
 filled_whole m a piece old fits all = record {
   length = length-overwritten old a piece fits;
   filled = λ q l h e. get-overwritten old a piece q l h fits;

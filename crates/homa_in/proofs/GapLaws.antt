@@ -1,5 +1,6 @@
 -- How many ranges are left where a piece is taken off.
-use Rattle.std.proofs.Common.{◌≡◌, ℕ, ◌<◌, ◌≤◌, Bool, true, false, not, ◌&&◌, ◌||◌, ltb, leb, min, max, List, [], ◌∷◌, length, refl, sym, ap, ◌∙◌, arith, inl, inr}
+use Rattle.std.proofs.Common.{◌≡◌, ℕ, ◌<◌, ◌≤◌, Bool, true, false, not, ◌&&◌, ◌||◌, ltb, leb, min, max, List, [], ◌∷◌, length, refl, sym, ap, ◌∙◌}
+use Rattle.std.proofs.Common.{arith, inl, inr}
 use Rattle.std.proofs.lemmas.Bool.{cases_lt, true≢false}
 use Rattle.plain_sets.specs.Ranges.{Range, is_between, in_ranges, led, parted, NoneIn}
 use Rattle.plain_sets.specs.Numbers.{Numbers, has, without_range, IsBelow, ranges}
@@ -22,10 +23,20 @@ parted_few [] a b never = omega arith
 parted_few (r ∷ rs) a b never =
     let rest = parted_few rs a b (λ all. never (λ x h k. in_rest r rs x (all x h k))) in
     elim (cases_lt r.from a) [
-      | inr h ↦ omega (arith, rest, length-unled r.from (min r.to a) (led (max r.from b) r.to (parted a b rs)) (omega arith), length-led (max r.from b) r.to (parted a b rs))
+      | inr h ↦ omega (
+        arith,
+        rest,
+        length-unled r.from (min r.to a) (led (max r.from b) r.to (parted a b rs)) (omega arith),
+        length-led (max r.from b) r.to (parted a b rs),
+      )
       | inl h ↦ elim (cases_lt b r.to) [
         | inl k ↦ absurd (never (λ x l j. inside r rs x (omega arith) (omega arith)))
-        | inr k ↦ omega (arith, rest, length-led r.from (min r.to a) (led (max r.from b) r.to (parted a b rs)), length-unled (max r.from b) r.to (parted a b rs) (omega arith))
+        | inr k ↦ omega (
+          arith,
+          rest,
+          length-led r.from (min r.to a) (led (max r.from b) r.to (parted a b rs)),
+          length-unled (max r.from b) r.to (parted a b rs) (omega arith),
+        )
       ]
     ]
 

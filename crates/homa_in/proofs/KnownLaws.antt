@@ -54,14 +54,17 @@ module _ (bytes : List ℕ) (m : Numbers) where
 
     -- what hasn't is missing
     pub missing-known : missing (key_set (known bytes m)) n ≡ m
-    missing-known = same_numbers _ _ (λ q. has-missing (key_set (known bytes m)) n q ∙ ap (λ b. ltb q n && not b) (has-known q ∙ ap (λ k. not (has m q) && ltb q k) long) ∙ turned q (has m q) refl) where
-      neither : (t : Bool) → (t && not t) ≡ false
-      neither true = refl
-      neither false = refl
+    missing-known =
+        same_numbers _ _
+        (λ q. has-missing (key_set (known bytes m)) n q ∙ ap (λ b. ltb q n && not b) (has-known q ∙ ap (λ k. not (has m q) && ltb q k) long)
+        ∙ turned q (has m q) refl) where
+          neither : (t : Bool) → (t && not t) ≡ false
+          neither true = refl
+          neither false = refl
 
-      turned : (q : ℕ) (b : Bool) → has m q ≡ b → (ltb q n && not (not b && ltb q n)) ≡ b
-      turned q true e = ap (λ t. t && true) (lt-ltb q n (below q e))
-      turned q false e = neither (ltb q n)
+          turned : (q : ℕ) (b : Bool) → has m q ≡ b → (ltb q n && not (not b && ltb q n)) ≡ b
+          turned q true e = ap (λ t. t && true) (lt-ltb q n (below q e))
+          turned q false e = neither (ltb q n)
 
     -- the bytes that have arrived and those that are missing are all
     pub len-known : len (known bytes m) + len m ≡ n

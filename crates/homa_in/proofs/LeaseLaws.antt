@@ -9,7 +9,8 @@ use Rattle.msg_pool.proofs.Leases.{length-bytes_of, get-lease, bytes_of-with_byt
 module _ (pool : Pool) (lease : Held) (is : IsLeaseOf pool lease) where
   -- with the bytes that it has, it is the same pool
   pub pool-itself : with_bytes pool lease (bytes_of pool lease) ≡ pool
-  pool-itself = ap (λ m. record pool { leases = m }) (insert-same nat_cmp_total nat_cmp-IsAntisymmetric pool.leases lease.number (bytes_of pool lease) (get-lease pool lease is))
+  pool-itself = ap (λ m. record pool { leases = m })
+      (insert-same nat_cmp_total nat_cmp-IsAntisymmetric pool.leases lease.number (bytes_of pool lease) (get-lease pool lease is))
 
   module _ (new : Pool) (only : new ≡ with_bytes pool lease (bytes_of new lease)) where
     -- also where they were written again
@@ -25,7 +26,9 @@ pub pool-written : (pool new : Pool) (lease : Held) (bytes : List ℕ) → new �
 pool-written pool new lease bytes e = ap (λ p. bytes_of p lease) e ∙ bytes_of-with_bytes pool lease bytes
 
 -- one write after another is one write
-pub pool-again : (pool mid new : Pool) (lease : Held) (bytes : List ℕ) → mid ≡ with_bytes pool lease (bytes_of mid lease) → new ≡ with_bytes mid lease bytes → new ≡ with_bytes pool lease (bytes_of new lease)
-pool-again pool mid new lease bytes e f = f ∙ ap (λ p. with_bytes p lease bytes) e ∙ again ∙ ap (with_bytes pool lease) (sym (pool-written mid new lease bytes f)) where
-  again : with_bytes (with_bytes pool lease (bytes_of mid lease)) lease bytes ≡ with_bytes pool lease bytes
-  again = ap (λ m. record pool { leases = m }) (insert-again nat_cmp_total nat_cmp-IsAntisymmetric pool.leases lease.number (bytes_of mid lease) bytes)
+pub pool-again : (pool mid new : Pool) (lease : Held) (bytes : List ℕ) → mid ≡ with_bytes pool lease (bytes_of mid lease)
+    → new ≡ with_bytes mid lease bytes → new ≡ with_bytes pool lease (bytes_of new lease)
+pool-again pool mid new lease bytes e f =
+    f ∙ ap (λ p. with_bytes p lease bytes) e ∙ again ∙ ap (with_bytes pool lease) (sym (pool-written mid new lease bytes f)) where
+      again : with_bytes (with_bytes pool lease (bytes_of mid lease)) lease bytes ≡ with_bytes pool lease bytes
+      again = ap (λ m. record pool { leases = m }) (insert-again nat_cmp_total nat_cmp-IsAntisymmetric pool.leases lease.number (bytes_of mid lease) bytes)

@@ -28,22 +28,27 @@ pub record IsPlaced (old new : Pool) (part : Part) (m : Numbers) (a : ℕ) (piec
   pub fits : FitsRangeSet m
 
 -- what holds of the fields still does
-pub holds_placed : (old new : Pool) (part : Part) (m : Numbers) (a : ℕ) (piece : List ℕ) (changed : Changed) → IsPlaced old new part m a piece changed → Holds part → Holds (record part { missing = m })
+pub holds_placed : (old new : Pool) (part : Part) (m : Numbers) (a : ℕ) (piece : List ℕ) (changed : Changed) → IsPlaced old new part m a piece changed
+    → Holds part → Holds (record part { missing = m })
 holds_placed old new part m a piece TooMany placed holds = subst (λ (s : Numbers). Holds (record part { missing = s })) (sym (placed.unchanged refl)) holds
-holds_placed old new part m a piece (Count n) placed holds = part-without part.length part.granted part.missing m part.lease a (a + length piece) n holds placed.removed placed.fits.few
+holds_placed old new part m a piece (Count n) placed holds =
+    part-without part.length part.granted part.missing m part.lease a (a + length piece) n holds placed.removed placed.fits.few
 
-module _ (old new : Pool) (part : Part) (is : IsSeen old part) (inside : IsIn old part) (a : ℕ) (piece : List ℕ) (fits : a + length piece ≤ part.length) (m : Numbers) where
+module _ (old new : Pool) (part : Part) (is : IsSeen old part) (inside : IsIn old part) (a : ℕ) (piece : List ℕ)
+    (fits : a + length piece ≤ part.length) (m : Numbers) where
   -- the answers
   pub many_placed : (changed : Changed) → IsPlaced old new part m a piece changed → changed ≡ TooMany → TooManyGaps ≡ answer (seen old part) a piece
   many_placed changed placed e = is_many old part is a piece fits (placed.too_many.0 e)
 
-  pub count_placed : (changed : Changed) (n : ℕ) → IsPlaced old new part m a piece changed → changed ≡ Count n → cond (eqb n 0) Repeat (cond (eqb (len m) 0) Whole (Fresh n)) ≡ answer (seen old part) a piece
+  pub count_placed : (changed : Changed) (n : ℕ) → IsPlaced old new part m a piece changed → changed ≡ Count n
+      → cond (eqb n 0) Repeat (cond (eqb (len m) 0) Whole (Fresh n)) ≡ answer (seen old part) a piece
   count_placed changed n placed e =
       let placed' = subst (λ (ch : Changed). IsPlaced old new part m a piece ch) e placed in
       sym (is_taken old part is a piece fits m n placed'.removed placed.fits.few)
 
   -- the message with the piece is seen
-  pub taken_placed : (changed : Changed) → IsPlaced old new part m a piece changed → leaves_too_many_gaps (seen old part) a piece ≡ false → seen new (record part { missing = m }) ≡ with_bytes (seen old part) a piece
+  pub taken_placed : (changed : Changed) → IsPlaced old new part m a piece changed → leaves_too_many_gaps (seen old part) a piece ≡ false
+      → seen new (record part { missing = m }) ≡ with_bytes (seen old part) a piece
   taken_placed TooMany placed e = absurd (true≢false (sym (gaps-seen old part is a piece ∙ lt-ltb 64 _ (placed.too_many.0 refl)) ∙ e))
   taken_placed (Count n) placed e = seen-taken old part is a piece fits m n placed.removed placed.fits.few new placed.bytes
 
@@ -56,11 +61,13 @@ module _ (old new : Pool) (part : Part) (is : IsSeen old part) (inside : IsIn ol
 
   -- the part is in the pool afterwards
   pub in_placed : (changed : Changed) → IsPlaced old new part m a piece changed → IsIn new (record part { missing = m })
-  in_placed TooMany placed = subst (λ (p : Pool). IsIn p (record part { missing = m })) (sym (placed.same_pool refl)) (record { lease = inside.lease; length = inside.length })
+  in_placed TooMany placed =
+      subst (λ (p : Pool). IsIn p (record part { missing = m })) (sym (placed.same_pool refl)) (record { lease = inside.lease; length = inside.length })
   in_placed (Count n) placed = record { lease = lease-stays old part.lease inside.lease new placed.pool placed.bytes.length; length = inside.length }
 
   -- where too many gaps would be left, nothing changes
-  pub refused_placed : (changed : Changed) → IsPlaced old new part m a piece changed → leaves_too_many_gaps (seen old part) a piece ≡ true → (m ≡ part.missing) × (new ≡ old)
+  pub refused_placed : (changed : Changed) → IsPlaced old new part m a piece changed → leaves_too_many_gaps (seen old part) a piece ≡ true
+      → (m ≡ part.missing) × (new ≡ old)
   refused_placed TooMany placed e = (placed.unchanged refl, placed.same_pool refl)
   refused_placed (Count n) placed e = absurd (true≢false (sym e ∙ not_many old part is a piece fits m n placed.removed placed.fits.few))
 

@@ -1,5 +1,6 @@
 -- What a piece makes of a message that is seen with its pool.
-use Rattle.std.proofs.Common.{◌≡◌, ℕ, ◌+◌, ◌-◌, ◌<◌, ◌≤◌, Bool, true, false, not, ◌&&◌, cond, ltb, leb, eqb, List, length, get_or, refl, sym, ap, subst, ◌∙◌, arith, Option, Some, None, inl, inr}
+use Rattle.std.proofs.Common.{◌≡◌, ℕ, ◌+◌, ◌-◌, ◌<◌, ◌≤◌, Bool, true, false, not, ◌&&◌, cond, ltb, leb, eqb, List, length, get_or, refl, sym, ap}
+use Rattle.std.proofs.Common.{subst, ◌∙◌, arith, Option, Some, None, inl, inr}
 use Rattle.std.specs.Option.{is_some}
 use Rattle.std.specs.List.{slice_get}
 use Rattle.std.specs.Ordering.{nat_cmp}
@@ -57,7 +58,8 @@ module _ (p : Incoming) (old new : List ℕ) (m : Numbers) (a : ℕ) (piece : Li
     out false t = refl
 
   -- a byte that was missing is the piece's where the piece has it
-  came : (q : ℕ) → has m q ≡ true → (b : Bool) → (leb a q && ltb q (a + length piece)) ≡ b → cond b (slice_get piece (q - a)) None ≡ cond (not b && true) None (slice_get new q)
+  came : (q : ℕ) → has m q ≡ true → (b : Bool) → (leb a q && ltb q (a + length piece)) ≡ b
+      → cond b (slice_get piece (q - a)) None ≡ cond (not b && true) None (slice_get new q)
   came q e true t =
       let inside = in_range a (a + length piece) q t in
       let here' : q - a < length piece = omega (arith, inside.0, inside.1) in
@@ -123,16 +125,25 @@ module _ (pool : Pool) (part : Part) (is : IsSeen pool part) where
   sound-seen = record { below = below-seen; granted = is.granted; few = subst (λ (m : Numbers). length (ranges m) ≤ 64) (sym missing-seen) is.few }
 
   -- whether a piece leaves too many gaps
-  pub gaps-seen : (a : ℕ) (piece : List ℕ) → leaves_too_many_gaps (seen pool part) a piece ≡ ltb 64 (length (ranges (without_range part.missing a (a + length piece))))
-  gaps-seen a piece = ap (λ (m : Numbers). ltb 64 (length (ranges m))) (missing-with_bytes (seen pool part) a piece part.length ∙ ap (λ m. without_range m a (a + length piece)) missing-seen)
+  pub gaps-seen : (a : ℕ) (piece : List ℕ)
+      → leaves_too_many_gaps (seen pool part) a piece ≡ ltb 64 (length (ranges (without_range part.missing a (a + length piece))))
+  gaps-seen a piece =
+      ap (λ (m : Numbers). ltb 64 (length (ranges m)))
+      (missing-with_bytes (seen pool part) a piece part.length ∙ ap (λ m. without_range m a (a + length piece)) missing-seen)
 
   module _ (a : ℕ) (piece : List ℕ) (fits : a + length piece ≤ part.length) where
     -- how many bytes of a message with a piece are missing
     pub left-seen : remaining (with_bytes (seen pool part) a piece) ≡ len (without_range part.missing a (a + length piece))
     left-seen =
         let below : IsBelow (arrived (with_bytes (seen pool part) a piece)) part.length = below-with_bytes (seen pool part) a piece below-seen fits in
-        let gone : missing (arrived (with_bytes (seen pool part) a piece)) part.length ≡ without_range part.missing a (a + length piece) = missing-with_bytes (seen pool part) a piece part.length ∙ ap (λ m. without_range m a (a + length piece)) missing-seen in
-        omega (arith, len-key_set (with_bytes (seen pool part) a piece).bytes, len-missing (arrived (with_bytes (seen pool part) a piece)) part.length below, ap len gone)
+        let gone : missing (arrived (with_bytes (seen pool part) a piece)) part.length ≡ without_range part.missing a (a + length piece) =
+        missing-with_bytes (seen pool part) a piece part.length ∙ ap (λ m. without_range m a (a + length piece)) missing-seen in
+        omega (
+          arith,
+          len-key_set (with_bytes (seen pool part) a piece).bytes,
+          len-missing (arrived (with_bytes (seen pool part) a piece)) part.length below,
+          ap len gone,
+        )
 
     -- and how many of the piece are new
     pub new-seen : (n : ℕ) → len (without_range part.missing a (a + length piece)) + n ≡ len part.missing → n ≡ new_bytes (seen pool part) a piece

@@ -21,7 +21,8 @@ pub record Part : Type 0 where
 -- a part is stored as the tuple of its fields
 abbrev pub part_code : Coded Part
 part_code =
-    code_by (HostId × (ℕ × (ℕ × (ℕ × (Numbers × Held))))) (coded× host_id.the_row.coded (coded× coded_ℕ (coded× coded_ℕ (coded× coded_ℕ (coded× numbers_code held_code)))))
+    code_by (HostId × (ℕ × (ℕ × (ℕ × (Numbers × Held)))))
+    (coded× host_id.the_row.coded (coded× coded_ℕ (coded× coded_ℕ (coded× coded_ℕ (coded× numbers_code held_code)))))
     (λ p. (p.peer, (p.length, (p.order, (p.granted, (p.missing, p.lease))))))
     (λ c. record { peer = c.0; length = c.1.0; order = c.1.1.0; granted = c.1.1.1.0; missing = c.1.1.1.1.0; lease = c.1.1.1.1.1 }) (λ _. refl)
 
@@ -31,7 +32,8 @@ known bytes missing = retain (insert_all empty 0 bytes) (λ q. not (has missing 
 
 -- the plain incoming message that a part is with its pool: the bytes that have arrived are those of its lease
 abbrev pub seen : Pool → Part → Incoming
-seen pool part = record { peer = part.peer; length = part.length; order = part.order; granted = part.granted; bytes = known (bytes_of pool part.lease) part.missing }
+seen pool part =
+    record { peer = part.peer; length = part.length; order = part.order; granted = part.granted; bytes = known (bytes_of pool part.lease) part.missing }
 
 -- a part of which nothing has arrived
 abbrev pub unarrived : HostId → ℕ → ℕ → ℕ → Held → Part

@@ -12,7 +12,8 @@ moved xs part tail at n is_part is_long =
     sym (rw front (rw (← drop-drop n at xs) (take-append-drop n (drop at xs))))
 
 -- where `written` bytes were taken, and then n of the rest, so many more were
-pub part_taken : (old mid new : Option (List ℕ)) (xs : List ℕ) (written n : ℕ) → mid ≡ appended old (take written xs) → new ≡ appended mid (take n (drop written xs)) → new ≡ appended old (take (written + n) xs)
+pub part_taken : (old mid new : Option (List ℕ)) (xs : List ℕ) (written n : ℕ) → mid ≡ appended old (take written xs)
+    → new ≡ appended mid (take n (drop written xs)) → new ≡ appended old (take (written + n) xs)
 part_taken old mid new xs written n before after =
     after ∙ (ap (λ (o : Option (List ℕ)). appended o (take n (drop written xs))) before
     ∙ (appended-appended old (take written xs) (take n (drop written xs)) ∙ ap (λ (ys : List ℕ). appended old ys) (sym (take-add written n xs))))

@@ -27,14 +27,16 @@ within-front p seg h sound = of (next_range p seg) (front-next_range p seg h sou
   of (Some r) is = (is.some, is.few, omega (arith, is.granted, sound.within))
 
 -- so are the bytes that are taken from the set
-pub within-taken : (p : Outgoing) (seg : ℕ) (o : Option (ℕ × ℕ)) → 0 < seg → IsSound p → o ≡ option_map (λ r. bounds (front seg r)) (first_of (ranges p.waiting))
+pub within-taken : (p : Outgoing) (seg : ℕ) (o : Option (ℕ × ℕ)) → 0 < seg → IsSound p
+    → o ≡ option_map (λ r. bounds (front seg r)) (first_of (ranges p.waiting))
     → IfSome o (λ r. (r.0 < r.1) × (r.1 ≤ r.0 + seg) × (r.1 ≤ p.length))
 within-taken p seg o h sound e = rw (e ∙ front_is seg (ranges p.waiting)) (within-front p seg h sound)
 
 -- the first range ends at the granted end or below, so that it is the first one below that end
 pub first_waiting : (p : Outgoing) → IsSound p → first_below p.waiting p.granted ≡ first_of (ranges p.waiting)
 first_waiting p sound = first_in-cut p.waiting 0 p.granted ∙ choose (ranges p.waiting) (apart-ranges p.waiting) (λ seg h. front-next_range p seg h sound) where
-  choose : (rs : List Range) → AreApart 0 rs → ((seg : ℕ) → 0 < seg → MatchOption (front_of rs seg) (IsIdle p) (IsFront p seg)) → cut 0 p.granted rs ≡ first_of rs
+  choose : (rs : List Range) → AreApart 0 rs → ((seg : ℕ) → 0 < seg → MatchOption (front_of rs seg) (IsIdle p) (IsFront p seg))
+      → cut 0 p.granted rs ≡ first_of rs
   choose [] apart fronts = refl
   choose (r ∷ rs) apart fronts =
       let last : min r.to (r.from + r.to) ≤ p.granted = (fronts r.to (omega (arith, apart.1))).granted in

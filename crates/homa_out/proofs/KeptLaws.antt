@@ -1,5 +1,6 @@
 -- What the calls keep of a message, and how a RESEND is answered.
-use Rattle.std.proofs.Common.{◌≡◌, ℕ, ◌+◌, ◌<◌, ◌≤◌, ◌↔◌, Bool, true, false, not, ltb, min, max, List, [], ◌∷◌, length, refl, sym, ap, ◌∙◌, arith, inl, inr, Option, Some}
+use Rattle.std.proofs.Common.{◌≡◌, ℕ, ◌+◌, ◌<◌, ◌≤◌, ◌↔◌, Bool, true, false, not, ltb, min, max, List, [], ◌∷◌, length, refl, sym, ap, ◌∙◌, arith}
+use Rattle.std.proofs.Common.{inl, inr, Option, Some}
 use Rattle.std.specs.Prelude.{IsTrue}
 use Rattle.std.specs.Option.{option_map}
 use Rattle.std.proofs.lemmas.Bool.{cond-true, lt-ltb, cases_lt, false≢true}
@@ -29,7 +30,8 @@ pub kept-granted : (p : Outgoing) (offset prio : ℕ) → IsKept p → p.granted
     → IsKept (record p { waiting = with_range p.waiting p.granted (min offset p.length); granted = min offset p.length; prio = prio })
 kept-granted p offset prio kept h =
     let end : ℕ = min offset p.length in
-    let is : grant p offset prio ≡ record p { waiting = with_range p.waiting p.granted end; granted = end; prio = prio } = cond-true (ltb p.granted end) _ _ (lt-ltb _ _ h) in
+    let is : grant p offset prio ≡ record p { waiting = with_range p.waiting p.granted end; granted = end; prio = prio } =
+    cond-true (ltb p.granted end) _ _ (lt-ltb _ _ h) in
     record { sound = rw is at (sound-grant p offset prio kept.sound); small = kept.small; free = kept.free }
 
 -- and after a RESEND that is queued
@@ -72,7 +74,8 @@ busy-part p a b prio end t e all is =
     rw busy refl
 
 -- and is answered Busy
-pub busy-told : (p : Outgoing) (a b prio end : ℕ) (t : Bool) → end ≡ min b p.length → IsTrue t ↔ AllWait p a end → t ≡ true → ToldBusy ≡ answered (resend p a b prio).answer
+pub busy-told : (p : Outgoing) (a b prio end : ℕ) (t : Bool) → end ≡ min b p.length → IsTrue t ↔ AllWait p a end → t ≡ true
+    → ToldBusy ≡ answered (resend p a b prio).answer
 busy-told p a b prio end t e all is =
     let wait : AllWait p a (min b p.length) = rw e at (all.0 is) in
     let busy : resend p a b prio ≡ record { answer = Busy; part = p } = cases-busy p a b prio (inr (inl wait)) in

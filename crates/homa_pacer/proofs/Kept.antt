@@ -30,13 +30,15 @@ sound-without slot p sound = record {
 }
 
 -- and with a message whose slot and order the others don't have
-sound-ready : (r : Ready) (p : Pace) → r.slot < p.slots → IsOwnOrder r.slot r.order p.ready → IsSound p → IsSound (record p { ready = placed ready_key r (without r.slot p.ready) })
+sound-ready : (r : Ready) (p : Pace) → r.slot < p.slots → IsOwnOrder r.slot r.order p.ready → IsSound p
+    → IsSound (record p { ready = placed ready_key r (without r.slot p.ready) })
 sound-ready r p inside free sound =
     let rest = sound-without r.slot p sound in record {
       within = placed-all ready_key (λ s. s.slot < p.slots) r (without r.slot p.ready) inside rest.within;
       in_order = sorted-placed ready_key r (without r.slot p.ready) rest.in_order;
       slots = placed-differ (λ s. s.slot) ready_key r (without r.slot p.ready) (others-left (λ s. s.slot) r.slot p.ready) rest.slots;
-      orders = placed-differ (λ s. s.order) ready_key r (without r.slot p.ready) (free-others (λ (s : Ready). s.slot) (λ s. s.order) r.slot r.order p.ready free) rest.orders;
+      orders = placed-differ (λ s. s.order) ready_key r (without r.slot p.ready)
+          (free-others (λ (s : Ready). s.slot) (λ s. s.order) r.slot r.order p.ready free) rest.orders;
       credit = rest.credit;
     }
 

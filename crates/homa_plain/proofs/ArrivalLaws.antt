@@ -1,5 +1,6 @@
 -- What a piece that arrives does to an incoming message.
-use Rattle.std.proofs.Common.{◌≡◌, ℕ, zero, suc, ◌+◌, ◌-◌, ◌≤◌, Bool, true, false, ◌&&◌, cond, ltb, leb, List, [], ◌∷◌, length, refl, sym, ap, subst, ◌∙◌, arith, Option, Some, None}
+use Rattle.std.proofs.Common.{◌≡◌, ℕ, zero, suc, ◌+◌, ◌-◌, ◌≤◌, Bool, true, false, ◌&&◌, cond, ltb, leb, List, [], ◌∷◌, length, refl, sym, ap, subst}
+use Rattle.std.proofs.Common.{◌∙◌, arith, Option, Some, None}
 use Rattle.std.specs.Option.{MatchOption, is_some, option_map, unwrap_or}
 use Rattle.std.specs.List.{slice_get, slice_range}
 use Rattle.std.specs.Ordering.{nat_cmp}
@@ -19,7 +20,8 @@ use Rattle.plain_sets.proofs.CountLaws.{len-with_range, len-below, len-missing, 
 use Rattle.plain_sets.proofs.MoreCounts.{len-grows, len-ranges, missing-with_range, missing-empty, gaps-one_range}
 use Rattle.plain_sets.proofs.CutLaws.{first-first_in}
 use Rattle.homa_plain.specs.declared.id.HostId.{HostId}
-use Rattle.homa_plain.specs.Incoming.{Incoming, opened, arrived, remaining, missing_ranges, is_missing, first_gap, first_known, with_bytes, new_bytes, leaves_too_many_gaps, is_whole, message, granted_to, IsSound}
+use Rattle.homa_plain.specs.Incoming.{Incoming, opened, arrived, remaining, missing_ranges, is_missing, first_gap, first_known, with_bytes, new_bytes}
+use Rattle.homa_plain.specs.Incoming.{leaves_too_many_gaps, is_whole, message, granted_to, IsSound}
 use Rattle.homa_plain.proofs.PartSets.{in_range, below-with_range, one_range}
 
 -- as many bytes as the piece has
@@ -28,7 +30,8 @@ length-first_known known a [] = refl
 length-first_known known a (x ∷ xs) = ap suc (length-first_known known (suc a) xs)
 
 -- each is the known one, if there is one
-get-first_known : (known : Map nat_cmp ℕ) (a : ℕ) (xs : List ℕ) (i : ℕ) → slice_get (first_known known a xs) i ≡ option_map (λ x. unwrap_or (get known (i + a)) x) (slice_get xs i)
+get-first_known : (known : Map nat_cmp ℕ) (a : ℕ) (xs : List ℕ) (i : ℕ)
+    → slice_get (first_known known a xs) i ≡ option_map (λ x. unwrap_or (get known (i + a)) x) (slice_get xs i)
 get-first_known known a [] i = refl
 get-first_known known a (x ∷ xs) zero = ap (λ n. Some (unwrap_or (get known n) x)) (omega arith)
 get-first_known known a (x ∷ xs) (suc i) = let e : suc i + a ≡ i + suc a = omega arith in rw e (get-first_known known (suc a) xs i)
@@ -55,12 +58,14 @@ module _ (p : Incoming) (a : ℕ) (xs : List ℕ) where
       ∙ ap (λ b. cond b (get p.bytes q) None) e
 
   -- the bytes after the piece came
-  got : (q : ℕ) → get (with_bytes p a xs).bytes q ≡ cond (leb a q && ltb q (a + length xs)) (option_map (λ x. unwrap_or (get p.bytes q) x) (slice_get xs (q - a))) (get p.bytes q)
+  got : (q : ℕ) → get (with_bytes p a xs).bytes q ≡ cond (leb a q && ltb q (a + length xs))
+      (option_map (λ x. unwrap_or (get p.bytes q) x) (slice_get xs (q - a))) (get p.bytes q)
   got q =
       get-insert_all p.bytes a (first_known overlap a xs) q
       ∙ ap (λ n. cond (leb a q && ltb q (a + n)) (slice_get (first_known overlap a xs) (q - a)) (get p.bytes q)) (length-first_known overlap a xs)
       ∙ elim (leb a q && ltb q (a + length xs)) as (λ b. (leb a q && ltb q (a + length xs)) ≡ b
-      → cond b (slice_get (first_known overlap a xs) (q - a)) (get p.bytes q) ≡ cond b (option_map (λ x. unwrap_or (get p.bytes q) x) (slice_get xs (q - a))) (get p.bytes q)) [
+      → cond b (slice_get (first_known overlap a xs) (q - a)) (get p.bytes q) ≡ cond b
+      (option_map (λ x. unwrap_or (get p.bytes q) x) (slice_get xs (q - a))) (get p.bytes q)) [
         | true ↦ λ e.
             let in_piece = in_range a (a + length xs) q e in
             let place : q - a + a ≡ q = omega (arith, in_piece.0) in
@@ -71,10 +76,12 @@ module _ (p : Incoming) (a : ℕ) (xs : List ℕ) where
   -- bytes that had arrived keep their values
   pub get-kept : (q x : ℕ) → get p.bytes q ≡ Some x → get (with_bytes p a xs).bytes q ≡ Some x
   get-kept q x e = got q ∙ choose (leb a q && ltb q (a + length xs)) refl where
-    choose : (b : Bool) → (leb a q && ltb q (a + length xs)) ≡ b → cond b (option_map (λ y. unwrap_or (get p.bytes q) y) (slice_get xs (q - a))) (get p.bytes q) ≡ Some x
+    choose : (b : Bool) → (leb a q && ltb q (a + length xs)) ≡ b
+        → cond b (option_map (λ y. unwrap_or (get p.bytes q) y) (slice_get xs (q - a))) (get p.bytes q) ≡ Some x
     choose true t =
         let in_piece = in_range a (a + length xs) q t in
-        ap (λ o. option_map (λ y. unwrap_or o y) (slice_get xs (q - a))) e ∙ some_known x (slice_get xs (q - a)) (is_some-slice_get xs (q - a) ∙ lt-ltb (q - a) (length xs) (omega (arith, in_piece.0, in_piece.1)))
+        ap (λ o. option_map (λ y. unwrap_or o y) (slice_get xs (q - a))) e ∙ some_known x (slice_get xs (q - a))
+        (is_some-slice_get xs (q - a) ∙ lt-ltb (q - a) (length xs) (omega (arith, in_piece.0, in_piece.1)))
     choose false t = e
 
   -- the others are those of the piece
@@ -98,13 +105,15 @@ module _ (p : Incoming) (a : ℕ) (xs : List ℕ) where
   -- there are no fewer bytes
   pub grows-with_bytes : len p.bytes ≤ len (with_bytes p a xs).bytes
   grows-with_bytes =
-      let after : len (with_bytes p a xs).bytes ≡ len (with_range (arrived p) a (a + length xs)) = sym (len-key_set (with_bytes p a xs).bytes) ∙ ap len arrived-with_bytes in
+      let after : len (with_bytes p a xs).bytes ≡ len (with_range (arrived p) a (a + length xs)) =
+      sym (len-key_set (with_bytes p a xs).bytes) ∙ ap len arrived-with_bytes in
       omega (arith, after, len-key_set p.bytes, len-grows (arrived p) a (a + length xs))
 
   -- there are more bytes by those that are new
   pub remaining-with_bytes : IsBelow (arrived p) p.length → a + length xs ≤ p.length → remaining p ≡ remaining (with_bytes p a xs) + new_bytes p a xs
   remaining-with_bytes below h =
-      let after : len (with_bytes p a xs).bytes ≡ len (with_range (arrived p) a (a + length xs)) = sym (len-key_set (with_bytes p a xs).bytes) ∙ ap len arrived-with_bytes in
+      let after : len (with_bytes p a xs).bytes ≡ len (with_range (arrived p) a (a + length xs)) =
+      sym (len-key_set (with_bytes p a xs).bytes) ∙ ap len arrived-with_bytes in
       let before : len p.bytes ≡ len (arrived p) = sym (len-key_set p.bytes) in
       omega (
         arith,
@@ -117,14 +126,16 @@ module _ (p : Incoming) (a : ℕ) (xs : List ℕ) where
 
 -- of a message that was just opened nothing has arrived
 pub arrived-opened : (peer : HostId) (n order unsched : ℕ) → arrived (opened peer n order unsched) ≡ empty
-arrived-opened peer n order unsched = same_numbers _ _ (λ q. has-key_set (opened peer n order unsched).bytes q ∙ ap is_some (get-empty nat_cmp q) ∙ sym (has-empty q))
+arrived-opened peer n order unsched =
+    same_numbers _ _ (λ q. has-key_set (opened peer n order unsched).bytes q ∙ ap is_some (get-empty nat_cmp q) ∙ sym (has-empty q))
 
 -- the first piece of a message leaves at most two gaps
 pub first_piece : (peer : HostId) (n order unsched a : ℕ) (xs : List ℕ) → length (missing_ranges (with_bytes (opened peer n order unsched) a xs)) ≤ 2
 first_piece peer n order unsched a xs =
     omega (
       arith,
-      ap (λ s. length (gaps s n)) (arrived-with_bytes (opened peer n order unsched) a xs ∙ ap (λ s. with_range s a (a + length xs)) (arrived-opened peer n order unsched)),
+      ap (λ s. length (gaps s n))
+          (arrived-with_bytes (opened peer n order unsched) a xs ∙ ap (λ s. with_range s a (a + length xs)) (arrived-opened peer n order unsched)),
       gaps-one_range a (a + length xs) n,
     )
 
@@ -139,7 +150,8 @@ part-with_bytes p xs a b part q x e = choose (get p.bytes q) refl where
   choose (Some y) f = part q x (f ∙ sym (get-kept p a (slice_range xs a b) q y f) ∙ e)
   choose None f =
       part-insert_all p.bytes xs a b part q x
-      (get-insert_all p.bytes a (slice_range xs a b) q ∙ ap (cond (leb a q && ltb q (a + length (slice_range xs a b))) (slice_get (slice_range xs a b) (q - a))) f
+      (get-insert_all p.bytes a (slice_range xs a b) q
+      ∙ ap (cond (leb a q && ltb q (a + length (slice_range xs a b))) (slice_get (slice_range xs a b) (q - a))) f
       ∙ sym (get-new p a (slice_range xs a b) q f) ∙ e)
 
 -- and the whole of them is the message
@@ -149,7 +161,8 @@ message-whole p xs part same whole = part-whole p.bytes xs part (eqb-true (len p
 -- the first gap is the first range of missing bytes below the granted end, and there is none where none is missing
 pub first-first_gap : (p : Incoming) → MatchOption (first_gap p) (NoneIn (is_missing p) 0 p.granted) (IsFirstIn (is_missing p) 0 p.granted)
 first-first_gap p =
-    subst (λ (test : ℕ → Bool). MatchOption (first_gap p) (NoneIn test 0 p.granted) (IsFirstIn test 0 p.granted)) (λ i q. has-missing (arrived p) p.length q i) (first-first_in (missing (arrived p) p.length) 0 p.granted)
+    subst (λ (test : ℕ → Bool). MatchOption (first_gap p) (NoneIn test 0 p.granted) (IsFirstIn test 0 p.granted))
+    (λ i q. has-missing (arrived p) p.length q i) (first-first_in (missing (arrived p) p.length) 0 p.granted)
 
 -- the gaps have as many bytes as are missing
 pub remaining-gaps : (p : Incoming) → IsBelow (arrived p) p.length → remaining p ≡ width_of (missing_ranges p)
@@ -164,7 +177,8 @@ whole-gaps p below whole =
 
 pub gaps-whole : (p : Incoming) → IsBelow (arrived p) p.length → missing_ranges p ≡ [] → is_whole p ≡ true
 gaps-whole p below none =
-    eq-eqb (len p.bytes) p.length (omega (arith, len-key_set p.bytes, len-missing (arrived p) p.length below, len-ranges (missing (arrived p) p.length), ap width_of none))
+    eq-eqb (len p.bytes) p.length
+    (omega (arith, len-key_set p.bytes, len-missing (arrived p) p.length below, len-ranges (missing (arrived p) p.length), ap width_of none))
 
 -- a message that was just opened is sound
 pub sound-opened : (peer : HostId) (n order unsched : ℕ) → IsSound (opened peer n order unsched)
@@ -175,7 +189,8 @@ sound-opened peer n order unsched = record {
 }
 
 -- and stays so with a piece that doesn't leave too many gaps
-pub sound-with_bytes : (p : Incoming) (a : ℕ) (xs : List ℕ) → IsSound p → a + length xs ≤ p.length → leaves_too_many_gaps p a xs ≡ false → IsSound (with_bytes p a xs)
+pub sound-with_bytes : (p : Incoming) (a : ℕ) (xs : List ℕ) → IsSound p → a + length xs ≤ p.length → leaves_too_many_gaps p a xs ≡ false
+    → IsSound (with_bytes p a xs)
 sound-with_bytes p a xs sound h few = record { below = below-with_bytes p a xs sound.below h; granted = sound.granted; few = ltb-false 64 _ few }
 
 -- and with a granted end that isn't above its length

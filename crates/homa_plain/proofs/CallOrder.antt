@@ -17,7 +17,8 @@ equal Equal e = refl
 equal Greater e = cc
 
 pub call_total : IsTotalOrder call_cmp
-call_total = then_total (on_total (λ id. id.client.0) nat_cmp_total) (then_total (on_total (λ id. id.inc) nat_cmp_total) (on_total (λ id. id.seq) nat_cmp_total))
+call_total =
+    then_total (on_total (λ id. id.client.0) nat_cmp_total) (then_total (on_total (λ id. id.inc) nat_cmp_total) (on_total (λ id. id.seq) nat_cmp_total))
 
 -- only equal calls tie
 pub call_same : IsAntisymmetric call_cmp

@@ -1,5 +1,6 @@
 -- Which messages are chosen, which are left out, and which GRANTs there are.
-use Rattle.std.proofs.Common.{◌≡◌, ℕ, zero, suc, ◌+◌, ◌-◌, ◌<◌, ◌≤◌, Bool, true, false, not, cond, ltb, eqb, List, [], ◌∷◌, ◌++◌, length, map, take, refl, sym, ap, subst, ◌∙◌, arith, ◌⊎◌, inl, inr, Some}
+use Rattle.std.proofs.Common.{◌≡◌, ℕ, zero, suc, ◌+◌, ◌-◌, ◌<◌, ◌≤◌, Bool, true, false, not, cond, ltb, eqb, List, [], ◌∷◌, ◌++◌, length, map, take}
+use Rattle.std.proofs.Common.{refl, sym, ap, subst, ◌∙◌, arith, ◌⊎◌, inl, inr, Some}
 use Rattle.std.specs.List.{AllByRecursion, Contains, filter, slice_get}
 use Rattle.std.specs.List.Sorted.{IsPermutation}
 use Rattle.std.proofs.lemmas.List.{length-take, take-map}
@@ -13,7 +14,8 @@ use Rattle.plain_sets.proofs.OrderLaws.{below_self, tied_keys, sorted-ordered, p
 use Rattle.plain_sets.proofs.OrderSame.{here, there, at_head, all_at, none_in, ordered-permuted, ordered-map_same}
 use Rattle.plain_sets.proofs.MapMembers.{same_some}
 use Rattle.plain_sets.proofs.FirstLaws.{firsts-differ, take-differ, firsts-all, sorted-firsts}
-use Rattle.homa_plain.specs.Choice.{Message, sender, choice_key, new_end, Granted, chosen_by, chosen, grants_from, grants, first_due, due, IsBefore, HasAhead, IsGrant}
+use Rattle.homa_plain.specs.Choice.{Message, sender, choice_key, new_end, Granted, chosen_by, chosen, grants_from, grants, first_due, due, IsBefore}
+use Rattle.homa_plain.specs.Choice.{HasAhead, IsGrant}
 
 -- a thing that is listed where a test holds
 one_if : {X : Type 0} (b : Bool) (x : X) → b ≡ true → Contains (cond b (x ∷ []) []) x
@@ -25,7 +27,11 @@ contains-filter : {X : Type 0} (p : X → Bool) (xs : List X) (x : X) → Contai
 contains-filter p [] x c e = absurd (none_in x c)
 contains-filter p (y ∷ ys) x c e =
     elim (p y) as (λ b. p y ≡ b → Contains (cond b (y ∷ filter p ys) (filter p ys)) x) [
-      | true ↦ λ h. elim (at_head y x ys c) [ inl is ↦ subst (Contains (y ∷ filter p ys)) is (here y (filter p ys)) | inr rest ↦ there y x (filter p ys) (contains-filter p ys x rest e) ]
+      | true ↦ λ h. elim (at_head y x ys c) [
+        | inl is ↦ subst (Contains (y ∷ filter p ys)) is (here y (filter p ys))
+        | inr rest ↦
+            there y x (filter p ys) (contains-filter p ys x rest e)
+      ]
       | false ↦ λ h. elim (at_head y x ys c) [ inl is ↦ absurd (true≢false (sym e ∙ ap p (sym is) ∙ h)) | inr rest ↦ contains-filter p ys x rest e ]
     ] refl
 
@@ -34,7 +40,8 @@ filter-contains : {X : Type 0} (p : X → Bool) (xs : List X) (x : X) → Contai
 filter-contains p [] x = λ c. c
 filter-contains p (y ∷ ys) x =
     elim (p y) as (λ b. Contains (cond b (y ∷ filter p ys) (filter p ys)) x → Contains (y ∷ ys) x) [
-      | true ↦ λ c. elim (at_head y x (filter p ys) c) [ inl is ↦ subst (Contains (y ∷ ys)) is (here y ys) | inr rest ↦ there y x ys (filter-contains p ys x rest) ]
+      | true ↦ λ c. elim (at_head y x (filter p ys) c)
+          [ inl is ↦ subst (Contains (y ∷ ys)) is (here y ys) | inr rest ↦ there y x ys (filter-contains p ys x rest) ]
       | false ↦ λ c. there y x ys (filter-contains p ys x c)
     ]
 
@@ -51,7 +58,8 @@ filter_passes p (y ∷ ys) x =
 take-contains : {X : Type 0} (k : ℕ) (xs : List X) (x : X) → Contains (take k xs) x → Contains xs x
 take-contains zero xs x c = absurd (none_in x c)
 take-contains (suc k) [] x c = c
-take-contains (suc k) (y ∷ ys) x c = elim (at_head y x (take k ys) c) [ inl is ↦ subst (Contains (y ∷ ys)) is (here y ys) | inr rest ↦ there y x ys (take-contains k ys x rest) ]
+take-contains (suc k) (y ∷ ys) x c =
+    elim (at_head y x (take k ys) c) [ inl is ↦ subst (Contains (y ∷ ys)) is (here y ys) | inr rest ↦ there y x ys (take-contains k ys x rest) ]
 
 -- a fact of the elements of a list holds of all of them
 all_in : {X : Type 0} (P : X → Type 0) (xs : List X) → ((x : X) → Contains xs x → P x) → AllByRecursion P xs
@@ -80,7 +88,8 @@ module _ {X : Type 0} (key : X → ℕ × ℕ) where
       ]
 
   -- what comes before no thing of a list comes after what doesn't come before it
-  all_after : (x z : X) → is_below (key x) (key z) ≡ false → (cs : List X) → AllByRecursion (λ y. is_below (key z) (key y) ≡ false) cs → AllByRecursion (λ y. is_below (key x) (key y) ≡ false) cs
+  all_after : (x z : X) → is_below (key x) (key z) ≡ false → (cs : List X) → AllByRecursion (λ y. is_below (key z) (key y) ≡ false) cs
+      → AllByRecursion (λ y. is_below (key x) (key y) ≡ false) cs
   all_after x z h [] all = tt
   all_after x z h (y ∷ ys) all = (not_below (key x) (key z) (key y) h all.0, all_after x z h ys all.1)
 
@@ -90,7 +99,11 @@ module _ {X : Type 0} (key : X → ℕ × ℕ) where
   same_key (z ∷ zs) x y differ c d e =
       elim (at_head z x zs c) [
         | inl is ↦ elim (at_head z y zs d) [ inl is' ↦ sym is ∙ is' | inr later ↦ absurd (all_at (λ w. key z ≡ key w → ⊥) zs y differ.0 later (ap key is ∙ e)) ]
-        | inr later ↦ elim (at_head z y zs d) [ inl is' ↦ absurd (all_at (λ w. key z ≡ key w → ⊥) zs x differ.0 later (ap key is' ∙ sym e)) | inr later' ↦ same_key zs x y differ.1 later later' e ]
+        | inr later ↦ elim (at_head z y zs d) [
+          | inl is' ↦ absurd (all_at (λ w. key z ≡ key w → ⊥) zs x differ.0 later (ap key is' ∙ sym e))
+          | inr later' ↦
+              same_key zs x y differ.1 later later' e
+        ]
       ]
 
   -- of two things, where the first doesn't come before the second, the second comes before it or is the first
@@ -105,7 +118,8 @@ module _ {X : Type 0} (key : X → ℕ × ℕ) where
   all_before_or_in xs (y ∷ ys) x differ c sub all =
       elim (before_or_same xs x y differ c (sub y (here y ys)) all.0) [
         | inl is ↦ inl (subst (Contains (y ∷ ys)) (sym is) (here y ys))
-        | inr before ↦ elim (all_before_or_in xs ys x differ c (λ z d. sub z (there y z ys d)) all.1) [ inl front ↦ inl (there y x ys front) | inr rest ↦ inr (before, rest) ]
+        | inr before ↦ elim (all_before_or_in xs ys x differ c (λ z d. sub z (there y z ys d)) all.1)
+            [ inl front ↦ inl (there y x ys front) | inr rest ↦ inr (before, rest) ]
       ]
 
   -- a thing whose deadline has come acts, or as many act as may, each before it
@@ -113,16 +127,20 @@ module _ {X : Type 0} (key : X → ℕ × ℕ) where
       → Contains (first_due key n now xs) x ⊎ ((length (first_due key n now xs) ≡ n) × AllByRecursion (λ y. IsBefore key y x) (first_due key n now xs))
   left_waiting n now xs differ x c come =
       let ys : List X = filter (λ y. nat_le (key y).0 now) xs in
-      let placed : Contains (ordered key ys) x = Contains-permutation ys (ordered key ys) x (permutation-ordered key ys) (contains-filter (λ y. nat_le (key y).0 now) xs x c (le-leb (key x).0 now come)) in
+      let placed : Contains (ordered key ys) x = Contains-permutation ys (ordered key ys) x (permutation-ordered key ys)
+      (contains-filter (λ y. nat_le (key y).0 now) xs x c (le-leb (key x).0 now come)) in
       elim (in_front (ordered key ys) x n (sorted-ordered key ys) placed) [
         | inl front ↦ inl front
-        | inr full ↦ elim (all_before_or_in xs (take n (ordered key ys)) x differ c (λ y d. due_in n now xs y d) full.1) [ inl front ↦ inl front | inr all ↦ inr (full.0, all) ]
+        | inr full ↦ elim (all_before_or_in xs (take n (ordered key ys)) x differ c (λ y d. due_in n now xs y d) full.1)
+            [ inl front ↦ inl front | inr all ↦ inr (full.0, all) ]
       ]
     where
       due_in : (n now : ℕ) (xs : List X) (y : X) → Contains (first_due key n now xs) y → Contains xs y
       due_in n now xs y d =
           let ys : List X = filter (λ z. nat_le (key z).0 now) xs in
-          filter-contains (λ z. nat_le (key z).0 now) xs y (Contains-permutation (ordered key ys) ys y (IsPermutation-sym ys (ordered key ys) (permutation-ordered key ys)) (take-contains n (ordered key ys) y d))
+          filter-contains (λ z. nat_le (key z).0 now) xs y
+          (Contains-permutation (ordered key ys) ys y (IsPermutation-sym ys (ordered key ys) (permutation-ordered key ys))
+          (take-contains n (ordered key ys) y d))
 
 module _ {X : Type 0} (from : X → ℕ) (key : X → ℕ × ℕ) where
   -- one that is of x's sender, and that x doesn't come before
@@ -138,11 +156,22 @@ module _ {X : Type 0} (from : X → ℕ) (key : X → ℕ × ℕ) where
   first_of_sender [] x up c = absurd (none_in x c)
   first_of_sender (y ∷ ys) x up c =
       elim (at_head y x ys c) [
-        | inl is ↦ record { ahead = y; listed = here y _; sender = ap from is; before = subst (λ (z : X). is_below (key z) (key y) ≡ false) is (below_self (key y)) }
+        | inl is ↦ record {
+          ahead = y;
+          listed = here y _;
+          sender = ap from is;
+          before = subst (λ (z : X). is_below (key z) (key y) ≡ false) is
+              (below_self (key y));
+        }
         | inr rest ↦
             let z = first_of_sender ys x up.1 rest in
             elim (eqb (from z.ahead) (from y)) as (λ b. eqb (from z.ahead) (from y) ≡ b → Ahead (y ∷ not_of from (from y) (firsts from ys)) x) [
-              | true ↦ λ e. record { ahead = y; listed = here y _; sender = sym (eqb-true _ _ e) ∙ z.sender; before = all_at (λ w. is_below (key w) (key y) ≡ false) ys x up.0 rest }
+              | true ↦ λ e. record {
+                ahead = y;
+                listed = here y _;
+                sender = sym (eqb-true _ _ e) ∙ z.sender;
+                before = all_at (λ w. is_below (key w) (key y) ≡ false) ys x up.0 rest;
+              }
               | false ↦ λ e. record {
                 ahead = z.ahead;
                 listed = there y z.ahead _ (contains-filter (λ w. not (eqb (from w) (from y))) (firsts from ys) z.ahead z.listed (ap not e));
@@ -159,7 +188,8 @@ module _ {X : Type 0} (from : X → ℕ) (key : X → ℕ × ℕ) where
   -- the chosen are some of the messages
   pub chosen-contains : (k : ℕ) (xs : List X) (y : X) → Contains (chosen_by from key k xs) y → Contains xs y
   chosen-contains k xs y c =
-      Contains-permutation (ordered key xs) xs y (IsPermutation-sym xs (ordered key xs) (permutation-ordered key xs)) (firsts-contains (ordered key xs) y (take-contains k (firsts from (ordered key xs)) y c))
+      Contains-permutation (ordered key xs) xs y (IsPermutation-sym xs (ordered key xs) (permutation-ordered key xs))
+      (firsts-contains (ordered key xs) y (take-contains k (firsts from (ordered key xs)) y c))
 
   -- they are at most k
   pub few-chosen : (k : ℕ) (xs : List X) → length (chosen_by from key k xs) ≤ k
@@ -175,7 +205,9 @@ module _ {X : Type 0} (from : X → ℕ) (key : X → ℕ × ℕ) where
 
   -- one is left out where one of its sender is chosen that comes before it, or k that come before it
   pub left_out : (k : ℕ) (xs : List X) → KeysDiffer key xs → (x : X) → Contains xs x
-      → Contains (chosen_by from key k xs) x ⊎ (HasAhead from key (chosen_by from key k xs) x ⊎ ((length (chosen_by from key k xs) ≡ k) × AllByRecursion (λ y. IsBefore key y x) (chosen_by from key k xs)))
+      → Contains (chosen_by from key k xs) x
+      ⊎ (HasAhead from key (chosen_by from key k xs) x
+      ⊎ ((length (chosen_by from key k xs) ≡ k) × AllByRecursion (λ y. IsBefore key y x) (chosen_by from key k xs)))
   left_out k xs differ x c =
       let up : IsInOrder key (ordered key xs) = sorted-ordered key xs in
       let z = first_of_sender (ordered key xs) x up (Contains-permutation xs (ordered key xs) x (permutation-ordered key xs) c) in
@@ -184,10 +216,11 @@ module _ {X : Type 0} (from : X → ℕ) (key : X → ℕ × ℕ) where
           | inl is ↦ inl (subst (Contains (chosen_by from key k xs)) (sym is) front)
           | inr before ↦ inr (inl (record { ahead = z.ahead; listed = front; sender = z.sender; before = before }))
         ]
-        | inr full ↦ elim (all_before_or_in key xs (chosen_by from key k xs) x differ c (chosen-contains k xs) (all_after key x z.ahead z.before (chosen_by from key k xs) full.1)) [
-          | inl front ↦ inl front
-          | inr all ↦ inr (inr (full.0, all))
-        ]
+        | inr full ↦ elim (all_before_or_in key xs (chosen_by from key k xs) x differ c (chosen-contains k xs)
+            (all_after key x z.ahead z.before (chosen_by from key k xs) full.1)) [
+              | inl front ↦ inl front
+              | inr all ↦ inr (inr (full.0, all))
+            ]
       ]
 
 -- the chosen of other things with the same senders and keys are those of the things
@@ -197,7 +230,8 @@ module _ {X Y : Type 0} (from : X → ℕ) (from' : Y → ℕ) (f : X → Y) (sa
   not_of-map s [] = refl
   not_of-map s (x ∷ xs) =
       ap (λ n. cond (not (eqb n s)) (f x ∷ not_of from' s (map f xs)) (not_of from' s (map f xs))) (same x)
-      ∙ elim (not (eqb (from x) s)) as (λ b. cond b (f x ∷ not_of from' s (map f xs)) (not_of from' s (map f xs)) ≡ map f (cond b (x ∷ not_of from s xs) (not_of from s xs))) [
+      ∙ elim (not (eqb (from x) s)) as
+      (λ b. cond b (f x ∷ not_of from' s (map f xs)) (not_of from' s (map f xs)) ≡ map f (cond b (x ∷ not_of from s xs) (not_of from s xs))) [
         | true ↦ ap (λ l. f x ∷ l) (not_of-map s xs)
         | false ↦ not_of-map s xs
       ]
@@ -206,11 +240,14 @@ module _ {X Y : Type 0} (from : X → ℕ) (from' : Y → ℕ) (f : X → Y) (sa
   firsts-map : (xs : List X) → firsts from' (map f xs) ≡ map f (firsts from xs)
   unfolding firsts
   firsts-map [] = refl
-  firsts-map (x ∷ xs) = ap (λ l. f x ∷ not_of from' (from' (f x)) l) (firsts-map xs) ∙ ap (λ n. f x ∷ not_of from' n (map f (firsts from xs))) (same x) ∙ ap (λ l. f x ∷ l) (not_of-map (from x) (firsts from xs))
+  firsts-map (x ∷ xs) = ap (λ l. f x ∷ not_of from' (from' (f x)) l) (firsts-map xs) ∙ ap (λ n. f x ∷ not_of from' n (map f (firsts from xs)))
+      (same x) ∙ ap (λ l. f x ∷ l) (not_of-map (from x) (firsts from xs))
 
   -- the chosen
-  pub chosen-map : (key : X → ℕ × ℕ) (key' : Y → ℕ × ℕ) → ((x : X) → key' (f x) ≡ key x) → (k : ℕ) (xs : List X) → chosen_by from' key' k (map f xs) ≡ map f (chosen_by from key k xs)
-  chosen-map key key' alike k xs = ap (λ l. take k (firsts from' l)) (ordered-map_same key key' f alike xs) ∙ ap (take k) (firsts-map (ordered key xs)) ∙ take-map f k (firsts from (ordered key xs))
+  pub chosen-map : (key : X → ℕ × ℕ) (key' : Y → ℕ × ℕ) → ((x : X) → key' (f x) ≡ key x) → (k : ℕ) (xs : List X)
+      → chosen_by from' key' k (map f xs) ≡ map f (chosen_by from key k xs)
+  chosen-map key key' alike k xs = ap (λ l. take k (firsts from' l)) (ordered-map_same key key' f alike xs)
+      ∙ ap (take k) (firsts-map (ordered key xs)) ∙ take-map f k (firsts from (ordered key xs))
 
 module _ {X : Type 0} (message : X → Message) where
   -- a GRANT to a message of a list whose first one has rank r, of n
@@ -229,14 +266,16 @@ module _ {X : Type 0} (message : X → Message) where
   grants-only : (window n r : ℕ) (cs : List X) (g : Granted X) → Contains (grants_from message window n r cs) g → GrantAt window n r cs g
   grants-only window n r [] g c = absurd (none_in g c)
   grants-only window n r (x ∷ xs) g c =
-      elim (Contains-append_cases (cond (ltb (message x).granted (new_end window (message x))) (grant_to window (n - 1 - r) x ∷ []) []) (grants_from message window n (suc r) xs) g c) [
+      elim (Contains-append_cases (cond (ltb (message x).granted (new_end window (message x))) (grant_to window (n - 1 - r) x ∷ []) [])
+      (grants_from message window n (suc r) xs) g c) [
         | inl first ↦ here_at (ltb (message x).granted (new_end window (message x))) refl first
         | inr later ↦
             let rest = grants-only window n (suc r) xs g later in
             record { rank = suc rest.rank; chosen = rest.chosen; offset = rest.offset; more = rest.more; prio = omega (arith, rest.prio) }
       ]
     where
-      here_at : (b : Bool) → ltb (message x).granted (new_end window (message x)) ≡ b → Contains (cond b (grant_to window (n - 1 - r) x ∷ []) []) g → GrantAt window n r (x ∷ xs) g
+      here_at : (b : Bool) → ltb (message x).granted (new_end window (message x)) ≡ b → Contains (cond b (grant_to window (n - 1 - r) x ∷ []) []) g
+          → GrantAt window n r (x ∷ xs) g
       here_at false e d = absurd (none_in g d)
       here_at true e d = elim (at_head (grant_to window (n - 1 - r) x) g [] d) [
         | inl is ↦ subst (GrantAt window n r (x ∷ xs)) is (record { rank = 0; chosen = refl; offset = refl; more = ltb-true _ _ e; prio = omega arith })
@@ -252,12 +291,15 @@ module _ {X : Type 0} (message : X → Message) where
       let place : r ≡ r + 0 = omega arith in
       let more : (message y).granted < new_end window (message y) = subst (λ (z : X). (message z).granted < new_end window (message z)) (sym is) h in
       let first : Contains (grants_from message window n r (y ∷ ys)) (grant_to window (n - 1 - r) y) =
-      Contains-append_left (cond (ltb (message y).granted (new_end window (message y))) (grant_to window (n - 1 - r) y ∷ []) []) (grants_from message window n (suc r) ys) _
+      Contains-append_left (cond (ltb (message y).granted (new_end window (message y))) (grant_to window (n - 1 - r) y ∷ []) [])
+      (grants_from message window n (suc r) ys) _
       (one_if (ltb (message y).granted (new_end window (message y))) (grant_to window (n - 1 - r) y) (lt-ltb _ _ more)) in
-      subst (λ j. Contains (grants_from message window n r (y ∷ ys)) (grant_to window (n - 1 - j) x)) place (subst (λ (z : X). Contains (grants_from message window n r (y ∷ ys)) (grant_to window (n - 1 - r) z)) is first)
+      subst (λ j. Contains (grants_from message window n r (y ∷ ys)) (grant_to window (n - 1 - j) x)) place
+      (subst (λ (z : X). Contains (grants_from message window n r (y ∷ ys)) (grant_to window (n - 1 - r) z)) is first)
   grants-all window n r (y ∷ ys) (suc i) x e h =
       let place : suc r + i ≡ r + suc i = omega arith in
-      Contains-append_right (cond (ltb (message y).granted (new_end window (message y))) (grant_to window (n - 1 - r) y ∷ []) []) (grants_from message window n (suc r) ys) _
+      Contains-append_right (cond (ltb (message y).granted (new_end window (message y))) (grant_to window (n - 1 - r) y ∷ []) [])
+      (grants_from message window n (suc r) ys) _
       (subst (λ j. Contains (grants_from message window n (suc r) ys) (grant_to window (n - 1 - j) x)) place (grants-all window n (suc r) ys i x e h))
 
   -- the GRANTs of a step are those to the chosen messages whose new ends exceed their granted ends
@@ -267,18 +309,21 @@ module _ {X : Type 0} (message : X → Message) where
       record { rank = at.rank; chosen = at.chosen; offset = at.offset; more = at.more; prio = omega (arith, at.prio) }
 
   -- and each of these gets one
-  pub chosen-grant : (k window : ℕ) (xs : List X) (r : ℕ) (x : X) → slice_get (chosen message k xs) r ≡ Some x → (message x).granted < new_end window (message x)
+  pub chosen-grant : (k window : ℕ) (xs : List X) (r : ℕ) (x : X) → slice_get (chosen message k xs) r ≡ Some x
+      → (message x).granted < new_end window (message x)
       → Contains (grants message k window xs) (record { to = x; offset = new_end window (message x); prio = length (chosen message k xs) - 1 - r })
   chosen-grant k window xs r x e h =
       let place : 0 + r ≡ r = omega arith in
-      subst (λ j. Contains (grants message k window xs) (grant_to window (length (chosen message k xs) - 1 - j) x)) place (grants-all window (length (chosen message k xs)) 0 (chosen message k xs) r x e h)
+      subst (λ j. Contains (grants message k window xs) (grant_to window (length (chosen message k xs) - 1 - j) x)) place
+      (grants-all window (length (chosen message k xs)) 0 (chosen message k xs) r x e h)
 
 -- there is at most one GRANT for each of a list
 few-grants_from : {X : Type 0} (message : X → Message) (window n r : ℕ) (cs : List X) → length (grants_from message window n r cs) ≤ length cs
 few-grants_from message window n r [] = omega arith
 few-grants_from message window n r (x ∷ xs) =
     let rest : length (grants_from message window n (suc r) xs) ≤ length xs = few-grants_from message window n (suc r) xs in
-    elim (ltb (message x).granted (new_end window (message x))) as (λ b. length (cond b (grant_to message window (n - 1 - r) x ∷ []) [] ++ grants_from message window n (suc r) xs) ≤ suc (length xs)) [
+    elim (ltb (message x).granted (new_end window (message x))) as
+    (λ b. length (cond b (grant_to message window (n - 1 - r) x ∷ []) [] ++ grants_from message window n (suc r) xs) ≤ suc (length xs)) [
       | true ↦ omega arith
       | false ↦ omega arith
     ]
@@ -286,7 +331,11 @@ few-grants_from message window n r (x ∷ xs) =
 -- so there are at most k
 pub few-grants : {X : Type 0} (message : X → Message) (k window : ℕ) (xs : List X) → length (grants message k window xs) ≤ k
 few-grants message k window xs =
-    omega (arith, few-grants_from message window (length (chosen message k xs)) 0 (chosen message k xs), few-chosen (λ x. sender (message x)) (λ x. choice_key (message x)) k xs)
+    omega (
+      arith,
+      few-grants_from message window (length (chosen message k xs)) 0 (chosen message k xs),
+      few-chosen (λ x. sender (message x)) (λ x. choice_key (message x)) k xs,
+    )
 
 -- the rows that act are at most 32
 pub few-due : {X : Type 0} (key : X → ℕ × ℕ) (now : ℕ) (xs : List X) → length (due key now xs) ≤ 32
@@ -298,7 +347,8 @@ pub deadline-due : {X : Type 0} (key : X → ℕ × ℕ) (now : ℕ) (xs : List 
 unfolding due
 deadline-due key now xs x c =
     let ys : List _ = filter (λ y. nat_le (key y).0 now) xs in
-    let d : Contains ys x = Contains-permutation (ordered key ys) ys x (IsPermutation-sym ys (ordered key ys) (permutation-ordered key ys)) (take-contains 32 (ordered key ys) x c) in
+    let d : Contains ys x = Contains-permutation (ordered key ys) ys x (IsPermutation-sym ys (ordered key ys) (permutation-ordered key ys))
+    (take-contains 32 (ordered key ys) x c) in
     (filter-contains (λ y. nat_le (key y).0 now) xs x d, leb-true (key x).0 now (filter_passes (λ y. nat_le (key y).0 now) xs x d))
 
 -- a row that is due acts, or 32 that come before it do

@@ -1,12 +1,15 @@
 -- The bounds of cutoffs are least numbers, and the level of a length is the greatest that fits.
-use Rattle.std.proofs.Common.{◌≡◌, ℕ, zero, suc, ◌+◌, ◌-◌, ◌*◌, ◌<◌, ◌≤◌, Bool, true, false, ◌&&◌, cond, ltb, leb, eqb, List, [], ◌∷◌, ◌++◌, map, length, length-append, length-drop, refl, sym, ap, ◌∙◌, arith, ◌⊎◌, inl, inr}
+use Rattle.std.proofs.Common.{◌≡◌, ℕ, zero, suc, ◌+◌, ◌-◌, ◌*◌, ◌<◌, ◌≤◌, Bool, true, false, ◌&&◌, cond, ltb, leb, eqb, List, [], ◌∷◌, ◌++◌, map}
+use Rattle.std.proofs.Common.{length, length-append, length-drop, refl, sym, ap, ◌∙◌, arith, ◌⊎◌, inl, inr}
 use Rattle.std.specs.List.{AllByRecursion, filter, list_any, sum_by}
 use Rattle.std.proofs.lemmas.Bool.Decides.{nat_tests}
 use Rattle.std.specs.Prelude.{slice_index}
-use Rattle.std.proofs.lemmas.Bool.{cond_both, lt-ltb, le-ltb, le-leb, leb-true, leb-false, eq-eqb, ne_eqb, and_parts, and_cases, or_parts, cases_Bool, cases_lt, cases_order, cases_eq, true≢false}
+use Rattle.std.proofs.lemmas.Bool.{cond_both, lt-ltb, le-ltb, le-leb, leb-true, leb-false, eq-eqb, ne_eqb, and_parts, and_cases, or_parts, cases_Bool}
+use Rattle.std.proofs.lemmas.Bool.{cases_lt, cases_order, cases_eq, true≢false}
 use Rattle.std.proofs.lemmas.Nat.{mul-le}
 use Rattle.homa_plain.specs.declared.packet.Cutoffs.{Cutoffs}
-use Rattle.homa_plain.specs.Cutoffs.{levels, noted, level_under, level_of, weight, total, weight_up_to, has_share, least_from, longest, bound, bound_of_level, bounds, balanced, IsLeastNumber, IsLevel}
+use Rattle.homa_plain.specs.Cutoffs.{levels, noted, level_under, level_of, weight, total, weight_up_to, has_share, least_from, longest, bound}
+use Rattle.homa_plain.specs.Cutoffs.{bound_of_level, bounds, balanced, IsLeastNumber, IsLevel}
 
 -- where a test holds at the last number tried, it holds at the one that is found
 passes-least_from : (test : ℕ → Bool) (b n : ℕ) → test (b + n) ≡ true → test (least_from test b n) ≡ true
@@ -46,7 +49,8 @@ all_kept b (n ∷ ns) h = let below : n ≤ b = omega arith in rw (le-leb n b be
 -- the messages up to the greatest length have all shares
 longest_passes : (m unsched : ℕ) (lengths : List ℕ) (j : ℕ) → j < m → has_share m unsched lengths j (longest lengths) ≡ true
 longest_passes m unsched lengths j h =
-    le-leb _ _ (rw (all_kept (longest lengths) lengths (omega arith)) (mul-le (j + 1) (total unsched lengths) m (total unsched lengths) (omega arith) (omega arith)))
+    le-leb _ _ (rw (all_kept (longest lengths) lengths (omega arith))
+    (mul-le (j + 1) (total unsched lengths) m (total unsched lengths) (omega arith) (omega arith)))
 
 -- there is one least number
 pub least_only : (test : ℕ → Bool) (a b : ℕ) → IsLeastNumber test a → IsLeastNumber test b → a ≡ b
@@ -62,7 +66,8 @@ same_kept : (b : ℕ) (ns : List ℕ) → list_any (eqb (b + 1)) ns ≡ false �
 same_kept b [] none = refl
 same_kept b (n ∷ ns) none =
     let parts = or_parts (eqb (b + 1) n) (list_any (eqb (b + 1)) ns) none in
-    ap (λ t. cond t (n ∷ filter (λ x. leb x (b + 1)) ns) (filter (λ x. leb x (b + 1)) ns)) (same_test b n parts.0) ∙ ap (λ l. cond (leb n b) (n ∷ l) l) (same_kept b ns parts.1) where
+    ap (λ t. cond t (n ∷ filter (λ x. leb x (b + 1)) ns) (filter (λ x. leb x (b + 1)) ns)) (same_test b n parts.0)
+    ∙ ap (λ l. cond (leb n b) (n ∷ l) l) (same_kept b ns parts.1) where
       same_test : (b n : ℕ) → eqb (b + 1) n ≡ false → leb n (b + 1) ≡ leb n b
       same_test b n e = grind (arith, nat_tests)
 
@@ -74,14 +79,17 @@ listed-bound m unsched lengths j (suc b) least =
       | inl listed ↦ inr listed
       | inr none ↦
           let next : suc b ≡ b + 1 = omega arith in
-          let same : filter (λ n. leb n (suc b)) lengths ≡ filter (λ n. leb n b) lengths = rw next (same_kept b lengths (ap (λ x. list_any (eqb x) lengths) (sym next) ∙ none)) in
-          absurd (true≢false (sym least.passes ∙ ap (λ ns. leb ((j + 1) * total unsched lengths) (m * sum_by (weight unsched) ns)) same ∙ least.others_fail b (omega arith)))
+          let same : filter (λ n. leb n (suc b)) lengths ≡ filter (λ n. leb n b) lengths =
+          rw next (same_kept b lengths (ap (λ x. list_any (eqb x) lengths) (sym next) ∙ none)) in
+          absurd (true≢false
+          (sym least.passes ∙ ap (λ ns. leb ((j + 1) * total unsched lengths) (m * sum_by (weight unsched) ns)) same ∙ least.others_fail b (omega arith)))
     ]
 
 -- each bound is the least number that has its share
 pub least-bound : (m unsched : ℕ) (lengths : List ℕ) (j : ℕ) → j < m → IsLeastNumber (has_share m unsched lengths j) (bound m unsched lengths j)
 least-bound m unsched lengths j h = record {
-  passes = passes-least_from (has_share m unsched lengths j) 0 (longest lengths) (ap (has_share m unsched lengths j) (omega arith) ∙ longest_passes m unsched lengths j h);
+  passes = passes-least_from (has_share m unsched lengths j) 0 (longest lengths)
+      (ap (has_share m unsched lengths j) (omega arith) ∙ longest_passes m unsched lengths j h);
   others_fail = λ c k. fails-least_from (has_share m unsched lengths j) 0 (longest lengths) c (omega arith) k;
 }
 
@@ -107,7 +115,8 @@ unfolding bounds
 bounds-at k unsched lengths i h = at_level (bound_of_level k unsched lengths) i h
 
 -- the levels above k have the least bounds with their shares
-pub least-balanced : (k unsched version : ℕ) (lengths : List ℕ) (j : ℕ) → j + k < 7 → IsLeastNumber (has_share (8 - k) unsched lengths j) (slice_index (balanced k unsched version lengths).upto (7 - j))
+pub least-balanced : (k unsched version : ℕ) (lengths : List ℕ) (j : ℕ) → j + k < 7
+    → IsLeastNumber (has_share (8 - k) unsched lengths j) (slice_index (balanced k unsched version lengths).upto (7 - j))
 least-balanced k unsched version lengths j h =
     let above : k ≤ 7 - j = omega arith in
     let other : 7 - j ≡ k → ⊥ = omega arith in
@@ -141,10 +150,13 @@ high_level : (k unsched : ℕ) (lengths : List ℕ) (i : ℕ) → longest length
 high_level k unsched lengths i h =
     cond_both (ltb i k) 0 (cond (eqb i k) 1000000 (bound (8 - k) unsched lengths (7 - i))) (λ b. b ≤ 1000000)
     (λ _. omega arith)
-    (λ _. cond_both (eqb i k) 1000000 (bound (8 - k) unsched lengths (7 - i)) (λ b. b ≤ 1000000) (λ _. omega arith) (λ _. omega (arith, high-bound (8 - k) unsched lengths (7 - i))))
+    (λ _. cond_both (eqb i k) 1000000 (bound (8 - k) unsched lengths (7 - i)) (λ b. b ≤ 1000000) (λ _. omega arith)
+    (λ _. omega (arith, high-bound (8 - k) unsched lengths (7 - i))))
 
-pub high-balanced : (k unsched version : ℕ) (lengths : List ℕ) → AllByRecursion (λ n. n ≤ 1000000) lengths → (i : ℕ) → i ≤ 7 → slice_index (balanced k unsched version lengths).upto i ≤ 1000000
-high-balanced k unsched version lengths all i h = rw (bounds-at k unsched lengths i (omega arith)) (high_level k unsched lengths i (longest_within 1000000 lengths all))
+pub high-balanced : (k unsched version : ℕ) (lengths : List ℕ) → AllByRecursion (λ n. n ≤ 1000000) lengths → (i : ℕ) → i ≤ 7
+    → slice_index (balanced k unsched version lengths).upto i ≤ 1000000
+high-balanced k unsched version lengths all i h =
+    rw (bounds-at k unsched lengths i (omega arith)) (high_level k unsched lengths i (longest_within 1000000 lengths all))
 
 -- a greater share has at least the bound of a smaller one
 bound-rises : (m unsched : ℕ) (lengths : List ℕ) (j : ℕ) → j + 1 < m → bound m unsched lengths j ≤ bound m unsched lengths (j + 1)
@@ -153,7 +165,9 @@ bound-rises m unsched lengths j h =
     let smaller = least-bound m unsched lengths j (omega arith) in
     elim (cases_lt (bound m unsched lengths (j + 1)) (bound m unsched lengths j)) [
       | inr rises ↦ rises
-      | inl falls ↦ absurd (true≢false (sym (share m unsched lengths j (bound m unsched lengths (j + 1)) greater.passes) ∙ smaller.others_fail (bound m unsched lengths (j + 1)) falls))
+      | inl falls ↦ absurd
+          (true≢false (sym (share m unsched lengths j (bound m unsched lengths (j + 1)) greater.passes)
+          ∙ smaller.others_fail (bound m unsched lengths (j + 1)) falls))
     ]
   where
     share : (m unsched : ℕ) (lengths : List ℕ) (j b : ℕ) → has_share m unsched lengths (j + 1) b ≡ true → has_share m unsched lengths j b ≡ true
@@ -172,10 +186,22 @@ falls-balanced k unsched version lengths all i h l = choose (cases_eq i k) where
       bounds-at k unsched lengths i l ∙ rw (le-ltb i k above, ne_eqb i k other) refl
 
   choose : ((i ≡ k) ⊎ (i ≡ k → ⊥)) → slice_index (bounds k unsched lengths) (i + 1) ≤ slice_index (bounds k unsched lengths) i
-  choose (inl is) = omega (arith, ap (slice_index (bounds k unsched lengths)) is, top-balanced k unsched version lengths (omega arith), high-balanced k unsched version lengths all (i + 1) (omega arith))
+  choose (inl is) =
+      omega (
+        arith,
+        ap (slice_index (bounds k unsched lengths)) is,
+        top-balanced k unsched version lengths (omega arith),
+        high-balanced k unsched version lengths all (i + 1) (omega arith),
+      )
   choose (inr other) =
       let next : 7 - i ≡ 7 - (i + 1) + 1 = omega arith in
-      omega (arith, upper i (omega arith) (omega arith), upper (i + 1) (omega arith) (omega arith), ap (bound (8 - k) unsched lengths) next, bound-rises (8 - k) unsched lengths (7 - (i + 1)) (omega arith))
+      omega (
+        arith,
+        upper i (omega arith) (omega arith),
+        upper (i + 1) (omega arith) (omega arith),
+        ap (bound (8 - k) unsched lengths) next,
+        bound-rises (8 - k) unsched lengths (7 - (i + 1)) (omega arith),
+      )
 
 -- at most 256 lengths are remembered
 pub few-noted : (lengths : List ℕ) (n : ℕ) → length (noted lengths n) ≤ 256
@@ -200,7 +226,8 @@ level_facts : (k n : ℕ) (upto : List ℕ) (len : ℕ) → (k ≤ level_under k
 level_facts k zero upto len = (omega arith, inl refl, inl refl, λ j h l. absurd (omega arith))
 level_facts k (suc i) upto len =
     let rest = level_facts k i upto len in
-    cond_both (leb k i && leb len (slice_index upto i)) _ _ (λ l. (k ≤ l) × ((l ≡ k) ⊎ (l < suc i)) × ((l ≡ k) ⊎ (len ≤ slice_index upto l)) × ((j : ℕ) → l < j → j < suc i → slice_index upto j < len))
+    cond_both (leb k i && leb len (slice_index upto i)) _ _
+    (λ l. (k ≤ l) × ((l ≡ k) ⊎ (l < suc i)) × ((l ≡ k) ⊎ (len ≤ slice_index upto l)) × ((j : ℕ) → l < j → j < suc i → slice_index upto j < len))
     (λ e. let both = and_parts (leb k i) (leb len (slice_index upto i)) e in
     (leb-true k i both.0, inr (omega arith), inr (leb-true len (slice_index upto i) both.1), λ j h l. absurd (omega arith)))
     (λ e. (
@@ -211,7 +238,9 @@ level_facts k (suc i) upto len =
         | inl low ↦ rest.3 j h low
         | inr top ↦
             let is : j ≡ i = omega arith in
-            let over : slice_index upto i < len = elim (and_cases (leb k i) (leb len (slice_index upto i)) e) [ inl below ↦ absurd (omega (arith, leb-false k i below, rest.0)) | inr exceeded ↦ leb-false len (slice_index upto i) exceeded ] in
+            let over : slice_index upto i < len =
+            elim (and_cases (leb k i) (leb len (slice_index upto i)) e)
+            [ inl below ↦ absurd (omega (arith, leb-false k i below, rest.0)) | inr exceeded ↦ leb-false len (slice_index upto i) exceeded ] in
             rw is over
       ],
     ))
@@ -221,8 +250,10 @@ pub level_only : (k : ℕ) (upto : List ℕ) (n i j : ℕ) → IsLevel k upto n 
 level_only k upto n i j first second =
     elim (cases_order i j) [
       | inl same ↦ same
-      | inr (inl less) ↦ elim second.fits [ inl low ↦ absurd (omega (arith, first.from)) | inr fits ↦ absurd (omega (arith, fits, first.others_exceeded j less second.to)) ]
-      | inr (inr more) ↦ elim first.fits [ inl low ↦ absurd (omega (arith, second.from)) | inr fits ↦ absurd (omega (arith, fits, second.others_exceeded i more first.to)) ]
+      | inr (inl less) ↦
+          elim second.fits [ inl low ↦ absurd (omega (arith, first.from)) | inr fits ↦ absurd (omega (arith, fits, first.others_exceeded j less second.to)) ]
+      | inr (inr more) ↦
+          elim first.fits [ inl low ↦ absurd (omega (arith, second.from)) | inr fits ↦ absurd (omega (arith, fits, second.others_exceeded i more first.to)) ]
     ]
 
 -- the level of a length
@@ -230,4 +261,9 @@ pub is_level_of : (k : ℕ) (c : Cutoffs) (n : ℕ) → k ≤ 7 → IsLevel k c.
 unfolding level_of
 is_level_of k c n h =
     let facts = level_facts k 8 c.upto n in
-    record { from = facts.0; to = elim facts.1 [ inl is ↦ omega arith | inr low ↦ omega arith ]; fits = facts.2; others_exceeded = λ j l m. facts.3 j l (omega arith) }
+    record {
+      from = facts.0;
+      to = elim facts.1 [ inl is ↦ omega arith | inr low ↦ omega arith ];
+      fits = facts.2;
+      others_exceeded = λ j l m. facts.3 j l (omega arith);
+    }

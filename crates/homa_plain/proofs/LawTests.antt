@@ -1,5 +1,6 @@
 -- The tests of a line say what the laws say.
-use Rattle.std.proofs.Common.{◌≡◌, ℕ, ◌+◌, ◌≤◌, Bool, true, false, not, ◌||◌, nat_le, Decides, List, [], ◌∷◌, length, map, Option, Some, None, Contains, refl, sym, ap, subst, inl, inr, arith}
+use Rattle.std.proofs.Common.{◌≡◌, ℕ, ◌+◌, ◌≤◌, Bool, true, false, not, ◌||◌, nat_le, Decides, List, [], ◌∷◌, length, map, Option, Some, None}
+use Rattle.std.proofs.Common.{Contains, refl, sym, ap, subst, inl, inr, arith}
 use Rattle.std.specs.Option.{option_map_or}
 use Rattle.std.specs.List.{list_any, list_all}
 use Rattle.std.proofs.lemmas.Bool.Decides.{nat_tests, Decides-eqb, Decides-ltb, Decides-not, Decides-and, Decides-like}
@@ -28,7 +29,9 @@ use Rattle.homa_plain.specs.Seen.{seen}
 use Rattle.homa_plain.specs.Shape.{IsBehind, IsNewCall, IsMade, IsCause, Shape}
 use Rattle.homa_plain.specs.Laws.{Once, answers, is_data, IsReturned, Returned, SameCalls, HandedUp, AreSpaced, IsUnanswered, Fails}
 use Rattle.homa_plain.specs.Granting.{Grant, allowed, IsAllowed, IsWithinAt, IsWithin, Granting}
-use Rattle.homa_plain.specs.Judge.{is_behind, is_new_call, is_made, is_cause, has_shape, is_called, runs_once, is_returned, returns_answer, has_call, are_same_calls, hands_up, are_spaced, is_unanswered, fails_in_time, is_role, is_grant, is_allowed, is_within_at, is_within, grants_chosen}
+use Rattle.homa_plain.specs.Judge.{is_behind, is_new_call, is_made, is_cause, has_shape, is_called, runs_once, is_returned, returns_answer, has_call}
+use Rattle.homa_plain.specs.Judge.{are_same_calls, hands_up, are_spaced, is_unanswered, fails_in_time, is_role, is_grant, is_allowed, is_within_at}
+use Rattle.homa_plain.specs.Judge.{is_within, grants_chosen}
 use Rattle.homa_plain.proofs.SettingsLemmas.{ok_is_valid}
 use Rattle.homa_plain.proofs.CallOrder.{call_total, call_same, calls_are, hosts_are}
 
@@ -83,7 +86,8 @@ between_is least most n = Decides-and _ _ (le_is least n) (le_is n most)
 
 new_call_is : (v : View) (id : CallId) (server : HostId) (request : List ℕ) → Decides (is_new_call v id server request) (IsNewCall v id server request)
 new_call_is v id server request =
-    Decides-like _ (λ h. record { new_id = h.0.0.0.0; message = h.0.0.0.1; from_host = h.0.0.1; to_host = h.0.1; differ = h.1 }) (λ h. ((((h.new_id, h.message), h.from_host), h.to_host), h.differ))
+    Decides-like _ (λ h. record { new_id = h.0.0.0.0; message = h.0.0.0.1; from_host = h.0.0.1; to_host = h.0.1; differ = h.1 })
+    (λ h. ((((h.new_id, h.message), h.from_host), h.to_host), h.differ))
     (Decides-and _ _ (Decides-and _ _ (Decides-and _ _ (Decides-and _ _ (not_is (contains_key v.calls id)) (between_is 1 1000000 (length request)))
     (Decides-ltb id.client.0 v.settings.hosts)) (Decides-ltb server.0 v.settings.hosts)) (Decides-not _ (Decides-eqb id.client.0 server.0)))
 
@@ -100,15 +104,18 @@ shape_is v (PlainSettings settings) = Decides-and _ _ (Decides-eqb v.place 0) (o
 shape_is v (PlainCall id server service bytes) = Decides-and _ _ (behind_is v) (new_call_is v id server bytes)
 shape_is v (PlainDeliver packet) = Decides-and _ _ (behind_is v) (Decides-ltb packet (length v.packets))
 shape_is v (PlainSend number from to inc role id level what payload) =
-    Decides-like _ (λ h. (h.0.0, h.0.1, h.1)) (λ h. ((h.0, h.1), h.2)) (Decides-and _ _ (Decides-and _ _ (behind_is v) (Decides-eqb number (length v.packets))) (made_is v (Some id)))
+    Decides-like _ (λ h. (h.0.0, h.0.1, h.1)) (λ h. ((h.0, h.1), h.2))
+    (Decides-and _ _ (Decides-and _ _ (behind_is v) (Decides-eqb number (length v.packets))) (made_is v (Some id)))
 shape_is v (PlainRefused line fault) = Decides-and _ _ (behind_is v) (cause_is fault)
 shape_is v line = Decides-and _ _ (behind_is v) (made_is v (named line))
 
 -- ---- once
 
-as_called : (host : HostId) (service : ℕ) (request : List ℕ) (c : Called) → Decides (is_called host service request c) (c ≡ record { server = host; service = service; request = request })
+as_called : (host : HostId) (service : ℕ) (request : List ℕ) (c : Called)
+    → Decides (is_called host service request c) (c ≡ record { server = host; service = service; request = request })
 as_called host service request c =
-    Decides-like _ (λ h. λ i. record { server = h.0.0 i; service = h.0.1 i; request = h.1 i }) (λ e. ((ap (λ d. d.server) e, ap (λ d. d.service) e), ap (λ d. d.request) e))
+    Decides-like _ (λ h. λ i. record { server = h.0.0 i; service = h.0.1 i; request = h.1 i })
+    (λ e. ((ap (λ d. d.server) e, ap (λ d. d.service) e), ap (λ d. d.request) e))
     (Decides-and _ _ (Decides-and _ _ (hosts_are c.server host) (Decides-eqb c.service service)) (bytes_eq-Decides c.request request))
 
 same_some : {A : Type 0} (x y : A) → Some x ≡ Some y → x ≡ y
@@ -142,7 +149,8 @@ has_is xs id = any_is calls_are id xs
 
 same_is : (xs ys : List CallId) → Decides (are_same_calls xs ys) (SameCalls xs ys)
 same_is xs ys =
-    Decides-like _ (λ h id. (λ c. (has_is ys id).0 (h.0 id c), λ c. (has_is xs id).0 (h.1 id c))) (λ same. (λ id c. (has_is ys id).1 ((same id).0 c), λ id c. (has_is xs id).1 ((same id).1 c)))
+    Decides-like _ (λ h id. (λ c. (has_is ys id).0 (h.0 id c), λ c. (has_is xs id).0 (h.1 id c)))
+    (λ same. (λ id c. (has_is ys id).1 ((same id).0 c), λ id c. (has_is xs id).1 ((same id).1 c)))
     (Decides-and _ _ (all_are (has_call ys) xs) (all_are (has_call xs) ys))
 
 pub handed_up_is : (v : View) (line : PlainEntry) → Decides (hands_up v line) (HandedUp v line)
@@ -159,7 +167,8 @@ unanswered_is : (v : View) (id : CallId) → Decides (is_unanswered v id) (IsUna
 unanswered_is v id =
     Decides-and _ _ (Decides-eqb (length (resends_of v.now id)) v.settings.tries) (spaced_are v.settings.resend (own_tick v id.client ∷ resends_of v.now id))
 
-forgotten_is : (v : View) (line : PlainEntry) → Decides (not (closes line) || are_same_calls v.here.forgotten v.now.due.forgotten) (closes line ≡ true → SameCalls v.here.forgotten v.now.due.forgotten)
+forgotten_is : (v : View) (line : PlainEntry) → Decides (not (closes line) || are_same_calls v.here.forgotten v.now.due.forgotten)
+    (closes line ≡ true → SameCalls v.here.forgotten v.now.due.forgotten)
 forgotten_is v line = implied (closes line) _ _ (same_is v.here.forgotten v.now.due.forgotten)
 
 pub fails_is : (v : View) (line : PlainEntry) → Decides (fails_in_time v line) (Fails v line)
@@ -179,9 +188,12 @@ grants_are : (g h : Grant) → Decides (is_grant g h) (g ≡ h)
 grants_are g h =
     Decides-like _ (λ e. λ i. record { to = e.0.0.0.0 i; role = e.0.0.0.1 i; id = e.0.0.1 i; offset = e.0.1 i; prio = e.1 i })
     (λ e. ((((ap (λ x. x.to) e, ap (λ x. x.role) e), ap (λ x. x.id) e), ap (λ x. x.offset) e), ap (λ x. x.prio) e))
-    (Decides-and _ _ (Decides-and _ _ (Decides-and _ _ (Decides-and _ _ (hosts_are g.to h.to) (roles_are g.role h.role)) (calls_are g.id h.id)) (Decides-eqb g.offset h.offset)) (Decides-eqb g.prio h.prio))
+    (Decides-and _ _
+    (Decides-and _ _ (Decides-and _ _ (Decides-and _ _ (hosts_are g.to h.to) (roles_are g.role h.role)) (calls_are g.id h.id))
+    (Decides-eqb g.offset h.offset)) (Decides-eqb g.prio h.prio))
 
-allowed_is : (v : View) (from to : HostId) (role : Role) (id : CallId) (what : Body) → Decides (is_allowed v from to role id what) (IsAllowed v from to role id what)
+allowed_is : (v : View) (from to : HostId) (role : Role) (id : CallId) (what : Body)
+    → Decides (is_allowed v from to role id what) (IsAllowed v from to role id what)
 allowed_is v from to role id (body.Grant offset prio) = any_is grants_are _ (allowed v from)
 allowed_is v from to role id other = always
 
@@ -201,12 +213,14 @@ parts_within window parts =
     (λ all e c. (message_within window e.1).1 (subst (IsWithinAt window) (get-entry call_total call_same parts e.0 e.1 c) (all e.0)))
     (of_entries (is_within_at window) parts.list)
   where
-    at_call : ((e : CallId × Part) → Contains parts.list e → is_within_at window e.1 ≡ true) → (id : CallId) (o : Option Part) → get parts id ≡ o → IsWithinAt window o
+    at_call : ((e : CallId × Part) → Contains parts.list e → is_within_at window e.1 ≡ true) → (id : CallId) (o : Option Part) → get parts id ≡ o
+        → IsWithinAt window o
     at_call all id None e = tt
     at_call all id (Some p) e = (message_within window p).0 (all (id, p) (entry-get call_total call_same parts id p e))
 
 within_is : (v : View) → Decides (is_within v) (IsWithin v)
-within_is v = Decides-like _ (λ h id. (h.0 id, h.1 id)) (λ h. (λ id. (h id).0, λ id. (h id).1)) (Decides-and _ _ (parts_within v.settings.window v.now.requests) (parts_within v.settings.window v.now.responses))
+within_is v = Decides-like _ (λ h id. (h.0 id, h.1 id)) (λ h. (λ id. (h id).0, λ id. (h id).1))
+    (Decides-and _ _ (parts_within v.settings.window v.now.requests) (parts_within v.settings.window v.now.responses))
 
 pub granting_is : (v : View) (line : PlainEntry) → Decides (grants_chosen v line) (Granting v line)
 granting_is v (PlainSend number from to inc role id level what payload) =

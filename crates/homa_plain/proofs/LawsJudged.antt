@@ -1,12 +1,15 @@
 -- Judging line by line finds the first line that breaks a law.
-use Rattle.std.proofs.Common.{◌≡◌, ℕ, ◌+◌, Bool, true, false, not, cond, Decides, ◌↔◌, List, [], ◌∷◌, ◌++◌, length, Option, Some, None, refl, ap, subst, ◌∙◌, arith}
+use Rattle.std.proofs.Common.{◌≡◌, ℕ, ◌+◌, Bool, true, false, not, cond, Decides, ◌↔◌, List, [], ◌∷◌, ◌++◌, length, Option, Some, None, refl, ap}
+use Rattle.std.proofs.Common.{subst, ◌∙◌, arith}
 use Rattle.homa_plain.specs.Entries.{PlainEntry}
 use Rattle.homa_plain.specs.View.{View, nothing_seen}
 use Rattle.homa_plain.specs.Seen.{seen, seen_all}
 use Rattle.homa_plain.specs.Shape.{Shape}
 use Rattle.homa_plain.specs.Laws.{Holds, Once, Returned, HandedUp, Fails}
 use Rattle.homa_plain.specs.Granting.{Granting}
-use Rattle.homa_plain.specs.Judge.{has_shape, runs_once, returns_answer, hands_up, fails_in_time, grants_chosen, Clause, ShapeClause, OnceClause, ReturnedClause, HandedUpClause, FailsClause, GrantingClause, judged, found_or, first_from, first_broken, Obeys, FailsFirst, IsFirstBroken}
+use Rattle.homa_plain.specs.Judge.{has_shape, runs_once, returns_answer, hands_up, fails_in_time, grants_chosen, Clause, ShapeClause, OnceClause}
+use Rattle.homa_plain.specs.Judge.{ReturnedClause, HandedUpClause, FailsClause, GrantingClause, judged, found_or, first_from, first_broken, Obeys}
+use Rattle.homa_plain.specs.Judge.{FailsFirst, IsFirstBroken}
 use Rattle.homa_plain.proofs.LawTests.{shape_is, once_is, returned_is, handed_up_is, fails_is, granting_is}
 
 -- ---- one line
@@ -25,17 +28,24 @@ Judges v line None = Obeys v line
 Judges v line (Some clause) = FailsFirst v line clause
 
 -- the clauses one behind the other
-by_clauses : (a b c d e f : Bool) (A B C D E F : Type 0) (P : Option Clause → Type 0) → Decides a A → Decides b B → Decides c C → Decides d D → Decides e E → Decides f F
-    → ((¬ A) → P (Some ShapeClause)) → (A → (¬ B) → P (Some OnceClause)) → (A → B → (¬ C) → P (Some ReturnedClause)) → (A → B → C → (¬ D) → P (Some HandedUpClause))
+by_clauses : (a b c d e f : Bool) (A B C D E F : Type 0) (P : Option Clause → Type 0) → Decides a A → Decides b B → Decides c C → Decides d D
+    → Decides e E → Decides f F
+    → ((¬ A) → P (Some ShapeClause)) → (A → (¬ B) → P (Some OnceClause)) → (A → B → (¬ C) → P (Some ReturnedClause))
+    → (A → B → C → (¬ D) → P (Some HandedUpClause))
     → (A → B → C → D → (¬ E) → P (Some FailsClause)) → (A → B → C → D → E → (¬ F) → P (Some GrantingClause)) → (A → B → C → D → E → F → P None)
-    → P (cond (not a) (Some ShapeClause) (cond (not b) (Some OnceClause) (cond (not c) (Some ReturnedClause) (cond (not d) (Some HandedUpClause) (cond (not e) (Some FailsClause) (cond (not f) (Some GrantingClause) None))))))
+    → P (cond (not a) (Some ShapeClause)
+    (cond (not b) (Some OnceClause)
+    (cond (not c) (Some ReturnedClause) (cond (not d) (Some HandedUpClause) (cond (not e) (Some FailsClause) (cond (not f) (Some GrantingClause) None))))))
 by_clauses false b c d e f A B C D E F P da db dc dd de df s o r h t g all = s (failed false A da refl)
 by_clauses true false c d e f A B C D E F P da db dc dd de df s o r h t g all = o (da.0 refl) (failed false B db refl)
 by_clauses true true false d e f A B C D E F P da db dc dd de df s o r h t g all = r (da.0 refl) (db.0 refl) (failed false C dc refl)
 by_clauses true true true false e f A B C D E F P da db dc dd de df s o r h t g all = h (da.0 refl) (db.0 refl) (dc.0 refl) (failed false D dd refl)
-by_clauses true true true true false f A B C D E F P da db dc dd de df s o r h t g all = t (da.0 refl) (db.0 refl) (dc.0 refl) (dd.0 refl) (failed false E de refl)
-by_clauses true true true true true false A B C D E F P da db dc dd de df s o r h t g all = g (da.0 refl) (db.0 refl) (dc.0 refl) (dd.0 refl) (de.0 refl) (failed false F df refl)
-by_clauses true true true true true true A B C D E F P da db dc dd de df s o r h t g all = all (da.0 refl) (db.0 refl) (dc.0 refl) (dd.0 refl) (de.0 refl) (df.0 refl)
+by_clauses true true true true false f A B C D E F P da db dc dd de df s o r h t g all =
+    t (da.0 refl) (db.0 refl) (dc.0 refl) (dd.0 refl) (failed false E de refl)
+by_clauses true true true true true false A B C D E F P da db dc dd de df s o r h t g all =
+    g (da.0 refl) (db.0 refl) (dc.0 refl) (dd.0 refl) (de.0 refl) (failed false F df refl)
+by_clauses true true true true true true A B C D E F P da db dc dd de df s o r h t g all =
+    all (da.0 refl) (db.0 refl) (dc.0 refl) (dd.0 refl) (de.0 refl) (df.0 refl)
 
 judged_is : (v : View) (line : PlainEntry) → Judges v line (judged v line)
 unfolding judged
@@ -49,7 +59,14 @@ judged_is v line =
 judged-none : (v : View) (line : PlainEntry) → Obeys v line → judged v line ≡ None
 unfolding judged
 judged-none v line all =
-    rw ((shape_is v line).1 all.shape, (once_is v line).1 all.once, (returned_is v line).1 all.returned, (handed_up_is v line).1 all.handed_up, (fails_is v line).1 all.fails, (granting_is v line).1 all.granting) refl
+    rw (
+      (shape_is v line).1 all.shape,
+      (once_is v line).1 all.once,
+      (returned_is v line).1 all.returned,
+      (handed_up_is v line).1 all.handed_up,
+      (fails_is v line).1 all.fails,
+      (granting_is v line).1 all.granting,
+    ) refl
 
 judged-some : (v : View) (line : PlainEntry) (clause : Clause) → FailsFirst v line clause → judged v line ≡ Some clause
 unfolding judged
@@ -57,9 +74,17 @@ judged-some v line ShapeClause f = rw (unmet _ _ (shape_is v line) f) refl
 judged-some v line OnceClause f = rw ((shape_is v line).1 f.0, unmet _ _ (once_is v line) f.1) refl
 judged-some v line ReturnedClause f = rw ((shape_is v line).1 f.0, (once_is v line).1 f.1, unmet _ _ (returned_is v line) f.2) refl
 judged-some v line HandedUpClause f = rw ((shape_is v line).1 f.0, (once_is v line).1 f.1, (returned_is v line).1 f.2, unmet _ _ (handed_up_is v line) f.3) refl
-judged-some v line FailsClause f = rw ((shape_is v line).1 f.0, (once_is v line).1 f.1, (returned_is v line).1 f.2, (handed_up_is v line).1 f.3, unmet _ _ (fails_is v line) f.4) refl
+judged-some v line FailsClause f =
+    rw ((shape_is v line).1 f.0, (once_is v line).1 f.1, (returned_is v line).1 f.2, (handed_up_is v line).1 f.3, unmet _ _ (fails_is v line) f.4) refl
 judged-some v line GrantingClause f =
-    rw ((shape_is v line).1 f.0, (once_is v line).1 f.1, (returned_is v line).1 f.2, (handed_up_is v line).1 f.3, (fails_is v line).1 f.4, unmet _ _ (granting_is v line) f.5) refl
+    rw (
+      (shape_is v line).1 f.0,
+      (once_is v line).1 f.1,
+      (returned_is v line).1 f.2,
+      (handed_up_is v line).1 f.3,
+      (fails_is v line).1 f.4,
+      unmet _ _ (granting_is v line) f.5,
+    ) refl
 
 -- ---- many lines
 
@@ -82,7 +107,8 @@ abbrev Found : View → List PlainEntry → Option (ℕ × Clause) → Type 0
 Found v lines None = Holds Obeys v lines
 Found v lines (Some found) = IsBroken v lines found.0 found.1
 
-later : (v : View) (line : PlainEntry) (lines : List PlainEntry) (k : ℕ) (clause : Clause) → Obeys v line → IsBroken (seen v line) lines k clause → IsBroken v (line ∷ lines) k clause
+later : (v : View) (line : PlainEntry) (lines : List PlainEntry) (k : ℕ) (clause : Clause) → Obeys v line → IsBroken (seen v line) lines k clause
+    → IsBroken v (line ∷ lines) k clause
 later v line lines k clause here is = record {
   before = line ∷ is.before;
   line = is.line;
@@ -93,10 +119,12 @@ later v line lines k clause here is = record {
   broken = is.broken;
 }
 
-next_found : (v : View) (line : PlainEntry) (lines : List PlainEntry) (c : Option Clause) (o : Option (ℕ × Clause)) → Judges v line c → Found (seen v line) lines o → Found v (line ∷ lines) (found_or (v.place + 1) c o)
+next_found : (v : View) (line : PlainEntry) (lines : List PlainEntry) (c : Option Clause) (o : Option (ℕ × Clause)) → Judges v line c
+    → Found (seen v line) lines o → Found v (line ∷ lines) (found_or (v.place + 1) c o)
 next_found v line lines None None here rest = (here, rest)
 next_found v line lines None (Some found) here rest = later v line lines found.0 found.1 here rest
-next_found v line lines (Some clause) o here rest = record { before = []; line = line; behind = lines; parts = refl; number = omega arith; obeyed = tt; broken = here }
+next_found v line lines (Some clause) o here rest =
+    record { before = []; line = line; behind = lines; parts = refl; number = omega arith; obeyed = tt; broken = here }
 
 first_is : (lines : List PlainEntry) (v : View) → Found v lines (first_from v lines)
 first_is [] v = tt
@@ -108,7 +136,8 @@ none-first [] v all = refl
 none-first (line ∷ lines) v all = rw (judged-none v line all.0) (none-first lines (seen v line) all.1)
 
 -- the first that breaks a law is found
-some-first : (before : List PlainEntry) (v : View) (line : PlainEntry) (behind : List PlainEntry) (clause : Clause) → Holds Obeys v before → FailsFirst (seen_all v before) line clause
+some-first : (before : List PlainEntry) (v : View) (line : PlainEntry) (behind : List PlainEntry) (clause : Clause) → Holds Obeys v before
+    → FailsFirst (seen_all v before) line clause
     → first_from v (before ++ line ∷ behind) ≡ Some (v.place + length before + 1, clause)
 some-first [] v line behind clause all fails = rw (judged-some v line clause fails) (ap (λ (k : ℕ). Some (k, clause)) (omega arith))
 some-first (x ∷ before) v line behind clause all fails =
@@ -123,23 +152,34 @@ pub none_found : (lines : List PlainEntry) → (first_broken lines ≡ None) ↔
 none_found lines = (λ e. none_by nothing_seen lines (first_broken lines) e (first_is lines nothing_seen), none-first lines nothing_seen)
 
 -- a line and a clause are found exactly where they are the first
-some_by : (lines : List PlainEntry) (k : ℕ) (clause : Clause) (o : Option (ℕ × Clause)) → o ≡ Some (k, clause) → Found nothing_seen lines o → IsFirstBroken lines k clause
+some_by : (lines : List PlainEntry) (k : ℕ) (clause : Clause) (o : Option (ℕ × Clause)) → o ≡ Some (k, clause) → Found nothing_seen lines o
+    → IsFirstBroken lines k clause
 some_by lines k clause None e found = absurd cc
 some_by lines k clause (Some x) e found =
     let is : x ≡ (k, clause) = cc in
     let broken = subst (λ (y : ℕ × Clause). IsBroken nothing_seen lines y.0 y.1) is found in
-    record { before = broken.before; line = broken.line; behind = broken.behind; parts = broken.parts; number = omega arith; obeyed = broken.obeyed; broken = broken.broken }
+    record {
+      before = broken.before;
+      line = broken.line;
+      behind = broken.behind;
+      parts = broken.parts;
+      number = omega arith;
+      obeyed = broken.obeyed;
+      broken = broken.broken;
+    }
 
 pub some_found : (lines : List PlainEntry) (k : ℕ) (clause : Clause) → (first_broken lines ≡ Some (k, clause)) ↔ IsFirstBroken lines k clause
 some_found lines k clause = (
   λ e. some_by lines k clause (first_broken lines) e (first_is lines nothing_seen),
-  λ is. ap first_broken is.parts ∙ some-first is.before nothing_seen is.line is.behind clause is.obeyed is.broken ∙ ap (λ (n : ℕ). Some (n, clause)) (omega arith),
+  λ is. ap first_broken is.parts ∙ some-first is.before nothing_seen is.line is.behind clause is.obeyed is.broken ∙ ap (λ (n : ℕ). Some (n, clause))
+      (omega arith),
 )
 
 -- ---- lists of lines
 
 -- a law holds at lines and then at more lines
-pub Holds-append : (law : View → PlainEntry → Type 0) (v : View) (xs ys : List PlainEntry) → Holds law v xs → Holds law (seen_all v xs) ys → Holds law v (xs ++ ys)
+pub Holds-append : (law : View → PlainEntry → Type 0) (v : View) (xs ys : List PlainEntry) → Holds law v xs → Holds law (seen_all v xs) ys
+    → Holds law v (xs ++ ys)
 Holds-append law v [] ys first rest = rest
 Holds-append law v (x ∷ xs) ys first rest = (first.0, Holds-append law (seen v x) xs ys first.1 rest)
 
@@ -149,10 +189,15 @@ seen_all-append v (x ∷ xs) ys = seen_all-append (seen v x) xs ys
 
 -- all laws hold at each line exactly where each law does
 pub each_law : (v : View) (lines : List PlainEntry)
-    → Holds Obeys v lines ↔ (Holds Shape v lines × Holds Once v lines × Holds Returned v lines × Holds HandedUp v lines × Holds Fails v lines × Holds Granting v lines)
+    → Holds Obeys v lines ↔ (Holds Shape v lines × Holds Once v lines × Holds Returned v lines × Holds HandedUp v lines × Holds Fails v lines
+    × Holds Granting v lines)
 each_law v [] = (λ u. (tt, tt, tt, tt, tt, tt), λ u. tt)
 each_law v (line ∷ lines) =
     let rest = each_law (seen v line) lines in (
-      λ all. let h = rest.0 all.1 in ((all.0.shape, h.0), (all.0.once, h.1), (all.0.returned, h.2), (all.0.handed_up, h.3), (all.0.fails, h.4), (all.0.granting, h.5)),
-      λ h. (record { shape = h.0.0; once = h.1.0; returned = h.2.0; handed_up = h.3.0; fails = h.4.0; granting = h.5.0 }, rest.1 (h.0.1, h.1.1, h.2.1, h.3.1, h.4.1, h.5.1)),
+      λ all. let h =
+          rest.0 all.1 in ((all.0.shape, h.0), (all.0.once, h.1), (all.0.returned, h.2), (all.0.handed_up, h.3), (all.0.fails, h.4), (all.0.granting, h.5)),
+      λ h. (
+        record { shape = h.0.0; once = h.1.0; returned = h.2.0; handed_up = h.3.0; fails = h.4.0; granting = h.5.0 },
+        rest.1 (h.0.1, h.1.1, h.2.1, h.3.1, h.4.1, h.5.1),
+      ),
     )

@@ -7,7 +7,8 @@ use Rattle.homa_plain.specs.declared.packet.Role.TheVariants.{Client, Server}
 use Rattle.homa_plain.specs.declared.fault.LineFault.TheVariants.{World}
 use Rattle.homa_plain.specs.declared.fault.WorldFault.TheVariants.{NoSuchPacket, NoMemory}
 use Rattle.homa_plain.specs.Settings.{usual}
-use Rattle.homa_plain.specs.Entries.{PlainEntry, PlainSettings, PlainCall, PlainDeliver, PlainClock, PlainRun, PlainDone, PlainDrop, PlainFinished, PlainRefused}
+use Rattle.homa_plain.specs.Entries.{PlainEntry, PlainSettings, PlainCall, PlainDeliver, PlainClock, PlainRun, PlainDone, PlainDrop, PlainFinished}
+use Rattle.homa_plain.specs.Entries.{PlainRefused}
 use Rattle.homa_plain.specs.Seen.{seen}
 use Rattle.homa_plain.specs.Granting.{allowed}
 use Rattle.homa_plain.specs.Judge.{ShapeClause, OnceClause, ReturnedClause, HandedUpClause, judged, first_broken}
@@ -101,7 +102,9 @@ unfolding empty insert insert_all remove retain checked get len values with_rang
 done_too_early = refl
 
 -- a request that reaches another host than the server is not due there, nor at the server
-pub to_other_host : first_broken (PlainSettings (record usual { hosts = 3 }) ∷ PlainCall (call 0 0) (host 1) 0 (97 ∷ []) ∷ piece 0 0 2 Client (call 0 0) 1 0 (97 ∷ []) ∷ PlainDeliver 0 ∷ PlainFinished 2 ∷ []) ≡ None
+pub to_other_host : first_broken
+    (PlainSettings (record usual { hosts = 3 }) ∷ PlainCall (call 0 0) (host 1) 0 (97 ∷ []) ∷ piece 0 0 2 Client (call 0 0) 1 0 (97 ∷ []) ∷
+    PlainDeliver 0 ∷ PlainFinished 2 ∷ []) ≡ None
 unfolding empty insert insert_all remove retain checked get len values with_range ordered firsts seen allowed judged
 to_other_host = refl
 

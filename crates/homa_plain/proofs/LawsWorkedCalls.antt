@@ -9,7 +9,8 @@ use Rattle.homa_plain.specs.declared.entry.Why.TheVariants.{Timeout, Forgotten}
 use Rattle.homa_plain.specs.declared.fault.LineFault.TheVariants.{World}
 use Rattle.homa_plain.specs.declared.fault.WorldFault.TheVariants.{Late}
 use Rattle.homa_plain.specs.Settings.{usual}
-use Rattle.homa_plain.specs.Entries.{PlainEntry, PlainSettings, PlainCall, PlainDeliver, PlainClock, PlainRestart, PlainSend, PlainRun, PlainDone, PlainFail, PlainBury, PlainFree, PlainFullRows, PlainFinished, PlainRefused}
+use Rattle.homa_plain.specs.Entries.{PlainEntry, PlainSettings, PlainCall, PlainDeliver, PlainClock, PlainRestart, PlainSend, PlainRun, PlainDone}
+use Rattle.homa_plain.specs.Entries.{PlainFail, PlainBury, PlainFree, PlainFullRows, PlainFinished, PlainRefused}
 use Rattle.homa_plain.specs.Seen.{seen}
 use Rattle.homa_plain.specs.Granting.{allowed}
 use Rattle.homa_plain.specs.Judge.{judged, first_broken}

@@ -88,22 +88,27 @@ unfolding empty insert insert_all remove retain checked get len values with_rang
 one_resend = refl
 
 -- and three are too many
-pub three_resends : first_broken (two_resends ++ said 3 0 1 Client (call 0 0) (body.Resend 0 10000 3) ∷ clocks 7 2 ++ PlainFail (call 0 0) Timeout ∷ []) ≡ Some (15, FailsClause)
+pub three_resends : first_broken
+    (two_resends ++ said 3 0 1 Client (call 0 0) (body.Resend 0 10000 3) ∷ clocks 7 2 ++ PlainFail (call 0 0) Timeout ∷ []) ≡ Some (15, FailsClause)
 unfolding empty insert insert_all remove retain checked get len values with_range ordered firsts seen allowed judged
 three_resends = refl
 
 -- the last RESEND is a tick behind the one before it
-pub too_close : first_broken (take 7 two_resends ++ said 2 0 1 Client (call 0 0) (body.Resend 0 10000 3) ∷ clocks 4 2 ++ PlainFail (call 0 0) Timeout ∷ []) ≡ Some (11, FailsClause)
+pub too_close : first_broken
+    (take 7 two_resends ++ said 2 0 1 Client (call 0 0) (body.Resend 0 10000 3) ∷ clocks 4 2 ++ PlainFail (call 0 0) Timeout ∷ []) ≡ Some (11, FailsClause)
 unfolding empty insert insert_all remove retain checked get len values with_range ordered firsts seen allowed judged
 too_close = refl
 
 -- BUSY renews the call
-pub renewed_by_busy : first_broken (two_resends ++ said 3 1 0 Server (call 0 0) body.Busy ∷ PlainDeliver 3 ∷ PlainFail (call 0 0) Timeout ∷ []) ≡ Some (14, FailsClause)
+pub renewed_by_busy : first_broken (two_resends ++ said 3 1 0 Server (call 0 0) body.Busy ∷ PlainDeliver 3 ∷ PlainFail (call 0 0) Timeout ∷ []) ≡ Some
+    (14, FailsClause)
 unfolding empty insert insert_all remove retain checked get len values with_range ordered firsts seen allowed judged
 renewed_by_busy = refl
 
 -- UNKNOWN does not, nor what another host sends
-pub not_renewed : first_broken (two_resends ++ said 3 1 0 Server (call 0 0) (body.Unknown 0) ∷ said 4 0 0 Server (call 0 0) body.Busy ∷ PlainDeliver 3 ∷ PlainDeliver 4 ∷ PlainFail (call 0 0) Timeout ∷ PlainFinished 8 ∷ []) ≡ None
+pub not_renewed : first_broken
+    (two_resends ++ said 3 1 0 Server (call 0 0) (body.Unknown 0) ∷ said 4 0 0 Server (call 0 0) body.Busy ∷ PlainDeliver 3 ∷ PlainDeliver 4 ∷
+    PlainFail (call 0 0) Timeout ∷ PlainFinished 8 ∷ []) ≡ None
 unfolding empty insert insert_all remove retain checked get len values with_range ordered firsts seen allowed judged
 not_renewed = refl
 

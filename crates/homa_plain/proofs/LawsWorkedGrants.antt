@@ -227,7 +227,8 @@ unfolding empty insert insert_all remove retain checked get len values with_rang
 granted_response_obeys = refl
 
 -- but not where its client restarted
-pub granted_too_late : first_broken (take 7 granted_response ++ PlainRestart (host 0) 2 ∷ said 2 0 1 Client (call 0 0) (body.Grant 8 0) ∷ []) ≡ Some (9, GrantingClause)
+pub granted_too_late : first_broken (take 7 granted_response ++ PlainRestart (host 0) 2 ∷ said 2 0 1 Client (call 0 0) (body.Grant 8 0) ∷ []) ≡ Some
+    (9, GrantingClause)
 unfolding empty insert insert_all remove retain checked get len values with_range ordered firsts seen allowed judged
 granted_too_late = refl
 

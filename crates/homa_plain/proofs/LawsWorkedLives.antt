@@ -7,7 +7,8 @@ use Rattle.homa_plain.specs.declared.packet.Role.TheVariants.{Client, Server}
 use Rattle.homa_plain.specs.declared.packet.Body.TheVariants as body
 use Rattle.homa_plain.specs.Script.{counting}
 use Rattle.homa_plain.specs.Settings.{usual}
-use Rattle.homa_plain.specs.Entries.{PlainEntry, PlainSettings, PlainCall, PlainDeliver, PlainClock, PlainRestart, PlainSend, PlainRun, PlainDone, PlainFullPages, PlainRecv, PlainFinished}
+use Rattle.homa_plain.specs.Entries.{PlainEntry, PlainSettings, PlainCall, PlainDeliver, PlainClock, PlainRestart, PlainSend, PlainRun, PlainDone}
+use Rattle.homa_plain.specs.Entries.{PlainFullPages, PlainRecv, PlainFinished}
 use Rattle.homa_plain.specs.Seen.{seen}
 use Rattle.homa_plain.specs.Granting.{allowed}
 use Rattle.homa_plain.specs.Judge.{OnceClause, ReturnedClause, HandedUpClause, judged, first_broken}
@@ -48,7 +49,8 @@ unfolding empty insert insert_all remove retain checked get len values with_rang
 first_life = refl
 
 -- a piece of the first life, and then the response of the second
-pub second_life : first_broken (two_lives ++ PlainDeliver 2 ∷ PlainDeliver 5 ∷ PlainDeliver 4 ∷ PlainDone (call 0 0) second_answer ∷ PlainFinished 9 ∷ []) ≡ None
+pub second_life : first_broken
+    (two_lives ++ PlainDeliver 2 ∷ PlainDeliver 5 ∷ PlainDeliver 4 ∷ PlainDone (call 0 0) second_answer ∷ PlainFinished 9 ∷ []) ≡ None
 unfolding empty insert insert_all remove retain checked get len values with_range ordered firsts seen allowed judged
 second_life = refl
 
@@ -58,12 +60,14 @@ unfolding empty insert insert_all remove retain checked get len values with_rang
 mixed = refl
 
 -- an older packet does not count behind a newer one
-pub older_ignored : first_broken (two_lives ++ PlainDeliver 5 ∷ PlainDeliver 2 ∷ PlainDone (call 0 0) second_answer ∷ PlainFinished 8 ∷ []) ≡ Some (18, ReturnedClause)
+pub older_ignored : first_broken (two_lives ++ PlainDeliver 5 ∷ PlainDeliver 2 ∷ PlainDone (call 0 0) second_answer ∷ PlainFinished 8 ∷ []) ≡ Some
+    (18, ReturnedClause)
 unfolding empty insert insert_all remove retain checked get len values with_range ordered firsts seen allowed judged
 older_ignored = refl
 
 -- a packet of the second life that is refused counts all the same: what the first life sent is gone
-pub refused_counts : first_broken (two_lives ++ PlainDeliver 2 ∷ PlainDeliver 4 ∷ PlainFullPages (host 0) (call 0 0) 1 0 ∷ PlainDeliver 3 ∷ PlainFinished 8 ∷ []) ≡ None
+pub refused_counts : first_broken
+    (two_lives ++ PlainDeliver 2 ∷ PlainDeliver 4 ∷ PlainFullPages (host 0) (call 0 0) 1 0 ∷ PlainDeliver 3 ∷ PlainFinished 8 ∷ []) ≡ None
 unfolding empty insert insert_all remove retain checked get len values with_range ordered firsts seen allowed judged
 refused_counts = refl
 
@@ -73,7 +77,8 @@ unfolding empty insert insert_all remove retain checked get len values with_rang
 client_restarted = refl
 
 -- the answer of the first life with the packets of the second
-pub other_life : first_broken (two_lives ++ PlainDeliver 4 ∷ PlainDeliver 5 ∷ PlainDone (call 0 0) first_answer ∷ PlainFinished 8 ∷ []) ≡ Some (18, ReturnedClause)
+pub other_life : first_broken (two_lives ++ PlainDeliver 4 ∷ PlainDeliver 5 ∷ PlainDone (call 0 0) first_answer ∷ PlainFinished 8 ∷ []) ≡ Some
+    (18, ReturnedClause)
 unfolding empty insert insert_all remove retain checked get len values with_range ordered firsts seen allowed judged
 other_life = refl
 
@@ -93,12 +98,16 @@ ran =
     []
 
 -- the first packet of a host tells the incarnation of its first life
-pub first_packet : first_broken (ran ++ piece 1 1 0 Server (call 0 0) 1 0 (97 ∷ []) ∷ PlainRestart (host 1) 2 ∷ PlainDeliver 1 ∷ PlainDone (call 0 0) (97 ∷ []) ∷ PlainFinished 3 ∷ []) ≡ None
+pub first_packet : first_broken
+    (ran ++ piece 1 1 0 Server (call 0 0) 1 0 (97 ∷ []) ∷ PlainRestart (host 1) 2 ∷ PlainDeliver 1 ∷ PlainDone (call 0 0) (97 ∷ []) ∷ PlainFinished 3
+    ∷ []) ≡ None
 unfolding empty insert insert_all remove retain checked get len values with_range ordered firsts seen allowed judged
 first_packet = refl
 
 -- but not behind a restart: a life without packets has no incarnation
-pub silent_life : first_broken (ran ++ PlainRestart (host 1) 2 ∷ piece 1 1 0 Server (call 0 0) 1 0 (97 ∷ []) ∷ PlainDeliver 1 ∷ PlainDone (call 0 0) (97 ∷ []) ∷ []) ≡ Some (9, ReturnedClause)
+pub silent_life : first_broken
+    (ran ++ PlainRestart (host 1) 2 ∷ piece 1 1 0 Server (call 0 0) 1 0 (97 ∷ []) ∷ PlainDeliver 1 ∷ PlainDone (call 0 0) (97 ∷ []) ∷ []) ≡ Some
+    (9, ReturnedClause)
 unfolding empty insert insert_all remove retain checked get len values with_range ordered firsts seen allowed judged
 silent_life = refl
 
@@ -167,15 +176,18 @@ node =
     []
 
 pub node_obeys : first_broken node ≡ None
-unfolding empty insert insert_all remove retain checked get len values with_range ordered firsts seen allowed judged packet_in packet_at packet_of body_at tick_at data_at ack_at times two_at number_at
+unfolding empty insert insert_all remove retain checked get len values with_range ordered firsts seen allowed judged packet_in packet_at packet_of
+    body_at tick_at data_at ack_at times two_at number_at
 node_obeys = refl
 
 -- a datagram that is no packet delivers nothing
 pub no_packet : first_broken (take 4 node ++ PlainRecv (host 1) (host 0) (0 ∷ frame Client) ∷ PlainFinished 1 ∷ []) ≡ None
-unfolding empty insert insert_all remove retain checked get len values with_range ordered firsts seen allowed judged packet_in packet_at packet_of body_at tick_at data_at ack_at times two_at number_at
+unfolding empty insert insert_all remove retain checked get len values with_range ordered firsts seen allowed judged packet_in packet_at packet_of
+    body_at tick_at data_at ack_at times two_at number_at
 no_packet = refl
 
 -- one that is a packet does
 pub a_packet : first_broken (take 5 node ++ PlainFinished 1 ∷ []) ≡ Some (6, HandedUpClause)
-unfolding empty insert insert_all remove retain checked get len values with_range ordered firsts seen allowed judged packet_in packet_at packet_of body_at tick_at data_at ack_at times two_at number_at
+unfolding empty insert insert_all remove retain checked get len values with_range ordered firsts seen allowed judged packet_in packet_at packet_of
+    body_at tick_at data_at ack_at times two_at number_at
 a_packet = refl

@@ -8,7 +8,8 @@ use Rattle.homa_plain.specs.declared.packet.Body.TheVariants as body
 use Rattle.homa_plain.specs.declared.entry.Why.TheVariants.{Timeout, Forgotten}
 use Rattle.homa_plain.specs.Script.{counting}
 use Rattle.homa_plain.specs.Settings.{usual}
-use Rattle.homa_plain.specs.Entries.{PlainEntry, PlainSettings, PlainCall, PlainDeliver, PlainClock, PlainRestart, PlainStale, PlainRun, PlainFail, PlainDrop, PlainGaps, PlainFullRows, PlainFullPages, PlainFinished}
+use Rattle.homa_plain.specs.Entries.{PlainEntry, PlainSettings, PlainCall, PlainDeliver, PlainClock, PlainRestart, PlainStale, PlainRun, PlainFail}
+use Rattle.homa_plain.specs.Entries.{PlainDrop, PlainGaps, PlainFullRows, PlainFullPages, PlainFinished}
 use Rattle.homa_plain.specs.Seen.{seen}
 use Rattle.homa_plain.specs.Granting.{allowed}
 use Rattle.homa_plain.specs.Judge.{HandedUpClause, FailsClause, GrantingClause, judged, first_broken}
@@ -65,17 +66,21 @@ unfolding empty insert insert_all remove retain checked get len values with_rang
 by_stale = (refl, refl, refl, refl)
 
 -- a request that is given up before its delivery is taken back has nothing of before
-pub dropped_too : first_broken (two_pieces ++ PlainDeliver 1 ∷ PlainDeliver 1 ∷ PlainDrop (host 1) (call 0 0) ∷ PlainGaps (host 1) (call 0 0) ∷ PlainDeliver 0 ∷ PlainFinished 4 ∷ []) ≡ None
+pub dropped_too : first_broken
+    (two_pieces ++ PlainDeliver 1 ∷ PlainDeliver 1 ∷ PlainDrop (host 1) (call 0 0) ∷ PlainGaps (host 1) (call 0 0) ∷ PlainDeliver 0 ∷ PlainFinished 4
+    ∷ []) ≡ None
 unfolding empty insert insert_all remove retain checked get len values with_range ordered firsts seen allowed judged
 dropped_too = refl
 
 -- a `full` line of another host says nothing of the delivery
-pub full_elsewhere : first_broken (two_pieces ++ PlainDeliver 1 ∷ PlainDeliver 0 ∷ PlainFullRows (host 0) (call 0 0) 1 1 ∷ PlainFinished 3 ∷ []) ≡ Some (8, HandedUpClause)
+pub full_elsewhere : first_broken (two_pieces ++ PlainDeliver 1 ∷ PlainDeliver 0 ∷ PlainFullRows (host 0) (call 0 0) 1 1 ∷ PlainFinished 3 ∷ [])
+    ≡ Some (8, HandedUpClause)
 unfolding empty insert insert_all remove retain checked get len values with_range ordered firsts seen allowed judged
 full_elsewhere = refl
 
 -- what was told before is judged by what the block says at its end
-pub run_then_gaps : first_broken (two_pieces ++ PlainDeliver 1 ∷ PlainDeliver 0 ∷ run_line ∷ PlainGaps (host 1) (call 0 0) ∷ PlainFinished 3 ∷ []) ≡ Some (9, HandedUpClause)
+pub run_then_gaps : first_broken (two_pieces ++ PlainDeliver 1 ∷ PlainDeliver 0 ∷ run_line ∷ PlainGaps (host 1) (call 0 0) ∷ PlainFinished 3 ∷ [])
+    ≡ Some (9, HandedUpClause)
 unfolding empty insert insert_all remove retain checked get len values with_range ordered firsts seen allowed judged
 run_then_gaps = refl
 
@@ -85,12 +90,14 @@ unfolding empty insert insert_all remove retain checked get len values with_rang
 given_up = refl
 
 -- and its bytes from before are gone
-pub given_up_run : first_broken (two_pieces ++ PlainDeliver 1 ∷ PlainClock 1 ∷ PlainDrop (host 1) (call 0 0) ∷ PlainDeliver 0 ∷ run_line ∷ PlainFinished 3 ∷ []) ≡ Some (10, HandedUpClause)
+pub given_up_run : first_broken
+    (two_pieces ++ PlainDeliver 1 ∷ PlainClock 1 ∷ PlainDrop (host 1) (call 0 0) ∷ PlainDeliver 0 ∷ run_line ∷ PlainFinished 3 ∷ []) ≡ Some (10, HandedUpClause)
 unfolding empty insert insert_all remove retain checked get len values with_range ordered firsts seen allowed judged
 given_up_run = refl
 
 -- so they are where the server restarted
-pub restarted_between : first_broken (two_pieces ++ PlainDeliver 1 ∷ PlainRestart (host 1) 2 ∷ PlainDeliver 0 ∷ run_line ∷ PlainFinished 3 ∷ []) ≡ Some (9, HandedUpClause)
+pub restarted_between : first_broken (two_pieces ++ PlainDeliver 1 ∷ PlainRestart (host 1) 2 ∷ PlainDeliver 0 ∷ run_line ∷ PlainFinished 3 ∷ [])
+    ≡ Some (9, HandedUpClause)
 unfolding empty insert insert_all remove retain checked get len values with_range ordered firsts seen allowed judged
 restarted_between = refl
 
@@ -145,7 +152,8 @@ unfolding empty insert insert_all remove retain checked get len values with_rang
 stale_busy = refl
 
 -- a call that failed in the block stays failed: UNKNOWN ends it no more
-pub failed_and_stale : first_broken (waiting ++ PlainDeliver 0 ∷ PlainFail (call 0 0) Timeout ∷ PlainStale (host 1) 0 4 ∷ PlainDeliver 2 ∷ PlainFinished 6 ∷ []) ≡ None
+pub failed_and_stale : first_broken
+    (waiting ++ PlainDeliver 0 ∷ PlainFail (call 0 0) Timeout ∷ PlainStale (host 1) 0 4 ∷ PlainDeliver 2 ∷ PlainFinished 6 ∷ []) ≡ None
 unfolding empty insert insert_all remove retain checked get len values with_range ordered firsts seen allowed judged
 failed_and_stale = refl
 
@@ -155,7 +163,8 @@ unfolding empty insert insert_all remove retain checked get len values with_rang
 stale_unknown = refl
 
 -- and a call that fails because of it breaks the law
-pub stale_forgotten : first_broken (waiting ++ PlainDeliver 2 ∷ PlainStale (host 0) 0 4 ∷ PlainFail (call 0 0) Forgotten ∷ PlainFinished 5 ∷ []) ≡ Some (14, FailsClause)
+pub stale_forgotten : first_broken (waiting ++ PlainDeliver 2 ∷ PlainStale (host 0) 0 4 ∷ PlainFail (call 0 0) Forgotten ∷ PlainFinished 5 ∷ [])
+    ≡ Some (14, FailsClause)
 unfolding empty insert insert_all remove retain checked get len values with_range ordered firsts seen allowed judged
 stale_forgotten = refl
 

@@ -1,7 +1,9 @@
 -- What the changes of an outgoing message keep.
-use Rattle.std.proofs.Common.{◌≡◌, ℕ, ◌+◌, ◌-◌, ◌<◌, ◌≤◌, Bool, true, false, ◌||◌, cond, ltb, leb, eqb, min, max, List, [], ◌∷◌, length, refl, sym, ap, ◌∙◌, arith, ◌⊎◌, inl, inr, Option, Some, None}
+use Rattle.std.proofs.Common.{◌≡◌, ℕ, ◌+◌, ◌-◌, ◌<◌, ◌≤◌, Bool, true, false, ◌||◌, cond, ltb, leb, eqb, min, max, List, [], ◌∷◌, length, refl, sym}
+use Rattle.std.proofs.Common.{ap, ◌∙◌, arith, ◌⊎◌, inl, inr, Option, Some, None}
 use Rattle.std.specs.Option.{MatchOption, IfSome}
-use Rattle.std.proofs.lemmas.Bool.{cond_both, ltb-true, ltb-false, lt-ltb, leb-true, le-leb, eqb-true, eq-eqb, or_cases, or_parts, or_left, or_right, cond-true, cases_lt}
+use Rattle.std.proofs.lemmas.Bool.{cond_both, ltb-true, ltb-false, lt-ltb, leb-true, le-leb, eqb-true, eq-eqb, or_cases, or_parts, or_left, or_right}
+use Rattle.std.proofs.lemmas.Bool.{cond-true, cases_lt}
 use Rattle.plain_sets.specs.Maps.{len}
 use Rattle.plain_sets.specs.Ranges.{Range, is_between, in_ranges, AreApart}
 use Rattle.plain_sets.specs.Numbers.{has, with_range, without_range, within, ranges}
@@ -12,8 +14,11 @@ use Rattle.plain_sets.proofs.RangeChanges.{ranges-one_more}
 use Rattle.plain_sets.proofs.CutLaws.{least}
 use Rattle.plain_sets.proofs.MapLaws.{empty_of_len}
 use Rattle.plain_sets.proofs.CountLaws.{none_left}
-use Rattle.homa_plain.specs.Outgoing.{Outgoing, restart, opened, grant_up_to, grant, Busy, Queued, Resent, is_busy, has_waiting, resend_up_to, resend, front_of, next_range, sent, next, Change, Grant, Resend, Restart, Send, changed, changed_by, IsSound, IsFront, IsIdle, AllWait}
-use Rattle.homa_plain.proofs.PartSets.{member_cases, below-with_range, below-set_of_range, below-without_range, one_range, one_longer, ranges-front_less, with_without, full_range, range_full}
+use Rattle.homa_plain.specs.Outgoing.{Outgoing, restart, opened, grant_up_to, grant, Busy, Queued, Resent, is_busy, has_waiting, resend_up_to, resend}
+use Rattle.homa_plain.specs.Outgoing.{front_of, next_range, sent, next, Change, Grant, Resend, Restart, Send, changed, changed_by, IsSound, IsFront}
+use Rattle.homa_plain.specs.Outgoing.{IsIdle, AllWait}
+use Rattle.homa_plain.proofs.PartSets.{member_cases, below-with_range, below-set_of_range, below-without_range, one_range, one_longer}
+use Rattle.homa_plain.proofs.PartSets.{ranges-front_less, with_without, full_range, range_full}
 
 -- a message of which only the front waits is sound
 sound_from : (p : Outgoing) → p.top ≤ p.length → IsSound (restart p)
@@ -45,7 +50,12 @@ sound-grant_up_to p end prio h sound =
       within = h;
       top = sound.top;
       few = sound.room end more;
-      room = λ g k. omega (arith, ap (λ s. length (ranges s)) (with_range-again p.waiting p.granted end g (omega arith) (omega arith)), sound.room g (omega arith));
+      room =
+          λ g k. omega (
+            arith,
+            ap (λ s. length (ranges s)) (with_range-again p.waiting p.granted end g (omega arith) (omega arith)),
+            sound.room g (omega arith),
+          );
     })
     (λ _. sound)
 
@@ -78,7 +88,10 @@ sound-resend p a b prio sound = sound-resend_up_to p a (min b p.length) prio (om
 first_granted : (p : Outgoing) (r : Range) (rs : List Range) → IsSound p → ranges p.waiting ≡ r ∷ rs → (r.from < r.to) × (r.to ≤ p.granted)
 first_granted p r rs sound e =
     let apart : AreApart 0 (r ∷ rs) = rw e at (apart-ranges p.waiting) in
-    let last : r.to - 1 < p.granted = sound.below (r.to - 1) (sym (in_ranges-ranges p.waiting (r.to - 1)) ∙ ap (λ ss. in_ranges ss (r.to - 1)) e ∙ inside r rs (r.to - 1) (omega (arith, apart.1)) (omega (arith, apart.1))) in
+    let last : r.to - 1 < p.granted =
+    sound.below (r.to - 1)
+    (sym (in_ranges-ranges p.waiting (r.to - 1)) ∙ ap (λ ss. in_ranges ss (r.to - 1)) e ∙ inside r rs (r.to - 1) (omega (arith, apart.1))
+    (omega (arith, apart.1))) in
     (apart.1, omega (arith, apart.1))
 
 -- nothing waits below the first range
@@ -86,7 +99,8 @@ first_lowest : (p : Outgoing) (r : Range) (rs : List Range) → ranges p.waiting
 first_lowest p r rs e = let l : IfSome (first_of (r ∷ rs)) (λ s. (x : ℕ) → has p.waiting x ≡ true → s.from ≤ x) = rw e at (least p.waiting) in l
 
 -- a message stays sound where its front is sent
-sound-sent : (p : Outgoing) (f t : ℕ) → f ≤ t → t ≤ p.granted → ((x : ℕ) → has p.waiting x ≡ true → f ≤ x) → IsSound p → IsSound (sent p (Some (record { from = f; to = t })))
+sound-sent : (p : Outgoing) (f t : ℕ) → f ≤ t → t ≤ p.granted → ((x : ℕ) → has p.waiting x ≡ true → f ≤ x) → IsSound p
+    → IsSound (sent p (Some (record { from = f; to = t })))
 sound-sent p f t h k lowest sound = record {
   below = below-without_range p.waiting f t p.granted sound.below;
   within = sound.within;
@@ -95,7 +109,8 @@ sound-sent p f t h k lowest sound = record {
   room = λ g l. omega (
     arith,
     ap (λ s. length (ranges s)) (with_without p.waiting f t p.granted g k),
-    ranges-front_less (with_range p.waiting p.granted g) f t (λ x e. elim (member_cases p.waiting p.granted g x e) [ inl m ↦ omega (arith, m.0) | inr m ↦ lowest x m ]),
+    ranges-front_less (with_range p.waiting p.granted g) f t
+        (λ x e. elim (member_cases p.waiting p.granted g x e) [ inl m ↦ omega (arith, m.0) | inr m ↦ lowest x m ]),
     sound.room g l,
   );
 }
@@ -155,7 +170,8 @@ front-next_range p seg some sound = choose (ranges p.waiting) refl where
 -- a grant doesn't lower the granted end
 pub granted-grant : (p : Outgoing) (offset prio : ℕ) → p.granted ≤ (grant p offset prio).granted
 granted-grant p offset prio =
-    cond_both (ltb p.granted (min offset p.length)) _ _ (λ (q : Outgoing). p.granted ≤ q.granted) (λ e. omega (arith, ltb-true p.granted (min offset p.length) e)) (λ _. omega arith)
+    cond_both (ltb p.granted (min offset p.length)) _ _ (λ (q : Outgoing). p.granted ≤ q.granted)
+    (λ e. omega (arith, ltb-true p.granted (min offset p.length) e)) (λ _. omega arith)
 
 -- after it the bytes below the offset that weren't granted wait, and those that waited
 pub waiting-grant : (p : Outgoing) (offset prio x : ℕ) → has (grant p offset prio).waiting x ≡ (is_between p.granted (min offset p.length) x || has p.waiting x)
@@ -199,7 +215,8 @@ busy-cases p a b prio e = cases (min b p.length) (answer_busy p a (min b p.lengt
 pub part-queued : (p : Outgoing) (a b prio : ℕ) → (resend p a b prio).answer ≡ Queued
     → (resend p a b prio).part ≡ record p { waiting = with_range p.waiting a (min b p.length); granted = max p.granted (min b p.length); prio = prio }
 part-queued p a b prio = by (is_busy p a (min b p.length)) where
-  by : (t : Bool) → (cond {A = Resent} t (record { answer = Busy; part = p }) (queued p a (min b p.length) prio)).answer ≡ Queued → (cond {A = Resent} t (record { answer = Busy; part = p }) (queued p a (min b p.length) prio)).part ≡ (queued p a (min b p.length) prio).part
+  by : (t : Bool) → (cond {A = Resent} t (record { answer = Busy; part = p }) (queued p a (min b p.length) prio)).answer ≡ Queued
+      → (cond {A = Resent} t (record { answer = Busy; part = p }) (queued p a (min b p.length) prio)).part ≡ (queued p a (min b p.length) prio).part
   by true e = cc
   by false e = refl
 
@@ -207,14 +224,17 @@ part-queued p a b prio = by (is_busy p a (min b p.length)) where
 pub cases-busy : (p : Outgoing) (a b prio : ℕ)
     → (min b p.length ≤ a) ⊎ (AllWait p a (min b p.length) ⊎ (63 < length (ranges (with_range p.waiting a (min b p.length)))))
     → resend p a b prio ≡ record { answer = Busy; part = p }
-cases-busy p a b prio cases = cond-true {A = Resent} (is_busy p a (min b p.length)) (record { answer = Busy; part = p }) (queued p a (min b p.length) prio) (busy (min b p.length) cases) where
-  busy : (c : ℕ) → (c ≤ a) ⊎ (AllWait p a c ⊎ (63 < length (ranges (with_range p.waiting a c)))) → is_busy p a c ≡ true
-  busy c (inl none) = or_left (leb c a || eqb (len (within p.waiting a c)) (c - a)) _ (or_left (leb c a) _ (le-leb c a none))
-  busy c (inr (inl all)) = or_left (leb c a || eqb (len (within p.waiting a c)) (c - a)) _ (or_right (leb c a) _ (eq-eqb _ _ (range_full p.waiting a c all)))
-  busy c (inr (inr many)) = or_right (leb c a || eqb (len (within p.waiting a c)) (c - a)) _ (lt-ltb 63 _ many)
+cases-busy p a b prio cases = cond-true {A = Resent} (is_busy p a (min b p.length)) (record { answer = Busy; part = p })
+    (queued p a (min b p.length) prio) (busy (min b p.length) cases) where
+      busy : (c : ℕ) → (c ≤ a) ⊎ (AllWait p a c ⊎ (63 < length (ranges (with_range p.waiting a c)))) → is_busy p a c ≡ true
+      busy c (inl none) = or_left (leb c a || eqb (len (within p.waiting a c)) (c - a)) _ (or_left (leb c a) _ (le-leb c a none))
+      busy c (inr (inl all)) =
+          or_left (leb c a || eqb (len (within p.waiting a c)) (c - a)) _ (or_right (leb c a) _ (eq-eqb _ _ (range_full p.waiting a c all)))
+      busy c (inr (inr many)) = or_right (leb c a || eqb (len (within p.waiting a c)) (c - a)) _ (lt-ltb 63 _ many)
 
 -- what is sent waits no more
-pub part-next : (p : Outgoing) (seg : ℕ) → IfSome (next p seg).range (λ r. (next p seg).part ≡ record p { waiting = without_range p.waiting r.from r.to; top = max p.top r.to })
+pub part-next : (p : Outgoing) (seg : ℕ)
+    → IfSome (next p seg).range (λ r. (next p seg).part ≡ record p { waiting = without_range p.waiting r.from r.to; top = max p.top r.to })
 part-next p seg = by (next_range p seg) where
   by : (o : Option Range) → IfSome o (λ r. sent p o ≡ record p { waiting = without_range p.waiting r.from r.to; top = max p.top r.to })
   by None = tt

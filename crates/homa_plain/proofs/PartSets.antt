@@ -1,12 +1,14 @@
 -- Facts on sets of numbers that the laws of parts share.
-use Rattle.std.proofs.Common.{◌≡◌, ℕ, ◌+◌, ◌-◌, ◌<◌, ◌≤◌, Bool, true, false, not, ◌&&◌, ◌||◌, ltb, leb, min, max, List, [], ◌∷◌, length, refl, sym, ap, ◌∙◌, arith, ◌⊎◌, inl, inr}
+use Rattle.std.proofs.Common.{◌≡◌, ℕ, ◌+◌, ◌-◌, ◌<◌, ◌≤◌, Bool, true, false, not, ◌&&◌, ◌||◌, ltb, leb, min, max, List, [], ◌∷◌, length, refl, sym}
+use Rattle.std.proofs.Common.{ap, ◌∙◌, arith, ◌⊎◌, inl, inr}
 use Rattle.std.proofs.lemmas.Bool.{ltb-true, leb-true, cases_lt, and_parts, or_cases, true≢false}
 use Rattle.std.proofs.lemmas.Bool.Decides.{nat_tests}
 use Rattle.plain_sets.specs.Maps.{empty, retain, len}
 use Rattle.plain_sets.specs.Ranges.{Range, is_between, in_ranges, AreApart, led, parted}
 use Rattle.plain_sets.specs.Numbers.{Numbers, has, with_range, without_range, within, set_of_range, IsBelow, ranges}
 use Rattle.plain_sets.proofs.MapLaws.{empty_of_len}
-use Rattle.plain_sets.proofs.NumberLaws.{has-empty, has-retain, has-with_range, has-without_range, has-within, has-set_of_range, same_numbers, without_range-nothing, with_range-again}
+use Rattle.plain_sets.proofs.NumberLaws.{has-empty, has-retain, has-with_range, has-without_range, has-within, has-set_of_range, same_numbers}
+use Rattle.plain_sets.proofs.NumberLaws.{without_range-nothing, with_range-again}
 use Rattle.plain_sets.proofs.RangeLaws.{apart-ranges, in_ranges-ranges, at_from, ranges-empty}
 use Rattle.plain_sets.proofs.RangeChanges.{ranges-without_range, ranges-one_more, length-led, length-unled}
 use Rattle.plain_sets.proofs.CountLaws.{len-retain_both, len-set_of_range, none_left}
@@ -83,7 +85,8 @@ with_without s a b c d h = same_numbers _ _ (λ q.
 within_count : (s : Numbers) (a b : ℕ) → len (within s a b) + len (retain (set_of_range a b) (λ x. not (has s x))) ≡ b - a
 within_count s a b =
     let e : len (retain (set_of_range a b) (has s)) ≡ len (within s a b) = ap len (same_numbers _ _ (λ q.
-    has-retain (set_of_range a b) (has s) q ∙ ap (λ t. has s q && t) (has-set_of_range a b q) ∙ turned (has s q) (is_between a b q) ∙ sym (has-within s a b q))) in
+    has-retain (set_of_range a b) (has s) q ∙ ap (λ t. has s q && t) (has-set_of_range a b q) ∙ turned (has s q) (is_between a b q)
+    ∙ sym (has-within s a b q))) in
     omega (arith, e, len-retain_both (set_of_range a b) (has s) (λ x. not (has s x)) (λ _. refl), len-set_of_range a b) where
       turned : (p q : Bool) → (p && q) ≡ (q && p)
       turned true true = refl
@@ -96,7 +99,8 @@ pub full_range : (s : Numbers) (a b : ℕ) → len (within s a b) ≡ b - a → 
 full_range s a b full x h k =
     let none : retain (set_of_range a b) (λ y. not (has s y)) ≡ empty = empty_of_len _ (omega (arith, within_count s a b)) in
     out (has s x) (is_between a b x) (range_in a b x h k)
-    (ap (λ t. not (has s x) && t) (sym (has-set_of_range a b x)) ∙ sym (has-retain (set_of_range a b) (λ y. not (has s y)) x) ∙ ap (λ t. has t x) none ∙ has-empty x) where
+    (ap (λ t. not (has s x) && t) (sym (has-set_of_range a b x)) ∙ sym (has-retain (set_of_range a b) (λ y. not (has s y)) x) ∙ ap (λ t. has t x) none
+    ∙ has-empty x) where
       out : (p q : Bool) → q ≡ true → (not p && q) ≡ false → p ≡ true
       out true q e f = refl
       out false q e f = absurd (true≢false (sym e ∙ f))

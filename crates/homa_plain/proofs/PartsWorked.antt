@@ -44,7 +44,8 @@ unfolding empty insert_all retain checked get values
 whole_message = refl
 
 -- a byte that comes again with another value keeps its first one
-pub first_value : in_part.message (in_part.with_bytes (in_part.with_bytes (in_part.opened (host 0) 4 0 100) 1 (5 ∷ 6 ∷ [])) 0 (9 ∷ 9 ∷ 9 ∷ 9 ∷ [])) ≡ 9 ∷ 5 ∷ 6 ∷ 9 ∷ []
+pub first_value : in_part.message (in_part.with_bytes (in_part.with_bytes (in_part.opened (host 0) 4 0 100) 1 (5 ∷ 6 ∷ [])) 0 (9 ∷ 9 ∷ 9 ∷ 9 ∷ []))
+    ≡ 9 ∷ 5 ∷ 6 ∷ 9 ∷ []
 unfolding empty insert_all retain checked get values
 first_value = refl
 

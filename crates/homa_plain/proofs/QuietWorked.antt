@@ -16,9 +16,13 @@ use Rattle.homa_plain.specs.Replay.{carried}
 use Rattle.homa_plain.specs.Quiet.{round, first_round}
 
 pub two_rounds : (round usual 2 2 2).done ≡ true
-unfolding empty checked get insert retain remove len keys values key_set insert_all with_range without_range within ranges first_in missing ordered firsts due level_of noted tuned client_gets server_gets server_acked client_deadline server_deadline asked served takes pumped_once pumps start_fault call_step arrival_step turn_step new_world outcome carried round first_round
+unfolding empty checked get insert retain remove len keys values key_set insert_all with_range without_range within ranges first_in missing ordered
+    firsts due level_of noted tuned client_gets server_gets server_acked client_deadline server_deadline asked served takes pumped_once pumps
+    start_fault call_step arrival_step turn_step new_world outcome carried round first_round
 two_rounds = refl
 
 pub not_one : (round usual 2 2 1).done ≡ false
-unfolding empty checked get insert retain remove len keys values key_set insert_all with_range without_range within ranges first_in missing ordered firsts due level_of noted tuned client_gets server_gets server_acked client_deadline server_deadline asked served takes pumped_once pumps start_fault call_step arrival_step turn_step new_world outcome carried round first_round
+unfolding empty checked get insert retain remove len keys values key_set insert_all with_range without_range within ranges first_in missing ordered
+    firsts due level_of noted tuned client_gets server_gets server_acked client_deadline server_deadline asked served takes pumped_once pumps
+    start_fault call_step arrival_step turn_step new_world outcome carried round first_round
 not_one = refl

@@ -41,6 +41,7 @@ valid_rest s h k = grind (arith, nat_tests)
 -- nothing is wrong exactly with valid settings
 pub ok_is_valid : (s : Settings) (r : Result (Unit {0}) SettingFault) → r ≡ verdict s → IsOk r ↔ IsValid s
 ok_is_valid s r e = (
-  λ h. let parts = rest_valid s (first_outside (ranges s)) (rw e at h) in record { in_range = all_in_range (ranges s) parts.0; unsched = parts.1; rate = parts.2 },
+  λ h. let parts =
+      rest_valid s (first_outside (ranges s)) (rw e at h) in record { in_range = all_in_range (ranges s) parts.0; unsched = parts.1; rate = parts.2 },
   λ v. rw (e, none_outside (ranges s) v.in_range) (valid_rest s v.unsched v.rate),
 )

@@ -1,5 +1,6 @@
 -- The fields of each kind: what is read is spelled so, and what is spelled so is read again.
-use Rattle.std.proofs.Common.{◌≡◌, ℕ, zero, suc, ◌^◌, ◌<◌, ◌≤◌, Bool, true, false, cond, eqb, ltb, List, [], ◌∷◌, ◌++◌, length, Option, Some, None, refl, sym, ap, subst, ◌∙◌, arith}
+use Rattle.std.proofs.Common.{◌≡◌, ℕ, zero, suc, ◌^◌, ◌<◌, ◌≤◌, Bool, true, false, cond, eqb, ltb, List, [], ◌∷◌, ◌++◌, length, Option, Some, None}
+use Rattle.std.proofs.Common.{refl, sym, ap, subst, ◌∙◌, arith}
 use Rattle.std.specs.Prelude.{IfSome, ◌==◌, ◌&&◌}
 use Rattle.std.specs.List.{AllByRecursion, flat_map}
 use Rattle.std.specs.Int.{w16, w32, to_be_bytes}
@@ -10,12 +11,14 @@ use Rattle.homa_plain.specs.declared.packet.Body.TheVariants as body
 use Rattle.homa_plain.specs.declared.packet.Cutoffs.{Cutoffs}
 use Rattle.homa_plain.specs.Bytes.{IsBytes, byte_at, number_at, two, two_at, times}
 use Rattle.homa_plain.specs.Wire.{kind, ack_bytes, body_bytes, ack_of, ack_at, data_at, grant_at, resend_at, cutoffs_at, unknown_at, more_at, calls_at, body_at}
-use Rattle.homa_plain.proofs.WireFields.{IsBytes-rest, bind_some, given, some_is, Takes, Takes-then, wide16, wide32, number_takes, number_again, reads_number, AreWide, reads_two, times_takes, times_again}
+use Rattle.homa_plain.proofs.WireFields.{IsBytes-rest, bind_some, given, some_is, Takes, Takes-then, wide16, wide32, number_takes, number_again}
+use Rattle.homa_plain.proofs.WireFields.{reads_number, AreWide, reads_two, times_takes, times_again}
 
 pub byte_takes : (bytes : List ℕ) (x : ℕ) (rest : List ℕ) → IsBytes bytes → byte_at bytes ≡ Some (x, rest) → Takes bytes (x ∷ []) rest
 byte_takes [] x rest fits e = absurd cc
 byte_takes (b ∷ bytes) x rest fits e =
-    subst (λ (y : ℕ × List ℕ). Takes (b ∷ bytes) (y.0 ∷ []) y.1) (some_is (b, bytes) (x, rest) e) (record { parts = refl; rest_fits = IsBytes-rest b bytes fits })
+    subst (λ (y : ℕ × List ℕ). Takes (b ∷ bytes) (y.0 ∷ []) y.1) (some_is (b, bytes) (x, rest) e)
+    (record { parts = refl; rest_fits = IsBytes-rest b bytes fits })
 
 -- ---- acknowledgements
 
@@ -60,7 +63,8 @@ Took-by : (number k : ℕ) (bytes : List ℕ) (read : Body × List ℕ) → numb
 Took-by number k bytes read n took = (took.0, n ∙ took.1)
 
 -- what a reader made is what it answered
-Took-made : (number : ℕ) (bytes : List ℕ) (what : Body) (rest : List ℕ) (read : Body × List ℕ) → Takes bytes (body_bytes what) rest → number ≡ kind what → given (what, rest) ≡ given read → Took number bytes read
+Took-made : (number : ℕ) (bytes : List ℕ) (what : Body) (rest : List ℕ) (read : Body × List ℕ) → Takes bytes (body_bytes what) rest
+    → number ≡ kind what → given (what, rest) ≡ given read → Took number bytes read
 Took-made number bytes what rest read takes same e = subst (Took number bytes) (some_is (what, rest) read e) (takes, same)
 
 data_takes : (bytes : List ℕ) (read : Body × List ℕ) → IsBytes bytes → data_at bytes ≡ Some read → Took 1 bytes read
@@ -79,7 +83,8 @@ data_takes bytes read fits e =
     let all = Takes-then bytes (two a.0.0) a.0.1 (to_be_bytes w16 b.0.0 ++ c.0.0 ∷ ack_bytes d.0.0) d.0.1 range.0 most in
     Took-made 1 bytes (body.Data a.0.0.0 a.0.0.1 b.0.0 c.0.0 d.0.0) d.0.1 read all refl d.2
 
-data_again : (size offset version service : ℕ) (ack : Option (ℕ × ℕ)) (rest : List ℕ) → size < 2 ^ 32 → offset < 2 ^ 32 → version < 2 ^ 16 → IfSome ack AreWide → data_at (body_bytes (body.Data size offset version service ack) ++ rest) ≡ Some (body.Data size offset version service ack, rest)
+data_again : (size offset version service : ℕ) (ack : Option (ℕ × ℕ)) (rest : List ℕ) → size < 2 ^ 32 → offset < 2 ^ 32 → version < 2 ^ 16
+    → IfSome ack AreWide → data_at (body_bytes (body.Data size offset version service ack) ++ rest) ≡ Some (body.Data size offset version service ack, rest)
 unfolding data_at
 data_again size offset version service ack rest h k m w =
     rw (
@@ -112,7 +117,8 @@ resend_takes bytes read fits e =
     let all = Takes-then bytes (two a.0.0) a.0.1 (b.0.0 ∷ []) b.0.1 range.0 prio in
     Took-made 3 bytes (body.Resend a.0.0.0 a.0.0.1 b.0.0) b.0.1 read all refl b.2
 
-resend_again : (from to prio : ℕ) (rest : List ℕ) → from < 2 ^ 32 → to < 2 ^ 32 → resend_at (body_bytes (body.Resend from to prio) ++ rest) ≡ Some (body.Resend from to prio, rest)
+resend_again : (from to prio : ℕ) (rest : List ℕ) → from < 2 ^ 32 → to < 2 ^ 32
+    → resend_at (body_bytes (body.Resend from to prio) ++ rest) ≡ Some (body.Resend from to prio, rest)
 unfolding resend_at
 resend_again from to prio rest h k = rw (reads_two.again (from, to) (prio ∷ rest) (h, k)) refl
 
@@ -126,7 +132,8 @@ cutoffs_take bytes read fits e =
     let all = Takes-then bytes (to_be_bytes w16 a.0.0) a.0.1 (flat_map (to_be_bytes w32) b.0.0) b.0.1 version.0 upto.0 in
     Took-made 5 bytes (body.Cutoffs (record { version = a.0.0; upto = b.0.0 })) b.0.1 read all refl b.2
 
-cutoffs_again : (c : Cutoffs) (rest : List ℕ) → c.version < 2 ^ 16 → length c.upto ≡ 8 → AllByRecursion (λ n. n < 2 ^ 32) c.upto → cutoffs_at (body_bytes (body.Cutoffs c) ++ rest) ≡ Some (body.Cutoffs c, rest)
+cutoffs_again : (c : Cutoffs) (rest : List ℕ) → c.version < 2 ^ 16 → length c.upto ≡ 8 → AllByRecursion (λ n. n < 2 ^ 32) c.upto
+    → cutoffs_at (body_bytes (body.Cutoffs c) ++ rest) ≡ Some (body.Cutoffs c, rest)
 unfolding cutoffs_at
 cutoffs_again c rest h len each =
     rw (
@@ -145,7 +152,8 @@ passed : {A : Type 0} (b : Bool) (x : Option A) (y : A) → cond b None x ≡ So
 passed true x y e = absurd cc
 passed false x y e = (refl, e)
 
-more_takes : (count : ℕ) (bytes : List ℕ) (more : List (ℕ × ℕ)) (rest : List ℕ) → IsBytes bytes → more_at count bytes ≡ Some (more, rest) → Takes bytes (flat_map two more) rest × (count ≡ suc (length more))
+more_takes : (count : ℕ) (bytes : List ℕ) (more : List (ℕ × ℕ)) (rest : List ℕ) → IsBytes bytes → more_at count bytes ≡ Some (more, rest)
+    → Takes bytes (flat_map two more) rest × (count ≡ suc (length more))
 unfolding more_at
 more_takes zero bytes more rest fits e = absurd cc
 more_takes (suc n) bytes more rest fits e =
@@ -164,7 +172,8 @@ calls_take bytes read fits e =
     let all : Takes bytes (suc (length b.0.0) ∷ flat_map two b.0.0) b.0.1 = subst (λ (n : ℕ). Takes bytes (n ∷ flat_map two b.0.0) b.0.1) more.1 both in
     Took-made 8 bytes (body.Ack b.0.0) b.0.1 read all refl b.2
 
-calls_again : (more : List (ℕ × ℕ)) (rest : List ℕ) → length more ≤ 4 → AllByRecursion AreWide more → calls_at (body_bytes (body.Ack more) ++ rest) ≡ Some (body.Ack more, rest)
+calls_again : (more : List (ℕ × ℕ)) (rest : List ℕ) → length more ≤ 4 → AllByRecursion AreWide more
+    → calls_at (body_bytes (body.Ack more) ++ rest) ≡ Some (body.Ack more, rest)
 unfolding calls_at more_at
 calls_again more rest few each =
     rw (le-ltb 4 (length more) few, times_again two_at two AreWide reads_two (length more) more rest refl each) refl
@@ -172,7 +181,8 @@ calls_again more rest few each =
 -- ---- the kind's number
 
 -- an if-chain over a number
-pick : {A : Type 0} (number k : ℕ) (x y : Option A) (z : A) (Q : Type 0) → (number ≡ k → x ≡ Some z → Q) → (y ≡ Some z → Q) → cond (eqb number k) x y ≡ Some z → Q
+pick : {A : Type 0} (number k : ℕ) (x y : Option A) (z : A) (Q : Type 0) → (number ≡ k → x ≡ Some z → Q) → (y ≡ Some z → Q)
+    → cond (eqb number k) x y ≡ Some z → Q
 pick {A} number k x y z Q f g e = by_test (eqb number k) (λ h. eqb-true number k h) e
   where
     by_test : (t : Bool) → (t ≡ true → number ≡ k) → cond t x y ≡ Some z → Q
@@ -187,10 +197,12 @@ body_takes number bytes read fits e =
     pick number 1 (data_at bytes) _ read Q (λ n h. Took-by number 1 bytes read n (data_takes bytes read fits h)) (λ e.
     pick number 2 (grant_at bytes) _ read Q (λ n h. Took-by number 2 bytes read n (grant_takes bytes read fits h)) (λ e.
     pick number 3 (resend_at bytes) _ read Q (λ n h. Took-by number 3 bytes read n (resend_takes bytes read fits h)) (λ e.
-    pick number 4 (Some (body.Busy, bytes)) _ read Q (λ n h. Took-by number 4 bytes read n (Took-made 4 bytes body.Busy bytes read (record { parts = refl; rest_fits = fits }) refl h)) (λ e.
+    pick number 4 (Some (body.Busy, bytes)) _ read Q
+    (λ n h. Took-by number 4 bytes read n (Took-made 4 bytes body.Busy bytes read (record { parts = refl; rest_fits = fits }) refl h)) (λ e.
     pick number 5 (cutoffs_at bytes) _ read Q (λ n h. Took-by number 5 bytes read n (cutoffs_take bytes read fits h)) (λ e.
     pick number 6 (unknown_at bytes) _ read Q (λ n h. Took-by number 6 bytes read n (unknown_takes bytes read fits h)) (λ e.
-    pick number 7 (Some (body.NeedAck, bytes)) _ read Q (λ n h. Took-by number 7 bytes read n (Took-made 7 bytes body.NeedAck bytes read (record { parts = refl; rest_fits = fits }) refl h)) (λ e.
+    pick number 7 (Some (body.NeedAck, bytes)) _ read Q
+    (λ n h. Took-by number 7 bytes read n (Took-made 7 bytes body.NeedAck bytes read (record { parts = refl; rest_fits = fits }) refl h)) (λ e.
     pick number 8 (calls_at bytes) None read Q (λ n h. Took-by number 8 bytes read n (calls_take bytes read fits h)) (λ e. absurd cc) e) e) e) e) e) e) e) e
 
 -- a body whose numbers have room in their fields

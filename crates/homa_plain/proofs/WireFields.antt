@@ -1,5 +1,6 @@
 -- A field that is read is the field that was written, and a field that was written is read again.
-use Rattle.std.proofs.Common.{◌≡◌, ℕ, zero, suc, ◌+◌, ◌^◌, ◌<◌, ◌≤◌, Bool, true, false, cond, ltb, List, [], ◌∷◌, ◌++◌, length, take, drop, Option, Some, None, refl, sym, ap, subst, ◌∙◌, append_assoc, arith, inl, inr}
+use Rattle.std.proofs.Common.{◌≡◌, ℕ, zero, suc, ◌+◌, ◌^◌, ◌<◌, ◌≤◌, Bool, true, false, cond, ltb, List, [], ◌∷◌, ◌++◌, length, take, drop, Option}
+use Rattle.std.proofs.Common.{Some, None, refl, sym, ap, subst, ◌∙◌, append_assoc, arith, inl, inr}
 use Rattle.std.specs.List.{AllByRecursion, flat_map}
 use Rattle.std.specs.Int.{Width, w16, w32, w64, byte_len, from_be_bytes, to_be_bytes}
 use Rattle.std.proofs.lemmas.Bool.{cases_lt, ltb-false, le-ltb}
@@ -76,15 +77,23 @@ wide64 = record {
   below = λ bytes fits. omega (arith, fits 0, fits 1, fits 2, fits 3, fits 4, fits 5, fits 6, fits 7);
 }
 
-pub number_takes : (w : Width) (limit : ℕ) (wide : IsWide w limit) (bytes : List ℕ) (n : ℕ) (rest : List ℕ) → IsBytes bytes → number_at w bytes ≡ Some (n, rest) → Takes bytes (to_be_bytes w n) rest × (n < limit)
+pub number_takes : (w : Width) (limit : ℕ) (wide : IsWide w limit) (bytes : List ℕ) (n : ℕ) (rest : List ℕ) → IsBytes bytes
+    → number_at w bytes ≡ Some (n, rest) → Takes bytes (to_be_bytes w n) rest × (n < limit)
 unfolding number_at
 number_takes w limit wide bytes n rest fits e =
     let g = guard_some (ltb (length bytes) (byte_len w)) (from_be_bytes w (take (byte_len w) bytes), drop (byte_len w) bytes) (n, rest) e in
     let long : byte_len w ≤ length bytes = ltb-false _ _ g.0 in
     let n-is : from_be_bytes w (take (byte_len w) bytes) ≡ n = ap (λ (p : ℕ × List ℕ). p.0) g.1 in
     let rest-is : drop (byte_len w) bytes ≡ rest = ap (λ (p : ℕ × List ℕ). p.1) g.1 in
-    let front : to_be_bytes w n ≡ take (byte_len w) bytes = rw (← n-is) (wide.back (take (byte_len w) bytes) (omega (arith, length-take (byte_len w) bytes)) (IsBytes-take (byte_len w) bytes fits)) in
-    (record { parts = rw (front, ← rest-is) (sym (take-append-drop (byte_len w) bytes)); rest_fits = rw (← rest-is) (IsBytes-drop (byte_len w) bytes fits) }, rw (← n-is) (wide.below (take (byte_len w) bytes) (IsBytes-take (byte_len w) bytes fits)))
+    let front : to_be_bytes w n ≡ take (byte_len w) bytes =
+    rw (← n-is) (wide.back (take (byte_len w) bytes) (omega (arith, length-take (byte_len w) bytes)) (IsBytes-take (byte_len w) bytes fits)) in (
+      record {
+        parts = rw (front, ← rest-is) (sym (take-append-drop (byte_len w) bytes));
+        rest_fits =
+            rw (← rest-is) (IsBytes-drop (byte_len w) bytes fits);
+      },
+      rw (← n-is) (wide.below (take (byte_len w) bytes) (IsBytes-take (byte_len w) bytes fits)),
+    )
 
 pub number_again : (w : Width) (limit : ℕ) (wide : IsWide w limit) (n : ℕ) (rest : List ℕ) → n < limit → number_at w (to_be_bytes w n ++ rest) ≡ Some (n, rest)
 unfolding number_at
@@ -125,10 +134,13 @@ two_again x rest fits =
 pub reads_two : Reads two_at two AreWide
 reads_two = record { takes = two_takes; again = two_again }
 
-pub times_takes : {A : Type 0} (one : List ℕ → Option (A × List ℕ)) (text : A → List ℕ) (P : A → Type 0) → Reads one text P → (n : ℕ) (bytes : List ℕ) (xs : List A) (rest : List ℕ) → IsBytes bytes → times one n bytes ≡ Some (xs, rest) → Takes bytes (flat_map text xs) rest × (length xs ≡ n) × AllByRecursion P xs
+pub times_takes : {A : Type 0} (one : List ℕ → Option (A × List ℕ)) (text : A → List ℕ) (P : A → Type 0) → Reads one text P
+    → (n : ℕ) (bytes : List ℕ) (xs : List A) (rest : List ℕ) → IsBytes bytes → times one n bytes ≡ Some (xs, rest)
+    → Takes bytes (flat_map text xs) rest × (length xs ≡ n) × AllByRecursion P xs
 unfolding times
 times_takes {A} one text P reads zero bytes xs rest fits e =
-    subst (λ (y : List A × List ℕ). Takes bytes (flat_map text y.0) y.1 × (length y.0 ≡ 0) × AllByRecursion P y.0) (some_is ([], bytes) (xs, rest) e) (record { parts = refl; rest_fits = fits }, refl, tt)
+    subst (λ (y : List A × List ℕ). Takes bytes (flat_map text y.0) y.1 × (length y.0 ≡ 0) × AllByRecursion P y.0) (some_is ([], bytes) (xs, rest) e)
+    (record { parts = refl; rest_fits = fits }, refl, tt)
 times_takes {A} one text P reads (suc n) bytes xs rest fits e =
     let a = bind_some (one bytes) _ (xs, rest) e in
     let b = bind_some (times one n a.0.1) _ (xs, rest) a.2 in
@@ -136,9 +148,11 @@ times_takes {A} one text P reads (suc n) bytes xs rest fits e =
     let second = times_takes one text P reads n a.0.1 b.0.0 b.0.1 first.0.rest_fits b.1 in
     let both = Takes-then bytes (text a.0.0) a.0.1 (flat_map text b.0.0) b.0.1 first.0 second.0 in
     let made : List A × List ℕ = (a.0.0 ∷ b.0.0, b.0.1) in
-    subst (λ (y : List A × List ℕ). Takes bytes (flat_map text y.0) y.1 × (length y.0 ≡ suc n) × AllByRecursion P y.0) (some_is made (xs, rest) b.2) (both, ap suc second.1, (first.1, second.2))
+    subst (λ (y : List A × List ℕ). Takes bytes (flat_map text y.0) y.1 × (length y.0 ≡ suc n) × AllByRecursion P y.0) (some_is made (xs, rest) b.2)
+    (both, ap suc second.1, (first.1, second.2))
 
-pub times_again : {A : Type 0} (one : List ℕ → Option (A × List ℕ)) (text : A → List ℕ) (P : A → Type 0) → Reads one text P → (n : ℕ) (xs : List A) (rest : List ℕ) → length xs ≡ n → AllByRecursion P xs → times one n (flat_map text xs ++ rest) ≡ Some (xs, rest)
+pub times_again : {A : Type 0} (one : List ℕ → Option (A × List ℕ)) (text : A → List ℕ) (P : A → Type 0) → Reads one text P
+    → (n : ℕ) (xs : List A) (rest : List ℕ) → length xs ≡ n → AllByRecursion P xs → times one n (flat_map text xs ++ rest) ≡ Some (xs, rest)
 unfolding times
 times_again one text P reads zero [] rest len fits = refl
 times_again one text P reads (suc n) [] rest len fits = absurd (omega arith)

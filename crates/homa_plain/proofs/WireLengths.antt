@@ -1,5 +1,6 @@
 -- How many bytes a spelling has, that they are bytes, and where its payload stands.
-use Rattle.std.proofs.Common.{◌≡◌, ℕ, zero, suc, ◌+◌, ◌*◌, ◌<◌, ◌≤◌, Bool, true, false, cond, eqb, List, [], ◌∷◌, ◌++◌, length, drop, Option, Some, None, refl, sym, ap, ◌∙◌, arith}
+use Rattle.std.proofs.Common.{◌≡◌, ℕ, zero, suc, ◌+◌, ◌*◌, ◌<◌, ◌≤◌, Bool, true, false, cond, eqb, List, [], ◌∷◌, ◌++◌, length, drop, Option, Some}
+use Rattle.std.proofs.Common.{None, refl, sym, ap, ◌∙◌, arith}
 use Rattle.std.specs.List.{flat_map}
 use Rattle.std.specs.Int.{Width, w16, w32, w64, byte_at, byte_len, bytes_high_first, to_be_bytes}
 use Rattle.std.proofs.lemmas.List.{length-append, drop_at}
@@ -9,7 +10,8 @@ use Rattle.homa_plain.specs.declared.packet.Body.{Body}
 use Rattle.homa_plain.specs.declared.packet.Body.TheVariants as body
 use Rattle.homa_plain.specs.declared.packet.Packet.{Packet}
 use Rattle.homa_plain.specs.Bytes.{IsBytes, two}
-use Rattle.homa_plain.specs.Wire.{FitsKind, IsWellFormed, kind, role_byte, ack_bytes, tick_bytes, body_bytes, header_bytes, spelling, Spells, header_len, body_len, longest}
+use Rattle.homa_plain.specs.Wire.{FitsKind, IsWellFormed, kind, role_byte, ack_bytes, tick_bytes, body_bytes, header_bytes, spelling, Spells}
+use Rattle.homa_plain.specs.Wire.{header_len, body_len, longest}
 
 -- ---- lengths
 
@@ -35,19 +37,24 @@ length-body role level (body.Unknown reason) payload h = refl
 length-body role level body.NeedAck payload h = refl
 length-body role level (body.Ack more) payload h = omega (arith, length-pairs more)
 
-length-header_by : (t : Bool) (wire number role level sender tick : ℕ) (call : ℕ × ℕ) → length (wire ∷ number ∷ role ∷ level ∷ (to_be_bytes w32 sender ++ two call ++ cond t [] (to_be_bytes w64 tick))) ≡ cond t 16 24
+length-header_by : (t : Bool) (wire number role level sender tick : ℕ) (call : ℕ × ℕ)
+    → length (wire ∷ number ∷ role ∷ level ∷ (to_be_bytes w32 sender ++ two call ++ cond t [] (to_be_bytes w64 tick))) ≡ cond t 16 24
 length-header_by true wire number role level sender tick call = refl
 length-header_by false wire number role level sender tick call = refl
 
 length-header : (wire : ℕ) (p : Packet) → length (header_bytes wire p) ≡ header_len wire
 length-header wire p = length-header_by (eqb wire 1) wire (kind p.body) (role_byte p.role) p.level p.sender p.at (p.inc, p.seq)
 
-length-front : (wire : ℕ) (p : Packet) (payload : List ℕ) → IsWellFormed wire p payload → length (header_bytes wire p ++ body_bytes p.body) ≡ header_len wire + body_len p.body
-length-front wire p payload h = omega (arith, length-append (header_bytes wire p) (body_bytes p.body), length-header wire p, length-body p.role p.level p.body payload h.of_kind)
+length-front : (wire : ℕ) (p : Packet) (payload : List ℕ) → IsWellFormed wire p payload
+    → length (header_bytes wire p ++ body_bytes p.body) ≡ header_len wire + body_len p.body
+length-front wire p payload h =
+    omega (arith, length-append (header_bytes wire p) (body_bytes p.body), length-header wire p, length-body p.role p.level p.body payload h.of_kind)
 
 -- a spelling is as long as its header, its fields and its payload
-pub length-spelling : (wire : ℕ) (p : Packet) (payload : List ℕ) → IsWellFormed wire p payload → length (spelling wire p payload) ≡ header_len wire + body_len p.body + length payload
-length-spelling wire p payload h = length-append (header_bytes wire p ++ body_bytes p.body) payload ∙ ap (λ (n : ℕ). n + length payload) (length-front wire p payload h)
+pub length-spelling : (wire : ℕ) (p : Packet) (payload : List ℕ) → IsWellFormed wire p payload
+    → length (spelling wire p payload) ≡ header_len wire + body_len p.body + length payload
+length-spelling wire p payload h =
+    length-append (header_bytes wire p ++ body_bytes p.body) payload ∙ ap (λ (n : ℕ). n + length payload) (length-front wire p payload h)
 
 body_fits : (role : Role) (level : ℕ) (what : Body) (payload : List ℕ) → FitsKind role level what payload → body_len what + length payload ≤ 1420
 body_fits role level (body.Data size offset version service ack) payload h = omega (arith, h.payload_in_range)
@@ -72,9 +79,11 @@ pub longest_fits : (wire : ℕ) → longest wire ≤ 1444
 longest_fits wire = longest_by (eqb wire 1)
 
 -- the payload stands behind the header and the fields
-pub payload_is_last : (wire : ℕ) (bytes : List ℕ) (p : Packet) (payload : List ℕ) → Spells wire bytes p payload → payload ≡ drop (header_len wire + body_len p.body) bytes
+pub payload_is_last : (wire : ℕ) (bytes : List ℕ) (p : Packet) (payload : List ℕ) → Spells wire bytes p payload
+    → payload ≡ drop (header_len wire + body_len p.body) bytes
 payload_is_last wire bytes p payload h =
-    sym (ap (drop (header_len wire + body_len p.body)) h.1 ∙ drop_at (header_bytes wire p ++ body_bytes p.body) payload (header_len wire + body_len p.body) (length-front wire p payload h.0))
+    sym (ap (drop (header_len wire + body_len p.body)) h.1 ∙ drop_at (header_bytes wire p ++ body_bytes p.body) payload
+    (header_len wire + body_len p.body) (length-front wire p payload h.0))
 
 -- ---- bytes
 
@@ -120,10 +129,13 @@ body_are_bytes role level (body.Data size offset version service ack) payload h 
     IsBytes-append (two (size, offset) ++ to_be_bytes w16 version) (service ∷ ack_bytes ack)
     (IsBytes-append (two (size, offset)) (to_be_bytes w16 version) (two_bytes (size, offset)) (number_bytes w16 version))
     (IsBytes-cons service (ack_bytes ack) h.service_in_range (ack_are_bytes ack))
-body_are_bytes role level (body.Grant offset prio) payload h = IsBytes-append (to_be_bytes w32 offset) (prio ∷ []) (number_bytes w32 offset) (IsBytes-one prio (omega (arith, h.2)))
-body_are_bytes role level (body.Resend from to prio) payload h = IsBytes-append (two (from, to)) (prio ∷ []) (two_bytes (from, to)) (IsBytes-one prio (omega (arith, h.3)))
+body_are_bytes role level (body.Grant offset prio) payload h =
+    IsBytes-append (to_be_bytes w32 offset) (prio ∷ []) (number_bytes w32 offset) (IsBytes-one prio (omega (arith, h.2)))
+body_are_bytes role level (body.Resend from to prio) payload h =
+    IsBytes-append (two (from, to)) (prio ∷ []) (two_bytes (from, to)) (IsBytes-one prio (omega (arith, h.3)))
 body_are_bytes role level body.Busy payload h = IsBytes-none
-body_are_bytes role level (body.Cutoffs c) payload h = IsBytes-append (to_be_bytes w16 c.version) (flat_map (to_be_bytes w32) c.upto) (number_bytes w16 c.version) (each_bytes (to_be_bytes w32) (number_bytes w32) c.upto)
+body_are_bytes role level (body.Cutoffs c) payload h = IsBytes-append (to_be_bytes w16 c.version) (flat_map (to_be_bytes w32) c.upto)
+    (number_bytes w16 c.version) (each_bytes (to_be_bytes w32) (number_bytes w32) c.upto)
 body_are_bytes role level (body.Unknown reason) payload h = IsBytes-one reason (omega (arith, h.2))
 body_are_bytes role level body.NeedAck payload h = IsBytes-none
 body_are_bytes role level (body.Ack more) payload h = IsBytes-cons (suc (length more)) (flat_map two more) (omega (arith, h.2)) (each_bytes two two_bytes more)
@@ -164,7 +176,9 @@ header_are_bytes wire p payload h =
     (IsBytes-cons (kind p.body) (role_byte p.role ∷ p.level ∷ rest) (kind_is_byte p.body)
     (IsBytes-cons (role_byte p.role) (p.level ∷ rest) (role_is_byte p.role)
     (IsBytes-cons p.level rest (level_is_byte p.role p.level p.body payload h.of_kind)
-    (IsBytes-append call (tick_bytes wire p.at) (IsBytes-append (to_be_bytes w32 p.sender) (two (p.inc, p.seq)) (number_bytes w32 p.sender) (two_bytes (p.inc, p.seq))) (tick_are_bytes_by (eqb wire 1) p.at)))))
+    (IsBytes-append call (tick_bytes wire p.at)
+    (IsBytes-append (to_be_bytes w32 p.sender) (two (p.inc, p.seq)) (number_bytes w32 p.sender) (two_bytes (p.inc, p.seq)))
+    (tick_are_bytes_by (eqb wire 1) p.at)))))
 
 -- a spelling is a list of bytes
 pub spelling_is_bytes : (wire : ℕ) (p : Packet) (payload : List ℕ) → IsWellFormed wire p payload → IsBytes (spelling wire p payload)

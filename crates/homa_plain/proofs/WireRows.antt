@@ -12,7 +12,8 @@ use Rattle.homa_plain.specs.declared.packet.Body.{Body}
 use Rattle.homa_plain.specs.declared.packet.Body.TheVariants as body
 use Rattle.homa_plain.specs.declared.packet.Packet.{Packet}
 use Rattle.homa_plain.specs.Bytes.{IsBytes}
-use Rattle.homa_plain.specs.Wire.{Between, IsCall, latest, IsBare, FitsKind, IsWellFormed, is_call, is_between, is_server, is_client, is_bare, is_of_role, fits_kind, is_well_formed}
+use Rattle.homa_plain.specs.Wire.{Between, IsCall, latest, IsBare, FitsKind, IsWellFormed, is_call, is_between, is_server, is_client, is_bare}
+use Rattle.homa_plain.specs.Wire.{is_of_role, fits_kind, is_well_formed}
 
 decides_le : (m n : ℕ) → Decides (nat_le m n) (m ≤ n)
 decides_le m n = (leb-true m n, le-leb m n)
@@ -25,7 +26,8 @@ decides_call call =
     Decides-like (is_call call) (λ h. (h.0.0, h.0.1, h.1)) (λ h. ((h.0, h.1), h.2))
     (Decides-and _ _ (Decides-and _ _ (decides_le 1 call.0) (Decides-ltb call.0 (2 ^ 32))) (Decides-ltb call.1 (2 ^ 32)))
 
-decides_each : {A : Type 0} (test : A → Bool) (P : A → Type 0) → ((x : A) → Decides (test x) (P x)) → (xs : List A) → Decides (list_all test xs) (AllByRecursion P xs)
+decides_each : {A : Type 0} (test : A → Bool) (P : A → Type 0) → ((x : A) → Decides (test x) (P x)) → (xs : List A)
+    → Decides (list_all test xs) (AllByRecursion P xs)
 decides_each test P each [] = (λ h. tt, λ h. refl)
 decides_each test P each (x ∷ xs) = Decides-and (test x) (list_all test xs) (each x) (decides_each test P each xs)
 
@@ -56,7 +58,16 @@ decides_of_role Server service (Some call) = (λ h. absurd cc, λ h. absurd (let
 decides_row : (role : Role) (level : ℕ) (what : Body) (payload : List ℕ) → Decides (fits_kind role level what payload) (FitsKind role level what payload)
 decides_row role level (body.Data size offset version service ack) payload =
     Decides-like (fits_kind role level (body.Data size offset version service ack) payload)
-    (λ h. record { level_in_range = h.0.0.0.0.0.0; size_in_range = h.0.0.0.0.0.1; payload_in_range = h.0.0.0.0.1; inside = h.0.0.0.1; version_in_range = h.0.0.1; service_in_range = h.0.1; acknowledged = h.1.0; of_response = h.1.1 })
+    (λ h. record {
+      level_in_range = h.0.0.0.0.0.0;
+      size_in_range = h.0.0.0.0.0.1;
+      payload_in_range = h.0.0.0.0.1;
+      inside = h.0.0.0.1;
+      version_in_range = h.0.0.1;
+      service_in_range = h.0.1;
+      acknowledged = h.1.0;
+      of_response = h.1.1;
+    })
     (λ h. ((((((h.level_in_range, h.size_in_range), h.payload_in_range), h.inside), h.version_in_range), h.service_in_range), (h.acknowledged, h.of_response)))
     (Decides-and _ _ (Decides-and _ _ (Decides-and _ _ (Decides-and _ _ (Decides-and _ _ (Decides-and _ _ (decides_le level 7)
     (decides_between 1 1000000 size)) (decides_between 1 1400 (length payload))) (decides_le (offset + length payload) size))

@@ -65,7 +65,8 @@ opens s m id piece answer =
     else if nat_lt m.free (pages_for piece.size)
     then says m None (Tells (PlainFullPages m.host id (pages_for piece.size) m.free) ∷ [])
     else (let part = incoming.opened id.client piece.size m.order s.unsched in
-    piece_comes s m id piece.service part (record { order = m.order; state = Receiving piece.service part m.now 0 }) piece answer (opening piece.size (leaves m None)))
+    piece_comes s m id piece.service part (record { order = m.order; state = Receiving piece.service part m.now 0 }) piece answer
+    (opening piece.size (leaves m None)))
 
 -- ---- packets, by the state of the row
 

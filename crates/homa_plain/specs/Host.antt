@@ -1,5 +1,6 @@
 -- What a host holds, and what its rules tell.
-use Rattle.std.specs.Prelude.{ℕ, suc, ◌+◌, ◌-◌, ◌/◌, ◌%◌, ◌==◌, not, ◌&&◌, Bool, nat_lt, if◌then◌else◌, Option, None, Some, List, [], ◌∷◌, replicate, slice_index_or, slice_set}
+use Rattle.std.specs.Prelude.{ℕ, suc, ◌+◌, ◌-◌, ◌/◌, ◌%◌, ◌==◌, not, ◌&&◌, Bool, nat_lt, if◌then◌else◌, Option, None, Some, List, [], ◌∷◌, replicate}
+use Rattle.std.specs.Prelude.{slice_index_or, slice_set}
 use Rattle.std.specs.List.{sum_by}
 use Rattle.plain_sets.specs.Maps.{empty, remove, values}
 use Rattle.homa_plain.specs.declared.id.CallId.{CallId}

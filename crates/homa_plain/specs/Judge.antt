@@ -1,5 +1,6 @@
 -- A trace judged line by line: the laws as tests, and the first line that breaks one.
-use Rattle.std.specs.Prelude.{◌≡◌, ℕ, ◌+◌, ◌==◌, ◌&&◌, ◌||◌, Bool, true, false, not, nat_lt, nat_le, if◌then◌else◌, Option, None, Some, is_ok, List, [], ◌∷◌, ◌++◌, length}
+use Rattle.std.specs.Prelude.{◌≡◌, ℕ, ◌+◌, ◌==◌, ◌&&◌, ◌||◌, Bool, true, false, not, nat_lt, nat_le, if◌then◌else◌, Option, None, Some, is_ok, List}
+use Rattle.std.specs.Prelude.{[], ◌∷◌, ◌++◌, length}
 use Rattle.std.specs.Option.{option_map_or}
 use Rattle.std.specs.List.{list_any, list_all}
 use Rattle.std.specs.Str.{bytes_eq}
@@ -116,7 +117,8 @@ is_grant g h = is_host g.to h.to && is_role g.role h.role && is_call g.id h.id &
 
 -- a packet that is a GRANT is one of those that its host may send
 abbrev pub is_allowed : View → HostId → HostId → Role → CallId → Body → Bool
-is_allowed v from to role id (body.Grant offset prio) = list_any (is_grant (record { to = to; role = role; id = id; offset = offset; prio = prio })) (allowed v from)
+is_allowed v from to role id (body.Grant offset prio) =
+    list_any (is_grant (record { to = to; role = role; id = id; offset = offset; prio = prio })) (allowed v from)
 is_allowed v from to role id other = true
 
 -- no more than a window is granted of a message beyond as many bytes as have arrived

@@ -1,7 +1,9 @@
 -- The kinds of lines of a trace, and the calls that they name.
 use Rattle.std.specs.Prelude.{◌||◌, Bool, true, false, Option, None, Some}
 use Rattle.homa_plain.specs.declared.id.CallId.{CallId}
-use Rattle.homa_plain.specs.Entries.{PlainEntry, PlainCall, PlainDeliver, PlainClock, PlainRestart, PlainInject, PlainShift, PlainSend, PlainRun, PlainDone, PlainFail, PlainDrop, PlainGaps, PlainBury, PlainFree, PlainFullRows, PlainFullPages, PlainRecv, PlainFinished, PlainRefused, PlainStalled}
+use Rattle.homa_plain.specs.Entries.{PlainEntry, PlainCall, PlainDeliver, PlainClock, PlainRestart, PlainInject, PlainShift, PlainSend, PlainRun}
+use Rattle.homa_plain.specs.Entries.{PlainDone, PlainFail, PlainDrop, PlainGaps, PlainBury, PlainFree, PlainFullRows, PlainFullPages, PlainRecv}
+use Rattle.homa_plain.specs.Entries.{PlainFinished, PlainRefused, PlainStalled}
 
 -- the line of an event: a block is such a line with all lines up to the next one
 abbrev pub is_event : PlainEntry → Bool

@@ -1,5 +1,6 @@
 -- An outgoing message: which of its bytes wait to be sent, how far it is granted, and how far it was sent.
-use Rattle.std.specs.Prelude.{◌≡◌, ◌⊎◌, ◌<◌, ◌≤◌, true, false, ℕ, ◌+◌, ◌-◌, ◌==◌, ◌||◌, Bool, nat_lt, nat_le, min, max, if◌then◌else◌, Option, Some, None, List, [], ◌∷◌, length}
+use Rattle.std.specs.Prelude.{◌≡◌, ◌⊎◌, ◌<◌, ◌≤◌, true, false, ℕ, ◌+◌, ◌-◌, ◌==◌, ◌||◌, Bool, nat_lt, nat_le, min, max, if◌then◌else◌, Option, Some}
+use Rattle.std.specs.Prelude.{None, List, [], ◌∷◌, length}
 use Rattle.plain_sets.specs.Maps.{len}
 use Rattle.plain_sets.specs.Ranges.{Range, range}
 use Rattle.plain_sets.specs.Numbers.{Numbers, with_range, without_range, within, set_of_range, has, IsBelow, ranges}

@@ -13,7 +13,8 @@ use Rattle.homa_plain.specs.Outgoing.{Outgoing}
 abbrev pub incoming_code : Coded Incoming
 incoming_code =
     code_by (HostId × (ℕ × (ℕ × (ℕ × Map nat_cmp ℕ)))) (coded× host_id.the_row.coded (coded× coded_ℕ (coded× coded_ℕ (coded× coded_ℕ (code coded_ℕ coded_ℕ)))))
-    (λ p. (p.peer, (p.length, (p.order, (p.granted, p.bytes))))) (λ c. record { peer = c.0; length = c.1.0; order = c.1.1.0; granted = c.1.1.1.0; bytes = c.1.1.1.1 }) (λ _. refl)
+    (λ p. (p.peer, (p.length, (p.order, (p.granted, p.bytes)))))
+    (λ c. record { peer = c.0; length = c.1.0; order = c.1.1.0; granted = c.1.1.1.0; bytes = c.1.1.1.1 }) (λ _. refl)
 
 -- an outgoing message
 abbrev pub outgoing_code : Coded Outgoing

@@ -1,5 +1,6 @@
 -- What the lines of a trace say, with one more line.
-use Rattle.std.specs.Prelude.{ℕ, ◌+◌, ◌==◌, ◌&&◌, ◌||◌, Bool, true, false, not, nat_lt, if◌then◌else◌, Option, None, Some, unwrap_or, List, [], ◌∷◌, ◌++◌, length, slice_get}
+use Rattle.std.specs.Prelude.{ℕ, ◌+◌, ◌==◌, ◌&&◌, ◌||◌, Bool, true, false, not, nat_lt, if◌then◌else◌, Option, None, Some, unwrap_or, List, [], ◌∷◌}
+use Rattle.std.specs.Prelude.{◌++◌, length, slice_get}
 use Rattle.std.specs.Option.{option_map_or}
 use Rattle.std.specs.Ordering.{nat_cmp}
 use Rattle.plain_sets.specs.Maps.{Map, get, contains_key, insert, remove, retain}
@@ -10,7 +11,9 @@ use Rattle.homa_plain.specs.declared.packet.Body.TheVariants as body
 use Rattle.homa_plain.specs.declared.packet.Packet.{Packet}
 use Rattle.homa_plain.specs.declared.entry.Why.{Why}
 use Rattle.homa_plain.specs.declared.entry.Why.TheVariants.{Timeout, Forgotten}
-use Rattle.homa_plain.specs.Entries.{PlainEntry, PlainSettings, PlainCall, PlainDeliver, PlainClock, PlainRestart, PlainInject, PlainShift, PlainStale, PlainSend, PlainRun, PlainDone, PlainFail, PlainDrop, PlainGaps, PlainFullRows, PlainFullPages, PlainRecv}
+use Rattle.homa_plain.specs.Entries.{PlainEntry, PlainSettings, PlainCall, PlainDeliver, PlainClock, PlainRestart, PlainInject, PlainShift}
+use Rattle.homa_plain.specs.Entries.{PlainStale, PlainSend, PlainRun, PlainDone, PlainFail, PlainDrop, PlainGaps, PlainFullRows, PlainFullPages}
+use Rattle.homa_plain.specs.Entries.{PlainRecv}
 use Rattle.homa_plain.specs.Wire.{is_client, is_server, packet_in}
 use Rattle.homa_plain.specs.Calls.{is_host, is_call}
 use Rattle.homa_plain.specs.Lines.{is_last}
@@ -122,7 +125,8 @@ said v p (body.Grant offset prio) m =
     if is_server p.role
     then record m { requests = changed (raised p.from p.to offset) m.requests p.id }
     else record m { responses = changed (raised p.from p.to offset) m.responses p.id }
-said v p (body.Resend from to prio) m = if is_client p.role then record m { resends = insert m.resends p.id (own_tick v p.id.client ∷ resends_of m p.id) } else m
+said v p (body.Resend from to prio) m =
+    if is_client p.role then record m { resends = insert m.resends p.id (own_tick v p.id.client ∷ resends_of m p.id) } else m
 said v p (body.Data size offset version service ack) m = if is_client p.role && not (sent_last v p.id) then renewed p.id m else m
 said v p other m = m
 

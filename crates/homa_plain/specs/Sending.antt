@@ -80,7 +80,8 @@ leaving_at_client s now id r = if may_send_request s now r then record { place =
 
 -- the response of a call, if bytes of it wait
 abbrev pub leaving_at_server : CallId → State → List Leaving
-leaving_at_server id (Replying response out order base count) = if has_waiting out then record { place = OfServer id; left = left out; order = order } ∷ [] else []
+leaving_at_server id (Replying response out order base count) =
+    if has_waiting out then record { place = OfServer id; left = left out; order = order } ∷ [] else []
 leaving_at_server id state = []
 
 -- the outgoing messages of a host that may be sent

@@ -3,7 +3,8 @@ use Rattle.std.specs.Prelude.{ℕ, ◌+◌, ◌*◌, ◌≤◌, ◌==◌, nat_lt
 use Rattle.homa_plain.specs.declared.settings.Settings.{Settings}
 use Rattle.homa_plain.specs.declared.settings.Limits.{Limits}
 use Rattle.homa_plain.specs.declared.settings.Name.{Name}
-use Rattle.homa_plain.specs.declared.settings.Name.TheVariants.{Hosts, Seg, Window, Unsched, Overcommit, Rate, Resend, Tries, Life, Pages, Calls, Served, Rebalance, Skew, Wire}
+use Rattle.homa_plain.specs.declared.settings.Name.TheVariants.{Hosts, Seg, Window, Unsched, Overcommit, Rate, Resend, Tries, Life, Pages, Calls}
+use Rattle.homa_plain.specs.declared.settings.Name.TheVariants.{Served, Rebalance, Skew, Wire}
 use Rattle.homa_plain.specs.declared.settings.SettingFault.{SettingFault}
 use Rattle.homa_plain.specs.declared.settings.SettingFault.TheVariants.{OutOfRange, UnschedOverWindow, RateUnderSeg}
 
@@ -57,7 +58,23 @@ verdict s = verdict_by s (first_outside (ranges s))
 
 -- the settings that hold where none are given
 abbrev pub usual : Settings
-usual = record { hosts = 2; seg = 1400; window = 10000; unsched = 10000; overcommit = 4; rate = 14000; resend = 4; tries = 5; life = 20; pages = 1024; calls = 256; served = 1024; rebalance = 0; skew = 0; wire = 1 }
+usual = record {
+  hosts = 2;
+  seg = 1400;
+  window = 10000;
+  unsched = 10000;
+  overcommit = 4;
+  rate = 14000;
+  resend = 4;
+  tries = 5;
+  life = 20;
+  pages = 1024;
+  calls = 256;
+  served = 1024;
+  rebalance = 0;
+  skew = 0;
+  wire = 1;
+}
 
 -- the ticks after which nothing more can come of silence
 abbrev pub patience : Settings → ℕ

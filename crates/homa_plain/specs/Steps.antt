@@ -1,5 +1,6 @@
 -- A step of a host: a call, a packet that comes, a turn. It is a fold of moves; each changes one row and speaks of one call.
-use Rattle.std.specs.Prelude.{ℕ, zero, suc, ◌+◌, ◌-◌, ◌==◌, ◌&&◌, ◌||◌, Bool, true, false, nat_lt, nat_le, if◌then◌else◌, Option, None, Some, List, [], ◌∷◌, ◌++◌, length, drop, ◌*◌, slice_set}
+use Rattle.std.specs.Prelude.{ℕ, zero, suc, ◌+◌, ◌-◌, ◌==◌, ◌&&◌, ◌||◌, Bool, true, false, nat_lt, nat_le, if◌then◌else◌, Option, None, Some, List}
+use Rattle.std.specs.Prelude.{[], ◌∷◌, ◌++◌, length, drop, ◌*◌, slice_set}
 use Rattle.plain_sets.specs.Maps.{get, insert, len}
 use Rattle.plain_sets.specs.Ranges.{Range}
 use Rattle.homa_plain.specs.declared.id.CallId.{CallId}
@@ -24,7 +25,8 @@ use Rattle.homa_plain.specs.Rules.{Moment, Answer, Say, Tells, Posts, Did}
 use Rattle.homa_plain.specs.AtClient.{client_gets}
 use Rattle.homa_plain.specs.AtServer.{server_gets, server_acked}
 use Rattle.homa_plain.specs.Timers.{Place, OfClient, OfServer, Timer, timer_key, timers, client_acts, server_acts}
-use Rattle.homa_plain.specs.Sending.{Arriving, arrivals, client_granted, server_granted, Leaving, leaving_key, departures, Content, request_content, response_content, client_sends, state_sends}
+use Rattle.homa_plain.specs.Sending.{Arriving, arrivals, client_granted, server_granted, Leaving, leaving_key, departures, Content, request_content}
+use Rattle.homa_plain.specs.Sending.{response_content, client_sends, state_sends}
 
 -- a host in the midst of a step, and what was told so far
 pub record Work : Type 0 where
@@ -260,7 +262,8 @@ client_leaves s id (Some r) w = if_affordable (next_range r.out s.seg) w (λ ran
 -- the next piece of a response that goes out is sent, if there is one and the credit is enough; no other state sends any
 abbrev pub state_leaves : Settings → CallId → ServerRow → State → Work → Option Work
 state_leaves s id row (Replying response out order base count) w =
-    if_affordable (next_range out s.seg) w (λ range. response_leaves s id row (response_content s (peer_cutoffs s w.host id.client).cutoffs response out range) range w)
+    if_affordable (next_range out s.seg) w
+    (λ range. response_leaves s id row (response_content s (peer_cutoffs s w.host id.client).cutoffs response out range) range w)
 state_leaves s id row state w = None
 
 -- the next piece of a call's response is sent, if there is one and the credit is enough
@@ -331,7 +334,8 @@ abbrev pub starts : Settings → HostId → ℕ → List ℕ → Work → Work
 starts s server service request w =
     let h = w.host in
     let row = new_call s (now_of w) h.order server service request in
-    tells (Says (PlainCall (next_id h) server service request) ∷ []) (record w { host = record h { seq = h.seq + 1; order = h.order + 1; clients = insert h.clients (next_id h) row } })
+    tells (Says (PlainCall (next_id h) server service request) ∷ [])
+    (record w { host = record h { seq = h.seq + 1; order = h.order + 1; clients = insert h.clients (next_id h) row } })
 
 -- a host calls a service of another one; there is no fault
 unfoldable pub call_step : Settings → Host → ℕ → HostId → ℕ → List ℕ → Work

@@ -20,12 +20,15 @@ use Rattle.homa_plain.specs.declared.fault.StartFault.TheVariants.{Empty, TooLon
 use Rattle.homa_plain.specs.declared.fault.WorldFault.{WorldFault}
 use Rattle.homa_plain.specs.declared.fault.WorldFault.TheVariants.{NoSuchHost, NoSuchPacket, Late, Start, NoSpare, ClockEnd, Decodes, NoMemory, OutOfBand, Back}
 use Rattle.homa_plain.specs.declared.fault.ScriptFault.{ScriptFault}
-use Rattle.homa_plain.specs.declared.fault.ScriptFault.TheVariants.{LongLine, NotUtf8, UnknownWord, BadNumber, BadHex, Extra, Missing, Setting, NoGo, InputTooLong}
+use Rattle.homa_plain.specs.declared.fault.ScriptFault.TheVariants.{LongLine, NotUtf8, UnknownWord, BadNumber, BadHex, Extra, Missing, Setting, NoGo}
+use Rattle.homa_plain.specs.declared.fault.ScriptFault.TheVariants.{InputTooLong}
 use Rattle.homa_plain.specs.declared.fault.LineFault.{LineFault}
 use Rattle.homa_plain.specs.declared.fault.LineFault.TheVariants.{Script, World}
 use Rattle.homa_plain.specs.declared.entry.Why.{Why}
 use Rattle.homa_plain.specs.declared.entry.Why.TheVariants.{Timeout, Forgotten}
-use Rattle.homa_plain.specs.Entries.{PlainEntry, PlainSettings, PlainCall, PlainDeliver, PlainClock, PlainRestart, PlainInject, PlainShift, PlainJunk, PlainStale, PlainSend, PlainRun, PlainDone, PlainFail, PlainDrop, PlainGaps, PlainBury, PlainFree, PlainFullRows, PlainFullPages, PlainBalance, PlainRecv, PlainFinished, PlainRefused, PlainStalled}
+use Rattle.homa_plain.specs.Entries.{PlainEntry, PlainSettings, PlainCall, PlainDeliver, PlainClock, PlainRestart, PlainInject, PlainShift, PlainJunk}
+use Rattle.homa_plain.specs.Entries.{PlainStale, PlainSend, PlainRun, PlainDone, PlainFail, PlainDrop, PlainGaps, PlainBury, PlainFree, PlainFullRows}
+use Rattle.homa_plain.specs.Entries.{PlainFullPages, PlainBalance, PlainRecv, PlainFinished, PlainRefused, PlainStalled}
 
 -- words as a line
 abbrev pub line_of_words : List (List ℕ) → List ℕ
@@ -91,7 +94,8 @@ body_words level (body.Ack more) payload = map call_word more
 
 -- the fifteen numbers of the settings, in their order
 abbrev pub settings_numbers : Settings → List ℕ
-settings_numbers s = s.hosts ∷ s.seg ∷ s.window ∷ s.unsched ∷ s.overcommit ∷ s.rate ∷ s.resend ∷ s.tries ∷ s.life ∷ s.pages ∷ s.calls ∷ s.served ∷ s.rebalance ∷ s.skew ∷ s.wire ∷ []
+settings_numbers s = s.hosts ∷ s.seg ∷ s.window ∷ s.unsched ∷ s.overcommit ∷ s.rate ∷ s.resend ∷ s.tries ∷ s.life ∷ s.pages ∷ s.calls ∷ s.served ∷
+    s.rebalance ∷ s.skew ∷ s.wire ∷ []
 
 -- how many of them are told: from the end, `wire` is left out where it is 1, and then `skew` where it is 0
 abbrev pub told_numbers : Settings → ℕ

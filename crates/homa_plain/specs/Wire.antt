@@ -1,5 +1,6 @@
 -- Packets as bytes, in versions 1 and 2: which packets are well formed, the one spelling of each, and the packet that bytes spell.
-use Rattle.std.specs.Prelude.{◌≡◌, ℕ, zero, suc, ◌+◌, ◌*◌, ◌^◌, ◌<◌, ◌≤◌, Bool, true, false, ◌&&◌, ◌==◌, nat_lt, nat_le, if◌then◌else◌, Option, None, Some, IfSome, List, [], ◌∷◌, ◌++◌, length}
+use Rattle.std.specs.Prelude.{◌≡◌, ℕ, zero, suc, ◌+◌, ◌*◌, ◌^◌, ◌<◌, ◌≤◌, Bool, true, false, ◌&&◌, ◌==◌, nat_lt, nat_le, if◌then◌else◌, Option, None}
+use Rattle.std.specs.Prelude.{Some, IfSome, List, [], ◌∷◌, ◌++◌, length}
 use Rattle.std.specs.List.{AllByRecursion, flat_map, list_all}
 use Rattle.std.specs.Int.{w16, w32, w64, to_be_bytes}
 use Rattle.homa_plain.specs.declared.packet.Role.{Role}
@@ -44,7 +45,8 @@ FitsKind role level (body.Data size offset version service ack) payload = IsPiec
 FitsKind role level (body.Grant offset prio) payload = IsBare level payload × Between 1 1000000 offset × (prio ≤ 7)
 FitsKind role level (body.Resend from to prio) payload = IsBare level payload × (from < to) × (to ≤ 1000000) × (prio ≤ 7)
 FitsKind role level body.Busy payload = IsBare level payload
-FitsKind role level (body.Cutoffs c) payload = IsBare level payload × (c.version < 2 ^ 16) × (length c.upto ≡ 8) × AllByRecursion (λ bound. bound ≤ 1000000) c.upto
+FitsKind role level (body.Cutoffs c) payload =
+    IsBare level payload × (c.version < 2 ^ 16) × (length c.upto ≡ 8) × AllByRecursion (λ bound. bound ≤ 1000000) c.upto
 FitsKind role level (body.Unknown reason) payload = IsBare level payload × (role ≡ Server) × (reason ≤ 1)
 FitsKind role level body.NeedAck payload = IsBare level payload × (role ≡ Server)
 FitsKind role level (body.Ack more) payload = IsBare level payload × (role ≡ Client) × (length more ≤ 4) × AllByRecursion IsCall more
@@ -166,7 +168,8 @@ fits_kind role level (body.Data size offset version service ack) payload =
 fits_kind role level (body.Grant offset prio) payload = is_bare level payload && is_between 1 1000000 offset && nat_le prio 7
 fits_kind role level (body.Resend from to prio) payload = is_bare level payload && nat_lt from to && nat_le to 1000000 && nat_le prio 7
 fits_kind role level body.Busy payload = is_bare level payload
-fits_kind role level (body.Cutoffs c) payload = is_bare level payload && nat_lt c.version (2 ^ 16) && length c.upto == 8 && list_all (λ bound. nat_le bound 1000000) c.upto
+fits_kind role level (body.Cutoffs c) payload =
+    is_bare level payload && nat_lt c.version (2 ^ 16) && length c.upto == 8 && list_all (λ bound. nat_le bound 1000000) c.upto
 fits_kind role level (body.Unknown reason) payload = is_bare level payload && is_server role && nat_le reason 1
 fits_kind role level body.NeedAck payload = is_bare level payload && is_server role
 fits_kind role level (body.Ack more) payload = is_bare level payload && is_client role && nat_le (length more) 4 && list_all is_call more

@@ -1,5 +1,6 @@
 -- The world: hosts with their own clocks, the packets that were sent, and what each event does.
-use Rattle.std.specs.Prelude.{ℕ, zero, suc, ◌+◌, ◌-◌, ◌==◌, ◌&&◌, Bool, is_some, nat_lt, if◌then◌else◌, Option, None, Some, List, [], ◌∷◌, ◌++◌, length, map, drop, replicate, slice_get, slice_set, slice_index_or}
+use Rattle.std.specs.Prelude.{ℕ, zero, suc, ◌+◌, ◌-◌, ◌==◌, ◌&&◌, Bool, is_some, nat_lt, if◌then◌else◌, Option, None, Some, List, [], ◌∷◌, ◌++◌}
+use Rattle.std.specs.Prelude.{length, map, drop, replicate, slice_get, slice_set, slice_index_or}
 use Rattle.homa_plain.specs.declared.id.HostId.{HostId}
 use Rattle.homa_plain.specs.declared.packet.Packet.{Packet as WirePacket}
 use Rattle.homa_plain.specs.declared.settings.Settings.{Settings}
@@ -37,7 +38,8 @@ new_hosts s n (inc ∷ incs) = new_host s (record { 0 = n }) inc 0 ∷ new_hosts
 
 -- a world in which nothing has happened, with these first incarnations, this first tick, so many boxes and these answers
 unfoldable pub new_world : Settings → List ℕ → ℕ → ℕ → List Answer → World
-new_world s incs clock boxes answers = record { clock = clock; hosts = new_hosts s 0 incs; leads = replicate (length incs) s.skew; packets = []; spares = boxes - length incs; answers = answers }
+new_world s incs clock boxes answers =
+    record { clock = clock; hosts = new_hosts s 0 incs; leads = replicate (length incs) s.skew; packets = []; spares = boxes - length incs; answers = answers }
 
 -- a host, where there is one
 abbrev pub host_at : World → HostId → Option Host
@@ -77,7 +79,11 @@ pub data Outcome : Type 0 where
 -- a host did a step: first the event's own entry is told, if it has one
 abbrev pub stepped : World → HostId → List PlainEntry → Work → Outcome
 stepped w id first step = Done (record {
-  world = record w { hosts = slice_set w.hosts id.0 step.host; packets = w.packets ++ stamped w.clock (packets_in step.told); answers = answers_left step.told w.answers };
+  world = record w {
+    hosts = slice_set w.hosts id.0 step.host;
+    packets = w.packets ++ stamped w.clock (packets_in step.told);
+    answers = answers_left step.told w.answers;
+  };
   told = first ++ entries_from (length w.packets) step.told;
 })
 
@@ -121,7 +127,8 @@ last_tick = 1000000000000
 
 -- the clock goes on by a tick, unless it has come to its last
 abbrev pub clock_outcome : World → Outcome
-clock_outcome w = if w.clock == last_tick then Refused ClockEnd else Done (record { world = record w { clock = w.clock + 1 }; told = PlainClock (w.clock + 1) ∷ [] })
+clock_outcome w =
+    if w.clock == last_tick then Refused ClockEnd else Done (record { world = record w { clock = w.clock + 1 }; told = PlainClock (w.clock + 1) ∷ [] })
 
 -- a turn of a host, which must be there
 abbrev pub turns : Settings → World → HostId → Option Host → Outcome

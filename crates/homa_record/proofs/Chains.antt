@@ -1,5 +1,6 @@
 -- Datagrams that are reached from the heads of their buckets.
-use Rattle.std.proofs.Common.{◌≡◌, ◌≢◌, ◌⊎◌, inl, inr, ◌≤◌, ◌<◌, ℕ, zero, suc, ◌+◌, ◌-◌, ◌^◌, List, [], ◌∷◌, ◌++◌, length, drop, get_or, set, refl, sym, ap, ◌∙◌, subst, arith, get_or-set_same, get_or-set_other}
+use Rattle.std.proofs.Common.{◌≡◌, ◌≢◌, ◌⊎◌, inl, inr, ◌≤◌, ◌<◌, ℕ, zero, suc, ◌+◌, ◌-◌, ◌^◌, List, [], ◌∷◌, ◌++◌, length, drop, get_or, set, refl}
+use Rattle.std.proofs.Common.{sym, ap, ◌∙◌, subst, arith, get_or-set_same, get_or-set_other}
 use Rattle.homa_record.specs.declared.store.Rec.{Rec}
 use Rattle.homa_record.specs.Places.{place_of, place_after}
 use Rattle.homa_record.specs.Stored.{bucket_in, mark, back_at, Leads, GoesBack, IsHead, IsIndexed}
@@ -48,15 +49,18 @@ none_indexed first heads = record {
 }
 
 -- the heads may be written otherwise, if they are the same
-pub same_heads : (first : ℕ) (heads others : List ℕ) (rs : List Rec) → ((b : ℕ) → get_or others b 0 ≡ get_or heads b 0) → IsIndexed first heads rs → IsIndexed first others rs
+pub same_heads : (first : ℕ) (heads others : List ℕ) (rs : List Rec) → ((b : ℕ) → get_or others b 0 ≡ get_or heads b 0) → IsIndexed first heads rs
+    → IsIndexed first others rs
 same_heads first heads others rs same k = record {
   heads_lead = λ j b e. subst (IsHead first rs b j) (sym (same b)) (k.heads_lead j b e);
   backs_lead = k.backs_lead;
 }
 
 -- with one more datagram
-pub pushed : (first : ℕ) (heads : List ℕ) (rs : List Rec) (r : Rec) → IsIndexed first heads rs → first < 2 ^ 64 → length rs < 2 ^ 64 → bucket_in r < length heads
-    → r.back ≡ length rs - place_of first (get_or heads (bucket_in r) 0) → IsIndexed first (set heads (bucket_in r) (place_after first (length rs))) (rs ++ r ∷ [])
+pub pushed : (first : ℕ) (heads : List ℕ) (rs : List Rec) (r : Rec) → IsIndexed first heads rs → first < 2 ^ 64 → length rs < 2 ^ 64
+    → bucket_in r < length heads
+    → r.back ≡ length rs - place_of first (get_or heads (bucket_in r) 0)
+    → IsIndexed first (set heads (bucket_in r) (place_after first (length rs))) (rs ++ r ∷ [])
 pushed first heads rs r k within few room back = record { heads_lead = heads_lead; backs_lead = backs_lead } where
   -- the place of a head that was set
   new_head : place_of first (get_or (set heads (bucket_in r) (place_after first (length rs))) (bucket_in r) 0) ≡ length rs
@@ -68,7 +72,8 @@ pushed first heads rs r k within few room back = record { heads_lead = heads_lea
   same_or_not : (m n : ℕ) → (m ≡ n) ⊎ (m ≢ n)
   same_or_not m n = grind arith
 
-  by_bucket : (j b : ℕ) → j ≤ length rs → (b ≡ bucket_in r) ⊎ ((b ≢ bucket_in r) × (mark rs j ≡ suc b)) → IsHead first (rs ++ r ∷ []) b j (get_or (set heads (bucket_in r) (place_after first (length rs))) b 0)
+  by_bucket : (j b : ℕ) → j ≤ length rs → (b ≡ bucket_in r) ⊎ ((b ≢ bucket_in r) × (mark rs j ≡ suc b))
+      → IsHead first (rs ++ r ∷ []) b j (get_or (set heads (bucket_in r) (place_after first (length rs))) b 0)
   by_bucket j b l (inl e) =
       subst (λ (c : ℕ). IsHead first (rs ++ r ∷ []) c j (get_or (set heads (bucket_in r) (place_after first (length rs))) c 0)) (sym e)
       (record {
@@ -80,17 +85,20 @@ pushed first heads rs r k within few room back = record { heads_lead = heads_lea
       subst (IsHead first (rs ++ r ∷ []) b j) (sym (get_or-set_other heads (bucket_in r) b (place_after first (length rs)) 0 ne))
       (record { fits = head.fits; leads = leads_more rs r b j (place_of first (get_or heads b 0)) head.leads })
 
-  in_bucket : (j b : ℕ) → mark (rs ++ r ∷ []) j ≡ suc b → (j < length rs) ⊎ (j ≡ length rs) → (b ≡ bucket_in r) ⊎ (b ≢ bucket_in r) → (b ≡ bucket_in r) ⊎ ((b ≢ bucket_in r) × (mark rs j ≡ suc b))
+  in_bucket : (j b : ℕ) → mark (rs ++ r ∷ []) j ≡ suc b → (j < length rs) ⊎ (j ≡ length rs) → (b ≡ bucket_in r) ⊎ (b ≢ bucket_in r)
+      → (b ≡ bucket_in r) ⊎ ((b ≢ bucket_in r) × (mark rs j ≡ suc b))
   in_bucket j b m place (inl e) = inl e
   in_bucket j b m (inl h) (inr ne) = inr (ne, sym (mark_left rs r j h) ∙ m)
   in_bucket j b m (inr h) (inr ne) = inl (suc_same b (bucket_in r) (sym m ∙ (ap (mark (rs ++ r ∷ [])) h ∙ mark_last rs r)))
 
-  heads_lead : (j b : ℕ) → mark (rs ++ r ∷ []) j ≡ suc b → IsHead first (rs ++ r ∷ []) b j (get_or (set heads (bucket_in r) (place_after first (length rs))) b 0)
+  heads_lead : (j b : ℕ) → mark (rs ++ r ∷ []) j ≡ suc b
+      → IsHead first (rs ++ r ∷ []) b j (get_or (set heads (bucket_in r) (place_after first (length rs))) b 0)
   heads_lead j b m =
       let there : j < length rs + 1 = omega (arith, marked (rs ++ r ∷ []) j b m, length_more rs r) in
       by_bucket j b (omega (arith, there)) (in_bucket j b m (cases j there) (same_or_not b (bucket_in r)))
 
-  back_of : (i j b : ℕ) → mark (rs ++ r ∷ []) i ≡ suc b → mark rs j ≡ suc b → j < i → (i < length rs) ⊎ (i ≡ length rs) → GoesBack (rs ++ r ∷ []) b j i (back_at (rs ++ r ∷ []) i)
+  back_of : (i j b : ℕ) → mark (rs ++ r ∷ []) i ≡ suc b → mark rs j ≡ suc b → j < i → (i < length rs) ⊎ (i ≡ length rs)
+      → GoesBack (rs ++ r ∷ []) b j i (back_at (rs ++ r ∷ []) i)
   back_of i j b m q h (inl l) =
       let g = k.backs_lead i j b (sym (mark_left rs r i l) ∙ m) q h in
       subst (GoesBack (rs ++ r ∷ []) b j i) (sym (back_left rs r i l))
@@ -115,10 +123,12 @@ pushed first heads rs r k within few room back = record { heads_lead = heads_lea
       back_of i j b m (sym (mark_left rs r j (omega (arith, h, there))) ∙ q) h (cases i there)
 
 -- the same, with numbers and lists that are equal
-pub pushed_by : (first : ℕ) (heads : List ℕ) (rs : List Rec) (r : Rec) (b n after : ℕ) (items : List Rec) → IsIndexed first heads rs → first < 2 ^ 64 → n < 2 ^ 64 → n ≡ length rs → b ≡ bucket_in r → b < length heads
+pub pushed_by : (first : ℕ) (heads : List ℕ) (rs : List Rec) (r : Rec) (b n after : ℕ) (items : List Rec) → IsIndexed first heads rs → first < 2 ^ 64
+    → n < 2 ^ 64 → n ≡ length rs → b ≡ bucket_in r → b < length heads
     → r.back ≡ n - place_of first (get_or heads b 0) → after ≡ place_after first n → items ≡ rs ++ r ∷ [] → IsIndexed first (set heads b after) items
 pushed_by first heads rs r b n after items k within few is_len is_bucket room back is_after is_more =
-    let far : r.back ≡ length rs - place_of first (get_or heads (bucket_in r) 0) = back ∙ (ap (λ (m : ℕ). m - place_of first (get_or heads b 0)) is_len ∙ ap (λ (c : ℕ). length rs - place_of first (get_or heads c 0)) is_bucket) in
+    let far : r.back ≡ length rs - place_of first (get_or heads (bucket_in r) 0) =
+    back ∙ (ap (λ (m : ℕ). m - place_of first (get_or heads b 0)) is_len ∙ ap (λ (c : ℕ). length rs - place_of first (get_or heads c 0)) is_bucket) in
     let whole = pushed first heads rs r k within (omega (arith, few, is_len)) (omega (arith, room, is_bucket)) far in
     let one = subst (λ (c : ℕ). IsIndexed first (set heads c (place_after first (length rs))) (rs ++ r ∷ [])) (sym is_bucket) whole in
     let two = subst (λ (m : ℕ). IsIndexed first (set heads b m) (rs ++ r ∷ [])) (ap (place_after first) (sym is_len) ∙ sym is_after) one in

@@ -43,7 +43,8 @@ abbrev pub dated : Settings → ℕ → Packet → Packet
 dated s tick p = record p { at = if s.wire == 1 then 0 else tick + s.skew }
 
 -- what comes of a report
-pub record Sees (report : Report) (old_taken new_taken : Option (List ℕ)) (old_faults new_faults : ℕ) (old new : Notes) (result : Result (Unit {0}) SeenFault) : Type 0 where
+pub record Sees (report : Report) (old_taken new_taken : Option (List ℕ)) (old_faults new_faults : ℕ) (old new : Notes)
+    (result : Result (Unit {0}) SeenFault) : Type 0 where
   pub is_told : OnOk result (new_taken ≡ appended old_taken (told old report))
   pub is_kept : OnOk result (new ≡ kept old report)
   pub usual : OnOk result (strange old report ≡ false)

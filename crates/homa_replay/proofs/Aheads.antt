@@ -17,6 +17,8 @@ counted a b stop.NoMemory h = absurd h
 -- where it stopped, a read failed for its reader
 pub failed_read : {A : Type 0} (a b : Counts) (why : Stop) (answer : Result A ScriptStop) → IsHeeded a b None → b.stop ≡ Some why → a.own ≡ 0
     → (has_failed_read answer ≡ false → b.own ≡ a.own) → answer ≡ Err (Read (record {}))
-failed_read a b why (Ok part) h e none f = let risen = counted a b why (subst (IsStop a b) e h) in let same = f refl in absurd (omega (arith, risen, same, none))
-failed_read a b why (Err (Fault fault)) h e none f = let risen = counted a b why (subst (IsStop a b) e h) in let same = f refl in absurd (omega (arith, risen, same, none))
+failed_read a b why (Ok part) h e none f =
+    let risen = counted a b why (subst (IsStop a b) e h) in let same = f refl in absurd (omega (arith, risen, same, none))
+failed_read a b why (Err (Fault fault)) h e none f =
+    let risen = counted a b why (subst (IsStop a b) e h) in let same = f refl in absurd (omega (arith, risen, same, none))
 failed_read a b why (Err (Read failed)) h e none f = refl

@@ -28,7 +28,8 @@ by_opening boxes more later = refl
 
 module _ (boxes : ℕ) (left left2 old taken : Option (List ℕ)) (e : taken ≡ old) where
   start : AreFar (replay_of boxes) left left old taken is_unasked is_unasked (replay_of boxes)
-  start = λ bytes h. subst (λ (o : Option (List ℕ)). AreFar (replay_of boxes) left left old o is_unasked is_unasked (replay_of boxes)) (sym e) (λ all k. far_start (replay_of boxes) all left old is_unasked k) bytes h
+  start = λ bytes h. subst (λ (o : Option (List ℕ)). AreFar (replay_of boxes) left left old o is_unasked is_unasked (replay_of boxes)) (sym e)
+      (λ all k. far_start (replay_of boxes) all left old is_unasked k) bytes h
 
   -- reading failed
   pub begin_cut : (all : Bool) → ((rest : List ℕ) → left ≡ Some rest → IsCut rest left2) → AreParts (replay_of boxes) left left2 old taken is_unasked all
@@ -37,8 +38,10 @@ module _ (boxes : ℕ) (left left2 old taken : Option (List ℕ)) (e : taken ≡
   opens : (now : List ℕ → Opening) → ((rest : List ℕ) → left ≡ Some rest → IsRead rest left2 (opening most_bytes) now)
       → AreFar (replay_of boxes) left left2 old taken is_unasked is_unasked (λ more later. replay_opened (now more) later boxes)
   opens now f =
-      fars_read (replay_of boxes) left left old taken is_unasked is_unasked (λ (o : Opening) (later : List Answer). replay_opened o later boxes) (opening most_bytes) now left2
-      (λ bytes h. far_to (replay_of boxes) bytes left old taken is_unasked is_unasked (replay_of boxes) (λ more later. replay_opened (opening most_bytes more) later boxes) (start bytes h) (by_opening boxes)) f
+      fars_read (replay_of boxes) left left old taken is_unasked is_unasked (λ (o : Opening) (later : List Answer). replay_opened o later boxes)
+      (opening most_bytes) now left2
+      (λ bytes h. far_to (replay_of boxes) bytes left old taken is_unasked is_unasked (replay_of boxes)
+      (λ more later. replay_opened (opening most_bytes more) later boxes) (start bytes h) (by_opening boxes)) f
 
   -- the line of the settings was printed, in part or, where `all` says so, whole
   pub settings_cut : (new : Option (List ℕ)) (s : Settings) (place : Place) (all : Bool)
@@ -53,27 +56,33 @@ module _ (boxes : ℕ) (left left2 old taken : Option (List ℕ)) (e : taken ≡
       (λ k. put k ∙ ap (λ (l : List ℕ). appended taken l) line)
       (λ more later. front_amid taken new (PlainSettings s ∷ []) _ (front_same taken new _ _ line t))
 
-  refuses : (line : ℕ) (fault : ScriptFault) → ((rest : List ℕ) → left ≡ Some rest → IsRead rest left2 (opening most_bytes) (λ more. Unopened (record { line = line; fault = fault })))
+  refuses : (line : ℕ) (fault : ScriptFault)
+      → ((rest : List ℕ) → left ≡ Some rest → IsRead rest left2 (opening most_bytes) (λ more. Unopened (record { line = line; fault = fault })))
       → AreFar (replay_of boxes) left left2 old taken is_unasked is_unasked (λ more later. ending (RefusedAt line (ByScript fault)))
   refuses line fault f = opens (λ more. Unopened (record { line = line; fault = fault })) f
 
   -- the refusal was printed
-  pub begin_refused : (new : Option (List ℕ)) (line : ℕ) (fault : ScriptFault) → ((rest : List ℕ) → left ≡ Some rest → IsRead rest left2 (opening most_bytes) (λ more. Unopened (record { line = line; fault = fault })))
+  pub begin_refused : (new : Option (List ℕ)) (line : ℕ) (fault : ScriptFault)
+      → ((rest : List ℕ) → left ≡ Some rest → IsRead rest left2 (opening most_bytes) (λ more. Unopened (record { line = line; fault = fault })))
       → new ≡ appended taken (line_text (PlainRefused line (ByScript fault))) → ArePrinted (replay_of boxes) left old new is_unasked false
   begin_refused new line fault f h =
       fars_end (replay_of boxes) left left2 old taken is_unasked is_unasked new (RefusedAt line (ByScript fault)) false (refuses line fault f) refl h refl
 
   -- it was printed in part
-  pub begin_refused_cut : (new : Option (List ℕ)) (line : ℕ) (fault : ScriptFault) → ((rest : List ℕ) → left ≡ Some rest → IsRead rest left2 (opening most_bytes) (λ more. Unopened (record { line = line; fault = fault })))
+  pub begin_refused_cut : (new : Option (List ℕ)) (line : ℕ) (fault : ScriptFault)
+      → ((rest : List ℕ) → left ≡ Some rest → IsRead rest left2 (opening most_bytes) (λ more. Unopened (record { line = line; fault = fault })))
       → TookFront taken new (line_text (PlainRefused line (ByScript fault))) → AreParts (replay_of boxes) left left2 old new is_unasked false
-  begin_refused_cut new line fault f t = last_cut (replay_of boxes) left left2 old taken new is_unasked is_unasked (RefusedAt line (ByScript fault)) (refuses line fault f) refl t
+  begin_refused_cut new line fault f t =
+      last_cut (replay_of boxes) left left2 old taken new is_unasked is_unasked (RefusedAt line (ByScript fault)) (refuses line fault f) refl t
 
 -- what `go` opens, or the refusal, for the limit of a schedule
-pub opened_at : (limit : ℕ) (place : Place) (left left2 : Option (List ℕ)) (s : Settings) → limit ≡ 68719476736 → ((bytes : List ℕ) → left ≡ Some bytes → IsOpening limit place bytes left2 (Ok s))
+pub opened_at : (limit : ℕ) (place : Place) (left left2 : Option (List ℕ)) (s : Settings) → limit ≡ 68719476736
+    → ((bytes : List ℕ) → left ≡ Some bytes → IsOpening limit place bytes left2 (Ok s))
     → (rest : List ℕ) → left ≡ Some rest → IsRead rest left2 (opening most_bytes) (λ more. Opened s (steps_left place more))
 opened_at limit place left left2 s e f rest h = subst (λ (n : ℕ). IsRead rest left2 (opening n) (λ more. Opened s (steps_left place more))) e (f rest h)
 
-pub unopened_at : (limit line : ℕ) (place : Place) (left left2 : Option (List ℕ)) (fault : ScriptFault) → limit ≡ 68719476736 → line ≡ place.number → ((bytes : List ℕ) → left ≡ Some bytes → IsOpening limit place bytes left2 (Err (Fault fault)))
+pub unopened_at : (limit line : ℕ) (place : Place) (left left2 : Option (List ℕ)) (fault : ScriptFault) → limit ≡ 68719476736 → line ≡ place.number
+    → ((bytes : List ℕ) → left ≡ Some bytes → IsOpening limit place bytes left2 (Err (Fault fault)))
     → (rest : List ℕ) → left ≡ Some rest → IsRead rest left2 (opening most_bytes) (λ more. Unopened (record { line = line; fault = fault }))
 unopened_at limit line place left left2 fault e n f rest h =
     subst (λ (k : ℕ). IsRead rest left2 (opening most_bytes) (λ more. Unopened (record { line = k; fault = fault }))) (sym n)

@@ -31,14 +31,16 @@ use Rattle.homa_replay.proofs.Plays.{text-with_told, printed_more, front_of, fro
 
 module _ (boxes : ℕ) (left left2 old mid new : Option (List ℕ)) (s : Settings) (w : World) (place : Place) (p q : List PlainEntry → Type 0)
     (read : (bytes : List ℕ) → left ≡ Some bytes → IsRead bytes left2 (opening most_bytes) (λ more. Opened s (steps_left place more)))
-    (line : mid ≡ appended old (line_text (PlainSettings s))) (first : IsFirst s boxes w) (allow : (told : List PlainEntry) → q told → p (PlainSettings s ∷ told)) where
+    (line : mid ≡ appended old (line_text (PlainSettings s))) (first : IsFirst s boxes w)
+    (allow : (told : List PlainEntry) → q told → p (PlainSettings s ∷ told)) where
   -- the line of the settings, and then the rest
   rest_of : (came more : List ℕ) (answers : List Answer) → opening most_bytes (came ++ more) ≡ Opened s (steps_left place more)
       → replay_of boxes (came ++ more) answers ≡ with_told (PlainSettings s ∷ []) (left_at s w 0 place more answers)
   unfolding replay
   rest_of came more answers e =
       ap (λ (o : Opening). replay_opened o answers boxes) e
-      ∙ ap (λ (v : World). with_told (PlainSettings s ∷ []) (replayed s v 0 (steps_left place more).steps (steps_left place more).refused)) (sym (first answers))
+      ∙ ap (λ (v : World). with_told (PlainSettings s ∷ []) (replayed s v 0 (steps_left place more).steps (steps_left place more).refused))
+      (sym (first answers))
 
   -- what was taken with the line of the settings
   with_line : (r : Replay) → appended mid (text_of r) ≡ appended old (text_of (with_told (PlainSettings s ∷ []) r))
@@ -117,7 +119,8 @@ module _ (boxes : ℕ) (left left2 old mid new : Option (List ℕ)) (s : Setting
 
 -- ---- what else is allowed
 
-pub printed_allowed : (whole : Whole) (first old new : Option (List ℕ)) (p q : List PlainEntry → Type 0) (accepted : Bool) → ((told : List PlainEntry) → p told → q told) → ArePrinted whole first old new p accepted → ArePrinted whole first old new q accepted
+pub printed_allowed : (whole : Whole) (first old new : Option (List ℕ)) (p q : List PlainEntry → Type 0) (accepted : Bool)
+    → ((told : List PlainEntry) → p told → q told) → ArePrinted whole first old new p accepted → ArePrinted whole first old new q accepted
 printed_allowed whole first old new p q accepted f d = λ bytes h.
     let r = d bytes h in
     record { answers = r.answers; text = r.text; shows = r.shows; allowed = f (whole bytes r.answers).told r.allowed; verdict = r.verdict }
@@ -145,17 +148,25 @@ pub parts_settings : (s t : Settings) (w : World) (place : Place) (first left ol
     → AreParts (left_at s w 0 place) first left old new p all → AreParts (left_at t w 0 place) first left old new p all
 parts_settings s t w place first left old new p all e d = subst (λ (x : Settings). AreParts (left_at x w 0 place) first left old new p all) e d
 
-pub printed_settings : (s t : Settings) (w : World) (place : Place) (first old new : Option (List ℕ)) (p : List PlainEntry → Type 0) (accepted : Bool) → s ≡ t → ArePrinted (left_at s w 0 place) first old new p accepted → ArePrinted (left_at t w 0 place) first old new p accepted
+pub printed_settings : (s t : Settings) (w : World) (place : Place) (first old new : Option (List ℕ)) (p : List PlainEntry → Type 0) (accepted : Bool)
+    → s ≡ t → ArePrinted (left_at s w 0 place) first old new p accepted → ArePrinted (left_at t w 0 place) first old new p accepted
 printed_settings s t w place first old new p accepted e d = subst (λ (x : Settings). ArePrinted (left_at x w 0 place) first old new p accepted) e d
 
 -- ---- through a sink that holds lines back
 
 -- all went out
-pub printed_below : (whole : Whole) (first old below new : Option (List ℕ)) (before held : List ℕ) (p : List PlainEntry → Type 0) (accepted : Bool) → before ≡ [] → new ≡ appended below held
+pub printed_below : (whole : Whole) (first old below new : Option (List ℕ)) (before held : List ℕ) (p : List PlainEntry → Type 0) (accepted : Bool)
+    → before ≡ [] → new ≡ appended below held
     → ArePrinted whole first (appended old before) (appended below held) p accepted → ArePrinted whole first old new p accepted
 printed_below whole first old below new before held p accepted none e d = λ bytes h.
     let r = d bytes h in
-    record { answers = r.answers; text = went_out old below new before held (text_of (whole bytes r.answers)) none r.text e; shows = r.shows; allowed = r.allowed; verdict = r.verdict }
+    record {
+      answers = r.answers;
+      text = went_out old below new before held (text_of (whole bytes r.answers)) none r.text e;
+      shows = r.shows;
+      allowed = r.allowed;
+      verdict = r.verdict;
+    }
 
 either_map : {A B C D : Type 0} → (A → C) → (B → D) → A ⊎ B → C ⊎ D
 either_map f g (inl a) = inl (f a)

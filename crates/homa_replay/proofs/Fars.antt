@@ -32,7 +32,8 @@ read_as bytes left due now due2 now2 d e f = record {
 }
 
 -- nothing came yet
-pub far_start : (whole : Whole) (bytes : List ℕ) (left old : Option (List ℕ)) (p : List PlainEntry → Type 0) → left ≡ Some bytes → IsFar whole bytes left old old p p whole
+pub far_start : (whole : Whole) (bytes : List ℕ) (left old : Option (List ℕ)) (p : List PlainEntry → Type 0) → left ≡ Some bytes
+    → IsFar whole bytes left old old p p whole
 far_start whole bytes left old p e = record {
   told = [];
   printed = nothing_appended old;
@@ -42,23 +43,27 @@ far_start whole bytes left old p e = record {
 
 module _ (whole : Whole) (bytes : List ℕ) (left old taken : Option (List ℕ)) (p q : List PlainEntry → Type 0) where
   -- a line came
-  pub far_read : {X : Type 0} (g : X → List Answer → Replay) (h h2 : List ℕ → X) (left2 : Option (List ℕ)) → IsFar whole bytes left old taken p q (λ more later. g (h more) later)
+  pub far_read : {X : Type 0} (g : X → List Answer → Replay) (h h2 : List ℕ → X) (left2 : Option (List ℕ))
+      → IsFar whole bytes left old taken p q (λ more later. g (h more) later)
       → ((rest : List ℕ) → left ≡ Some rest → IsRead rest left2 h h2) → IsFar whole bytes left2 old taken p q (λ more later. g (h2 more) later)
   far_read {X} g h h2 left2 d f = record {
     told = d.told;
     printed = d.printed;
     allowed = d.allowed;
-    read = read_on bytes left left2 (λ more later. whole more (shown d.told ++ later)) (λ more later. with_told d.told (g (h more) later)) (λ more later. with_told d.told (g (h2 more) later)) d.read
+    read = read_on bytes left left2 (λ more later. whole more (shown d.told ++ later)) (λ more later. with_told d.told (g (h more) later))
+        (λ more later. with_told d.told (g (h2 more) later)) d.read
         (λ rest e. read_map rest left2 h h2 (λ (x : X) (later : List Answer). with_told d.told (g x later)) (f rest e));
   }
 
   -- what is due is also this
-  pub far_to : (due due2 : Whole) → IsFar whole bytes left old taken p q due → ((more : List ℕ) (later : List Answer) → due more later ≡ due2 more later) → IsFar whole bytes left old taken p q due2
+  pub far_to : (due due2 : Whole) → IsFar whole bytes left old taken p q due
+      → ((more : List ℕ) (later : List Answer) → due more later ≡ due2 more later) → IsFar whole bytes left old taken p q due2
   far_to due due2 d f = record {
     told = d.told;
     printed = d.printed;
     allowed = d.allowed;
-    read = read_as bytes left (λ more later. whole more (shown d.told ++ later)) (λ more later. with_told d.told (due more later)) (λ more later. whole more (shown d.told ++ later)) (λ more later. with_told d.told (due2 more later)) d.read
+    read = read_as bytes left (λ more later. whole more (shown d.told ++ later)) (λ more later. with_told d.told (due more later))
+        (λ more later. whole more (shown d.told ++ later)) (λ more later. with_told d.told (due2 more later)) d.read
         (λ more. refl) (λ more. fun_ext (λ later. ap (λ (r : Replay). with_told d.told r) (f more later)));
   }
 
@@ -72,7 +77,8 @@ module _ (whole : Whole) (bytes : List ℕ) (left old taken : Option (List ℕ))
     allowed = allowed_more p q r d.told t d.allowed a;
     read = read_as bytes left (λ more later. whole more (shown d.told ++ (shown t ++ later))) (λ more later. with_told d.told (due more (shown t ++ later)))
         (λ more later. whole more (shown (d.told ++ t) ++ later)) (λ more later. with_told (d.told ++ t) (next more later))
-        (read_map {A = List Answer → Replay} {B = List Answer → Replay} bytes left (λ more later. whole more (shown d.told ++ later)) (λ more later. with_told d.told (due more later)) (λ (w : List Answer → Replay) (later : List Answer). w (shown t ++ later)) d.read)
+        (read_map {A = List Answer → Replay} {B = List Answer → Replay} bytes left (λ more later. whole more (shown d.told ++ later))
+        (λ more later. with_told d.told (due more later)) (λ (w : List Answer → Replay) (later : List Answer). w (shown t ++ later)) d.read)
         (λ more. fun_ext (λ later. ap (λ (l : List Answer). whole more l) (shown_parts d.told t later)))
         (λ more. fun_ext (λ later. ap (λ (x : Replay). with_told d.told x) (f more later) ∙ told_parts d.told t (next more later)));
   }
@@ -82,7 +88,8 @@ module _ (whole : Whole) (bytes : List ℕ) (left old taken : Option (List ℕ))
       → new ≡ appended taken (line_text (last_entry end)) → is_refusal end ≡ not accepted → IsPrinted whole bytes old new p accepted
   far_end new end accepted d none e verdict =
       let all : whole bytes (shown d.told ++ []) ≡ with_told d.told (ending end)
-      = ap (λ (w : List Answer → Replay). w []) (read_whole bytes left (λ more later. whole more (shown d.told ++ later)) (λ more later. with_told d.told (ending end)) d.read) in
+      = ap (λ (w : List Answer → Replay). w [])
+      (read_whole bytes left (λ more later. whole more (shown d.told ++ later)) (λ more later. with_told d.told (ending end)) d.read) in
       let last : line_text (last_entry end) ≡ text_of (ending end) = sym (append-nil (line_text (last_entry end))) in
       record {
         answers = shown d.told ++ [];
@@ -152,7 +159,8 @@ module _ (whole : Whole) (bytes : List ℕ) (left left2 old taken : Option (List
 -- ---- whatever the source had at first
 
 module _ (whole : Whole) (first left old taken : Option (List ℕ)) (p q : List PlainEntry → Type 0) where
-  pub fars_read : {X : Type 0} (g : X → List Answer → Replay) (h h2 : List ℕ → X) (left2 : Option (List ℕ)) → AreFar whole first left old taken p q (λ more later. g (h more) later)
+  pub fars_read : {X : Type 0} (g : X → List Answer → Replay) (h h2 : List ℕ → X) (left2 : Option (List ℕ))
+      → AreFar whole first left old taken p q (λ more later. g (h more) later)
       → ((rest : List ℕ) → left ≡ Some rest → IsRead rest left2 h h2) → AreFar whole first left2 old taken p q (λ more later. g (h2 more) later)
   fars_read g h h2 left2 d f = λ bytes e. far_read whole bytes left old taken p q g h h2 left2 (d bytes e) f
 

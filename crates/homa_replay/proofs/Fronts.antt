@@ -33,14 +33,16 @@ pub front_same : (old new : Option (List ℕ)) (x y : List ℕ) → x ≡ y → 
 front_same old new x y e f = subst (λ (l : List ℕ). TookFront old new l) e f
 
 -- one more of a list was taken
-pub wrote_entry : {X : Type 0} (f : X → List ℕ) (xs : List X) (i : ℕ) (x : X) (text : List ℕ) (old mid new : Option (List ℕ)) → i < length xs → get_or xs i x ≡ x → text ≡ f x → mid ≡ appended old (flat_map f (take i xs)) → new ≡ appended mid text → new ≡ appended old (flat_map f (take (i + 1) xs))
+pub wrote_entry : {X : Type 0} (f : X → List ℕ) (xs : List X) (i : ℕ) (x : X) (text : List ℕ) (old mid new : Option (List ℕ)) → i < length xs
+    → get_or xs i x ≡ x → text ≡ f x → mid ≡ appended old (flat_map f (take i xs)) → new ≡ appended mid text → new ≡ appended old (flat_map f (take (i + 1) xs))
 wrote_entry {X} f xs i x text old mid new h is same e t =
     wrote_more old mid new (flat_map f (take i xs)) text e t
     ∙ (ap (λ (ys : List ℕ). appended old (flat_map f (take i xs) ++ ys)) (same ∙ ap f (sym is))
     ∙ ap (λ (ys : List ℕ). appended old ys) (flat_map-more f xs i x h))
 
 -- a front of the next was taken
-pub took_entry : {X : Type 0} (f : X → List ℕ) (xs : List X) (i : ℕ) (x : X) (text : List ℕ) (old mid new : Option (List ℕ)) → i < length xs → get_or xs i x ≡ x → text ≡ f x → mid ≡ appended old (flat_map f (take i xs)) → TookFront mid new text → TookFront old new (flat_map f xs)
+pub took_entry : {X : Type 0} (f : X → List ℕ) (xs : List X) (i : ℕ) (x : X) (text : List ℕ) (old mid new : Option (List ℕ)) → i < length xs
+    → get_or xs i x ≡ x → text ≡ f x → mid ≡ appended old (flat_map f (take i xs)) → TookFront mid new text → TookFront old new (flat_map f xs)
 took_entry {X} f xs i x text old mid new h is same e t =
     front_same old new ((flat_map f (take i xs) ++ f (get_or xs i x)) ++ flat_map f (drop (suc i) xs)) (flat_map f xs)
     (append_assoc (flat_map f (take i xs)) (f (get_or xs i x)) (flat_map f (drop (suc i) xs)) ∙ flat_map-split f xs i x h)

@@ -26,11 +26,13 @@ text-with_told told r =
     ap (λ (l : List PlainEntry). flat_map line_text l) (append_assoc told r.told (last_entry r.end ∷ []))
     ∙ flat_map-append line_text told (r.told ++ last_entry r.end ∷ [])
 
-pub printed_more : (old mid new : Option (List ℕ)) (a b : List PlainEntry) → mid ≡ appended old (flat_map line_text a) → new ≡ appended mid (flat_map line_text b) → new ≡ appended old (flat_map line_text (a ++ b))
+pub printed_more : (old mid new : Option (List ℕ)) (a b : List PlainEntry) → mid ≡ appended old (flat_map line_text a)
+    → new ≡ appended mid (flat_map line_text b) → new ≡ appended old (flat_map line_text (a ++ b))
 printed_more old mid new a b e h =
     wrote_more old mid new (flat_map line_text a) (flat_map line_text b) e h ∙ ap (λ (l : List ℕ). appended old l) (sym (flat_map-append line_text a b))
 
-pub allowed_more : (p q r : List PlainEntry → Type 0) (a b : List PlainEntry) → ((more : List PlainEntry) → q more → p (a ++ more)) → ((more : List PlainEntry) → r more → q (b ++ more)) → (more : List PlainEntry) → r more → p ((a ++ b) ++ more)
+pub allowed_more : (p q r : List PlainEntry → Type 0) (a b : List PlainEntry) → ((more : List PlainEntry) → q more → p (a ++ more))
+    → ((more : List PlainEntry) → r more → q (b ++ more)) → (more : List PlainEntry) → r more → p ((a ++ b) ++ more)
 allowed_more p q r a b f g more h = subst p (sym (append_assoc a b more)) (f (b ++ more) (g more h))
 
 -- ---- fronts of a replay
@@ -74,7 +76,8 @@ module _ (s : Settings) (w : World) (old new : Option (List ℕ)) (before : List
     same = λ events line rest steps later. ap (λ (n : ℕ). goes_on s (answering later w) n line rest steps) (sym (add-zero events));
   }
 
-  pub one_played : (e : Happening) (stands : World → Type 0) (told : List PlainEntry) (after : List PlainEntry → Type 0) → IsApplied s w e stands told before after
+  pub one_played : (e : Happening) (stands : World → Type 0) (told : List PlainEntry) (after : List PlainEntry → Type 0)
+      → IsApplied s w e stands told before after
       → new ≡ appended old (flat_map line_text told) → ArePlayed s w (e ∷ []) stands old new before after
   one_played e stands told after a h = record {
     next = a.next;
@@ -104,7 +107,8 @@ module _ (s : Settings) (w : World) (old new : Option (List ℕ)) (before : List
   }
 
   -- a write failed
-  pub one_cut : (e : Happening) (stands : World → Type 0) (told : List PlainEntry) (after : List PlainEntry → Type 0) → IsApplied s w e stands told before after → after []
+  pub one_cut : (e : Happening) (stands : World → Type 0) (told : List PlainEntry) (after : List PlainEntry → Type 0)
+      → IsApplied s w e stands told before after → after []
       → TookFront old new (flat_map line_text told) → AreCut s w (e ∷ []) old new before false
   one_cut e stands told after a none f = record {
     told = told;
@@ -116,7 +120,8 @@ module _ (s : Settings) (w : World) (old new : Option (List ℕ)) (before : List
 
 -- ---- more events
 
-module _ (s : Settings) (w : World) (a b : List Happening) (st : World → Type 0) (old mid new : Option (List ℕ)) (p q : List PlainEntry → Type 0) (first : ArePlayed s w a st old mid p q) where
+module _ (s : Settings) (w : World) (a b : List Happening) (st : World → Type 0) (old mid new : Option (List ℕ)) (p q : List PlainEntry → Type 0)
+    (first : ArePlayed s w a st old mid p q) where
   -- what stands in front of the second events
   before_more : (more : List PlainEntry) (events line : ℕ) (rest : List Happening) (steps : Steps) (later : List Answer)
       → goes_on s (answering (shown (first.told ++ more) ++ later) w) events line ((a ++ b) ++ rest) steps

@@ -20,7 +20,8 @@ by_fault s events line steps run fault = elim fault [
   | None ↦ with_told run.told (replayed s run.world (events + run.count) steps.steps steps.refused)
 ]
 
-same_by : (s : Settings) (events line : ℕ) (steps : Steps) (run : Run) (fault : Option LineFault) → by_fault s events line steps run fault ≡ ends_by s events line steps run fault
+same_by : (s : Settings) (events line : ℕ) (steps : Steps) (run : Run) (fault : Option LineFault)
+    → by_fault s events line steps run fault ≡ ends_by s events line steps run fault
 unfolding by_fault
 same_by s events line steps run None = refl
 same_by s events line steps run (Some f) = refl
@@ -44,12 +45,17 @@ carried_by s w es (Refused fault) = record { world = w; told = []; count = 0; fa
 carried_by s w es (Done after) = after_event after.told (carried s after.world es)
 
 case_same : (s : Settings) (w : World) (es : List Happening) (o : Outcome)
-    → elim o [ Refused fault ↦ record { world = w; told = []; count = 0; fault = Some (ByWorld fault) } | Done after ↦ after_event after.told (carried s after.world es) ] ≡ carried_by s w es o
+    → elim o [
+      | Refused fault ↦ record { world = w; told = []; count = 0; fault = Some (ByWorld fault) }
+      | Done after ↦
+          after_event after.told (carried s after.world es)
+    ] ≡ carried_by s w es o
 unfolding carried_by
 case_same s w es (Refused fault) = refl
 case_same s w es (Done after) = refl
 
-carried_first : (s : Settings) (w : World) (e : Happening) (es : List Happening) (o : Outcome) → outcome s w e.event e.bytes ≡ o → carried s w (e ∷ es) ≡ carried_by s w es o
+carried_first : (s : Settings) (w : World) (e : Happening) (es : List Happening) (o : Outcome) → outcome s w e.event e.bytes ≡ o
+    → carried s w (e ∷ es) ≡ carried_by s w es o
 unfolding carried
 carried_first s w e es o h = case_same s w es (outcome s w e.event e.bytes) ∙ ap (carried_by s w es) h
 
@@ -60,21 +66,26 @@ more_told s events line steps told run (Some f) = refl
 more_told s events line steps told run None =
     let n : events + (run.count + 1) ≡ events + 1 + run.count = omega arith in
     ap (λ (k : ℕ). with_told (told ++ run.told) (replayed s run.world k steps.steps steps.refused)) n
-    ∙ ap (λ (l : List PlainEntry). record { told = l; end = (replayed s run.world (events + 1 + run.count) steps.steps steps.refused).end }) (append_assoc told run.told (replayed s run.world (events + 1 + run.count) steps.steps steps.refused).told)
+    ∙ ap (λ (l : List PlainEntry). record { told = l; end = (replayed s run.world (events + 1 + run.count) steps.steps steps.refused).end })
+    (append_assoc told run.told (replayed s run.world (events + 1 + run.count) steps.steps steps.refused).told)
 
 -- an event is done
-pub event_done : (s : Settings) (w next : World) (events line : ℕ) (e : Happening) (es : List Happening) (steps : Steps) (given later : List Answer) (told : List PlainEntry)
-    → IsDone s w e given next told → goes_on s (answering (given ++ later) w) events line (e ∷ es) steps ≡ with_told told (goes_on s (answering later next) (events + 1) line es steps)
+pub event_done : (s : Settings) (w next : World) (events line : ℕ) (e : Happening) (es : List Happening) (steps : Steps) (given later : List Answer)
+    (told : List PlainEntry)
+    → IsDone s w e given next told → goes_on s (answering (given ++ later) w) events line (e ∷ es) steps ≡ with_told told
+    (goes_on s (answering later next) (events + 1) line es steps)
 unfolding carried_by goes_on
 event_done s w next events line e es steps given later told d =
     ap (λ (r : Run). ends_by s events line steps r r.fault) (carried_first s (answering (given ++ later) w) e es _ (d later))
     ∙ (let run = carried s (answering later next) es in more_told s events line steps told run run.fault)
 
 -- an event is refused
-pub event_refused : (s : Settings) (w : World) (events line : ℕ) (e : Happening) (es : List Happening) (steps : Steps) (later : List Answer) (fault : WorldFault)
+pub event_refused : (s : Settings) (w : World) (events line : ℕ) (e : Happening) (es : List Happening) (steps : Steps) (later : List Answer)
+    (fault : WorldFault)
     → IsRefused s w e fault → goes_on s (answering later w) events line (e ∷ es) steps ≡ refused_line line fault
 unfolding carried_by goes_on
-event_refused s w events line e es steps later fault r = ap (λ (v : Run). ends_by s events line steps v v.fault) (carried_first s (answering later w) e es (Refused fault) (r later))
+event_refused s w events line e es steps later fault r =
+    ap (λ (v : Run). ends_by s events line steps v v.fault) (carried_first s (answering later w) e es (Refused fault) (r later))
 
 -- ---- answers
 

@@ -25,15 +25,20 @@ module _ (s t : Settings) (w : World) (old new : Option (List ℕ)) (p : List Pl
   cut_at es all a = subst (λ (x : Settings). AreCut x w es old new p all) e a
 
 -- behind some events a further one, and all of them
-module _ (s t : Settings) (w : World) (a b : List Happening) (st : World → Type 0) (old mid new : Option (List ℕ)) (p q : List PlainEntry → Type 0) (e : t ≡ s) (first : ArePlayed s w a st old mid p q) where
-  pub then_played : (su : World → Type 0) (r : List PlainEntry → Type 0) (es : List Happening) → es ≡ a ++ b → ((v : World) → st v → ArePlayed t v b su mid new q r) → ArePlayed s w es su old new p r
+module _ (s t : Settings) (w : World) (a b : List Happening) (st : World → Type 0) (old mid new : Option (List ℕ)) (p q : List PlainEntry → Type 0)
+    (e : t ≡ s) (first : ArePlayed s w a st old mid p q) where
+  pub then_played : (su : World → Type 0) (r : List PlainEntry → Type 0) (es : List Happening) → es ≡ a ++ b
+      → ((v : World) → st v → ArePlayed t v b su mid new q r) → ArePlayed s w es su old new p r
   then_played su r es k h =
-      subst (λ (l : List Happening). ArePlayed s w l su old new p r) (sym k) (played_more s w a b st old mid new p q first su r (played_at t s first.next mid new q e b su r (h first.next first.stood)))
+      subst (λ (l : List Happening). ArePlayed s w l su old new p r) (sym k)
+      (played_more s w a b st old mid new p q first su r (played_at t s first.next mid new q e b su r (h first.next first.stood)))
 
-  pub then_refused : (c es : List Happening) (fault : WorldFault) → es ≡ (a ++ b) ++ c → ((v : World) → st v → AreRefused t v b mid new q fault) → AreRefused s w es old new p fault
+  pub then_refused : (c es : List Happening) (fault : WorldFault) → es ≡ (a ++ b) ++ c → ((v : World) → st v → AreRefused t v b mid new q fault)
+      → AreRefused s w es old new p fault
   then_refused c es fault k h =
       subst (λ (l : List Happening). AreRefused s w l old new p fault) (sym k)
-      (refused_wide s w (a ++ b) c old new p fault (refused_more s w a b st old mid new p q first fault (refused_at t s first.next mid new q e b fault (h first.next first.stood))))
+      (refused_wide s w (a ++ b) c old new p fault
+      (refused_more s w a b st old mid new p q first fault (refused_at t s first.next mid new q e b fault (h first.next first.stood))))
 
   pub then_cut : (c es : List Happening) (all : Bool) → es ≡ (a ++ b) ++ c → ((v : World) → st v → AreCut t v b mid new q all) → AreCut s w es old new p all
   then_cut c es all k h =

@@ -66,7 +66,8 @@ pub record IsStopped (whole : Whole) (bytes : List ℕ) (left old new : Option (
   pub part : IsPart whole came rest old new before all
 
 -- whatever the source had at first, where it can tell: the replay of it has come so far
-abbrev pub AreFar : Whole → Option (List ℕ) → Option (List ℕ) → Option (List ℕ) → Option (List ℕ) → (List PlainEntry → Type 0) → (List PlainEntry → Type 0) → Whole → Type 0
+abbrev pub AreFar : Whole → Option (List ℕ) → Option (List ℕ) → Option (List ℕ) → Option (List ℕ) → (List PlainEntry → Type 0)
+    → (List PlainEntry → Type 0) → Whole → Type 0
 AreFar whole first left old taken before after due = (bytes : List ℕ) → first ≡ Some bytes → IsFar whole bytes left old taken before after due
 
 -- whatever the source had at first, where it can tell: the replay of it was printed whole

@@ -29,7 +29,8 @@ abbrev pub tick_of : ℕ → List Happening
 tick_of hosts = bare event.Clock ∷ turns_of 0 hosts
 
 -- These events were carried out, and what they told was printed. The replay goes on with what stands behind them.
-pub record ArePlayed (s : Settings) (w : World) (es : List Happening) (stands : World → Type 0) (old new : Option (List ℕ)) (before after : List PlainEntry → Type 0) : Type 0 where
+pub record ArePlayed (s : Settings) (w : World) (es : List Happening) (stands : World → Type 0) (old new : Option (List ℕ))
+    (before after : List PlainEntry → Type 0) : Type 0 where
   pub next : World
   pub stood : stands next
   pub told : List PlainEntry
@@ -40,7 +41,8 @@ pub record ArePlayed (s : Settings) (w : World) (es : List Happening) (stands : 
       ≡ with_told told (goes_on s (answering later next) (events + length es) line rest steps)
 
 -- One of these events is refused, and what was told before it was printed.
-pub record AreRefused (s : Settings) (w : World) (es : List Happening) (old new : Option (List ℕ)) (before : List PlainEntry → Type 0) (fault : WorldFault) : Type 0 where
+pub record AreRefused (s : Settings) (w : World) (es : List Happening) (old new : Option (List ℕ)) (before : List PlainEntry → Type 0)
+    (fault : WorldFault) : Type 0 where
   pub told : List PlainEntry
   pub printed : new ≡ appended old (flat_map line_text told)
   pub allowed : before told

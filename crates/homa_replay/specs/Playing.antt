@@ -14,7 +14,8 @@ use Rattle.homa_replay.specs.Stream.{IsDone, IsRefused}
 -- An event was applied, and this is told of it: it is the plain world's outcome with the answers that its `run` line shows, which
 -- the boxes allow. `stands` says which plain worlds the code's world may be afterwards; `before` and `after` say which entries the
 -- boxes allow from then on.
-pub record IsApplied (s : Settings) (w : World) (e : Happening) (stands : World → Type 0) (told : List PlainEntry) (before after : List PlainEntry → Type 0) : Type 0 where
+pub record IsApplied (s : Settings) (w : World) (e : Happening) (stands : World → Type 0) (told : List PlainEntry)
+    (before after : List PlainEntry → Type 0) : Type 0 where
   pub next : World
   pub stood : stands next
   pub done : IsDone s w e (shown told) next told

@@ -24,7 +24,8 @@ some_and None P h = absurd h
 some_and (Some n) P h = refl
 
 -- a row that is due has a timer
-pub timer_runs : (rows : ServerRows) (slot : ℕ) (id : CallId) (r : HeldServer) → StandsAt rows id slot r → (s : Settings) (pool : Pool) (now : ℕ) → AreIn pool (request_at rows)
+pub timer_runs : (rows : ServerRows) (slot : ℕ) (id : CallId) (r : HeldServer) → StandsAt rows id slot r → (s : Settings) (pool : Pool) (now : ℕ)
+    → AreIn pool (request_at rows)
     → IsSomeAnd (server_deadline s (seen_server pool r)) (λ at. at ≤ now) → HasTimer s r
 unfolding server_deadline
 timer_runs rows slot id r stands s pool now are due = record { pool = pool; within = in_pool rows slot id r stands pool are; runs = some_and _ _ due }
@@ -65,7 +66,8 @@ pub after-stays : (pool : Pool) (row : HeldServer) (a : ServerAct) → goes a �
 after-stays pool row a e = rw e refl
 
 -- what the row that is found did is what the call's row did
-pub acts_did : (s : Settings) (m : Moment) (pool : Pool) (id₀ id : CallId) (row r after : HeldServer) (a : ServerAct) (o : Option ServerRow) → id₀ ≡ id → row ≡ r
+pub acts_did : (s : Settings) (m : Moment) (pool : Pool) (id₀ id : CallId) (row r after : HeldServer) (a : ServerAct) (o : Option ServerRow)
+    → id₀ ≡ id → row ≡ r
     → server_acts s m id₀ (seen_server pool row) ≡ acted_of s m id₀ (after_act pool after a) a → after_act pool after a ≡ o
     → server_acts s m id (seen_server pool r) ≡ acted_of s m id o a
 acts_did s m pool id₀ id row r after a o same here did is =
@@ -74,8 +76,10 @@ acts_did s m pool id₀ id row r after a o same here did is =
     (subst (λ (x : Option ServerRow). server_acts s m id₀ (seen_server pool row) ≡ acted_of s m id₀ x a) is did))
 
 -- the row that is taken out, after it became another
-module _ (room : ℕ) (rows : ServerRows) (slot : ℕ) (placed : ArePlaced room rows) (host : HostId) (s : Settings) (id : CallId) (r : HeldServer) (stands : StandsAt rows id slot r) (after : HeldServer)
-    (x : CallId × HeldServer) (placed' : ArePlaced room (set_at rows slot after)) (found : spot_at (set_at rows slot after) slot ≡ Some x) (rest : ServerRows) (removed : rest ≡ remove (set_at rows slot after) x.0) where
+module _ (room : ℕ) (rows : ServerRows) (slot : ℕ) (placed : ArePlaced room rows) (host : HostId) (s : Settings) (id : CallId) (r : HeldServer)
+    (stands : StandsAt rows id slot r) (after : HeldServer)
+    (x : CallId × HeldServer) (placed' : ArePlaced room (set_at rows slot after)) (found : spot_at (set_at rows slot after) slot ≡ Some x)
+    (rest : ServerRows) (removed : rest ≡ remove (set_at rows slot after) x.0) where
   pub out_is : x ≡ (id, after)
   out_is = found_spot room (set_at rows slot after) slot placed' x (sym found) id after (stands_new room rows slot placed host s id r stands after)
 
@@ -88,7 +92,8 @@ module _ (room : ℕ) (rows : ServerRows) (slot : ℕ) (placed : ArePlaced room 
   pub out_others : (q : CallId) → (q ≡ id → ⊥) → get rest q ≡ get rows q
   out_others q ne = ap (λ (m : ServerRows). get m q) without ∙ rest_others room rows slot placed host s id r stands after q ne
 
-  module _ (pool pool' : Pool) (are : AreIn pool (request_at rows)) (part : state_part after.state ≡ state_part r.state) (moves : Moves pool (state_part x.1.state) pool' None) where
+  module _ (pool pool' : Pool) (are : AreIn pool (request_at rows)) (part : state_part after.state ≡ state_part r.state)
+      (moves : Moves pool (state_part x.1.state) pool' None) where
     out_moves : Moves pool (state_part r.state) pool' None
     out_moves = subst (λ (o : Option Part). Moves pool o pool' None) (ap (λ (y : CallId × HeldServer). state_part y.1.state) out_is ∙ part) moves
 
@@ -98,5 +103,6 @@ module _ (room : ℕ) (rows : ServerRows) (slot : ℕ) (placed : ArePlaced room 
     pub still_out : AreIn pool' (request_at rest)
     still_out = still_gone room rows slot placed host s id r stands rest out_none out_others pool pool' are out_moves
 
-    pub moved_out : ServerMoved id (record { host = host; settings = s; rows = rows }) pool (record { host = host; settings = s; rows = rest }) pool' (server_at pool' rest id)
+    pub moved_out : ServerMoved id (record { host = host; settings = s; rows = rows }) pool (record { host = host; settings = s; rows = rest }) pool'
+        (server_at pool' rest id)
     moved_out = moved_gone room rows slot placed host s id r stands rest out_none out_others pool pool' are out_moves

@@ -5,7 +5,8 @@ use Rattle.homa_in.specs.Part.{Part}
 use Rattle.homa_server.specs.Held.{HeldState, Arriving, Keeping, Answering, Gone, IfArriving}
 
 -- what follows from a fact of it
-pub if_arriving : (state : HeldState) (P Q : ℕ → Part → ℕ → ℕ → Type 0) → ((service : ℕ) (part : Part) (base count : ℕ) → P service part base count → Q service part base count) → IfArriving state P → IfArriving state Q
+pub if_arriving : (state : HeldState) (P Q : ℕ → Part → ℕ → ℕ → Type 0)
+    → ((service : ℕ) (part : Part) (base count : ℕ) → P service part base count → Q service part base count) → IfArriving state P → IfArriving state Q
 if_arriving (Arriving service part base count) P Q f h = f service part base count h
 if_arriving (Keeping response release) P Q f h = tt
 if_arriving (Answering response out order base count) P Q f h = tt

@@ -11,7 +11,8 @@ use Rattle.homa_plain.proofs.OutgoingLaws.{sound-opened, sound-grant, sound-rese
 use Rattle.homa_server.specs.Held.{IsReplied, IsResponse}
 
 pub kept-opened : (response : List ℕ) (unsched now : ℕ) → IsResponse response → now < 2 ^ 63 → IsReplied response (opened (length response) unsched) now
-kept-opened response unsched now is late = record { message = is; long = refl; sound = sound-opened (length response) unsched; prio = omega arith; early = late }
+kept-opened response unsched now is late =
+    record { message = is; long = refl; sound = sound-opened (length response) unsched; prio = omega arith; early = late }
 
 module _ (response : List ℕ) (out : Outgoing) (base now : ℕ) (is : IsReplied response out base) (late : now < 2 ^ 63) where
   -- another part of the same length
@@ -37,14 +38,16 @@ first_within s limit from to e = at (first_below s limit) refl e where
   at : (o : Option Range) → first_below s limit ≡ o → Some (from, to) ≡ option_map bounds o → (from < to) × (to ≤ limit)
   at None is e = cc
   at (Some r) is e =
-      let first : IsFirstIn (has s) 0 limit r = subst (λ (o : Option Range). MatchOption o (NoneIn (has s) 0 limit) (IsFirstIn (has s) 0 limit)) is (first-first_in s 0 limit) in
+      let first : IsFirstIn (has s) 0 limit r =
+      subst (λ (o : Option Range). MatchOption o (NoneIn (has s) 0 limit) (IsFirstIn (has s) 0 limit)) is (first-first_in s 0 limit) in
       let pair : (from, to) ≡ bounds r = cc in
       let from_is : from ≡ r.from = ap (λ (p : ℕ × ℕ). p.0) pair in
       let to_is : to ≡ r.to = ap (λ (p : ℕ × ℕ). p.1) pair in
       (omega (arith, first.some), omega (arith, first.high))
 
 -- bytes of a response are sent
-pub kept-next : (response : List ℕ) (out : Outgoing) (base now seg : ℕ) → IsReplied response out base → now < 2 ^ 63 → IsReplied response (next out seg).part now
+pub kept-next : (response : List ℕ) (out : Outgoing) (base now seg : ℕ) → IsReplied response out base → now < 2 ^ 63
+    → IsReplied response (next out seg).part now
 kept-next response out base now seg is late = at (next_range out seg) (sound-next out seg is.sound) where
   at : (r : Option Range) → IsSound (sent out r) → IsReplied response (sent out r) now
   at None sound = with_out response out base now is late out sound refl is.prio

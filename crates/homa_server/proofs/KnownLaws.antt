@@ -23,5 +23,7 @@ module _ (room : ℕ) (rows : ServerRows) (id : CallId) (slot : ℕ) (placed : A
         subst (λ (r : HeldServer). StandsAt rows id slot r) (sym (lent_row room rows slot placed row lent id found.0 found.1)) found.1
 
     -- a row whose part stays
-    pub known_still : (after : HeldServer) (pool : Pool) → state_part after.state ≡ state_part row.state → AreIn pool (request_at rows) → Moves pool (state_part row.state) pool (state_part after.state)
-    known_still after pool same are = subst (λ (o : Option Part). Moves pool (state_part row.state) pool o) (sym same) (still pool (state_part row.state) (in_pool rows slot id row known_stands pool are))
+    pub known_still : (after : HeldServer) (pool : Pool) → state_part after.state ≡ state_part row.state → AreIn pool (request_at rows)
+        → Moves pool (state_part row.state) pool (state_part after.state)
+    known_still after pool same are = subst (λ (o : Option Part). Moves pool (state_part row.state) pool o) (sym same)
+        (still pool (state_part row.state) (in_pool rows slot id row known_stands pool are))

@@ -45,10 +45,12 @@ pub slot_named : (slot : ℕ) → ◌≡◌ {A = Option ℕ} (Some slot) None �
 slot_named slot e = cc
 
 -- there is no room for a further row
-pub full_rows : (s : Settings) (m : Moment) (id : CallId) (p : Piece) (a : Answer) → s.served ≤ m.rows → opens s m id p a ≡ says m None (Tells (PlainFullRows m.host id m.rows s.served) ∷ [])
+pub full_rows : (s : Settings) (m : Moment) (id : CallId) (p : Piece) (a : Answer) → s.served ≤ m.rows
+    → opens s m id p a ≡ says m None (Tells (PlainFullRows m.host id m.rows s.served) ∷ [])
 full_rows s m id p a full = rw (le-leb s.served m.rows full) refl
 
-pub full_said : (t : Servers) (id : CallId) (now order : ℕ) (pool : Pool) (size offset version service : ℕ) (payload : List ℕ) (ack : Option (ℕ × ℕ)) (told : List ℕ) (n : ℕ) → n ≡ len t.rows → t.settings.served ≤ n
+pub full_said : (t : Servers) (id : CallId) (now order : ℕ) (pool : Pool) (size offset version service : ℕ) (payload : List ℕ) (ack : Option (ℕ × ℕ))
+    (told : List ℕ) (n : ℕ) → n ≡ len t.rows → t.settings.served ≤ n
     → let m = moment_with t.host now order (free_pages pool) (len t.rows) in
     let what = body.Data size offset version service ack in
     IsAnswered t.settings m id (piece_in what payload) (λ (a : Answer). unknown_gets t.settings m id what payload a) None [] told (did.FullRows n)
@@ -83,7 +85,8 @@ module _ (t : Servers) (id : CallId) (none : get t.rows id ≡ None) where
       abbrev pub p : Packet
       p = packet_of id what payload role server inc at level
 
-      gets_none : (a : Answer) → server_gets t.settings (server_moment t now order pool id) p a (server_at pool t.rows id) ≡ unknown_gets t.settings m id what payload a
+      gets_none : (a : Answer) → server_gets t.settings (server_moment t now order pool id) p a (server_at pool t.rows id)
+          ≡ unknown_gets t.settings m id what payload a
       unfolding server_gets
       gets_none a =
           ap (server_gets t.settings (server_moment t now order pool id) p a) (server_none pool)
@@ -97,7 +100,8 @@ module _ (t : Servers) (id : CallId) (none : get t.rows id ≡ None) where
       module _ (pool' : Pool) (told : List ℕ) (allowed : List ℕ → List ℕ → ℕ → Type 0) (answer : ServerDid) (are : AreIn pool (request_at t.rows)) where
         answered : (rows : ServerRows) (row : Option ServerRow) (response : List ℕ) → server_at pool' rows id ≡ row → response_at rows id ≡ response
             → IsAnswered t.settings m id (piece_in what payload) (λ (a : Answer). unknown_gets t.settings m id what payload a) row response told answer
-            → IsAnswered t.settings (server_moment t now order pool id) id (piece_in what payload) (λ (a : Answer). server_gets t.settings (server_moment t now order pool id) p a (server_at pool t.rows id))
+            → IsAnswered t.settings (server_moment t now order pool id) id (piece_in what payload)
+            (λ (a : Answer). server_gets t.settings (server_moment t now order pool id) p a (server_at pool t.rows id))
             (server_at pool' rows id) (response_at rows id) told answer
         answered rows row response here is did a reply =
             gets_none a ∙ did a (subst (λ (bytes : List ℕ). IsReply bytes a answer) is reply)
@@ -109,13 +113,15 @@ module _ (t : Servers) (id : CallId) (none : get t.rows id ≡ None) where
             → IsAnswered t.settings m id (piece_in what payload) (λ (a : Answer). unknown_gets t.settings m id what payload a) None [] told answer
             → IsSlotOf None answer → IfSaid answer IsAnswerBody → has_run answer ≡ false → pool' ≡ pool → Served t pool p now order t pool' told allowed answer
         served_none moves did here said silent idle = record {
-          did = answered t.rows None [] (server_none pool') (ap (λ (o : Option (Placed HeldServer)). option_map_or (λ (x : Placed HeldServer). response_in x.row.state) o []) none) did;
+          did = answered t.rows None [] (server_none pool')
+              (ap (λ (o : Option (Placed HeldServer)). option_map_or (λ (x : Placed HeldServer). response_in x.row.state) o []) none) did;
           ran = no_run answer (λ hold. allowed told (response_at t.rows id) hold) silent;
           slot = subst (λ (o : Option ℕ). IsSlotOf o answer) (sym (ap (option_map (λ (x : Placed HeldServer). x.place)) none)) here;
           named = λ some. absurd (true≢false (sym some ∙ ap is_some none));
           same = λ none. (refl, idle);
           said = said;
-          moved = server_moved t t.rows pool pool' id _ are (subst (λ (o : Option Part). Moves pool o pool' o) (sym request_none) moves) (changed-none t.rows id) refl;
+          moved = server_moved t t.rows pool pool' id _ are (subst (λ (o : Option Part). Moves pool o pool' o) (sym request_none) moves)
+              (changed-none t.rows id) refl;
         }
 
         -- a row is made
@@ -129,18 +135,23 @@ module _ (t : Servers) (id : CallId) (none : get t.rows id ≡ None) where
           moves_new : Moves pool (request_at t.rows id) pool' (request_at rows id)
           moves_new =
               subst (λ (o : Option Part). Moves pool o pool' (request_at rows id)) (sym request_none)
-              (subst (λ (o : Option Part). Moves pool None pool' o) (sym (ap (option_and_then (λ (x : Placed HeldServer). state_part x.row.state)) row_new)) moves)
+              (subst (λ (o : Option Part). Moves pool None pool' o)
+              (sym (ap (option_and_then (λ (x : Placed HeldServer). state_part x.row.state)) row_new)) moves)
 
           pub still_new : AreIn pool' (request_at rows)
           still_new = still_requests t.rows rows pool pool' id are moves_new (changed-new t.rows id _ none)
 
-          pub served_new : IsAnswered t.settings m id (piece_in what payload) (λ (a : Answer). unknown_gets t.settings m id what payload a) (Some (seen_server pool' row)) (response_in row.state) told answer
-              → IsSlotOf (Some place) answer → (slot_in answer ≡ None → ⊥) → IfSaid answer IsAnswerBody → IfRan answer (λ hold. allowed told (response_in row.state) hold)
+          pub served_new : IsAnswered t.settings m id (piece_in what payload) (λ (a : Answer). unknown_gets t.settings m id what payload a)
+              (Some (seen_server pool' row)) (response_in row.state) told answer
+              → IsSlotOf (Some place) answer → (slot_in answer ≡ None → ⊥) → IfSaid answer IsAnswerBody
+              → IfRan answer (λ hold. allowed told (response_in row.state) hold)
               → Served t pool p now order (record t { rows = rows }) pool' told allowed answer
           served_new did here named said ran =
-              let response : response_at rows id ≡ response_in row.state = ap (λ (o : Option (Placed HeldServer)). option_map_or (λ (x : Placed HeldServer). response_in x.row.state) o []) row_new in
+              let response : response_at rows id ≡ response_in row.state =
+              ap (λ (o : Option (Placed HeldServer)). option_map_or (λ (x : Placed HeldServer). response_in x.row.state) o []) row_new in
               record {
-                did = answered rows (Some (seen_server pool' row)) (response_in row.state) (ap (option_map (λ (x : Placed HeldServer). seen_server pool' x.row)) row_new) response did;
+                did = answered rows (Some (seen_server pool' row)) (response_in row.state)
+                    (ap (option_map (λ (x : Placed HeldServer). seen_server pool' x.row)) row_new) response did;
                 ran = subst (λ (bytes : List ℕ). IfRan answer (λ hold. allowed told bytes hold)) (sym response) ran;
                 slot = subst (λ (o : Option ℕ). IsSlotOf o answer) (sym (ap (option_map (λ (x : Placed HeldServer). x.place)) row_new)) here;
                 named = λ some. absurd (true≢false (sym some ∙ ap is_some none));
@@ -156,13 +167,17 @@ module _ (t seen : Servers) (is : t ≡ seen) (id : CallId) (none : get seen.row
   none_here = subst (λ (x : Servers). get x.rows id ≡ None) (sym is) none
 
   pub seen_asked : (now order : ℕ) (pool : Pool) (what : Body) (payload : List ℕ) (number : ℕ) (request : List ℕ) (a : Answer)
-      → IsAsked id number request (unknown_gets t.settings (moment_with t.host now order (free_pages pool) (len t.rows)) id what payload a) → (role : Role) (server : HostId) (inc at level : ℕ)
-      → IsAsked id number request (server_gets seen.settings (server_moment seen now order pool id) (packet_of id what payload role server inc at level) a (server_at pool seen.rows id))
+      → IsAsked id number request (unknown_gets t.settings (moment_with t.host now order (free_pages pool) (len t.rows)) id what payload a)
+      → (role : Role) (server : HostId) (inc at level : ℕ)
+      → IsAsked id number request
+      (server_gets seen.settings (server_moment seen now order pool id) (packet_of id what payload role server inc at level) a (server_at pool seen.rows id))
   seen_asked now order pool what payload number request a asked role server inc at level =
-      subst (λ (x : Servers). IsAsked id number request (server_gets x.settings (server_moment x now order pool id) (packet_of id what payload role server inc at level) a (server_at pool x.rows id))) is
+      subst (λ (x : Servers). IsAsked id number request
+      (server_gets x.settings (server_moment x now order pool id) (packet_of id what payload role server inc at level) a (server_at pool x.rows id))) is
       (asked_new t id none_here now order pool what payload role server inc at level number request a asked)
 
-  module _ (now order : ℕ) (pool : Pool) (are : AreIn pool (request_at seen.rows)) (what : Body) (payload : List ℕ) (pool' : Pool) (told : List ℕ) (allowed : List ℕ → List ℕ → ℕ → Type 0) (answer : ServerDid) where
+  module _ (now order : ℕ) (pool : Pool) (are : AreIn pool (request_at seen.rows)) (what : Body) (payload : List ℕ) (pool' : Pool) (told : List ℕ)
+      (allowed : List ℕ → List ℕ → ℕ → Type 0) (answer : ServerDid) where
     abbrev pub IsGiven : Option ServerRow → List ℕ → Type 0
     IsGiven row response =
         let k = moment_with t.host now order (free_pages pool) (len t.rows) in
@@ -172,19 +187,26 @@ module _ (t seen : Servers) (is : t ≡ seen) (id : CallId) (none : get seen.row
     are_here = subst (λ (x : Servers). AreIn pool (request_at x.rows)) (sym is) are
 
     pub seen_none : Moves pool None pool' None → IsGiven None [] → IsSlotOf None answer → IfSaid answer IsAnswerBody → has_run answer ≡ false → pool' ≡ pool
-        → (role : Role) (server : HostId) (inc at level : ℕ) → Served seen pool (packet_of id what payload role server inc at level) now order seen pool' told allowed answer
+        → (role : Role) (server : HostId) (inc at level : ℕ)
+        → Served seen pool (packet_of id what payload role server inc at level) now order seen pool' told allowed answer
     seen_none moves did here said silent idle role server inc at level =
         subst (λ (x : Servers). Served x pool (packet_of id what payload role server inc at level) now order x pool' told allowed answer) is
         (served_none t id none_here now order pool what payload role server inc at level pool' told allowed answer are_here moves did here said silent idle)
 
-    module _ (place : ℕ) (row : HeldServer) (after : ServerRows) (made : after ≡ insert t.rows id (record { place = place; row = row })) (moves : Moves pool None pool' (state_part row.state)) where
-      pub seen_new : IsGiven (Some (seen_server pool' row)) (response_in row.state) → IsSlotOf (Some place) answer → (slot_in answer ≡ None → ⊥) → IfSaid answer IsAnswerBody
+    module _ (place : ℕ) (row : HeldServer) (after : ServerRows) (made : after ≡ insert t.rows id (record { place = place; row = row }))
+        (moves : Moves pool None pool' (state_part row.state)) where
+      pub seen_new : IsGiven (Some (seen_server pool' row)) (response_in row.state) → IsSlotOf (Some place) answer → (slot_in answer ≡ None → ⊥)
+          → IfSaid answer IsAnswerBody
           → IfRan answer (λ hold. allowed told (response_in row.state) hold)
-          → (role : Role) (server : HostId) (inc at level : ℕ) → Served seen pool (packet_of id what payload role server inc at level) now order (record t { rows = after }) pool' told allowed answer
+          → (role : Role) (server : HostId) (inc at level : ℕ) → Served seen pool (packet_of id what payload role server inc at level) now order
+          (record t { rows = after }) pool' told allowed answer
       seen_new did here named said ran role server inc at level =
-          subst (λ (x : Servers). Served x pool (packet_of id what payload role server inc at level) now order (record t { rows = after }) pool' told allowed answer) is
-          (subst (λ (rows : ServerRows). Served t pool (packet_of id what payload role server inc at level) now order (record t { rows = rows }) pool' told allowed answer) (sym made)
-          (served_new t id none_here now order pool what payload role server inc at level pool' told allowed answer are_here place row moves did here named said ran))
+          subst (λ (x : Servers). Served x pool (packet_of id what payload role server inc at level) now order
+          (record t { rows = after }) pool' told allowed answer) is
+          (subst (λ (rows : ServerRows). Served t pool (packet_of id what payload role server inc at level) now order
+          (record t { rows = rows }) pool' told allowed answer) (sym made)
+          (served_new t id none_here now order pool what payload role server inc at level pool' told allowed answer are_here place row moves did here
+          named said ran))
 
       pub seen_still : AreIn pool' (request_at after)
       seen_still =
@@ -193,6 +215,7 @@ module _ (t seen : Servers) (is : t ≡ seen) (id : CallId) (none : get seen.row
 
 -- a packet that its client sent, as one of its call
 pub sent_is : (from host : HostId) (w : WirePacket) (payload : List ℕ) → w.role ≡ Client
-    → packet_of (record { client = from; inc = w.inc; seq = w.seq }) w.body payload w.role (server_between w.role from host) w.sender w.at w.level ≡ packet_between from host w payload
+    → packet_of (record { client = from; inc = w.inc; seq = w.seq }) w.body payload w.role (server_between w.role from host) w.sender w.at w.level
+    ≡ packet_between from host w payload
 sent_is from host w payload e =
     ap (λ (r : Role). packet_of (call_between r from host w.inc w.seq) w.body payload w.role (server_between w.role from host) w.sender w.at w.level) (sym e)

@@ -25,7 +25,8 @@ use Rattle.homa_server.specs.declared.answers.ServerDid.{ServerDid}
 use Rattle.homa_server.proofs.StandLaws.{server_is, new_is, slot_new, server_new, moved_new}
 
 -- facts of a call that succeeds, put together
-pub if_ok_all : {T E : Type 0} (r : Result T E) (A B C D F G N Q : T → Type 0) → IfOk r A → IfOk r B → IfOk r C → IfOk r D → IfOk r F → IfOk r G → IfOk r N → ((t : T) → A t → B t → C t → D t → F t → G t → N t → Q t) → IfOk r Q
+pub if_ok_all : {T E : Type 0} (r : Result T E) (A B C D F G N Q : T → Type 0) → IfOk r A → IfOk r B → IfOk r C → IfOk r D → IfOk r F → IfOk r G
+    → IfOk r N → ((t : T) → A t → B t → C t → D t → F t → G t → N t → Q t) → IfOk r Q
 if_ok_all (Ok t) A B C D F G N Q a b c d f g n h = h t a b c d f g n
 if_ok_all (Err e) A B C D F G N Q a b c d f g n h = tt
 
@@ -43,7 +44,8 @@ pub on_err_both : {T E : Type 0} (r : Result T E) (P Q : Type 0) → OnErr r P �
 on_err_both (Ok t) P Q a b = tt
 on_err_both (Err e) P Q a b = (a, b)
 
-module _ (room : ℕ) (rows : ServerRows) (slot : ℕ) (placed : ArePlaced room rows) (host : HostId) (s : Settings) (id : CallId) (r : HeldServer) (stands : StandsAt rows id slot r) where
+module _ (room : ℕ) (rows : ServerRows) (slot : ℕ) (placed : ArePlaced room rows) (host : HostId) (s : Settings) (id : CallId) (r : HeldServer)
+    (stands : StandsAt rows id slot r) where
   -- a row that becomes what it is leaves all as it was
   pub new-same : set_at rows slot r ≡ rows
   new-same = set_at-insert room rows placed id slot r r stands ∙ same_map call_total call_same _ _ (λ q. elim (one_call q id) [
@@ -56,25 +58,34 @@ module _ (room : ℕ) (rows : ServerRows) (slot : ℕ) (placed : ArePlaced room 
     v = record { host = host; settings = s; rows = rows }
 
     -- what the rule of the row asks is asked
-    pub asked_at : (number : ℕ) (request : List ℕ) → ((m : Moment) (a : Answer) → IsAsked id number request (row_gets s m id body payload a (seen_server pool r) (seen_state pool r.state))) → (a : Answer)
-        → IsAsked id number request (server_gets s (server_moment v now order pool id) (packet_of id body payload role server inc at level) a (server_at pool rows id))
+    pub asked_at : (number : ℕ) (request : List ℕ)
+        → ((m : Moment) (a : Answer) → IsAsked id number request (row_gets s m id body payload a (seen_server pool r) (seen_state pool r.state))) → (a : Answer)
+        → IsAsked id number request
+        (server_gets s (server_moment v now order pool id) (packet_of id body payload role server inc at level) a (server_at pool rows id))
     unfolding server_gets
     asked_at number request asked a =
-        subst (λ (o : Option ServerRow). IsAsked id number request (server_gets s (server_moment v now order pool id) (packet_of id body payload role server inc at level) a o)) (sym (server_is rows slot id r stands pool))
+        subst (λ (o : Option ServerRow). IsAsked id number request
+        (server_gets s (server_moment v now order pool id) (packet_of id body payload role server inc at level) a o))
+        (sym (server_is rows slot id r stands pool))
         (asked (server_moment v now order pool id) a)
 
-    module _ (pool' : Pool) (after : HeldServer) (are : AreIn pool (request_at rows)) (moves : Moves pool (state_part r.state) pool' (state_part after.state)) where
+    module _ (pool' : Pool) (after : HeldServer) (are : AreIn pool (request_at rows))
+        (moves : Moves pool (state_part r.state) pool' (state_part after.state)) where
       abbrev w : ServerRows
       w = set_at rows slot after
 
       response_new : response_at w id ≡ response_in after.state
-      response_new = ap (λ (o : Option (Placed HeldServer)). option_map_or (λ (x : Placed HeldServer). response_in x.row.state) o []) (new_is room rows slot placed host s id r stands after)
+      response_new = ap (λ (o : Option (Placed HeldServer)). option_map_or (λ (x : Placed HeldServer). response_in x.row.state) o [])
+          (new_is room rows slot placed host s id r stands after)
 
       pub served_at : (told : List ℕ) (allowed : List ℕ → List ℕ → ℕ → Type 0) (answer : ServerDid)
           → ((free n : ℕ) → let m = moment_with host now order free n in
-          IsAnswered s m id (piece_in body payload) (λ a. row_gets s m id body payload a (seen_server pool r) (seen_state pool r.state)) (Some (seen_server pool' after)) (response_in after.state) told answer)
-          → IsSlotOf (Some slot) answer → slot_in answer ≡ slot_if (is_for body r.state) slot → IfSaid answer IsAnswerBody → (slot_in answer ≡ None → (after ≡ r) × (pool' ≡ pool)) → IfRan answer (λ hold. allowed told (response_in after.state) hold)
-          → Served v pool (packet_of id body payload role server inc at level) now order (record { host = host; settings = s; rows = w }) pool' told allowed answer
+          IsAnswered s m id (piece_in body payload) (λ a. row_gets s m id body payload a (seen_server pool r) (seen_state pool r.state))
+          (Some (seen_server pool' after)) (response_in after.state) told answer)
+          → IsSlotOf (Some slot) answer → slot_in answer ≡ slot_if (is_for body r.state) slot → IfSaid answer IsAnswerBody
+          → (slot_in answer ≡ None → (after ≡ r) × (pool' ≡ pool)) → IfRan answer (λ hold. allowed told (response_in after.state) hold)
+          → Served v pool (packet_of id body payload role server inc at level) now order (record { host = host; settings = s; rows = w }) pool' told
+          allowed answer
       unfolding server_gets
       served_at told allowed answer did here named said idle ran =
           let m = server_moment v now order pool id in
@@ -82,7 +93,8 @@ module _ (room : ℕ) (rows : ServerRows) (slot : ℕ) (placed : ArePlaced room 
             did = λ a reply.
                 ap (server_gets s m (packet_of id body payload role server inc at level) a) (server_is rows slot id r stands pool)
                 ∙ did m.free m.rows a (subst (λ (bytes : List ℕ). IsReply bytes a answer) response_new reply)
-                ∙ ap (λ (o : Option ServerRow). served_of s m id (piece_in body payload) o told a answer) (sym (server_new room rows slot placed host s id r stands pool pool' after are moves));
+                ∙ ap (λ (o : Option ServerRow). served_of s m id (piece_in body payload) o told a answer)
+                (sym (server_new room rows slot placed host s id r stands pool pool' after are moves));
             ran = subst (λ (bytes : List ℕ). IfRan answer (λ hold. allowed told bytes hold)) (sym response_new) ran;
             slot = subst (λ (o : Option ℕ). IsSlotOf o answer) (sym (slot_new room rows slot placed host s id r stands after)) here;
             named = λ _. named ∙ sym (ap (option_and_then (λ (x : Placed HeldServer). slot_if (is_for body x.row.state) x.place)) stands);

@@ -87,7 +87,11 @@ served_of s m id piece row told a (did.Touched slot) = record (leaves m row) { v
 served_of s m id piece row told a (did.Opened slot) = record (opening (size_in piece) (leaves m row)) { version = first_version piece }
 served_of s m id piece row told a (did.Ran slot opened hold) =
     let d = opening_if opened (size_in piece) (leaves m row) in
-    record d { order = (if hold == 0 then d.order + 1 else d.order); version = first_version piece; says = Tells (PlainRun m.host id (service_in piece) told a.bytes hold) ∷ [] }
+    record d {
+      order = (if hold == 0 then d.order + 1 else d.order);
+      version = first_version piece;
+      says = Tells (PlainRun m.host id (service_in piece) told a.bytes hold) ∷ [];
+    }
 served_of s m id piece row told a (did.FullRows rows) = says m row (Tells (PlainFullRows m.host id rows s.served) ∷ [])
 served_of s m id piece row told a (did.FullPages need free) = says m row (Tells (PlainFullPages m.host id need free) ∷ [])
 served_of s m id piece row told a (did.Gaps slot) = record (leaves m row) { version = first_version piece; says = Tells (PlainGaps m.host id) ∷ [] }
@@ -257,7 +261,8 @@ IsAsking what = Unit {0}
 abbrev pub out_facts : HeldState → Option OutFacts
 out_facts (Arriving service part base count) = None
 out_facts (Keeping response release) = None
-out_facts (Answering response out order base count) = Some (record { length = out.length; service = 0; left = left out; order = order; prio = out.prio; waiting = has_waiting out })
+out_facts (Answering response out order base count) =
+    Some (record { length = out.length; service = 0; left = left out; order = order; prio = out.prio; waiting = has_waiting out })
 out_facts (Gone until) = None
 
 -- the facts of a row

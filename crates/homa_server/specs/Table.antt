@@ -82,7 +82,8 @@ server_moment t now order pool id = moment_with t.host now order (free_pages poo
 
 -- a packet of a call that says this
 abbrev pub packet_of : CallId → Body → List ℕ → Role → HostId → ℕ → ℕ → ℕ → Packet
-packet_of id what payload role server inc at level = record { role = role; id = id; server = server; inc = inc; at = at; level = level; body = what; payload = payload }
+packet_of id what payload role server inc at level =
+    record { role = role; id = id; server = server; inc = inc; at = at; level = level; body = what; payload = payload }
 
 -- the place of the row that a packet is for, if there is one
 abbrev pub slot_for : ServerRows → Packet → Option ℕ
@@ -91,7 +92,8 @@ slot_for rows p = option_and_then (λ (x : Placed HeldServer). slot_if (is_for p
 -- A packet of a client was taken by the table: for each answer of the service that is the response in the row, if the
 -- service ran, the plain rule did what is answered. Where the service ran, it was allowed to answer so. Where the call has
 -- a row, the answer names its place exactly if the packet is for it, and else nothing changed.
-pub record Served (old : Servers) (pool : Pool) (p : Packet) (now order : ℕ) (new : Servers) (pool' : Pool) (told : List ℕ) (allowed : List ℕ → List ℕ → ℕ → Type 0) (answer : ServerDid) : Type 0 where
+pub record Served (old : Servers) (pool : Pool) (p : Packet) (now order : ℕ) (new : Servers) (pool' : Pool) (told : List ℕ)
+    (allowed : List ℕ → List ℕ → ℕ → Type 0) (answer : ServerDid) : Type 0 where
   pub did : let m = server_moment old now order pool p.id in
       IsAnswered old.settings m p.id (piece_in p.body p.payload) (λ (a : Answer). server_gets old.settings m p a (server_at pool old.rows p.id))
       (server_at pool' new.rows p.id) (response_at new.rows p.id) told answer

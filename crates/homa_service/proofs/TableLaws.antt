@@ -1,5 +1,6 @@
 -- A host's place after a replacement, for callers.
-use Rattle.std.proofs.Common.{◌≡◌, ◌↔◌, ℕ, zero, suc, ◌-◌, ◌<◌, List, [], ◌∷◌, length, refl, sym, subst, true≢false, arith, Option, Result, Ok, Err, OnOk, OnErr, IsErr, IsSome, slice_set}
+use Rattle.std.proofs.Common.{◌≡◌, ◌↔◌, ℕ, zero, suc, ◌-◌, ◌<◌, List, [], ◌∷◌, length, refl, sym, subst, true≢false, arith, Option, Result, Ok, Err}
+use Rattle.std.proofs.Common.{OnOk, OnErr, IsErr, IsSome, slice_set}
 use Rattle.std.proofs.lemmas.Option.{slice_get-get_or}
 use Rattle.homa_service.specs.Table.{place_of, last_of}
 
@@ -21,5 +22,6 @@ module _ {A : Type 0} where
   pub full-replaced : {T E : Type 0} (result : Result T E) (old new : List (Option A)) (spares : List A) (host : ℕ) → IsErr result ↔ (spares ≡ [])
       → OnOk result (new ≡ slice_set old host (last_of spares)) → OnErr result (new ≡ old) → IsSome (place_of old host) → IsSome (place_of new host)
   full-replaced (Ok x) old new spares host none ok err h =
-      subst (λ (places : List (Option A)). IsSome (place_of places host)) (sym ok) (full_set old host (last_of spares) h (last_some spares (λ e. true≢false (sym (none.1 e)))))
+      subst (λ (places : List (Option A)). IsSome (place_of places host)) (sym ok)
+      (full_set old host (last_of spares) h (last_some spares (λ e. true≢false (sym (none.1 e)))))
   full-replaced (Err x) old new spares host none ok err h = subst (λ (places : List (Option A)). IsSome (place_of places host)) (sym err) h

@@ -1,5 +1,6 @@
 -- What stands before the first line feed of some bytes.
-use Rattle.std.proofs.Common.{◌≡◌, ◌<◌, ◌≤◌, ℕ, ◌+◌, ◌==◌, true, suc, min, List, ◌∷◌, length, take, drop, get_or, sym, ap, subst, ◌∙◌, drop-cons, add-one, arith}
+use Rattle.std.proofs.Common.{◌≡◌, ◌<◌, ◌≤◌, ℕ, ◌+◌, ◌==◌, true, suc, min, List, ◌∷◌, length, take, drop, get_or, sym, ap, subst, ◌∙◌, drop-cons}
+use Rattle.std.proofs.Common.{add-one, arith}
 use Rattle.std.proofs.lemmas.Bool.{eqb-true}
 use Rattle.std.proofs.lemmas.List.{take-take, get_or-take, length-take, length-take-le}
 use Rattle.memchr.specs.Find.{Nowhere, NoneBefore, Passes, is_byte}
@@ -7,12 +8,14 @@ use Rattle.homa_plain.specs.Input.{has_no_feed}
 use Rattle.homa_text.proofs.Feeds.{has_no_feed-nowhere}
 
 -- no line feed stands among the first n bytes
-pub none_among : (bytes : List ℕ) (n : ℕ) → n ≤ length bytes → Nowhere (Passes (is_byte 10) (take n bytes)) 0 (length (take n bytes)) → has_no_feed (take (length (take n bytes)) bytes) ≡ true
+pub none_among : (bytes : List ℕ) (n : ℕ) → n ≤ length bytes → Nowhere (Passes (is_byte 10) (take n bytes)) 0 (length (take n bytes))
+    → has_no_feed (take (length (take n bytes)) bytes) ≡ true
 none_among bytes n fits none =
     rw (length-take-le n bytes fits) (has_no_feed-nowhere (take n bytes) (λ k l e. none k (omega arith) l e))
 
 -- the first line feed of the first n bytes stands behind i bytes
-module _ (bytes : List ℕ) (n i : ℕ) (first : NoneBefore (Passes (is_byte 10) (take n bytes)) 0 (length (take n bytes)) i × Passes (is_byte 10) (take n bytes) i) where
+module _ (bytes : List ℕ) (n i : ℕ)
+    (first : NoneBefore (Passes (is_byte 10) (take n bytes)) 0 (length (take n bytes)) i × Passes (is_byte 10) (take n bytes) i) where
   pub feed_within : (i < n) × (i < length bytes)
   feed_within = (omega (arith, first.0.high, length-take n bytes), omega (arith, first.0.high, length-take n bytes))
 

@@ -1,5 +1,6 @@
 -- The value of digits, one after another.
-use Rattle.std.proofs.Common.{◌≡◌, ◌<◌, ◌≤◌, ℕ, ◌+◌, ◌-◌, ◌*◌, ◌^◌, arith, Bool, true, false, None, Some, List, [], ◌∷◌, length, drop, get_or, refl, ap, drop-cons, add-one}
+use Rattle.std.proofs.Common.{◌≡◌, ◌<◌, ◌≤◌, ℕ, ◌+◌, ◌-◌, ◌*◌, ◌^◌, arith, Bool, true, false, None, Some, List, [], ◌∷◌, length, drop, get_or, refl}
+use Rattle.std.proofs.Common.{ap, drop-cons, add-one}
 use Rattle.std.specs.Prelude.{nat_lt, if◌then◌else◌}
 use Rattle.std.specs.Char.{is_ascii_digit}
 use Rattle.std.proofs.lemmas.Bool.Decides.{nat_tests}
@@ -32,7 +33,8 @@ in_64_bits-large n [] h = none_by n (nat_lt n (2 ^ 64)) refl h
 in_64_bits-large n (c ∷ cs) h = more_by (is_ascii_digit c) (n * 10 + (c - 48)) cs (in_64_bits-large (n * 10 + (c - 48)) cs (omega arith))
 
 -- one digit more
-pub digits_value-digit : (word : List ℕ) (i n : ℕ) → i < length word → is_ascii_digit (get_or word i 0) ≡ true → digits_value n (drop i word) ≡ digits_value (n * 10 + (get_or word i 0 - 48)) (drop (i + 1) word)
+pub digits_value-digit : (word : List ℕ) (i n : ℕ) → i < length word → is_ascii_digit (get_or word i 0) ≡ true
+    → digits_value n (drop i word) ≡ digits_value (n * 10 + (get_or word i 0 - 48)) (drop (i + 1) word)
 digits_value-digit word i n h t =
     rw (cut word i h) (ap (λ (b : Bool). if b then digits_value (n * 10 + (get_or word i 0 - 48)) (drop (i + 1) word) else None) t)
 

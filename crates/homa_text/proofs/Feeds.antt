@@ -5,7 +5,8 @@ use Rattle.std.proofs.lemmas.Bool.Decides.{nat_tests}
 use Rattle.homa_plain.specs.Input.{without_feed, has_no_feed, ends_in_feed}
 
 -- a line up to its feed
-text_step : (t : Bool) (x : ℕ) (xs more : List ℕ) → (if t then false else has_no_feed xs) ≡ true → (has_no_feed xs ≡ true → without_feed more ≡ xs) → (if t then [] else x ∷ without_feed more) ≡ x ∷ xs
+text_step : (t : Bool) (x : ℕ) (xs more : List ℕ) → (if t then false else has_no_feed xs) ≡ true → (has_no_feed xs ≡ true → without_feed more ≡ xs)
+    → (if t then [] else x ∷ without_feed more) ≡ x ∷ xs
 text_step true x xs more h f = cc
 text_step false x xs more h f = ap (λ (ys : List ℕ). x ∷ ys) (f h)
 
@@ -18,7 +19,8 @@ pub without_feed-none : (xs : List ℕ) → has_no_feed xs ≡ true → without_
 without_feed-none [] h = refl
 without_feed-none (x ∷ xs) h = text_step (x == 10) x xs xs h (λ k. without_feed-none xs k)
 
-feed_step : (t : Bool) (xs more : List ℕ) → (if t then false else has_no_feed xs) ≡ true → (has_no_feed xs ≡ true → ends_in_feed more ≡ true) → (if t then false else ends_in_feed more) ≡ true
+feed_step : (t : Bool) (xs more : List ℕ) → (if t then false else has_no_feed xs) ≡ true → (has_no_feed xs ≡ true → ends_in_feed more ≡ true)
+    → (if t then false else ends_in_feed more) ≡ true
 feed_step true xs more h f = cc
 feed_step false xs more h f = f h
 
@@ -37,7 +39,8 @@ pub has_no_feed-nowhere : (xs : List ℕ) → ((k : ℕ) → k < length xs → g
 has_no_feed-nowhere [] h = refl
 has_no_feed-nowhere (x ∷ xs) h = no_feed (x == 10) xs (h 0 (omega arith)) (has_no_feed-nowhere xs (λ k l. h (suc k) (omega arith)))
 
-step : (t : Bool) (bytes more : List ℕ) → (if t then false else has_no_feed bytes) ≡ true → (has_no_feed bytes ≡ true → has_no_feed more ≡ true) → (if t then false else has_no_feed more) ≡ true
+step : (t : Bool) (bytes more : List ℕ) → (if t then false else has_no_feed bytes) ≡ true → (has_no_feed bytes ≡ true → has_no_feed more ≡ true)
+    → (if t then false else has_no_feed more) ≡ true
 step true bytes more h f = cc
 step false bytes more h f = f h
 
@@ -55,7 +58,8 @@ pub has_no_feed-push : (bytes : List ℕ) (b : ℕ) → has_no_feed bytes ≡ tr
 has_no_feed-push [] b h other = one b (b == 10) refl other
 has_no_feed-push (x ∷ xs) b h other = step (x == 10) xs (xs ++ b ∷ []) h (λ k. has_no_feed-push xs b k other)
 
-either : (bytes : List ℕ) (b : ℕ) (t : Bool) → (b == 10) ≡ t → has_no_feed bytes ≡ true → (ends_in_feed (bytes ++ b ∷ []) ≡ true) ⊎ (has_no_feed (bytes ++ b ∷ []) ≡ true)
+either : (bytes : List ℕ) (b : ℕ) (t : Bool) → (b == 10) ≡ t → has_no_feed bytes ≡ true
+    → (ends_in_feed (bytes ++ b ∷ []) ≡ true) ⊎ (has_no_feed (bytes ++ b ∷ []) ≡ true)
 either bytes b true e h = let is_feed : b ≡ 10 = grind (arith, nat_tests) in inl (rw is_feed (ends_in_feed-feed bytes h))
 either bytes b false e h = inr (has_no_feed-push bytes b h (λ is_feed. absurd (grind (arith, nat_tests))))
 

@@ -18,7 +18,8 @@ part_on i j old d e all f g h = g ∙ (ap (λ (l : List ℕ). l ++ e) f ∙ (app
 
 -- three parts that were added to nothing
 pub three : (i0 i1 i2 i3 x y z : List ℕ) → i0 ≡ [] → i1 ≡ i0 ++ x → i2 ≡ i1 ++ y → i3 ≡ i2 ++ z → i3 ≡ x ++ (y ++ z)
-three i0 i1 i2 i3 x y z e0 e1 e2 e3 = e3 ∙ (ap (λ (l : List ℕ). l ++ z) (e2 ∙ ap (λ (l : List ℕ). l ++ y) (e1 ∙ ap (λ (l : List ℕ). l ++ x) e0)) ∙ append_assoc x y z)
+three i0 i1 i2 i3 x y z e0 e1 e2 e3 =
+    e3 ∙ (ap (λ (l : List ℕ). l ++ z) (e2 ∙ ap (λ (l : List ℕ). l ++ y) (e1 ∙ ap (λ (l : List ℕ). l ++ x) e0)) ∙ append_assoc x y z)
 
 -- four parts that were added to nothing
 pub four : (i0 i1 i2 i3 i4 x y z w : List ℕ) → i0 ≡ [] → i1 ≡ i0 ++ x → i2 ≡ i1 ++ y → i3 ≡ i2 ++ z → i4 ≡ i3 ++ w → i4 ≡ x ++ (y ++ (z ++ w))
@@ -42,15 +43,20 @@ eight : (a b c d e f g h x : List ℕ) → (a ++ b ++ c ++ d ++ e ++ f ++ g ++ h
 eight a b c d e f g h x = simp append_assoc
 
 head_on : (head : Head) (kind x : List ℕ)
-    → head_text head kind ++ x ≡ codes "send" ++ ((32 ∷ decimal head.number) ++ ((32 ∷ route_word head.from head.to) ++ ((32 ∷ decimal head.inc) ++ (kind ++ (role_word head.role ++ ((32 ∷ id_word head.id) ++ x))))))
-head_on head kind x = seven (codes "send") (32 ∷ decimal head.number) (32 ∷ route_word head.from head.to) (32 ∷ decimal head.inc) kind (role_word head.role) (32 ∷ id_word head.id) x
+    → head_text head kind ++ x ≡ codes "send"
+    ++ ((32 ∷ decimal head.number)
+    ++ ((32 ∷ route_word head.from head.to) ++ ((32 ∷ decimal head.inc) ++ (kind ++ (role_word head.role ++ ((32 ∷ id_word head.id) ++ x))))))
+head_on head kind x = seven (codes "send") (32 ∷ decimal head.number) (32 ∷ route_word head.from head.to) (32 ∷ decimal head.inc) kind
+    (role_word head.role) (32 ∷ id_word head.id) x
 
 pub grant_text : (head : Head) (level offset prio : ℕ) (payload : List ℕ)
     → head_text head (codes " GRANT ") ++ ((32 ∷ decimal offset) ++ ((32 ∷ decimal prio) ++ 10 ∷ [])) ≡ line_text (grant_sent head level offset prio payload)
 unfolding line_text
 grant_text head level offset prio payload =
     head_on head (codes " GRANT ") _
-    ∙ sym (line_spread (codes "send") (decimal head.number ∷ route_word head.from head.to ∷ decimal head.inc ∷ codes "GRANT" ∷ role_word head.role ∷ id_word head.id ∷ decimal offset ∷ decimal prio ∷ []))
+    ∙ sym (line_spread (codes "send")
+    (decimal head.number ∷ route_word head.from head.to ∷ decimal head.inc ∷ codes "GRANT" ∷ role_word head.role ∷ id_word head.id ∷ decimal offset
+    ∷ decimal prio ∷ []))
 
 spread-spaced : (w : List ℕ) (ws : List (List ℕ)) → spread w ws ≡ w ++ (spaced_text ws ++ 10 ∷ [])
 spread-spaced w [] = refl
@@ -58,16 +64,19 @@ spread-spaced w (v ∷ ws) = ap (λ (l : List ℕ). w ++ (32 ∷ l)) (spread-spa
 
 -- the line of any packet, by its first words and the others, each behind a space
 pub packet_text : (head : Head) (level : ℕ) (body : Body) (payload : List ℕ)
-    → head_text head (32 ∷ (kind_word body ++ codes " ")) ++ (spaced_text (body_words level body payload) ++ 10 ∷ []) ≡ line_text (packet_sent head level body payload)
+    → head_text head (32 ∷ (kind_word body ++ codes " ")) ++ (spaced_text (body_words level body payload) ++ 10 ∷ []) ≡ line_text
+    (packet_sent head level body payload)
 unfolding line_text
 packet_text head level body payload =
     let words = body_words level body payload in
     let end = spaced_text words ++ 10 ∷ [] in
-    let front : List ℕ → List ℕ = λ x. codes "send" ++ ((32 ∷ decimal head.number) ++ ((32 ∷ route_word head.from head.to) ++ ((32 ∷ decimal head.inc) ++ (32 ∷ x)))) in
+    let front : List ℕ → List ℕ =
+    λ x. codes "send" ++ ((32 ∷ decimal head.number) ++ ((32 ∷ route_word head.from head.to) ++ ((32 ∷ decimal head.inc) ++ (32 ∷ x)))) in
     head_on head (32 ∷ (kind_word body ++ codes " ")) end
     ∙ (ap front (append_assoc (kind_word body) (codes " ") (role_word head.role ++ ((32 ∷ id_word head.id) ++ end)))
     ∙ (ap (λ (x : List ℕ). front (kind_word body ++ (32 ∷ (role_word head.role ++ (32 ∷ x))))) (sym (spread-spaced (id_word head.id) words))
-    ∙ sym (line_spread (codes "send") (decimal head.number ∷ route_word head.from head.to ∷ decimal head.inc ∷ kind_word body ∷ role_word head.role ∷ id_word head.id ∷ words))))
+    ∙ sym (line_spread (codes "send")
+    (decimal head.number ∷ route_word head.from head.to ∷ decimal head.inc ∷ kind_word body ∷ role_word head.role ∷ id_word head.id ∷ words))))
 
 pub piece_line_text : (head : Head) (piece : Piece) (payload : List ℕ)
     → head_text head (codes " DATA ") ++ (piece_text piece ++ (hex_word payload ++ 10 ∷ [])) ≡ line_text (piece_sent head piece payload)
@@ -75,7 +84,10 @@ unfolding line_text
 piece_line_text head piece payload =
     ap (λ (l : List ℕ). head_text head (codes " DATA ") ++ l) (eight (32 ∷ decimal piece.level) (32 ∷ decimal piece.size) (32 ∷ decimal piece.offset) (32 ∷ decimal piece.version) (32 ∷ decimal piece.service) (codes " ") (ack_word piece.ack) (codes " ") (hex_word payload ++ 10 ∷ []))
     ∙ (head_on head (codes " DATA ") _
-    ∙ sym (line_spread (codes "send") (decimal head.number ∷ route_word head.from head.to ∷ decimal head.inc ∷ codes "DATA" ∷ role_word head.role ∷ id_word head.id ∷ decimal piece.level ∷ decimal piece.size ∷ decimal piece.offset ∷ decimal piece.version ∷ decimal piece.service ∷ ack_word piece.ack ∷ hex_word payload ∷ [])))
+    ∙ sym (line_spread (codes "send")
+    (decimal head.number ∷ route_word head.from head.to ∷ decimal head.inc ∷ codes "DATA" ∷ role_word head.role ∷ id_word head.id ∷
+    decimal piece.level ∷ decimal piece.size ∷ decimal piece.offset ∷ decimal piece.version ∷ decimal piece.service ∷ ack_word piece.ack ∷
+    hex_word payload ∷ [])))
 
 -- the line of a piece that has bytes, by its numbers, its digits and the line feed
 pub long_line_text : (head : Head) (piece : Piece) (payload : List ℕ) → 0 < length payload
@@ -97,24 +109,28 @@ seven_spread : (a b c d e f g h : List ℕ) → ((((((a ++ b) ++ c) ++ d) ++ e) 
 seven_spread a b c d e f g h = simp append_assoc
 
 pub call_text : (id : CallId) (server : HostId) (service : ℕ) (bytes : List ℕ)
-    → ((((codes "call" ++ (32 ∷ id_word id)) ++ (32 ∷ decimal server.0)) ++ (32 ∷ decimal service)) ++ (32 ∷ hex_word bytes)) ++ 10 ∷ [] ≡ line_text (PlainCall id server service bytes)
+    → ((((codes "call" ++ (32 ∷ id_word id)) ++ (32 ∷ decimal server.0)) ++ (32 ∷ decimal service)) ++ (32 ∷ hex_word bytes))
+    ++ 10 ∷ [] ≡ line_text (PlainCall id server service bytes)
 unfolding line_text
 call_text id server service bytes =
     five_spread (codes "call") (32 ∷ id_word id) (32 ∷ decimal server.0) (32 ∷ decimal service) (32 ∷ hex_word bytes) (10 ∷ [])
     ∙ sym (line_spread (codes "call") (id_word id ∷ decimal server.0 ∷ decimal service ∷ hex_word bytes ∷ []))
 
 pub run_text : (host : HostId) (id : CallId) (service : ℕ) (request response : List ℕ) (hold : ℕ)
-    → ((((((codes "run" ++ (32 ∷ decimal host.0)) ++ (32 ∷ id_word id)) ++ (32 ∷ decimal service)) ++ (32 ∷ hex_word request)) ++ (32 ∷ hex_word response)) ++ (32 ∷ decimal hold)) ++ 10 ∷ [] ≡ line_text (PlainRun host id service request response hold)
+    → ((((((codes "run" ++ (32 ∷ decimal host.0)) ++ (32 ∷ id_word id)) ++ (32 ∷ decimal service)) ++ (32 ∷ hex_word request))
+    ++ (32 ∷ hex_word response)) ++ (32 ∷ decimal hold)) ++ 10 ∷ [] ≡ line_text (PlainRun host id service request response hold)
 unfolding line_text
 run_text host id service request response hold =
-    seven_spread (codes "run") (32 ∷ decimal host.0) (32 ∷ id_word id) (32 ∷ decimal service) (32 ∷ hex_word request) (32 ∷ hex_word response) (32 ∷ decimal hold) (10 ∷ [])
+    seven_spread (codes "run") (32 ∷ decimal host.0) (32 ∷ id_word id) (32 ∷ decimal service) (32 ∷ hex_word request) (32 ∷ hex_word response)
+    (32 ∷ decimal hold) (10 ∷ [])
     ∙ sym (line_spread (codes "run") (decimal host.0 ∷ id_word id ∷ decimal service ∷ hex_word request ∷ hex_word response ∷ decimal hold ∷ []))
 
 pub done_text : (id : CallId) (bytes : List ℕ) → codes "done" ++ ((32 ∷ id_word id) ++ ((32 ∷ hex_word bytes) ++ 10 ∷ [])) ≡ line_text (PlainDone id bytes)
 unfolding line_text
 done_text id bytes = sym (line_spread (codes "done") (id_word id ∷ hex_word bytes ∷ []))
 
-pub inject_text : (host : HostId) (bytes : List ℕ) → codes "inject" ++ ((32 ∷ decimal host.0) ++ ((32 ∷ hex_word bytes) ++ 10 ∷ [])) ≡ line_text (PlainInject host bytes)
+pub inject_text : (host : HostId) (bytes : List ℕ) → codes "inject" ++ ((32 ∷ decimal host.0) ++ ((32 ∷ hex_word bytes) ++ 10 ∷ [])) ≡ line_text
+    (PlainInject host bytes)
 unfolding line_text
 inject_text host bytes = sym (line_spread (codes "inject") (decimal host.0 ∷ hex_word bytes ∷ []))
 

@@ -1,5 +1,6 @@
 -- What the next line is, from what a scan found.
-use Rattle.std.proofs.Common.{◌≡◌, ◌<◌, ◌≤◌, ℕ, ◌+◌, ◌-◌, arith, true, Option, List, [], ◌∷◌, ◌++◌, length, drop, sym, ap, subst, ◌∙◌, length-append, inl, inr, ◌⊎◌}
+use Rattle.std.proofs.Common.{◌≡◌, ◌<◌, ◌≤◌, ℕ, ◌+◌, ◌-◌, arith, true, Option, List, [], ◌∷◌, ◌++◌, length, drop, sym, ap, subst, ◌∙◌, length-append}
+use Rattle.std.proofs.Common.{inl, inr, ◌⊎◌}
 use Rattle.std.proofs.lemmas.List.{take_all, append-nil, nil_from_length, length-take}
 use Rattle.homa_io.specs.Outside.{unread, IsAtEnd}
 use Rattle.homa_plain.specs.Input.{without_feed, has_no_feed, ends_in_feed}
@@ -21,7 +22,8 @@ rest reading left = record { pending = reading.pending; left = left }
 abbrev pub Next : Reading → Reading → Option (List ℕ) → Option (List ℕ) → LineGot → Type 0
 Next old new before now got = (came : List ℕ) × (before ≡ unread came now) × IsNext old new came (IsAtEnd now) got
 
-whole : (new : Rest) (bytes last : List ℕ) → has_no_feed bytes ≡ true → 0 < length (bytes ++ last) → (last ≡ 10 ∷ []) ⊎ ((last ≡ []) × IsEnded new) → (ends_in_feed (bytes ++ last) ≡ true) ⊎ ((has_no_feed (bytes ++ last) ≡ true) × (0 < length (bytes ++ last)) × (new.pending ≡ []) × IsAtEnd new.left)
+whole : (new : Rest) (bytes last : List ℕ) → has_no_feed bytes ≡ true → 0 < length (bytes ++ last) → (last ≡ 10 ∷ []) ⊎ ((last ≡ []) × IsEnded new)
+    → (ends_in_feed (bytes ++ last) ≡ true) ⊎ ((has_no_feed (bytes ++ last) ≡ true) × (0 < length (bytes ++ last)) × (new.pending ≡ []) × IsAtEnd new.left)
 whole new bytes last h some (inl e) = inl (rw e (ends_in_feed-feed bytes h))
 whole new bytes last h some (inr (e, ended)) = inr (rw (e, append-nil) h, some, ended.none_pending, ended.none_left)
 
@@ -29,7 +31,9 @@ text : (new : Rest) (bytes last : List ℕ) → has_no_feed bytes ≡ true → (
 text new bytes last h (inl e) = rw e (without_feed-feed bytes h)
 text new bytes last h (inr (e, ended)) = rw (e, append-nil) (without_feed-none bytes h)
 
-takes_line : (old new : Reading) (before now : Option (List ℕ)) (room : ℕ) (line : List ℕ) (n size : ℕ) (w : IsWhole (rest old before) (rest new now) room line n size) → 0 < size → new.read ≡ old.read + size → new.read ≤ old.limit → TakesLine old new w.in_line.taken.came (w.in_line.bytes ++ w.last) (IsAtEnd now)
+takes_line : (old new : Reading) (before now : Option (List ℕ)) (room : ℕ) (line : List ℕ) (n size : ℕ)
+    (w : IsWhole (rest old before) (rest new now) room line n size) → 0 < size → new.read ≡ old.read + size → new.read ≤ old.limit
+    → TakesLine old new w.in_line.taken.came (w.in_line.bytes ++ w.last) (IsAtEnd now)
 takes_line old new before now room line n size w some read within =
     let total : length (w.in_line.bytes ++ w.last) ≡ size = omega (arith, length-append w.in_line.bytes w.last, w.in_line.count, w.total) in record {
       bytes = w.in_line.taken.bytes;
@@ -39,7 +43,8 @@ takes_line old new before now room line n size w some read within =
     }
 
 -- a line that isn't too long
-pub is_line : (old new : Reading) (before now : Option (List ℕ)) (n size : ℕ) → IsWhole (rest old before) (rest new now) old.longest new.line n size → 0 < size → new.read ≡ old.read + size → new.read ≤ old.limit → n ≤ old.longest → Next old new before now Line
+pub is_line : (old new : Reading) (before now : Option (List ℕ)) (n size : ℕ) → IsWhole (rest old before) (rest new now) old.longest new.line n size
+    → 0 < size → new.read ≡ old.read + size → new.read ≤ old.limit → n ≤ old.longest → Next old new before now Line
 is_line old new before now n size w some read within short =
     let same = text (rest new now) w.in_line.bytes w.last w.in_line.one_line w.ended in (
       w.in_line.taken.came,
@@ -55,7 +60,9 @@ is_line old new before now n size w some read within short =
     )
 
 -- a line that is too long
-pub is_long : (old new : Reading) (before now : Option (List ℕ)) (room : ℕ) (line : List ℕ) (n size : ℕ) → IsWhole (rest old before) (rest new now) room line n size → 0 < size → new.read ≡ old.read + size → new.read ≤ old.limit → old.longest < n → Next old new before now Long
+pub is_long : (old new : Reading) (before now : Option (List ℕ)) (room : ℕ) (line : List ℕ) (n size : ℕ)
+    → IsWhole (rest old before) (rest new now) room line n size → 0 < size → new.read ≡ old.read + size → new.read ≤ old.limit → old.longest < n
+    → Next old new before now Long
 is_long old new before now room line n size w some read within long =
     let same = text (rest new now) w.in_line.bytes w.last w.in_line.one_line w.ended in (
       w.in_line.taken.came,
@@ -70,7 +77,8 @@ is_long old new before now room line n size w some read within long =
     )
 
 -- a line that goes past the limit
-pub is_over : (old new : Reading) (before now : Option (List ℕ)) (room : ℕ) (line : List ℕ) (most b : ℕ) → IsInLine (rest old before) (rest new now) room line most (b ∷ []) → old.read + most ≡ old.limit → Next old new before now Over
+pub is_over : (old new : Reading) (before now : Option (List ℕ)) (room : ℕ) (line : List ℕ) (most b : ℕ)
+    → IsInLine (rest old before) (rest new now) room line most (b ∷ []) → old.read + most ≡ old.limit → Next old new before now Over
 is_over old new before now room line most b w all = (
   w.taken.came,
   w.taken.source,
@@ -108,7 +116,8 @@ came_none [] came e = e
 came_none (x ∷ xs) came e = absurd cc
 
 -- at the end the source is as it was
-pub end_stays : (old new : Rest) (room : ℕ) (line : List ℕ) (n size : ℕ) → IsWhole old new room line n size → size ≡ 0 → (new.left ≡ old.left) × (new.pending ≡ [])
+pub end_stays : (old new : Rest) (room : ℕ) (line : List ℕ) (n size : ℕ) → IsWhole old new room line n size → size ≡ 0
+    → (new.left ≡ old.left) × (new.pending ≡ [])
 end_stays old new room line n size w none =
     let end = none_by old new room line n size w none w.ended in
     let empty = came_none old.pending w.in_line.taken.came end.0 in

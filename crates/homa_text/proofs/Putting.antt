@@ -15,7 +15,8 @@ put_start taken held = record { written = []; taken = sym (appended-nil taken); 
 
 -- all was written
 pub put_all : (a b c : Option (List ℕ)) (held x y : List ℕ) → b ≡ appended a x → c ≡ appended b y → held ≡ [] → IsPut a c held (x ++ y)
-put_all a b c held x y first then none = record { written = x ++ y; taken = two_put a b c x y first then; text = ap (λ (zs : List ℕ). (x ++ y) ++ zs) none ∙ append-nil (x ++ y) }
+put_all a b c held x y first then none =
+    record { written = x ++ y; taken = two_put a b c x y first then; text = ap (λ (zs : List ℕ). (x ++ y) ++ zs) none ∙ append-nil (x ++ y) }
 
 -- what was held is written
 put_whole : (a b c : Option (List ℕ)) (held x all : List ℕ) → IsPut a b held x → c ≡ appended b held → x ≡ all → c ≡ appended a all

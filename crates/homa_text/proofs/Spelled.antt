@@ -1,5 +1,6 @@
 -- The bytes that a word spells.
-use Rattle.std.proofs.Common.{◌≡◌, ◌<◌, ℕ, zero, suc, ◌+◌, ◌%◌, ◌==◌, ◌&&◌, Bool, true, false, if◌then◌else◌, Result, Ok, List, [], ◌∷◌, ◌++◌, codes, bytes_eq, length, take, drop, set, refl, sym, ap, ◌∙◌, add-one, arith}
+use Rattle.std.proofs.Common.{◌≡◌, ◌<◌, ℕ, zero, suc, ◌+◌, ◌%◌, ◌==◌, ◌&&◌, Bool, true, false, if◌then◌else◌, Result, Ok, List, [], ◌∷◌, ◌++◌, codes}
+use Rattle.std.proofs.Common.{bytes_eq, length, take, drop, set, refl, sym, ap, ◌∙◌, add-one, arith}
 use Rattle.std.proofs.lemmas.List.{take_more_set}
 use Rattle.std.proofs.lemmas.Slice.Eq.{bytes_eq-Decides}
 use Rattle.hex.specs.Hex.{decode_of, decode_pairs}
@@ -32,18 +33,21 @@ counted_by : (star : Bool) (a b : Result (List ℕ) ScriptFault) → (star && tr
 counted_by true a b e = refl
 counted_by false a b e = absurd cc
 
-pub spells_counted : (word digits : List ℕ) → bytes_eq (take 1 word) (42 ∷ []) ≡ true → digits ≡ drop 1 word → bytes_of_word word ≡ counted (number_up_to most_counted (number_of digits))
+pub spells_counted : (word digits : List ℕ) → bytes_eq (take 1 word) (42 ∷ []) ≡ true → digits ≡ drop 1 word
+    → bytes_of_word word ≡ counted (number_up_to most_counted (number_of digits))
 unfolding bytes_of_word
 spells_counted [] digits star e = absurd cc
 spells_counted (c ∷ cs) digits star e = rw e (counted_by (c == 42) _ _ star)
 
 -- any other word
-hex_by : (star hyphen : Bool) (a b c : Result (List ℕ) ScriptFault) → (star && true) ≡ false → hyphen ≡ false → (if star then a else if hyphen then b else c) ≡ c
+hex_by : (star hyphen : Bool) (a b c : Result (List ℕ) ScriptFault) → (star && true) ≡ false → hyphen ≡ false
+    → (if star then a else if hyphen then b else c) ≡ c
 hex_by false false a b c e f = refl
 hex_by false true a b c e f = absurd cc
 hex_by true hyphen a b c e f = absurd cc
 
-pub spells_hex : (word : List ℕ) → bytes_eq word (codes "-") ≡ false → bytes_eq (take 1 word) (42 ∷ []) ≡ false → bytes_of_word word ≡ hex_bytes (decode_of word)
+pub spells_hex : (word : List ℕ) → bytes_eq word (codes "-") ≡ false → bytes_eq (take 1 word) (42 ∷ []) ≡ false
+    → bytes_of_word word ≡ hex_bytes (decode_of word)
 unfolding bytes_of_word decode_pairs
 spells_hex [] hyphen star = refl
 spells_hex (c ∷ cs) hyphen star = hex_by (c == 42) (bytes_eq (c ∷ cs) (codes "-")) _ _ _ star hyphen

@@ -14,7 +14,8 @@ unread-nil None = refl
 unread-nil (Some xs) = refl
 
 -- nothing was taken
-pub takes_none : (pending : List ℕ) (old new : Option (List ℕ)) → new ≡ old → Takes (record { pending = pending; left = old }) (record { pending = pending; left = new }) []
+pub takes_none : (pending : List ℕ) (old new : Option (List ℕ)) → new ≡ old
+    → Takes (record { pending = pending; left = old }) (record { pending = pending; left = new }) []
 takes_none pending old new same = record { came = []; source = sym (unread-nil new ∙ same); bytes = append-nil pending }
 
 -- some bytes, and then more
@@ -30,24 +31,29 @@ takes_on old mid new xs ys first then = record {
 }
 
 -- the first n pending bytes are taken
-pub takes_front : (pending : List ℕ) (n : ℕ) (left : Option (List ℕ)) → Takes (record { pending = pending; left = left }) (record { pending = drop n pending; left = left }) (take n pending)
+pub takes_front : (pending : List ℕ) (n : ℕ) (left : Option (List ℕ))
+    → Takes (record { pending = pending; left = left }) (record { pending = drop n pending; left = left }) (take n pending)
 takes_front pending n left = record { came = []; source = sym (unread-nil left); bytes = append-nil pending ∙ sym (take-append-drop n pending) }
 
 -- this byte is pending, and is taken
-pub takes_behind : (pending : List ℕ) (b : ℕ) (more : List ℕ) (left : Option (List ℕ)) → pending ≡ b ∷ more → Takes (record { pending = pending; left = left }) (record { pending = more; left = left }) (b ∷ [])
+pub takes_behind : (pending : List ℕ) (b : ℕ) (more : List ℕ) (left : Option (List ℕ)) → pending ≡ b ∷ more
+    → Takes (record { pending = pending; left = left }) (record { pending = more; left = left }) (b ∷ [])
 takes_behind pending b more left is = record { came = []; source = sym (unread-nil left); bytes = append-nil pending ∙ is }
 
 -- the first pending byte is taken
-pub takes_first : (pending : List ℕ) (left : Option (List ℕ)) → 0 < length pending → (b : ℕ) × Takes (record { pending = pending; left = left }) (record { pending = drop 1 pending; left = left }) (b ∷ [])
+pub takes_first : (pending : List ℕ) (left : Option (List ℕ)) → 0 < length pending
+    → (b : ℕ) × Takes (record { pending = pending; left = left }) (record { pending = drop 1 pending; left = left }) (b ∷ [])
 takes_first [] left some = absurd (omega arith)
 takes_first (b ∷ more) left some = (b, takes_behind (b ∷ more) b more left refl)
 
 -- bytes came, where none was pending
-pub takes_came : (old now : Option (List ℕ)) (pending came : List ℕ) → pending ≡ [] → old ≡ unread came now → Takes (record { pending = pending; left = old }) (record { pending = came; left = now }) []
+pub takes_came : (old now : Option (List ℕ)) (pending came : List ℕ) → pending ≡ [] → old ≡ unread came now
+    → Takes (record { pending = pending; left = old }) (record { pending = came; left = now }) []
 takes_came old now pending came none is = record { came = came; source = is; bytes = ap (λ (xs : List ℕ). xs ++ came) none }
 
 -- the first n bytes of a part are taken off it
-pub part_rest : (buf : List ℕ) (start end n : ℕ) → n ≤ length (take (end - start) (drop start buf)) → take (end - (start + n)) (drop (start + n) buf) ≡ drop n (take (end - start) (drop start buf))
+pub part_rest : (buf : List ℕ) (start end n : ℕ) → n ≤ length (take (end - start) (drop start buf))
+    → take (end - (start + n)) (drop (start + n) buf) ≡ drop n (take (end - start) (drop start buf))
 part_rest buf start end n within =
     let rest = end - (start + n) in
     let sum : n + rest ≡ end - start = omega (arith, length-take (end - start) (drop start buf)) in
@@ -67,7 +73,8 @@ some_pending buf start end some within none =
     omega (arith, some, within, empty, length-take (end - start) (drop start buf), length-drop start buf)
 
 -- a read failed, where no byte was pending
-pub takes_failed : (p q : List ℕ) (old new : Option (List ℕ)) → p ≡ [] → q ≡ [] → new ≡ old → Takes (record { pending = p; left = old }) (record { pending = q; left = new }) []
+pub takes_failed : (p q : List ℕ) (old new : Option (List ℕ)) → p ≡ [] → q ≡ [] → new ≡ old
+    → Takes (record { pending = p; left = old }) (record { pending = q; left = new }) []
 takes_failed p q old new before after same = record {
   came = [];
   source = sym (unread-nil new ∙ same);

@@ -28,9 +28,11 @@ pub encode_lower-more : (xs : List ℕ) (done n : ℕ) → encode_lower (take do
 encode_lower-more xs done n = sym (encode_with-append lower_digits (take done xs) (take n (drop done xs))) ∙ ap encode_lower (sym (take-add done n xs))
 
 -- and then of the others
-pub encode_lower-all : (xs : List ℕ) (done n : ℕ) → encode_lower (take done xs) ++ (encode_lower (take n (drop done xs)) ++ encode_lower (drop n (drop done xs))) ≡ encode_lower xs
+pub encode_lower-all : (xs : List ℕ) (done n : ℕ)
+    → encode_lower (take done xs) ++ (encode_lower (take n (drop done xs)) ++ encode_lower (drop n (drop done xs))) ≡ encode_lower xs
 encode_lower-all xs done n =
-    ap (λ (ys : List ℕ). encode_lower (take done xs) ++ ys) (sym (encode_with-append lower_digits (take n (drop done xs)) (drop n (drop done xs))) ∙ ap encode_lower (take-append-drop n (drop done xs)))
+    ap (λ (ys : List ℕ). encode_lower (take done xs) ++ ys)
+    (sym (encode_with-append lower_digits (take n (drop done xs)) (drop n (drop done xs))) ∙ ap encode_lower (take-append-drop n (drop done xs)))
     ∙ (sym (encode_with-append lower_digits (take done xs) (drop done xs)) ∙ ap encode_lower (take-append-drop done xs))
 
 -- the digits of the first n bytes and of the others
@@ -47,14 +49,17 @@ hex_word-some [] h = absurd (omega arith)
 hex_word-some (x ∷ xs) h = refl
 
 -- the words so far, the next one and the others
-pub flat_map-split : {X : Type 0} (f : X → List ℕ) (xs : List X) (i : ℕ) (d : X) → i < length xs → flat_map f (take i xs) ++ (f (get_or xs i d) ++ flat_map f (drop (suc i) xs)) ≡ flat_map f xs
+pub flat_map-split : {X : Type 0} (f : X → List ℕ) (xs : List X) (i : ℕ) (d : X) → i < length xs
+    → flat_map f (take i xs) ++ (f (get_or xs i d) ++ flat_map f (drop (suc i) xs)) ≡ flat_map f xs
 flat_map-split {X} f xs i d h =
     sym (ap (λ (ys : List X). flat_map f ys) (split_at xs i d h) ∙ flat_map-append f (take i xs) (get_or xs i d ∷ drop (suc i) xs))
 
 -- the words so far and the next one
-pub flat_map-more : {X : Type 0} (f : X → List ℕ) (xs : List X) (i : ℕ) (d : X) → i < length xs → flat_map f (take i xs) ++ f (get_or xs i d) ≡ flat_map f (take (i + 1) xs)
+pub flat_map-more : {X : Type 0} (f : X → List ℕ) (xs : List X) (i : ℕ) (d : X) → i < length xs
+    → flat_map f (take i xs) ++ f (get_or xs i d) ≡ flat_map f (take (i + 1) xs)
 flat_map-more {X} f xs i d h =
-    sym (ap (λ (ys : List X). flat_map f ys) (take_more xs i d h) ∙ (flat_map-append f (take i xs) (get_or xs i d ∷ []) ∙ ap (λ (ys : List ℕ). flat_map f (take i xs) ++ ys) (append-nil (f (get_or xs i d)))))
+    sym (ap (λ (ys : List X). flat_map f ys) (take_more xs i d h)
+    ∙ (flat_map-append f (take i xs) (get_or xs i d ∷ []) ∙ ap (λ (ys : List ℕ). flat_map f (take i xs) ++ ys) (append-nil (f (get_or xs i d)))))
 
 -- the calls so far and the next one, each behind a space
 pub calls-more : (calls : List (ℕ × ℕ)) (i : ℕ) (d : ℕ × ℕ) → i < length calls

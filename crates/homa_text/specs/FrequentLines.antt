@@ -12,7 +12,8 @@ use Rattle.homa_text.specs.declared.frequent_lines.Piece.{Piece}
 -- the first words; the kind has a space before and behind it
 abbrev pub head_text : Head → List ℕ → List ℕ
 head_text head kind =
-    codes "send" ++ 32 ∷ decimal head.number ++ 32 ∷ route_word head.from head.to ++ 32 ∷ decimal head.inc ++ kind ++ role_word head.role ++ 32 ∷ id_word head.id
+    codes "send" ++ 32 ∷ decimal head.number ++ 32 ∷ route_word head.from head.to ++ 32 ∷ decimal head.inc ++ kind ++ role_word head.role
+    ++ 32 ∷ id_word head.id
 
 -- the numbers of a piece, with a space before each, and a space
 abbrev pub numbers_text : Piece → List ℕ

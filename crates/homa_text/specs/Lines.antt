@@ -18,7 +18,8 @@ pub record Reading : Type 0 where
 
 -- what a reader of lines has
 abbrev pub reading : Lines → Reading
-reading lines = record { pending = pending_of lines.input; line = kept lines.line; read = lines.read; number = lines.number; limit = lines.limit; longest = lines.longest }
+reading lines =
+    record { pending = pending_of lines.input; line = kept lines.line; read = lines.read; number = lines.number; limit = lines.limit; longest = lines.longest }
 
 -- a line, with its feed if it has one, was taken off what was pending and what came, and was counted; one without a feed is the last, and nothing is left
 pub record TakesLine (old new : Reading) (came line : List ℕ) (end : Type 0) : Type 0 where

@@ -20,7 +20,8 @@ list-armed : (x : Item) (xs : List Item) → IsOwnOrder x.0 x.1.second (map time
 list-armed = entered-things item_of timer_of (λ _. refl) (λ _. refl)
 
 -- the timers but one are as they have to be
-sound-without : (slots slot : ℕ) (ts : List Timer) → IsSound (record { slots = slots; timers = ts }) → IsSound (record { slots = slots; timers = without slot ts })
+sound-without : (slots slot : ℕ) (ts : List Timer) → IsSound (record { slots = slots; timers = ts })
+    → IsSound (record { slots = slots; timers = without slot ts })
 sound-without slots slot ts kept = record {
   within = filter-all (λ t. t.slot < slots) (λ t. not (t.slot == slot)) ts kept.within;
   in_order = filter-in_order timer_key (λ t. not (t.slot == slot)) ts kept.in_order;
@@ -36,7 +37,8 @@ sound-armed slots t ts inside free kept =
       within = placed-all timer_key (λ u. u.slot < slots) t (without t.slot ts) inside rest.within;
       in_order = sorted-placed timer_key t (without t.slot ts) rest.in_order;
       slots = placed-differ (λ u. u.slot) timer_key t (without t.slot ts) (others-left (λ u. u.slot) t.slot ts) rest.slots;
-      orders = placed-differ (λ u. u.order) timer_key t (without t.slot ts) (free-others (λ (u : Timer). u.slot) (λ u. u.order) t.slot t.order ts free) rest.orders;
+      orders =
+          placed-differ (λ u. u.order) timer_key t (without t.slot ts) (free-others (λ (u : Timer). u.slot) (λ u. u.order) t.slot t.order ts free) rest.orders;
     }
 
 module _ (h h' : Held) (a : Armed) (was : armed_by h ≡ a) (cap : length h'.cells ≡ length h.cells) where

@@ -14,7 +14,8 @@ use Rattle.homa_top.specs.declared.exit.ExitStatus.TheVariants.{Done, Refused, S
 use Rattle.homa_top.specs.Commands.{HasRun}
 use Rattle.homa_top.specs.Lawful.{TookLawful, TookLawfulLines}
 
-pub lawful : (boxes : ℕ) → boxes ≤ 1000000 → (left old new : Option (List ℕ)) (allowed : List PlainEntry → Type 0) (accepted : Bool) → ArePrinted (replay_of boxes) left old new allowed accepted
+pub lawful : (boxes : ℕ) → boxes ≤ 1000000 → (left old new : Option (List ℕ)) (allowed : List PlainEntry → Type 0) (accepted : Bool)
+    → ArePrinted (replay_of boxes) left old new allowed accepted
     → (bytes : List ℕ) → left ≡ Some bytes → OpensWorld bytes → TookLawful old new
 lawful boxes few left old new allowed accepted printed bytes had opens =
     let p = printed bytes had in

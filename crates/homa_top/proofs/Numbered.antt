@@ -61,7 +61,8 @@ numbered_sizes : (word first second : List ℕ) → AreSizes (numbered word firs
 numbered_sizes word first second =
     by_test (bytes_eq word (codes "make")) _ _ (both_free Make (λ n m. tt) (number_of first) (number_within 100000 second))
     (by_test (bytes_eq word (codes "gen")) _ _ (both_free Gen (λ n m. tt) (number_of first) (number_within 100000 second))
-    (by_test (bytes_eq word (codes "quiet")) _ _ (both_sizes (number_within 1000000 first) (number_within 1000000 second) (number_small (number_of first)) (number_small (number_of second))) tt))
+    (by_test (bytes_eq word (codes "quiet")) _ _
+    (both_sizes (number_within 1000000 first) (number_within 1000000 second) (number_small (number_of first)) (number_small (number_of second))) tt))
 
 words_sizes : (words : List (List ℕ)) → AreSizes (command_of words)
 words_sizes [] = tt
@@ -79,12 +80,18 @@ quiet_sizes words n m is = subst AreSizes is (words_sizes words)
 -- ---- a command has one seed and one number of calls
 
 module _ (old new : Option (List ℕ)) (allowed : List PlainEntry → Type 0) where
-  pub same_make : (seed calls n m boxes : ℕ) (status : ExitStatus) → Some (Make seed calls) ≡ Some (Make n m) → HasMade (run_of seed calls boxes) (schedule_text generated_settings) old new allowed status → HasMade (run_of n m boxes) (schedule_text generated_settings) old new allowed status
-  same_make seed calls n m boxes status is made = subst (λ (x : ℕ × ℕ). HasMade (run_of x.0 x.1 boxes) (schedule_text generated_settings) old new allowed status) (pair is) made where
-    pair : Some (Make seed calls) ≡ Some (Make n m) → ◌≡◌ {A = ℕ × ℕ} (seed, calls) (n, m)
-    pair e = cc
+  pub same_make : (seed calls n m boxes : ℕ) (status : ExitStatus) → Some (Make seed calls) ≡ Some (Make n m)
+      → HasMade (run_of seed calls boxes) (schedule_text generated_settings) old new allowed status
+      → HasMade (run_of n m boxes) (schedule_text generated_settings) old new allowed status
+  same_make seed calls n m boxes status is made =
+      subst (λ (x : ℕ × ℕ). HasMade (run_of x.0 x.1 boxes) (schedule_text generated_settings) old new allowed status) (pair is) made where
+        pair : Some (Make seed calls) ≡ Some (Make n m) → ◌≡◌ {A = ℕ × ℕ} (seed, calls) (n, m)
+        pair e = cc
 
-  pub same_gen : (seed calls n m boxes : ℕ) (status : ExitStatus) → Some (Gen seed calls) ≡ Some (Gen n m) → HasMade (run_of seed calls boxes) (λ g. summary_text g.told) old new allowed status → HasMade (run_of n m boxes) (λ g. summary_text g.told) old new allowed status
-  same_gen seed calls n m boxes status is made = subst (λ (x : ℕ × ℕ). HasMade (run_of x.0 x.1 boxes) (λ (g : Generated). summary_text g.told) old new allowed status) (pair is) made where
-    pair : Some (Gen seed calls) ≡ Some (Gen n m) → ◌≡◌ {A = ℕ × ℕ} (seed, calls) (n, m)
-    pair e = cc
+  pub same_gen : (seed calls n m boxes : ℕ) (status : ExitStatus) → Some (Gen seed calls) ≡ Some (Gen n m)
+      → HasMade (run_of seed calls boxes) (λ g. summary_text g.told) old new allowed status
+      → HasMade (run_of n m boxes) (λ g. summary_text g.told) old new allowed status
+  same_gen seed calls n m boxes status is made =
+      subst (λ (x : ℕ × ℕ). HasMade (run_of x.0 x.1 boxes) (λ (g : Generated). summary_text g.told) old new allowed status) (pair is) made where
+        pair : Some (Gen seed calls) ≡ Some (Gen n m) → ◌≡◌ {A = ℕ × ℕ} (seed, calls) (n, m)
+        pair e = cc

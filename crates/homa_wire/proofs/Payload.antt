@@ -21,7 +21,8 @@ pub record IsRead (wire : ℕ) (bytes : List ℕ) (p : Packet) (payload : List �
   pub fits : length payload ≤ length bytes
   pub part_is : slice_range bytes (length bytes - length payload) (length bytes) ≡ payload
 
-pub is_read : (wire : ℕ) (bytes : List ℕ) (p : Packet) (payload : List ℕ) → IsBytes bytes → Some (p, payload) ≡ packet_in wire bytes → IsRead wire bytes p payload
+pub is_read : (wire : ℕ) (bytes : List ℕ) (p : Packet) (payload : List ℕ) → IsBytes bytes → Some (p, payload) ≡ packet_in wire bytes
+    → IsRead wire bytes p payload
 is_read wire bytes p payload fits e =
     let spelled = read_is_spelled wire bytes p payload fits (sym e) in
     let front = header_bytes wire p ++ body_bytes p.body in record {
@@ -35,5 +36,6 @@ if_none None P h = h
 if_none (Some x) P h = tt
 
 -- where no packet was read, nothing spells the bytes
-pub none_read : {A : Type 0} (wire : ℕ) (bytes : List ℕ) (o : Option A) → IsBytes bytes → None ≡ packet_in wire bytes → IfNone o ((p : Packet) (payload : List ℕ) → Spells wire bytes p payload → ⊥)
+pub none_read : {A : Type 0} (wire : ℕ) (bytes : List ℕ) (o : Option A) → IsBytes bytes → None ≡ packet_in wire bytes
+    → IfNone o ((p : Packet) (payload : List ℕ) → Spells wire bytes p payload → ⊥)
 none_read wire bytes o fits e = if_none o _ ((no_packet wire bytes fits).0 (sym e))

@@ -14,7 +14,8 @@ use Rattle.homa_world.proofs.CameLaws.{place_counted, same_set}
 
 module _ {S : Type 0} (served : S → ℕ) (allows : Allows S) where
   -- the same boxes
-  pub same_boxes : (old new : WorldParts S) → seats_of new.stage ≡ seats_of old.stage → spares_of new.stage ≡ spares_of old.stage → AllowsNoMore served allows old new
+  pub same_boxes : (old new : WorldParts S) → seats_of new.stage ≡ seats_of old.stage → spares_of new.stage ≡ spares_of old.stage
+      → AllowsNoMore served allows old new
   same_boxes old new seats spares told may =
       subst (λ xs. may_tell allows (all_counted served (seats_of old.stage)) (map (counted served) xs) told) spares
       (subst (λ xs. may_tell allows (all_counted served xs) (map (counted served) (spares_of new.stage)) told) seats may)

@@ -53,13 +53,15 @@ hosts_of_known : (s : Settings) (hosts : List Host) → map (λ (k : Known). k.h
 hosts_of_known s [] = refl
 hosts_of_known s (h ∷ hosts) = ap (λ hs. h ∷ hs) (hosts_of_known s hosts)
 
-host_is : (s : Settings) (m n i : ℕ) (k : Known) → slice_get (map (known_in s) (new_hosts s m (replicate n 1))) i ≡ Some k → known_in s (new_host s (record { 0 = m + i }) 1 0) ≡ k
+host_is : (s : Settings) (m n i : ℕ) (k : Known) → slice_get (map (known_in s) (new_hosts s m (replicate n 1))) i ≡ Some k
+    → known_in s (new_host s (record { 0 = m + i }) 1 0) ≡ k
 host_is s m zero i k e = absurd (no e) where
   no : None ≡ Some k → ⊥
   no e = cc
-host_is s m (suc n) zero k e = ap (λ x. known_in s (new_host s (record { 0 = x }) 1 0)) (omega (arith)) ∙ some_is (known_in s (new_host s (record { 0 = m }) 1 0)) k e where
-  some_is : (x y : Known) → Some x ≡ Some y → x ≡ y
-  some_is x y e = cc
+host_is s m (suc n) zero k e =
+    ap (λ x. known_in s (new_host s (record { 0 = x }) 1 0)) (omega (arith)) ∙ some_is (known_in s (new_host s (record { 0 = m }) 1 0)) k e where
+      some_is : (x y : Known) → Some x ≡ Some y → x ≡ y
+      some_is x y e = cc
 host_is s m (suc n) (suc i) k e = ap (λ x. known_in s (new_host s (record { 0 = x }) 1 0)) (omega (arith)) ∙ host_is s (suc m) n i k e
 
 length-hosts : (s : Settings) (m n : ℕ) → length (map (known_in s) (new_hosts s m (replicate n 1))) ≡ n
@@ -71,9 +73,12 @@ none_some x e = cc
 
 -- ---- a world in which nothing has happened
 
-module _ {S : Type 0} (served : S → ℕ) (w : WorldParts S) (s : Settings) (boxes : List S) (valid : IsValid s) (enough : s.hosts ≤ length boxes) (at_most : length boxes ≤ 1000000) (unasked : AllByRecursion (λ box. served box ≡ 0) boxes)
-    (start : w.clock ≤ 1000000000000) (settings : w.settings ≡ s) (leads : w.leads.items ≡ replicate s.hosts s.skew) (hosts : known_of w.stage ≡ first_known s s.hosts) (seats : seats_of w.stage ≡ map Some (take s.hosts boxes))
-    (spares : spares_of w.stage ≡ drop s.hosts boxes) (packets : kept_all w.packets ≡ []) (packets_settings : settings_of w.packets ≡ s) (none : w.last ≡ last.Nothing) where
+module _ {S : Type 0} (served : S → ℕ) (w : WorldParts S) (s : Settings) (boxes : List S) (valid : IsValid s) (enough : s.hosts ≤ length boxes)
+    (at_most : length boxes ≤ 1000000) (unasked : AllByRecursion (λ box. served box ≡ 0) boxes)
+    (start : w.clock ≤ 1000000000000) (settings : w.settings ≡ s) (leads : w.leads.items ≡ replicate s.hosts s.skew)
+    (hosts : known_of w.stage ≡ first_known s s.hosts) (seats : seats_of w.stage ≡ map Some (take s.hosts boxes))
+    (spares : spares_of w.stage ≡ drop s.hosts boxes) (packets : kept_all w.packets ≡ []) (packets_settings : settings_of w.packets ≡ s)
+    (none : w.last ≡ last.Nothing) where
   spare_count : length (spares_of w.stage) ≡ length boxes - s.hosts
   spare_count = ap length spares ∙ length-drop s.hosts boxes
 
@@ -91,7 +96,8 @@ module _ {S : Type 0} (served : S → ℕ) (w : WorldParts S) (s : Settings) (bo
     is_first = λ answers. refl;
   }
 
-  fresh_fits : (id : HostId) → HostFits w.settings (w.clock + slice_index_or w.leads.items id.0 0) w.applied (length (spares_of w.stage)) id (known_in s (new_host s id 1 0))
+  fresh_fits : (id : HostId) → HostFits w.settings (w.clock + slice_index_or w.leads.items id.0 0) w.applied (length (spares_of w.stage)) id
+      (known_in s (new_host s id 1 0))
   fresh_fits id = record {
     settings = sym settings;
     name = record { name = refl; own = λ q r e. absurd (none_some r (sym (get-empty _ q) ∙ e)) };
@@ -102,7 +108,8 @@ module _ {S : Type 0} (served : S → ℕ) (w : WorldParts S) (s : Settings) (bo
     lives = omega (arith, spare_count, at_most, valid.in_range.0);
   }
 
-  seat_fits : (n i : ℕ) (xs : List S) → i < n → n ≤ length xs → AllByRecursion (λ box. served box ≡ 0) xs → SeatFits served w.applied (place_of (map Some (take n xs)) i)
+  seat_fits : (n i : ℕ) (xs : List S) → i < n → n ≤ length xs → AllByRecursion (λ box. served box ≡ 0) xs
+      → SeatFits served w.applied (place_of (map Some (take n xs)) i)
   seat_fits zero i xs l m all = absurd (omega (arith, l))
   seat_fits (suc n) i [] l m all = absurd (omega (arith, m))
   seat_fits (suc n) zero (x ∷ xs) l m all = record { seat = x; is = refl; count = omega (arith, all.0) }
@@ -123,11 +130,14 @@ module _ {S : Type 0} (served : S → ℕ) (w : WorldParts S) (s : Settings) (bo
         clock = start;
         hosts = ap length hosts ∙ length-hosts s 0 s.hosts ∙ sym n;
         leads = ap length leads ∙ length-replicate s.hosts s.skew ∙ sym n;
-        lead = λ i. subst (λ ls. slice_index_or ls i 0 ≤ band w.settings) (sym leads) (subst (λ t. slice_index_or (replicate s.hosts s.skew) i 0 ≤ band t) (sym settings) (all_leads s.hosts s.skew i));
-        each = λ id k at. subst (HostFits w.settings (w.clock + slice_index_or w.leads.items id.0 0) w.applied (length (spares_of w.stage)) id) (here id ∙ host_is s 0 s.hosts id.0 k (sym (ap (λ ks. slice_get ks id.0) hosts) ∙ at)) (fresh_fits id);
+        lead = λ i. subst (λ ls. slice_index_or ls i 0 ≤ band w.settings) (sym leads)
+            (subst (λ t. slice_index_or (replicate s.hosts s.skew) i 0 ≤ band t) (sym settings) (all_leads s.hosts s.skew i));
+        each = λ id k at. subst (HostFits w.settings (w.clock + slice_index_or w.leads.items id.0 0) w.applied (length (spares_of w.stage)) id)
+            (here id ∙ host_is s 0 s.hosts id.0 k (sym (ap (λ ks. slice_get ks id.0) hosts) ∙ at)) (fresh_fits id);
         places = ap length seats ∙ length-map (take s.hosts boxes) Some ∙ length-take s.hosts boxes enough ∙ sym n;
         seats = λ i l. subst (λ xs. SeatFits served w.applied (place_of xs i)) (sym seats) (seat_fits s.hosts i boxes (omega (arith, l, n)) enough unasked);
-        spares = subst (AllByRecursion (λ seat. served seat ≤ w.applied)) (sym spares) (not_asked (drop s.hosts boxes) (drop-all (λ box. served box ≡ 0) s.hosts boxes unasked));
+        spares = subst (AllByRecursion (λ seat. served seat ≤ w.applied)) (sym spares)
+            (not_asked (drop s.hosts boxes) (drop-all (λ box. served box ≡ 0) s.hosts boxes unasked));
         packets = packets_settings ∙ sym settings;
         few = omega (arith, ap length packets);
         froms = subst (AllByRecursion (IsFromHost w.settings.hosts)) (sym packets) tt;
@@ -135,7 +145,8 @@ module _ {S : Type 0} (served : S → ℕ) (w : WorldParts S) (s : Settings) (bo
       }
 
 module _ {S : Type 0} (served : S → ℕ) (allows : Allows S) (w : WorldParts S) (s : Settings) (boxes : List S) where
-  pub first_allows : seats_of w.stage ≡ map Some (take s.hosts boxes) → spares_of w.stage ≡ drop s.hosts boxes → (told : List PlainEntry) → may_tell_of served allows w told → AreAllowed served allows boxes (PlainSettings s ∷ told)
+  pub first_allows : seats_of w.stage ≡ map Some (take s.hosts boxes) → spares_of w.stage ≡ drop s.hosts boxes → (told : List PlainEntry)
+      → may_tell_of served allows w told → AreAllowed served allows boxes (PlainSettings s ∷ told)
   first_allows seats spares told may =
       subst (λ xs. may_tell allows (all_counted served (map Some (take s.hosts boxes))) (map (counted served) xs) told) spares
       (subst (λ xs. may_tell allows (all_counted served xs) (map (counted served) (spares_of w.stage)) told) seats may)

@@ -36,7 +36,8 @@ module _ {S : Type 0} (served : S → ℕ) where
   pub seat_later : (a b : ℕ) (o : Option S) → a ≤ b → SeatFits served a o → SeatFits served b o
   seat_later a b o l f = record { seat = f.seat; is = f.is; count = omega (arith, f.count, l) }
 
-  pub set_fits : (a : ℕ) (xs : List (Option S)) (i j : ℕ) (x : S) → served x ≤ a → SeatFits served a (place_of xs j) → SeatFits served a (place_of (slice_set xs i (Some x)) j)
+  pub set_fits : (a : ℕ) (xs : List (Option S)) (i j : ℕ) (x : S) → served x ≤ a → SeatFits served a (place_of xs j)
+      → SeatFits served a (place_of (slice_set xs i (Some x)) j)
   set_fits a [] i j x l f = f
   set_fits a (y ∷ xs) zero zero x l f = record { seat = x; is = refl; count = l }
   set_fits a (y ∷ xs) zero (suc j) x l f = f
@@ -58,7 +59,8 @@ module _ {S : Type 0} (served : S → ℕ) where
     hosts = k.hosts;
     leads = k.leads;
     lead = k.lead;
-    each = λ id h at. fits_later w.settings (w.clock + slice_index_or w.leads.items id.0 0) (w.clock + 1 + slice_index_or w.leads.items id.0 0) w.applied (w.applied + 1) (length (spares_of w.stage)) id h (omega (arith)) (omega (arith)) (k.each id h at);
+    each = λ id h at. fits_later w.settings (w.clock + slice_index_or w.leads.items id.0 0) (w.clock + 1 + slice_index_or w.leads.items id.0 0)
+        w.applied (w.applied + 1) (length (spares_of w.stage)) id h (omega (arith)) (omega (arith)) (k.each id h at);
     places = k.places;
     seats = λ i l. seat_later w.applied (w.applied + 1) (place_of (seats_of w.stage) i) (omega (arith)) (k.seats i l);
     spares = spares_later w.applied (w.applied + 1) (spares_of w.stage) (omega (arith)) k.spares;
@@ -79,7 +81,8 @@ module _ {S : Type 0} (served : S → ℕ) where
 
 -- ---- refusals
 
-pub refused_by : (s : Settings) (w : PlainWorld) (e : Event) (bytes : List ℕ) (fault : WorldFault) → is_memory fault ≡ false → IsRefusal s w e bytes fault → IsNotApplied s w (record { event = e; bytes = bytes }) fault
+pub refused_by : (s : Settings) (w : PlainWorld) (e : Event) (bytes : List ℕ) (fault : WorldFault) → is_memory fault ≡ false
+    → IsRefusal s w e bytes fault → IsNotApplied s w (record { event = e; bytes = bytes }) fault
 refused_by s w e bytes fault known r = record { refused = λ _ later. r later; memory = λ m. absurd (no (sym known ∙ m)) } where
   no : false ≡ true → ⊥
   no e = cc
@@ -97,9 +100,11 @@ module _ {S : Type 0} (served : S → ℕ) where
   abbrev aged : WorldParts S → Packets → WorldParts S
   aged w packets = record w { packets = packets; last = last.Nothing }
 
-  pub room_kept : (w : WorldParts S) (packets : Packets) → AllAged (settings_of w.packets) w.clock (kept_all w.packets) (kept_all packets) → settings_of packets ≡ settings_of w.packets → IsKept served w → IsKept served (aged w packets)
+  pub room_kept : (w : WorldParts S) (packets : Packets) → AllAged (settings_of w.packets) w.clock (kept_all w.packets) (kept_all packets)
+      → settings_of packets ≡ settings_of w.packets → IsKept served w → IsKept served (aged w packets)
   room_kept w packets a same k =
-      let shorter : length (kept_all packets) ≡ length (kept_all w.packets) = aged_length (settings_of w.packets) w.clock (kept_all w.packets) (kept_all packets) a in
+      let shorter : length (kept_all packets) ≡ length (kept_all w.packets) =
+      aged_length (settings_of w.packets) w.clock (kept_all w.packets) (kept_all packets) a in
       record {
         valid = k.valid;
         clock = k.clock;
@@ -116,11 +121,13 @@ module _ {S : Type 0} (served : S → ℕ) where
         last = tt;
       }
 
-  pub room_stands : (w : WorldParts S) (packets : Packets) → settings_of w.packets ≡ w.settings → AllAged (settings_of w.packets) w.clock (kept_all w.packets) (kept_all packets) → (p : PlainWorld) → StandsFor w p → StandsFor (aged w packets) p
+  pub room_stands : (w : WorldParts S) (packets : Packets) → settings_of w.packets ≡ w.settings
+      → AllAged (settings_of w.packets) w.clock (kept_all w.packets) (kept_all packets) → (p : PlainWorld) → StandsFor w p → StandsFor (aged w packets) p
   room_stands w packets same a p st = record {
     clock = st.clock;
     hosts = st.hosts;
     leads = st.leads;
-    packets = shown_aged w.settings (read w.settings) w.clock p.packets (kept_all w.packets) (kept_all packets) (subst (λ s. AllAged s w.clock (kept_all w.packets) (kept_all packets)) same a) st.packets;
+    packets = shown_aged w.settings (read w.settings) w.clock p.packets (kept_all w.packets) (kept_all packets)
+        (subst (λ s. AllAged s w.clock (kept_all w.packets) (kept_all packets)) same a) st.packets;
     spares = st.spares;
   }

@@ -1,5 +1,6 @@
 -- What a world shows of its hosts and its packets.
-use Rattle.std.proofs.Common.{Bool, true, false, ◌≡◌, ◌≢◌, ◌⊎◌, inl, inr, ◌^◌, ◌<◌, ◌≤◌, ◌==◌, ◌&&◌, ℕ, zero, suc, ◌+◌, Option, Some, None, List, [], ◌∷◌, length, take, refl, sym, ap, subst, ◌∙◌, arith}
+use Rattle.std.proofs.Common.{Bool, true, false, ◌≡◌, ◌≢◌, ◌⊎◌, inl, inr, ◌^◌, ◌<◌, ◌≤◌, ◌==◌, ◌&&◌, ℕ, zero, suc, ◌+◌, Option, Some, None, List, []}
+use Rattle.std.proofs.Common.{◌∷◌, length, take, refl, sym, ap, subst, ◌∙◌, arith}
 use Rattle.std.proofs.lemmas.Bool.Decides.{nat_tests}
 use Rattle.std.specs.Prelude.{slice_get, MatchOption}
 use Rattle.std.proofs.lemmas.List.{length-map}
@@ -30,7 +31,12 @@ use Rattle.homa_world.proofs.PackedLaws.{seen_as, shown_length}
 -- no datagram is longer than a datagram may be
 pub whole_fits : (s : Settings) (now tick : ℕ) (sent : SentPacket) (f : Frame) → IsShownBy s now sent (WholePacket tick f) → length f.bytes ≤ 1444
 whole_fits s now tick sent f shown =
-    omega (arith, ap length (ap (λ (x : Frame). x.bytes) shown.1), spelling_fits s.wire (wire_packet sent.packet) sent.packet.payload shown.2, longest_fits s.wire)
+    omega (
+      arith,
+      ap length (ap (λ (x : Frame). x.bytes) shown.1),
+      spelling_fits s.wire (wire_packet sent.packet) sent.packet.payload shown.2,
+      longest_fits s.wire,
+    )
 
 level_at : (s : Settings) (sent : SentPacket) (bytes : List ℕ) (n : ℕ) → bytes ≡ datagram s sent.packet → slice_get bytes 3 ≡ Some n → n ≡ sent.packet.level
 level_at s sent bytes n are at = some_is n sent.packet.level (sym at ∙ ap (λ (b : List ℕ). slice_get b 3) are) where
@@ -39,18 +45,29 @@ level_at s sent bytes n are at = some_is n sent.packet.level (sym at ∙ ap (λ 
 
 module _ {S : Type 0} (w : WorldParts S) (n : ℕ) (p : PlainWorld) (stands : StandsFor w p) where
   -- a packet that is kept whole
-  pub whole_passing : (tick : ℕ) (f : Frame) (q : Passing) → slice_get (kept_all w.packets) n ≡ Some (WholePacket tick f) → q.to ≡ f.to → slice_get f.bytes 3 ≡ Some q.level → q.len ≡ length f.bytes → q.tick ≡ tick → IsOf w.settings p n (Some q)
+  pub whole_passing : (tick : ℕ) (f : Frame) (q : Passing) → slice_get (kept_all w.packets) n ≡ Some (WholePacket tick f) → q.to ≡ f.to
+      → slice_get f.bytes 3 ≡ Some q.level → q.len ≡ length f.bytes → q.tick ≡ tick → IsOf w.settings p n (Some q)
   whole_passing tick f q kept to level size when =
       let r = seen_as w.settings w.clock p.packets (kept_all w.packets) n (WholePacket tick f) stands.packets kept in
-      let bytes : f.bytes ≡ datagram w.settings r.sent.packet = ap (λ (x : Frame). x.bytes) r.shown.1 in
-      (r.sent, r.found, record { to = to ∙ ap (λ (x : Frame). x.to) r.shown.1; level = level_at w.settings r.sent f.bytes q.level bytes level; len = size ∙ ap length bytes; tick = when ∙ r.shown.0 })
+      let bytes : f.bytes ≡ datagram w.settings r.sent.packet = ap (λ (x : Frame). x.bytes) r.shown.1 in (
+        r.sent,
+        r.found,
+        record {
+          to = to ∙ ap (λ (x : Frame). x.to) r.shown.1;
+          level = level_at w.settings r.sent f.bytes q.level bytes level;
+          len = size ∙ ap length bytes;
+          tick = when ∙ r.shown.0;
+        },
+      )
 
   -- it is no shorter than a header, and no longer than a datagram
-  pub whole_is_packet : (tick : ℕ) (f : Frame) → slice_get (kept_all w.packets) n ≡ Some (WholePacket tick f) → (slice_get f.bytes 3 ≡ None) ⊎ (2 ^ 32 ≤ length f.bytes) → ⊥
+  pub whole_is_packet : (tick : ℕ) (f : Frame) → slice_get (kept_all w.packets) n ≡ Some (WholePacket tick f)
+      → (slice_get f.bytes 3 ≡ None) ⊎ (2 ^ 32 ≤ length f.bytes) → ⊥
   whole_is_packet tick f kept either =
       let r = seen_as w.settings w.clock p.packets (kept_all w.packets) n (WholePacket tick f) stands.packets kept in
       neither r.sent (ap (λ (x : Frame). x.bytes) r.shown.1) (whole_fits w.settings w.clock tick r.sent f r.shown) either where
-        neither : (s : SentPacket) → f.bytes ≡ datagram w.settings s.packet → length f.bytes ≤ 1444 → (slice_get f.bytes 3 ≡ None) ⊎ (2 ^ 32 ≤ length f.bytes) → ⊥
+        neither : (s : SentPacket) → f.bytes ≡ datagram w.settings s.packet → length f.bytes ≤ 1444
+            → (slice_get f.bytes 3 ≡ None) ⊎ (2 ^ 32 ≤ length f.bytes) → ⊥
         neither s are short (inl none) = no (sym none ∙ ap (λ (b : List ℕ). slice_get b 3) are) where
           no : {x : ℕ} → None ≡ Some x → ⊥
           no e = cc
@@ -58,7 +75,8 @@ module _ {S : Type 0} (w : WorldParts S) (n : ℕ) (p : PlainWorld) (stands : St
 
   -- what is read of a packet that is kept whole is shown of it
   pub shown_whole : (tick : ℕ) (f : Frame) (o : Option Passing) → slice_get (kept_all w.packets) n ≡ Some (WholePacket tick f)
-      → MatchOption o ((slice_get f.bytes 3 ≡ None) ⊎ (2 ^ 32 ≤ length f.bytes)) (λ q. (q.to ≡ f.to) × (slice_get f.bytes 3 ≡ Some q.level) × (q.len ≡ length f.bytes) × (q.tick ≡ tick)) → IsOf w.settings p n o
+      → MatchOption o ((slice_get f.bytes 3 ≡ None) ⊎ (2 ^ 32 ≤ length f.bytes))
+      (λ q. (q.to ≡ f.to) × (slice_get f.bytes 3 ≡ Some q.level) × (q.len ≡ length f.bytes) × (q.tick ≡ tick)) → IsOf w.settings p n o
   shown_whole tick f None kept either = absurd (whole_is_packet tick f kept either)
   shown_whole tick f (Some q) kept read = whole_passing tick f q kept read.0 read.1 read.2 read.3
 
@@ -78,20 +96,24 @@ module _ {S : Type 0} (w : WorldParts S) (n : ℕ) (p : PlainWorld) (stands : St
 
   -- one that wasn't sent
   pub no_passing : length (kept_all w.packets) ≤ n → IsOf w.settings p n None
-  no_passing past sent found version = absurd (beyond p.packets n (omega (arith, past, shown_length w.settings w.clock p.packets (kept_all w.packets) stands.packets)) found) where
-    beyond : (xs : List SentPacket) (k : ℕ) → length xs ≤ k → slice_get xs k ≡ Some sent → ⊥
-    beyond [] k l e = cc
-    beyond (x ∷ xs) zero l e = omega (arith, l)
-    beyond (x ∷ xs) (suc k) l e = beyond xs k (omega (arith, l)) e
+  no_passing past sent found version =
+      absurd (beyond p.packets n (omega (arith, past, shown_length w.settings w.clock p.packets (kept_all w.packets) stands.packets)) found) where
+        beyond : (xs : List SentPacket) (k : ℕ) → length xs ≤ k → slice_get xs k ≡ Some sent → ⊥
+        beyond [] k l e = cc
+        beyond (x ∷ xs) zero l e = omega (arith, l)
+        beyond (x ∷ xs) (suc k) l e = beyond xs k (omega (arith, l)) e
 
 -- something is kept of each packet
-pub packets_count : {S : Type 0} (old w : WorldParts S) → w ≡ old → (n : ℕ) → n ≡ length (kept_all w.packets) → (p : PlainWorld) → StandsFor old p → n ≡ length p.packets
+pub packets_count : {S : Type 0} (old w : WorldParts S) → w ≡ old → (n : ℕ) → n ≡ length (kept_all w.packets) → (p : PlainWorld) → StandsFor old p
+    → n ≡ length p.packets
 packets_count old w view n count p stands =
-    count ∙ ap (λ (x : WorldParts _). length (kept_all x.packets)) view ∙ sym (shown_length old.settings old.clock p.packets (kept_all old.packets) stands.packets)
+    count ∙ ap (λ (x : WorldParts _). length (kept_all x.packets)) view
+    ∙ sym (shown_length old.settings old.clock p.packets (kept_all old.packets) stands.packets)
 
 -- ---- hosts
 
-module _ {S : Type 0} (served : S → ℕ) (old w : WorldParts S) (view : w ≡ old) (kept : IsKept served w) (id : HostId) (h : Seen) (at : slice_get (hosts_of w.stage) id.0 ≡ Some h) where
+module _ {S : Type 0} (served : S → ℕ) (old w : WorldParts S) (view : w ≡ old) (kept : IsKept served w) (id : HostId) (h : Seen)
+    (at : slice_get (hosts_of w.stage) id.0 ≡ Some h) where
   -- a host has the world's settings
   pub host_settings : h.settings ≡ old.settings
   host_settings = (kept.each id (known h) (map_at known (hosts_of w.stage) id.0 h at)).settings ∙ ap (λ (x : WorldParts S). x.settings) view
@@ -118,13 +140,15 @@ and_next true b c e f = f e
 and_next false b c e f = e
 
 -- the hosts up to one are free, and so is this
-free_next : (hs : List Host) (i n : ℕ) → i < length hs → IsLive (slice_get hs i) n → n ≡ 0 → list_all is_free (take i hs) ≡ true → list_all is_free (take (suc i) hs) ≡ true
+free_next : (hs : List Host) (i n : ℕ) → i < length hs → IsLive (slice_get hs i) n → n ≡ 0 → list_all is_free (take i hs) ≡ true
+    → list_all is_free (take (suc i) hs) ≡ true
 free_next [] i n l live none before = absurd (omega (arith, l))
 free_next (h ∷ hs) zero n l live none before = rw (sym live ∙ none) refl
 free_next (h ∷ hs) (suc i) n l live none before =
     and_next (is_free h) (list_all is_free (take i hs)) (list_all is_free (take (suc i) hs)) before (λ rest. free_next hs i n (omega (arith, l)) live none rest)
 
-pub one_free : (hs : List Host) (i n : ℕ) → i < length hs → IsLive (slice_get hs i) n → n ≡ 0 → list_all is_free (take i hs) ≡ true → list_all is_free (take (i + 1) hs) ≡ true
+pub one_free : (hs : List Host) (i n : ℕ) → i < length hs → IsLive (slice_get hs i) n → n ≡ 0 → list_all is_free (take i hs) ≡ true
+    → list_all is_free (take (i + 1) hs) ≡ true
 one_free hs i n l live none before =
     let next : suc i ≡ i + 1 = omega arith in
     ap (λ (k : ℕ). list_all is_free (take k hs)) (sym next) ∙ free_next hs i n l live none before

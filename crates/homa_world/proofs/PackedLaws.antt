@@ -28,9 +28,11 @@ module _ (s : Settings) where
   shown_later now later l (p ∷ ps) (k ∷ ks) all = (later_by now later l p k all.0, shown_later now later l ps ks all.1)
 
   -- the clock that a datagram tells is its packet's
-  told_clock : (p : Packet) (wire : ℕ) (bytes : List ℕ) (read : WirePacket × List ℕ) → s.wire ≡ wire → bytes ≡ datagram s p → packet_in s.wire (datagram s p) ≡ Some (wire_packet p, p.payload) → packet_in wire bytes ≡ Some read → read.0.at ≡ p.at
+  told_clock : (p : Packet) (wire : ℕ) (bytes : List ℕ) (read : WirePacket × List ℕ) → s.wire ≡ wire → bytes ≡ datagram s p
+      → packet_in s.wire (datagram s p) ≡ Some (wire_packet p, p.payload) → packet_in wire bytes ≡ Some read → read.0.at ≡ p.at
   told_clock p wire bytes read w b back e =
-      let same : (wire_packet p, p.payload) ≡ read = some_is (wire_packet p, p.payload) read (sym back ∙ ap (λ n. packet_in n (datagram s p)) w ∙ ap (packet_in wire) (sym b) ∙ e) in
+      let same : (wire_packet p, p.payload) ≡ read =
+      some_is (wire_packet p, p.payload) read (sym back ∙ ap (λ n. packet_in n (datagram s p)) w ∙ ap (packet_in wire) (sym b) ∙ e) in
       ap (λ (r : WirePacket × List ℕ). r.0.at) (sym same)
 
   module _ (back : (p : Packet) → IsFormed s p → packet_in s.wire (datagram s p) ≡ Some (wire_packet p, p.payload)) where
@@ -54,14 +56,16 @@ module _ (s : Settings) where
     shown_aged now (p ∷ ps) (k ∷ ks) [] a all = absurd a
     shown_aged now (p ∷ ps) (k ∷ ks) (j ∷ js) a all = (aged_by now p k j a.0 all.0, shown_aged now ps ks js a.1 all.1)
 
-  pub shown_more : (now : ℕ) (ps qs : List SentPacket) (ks js : List KeptPacket) → AreShownBy s now ps ks → AreShownBy s now qs js → AreShownBy s now (ps ++ qs) (ks ++ js)
+  pub shown_more : (now : ℕ) (ps qs : List SentPacket) (ks js : List KeptPacket) → AreShownBy s now ps ks → AreShownBy s now qs js
+      → AreShownBy s now (ps ++ qs) (ks ++ js)
   shown_more now [] qs [] js a b = b
   shown_more now [] qs (k ∷ ks) js a b = absurd a
   shown_more now (p ∷ ps) qs [] js a b = absurd a
   shown_more now (p ∷ ps) qs (k ∷ ks) js a b = (a.0, shown_more now ps qs ks js a.1 b)
 
   -- packets that are sent now
-  pub shown_sent : (now tick : ℕ) (ps : List Packet) → AllByRecursion (IsFormed s) ps → AreShownBy s now (stamped tick ps) (map (frame_kept tick) (frames_of s ps))
+  pub shown_sent : (now tick : ℕ) (ps : List Packet) → AllByRecursion (IsFormed s) ps
+      → AreShownBy s now (stamped tick ps) (map (frame_kept tick) (frames_of s ps))
   shown_sent now tick [] all = tt
   shown_sent now tick (p ∷ ps) all = ((refl, refl, all.0), shown_sent now tick ps all.1)
 
@@ -77,7 +81,8 @@ pub record IsSeenAs (s : Settings) (now : ℕ) (ps : List SentPacket) (n : ℕ) 
   pub found : slice_get ps n ≡ Some sent
   pub shown : IsShownBy s now sent k
 
-pub seen_as : (s : Settings) (now : ℕ) (ps : List SentPacket) (ks : List KeptPacket) (n : ℕ) (k : KeptPacket) → AreShownBy s now ps ks → slice_get ks n ≡ Some k → IsSeenAs s now ps n k
+pub seen_as : (s : Settings) (now : ℕ) (ps : List SentPacket) (ks : List KeptPacket) (n : ℕ) (k : KeptPacket) → AreShownBy s now ps ks
+    → slice_get ks n ≡ Some k → IsSeenAs s now ps n k
 seen_as s now [] [] n k all e = absurd (none_some e) where
   none_some : {A : Type 0} {x : A} → None ≡ Some x → ⊥
   none_some e = cc
@@ -89,7 +94,8 @@ seen_as s now (p ∷ ps) (j ∷ ks) (suc n) k all e = let r = seen_as s now ps k
 -- ---- the hosts that datagrams come from
 
 froms_by : (s : Settings) (hosts now : ℕ) → now ≤ 1000000000000 → (k j : KeptPacket) → IsAged s now k j → IsFromHost hosts k → IsFromHost hosts j
-froms_by s hosts now most (WholePacket tick f) (WholePacket later g) a b = (subst (λ (x : HostId). x.0 < hosts) (sym (ap (λ h. h.from) a.1)) b.0, λ e. b.1 (sym (ap (λ h. h.from) a.1) ∙ e ∙ ap (λ h. h.to) a.1))
+froms_by s hosts now most (WholePacket tick f) (WholePacket later g) a b =
+    (subst (λ (x : HostId). x.0 < hosts) (sym (ap (λ h. h.from) a.1)) b.0, λ e. b.1 (sym (ap (λ h. h.from) a.1) ∙ e ∙ ap (λ h. h.to) a.1))
 froms_by s hosts now most (WholePacket tick f) (LatePacket later) a b = tt
 froms_by s hosts now most (WholePacket tick f) (StalePacket to at) a b = omega (arith, a.3, most)
 froms_by s hosts now most (LatePacket tick) (LatePacket later) a b = tt
@@ -99,7 +105,8 @@ froms_by s hosts now most (StalePacket to at) (StalePacket other later) a b = om
 froms_by s hosts now most (StalePacket to at) (WholePacket later g) a b = absurd a
 froms_by s hosts now most (StalePacket to at) (LatePacket later) a b = absurd a
 
-pub froms_aged : (s : Settings) (hosts now : ℕ) → now ≤ 1000000000000 → (ks js : List KeptPacket) → AllAged s now ks js → AllByRecursion (IsFromHost hosts) ks → AllByRecursion (IsFromHost hosts) js
+pub froms_aged : (s : Settings) (hosts now : ℕ) → now ≤ 1000000000000 → (ks js : List KeptPacket) → AllAged s now ks js
+    → AllByRecursion (IsFromHost hosts) ks → AllByRecursion (IsFromHost hosts) js
 froms_aged s hosts now most [] [] a all = tt
 froms_aged s hosts now most [] (j ∷ js) a all = absurd a
 froms_aged s hosts now most (k ∷ ks) [] a all = absurd a
@@ -111,6 +118,8 @@ aged_length s now [] (j ∷ js) a = absurd a
 aged_length s now (k ∷ ks) [] a = absurd a
 aged_length s now (k ∷ ks) (j ∷ js) a = ap suc (aged_length s now ks js a.1)
 
-pub froms_sent : (s : Settings) (hosts tick : ℕ) (ps : List Packet) → AllByRecursion (λ (p : Packet). ((sender p).0 < hosts) × (sender p ≢ receiver p)) ps → AllByRecursion (IsFromHost hosts) (map (frame_kept tick) (frames_of s ps))
+pub froms_sent : (s : Settings) (hosts tick : ℕ) (ps : List Packet)
+    → AllByRecursion (λ (p : Packet). ((sender p).0 < hosts) × (sender p ≢ receiver p)) ps
+    → AllByRecursion (IsFromHost hosts) (map (frame_kept tick) (frames_of s ps))
 froms_sent s hosts tick [] all = tt
 froms_sent s hosts tick (p ∷ ps) all = (all.0, froms_sent s hosts tick ps all.1)

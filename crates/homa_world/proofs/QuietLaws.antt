@@ -26,16 +26,27 @@ use Rattle.box_laws.proofs.ShownLaws.{none_shown}
 use Rattle.box_laws.proofs.BoxLaws.{quiet_tell}
 
 module _ {S : Type 0} (served : S → ℕ) (allows : Allows S) (mid : WorldParts S) (kept : IsKept served mid)
-    (now : ℕ) (id : HostId) (h : Seen) (step : Work) (st : Stage S) (at : slice_get (hosts_of mid.stage) id.0 ≡ Some h) (stepped : HasStepped now id h step mid.stage st)
-    (packets : Packets) (like : WorldParts S) (sent : kept_all packets ≡ kept_all mid.packets ++ map (frame_kept mid.clock) st.outbox) (same : settings_of packets ≡ settings_of mid.packets) where
+    (now : ℕ) (id : HostId) (h : Seen) (step : Work) (st : Stage S) (at : slice_get (hosts_of mid.stage) id.0 ≡ Some h)
+    (stepped : HasStepped now id h step mid.stage st)
+    (packets : Packets) (like : WorldParts S) (sent : kept_all packets ≡ kept_all mid.packets ++ map (frame_kept mid.clock) st.outbox)
+    (same : settings_of packets ≡ settings_of mid.packets) where
   abbrev after : WorldParts S
-  after = record mid { stage = st; packets = packets; injected = like.injected; last = last.Stepped id first.Nothing (length (kept_all mid.packets)); applied = mid.applied + 1 }
+  after = record mid {
+    stage = st;
+    packets = packets;
+    injected = like.injected;
+    last = last.Stepped id first.Nothing (length (kept_all mid.packets));
+    applied = mid.applied + 1;
+  }
 
-  pub quiet_applies : IsOwnStep id step → has_run step.told ≡ false → seats_of st ≡ seats_of mid.stage → spares_of st ≡ spares_of mid.stage → (e : Event) (bytes : List ℕ) (p : PlainWorld) → StandsFor mid p
+  pub quiet_applies : IsOwnStep id step → has_run step.told ≡ false → seats_of st ≡ seats_of mid.stage → spares_of st ≡ spares_of mid.stage
+      → (e : Event) (bytes : List ℕ) (p : PlainWorld) → StandsFor mid p
       → IsStepBy [] mid.settings p id e bytes [] step
-      → IsApplied mid.settings p (record { event = e; bytes = bytes }) (StandsFor after) (told_of after) (may_tell_of served allows mid) (may_tell_of served allows after)
+      → IsApplied mid.settings p (record { event = e; bytes = bytes }) (StandsFor after) (told_of after) (may_tell_of served allows mid)
+      (may_tell_of served allows after)
   quiet_applies own quiet seats spares e bytes p stands event =
-      let told : told_of after ≡ step_told p [] step = told_after served mid kept now id h step st at stepped packets first.Nothing like sent same p stands own.said in
+      let told : told_of after ≡ step_told p [] step =
+      told_after served mid kept now id h step st at stepped packets first.Nothing like sent same p stands own.said in
       record {
         next = stepped_world p id step;
         stood = stands_after served mid kept now id h step st at stepped packets first.Nothing like sent same p stands (ap length spares);
@@ -44,7 +55,8 @@ module _ {S : Type 0} (served : S → ℕ) (allows : Allows S) (mid : WorldParts
             ∙ event later ∙ ap (λ t. Done (record { world = answering later (stepped_world p id step); told = t })) (sym told);
         allowed = λ more may.
             subst (λ t. may_tell_of served allows mid (t ++ more)) (sym told)
-            (quiet_tell allows (map (counted served) (spares_of mid.stage)) (all_counted served (seats_of mid.stage)) (length p.packets) step.told more own.said quiet
+            (quiet_tell allows (map (counted served) (spares_of mid.stage)) (all_counted served (seats_of mid.stage))
+            (length p.packets) step.told more own.said quiet
             (subst (λ xs. may_tell allows (all_counted served (seats_of mid.stage)) (map (counted served) xs) more) spares
             (subst (λ xs. may_tell allows (all_counted served xs) (map (counted served) (spares_of st)) more) seats may)));
       } where

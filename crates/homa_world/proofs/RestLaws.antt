@@ -75,7 +75,8 @@ take-length (suc n) (x ∷ xs) l = ap suc (take-length n xs (omega (arith, l)))
 
 front-length : {A : Type 0} (xs : List A) → IsAny xs → length xs ≡ suc (length (front_of xs))
 front-length [] any = absurd any
-front-length (x ∷ xs) any = let e : length (front_of (x ∷ xs)) ≡ suc (length xs) - 1 = take-length (suc (length xs) - 1) (x ∷ xs) (omega (arith)) in omega (arith, e)
+front-length (x ∷ xs) any =
+    let e : length (front_of (x ∷ xs)) ≡ suc (length xs) - 1 = take-length (suc (length xs) - 1) (x ∷ xs) (omega (arith)) in omega (arith, e)
 
 take-all : {A : Type 0} (P : A → Type 0) (n : ℕ) (xs : List A) → AllByRecursion P xs → AllByRecursion P (take n xs)
 take-all P zero xs all = tt
@@ -87,7 +88,8 @@ same_last x y e = cc
 
 -- ---- a clock is set
 
-module _ {S : Type 0} (served : S → ℕ) (allows : Allows S) (w : WorldParts S) (id : HostId) (n : ℕ) (h : Seen) (at : slice_get (hosts_of w.stage) id.0 ≡ Some h) where
+module _ {S : Type 0} (served : S → ℕ) (allows : Allows S) (w : WorldParts S) (id : HostId) (n : ℕ) (h : Seen)
+    (at : slice_get (hosts_of w.stage) id.0 ≡ Some h) where
   abbrev shifted : WorldParts S
   shifted = record w { leads = with_item w.leads id.0 n; last = last.Shifted id n; applied = w.applied + 1 }
 
@@ -110,16 +112,20 @@ module _ {S : Type 0} (served : S → ℕ) (allows : Allows S) (w : WorldParts S
     inside : id.0 < length w.leads.items
     inside = omega (arith, within (hosts_of w.stage) id.0 h at, length-map (hosts_of w.stage) known, k.hosts, k.leads)
 
-    each : (m : HostId) (q : Known) → slice_get (known_of w.stage) m.0 ≡ Some q → HostFits w.settings (w.clock + slice_index_or (slice_set w.leads.items id.0 n) m.0 0) (w.applied + 1) (length (spares_of w.stage)) m q
+    each : (m : HostId) (q : Known) → slice_get (known_of w.stage) m.0 ≡ Some q
+        → HostFits w.settings (w.clock + slice_index_or (slice_set w.leads.items id.0 n) m.0 0) (w.applied + 1) (length (spares_of w.stage)) m q
     each m q is = by_host (is_host m id) refl where
       f : HostFits w.settings (w.clock + slice_index_or w.leads.items m.0 0) w.applied (length (spares_of w.stage)) m q
       f = k.each m q is
 
-      by_host : (b : Bool) → is_host m id ≡ b → HostFits w.settings (w.clock + slice_index_or (slice_set w.leads.items id.0 n) m.0 0) (w.applied + 1) (length (spares_of w.stage)) m q
+      by_host : (b : Bool) → is_host m id ≡ b → HostFits w.settings (w.clock + slice_index_or (slice_set w.leads.items id.0 n) m.0 0) (w.applied + 1)
+          (length (spares_of w.stage)) m q
       by_host true e =
           let one : m.0 ≡ id.0 = ap (λ (x : HostId). x.0) ((hosts_are m id).0 e) in
-          let q_is : q.host.last ≡ h.host.last = same q (known h) (sym is ∙ ap (slice_get (known_of w.stage)) one ∙ map_at known (hosts_of w.stage) id.0 h at) in
-          let lead : slice_index_or (slice_set w.leads.items id.0 n) m.0 0 ≡ n = ap (λ j. slice_index_or (slice_set w.leads.items id.0 n) j 0) one ∙ index_there w.leads.items id.0 n 0 inside in
+          let q_is : q.host.last ≡ h.host.last =
+          same q (known h) (sym is ∙ ap (slice_get (known_of w.stage)) one ∙ map_at known (hosts_of w.stage) id.0 h at) in
+          let lead : slice_index_or (slice_set w.leads.items id.0 n) m.0 0 ≡ n =
+          ap (λ j. slice_index_or (slice_set w.leads.items id.0 n) j 0) one ∙ index_there w.leads.items id.0 n 0 inside in
           record {
             settings = f.settings;
             name = f.name;
@@ -132,7 +138,8 @@ module _ {S : Type 0} (served : S → ℕ) (allows : Allows S) (w : WorldParts S
             same : (x y : Known) → Some x ≡ Some y → x.host.last ≡ y.host.last
             same x y e = cc
       by_host false e =
-          fits_later w.settings (w.clock + slice_index_or w.leads.items m.0 0) (w.clock + slice_index_or (slice_set w.leads.items id.0 n) m.0 0) w.applied (w.applied + 1) (length (spares_of w.stage)) m q
+          fits_later w.settings (w.clock + slice_index_or w.leads.items m.0 0) (w.clock + slice_index_or (slice_set w.leads.items id.0 n) m.0 0)
+          w.applied (w.applied + 1) (length (spares_of w.stage)) m q
           (omega (arith, index_elsewhere w.leads.items id.0 m.0 n 0 (λ same. apart_of m id e (sym same)))) (omega (arith)) f
 
   pub shift_applies : n ≤ band w.settings → h.host.last ≤ w.clock + n → Applies served allows w shifted (record { event = event.Shift id n; bytes = [] })
@@ -150,12 +157,15 @@ module _ {S : Type 0} (served : S → ℕ) (allows : Allows S) (w : WorldParts S
   }
 
   pub beyond : band w.settings < n → Refuses w (record { event = event.Shift id n; bytes = [] }) (fault.OutOfBand n (band w.settings))
-  beyond l p stands = refused_by w.settings p (event.Shift id n) [] (fault.OutOfBand n (band w.settings)) refl (events.out_of_band w.settings p id n h.host (host_there w id h p stands at) l)
+  beyond l p stands = refused_by w.settings p (event.Shift id n) [] (fault.OutOfBand n (band w.settings)) refl
+      (events.out_of_band w.settings p id n h.host (host_there w id h p stands at) l)
 
-  pub back : n ≤ band w.settings → w.clock + n < h.host.last → Refuses w (record { event = event.Shift id n; bytes = [] }) (fault.Back h.host.last (w.clock + n))
+  pub back : n ≤ band w.settings → w.clock + n < h.host.last
+      → Refuses w (record { event = event.Shift id n; bytes = [] }) (fault.Back h.host.last (w.clock + n))
   back l before p stands =
       refused_by w.settings p (event.Shift id n) [] (fault.Back h.host.last (w.clock + n)) refl
-      (subst (λ c. IsRefusal w.settings p (event.Shift id n) [] (fault.Back h.host.last (c + n))) stands.clock (events.goes_back w.settings p id n h.host (host_there w id h p stands at) l (omega (arith, before, stands.clock))))
+      (subst (λ c. IsRefusal w.settings p (event.Shift id n) [] (fault.Back h.host.last (c + n))) stands.clock
+      (events.goes_back w.settings p id n h.host (host_there w id h p stands at) l (omega (arith, before, stands.clock))))
 
 -- ---- a host restarts
 
@@ -193,17 +203,20 @@ module _ {S : Type 0} (served : S → ℕ) (allows : Allows S) (w : WorldParts S
     by_memory false e =
         let r = none e in
         subst (IsNotApplied w.settings p (record { event = event.Restart id; bytes = [] })) (sym r.0)
-        (refused_by w.settings p (event.Restart id) [] fault.NoSpare refl (events.no_spare w.settings p id h.host (host_there w id h p stands at) (none_left r.1)))
+        (refused_by w.settings p (event.Restart id) [] fault.NoSpare refl
+        (events.no_spare w.settings p id h.host (host_there w id h p stands at) (none_left r.1)))
 
   -- nothing is told any more of the last event
-  pub still_kept : (st : Stage S) → known_of st ≡ known_of w.stage → seats_of st ≡ seats_of w.stage → spares_of st ≡ spares_of w.stage → IsKept served w → IsKept served (record w { stage = st; last = last.Nothing })
+  pub still_kept : (st : Stage S) → known_of st ≡ known_of w.stage → seats_of st ≡ seats_of w.stage → spares_of st ≡ spares_of w.stage
+      → IsKept served w → IsKept served (record w { stage = st; last = last.Nothing })
   still_kept st known seats spares k = record {
     valid = k.valid;
     clock = k.clock;
     hosts = ap length known ∙ k.hosts;
     leads = k.leads;
     lead = k.lead;
-    each = λ m q is. subst (λ n. HostFits w.settings (w.clock + slice_index_or w.leads.items m.0 0) w.applied n m q) (sym (ap length spares)) (k.each m q (sym (ap (λ ks. slice_get ks m.0) known) ∙ is));
+    each = λ m q is. subst (λ n. HostFits w.settings (w.clock + slice_index_or w.leads.items m.0 0) w.applied n m q) (sym (ap length spares))
+        (k.each m q (sym (ap (λ ks. slice_get ks m.0) known) ∙ is));
     places = ap length seats ∙ k.places;
     seats = λ i l. subst (λ xs. SeatFits served w.applied (place_of xs i)) (sym seats) (k.seats i l);
     spares = subst (AllByRecursion (λ seat. served seat ≤ w.applied)) (sym spares) k.spares;
@@ -232,7 +245,11 @@ module _ {S : Type 0} (served : S → ℕ) (allows : Allows S) (w : WorldParts S
         spares = refl;
       };
       done = λ more. events.restart_done w.settings p id h.host (length (spares_of st)) (host_there w id h p stands at) (stands.spares ∙ fewer) more;
-      allowed = λ more may. (tt, subst (λ xs. may_tell allows xs (front_of (map (counted served) (spares_of w.stage))) more) seats (subst (λ xs. may_tell allows (all_counted served (seats_of st)) xs more) spares may));
+      allowed = λ more may. (
+        tt,
+        subst (λ xs. may_tell allows xs (front_of (map (counted served) (spares_of w.stage))) more) seats
+            (subst (λ xs. may_tell allows (all_counted served (seats_of st)) xs more) spares may),
+      );
     } where
       seats : all_counted served (seats_of st) ≡ slice_set (all_counted served (seats_of w.stage)) id.0 (last_of (map (counted served) (spares_of w.stage)))
       seats = ap (all_counted served) did.seats ∙ map-set (option_map (counted served)) (seats_of w.stage) id.0 (last_of (spares_of w.stage))
@@ -251,7 +268,8 @@ module _ {S : Type 0} (served : S → ℕ) (allows : Allows S) (w : WorldParts S
       each = λ m q is. each m q (sym (ap (λ ks. slice_get ks m.0) did.known) ∙ is);
       places = ap length did.seats ∙ length-set (seats_of w.stage) id.0 (last_of (spares_of w.stage)) ∙ k.places;
       seats = λ i l. subst (λ xs. SeatFits served (w.applied + 1) (place_of xs i)) (sym did.seats) (seats i l);
-      spares = subst (AllByRecursion (λ seat. served seat ≤ w.applied + 1)) (sym did.spares) (take-all (λ seat. served seat ≤ w.applied + 1) (length (spares_of w.stage) - 1) (spares_of w.stage) later);
+      spares = subst (AllByRecursion (λ seat. served seat ≤ w.applied + 1)) (sym did.spares)
+          (take-all (λ seat. served seat ≤ w.applied + 1) (length (spares_of w.stage) - 1) (spares_of w.stage) later);
       packets = k.packets;
       few = omega (arith, k.few);
       froms = k.froms;
@@ -273,13 +291,17 @@ module _ {S : Type 0} (served : S → ℕ) (allows : Allows S) (w : WorldParts S
 
       seats : (i : ℕ) → i < w.settings.hosts → SeatFits served (w.applied + 1) (place_of (slice_set (seats_of w.stage) id.0 (last_of (spares_of w.stage))) i)
       seats i l = by_place (is_host (record { 0 = i }) id) refl where
-        by_place : (b : Bool) → is_host (record { 0 = i }) id ≡ b → SeatFits served (w.applied + 1) (place_of (slice_set (seats_of w.stage) id.0 (last_of (spares_of w.stage))) i)
+        by_place : (b : Bool) → is_host (record { 0 = i }) id ≡ b
+            → SeatFits served (w.applied + 1) (place_of (slice_set (seats_of w.stage) id.0 (last_of (spares_of w.stage))) i)
         by_place true e =
             let one : i ≡ id.0 = ap (λ (x : HostId). x.0) ((hosts_are (record { 0 = i }) id).0 e) in
-            subst (SeatFits served (w.applied + 1)) (sym (ap (λ j. place_of (slice_set (seats_of w.stage) id.0 (last_of (spares_of w.stage))) j) one ∙ index_there (seats_of w.stage) id.0 (last_of (spares_of w.stage)) None (omega (arith, one, l, k.places))))
+            subst (SeatFits served (w.applied + 1))
+            (sym (ap (λ j. place_of (slice_set (seats_of w.stage) id.0 (last_of (spares_of w.stage))) j) one ∙ index_there (seats_of w.stage) id.0
+            (last_of (spares_of w.stage)) None (omega (arith, one, l, k.places))))
             (last_fits (spares_of w.stage) did.some later)
         by_place false e =
-            subst (SeatFits served (w.applied + 1)) (sym (index_elsewhere (seats_of w.stage) id.0 i (last_of (spares_of w.stage)) None (λ same. apart_of (record { 0 = i }) id e (sym same))))
+            subst (SeatFits served (w.applied + 1))
+            (sym (index_elsewhere (seats_of w.stage) id.0 i (last_of (spares_of w.stage)) None (λ same. apart_of (record { 0 = i }) id e (sym same))))
             (seat_later served w.applied (w.applied + 1) (place_of (seats_of w.stage) i) (omega (arith)) (k.seats i l))
 
       none : {X : Type 0} (x : X) → None ≡ Some x → ⊥
@@ -296,12 +318,16 @@ module _ {S : Type 0} (served : S → ℕ) (allows : Allows S) (w : WorldParts S
         lives = omega (arith, f.lives, fewer);
       }
 
-      each : (m : HostId) (q : Known) → slice_get (slice_set (known_of w.stage) id.0 fresh) m.0 ≡ Some q → HostFits w.settings (w.clock + slice_index_or w.leads.items m.0 0) (w.applied + 1) (length (spares_of st)) m q
+      each : (m : HostId) (q : Known) → slice_get (slice_set (known_of w.stage) id.0 fresh) m.0 ≡ Some q
+          → HostFits w.settings (w.clock + slice_index_or w.leads.items m.0 0) (w.applied + 1) (length (spares_of st)) m q
       each m q is = by_host (is_host m id) refl where
         by_host : (b : Bool) → is_host m id ≡ b → HostFits w.settings (w.clock + slice_index_or w.leads.items m.0 0) (w.applied + 1) (length (spares_of st)) m q
         by_host true e =
             let one : m ≡ id = (hosts_are m id).0 e in
-            let q_is : fresh ≡ q = same fresh q (sym (there (known_of w.stage) id.0 fresh (omega (arith, within (hosts_of w.stage) id.0 h at, length-map (hosts_of w.stage) known))) ∙ ap (λ (x : HostId). slice_get (slice_set (known_of w.stage) id.0 fresh) x.0) (sym one) ∙ is) in
+            let q_is : fresh ≡ q =
+            same fresh q (sym
+            (there (known_of w.stage) id.0 fresh (omega (arith, within (hosts_of w.stage) id.0 h at, length-map (hosts_of w.stage) known)))
+            ∙ ap (λ (x : HostId). slice_get (slice_set (known_of w.stage) id.0 fresh) x.0) (sym one) ∙ is) in
             subst (λ (x : HostId). HostFits w.settings (w.clock + slice_index_or w.leads.items x.0 0) (w.applied + 1) (length (spares_of st)) x q) (sym one)
             (subst (HostFits w.settings (w.clock + slice_index_or w.leads.items id.0 0) (w.applied + 1) (length (spares_of st)) id) q_is fresh_fits) where
               same : (x y : Known) → Some x ≡ Some y → x ≡ y
@@ -317,7 +343,8 @@ module _ {S : Type 0} (served : S → ℕ) (allows : Allows S) (w : WorldParts S
               inc = g.inc;
               lives = omega (arith, g.lives, fewer);
             } where
-              kept_other : (m : HostId) (q : Known) → slice_get (known_of w.stage) m.0 ≡ Some q → HostFits w.settings (w.clock + slice_index_or w.leads.items m.0 0) w.applied (length (spares_of w.stage)) m q
+              kept_other : (m : HostId) (q : Known) → slice_get (known_of w.stage) m.0 ≡ Some q
+                  → HostFits w.settings (w.clock + slice_index_or w.leads.items m.0 0) w.applied (length (spares_of w.stage)) m q
               kept_other m q is = k.each m q is
 
   -- by the numbers that were read
@@ -330,5 +357,7 @@ module _ {S : Type 0} (served : S → ℕ) (allows : Allows S) (w : WorldParts S
   pub restart_both : (st : Stage S) (inc then : ℕ) → inc ≡ h.host.inc + 1 → then ≡ h.host.last → HasRestarted id (at_life inc then) w.stage st → IsKept served w
       → (Applies served allows w (restarts st inc) (record { event = event.Restart id; bytes = [] })) × IsKept served (restarts st inc)
   restart_both st inc then e f did k =
-      let read : HasRestarted id fresh w.stage st = subst (λ i. HasRestarted id (at_life i h.host.last) w.stage st) e (subst (λ t. HasRestarted id (at_life inc t) w.stage st) f did) in
-      subst (λ i. (Applies served allows w (restarts st i) (record { event = event.Restart id; bytes = [] })) × IsKept served (restarts st i)) (sym e) (restart_applies st read, restart_kept st read k)
+      let read : HasRestarted id fresh w.stage st =
+      subst (λ i. HasRestarted id (at_life i h.host.last) w.stage st) e (subst (λ t. HasRestarted id (at_life inc t) w.stage st) f did) in
+      subst (λ i. (Applies served allows w (restarts st i) (record { event = event.Restart id; bytes = [] })) × IsKept served (restarts st i)) (sym e)
+      (restart_applies st read, restart_kept st read k)

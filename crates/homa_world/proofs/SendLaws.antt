@@ -40,21 +40,28 @@ module _ (frames : List SentFrame) (i : ℕ) (within : i < length frames) (all :
   here P f e p = subst (λ o. IfSome o P) e p
 
   pub short_at : IfSome (slice_get frames i) (λ f. bytes ≡ f.frame) → length bytes ≤ 1444
-  short_at b = let r = frame_at frames i within all in let e : length bytes ≡ length r.0.frame = ap length (here (λ f. bytes ≡ f.frame) r.0 r.1.at b) in omega (arith, r.1.short, e)
+  short_at b = let r = frame_at frames i within all in let e : length bytes ≡ length r.0.frame =
+      ap length (here (λ f. bytes ≡ f.frame) r.0 r.1.at b) in omega (arith, r.1.short, e)
 
-  pub sent_at : (old mid new : Packets) → IfSome (slice_get frames i) (λ f. from ≡ f.from) → IfSome (slice_get frames i) (λ f. to ≡ f.to) → IfSome (slice_get frames i) (λ f. bytes ≡ f.frame)
+  pub sent_at : (old mid new : Packets) → IfSome (slice_get frames i) (λ f. from ≡ f.from) → IfSome (slice_get frames i) (λ f. to ≡ f.to)
+      → IfSome (slice_get frames i) (λ f. bytes ≡ f.frame)
       → AreSent old frames i mid → kept_all new ≡ kept_all mid ++ WholePacket (open_tick mid) (record { from = from; to = to; bytes = bytes }) ∷ []
-      → ((n : ℕ) → HasRoomFor mid (n + 1) → HasRoomFor new n) → open_tick new ≡ open_tick mid → settings_of new ≡ settings_of mid → i < 64 → AreSent old frames (i + 1) new
+      → ((n : ℕ) → HasRoomFor mid (n + 1) → HasRoomFor new n) → open_tick new ≡ open_tick mid → settings_of new ≡ settings_of mid → i < 64
+      → AreSent old frames (i + 1) new
   sent_at old mid new f t b s kept room tick settings few =
       let r = frame_at frames i within all in
       let same : record { from = from; to = to; bytes = bytes } ≡ record { from = r.0.from; to = r.0.to; bytes = r.0.frame } =
-      ap (λ x. record { from = x; to = to; bytes = bytes }) (here (λ f. from ≡ f.from) r.0 r.1.at f) ∙ ap (λ x. record { from = r.0.from; to = x; bytes = bytes }) (here (λ f. to ≡ f.to) r.0 r.1.at t) ∙ ap (λ x. record { from = r.0.from; to = r.0.to; bytes = x }) (here (λ f. bytes ≡ f.frame) r.0 r.1.at b) in
+      ap (λ x. record { from = x; to = to; bytes = bytes }) (here (λ f. from ≡ f.from) r.0 r.1.at f)
+      ∙ ap (λ x. record { from = r.0.from; to = x; bytes = bytes }) (here (λ f. to ≡ f.to) r.0 r.1.at t)
+      ∙ ap (λ x. record { from = r.0.from; to = r.0.to; bytes = x }) (here (λ f. bytes ≡ f.frame) r.0 r.1.at b) in
       let next : suc i ≡ i + 1 = omega (arith) in
       let left : 64 - i ≡ 64 - (i + 1) + 1 = omega (arith, few) in
       record {
         kept = kept ∙ ap (λ ks. ks ++ WholePacket (open_tick mid) (record { from = from; to = to; bytes = bytes }) ∷ []) s.kept
-            ∙ append_assoc (kept_all old) (map (frame_kept (open_tick old)) (take i frames)) (WholePacket (open_tick mid) (record { from = from; to = to; bytes = bytes }) ∷ [])
-            ∙ ap (λ k. kept_all old ++ (map (frame_kept (open_tick old)) (take i frames) ++ k ∷ [])) (ap (λ n. WholePacket n (record { from = from; to = to; bytes = bytes })) s.tick ∙ ap (WholePacket (open_tick old)) same)
+            ∙ append_assoc (kept_all old) (map (frame_kept (open_tick old)) (take i frames))
+            (WholePacket (open_tick mid) (record { from = from; to = to; bytes = bytes }) ∷ [])
+            ∙ ap (λ k. kept_all old ++ (map (frame_kept (open_tick old)) (take i frames) ++ k ∷ []))
+            (ap (λ n. WholePacket n (record { from = from; to = to; bytes = bytes })) s.tick ∙ ap (WholePacket (open_tick old)) same)
             ∙ ap (λ ks. kept_all old ++ ks) (sym (map_front (frame_kept (open_tick old)) frames i r.0 r.1.at))
             ∙ ap (λ n. kept_all old ++ map (frame_kept (open_tick old)) (take n frames)) next;
         tick = tick ∙ s.tick;

@@ -9,7 +9,8 @@ use Rattle.world_packets.specs.Kept.{KeptPacket, WholePacket, LatePacket, StaleP
 
 -- what is kept of a packet, at a tick: its datagram; or that it is late for good, or certainly stale
 abbrev pub IsShownBy : Settings → ℕ → SentPacket → KeptPacket → Type 0
-IsShownBy s now sent (WholePacket tick f) = (tick ≡ sent.tick) × (f ≡ record { from = sender sent.packet; to = receiver sent.packet; bytes = datagram s sent.packet }) × IsFormed s sent.packet
+IsShownBy s now sent (WholePacket tick f) =
+    (tick ≡ sent.tick) × (f ≡ record { from = sender sent.packet; to = receiver sent.packet; bytes = datagram s sent.packet }) × IsFormed s sent.packet
 IsShownBy s now sent (LatePacket tick) = (s.wire ≡ 1) × (tick ≡ sent.tick) × (tick + s.life < now)
 IsShownBy s now sent (StalePacket to at) = (s.wire ≡ 2) × (to ≡ receiver sent.packet) × (at ≡ sent.packet.at) × (at + s.life + 2 * s.skew < now)
 

@@ -57,7 +57,8 @@ module _ {S : Type 0} where
   told_by w last.Ticked = PlainClock w.clock ∷ []
   told_by w (last.Restarted host inc) = PlainRestart host inc ∷ []
   told_by w (last.Shifted host n) = PlainShift host n ∷ []
-  told_by w (last.Stepped host first base) = first_told host first w.injected.items ++ map (numbered base) (entries_of w.stage (slice_get (hosts_of w.stage) host.0))
+  told_by w (last.Stepped host first base) =
+      first_told host first w.injected.items ++ map (numbered base) (entries_of w.stage (slice_get (hosts_of w.stage) host.0))
 
   -- the entries of the last event
   abbrev pub told_of : WorldParts S → List PlainEntry
@@ -87,7 +88,8 @@ module _ {S : Type 0} where
     pub hosts : length (known_of w.stage) ≡ w.settings.hosts
     pub leads : length w.leads.items ≡ w.settings.hosts
     pub lead : (i : ℕ) → slice_index_or w.leads.items i 0 ≤ band w.settings
-    pub each : (id : HostId) (k : Known) → slice_get (known_of w.stage) id.0 ≡ Some k → HostFits w.settings (w.clock + slice_index_or w.leads.items id.0 0) w.applied (length (spares_of w.stage)) id k
+    pub each : (id : HostId) (k : Known) → slice_get (known_of w.stage) id.0 ≡ Some k
+        → HostFits w.settings (w.clock + slice_index_or w.leads.items id.0 0) w.applied (length (spares_of w.stage)) id k
     pub places : length (seats_of w.stage) ≡ w.settings.hosts
     pub seats : (i : ℕ) → i < w.settings.hosts → SeatFits served w.applied (place_of (seats_of w.stage) i)
     pub spares : AllByRecursion (λ seat. served seat ≤ w.applied) (spares_of w.stage)
@@ -99,7 +101,8 @@ module _ {S : Type 0} where
 module _ {S : Type 0} (served : S → ℕ) (allows : Allows S) where
   -- an event was applied: the plain world's outcome
   abbrev pub Applies : WorldParts S → WorldParts S → Happening → Type 0
-  Applies old new e = (w : PlainWorld) → StandsFor old w → IsApplied old.settings w e (StandsFor new) (told_of new) (may_tell_of served allows old) (may_tell_of served allows new)
+  Applies old new e = (w : PlainWorld) → StandsFor old w → IsApplied old.settings w e (StandsFor new) (told_of new) (may_tell_of served allows old)
+      (may_tell_of served allows new)
 
   -- the boxes may answer no more than before
   abbrev pub AllowsNoMore : WorldParts S → WorldParts S → Type 0

@@ -40,52 +40,65 @@ module _ {R : Type 0} (rows new_rows : RowsOf (Placed R)) (id : CallId) (changed
   -- other calls keep their places
   places_stay : (q : CallId) → is_call q id ≡ false → get (places_of new_rows) q ≡ get (places_of rows) q
   places_stay q e =
-      get-mapped (λ (x : Placed R). x.place) new_rows q ∙ ap (option_map (λ (x : Placed R). x.place)) (changed.others q (other_call q id e)) ∙ sym (get-mapped (λ (x : Placed R). x.place) rows q)
+      get-mapped (λ (x : Placed R). x.place) new_rows q ∙ ap (option_map (λ (x : Placed R). x.place)) (changed.others q (other_call q id e))
+      ∙ sym (get-mapped (λ (x : Placed R). x.place) rows q)
 
 -- the place of a row that is seen
-place_seen : {R S : Type 0} (f : Placed R → S) (rows : RowsOf (Placed R)) (id : CallId) (r : S) (n : ℕ) → ((x : Placed R) → get rows id ≡ Some x → x.place ≡ n) → get (mapped f rows) id ≡ Some r
+place_seen : {R S : Type 0} (f : Placed R → S) (rows : RowsOf (Placed R)) (id : CallId) (r : S) (n : ℕ)
+    → ((x : Placed R) → get rows id ≡ Some x → x.place ≡ n) → get (mapped f rows) id ≡ Some r
     → unwrap_or (get (mapped (λ (x : Placed R). x.place) rows) id) 0 ≡ n
 place_seen {R} f rows id r n at e =
     let x = made_of f (get rows id) r (sym (get-mapped f rows id) ∙ e) in
     ap (λ (o : Option ℕ). unwrap_or o 0) (get-mapped (λ (y : Placed R). y.place) rows id ∙ ap (option_map (λ (y : Placed R). y.place)) x.1) ∙ at x.0 x.1
 
 -- a client's row changed, at its place
-pub client_changes : {R : Type 0} (f g : Placed R → ClientRow) (rows new_rows : RowsOf (Placed R)) (id : CallId) (row : Option ClientRow) (n : ℕ) (old new : Seen)
+pub client_changes : {R : Type 0} (f g : Placed R → ClientRow) (rows new_rows : RowsOf (Placed R)) (id : CallId) (row : Option ClientRow) (n : ℕ)
+    (old new : Seen)
     → Changed id rows new_rows → mapped g new_rows ≡ set_row (mapped f rows) id row
     → ((x : Placed R) → get rows id ≡ Some x → x.place ≡ n) → ((x : Placed R) → get new_rows id ≡ Some x → x.place ≡ n)
-    → old.host.clients ≡ mapped f rows → old.client_places ≡ mapped (λ x. x.place) rows → new.host.clients ≡ mapped g new_rows → new.client_places ≡ mapped (λ x. x.place) new_rows
-    → new.settings ≡ old.settings → new.host.last ≡ old.host.last → new.host.servers ≡ old.host.servers → new.server_places ≡ old.server_places → HasSlots old → HasSlots new
+    → old.host.clients ≡ mapped f rows → old.client_places ≡ mapped (λ x. x.place) rows → new.host.clients ≡ mapped g new_rows
+    → new.client_places ≡ mapped (λ x. x.place) new_rows
+    → new.settings ≡ old.settings → new.host.last ≡ old.host.last → new.host.servers ≡ old.host.servers → new.server_places ≡ old.server_places
+    → HasSlots old → HasSlots new
     → ChangesAt (OfClient id) n old new
-client_changes f g rows new_rows id row n old new changed seen was is clients places new_clients new_places settings last servers server_places before after = record {
-  settings = settings;
-  last = last;
-  clients = λ q e. ap (λ m. get m q) (new_clients ∙ seen) ∙ set_row-others (mapped f rows) id row q e ∙ sym (ap (λ m. get m q) clients);
-  servers = λ q e. ap (λ m. get m q) servers;
-  client_places = λ q e. ap (λ m. get m q) new_places ∙ places_stay rows new_rows id changed q e ∙ sym (ap (λ m. get m q) places);
-  server_places = λ q e. ap (λ m. get m q) server_places;
-  before = λ r. ap (λ m. unwrap_or (get m id) 0) places ∙ place_seen f rows id r.0 n was (sym (ap (λ m. get m id) clients) ∙ r.1);
-  after = λ r. ap (λ m. unwrap_or (get m id) 0) new_places ∙ place_seen g new_rows id r.0 n is (sym (ap (λ m. get m id) new_clients) ∙ r.1);
-  slots_before = before;
-  slots_after = after;
-}
+client_changes f g rows new_rows id row n old new changed seen was is clients places new_clients new_places settings last servers server_places before after =
+    record {
+      settings = settings;
+      last = last;
+      clients = λ q e. ap (λ m. get m q) (new_clients ∙ seen) ∙ set_row-others (mapped f rows) id row q e ∙ sym (ap (λ m. get m q) clients);
+      servers = λ q e. ap (λ m. get m q) servers;
+      client_places = λ q e. ap (λ m. get m q) new_places ∙ places_stay rows new_rows id changed q e ∙ sym (ap (λ m. get m q) places);
+      server_places = λ q e. ap (λ m. get m q) server_places;
+      before = λ r. ap (λ m. unwrap_or (get m id) 0) places ∙ place_seen f rows id r.0 n was (sym (ap (λ m. get m id) clients) ∙ r.1);
+      after = λ r. ap (λ m. unwrap_or (get m id) 0) new_places ∙ place_seen g new_rows id r.0 n is (sym (ap (λ m. get m id) new_clients) ∙ r.1);
+      slots_before = before;
+      slots_after = after;
+    }
 
 -- a server's row changed, at its place
-pub server_changes : {R : Type 0} (f g : Placed R → ServerRow) (rows new_rows : RowsOf (Placed R)) (id : CallId) (row : Option ServerRow) (n : ℕ) (old new : Seen)
+pub server_changes : {R : Type 0} (f g : Placed R → ServerRow) (rows new_rows : RowsOf (Placed R)) (id : CallId) (row : Option ServerRow) (n : ℕ)
+    (old new : Seen)
     → Changed id rows new_rows → mapped g new_rows ≡ set_row (mapped f rows) id row
     → ((x : Placed R) → get rows id ≡ Some x → x.place ≡ n) → ((x : Placed R) → get new_rows id ≡ Some x → x.place ≡ n)
-    → old.host.servers ≡ mapped f rows → old.server_places ≡ mapped (λ x. x.place) rows → new.host.servers ≡ mapped g new_rows → new.server_places ≡ mapped (λ x. x.place) new_rows
-    → new.settings ≡ old.settings → new.host.last ≡ old.host.last → new.host.clients ≡ old.host.clients → new.client_places ≡ old.client_places → HasSlots old → HasSlots new
+    → old.host.servers ≡ mapped f rows → old.server_places ≡ mapped (λ x. x.place) rows → new.host.servers ≡ mapped g new_rows
+    → new.server_places ≡ mapped (λ x. x.place) new_rows
+    → new.settings ≡ old.settings → new.host.last ≡ old.host.last → new.host.clients ≡ old.host.clients → new.client_places ≡ old.client_places
+    → HasSlots old → HasSlots new
     → ChangesAt (OfServer id) (old.settings.calls + n) old new
-server_changes f g rows new_rows id row n old new changed seen was is servers places new_servers new_places settings last clients client_places before after = record {
-  settings = settings;
-  last = last;
-  clients = λ q e. ap (λ m. get m q) clients;
-  servers = λ q e. ap (λ m. get m q) (new_servers ∙ seen) ∙ set_row-others (mapped f rows) id row q e ∙ sym (ap (λ m. get m q) servers);
-  client_places = λ q e. ap (λ m. get m q) client_places;
-  server_places = λ q e. ap (λ m. get m q) new_places ∙ places_stay rows new_rows id changed q e ∙ sym (ap (λ m. get m q) places);
-  before = λ r. ap (λ k. old.settings.calls + k) (ap (λ m. unwrap_or (get m id) 0) places ∙ place_seen f rows id r.0 n was (sym (ap (λ m. get m id) servers) ∙ r.1));
-  after = λ r. ap (λ s. s.calls + unwrap_or (get new.server_places id) 0) settings
-      ∙ ap (λ k. old.settings.calls + k) (ap (λ m. unwrap_or (get m id) 0) new_places ∙ place_seen g new_rows id r.0 n is (sym (ap (λ m. get m id) new_servers) ∙ r.1));
-  slots_before = before;
-  slots_after = after;
-}
+server_changes f g rows new_rows id row n old new changed seen was is servers places new_servers new_places settings last clients client_places before after =
+    record {
+      settings = settings;
+      last = last;
+      clients = λ q e. ap (λ m. get m q) clients;
+      servers = λ q e. ap (λ m. get m q) (new_servers ∙ seen) ∙ set_row-others (mapped f rows) id row q e ∙ sym (ap (λ m. get m q) servers);
+      client_places = λ q e. ap (λ m. get m q) client_places;
+      server_places = λ q e. ap (λ m. get m q) new_places ∙ places_stay rows new_rows id changed q e ∙ sym (ap (λ m. get m q) places);
+      before =
+          λ r. ap (λ k. old.settings.calls + k)
+          (ap (λ m. unwrap_or (get m id) 0) places ∙ place_seen f rows id r.0 n was (sym (ap (λ m. get m id) servers) ∙ r.1));
+      after = λ r. ap (λ s. s.calls + unwrap_or (get new.server_places id) 0) settings
+          ∙ ap (λ k. old.settings.calls + k)
+          (ap (λ m. unwrap_or (get m id) 0) new_places ∙ place_seen g new_rows id r.0 n is (sym (ap (λ m. get m id) new_servers) ∙ r.1));
+      slots_before = before;
+      slots_after = after;
+    }

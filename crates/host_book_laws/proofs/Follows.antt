@@ -59,7 +59,8 @@ module _ {Y : Type 0} (slot : Y → ℕ) (n : ℕ) where
 
   without_front : (xs ys : List Y) → AllByRecursion (λ y. slot y ≢ n) xs → without (xs ++ ys) ≡ xs ++ without ys
   without_front [] ys all = refl
-  without_front (x ∷ xs) ys all = ap (λ b. cond (not b) (x ∷ without (xs ++ ys)) (without (xs ++ ys))) (ne_eqb (slot x) n all.0) ∙ ap (λ zs. x ∷ zs) (without_front xs ys all.1)
+  without_front (x ∷ xs) ys all =
+      ap (λ b. cond (not b) (x ∷ without (xs ++ ys)) (without (xs ++ ys))) (ne_eqb (slot x) n all.0) ∙ ap (λ zs. x ∷ zs) (without_front xs ys all.1)
 
   -- what holds of all things but those of the slot
   pub without_holds : (P : Y → Type 0) (ys : List Y) → AllByRecursion (λ y. (slot y ≡ n → ⊥) → P y) ys → AllByRecursion P (without ys)
@@ -76,20 +77,29 @@ module _ {Y : Type 0} (slot : Y → ℕ) (n : ℕ) where
   without_keeps (y ∷ ys) z ne c =
       elim (slot y == n) as (λ b. (slot y == n) ≡ b → Contains (cond (not b) (y ∷ without ys) (without ys)) z) [
         | true ↦ λ e. elim (at_head y z ys c) [ inl is ↦ absurd (ne (ap slot (sym is) ∙ eqb-true (slot y) n e)) | inr rest ↦ without_keeps ys z ne rest ]
-        | false ↦ λ e. elim (at_head y z ys c) [ inl is ↦ subst (Contains (y ∷ without ys)) is (here y (without ys)) | inr rest ↦ there y z (without ys) (without_keeps ys z ne rest) ]
+        | false ↦ λ e. elim (at_head y z ys c) [
+          | inl is ↦ subst (Contains (y ∷ without ys)) is (here y (without ys))
+          | inr rest ↦
+              there y z (without ys) (without_keeps ys z ne rest)
+        ]
       ] refl
 
 module _ {Y : Type 0} (key : Y → ℕ × ℕ) where
   -- a thing that was put in its place is there, and so are all others
   pub placed_here : (y : Y) (ys : List Y) → Contains (placed key y ys) y
   placed_here y [] = here y []
-  placed_here y (z ∷ zs) = elim (is_below (key y) (key z)) as (λ b. Contains (cond b (y ∷ z ∷ zs) (z ∷ placed key y zs)) y) [ true ↦ here y (z ∷ zs) | false ↦ there z y (placed key y zs) (placed_here y zs) ]
+  placed_here y (z ∷ zs) = elim (is_below (key y) (key z)) as (λ b. Contains (cond b (y ∷ z ∷ zs) (z ∷ placed key y zs)) y)
+      [ true ↦ here y (z ∷ zs) | false ↦ there z y (placed key y zs) (placed_here y zs) ]
 
   pub placed_keeps : (y : Y) (ys : List Y) (x : Y) → Contains ys x → Contains (placed key y ys) x
   placed_keeps y [] x c = absurd (none_in x c)
   placed_keeps y (z ∷ zs) x c = elim (is_below (key y) (key z)) as (λ b. Contains (cond b (y ∷ z ∷ zs) (z ∷ placed key y zs)) x) [
     | true ↦ there y x (z ∷ zs) c
-    | false ↦ elim (at_head z x zs c) [ inl is ↦ subst (Contains (z ∷ placed key y zs)) is (here z (placed key y zs)) | inr rest ↦ there z x (placed key y zs) (placed_keeps y zs x rest) ]
+    | false ↦ elim (at_head z x zs c) [
+      | inl is ↦ subst (Contains (z ∷ placed key y zs)) is (here z (placed key y zs))
+      | inr rest ↦
+          there z x (placed key y zs) (placed_keeps y zs x rest)
+    ]
   ]
 
   module _ (slot : Y → ℕ) (n : ℕ) (front olds back : List Y)
@@ -97,10 +107,12 @@ module _ {Y : Type 0} (key : Y → ℕ × ℕ) where
     -- the slot's old thing is taken out
     gone : without slot n (ordered key (front ++ (olds ++ back))) ≡ ordered key (front ++ back)
     gone = sym (ordered-filter key (λ y. not (slot y == n)) (front ++ (olds ++ back)))
-        ∙ ap (ordered key) (without_front slot n front (olds ++ back) before ∙ ap (λ ys. front ++ ys) (without_all slot n olds back of_slot ∙ without_none slot n back after))
+        ∙ ap (ordered key)
+        (without_front slot n front (olds ++ back) before ∙ ap (λ ys. front ++ ys) (without_all slot n olds back of_slot ∙ without_none slot n back after))
 
     -- and its new one, if it has one, is put in its place
-    pub rebooked : (news book : List Y) → IsFew news → KeysDiffer key (front ++ (news ++ back)) → book ≡ ordered key (front ++ (olds ++ back)) → booked key slot n news book ≡ ordered key (front ++ (news ++ back))
+    pub rebooked : (news book : List Y) → IsFew news → KeysDiffer key (front ++ (news ++ back)) → book ≡ ordered key (front ++ (olds ++ back))
+        → booked key slot n news book ≡ ordered key (front ++ (news ++ back))
     rebooked [] book few differ is = ap (without slot n) is ∙ gone
     rebooked (y ∷ []) book few differ is =
         ap (λ ys. placed key y (without slot n ys)) is ∙ ap (placed key y) gone ∙ sym (ordered-cons key y (front ++ back))
@@ -128,12 +140,14 @@ module _ {X Y : Type 0} (t : ThingsOf X) (slot : Y → ℕ) (entry : Seen → X 
   abbrev pub IsOther : X → Type 0
   IsOther x = (place ≡ t.place x → ⊥) × (slot (entry old x) ≢ n) × (entry new x ≡ entry old x)
 
-  others : (xs : List X) → AllByRecursion (λ x. place ≡ t.place x → ⊥) xs → AllByRecursion (IsNumbered t old.host) xs → AllByRecursion (IsNumbered t new.host) xs → AllByRecursion IsOther xs
+  others : (xs : List X) → AllByRecursion (λ x. place ≡ t.place x → ⊥) xs → AllByRecursion (IsNumbered t old.host) xs
+      → AllByRecursion (IsNumbered t new.host) xs → AllByRecursion IsOther xs
   others [] differ was is = tt
   others (x ∷ xs) differ was is = (
     (
       differ.0,
-      λ e. other_slot (t.place x) differ.0 (row_of_number t.of_client t.of_server old (t.place x) (t.order x) was.0) (row_of_number t.of_client t.of_server new (t.place x) (t.order x) is.0) (sym (slotted old x) ∙ e),
+      λ e. other_slot (t.place x) differ.0 (row_of_number t.of_client t.of_server old (t.place x) (t.order x) was.0)
+          (row_of_number t.of_client t.of_server new (t.place x) (t.order x) is.0) (sym (slotted old x) ∙ e),
       alike new old x (slots_stay place n old new change (t.place x) differ.0),
     ),
     others xs differ.1 was.1 is.1,
@@ -150,12 +164,14 @@ module _ {X Y : Type 0} (t : ThingsOf X) (slot : Y → ℕ) (entry : Seen → X 
 
   pub back_others : AllByRecursion IsOther parts.back
   back_others = others parts.back parts.after
-      (all_right _ (at t old.host place) _ (all_right _ parts.front _ numbered_old)) (all_right _ (at t new.host place) _ (all_right _ parts.front _ numbered_new))
+      (all_right _ (at t old.host place) _ (all_right _ parts.front _ numbered_old))
+      (all_right _ (at t new.host place) _ (all_right _ parts.front _ numbered_new))
 
   -- the old thing of this row has its slot
   pub own_slot : AllByRecursion (λ x. slot (entry old x) ≡ n) (at t old.host place)
   own_slot = by_one (at t old.host place) (one_all t.place t.order place _ (at t old.host place) (at_one t old.host place)) where
-    by_one : (xs : List X) → AllByRecursion (λ x. (t.place x ≡ place) × (number_at t.of_client t.of_server old.host place ≡ Some (t.order x))) xs → AllByRecursion (λ x. slot (entry old x) ≡ n) xs
+    by_one : (xs : List X) → AllByRecursion (λ x. (t.place x ≡ place) × (number_at t.of_client t.of_server old.host place ≡ Some (t.order x))) xs
+        → AllByRecursion (λ x. slot (entry old x) ≡ n) xs
     by_one [] all = tt
     by_one (x ∷ xs) all = (
       slotted old x ∙ ap (slot_of old) all.0.0 ∙ change.before (row_of_number t.of_client t.of_server old place (t.order x) all.0.1),
@@ -168,11 +184,14 @@ module _ {X Y : Type 0} (t : ThingsOf X) (slot : Y → ℕ) (entry : Seen → X 
   few h (x ∷ y ∷ xs) number one = one
 
   -- the book is that of all rows again
-  pub follows : (key : Y → ℕ × ℕ) (book : List Y) → KeysDiffer key (map (entry new) (all_of t new.host)) → book ≡ ordered key (map (entry old) (all_of t old.host))
+  pub follows : (key : Y → ℕ × ℕ) (book : List Y) → KeysDiffer key (map (entry new) (all_of t new.host))
+      → book ≡ ordered key (map (entry old) (all_of t old.host))
       → booked key slot n (map (entry new) (at t new.host place)) book ≡ ordered key (map (entry new) (all_of t new.host))
   follows key book differ is =
-      let front : map (entry new) parts.front ≡ map (entry old) parts.front = same_map_of (entry new) (entry old) parts.front (all_weaker IsOther (λ x. entry new x ≡ entry old x) (λ x o. o.2) parts.front front_others) in
-      let back : map (entry new) parts.back ≡ map (entry old) parts.back = same_map_of (entry new) (entry old) parts.back (all_weaker IsOther (λ x. entry new x ≡ entry old x) (λ x o. o.2) parts.back back_others) in
+      let front : map (entry new) parts.front ≡ map (entry old) parts.front =
+      same_map_of (entry new) (entry old) parts.front (all_weaker IsOther (λ x. entry new x ≡ entry old x) (λ x o. o.2) parts.front front_others) in
+      let back : map (entry new) parts.back ≡ map (entry old) parts.back =
+      same_map_of (entry new) (entry old) parts.back (all_weaker IsOther (λ x. entry new x ≡ entry old x) (λ x o. o.2) parts.back back_others) in
       let news = map (entry new) (at t new.host place) in
       let olds = map (entry old) (at t old.host place) in
       let before : map (entry old) (all_of t old.host) ≡ map (entry old) parts.front ++ (olds ++ map (entry old) parts.back) =
@@ -190,7 +209,8 @@ module _ {X Y : Type 0} (t : ThingsOf X) (slot : Y → ℕ) (entry : Seen → X 
   pub own_order : (limit : ℕ) → AreOwn limit (number_at t.of_client t.of_server new.host)
       → AllByRecursion (λ x. AllByRecursion (λ z. t.order z ≡ t.order x → slot (entry old z) ≡ n) (all_of t old.host)) (at t new.host place)
   own_order limit own = by_one (at t new.host place) (one_all t.place t.order place _ (at t new.host place) (at_one t new.host place)) where
-    apart : (x : X) → number_at t.of_client t.of_server new.host place ≡ Some (t.order x) → (zs : List X) → AllByRecursion (λ z. place ≡ t.place z → ⊥) zs → AllByRecursion (IsNumbered t new.host) zs
+    apart : (x : X) → number_at t.of_client t.of_server new.host place ≡ Some (t.order x) → (zs : List X)
+        → AllByRecursion (λ z. place ≡ t.place z → ⊥) zs → AllByRecursion (IsNumbered t new.host) zs
         → AllByRecursion (λ z. t.order z ≡ t.order x → slot (entry old z) ≡ n) zs
     apart x is [] differ all = tt
     apart x is (z ∷ zs) differ all = (λ e. absurd (differ.0 (own.differ place (t.place z) (t.order x) is (all.0 ∙ ap Some e))), apart x is zs differ.1 all.1)

@@ -25,11 +25,13 @@ one_first s true g gs w = refl
 one_first s false g gs w = refl
 
 -- the grants from rank r on are given one by one
-from_rank : (s : Settings) (n r : ℕ) (rest : List Arriving) (w : Work) → r + length rest ≡ n → all_granted s (grants_from message_of s.window n r rest) w ≡ granted_each s rest w
+from_rank : (s : Settings) (n r : ℕ) (rest : List Arriving) (w : Work) → r + length rest ≡ n
+    → all_granted s (grants_from message_of s.window n r rest) w ≡ granted_each s rest w
 from_rank s n r [] w e = refl
 from_rank s n r (a ∷ rest) w e =
     let prio : n - 1 - r ≡ length rest = omega arith in
-    one_first s (nat_lt a.message.granted (new_end s.window a.message)) (record { to = a; offset = new_end s.window a.message; prio = n - 1 - r }) (grants_from message_of s.window n (suc r) rest) w
+    one_first s (nat_lt a.message.granted (new_end s.window a.message)) (record { to = a; offset = new_end s.window a.message; prio = n - 1 - r })
+    (grants_from message_of s.window n (suc r) rest) w
     ∙ ap (λ p. all_granted s (grants_from message_of s.window n (suc r) rest) (grant_to s a p w)) prio
     ∙ from_rank s n (suc r) rest (grant_to s a (length rest) w) (omega arith)
 
@@ -44,13 +46,15 @@ grant_leaves s a prio w = by_test (nat_lt a.message.granted (new_end s.window a.
   by_test false = none-others s a.place w
 
 -- so other messages that arrive stay
-pub arrival_stays : (s : Settings) (a b : Arriving) (prio : ℕ) (w : Work) → (b.place ≡ a.place → ⊥) → Contains (arrivals w.host) b → Contains (arrivals (grant_to s a prio w).host) b
+pub arrival_stays : (s : Settings) (a b : Arriving) (prio : ℕ) (w : Work) → (b.place ≡ a.place → ⊥) → Contains (arrivals w.host) b
+    → Contains (arrivals (grant_to s a prio w).host) b
 arrival_stays s a b prio w ne c =
     let l = grant_leaves s a prio w in
     thing_stays arrival_things a.place w.host (grant_to s a prio w).host l.clients l.servers b ne c
 
 -- two that are chosen are of different rows
-places_differ : (w : Work) (a : Arriving) (rest : List Arriving) → Contains (arrivals w.host) a → AllByRecursion (λ b. sender a.message ≢ sender b.message) rest → AllByRecursion (λ b. Contains (arrivals w.host) b) rest
+places_differ : (w : Work) (a : Arriving) (rest : List Arriving) → Contains (arrivals w.host) a
+    → AllByRecursion (λ b. sender a.message ≢ sender b.message) rest → AllByRecursion (λ b. Contains (arrivals w.host) b) rest
     → AllByRecursion (λ b. b.place ≡ a.place → ⊥) rest
 places_differ w a [] c differ all = tt
 places_differ w a (b ∷ bs) c differ all = (
@@ -59,10 +63,12 @@ places_differ w a (b ∷ bs) c differ all = (
 )
 
 -- messages that arrive, of different senders, arrive still when the first was granted to
-pub rest_arrives : (s : Settings) (w : Work) (a : Arriving) (rest : List Arriving) (prio : ℕ) → SendersDiffer (λ (b : Arriving). sender b.message) (a ∷ rest) → AllByRecursion (λ b. Contains (arrivals w.host) b) (a ∷ rest)
+pub rest_arrives : (s : Settings) (w : Work) (a : Arriving) (rest : List Arriving) (prio : ℕ)
+    → SendersDiffer (λ (b : Arriving). sender b.message) (a ∷ rest) → AllByRecursion (λ b. Contains (arrivals w.host) b) (a ∷ rest)
     → AllByRecursion (λ b. (b.place ≡ a.place → ⊥) × Contains (arrivals (grant_to s a prio w).host) b) rest
 rest_arrives s w a rest prio differ all = each rest (places_differ w a rest all.0 differ.0 all.1) all.1 where
-  each : (bs : List Arriving) → AllByRecursion (λ b. b.place ≡ a.place → ⊥) bs → AllByRecursion (λ b. Contains (arrivals w.host) b) bs → AllByRecursion (λ b. (b.place ≡ a.place → ⊥) × Contains (arrivals (grant_to s a prio w).host) b) bs
+  each : (bs : List Arriving) → AllByRecursion (λ b. b.place ≡ a.place → ⊥) bs → AllByRecursion (λ b. Contains (arrivals w.host) b) bs
+      → AllByRecursion (λ b. (b.place ≡ a.place → ⊥) × Contains (arrivals (grant_to s a prio w).host) b) bs
   each [] ne c = tt
   each (b ∷ bs) ne c = ((ne.0, arrival_stays s a b prio w ne.0 c.0), each bs ne.1 c.1)
 

@@ -35,14 +35,17 @@ module _ {R : Type 0} (f : R → ℕ) where
       ∙ sum_by-append f (map row front) (map row one ++ map row back) ∙ ap (λ n. sum_by f (map row front) + n) (sum_by-append f (map row one) (map row back))
 
   -- two maps that differ at one call have sums that differ by its rows
-  pub sum_changed : (m n : RowsOf R) (id : CallId) → ((q : CallId) → is_call q id ≡ false → get n q ≡ get m q) → sum_by f (values n) + of_row (get m id) ≡ sum_by f (values m) + of_row (get n id)
+  pub sum_changed : (m n : RowsOf R) (id : CallId) → ((q : CallId) → is_call q id ≡ false → get n q ≡ get m q)
+      → sum_by f (values n) + of_row (get m id) ≡ sum_by f (values m) + of_row (get n id)
   sum_changed m n id same =
       let row = λ (e : CallId × R). e.1 in
       let s = map_split m n id same in
       let old : sum_by f (values m) ≡ sum_by f (map row s.front) + (of_row (get m id) + sum_by f (map row s.back)) =
-      ap (sum_by f) (values-list m ∙ ap (map row) s.old) ∙ three s.front (entry_of id (get m id)) s.back ∙ ap (λ k. sum_by f (map row s.front) + (k + sum_by f (map row s.back))) (of_entry id (get m id)) in
+      ap (sum_by f) (values-list m ∙ ap (map row) s.old) ∙ three s.front (entry_of id (get m id)) s.back
+      ∙ ap (λ k. sum_by f (map row s.front) + (k + sum_by f (map row s.back))) (of_entry id (get m id)) in
       let new : sum_by f (values n) ≡ sum_by f (map row s.front) + (of_row (get n id) + sum_by f (map row s.back)) =
-      ap (sum_by f) (values-list n ∙ ap (map row) s.new) ∙ three s.front (entry_of id (get n id)) s.back ∙ ap (λ k. sum_by f (map row s.front) + (k + sum_by f (map row s.back))) (of_entry id (get n id)) in
+      ap (sum_by f) (values-list n ∙ ap (map row) s.new) ∙ three s.front (entry_of id (get n id)) s.back
+      ∙ ap (λ k. sum_by f (map row s.front) + (k + sum_by f (map row s.back))) (of_entry id (get n id)) in
       omega (arith, old, new)
 
   -- without a call its row's part of the sum is gone
@@ -59,14 +62,36 @@ server_rows : (o : Option ServerRow) → of_row (λ (r : ServerRow). state_pages
 server_rows None = refl
 server_rows (Some r) = refl
 
-pub pages_changed : (place : Place) (n : ℕ) (old new : Seen) → ChangesAt place n old new → row_pages new.host + pages_at old.host place ≡ row_pages old.host + pages_at new.host place
+pub pages_changed : (place : Place) (n : ℕ) (old new : Seen) → ChangesAt place n old new
+    → row_pages new.host + pages_at old.host place ≡ row_pages old.host + pages_at new.host place
 pages_changed (OfClient id) n old new change =
-    let same = ap (λ (m : RowsOf ServerRow). sum_by (λ (r : ServerRow). state_pages r.state) (values m)) (no_change old.host.servers new.host.servers (λ q. change.servers q refl)) in
-    omega (arith, same, client_rows (get old.host.clients id), client_rows (get new.host.clients id), sum_changed (λ (r : ClientRow). part_pages r.part) old.host.clients new.host.clients id change.clients)
+    let same = ap (λ (m : RowsOf ServerRow). sum_by (λ (r : ServerRow). state_pages r.state) (values m))
+    (no_change old.host.servers new.host.servers (λ q. change.servers q refl)) in
+    omega (
+      arith,
+      same,
+      client_rows (get old.host.clients id),
+      client_rows (get new.host.clients id),
+      sum_changed (λ (r : ClientRow). part_pages r.part) old.host.clients new.host.clients id change.clients,
+    )
 pages_changed (OfServer id) n old new change =
-    let same = ap (λ (m : RowsOf ClientRow). sum_by (λ (r : ClientRow). part_pages r.part) (values m)) (no_change old.host.clients new.host.clients (λ q. change.clients q refl)) in
-    omega (arith, same, server_rows (get old.host.servers id), server_rows (get new.host.servers id), sum_changed (λ (r : ServerRow). state_pages r.state) old.host.servers new.host.servers id change.servers)
+    let same = ap (λ (m : RowsOf ClientRow). sum_by (λ (r : ClientRow). part_pages r.part) (values m))
+    (no_change old.host.clients new.host.clients (λ q. change.clients q refl)) in
+    omega (
+      arith,
+      same,
+      server_rows (get old.host.servers id),
+      server_rows (get new.host.servers id),
+      sum_changed (λ (r : ServerRow). state_pages r.state) old.host.servers new.host.servers id change.servers,
+    )
 
-pub pages_free : (s : Settings) (h : Host) (id : CallId) → row_pages h ≤ s.pages → free_beside s h id ≡ (s.pages - row_pages h) + (client_pages (get h.clients id) + server_pages (get h.servers id))
+pub pages_free : (s : Settings) (h : Host) (id : CallId) → row_pages h ≤ s.pages
+    → free_beside s h id ≡ (s.pages - row_pages h) + (client_pages (get h.clients id) + server_pages (get h.servers id))
 pages_free s h id le =
-    omega (arith, sum_removed (λ (r : ClientRow). part_pages r.part) h.clients id, sum_removed (λ (r : ServerRow). state_pages r.state) h.servers id, client_rows (get h.clients id), server_rows (get h.servers id))
+    omega (
+      arith,
+      sum_removed (λ (r : ClientRow). part_pages r.part) h.clients id,
+      sum_removed (λ (r : ServerRow). state_pages r.state) h.servers id,
+      client_rows (get h.clients id),
+      server_rows (get h.servers id),
+    )

@@ -1,5 +1,6 @@
 -- The message that a pacer picks is the one that the pump sends next, and what becomes of the pacer.
-use Rattle.std.proofs.Common.{◌≡◌, ◌<◌, ◌≤◌, ℕ, zero, suc, ◌+◌, ◌-◌, Bool, true, false, not, ◌==◌, cond, Option, Some, None, List, [], ◌∷◌, length, refl, sym, ap, subst, ◌∙◌, inl, inr, arith}
+use Rattle.std.proofs.Common.{◌≡◌, ◌<◌, ◌≤◌, ℕ, zero, suc, ◌+◌, ◌-◌, Bool, true, false, not, ◌==◌, cond, Option, Some, None, List, [], ◌∷◌, length}
+use Rattle.std.proofs.Common.{refl, sym, ap, subst, ◌∙◌, inl, inr, arith}
 use Rattle.std.specs.Prelude.{nat_lt}
 use Rattle.std.specs.List.{Contains}
 use Rattle.std.specs.Option.{option_map, MatchOption}
@@ -18,7 +19,8 @@ use Rattle.homa_plain.specs.Rows.{ClientRow, ServerRow, State, Receiving, Held, 
 use Rattle.homa_plain.specs.Host.{Host, packets_in, peer_cutoffs}
 use Rattle.homa_plain.specs.Timers.{Place, OfClient, OfServer}
 use Rattle.homa_plain.specs.Sending.{Leaving, leaving_key, may_send_request, leaving_at_server, departures, response_content, Content}
-use Rattle.homa_plain.specs.Steps.{Work, first_leaves, leaves_from, client_leaves, server_leaves, state_leaves, if_affordable, request_leaves, response_leaves, pumped_once, pumps, pump, most_packets}
+use Rattle.homa_plain.specs.Steps.{Work, first_leaves, leaves_from, client_leaves, server_leaves, state_leaves, if_affordable, request_leaves}
+use Rattle.homa_plain.specs.Steps.{response_leaves, pumped_once, pumps, pump, most_packets}
 use Rattle.homa_plain.proofs.OutgoingLaws.{front-next_range, waiting-idle}
 use Rattle.step_laws.specs.StepLaws.{HasOwnOrders}
 use Rattle.homa_pacer.specs.Pace as pace
@@ -63,7 +65,8 @@ pub pump_full : (s : Settings) (w : Work) → 64 ≤ length (packets_in w.told) 
 pump_full s w full = let none : 64 - length (packets_in w.told) ≡ 0 = omega arith in ap (λ n. pumps s n w) none ∙ pumps_zero s w
 
 -- and else goes on
-pub pump_goes : (s : Settings) (w v : Work) → length (packets_in w.told) < 64 → pumped_once s w ≡ Some v → length (packets_in v.told) ≡ length (packets_in w.told) + 1 → pump s w ≡ pump s v
+pub pump_goes : (s : Settings) (w v : Work) → length (packets_in w.told) < 64 → pumped_once s w ≡ Some v
+    → length (packets_in v.told) ≡ length (packets_in w.told) + 1 → pump s w ≡ pump s v
 pump_goes s w v room e one =
     let more : 64 - length (packets_in w.told) ≡ suc (64 - length (packets_in v.told)) = omega arith in
     ap (λ n. pumps s n w) more ∙ pumps_some s (64 - length (packets_in v.told)) w v e
@@ -81,7 +84,8 @@ module _ (h : Seen) (slots : HasSlots h) (p : Place) (n : ℕ) (stands : has_row
   pub picked : (book : List pace.Ready) → AreReady h book → option_map (λ (r : pace.Ready). r.slot) (first_of (ordered pace.ready_key book)) ≡ Some n
       → (l : Leaving) × (first_of (ordered pace.ready_key book) ≡ Some (ready_of h l)) × (l.place ≡ p) × Contains (waiting h.host) l
   picked book are e = by_first (first_of (ordered pace.ready_key book)) refl (first-ordered pace.ready_key book) e where
-    by_first : (o : Option pace.Ready) → first_of (ordered pace.ready_key book) ≡ o → MatchOption o (book ≡ []) (IsLeast pace.ready_key book) → option_map (λ (r : pace.Ready). r.slot) o ≡ Some n
+    by_first : (o : Option pace.Ready) → first_of (ordered pace.ready_key book) ≡ o → MatchOption o (book ≡ []) (IsLeast pace.ready_key book)
+        → option_map (λ (r : pace.Ready). r.slot) o ≡ Some n
         → (l : Leaving) × (first_of (ordered pace.ready_key book) ≡ Some (ready_of h l)) × (l.place ≡ p) × Contains (waiting h.host) l
     by_first None is least none = absurd (nothing none) where
       nothing : None ≡ Some n → ⊥
@@ -98,12 +102,15 @@ module _ (h : Seen) (slots : HasSlots h) (p : Place) (n : ℕ) (stands : has_row
   pub idle_ready : (book : List pace.Ready) → AreReady h book → ((l : Leaving) → Contains (departures h.settings h.host.last h.host) l → l.place ≡ p → ⊥)
       → AreReady h (without (λ (r : pace.Ready). r.slot) n book)
   idle_ready book are rests = record {
-    all = λ l c. without_keeps (λ (r : pace.Ready). r.slot) n book (ready_of h l) (λ e. rests l c (of_slot (leaving_things h.settings h.host.last) l c e)) (are.all l c);
-    only = λ r c. all_at Waits (without (λ (r : pace.Ready). r.slot) n book) r (filter-all Waits (λ (r : pace.Ready). not (r.slot == n)) book (all_from Waits book are.only)) c;
+    all = λ l c. without_keeps (λ (r : pace.Ready). r.slot) n book (ready_of h l)
+        (λ e. rests l c (of_slot (leaving_things h.settings h.host.last) l c e)) (are.all l c);
+    only = λ r c. all_at Waits (without (λ (r : pace.Ready). r.slot) n book) r
+        (filter-all Waits (λ (r : pace.Ready). not (r.slot == n)) book (all_from Waits book are.only)) c;
   }
 
   -- the picked message may be sent: so it is sent next
-  pub sends_next : (book : List pace.Ready) (w : Work) (l : Leaving) → HasOwnOrders h.host → AreReady h book → first_of (ordered pace.ready_key book) ≡ Some (ready_of h l) → l.place ≡ p
+  pub sends_next : (book : List pace.Ready) (w : Work) (l : Leaving) → HasOwnOrders h.host → AreReady h book
+      → first_of (ordered pace.ready_key book) ≡ Some (ready_of h l) → l.place ≡ p
       → Contains (departures h.settings h.host.last h.host) l → w.host ≡ h.host → pumped_once h.settings w ≡ leaves_from h.settings p w
   unfolding pumped_once
   sends_next book w l own are first is c same =
@@ -132,16 +139,19 @@ module _ (h : Seen) (id : CallId) (r : ClientRow) (row : get h.host.clients id �
   pub client_rests : may_send_request s h.host.last r ≡ false → (l : Leaving) → Contains (departures s h.host.last h.host) l → l.place ≡ OfClient id → ⊥
   client_rests may l c is =
       let there = thing_at (leaving_things s h.host.last) h.host (OfClient id) l c is in
-      none_in l (subst (λ (b : Bool). Contains (cond b (message ∷ []) []) l) may (subst (λ (o : Option ClientRow). Contains (client_leaving s h.host.last id o) l) row there))
+      none_in l (subst (λ (b : Bool). Contains (cond b (message ∷ []) []) l) may
+      (subst (λ (o : Option ClientRow). Contains (client_leaving s h.host.last id o) l) row there))
 
   -- a message of the row that waits is this one
   pub client_waits : (l : Leaving) → Contains (waiting h.host) l → l.place ≡ OfClient id → l ≡ message
   client_waits l c is =
-      let there : Contains (waiting_at_client id r) l = subst (λ (o : Option ClientRow). Contains (client_waiting id o) l) row (thing_at waiting_things h.host (OfClient id) l c is) in
+      let there : Contains (waiting_at_client id r) l =
+      subst (λ (o : Option ClientRow). Contains (client_waiting id o) l) row (thing_at waiting_things h.host (OfClient id) l c is) in
       only_one (has_waiting r.out) message l there
 
   -- the pump's next piece
-  pub client_sends_next : (w : Work) (rg : Range) → w.host ≡ h.host → next_range r.out s.seg ≡ Some rg → nat_lt h.host.credit (rg.to - rg.from) ≡ false → leaves_from s (OfClient id) w ≡ Some (request_leaves s id r rg w)
+  pub client_sends_next : (w : Work) (rg : Range) → w.host ≡ h.host → next_range r.out s.seg ≡ Some rg
+      → nat_lt h.host.credit (rg.to - rg.from) ≡ false → leaves_from s (OfClient id) w ≡ Some (request_leaves s id r rg w)
   client_sends_next w rg same next paid =
       ap (λ (g : Host). client_leaves s id (get g.clients id) w) same ∙ ap (λ (o : Option ClientRow). client_leaves s id o w) row
       ∙ ap (λ (o : Option Range). if_affordable o w (λ x. request_leaves s id r x w)) next
@@ -149,7 +159,8 @@ module _ (h : Seen) (id : CallId) (r : ClientRow) (row : get h.host.clients id �
       ∙ ap (λ (b : Bool). cond b None (Some (request_leaves s id r rg w))) paid
 
   -- or none, where it costs more than the credit
-  pub client_short : (w : Work) (rg : Range) → w.host ≡ h.host → next_range r.out s.seg ≡ Some rg → nat_lt h.host.credit (rg.to - rg.from) ≡ true → leaves_from s (OfClient id) w ≡ None
+  pub client_short : (w : Work) (rg : Range) → w.host ≡ h.host → next_range r.out s.seg ≡ Some rg → nat_lt h.host.credit (rg.to - rg.from) ≡ true
+      → leaves_from s (OfClient id) w ≡ None
   client_short w rg same next dear =
       ap (λ (g : Host). client_leaves s id (get g.clients id) w) same ∙ ap (λ (o : Option ClientRow). client_leaves s id o w) row
       ∙ ap (λ (o : Option Range). if_affordable o w (λ x. request_leaves s id r x w)) next
@@ -157,7 +168,8 @@ module _ (h : Seen) (id : CallId) (r : ClientRow) (row : get h.host.clients id �
       ∙ ap (λ (b : Bool). cond b None (Some (request_leaves s id r rg w))) dear
 
 -- the same of a server's row that replies
-module _ (h : Seen) (id : CallId) (row : ServerRow) (is_row : get h.host.servers id ≡ Some row) (response : List ℕ) (out : Outgoing) (order base count : ℕ) (replies : row.state ≡ Replying response out order base count) where
+module _ (h : Seen) (id : CallId) (row : ServerRow) (is_row : get h.host.servers id ≡ Some row) (response : List ℕ) (out : Outgoing)
+    (order base count : ℕ) (replies : row.state ≡ Replying response out order base count) where
   abbrev reply : Leaving
   reply = record { place = OfServer id; left = left out; order = order }
 
@@ -185,7 +197,8 @@ module _ (h : Seen) (id : CallId) (row : ServerRow) (is_row : get h.host.servers
       ∙ ap (λ (g : Host). cond (nat_lt g.credit (rg.to - rg.from)) None (Some (response_leaves h.settings id row (content w rg) rg w))) same
       ∙ ap (λ (b : Bool). cond b None (Some (response_leaves h.settings id row (content w rg) rg w))) paid
 
-  pub server_short : (w : Work) (rg : Range) → w.host ≡ h.host → next_range out h.settings.seg ≡ Some rg → nat_lt h.host.credit (rg.to - rg.from) ≡ true → leaves_from h.settings (OfServer id) w ≡ None
+  pub server_short : (w : Work) (rg : Range) → w.host ≡ h.host → next_range out h.settings.seg ≡ Some rg
+      → nat_lt h.host.credit (rg.to - rg.from) ≡ true → leaves_from h.settings (OfServer id) w ≡ None
   server_short w rg same next dear =
       ap (λ (g : Host). server_leaves h.settings id (get g.servers id) w) same ∙ ap (λ (o : Option ServerRow). server_leaves h.settings id o w) is_row
       ∙ ap (λ (st : State). state_leaves h.settings id row st w) replies
@@ -200,9 +213,12 @@ RestsIn (Held response release) = Unit {0}
 RestsIn (Replying response out order base count) = has_waiting out ≡ false
 RestsIn (Buried until) = Unit {0}
 
-pub server_rests : (h : Seen) (id : CallId) (row : ServerRow) → get h.host.servers id ≡ Some row → RestsIn row.state → (l : Leaving) → Contains (departures h.settings h.host.last h.host) l → l.place ≡ OfServer id → ⊥
+pub server_rests : (h : Seen) (id : CallId) (row : ServerRow) → get h.host.servers id ≡ Some row → RestsIn row.state → (l : Leaving)
+    → Contains (departures h.settings h.host.last h.host) l → l.place ≡ OfServer id → ⊥
 server_rests h id row is_row rests l c is =
-    by_state row.state rests (subst (λ (o : Option ServerRow). Contains (server_leaving id o) l) is_row (thing_at (leaving_things h.settings h.host.last) h.host (OfServer id) l c is)) where
+    by_state row.state rests
+    (subst (λ (o : Option ServerRow). Contains (server_leaving id o) l) is_row
+    (thing_at (leaving_things h.settings h.host.last) h.host (OfServer id) l c is)) where
       by_state : (st : State) → RestsIn st → Contains (leaving_at_server id st) l → ⊥
       by_state (Receiving service part base count) rests c = none_in l c
       by_state (Held response release) rests c = none_in l c
@@ -235,13 +251,14 @@ module _ {Y : Type 0} (key : Y → ℕ × ℕ) (slot : Y → ℕ) (n : ℕ) wher
   -- without a slot that has something a book is shorter
   pub shorter : (ys : List Y) (y : Y) → Contains ys y → slot y ≡ n → length (without slot n ys) < length ys
   shorter [] y c e = absurd (none_in y c)
-  shorter (z ∷ zs) y c e = elim (slot z == n) as (λ b. (slot z == n) ≡ b → length (cond (not b) (z ∷ without slot n zs) (without slot n zs)) < length (z ∷ zs)) [
-    | true ↦ λ t. omega (arith, no_longer zs)
-    | false ↦ λ t. elim (at_head z y zs c) [
-      | inl is ↦ absurd (true≢false (sym (eq-eqb (slot z) n (ap slot is ∙ e)) ∙ t))
-      | inr rest ↦ omega (arith, shorter zs y rest e)
-    ]
-  ] refl
+  shorter (z ∷ zs) y c e =
+      elim (slot z == n) as (λ b. (slot z == n) ≡ b → length (cond (not b) (z ∷ without slot n zs) (without slot n zs)) < length (z ∷ zs)) [
+        | true ↦ λ t. omega (arith, no_longer zs)
+        | false ↦ λ t. elim (at_head z y zs c) [
+          | inl is ↦ absurd (true≢false (sym (eq-eqb (slot z) n (ap slot is ∙ e)) ∙ t))
+          | inr rest ↦ omega (arith, shorter zs y rest e)
+        ]
+      ] refl
 
   -- and as long as before at most where its slot is booked anew
   pub booked_length : (news ys : List Y) (y : Y) → IsFew news → Contains ys y → slot y ≡ n → length (booked key slot n news ys) ≤ length ys

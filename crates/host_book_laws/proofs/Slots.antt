@@ -35,10 +35,14 @@ slots_within h (OfClient id) slots row = let l = place_within h.settings.calls h
 slots_within h (OfServer id) slots row = let l = place_within h.settings.served h.host.servers h.server_places slots.servers id row.0 row.1 in omega arith
 
 pub slots_differ : (h : Seen) (p q : Place) → HasSlots h → has_row h p → has_row h q → slot_of h p ≡ slot_of h q → p ≡ q
-slots_differ h (OfClient p) (OfClient q) slots a b e = ap OfClient (place_differs h.settings.calls h.host.clients h.client_places slots.clients p q a.0 b.0 a.1 b.1 e)
-slots_differ h (OfServer p) (OfServer q) slots a b e = ap OfServer (place_differs h.settings.served h.host.servers h.server_places slots.servers p q a.0 b.0 a.1 b.1 (omega arith))
-slots_differ h (OfClient p) (OfServer q) slots a b e = let l = place_within h.settings.calls h.host.clients h.client_places slots.clients p a.0 a.1 in absurd (omega arith)
-slots_differ h (OfServer p) (OfClient q) slots a b e = let l = place_within h.settings.calls h.host.clients h.client_places slots.clients q b.0 b.1 in absurd (omega arith)
+slots_differ h (OfClient p) (OfClient q) slots a b e =
+    ap OfClient (place_differs h.settings.calls h.host.clients h.client_places slots.clients p q a.0 b.0 a.1 b.1 e)
+slots_differ h (OfServer p) (OfServer q) slots a b e =
+    ap OfServer (place_differs h.settings.served h.host.servers h.server_places slots.servers p q a.0 b.0 a.1 b.1 (omega arith))
+slots_differ h (OfClient p) (OfServer q) slots a b e =
+    let l = place_within h.settings.calls h.host.clients h.client_places slots.clients p a.0 a.1 in absurd (omega arith)
+slots_differ h (OfServer p) (OfClient q) slots a b e =
+    let l = place_within h.settings.calls h.host.clients h.client_places slots.clients q b.0 b.1 in absurd (omega arith)
 
 not_call : (q id : CallId) → (id ≡ q → ⊥) → is_call q id ≡ false
 not_call q id ne = elim (is_call q id) as (λ b. is_call q id ≡ b → b ≡ false) [ true ↦ λ e. absurd (ne (sym ((calls_are q id).0 e))) | false ↦ λ e. refl ] refl
@@ -66,7 +70,8 @@ some_of f None x e = absurd (no e) where
 some_of f (Some r) x e = (r, refl)
 
 -- where a place has a number, a row stands
-pub row_of_number : (of_client : ClientRow → Option ℕ) (of_server : ServerRow → Option ℕ) (h : Seen) (p : Place) (x : ℕ) → number_at of_client of_server h.host p ≡ Some x → has_row h p
+pub row_of_number : (of_client : ClientRow → Option ℕ) (of_server : ServerRow → Option ℕ) (h : Seen) (p : Place) (x : ℕ)
+    → number_at of_client of_server h.host p ≡ Some x → has_row h p
 row_of_number f g h (OfClient id) x e = some_of f (get h.host.clients id) x e
 row_of_number f g h (OfServer id) x e = some_of g (get h.host.servers id) x e
 
@@ -95,7 +100,8 @@ module _ {X : Type 0} (t : ThingsOf X) where
     by_row (Some r) = t.one_server id r
 
 -- what stands in one list of at most one thing
-pub one_all : {X : Type 0} (place : X → Place) (order : X → ℕ) (p : Place) (number : Option ℕ) (xs : List X) → IsOne place order p number xs → AllByRecursion (λ x. (place x ≡ p) × (number ≡ Some (order x))) xs
+pub one_all : {X : Type 0} (place : X → Place) (order : X → ℕ) (p : Place) (number : Option ℕ) (xs : List X) → IsOne place order p number xs
+    → AllByRecursion (λ x. (place x ≡ p) × (number ≡ Some (order x))) xs
 one_all place order p number [] one = tt
 one_all place order p number (x ∷ []) one = (one, tt)
 one_all place order p number (x ∷ y ∷ xs) one = absurd one

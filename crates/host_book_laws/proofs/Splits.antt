@@ -73,7 +73,8 @@ module _ {R : Type 0} (m n : RowsOf R) (id : CallId) (same : (q : CallId) → is
       record {
         front = a.front;
         back = a.back;
-        old = ap entries (is_set_back ∙ ap (set_row n id) none) ∙ entries-removed call_total call_same n id w a ∙ ap (λ o. a.front ++ (entry_of id o ++ a.back)) (sym none);
+        old = ap entries (is_set_back ∙ ap (set_row n id) none) ∙ entries-removed call_total call_same n id w a
+            ∙ ap (λ o. a.front ++ (entry_of id o ++ a.back)) (sym none);
         new = a.is ∙ ap (λ o. a.front ++ (entry_of id o ++ a.back)) (sym e);
         before = a.before;
         after = a.after;
@@ -94,7 +95,8 @@ module _ {R : Type 0} (m n : RowsOf R) (id : CallId) (same : (q : CallId) → is
       } where
         set_same : (m : RowsOf R) → m ≡ set_row m id (get m id)
         set_same m = same_map call_total call_same _ _ (λ q. elim (is_call q id) as (λ b. is_call q id ≡ b → get m q ≡ get (set_row m id (get m id)) q) [
-          | true ↦ λ e. let is : q ≡ id = (calls_are q id).0 e in ap (get m) is ∙ sym (get-set_row m id (get m id)) ∙ ap (get (set_row m id (get m id))) (sym is)
+          | true ↦ λ e. let is : q ≡ id =
+              (calls_are q id).0 e in ap (get m) is ∙ sym (get-set_row m id (get m id)) ∙ ap (get (set_row m id (get m id))) (sym is)
           | false ↦ λ e. sym (set_row-others m id (get m id) q e)
         ] refl)
 
@@ -158,28 +160,38 @@ module _ {X : Type 0} (t : ThingsOf X) where
   flat_server id (Some r) = append-nil (t.server_at id (Some r))
 
   -- three parts of a list, each made anew
-  three : {E : Type 0} (f : E → List X) (front one back : List E) (x : List X) → flat_map f one ≡ x → flat_map f (front ++ (one ++ back)) ≡ flat_map f front ++ (x ++ flat_map f back)
-  three f front one back x e = flat_map-append f front (one ++ back) ∙ ap (λ ys. flat_map f front ++ ys) (flat_map-append f one back ∙ ap (λ ys. ys ++ flat_map f back) e)
+  three : {E : Type 0} (f : E → List X) (front one back : List E) (x : List X) → flat_map f one ≡ x
+      → flat_map f (front ++ (one ++ back)) ≡ flat_map f front ++ (x ++ flat_map f back)
+  three f front one back x e =
+      flat_map-append f front (one ++ back) ∙ ap (λ ys. flat_map f front ++ ys) (flat_map-append f one back ∙ ap (λ ys. ys ++ flat_map f back) e)
 
-  split_client : (id : CallId) (g h : Host) → ((q : CallId) → is_call q id ≡ false → get h.clients q ≡ get g.clients q) → ((q : CallId) → get h.servers q ≡ get g.servers q) → Split (OfClient id) g h
+  split_client : (id : CallId) (g h : Host) → ((q : CallId) → is_call q id ≡ false → get h.clients q ≡ get g.clients q)
+      → ((q : CallId) → get h.servers q ≡ get g.servers q) → Split (OfClient id) g h
   split_client id g h clients servers =
       let s = map_split g.clients h.clients id clients in
       let rest = flat_map of_servers (entries g.servers) in
       let same = ap (λ m. flat_map of_servers (entries m)) (no_change g.servers h.servers servers) in
-      let regroup = λ (x : List X). append_assoc (flat_map of_clients s.front) (x ++ flat_map of_clients s.back) rest ∙ ap (λ ys. flat_map of_clients s.front ++ ys) (append_assoc x (flat_map of_clients s.back) rest) in
+      let regroup = λ (x : List X). append_assoc (flat_map of_clients s.front) (x ++ flat_map of_clients s.back) rest
+      ∙ ap (λ ys. flat_map of_clients s.front ++ ys) (append_assoc x (flat_map of_clients s.back) rest) in
       record {
         front = flat_map of_clients s.front;
         back = flat_map of_clients s.back ++ rest;
-        old = ap (λ ys. ys ++ rest) (ap (flat_map of_clients) s.old ∙ three of_clients s.front (entry_of id (get g.clients id)) s.back _ (flat_client id (get g.clients id))) ∙ regroup (t.client_at id (get g.clients id));
+        old = ap (λ ys. ys ++ rest)
+            (ap (flat_map of_clients) s.old ∙ three of_clients s.front (entry_of id (get g.clients id)) s.back _ (flat_client id (get g.clients id)))
+            ∙ regroup (t.client_at id (get g.clients id));
         new = ap (λ ys. flat_map of_clients (entries h.clients) ++ ys) same
-            ∙ ap (λ ys. ys ++ rest) (ap (flat_map of_clients) s.new ∙ three of_clients s.front (entry_of id (get h.clients id)) s.back _ (flat_client id (get h.clients id))) ∙ regroup (t.client_at id (get h.clients id));
+            ∙ ap (λ ys. ys ++ rest)
+            (ap (flat_map of_clients) s.new ∙ three of_clients s.front (entry_of id (get h.clients id)) s.back _
+            (flat_client id (get h.clients id))) ∙ regroup (t.client_at id (get h.clients id));
         before = things-others OfClient client_inject t.place t.order t.of_client of_clients (λ e. t.one_client e.0 e.1) id s.front s.before;
         after = all-append (λ x. OfClient id ≡ t.place x → ⊥) (flat_map of_clients s.back) rest
             (things-others OfClient client_inject t.place t.order t.of_client of_clients (λ e. t.one_client e.0 e.1) id s.back s.after)
-            (all_weaker _ (λ x. OfClient id ≡ t.place x → ⊥) (λ x a e. two_sides id a.0 (e ∙ a.1)) rest (things-side OfServer server_inject t.place t.order t.of_server of_servers (λ e. t.one_server e.0 e.1) (entries g.servers)));
+            (all_weaker _ (λ x. OfClient id ≡ t.place x → ⊥) (λ x a e. two_sides id a.0 (e ∙ a.1)) rest
+            (things-side OfServer server_inject t.place t.order t.of_server of_servers (λ e. t.one_server e.0 e.1) (entries g.servers)));
       }
 
-  split_server : (id : CallId) (g h : Host) → ((q : CallId) → get h.clients q ≡ get g.clients q) → ((q : CallId) → is_call q id ≡ false → get h.servers q ≡ get g.servers q) → Split (OfServer id) g h
+  split_server : (id : CallId) (g h : Host) → ((q : CallId) → get h.clients q ≡ get g.clients q)
+      → ((q : CallId) → is_call q id ≡ false → get h.servers q ≡ get g.servers q) → Split (OfServer id) g h
   split_server id g h clients servers =
       let s = map_split g.servers h.servers id servers in
       let first = flat_map of_clients (entries g.clients) in
@@ -187,15 +199,21 @@ module _ {X : Type 0} (t : ThingsOf X) where
       record {
         front = first ++ flat_map of_servers s.front;
         back = flat_map of_servers s.back;
-        old = ap (λ ys. first ++ ys) (ap (flat_map of_servers) s.old ∙ three of_servers s.front (entry_of id (get g.servers id)) s.back _ (flat_server id (get g.servers id))) ∙ sym (append_assoc first (flat_map of_servers s.front) _);
+        old = ap (λ ys. first ++ ys)
+            (ap (flat_map of_servers) s.old ∙ three of_servers s.front (entry_of id (get g.servers id)) s.back _ (flat_server id (get g.servers id)))
+            ∙ sym (append_assoc first (flat_map of_servers s.front) _);
         new = ap (λ ys. ys ++ flat_map of_servers (entries h.servers)) same
-            ∙ ap (λ ys. first ++ ys) (ap (flat_map of_servers) s.new ∙ three of_servers s.front (entry_of id (get h.servers id)) s.back _ (flat_server id (get h.servers id))) ∙ sym (append_assoc first (flat_map of_servers s.front) _);
+            ∙ ap (λ ys. first ++ ys)
+            (ap (flat_map of_servers) s.new ∙ three of_servers s.front (entry_of id (get h.servers id)) s.back _
+            (flat_server id (get h.servers id))) ∙ sym (append_assoc first (flat_map of_servers s.front) _);
         before = all-append (λ x. OfServer id ≡ t.place x → ⊥) first (flat_map of_servers s.front)
-            (all_weaker _ (λ x. OfServer id ≡ t.place x → ⊥) (λ x a e. two_sides a.0 id (sym a.1 ∙ sym e)) first (things-side OfClient client_inject t.place t.order t.of_client of_clients (λ e. t.one_client e.0 e.1) (entries g.clients)))
+            (all_weaker _ (λ x. OfServer id ≡ t.place x → ⊥) (λ x a e. two_sides a.0 id (sym a.1 ∙ sym e)) first
+            (things-side OfClient client_inject t.place t.order t.of_client of_clients (λ e. t.one_client e.0 e.1) (entries g.clients)))
             (things-others OfServer server_inject t.place t.order t.of_server of_servers (λ e. t.one_server e.0 e.1) id s.front s.before);
         after = things-others OfServer server_inject t.place t.order t.of_server of_servers (λ e. t.one_server e.0 e.1) id s.back s.after;
       }
 
-  pub split : (p : Place) (g h : Host) → ((q : CallId) → is_at_client p q ≡ false → get h.clients q ≡ get g.clients q) → ((q : CallId) → is_at_server p q ≡ false → get h.servers q ≡ get g.servers q) → Split p g h
+  pub split : (p : Place) (g h : Host) → ((q : CallId) → is_at_client p q ≡ false → get h.clients q ≡ get g.clients q)
+      → ((q : CallId) → is_at_server p q ≡ false → get h.servers q ≡ get g.servers q) → Split p g h
   split (OfClient id) g h clients servers = split_client id g h clients (λ q. servers q refl)
   split (OfServer id) g h clients servers = split_server id g h (λ q. clients q refl) servers

@@ -19,7 +19,9 @@ module _ {X : Type 0} (t : ThingsOf X) where
 
   -- what is at a place is of it
   pub of_place : (h : Host) (p : Place) (x : X) → Contains (at t h p) x → t.place x ≡ p
-  of_place h p x c = (all_at (λ (y : X). (t.place y ≡ p) × (number_at t.of_client t.of_server h p ≡ Some (t.order y))) (at t h p) x (one_all t.place t.order p _ (at t h p) (at_one t h p)) c).0
+  of_place h p x c =
+      (all_at (λ (y : X). (t.place y ≡ p) × (number_at t.of_client t.of_server h p ≡ Some (t.order y))) (at t h p) x
+      (one_all t.place t.order p _ (at t h p) (at_one t h p)) c).0
 
   -- of at most one thing two are one
   only : (p : Place) (number : Option ℕ) (xs : List X) (x y : X) → IsOne t.place t.order p number xs → Contains xs x → Contains xs y → x ≡ y
@@ -46,7 +48,8 @@ module _ {X : Type 0} (t : ThingsOf X) where
       subst (λ (ls : List X). Contains ls x) (sym s.old) (Contains-append_right s.front _ x (Contains-append_left (at t h p) s.back x c))
 
   -- a thing of another row stays
-  pub thing_stays : (p : Place) (g h : Host) → ((q : CallId) → is_at_client p q ≡ false → get h.clients q ≡ get g.clients q) → ((q : CallId) → is_at_server p q ≡ false → get h.servers q ≡ get g.servers q)
+  pub thing_stays : (p : Place) (g h : Host) → ((q : CallId) → is_at_client p q ≡ false → get h.clients q ≡ get g.clients q)
+      → ((q : CallId) → is_at_server p q ≡ false → get h.servers q ≡ get g.servers q)
       → (x : X) → (t.place x ≡ p → ⊥) → Contains (all_of t g) x → Contains (all_of t h) x
   thing_stays p g h clients servers x ne c =
       let s = split t p g h clients servers in

@@ -16,10 +16,12 @@ use Rattle.host_incoming.specs.Pooled.{HasNumber, IsInPool, Moves, AreIn, seen_p
 
 -- nothing happens
 pub still : (pool : Pool) (part : Option Part) → IsInPool pool part → Moves pool part pool part
-still pool part is = record { pages = refl; others = λ n b a. refl; gone = λ n h no. absurd (no h); number = λ n h. inl h; within = is; count = refl; free = refl }
+still pool part is =
+    record { pages = refl; others = λ n b a. refl; gone = λ n h no. absurd (no h); number = λ n h. inl h; within = is; count = refl; free = refl }
 
 -- a lease that is written to keeps its pages
-alike_written : (old new : Pool) (part : Part) → IsIn old part → IsLeaseOf new part.lease → new ≡ with_bytes old part.lease (bytes_of new part.lease) → leased_pages new.leases ≡ leased_pages old.leases
+alike_written : (old new : Pool) (part : Part) → IsIn old part → IsLeaseOf new part.lease → new ≡ with_bytes old part.lease (bytes_of new part.lease)
+    → leased_pages new.leases ≡ leased_pages old.leases
 alike_written old new part is here only =
     ap (λ (p : Pool). leased_pages p.leases) only
     ∙ leased-same old.leases part.lease.number (bytes_of old part.lease) (bytes_of new part.lease) (get-lease old part.lease is.lease)
@@ -48,7 +50,8 @@ written old new part after is now same long only = record {
 }
 
 -- the pages of a lease that is given back
-less_given : (old new : Pool) (part : Part) → IsIn old part → new ≡ without old part.lease → leased_pages new.leases + pages_for part.length ≡ leased_pages old.leases + 0
+less_given : (old new : Pool) (part : Part) → IsIn old part → new ≡ without old part.lease
+    → leased_pages new.leases + pages_for part.length ≡ leased_pages old.leases + 0
 less_given old new part is gone =
     let less = leased-remove old.leases part.lease.number (bytes_of old part.lease) (get-lease old part.lease is.lease) in
     let now : leased_pages new.leases ≡ leased_pages (remove old.leases part.lease.number) = ap (λ (p : Pool). leased_pages p.leases) gone in
@@ -59,7 +62,8 @@ less_given old new part is gone =
 pub given : (old new : Pool) (part : Part) → IsIn old part → new ≡ without old part.lease → leased_pages old.leases ≤ old.pages → Moves old (Some part) new None
 given old new part is gone most = record {
   pages = ap (λ (p : Pool). p.pages) gone;
-  others = λ n b a. ap (λ (p : Pool). get p.leases n) gone ∙ get-remove nat_cmp_total old.leases part.lease.number n ∙ left n part.lease.number _ _ (λ e. b (sym e));
+  others =
+      λ n b a. ap (λ (p : Pool). get p.leases n) gone ∙ get-remove nat_cmp_total old.leases part.lease.number n ∙ left n part.lease.number _ _ (λ e. b (sym e));
   gone = λ n h no. ap (λ (p : Pool). get p.leases n) gone ∙ get-remove nat_cmp_total old.leases part.lease.number n ∙ chosen n part.lease.number _ _ (sym h);
   number = λ n h. absurd h;
   within = tt;
@@ -75,7 +79,8 @@ more_come : (old new : Pool) (part : Part) → IsIn new part → get old.leases 
     → leased_pages new.leases + 0 ≡ leased_pages old.leases + pages_for part.length
 more_come old new part now fresh only =
     let more = leased-insert old.leases part.lease.number (bytes_of new part.lease) fresh in
-    let is : leased_pages new.leases ≡ leased_pages (insert old.leases part.lease.number (bytes_of new part.lease)) = ap (λ (p : Pool). leased_pages p.leases) only in
+    let is : leased_pages new.leases ≡ leased_pages (insert old.leases part.lease.number (bytes_of new part.lease)) =
+    ap (λ (p : Pool). leased_pages p.leases) only in
     let pages : pages_for (length (bytes_of new part.lease)) ≡ pages_for part.length = ap pages_for (length-bytes_of new part.lease now.lease ∙ now.length) in
     omega arith
 
@@ -98,11 +103,14 @@ come old new part now fresh only most = record {
 }
 
 -- what was written to a new lease is as if it were taken with these bytes
-pub again : (old mid new : Pool) (lease : Held) (bytes : List ℕ) → mid ≡ with_bytes old lease bytes → new ≡ with_bytes mid lease (bytes_of new lease) → new ≡ with_bytes old lease (bytes_of new lease)
+pub again : (old mid new : Pool) (lease : Held) (bytes : List ℕ) → mid ≡ with_bytes old lease bytes → new ≡ with_bytes mid lease (bytes_of new lease)
+    → new ≡ with_bytes old lease (bytes_of new lease)
 again old mid new lease bytes e f =
-    f ∙ ap (λ (p : Pool). with_bytes p lease (bytes_of new lease)) e ∙ ap (λ m. record old { leases = m }) (insert-again nat_cmp_total nat_cmp-IsAntisymmetric old.leases lease.number bytes (bytes_of new lease))
+    f ∙ ap (λ (p : Pool). with_bytes p lease (bytes_of new lease)) e ∙ ap (λ m. record old { leases = m })
+    (insert-again nat_cmp_total nat_cmp-IsAntisymmetric old.leases lease.number bytes (bytes_of new lease))
 
-pub begun : (old mid new : Pool) (part after : Part) (lease : Held) (bytes : List ℕ) → part.lease ≡ lease → after.lease ≡ part.lease → get old.leases lease.number ≡ None
+pub begun : (old mid new : Pool) (part after : Part) (lease : Held) (bytes : List ℕ) → part.lease ≡ lease → after.lease ≡ part.lease
+    → get old.leases lease.number ≡ None
     → mid ≡ with_bytes old lease bytes → leased_pages mid.leases ≤ mid.pages → Moves mid (Some part) new (Some after) → part.length ≡ after.length
     → new ≡ with_bytes mid part.lease (bytes_of new part.lease) → IsIn new after → Moves old None new (Some after)
 begun old mid new part after lease bytes a b fresh e most moves long f is =
@@ -112,12 +120,15 @@ begun old mid new part after lease bytes a b fresh e most moves long f is =
     let most' : leased_pages new.leases ≤ new.pages = omega arith in
     let now : after.lease ≡ lease = b ∙ a in
     let only = again old mid new lease bytes e (subst (λ (l : Held). new ≡ with_bytes mid l (bytes_of new l)) a f) in
-    come old new after is (ap (λ (l : Held). get old.leases l.number) now ∙ fresh) (subst (λ (l : Held). new ≡ with_bytes old l (bytes_of new l)) (sym now) only) most'
+    come old new after is (ap (λ (l : Held). get old.leases l.number) now ∙ fresh)
+    (subst (λ (l : Held). new ≡ with_bytes old l (bytes_of new l)) (sym now) only) most'
 
 -- a new lease that is given back leaves the pool as it was
-pub back : (old mid new : Pool) (lease : Held) (bytes : List ℕ) → get old.leases lease.number ≡ None → mid ≡ with_bytes old lease bytes → new ≡ without mid lease → new ≡ old
+pub back : (old mid new : Pool) (lease : Held) (bytes : List ℕ) → get old.leases lease.number ≡ None → mid ≡ with_bytes old lease bytes
+    → new ≡ without mid lease → new ≡ old
 back old mid new lease bytes fresh e f =
-    f ∙ ap (λ (p : Pool). without p lease) e ∙ ap (λ m. record old { leases = m }) (remove-insert_new nat_cmp_total nat_cmp-IsAntisymmetric old.leases lease.number bytes fresh)
+    f ∙ ap (λ (p : Pool). without p lease) e ∙ ap (λ m. record old { leases = m })
+    (remove-insert_new nat_cmp_total nat_cmp-IsAntisymmetric old.leases lease.number bytes fresh)
 
 -- ---- the parts of other owners
 
@@ -135,11 +146,14 @@ taken pool (Some p) is n h none = no_lease pool p.lease is.lease (ap (get pool.l
 -- a part whose lease keeps its bytes stands in the pool as before, and is seen as before
 same_in : (old new : Pool) (part : Option Part) → ((n : ℕ) → HasNumber n part → get new.leases n ≡ get old.leases n) → IsInPool old part → IsInPool new part
 same_in old new None keep is = tt
-same_in old new (Some p) keep is = record { lease = subst (λ o. IsSomeAnd o (λ bytes. length bytes ≡ p.lease.len)) (sym (keep p.lease.number refl)) is.lease; length = is.length }
+same_in old new (Some p) keep is =
+    record { lease = subst (λ o. IsSomeAnd o (λ bytes. length bytes ≡ p.lease.len)) (sym (keep p.lease.number refl)) is.lease; length = is.length }
 
 same_seen : (old new : Pool) (part : Option Part) → ((n : ℕ) → HasNumber n part → get new.leases n ≡ get old.leases n) → seen_part new part ≡ seen_part old part
 same_seen old new None keep = refl
-same_seen old new (Some p) keep = ap (λ (o : Option (List ℕ)). Some (record { peer = p.peer; length = p.length; order = p.order; granted = p.granted; bytes = known (unwrap_or o []) p.missing })) (keep p.lease.number refl)
+same_seen old new (Some p) keep =
+    ap (λ (o : Option (List ℕ)). Some
+    (record { peer = p.peer; length = p.length; order = p.order; granted = p.granted; bytes = known (unwrap_or o []) p.missing })) (keep p.lease.number refl)
 
 -- a number is a part's, or not
 has_number : (n : ℕ) (part : Option Part) → HasNumber n part ⊎ (HasNumber n part → ⊥)

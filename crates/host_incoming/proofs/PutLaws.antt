@@ -1,5 +1,6 @@
 -- What a piece does to a part of which bytes are missing.
-use Rattle.std.proofs.Common.{◌≡◌, ◌<◌, ◌≤◌, ℕ, ◌+◌, min, suc, unwrap_or, nat_cmp, Bool, true, false, ◌&&◌, ltb, List, [], ◌∷◌, length, refl, sym, ap, subst, ◌∙◌, arith, inl, inr}
+use Rattle.std.proofs.Common.{◌≡◌, ◌<◌, ◌≤◌, ℕ, ◌+◌, min, suc, unwrap_or, nat_cmp, Bool, true, false, ◌&&◌, ltb, List, [], ◌∷◌, length, refl, sym, ap}
+use Rattle.std.proofs.Common.{subst, ◌∙◌, arith, inl, inr}
 use Rattle.std.proofs.lemmas.Bool.{eq-eqb, ne_eqb, cases_lt, true≢false, lt-ltb, and_parts}
 use Rattle.std.specs.Cmp.{nat_cmp_total}
 use Rattle.plain_sets.specs.Maps.{len, empty, checked, retain, insert_all, key_set}
@@ -17,7 +18,8 @@ use Rattle.homa_in.specs.Part.{Part, seen, unarrived, IsIn}
 use Rattle.homa_in.specs.Accepts.{completes}
 
 -- where a piece makes a message whole, no gap is left
-pub whole-few : (p : Incoming) (a : ℕ) (xs : List ℕ) → IsBelow (arrived p) p.length → a + length xs ≤ p.length → is_whole (with_bytes p a xs) ≡ true → leaves_too_many_gaps p a xs ≡ false
+pub whole-few : (p : Incoming) (a : ℕ) (xs : List ℕ) → IsBelow (arrived p) p.length → a + length xs ≤ p.length → is_whole (with_bytes p a xs) ≡ true
+    → leaves_too_many_gaps p a xs ≡ false
 whole-few p a xs below fits whole = ap (λ rs. ltb 64 (length rs)) (whole-gaps (with_bytes p a xs) (below-with_bytes p a xs below fits) whole)
 
 -- what is complete is whole
@@ -37,7 +39,8 @@ open-missing p below e =
     ]
 
 -- where bytes were missing and a piece doesn't complete the message, some still are
-pub not_complete : (p : Incoming) (a : ℕ) (xs : List ℕ) → IsBelow (arrived p) p.length → a + length xs ≤ p.length → 0 < remaining p → completes p a xs ≡ false → is_whole (with_bytes p a xs) ≡ false
+pub not_complete : (p : Incoming) (a : ℕ) (xs : List ℕ) → IsBelow (arrived p) p.length → a + length xs ≤ p.length → 0 < remaining p
+    → completes p a xs ≡ false → is_whole (with_bytes p a xs) ≡ false
 not_complete p a xs below fits some e =
     let sum = remaining-with_bytes p a xs below fits in
     elim (cases_lt 0 (new_bytes p a xs)) [
@@ -95,4 +98,11 @@ message_at_once peer n order unsched xs = values-insert_all_empty 0 (first_known
 pub whole_at_once : (peer : HostId) (order unsched : ℕ) (xs : List ℕ) → is_whole (with_bytes (opened peer (length xs) order unsched) 0 xs) ≡ true
 whole_at_once peer order unsched xs =
     let known = first_known (retain empty (is_between 0 (0 + length xs))) 0 xs in
-    eq-eqb (len (insert_all empty 0 known)) (length xs) (omega (arith, len-insert_all empty 0 known, ap (λ s. len (with_range s 0 (0 + length known))) no_keys, len-set_of_range 0 (0 + length known), ap length (first_new xs)))
+    eq-eqb (len (insert_all empty 0 known)) (length xs)
+    (omega (
+      arith,
+      len-insert_all empty 0 known,
+      ap (λ s. len (with_range s 0 (0 + length known))) no_keys,
+      len-set_of_range 0 (0 + length known),
+      ap length (first_new xs),
+    ))

@@ -8,7 +8,8 @@ use Rattle.homa_plain.specs.Rules.{Moment, Piece, Did, opening, version_of}
 
 -- the piece of a message that a packet brings, if it brings one
 abbrev pub piece_in : Body → List ℕ → Option Piece
-piece_in (body.Data size offset version service ack) payload = Some (record { size = size; offset = offset; version = version; service = service; payload = payload })
+piece_in (body.Data size offset version service ack) payload =
+    Some (record { size = size; offset = offset; version = version; service = service; payload = payload })
 piece_in what payload = None
 
 -- the version of the cutoffs in a first piece

@@ -15,8 +15,11 @@ use Rattle.homa_plain.specs.Outgoing.{next_range}
 use Rattle.homa_plain.specs.Rows.{ClientRow, ServerRow, State, Receiving, Held, Replying, Buried, set_row}
 use Rattle.homa_plain.specs.Host.{Host, peer_cutoffs, packets_in}
 use Rattle.homa_plain.specs.Timers.{Place, OfClient, OfServer}
-use Rattle.homa_plain.specs.Sending.{Arriving, arrivals, Leaving, leaving_key, departures, client_granted, server_granted, state_granted, while_new, client_sends, state_sends, response_content}
-use Rattle.homa_plain.specs.Steps.{Work, now_of, client_is_granted, server_is_granted, grants_at, all_granted, gives_grants, request_leaves, response_leaves, client_leaves, state_leaves, server_leaves, leaves_from, first_leaves, pumped_once, pumps, pump, ended}
+use Rattle.homa_plain.specs.Sending.{Arriving, arrivals, Leaving, leaving_key, departures, client_granted, server_granted, state_granted, while_new}
+use Rattle.homa_plain.specs.Sending.{client_sends, state_sends, response_content}
+use Rattle.homa_plain.specs.Steps.{Work, now_of, client_is_granted, server_is_granted, grants_at, all_granted, gives_grants, request_leaves}
+use Rattle.homa_plain.specs.Steps.{response_leaves, client_leaves, state_leaves, server_leaves, leaves_from, first_leaves, pumped_once, pumps, pump}
+use Rattle.homa_plain.specs.Steps.{ended}
 use Rattle.homa_plain.proofs.CallOrder.{calls_are}
 use Rattle.step_laws.proofs.Others.{get-set_row, set_row-others}
 use Rattle.step_laws.proofs.StepEnd.{left}
@@ -40,21 +43,25 @@ abbrev reply_in : Option ServerRow → List ℕ
 reply_in o = unwrap_or (option_map (λ (r : ServerRow). response_in r.state) o) []
 
 module _ (h h' : Host) (id : CallId) where
-  pub keeps-client : (r r' : ClientRow) → get h.clients id ≡ Some r → r'.request ≡ r.request → h'.clients ≡ set_row h.clients id (Some r') → h'.servers ≡ h.servers → KeepsBytes h h'
+  pub keeps-client : (r r' : ClientRow) → get h.clients id ≡ Some r → r'.request ≡ r.request → h'.clients ≡ set_row h.clients id (Some r')
+      → h'.servers ≡ h.servers → KeepsBytes h h'
   keeps-client r r' is same e f = record { requests = λ q. at q (is_call q id) refl; responses = λ q. ap (λ rows. reply_in (get rows q)) f } where
     at : (q : CallId) (b : Bool) → is_call q id ≡ b → request_of h' q ≡ request_of h q
     at q true t =
         let named : q ≡ id = (calls_are q id).0 t in
-        ap (λ rows. bytes_in (get rows q)) e ∙ ap (λ c. bytes_in (get (set_row h.clients id (Some r')) c)) named ∙ ap bytes_in (get-set_row h.clients id (Some r')) ∙ same
+        ap (λ rows. bytes_in (get rows q)) e ∙ ap (λ c. bytes_in (get (set_row h.clients id (Some r')) c)) named
+        ∙ ap bytes_in (get-set_row h.clients id (Some r')) ∙ same
         ∙ sym (ap bytes_in is) ∙ sym (ap (λ c. bytes_in (get h.clients c)) named)
     at q false t = ap (λ rows. bytes_in (get rows q)) e ∙ ap bytes_in (set_row-others h.clients id (Some r') q t)
 
-  pub keeps-server : (r r' : ServerRow) → get h.servers id ≡ Some r → response_in r'.state ≡ response_in r.state → h'.servers ≡ set_row h.servers id (Some r') → h'.clients ≡ h.clients → KeepsBytes h h'
+  pub keeps-server : (r r' : ServerRow) → get h.servers id ≡ Some r → response_in r'.state ≡ response_in r.state
+      → h'.servers ≡ set_row h.servers id (Some r') → h'.clients ≡ h.clients → KeepsBytes h h'
   keeps-server r r' is same e f = record { requests = λ q. ap (λ rows. bytes_in (get rows q)) f; responses = λ q. at q (is_call q id) refl } where
     at : (q : CallId) (b : Bool) → is_call q id ≡ b → response_of h' q ≡ response_of h q
     at q true t =
         let named : q ≡ id = (calls_are q id).0 t in
-        ap (λ rows. reply_in (get rows q)) e ∙ ap (λ c. reply_in (get (set_row h.servers id (Some r')) c)) named ∙ ap reply_in (get-set_row h.servers id (Some r')) ∙ same
+        ap (λ rows. reply_in (get rows q)) e ∙ ap (λ c. reply_in (get (set_row h.servers id (Some r')) c)) named
+        ∙ ap reply_in (get-set_row h.servers id (Some r')) ∙ same
         ∙ sym (ap reply_in is) ∙ sym (ap (λ c. reply_in (get h.servers c)) named)
     at q false t = ap (λ rows. reply_in (get rows q)) e ∙ ap reply_in (set_row-others h.servers id (Some r') q t)
 
@@ -74,14 +81,18 @@ while_request : (now : ℕ) (r : ClientRow) → (while_new now r).request ≡ r.
 while_request now r = cond_both (nat_lt r.out.top r.out.length) _ _ (λ (x : ClientRow). x.request ≡ r.request) (λ _. refl) (λ _. refl)
 
 module _ (s : Settings) where
-  client-granted : (id : CallId) (what : Body) (offset : ℕ) (o : Option ClientRow) (w : Work) → get w.host.clients id ≡ o → KeepsBytes w.host (client_is_granted s id what offset o w).host
+  client-granted : (id : CallId) (what : Body) (offset : ℕ) (o : Option ClientRow) (w : Work) → get w.host.clients id ≡ o
+      → KeepsBytes w.host (client_is_granted s id what offset o w).host
   client-granted id what offset None w is = keeps-none w.host
-  client-granted id what offset (Some r) w is = keeps-client w.host (client_is_granted s id what offset (Some r) w).host id r (client_granted (now_of w) offset r) is refl refl refl
+  client-granted id what offset (Some r) w is =
+      keeps-client w.host (client_is_granted s id what offset (Some r) w).host id r (client_granted (now_of w) offset r) is refl refl refl
 
-  server-granted : (id : CallId) (what : Body) (offset : ℕ) (o : Option ServerRow) (w : Work) → get w.host.servers id ≡ o → KeepsBytes w.host (server_is_granted s id what offset o w).host
+  server-granted : (id : CallId) (what : Body) (offset : ℕ) (o : Option ServerRow) (w : Work) → get w.host.servers id ≡ o
+      → KeepsBytes w.host (server_is_granted s id what offset o w).host
   server-granted id what offset None w is = keeps-none w.host
   server-granted id what offset (Some row) w is =
-      keeps-server w.host (server_is_granted s id what offset (Some row) w).host id row (server_granted (now_of w) offset row) is (granted_reply (now_of w) offset row.state) refl refl
+      keeps-server w.host (server_is_granted s id what offset (Some row) w).host id row (server_granted (now_of w) offset row) is
+      (granted_reply (now_of w) offset row.state) refl refl
 
   granted-at : (place : Place) (offset prio : ℕ) (w : Work) → KeepsBytes w.host (grants_at s place offset prio w).host
   granted-at (OfClient id) offset prio w = client-granted id (body.Grant offset prio) offset (get w.host.clients id) w refl
@@ -97,15 +108,19 @@ module _ (s : Settings) where
   client-left id None w v is e = cc
   client-left id (Some r) w v is e =
       let l = left (next_range r.out s.seg) w v (λ range. request_leaves s id r range w) e in
-      subst (λ (v : Work). KeepsBytes w.host v.host) l.is (keeps-client w.host (request_leaves s id r l.range w).host id r (client_sends s (now_of w) r) is (while_request (now_of w) r) refl refl)
+      subst (λ (v : Work). KeepsBytes w.host v.host) l.is
+      (keeps-client w.host (request_leaves s id r l.range w).host id r (client_sends s (now_of w) r) is (while_request (now_of w) r) refl refl)
 
-  state-left : (id : CallId) (row : ServerRow) (state : State) (w v : Work) → get w.host.servers id ≡ Some row → state_leaves s id row state w ≡ Some v → KeepsBytes w.host v.host
+  state-left : (id : CallId) (row : ServerRow) (state : State) (w v : Work) → get w.host.servers id ≡ Some row
+      → state_leaves s id row state w ≡ Some v → KeepsBytes w.host v.host
   state-left id row (Receiving service part base count) w v is e = cc
   state-left id row (Held response release) w v is e = cc
   state-left id row (Replying response out order base count) w v is e =
       let leave : Range → Work = λ range. response_leaves s id row (response_content s (peer_cutoffs s w.host id.client).cutoffs response out range) range w in
       let l = left (next_range out s.seg) w v leave e in
-      subst (λ (v : Work). KeepsBytes w.host v.host) l.is (keeps-server w.host (leave l.range).host id row (record row { state = state_sends s (now_of w) row.state }) is (sent_reply s (now_of w) row.state) refl refl)
+      subst (λ (v : Work). KeepsBytes w.host v.host) l.is
+      (keeps-server w.host (leave l.range).host id row (record row { state = state_sends s (now_of w) row.state }) is
+      (sent_reply s (now_of w) row.state) refl refl)
   state-left id row (Buried until) w v is e = cc
 
   server-left : (id : CallId) (o : Option ServerRow) (w v : Work) → get w.host.servers id ≡ o → server_leaves s id o w ≡ Some v → KeepsBytes w.host v.host
@@ -136,4 +151,5 @@ module _ (s : Settings) where
   pub ended-keeps : (w : Work) → KeepsBytes w.host (ended s w).host
   ended-keeps w =
       let v : Work = gives_grants s w in
-      keeps-then w.host v.host (pump s v).host (granted-all (grants (λ (a : Arriving). a.message) s.overcommit s.window (arrivals w.host)) w) (pumps-keeps (64 - length (packets_in v.told)) v)
+      keeps-then w.host v.host (pump s v).host (granted-all (grants (λ (a : Arriving). a.message) s.overcommit s.window (arrivals w.host)) w)
+      (pumps-keeps (64 - length (packets_in v.told)) v)

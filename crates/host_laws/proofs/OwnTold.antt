@@ -20,13 +20,17 @@ use Rattle.homa_plain.specs.Host.{Host, Tuning, Tuned, tuned, is_balance_due, co
 use Rattle.homa_plain.specs.Rules.{Moment, Answer, Piece, Say, Tells, Posts, Did, leaves, keeps, opening, version_of}
 use Rattle.homa_plain.specs.AtClient.{busy_for, renewed, refreshed, answered, response_piece, unasked, client_gets}
 use Rattle.homa_plain.specs.AtClient as client
-use Rattle.homa_plain.specs.AtServer.{piece_comes, runs, opens, piece_of, unknown_gets, receiving_gets, held_gets, replying_gets, buried_gets, row_gets, server_gets, state_acked, server_acked}
+use Rattle.homa_plain.specs.AtServer.{piece_comes, runs, opens, piece_of, unknown_gets, receiving_gets, held_gets, replying_gets, buried_gets}
+use Rattle.homa_plain.specs.AtServer.{row_gets, server_gets, state_acked, server_acked}
 use Rattle.homa_plain.specs.Timers.{Place, OfClient, OfServer, resend_of, wanted, client_acts, server_acts, state_acts}
 use Rattle.homa_plain.specs.Choice.{Granted, grants, least}
 use Rattle.homa_plain.specs.Sending.{Arriving, arrivals, Leaving, leaving_key, departures, response_content}
 use Rattle.step_laws.proofs.StepEnd.{left}
 use Rattle.plain_sets.specs.Ranges.{Range}
-use Rattle.homa_plain.specs.Steps.{Work, now_of, tells, notes, tells_cutoffs, acknowledged, finishes, said, asked, served, moment, is_newer, hears_cutoffs, comes_to_row, client_acted, server_acted, acts_at, client_is_granted, server_is_granted, grants_at, all_granted, gives_grants, request_leaves, response_leaves, client_leaves, state_leaves, server_leaves, leaves_from, first_leaves, pumped_once, pumps, ended}
+use Rattle.homa_plain.specs.Steps.{Work, now_of, tells, notes, tells_cutoffs, acknowledged, finishes, said, asked, served, moment, is_newer}
+use Rattle.homa_plain.specs.Steps.{hears_cutoffs, comes_to_row, client_acted, server_acted, acts_at, client_is_granted, server_is_granted, grants_at}
+use Rattle.homa_plain.specs.Steps.{all_granted, gives_grants, request_leaves, response_leaves, client_leaves, state_leaves, server_leaves}
+use Rattle.homa_plain.specs.Steps.{leaves_from, first_leaves, pumped_once, pumps, ended}
 use Rattle.step_laws.proofs.Places.{all-append}
 use Rattle.host_laws.specs.Bytes.{IsOwnEntry, IsOwnTold}
 
@@ -45,39 +49,46 @@ module _ (full : Bool) (host : HostId) (now : ℕ) where
   pub own-tells : (told : List Told) (w : Work) → AllByRecursion (IsOwnTold full host now) told → AreOwn w → AreOwn (tells told w)
   own-tells told w own so_far = all-append (IsOwnTold full host now) w.told told so_far own
 
-  said-own : (s : Settings) (h : Host) (role : Role) (id : CallId) (server : HostId) (says : List Say) → AllByRecursion (IsOwnSay full host now) says → AllByRecursion (IsOwnTold full host now) (said s h role id server says)
+  said-own : (s : Settings) (h : Host) (role : Role) (id : CallId) (server : HostId) (says : List Say) → AllByRecursion (IsOwnSay full host now) says
+      → AllByRecursion (IsOwnTold full host now) (said s h role id server says)
   said-own s h role id server [] own = tt
   said-own s h role id server (Tells entry ∷ says) own = (own.0, said-own s h role id server says own.1)
   said-own s h role id server (Posts what ∷ says) own = (tt, said-own s h role id server says own.1)
 
   tuned-own : (s : Settings) (h : HostId) (t : Tuning) (n : ℕ) → h ≡ host → AllByRecursion (IsOwnTold full host now) (tuned s h t n).told
   unfolding tuned
-  tuned-own s h t n same = cond_both (is_balance_due s (counted t n)) _ _ (λ (u : Tuned). AllByRecursion (IsOwnTold full host now) u.told) (λ _. (same, tt)) (λ _. tt)
+  tuned-own s h t n same =
+      cond_both (is_balance_due s (counted t n)) _ _ (λ (u : Tuned). AllByRecursion (IsOwnTold full host now) u.told) (λ _. (same, tt)) (λ _. tt)
 
   notes-own : (s : Settings) (o : Option ℕ) (w : Work) → w.host.id ≡ host → AreOwn w → AreOwn (notes s o w)
   notes-own s None w same own = own
-  notes-own s (Some n) w same own = all-append (IsOwnTold full host now) w.told (tuned s w.host.id w.host.tuning n).told own (tuned-own s w.host.id w.host.tuning n same)
+  notes-own s (Some n) w same own =
+      all-append (IsOwnTold full host now) w.told (tuned s w.host.id w.host.tuning n).told own (tuned-own s w.host.id w.host.tuning n same)
 
   cutoffs-own : (s : Settings) (role : Role) (id : CallId) (server : HostId) (o : Option ℕ) (w : Work) → AreOwn w → AreOwn (tells_cutoffs s role id server o w)
   cutoffs-own s role id server None w own = own
-  cutoffs-own s role id server (Some version) w own = cond_both (version == w.host.tuning.own.version) _ _ AreOwn (λ _. own) (λ _. all-append (IsOwnTold full host now) w.told _ own (tt, tt))
+  cutoffs-own s role id server (Some version) w own =
+      cond_both (version == w.host.tuning.own.version) _ _ AreOwn (λ _. own) (λ _. all-append (IsOwnTold full host now) w.told _ own (tt, tt))
 
   acknowledged-own : (s : Settings) (server : HostId) (calls : List (ℕ × ℕ)) (w : Work) → AreOwn w → AreOwn (acknowledged s server calls w)
   acknowledged-own s server [] w own = own
-  acknowledged-own s server (call ∷ calls) w own = cond_both (nat_lt (length calls) 4) _ _ AreOwn (λ _. own) (λ _. all-append (IsOwnTold full host now) w.told _ own (tt, tt))
+  acknowledged-own s server (call ∷ calls) w own =
+      cond_both (nat_lt (length calls) 4) _ _ AreOwn (λ _. own) (λ _. all-append (IsOwnTold full host now) w.told _ own (tt, tt))
 
   finishes-own : (s : Settings) (id : CallId) (server : HostId) (done : Bool) (w : Work) → AreOwn w → AreOwn (finishes s id server done w)
   finishes-own s id server false w own = own
   finishes-own s id server true w own = acknowledged-own s server (finished_at w.host server ++ (id.inc, id.seq) ∷ []) w own
 
-  pub asked-own : (s : Settings) (id : CallId) (server : HostId) (did : Did ClientRow) (w : Work) → w.host.id ≡ host → AreOwnSays did → AreOwn w → AreOwn (asked s id server did w)
+  pub asked-own : (s : Settings) (id : CallId) (server : HostId) (did : Did ClientRow) (w : Work) → w.host.id ≡ host → AreOwnSays did → AreOwn w
+      → AreOwn (asked s id server did w)
   unfolding asked
   asked-own s id server did w same says own =
       let put : Work = record w { host = record w.host { order = did.order; clients = set_row w.host.clients id did.row } } in
       let noted : Work = notes s did.opened put in
       let reply : Work = tells_cutoffs s Client id server did.version noted in
       finishes-own s id server did.finished (tells (said s w.host Client id server did.says) reply)
-      (all-append (IsOwnTold full host now) reply.told (said s w.host Client id server did.says) (cutoffs-own s Client id server did.version noted (notes-own s did.opened put same own)) (said-own s w.host Client id server did.says says))
+      (all-append (IsOwnTold full host now) reply.told (said s w.host Client id server did.says)
+      (cutoffs-own s Client id server did.version noted (notes-own s did.opened put same own)) (said-own s w.host Client id server did.says says))
 
   pub served-own : (s : Settings) (id : CallId) (did : Did ServerRow) (w : Work) → w.host.id ≡ host → AreOwnSays did → AreOwn w → AreOwn (served s id did w)
   unfolding served
@@ -85,7 +96,8 @@ module _ (full : Bool) (host : HostId) (now : ℕ) where
       let put : Work = record w { host = record w.host { order = did.order; servers = set_row w.host.servers id did.row } } in
       let noted : Work = notes s did.opened put in
       let reply : Work = tells_cutoffs s Server id w.host.id did.version noted in
-      all-append (IsOwnTold full host now) reply.told (said s w.host Server id w.host.id did.says) (cutoffs-own s Server id w.host.id did.version noted (notes-own s did.opened put same own)) (said-own s w.host Server id w.host.id did.says says)
+      all-append (IsOwnTold full host now) reply.told (said s w.host Server id w.host.id did.says)
+      (cutoffs-own s Server id w.host.id did.version noted (notes-own s did.opened put same own)) (said-own s w.host Server id w.host.id did.says says)
 
   -- ---- rules at the client
 
@@ -107,7 +119,8 @@ module _ (full : Bool) (host : HostId) (now : ℕ) where
     response-own s m r (Some part) piece = piece-own r part piece (keeps m r) tt
 
     answered-own : (s : Settings) (m : Moment) (what : Body) (payload : List ℕ) (r : ClientRow) → AreOwnSays (answered s m id what payload r)
-    answered-own s m (body.Data size offset version service ack) payload r = response-own s m r r.part (record { size = size; offset = offset; version = version; service = service; payload = payload })
+    answered-own s m (body.Data size offset version service ack) payload r =
+        response-own s m r r.part (record { size = size; offset = offset; version = version; service = service; payload = payload })
     answered-own s m (body.Grant offset prio) payload r = tt
     answered-own s m (body.Resend from to prio) payload r = busy-own (resend r.out from to prio).answer
     answered-own s m body.Busy payload r = tt
@@ -147,7 +160,8 @@ module _ (full : Bool) (host : HostId) (now : ℕ) where
     runs-own : (service : ℕ) (request : List ℕ) (a : Answer) (row : ServerRow) (d : Did ServerRow) → AreOwnSays (runs s m id service request a row d)
     runs-own service request a row d = cond_both (a.hold == 0) _ _ (AreOwnSays {R = ServerRow}) (λ _. ((of_host, f), tt)) (λ _. ((of_host, f), tt))
 
-    request-own : (service : ℕ) (part : Incoming) (row : ServerRow) (piece : Piece) (a : Answer) (d : Did ServerRow) → AreOwnSays d → AreOwnSays (piece_comes s m id service part row piece a d)
+    request-own : (service : ℕ) (part : Incoming) (row : ServerRow) (piece : Piece) (a : Answer) (d : Did ServerRow) → AreOwnSays d
+        → AreOwnSays (piece_comes s m id service part row piece a d)
     request-own service part row piece a d own =
         cond_both (not (part.length == piece.size) || not (service == piece.service)) _ _ (AreOwnSays {R = ServerRow}) (λ _. own)
         (λ _. cond_both (leaves_too_many_gaps part piece.offset piece.payload) _ _ (AreOwnSays {R = ServerRow}) (λ _. (of_host, tt))
@@ -159,7 +173,8 @@ module _ (full : Bool) (host : HostId) (now : ℕ) where
         let part : Incoming = incoming.opened id.client piece.size m.order s.unsched in
         cond_both (nat_le s.served m.rows) _ _ (AreOwnSays {R = ServerRow}) (λ _. (of_host, tt))
         (λ _. cond_both (nat_lt m.free (pages_for piece.size)) _ _ (AreOwnSays {R = ServerRow}) (λ _. (of_host, tt))
-        (λ _. request-own piece.service part (record { order = m.order; state = Receiving piece.service part m.now 0 }) piece a (opening piece.size (leaves m None)) tt))
+        (λ _. request-own piece.service part (record { order = m.order; state = Receiving piece.service part m.now 0 }) piece a
+        (opening piece.size (leaves m None)) tt))
 
     unknown-own : (what : Body) (payload : List ℕ) (a : Answer) → AreOwnSays (unknown_gets s m id what payload a)
     unknown-own (body.Data size offset version service ack) payload a = opens-own (piece_of size offset version service payload) a
@@ -171,8 +186,10 @@ module _ (full : Bool) (host : HostId) (now : ℕ) where
     unknown-own body.NeedAck payload a = tt
     unknown-own (body.Ack more) payload a = tt
 
-    receiving-own : (what : Body) (payload : List ℕ) (a : Answer) (row : ServerRow) (service : ℕ) (part : Incoming) (base : ℕ) → AreOwnSays (receiving_gets s m id what payload a row service part base)
-    receiving-own (body.Data size offset version service' ack) payload a row service part base = request-own service part row (piece_of size offset version service' payload) a (leaves m None) tt
+    receiving-own : (what : Body) (payload : List ℕ) (a : Answer) (row : ServerRow) (service : ℕ) (part : Incoming) (base : ℕ)
+        → AreOwnSays (receiving_gets s m id what payload a row service part base)
+    receiving-own (body.Data size offset version service' ack) payload a row service part base =
+        request-own service part row (piece_of size offset version service' payload) a (leaves m None) tt
     receiving-own (body.Grant offset prio) payload a row service part base = tt
     receiving-own (body.Resend from to prio) payload a row service part base = (tt, tt)
     receiving-own body.Busy payload a row service part base = tt
@@ -230,12 +247,15 @@ module _ (full : Bool) (host : HostId) (now : ℕ) where
     server_acked-own (Some row) = acked-own-says row row.state
 
     state_acts-own : (row : ServerRow) (state : State) → AreOwnSays (state_acts s m id row state)
-    state_acts-own row (Receiving service part base count) = cond_both (nat_lt count s.tries) _ _ (AreOwnSays {R = ServerRow}) (λ _. resend-own (first_gap part) s) (λ _. (of_host, tt))
+    state_acts-own row (Receiving service part base count) =
+        cond_both (nat_lt count s.tries) _ _ (AreOwnSays {R = ServerRow}) (λ _. resend-own (first_gap part) s) (λ _. (of_host, tt))
     state_acts-own row (Held response release) = tt
-    state_acts-own row (Replying response out order base count) = cond_both (nat_lt count s.tries) _ _ (AreOwnSays {R = ServerRow}) (λ _. (tt, tt)) (λ _. (of_host, tt))
+    state_acts-own row (Replying response out order base count) =
+        cond_both (nat_lt count s.tries) _ _ (AreOwnSays {R = ServerRow}) (λ _. (tt, tt)) (λ _. (of_host, tt))
     state_acts-own row (Buried until) = (of_host, tt)
 
-  server_gets-own : full ≡ true → (s : Settings) (m : Moment) (p : Packet) (a : Answer) (o : Option ServerRow) → m.host ≡ host → AreOwnSays (server_gets s m p a o)
+  server_gets-own : full ≡ true → (s : Settings) (m : Moment) (p : Packet) (a : Answer) (o : Option ServerRow) → m.host ≡ host
+      → AreOwnSays (server_gets s m p a o)
   unfolding server_gets
   server_gets-own f s m p a None of_host = unknown-own f s m of_host p.id p.body p.payload a
   server_gets-own f s m p a (Some row) of_host = row-own f s m of_host p.id p.body p.payload a row row.state
@@ -253,14 +273,19 @@ module _ (full : Bool) (host : HostId) (now : ℕ) where
     hears-own peer inc body.NeedAck w own = own
     hears-own peer inc (body.Ack more) w own = own
 
-    pub to_client-own : full ≡ true → (p : Packet) (a : Answer) (w : Work) → w.host.id ≡ host → p.id.client ≡ host → AreOwn w → AreOwn (comes_to_row s p a Server w)
-    to_client-own f p a w same of_host own = asked-own s p.id p.server (client_gets s (moment s p.id w) p (get w.host.clients p.id)) w same (client_gets-own f s (moment s p.id w) p (get w.host.clients p.id) of_host) own
+    pub to_client-own : full ≡ true → (p : Packet) (a : Answer) (w : Work) → w.host.id ≡ host → p.id.client ≡ host → AreOwn w
+        → AreOwn (comes_to_row s p a Server w)
+    to_client-own f p a w same of_host own = asked-own s p.id p.server (client_gets s (moment s p.id w) p (get w.host.clients p.id)) w same
+        (client_gets-own f s (moment s p.id w) p (get w.host.clients p.id) of_host) own
 
     pub to_server-own : full ≡ true → (p : Packet) (a : Answer) (w : Work) → w.host.id ≡ host → AreOwn w → AreOwn (comes_to_row s p a Client w)
-    to_server-own f p a w same own = served-own s p.id (server_gets s (moment s p.id w) p a (get w.host.servers p.id)) w same (server_gets-own f s (moment s p.id w) p a (get w.host.servers p.id) same) own
+    to_server-own f p a w same own = served-own s p.id (server_gets s (moment s p.id w) p a (get w.host.servers p.id)) w same
+        (server_gets-own f s (moment s p.id w) p a (get w.host.servers p.id) same) own
 
-    pub acked_one-own : (id : CallId) (w : Work) → w.host.id ≡ host → AreOwn w → AreOwn (served s id (server_acked s (moment s id w) id (get w.host.servers id)) w)
-    acked_one-own id w same own = served-own s id (server_acked s (moment s id w) id (get w.host.servers id)) w same (server_acked-own s (moment s id w) same id (get w.host.servers id)) own
+    pub acked_one-own : (id : CallId) (w : Work) → w.host.id ≡ host → AreOwn w
+        → AreOwn (served s id (server_acked s (moment s id w) id (get w.host.servers id)) w)
+    acked_one-own id w same own = served-own s id (server_acked s (moment s id w) id (get w.host.servers id)) w same
+        (server_acked-own s (moment s id w) same id (get w.host.servers id)) own
 
     client_acted-own : (id : CallId) (o : Option ClientRow) (w : Work) → w.host.id ≡ host → AreOwn w → AreOwn (client_acted s id o w)
     client_acted-own id None w same own = own
@@ -268,7 +293,8 @@ module _ (full : Bool) (host : HostId) (now : ℕ) where
 
     server_acted-own : (id : CallId) (o : Option ServerRow) (w : Work) → w.host.id ≡ host → AreOwn w → AreOwn (server_acted s id o w)
     server_acted-own id None w same own = own
-    server_acted-own id (Some row) w same own = served-own s id (server_acts s (moment s id w) id row) w same (state_acts-own s (moment s id w) same id row row.state) own
+    server_acted-own id (Some row) w same own =
+        served-own s id (server_acts s (moment s id w) id row) w same (state_acts-own s (moment s id w) same id row row.state) own
 
     pub acts_at-own : (place : Place) (w : Work) → w.host.id ≡ host → AreOwn w → AreOwn (acts_at s place w)
     acts_at-own (OfClient id) w same own = client_acted-own id (get w.host.clients id) w same own
@@ -280,11 +306,13 @@ module _ (P : Told → Type 0) (sends : (p : Packet) → P (Sends p)) (s : Setti
   abbrev AllTold : Work → Type 0
   AllTold w = AllByRecursion P w.told
 
-  client_granted-told : (id : CallId) (what : Body) (offset : ℕ) (o : Option ClientRow) (w : Work) → AllTold w → AllTold (client_is_granted s id what offset o w)
+  client_granted-told : (id : CallId) (what : Body) (offset : ℕ) (o : Option ClientRow) (w : Work) → AllTold w
+      → AllTold (client_is_granted s id what offset o w)
   client_granted-told id what offset None w own = own
   client_granted-told id what offset (Some r) w own = all-append P w.told _ own (sends _, tt)
 
-  server_granted-told : (id : CallId) (what : Body) (offset : ℕ) (o : Option ServerRow) (w : Work) → AllTold w → AllTold (server_is_granted s id what offset o w)
+  server_granted-told : (id : CallId) (what : Body) (offset : ℕ) (o : Option ServerRow) (w : Work) → AllTold w
+      → AllTold (server_is_granted s id what offset o w)
   server_granted-told id what offset None w own = own
   server_granted-told id what offset (Some row) w own = all-append P w.told _ own (sends _, tt)
 
@@ -306,7 +334,8 @@ module _ (P : Told → Type 0) (sends : (p : Packet) → P (Sends p)) (s : Setti
   state_leaves-told id row (Receiving service part base count) w v e own = cc
   state_leaves-told id row (Held response release) w v e own = cc
   state_leaves-told id row (Replying response out order base count) w v e own =
-      let l = left (next_range out s.seg) w v (λ range. response_leaves s id row (response_content s (peer_cutoffs s w.host id.client).cutoffs response out range) range w) e in
+      let l = left (next_range out s.seg) w v
+      (λ range. response_leaves s id row (response_content s (peer_cutoffs s w.host id.client).cutoffs response out range) range w) e in
       subst AllTold l.is (all-append P w.told _ own (sends _, tt))
   state_leaves-told id row (Buried until) w v e own = cc
 

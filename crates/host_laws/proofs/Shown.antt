@@ -13,14 +13,18 @@ use Rattle.homa_plain.specs.declared.packet.Body.{Body}
 use Rattle.homa_plain.specs.declared.packet.Body.TheVariants as body
 use Rattle.homa_plain.specs.declared.settings.Settings.{Settings}
 use Rattle.homa_plain.specs.Choice.{due}
-use Rattle.homa_plain.specs.Entries.{PlainEntry, PlainSettings, PlainCall, PlainDeliver, PlainClock, PlainRestart, PlainInject, PlainShift, PlainJunk, PlainStale, PlainSend, PlainRun, PlainDone, PlainFail, PlainDrop, PlainGaps, PlainBury, PlainFree, PlainFullRows, PlainFullPages, PlainBalance, PlainRecv, PlainFinished, PlainRefused, PlainStalled}
+use Rattle.homa_plain.specs.Entries.{PlainEntry, PlainSettings, PlainCall, PlainDeliver, PlainClock, PlainRestart, PlainInject, PlainShift, PlainJunk}
+use Rattle.homa_plain.specs.Entries.{PlainStale, PlainSend, PlainRun, PlainDone, PlainFail, PlainDrop, PlainGaps, PlainBury, PlainFree, PlainFullRows}
+use Rattle.homa_plain.specs.Entries.{PlainFullPages, PlainBalance, PlainRecv, PlainFinished, PlainRefused, PlainStalled}
 use Rattle.homa_plain.specs.Packets.{Packet, sender, acks}
 use Rattle.homa_plain.specs.Rows.{ClientRow, ServerRow, set_row}
 use Rattle.homa_plain.specs.Host.{Host, Told, Says, Sends, finished_at}
 use Rattle.homa_plain.specs.Rules.{Answer, Did}
 use Rattle.homa_plain.specs.AtServer.{server_acked}
 use Rattle.homa_plain.specs.Timers.{Place, OfClient, OfServer, Timer, timer_key, timers, client_acts, server_acts}
-use Rattle.homa_plain.specs.Steps.{Work, now_of, begun, refilled, tells, notes, tells_cutoffs, acknowledged, finishes, said, asked, served, moment, is_newer, hears_cutoffs, comes_to_row, acked, takes, is_stale, comes, client_acted, server_acted, acts_at, all_act, acts, next_id, starts, call_step, arrival_step, turn_step, new_call}
+use Rattle.homa_plain.specs.Steps.{Work, now_of, begun, refilled, tells, notes, tells_cutoffs, acknowledged, finishes, said, asked, served, moment}
+use Rattle.homa_plain.specs.Steps.{is_newer, hears_cutoffs, comes_to_row, acked, takes, is_stale, comes, client_acted, server_acted, acts_at, all_act}
+use Rattle.homa_plain.specs.Steps.{acts, next_id, starts, call_step, arrival_step, turn_step, new_call}
 use Rattle.homa_plain.specs.Host.{peer_cutoffs}
 use Rattle.host_view.specs.declared.outbox.SentFrame.{SentFrame}
 use Rattle.host_view.specs.Seen.{Seen}
@@ -41,7 +45,8 @@ notes-id s (Some n) w = refl
 
 cutoffs-id : (s : Settings) (role : Role) (id : CallId) (server : HostId) (o : Option ℕ) (w : Work) → (tells_cutoffs s role id server o w).host.id ≡ w.host.id
 cutoffs-id s role id server None w = refl
-cutoffs-id s role id server (Some version) w = cond_both (version == w.host.tuning.own.version) _ _ (λ (v : Work). v.host.id ≡ w.host.id) (λ _. refl) (λ _. refl)
+cutoffs-id s role id server (Some version) w =
+    cond_both (version == w.host.tuning.own.version) _ _ (λ (v : Work). v.host.id ≡ w.host.id) (λ _. refl) (λ _. refl)
 
 acknowledged-id : (s : Settings) (server : HostId) (calls : List (ℕ × ℕ)) (w : Work) → (acknowledged s server calls w).host.id ≡ w.host.id
 acknowledged-id s server [] w = refl
@@ -57,7 +62,8 @@ asked-id s id server did w =
     let put : Work = record w { host = record w.host { order = did.order; clients = set_row w.host.clients id did.row } } in
     let noted : Work = notes s did.opened put in
     let reply : Work = tells_cutoffs s Client id server did.version noted in
-    finishes-id s id server did.finished (tells (said s w.host Client id server did.says) reply) ∙ cutoffs-id s Client id server did.version noted ∙ notes-id s did.opened put
+    finishes-id s id server did.finished (tells (said s w.host Client id server did.says) reply) ∙ cutoffs-id s Client id server did.version noted
+    ∙ notes-id s did.opened put
 
 served-id : (s : Settings) (id : CallId) (did : Did ServerRow) (w : Work) → (served s id did w).host.id ≡ w.host.id
 unfolding served
@@ -66,7 +72,8 @@ served-id s id did w =
     cutoffs-id s Server id w.host.id did.version (notes s did.opened put) ∙ notes-id s did.opened put
 
 hears-id : (s : Settings) (peer : HostId) (inc : ℕ) (what : Body) (w : Work) → (hears_cutoffs s peer inc what w).host.id ≡ w.host.id
-hears-id s peer inc (body.Cutoffs cutoffs) w = cond_both (is_newer inc cutoffs (peer_cutoffs s w.host peer)) _ _ (λ (v : Work). v.host.id ≡ w.host.id) (λ _. refl) (λ _. refl)
+hears-id s peer inc (body.Cutoffs cutoffs) w =
+    cond_both (is_newer inc cutoffs (peer_cutoffs s w.host peer)) _ _ (λ (v : Work). v.host.id ≡ w.host.id) (λ _. refl) (λ _. refl)
 hears-id s peer inc (body.Data size offset version service ack) w = refl
 hears-id s peer inc (body.Grant offset prio) w = refl
 hears-id s peer inc (body.Resend from to prio) w = refl
@@ -101,11 +108,13 @@ module _ (full : Bool) (host : HostId) (now : ℕ) (s : Settings) where
       let did : Did ServerRow = server_acked s (moment s id w) id (get w.host.servers id) in
       acked-own ids (served s id did w) (served-id s id did w ∙ same) (acked_one-own full host now s id w same own)
 
-  to_row-own : full ≡ true → (p : Packet) (a : Answer) (role : Role) (w : Work) → w.host.id ≡ host → (role ≡ Server → p.id.client ≡ host) → AreOwn full host now w → AreOwn full host now (comes_to_row s p a role w)
+  to_row-own : full ≡ true → (p : Packet) (a : Answer) (role : Role) (w : Work) → w.host.id ≡ host → (role ≡ Server → p.id.client ≡ host)
+      → AreOwn full host now w → AreOwn full host now (comes_to_row s p a role w)
   to_row-own f p a Client w same of_host own = to_server-own full host now s f p a w same own
   to_row-own f p a Server w same of_host own = to_client-own full host now s f p a w same (of_host refl) own
 
-  takes-own : full ≡ true → (p : Packet) (a : Answer) (w : Work) → w.host.id ≡ host → (p.role ≡ Server → p.id.client ≡ host) → AreOwn full host now w → AreOwn full host now (takes s p a w)
+  takes-own : full ≡ true → (p : Packet) (a : Answer) (w : Work) → w.host.id ≡ host → (p.role ≡ Server → p.id.client ≡ host) → AreOwn full host now w
+      → AreOwn full host now (takes s p a w)
   unfolding takes
   takes-own f p a w same of_host own =
       let v : Work = hears_cutoffs s (sender p) p.inc p.body w in
@@ -113,18 +122,22 @@ module _ (full : Bool) (host : HostId) (now : ℕ) (s : Settings) where
       acked-own (acks p) (comes_to_row s p a p.role v) (to_row-id s p a p.role v ∙ same_v)
       (to_row-own f p a p.role v same_v of_host (hears-own full host now s (sender p) p.inc p.body w own))
 
-  comes-own : full ≡ true → (o : Option Packet) (a : Answer) (w : Work) → w.host.id ≡ host → w.host.last ≡ now → IfSome o (λ (p : Packet). p.role ≡ Server → p.id.client ≡ host) → AreOwn full host now w → AreOwn full host now (comes s o a w)
+  comes-own : full ≡ true → (o : Option Packet) (a : Answer) (w : Work) → w.host.id ≡ host → w.host.last ≡ now
+      → IfSome o (λ (p : Packet). p.role ≡ Server → p.id.client ≡ host) → AreOwn full host now w → AreOwn full host now (comes s o a w)
   comes-own f None a w same clock of_host own = all-append (IsOwnTold full host now) w.told _ own (same, tt)
   comes-own f (Some p) a w same clock of_host own =
-      cond_both (is_stale s (now_of w) p) _ _ (AreOwn full host now) (λ _. all-append (IsOwnTold full host now) w.told _ own ((same, clock), tt)) (λ _. takes-own f p a w same of_host own)
+      cond_both (is_stale s (now_of w) p) _ _ (AreOwn full host now) (λ _. all-append (IsOwnTold full host now) w.told _ own ((same, clock), tt))
+      (λ _. takes-own f p a w same of_host own)
 
   all_act-own : (ts : List Timer) (w : Work) → w.host.id ≡ host → AreOwn full host now w → AreOwn full host now (all_act s ts w)
   all_act-own [] w same own = own
   all_act-own (t ∷ ts) w same own = all_act-own ts (acts_at s t.place w) (acts_at-id s t.place w ∙ same) (acts_at-own full host now s t.place w same own)
 
-  pub arrival-own : full ≡ true → (h : Host) (o : Option Packet) (a : Answer) → h.id ≡ host → IfSome o (λ (p : Packet). p.role ≡ Server → p.id.client ≡ host) → AreOwn full host now (arrival_step s h now o a)
+  pub arrival-own : full ≡ true → (h : Host) (o : Option Packet) (a : Answer) → h.id ≡ host
+      → IfSome o (λ (p : Packet). p.role ≡ Server → p.id.client ≡ host) → AreOwn full host now (arrival_step s h now o a)
   unfolding arrival_step
-  arrival-own f h o a same of_host = ended-told (IsOwnTold full host now) (λ p. tt) s (comes s o a (begun h now)) (comes-own f o a (begun h now) same refl of_host tt)
+  arrival-own f h o a same of_host =
+      ended-told (IsOwnTold full host now) (λ p. tt) s (comes s o a (begun h now)) (comes-own f o a (begun h now) same refl of_host tt)
 
   refilled-id : (h : Host) → (refilled s h).id ≡ h.id
   refilled-id h = cond_both (nat_lt h.refilled h.last) _ _ (λ (g : Host). g.id ≡ h.id) (λ _. refl) (λ _. refl)
@@ -133,7 +146,8 @@ module _ (full : Bool) (host : HostId) (now : ℕ) (s : Settings) where
   unfolding turn_step
   turn-own h same =
       let w : Work = begun (refilled s (record h { last = now })) now in
-      ended-told (IsOwnTold full host now) (λ p. tt) s (acts s w) (all_act-own (due timer_key (now_of w) (timers s w.host)) w (refilled-id (record h { last = now }) ∙ same) tt)
+      ended-told (IsOwnTold full host now) (λ p. tt) s (acts s w)
+      (all_act-own (due timer_key (now_of w) (timers s w.host)) w (refilled-id (record h { last = now }) ∙ same) tt)
 
 -- ---- entries and their marks
 
@@ -142,7 +156,8 @@ abbrev pub HasBytes : Host → Told → Type 0
 HasBytes h (Says (PlainRun host id service request response hold)) = response_of h id ≡ response
 HasBytes h told = Unit {0}
 
-entry-shown : (full : Bool) (h : Seen) (whole : List ℕ) (e : PlainEntry) → IsOwnEntry full h.host.id h.host.last e → IsWhole whole (Says e) → HasBytes h.host (Says e) → (frames : List SentFrame) → shown h frames whole (mark_of e) ≡ e
+entry-shown : (full : Bool) (h : Seen) (whole : List ℕ) (e : PlainEntry) → IsOwnEntry full h.host.id h.host.last e → IsWhole whole (Says e)
+    → HasBytes h.host (Says e) → (frames : List SentFrame) → shown h frames whole (mark_of e) ≡ e
 entry-shown full h whole (PlainSettings settings) own is bytes frames = absurd own
 entry-shown full h whole (PlainCall id server service request) own is bytes frames = absurd own
 entry-shown full h whole (PlainDeliver packet) own is bytes frames = absurd own
@@ -168,41 +183,45 @@ entry-shown full h whole (PlainFinished n) own is bytes frames = absurd own
 entry-shown full h whole (PlainRefused line fault) own is bytes frames = absurd own
 entry-shown full h whole (PlainStalled turns now) own is bytes frames = absurd own
 
-pub told-shown : (full : Bool) (h : Seen) (whole : List ℕ) (told : List Told) → AllByRecursion (IsOwnTold full h.host.id h.host.last) told → AllByRecursion (IsWhole whole) told → AllByRecursion (HasBytes h.host) told
+pub told-shown : (full : Bool) (h : Seen) (whole : List ℕ) (told : List Told) → AllByRecursion (IsOwnTold full h.host.id h.host.last) told
+    → AllByRecursion (IsWhole whole) told → AllByRecursion (HasBytes h.host) told
     → AllByRecursion (IsShown h whole) told
 told-shown full h whole [] own is bytes = tt
 told-shown full h whole (Says e ∷ told) own is bytes = (entry-shown full h whole e own.0 is.0 bytes.0, told-shown full h whole told own.1 is.1 bytes.1)
 told-shown full h whole (Sends p ∷ told) own is bytes = (tt, told-shown full h whole told own.1 is.1 bytes.1)
 
 -- where nothing is whole, there is no message and no response to be told
-none-whole : (host : HostId) (now : ℕ) (h : Host) (whole : List ℕ) (told : List Told) → AllByRecursion (IsOwnTold false host now) told → AllByRecursion (IsWhole whole) told × AllByRecursion (HasBytes h) told
+none-whole : (host : HostId) (now : ℕ) (h : Host) (whole : List ℕ) (told : List Told) → AllByRecursion (IsOwnTold false host now) told
+    → AllByRecursion (IsWhole whole) told × AllByRecursion (HasBytes h) told
 none-whole host now h whole [] own = (tt, tt)
-none-whole host now h whole (Says e ∷ told) own = let rest = none-whole host now h whole told own.1 in let one = entry-none host now h whole e own.0 in ((one.0, rest.0), (one.1, rest.1)) where
-  entry-none : (host : HostId) (now : ℕ) (h : Host) (whole : List ℕ) (e : PlainEntry) → IsOwnEntry false host now e → IsWhole whole (Says e) × HasBytes h (Says e)
-  entry-none host now h whole (PlainSettings settings) own = (tt, tt)
-  entry-none host now h whole (PlainCall id server service request) own = (tt, tt)
-  entry-none host now h whole (PlainDeliver packet) own = (tt, tt)
-  entry-none host now h whole (PlainClock tick) own = (tt, tt)
-  entry-none host now h whole (PlainRestart of inc) own = (tt, tt)
-  entry-none host now h whole (PlainInject of request) own = (tt, tt)
-  entry-none host now h whole (PlainShift of n) own = (tt, tt)
-  entry-none host now h whole (PlainJunk of) own = (tt, tt)
-  entry-none host now h whole (PlainStale of tick n) own = (tt, tt)
-  entry-none host now h whole (PlainSend number from to inc role id level what payload) own = (tt, tt)
-  entry-none host now h whole (PlainRun of id service request response hold) own = no own.1
-  entry-none host now h whole (PlainDone id message) own = no own
-  entry-none host now h whole (PlainFail id why) own = (tt, tt)
-  entry-none host now h whole (PlainDrop of id) own = (tt, tt)
-  entry-none host now h whole (PlainGaps of id) own = (tt, tt)
-  entry-none host now h whole (PlainBury of id until) own = (tt, tt)
-  entry-none host now h whole (PlainFree of id) own = (tt, tt)
-  entry-none host now h whole (PlainFullRows of id rows limit) own = (tt, tt)
-  entry-none host now h whole (PlainFullPages of id need free) own = (tt, tt)
-  entry-none host now h whole (PlainBalance of cutoffs) own = (tt, tt)
-  entry-none host now h whole (PlainRecv of from datagram) own = (tt, tt)
-  entry-none host now h whole (PlainFinished n) own = (tt, tt)
-  entry-none host now h whole (PlainRefused line fault) own = (tt, tt)
-  entry-none host now h whole (PlainStalled turns n) own = (tt, tt)
+none-whole host now h whole (Says e ∷ told) own =
+    let rest = none-whole host now h whole told own.1 in let one = entry-none host now h whole e own.0 in ((one.0, rest.0), (one.1, rest.1)) where
+      entry-none : (host : HostId) (now : ℕ) (h : Host) (whole : List ℕ) (e : PlainEntry) → IsOwnEntry false host now e
+          → IsWhole whole (Says e) × HasBytes h (Says e)
+      entry-none host now h whole (PlainSettings settings) own = (tt, tt)
+      entry-none host now h whole (PlainCall id server service request) own = (tt, tt)
+      entry-none host now h whole (PlainDeliver packet) own = (tt, tt)
+      entry-none host now h whole (PlainClock tick) own = (tt, tt)
+      entry-none host now h whole (PlainRestart of inc) own = (tt, tt)
+      entry-none host now h whole (PlainInject of request) own = (tt, tt)
+      entry-none host now h whole (PlainShift of n) own = (tt, tt)
+      entry-none host now h whole (PlainJunk of) own = (tt, tt)
+      entry-none host now h whole (PlainStale of tick n) own = (tt, tt)
+      entry-none host now h whole (PlainSend number from to inc role id level what payload) own = (tt, tt)
+      entry-none host now h whole (PlainRun of id service request response hold) own = no own.1
+      entry-none host now h whole (PlainDone id message) own = no own
+      entry-none host now h whole (PlainFail id why) own = (tt, tt)
+      entry-none host now h whole (PlainDrop of id) own = (tt, tt)
+      entry-none host now h whole (PlainGaps of id) own = (tt, tt)
+      entry-none host now h whole (PlainBury of id until) own = (tt, tt)
+      entry-none host now h whole (PlainFree of id) own = (tt, tt)
+      entry-none host now h whole (PlainFullRows of id rows limit) own = (tt, tt)
+      entry-none host now h whole (PlainFullPages of id need free) own = (tt, tt)
+      entry-none host now h whole (PlainBalance of cutoffs) own = (tt, tt)
+      entry-none host now h whole (PlainRecv of from datagram) own = (tt, tt)
+      entry-none host now h whole (PlainFinished n) own = (tt, tt)
+      entry-none host now h whole (PlainRefused line fault) own = (tt, tt)
+      entry-none host now h whole (PlainStalled turns n) own = (tt, tt)
 none-whole host now h whole (Sends p ∷ told) own = let rest = none-whole host now h whole told own.1 in ((tt, rest.0), (tt, rest.1))
 
 -- ---- whole steps
@@ -212,7 +231,8 @@ abbrev IsRunBy : Answer → Told → Type 0
 IsRunBy a (Says (PlainRun host id service request response hold)) = response ≡ a.bytes
 IsRunBy a told = Unit {0}
 
-replies : (h : Host) (a : Answer) (n : ℕ) (told : List Told) → AllByRecursion (IsReply h a) (marks_from n told) → AllByRecursion (IsRunBy a) told → AllByRecursion (HasBytes h) told
+replies : (h : Host) (a : Answer) (n : ℕ) (told : List Told) → AllByRecursion (IsReply h a) (marks_from n told) → AllByRecursion (IsRunBy a) told
+    → AllByRecursion (HasBytes h) told
 replies h a n [] reply runs = tt
 replies h a n (Says e ∷ told) reply runs = (at e reply.0 runs.0, replies h a n told reply.1 runs.1) where
   at : (e : PlainEntry) → IsReply h a (mark_of e) → IsRunBy a (Says e) → HasBytes h (Says e)
@@ -272,30 +292,37 @@ runs-by s h now o a = all_from (IsRunBy a) (arrival_step s h now o a).told (λ t
   at (Sends p) c = tt
 
 pub arrival-shown : (s : Settings) (h : Host) (now : ℕ) (o : Option Packet) (a : Answer) (h' : Seen) (whole : List ℕ) → h'.host.id ≡ h.id → h'.host.last ≡ now
-    → IfSome o (λ (p : Packet). p.role ≡ Server → p.id.client ≡ h.id) → h'.marks ≡ marks_from 0 (arrival_step s h now o a).told → AllByRecursion (IsReply h'.host a) h'.marks
+    → IfSome o (λ (p : Packet). p.role ≡ Server → p.id.client ≡ h.id) → h'.marks ≡ marks_from 0 (arrival_step s h now o a).told
+    → AllByRecursion (IsReply h'.host a) h'.marks
     → AllByRecursion (IsWhole whole) (arrival_step s h now o a).told → AllByRecursion (IsShown h' whole) (arrival_step s h now o a).told
 arrival-shown s h now o a h' whole name clock of_host marks reply is =
     let told : List Told = (arrival_step s h now o a).told in
     told-shown true h' whole told
-    (subst (λ last. AllByRecursion (IsOwnTold true h'.host.id last) told) (sym clock) (subst (λ host. AllByRecursion (IsOwnTold true host now) told) (sym name) (arrival-own true h.id now s refl h o a refl of_host))) is
+    (subst (λ last. AllByRecursion (IsOwnTold true h'.host.id last) told) (sym clock)
+    (subst (λ host. AllByRecursion (IsOwnTold true host now) told) (sym name) (arrival-own true h.id now s refl h o a refl of_host))) is
     (replies h'.host a 0 told (subst (AllByRecursion (IsReply h'.host a)) marks reply) (runs-by s h now o a))
 
-pub turn-shown : (s : Settings) (h : Host) (now : ℕ) (h' : Seen) (whole : List ℕ) → h'.host.id ≡ h.id → h'.host.last ≡ now → AllByRecursion (IsShown h' whole) (turn_step s h now).told
+pub turn-shown : (s : Settings) (h : Host) (now : ℕ) (h' : Seen) (whole : List ℕ) → h'.host.id ≡ h.id → h'.host.last ≡ now
+    → AllByRecursion (IsShown h' whole) (turn_step s h now).told
 turn-shown s h now h' whole name clock =
     let told : List Told = (turn_step s h now).told in
     let own : AllByRecursion (IsOwnTold false h'.host.id h'.host.last) told =
-    subst (λ last. AllByRecursion (IsOwnTold false h'.host.id last) told) (sym clock) (subst (λ host. AllByRecursion (IsOwnTold false host now) told) (sym name) (turn-own false h.id now s h refl)) in
+    subst (λ last. AllByRecursion (IsOwnTold false h'.host.id last) told) (sym clock)
+    (subst (λ host. AllByRecursion (IsOwnTold false host now) told) (sym name) (turn-own false h.id now s h refl)) in
     let none = none-whole h'.host.id h'.host.last h'.host whole told own in
     told-shown false h' whole told own none.0 none.1
 
 -- the request of a call that starts stays in its row
-call-bytes : (s : Settings) (h : Host) (now : ℕ) (server : HostId) (service : ℕ) (request : List ℕ) → request_of (call_step s h now server service request).host (next_id h) ≡ request
+call-bytes : (s : Settings) (h : Host) (now : ℕ) (server : HostId) (service : ℕ) (request : List ℕ)
+    → request_of (call_step s h now server service request).host (next_id h) ≡ request
 unfolding call_step
 call-bytes s h now server service request =
     let w : Work = starts s server service request (begun h now) in
-    (ended-keeps s w).requests (next_id h) ∙ ap (λ (o : Option ClientRow). unwrap_or (option_map (λ (r : ClientRow). r.request) o) []) (get-set_row h.clients (next_id h) (Some (new_call s now h.order server service request)))
+    (ended-keeps s w).requests (next_id h) ∙ ap (λ (o : Option ClientRow). unwrap_or (option_map (λ (r : ClientRow). r.request) o) [])
+    (get-set_row h.clients (next_id h) (Some (new_call s now h.order server service request)))
 
-pub call-shown : (s : Settings) (h : Host) (now : ℕ) (server : HostId) (service : ℕ) (request : List ℕ) (h' : Seen) (whole : List ℕ) → h'.host ≡ (call_step s h now server service request).host
+pub call-shown : (s : Settings) (h : Host) (now : ℕ) (server : HostId) (service : ℕ) (request : List ℕ) (h' : Seen) (whole : List ℕ)
+    → h'.host ≡ (call_step s h now server service request).host
     → AllByRecursion (IsShown h' whole) (call_step s h now server service request).told
 unfolding call_step
 call-shown s h now server service request h' whole is =

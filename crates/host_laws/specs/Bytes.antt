@@ -2,7 +2,8 @@
 use Rattle.std.specs.Prelude.{◌≡◌, ℕ, Bool, true}
 use Rattle.homa_plain.specs.declared.id.CallId.{CallId}
 use Rattle.homa_plain.specs.declared.id.HostId.{HostId}
-use Rattle.homa_plain.specs.Entries.{PlainEntry, PlainJunk, PlainStale, PlainBalance, PlainRun, PlainDone, PlainFail, PlainDrop, PlainGaps, PlainBury, PlainFree, PlainFullRows, PlainFullPages}
+use Rattle.homa_plain.specs.Entries.{PlainEntry, PlainJunk, PlainStale, PlainBalance, PlainRun, PlainDone, PlainFail, PlainDrop, PlainGaps, PlainBury}
+use Rattle.homa_plain.specs.Entries.{PlainFree, PlainFullRows, PlainFullPages}
 use Rattle.homa_plain.specs.Host.{Host, Told, Says, Sends}
 use Rattle.host_view.specs.Marks.{request_of, response_of}
 

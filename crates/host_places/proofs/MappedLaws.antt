@@ -31,7 +31,8 @@ module _ {K X Y : Type 0} (f : X → Y) where
     find-each : (q : K) (es : List (K × X)) → find R q (each es) ≡ option_map f (find R q es)
     find-each q [] = refl
     find-each q (e ∷ es) =
-        elim (eq_by_cmp R q e.0) as (λ b. cond b (Some (f e.1)) (find R q (each es)) ≡ option_map f (cond b (Some e.1) (find R q es))) [ true ↦ refl | false ↦ find-each q es ]
+        elim (eq_by_cmp R q e.0) as (λ b. cond b (Some (f e.1)) (find R q (each es)) ≡ option_map f (cond b (Some e.1) (find R q es)))
+        [ true ↦ refl | false ↦ find-each q es ]
 
 module _ {K X Y : Type 0} {R : K → K → Ordering} (f : X → Y) where
   -- its entries

@@ -59,7 +59,8 @@ module _ {R : Type 0} where
   none_placed None e = refl
   none_placed (Some y) e = cc
 
-  pub some_placed : (x : Option (Placed R)) (n : ℕ) → option_map (λ (y : Placed R). y.place) x ≡ Some n → (row : R) × (x ≡ Some (record { place = n; row = row }))
+  pub some_placed : (x : Option (Placed R)) (n : ℕ) → option_map (λ (y : Placed R). y.place) x ≡ Some n
+      → (row : R) × (x ≡ Some (record { place = n; row = row }))
   some_placed None n e = absurd (nothing e) where
     nothing : None ≡ Some n → ⊥
     nothing e = cc
@@ -71,7 +72,9 @@ module _ {R : Type 0} where
     nothing : (s : CallId × R) → None ≡ Some s → ⊥
     nothing s e = cc
   found (e ∷ es) place s =
-      elim (e.1.place == place) as (λ b. (e.1.place == place) ≡ b → cond b (Some (e.0, e.1.row)) (spot_among es place) ≡ Some s → Contains (e ∷ es) (s.0, record { place = place; row = s.1 })) [
+      elim (e.1.place == place) as
+      (λ b. (e.1.place == place) ≡ b → cond b (Some (e.0, e.1.row)) (spot_among es place) ≡ Some s → Contains (e ∷ es)
+      (s.0, record { place = place; row = s.1 })) [
         | true ↦ λ t is.
             let at : e.1.place ≡ place = eqb-true _ _ t in
             let same : (e.0, e.1.row) ≡ s = same_some (e.0, e.1.row) s is in
@@ -84,7 +87,8 @@ module _ {R : Type 0} where
   none_found : (es : List (CallId × Placed R)) (place : ℕ) (e : CallId × Placed R) → spot_among es place ≡ None → Contains es e → e.1.place ≡ place → ⊥
   none_found [] place e = λ none c at. absurd (none_in e c)
   none_found (f ∷ es) place e =
-      elim (f.1.place == place) as (λ b. (f.1.place == place) ≡ b → cond b (Some (f.0, f.1.row)) (spot_among es place) ≡ None → Contains (f ∷ es) e → e.1.place ≡ place → ⊥) [
+      elim (f.1.place == place) as
+      (λ b. (f.1.place == place) ≡ b → cond b (Some (f.0, f.1.row)) (spot_among es place) ≡ None → Contains (f ∷ es) e → e.1.place ≡ place → ⊥) [
         | true ↦ λ t none c at. let no : Some (f.0, f.1.row) ≡ None = none in cc
         | false ↦ λ t none c at.
             elim (at_head f e es c) [
@@ -119,9 +123,12 @@ module _ {R : Type 0} where
     spot-stands id place row e = spot-get id (record { place = place; row = row }) e
 
     -- the row at a place is changed where its call's row is
-    pub set_at-insert : (id : CallId) (place : ℕ) (row new : R) → StandsAt rows id place row → set_at rows place new ≡ insert rows id (record { place = place; row = new })
+    pub set_at-insert : (id : CallId) (place : ℕ) (row new : R) → StandsAt rows id place row
+        → set_at rows place new ≡ insert rows id (record { place = place; row = new })
     set_at-insert id place row new e = same_map call_total call_same _ _ (λ q.
-        get-mapped (set_where place new) rows q ∙ sym (get-insert call_total rows id _ q ∙ by_call q id _ (get rows q) _ (λ is. sym (here_at q is)) (λ ne. sym (else_at q ne (get rows q) refl)))) where
+        get-mapped (set_where place new) rows q
+        ∙ sym (get-insert call_total rows id _ q ∙ by_call q id _ (get rows q) _ (λ is. sym (here_at q is))
+        (λ ne. sym (else_at q ne (get rows q) refl)))) where
           here_at : (q : CallId) → q ≡ id → option_map (set_where place new) (get rows q) ≡ Some (record { place = place; row = new })
           here_at q is =
               ap (λ (p : CallId). option_map (set_where place new) (get rows p)) is ∙ ap (option_map (set_where place new)) e
@@ -139,7 +146,8 @@ module _ {R : Type 0} where
     pub placed-insert : (id : CallId) (x : Placed R) → x.place < room → IsFree rows x.place → ArePlaced room (insert rows id x)
     placed-insert id x within free = record {
       within = λ q y e. elim (one_call q id) [
-        | inl is ↦ let one : y ≡ x = same_some _ _ (sym e ∙ ap (get (insert rows id x)) is ∙ get-insert_here rows id x) in subst (λ (z : Placed R). z.place < room) (sym one) within
+        | inl is ↦ let one : y ≡ x =
+            same_some _ _ (sym e ∙ ap (get (insert rows id x)) is ∙ get-insert_here rows id x) in subst (λ (z : Placed R). z.place < room) (sym one) within
         | inr ne ↦ placed.within q y (sym (get-insert_else rows id x q ne) ∙ e)
       ];
       apart = λ p q y z e f at. elim (one_call p id) [
@@ -161,9 +169,11 @@ module _ {R : Type 0} where
   -- ---- a change of one call's row
 
   -- a new row of the call at its place
-  pub changed-put : (rows : RowsOf (Placed R)) (id : CallId) (place : ℕ) (row new : R) → StandsAt rows id place row → Changed id rows (insert rows id (record { place = place; row = new }))
+  pub changed-put : (rows : RowsOf (Placed R)) (id : CallId) (place : ℕ) (row new : R) → StandsAt rows id place row
+      → Changed id rows (insert rows id (record { place = place; row = new }))
   changed-put rows id place row new e = record {
-    place = λ x y was is. ap (λ (z : Placed R). z.place) (same_some y _ (sym is ∙ get-insert_here rows id _)) ∙ ap (λ (z : Placed R). z.place) (same_some _ x (sym e ∙ was));
+    place = λ x y was is. ap (λ (z : Placed R). z.place) (same_some y _ (sym is ∙ get-insert_here rows id _)) ∙ ap (λ (z : Placed R). z.place)
+        (same_some _ x (sym e ∙ was));
     others = λ q ne. get-insert_else rows id _ q ne;
   }
 

@@ -1,5 +1,6 @@
 -- What a search by halving finds in entries whose keys rise, and what an edit there makes of them.
-use Rattle.std.proofs.Common.{◌≡◌, ℕ, zero, suc, ◌<◌, ◌≤◌, Bool, true, false, cond, not, ◌&&◌, T, List, [], ◌∷◌, length, get_or, refl, sym, ap, subst, ◌∙◌, arith, inl, inr, Some, None, Result, Ok, Err, add-one}
+use Rattle.std.proofs.Common.{◌≡◌, ℕ, zero, suc, ◌<◌, ◌≤◌, Bool, true, false, cond, not, ◌&&◌, T, List, [], ◌∷◌, length, get_or, refl, sym, ap, subst}
+use Rattle.std.proofs.Common.{◌∙◌, arith, inl, inr, Some, None, Result, Ok, Err, add-one}
 use Rattle.std.specs.List.{filter, insert as insert_at, remove as remove_at, Contains}
 use Rattle.std.specs.List.Sorted.{IsBinarySearchResult, IsSearchInRange, IsSortedBy, IsNonDecreasingBy}
 use Rattle.std.specs.Result.{MatchResult}
@@ -65,11 +66,13 @@ module _ {K X : Type 0} {R : K → K → Ordering} (o : IsTotalOrder R) (same : 
   -- so they are sorted as a search asks
   comparisons_rise : (es : List (K × X)) → T (rises R es) → (k : K) → IsNonDecreasingBy (λ e. ordering_index (R e.0 k)) es
   comparisons_rise es h k =
-      let sorted : IsSortedBy (λ a b. is_lt (R a.0 b.0)) es = λ j d low high. rw (add-one j) (ap is_lt (turned o _ _ Less (next_above es h j d (omega arith)))) in
+      let sorted : IsSortedBy (λ a b. is_lt (R a.0 b.0)) es =
+      λ j d low high. rw (add-one j) (ap is_lt (turned o _ _ Less (next_above es h j d (omega arith)))) in
       searchable_from_sorted o (λ (e : K × X). e.0) es k sorted
 
   -- a search ends at the key, or at the gap for it
-  pub searched : (es : List (K × X)) → T (rises R es) → (k : K) (r : Result ℕ ℕ) → IsSearchInRange r (length es) → IsBinarySearchResult (λ e. R e.0 k) es r → MatchResult r (IsAt es k) (IsGap R es k)
+  pub searched : (es : List (K × X)) → T (rises R es) → (k : K) (r : Result ℕ ℕ) → IsSearchInRange r (length es)
+      → IsBinarySearchResult (λ e. R e.0 k) es r → MatchResult r (IsAt es k) (IsGap R es k)
   searched es h k (Ok i) within equal = record { within = within; key = λ d. same _ k (equal d) }
   searched es h k (Err i) within parted =
       let p = parted (comparisons_rise es h k) in

@@ -1,5 +1,6 @@
 -- The rows of spots: what stands in a spot is the row of its call, and a change of one spot is that of one row.
-use Rattle.std.proofs.Common.{◌≡◌, ℕ, zero, suc, ◌+◌, ◌<◌, true, false, cond, List, [], ◌∷◌, length, get_or, set, replicate, refl, sym, ap, subst, ◌∙◌, arith, inl, inr, Option, Some, None, IsSome, ◌≤◌, ◌++◌}
+use Rattle.std.proofs.Common.{◌≡◌, ℕ, zero, suc, ◌+◌, ◌<◌, true, false, cond, List, [], ◌∷◌, length, get_or, set, replicate, refl, sym, ap, subst}
+use Rattle.std.proofs.Common.{◌∙◌, arith, inl, inr, Option, Some, None, IsSome, ◌≤◌, ◌++◌}
 use Rattle.std.specs.Option.{option_map}
 use Rattle.std.proofs.lemmas.Bool.{true≢false, cases_lt, cases_eq}
 use Rattle.std.proofs.lemmas.List.{get_or_default, get_or_past, get_or-set_same, get_or-set_other, length-set}
@@ -18,7 +19,8 @@ use Rattle.host_places.specs.declared.table.Spot.{Spot}
 use Rattle.host_places.specs.declared.table.Spot.TheVariants.{Free, Of}
 use Rattle.host_places.specs.Spots.{call_in, row_in, spot_in, placed_from, rows_of, call_of, AreSpots}
 use Rattle.host_places.proofs.MappedLaws.{get-mapped, len-mapped}
-use Rattle.host_places.proofs.PlacedLaws.{same_option, none_placed, one_call, by_call, get-insert_here, get-insert_else, get-remove_here, get-remove_else, get-spot, spot-get, set_at-insert}
+use Rattle.host_places.proofs.PlacedLaws.{same_option, none_placed, one_call, by_call, get-insert_here, get-insert_else, get-remove_here}
+use Rattle.host_places.proofs.PlacedLaws.{get-remove_else, get-spot, spot-get, set_at-insert}
 
 module _ {R : Type 0} where
   -- what was read of a spot
@@ -47,7 +49,8 @@ module _ {R : Type 0} where
   free_not_of q r e = let no : None ≡ Some q = ap call_in e in cc
 
   -- what is found among the rows of spots stands in its spot
-  spot_of_found : (q : CallId) (k : ℕ) (spots : List (Spot R)) (x : Placed R) → find call_cmp q (placed_from k spots) ≡ Some x → (n : ℕ) × (k + n ≡ x.place) × (get_or spots n Free ≡ Of q x.row)
+  spot_of_found : (q : CallId) (k : ℕ) (spots : List (Spot R)) (x : Placed R) → find call_cmp q (placed_from k spots) ≡ Some x
+      → (n : ℕ) × (k + n ≡ x.place) × (get_or spots n Free ≡ Of q x.row)
   spot_of_found q k [] x = λ e. let no : None ≡ Some x = e in absurd cc
   spot_of_found q k (Free ∷ spots) x = λ e. let rest = spot_of_found q (suc k) spots x e in (suc rest.0, omega (arith, rest.1), rest.2)
   spot_of_found q k (Of id row ∷ spots) x =
@@ -60,12 +63,16 @@ module _ {R : Type 0} where
       ] refl
 
   -- and what stands in a spot is found
-  found_of_spot : (q : CallId) (row : R) (n k : ℕ) (spots : List (Spot R)) → get_or spots n Free ≡ Of q row → (x : Placed R) × (find call_cmp q (placed_from k spots) ≡ Some x)
+  found_of_spot : (q : CallId) (row : R) (n k : ℕ) (spots : List (Spot R)) → get_or spots n Free ≡ Of q row
+      → (x : Placed R) × (find call_cmp q (placed_from k spots) ≡ Some x)
   found_of_spot q row n k [] e = absurd (free_not_of q row e)
   found_of_spot q row zero k (Free ∷ spots) e = absurd (free_not_of q row e)
   found_of_spot q row (suc n) k (Free ∷ spots) e = found_of_spot q row n (suc k) spots e
-  found_of_spot q row zero k (Of id r ∷ spots) e =
-      (record { place = k; row = r }, ap (λ b. cond b (Some (record { place = k; row = r })) (find call_cmp q (placed_from (suc k) spots))) ((calls_are q id).1 (sym (same_call id q r row e))))
+  found_of_spot q row zero k (Of id r ∷ spots) e = (
+    record { place = k; row = r },
+    ap (λ b. cond b (Some (record { place = k; row = r })) (find call_cmp q (placed_from (suc k) spots)))
+        ((calls_are q id).1 (sym (same_call id q r row e))),
+  )
   found_of_spot q row (suc n) k (Of id r ∷ spots) e =
       elim (is_call q id) as (λ b. (x : Placed R) × (cond b (Some (record { place = k; row = r })) (find call_cmp q (placed_from (suc k) spots)) ≡ Some x)) [
         | true ↦ (record { place = k; row = r }, refl)
@@ -117,7 +124,8 @@ module _ {R : Type 0} where
         ] refl where
           none : get_or spots n Free ≡ Free → (s : Option (CallId × R)) → spot_at (rows_of spots) n ≡ s → s ≡ None
           none e None is = refl
-          none e (Some s) is = absurd (free_not_of s.0 s.1 (sym e ∙ stands-get spots s.0 (record { place = n; row = s.1 }) (get-spot (rows_of spots) n s.0 s.1 is)))
+          none e (Some s) is =
+              absurd (free_not_of s.0 s.1 (sym e ∙ stands-get spots s.0 (record { place = n; row = s.1 }) (get-spot (rows_of spots) n s.0 s.1 is)))
 
     -- where something stands there, the spot has a call's row
     pub stands_in : (n : ℕ) → IsSome (spot_at (rows_of spots) n) → (id : CallId) × (row : R) × (get_or spots n Free ≡ Of id row)
@@ -194,7 +202,8 @@ module _ {R : Type 0} where
           no_row : (q : CallId) → get (rows_of new) q ≡ get (rows_of new) id → get (rows_of new) q ≡ None
           no_row q e = e ∙ same_option _ None (λ x is.
               let place : get new_taken.at id ≡ Some x.place = sym (place-is new_taken new are_new id) ∙ ap (option_map (λ (y : Placed R). y.place)) is in
-              let no : None ≡ Some x.place = sym (get-remove_here taken.at id) ∙ ap (λ (m : RowsOf ℕ). get m id) (sym gone) ∙ place in absurd cc) (λ x no. absurd (nothing x no)) where
+              let no : None ≡ Some x.place =
+              sym (get-remove_here taken.at id) ∙ ap (λ (m : RowsOf ℕ). get m id) (sym gone) ∙ place in absurd cc) (λ x no. absurd (nothing x no)) where
                 nothing : (x : Placed R) → None ≡ Some x → ⊥
                 nothing x e = cc
 
@@ -246,7 +255,8 @@ module _ {R : Type 0} where
   rows-more spots n = ap (λ es. from_entries es) (more-placed spots n 0)
 
   -- so the table stands
-  pub stored : (taken : Taken) (spots more : List (Spot R)) (n : ℕ) → more ≡ spots ++ replicate n Free → AreSpots taken spots → length more ≤ taken.room → AreSpots taken more
+  pub stored : (taken : Taken) (spots more : List (Spot R)) (n : ℕ) → more ≡ spots ++ replicate n Free → AreSpots taken spots
+      → length more ≤ taken.room → AreSpots taken more
   stored taken spots more n e are few =
       let same : (m : ℕ) → get_or more m Free ≡ get_or spots m Free = λ m. ap (λ s. get_or s m Free) e ∙ more-at spots n m in
       record {
@@ -256,7 +266,8 @@ module _ {R : Type 0} where
       }
 
   -- a free spot takes a call's row
-  pub spots-insert : (taken : Taken) (spots : List (Spot R)) (id : CallId) (n : ℕ) (row : R) → AreSpots taken spots → get taken.at id ≡ None → n < length spots → IsFreePlace taken.at n
+  pub spots-insert : (taken : Taken) (spots : List (Spot R)) (id : CallId) (n : ℕ) (row : R) → AreSpots taken spots → get taken.at id ≡ None
+      → n < length spots → IsFreePlace taken.at n
       → AreSpots (record taken { at = insert taken.at id n }) (set spots n (Of id row))
   spots-insert taken spots id n row are none l free =
       record {
@@ -271,7 +282,8 @@ module _ {R : Type 0} where
         ];
         found = λ q m e. elim (cases_eq m n) [
           | inl at ↦
-              let is : id ≡ q = same_some id q (sym (ap call_in (get_or-set_same spots n (Of id row) Free l)) ∙ ap (call_of (set spots n (Of id row))) (sym at) ∙ e) in
+              let is : id ≡ q =
+              same_some id q (sym (ap call_in (get_or-set_same spots n (Of id row) Free l)) ∙ ap (call_of (set spots n (Of id row))) (sym at) ∙ e) in
               ap (get (insert taken.at id n)) (sym is) ∙ get-insert_here taken.at id n ∙ ap Some (sym at)
           | inr off ↦
               let was : get taken.at q ≡ Some m = are.found q m (sym (ap call_in (get_or-set_other spots n m (Of id row) Free off)) ∙ e) in
@@ -291,7 +303,8 @@ module _ {R : Type 0} where
           | inl is ↦ absurd (nothing m (sym (get-remove_here taken.at id) ∙ ap (get (remove taken.at id)) (sym is) ∙ e))
           | inr ne ↦
               let was : get taken.at q ≡ Some m = sym (get-remove_else taken.at id q ne) ∙ e in
-              ap call_in (get_or-set_other spots n m Free Free (λ is. ne (same_some q id (sym (are.stands q m was) ∙ ap (call_of spots) is ∙ ap call_in here)))) ∙ are.stands q m was
+              ap call_in (get_or-set_other spots n m Free Free
+              (λ is. ne (same_some q id (sym (are.stands q m was) ∙ ap (call_of spots) is ∙ ap call_in here)))) ∙ are.stands q m was
         ];
         found = λ q m e. elim (cases_eq m n) [
           | inl at ↦ absurd (nothing_at q (sym (ap call_in (get_or-set_same spots n Free Free l)) ∙ ap (call_of (set spots n Free)) (sym at) ∙ e))
@@ -312,7 +325,8 @@ module _ {R : Type 0} where
   spots-set taken spots id n row new are here =
       let l : n < length spots = spot_within taken spots are id row n here in
       let same : (m : ℕ) → call_of (set spots n (Of id new)) m ≡ call_of spots m = λ m. elim (cases_eq m n) [
-        | inl at ↦ ap (call_of (set spots n (Of id new))) at ∙ ap call_in (get_or-set_same spots n (Of id new) Free l) ∙ sym (ap (call_of spots) at ∙ ap call_in here)
+        | inl at ↦ ap (call_of (set spots n (Of id new))) at ∙ ap call_in (get_or-set_same spots n (Of id new) Free l)
+            ∙ sym (ap (call_of spots) at ∙ ap call_in here)
         | inr off ↦ ap call_in (get_or-set_other spots n m (Of id new) Free off)
       ] in record {
         few = omega (arith, length-set spots n (Of id new), are.few);
@@ -322,10 +336,12 @@ module _ {R : Type 0} where
 
   module _ (taken : Taken) (spots : List (Spot R)) (id : CallId) (n : ℕ) (row : R) (are : AreSpots taken spots) where
     -- the rows after each change
-    pub rows-insert : get taken.at id ≡ None → n < length spots → IsFreePlace taken.at n → rows_of (set spots n (Of id row)) ≡ insert (rows_of spots) id (record { place = n; row = row })
+    pub rows-insert : get taken.at id ≡ None → n < length spots → IsFreePlace taken.at n
+        → rows_of (set spots n (Of id row)) ≡ insert (rows_of spots) id (record { place = n; row = row })
     rows-insert none l free =
         rows-put taken (record taken { at = insert taken.at id n }) spots (set spots n (Of id row)) n id are (spots-insert taken spots id n row are none l free)
-        (λ m off. get_or-set_other spots n m (Of id row) Free off) (λ q r e. absurd (free_not_of q r (sym (free-is taken spots are n free) ∙ e))) row (get_or-set_same spots n (Of id row) Free l)
+        (λ m off. get_or-set_other spots n m (Of id row) Free off) (λ q r e. absurd (free_not_of q r (sym (free-is taken spots are n free) ∙ e))) row
+        (get_or-set_same spots n (Of id row) Free l)
 
     module _ (here : get_or spots n Free ≡ Of id row) where
       within_spots : n < length spots

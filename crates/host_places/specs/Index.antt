@@ -16,7 +16,8 @@ pub record Taken : Type 0 where
 
 -- the places of calls are stored as the pair of these two
 abbrev pub taken_code : Coded Taken
-taken_code = code_by (ℕ × RowsOf ℕ) (coded× coded_ℕ (code (call_id.the_row.coded) coded_ℕ)) (λ t. (t.room, t.at)) (λ c. record { room = c.0; at = c.1 }) (λ _. refl)
+taken_code =
+    code_by (ℕ × RowsOf ℕ) (coded× coded_ℕ (code (call_id.the_row.coded) coded_ℕ)) (λ t. (t.room, t.at)) (λ c. record { room = c.0; at = c.1 }) (λ _. refl)
 
 -- the map of an index whose calls rise
 unfoldable pub map_of : List (CallId × ℕ) → RowsOf ℕ

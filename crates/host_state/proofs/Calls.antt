@@ -24,7 +24,8 @@ all-rest P (suc n) [] all = tt
 all-rest P (suc n) (x ∷ xs) all = all-rest P n xs all.1
 
 -- the finished calls of a peer with one more
-pub calls-joined : (book : List (List (ℕ × ℕ))) (peer : ℕ) (call : ℕ × ℕ) → IsCall call → AllByRecursion (AllByRecursion IsCall) book → AllByRecursion IsCall (slice_index_or book peer [] ++ call ∷ [])
+pub calls-joined : (book : List (List (ℕ × ℕ))) (peer : ℕ) (call : ℕ × ℕ) → IsCall call → AllByRecursion (AllByRecursion IsCall) book
+    → AllByRecursion IsCall (slice_index_or book peer [] ++ call ∷ [])
 calls-joined book peer call is all = all-joined IsCall (slice_index_or book peer []) call is (all-at (AllByRecursion IsCall) book peer [] tt all)
 
 -- a list begins with its first

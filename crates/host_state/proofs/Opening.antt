@@ -52,8 +52,10 @@ new-sound s id inc last valid host i l = record {
   room = omega arith;
 }
 
-pub opened-new : (s : Settings) (id : HostId) (inc last : ℕ) (own : Cutoffs) (lengths : List ℕ) (peers : List Peer) (n : ℕ) (finished : List (List (ℕ × ℕ))) (marks : List Mark)
-    → own ≡ first_cutoffs s.overcommit → lengths ≡ [] → peers ≡ replicate n (record { inc = 0; cutoffs = own }) → n ≡ s.hosts → finished ≡ replicate s.hosts [] → marks ≡ []
+pub opened-new : (s : Settings) (id : HostId) (inc last : ℕ) (own : Cutoffs) (lengths : List ℕ) (peers : List Peer) (n : ℕ)
+    (finished : List (List (ℕ × ℕ))) (marks : List Mark)
+    → own ≡ first_cutoffs s.overcommit → lengths ≡ [] → peers ≡ replicate n (record { inc = 0; cutoffs = own }) → n ≡ s.hosts
+    → finished ≡ replicate s.hosts [] → marks ≡ []
     → control_by s id inc last own lengths 0 (map peer_of peers) finished marks ≡ new_control s id inc last
 opened-new s id inc last own lengths peers n finished marks a b c d e f =
     let g : map peer_of peers ≡ replicate s.hosts (record { inc = 0; cutoffs = first_cutoffs s.overcommit }) =

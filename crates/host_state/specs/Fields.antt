@@ -29,4 +29,5 @@ control_by s id inc last own lengths opened peers finished marks = record {
 -- what a host has that has done nothing, at a tick of its own clock
 abbrev pub new_control : Settings → HostId → ℕ → ℕ → Control
 new_control s id inc last =
-    control_by s id inc last (first_cutoffs s.overcommit) [] 0 (replicate s.hosts (record { inc = 0; cutoffs = first_cutoffs s.overcommit })) (replicate s.hosts []) []
+    control_by s id inc last (first_cutoffs s.overcommit) [] 0 (replicate s.hosts (record { inc = 0; cutoffs = first_cutoffs s.overcommit }))
+    (replicate s.hosts []) []

@@ -51,5 +51,6 @@ lines h frames whole [] = tt
 lines h frames whole (m ∷ ms) = (shown_has h frames whole m, lines h frames whole ms)
 
 -- what a host left, where it is read
-pub left_read : {S : Type 0} (st : Stage S) (xs : List Seen) (i : ℕ) (x : Seen) → i < length xs → x ≡ get_or xs i x → HasLeft st (slice_get xs i) → HasLeft st (Some x)
+pub left_read : {S : Type 0} (st : Stage S) (xs : List Seen) (i : ℕ) (x : Seen) → i < length xs → x ≡ get_or xs i x → HasLeft st (slice_get xs i)
+    → HasLeft st (Some x)
 left_read st xs i x within is = subst (HasLeft st) (slice_get_read xs (length xs) i x refl within is)

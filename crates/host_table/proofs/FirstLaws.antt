@@ -7,7 +7,9 @@ use Rattle.homa_plain.specs.World.{new_hosts}
 use Rattle.host_view.specs.Seen.{Seen}
 use Rattle.host_table.specs.Staged.{known, known_in, known_first}
 
-one_more : (s : Settings) (n i : ℕ) (incs : List ℕ) (d : ℕ) → i < length incs → map (known_in s) (new_hosts s n (take (suc i) incs)) ≡ map (known_in s) (new_hosts s n (take i incs)) ++ known_in s (new_host s (record { 0 = n + i }) (get_or incs i d) 0) ∷ []
+one_more : (s : Settings) (n i : ℕ) (incs : List ℕ) (d : ℕ) → i < length incs
+    → map (known_in s) (new_hosts s n (take (suc i) incs)) ≡ map (known_in s) (new_hosts s n (take i incs))
+    ++ known_in s (new_host s (record { 0 = n + i }) (get_or incs i d) 0) ∷ []
 one_more s n i [] d l = absurd (omega (arith, l))
 one_more s n zero (inc ∷ incs) d l = ap (λ m. known_in s (new_host s (record { 0 = m }) inc 0) ∷ []) (omega (arith))
 one_more s n (suc i) (inc ∷ incs) d l =
@@ -15,7 +17,8 @@ one_more s n (suc i) (inc ∷ incs) d l =
     ∙ ap (λ m. map (known_in s) (new_hosts s (suc n) (take i incs)) ++ known_in s (new_host s (record { 0 = m }) (get_or incs i d) 0) ∷ []) (omega (arith)))
 
 -- one more host behind the first ones
-pub first_more : (s : Settings) (incs : List ℕ) (i : ℕ) (hosts : List Seen) (h : Seen) → i < length incs → map known hosts ≡ known_first s (take i incs) → known h ≡ known_in s (new_host s (record { 0 = i }) (get_or incs i 0) 0)
+pub first_more : (s : Settings) (incs : List ℕ) (i : ℕ) (hosts : List Seen) (h : Seen) → i < length incs
+    → map known hosts ≡ known_first s (take i incs) → known h ≡ known_in s (new_host s (record { 0 = i }) (get_or incs i 0) 0)
     → map known (hosts ++ h ∷ []) ≡ known_first s (take (i + 1) incs)
 first_more s incs i hosts h l before is =
     let here : i ≡ 0 + i = omega (arith) in

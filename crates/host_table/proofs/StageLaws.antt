@@ -1,5 +1,6 @@
 -- A host that is read and written at its place.
-use Rattle.std.proofs.Common.{◌≡◌, ◌<◌, ℕ, zero, suc, Option, Some, None, List, [], ◌∷◌, length, get_or, refl, sym, ap, subst, ◌∙◌, Bool, true, false, true≢false, ◌↔◌}
+use Rattle.std.proofs.Common.{◌≡◌, ◌<◌, ℕ, zero, suc, Option, Some, None, List, [], ◌∷◌, length, get_or, refl, sym, ap, subst, ◌∙◌, Bool, true, false}
+use Rattle.std.proofs.Common.{true≢false, ◌↔◌}
 use Rattle.std.specs.Prelude.{IfSome, IfErr, OnOk, OnErr, IsErr, is_err, Result, Ok, Err, map, slice_get, slice_set}
 use Rattle.std.proofs.lemmas.Option.{slice_get_read}
 use Rattle.host_view.specs.Seen.{Seen}
@@ -22,7 +23,8 @@ map-set_same f [] i x y at same = refl
 map-set_same f (z ∷ xs) zero x y at same = ap (λ w. w ∷ map f xs) (same ∙ sym (ap f (some_is z x at)))
 map-set_same f (z ∷ xs) (suc i) x y at same = ap (λ ws. f z ∷ ws) (map-set_same f xs i x y at same)
 
-pub still : (xs : List Seen) (i : ℕ) (x y : Seen) → i < length xs → x ≡ get_or xs i x → y ≡ record x { marks = [] } → map known (slice_set xs i y) ≡ map known xs
+pub still : (xs : List Seen) (i : ℕ) (x y : Seen) → i < length xs → x ≡ get_or xs i x → y ≡ record x { marks = [] }
+    → map known (slice_set xs i y) ≡ map known xs
 still xs i x y within is e = map-set_same known xs i x y (slice_get_read xs (length xs) i x refl within is) (ap known e)
 
 -- ---- results
@@ -64,7 +66,8 @@ set_twice (z ∷ xs) zero x y = refl
 set_twice (z ∷ xs) (suc i) x y = ap (λ ws. z ∷ ws) (set_twice xs i x y)
 
 -- a place that was emptied is filled again
-pub reset : {A : Type 0} (old lent new : List (Option A)) (i : ℕ) (x : A) → lent ≡ slice_set old i None → new ≡ slice_set lent i (Some x) → new ≡ slice_set old i (Some x)
+pub reset : {A : Type 0} (old lent new : List (Option A)) (i : ℕ) (x : A) → lent ≡ slice_set old i None → new ≡ slice_set lent i (Some x)
+    → new ≡ slice_set old i (Some x)
 reset old lent new i x e f = f ∙ ap (λ xs. slice_set xs i (Some x)) e ∙ set_twice old i None (Some x)
 
 pub map_at : {A B : Type 0} (f : A → B) (xs : List A) (i : ℕ) (x : A) → slice_get xs i ≡ Some x → slice_get (map f xs) i ≡ Some (f x)

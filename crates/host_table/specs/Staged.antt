@@ -84,7 +84,8 @@ pub record IsLent {S : Type 0} (allows : S → ℕ → ℕ → List ℕ → List
   pub before : (count number hold : ℕ) (q r : List ℕ) → allows seat count number q r hold → allows had count number q r hold
 
 -- a packet came to a host, whose box gave this answer if it was asked
-pub record HasCome {S : Type 0} (served : S → ℕ) (allows : S → ℕ → ℕ → List ℕ → List ℕ → ℕ → Type 0) (now : ℕ) (id : HostId) (h : Seen) (o : Option Packet) (old new : Stage S) : Type 0 where
+pub record HasCome {S : Type 0} (served : S → ℕ) (allows : S → ℕ → ℕ → List ℕ → List ℕ → ℕ → Type 0) (now : ℕ) (id : HostId) (h : Seen)
+    (o : Option Packet) (old new : Stage S) : Type 0 where
   pub answer : Answer
   pub stepped : HasStepped now id h (arrival_step h.settings h.host now o answer) old new
   pub lent : IsLent allows id old new

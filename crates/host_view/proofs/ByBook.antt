@@ -34,10 +34,11 @@ module _ {X Y : Type 0} (key : X → ℕ × ℕ) (key' : Y → ℕ × ℕ) (f : 
 
   test-map : (p : X → Bool) (p' : Y → Bool) → ((x : X) → p' (f x) ≡ p x) → (xs : List X) → filter p' (map f xs) ≡ map f (filter p xs)
   test-map p p' alike [] = refl
-  test-map p p' alike (x ∷ xs) = ap (λ b. cond b (f x ∷ filter p' (map f xs)) (filter p' (map f xs))) (alike x) ∙ ap (λ ys. cond (p x) (f x ∷ ys) ys) (test-map p p' alike xs) ∙ out (p x) where
-    out : (b : Bool) → cond b (f x ∷ map f (filter p xs)) (map f (filter p xs)) ≡ map f (cond b (x ∷ filter p xs) (filter p xs))
-    out true = refl
-    out false = refl
+  test-map p p' alike (x ∷ xs) = ap (λ b. cond b (f x ∷ filter p' (map f xs)) (filter p' (map f xs))) (alike x) ∙ ap (λ ys. cond (p x) (f x ∷ ys) ys)
+      (test-map p p' alike xs) ∙ out (p x) where
+        out : (b : Bool) → cond b (f x ∷ map f (filter p xs)) (map f (filter p xs)) ≡ map f (cond b (x ∷ filter p xs) (filter p xs))
+        out true = refl
+        out false = refl
 
   -- the things that are due, of a book that holds the things in order
   pub due-map : (now : ℕ) (xs : List X) → KeysDiffer key xs → due key' now (ordered key' (map f xs)) ≡ map f (due key now xs)
@@ -68,5 +69,7 @@ pub chosen-book : (h : Seen) (book : List Entry) (k : ℕ) → HasOwnOrders h.ho
 chosen-book h book k own are =
     let key : Arriving → ℕ × ℕ = λ a. choice_key a.message in
     ap (chosen_by entry_peer entry_key k) are
-    ∙ ap (λ l. take k (firsts entry_peer l)) (ordered-twice entry_key (map (entry_of h) (arrivals h.host)) (differ-map key entry_key (entry_of h) (λ a. refl) (arrivals h.host) (arrivals-keys h.host own)))
+    ∙ ap (λ l. take k (firsts entry_peer l))
+    (ordered-twice entry_key (map (entry_of h) (arrivals h.host))
+    (differ-map key entry_key (entry_of h) (λ a. refl) (arrivals h.host) (arrivals-keys h.host own)))
     ∙ chosen-map (λ (a : Arriving). choice.sender a.message) entry_peer (entry_of h) (λ a. refl) key entry_key (λ a. refl) k (arrivals h.host)

@@ -44,7 +44,8 @@ least-first : {X : Type 0} (key : X → ℕ × ℕ) (xs : List X) (x : X) → Ke
     → (o : Option X) → MatchOption o (xs ≡ []) (IsLeast key xs) → o ≡ Some x
 least-first {X} key xs x differ least None none = absurd (none_in x (subst (λ ys. Contains ys x) none least.0))
 least-first {X} key xs x differ least (Some y) first =
-    let e = tied_keys (key y) (key x) (all_at (λ (z : X). is_below (key z) (key x) ≡ false) xs y least.1 first.0) (all_at (λ (z : X). is_below (key z) (key y) ≡ false) xs x first.1 least.0) in
+    let e = tied_keys (key y) (key x) (all_at (λ (z : X). is_below (key z) (key x) ≡ false) xs y least.1 first.0)
+    (all_at (λ (z : X). is_below (key z) (key y) ≡ false) xs x first.1 least.0) in
     ap Some (one_key key xs y x differ first.0 least.0 e)
 
 first-least : {X : Type 0} (key : X → ℕ × ℕ) (xs : List X) (x : X) → (o : Option X) → MatchOption o (xs ≡ []) (IsLeast key xs) → o ≡ Some x → IsLeast key xs x
@@ -80,7 +81,8 @@ idle h book are none = at (first_of (ordered leaving_key (all_of h))) (first-ord
 -- ---- time goes on
 
 -- what each of these gives more of, all give more of
-more_in : {X Y : Type 0} (f g : X → List Y) (xs : List X) (y : Y) → ((x : X) → Contains (f x) y → Contains (g x) y) → Contains (flat_map f xs) y → Contains (flat_map g xs) y
+more_in : {X Y : Type 0} (f g : X → List Y) (xs : List X) (y : Y) → ((x : X) → Contains (f x) y → Contains (g x) y) → Contains (flat_map f xs) y
+    → Contains (flat_map g xs) y
 more_in f g [] y h c = c
 more_in f g (x ∷ xs) y h c = elim (Contains-append_cases (f x) (flat_map f xs) y c) [
   | inl a ↦ Contains-append_left (g x) (flat_map g xs) y (h x a)
@@ -88,7 +90,8 @@ more_in f g (x ∷ xs) y h c = elim (Contains-append_cases (f x) (flat_map f xs)
 ]
 
 -- who is patient later is patient now
-still_patient : (new waits : Bool) (now later until : ℕ) → now ≤ later → (waits && (new || nat_le later until)) ≡ true → (waits && (new || nat_le now until)) ≡ true
+still_patient : (new waits : Bool) (now later until : ℕ) → now ≤ later → (waits && (new || nat_le later until)) ≡ true
+    → (waits && (new || nat_le now until)) ≡ true
 still_patient false false now later until h e = e
 still_patient true false now later until h e = e
 still_patient true true now later until h e = refl
@@ -98,11 +101,13 @@ abbrev leaving_of : CallId → ClientRow → Leaving
 leaving_of id r = record { place = OfClient id; left = left r.out; order = r.order }
 
 -- what may be sent later may be sent now
-sent_before : (s : Settings) (now later : ℕ) → now ≤ later → (id : CallId) (r : ClientRow) (l : Leaving) → Contains (leaving_at_client s later id r) l → Contains (leaving_at_client s now id r) l
+sent_before : (s : Settings) (now later : ℕ) → now ≤ later → (id : CallId) (r : ClientRow) (l : Leaving) → Contains (leaving_at_client s later id r) l
+    → Contains (leaving_at_client s now id r) l
 sent_before s now later h id r l = at (may_send_request s later r) refl where
   at : (b : Bool) → may_send_request s later r ≡ b → Contains (cond b (leaving_of id r ∷ []) []) l → Contains (leaving_at_client s now id r) l
   at false e c = absurd (none_in l c)
-  at true e c = subst (λ b. Contains (cond b (leaving_of id r ∷ []) []) l) (sym (still_patient (nat_lt r.out.top r.out.length) (has_waiting r.out) now later (r.heard + patience s) h e)) c
+  at true e c = subst (λ b. Contains (cond b (leaving_of id r ∷ []) []) l)
+      (sym (still_patient (nat_lt r.out.top r.out.length) (has_waiting r.out) now later (r.heard + patience s) h e)) c
 
 abbrev of_client : Settings → ℕ → CallId × ClientRow → List Leaving
 of_client s n e = leaving_at_client s n e.0 e.1
@@ -110,13 +115,16 @@ of_client s n e = leaving_at_client s n e.0 e.1
 abbrev of_server : CallId × ServerRow → List Leaving
 of_server e = leaving_at_server e.0 e.1.state
 
-pub departures-before : (s : Settings) (h : Host) (now later : ℕ) (l : Leaving) → now ≤ later → Contains (departures s later h) l → Contains (departures s now h) l
-departures-before s h now later l le c = elim (Contains-append_cases (flat_map (of_client s later) (entries h.clients)) (flat_map of_server (entries h.servers)) l c) [
-  | inl a ↦ Contains-append_left (flat_map (of_client s now) (entries h.clients)) (flat_map of_server (entries h.servers)) l
-      (more_in (of_client s later) (of_client s now) (entries h.clients) l (λ e. sent_before s now later le e.0 e.1 l) a)
-  | inr b ↦ Contains-append_right (flat_map (of_client s now) (entries h.clients)) (flat_map of_server (entries h.servers)) l b
-]
+pub departures-before : (s : Settings) (h : Host) (now later : ℕ) (l : Leaving) → now ≤ later → Contains (departures s later h) l
+    → Contains (departures s now h) l
+departures-before s h now later l le c =
+    elim (Contains-append_cases (flat_map (of_client s later) (entries h.clients)) (flat_map of_server (entries h.servers)) l c) [
+      | inl a ↦ Contains-append_left (flat_map (of_client s now) (entries h.clients)) (flat_map of_server (entries h.servers)) l
+          (more_in (of_client s later) (of_client s now) (entries h.clients) l (λ e. sent_before s now later le e.0 e.1 l) a)
+      | inr b ↦ Contains-append_right (flat_map (of_client s now) (entries h.clients)) (flat_map of_server (entries h.servers)) l b
+    ]
 
 -- the pacer holds what it must hold as time goes on
-pub later_ready : (h : Seen) (book : List Ready) (later : ℕ) → h.host.last ≤ later → AreReady h book → AreReady (record h { host = record h.host { last = later } }) book
+pub later_ready : (h : Seen) (book : List Ready) (later : ℕ) → h.host.last ≤ later → AreReady h book
+    → AreReady (record h { host = record h.host { last = later } }) book
 later_ready h book later le are = record { all = λ l c. are.all l (departures-before h.settings h.host h.host.last later l le c); only = are.only }

@@ -5,12 +5,14 @@ use Rattle.std.specs.List.{AllByRecursion}
 use Rattle.std.specs.Option.{option_map}
 use Rattle.plain_sets.specs.Maps.{get}
 use Rattle.homa_plain.specs.declared.id.CallId.{CallId}
-use Rattle.homa_plain.specs.Entries.{PlainEntry, PlainCall, PlainJunk, PlainStale, PlainBalance, PlainRun, PlainDone, PlainFail, PlainDrop, PlainGaps, PlainBury, PlainFree, PlainFullRows, PlainFullPages}
+use Rattle.homa_plain.specs.Entries.{PlainEntry, PlainCall, PlainJunk, PlainStale, PlainBalance, PlainRun, PlainDone, PlainFail, PlainDrop, PlainGaps}
+use Rattle.homa_plain.specs.Entries.{PlainBury, PlainFree, PlainFullRows, PlainFullPages}
 use Rattle.homa_plain.specs.Rows.{ClientRow, ServerRow, State, Receiving, Held, Replying, Buried}
 use Rattle.homa_plain.specs.Host.{Host, Told, Says, Sends}
 use Rattle.homa_plain.specs.Rules.{Answer}
 use Rattle.host_view.specs.declared.mark.Mark.{Mark}
-use Rattle.host_view.specs.declared.mark.Mark.TheVariants.{Called, Junk, Stale, Balanced, Ran, Done, Failed, Dropped, TooManyGaps, Entombed, Freed, NoRow, NoPages, Sent}
+use Rattle.host_view.specs.declared.mark.Mark.TheVariants.{Called, Junk, Stale, Balanced, Ran, Done, Failed, Dropped, TooManyGaps, Entombed, Freed}
+use Rattle.host_view.specs.declared.mark.Mark.TheVariants.{NoRow, NoPages, Sent}
 use Rattle.host_view.specs.declared.outbox.SentFrame.{SentFrame}
 use Rattle.host_view.specs.Frames.{frame_line}
 use Rattle.host_view.specs.Seen.{Seen}

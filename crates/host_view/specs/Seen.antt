@@ -58,7 +58,8 @@ waiting_at_client id r = if has_waiting r.out then record { place = OfClient id;
 
 -- the same of a response
 abbrev pub waiting_at_server : CallId → State → List Leaving
-waiting_at_server id (Replying response out order base count) = if has_waiting out then record { place = OfServer id; left = left out; order = order } ∷ [] else []
+waiting_at_server id (Replying response out order base count) =
+    if has_waiting out then record { place = OfServer id; left = left out; order = order } ∷ [] else []
 waiting_at_server id state = []
 
 -- all of them: the requests, and then the responses

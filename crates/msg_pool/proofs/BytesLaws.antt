@@ -1,5 +1,6 @@
 -- The bytes of a chain, one by one.
-use Rattle.std.proofs.Common.{◌≡◌, ℕ, zero, suc, ◌+◌, ◌-◌, ◌*◌, ◌/◌, ◌%◌, ◌<◌, ◌≤◌, List, length, refl, sym, ap, ◌∙◌, arith, slice_index, get_or, ◌⊎◌, inl, inr, replicate}
+use Rattle.std.proofs.Common.{◌≡◌, ℕ, zero, suc, ◌+◌, ◌-◌, ◌*◌, ◌/◌, ◌%◌, ◌<◌, ◌≤◌, List, length, refl, sym, ap, ◌∙◌, arith, slice_index, get_or, ◌⊎◌}
+use Rattle.std.proofs.Common.{inl, inr, replicate}
 use Rattle.std.proofs.lemmas.Bool.{cases_lt}
 use Rattle.std.proofs.lemmas.List.{ext_get_or, length-replicate}
 use Rattle.std.proofs.lemmas.Grind.{common_steps}
@@ -27,7 +28,8 @@ place_of : (i k : ℕ) → k < 4096 → ((i * 4096 + k) / 4096 ≡ i) × ((i * 4
 place_of i k h = (omega arith, omega arith)
 
 -- a byte of a chain
-pub get-chain_bytes : (block next : List ℕ) (first count i k : ℕ) → k < 4096 → i * 4096 + k < count → slice_index (chain_bytes block next first count) (i * 4096 + k) ≡ byte_at block (page_at next first i) k
+pub get-chain_bytes : (block next : List ℕ) (first count i k : ℕ) → k < 4096 → i * 4096 + k < count
+    → slice_index (chain_bytes block next first count) (i * 4096 + k) ≡ byte_at block (page_at next first i) k
 unfolding chain_bytes
 get-chain_bytes block next first count i k small h =
     let at = place_of i k small in
@@ -37,7 +39,8 @@ get-chain_bytes block next first count i k small h =
 
 -- a list with the same bytes is the chain's
 pub chain_bytes-is : (block next : List ℕ) (first count : ℕ) (bytes : List ℕ) → length bytes ≡ count
-    → ((i k : ℕ) → k < 4096 → i * 4096 + k < count → byte_at block (page_at next first i) k ≡ slice_index bytes (i * 4096 + k)) → chain_bytes block next first count ≡ bytes
+    → ((i k : ℕ) → k < 4096 → i * 4096 + k < count → byte_at block (page_at next first i) k ≡ slice_index bytes (i * 4096 + k))
+    → chain_bytes block next first count ≡ bytes
 chain_bytes-is block next first count bytes l alike =
     ext_get_or 0 (chain_bytes block next first count) bytes (length-chain_bytes block next first count ∙ sym l) (λ j h.
     let low : j < count = omega (arith, length-chain_bytes block next first count) in
@@ -48,11 +51,13 @@ chain_bytes-is block next first count bytes l alike =
     ∙ alike (j / 4096) (j % 4096) small low' ∙ ap (slice_index bytes) is)
 
 -- a byte that is written over
-pub get-overwritten : (old : List ℕ) (at : ℕ) (bytes : List ℕ) (j : ℕ) → at ≤ j → j < at + length bytes → at + length bytes ≤ length old → slice_index (overwritten old at bytes) j ≡ slice_index bytes (j - at)
+pub get-overwritten : (old : List ℕ) (at : ℕ) (bytes : List ℕ) (j : ℕ) → at ≤ j → j < at + length bytes → at + length bytes ≤ length old
+    → slice_index (overwritten old at bytes) j ≡ slice_index bytes (j - at)
 get-overwritten old at bytes j low high fits = grind (arith, common_steps)
 
 -- a byte that stays
-pub get-around : (old : List ℕ) (at : ℕ) (bytes : List ℕ) (j : ℕ) → (j < at) ⊎ (at + length bytes ≤ j) → at + length bytes ≤ length old → slice_index (overwritten old at bytes) j ≡ slice_index old j
+pub get-around : (old : List ℕ) (at : ℕ) (bytes : List ℕ) (j : ℕ) → (j < at) ⊎ (at + length bytes ≤ j) → at + length bytes ≤ length old
+    → slice_index (overwritten old at bytes) j ≡ slice_index old j
 get-around old at bytes j out fits = grind (arith, common_steps)
 
 -- no byte more
@@ -60,7 +65,8 @@ pub length-overwritten : (old : List ℕ) (at : ℕ) (bytes : List ℕ) → at +
 length-overwritten old at bytes fits = grind (arith, common_steps)
 
 -- a chain of which each byte is what it was
-pub same_bytes : (block next block' next' : List ℕ) (first count : ℕ) → ((i k : ℕ) → k < 4096 → i * 4096 + k < count → byte_at block' (page_at next' first i) k ≡ byte_at block (page_at next first i) k)
+pub same_bytes : (block next block' next' : List ℕ) (first count : ℕ)
+    → ((i k : ℕ) → k < 4096 → i * 4096 + k < count → byte_at block' (page_at next' first i) k ≡ byte_at block (page_at next first i) k)
     → chain_bytes block' next' first count ≡ chain_bytes block next first count
 same_bytes block next block' next' first count alike =
     chain_bytes-is block' next' first count (chain_bytes block next first count) (length-chain_bytes block next first count)
@@ -73,15 +79,18 @@ zero-replicate (suc count) zero = refl
 zero-replicate (suc count) (suc j) = zero-replicate count j
 
 -- a chain of which each byte is zero
-pub all_zero : (block next : List ℕ) (first count : ℕ) → ((i k : ℕ) → k < 4096 → i * 4096 + k < count → byte_at block (page_at next first i) k ≡ 0) → chain_bytes block next first count ≡ replicate count 0
+pub all_zero : (block next : List ℕ) (first count : ℕ) → ((i k : ℕ) → k < 4096 → i * 4096 + k < count → byte_at block (page_at next first i) k ≡ 0)
+    → chain_bytes block next first count ≡ replicate count 0
 all_zero block next first count none =
     chain_bytes-is block next first count (replicate count 0) (length-replicate count 0)
     (λ i k small h. none i k small h ∙ sym (zero-replicate count (i * 4096 + k)))
 
 -- a chain in which bytes were written over those from a place on
 pub written_over : (block block' next : List ℕ) (first count offset : ℕ) (bytes : List ℕ) → offset + length bytes ≤ count
-    → ((i k : ℕ) → k < 4096 → offset ≤ i * 4096 + k → i * 4096 + k < offset + length bytes → byte_at block' (page_at next first i) k ≡ slice_index bytes (i * 4096 + k - offset))
-    → ((i k : ℕ) → k < 4096 → i * 4096 + k < count → (i * 4096 + k < offset) ⊎ (offset + length bytes ≤ i * 4096 + k) → byte_at block' (page_at next first i) k ≡ byte_at block (page_at next first i) k)
+    → ((i k : ℕ) → k < 4096 → offset ≤ i * 4096 + k → i * 4096 + k < offset + length bytes → byte_at block'
+    (page_at next first i) k ≡ slice_index bytes (i * 4096 + k - offset))
+    → ((i k : ℕ) → k < 4096 → i * 4096 + k < count → (i * 4096 + k < offset) ⊎ (offset + length bytes ≤ i * 4096 + k) → byte_at block'
+    (page_at next first i) k ≡ byte_at block (page_at next first i) k)
     → chain_bytes block' next first count ≡ overwritten (chain_bytes block next first count) offset bytes
 written_over block block' next first count offset bytes fits written kept =
     let old : List ℕ = chain_bytes block next first count in
@@ -89,7 +98,8 @@ written_over block block' next first count offset bytes fits written kept =
     let fits' : offset + length bytes ≤ length old = omega arith in
     chain_bytes-is block' next first count (overwritten old offset bytes) (length-overwritten old offset bytes fits' ∙ l)
     (λ i k small h.
-    let stays : (i * 4096 + k < offset) ⊎ (offset + length bytes ≤ i * 4096 + k) → byte_at block' (page_at next first i) k ≡ slice_index (overwritten old offset bytes) (i * 4096 + k) =
+    let stays : (i * 4096 + k < offset) ⊎ (offset + length bytes ≤ i * 4096 + k)
+    → byte_at block' (page_at next first i) k ≡ slice_index (overwritten old offset bytes) (i * 4096 + k) =
     λ out. kept i k small h out ∙ sym (get-around old offset bytes (i * 4096 + k) out fits' ∙ get-chain_bytes block next first count i k small h) in
     elim (cases_lt (i * 4096 + k) offset) [
       | inl l ↦ stays (inl l)

@@ -1,5 +1,6 @@
 -- Chains of pages: where a chain goes on, and how chains that are apart are parted and joined.
-use Rattle.std.proofs.Common.{◌≡◌, ◌≢◌, ℕ, zero, suc, ◌+◌, ◌-◌, ◌<◌, ◌≤◌, cond, ltb, eqb, List, length, inl, inr, refl, sym, ap, subst, ◌∙◌, arith, slice_index, set, get_or-set_other, get_or-set_same, length-set}
+use Rattle.std.proofs.Common.{◌≡◌, ◌≢◌, ℕ, zero, suc, ◌+◌, ◌-◌, ◌<◌, ◌≤◌, cond, ltb, eqb, List, length, inl, inr, refl, sym, ap, subst, ◌∙◌, arith}
+use Rattle.std.proofs.Common.{slice_index, set, get_or-set_other, get_or-set_same, length-set}
 use Rattle.std.proofs.lemmas.Bool.{cases_eq, cases_lt, lt-ltb, le-ltb, eq-eqb, ne_eqb}
 use Rattle.msg_pool.specs.Pages.{page_at}
 use Rattle.msg_pool.specs.Chains.{AreApart}
@@ -12,10 +13,12 @@ page_at-plus next first a (suc b) =
     ap (page_at next first) e ∙ ap (slice_index next) (page_at-plus next first a b)
 
 -- another next page of a page that comes later changes nothing
-pub page_at-set : (next : List ℕ) (last page first i : ℕ) → ((j : ℕ) → j < i → page_at next first j ≢ last) → page_at (set next last page) first i ≡ page_at next first i
+pub page_at-set : (next : List ℕ) (last page first i : ℕ) → ((j : ℕ) → j < i → page_at next first j ≢ last)
+    → page_at (set next last page) first i ≡ page_at next first i
 page_at-set next last page first zero off = refl
 page_at-set next last page first (suc i) off =
-    ap (slice_index (set next last page)) (page_at-set next last page first i (λ j l. off j (omega arith))) ∙ get_or-set_other next last (page_at next first i) page 0 (off i (omega arith))
+    ap (slice_index (set next last page)) (page_at-set next last page first i (λ j l. off j (omega arith)))
+    ∙ get_or-set_other next last (page_at next first i) page 0 (off i (omega arith))
 
 -- where a page of a chain was before: in which chain, and at which place
 pub record WasAt (next next' : List ℕ) (a : ℕ → ℕ × ℕ) (back : ℕ → ℕ → ℕ × ℕ) (chain : ℕ × ℕ) (k i : ℕ) : Type 0 where
@@ -42,7 +45,8 @@ moved next next' a b back apart l was = record {
 }
 
 -- a page stands in one chain alone, and once
-pub one_place : (next : List ℕ) (a : ℕ → ℕ × ℕ) → AreApart next a → (k j i n : ℕ) → i < (a k).1 → n < (a j).1 → page_at next (a k).0 i ≡ page_at next (a j).0 n → (k ≡ j) × (i ≡ n)
+pub one_place : (next : List ℕ) (a : ℕ → ℕ × ℕ) → AreApart next a → (k j i n : ℕ) → i < (a k).1 → n < (a j).1
+    → page_at next (a k).0 i ≡ page_at next (a j).0 n → (k ≡ j) × (i ≡ n)
 one_place next a apart k j i n l m e =
     let both : (k, i) ≡ (j, n) = sym (apart.owns k i l) ∙ ap apart.owner e ∙ apart.owns j n m in
     (ap (λ (p : ℕ × ℕ). p.0) both, ap (λ (p : ℕ × ℕ). p.1) both)
@@ -163,7 +167,8 @@ module _ (next : List ℕ) (a : ℕ → ℕ × ℕ) (key m : ℕ) (apart : AreAp
   }
 
   -- a chain joins the free pages, in front of them
-  pub joined : (b : ℕ → ℕ × ℕ) → b 0 ≡ ((a (suc key)).0, suc m + (a 0).1) → b (suc key) ≡ (0, 0) → ((k : ℕ) → k ≢ key → b (suc k) ≡ a (suc k)) → AreApart (set next (page_at next (a (suc key)).0 m) (a 0).0) b
+  pub joined : (b : ℕ → ℕ × ℕ) → b 0 ≡ ((a (suc key)).0, suc m + (a 0).1) → b (suc key) ≡ (0, 0) → ((k : ℕ) → k ≢ key → b (suc k) ≡ a (suc k))
+      → AreApart (set next (page_at next (a (suc key)).0 m) (a 0).0) b
   unfolding last linked
   joined b free gone rest = moved next linked a b (joined_from (suc m) key) apart (length-set next last (a 0).0) was
     where

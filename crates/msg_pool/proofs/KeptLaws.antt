@@ -18,25 +18,30 @@ pub record IsChainOf (chains : Slab Chain) (key bytes : ℕ) : Type 0 where
   pub long : chain.len ≡ bytes
 
 -- a slot with a chain of so many bytes
-has_chain : (block next : List ℕ) (n : ℕ) (s : Option Chain) → IsSomeAnd (option_map (chain_of block next) s) (λ bytes. length bytes ≡ n) → (c : Chain) × (s ≡ Some c) × (c.len ≡ n)
+has_chain : (block next : List ℕ) (n : ℕ) (s : Option Chain) → IsSomeAnd (option_map (chain_of block next) s) (λ bytes. length bytes ≡ n)
+    → (c : Chain) × (s ≡ Some c) × (c.len ≡ n)
 has_chain block next n None h = absurd h
 has_chain block next n (Some c) h = (c, refl, sym (length-chain_bytes block next c.first c.len) ∙ h)
 
 -- a number that has bytes has a chain
-pub lease_chain : (block next : List ℕ) (chains : Slab Chain) (key n : ℕ) → IsSomeAnd (get (leases_of block next chains) key) (λ bytes. length bytes ≡ n) → IsChainOf chains key n
+pub lease_chain : (block next : List ℕ) (chains : Slab Chain) (key n : ℕ)
+    → IsSomeAnd (get (leases_of block next chains) key) (λ bytes. length bytes ≡ n) → IsChainOf chains key n
 lease_chain block next chains key n h =
     let found = has_chain block next n (slot chains key) (subst (λ o. IsSomeAnd o (λ bytes. length bytes ≡ n)) (get-leases block next chains key) h) in
     record { chain = found.0; there = found.1; long = found.2 }
 
 -- the bytes of a number that has a chain
-pub chain_lease : (block next : List ℕ) (chains : Slab Chain) (key : ℕ) (c : Chain) → slot chains key ≡ Some c → get (leases_of block next chains) key ≡ Some (chain_of block next c)
+pub chain_lease : (block next : List ℕ) (chains : Slab Chain) (key : ℕ) (c : Chain) → slot chains key ≡ Some c
+    → get (leases_of block next chains) key ≡ Some (chain_of block next c)
 chain_lease block next chains key c e = get-leases block next chains key ∙ ap (option_map (chain_of block next)) e
 
 -- a number without a chain has no bytes
 pub no_lease : (block next : List ℕ) (chains : Slab Chain) (key : ℕ) → slot chains key ≡ None → get (leases_of block next chains) key ≡ None
 no_lease block next chains key e = get-leases block next chains key ∙ ap (option_map (chain_of block next)) e
 
-module _ (block next : List ℕ) (chains : Slab Chain) (number len : ℕ) (pool : Pool) (lease : Held) (is_pool : record { pages = length next; leases = leases_of block next chains } ≡ pool) (is_lease : record { number = number; len = len } ≡ lease) (of_pool : IsLeaseOf pool lease) where
+module _ (block next : List ℕ) (chains : Slab Chain) (number len : ℕ) (pool : Pool) (lease : Held)
+    (is_pool : record { pages = length next; leases = leases_of block next chains } ≡ pool) (is_lease : record { number = number; len = len } ≡ lease)
+    (of_pool : IsLeaseOf pool lease) where
   -- what the pool says of the lease, of the numbers that it keeps
   has_bytes : IsSomeAnd (get (leases_of block next chains) number) (λ bytes. length bytes ≡ len)
   has_bytes = subst (λ p. IsLeaseOf p (record { number = number; len = len })) (sym is_pool) (subst (λ l. IsLeaseOf pool l) (sym is_lease) of_pool)
@@ -58,7 +63,8 @@ module _ (block next : List ℕ) (chains : Slab Chain) (number len : ℕ) (pool 
       ∙ ap (λ (p : Pool). unwrap_or (get p.leases number) []) is_pool ∙ ap (λ (l : Held). unwrap_or (get pool.leases l.number) []) is_lease
 
 -- the chain of a key
-pub chain_at-slot : (head free : ℕ) (chains : Slab Chain) (key : ℕ) (c : Chain) → slot chains key ≡ Some c → chain_at head free chains (suc key) ≡ (c.first, pages_for c.len)
+pub chain_at-slot : (head free : ℕ) (chains : Slab Chain) (key : ℕ) (c : Chain) → slot chains key ≡ Some c
+    → chain_at head free chains (suc key) ≡ (c.first, pages_for c.len)
 chain_at-slot head free chains key c e = ap (λ s. option_map_or (λ (c : Chain). (c.first, pages_for c.len)) s (0, 0)) e
 
 -- a place that is in a chain is in one of its pages
@@ -84,7 +90,8 @@ module _ (block next : List ℕ) (head free : ℕ) (chains : Slab Chain) (kept :
       let at = one_place next (chain_at head free chains) kept.apart (suc key) (suc q) i j l m same in
       let keys : key ≡ q = omega (arith, at.0) in
       (keys, at.1) in
-      subst (λ a. P a (d.first, pages_for d.len)) (chain_at-slot head free chains key c e) (subst (P (chain_at head free chains (suc key))) (chain_at-slot head free chains q d f) all)
+      subst (λ a. P a (d.first, pages_for d.len)) (chain_at-slot head free chains key c e)
+      (subst (P (chain_at head free chains (suc key))) (chain_at-slot head free chains q d f) all)
 
   -- no page stands twice in a chain
   pub no_repeat : (key : ℕ) (c : Chain) → slot chains key ≡ Some c → HasNoRepeat next c.first (pages_for c.len)
@@ -93,7 +100,8 @@ module _ (block next : List ℕ) (head free : ℕ) (chains : Slab Chain) (kept :
   -- a free page is in no chain
   pub free_differ : (q : ℕ) (d : Chain) → slot chains q ≡ Some d → (i j : ℕ) → i < free → j < pages_for d.len → page_at next head i ≢ page_at next d.first j
   free_differ q d f =
-      let all : (i j : ℕ) → i < free → j < (chain_at head free chains (suc q)).1 → page_at next head i ≢ page_at next (chain_at head free chains (suc q)).0 j = λ i j l m same.
+      let all : (i j : ℕ) → i < free → j < (chain_at head free chains (suc q)).1 → page_at next head i ≢ page_at next (chain_at head free chains (suc q)).0 j =
+      λ i j l m same.
       let at = one_place next (chain_at head free chains) kept.apart 0 (suc q) i j l m same in
       absurd (omega (arith, at.0)) in
       subst (λ (b : ℕ × ℕ). (i j : ℕ) → i < free → j < b.1 → page_at next head i ≢ page_at next b.0 j) (chain_at-slot head free chains q d f) all

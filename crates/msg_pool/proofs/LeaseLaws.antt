@@ -1,5 +1,6 @@
 -- The leases of a pool, one by one, and the pages that they take.
-use Rattle.std.proofs.Common.{◌≡◌, ◌≢◌, ℕ, zero, suc, ◌+◌, ◌-◌, ◌<◌, ◌≤◌, cond, List, [], ◌∷◌, map, length, inl, inr, refl, sym, ap, ◌∙◌, arith, Option, Some, None, get_or}
+use Rattle.std.proofs.Common.{◌≡◌, ◌≢◌, ℕ, zero, suc, ◌+◌, ◌-◌, ◌<◌, ◌≤◌, cond, List, [], ◌∷◌, map, length, inl, inr, refl, sym, ap, ◌∙◌, arith}
+use Rattle.std.proofs.Common.{Option, Some, None, get_or}
 use Rattle.std.specs.Option.{option_map, is_some}
 use Rattle.std.proofs.lemmas.List.Sums.{sum_by-cons}
 use Rattle.std.specs.List.{Contains, sum_by}
@@ -24,18 +25,22 @@ module _ {X Y : Type 0} (f : X → Y) where
   find-below a q [] h = refl
   find-below a q (None ∷ slots) h = find-below (a + 1) q slots (omega arith)
   find-below a q (Some x ∷ slots) h =
-      ap (λ b. cond b (Some (f x)) (find nat_cmp q (map (λ (e : ℕ × X). (e.0, f e.1)) (entries_from (a + 1) slots)))) (unsigned_tied q a ∙ ne_eqb q a (λ e. absurd (omega arith)))
+      ap (λ b. cond b (Some (f x)) (find nat_cmp q (map (λ (e : ℕ × X). (e.0, f e.1)) (entries_from (a + 1) slots))))
+      (unsigned_tied q a ∙ ne_eqb q a (λ e. absurd (omega arith)))
       ∙ find-below (a + 1) q slots (omega arith)
 
   -- what is found under a key is the value of its slot
-  find-slot : (a q n : ℕ) (slots : List (Option X)) → n ≡ a + q → find nat_cmp n (map (λ e. (e.0, f e.1)) (entries_from a slots)) ≡ option_map f (get_or slots q None)
+  find-slot : (a q n : ℕ) (slots : List (Option X)) → n ≡ a + q → find nat_cmp n (map (λ e. (e.0, f e.1)) (entries_from a slots)) ≡ option_map f
+      (get_or slots q None)
   find-slot a q n [] e = refl
   find-slot a zero n (None ∷ slots) e = find-below (a + 1) n slots (omega arith)
   find-slot a (suc q) n (None ∷ slots) e = find-slot (a + 1) q n slots (omega arith)
   find-slot a zero n (Some x ∷ slots) e =
-      ap (λ b. cond b (Some (f x)) (find nat_cmp n (map (λ (e : ℕ × X). (e.0, f e.1)) (entries_from (a + 1) slots)))) (unsigned_tied n a ∙ eq-eqb n a (omega arith))
+      ap (λ b. cond b (Some (f x)) (find nat_cmp n (map (λ (e : ℕ × X). (e.0, f e.1)) (entries_from (a + 1) slots))))
+      (unsigned_tied n a ∙ eq-eqb n a (omega arith))
   find-slot a (suc q) n (Some x ∷ slots) e =
-      ap (λ b. cond b (Some (f x)) (find nat_cmp n (map (λ (e : ℕ × X). (e.0, f e.1)) (entries_from (a + 1) slots)))) (unsigned_tied n a ∙ ne_eqb n a (λ e'. absurd (omega arith)))
+      ap (λ b. cond b (Some (f x)) (find nat_cmp n (map (λ (e : ℕ × X). (e.0, f e.1)) (entries_from (a + 1) slots))))
+      (unsigned_tied n a ∙ ne_eqb n a (λ e'. absurd (omega arith)))
       ∙ find-slot (a + 1) q n slots (omega arith)
 
 -- the bytes of a lease
@@ -61,16 +66,20 @@ same_slot : (f g : Chain → List ℕ) (old new : Option Chain) → new ≡ old 
 same_slot f g None new e alike = ap (option_map g) e
 same_slot f g (Some c) new e alike = ap (option_map g) e ∙ ap Some (alike c refl)
 
-module _ (block next block' next' : List ℕ) (chains chains' : Slab Chain) (key : ℕ) (others : (q : ℕ) → q ≢ key → slot chains' q ≡ slot chains q) (same : (q : ℕ) (c : Chain) → q ≢ key → slot chains q ≡ Some c → chain_of block' next' c ≡ chain_of block next c) where
+module _ (block next block' next' : List ℕ) (chains chains' : Slab Chain) (key : ℕ) (others : (q : ℕ) → q ≢ key → slot chains' q ≡ slot chains q)
+    (same : (q : ℕ) (c : Chain) → q ≢ key → slot chains q ≡ Some c → chain_of block' next' c ≡ chain_of block next c) where
   -- the other numbers have what they had
   other_lease : (q : ℕ) → q ≢ key → get (leases_of block' next' chains') q ≡ get (leases_of block next chains) q
-  other_lease q ne = get-leases block' next' chains' q ∙ same_slot (chain_of block next) (chain_of block' next') (slot chains q) (slot chains' q) (others q ne) (λ c e. same q c ne e) ∙ sym (get-leases block next chains q)
+  other_lease q ne = get-leases block' next' chains' q ∙ same_slot (chain_of block next) (chain_of block' next') (slot chains q) (slot chains' q)
+      (others q ne) (λ c e. same q c ne e) ∙ sym (get-leases block next chains q)
 
   -- one number has new bytes
-  pub leases-insert : (c : Chain) (bytes : List ℕ) → slot chains' key ≡ Some c → chain_of block' next' c ≡ bytes → leases_of block' next' chains' ≡ insert (leases_of block next chains) key bytes
+  pub leases-insert : (c : Chain) (bytes : List ℕ) → slot chains' key ≡ Some c → chain_of block' next' c ≡ bytes
+      → leases_of block' next' chains' ≡ insert (leases_of block next chains) key bytes
   leases-insert c bytes e is = same_map nat_cmp_total nat_cmp-IsAntisymmetric _ _ (λ q.
       elim (cases_eq q key) [
-        | inl t ↦ ap (get (leases_of block' next' chains')) t ∙ get-leases block' next' chains' key ∙ ap (option_map (chain_of block' next')) e ∙ ap Some is ∙ sym (get-insert nat_cmp_total (leases_of block next chains) key bytes q ∙ chosen q key _ _ t)
+        | inl t ↦ ap (get (leases_of block' next' chains')) t ∙ get-leases block' next' chains' key ∙ ap (option_map (chain_of block' next')) e
+            ∙ ap Some is ∙ sym (get-insert nat_cmp_total (leases_of block next chains) key bytes q ∙ chosen q key _ _ t)
         | inr ne ↦ other_lease q ne ∙ sym (get-insert nat_cmp_total (leases_of block next chains) key bytes q ∙ left q key _ _ ne)
       ])
 
@@ -78,22 +87,28 @@ module _ (block next block' next' : List ℕ) (chains chains' : Slab Chain) (key
   pub leases-remove : slot chains' key ≡ None → leases_of block' next' chains' ≡ remove (leases_of block next chains) key
   leases-remove e = same_map nat_cmp_total nat_cmp-IsAntisymmetric _ _ (λ q.
       elim (cases_eq q key) [
-        | inl t ↦ ap (get (leases_of block' next' chains')) t ∙ get-leases block' next' chains' key ∙ ap (option_map (chain_of block' next')) e ∙ sym (get-remove nat_cmp_total (leases_of block next chains) key q ∙ chosen q key _ _ t)
+        | inl t ↦ ap (get (leases_of block' next' chains')) t ∙ get-leases block' next' chains' key ∙ ap (option_map (chain_of block' next')) e
+            ∙ sym (get-remove nat_cmp_total (leases_of block next chains) key q ∙ chosen q key _ _ t)
         | inr ne ↦ other_lease q ne ∙ sym (get-remove nat_cmp_total (leases_of block next chains) key q ∙ left q key _ _ ne)
       ])
 
 -- a new lease takes its pages
-pub leased-insert : (m : Map nat_cmp (List ℕ)) (k : ℕ) (bytes : List ℕ) → get m k ≡ None → leased_pages (insert m k bytes) ≡ pages_for (length bytes) + leased_pages m
+pub leased-insert : (m : Map nat_cmp (List ℕ)) (k : ℕ) (bytes : List ℕ) → get m k ≡ None
+    → leased_pages (insert m k bytes) ≡ pages_for (length bytes) + leased_pages m
 unfolding leased_pages
-leased-insert m k bytes none = sum_by_pushed (λ bytes. pages_for (length bytes)) bytes (values m) (values (insert m k bytes)) (values-insert_new nat_cmp_total nat_cmp-IsAntisymmetric m k bytes none)
+leased-insert m k bytes none = sum_by_pushed (λ bytes. pages_for (length bytes)) bytes (values m) (values (insert m k bytes))
+    (values-insert_new nat_cmp_total nat_cmp-IsAntisymmetric m k bytes none)
 
 -- a lease that ends gives them back
-pub leased-remove : (m : Map nat_cmp (List ℕ)) (k : ℕ) (bytes : List ℕ) → get m k ≡ Some bytes → leased_pages m ≡ pages_for (length bytes) + leased_pages (remove m k)
+pub leased-remove : (m : Map nat_cmp (List ℕ)) (k : ℕ) (bytes : List ℕ) → get m k ≡ Some bytes
+    → leased_pages m ≡ pages_for (length bytes) + leased_pages (remove m k)
 unfolding leased_pages
-leased-remove m k bytes is = sum_by_pushed (λ bytes. pages_for (length bytes)) bytes (values (remove m k)) (values m) (values-remove nat_cmp_total nat_cmp-IsAntisymmetric m k bytes is)
+leased-remove m k bytes is =
+    sum_by_pushed (λ bytes. pages_for (length bytes)) bytes (values (remove m k)) (values m) (values-remove nat_cmp_total nat_cmp-IsAntisymmetric m k bytes is)
 
 -- a lease whose bytes are others of the same number keeps its pages
-pub leased-same : (m : Map nat_cmp (List ℕ)) (k : ℕ) (old new : List ℕ) → get m k ≡ Some old → length new ≡ length old → leased_pages (insert m k new) ≡ leased_pages m
+pub leased-same : (m : Map nat_cmp (List ℕ)) (k : ℕ) (old new : List ℕ) → get m k ≡ Some old → length new ≡ length old
+    → leased_pages (insert m k new) ≡ leased_pages m
 leased-same m k old new is l =
     let gone : get (remove m k) k ≡ None = get-remove nat_cmp_total m k k ∙ chosen k k None (get m k) refl in
     ap leased_pages (sym (insert-remove nat_cmp_total nat_cmp-IsAntisymmetric m k new)) ∙ leased-insert (remove m k) k new gone
@@ -116,7 +131,8 @@ some_page : (n : ℕ) → 0 < n → 0 < pages_for n
 some_page n h = omega arith
 
 -- entries of which each has a byte take as many pages or more
-many_pages : (es : List (ℕ × List ℕ)) → ((k : ℕ) (bytes : List ℕ) → Contains es (k, bytes) → 0 < length bytes) → length es ≤ sum_by (λ bytes. pages_for (length bytes)) (map (λ e. e.1) es)
+many_pages : (es : List (ℕ × List ℕ)) → ((k : ℕ) (bytes : List ℕ) → Contains es (k, bytes) → 0 < length bytes)
+    → length es ≤ sum_by (λ bytes. pages_for (length bytes)) (map (λ e. e.1) es)
 many_pages [] has = omega arith
 many_pages (e ∷ es) has =
     let one = some_page (length e.1) (has e.0 e.1 (here e es)) in

@@ -1,5 +1,6 @@
 -- How the leases of a pool fare when one is taken, written or given back, for callers.
-use Rattle.std.proofs.Common.{◌≡◌, ◌≢◌, ℕ, ◌+◌, ◌-◌, ◌≤◌, List, [], length, sym, ap, subst, ◌∙◌, arith, Option, Some, None, Ok, Err, inl, inr, replicate, Result, IfOk, OnErr}
+use Rattle.std.proofs.Common.{◌≡◌, ◌≢◌, ℕ, ◌+◌, ◌-◌, ◌≤◌, List, [], length, sym, ap, subst, ◌∙◌, arith, Option, Some, None, Ok, Err, inl, inr}
+use Rattle.std.proofs.Common.{replicate, Result, IfOk, OnErr}
 use Rattle.std.proofs.lemmas.Bool.{cases_eq}
 use Rattle.std.proofs.lemmas.List.{length-replicate}
 use Rattle.msg_pool.specs.Bytes.{overwritten}
@@ -29,7 +30,8 @@ module _ (pool : Pool) (lease : Held) where
   module _ (bytes : List ℕ) where
     -- the lease's number has the new bytes
     pub get-with_bytes : get (with_bytes pool lease bytes).leases lease.number ≡ Some bytes
-    get-with_bytes = get-insert nat_cmp_total pool.leases lease.number bytes lease.number ∙ chosen lease.number lease.number (Some bytes) (get pool.leases lease.number) (λ _. lease.number)
+    get-with_bytes = get-insert nat_cmp_total pool.leases lease.number bytes lease.number ∙ chosen lease.number lease.number (Some bytes)
+        (get pool.leases lease.number) (λ _. lease.number)
 
     -- so they are the lease's
     pub bytes_of-with_bytes : bytes_of (with_bytes pool lease bytes) lease ≡ bytes
@@ -65,7 +67,8 @@ differ pool lease other none h e =
 module _ (pool : Pool) (lease other : Held) (ne : other.number ≢ lease.number) where
   -- another number has the bytes that it had
   pub get-with_other : (bytes : List ℕ) → get (with_bytes pool lease bytes).leases other.number ≡ get pool.leases other.number
-  get-with_other bytes = get-insert nat_cmp_total pool.leases lease.number bytes other.number ∙ left other.number lease.number (Some bytes) (get pool.leases other.number) ne
+  get-with_other bytes =
+      get-insert nat_cmp_total pool.leases lease.number bytes other.number ∙ left other.number lease.number (Some bytes) (get pool.leases other.number) ne
 
   -- also where the lease ends
   pub get-without_other : get (without pool lease).leases other.number ≡ get pool.leases other.number
@@ -92,23 +95,28 @@ pub lease-taken : (old new : Pool) (lease : Held) (n : ℕ) → lease.len ≡ n 
 lease-taken old new lease n l e = subst (λ p. IsLeaseOf p lease) (sym e) (lease-with_bytes old lease (replicate n 0) (length-replicate n 0 ∙ sym l))
 
 -- the leases of a pool stay whether one is taken or not
-pub after_take : {E : Type 0} (result : Result Held E) (old new : Pool) (other : Held) (n : ℕ) → IfOk result (λ lease. get old.leases lease.number ≡ None) → IfOk result (λ lease. new ≡ with_bytes old lease (replicate n 0)) → OnErr result (new ≡ old)
+pub after_take : {E : Type 0} (result : Result Held E) (old new : Pool) (other : Held) (n : ℕ)
+    → IfOk result (λ lease. get old.leases lease.number ≡ None) → IfOk result (λ lease. new ≡ with_bytes old lease (replicate n 0)) → OnErr result (new ≡ old)
     → IsLeaseOf old other → IsLeaseOf new other
-after_take (Ok lease) old new other n none e same h = subst (λ p. IsLeaseOf p other) (sym e) (lease-with_other old lease other (differ old lease other none h) (replicate n 0) h)
+after_take (Ok lease) old new other n none e same h =
+    subst (λ p. IsLeaseOf p other) (sym e) (lease-with_other old lease other (differ old lease other none h) (replicate n 0) h)
 after_take (Err full) old new other n none e same h = subst (λ p. IsLeaseOf p other) (sym same) h
 
 -- and when one is written
-pub after_write : (old new : Pool) (lease other : Held) (at : ℕ) (bytes : List ℕ) → at + length bytes ≤ lease.len → IsLeaseOf old lease → new ≡ with_bytes old lease (overwritten (bytes_of old lease) at bytes)
+pub after_write : (old new : Pool) (lease other : Held) (at : ℕ) (bytes : List ℕ) → at + length bytes ≤ lease.len → IsLeaseOf old lease
+    → new ≡ with_bytes old lease (overwritten (bytes_of old lease) at bytes)
     → IsLeaseOf old other → IsLeaseOf new other
 after_write old new lease other at bytes fits h e o =
     let l : length (bytes_of old lease) ≡ lease.len = length-bytes_of old lease h in
-    let l' : length (overwritten (bytes_of old lease) at bytes) ≡ length (bytes_of old lease) = length-overwritten (bytes_of old lease) at bytes (omega arith) in
+    let l' : length (overwritten (bytes_of old lease) at bytes) ≡ length (bytes_of old lease) =
+    length-overwritten (bytes_of old lease) at bytes (omega arith) in
     elim (cases_eq other.number lease.number) [
       | inl same ↦
           let same_len : other.len ≡ lease.len = sym (length-bytes_of old other o) ∙ ap (λ n. length (unwrap_or (get old.leases n) [])) same ∙ l in
           let P : ℕ → Type 0 = λ n. IsSomeAnd (get new.leases n) (λ bytes. length bytes ≡ other.len) in
           let mine : P lease.number = subst (λ (p : Pool). IsSomeAnd (get p.leases lease.number) (λ bytes. length bytes ≡ other.len)) (sym e)
-          (subst (λ o. IsSomeAnd o (λ bytes. length bytes ≡ other.len)) (sym (get-with_bytes old lease (overwritten (bytes_of old lease) at bytes))) (l' ∙ l ∙ sym same_len)) in
+          (subst (λ o. IsSomeAnd o (λ bytes. length bytes ≡ other.len)) (sym (get-with_bytes old lease (overwritten (bytes_of old lease) at bytes)))
+          (l' ∙ l ∙ sym same_len)) in
           subst P (sym same) mine
       | inr ne ↦ subst (λ p. IsLeaseOf p other) (sym e) (lease-with_other old lease other ne (overwritten (bytes_of old lease) at bytes) o)
     ]

@@ -32,10 +32,12 @@ module _ (block next : List ℕ) (chains : Slab Chain) (none : chains.slots ≡ 
 
   -- so there is no lease
   pub new-leases : leases_of block next chains ≡ empty {X = List ℕ} {R = nat_cmp}
-  new-leases = same_map nat_cmp_total nat_cmp-IsAntisymmetric _ _ (λ q. get-leases block next chains q ∙ ap (option_map (chain_of block next)) (no_slot q) ∙ sym (get-empty nat_cmp q))
+  new-leases = same_map nat_cmp_total nat_cmp-IsAntisymmetric _ _
+      (λ q. get-leases block next chains q ∙ ap (option_map (chain_of block next)) (no_slot q) ∙ sym (get-empty nat_cmp q))
 
   -- and all pages are free
-  pub new-kept : (pages : ℕ) → length block ≡ pages * 4096 → length next ≡ pages → pages ≤ 4096 → ((k : ℕ) → k < pages → slice_index next k ≡ k + 1) → pages ≤ chains.capacity → AreKept block next 0 pages chains
+  pub new-kept : (pages : ℕ) → length block ≡ pages * 4096 → length next ≡ pages → pages ≤ 4096 → ((k : ℕ) → k < pages → slice_index next k ≡ k + 1)
+      → pages ≤ chains.capacity → AreKept block next 0 pages chains
   new-kept pages whole size small linked room =
       let counted : slab_len chains ≡ 0 = ap (count_by is_some) none in
       let leases = ap len new-leases ∙ len-empty nat_cmp (List ℕ) in

@@ -1,5 +1,6 @@
 -- What becomes of a pool when a lease is taken, written and given back.
-use Rattle.std.proofs.Common.{◌≡◌, ◌≢◌, ℕ, suc, ◌+◌, ◌-◌, ◌*◌, ◌<◌, ◌≤◌, List, length, ◌⊎◌, inl, inr, refl, sym, ap, subst, ◌∙◌, arith, Option, Some, None, slice_index, set, length-set, replicate}
+use Rattle.std.proofs.Common.{◌≡◌, ◌≢◌, ℕ, suc, ◌+◌, ◌-◌, ◌*◌, ◌<◌, ◌≤◌, List, length, ◌⊎◌, inl, inr, refl, sym, ap, subst, ◌∙◌, arith, Option, Some}
+use Rattle.std.proofs.Common.{None, slice_index, set, length-set, replicate}
 use Rattle.std.specs.Option.{option_map_or}
 use Rattle.std.proofs.lemmas.Bool.{cases_eq}
 use Rattle.std.proofs.lemmas.List.{length-replicate}
@@ -18,7 +19,8 @@ use Rattle.msg_pool.proofs.KeptLaws.{chain_lease, no_lease, chain_at-slot, in_pa
 
 -- a list with the bytes of a chain, as they stand in copies of the block and the table
 pub copied : (block next b n : List ℕ) (first count : ℕ) (out : List ℕ) → b ≡ block → n ≡ next → length out ≡ count
-    → ((i k : ℕ) → k < 4096 → i * 4096 + k < count → slice_index out (i * 4096 + k) ≡ byte_at b (page_at n first i) k) → out ≡ chain_bytes block next first count
+    → ((i k : ℕ) → k < 4096 → i * 4096 + k < count → slice_index out (i * 4096 + k) ≡ byte_at b (page_at n first i) k)
+    → out ≡ chain_bytes block next first count
 copied block next b n first count out is_block is_next l alike =
     sym (chain_bytes-is block next first count out l (λ i k small h.
     ap (λ x. byte_at x (page_at next first i) k) (sym is_block) ∙ ap (λ x. byte_at b (page_at x first i) k) (sym is_next) ∙ sym (alike i k small h)))
@@ -31,13 +33,16 @@ fewer_pages m n i h l = omega arith
 pool_is : (p q : ℕ) (m n : Map nat_cmp (List ℕ)) → p ≡ q → m ≡ n → ◌≡◌ {A = Pool} (record { pages = p; leases = m }) (record { pages = q; leases = n })
 pool_is p q m n e f = λ i. record { pages = e i; leases = f i }
 
-module _ (block next : List ℕ) (chains : Slab Chain) (number len : ℕ) (pool : Pool) (lease : Held) (is_pool : record { pages = length next; leases = leases_of block next chains } ≡ pool) (is_lease : record { number = number; len = len } ≡ lease) where
+module _ (block next : List ℕ) (chains : Slab Chain) (number len : ℕ) (pool : Pool) (lease : Held)
+    (is_pool : record { pages = length next; leases = leases_of block next chains } ≡ pool) (is_lease : record { number = number; len = len } ≡ lease) where
   -- the pool in which a lease has other bytes
-  pub view_with : (pages : ℕ) (leases : Map nat_cmp (List ℕ)) (old new : List ℕ) → pages ≡ length next → leases ≡ insert (leases_of block next chains) number new → new ≡ old
+  pub view_with : (pages : ℕ) (leases : Map nat_cmp (List ℕ)) (old new : List ℕ) → pages ≡ length next
+      → leases ≡ insert (leases_of block next chains) number new → new ≡ old
       → ◌≡◌ {A = Pool} (record { pages = pages; leases = leases }) (with_bytes pool lease old)
   view_with pages leases old new e f g =
       pool_is _ _ _ _ (e ∙ ap (λ (p : Pool). p.pages) is_pool)
-      (f ∙ ap (insert (leases_of block next chains) number) g ∙ ap (λ (p : Pool). insert p.leases number old) is_pool ∙ ap (λ (l : Held). insert pool.leases l.number old) is_lease)
+      (f ∙ ap (insert (leases_of block next chains) number) g ∙ ap (λ (p : Pool). insert p.leases number old) is_pool
+      ∙ ap (λ (l : Held). insert pool.leases l.number old) is_lease)
 
   -- the pool without a lease
   pub view_without : (pages : ℕ) (leases : Map nat_cmp (List ℕ)) → pages ≡ length next → leases ≡ remove (leases_of block next chains) number
@@ -54,22 +59,32 @@ pair a b x y e f = λ i. (e i, f i)
 one_value : (s : Option Chain) (c d : Chain) → s ≡ Some c → s ≡ Some d → c ≡ d
 one_value s c d e f = cc
 
-module _ (block next : List ℕ) (head free : ℕ) (chains : Slab Chain) (kept : AreKept block next head free chains) (key : ℕ) (c : Chain) (there : slot chains key ≡ Some c) where
-  module _ (block' n : List ℕ) (is_next : n ≡ next) (offset : ℕ) (bytes : List ℕ) (fits : offset + length bytes ≤ c.len) (same_len : length block' ≡ length block)
-      (written_n : (i k : ℕ) → k < 4096 → offset ≤ i * 4096 + k → i * 4096 + k < offset + length bytes → byte_at block' (page_at n c.first i) k ≡ slice_index bytes (i * 4096 + k - offset))
-      (stays_n : (q k : ℕ) → k < 4096 → ((i : ℕ) → offset ≤ i * 4096 + k → i * 4096 + k < offset + length bytes → q ≢ page_at n c.first i) → byte_at block' q k ≡ byte_at block q k) where
+module _ (block next : List ℕ) (head free : ℕ) (chains : Slab Chain) (kept : AreKept block next head free chains) (key : ℕ) (c : Chain)
+    (there : slot chains key ≡ Some c) where
+  module _ (block' n : List ℕ) (is_next : n ≡ next) (offset : ℕ) (bytes : List ℕ) (fits : offset + length bytes ≤ c.len)
+      (same_len : length block' ≡ length block)
+      (written_n : (i k : ℕ) → k < 4096 → offset ≤ i * 4096 + k → i * 4096 + k < offset + length bytes → byte_at block'
+      (page_at n c.first i) k ≡ slice_index bytes (i * 4096 + k - offset))
+      (stays_n : (q k : ℕ) → k < 4096 → ((i : ℕ) → offset ≤ i * 4096 + k → i * 4096 + k < offset + length bytes → q ≢ page_at n c.first i) →
+      byte_at block' q k ≡ byte_at block q k) where
     -- the bytes that are written
-    written : (i k : ℕ) → k < 4096 → offset ≤ i * 4096 + k → i * 4096 + k < offset + length bytes → byte_at block' (page_at next c.first i) k ≡ slice_index bytes (i * 4096 + k - offset)
-    written = subst (λ n. (i k : ℕ) → k < 4096 → offset ≤ i * 4096 + k → i * 4096 + k < offset + length bytes → byte_at block' (page_at n c.first i) k ≡ slice_index bytes (i * 4096 + k - offset)) is_next written_n
+    written : (i k : ℕ) → k < 4096 → offset ≤ i * 4096 + k → i * 4096 + k < offset + length bytes
+        → byte_at block' (page_at next c.first i) k ≡ slice_index bytes (i * 4096 + k - offset)
+    written = subst (λ n. (i k : ℕ) → k < 4096 → offset ≤ i * 4096 + k → i * 4096 + k < offset + length bytes → byte_at block'
+        (page_at n c.first i) k ≡ slice_index bytes (i * 4096 + k - offset)) is_next written_n
 
     -- all others stay
-    stays : (q k : ℕ) → k < 4096 → ((i : ℕ) → offset ≤ i * 4096 + k → i * 4096 + k < offset + length bytes → q ≢ page_at next c.first i) → byte_at block' q k ≡ byte_at block q k
-    stays = subst (λ n. (q k : ℕ) → k < 4096 → ((i : ℕ) → offset ≤ i * 4096 + k → i * 4096 + k < offset + length bytes → q ≢ page_at n c.first i) → byte_at block' q k ≡ byte_at block q k) is_next stays_n
+    stays : (q k : ℕ) → k < 4096 → ((i : ℕ) → offset ≤ i * 4096 + k → i * 4096 + k < offset + length bytes → q ≢ page_at next c.first i)
+        → byte_at block' q k ≡ byte_at block q k
+    stays = subst (λ n. (q k : ℕ) → k < 4096 → ((i : ℕ) → offset ≤ i * 4096 + k → i * 4096 + k < offset + length bytes → q ≢ page_at n c.first i) →
+        byte_at block' q k ≡ byte_at block q k) is_next stays_n
 
     -- the other bytes of the chain stay
-    mine : (i k : ℕ) → k < 4096 → i * 4096 + k < c.len → (i * 4096 + k < offset) ⊎ (offset + length bytes ≤ i * 4096 + k) → byte_at block' (page_at next c.first i) k ≡ byte_at block (page_at next c.first i) k
+    mine : (i k : ℕ) → k < 4096 → i * 4096 + k < c.len → (i * 4096 + k < offset) ⊎ (offset + length bytes ≤ i * 4096 + k)
+        → byte_at block' (page_at next c.first i) k ≡ byte_at block (page_at next c.first i) k
     mine i k small h out = stays (page_at next c.first i) k small (λ j low high e.
-        let at : i ≡ j = (chains_differ block next head free chains kept key key c c there there i j (in_pages i k c.len h) (in_pages j k c.len (omega arith)) e).1 in
+        let at : i ≡ j =
+        (chains_differ block next head free chains kept key key c c there there i j (in_pages i k c.len h) (in_pages j k c.len (omega arith)) e).1 in
         elim out [ inl l ↦ absurd (omega arith) | inr l ↦ absurd (omega arith) ])
 
     -- and so do those of the other chains
@@ -94,18 +109,24 @@ module _ (block next : List ℕ) (head free : ℕ) (chains : Slab Chain) (kept :
           small = kept.small;
           apart = kept.apart;
           sized = kept.sized;
-          counted = kept.counted ∙ sym (ap len write-leases ∙ len-same (leases_of block next chains) key (chain_of block next c) (overwritten (chain_of block next c) offset bytes) is);
-          total = ap (λ n. free + n) (ap leased_pages write-leases ∙ leased-same (leases_of block next chains) key (chain_of block next c) (overwritten (chain_of block next c) offset bytes) is l') ∙ kept.total;
+          counted = kept.counted
+              ∙ sym (ap len write-leases ∙ len-same (leases_of block next chains) key (chain_of block next c)
+              (overwritten (chain_of block next c) offset bytes) is);
+          total = ap (λ n. free + n)
+              (ap leased_pages write-leases ∙ leased-same (leases_of block next chains) key (chain_of block next c)
+              (overwritten (chain_of block next c) offset bytes) is l') ∙ kept.total;
           room = kept.room;
         }
 
-  module _ (count : ℕ) (is_count : count ≡ pages_for c.len) (chains' : Slab Chain) (updates : Updates chains chains' key None) (fewer : slab_len chains' + 1 ≡ slab_len chains) (same_capacity : chains'.capacity ≡ chains.capacity) where
+  module _ (count : ℕ) (is_count : count ≡ pages_for c.len) (chains' : Slab Chain) (updates : Updates chains chains' key None)
+      (fewer : slab_len chains' + 1 ≡ slab_len chains) (same_capacity : chains'.capacity ≡ chains.capacity) where
     -- there is a last page
     some_pages : 0 < count
     some_pages = let sized = (kept.sized key c there).0 in omega arith
 
     -- the other chains stay
-    not_ended : (q : ℕ) (d : Chain) → q ≢ key → slot chains q ≡ Some d → chain_of block (set next (page_at next c.first (count - 1)) head) d ≡ chain_of block next d
+    not_ended : (q : ℕ) (d : Chain) → q ≢ key → slot chains q ≡ Some d
+        → chain_of block (set next (page_at next c.first (count - 1)) head) d ≡ chain_of block next d
     not_ended q d ne e = same_bytes block next block (set next (page_at next c.first (count - 1)) head) d.first d.len (λ i k small h.
         ap (λ p. byte_at block p k) (page_at-set next (page_at next c.first (count - 1)) head d.first i (λ j l same.
         let s = some_pages in
@@ -154,11 +175,14 @@ module _ (block next : List ℕ) (head free : ℕ) (chains : Slab Chain) (kept :
 zero_pages : (n : ℕ) → pages_for (length (replicate {A = ℕ} n 0)) ≡ pages_for n
 zero_pages n = ap pages_for (length-replicate n 0)
 
-module _ (block next : List ℕ) (head free : ℕ) (chains : Slab Chain) (kept : AreKept block next head free chains) (bytes need : ℕ) (is_need : need ≡ pages_for bytes) (some : 0 < bytes) (small : bytes ≤ 1000000) (enough : need ≤ free)
+module _ (block next : List ℕ) (head free : ℕ) (chains : Slab Chain) (kept : AreKept block next head free chains) (bytes need : ℕ)
+    (is_need : need ≡ pages_for bytes) (some : 0 < bytes) (small : bytes ≤ 1000000) (enough : need ≤ free)
     (block' n : List ℕ) (is_next : n ≡ next) (same_len : length block' ≡ length block)
     (zeros_n : (i k : ℕ) → i < need → k < 4096 → byte_at block' (page_at n head i) k ≡ 0)
     (stays_n : (q k : ℕ) → k < 4096 → ((i : ℕ) → i < need → q ≢ page_at n head i) → byte_at block' q k ≡ byte_at block q k)
-    (chains' : Slab Chain) (key : ℕ) (vacant : slot chains key ≡ None) (updates : Updates chains chains' key (Some (record { first = head; len = bytes }))) (more : slab_len chains' ≡ slab_len chains + 1) (same_capacity : chains'.capacity ≡ chains.capacity) where
+    (chains' : Slab Chain) (key : ℕ) (vacant : slot chains key ≡ None)
+    (updates : Updates chains chains' key (Some (record { first = head; len = bytes }))) (more : slab_len chains' ≡ slab_len chains + 1)
+    (same_capacity : chains'.capacity ≡ chains.capacity) where
   -- the bytes of the pages that are taken are zero
   zeros : (i k : ℕ) → i < need → k < 4096 → byte_at block' (page_at next head i) k ≡ 0
   zeros = subst (λ n. (i k : ℕ) → i < need → k < 4096 → byte_at block' (page_at n head i) k ≡ 0) is_next zeros_n
@@ -175,7 +199,8 @@ module _ (block next : List ℕ) (head free : ℕ) (chains : Slab Chain) (kept :
   -- the new lease has zeros
   pub take-leases : leases_of block' next chains' ≡ insert (leases_of block next chains) key (replicate bytes 0)
   take-leases =
-      leases-insert block next block' next chains chains' key updates.others not_taken (record { first = head; len = bytes }) (replicate bytes 0) updates.changed
+      leases-insert block next block' next chains chains' key updates.others not_taken (record { first = head; len = bytes })
+      (replicate bytes 0) updates.changed
       (all_zero block' next head bytes (λ i k low h. let inside = in_pages i k bytes h in zeros i k (omega arith) low))
 
   -- its number is new
@@ -185,7 +210,8 @@ module _ (block next : List ℕ) (head free : ℕ) (chains : Slab Chain) (kept :
   -- and the pool is kept
   pub take-kept : AreKept block' next (page_at next head need) (free - need) chains'
   take-kept =
-      let at : chain_at (page_at next head need) (free - need) chains' (suc key) ≡ (head, pages_for bytes) = chain_at-slot (page_at next head need) (free - need) chains' key (record { first = head; len = bytes }) updates.changed in
+      let at : chain_at (page_at next head need) (free - need) chains' (suc key) ≡ (head, pages_for bytes) =
+      chain_at-slot (page_at next head need) (free - need) chains' key (record { first = head; len = bytes }) updates.changed in
       let taken = leased-insert (leases_of block next chains) key (replicate bytes 0) take-fresh in
       let taken' = ap leased_pages take-leases in
       let pages = zero_pages bytes in
@@ -200,7 +226,8 @@ module _ (block next : List ℕ) (head free : ℕ) (chains : Slab Chain) (kept :
             (λ k ne. ap (λ s. option_map_or (λ (c : Chain). (c.first, pages_for c.len)) s (0, 0)) (updates.others k ne));
         sized = λ k d e. elim (cases_eq k key) [
           | inl same ↦
-              let is : record { first = head; len = bytes } ≡ d = one_value (slot chains' k) (record { first = head; len = bytes }) d (ap (slot chains') same ∙ updates.changed) e in
+              let is : record { first = head; len = bytes } ≡ d =
+              one_value (slot chains' k) (record { first = head; len = bytes }) d (ap (slot chains') same ∙ updates.changed) e in
               let l : bytes ≡ d.len = ap (λ (c : Chain). c.len) is in
               (omega arith, omega arith)
           | inr ne ↦ kept.sized k d (sym (updates.others k ne) ∙ e)

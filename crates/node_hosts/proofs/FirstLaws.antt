@@ -38,17 +38,25 @@ pub record IsNew (s : Settings) (id : HostId) (k : Known) : Type 0 where
   pub inc : ℕ
   pub is : known_in s (new_host s id inc 0) ≡ k
 
-host_is : (s : Settings) (m : ℕ) (incs : List ℕ) (i : ℕ) (k : Known) → slice_get (map (known_in s) (new_hosts s m incs)) i ≡ Some k → IsNew s (record { 0 = m + i }) k
+host_is : (s : Settings) (m : ℕ) (incs : List ℕ) (i : ℕ) (k : Known) → slice_get (map (known_in s) (new_hosts s m incs)) i ≡ Some k
+    → IsNew s (record { 0 = m + i }) k
 host_is s m [] i k e = absurd (none_some k e)
-host_is s m (inc ∷ incs) zero k e = record { inc = inc; is = ap (λ x. known_in s (new_host s (record { 0 = x }) inc 0)) (omega (arith)) ∙ some_is (known_in s (new_host s (record { 0 = m }) inc 0)) k e } where
-  some_is : (x y : Known) → Some x ≡ Some y → x ≡ y
-  some_is x y e = cc
+host_is s m (inc ∷ incs) zero k e =
+    record {
+      inc = inc;
+      is = ap (λ x. known_in s (new_host s (record { 0 = x }) inc 0)) (omega (arith))
+          ∙ some_is (known_in s (new_host s (record { 0 = m }) inc 0)) k e;
+    } where
+      some_is : (x y : Known) → Some x ≡ Some y → x ≡ y
+      some_is x y e = cc
 host_is s m (inc ∷ incs) (suc i) k e =
     let r = host_is s (suc m) incs i k e in
     record { inc = r.inc; is = ap (λ x. known_in s (new_host s (record { 0 = x }) r.inc 0)) (omega (arith)) ∙ r.is }
 
-module _ {S : Type 0} (served : S → ℕ) (n : NodeParts S) (s : Settings) (incs : List ℕ) (boxes : List S) (valid : IsValid s) (count : length incs ≡ s.hosts) (enough : s.hosts ≤ length boxes) (unasked : AllByRecursion (λ box. served box ≡ 0) boxes)
-    (start : n.clock ≡ 0) (settings : n.settings ≡ s) (hosts : known_of n.stage ≡ known_first s incs) (seats : seats_of n.stage ≡ map Some (take s.hosts boxes)) (sent : n.sent ≡ 0) (none : n.last ≡ last.Nothing) where
+module _ {S : Type 0} (served : S → ℕ) (n : NodeParts S) (s : Settings) (incs : List ℕ) (boxes : List S) (valid : IsValid s)
+    (count : length incs ≡ s.hosts) (enough : s.hosts ≤ length boxes) (unasked : AllByRecursion (λ box. served box ≡ 0) boxes)
+    (start : n.clock ≡ 0) (settings : n.settings ≡ s) (hosts : known_of n.stage ≡ known_first s incs)
+    (seats : seats_of n.stage ≡ map Some (take s.hosts boxes)) (sent : n.sent ≡ 0) (none : n.last ≡ last.Nothing) where
   pub first_stands : IsFirstIn s incs (StandsFor n)
   unfolding new_world
   first_stands = record {
@@ -72,14 +80,16 @@ module _ {S : Type 0} (served : S → ℕ) (n : NodeParts S) (s : Settings) (inc
     order = omega (arith);
   })
 
-  seat_fits : (m i : ℕ) (xs : List S) → i < m → m ≤ length xs → AllByRecursion (λ box. served box ≡ 0) xs → SeatFits served n.steps (place_of (map Some (take m xs)) i)
+  seat_fits : (m i : ℕ) (xs : List S) → i < m → m ≤ length xs → AllByRecursion (λ box. served box ≡ 0) xs
+      → SeatFits served n.steps (place_of (map Some (take m xs)) i)
   seat_fits zero i xs l e all = absurd (omega (arith, l))
   seat_fits (suc m) i [] l e all = absurd (omega (arith, e))
   seat_fits (suc m) zero (x ∷ xs) l e all = record { seat = x; is = refl; count = omega (arith, all.0) }
   seat_fits (suc m) (suc i) (x ∷ xs) l e all = seat_fits m i xs (omega (arith, l)) (omega (arith, e)) all.1
 
   here : (id : HostId) (k : Known) → IsNew s (record { 0 = 0 + id.0 }) k → IsNew s id k
-  here id k r = let e : 0 + id.0 ≡ id.0 = omega (arith) in record { inc = r.inc; is = ap (λ m. known_in s (new_host s (record { 0 = m }) r.inc 0)) (sym e) ∙ r.is }
+  here id k r =
+      let e : 0 + id.0 ≡ id.0 = omega (arith) in record { inc = r.inc; is = ap (λ m. known_in s (new_host s (record { 0 = m }) r.inc 0)) (sym e) ∙ r.is }
 
   pub first_kept : IsKept served n
   first_kept =
@@ -95,7 +105,8 @@ module _ {S : Type 0} (served : S → ℕ) (n : NodeParts S) (s : Settings) (inc
       }
 
 module _ {S : Type 0} (served : S → ℕ) (allows : Allows S) (n : NodeParts S) (s : Settings) (boxes : List S) where
-  pub first_allows : seats_of n.stage ≡ map Some (take s.hosts boxes) → spares_of n.stage ≡ drop s.hosts boxes → (told : List PlainEntry) → may_tell_of served allows n told → AreAllowed served allows boxes (PlainSettings s ∷ told)
+  pub first_allows : seats_of n.stage ≡ map Some (take s.hosts boxes) → spares_of n.stage ≡ drop s.hosts boxes → (told : List PlainEntry)
+      → may_tell_of served allows n told → AreAllowed served allows boxes (PlainSettings s ∷ told)
   first_allows seats spares told may =
       subst (λ xs. may_tell allows (all_counted served (map Some (take s.hosts boxes))) (map (counted served) xs) told) spares
       (subst (λ xs. may_tell allows (all_counted served xs) (map (counted served) (spares_of n.stage)) told) seats may)

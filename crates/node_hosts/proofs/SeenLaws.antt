@@ -59,7 +59,8 @@ formed_seen : (s : Settings) (n : ℕ) (p : Packet) → IsFormed s p → IsSeen 
 formed_seen s n p f = record { version = omega (arith); sender = f.sender; call = f.call; tick = omega (arith); of_kind = f.of_kind; bytes = f.bytes }
 
 -- each entry of a step, with any numbers
-pub all_seen : (s : Settings) (m k : ℕ) (told : List Told) → AllByRecursion (IsFormed s) (packets_in told) → AllByRecursion IsOfStep told → AllByRecursion IsOfHost (entries_from k told) → AllByRecursion IsSeen (entries_from m told)
+pub all_seen : (s : Settings) (m k : ℕ) (told : List Told) → AllByRecursion (IsFormed s) (packets_in told) → AllByRecursion IsOfStep told
+    → AllByRecursion IsOfHost (entries_from k told) → AllByRecursion IsSeen (entries_from m told)
 all_seen s m k [] formed said of = tt
 all_seen s m k (Sends p ∷ told) formed said of = (formed_seen s m p formed.0, all_seen s (suc m) (suc k) told formed.1 said.1 of.1)
 all_seen s m k (Says entry ∷ told) formed said of = (by_entry entry said.0 of.0, all_seen s m k told formed said.1 of.1) where

@@ -1,5 +1,6 @@
 -- A step of a host, from the node's hosts before to those after.
-use Rattle.std.proofs.Common.{◌≡◌, ◌<◌, ◌≤◌, ℕ, zero, suc, ◌+◌, ◌^◌, Bool, true, false, Option, Some, None, List, [], ◌∷◌, ◌++◌, length, refl, sym, ap, subst, ◌∙◌, arith}
+use Rattle.std.proofs.Common.{◌≡◌, ◌<◌, ◌≤◌, ℕ, zero, suc, ◌+◌, ◌^◌, Bool, true, false, Option, Some, None, List, [], ◌∷◌, ◌++◌, length, refl, sym}
+use Rattle.std.proofs.Common.{ap, subst, ◌∙◌, arith}
 use Rattle.std.specs.Prelude.{map, replicate, slice_get, slice_set, slice_index_or, IfSome}
 use Rattle.std.specs.List.{AllByRecursion}
 use Rattle.std.proofs.lemmas.List.{map-set, map-append, length-map, length-append}
@@ -63,7 +64,9 @@ few_from n (Says entry ∷ told) said l = (few_said entry said.0, few_from n tol
 few_from n (Sends p ∷ told) said l = (omega (arith, l), few_from (suc n) told said.1 (omega (arith, l)))
 
 -- packets that are sent are their frames
-sent_as : (s : Settings) (tick : ℕ) (ps : List Packet) → map (λ (p : SentPacket). record { from = sender p.packet; to = receiver p.packet; bytes = datagram s p.packet }) (stamped tick ps) ≡ map frame_datagram (frames_of s ps)
+sent_as : (s : Settings) (tick : ℕ) (ps : List Packet)
+    → map (λ (p : SentPacket). record { from = sender p.packet; to = receiver p.packet; bytes = datagram s p.packet }) (stamped tick ps)
+    ≡ map frame_datagram (frames_of s ps)
 sent_as s tick [] = refl
 sent_as s tick (p ∷ ps) = ap (λ ds. record { from = sender p; to = receiver p; bytes = datagram s p } ∷ ds) (sent_as s tick ps)
 
@@ -74,10 +77,12 @@ lead_at (suc n) skew (suc i) l = lead_at n skew i (omega (arith, l))
 
 module _ {S : Type 0} (n : NodeParts S) (id : HostId) (p : World) (stands : StandsFor n p) where
   pub host_there : (h : Seen) → slice_get (hosts_of n.stage) id.0 ≡ Some h → host_at p id ≡ Some h.host
-  host_there h at = ap (λ hs. slice_get hs id.0) stands.hosts ∙ map_at (λ (k : Known). k.host) (known_of n.stage) id.0 (known h) (map_at known (hosts_of n.stage) id.0 h at)
+  host_there h at =
+      ap (λ hs. slice_get hs id.0) stands.hosts ∙ map_at (λ (k : Known). k.host) (known_of n.stage) id.0 (known h) (map_at known (hosts_of n.stage) id.0 h at)
 
   pub clock_there : id.0 < n.settings.hosts → (now : ℕ) → now ≡ n.clock + n.settings.skew → own_clock p id ≡ now
-  clock_there l now e = ap (λ m. m + slice_index_or p.leads id.0 0) stands.clock ∙ ap (λ ls. n.clock + slice_index_or ls id.0 0) stands.leads ∙ ap (λ m. n.clock + m) (lead_at n.settings.hosts n.settings.skew id.0 l) ∙ sym e
+  clock_there l now e = ap (λ m. m + slice_index_or p.leads id.0 0) stands.clock ∙ ap (λ ls. n.clock + slice_index_or ls id.0 0) stands.leads
+      ∙ ap (λ m. n.clock + m) (lead_at n.settings.hosts n.settings.skew id.0 l) ∙ sym e
 
 module _ {S : Type 0} (served : S → ℕ) (n : NodeParts S) (kept : IsKept served n) (id : HostId) where
   pub within : id.0 < n.settings.hosts → id.0 < length (hosts_of n.stage)
@@ -87,7 +92,8 @@ module _ {S : Type 0} (served : S → ℕ) (n : NodeParts S) (kept : IsKept serv
   fits_there h at = kept.each id (known h) (map_at known (hosts_of n.stage) id.0 h at)
 
   -- a host may take a step by its own clock
-  pub may_step : n.steps < 2 ^ 57 → (now : ℕ) → now ≡ n.clock + n.settings.skew → id.0 < n.settings.hosts → IfSome (slice_get (hosts_of n.stage) id.0) (MayStep now)
+  pub may_step : n.steps < 2 ^ 57 → (now : ℕ) → now ≡ n.clock + n.settings.skew → id.0 < n.settings.hosts
+      → IfSome (slice_get (hosts_of n.stage) id.0) (MayStep now)
   may_step few now clock l =
       let r = found (hosts_of n.stage) id.0 (within l) in
       let f = fits_there r.h r.at in
@@ -98,13 +104,15 @@ pub skew_fits : {S : Type 0} (served : S → ℕ) (n : NodeParts S) → IsKept s
 skew_fits served n kept = omega (arith, kept.clock, kept.valid.in_range.2.2.2.2.2.2.2.2.2.2.2.2.2.1)
 
 fits_later : (s : Settings) (now later a b : ℕ) (id : HostId) (k : Known) → now ≤ later → a ≤ b → HostFits s now a id k → HostFits s later b id k
-fits_later s now later a b id k l m f = record { settings = f.settings; name = f.name; apart = f.apart; last = omega (arith, f.last, l); order = omega (arith, f.order, m) }
+fits_later s now later a b id k l m f =
+    record { settings = f.settings; name = f.name; apart = f.apart; last = omega (arith, f.last, l); order = omega (arith, f.order, m) }
 
 module _ {S : Type 0} (served : S → ℕ) where
   pub seat_later : (a b : ℕ) (o : Option S) → a ≤ b → SeatFits served a o → SeatFits served b o
   seat_later a b o l f = record { seat = f.seat; is = f.is; count = omega (arith, f.count, l) }
 
-  pub set_fits : (a : ℕ) (xs : List (Option S)) (i j : ℕ) (x : S) → served x ≤ a → SeatFits served a (place_of xs j) → SeatFits served a (place_of (slice_set xs i (Some x)) j)
+  pub set_fits : (a : ℕ) (xs : List (Option S)) (i j : ℕ) (x : S) → served x ≤ a → SeatFits served a (place_of xs j)
+      → SeatFits served a (place_of (slice_set xs i (Some x)) j)
   set_fits a [] i j x l f = f
   set_fits a (y ∷ xs) zero zero x l f = record { seat = x; is = refl; count = l }
   set_fits a (y ∷ xs) zero (suc j) x l f = f
@@ -121,7 +129,8 @@ module _ {S : Type 0} (served : S → ℕ) where
     valid = k.valid;
     clock = most;
     hosts = k.hosts;
-    each = λ id h at. fits_later n.settings (n.clock + n.settings.skew) (now + n.settings.skew) n.steps n.steps id h (omega (arith, l)) (omega (arith)) (k.each id h at);
+    each = λ id h at. fits_later n.settings (n.clock + n.settings.skew) (now + n.settings.skew) n.steps n.steps id h (omega (arith, l))
+        (omega (arith)) (k.each id h at);
     seats = k.seats;
     sent = k.sent;
     last = still n.last k.last;
@@ -131,8 +140,12 @@ module _ {S : Type 0} (served : S → ℕ) where
     still (last.Stepped host base) is = is
 
 -- an entry of the last step may be told to any observer
-pub seen_at : {S : Type 0} (n : NodeParts S) (host : HostId) (base i : ℕ) (e x : PlainEntry) → IsLast n (last.Stepped host base) → slice_get (entries_of n.stage (slice_get (hosts_of n.stage) host.0)) i ≡ Some e → x ≡ numbered base e → IsSeen x
-seen_at n host base i e x is at same = subst IsSeen (sym same) (at_index IsSeen (told_by n (last.Stepped host base)) i (numbered base e) is.2 (map_at (numbered base) (entries_of n.stage (slice_get (hosts_of n.stage) host.0)) i e at))
+pub seen_at : {S : Type 0} (n : NodeParts S) (host : HostId) (base i : ℕ) (e x : PlainEntry) → IsLast n (last.Stepped host base)
+    → slice_get (entries_of n.stage (slice_get (hosts_of n.stage) host.0)) i ≡ Some e → x ≡ numbered base e → IsSeen x
+seen_at n host base i e x is at same =
+    subst IsSeen (sym same)
+    (at_index IsSeen (told_by n (last.Stepped host base)) i (numbered base e) is.2
+    (map_at (numbered base) (entries_of n.stage (slice_get (hosts_of n.stage) host.0)) i e at))
 
 -- and it doesn't tell that a datagram comes
 pub own_at : {S : Type 0} (n : NodeParts S) (host : HostId) (base i : ℕ) (e x : PlainEntry) → IsLast n (last.Stepped host base)
@@ -144,7 +157,8 @@ own_at n host base i e x is at same =
 -- ---- a step
 
 module _ {S : Type 0} (served : S → ℕ) (n : NodeParts S) (kept : IsKept served n)
-    (now : ℕ) (id : HostId) (h : Seen) (step : Work) (st : Stage S) (at : slice_get (hosts_of n.stage) id.0 ≡ Some h) (stepped : HasStepped now id h step n.stage st) where
+    (now : ℕ) (id : HostId) (h : Seen) (step : Work) (st : Stage S) (at : slice_get (hosts_of n.stage) id.0 ≡ Some h)
+    (stepped : HasStepped now id h step n.stage st) where
   abbrev pub after : NodeParts S
   after = record n { stage = st; last = last.Stepped id n.sent; sent = n.sent + length st.outbox; steps = n.steps + 1 }
 
@@ -170,8 +184,11 @@ module _ {S : Type 0} (served : S → ℕ) (n : NodeParts S) (kept : IsKept serv
 
   pub sent_after : (p : World) → datagrams n.settings (stepped_world p id step) ≡ datagrams n.settings p ++ map frame_datagram st.outbox
   sent_after p =
-      map-append (λ (q : SentPacket). record { from = sender q.packet; to = receiver q.packet; bytes = datagram n.settings q.packet }) p.packets (stamped p.clock (packets_in step.told))
-      ∙ ap (λ ds. datagrams n.settings p ++ ds) (sent_as n.settings p.clock (packets_in step.told) ∙ ap (λ s. map frame_datagram (frames_of s (packets_in step.told))) (sym fits.settings) ∙ ap (map frame_datagram) (sym stepped.done.posted))
+      map-append (λ (q : SentPacket). record { from = sender q.packet; to = receiver q.packet; bytes = datagram n.settings q.packet }) p.packets
+      (stamped p.clock (packets_in step.told))
+      ∙ ap (λ ds. datagrams n.settings p ++ ds)
+      (sent_as n.settings p.clock (packets_in step.told) ∙ ap (λ s. map frame_datagram (frames_of s (packets_in step.told))) (sym fits.settings)
+      ∙ ap (map frame_datagram) (sym stepped.done.posted))
 
   inside : id.0 < length (hosts_of n.stage)
   inside = here (hosts_of n.stage) id.0 at where
@@ -215,7 +232,8 @@ module _ {S : Type 0} (served : S → ℕ) (n : NodeParts S) (kept : IsKept serv
     sent = omega (arith, kept.sent, few);
     last = (
       omega (arith, kept.sent, room),
-      subst (HasLeft st) (sym here_after) (stepped.done.sent, subst (AllByRecursion IsFew) (sym stepped.done.entries) (few_from 0 step.told own.said (omega (arith, frames, few)))),
+      subst (HasLeft st) (sym here_after)
+          (stepped.done.sent, subst (AllByRecursion IsFew) (sym stepped.done.entries) (few_from 0 step.told own.said (omega (arith, frames, few)))),
       subst (AllByRecursion IsSeen) (sym (entries_after own.said)) (all_seen h.settings n.sent 0 step.told stepped.done.formed own.said of_host),
       subst (AllByRecursion IsOwn) (sym (entries_after own.said)) (all_own n.sent 0 step.told of_host),
     );
@@ -232,16 +250,22 @@ module _ {S : Type 0} (served : S → ℕ) (n : NodeParts S) (kept : IsKept serv
       order = omega (arith, stepped.same.order, fits.order);
     }
 
-    each : (m : HostId) (k : Known) → slice_get (slice_set (known_of n.stage) id.0 (known stepped.after)) m.0 ≡ Some k → HostFits n.settings (n.clock + n.settings.skew) (n.steps + 1) m k
+    each : (m : HostId) (k : Known) → slice_get (slice_set (known_of n.stage) id.0 (known stepped.after)) m.0 ≡ Some k
+        → HostFits n.settings (n.clock + n.settings.skew) (n.steps + 1) m k
     each m k is = by_host (is_host m id) refl where
       by_host : (b : Bool) → is_host m id ≡ b → HostFits n.settings (n.clock + n.settings.skew) (n.steps + 1) m k
       by_host true e =
           let one : m ≡ id = (hosts_are m id).0 e in
-          let k_is : known stepped.after ≡ k = some_is (known stepped.after) k (sym (there (known_of n.stage) id.0 (known stepped.after) (omega (arith, inside, length-map (hosts_of n.stage) known))) ∙ ap (λ (q : HostId). slice_get (slice_set (known_of n.stage) id.0 (known stepped.after)) q.0) (sym one) ∙ is) in
+          let k_is : known stepped.after ≡ k =
+          some_is (known stepped.after) k
+          (sym (there (known_of n.stage) id.0 (known stepped.after) (omega (arith, inside, length-map (hosts_of n.stage) known)))
+          ∙ ap (λ (q : HostId). slice_get (slice_set (known_of n.stage) id.0 (known stepped.after)) q.0) (sym one) ∙ is) in
           subst (λ (q : HostId). HostFits n.settings (n.clock + n.settings.skew) (n.steps + 1) q k) (sym one)
           (subst (HostFits n.settings (n.clock + n.settings.skew) (n.steps + 1) id) k_is fits_after) where
             some_is : (x y : Known) → Some x ≡ Some y → x ≡ y
             some_is x y e = cc
       by_host false e =
-          let old : slice_get (known_of n.stage) m.0 ≡ Some k = sym (elsewhere (known_of n.stage) id.0 m.0 (known stepped.after) (λ same. apart_of m id e (sym same))) ∙ is in
-          fits_later n.settings (n.clock + n.settings.skew) (n.clock + n.settings.skew) n.steps (n.steps + 1) m k (omega (arith)) (omega (arith)) (kept.each m k old)
+          let old : slice_get (known_of n.stage) m.0 ≡ Some k =
+          sym (elsewhere (known_of n.stage) id.0 m.0 (known stepped.after) (λ same. apart_of m id e (sym same))) ∙ is in
+          fits_later n.settings (n.clock + n.settings.skew) (n.clock + n.settings.skew) n.steps (n.steps + 1) m k (omega (arith)) (omega (arith))
+          (kept.each m k old)

@@ -34,9 +34,11 @@ module _ {S : Type 0} (n : NodeParts S) (w : World) (stands : StandsFor n w) (ho
       record {
         next = answering (answers_left step.told later) (stepped_world w host step);
         more = entries_from (length w.packets) step.told;
-        sent = map (λ (q : SentPacket). record { from = sender q.packet; to = receiver q.packet; bytes = datagram n.settings q.packet }) (stamped w.clock (packets_in step.told));
+        sent = map (λ (q : SentPacket). record { from = sender q.packet; to = receiver q.packet; bytes = datagram n.settings q.packet })
+            (stamped w.clock (packets_in step.told));
         done = ap (λ o. arrives_at n.settings (answering later w) host (PlainRecv host a.from a.bytes ∷ []) packet o) here;
-        grown = map-append (λ (q : SentPacket). record { from = sender q.packet; to = receiver q.packet; bytes = datagram n.settings q.packet }) w.packets (stamped w.clock (packets_in step.told));
+        grown = map-append (λ (q : SentPacket). record { from = sender q.packet; to = receiver q.packet; bytes = datagram n.settings q.packet })
+            w.packets (stamped w.clock (packets_in step.told));
       }
 
   pub turns : IsBegun (λ v. outcome n.settings v (event.Turn host) []) [] n.settings w later
@@ -45,7 +47,9 @@ module _ {S : Type 0} (n : NodeParts S) (w : World) (stands : StandsFor n w) (ho
       record {
         next = answering later (stepped_world w host step);
         more = entries_from (length w.packets) step.told;
-        sent = map (λ (q : SentPacket). record { from = sender q.packet; to = receiver q.packet; bytes = datagram n.settings q.packet }) (stamped w.clock (packets_in step.told));
+        sent = map (λ (q : SentPacket). record { from = sender q.packet; to = receiver q.packet; bytes = datagram n.settings q.packet })
+            (stamped w.clock (packets_in step.told));
         done = events.turn_done n.settings w host there here later;
-        grown = map-append (λ (q : SentPacket). record { from = sender q.packet; to = receiver q.packet; bytes = datagram n.settings q.packet }) w.packets (stamped w.clock (packets_in step.told));
+        grown = map-append (λ (q : SentPacket). record { from = sender q.packet; to = receiver q.packet; bytes = datagram n.settings q.packet })
+            w.packets (stamped w.clock (packets_in step.told));
       }

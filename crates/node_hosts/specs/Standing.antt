@@ -81,4 +81,5 @@ module _ {S : Type 0} where
 
   -- a step was done: the plain world's outcome
   abbrev pub Steps : (S → ℕ) → Allows S → NodeParts S → NodeParts S → (World → Outcome) → List PlainEntry → Type 0
-  Steps served allows old new act first = (w : World) → StandsFor old w → IsStep act first old.settings w (StandsFor new) (told_of new) (frames_of new.stage) (may_tell_of served allows old) (may_tell_of served allows new)
+  Steps served allows old new act first = (w : World) → StandsFor old w
+      → IsStep act first old.settings w (StandsFor new) (told_of new) (frames_of new.stage) (may_tell_of served allows old) (may_tell_of served allows new)

@@ -25,7 +25,8 @@ opened_is : (o : Opening) → is_opened o ≡ true → IsOpen o
 opened_is (Opened setup calls) e = record { setup = setup; calls = calls; is = refl }
 opened_is (Unopened refusal) e = absurd (let no : false ≡ true = e in cc)
 
-module _ (may_tell : List PlainEntry → Type 0) (fair : (told : List PlainEntry) → may_tell told → AreFair told) (bytes : List ℕ) (opens : OpensNode bytes) (old new : Around) where
+module _ (may_tell : List PlainEntry → Type 0) (fair : (told : List PlainEntry) → may_tell told → AreFair told) (bytes : List ℕ)
+    (opens : OpensNode bytes) (old new : Around) where
   open_is : IsOpen (opening most_bytes bytes)
   open_is = opened_is (opening most_bytes bytes) opens
 
@@ -83,7 +84,8 @@ module _ (may_tell : List PlainEntry → Type 0) (fair : (told : List PlainEntry
           (answers_fair (entries w.reports) w.answers w.from.allowed w.from.shows) w.from.rises old.taken new.taken (by_front w.front);
     }
 
-  pub part_obeys : (left : Option (List ℕ)) → IsBrokenOff may_tell node_text bytes left old new ⊎ IsEndCut may_tell node_text bytes old new → TookSome bytes old new
+  pub part_obeys : (left : Option (List ℕ)) → IsBrokenOff may_tell node_text bytes left old new ⊎ IsEndCut may_tell node_text bytes old new
+      → TookSome bytes old new
   part_obeys left (inl w) = broken_obeys left w
   part_obeys left (inr w) = end_cut_obeys w
 

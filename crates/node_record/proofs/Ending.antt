@@ -206,7 +206,8 @@ module _ (may_tell : List PlainEntry → Type 0) (bytes : List ℕ) (t0 t1 t2 : 
     by_answer (Err (stop.Start line fault)) result a p = by_put (RefusedAt line (ByWorld (CantStart fault))) result status.Refused (λ w. w) a p
     by_answer (Err (stop.Host line)) result a p = by_put (RefusedAt line (ByWorld NoSuchHost)) result status.Refused (λ w. w) a p
     by_answer (Err (stop.Stalled turns now)) result a p = by_put (StalledAt turns now) result status.Stalled (λ w. w) a p
-    by_answer (Err (stop.Seen seen.Stranger)) result a p = subst Leaves (sym p.2) (cut_short left a.part p.0 (a.took (node_run bytes a.part.answers a.part.ticks a.part.gave) (begins_all left a.part)))
+    by_answer (Err (stop.Seen seen.Stranger)) result a p =
+        subst Leaves (sym p.2) (cut_short left a.part p.0 (a.took (node_run bytes a.part.answers a.part.ticks a.part.gave) (begins_all left a.part)))
     by_answer (Err (stop.Seen (seen.Write failed))) result a p = subst Leaves (sym p.2) (inl (cut left a p.0))
     by_answer (Err (stop.Seen seen.NoMemory)) result a p = subst Leaves (sym p.2) (inl (cut left a p.0))
     by_answer (Err stop.Read) result a p = subst Leaves (sym p.2) (inl (cut left a p.0))

@@ -63,7 +63,8 @@ pub record Run : Type 0 where
 
 -- ---- a node
 
--- a node in its run: its hosts with the packets that they sent, what was told so far, the calls that are still to be made, and what the net's receives are still to give
+-- a node in its run: its hosts with the packets that they sent, what was told so far, the calls that are still to be made, and what the net's
+-- receives are still to give
 pub record Node : Type 0 where
   pub world : World
   pub reports : List Report

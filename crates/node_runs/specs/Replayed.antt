@@ -55,7 +55,8 @@ pub record BeginsWith (s : Settings) (reports : List Report) : Type 0 where
   pub first : reports ≡ Tells (PlainSettings s) ∷ later
   pub only : NoSettings later
 
--- an event as a recorder tells it: its hosts are two of 32 at most, its packet is one of so many that were sent, and its bytes are those of a message or of a datagram
+-- an event as a recorder tells it: its hosts are two of 32 at most, its packet is one of so many that were sent, and its bytes are those of a message
+-- or of a datagram
 abbrev pub IsRecorded : ℕ → Event → List ℕ → Type 0
 IsRecorded packets (event.Call client server service) bytes = (client.0 < 32) × (server.0 < 32) × (service < 256) × IsBytes bytes × (length bytes ≤ 1000000)
 IsRecorded packets (event.Deliver number) bytes = (number < packets) × (bytes ≡ [])
@@ -84,7 +85,8 @@ IsAnswer answer = Between 1 1000000 (length answer.bytes) × IsBytes answer.byte
 abbrev pub RepeatsBy : Run → Settings → List PlainEntry → Type 0
 RepeatsBy run s told = (run.fault ≡ None) × (of_hosts (PlainSettings s ∷ run.told) ≡ of_hosts told)
 
--- where all hosts of a node are local with incarnation 1, and nothing of its run is strange, the replay of what a recorder tells of the run gives the run's entries, the clock's and those of datagrams that come aside
+-- where all hosts of a node are local with incarnation 1, and nothing of its run is strange, the replay of what a recorder tells of the run gives the
+-- run's entries, the clock's and those of datagrams that come aside
 abbrev pub RecordingsRepeat : Type 0
 RecordingsRepeat =
     (bytes : List ℕ) (setup : Setup) (calls : Calls) (answers : List Answer) (ticks : List ℕ) (receives : List (Option Arrival)) (boxes : ℕ)

@@ -1,5 +1,6 @@
 -- The grammar of a node script: where its hosts are, when it ends, and the calls that are to be made; or why a line is refused.
-use Rattle.std.specs.Prelude.{ℕ, zero, suc, ◌+◌, ◌-◌, ◌^◌, ◌==◌, ◌&&◌, nat_lt, Bool, true, false, not, is_some, if◌then◌else◌, Option, None, Some, Result, Ok, Err, List, [], ◌∷◌, ◌++◌, codes, length, map, filter, slice_get}
+use Rattle.std.specs.Prelude.{ℕ, zero, suc, ◌+◌, ◌-◌, ◌^◌, ◌==◌, ◌&&◌, nat_lt, Bool, true, false, not, is_some, if◌then◌else◌, Option, None, Some}
+use Rattle.std.specs.Prelude.{Result, Ok, Err, List, [], ◌∷◌, ◌++◌, codes, length, map, filter, slice_get}
 use Rattle.std.specs.Str.{bytes_eq, is_utf8}
 use Rattle.homa_plain.specs.declared.id.HostId.{HostId}
 use Rattle.homa_plain.specs.declared.fault.ScriptFault.{ScriptFault}
@@ -11,7 +12,8 @@ use Rattle.homa_plain.specs.declared.settings.Settings.{Settings}
 use Rattle.homa_plain.specs.declared.settings.Name.{Name}
 use Rattle.homa_plain.specs.Settings.{verdict, usual}
 use Rattle.homa_plain.specs.Input.{lines_of, without_feed, words_of}
-use Rattle.homa_plain.specs.Script.{◌>>=◌, first_word, number_at_most, host_operand, bytes_operand, alone, names, name_in, is_comment, without_return, longest_line, with_setting}
+use Rattle.homa_plain.specs.Script.{◌>>=◌, first_word, number_at_most, host_operand, bytes_operand, alone, names, name_in, is_comment, without_return}
+use Rattle.homa_plain.specs.Script.{longest_line, with_setting}
 
 -- where a host is: in this node, in this incarnation, or elsewhere; and the port where it is reached
 pub data Place : Type 0 where

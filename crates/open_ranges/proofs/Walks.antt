@@ -1,5 +1,6 @@
 -- Steps of the walks over a list of ranges.
-use Rattle.std.proofs.Common.{ltb, ◌≡◌, ℕ, zero, suc, ◌+◌, ◌-◌, ◌<◌, ◌≤◌, min, max, List, [], ◌∷◌, ◌++◌, length, take, drop, get_or, refl, sym, ap, subst, ◌∙◌, arith, add-one, append_assoc}
+use Rattle.std.proofs.Common.{ltb, ◌≡◌, ℕ, zero, suc, ◌+◌, ◌-◌, ◌<◌, ◌≤◌, min, max, List, [], ◌∷◌, ◌++◌, length, take, drop, get_or, refl, sym, ap}
+use Rattle.std.proofs.Common.{subst, ◌∙◌, arith, add-one, append_assoc}
 use Rattle.std.specs.Prelude.{slice_set}
 use Rattle.std.proofs.lemmas.Bool.{lt-ltb, le-ltb, cond_both}
 use Rattle.std.proofs.Math.Seq.{drop-cons}
@@ -31,10 +32,12 @@ next xs i d h = ap plain (drop-cons xs i d h) ∙ ap (λ k. range (get_or xs i d
 
 -- a range that ends below the added one stays
 pub below_next : (xs : List Range) (i a : ℕ) → i < length xs → (get_or xs i no_range).to < a
-    → ((b : ℕ) → joined a b (plain xs) ≡ plain (take i xs) ++ joined a b (plain (drop i xs))) → (b : ℕ) → joined a b (plain xs) ≡ plain (take (i + 1) xs) ++ joined a b (plain (drop (i + 1) xs))
+    → ((b : ℕ) → joined a b (plain xs) ≡ plain (take i xs) ++ joined a b (plain (drop i xs))) → (b : ℕ)
+    → joined a b (plain xs) ≡ plain (take (i + 1) xs) ++ joined a b (plain (drop (i + 1) xs))
 below_next xs i a h l so_far b =
     let r : Range = get_or xs i no_range in
-    let one : joined a b (plain (drop i xs)) ≡ range r.from r.to ∷ joined a b (plain (drop (i + 1) xs)) = ap (joined a b) (next xs i no_range h) ∙ rw (lt-ltb r.to a l) refl in
+    let one : joined a b (plain (drop i xs)) ≡ range r.from r.to ∷ joined a b (plain (drop (i + 1) xs)) =
+    ap (joined a b) (next xs i no_range h) ∙ rw (lt-ltb r.to a l) refl in
     so_far b ∙ ap (λ ys. plain (take i xs) ++ ys) one ∙ sym (plain_pushed (take i xs) r (joined a b (plain (drop (i + 1) xs))))
     ∙ ap (λ ys. plain ys ++ joined a b (plain (drop (i + 1) xs))) (sym (take_more xs i no_range h))
 
@@ -98,11 +101,13 @@ pub fewer : (rs : List Range) (count : ℕ) → AreKept rs count → width_of (p
 fewer rs count kept = omega (arith, width-small (plain rs) 0 kept.apart kept.small)
 
 pub fewer-joined : (rs : List Range) (count a b : ℕ) → a < b → b < 4294967296 → AreKept rs count → width_of (joined a b (plain rs)) < 4294967296
-fewer-joined rs count a b ab h kept = omega (arith, width-small (joined a b (plain rs)) 0 (apart-joined (plain rs) a b 0 (omega arith) ab kept.apart) (small-joined (plain rs) a b h kept.small))
+fewer-joined rs count a b ab h kept =
+    omega (arith, width-small (joined a b (plain rs)) 0 (apart-joined (plain rs) a b 0 (omega arith) ab kept.apart) (small-joined (plain rs) a b h kept.small))
 
 -- the width by what was touched
 pub width-touched : (rs : List Range) (i t count a b from to covered : ℕ) → joined a b (plain rs) ≡ plain (take i rs) ++ absorbed a b (plain (drop i rs))
-    → absorbed a b (plain (drop i rs)) ≡ range from to ∷ plain (drop t (drop i rs)) → covered + width_of (plain (drop t (drop i rs))) ≡ width_of (plain (drop i rs)) → count ≡ width_of (plain rs)
+    → absorbed a b (plain (drop i rs)) ≡ range from to ∷ plain (drop t (drop i rs))
+    → covered + width_of (plain (drop t (drop i rs))) ≡ width_of (plain (drop i rs)) → count ≡ width_of (plain rs)
     → (covered ≤ count) × (count - covered + (to - from) ≡ width_of (joined a b (plain rs)))
 width-touched rs i t count a b from to covered copied added covers total = (
   omega (arith, width_halves i rs),
@@ -110,12 +115,15 @@ width-touched rs i t count a b from to covered copied added covers total = (
 )
 
 -- the set with the range
-pub joined_set : (rs : List Range) (count a b : ℕ) → a < b → AreKept rs count → (set_of_ranges (joined a b (plain rs)) ≡ with_range (set_of_ranges (plain rs)) a b) × (width_of (joined a b (plain rs)) ≡ len (with_range (set_of_ranges (plain rs)) a b))
+pub joined_set : (rs : List Range) (count a b : ℕ) → a < b → AreKept rs count
+    → (set_of_ranges (joined a b (plain rs)) ≡ with_range (set_of_ranges (plain rs)) a b)
+    × (width_of (joined a b (plain rs)) ≡ len (with_range (set_of_ranges (plain rs)) a b))
 joined_set rs count a b ab kept =
     let set : set_of_ranges (joined a b (plain rs)) ≡ with_range (set_of_ranges (plain rs)) a b = set_of_ranges-joined (plain rs) a b 0 ab kept.apart in
     (set, sym (len-set_of_ranges (joined a b (plain rs)) 0 (apart-joined (plain rs) a b 0 (omega arith) ab kept.apart)) ∙ ap len set)
 
-pub kept-joined : (old new : List Range) (count more a b : ℕ) → a < b → b < 4294967296 → AreKept old count → plain new ≡ joined a b (plain old) → more ≡ width_of (joined a b (plain old)) → AreKept new more
+pub kept-joined : (old new : List Range) (count more a b : ℕ) → a < b → b < 4294967296 → AreKept old count → plain new ≡ joined a b (plain old)
+    → more ≡ width_of (joined a b (plain old)) → AreKept new more
 kept-joined old new count more a b ab h kept is total = record {
   apart = subst (AreApart 0) (sym is) (apart-joined (plain old) a b 0 (omega arith) ab kept.apart);
   small = subst AreSmall (sym is) (small-joined (plain old) a b h kept.small);
@@ -151,21 +159,25 @@ set_back zero n (x ∷ xs) r = ap (λ (k : ℕ). drop k (r ∷ xs)) (one n) ∙ 
   one : (n : ℕ) → 0 + 1 + n ≡ suc n
   one n = omega arith
 set_back (suc i) n [] r = refl
-set_back (suc i) n (x ∷ xs) r = ap (λ (k : ℕ). drop k (x ∷ slice_set xs i r)) (shifted i n) ∙ set_back i n xs r ∙ ap (λ (k : ℕ). drop k (x ∷ xs)) (sym (shifted i n)) where
-  shifted : (a b : ℕ) → suc a + 1 + b ≡ suc (a + 1 + b)
-  shifted a b = omega arith
+set_back (suc i) n (x ∷ xs) r =
+    ap (λ (k : ℕ). drop k (x ∷ slice_set xs i r)) (shifted i n) ∙ set_back i n xs r ∙ ap (λ (k : ℕ). drop k (x ∷ xs)) (sym (shifted i n)) where
+      shifted : (a b : ℕ) → suc a + 1 + b ≡ suc (a + 1 + b)
+      shifted a b = omega arith
 
 -- the next range is touched
 pub absorbed_next : (a b from to : ℕ) (rs : List PlainRange) → from ≤ b → absorbed a b (range from to ∷ rs) ≡ absorbed (min a from) (max b to) rs
 absorbed_next a b from to rs h = rw (le-ltb b from h) refl
 
 -- what `insert` makes, where t ranges are touched
-pub put_in : (xs new : List Range) (i t a b : ℕ) (r : Range) → new ≡ take i xs ++ r ∷ drop t (drop i xs) → joined a b (plain xs) ≡ plain (take i xs) ++ absorbed a b (plain (drop i xs))
+pub put_in : (xs new : List Range) (i t a b : ℕ) (r : Range) → new ≡ take i xs ++ r ∷ drop t (drop i xs)
+    → joined a b (plain xs) ≡ plain (take i xs) ++ absorbed a b (plain (drop i xs))
     → absorbed a b (plain (drop i xs)) ≡ plain (r ∷ drop t (drop i xs)) → plain new ≡ joined a b (plain xs)
 put_in xs new i t a b r items copied added = ap plain items ∙ in_place i t xs r ∙ ap (λ rs. plain (take i xs) ++ rs) (sym added) ∙ sym copied
 
 -- with one range set, and those behind it that were touched taken out
-pub replaced : (xs : List Range) (i t : ℕ) (r : Range) → i < length xs → take (i + 1) (slice_set xs i r) ++ drop (i + 1 + t) (slice_set xs i r) ≡ take i xs ++ r ∷ drop (suc t) (drop i xs)
+pub replaced : (xs : List Range) (i t : ℕ) (r : Range) → i < length xs
+    → take (i + 1) (slice_set xs i r) ++ drop (i + 1 + t) (slice_set xs i r) ≡ take i xs ++ r ∷ drop (suc t) (drop i xs)
 replaced xs i t r h =
-    ap (λ ys. ys ++ drop (i + 1 + t) (slice_set xs i r)) (set_front i xs r h) ∙ ap (λ ys. (take i xs ++ r ∷ []) ++ ys) (set_back i t xs r) ∙ append_assoc (take i xs) (r ∷ []) (drop (i + 1 + t) xs)
+    ap (λ ys. ys ++ drop (i + 1 + t) (slice_set xs i r)) (set_front i xs r h) ∙ ap (λ ys. (take i xs ++ r ∷ []) ++ ys) (set_back i t xs r)
+    ∙ append_assoc (take i xs) (r ∷ []) (drop (i + 1 + t) xs)
     ∙ ap (λ ys. take i xs ++ r ∷ ys) (ap (λ (k : ℕ). drop k xs) (omega arith) ∙ sym (drop_drop i (suc t) xs))

@@ -36,7 +36,8 @@ others-left slot s (x ∷ xs) =
     (λ _. others-left slot s xs)
 
 -- an order that no other slot has none of the others have
-pub free-others : {X : Type 0} (slot order : X → ℕ) (s o : ℕ) (xs : List X) → AllByRecursion (λ t. order t ≡ o → slot t ≡ s) xs → AllByRecursion (λ t. order t ≢ o) (filter (λ t. not (slot t == s)) xs)
+pub free-others : {X : Type 0} (slot order : X → ℕ) (s o : ℕ) (xs : List X) → AllByRecursion (λ t. order t ≡ o → slot t ≡ s) xs
+    → AllByRecursion (λ t. order t ≢ o) (filter (λ t. not (slot t == s)) xs)
 free-others slot order s o [] all = tt
 free-others slot order s o (x ∷ xs) all =
     cond_both (not (slot x == s)) _ _ (AllByRecursion (λ t. order t ≢ o))
@@ -86,15 +87,18 @@ module _ {X : Type 0} (item : X → Item) where
       -- the items but that of a slot, as things
       pub without-things : (s : ℕ) (ys : List Item) → map of (heap.without s ys) ≡ filter (λ t. not ((item t).0 == s)) (map of ys)
       without-things s ys =
-          ap (λ l. map of (heap.without s l)) (items-back ys) ∙ ap (map of) (without-items s (map of ys)) ∙ things-back (filter (λ t. not ((item t).0 == s)) (map of ys))
+          ap (λ l. map of (heap.without s l)) (items-back ys) ∙ ap (map of) (without-items s (map of ys))
+          ∙ things-back (filter (λ t. not ((item t).0 == s)) (map of ys))
 
       -- with an item in its place, where only its slot may have its order
       pub entered-things : (x : Item) (ys : List Item) → AllByRecursion (λ t. (item t).1.second ≡ x.1.second → (item t).0 ≡ x.0) (map of ys)
           → map of (heap.placed x (heap.without x.0 ys)) ≡ plain.placed item_key (of x) (filter (λ t. not ((item t).0 == x.0)) (map of ys))
       entered-things x ys own =
           let rest : List X = filter (λ t. not ((item t).0 == x.0)) (map of ys) in
-          let others : AllByRecursion (λ t. (item t).1.second ≢ x.1.second) rest = free-others (λ t. (item t).0) (λ t. (item t).1.second) x.0 x.1.second (map of ys) own in
-          let differ : DiffersFrom item_key (of x) rest = key-differs item_key (of x) rest (subst (λ y. AllByRecursion (λ t. (item t).1.second ≢ y.1.second) rest) (sym (items x)) others) in
+          let others : AllByRecursion (λ t. (item t).1.second ≢ x.1.second) rest =
+          free-others (λ t. (item t).0) (λ t. (item t).1.second) x.0 x.1.second (map of ys) own in
+          let differ : DiffersFrom item_key (of x) rest =
+          key-differs item_key (of x) rest (subst (λ y. AllByRecursion (λ t. (item t).1.second ≢ y.1.second) rest) (sym (items x)) others) in
           ap (λ l. map of (heap.placed x (heap.without x.0 l))) (items-back ys)
           ∙ ap (λ l. map of (heap.placed x l)) (without-items x.0 (map of ys))
           ∙ ap (λ y. map of (heap.placed y (map item rest))) (sym (items x))
@@ -105,16 +109,19 @@ module _ {X : Type 0} (item : X → Item) where
 pub filter-in_order : {X : Type 0} (key : X → ℕ × ℕ) (p : X → Bool) (xs : List X) → IsInOrder key xs → IsInOrder key (filter p xs)
 filter-in_order key p [] up = tt
 filter-in_order key p (x ∷ xs) up =
-    cond_both (p x) _ _ (IsInOrder key) (λ _. (filter-all (λ y. is_below (key y) (key x) ≡ false) p xs up.0, filter-in_order key p xs up.1)) (λ _. filter-in_order key p xs up.1)
+    cond_both (p x) _ _ (IsInOrder key) (λ _. (filter-all (λ y. is_below (key y) (key x) ≡ false) p xs up.0, filter-in_order key p xs up.1))
+    (λ _. filter-in_order key p xs up.1)
 
 -- things that pass a test differ where all did
 pub filter-differ : {X : Type 0} (number : X → ℕ) (p : X → Bool) (xs : List X) → SendersDiffer number xs → SendersDiffer number (filter p xs)
 filter-differ number p [] differ = tt
 filter-differ number p (x ∷ xs) differ =
-    cond_both (p x) _ _ (SendersDiffer number) (λ _. (filter-all (λ y. number x ≢ number y) p xs differ.0, filter-differ number p xs differ.1)) (λ _. filter-differ number p xs differ.1)
+    cond_both (p x) _ _ (SendersDiffer number) (λ _. (filter-all (λ y. number x ≢ number y) p xs differ.0, filter-differ number p xs differ.1))
+    (λ _. filter-differ number p xs differ.1)
 
 -- with a thing in its place that differs from the others all differ
-pub placed-differ : {X : Type 0} (number : X → ℕ) (key : X → ℕ × ℕ) (x : X) (ys : List X) → AllByRecursion (λ y. number y ≢ number x) ys → SendersDiffer number ys → SendersDiffer number (plain.placed key x ys)
+pub placed-differ : {X : Type 0} (number : X → ℕ) (key : X → ℕ × ℕ) (x : X) (ys : List X) → AllByRecursion (λ y. number y ≢ number x) ys
+    → SendersDiffer number ys → SendersDiffer number (plain.placed key x ys)
 placed-differ number key x [] ne differ = (tt, tt)
 placed-differ number key x (y ∷ ys) ne differ =
     cond_both (is_below (key x) (key y)) _ _ (SendersDiffer number)
@@ -124,4 +131,5 @@ placed-differ number key x (y ∷ ys) ne differ =
 -- keys differ where their second numbers do
 pub keys-differ : {X : Type 0} (key : X → ℕ × ℕ) (xs : List X) → SendersDiffer (λ x. (key x).1) xs → KeysDiffer key xs
 keys-differ key [] differ = tt
-keys-differ key (x ∷ xs) differ = (all_weaker (λ y. (key x).1 ≢ (key y).1) (λ y. key x ≢ key y) (λ y n e. n (ap (λ (k : ℕ × ℕ). k.1) e)) xs differ.0, keys-differ key xs differ.1)
+keys-differ key (x ∷ xs) differ =
+    (all_weaker (λ y. (key x).1 ≢ (key y).1) (λ y. key x ≢ key y) (λ y n e. n (ap (λ (k : ℕ × ℕ). k.1) e)) xs differ.0, keys-differ key xs differ.1)

@@ -31,10 +31,12 @@ module _ {M : Type 1} {𝓤 : Ura M} {𝓛 : Logic 𝓤} {K : Type 0} {Γ : List
       → Seq K 𝓛 (‵ (Answer.own_val r (v ∷ [])) ∷ ‵ (block_if_ok (ghosts.dealloc_token alloc) τ r) ∷ Γ) G
   answered t alloc τ v (Ok p) ok none =
       fpick t (λ us. fsplit t $ feq_l t (λ e. fpick t (λ vss. fsplit t $ feq_l t (λ e'. fsplit t $ feq_l t (λ e''. drop t $
-      in_a_block t p (λ z. fsep (room_for τ z) (ghosts.dealloc_token alloc τ z)) (fst∗ 𝓤 (never 𝓤) (sem 𝓛 (ghosts.dealloc_token alloc τ null_ptr))) (λ b o at. fsplit t $
+      in_a_block t p (λ z. fsep (room_for τ z) (ghosts.dealloc_token alloc τ z)) (fst∗ 𝓤 (never 𝓤) (sem 𝓛 (ghosts.dealloc_token alloc τ null_ptr)))
+      (λ b o at. fsplit t $
       ok b o (ap only e ∙ ap (λ (ws : List Val). live 0 (of_list ws)) (e' ∙ ap (λ (ws : List Val). ws ++ []) (e'' ∙ ap (λ (z : Ptr). ptr_val z ∷ []) at)))))))))
   answered t alloc τ v (Err n) ok none =
-      fpick t (λ us. fsplit t $ feq_l t (λ e. fpick t (λ vss. fsplit t $ feq_l t (λ e'. fsplit t $ fpick t (λ nil. fsplit t $ feq_l t (λ e''. drop t $ drop t $ drop t $
+      fpick t (λ us. fsplit t $ feq_l t
+      (λ e. fpick t (λ vss. fsplit t $ feq_l t (λ e'. fsplit t $ fpick t (λ nil. fsplit t $ feq_l t (λ e''. drop t $ drop t $ drop t $
       none (ap only e ∙ ap (λ (ws : List Val). live 1 (of_list ws)) (e' ∙ ap (λ (ws : List Val). ws ++ []) e''))))))))
 
 -- how a pair is stored

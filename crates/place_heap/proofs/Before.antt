@@ -25,7 +25,8 @@ test_other a b ne = grind (arith, nat_tests)
 
 -- the order is total
 items_total : IsTotalOrder item_cmp
-items_total = then_total (on_total (λ (x : Item). x.1.first) nat_cmp_total) (then_total (on_total (λ (x : Item). x.1.second) nat_cmp_total) (on_total (λ (x : Item). x.0) nat_cmp_total))
+items_total = then_total (on_total (λ (x : Item). x.1.first) nat_cmp_total)
+    (then_total (on_total (λ (x : Item). x.1.second) nat_cmp_total) (on_total (λ (x : Item). x.0) nat_cmp_total))
 
 -- an item does not stand before one that stands before it, and not being before is transitive
 pub order : IsStrictWeakOrder is_before
@@ -61,7 +62,9 @@ same_item a b l r =
 
 -- of two items of different slots that which is not before the other is after it
 pub is_after : (a b : Item) → a.0 ≢ b.0 → is_before b a ≡ false → is_before a b ≡ true
-is_after a b ne l = elim (is_before a b) as (λ t. is_before a b ≡ t → t ≡ true) [ true ↦ λ e. refl | false ↦ λ e. absurd (ne (ap (λ (x : Item). x.0) (same_item a b e l))) ] refl
+is_after a b ne l =
+    elim (is_before a b) as (λ t. is_before a b ≡ t → t ≡ true)
+    [ true ↦ λ e. refl | false ↦ λ e. absurd (ne (ap (λ (x : Item). x.0) (same_item a b e l))) ] refl
 
 -- no item stands before itself
 pub not_itself : (x : Item) → is_before x x ≡ false

@@ -32,7 +32,8 @@ level_up i steps had zero pos small cost = absurd (omega (arith, small))
 level_up i steps had (suc d) pos small cost = (d, omega (arith, pow-suc 2 d), omega arith)
 
 -- one level down costs ten steps
-pub level_down : (i k len steps had c : ℕ) → 2 * i < k → k < len → len < (i + 1) * 2 ^ c → steps + 10 * c ≤ had → (d : ℕ) × (len < (k + 1) * 2 ^ d) × (steps + 10 + 10 * d ≤ had)
+pub level_down : (i k len steps had c : ℕ) → 2 * i < k → k < len → len < (i + 1) * 2 ^ c → steps + 10 * c ≤ had
+    → (d : ℕ) × (len < (k + 1) * 2 ^ d) × (steps + 10 + 10 * d ≤ had)
 level_down i k len steps had zero deep inside small cost = absurd (omega arith)
 level_down i k len steps had (suc d) deep inside small cost =
     let double : 2 ^ suc d ≡ 2 * 2 ^ d = omega (arith, pow-suc 2 d) in

@@ -1,5 +1,6 @@
 -- The frontier of places that may come next, over a pop.
-use Rattle.std.proofs.Common.{◌≡◌, ◌≢◌, ℕ, zero, suc, ◌+◌, ◌*◌, ◌<◌, ◌≤◌, ◌⊎◌, inl, inr, Bool, true, false, List, [], ◌∷◌, ◌++◌, length, take, get_or, refl, sym, ap, subst, ◌∙◌, arith, ⊎_elim}
+use Rattle.std.proofs.Common.{◌≡◌, ◌≢◌, ℕ, zero, suc, ◌+◌, ◌*◌, ◌<◌, ◌≤◌, ◌⊎◌, inl, inr, Bool, true, false, List, [], ◌∷◌, ◌++◌, length, take, get_or}
+use Rattle.std.proofs.Common.{refl, sym, ap, subst, ◌∙◌, arith, ⊎_elim}
 use Rattle.std.specs.Prelude.{if◌then◌else◌, ◌==◌, nat_lt, remove}
 use Rattle.std.proofs.lemmas.List.{append_assoc, append-nil, take_at, take_all, get_or_read, length_push, nil_from_length}
 use Rattle.std.proofs.lemmas.Bool.{cases_eq}
@@ -58,27 +59,33 @@ left_beyond items popped p (suc n) high =
     (λ i. if same i then left_beyond items popped p n (omega arith) i else at items n ∷ left_beyond items popped p n (omega arith) i)
 
 -- one is popped
-pub left_pop : (items : List Item) (popped : ℕ → Bool) (p n : ℕ) → p < n → popped p ≡ false → ordered (left items popped n) ≡ placed (at items p) (ordered (left items (and_popped p popped) n))
+pub left_pop : (items : List Item) (popped : ℕ → Bool) (p n : ℕ) → p < n → popped p ≡ false
+    → ordered (left items popped n) ≡ placed (at items p) (ordered (left items (and_popped p popped) n))
 left_pop items popped p zero inside new = absurd (omega arith)
 left_pop items popped p (suc n) inside new = ⊎_elim
     (λ (e : n ≡ p).
     ap ordered (left_more items popped n (ap popped e ∙ new)) ∙ (λ i. placed (at items (e i)) (ordered (left items popped n)))
-    ∙ ap (λ l. placed (at items p) (ordered l)) (sym (left_popped items (and_popped p popped) n (popped_now p popped n e) ∙ left_beyond items popped p n (omega arith))))
+    ∙ ap (λ l. placed (at items p) (ordered l))
+    (sym (left_popped items (and_popped p popped) n (popped_now p popped n e) ∙ left_beyond items popped p n (omega arith))))
     (λ ne.
     let same : and_popped p popped n ≡ popped n = popped_else p popped n ne in
     let on = left_pop items popped p n (omega arith) new in
     either (popped n)
-    (λ e. ap ordered (left_popped items popped n e) ∙ on ∙ ap (λ l. placed (at items p) (ordered l)) (sym (left_popped items (and_popped p popped) n (same ∙ e))))
-    (λ e. ap ordered (left_more items popped n e) ∙ ap (placed (at items n)) on ∙ placed_swap (at items n) (at items p) (ordered (left items (and_popped p popped) n))
+    (λ e. ap ordered (left_popped items popped n e) ∙ on ∙ ap (λ l. placed (at items p) (ordered l))
+    (sym (left_popped items (and_popped p popped) n (same ∙ e))))
+    (λ e. ap ordered (left_more items popped n e) ∙ ap (placed (at items n)) on ∙ placed_swap (at items n) (at items p)
+    (ordered (left items (and_popped p popped) n))
     ∙ ap (λ l. placed (at items p) (ordered l)) (sym (left_more items (and_popped p popped) n (same ∙ e)))))
     (cases_eq n p)
 
 -- what holds of each place that was not popped holds of each item that is left
-pub left_each : (P : Item → Type 0) (items : List Item) (popped : ℕ → Bool) (n : ℕ) → ((j : ℕ) → j < n → popped j ≡ false → P (at items j)) → Each P (left items popped n)
+pub left_each : (P : Item → Type 0) (items : List Item) (popped : ℕ → Bool) (n : ℕ) → ((j : ℕ) → j < n → popped j ≡ false → P (at items j))
+    → Each P (left items popped n)
 left_each P items popped zero all = tt
 left_each P items popped (suc n) all =
     let rest = left_each P items popped n (λ j below e. all j (omega arith) e) in
-    either (popped n) (λ e. subst (Each P) (sym (left_popped items popped n e)) rest) (λ e. subst (Each P) (sym (left_more items popped n e)) (all n (omega arith) e, rest))
+    either (popped n) (λ e. subst (Each P) (sym (left_popped items popped n e)) rest)
+    (λ e. subst (Each P) (sym (left_more items popped n e)) (all n (omega arith) e, rest))
 
 -- nothing is left where all was popped
 pub left_none : (items : List Item) (popped : ℕ → Bool) (n : ℕ) → ((j : ℕ) → j < n → popped j ≡ true) → left items popped n ≡ []
@@ -129,7 +136,8 @@ every_push P [] c all here = (here, tt)
 every_push P (d ∷ ds) c all here = (all.0, every_push P ds c all.1 here)
 
 -- places stay different without one, which is then not there
-different_remove : (cs : List Candidate) (i : ℕ) → i < length cs → Different cs → Different (remove cs i) × Every (λ d. d.place ≢ (candidate cs i).place) (remove cs i)
+different_remove : (cs : List Candidate) (i : ℕ) → i < length cs → Different cs
+    → Different (remove cs i) × Every (λ d. d.place ≢ (candidate cs i).place) (remove cs i)
 different_remove [] i inside all = absurd (omega arith)
 different_remove (c ∷ cs) zero inside all = (all.1, all.0)
 different_remove (c ∷ cs) (suc i) inside all =
@@ -209,7 +217,8 @@ module _ (items : List Item) (len place : ℕ) (front : List Candidate) where
   every_child : (P : Candidate → Type 0) → Every P front → (place < len → P child) → Every P (with_child items len place front)
   every_child P all new =
       either (nat_lt place len)
-      (λ e. let below : place < len = grind (arith, nat_tests) in subst (λ t. Every P (if t then front ++ child ∷ [] else front)) (sym e) (every_push P front child all (new below)))
+      (λ e. let below : place < len = grind (arith, nat_tests) in subst (λ t. Every P (if t then front ++ child ∷ [] else front)) (sym e)
+      (every_push P front child all (new below)))
       (λ e. subst (λ t. Every P (if t then front ++ child ∷ [] else front)) (sym e) all)
 
   -- places stay different
@@ -233,21 +242,25 @@ module _ (items : List Item) (len place : ℕ) (front : List Candidate) where
       subst (λ t. In j (if t then front ++ child ∷ [] else front)) (sym e) (subst (λ k. In k (front ++ child ∷ [])) (sym same) (in_last front child))
 
 -- the least of the frontier is not after any item that is left
-least_of_all : (items : List Item) (len : ℕ) (front : List Candidate) (out : List Item) (popped : ℕ → Bool) (best : Item) → InOrder (at items) len → IsFront items len front out popped
+least_of_all : (items : List Item) (len : ℕ) (front : List Candidate) (out : List Item) (popped : ℕ → Bool) (best : Item) → InOrder (at items) len
+    → IsFront items len front out popped
     → Every (λ c. NotBefore c.item best) front → (most j : ℕ) → j ≤ most → j < len → popped j ≡ false → NotBefore (at items j) best
 least_of_all items len front out popped best heap state least zero j small inside new = ⊎_elim
-    (λ here. let found = in_least j front (λ c. Lies items len popped c × NotBefore c.item best) (every_both (Lies items len popped) (λ c. NotBefore c.item best) front state.lies least) here in
+    (λ here. let found = in_least j front (λ c. Lies items len popped c × NotBefore c.item best)
+    (every_both (Lies items len popped) (λ c. NotBefore c.item best) front state.lies least) here in
     ap (λ n. is_before (at items n) best) (sym found.1) ∙ ap (λ x. is_before x best) (sym found.2.0.1) ∙ found.2.1)
     (λ up. absurd (omega (arith, up.0))) (state.reached j inside new)
 least_of_all items len front out popped best heap state least (suc most) j small inside new = ⊎_elim
-    (λ here. let found = in_least j front (λ c. Lies items len popped c × NotBefore c.item best) (every_both (Lies items len popped) (λ c. NotBefore c.item best) front state.lies least) here in
+    (λ here. let found = in_least j front (λ c. Lies items len popped c × NotBefore c.item best)
+    (every_both (Lies items len popped) (λ c. NotBefore c.item best) front state.lies least) here in
     ap (λ n. is_before (at items n) best) (sym found.1) ∙ ap (λ x. is_before x best) (sym found.2.0.1) ∙ found.2.1)
     (λ up. order.chain (at items j) (at items (parent j)) best (heap j up.0 inside)
     (least_of_all items len front out popped best heap state least most (parent j) (omega (arith, up.0)) (omega (arith, up.0)) up.1))
     (state.reached j inside new)
 
 -- the least is popped, and its children come
-module _ (items : List Item) (len : ℕ) (front : List Candidate) (out : List Item) (popped : ℕ → Bool) (fits : len ≤ length items) (heap : InOrder (at items) len) (state : IsFront items len front out popped) (m : ℕ) (best : IsLeast front m) where
+module _ (items : List Item) (len : ℕ) (front : List Candidate) (out : List Item) (popped : ℕ → Bool) (fits : len ≤ length items)
+    (heap : InOrder (at items) len) (state : IsFront items len front out popped) (m : ℕ) (best : IsLeast front m) where
   -- the candidate that is popped
   abbrev next : Candidate
   next = candidate front m
@@ -315,7 +328,8 @@ module _ (items : List Item) (len : ℕ) (front : List Candidate) (out : List It
   pub pop_step : IsFront items len two (out ++ next.item ∷ []) popped'
   pop_step = record {
     lies = every_child items len (2 * p + 2) one (Lies items len popped')
-        (every_child items len (2 * p + 1) rest (Lies items len popped') rest_lies (child_lies (2 * p + 1) (omega arith) left_is)) (child_lies (2 * p + 2) (omega arith) right_is);
+        (every_child items len (2 * p + 1) rest (Lies items len popped') rest_lies (child_lies (2 * p + 1) (omega arith) left_is))
+        (child_lies (2 * p + 2) (omega arith) right_is);
     different =
         let away = different_remove front m best.inside state.different in
         different_child items len (2 * p + 2) one (different_child items len (2 * p + 1) rest away.0 (child_away (2 * p + 1) (omega arith) left_is))
@@ -330,7 +344,8 @@ module _ (items : List Item) (len : ℕ) (front : List Candidate) (out : List It
         (λ ne.
         let was : popped j ≡ false = sym (popped_else p popped j ne) ∙ new in
         ⊎_elim
-        (λ here. ⊎_elim (λ same. absurd (ne (sym same))) (λ still. inl (in_child items len (2 * p + 2) one j (in_child items len (2 * p + 1) rest j still))) (in_remove j front m here))
+        (λ here. ⊎_elim (λ same. absurd (ne (sym same)))
+        (λ still. inl (in_child items len (2 * p + 2) one j (in_child items len (2 * p + 1) rest j still))) (in_remove j front m here))
         (λ up. ⊎_elim
         (λ e. ⊎_elim
         (λ is_left. inl (in_child items len (2 * p + 2) one j (new_child items len (2 * p + 1) rest j is_left inside)))
@@ -344,7 +359,8 @@ module _ (items : List Item) (len : ℕ) (front : List Candidate) (out : List It
         let low = left_each (λ x. is_before x (at items p) ≡ false) items popped' len (λ j below new.
         ⊎_elim (λ e. absurd (not_both (popped' j) (popped_now p popped j e) new))
         (λ ne. least_of_all items len front out popped (at items p) heap state
-        (every_map (λ c. NotBefore c.item next.item) (λ c. NotBefore c.item (at items p)) (λ c l. ap (is_before c.item) (sym lies_next.1) ∙ l) front (every_index (λ c. NotBefore c.item next.item) front best.least))
+        (every_map (λ c. NotBefore c.item next.item) (λ c. NotBefore c.item (at items p)) (λ c l. ap (is_before c.item) (sym lies_next.1) ∙ l) front
+        (every_index (λ c. NotBefore c.item next.item) front best.least))
         j j (omega arith) below (sym (popped_else p popped j ne) ∙ new))
         (cases_eq j p)) in
         state.list ∙ ap (λ l. out ++ l) (left_pop items popped p len lies_next.0 lies_next.2
@@ -368,20 +384,24 @@ front_starts items len fits = record {
 }
 
 -- with an empty frontier all came out
-all_popped : (items : List Item) (len : ℕ) (out : List Item) (popped : ℕ → Bool) → IsFront items len [] out popped → (most j : ℕ) → j ≤ most → j < len → popped j ≡ true
+all_popped : (items : List Item) (len : ℕ) (out : List Item) (popped : ℕ → Bool) → IsFront items len [] out popped → (most j : ℕ) → j ≤ most → j < len
+    → popped j ≡ true
 all_popped items len out popped state zero j small inside =
     either (popped j) (λ t. t) (λ t. ⊎_elim (λ here. absurd here) (λ up. absurd (omega (arith, up.0))) (state.reached j inside t))
 all_popped items len out popped state (suc most) j small inside =
     either (popped j) (λ t. t)
     (λ t. ⊎_elim (λ here. absurd here)
-    (λ up. let above = all_popped items len out popped state most (parent j) (omega (arith, up.0)) (omega (arith, up.0)) in absurd (not_both (popped (parent j)) above up.1)) (state.reached j inside t))
+    (λ up. let above = all_popped items len out popped state most (parent j) (omega (arith, up.0)) (omega (arith, up.0)) in
+    absurd (not_both (popped (parent j)) above up.1)) (state.reached j inside t))
 
 -- so many came out as were asked for
-pub enough : (items : List Item) (len k : ℕ) (front : List Candidate) (out : List Item) (popped : ℕ → Bool) → IsFront items len front out popped → length out ≡ k → out ≡ take k (ordered (take len items))
+pub enough : (items : List Item) (len k : ℕ) (front : List Candidate) (out : List Item) (popped : ℕ → Bool) → IsFront items len front out popped
+    → length out ≡ k → out ≡ take k (ordered (take len items))
 enough items len k front out popped state full = sym (ap (take k) state.list ∙ take_at out (ordered (left items popped len)) k full)
 
 -- or there are no more
-pub no_more_left : (items : List Item) (len k : ℕ) (front : List Candidate) (out : List Item) (popped : ℕ → Bool) → IsFront items len front out popped → front ≡ [] → length out ≤ k → out ≡ take k (ordered (take len items))
+pub no_more_left : (items : List Item) (len k : ℕ) (front : List Candidate) (out : List Item) (popped : ℕ → Bool) → IsFront items len front out popped
+    → front ≡ [] → length out ≤ k → out ≡ take k (ordered (take len items))
 no_more_left items len k front out popped state empty few =
     let at_end = subst (λ l. IsFront items len l out popped) empty state in
     let none = left_none items popped len (λ j below. all_popped items len out popped at_end j j (omega arith) below) in
@@ -389,26 +409,32 @@ no_more_left items len k front out popped state empty few =
 
 -- a candidate is not after those seen before it
 pub least_first_seen : (front : List Candidate) (j : ℕ) → j < 1 → NotBefore (candidate front j).item (candidate front 0).item
-least_first_seen front j below = let e : j ≡ 0 = omega arith in ap (λ n. is_before (candidate front n).item (candidate front 0).item) e ∙ not_itself (candidate front 0).item
+least_first_seen front j below =
+    let e : j ≡ 0 = omega arith in ap (λ n. is_before (candidate front n).item (candidate front 0).item) e ∙ not_itself (candidate front 0).item
 
 -- a candidate that is before the least so far is the least
-pub least_changes : (front : List Candidate) (i best : ℕ) → ((j : ℕ) → j < i → NotBefore (candidate front j).item (candidate front best).item) → is_before (candidate front i).item (candidate front best).item ≡ true
+pub least_changes : (front : List Candidate) (i best : ℕ) → ((j : ℕ) → j < i → NotBefore (candidate front j).item (candidate front best).item)
+    → is_before (candidate front i).item (candidate front best).item ≡ true
     → (j : ℕ) → j < i + 1 → NotBefore (candidate front j).item (candidate front i).item
 least_changes front i best seen before j below = ⊎_elim
     (λ e. ap (λ n. is_before (candidate front n).item (candidate front i).item) e ∙ not_itself (candidate front i).item)
-    (λ ne. order.chain (candidate front j).item (candidate front best).item (candidate front i).item (seen j (omega arith)) (order.one_way (candidate front i).item (candidate front best).item before))
+    (λ ne. order.chain (candidate front j).item (candidate front best).item (candidate front i).item (seen j (omega arith))
+    (order.one_way (candidate front i).item (candidate front best).item before))
     (cases_eq j i)
 
 -- and one that is not leaves it the least
-pub least_stays : (front : List Candidate) (i best : ℕ) → ((j : ℕ) → j < i → NotBefore (candidate front j).item (candidate front best).item) → is_before (candidate front i).item (candidate front best).item ≡ false
+pub least_stays : (front : List Candidate) (i best : ℕ) → ((j : ℕ) → j < i → NotBefore (candidate front j).item (candidate front best).item)
+    → is_before (candidate front i).item (candidate front best).item ≡ false
     → (j : ℕ) → j < i + 1 → NotBefore (candidate front j).item (candidate front best).item
 least_stays front i best seen late j below = ⊎_elim
     (λ e. ap (λ n. is_before (candidate front n).item (candidate front best).item) e ∙ late) (λ ne. seen j (omega arith)) (cases_eq j i)
 
 -- one pop, as the code does it
-pub popped_once : (items : List Item) (len : ℕ) (front : List Candidate) (out : List Item) (popped : ℕ → Bool) → len ≤ length items → InOrder (at items) len → IsFront items len front out popped
+pub popped_once : (items : List Item) (len : ℕ) (front : List Candidate) (out : List Item) (popped : ℕ → Bool) → len ≤ length items
+    → InOrder (at items) len → IsFront items len front out popped
     → (slice : List Candidate) (m : ℕ) → slice ≡ front → IsLeast slice m → (next : Candidate) → next ≡ get_or front m next
-    → (rest one two : List Candidate) (out' : List Item) → rest ≡ remove front m → out' ≡ out ++ next.item ∷ [] → one ≡ with_child items len (2 * next.place + 1) rest → two ≡ with_child items len (2 * next.place + 2) one
+    → (rest one two : List Candidate) (out' : List Item) → rest ≡ remove front m → out' ≡ out ++ next.item ∷ []
+    → one ≡ with_child items len (2 * next.place + 1) rest → two ≡ with_child items len (2 * next.place + 2) one
     → ((popped' : ℕ → Bool) × IsFront items len two out' popped') × (length two ≤ length front + 1) × (length out' ≡ length out + 1)
 popped_once items len front out popped fits heap state slice m same least next read rest one two out' rest_is out_is one_is two_is =
     let best = subst (λ l. IsLeast l m) same least in
@@ -418,8 +444,11 @@ popped_once items len front out popped fits heap state slice m same least next r
     ∙ ap (λ (c : Candidate). with_child items len (2 * c.place + 2) (with_child items len (2 * c.place + 1) (remove front m))) is in
     let outs : out' ≡ out ++ (candidate front m).item ∷ [] = out_is ∙ ap (λ (c : Candidate). out ++ c.item ∷ []) is in
     let step = pop_step items len front out popped fits heap state m best in
-    let there : IsFront items len two out' (and_popped (candidate front m).place popped) = rw (fronts, outs) step in
-    ((and_popped (candidate front m).place popped, there), omega (arith, ap length fronts, pop_len items len front out popped fits heap state m best), ap length out_is ∙ length_push out next.item)
+    let there : IsFront items len two out' (and_popped (candidate front m).place popped) = rw (fronts, outs) step in (
+      (and_popped (candidate front m).place popped, there),
+      omega (arith, ap length fronts, pop_len items len front out popped fits heap state m best),
+      ap length out_is ∙ length_push out next.item,
+    )
 
 -- a frontier of no candidates is empty
 pub empty_front : (front : List Candidate) → (length front == 0) ≡ true → front ≡ []

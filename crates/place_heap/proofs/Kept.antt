@@ -1,5 +1,6 @@
 -- A heap over each of its calls, in cells.
-use Rattle.std.proofs.Common.{◌≡◌, ◌≢◌, ℕ, zero, suc, ◌+◌, ◌-◌, ◌/◌, ◌<◌, ◌≤◌, true, false, List, [], ◌∷◌, length, take, set, Some, None, refl, sym, ap, subst, ◌∙◌, arith, ⊎_elim, length-set, ltb}
+use Rattle.std.proofs.Common.{◌≡◌, ◌≢◌, ℕ, zero, suc, ◌+◌, ◌-◌, ◌/◌, ◌<◌, ◌≤◌, true, false, List, [], ◌∷◌, length, take, set, Some, None, refl, sym}
+use Rattle.std.proofs.Common.{ap, subst, ◌∙◌, arith, ⊎_elim, length-set, ltb}
 use Rattle.std.proofs.lemmas.List.{length-take-le, get_or-take, get_or-set_same, get_or-set_other, take-set-le, get_or-replicate, length-replicate}
 use Rattle.std.proofs.lemmas.Bool.{cases_eq}
 use Rattle.std.proofs.lemmas.Bool.Decides.{nat_tests}
@@ -12,7 +13,8 @@ use Rattle.place_heap.specs.Held.{items_of, places_of, at, IsHeap, IsIndexed, Is
 use Rattle.place_heap.specs.Sifted.{parent, InOrder, CanSiftUp, IsSifted, MayMove}
 use Rattle.place_heap.proofs.Before.{either, test_same, test_other, order, is_after}
 use Rattle.place_heap.proofs.Room.{no_more}
-use Rattle.place_heap.proofs.Placed.{placed_swap, ordered_more, each_placed, each_ordered, each_take, Rest, rest_of, Others, without_placed, no_key, key_placed, least_first}
+use Rattle.place_heap.proofs.Placed.{placed_swap, ordered_more, each_placed, each_ordered, each_take, Rest, rest_of, Others, without_placed, no_key}
+use Rattle.place_heap.proofs.Placed.{key_placed, least_first}
 use Rattle.place_heap.proofs.Trees.{grown, may_go_up, may_go_down, first_is_least}
 use Rattle.place_heap.proofs.Standing.{of_indexed, to_indexed, added, rekeyed, removed}
 use Rattle.place_heap.proofs.Moves.{items_len, places_len, place_in, take_set}
@@ -69,12 +71,14 @@ module _ (items : List Item) (places : List ℕ) (len : ℕ) (fits : len ≤ len
   -- one that is absent has none
   pub key_absent : (slot : ℕ) → len ≤ slice_index places slot → key_in slot (ordered xs) ≡ None
   key_absent slot none =
-      no_key slot (ordered xs) (each_ordered (λ x. x.0 ≢ slot) xs (each_take (λ x. x.0 ≢ slot) items len fits (λ k inside. other_slots slot k inside (omega arith))))
+      no_key slot (ordered xs)
+      (each_ordered (λ x. x.0 ≢ slot) xs (each_take (λ x. x.0 ≢ slot) items len fits (λ k inside. other_slots slot k inside (omega arith))))
 
   -- and so has one that is too great
   pub key_beyond : (slot : ℕ) → length places ≤ slot → key_in slot (ordered xs) ≡ None
   key_beyond slot none =
-      no_key slot (ordered xs) (each_ordered (λ x. x.0 ≢ slot) xs (each_take (λ x. x.0 ≢ slot) items len fits (λ k inside e. absurd (omega (arith, ix.slots k inside)))))
+      no_key slot (ordered xs)
+      (each_ordered (λ x. x.0 ≢ slot) xs (each_take (λ x. x.0 ≢ slot) items len fits (λ k inside e. absurd (omega (arith, ix.slots k inside)))))
 
   -- a slot with a key is present
   pub present_from_key : (slot : ℕ) (key : Key) → key_in slot (ordered xs) ≡ Some key → (slot < length places) × (slice_index places slot < len)
@@ -99,7 +103,8 @@ module _ (items : List Item) (places : List ℕ) (len : ℕ) (fits : len ≤ len
       let f : ℕ → ℕ = λ i. if i == len then slot else (at items i).0 in
       let here : (i : ℕ) → i ≡ len → f i ≡ slot = λ i e. ap (λ t. if t then slot else (at items i).0) (test_same i len e) in
       let else_ : (i : ℕ) → i ≢ len → f i ≡ (at items i).0 = λ i ne. ap (λ t. if t then slot else (at items i).0) (test_other i len ne) in
-      let low : (i : ℕ) → i < len + 1 → f i < length places = λ i below. ⊎_elim (λ e. omega (arith, here i e)) (λ ne. omega (arith, else_ i ne, ix.slots i (omega arith))) (cases_eq i len) in
+      let low : (i : ℕ) → i < len + 1 → f i < length places =
+      λ i below. ⊎_elim (λ e. omega (arith, here i e)) (λ ne. omega (arith, else_ i ne, ix.slots i (omega arith))) (cases_eq i len) in
       let new : (i : ℕ) → i < len → (at items i).0 ≢ slot = λ i below e. absurd (omega (arith, ix.stands i below, ap (slice_index places) e)) in
       let apart : (i j : ℕ) → i < len + 1 → j < len + 1 → f i ≡ f j → i ≡ j = λ i j iin jin same. ⊎_elim
       (λ ei. ⊎_elim (λ ej. ei ∙ sym ej) (λ nj. absurd (new j (omega arith) (sym (else_ j nj) ∙ sym same ∙ here i ei))) (cases_eq j len))
@@ -110,11 +115,18 @@ module _ (items : List Item) (places : List ℕ) (len : ℕ) (fits : len ≤ len
       omega arith
 
 -- an absent slot is put behind the heap
-module _ (cells mid : List Cell) (len : ℕ) (x : Item) (kept : IsKept (record { cells = cells; len = len })) (inside : x.0 < length cells) (none : slice_index (places_of cells) x.0 ≡ length (places_of cells))
+module _ (cells mid : List Cell) (len : ℕ) (x : Item) (kept : IsKept (record { cells = cells; len = len })) (inside : x.0 < length cells)
+    (none : slice_index (places_of cells) x.0 ≡ length (places_of cells))
     (items : items_of mid ≡ set (items_of cells) len x) (places : places_of mid ≡ set (places_of cells) x.0 len) (count : length mid ≡ length cells) where
   -- there is a cell for it
   pub room : len < length cells
-  room = omega (arith, items_len cells, places_len cells, has_room (items_of cells) (places_of cells) len (omega (arith, items_len cells, kept.within)) kept.indexed x.0 (omega (arith, places_len cells)) none (omega (arith, places_len cells, kept.within)))
+  room = omega (
+    arith,
+    items_len cells,
+    places_len cells,
+    has_room (items_of cells) (places_of cells) len (omega (arith, items_len cells, kept.within)) kept.indexed x.0
+        (omega (arith, places_len cells)) none (omega (arith, places_len cells, kept.within)),
+  )
 
   -- the same, of the items
   new_len : len < length (items_of cells)
@@ -133,7 +145,8 @@ module _ (cells mid : List Cell) (len : ℕ) (x : Item) (kept : IsKept (record {
   put_behind =
       let same : length (places_of mid) ≡ length (places_of cells) = ap length places ∙ length-set (places_of cells) x.0 len in
       let there = ap (λ l. slice_index l x.0) places ∙ get_or-set_same (places_of cells) x.0 len 0 (omega (arith, places_len cells)) in
-      let ix = added (at (items_of cells)) (at (items_of mid)) (slice_index (places_of cells)) (slice_index (places_of mid)) len (length (places_of cells)) x (omega (arith, room, places_len cells)) (omega (arith, places_len cells)) none
+      let ix = added (at (items_of cells)) (at (items_of mid)) (slice_index (places_of cells)) (slice_index (places_of mid)) len
+      (length (places_of cells)) x (omega (arith, room, places_len cells)) (omega (arith, places_len cells)) none
       lies_there others_stay there (λ s ne. ap (λ l. slice_index l s) places ∙ get_or-set_other (places_of cells) x.0 s len 0 ne)
       (of_indexed (items_of cells) (places_of cells) len kept.indexed) in
       record {
@@ -162,8 +175,10 @@ module _ (cells mid : List Cell) (len : ℕ) (x : Item) (kept : IsKept (record {
       ∙ ap (λ l. placed x (ordered l)) (ap (take len) items ∙ take-set-le len (items_of cells) len x (omega arith))
 
 -- the key of a present slot is changed
-module _ (cells mid : List Cell) (len : ℕ) (x : Item) (kept : IsKept (record { cells = cells; len = len })) (inside : x.0 < length (places_of cells)) (here : slice_index (places_of cells) x.0 < len)
-    (items : items_of mid ≡ set (items_of cells) (slice_index (places_of cells) x.0) x) (places : places_of mid ≡ places_of cells) (count : length mid ≡ length cells) where
+module _ (cells mid : List Cell) (len : ℕ) (x : Item) (kept : IsKept (record { cells = cells; len = len })) (inside : x.0 < length (places_of cells))
+    (here : slice_index (places_of cells) x.0 < len)
+    (items : items_of mid ≡ set (items_of cells) (slice_index (places_of cells) x.0) x) (places : places_of mid ≡ places_of cells)
+    (count : length mid ≡ length cells) where
   -- where the slot stands
   abbrev p : ℕ
   p = slice_index (places_of cells) x.0
@@ -183,13 +198,15 @@ module _ (cells mid : List Cell) (len : ℕ) (x : Item) (kept : IsKept (record {
   -- no slot moved
   same_slots : (k : ℕ) → (at (items_of mid) k).0 ≡ (at (items_of cells) k).0
   same_slots k = ⊎_elim
-      (λ e. ap (λ n. (at (items_of mid) n).0) e ∙ ap (λ (y : Item). y.0) lies_p ∙ sym (ap (λ n. (at (items_of cells) n).0) e ∙ kept.indexed.present x.0 inside here))
+      (λ e. ap (λ n. (at (items_of mid) n).0) e ∙ ap (λ (y : Item). y.0) lies_p
+      ∙ sym (ap (λ n. (at (items_of cells) n).0) e ∙ kept.indexed.present x.0 inside here))
       (λ ne. ap (λ (y : Item). y.0) (others_same k ne)) (cases_eq k p)
 
   -- the item may have to move
   pub rekeyed_moves : MayMove mid len p (at (items_of cells) p) x
   rekeyed_moves =
-      let ix = rekeyed (at (items_of cells)) (at (items_of mid)) (slice_index (places_of cells)) len (length (places_of cells)) same_slots (of_indexed (items_of cells) (places_of cells) len kept.indexed) in
+      let ix = rekeyed (at (items_of cells)) (at (items_of mid)) (slice_index (places_of cells)) len (length (places_of cells)) same_slots
+      (of_indexed (items_of cells) (places_of cells) len kept.indexed) in
       let f = at (items_of cells) in let g = at (items_of mid) in
       record {
         ready = record {
@@ -210,14 +227,17 @@ module _ (cells mid : List Cell) (len : ℕ) (x : Item) (kept : IsKept (record {
       let y : Item = at (items_of cells) p in
       let is : y.0 ≡ x.0 = kept.indexed.present x.0 inside here in
       let gone : without x.0 (ordered (take len (items_of cells))) ≡ rest.items =
-      ap (without x.0) (rest.whole ∙ ap (λ z. placed z rest.items) (at_place (items_of cells) (places_of cells) len long kept.indexed x.0 here)) ∙ ap (λ s. without s (placed y rest.items)) (sym is)
+      ap (without x.0) (rest.whole ∙ ap (λ z. placed z rest.items) (at_place (items_of cells) (places_of cells) len long kept.indexed x.0 here))
+      ∙ ap (λ s. without s (placed y rest.items)) (sym is)
       ∙ without_placed y rest.items (subst (λ s. Others s rest.items) (sym is) rest.each) in
       ap (λ l. ordered l) (ap (take len) items ∙ take_set len (items_of cells) p x) ∙ rest.changed x ∙ ap (placed x) (sym gone)
 
 -- the place of a slot goes, and the last item goes to where it stood
-module _ (cells mid : List Cell) (last slot p : ℕ) (item : Item) (kept : IsKept (record { cells = cells; len = last + 1 })) (inside : slot < length (places_of cells)) (here : slice_index (places_of cells) slot ≡ p) (less : p < last)
+module _ (cells mid : List Cell) (last slot p : ℕ) (item : Item) (kept : IsKept (record { cells = cells; len = last + 1 }))
+    (inside : slot < length (places_of cells)) (here : slice_index (places_of cells) slot ≡ p) (less : p < last)
     (lies : at (items_of cells) last ≡ item)
-    (items : items_of mid ≡ set (items_of cells) p item) (places : places_of mid ≡ set (set (places_of cells) slot (length cells)) item.0 p) (count : length mid ≡ length cells) where
+    (items : items_of mid ≡ set (items_of cells) p item) (places : places_of mid ≡ set (set (places_of cells) slot (length cells)) item.0 p)
+    (count : length mid ≡ length cells) where
   -- the heap lies in its cells
   reach : last + 1 ≤ length (items_of cells)
   reach = omega (arith, items_len cells, kept.within)
@@ -253,12 +273,16 @@ module _ (cells mid : List Cell) (last slot p : ℕ) (item : Item) (kept : IsKep
       let cut = set (places_of cells) slot (length cells) in
       let heap : InOrder f last = λ i pos below. in_order (items_of cells) (last + 1) kept.heap i pos (omega arith) in
       let gone : slice_index (places_of mid) slot ≡ length (places_of cells) =
-      ap (λ l. slice_index l slot) places ∙ get_or-set_other cut item.0 slot p 0 other_item ∙ get_or-set_same (places_of cells) slot (length cells) 0 inside ∙ sym (places_len cells) in
+      ap (λ l. slice_index l slot) places ∙ get_or-set_other cut item.0 slot p 0 other_item ∙ get_or-set_same (places_of cells) slot
+      (length cells) 0 inside ∙ sym (places_len cells) in
       let moved : slice_index (places_of mid) (f last).0 ≡ p =
-      ap (λ (y : Item). slice_index (places_of mid) y.0) lies ∙ ap (λ l. slice_index l item.0) places ∙ get_or-set_same cut item.0 p 0 (omega (arith, item_inside, length-set (places_of cells) slot (length cells))) in
+      ap (λ (y : Item). slice_index (places_of mid) y.0) lies ∙ ap (λ l. slice_index l item.0) places ∙ get_or-set_same cut item.0 p 0
+      (omega (arith, item_inside, length-set (places_of cells) slot (length cells))) in
       let rest : (s : ℕ) → s ≢ slot → s ≢ (f last).0 → slice_index (places_of mid) s ≡ slice_index (places_of cells) s = λ s ns nl.
-      ap (λ l. slice_index l s) places ∙ get_or-set_other cut item.0 s p 0 (λ e. nl (e ∙ ap (λ (y : Item). y.0) (sym lies))) ∙ get_or-set_other (places_of cells) slot s (length cells) 0 ns in
-      let ix = removed f g (slice_index (places_of cells)) (slice_index (places_of mid)) last (length (places_of cells)) slot p (omega (arith, kept.within, places_len cells)) inside here (omega arith)
+      ap (λ l. slice_index l s) places ∙ get_or-set_other cut item.0 s p 0 (λ e. nl (e ∙ ap (λ (y : Item). y.0) (sym lies)))
+      ∙ get_or-set_other (places_of cells) slot s (length cells) 0 ns in
+      let ix = removed f g (slice_index (places_of cells)) (slice_index (places_of mid)) last (length (places_of cells)) slot p
+      (omega (arith, kept.within, places_len cells)) inside here (omega arith)
       (λ _. now ∙ sym lies) were gone (λ _. moved) rest (of_indexed (items_of cells) (places_of cells) (last + 1) kept.indexed) in
       record {
         ready = record {
@@ -285,19 +309,23 @@ module _ (cells mid : List Cell) (last slot p : ℕ) (item : Item) (kept : IsKep
       let full : length xs ≡ last = length-take-le last (items_of cells) (omega (arith, reach)) in
       let at_xs : (k : ℕ) → k < last → at xs k ≡ f k = λ k below. get_or-take last (items_of cells) k _ below in
       let slot_p : (f p).0 ≡ slot = ap (λ n. (f n).0) (sym here) ∙ kept.indexed.present slot inside (omega arith) in
-      let apart : (k : ℕ) → k < last + 1 → k ≢ p → (f k).0 ≢ slot = λ k below ne e. ne (sym (kept.indexed.stands k below) ∙ ap (slice_index (places_of cells)) e ∙ here) in
-      let rest = rest_of (λ x. x.0 ≢ slot) xs p (omega arith) (λ k below ne e. apart k (omega arith) ne (ap (λ (y : Item). y.0) (sym (at_xs k (omega arith))) ∙ e)) in
+      let apart : (k : ℕ) → k < last + 1 → k ≢ p → (f k).0 ≢ slot =
+      λ k below ne e. ne (sym (kept.indexed.stands k below) ∙ ap (slice_index (places_of cells)) e ∙ here) in
+      let rest =
+      rest_of (λ x. x.0 ≢ slot) xs p (omega arith) (λ k below ne e. apart k (omega arith) ne (ap (λ (y : Item). y.0) (sym (at_xs k (omega arith))) ∙ e)) in
       let more : last + 1 ≡ suc last = omega arith in
       let whole : ordered (take (last + 1) (items_of cells)) ≡ placed (f p) (placed item rest.items) =
       ap (λ n. ordered (take n (items_of cells))) more ∙ ordered_more (items_of cells) last (omega (arith, reach)) ∙ ap (λ y. placed y (ordered xs)) lies
       ∙ ap (placed item) (rest.whole ∙ ap (λ y. placed y rest.items) (at_xs p less)) ∙ placed_swap item (f p) rest.items in
       let others : Others slot (placed item rest.items) = each_placed (λ x. x.0 ≢ slot) item rest.items (λ e. other_item (sym e)) rest.each in
       let gone : without slot (placed (f p) (placed item rest.items)) ≡ placed item rest.items =
-      ap (λ s. without s (placed (f p) (placed item rest.items))) (sym slot_p) ∙ without_placed (f p) (placed item rest.items) (subst (λ s. Others s (placed item rest.items)) (sym slot_p) others) in
+      ap (λ s. without s (placed (f p) (placed item rest.items))) (sym slot_p) ∙ without_placed (f p) (placed item rest.items)
+      (subst (λ s. Others s (placed item rest.items)) (sym slot_p) others) in
       ap ordered (ap (take last) items ∙ take_set last (items_of cells) p item) ∙ rest.changed item ∙ sym (ap (without slot) whole ∙ gone)
 
 -- the place of the last item goes
-module _ (cells new : List Cell) (last slot : ℕ) (kept : IsKept (record { cells = cells; len = last + 1 })) (inside : slot < length (places_of cells)) (here : slice_index (places_of cells) slot ≡ last)
+module _ (cells new : List Cell) (last slot : ℕ) (kept : IsKept (record { cells = cells; len = last + 1 })) (inside : slot < length (places_of cells))
+    (here : slice_index (places_of cells) slot ≡ last)
     (items : items_of new ≡ items_of cells) (places : places_of new ≡ set (places_of cells) slot (length cells)) (count : length new ≡ length cells) where
   -- what is left is a heap
   pub last_goes : IsKept (record { cells = new; len = last })
@@ -305,9 +333,12 @@ module _ (cells new : List Cell) (last slot : ℕ) (kept : IsKept (record { cell
       let f = at (items_of cells) in
       let same_count : length (places_of new) ≡ length (places_of cells) = ap length places ∙ length-set (places_of cells) slot (length cells) in
       let at_last : (f last).0 ≡ slot = ap (λ n. (f n).0) (sym here) ∙ kept.indexed.present slot inside (omega arith) in
-      let gone : slice_index (places_of new) slot ≡ length (places_of cells) = ap (λ l. slice_index l slot) places ∙ get_or-set_same (places_of cells) slot (length cells) 0 inside ∙ sym (places_len cells) in
-      let ix = removed f f (slice_index (places_of cells)) (slice_index (places_of new)) last (length (places_of cells)) slot last (omega (arith, kept.within, places_len cells)) inside here (omega arith)
-      (λ less. absurd (omega arith)) (λ k ne. refl) gone (λ less. absurd (omega arith)) (λ s ns nl. ap (λ l. slice_index l s) places ∙ get_or-set_other (places_of cells) slot s (length cells) 0 ns)
+      let gone : slice_index (places_of new) slot ≡ length (places_of cells) =
+      ap (λ l. slice_index l slot) places ∙ get_or-set_same (places_of cells) slot (length cells) 0 inside ∙ sym (places_len cells) in
+      let ix = removed f f (slice_index (places_of cells)) (slice_index (places_of new)) last (length (places_of cells)) slot last
+      (omega (arith, kept.within, places_len cells)) inside here (omega arith)
+      (λ less. absurd (omega arith)) (λ k ne. refl) gone (λ less. absurd (omega arith))
+      (λ s ns nl. ap (λ l. slice_index l s) places ∙ get_or-set_other (places_of cells) slot s (length cells) 0 ns)
       (of_indexed (items_of cells) (places_of cells) (last + 1) kept.indexed) in
       record {
         small = omega (arith, kept.small);
@@ -328,7 +359,8 @@ module _ (cells new : List Cell) (last slot : ℕ) (kept : IsKept (record { cell
       let reach : last + 1 ≤ length (items_of cells) = omega (arith, items_len cells, kept.within) in
       let slot_last : (f last).0 ≡ slot = ap (λ n. (f n).0) (sym here) ∙ kept.indexed.present slot inside (omega arith) in
       let more : last + 1 ≡ suc last = omega arith in
-      let whole : ordered (take (last + 1) (items_of cells)) ≡ placed (f last) (ordered xs) = ap (λ n. ordered (take n (items_of cells))) more ∙ ordered_more (items_of cells) last (omega (arith, reach)) in
+      let whole : ordered (take (last + 1) (items_of cells)) ≡ placed (f last) (ordered xs) =
+      ap (λ n. ordered (take n (items_of cells))) more ∙ ordered_more (items_of cells) last (omega (arith, reach)) in
       let others : Others slot (ordered xs) = each_ordered (λ x. x.0 ≢ slot) xs (each_take (λ x. x.0 ≢ slot) (items_of cells) last (omega (arith, reach))
       (λ k below e. absurd (omega (arith, kept.indexed.stands k (omega arith), ap (slice_index (places_of cells)) e)))) in
       ap (λ l. ordered (take last l)) items ∙ sym (ap (without slot) whole ∙ ap (λ s. without s (placed (f last) (ordered xs))) (sym slot_last)
@@ -341,7 +373,8 @@ first_item [] (suc n) pos fits heap = absurd (omega arith)
 first_item (x ∷ xs) (suc n) pos fits heap =
     let low : (i : ℕ) → i < n → is_before (at xs i) x ≡ false = λ i below.
     first_is_least (at (x ∷ xs)) (suc n) (in_order (x ∷ xs) (suc n) heap) (suc i) (suc i) (omega arith) (omega arith) (omega arith) in
-    ap first_of (least_first x (ordered (take n xs)) (each_ordered (λ y. is_before y x ≡ false) (take n xs) (each_take (λ y. is_before y x ≡ false) xs n (omega arith) low)))
+    ap first_of (least_first x (ordered (take n xs))
+    (each_ordered (λ y. is_before y x ≡ false) (take n xs) (each_take (λ y. is_before y x ≡ false) xs n (omega arith) low)))
 
 -- one item more
 length-placed : (x : Item) (ys : List Item) → length (placed x ys) ≡ suc (length ys)
@@ -356,7 +389,8 @@ length-ordered (x ∷ xs) = length-placed x (ordered xs) ∙ ap suc (length-orde
 
 -- in new cells each slot stands nowhere
 places-new : (cap slot : ℕ) → slot < cap → slice_index (places_of (replicate cap (unused_cell cap))) slot ≡ cap
-places-new cap slot inside = place_in (replicate cap (unused_cell cap)) slot ∙ ap (λ (c : Cell). c.at) (get_or-replicate cap slot (unused_cell cap) (unused_cell 0) inside)
+places-new cap slot inside =
+    place_in (replicate cap (unused_cell cap)) slot ∙ ap (λ (c : Cell). c.at) (get_or-replicate cap slot (unused_cell cap) (unused_cell 0) inside)
 
 -- new cells are an empty heap
 pub new_kept : (cap : ℕ) → cap ≤ 8192 → IsKept (record { cells = replicate cap (unused_cell cap); len = 0 })

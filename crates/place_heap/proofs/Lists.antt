@@ -10,7 +10,8 @@ use Rattle.place_heap.specs.Order.{Item, placed, ordered, without, key_in, first
 use Rattle.place_heap.specs.Held.{Held, items_of, places_of, at, IsKept, list_of}
 use Rattle.place_heap.specs.Sifted.{IsSifted}
 use Rattle.place_heap.proofs.Moves.{items_len, places_len, set_as_it_was}
-use Rattle.place_heap.proofs.Kept.{key_present, key_absent, present_from_key, absent_from_key, has_room, list_grows, list_changes, list_shrinks, list_ends, first_item, length-ordered}
+use Rattle.place_heap.proofs.Kept.{key_present, key_absent, present_from_key, absent_from_key, has_room, list_grows, list_changes, list_shrinks}
+use Rattle.place_heap.proofs.Kept.{list_ends, first_item, length-ordered}
 
 -- what IsSome says
 some_key : (o : Option Key) → IsSome o → (key : Key) × (o ≡ Some key)
@@ -42,10 +43,16 @@ module _ (cells : List Cell) (len : ℕ) (kept : IsKept (record { cells = cells;
   -- with a slot that is not in the list there is room
   pub room_for : (slot : ℕ) → slot < length cells → key_in slot (list_of h) ≡ None → len < length cells
   room_for slot inside none =
-      omega (arith, places_len cells, has_room (items_of cells) (places_of cells) len fits kept.indexed slot (omega (arith, places_len cells)) (absent_in slot inside none) (omega (arith, places_len cells, kept.within)))
+      omega (
+        arith,
+        places_len cells,
+        has_room (items_of cells) (places_of cells) len fits kept.indexed slot (omega (arith, places_len cells))
+            (absent_in slot inside none) (omega (arith, places_len cells, kept.within)),
+      )
 
   -- the key of a slot
-  pub key_here : (slot : ℕ) → slot < length cells → slice_index (places_of cells) slot < len → key_in slot (list_of h) ≡ Some (at (items_of cells) (slice_index (places_of cells) slot)).1
+  pub key_here : (slot : ℕ) → slot < length cells → slice_index (places_of cells) slot < len
+      → key_in slot (list_of h) ≡ Some (at (items_of cells) (slice_index (places_of cells) slot)).1
   unfolding list_of
   key_here slot inside here = key_present (items_of cells) (places_of cells) len fits kept.indexed slot (omega (arith, places_len cells)) here
 
@@ -77,15 +84,18 @@ module _ (cells : List Cell) (len : ℕ) (kept : IsKept (record { cells = cells;
   none_here e = ap (λ n. first_of (ordered (take n (items_of cells)))) (sym e)
 
 -- the list after a slot was added
-pub list_after_insert : (cells mid new : List Cell) (len : ℕ) (x : Item) (kept : IsKept (record { cells = cells; len = len })) → x.0 < length cells → slice_index (places_of cells) x.0 ≡ length (places_of cells)
+pub list_after_insert : (cells mid new : List Cell) (len : ℕ) (x : Item) (kept : IsKept (record { cells = cells; len = len })) → x.0 < length cells
+    → slice_index (places_of cells) x.0 ≡ length (places_of cells)
     → items_of mid ≡ set (items_of cells) len x → places_of mid ≡ set (places_of cells) x.0 len → length mid ≡ length cells → IsSifted mid new (len + 1)
     → list_of (record { cells = new; len = len + 1 }) ≡ placed x (list_of (record { cells = cells; len = len }))
 unfolding list_of
 list_after_insert cells mid new len x kept inside none items places count done = done.list ∙ list_grows cells mid len x kept inside none items places count
 
 -- the list after a slot has another key
-pub list_after_update : (cells mid new : List Cell) (len : ℕ) (x : Item) (kept : IsKept (record { cells = cells; len = len })) → x.0 < length (places_of cells) → slice_index (places_of cells) x.0 < len
-    → items_of mid ≡ set (items_of cells) (slice_index (places_of cells) x.0) x → places_of mid ≡ places_of cells → length mid ≡ length cells → IsSifted mid new len
+pub list_after_update : (cells mid new : List Cell) (len : ℕ) (x : Item) (kept : IsKept (record { cells = cells; len = len }))
+    → x.0 < length (places_of cells) → slice_index (places_of cells) x.0 < len
+    → items_of mid ≡ set (items_of cells) (slice_index (places_of cells) x.0) x → places_of mid ≡ places_of cells → length mid ≡ length cells
+    → IsSifted mid new len
     → list_of (record { cells = new; len = len }) ≡ placed x (without x.0 (list_of (record { cells = cells; len = len })))
 unfolding list_of
 list_after_update cells mid new len x kept inside here items places count done = done.list ∙ list_changes cells mid len x kept inside here items places count
@@ -111,14 +121,18 @@ list_after_same cells len x had kept inside here lies same =
     list_changes cells cells len x kept inside here (sym (set_as_it_was (items_of cells) place _) ∙ ap (set (items_of cells) place) is) refl refl
 
 -- the list after a slot went and the last item took its place
-pub list_after_remove : (cells mid new : List Cell) (last slot p : ℕ) (item : Item) (kept : IsKept (record { cells = cells; len = last + 1 })) → slot < length (places_of cells) → slice_index (places_of cells) slot ≡ p → p < last
-    → at (items_of cells) last ≡ item → items_of mid ≡ set (items_of cells) p item → places_of mid ≡ set (set (places_of cells) slot (length cells)) item.0 p → length mid ≡ length cells → IsSifted mid new last
+pub list_after_remove : (cells mid new : List Cell) (last slot p : ℕ) (item : Item) (kept : IsKept (record { cells = cells; len = last + 1 }))
+    → slot < length (places_of cells) → slice_index (places_of cells) slot ≡ p → p < last
+    → at (items_of cells) last ≡ item → items_of mid ≡ set (items_of cells) p item
+    → places_of mid ≡ set (set (places_of cells) slot (length cells)) item.0 p → length mid ≡ length cells → IsSifted mid new last
     → list_of (record { cells = new; len = last }) ≡ without slot (list_of (record { cells = cells; len = last + 1 }))
 unfolding list_of
-list_after_remove cells mid new last slot p item kept inside here less lies items places count done = done.list ∙ list_shrinks cells mid last slot p item kept inside here less lies items places count
+list_after_remove cells mid new last slot p item kept inside here less lies items places count done =
+    done.list ∙ list_shrinks cells mid last slot p item kept inside here less lies items places count
 
 -- the list after the slot of the last item went
-pub list_after_last : (cells new : List Cell) (last slot : ℕ) (kept : IsKept (record { cells = cells; len = last + 1 })) → slot < length (places_of cells) → slice_index (places_of cells) slot ≡ last
+pub list_after_last : (cells new : List Cell) (last slot : ℕ) (kept : IsKept (record { cells = cells; len = last + 1 }))
+    → slot < length (places_of cells) → slice_index (places_of cells) slot ≡ last
     → items_of new ≡ items_of cells → places_of new ≡ set (places_of cells) slot (length cells) → length new ≡ length cells
     → list_of (record { cells = new; len = last }) ≡ without slot (list_of (record { cells = cells; len = last + 1 }))
 unfolding list_of

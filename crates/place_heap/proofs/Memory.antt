@@ -84,7 +84,8 @@ module _ {M : Type 1} {𝓤 : Ura M} (𝓛 : Logic 𝓤) (b : ℕ) where
   pub emptied : (o : ℕ) (c : Option Cell) → ent 𝓤 (sem 𝓛 (place b o c)) (H.room cell_ty b o)
   emptied o None = 𝓛.laws.raw-room cell_ty b o
   emptied o (Some x) = qed 𝓛 (‵ (part_at C full_share x b o) ∷ []) ∵
-      use1 𝓛 (some (λ (v : Val). ‵ (fat full_share cell_ty b o v) ⊛ ‵ (C.own_val x (v ∷ [])))) (part_out 𝓛 C refl full_share x b o) $ pick ! (λ v. split ! $ keep ! (0 ∷ []) $
+      use1 𝓛 (some (λ (v : Val). ‵ (fat full_share cell_ty b o v) ⊛ ‵ (C.own_val x (v ∷ [])))) (part_out 𝓛 C refl full_share x b o) $ pick !
+      (λ v. split ! $ keep ! (0 ∷ []) $
       by ! (𝓛.laws.at_room cell_ty b o v))
 
   -- cells are room again, whatever they hold

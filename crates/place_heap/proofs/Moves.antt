@@ -1,5 +1,6 @@
 -- One step of a move, in cells.
-use Rattle.std.proofs.Common.{◌≡◌, ◌≢◌, ℕ, zero, suc, ◌+◌, ◌*◌, ◌<◌, ◌≤◌, true, false, List, [], ◌∷◌, length, take, set, get_or, refl, sym, ap, ◌∙◌, arith, ⊎_elim, length-set, inl, inr, ◌⊎◌, ltb}
+use Rattle.std.proofs.Common.{◌≡◌, ◌≢◌, ℕ, zero, suc, ◌+◌, ◌*◌, ◌<◌, ◌≤◌, true, false, List, [], ◌∷◌, length, take, set, get_or, refl, sym, ap, ◌∙◌}
+use Rattle.std.proofs.Common.{arith, ⊎_elim, length-set, inl, inr, ◌⊎◌, ltb}
 use Rattle.std.proofs.lemmas.Bool.Decides.{nat_tests}
 use Rattle.place_heap.proofs.Before.{either, order, not_itself}
 use Rattle.std.proofs.lemmas.List.{length-map, length-take-le, get_or-take, get_or-set_same, get_or-set_other, set_comm, map-set}
@@ -46,7 +47,8 @@ pub places_put : (cells : List Cell) (i : ℕ) (x : Cell) → places_of (set cel
 places_put cells i x = map-set (λ (c : Cell). c.at) cells i x
 
 -- the items stay where the slot and the key do
-pub items_stay : (cells : List Cell) (i : ℕ) (x : Cell) → x.slot ≡ (cell_at cells i).slot → x.key ≡ (cell_at cells i).key → items_of (set cells i x) ≡ items_of cells
+pub items_stay : (cells : List Cell) (i : ℕ) (x : Cell) → x.slot ≡ (cell_at cells i).slot → x.key ≡ (cell_at cells i).key
+    → items_of (set cells i x) ≡ items_of cells
 items_stay cells i x s k =
     items_put cells i x ∙ (λ j. set (items_of cells) i (s j, k j)) ∙ ap (set (items_of cells) i) (sym (item_in cells i)) ∙ set_as_it_was (items_of cells) i _
 
@@ -64,10 +66,12 @@ take_set (suc n) (y ∷ ys) (suc i) x = ap (λ l. y ∷ l) (take_set n ys i x)
 
 -- of two numbers one is less
 one_is_less : (i j : ℕ) → i ≢ j → (i < j) ⊎ (j < i)
-one_is_less i j ne = either (ltb i j) (λ e. let less : i < j = grind (arith, nat_tests) in inl less) (λ e. let more : j ≤ i = grind (arith, nat_tests) in inr (omega arith))
+one_is_less i j ne =
+    either (ltb i j) (λ e. let less : i < j = grind (arith, nat_tests) in inl less) (λ e. let more : j ≤ i = grind (arith, nat_tests) in inr (omega arith))
 
 -- two items are exchanged, with their places
-module _ (items : List Item) (places : List ℕ) (len i j : ℕ) (a b : Item) (iin : i < len) (jin : j < len) (apart : i ≢ j) (fits : len ≤ length items) (same : length places ≡ length items)
+module _ (items : List Item) (places : List ℕ) (len i j : ℕ) (a b : Item) (iin : i < len) (jin : j < len) (apart : i ≢ j) (fits : len ≤ length items)
+    (same : length places ≡ length items)
     (here : at items i ≡ a) (there : at items j ≡ b) (ix : IsIndexed items places len) where
   -- the items then
   abbrev items' : List Item
@@ -116,7 +120,8 @@ module _ (items : List Item) (places : List ℕ) (len i j : ℕ) (a b : Item) (i
       let to_b : slice_index places' b.0 ≡ i = get_or-set_other (set places b.0 i) a.0 b.0 j 0 slots_apart ∙ get_or-set_same places b.0 i 0 b_inside in
       let moved = exchanged (at items) (at items') (slice_index places) (slice_index places') len (length places) i j iin jin apart (omega arith) are_exchanged
       (ap (λ (x : Item). slice_index places' x.0) here ∙ to_a) (ap (λ (x : Item). slice_index places' x.0) there ∙ to_b)
-      (λ s na nb. get_or-set_other (set places b.0 i) a.0 s j 0 (λ e. na (e ∙ ap (λ (x : Item). x.0) (sym here))) ∙ get_or-set_other places b.0 s i 0 (λ e. nb (e ∙ ap (λ (x : Item). x.0) (sym there))))
+      (λ s na nb. get_or-set_other (set places b.0 i) a.0 s j 0 (λ e. na (e ∙ ap (λ (x : Item). x.0) (sym here))) ∙ get_or-set_other places b.0 s i 0
+      (λ e. nb (e ∙ ap (λ (x : Item). x.0) (sym there))))
       (of_indexed items places len ix) in
       to_indexed items' places' len (record {
         slots = λ k kin. omega (arith, moved.slots k kin, same_places);
@@ -135,7 +140,8 @@ module _ (items : List Item) (places : List ℕ) (len i j : ℕ) (a b : Item) (i
       ap ordered (take_set len (set items i b) j a ∙ ap (λ l. set l j a) (take_set len items i b)) ∙
       let from_a = sym at_i in let from_b = sym at_j in
       ⊎_elim
-      (λ (less : i < j). ap ordered (set_comm xs i j b a apart) ∙ (λ k. ordered (set (set xs j (from_a k)) i (from_b k))) ∙ ordered_swap xs i j less (omega arith))
+      (λ (less : i < j). ap ordered (set_comm xs i j b a apart) ∙ (λ k. ordered (set (set xs j (from_a k)) i (from_b k)))
+      ∙ ordered_swap xs i j less (omega arith))
       (λ (more : j < i). (λ k. ordered (set (set xs i (from_b k)) j (from_a k))) ∙ ordered_swap xs j i more (omega arith))
       (one_is_less i j apart)
 
@@ -146,7 +152,8 @@ pub record Wrote (cells new : List Cell) (i j : ℕ) (a b : Item) : Type 0 where
   pub len : length new ≡ length cells
 
 -- the two items are put one after the other
-pub wrote_both : (cells mid new : List Cell) (i j : ℕ) (a b : Item) → items_of mid ≡ set (items_of cells) i b → places_of mid ≡ set (places_of cells) b.0 i → length mid ≡ length cells
+pub wrote_both : (cells mid new : List Cell) (i j : ℕ) (a b : Item) → items_of mid ≡ set (items_of cells) i b
+    → places_of mid ≡ set (places_of cells) b.0 i → length mid ≡ length cells
     → items_of new ≡ set (items_of mid) j a → places_of new ≡ set (places_of mid) a.0 j → length new ≡ length mid → Wrote cells new i j a b
 wrote_both cells mid new i j a b items1 places1 len1 items2 places2 len2 =
     record { items = items2 ∙ ap (λ l. set l j a) items1; places = places2 ∙ ap (λ l. set l a.0 j) places1; len = len2 ∙ len1 }
@@ -157,7 +164,8 @@ pub record Went (cells new : List Cell) (len j : ℕ) (a : Item) : Type 0 where
   pub list : ordered (take len (items_of new)) ≡ ordered (take len (items_of cells))
   pub same_len : length new ≡ length cells
 
-module _ (cells new : List Cell) (len i j : ℕ) (a b : Item) (ready : IsReady cells len i a) (jin : j < len) (apart : i ≢ j) (there : at (items_of cells) j ≡ b) (wrote : Wrote cells new i j a b) where
+module _ (cells new : List Cell) (len i j : ℕ) (a b : Item) (ready : IsReady cells len i a) (jin : j < len) (apart : i ≢ j)
+    (there : at (items_of cells) j ≡ b) (wrote : Wrote cells new i j a b) where
   -- the items are within the cells
   fits : len ≤ length (items_of cells)
   fits = omega (arith, items_len cells, ready.within)
@@ -178,9 +186,11 @@ module _ (cells new : List Cell) (len i j : ℕ) (a b : Item) (ready : IsReady c
       within = omega (arith, ready.within, wrote.len);
       inside = jin;
       lies = ap (λ l. at l j) wrote.items ∙ get_or-set_same (set (items_of cells) i b) j a _ inside_items;
-      indexed = rw (wrote.items, wrote.places) (still_indexed (items_of cells) (places_of cells) len i j a b ready.inside jin apart fits same_count ready.lies there ready.indexed);
+      indexed = rw (wrote.items, wrote.places)
+          (still_indexed (items_of cells) (places_of cells) len i j a b ready.inside jin apart fits same_count ready.lies there ready.indexed);
     };
-    list = ap (λ l. ordered (take len l)) wrote.items ∙ same_list (items_of cells) (places_of cells) len i j a b ready.inside jin apart fits same_count ready.lies there ready.indexed;
+    list = ap (λ l. ordered (take len l)) wrote.items ∙ same_list (items_of cells) (places_of cells) len i j a b ready.inside jin apart fits
+        same_count ready.lies there ready.indexed;
     same_len = wrote.len;
   }
 
@@ -189,7 +199,8 @@ module _ (cells new : List Cell) (len i j : ℕ) (a b : Item) (ready : IsReady c
   exchange = rw wrote.items (are_exchanged (items_of cells) (places_of cells) len i j a b ready.inside jin apart fits same_count ready.lies there ready.indexed)
 
 -- an item went up to its parent's place
-pub sift_up_step : (cells new : List Cell) (len i : ℕ) (a b : Item) → 0 < i → CanSiftUp cells len i a → at (items_of cells) (parent i) ≡ b → is_before a b ≡ true → Wrote cells new i (parent i) a b
+pub sift_up_step : (cells new : List Cell) (len i : ℕ) (a b : Item) → 0 < i → CanSiftUp cells len i a → at (items_of cells) (parent i) ≡ b
+    → is_before a b ≡ true → Wrote cells new i (parent i) a b
     → CanSiftUp new len (parent i) a × Went cells new len (parent i) a
 sift_up_step cells new len i a b pos can there before wrote =
     let ready = can.ready in
@@ -205,7 +216,8 @@ sift_up_step cells new len i a b pos can there before wrote =
     )
 
 -- an item went down to the place of its least child
-pub sift_down_step : (cells new : List Cell) (len i child : ℕ) (a b : Item) → CanSiftDown cells len i a → IsLeastChild (items_of cells) len i child b → is_before b a ≡ true → Wrote cells new i child a b
+pub sift_down_step : (cells new : List Cell) (len i child : ℕ) (a b : Item) → CanSiftDown cells len i a → IsLeastChild (items_of cells) len i child b
+    → is_before b a ≡ true → Wrote cells new i child a b
     → CanSiftDown new len child a × Went cells new len child a
 sift_down_step cells new len i child a b can down before wrote =
     let ready = can.ready in
@@ -213,14 +225,16 @@ sift_down_step cells new len i child a b can down before wrote =
     let gone = went cells new len i child a b ready down.inside ne down.lies wrote in (
       record {
         ready = gone.ready;
-        state = down_step (at (items_of cells)) (at (items_of new)) len i child (omega (arith, down.below)) down.inside down.under (exchange cells new len i child a b ready down.inside ne down.lies wrote)
+        state = down_step (at (items_of cells)) (at (items_of new)) len i child (omega (arith, down.below)) down.inside down.under
+            (exchange cells new len i child a b ready down.inside ne down.lies wrote)
             ((λ k. is_before (down.lies k) (ready.lies k)) ∙ before) down.least can.state;
       },
       gone,
     )
 
 -- an item that is not before its parent's is where it belongs
-pub sift_up_ends : (old cells : List Cell) (len i : ℕ) (a b : Item) → CanSiftUp cells len i a → at (items_of cells) (parent i) ≡ b → is_before a b ≡ false → length cells ≡ length old
+pub sift_up_ends : (old cells : List Cell) (len i : ℕ) (a b : Item) → CanSiftUp cells len i a → at (items_of cells) (parent i) ≡ b
+    → is_before a b ≡ false → length cells ≡ length old
     → ordered (take len (items_of cells)) ≡ ordered (take len (items_of old)) → IsSifted old cells len
 sift_up_ends old cells len i a b can there late same list = record {
   same_len = same;
@@ -240,12 +254,14 @@ sift_up_at_top old cells len i a can top same list = record {
 }
 
 -- an item that its least child is not before is where it belongs
-pub sift_down_ends : (old cells : List Cell) (len i child : ℕ) (a b : Item) → CanSiftDown cells len i a → IsLeastChild (items_of cells) len i child b → is_before b a ≡ false → length cells ≡ length old
+pub sift_down_ends : (old cells : List Cell) (len i child : ℕ) (a b : Item) → CanSiftDown cells len i a → IsLeastChild (items_of cells) len i child b
+    → is_before b a ≡ false → length cells ≡ length old
     → ordered (take len (items_of cells)) ≡ ordered (take len (items_of old)) → IsSifted old cells len
 sift_down_ends old cells len i child a b can down late same list = record {
   same_len = same;
   heap = down_ends (at (items_of cells)) len i
-      (λ k pos kin e. order.chain (at (items_of cells) k) (at (items_of cells) child) (at (items_of cells) i) (down.least k pos kin e) ((λ n. is_before (down.lies n) (can.ready.lies n)) ∙ late)) can.state;
+      (λ k pos kin e. order.chain (at (items_of cells) k) (at (items_of cells) child) (at (items_of cells) i) (down.least k pos kin e)
+      ((λ n. is_before (down.lies n) (can.ready.lies n)) ∙ late)) can.state;
   indexed = can.ready.indexed;
   list = list;
 }
@@ -268,7 +284,8 @@ module _ (items : List Item) (len i : ℕ) (left right : Item) (here : at items 
     inside = omega arith;
     under = omega arith;
     lies = here;
-    least = λ k pos kin e. let same : k ≡ 2 * i + 1 = omega arith in ap (λ n. is_before (at items n) (at items (2 * i + 1))) same ∙ not_itself (at items (2 * i + 1));
+    least = λ k pos kin e. let same : k ≡ 2 * i + 1 =
+        omega arith in ap (λ n. is_before (at items n) (at items (2 * i + 1))) same ∙ not_itself (at items (2 * i + 1));
   }
 
   -- the left child, where the right one is not before it
@@ -280,7 +297,8 @@ module _ (items : List Item) (len i : ℕ) (left right : Item) (here : at items 
     lies = here;
     least = λ k pos kin e.
         ⊎_elim (λ same. ap (λ n. is_before (at items n) (at items (2 * i + 1))) same ∙ not_itself (at items (2 * i + 1)))
-        (λ ne. let same : k ≡ 2 * i + 2 = omega arith in ap (λ n. is_before (at items n) (at items (2 * i + 1))) same ∙ (λ n. is_before (there n) (here n)) ∙ late)
+        (λ ne. let same : k ≡ 2 * i + 2 = omega arith in ap (λ n. is_before (at items n) (at items (2 * i + 1))) same
+        ∙ (λ n. is_before (there n) (here n)) ∙ late)
         (cases_eq k (2 * i + 1));
   }
 

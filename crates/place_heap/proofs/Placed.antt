@@ -29,7 +29,8 @@ placed_swap x y (z ∷ zs) =
     either (is_before y z)
     (λ yz. ap (placed x) (goes_first y z zs yz) ∙ either (is_before x z)
     (λ xz. either (is_before x y)
-    (λ xy. goes_first x y (z ∷ zs) xy ∙ sym (ap (placed y) (goes_first x z zs xz) ∙ goes_on y x (z ∷ zs) (order.one_way x y xy) ∙ ap (λ l. x ∷ l) (goes_first y z zs yz)))
+    (λ xy. goes_first x y (z ∷ zs) xy
+    ∙ sym (ap (placed y) (goes_first x z zs xz) ∙ goes_on y x (z ∷ zs) (order.one_way x y xy) ∙ ap (λ l. x ∷ l) (goes_first y z zs yz)))
     (λ nxy. goes_on x y (z ∷ zs) nxy ∙ ap (λ l. y ∷ l) (goes_first x z zs xz) ∙ either (is_before y x)
     (λ yx. sym (ap (placed y) (goes_first x z zs xz) ∙ goes_first y x (z ∷ zs) yx))
     (λ nyx. same_front x y (z ∷ zs) nxy nyx ∙ sym (ap (placed y) (goes_first x z zs xz) ∙ goes_on y x (z ∷ zs) nyx ∙ ap (λ l. x ∷ l) (goes_first y z zs yz)))))
@@ -120,14 +121,16 @@ Others slot = Each (λ x. x.0 ≢ slot)
 -- nothing is taken out where there is no such slot
 pub without_others : (slot : ℕ) (xs : List Item) → Others slot xs → without slot xs ≡ xs
 without_others slot [] all = refl
-without_others slot (x ∷ xs) all = ap (λ t. if t then without slot xs else x ∷ without slot xs) (test_other x.0 slot all.0) ∙ ap (λ l. x ∷ l) (without_others slot xs all.1)
+without_others slot (x ∷ xs) all =
+    ap (λ t. if t then without slot xs else x ∷ without slot xs) (test_other x.0 slot all.0) ∙ ap (λ l. x ∷ l) (without_others slot xs all.1)
 
 -- the one item of a slot is taken out
 pub without_placed : (x : Item) (ys : List Item) → Others x.0 ys → without x.0 (placed x ys) ≡ ys
 without_placed x [] all = ap (λ t. if t then [] else x ∷ []) (test_same x.0 x.0 refl)
 without_placed x (y ∷ ys) all =
     either (is_before x y)
-    (λ e. ap (without x.0) (goes_first x y ys e) ∙ ap (λ t. if t then without x.0 (y ∷ ys) else x ∷ without x.0 (y ∷ ys)) (test_same x.0 x.0 refl) ∙ without_others x.0 (y ∷ ys) all)
+    (λ e. ap (without x.0) (goes_first x y ys e) ∙ ap (λ t. if t then without x.0 (y ∷ ys) else x ∷ without x.0 (y ∷ ys)) (test_same x.0 x.0 refl)
+    ∙ without_others x.0 (y ∷ ys) all)
     (λ e. ap (without x.0) (goes_on x y ys e) ∙ ap (λ t. if t then without x.0 (placed x ys) else y ∷ without x.0 (placed x ys)) (test_other y.0 x.0 all.0)
     ∙ ap (λ l. y ∷ l) (without_placed x ys all.1))
 

@@ -41,7 +41,8 @@ module _ {M : Type 1} {𝓤 : Ura M} (𝓛 : Logic 𝓤) (l : Lft) (L : Laws C) 
   Lends-places : (b o : ℕ) (cs : List (Option Cell)) → Lends 𝓛 (places b o cs) (places_lent b o cs) l
   Lends-places b o [] = Lends-nothing 𝓛 ftrue l
   Lends-places b o (c ∷ cs) =
-      Lends-both 𝓛 (place b o c) (places b (o + type_size C) cs) (place_lent b o c) (places_lent b (o + type_size C) cs) l (Lends-place b o c) (Lends-places b (o + type_size C) cs)
+      Lends-both 𝓛 (place b o c) (places b (o + type_size C) cs) (place_lent b o c) (places_lent b (o + type_size C) cs) l (Lends-place b o c)
+      (Lends-places b (o + type_size C) cs)
 
   -- a borrow of a block lends each of its cells
   pub Lends-block : (p : Ptr) (cs : List (Option Cell)) → Lends 𝓛 (block_owns p cs) (block_lends p cs) l

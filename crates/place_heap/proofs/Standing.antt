@@ -36,7 +36,8 @@ module _ (f g : ℕ → Item) (to to' : ℕ → ℕ) (len cap i j : ℕ) (iin : 
         ⊎_elim (λ ki. ap (λ (x : Item). to' x.0) (ap g ki ∙ changed.first) ∙ second ∙ sym ki)
         (λ ni. ⊎_elim (λ kj. ap (λ (x : Item). to' x.0) (ap g kj ∙ changed.second) ∙ first ∙ sym kj)
         (λ nj. ap (λ (x : Item). to' x.0) (changed.rest k ni nj)
-        ∙ rest (f k).0 (λ e. ni (sym (ix.stands k kin) ∙ ap to e ∙ ix.stands i iin)) (λ e. nj (sym (ix.stands k kin) ∙ ap to e ∙ ix.stands j jin)) ∙ ix.stands k kin)
+        ∙ rest (f k).0 (λ e. ni (sym (ix.stands k kin) ∙ ap to e ∙ ix.stands i iin)) (λ e. nj (sym (ix.stands k kin) ∙ ap to e ∙ ix.stands j jin))
+        ∙ ix.stands k kin)
         (cases_eq k j)) (cases_eq k i);
     present = λ s sin tin.
         ⊎_elim (λ si. ap (λ n. (g n).0) (ap to' si ∙ first) ∙ ap (λ (x : Item). x.0) changed.second ∙ sym si)
@@ -44,7 +45,8 @@ module _ (f g : ℕ → Item) (to to' : ℕ → ℕ) (len cap i j : ℕ) (iin : 
         (λ nj.
         let same : to' s ≡ to s = rest s ni nj in
         let was : (f (to s)).0 ≡ s = ix.present s sin (omega arith) in
-        ap (λ n. (g n).0) same ∙ ap (λ (x : Item). x.0) (changed.rest (to s) (λ e. ni (sym was ∙ ap (λ n. (f n).0) e)) (λ e. nj (sym was ∙ ap (λ n. (f n).0) e))) ∙ was)
+        ap (λ n. (g n).0) same
+        ∙ ap (λ (x : Item). x.0) (changed.rest (to s) (λ e. ni (sym was ∙ ap (λ n. (f n).0) e)) (λ e. nj (sym was ∙ ap (λ n. (f n).0) e))) ∙ was)
         (cases_eq s (f j).0)) (cases_eq s (f i).0);
     absent = λ s sin late.
         ⊎_elim (λ si. absurd (omega (arith, ap to' si, first)))
@@ -54,7 +56,8 @@ module _ (f g : ℕ → Item) (to to' : ℕ → ℕ) (len cap i j : ℕ) (iin : 
   }
 
 -- an item of an absent slot is put behind the others
-module _ (f g : ℕ → Item) (to to' : ℕ → ℕ) (len cap : ℕ) (x : Item) (room : len < cap) (inside : x.0 < cap) (none : to x.0 ≡ cap) (here : g len ≡ x) (others : (k : ℕ) → k ≢ len → g k ≡ f k)
+module _ (f g : ℕ → Item) (to to' : ℕ → ℕ) (len cap : ℕ) (x : Item) (room : len < cap) (inside : x.0 < cap) (none : to x.0 ≡ cap) (here : g len ≡ x)
+    (others : (k : ℕ) → k ≢ len → g k ≡ f k)
     (there : to' x.0 ≡ len) (rest : (s : ℕ) → s ≢ x.0 → to' s ≡ to s) (ix : Stands f to len cap) where
   -- the index has one more
   pub added : Stands g to' (len + 1) cap

@@ -48,7 +48,8 @@ module _ {at base : Ptr} {marks : List ℕ} {places : List (Option Cell)} {cap :
   -- a place that wasn't shows a cell with no item
   pub place_blank : slice_index marks i ≢ 255 → cell_at (values_of marks places cap) i ≡ unused_cell (noted_place cap (slice_index marks i))
   place_blank isnt =
-      value_at marks places cap i inside ∙ ap (shown cap (slice_index marks i)) (none_by (slice_index marks i) (get_or places i None) (kept.marked i inside) isnt)
+      value_at marks places cap i inside ∙ ap (shown cap (slice_index marks i))
+      (none_by (slice_index marks i) (get_or places i None) (kept.marked i inside) isnt)
 
   module _ (mark : ℕ) (place : Option Cell) (marks' : List ℕ) (places' : List (Option Cell)) (is_mark : marks' ≡ set marks i mark)
       (is_place : (k : ℕ) → k ≢ i → get_or places' k None ≡ get_or places k None)

@@ -1,5 +1,6 @@
 -- The names that the walks of the block cite, and how its types are stored.
-pub use Rattle.std.proofs.Common.{◌≡◌, ℕ, ◌+◌, ◌*◌, ◌≤◌, ◌<◌, ◌^◌, List, [], ◌∷◌, refl, sym, ap, subst, ◌∙◌, lit<, length, set, get_or, length-set, w64, arith, Some, None}
+pub use Rattle.std.proofs.Common.{◌≡◌, ℕ, ◌+◌, ◌*◌, ◌≤◌, ◌<◌, ◌^◌, List, [], ◌∷◌, refl, sym, ap, subst, ◌∙◌, lit<, length, set, get_or, length-set}
+pub use Rattle.std.proofs.Common.{w64, arith, Some, None}
 pub use Rattle.std.proofs.raw_atomic.Walks.{proved}
 pub use base.Fraction.{full_share}
 pub use base.Logic.{id⊢}
@@ -8,7 +9,8 @@ pub use mir.Syntax.{named}
 pub use mir.Val.{Val, vunit, vint, vptr}
 pub use contract.Monad.{fact}
 pub use contract.Running.{tables}
-pub use types.Kit.{‵, raw, ◌⊛◌, some, later, at_ret, ◌$◌, ◌∵◌, !, qed, done, move, keep, drop, use1, use2, split, join, fsplit, fsplit3, fjoin, fjoin3, feq_i, feq_l, pick, await, rewrite, suffices, frame}
+pub use types.Kit.{‵, raw, ◌⊛◌, some, later, at_ret, ◌$◌, ◌∵◌, !, qed, done, move, keep, drop, use1, use2, split, join, fsplit, fsplit3, fjoin}
+pub use types.Kit.{fjoin3, feq_i, feq_l, pick, await, rewrite, suffices, frame}
 pub use types.Part.{whole, sub, agg}
 pub use types.Run.{enter, of_opd, lit, unit_lit, bin, addr, init, stop, fld, no_more, and_then, assigns_last, first, blocks, exec, returns}
 pub use types.ByLocal.{alloc_all, pass_all, free_all, look_at, get, get_in, through, sets, sets_last, lands_as, lands_last, take_at, give_at, env}

@@ -43,7 +43,8 @@ key_in-without_same slot [] = refl
 key_in-without_same slot (x ∷ xs) =
     either (x.0 == slot)
     (λ e. ap (λ t. key_in slot (if t then without slot xs else x ∷ without slot xs)) e ∙ key_in-without_same slot xs)
-    (λ e. ap (λ t. key_in slot (if t then without slot xs else x ∷ without slot xs)) e ∙ ap (λ t. if t then Some x.1 else key_in slot (without slot xs)) e ∙ key_in-without_same slot xs)
+    (λ e. ap (λ t. key_in slot (if t then without slot xs else x ∷ without slot xs)) e
+    ∙ ap (λ t. if t then Some x.1 else key_in slot (without slot xs)) e ∙ key_in-without_same slot xs)
 
 -- another keeps its own
 pub key_in-without_other : (slot other : ℕ) (xs : List Item) → slot ≢ other → key_in other (without slot xs) ≡ key_in other xs
@@ -52,8 +53,10 @@ key_in-without_other slot other (x ∷ xs) ne =
     either (x.0 == slot)
     (λ e.
     let is : x.0 ≡ slot = grind (arith, nat_tests) in
-    ap (λ t. key_in other (if t then without slot xs else x ∷ without slot xs)) e ∙ key_in-without_other slot other xs ne ∙ sym (on_key other x xs (λ o. ne (sym is ∙ o))))
-    (λ e. ap (λ t. key_in other (if t then without slot xs else x ∷ without slot xs)) e ∙ ap (λ o. if x.0 == other then Some x.1 else o) (key_in-without_other slot other xs ne))
+    ap (λ t. key_in other (if t then without slot xs else x ∷ without slot xs)) e ∙ key_in-without_other slot other xs ne
+    ∙ sym (on_key other x xs (λ o. ne (sym is ∙ o))))
+    (λ e. ap (λ t. key_in other (if t then without slot xs else x ∷ without slot xs)) e ∙ ap (λ o. if x.0 == other then Some x.1 else o)
+    (key_in-without_other slot other xs ne))
 
 -- no item of the list stands before one in front of it
 abbrev pub IsInOrder : List Item → Type 0

@@ -1,5 +1,6 @@
 -- How many members sets have.
-use Rattle.std.proofs.Common.{◌≡◌, ℕ, suc, ◌+◌, ◌-◌, ◌<◌, ◌≤◌, Bool, true, false, not, ◌&&◌, cond, ltb, leb, List, [], ◌∷◌, ◌++◌, length, length-append, replicate, refl, sym, ap, ◌∙◌, arith, ◌⊎◌, inl, inr}
+use Rattle.std.proofs.Common.{◌≡◌, ℕ, suc, ◌+◌, ◌-◌, ◌<◌, ◌≤◌, Bool, true, false, not, ◌&&◌, cond, ltb, leb, List, [], ◌∷◌, ◌++◌, length}
+use Rattle.std.proofs.Common.{length-append, replicate, refl, sym, ap, ◌∙◌, arith, ◌⊎◌, inl, inr}
 use Rattle.std.specs.List.{filter}
 use Rattle.std.specs.Ordering.{nat_cmp}
 use Rattle.std.specs.Cmp.{nat_cmp_total}
@@ -21,7 +22,8 @@ use Rattle.plain_sets.proofs.RangeLaws.{in_ranges-ranges}
 pub len-retain_both : (s : Numbers) (p q : ℕ → Bool) → ((x : ℕ) → q x ≡ not (p x)) → len (retain s p) + len (retain s q) ≡ len s
 unfolding len
 len-retain_both s p q other =
-    (λ i. length (list-retain nat_cmp_total s p i) + length (list-retain nat_cmp_total s q i)) ∙ length-filter_both (λ e. p e.0) (λ e. q e.0) (λ e. other e.0) s.list
+    (λ i. length (list-retain nat_cmp_total s p i) + length (list-retain nat_cmp_total s q i)) ∙ length-filter_both (λ e. p e.0) (λ e. q e.0)
+    (λ e. other e.0) s.list
 
 -- a range less takes its members away
 pub len-without_range : (s : Numbers) (a b : ℕ) → len (without_range s a b) + len (within s a b) ≡ len s
@@ -40,7 +42,8 @@ three_parts a n [] = refl
 three_parts a n (e ∷ es) = choose (cases_lt e.0 a) (cases_lt e.0 (a + n)) (three_parts a n es) where
   choose : ((e.0 < a) ⊎ (a ≤ e.0)) → ((e.0 < a + n) ⊎ (a + n ≤ e.0))
       → length (filter (λ e. ltb e.0 a) es) + length (filter (λ e. leb a e.0 && ltb e.0 (a + n)) es) + length (filter (λ e. leb (a + n) e.0) es) ≡ length es
-      → length (filter (λ e. ltb e.0 a) (e ∷ es)) + length (filter (λ e. leb a e.0 && ltb e.0 (a + n)) (e ∷ es)) + length (filter (λ e. leb (a + n) e.0) (e ∷ es)) ≡ suc (length es)
+      → length (filter (λ e. ltb e.0 a) (e ∷ es)) + length (filter (λ e. leb a e.0 && ltb e.0 (a + n)) (e ∷ es)) + length
+      (filter (λ e. leb (a + n) e.0) (e ∷ es)) ≡ suc (length es)
   choose (inl h) k rest = let m : e.0 < a + n = omega arith in rw (lt-ltb e.0 a h, lt-leb a e.0 h, lt-leb (a + n) e.0 m) (omega (arith, rest))
   choose (inr h) (inl k) rest = rw (le-ltb e.0 a h, le-leb a e.0 h, lt-ltb e.0 (a + n) k, lt-leb (a + n) e.0 k) (omega (arith, rest))
   choose (inr h) (inr k) rest = rw (le-ltb e.0 a h, le-leb a e.0 h, le-ltb e.0 (a + n) k, le-leb (a + n) e.0 k) (omega (arith, rest))
@@ -58,9 +61,11 @@ len-with_range s a b =
     let low : List (ℕ × Unit {0}) = filter (λ e. ltb e.0 a) s.list in
     let high : List (ℕ × Unit {0}) = filter (λ e. leb (a + length marks) e.0) s.list in
     let made : length (insert_all s a marks).list ≡ length low + length marks + length high =
-    ap length (list-insert_all s a marks) ∙ length-append (low ++ numbered a marks) high ∙ ap (λ k. k + length high) (length-append low (numbered a marks) ∙ ap (λ k. length low + k) (length-numbered a marks)) in
+    ap length (list-insert_all s a marks) ∙ length-append (low ++ numbered a marks) high
+    ∙ ap (λ k. k + length high) (length-append low (numbered a marks) ∙ ap (λ k. length low + k) (length-numbered a marks)) in
     let kept : length (retain s (is_between a b)).list ≡ length (filter (λ (e : ℕ × Unit {0}). leb a e.0 && ltb e.0 (a + length marks)) s.list) =
-    ap length (list-retain nat_cmp_total s (is_between a b)) ∙ ap length (filter_agree (λ e. is_between a b e.0) (λ e. leb a e.0 && ltb e.0 (a + length marks)) (λ e. same_test a b (length marks) e.0 n) s.list) in
+    ap length (list-retain nat_cmp_total s (is_between a b))
+    ∙ ap length (filter_agree (λ e. is_between a b e.0) (λ e. leb a e.0 && ltb e.0 (a + length marks)) (λ e. same_test a b (length marks) e.0 n) s.list) in
     omega (arith, made, kept, n, three_parts a (length marks) s.list)
 
 -- a set without members has no member
@@ -70,7 +75,8 @@ none_left s none = ap len (same_numbers s empty (λ q. none q ∙ sym (has-empty
 -- a range has as many members as numbers
 pub len-set_of_range : (a b : ℕ) → len (set_of_range a b) ≡ b - a
 len-set_of_range a b =
-    let none : len (within empty a b) ≡ 0 = none_left (within empty a b) (λ x. has-within empty a b x ∙ ap (λ c. is_between a b x && c) (has-empty x) ∙ and-false (is_between a b x)) in
+    let none : len (within empty a b) ≡ 0 =
+    none_left (within empty a b) (λ x. has-within empty a b x ∙ ap (λ c. is_between a b x && c) (has-empty x) ∙ and-false (is_between a b x)) in
     omega (arith, len-with_range empty a b, none, len-empty nat_cmp (Unit {0}))
 
 -- a number more is one member more, unless it is one

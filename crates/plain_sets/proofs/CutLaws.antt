@@ -1,5 +1,6 @@
 -- The first range of the members from one number to another.
-use Rattle.std.proofs.Common.{◌≡◌, ℕ, ◌+◌, ◌<◌, ◌≤◌, Bool, true, ◌||◌, ltb, leb, min, max, List, [], ◌∷◌, refl, sym, ap, ◌∙◌, arith, inl, inr, Option, Some, None}
+use Rattle.std.proofs.Common.{◌≡◌, ℕ, ◌+◌, ◌<◌, ◌≤◌, Bool, true, ◌||◌, ltb, leb, min, max, List, [], ◌∷◌, refl, sym, ap, ◌∙◌, arith, inl, inr, Option}
+use Rattle.std.proofs.Common.{Some, None}
 use Rattle.std.specs.Option.{MatchOption, IfSome}
 use Rattle.std.proofs.lemmas.Bool.{cond_both, ltb-true, ltb-false, leb-true, leb-false, cases_lt, true≢false}
 use Rattle.plain_sets.specs.Ranges.{Range, in_ranges, AreApart, cut, NoneIn, IsFirstIn}
@@ -30,7 +31,8 @@ first-cut low a b [] apart = λ x h k. refl
 first-cut low a b (r ∷ rs) apart =
     cond_both (leb r.to a) _ _ (IsFirst (in_ranges (r ∷ rs)) a b)
     (λ e. let l : r.to ≤ a = leb-true _ _ e in
-    first_alike (in_ranges rs) (in_ranges (r ∷ rs)) a b (λ x h. ap (λ c. c || in_ranges rs x) (beyond r.from r.to x (omega arith))) (cut a b rs) (first-cut (r.to + 1) a b rs apart.2))
+    first_alike (in_ranges rs) (in_ranges (r ∷ rs)) a b (λ x h. ap (λ c. c || in_ranges rs x) (beyond r.from r.to x (omega arith))) (cut a b rs)
+    (first-cut (r.to + 1) a b rs apart.2))
     (λ e. let l : a < r.to = leb-false _ _ e in
     cond_both (ltb (max a r.from) b) _ _ (IsFirst (in_ranges (r ∷ rs)) a b)
     (λ e'. let m : max a r.from < b = ltb-true _ _ e' in
@@ -55,7 +57,8 @@ first_in-cut s a b = refl
 -- first_in is the first range of the members from a to b - 1, and None where there is none
 pub first-first_in : (s : Numbers) (a b : ℕ) → IsFirst (has s) a b (first_in s a b)
 unfolding first_in
-first-first_in s a b = first_alike (in_ranges (ranges s)) (has s) a b (λ x h. sym (in_ranges-ranges s x)) (cut a b (ranges s)) (first-cut 0 a b (ranges s) (apart-ranges s))
+first-first_in s a b =
+    first_alike (in_ranges (ranges s)) (has s) a b (λ x h. sym (in_ranges-ranges s x)) (cut a b (ranges s)) (first-cut 0 a b (ranges s) (apart-ranges s))
 
 -- the first of ranges that are apart begins with their least number
 least_of : (low : ℕ) (rs : List Range) → AreApart low rs → IfSome (first_of rs) (λ r. (x : ℕ) → in_ranges rs x ≡ true → r.from ≤ x)
@@ -65,6 +68,7 @@ least_of low (r ∷ rs) apart = λ x e. elim (cases_lt x r.from) [ inl h ↦ abs
 -- the first range begins with the least member
 pub least : (s : Numbers) → IfSome (first_of (ranges s)) (λ r. (x : ℕ) → has s x ≡ true → r.from ≤ x)
 least s = alike (ranges s) (least_of 0 (ranges s) (apart-ranges s)) (in_ranges-ranges s) where
-  alike : (rs : List Range) → IfSome (first_of rs) (λ r. (x : ℕ) → in_ranges rs x ≡ true → r.from ≤ x) → ((x : ℕ) → in_ranges rs x ≡ has s x) → IfSome (first_of rs) (λ r. (x : ℕ) → has s x ≡ true → r.from ≤ x)
+  alike : (rs : List Range) → IfSome (first_of rs) (λ r. (x : ℕ) → in_ranges rs x ≡ true → r.from ≤ x) → ((x : ℕ) → in_ranges rs x ≡ has s x)
+      → IfSome (first_of rs) (λ r. (x : ℕ) → has s x ≡ true → r.from ≤ x)
   alike [] h e = tt
   alike (r ∷ rs) h e = λ x p. h x (e x ∙ p)

@@ -1,5 +1,6 @@
 -- What the first of each sender are.
-use Rattle.std.proofs.Common.{◌≡◌, ◌≢◌, ℕ, zero, suc, Bool, true, false, not, ◌&&◌, ◌||◌, cond, eqb, List, [], ◌∷◌, ◌++◌, take, refl, sym, ap, ◌∙◌, arith, append-nil}
+use Rattle.std.proofs.Common.{◌≡◌, ◌≢◌, ℕ, zero, suc, Bool, true, false, not, ◌&&◌, ◌||◌, cond, eqb, List, [], ◌∷◌, ◌++◌, take, refl, sym, ap, ◌∙◌}
+use Rattle.std.proofs.Common.{arith, append-nil}
 use Rattle.std.specs.List.{AllByRecursion, filter, list_any}
 use Rattle.std.proofs.lemmas.Bool.{cond_both, eqb-true, eq-eqb, true≢false}
 use Rattle.std.proofs.Math.Bool.{and_comm, and-false}
@@ -95,14 +96,17 @@ module _ {X : Type 0} (sender : X → ℕ) where
   -- senders that differ do so after a filter
   differ-filter : (p : X → Bool) (xs : List X) → SendersDiffer sender xs → SendersDiffer sender (filter p xs)
   differ-filter p [] differ = tt
-  differ-filter p (x ∷ xs) differ = cond_both (p x) _ _ (SendersDiffer sender) (λ _. (filter-all (λ y. sender x ≢ sender y) p xs differ.0, differ-filter p xs differ.1)) (λ _. differ-filter p xs differ.1)
+  differ-filter p (x ∷ xs) differ =
+      cond_both (p x) _ _ (SendersDiffer sender) (λ _. (filter-all (λ y. sender x ≢ sender y) p xs differ.0, differ-filter p xs differ.1))
+      (λ _. differ-filter p xs differ.1)
 
   -- no two of the first of each sender are of one sender
   pub firsts-differ : (xs : List X) → SendersDiffer sender (firsts sender xs)
   unfolding firsts
   firsts-differ [] = tt
   firsts-differ (x ∷ xs) = (
-    passes (λ y. sender x ≢ sender y) (λ y. not (eqb (sender y) (sender x))) (λ y e same. absurd (true≢false (sym (eq-eqb (sender y) (sender x) (sym same)) ∙ not_true _ e))) (firsts sender xs),
+    passes (λ y. sender x ≢ sender y) (λ y. not (eqb (sender y) (sender x)))
+        (λ y e same. absurd (true≢false (sym (eq-eqb (sender y) (sender x) (sym same)) ∙ not_true _ e))) (firsts sender xs),
     differ-filter (λ y. not (eqb (sender y) (sender x))) (firsts sender xs) (firsts-differ xs),
   )
 
@@ -118,9 +122,12 @@ module _ {X : Type 0} (sender : X → ℕ) where
   firsts-append [] ys = sym (all_kept (λ _. true) (λ _. refl) (firsts sender ys))
   firsts-append (x ∷ xs) ys =
       ap (λ l. x ∷ not_of sender (sender x) l) (firsts-append xs ys)
-      ∙ ap (λ l. x ∷ l) (filter-append (λ y. not (eqb (sender y) (sender x))) (firsts sender xs) (filter (λ y. not (has_sender sender xs (sender y))) (firsts sender ys))
-      ∙ ap (λ l. not_of sender (sender x) (firsts sender xs) ++ l) (filter-twice (λ y. not (eqb (sender y) (sender x))) (λ y. not (has_sender sender xs (sender y))) (firsts sender ys)
-      ∙ filter_agree (λ y. not (has_sender sender xs (sender y)) && not (eqb (sender y) (sender x))) (λ y. not (has_sender sender (x ∷ xs) (sender y))) (λ y. neither (has_sender sender xs (sender y)) (sender y) (sender x)) (firsts sender ys)))
+      ∙ ap (λ l. x ∷ l)
+      (filter-append (λ y. not (eqb (sender y) (sender x))) (firsts sender xs) (filter (λ y. not (has_sender sender xs (sender y))) (firsts sender ys))
+      ∙ ap (λ l. not_of sender (sender x) (firsts sender xs) ++ l)
+      (filter-twice (λ y. not (eqb (sender y) (sender x))) (λ y. not (has_sender sender xs (sender y))) (firsts sender ys)
+      ∙ filter_agree (λ y. not (has_sender sender xs (sender y)) && not (eqb (sender y) (sender x)))
+      (λ y. not (has_sender sender (x ∷ xs) (sender y))) (λ y. neither (has_sender sender xs (sender y)) (sender y) (sender x)) (firsts sender ys)))
 
   -- one thing is the first of its sender
   firsts_one : (x : X) → firsts sender (x ∷ []) ≡ x ∷ []
@@ -128,9 +135,11 @@ module _ {X : Type 0} (sender : X → ℕ) where
   firsts_one x = refl
 
   -- one thing more is kept where none before it is of its sender, and left out else
-  pub firsts-push : (xs : List X) (x : X) → firsts sender (xs ++ x ∷ []) ≡ cond (has_sender sender xs (sender x)) (firsts sender xs) (firsts sender xs ++ x ∷ [])
+  pub firsts-push : (xs : List X) (x : X) → firsts sender (xs ++ x ∷ []) ≡ cond (has_sender sender xs (sender x)) (firsts sender xs)
+      (firsts sender xs ++ x ∷ [])
   firsts-push xs x =
-      firsts-append xs (x ∷ []) ∙ ap (λ l. firsts sender xs ++ filter (λ y. not (has_sender sender xs (sender y))) l) (firsts_one x) ∙ last (has_sender sender xs (sender x)) (firsts sender xs) where
+      firsts-append xs (x ∷ []) ∙ ap (λ l. firsts sender xs ++ filter (λ y. not (has_sender sender xs (sender y))) l) (firsts_one x)
+      ∙ last (has_sender sender xs (sender x)) (firsts sender xs) where
         last : (b : Bool) (l : List X) → l ++ cond (not b) (x ∷ []) [] ≡ cond b l (l ++ x ∷ [])
         last true l = append-nil l
         last false l = refl
@@ -139,7 +148,9 @@ module _ {X : Type 0} (sender : X → ℕ) where
   any-filter : (s t : ℕ) (xs : List X) → has_sender sender (not_of sender t xs) s ≡ (not (eqb s t) && has_sender sender xs s)
   any-filter s t [] = sym (and-false (not (eqb s t)))
   any-filter s t (x ∷ xs) =
-      elim (eqb (sender x) t) as (λ b. eqb (sender x) t ≡ b → has_sender sender (cond (not b) (x ∷ not_of sender t xs) (not_of sender t xs)) s ≡ (not (eqb s t) && (eqb (sender x) s || has_sender sender xs s))) [
+      elim (eqb (sender x) t) as
+      (λ b. eqb (sender x) t ≡ b → has_sender sender (cond (not b) (x ∷ not_of sender t xs) (not_of sender t xs)) s
+      ≡ (not (eqb s t) && (eqb (sender x) s || has_sender sender xs s))) [
         | true ↦ λ e. any-filter s t xs ∙ without_same (sender x) s t (has_sender sender xs s) e
         | false ↦ λ e. ap (λ b. eqb (sender x) s || b) (any-filter s t xs) ∙ without_other (sender x) s t (has_sender sender xs s) e
       ] refl
@@ -148,7 +159,9 @@ module _ {X : Type 0} (sender : X → ℕ) where
   pub firsts-senders : (xs : List X) (s : ℕ) → has_sender sender (firsts sender xs) s ≡ has_sender sender xs s
   unfolding firsts
   firsts-senders [] s = refl
-  firsts-senders (x ∷ xs) s = ap (λ b. eqb (sender x) s || b) (any-filter s (sender x) (firsts sender xs) ∙ ap (λ b. not (eqb s (sender x)) && b) (firsts-senders xs s)) ∙ or_without (sender x) s (has_sender sender xs s)
+  firsts-senders (x ∷ xs) s =
+      ap (λ b. eqb (sender x) s || b) (any-filter s (sender x) (firsts sender xs) ∙ ap (λ b. not (eqb s (sender x)) && b) (firsts-senders xs s))
+      ∙ or_without (sender x) s (has_sender sender xs s)
 
   -- the first of each sender are some of the things
   pub firsts-all : (P : X → Type 0) (xs : List X) → AllByRecursion P xs → AllByRecursion P (firsts sender xs)
@@ -159,14 +172,17 @@ module _ {X : Type 0} (sender : X → ℕ) where
   -- a filter leaves things in order
   sorted-filter : (key : X → ℕ × ℕ) (p : X → Bool) (xs : List X) → IsInOrder key xs → IsInOrder key (filter p xs)
   sorted-filter key p [] up = tt
-  sorted-filter key p (x ∷ xs) up = cond_both (p x) _ _ (IsInOrder key) (λ _. (filter-all (λ y. is_below (key y) (key x) ≡ false) p xs up.0, sorted-filter key p xs up.1)) (λ _. sorted-filter key p xs up.1)
+  sorted-filter key p (x ∷ xs) up =
+      cond_both (p x) _ _ (IsInOrder key) (λ _. (filter-all (λ y. is_below (key y) (key x) ≡ false) p xs up.0, sorted-filter key p xs up.1))
+      (λ _. sorted-filter key p xs up.1)
 
   -- and stay in order
   pub sorted-firsts : (key : X → ℕ × ℕ) (xs : List X) → IsInOrder key xs → IsInOrder key (firsts sender xs)
   unfolding firsts
   sorted-firsts key [] up = tt
   sorted-firsts key (x ∷ xs) up = (
-    filter-all (λ y. is_below (key y) (key x) ≡ false) (λ y. not (eqb (sender y) (sender x))) (firsts sender xs) (firsts-all (λ y. is_below (key y) (key x) ≡ false) xs up.0),
+    filter-all (λ y. is_below (key y) (key x) ≡ false) (λ y. not (eqb (sender y) (sender x))) (firsts sender xs)
+        (firsts-all (λ y. is_below (key y) (key x) ≡ false) xs up.0),
     sorted-filter key (λ y. not (eqb (sender y) (sender x))) (firsts sender xs) (sorted-firsts key xs up.1),
   )
 
@@ -184,9 +200,13 @@ module _ {X : Type 0} (sender : X → ℕ) where
       let kept : filter (λ y. not (among seen (sender y))) (not_of sender (sender x) (firsts sender xs)) ≡ filter both (firsts sender xs) =
       filter-twice (λ y. not (among seen (sender y))) (λ y. not (eqb (sender y) (sender x))) (firsts sender xs) in
       elim (among seen (sender x)) as (λ b. among seen (sender x) ≡ b → cond b (firsts_but seen xs) (x ∷ firsts_but (seen ++ sender x ∷ []) xs)
-      ≡ cond (not b) (x ∷ filter (λ y. not (among seen (sender y))) (not_of sender (sender x) (firsts sender xs))) (filter (λ y. not (among seen (sender y))) (not_of sender (sender x) (firsts sender xs)))) [
-        | true ↦ λ e. firsts_but-firsts seen xs ∙ filter_agree (λ y. not (among seen (sender y))) both (λ y. seen_same seen (sender x) (sender y) e) (firsts sender xs) ∙ sym kept
-        | false ↦ λ e. ap (λ l. x ∷ l) (firsts_but-firsts (seen ++ sender x ∷ []) xs ∙ filter_agree (λ y. not (among (seen ++ sender x ∷ []) (sender y))) both (λ y. seen_more seen (sender x) (sender y)) (firsts sender xs) ∙ sym kept)
+      ≡ cond (not b) (x ∷ filter (λ y. not (among seen (sender y))) (not_of sender (sender x) (firsts sender xs)))
+      (filter (λ y. not (among seen (sender y))) (not_of sender (sender x) (firsts sender xs)))) [
+        | true ↦ λ e. firsts_but-firsts seen xs ∙ filter_agree (λ y. not (among seen (sender y))) both (λ y. seen_same seen (sender x) (sender y) e)
+            (firsts sender xs) ∙ sym kept
+        | false ↦ λ e. ap (λ l. x ∷ l)
+            (firsts_but-firsts (seen ++ sender x ∷ []) xs ∙ filter_agree (λ y. not (among (seen ++ sender x ∷ []) (sender y))) both
+            (λ y. seen_more seen (sender x) (sender y)) (firsts sender xs) ∙ sym kept)
       ] refl
 
   -- the walk that has seen none finds the first of each sender

@@ -1,5 +1,6 @@
 -- The set of the keys of a map.
-use Rattle.std.proofs.Common.{◌≡◌, ℕ, suc, ◌+◌, ◌-◌, true, false, ◌&&◌, ◌||◌, cond, ltb, leb, T, List, [], ◌∷◌, length, map, refl, sym, ap, subst, ◌∙◌, arith, Option, Some}
+use Rattle.std.proofs.Common.{◌≡◌, ℕ, suc, ◌+◌, ◌-◌, true, false, ◌&&◌, ◌||◌, cond, ltb, leb, T, List, [], ◌∷◌, length, map, refl, sym, ap, subst}
+use Rattle.std.proofs.Common.{◌∙◌, arith, Option, Some}
 use Rattle.std.specs.Option.{is_some}
 use Rattle.std.specs.List.{slice_get}
 use Rattle.std.specs.declared.cmp.Ordering.{Ordering}
@@ -42,7 +43,9 @@ module _ {K X : Type 0} (R : K → K → Ordering) where
   -- the same keys are found
   find-bare : (q : K) (es : List (K × X)) → is_some (find R q (bare es)) ≡ is_some (find R q es)
   find-bare q [] = refl
-  find-bare q (e ∷ es) = elim (eq_by_cmp R q e.0) as (λ b. is_some (cond b (Some tt) (find R q (bare es))) ≡ is_some (cond b (Some e.1) (find R q es))) [ true ↦ refl | false ↦ find-bare q es ]
+  find-bare q (e ∷ es) =
+      elim (eq_by_cmp R q e.0) as (λ b. is_some (cond b (Some tt) (find R q (bare es))) ≡ is_some (cond b (Some e.1) (find R q es)))
+      [ true ↦ refl | false ↦ find-bare q es ]
 
 module _ {K X : Type 0} {R : K → K → Ordering} where
   -- the entries of the set of the keys
@@ -73,7 +76,8 @@ key_set-insert_all {X} m a xs = same_numbers _ _ (λ q.
       within : (a n q : ℕ) → (leb a q && ltb q (a + n)) ≡ true → ltb (q - a) n ≡ true
       within a n q e = grind (arith, nat_tests)
 
-      inside : (q : ℕ) (o : Option X) → is_some o ≡ ltb (q - a) (length xs) → (g : Option X) → is_some (cond (leb a q && ltb q (a + length xs)) o g) ≡ ((leb a q && ltb q (a + length xs)) || is_some g)
+      inside : (q : ℕ) (o : Option X) → is_some o ≡ ltb (q - a) (length xs) → (g : Option X)
+          → is_some (cond (leb a q && ltb q (a + length xs)) o g) ≡ ((leb a q && ltb q (a + length xs)) || is_some g)
       inside q o e g = elim (leb a q && ltb q (a + length xs)) as (λ b. (leb a q && ltb q (a + length xs)) ≡ b → is_some (cond b o g) ≡ (b || is_some g)) [
         | true ↦ λ h. e ∙ within a (length xs) q h
         | false ↦ λ h. refl

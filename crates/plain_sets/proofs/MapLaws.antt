@@ -8,9 +8,11 @@ use Rattle.std.specs.declared.cmp.Ordering.{Ordering}
 use Rattle.std.specs.declared.cmp.Ordering.TheVariants.{Less, Equal}
 use Rattle.std.specs.FinMap.{IsAntisymmetric}
 use Rattle.std.proofs.lemmas.List.{nil_from_length}
-use Rattle.core.specs.FinMap.Entries.{put, find, below_all, is_sorted, is_sorted-put, is_sorted-where_key, find-put, find-where_key, length-put, length_without, same_entries}
+use Rattle.core.specs.FinMap.Entries.{put, find, below_all, is_sorted, is_sorted-put, is_sorted-where_key, find-put, find-where_key, length-put}
+use Rattle.core.specs.FinMap.Entries.{length_without, same_entries}
 use Rattle.plain_sets.proofs.Small.{both, first, second, less}
-use Rattle.plain_sets.specs.Maps.{Map, rises, rises_above, empty, checked, get, contains_key, insert, retain, remove, len, keys, values, from_entries, same_list}
+use Rattle.plain_sets.specs.Maps.{Map, rises, rises_above, empty, checked, get, contains_key, insert, retain, remove, len, keys, values, from_entries}
+use Rattle.plain_sets.specs.Maps.{same_list}
 
 -- a choice by a test denied
 turned : {A : Type 0} (b : Bool) (x y : A) → cond (not b) x y ≡ cond b y x
@@ -148,7 +150,8 @@ module _ {K X : Type 0} {R : K → K → Ordering} (o : IsTotalOrder R) where
   -- how many there were before a removal
   len_before_remove : (m : Map R X) (k : K) → cond (contains_key m k) 1 0 + len (remove m k) ≡ len m
   unfolding len get remove
-  len_before_remove m k = ap (λ es. cond (is_some (find R k m.list)) 1 0 + length es) (list-retain m (λ x. not (eq_by_cmp R k x))) ∙ length_without R o k m.list (sorted-rises R o m.list m.sorted)
+  len_before_remove m k = ap (λ es. cond (is_some (find R k m.list)) 1 0 + length es) (list-retain m (λ x. not (eq_by_cmp R k x)))
+      ∙ length_without R o k m.list (sorted-rises R o m.list m.sorted)
 
   -- how many there are after it
   pub len-remove : (m : Map R X) (k : K) → len (remove m k) ≡ cond (contains_key m k) (len m - 1) (len m)

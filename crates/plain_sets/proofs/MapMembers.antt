@@ -64,14 +64,16 @@ module _ {K X : Type 0} {R : K → K → Ordering} (o : IsTotalOrder R) (same : 
   -- a key that is below all is below each
   above : (k : K) (es : List (K × X)) (e : K × X) → T (below_all R k es) → Contains es e → R k e.0 ≡ Less
   above k [] e h c = let l : c.0 < 0 = c.1 in absurd (omega arith)
-  above k (f ∷ es) e h c = elim (at_head f e es c) [ inl is ↦ subst (λ (g : K × X). R k g.0 ≡ Less) is (less _ (first _ _ h)) | inr rest ↦ above k es e (second _ _ h) rest ]
+  above k (f ∷ es) e h c =
+      elim (at_head f e es c) [ inl is ↦ subst (λ (g : K × X). R k g.0 ≡ Less) is (less _ (first _ _ h)) | inr rest ↦ above k es e (second _ _ h) rest ]
 
   -- an entry is found under its key
   find-contains : (k : K) (v : X) (es : List (K × X)) → T (is_sorted R es) → Contains es (k, v) → find R k es ≡ Some v
   find-contains k v [] h c = let l : c.0 < 0 = c.1 in absurd (omega arith)
   find-contains k v (e ∷ es) h c =
       elim (at_head e (k, v) es c) [
-        | inl is ↦ subst (λ (g : K × X). cond (eq_by_cmp R k g.0) (Some g.1) (find R k es) ≡ Some v) (sym is) (ap (λ b. cond b (Some v) (find R k es)) (tied o k))
+        | inl is ↦ subst (λ (g : K × X). cond (eq_by_cmp R k g.0) (Some g.1) (find R k es) ≡ Some v) (sym is)
+            (ap (λ b. cond b (Some v) (find R k es)) (tied o k))
         | inr rest ↦
             let up : R e.0 k ≡ Less = above e.0 es (k, v) (first _ _ h) rest in
             let off : eq_by_cmp R k e.0 ≡ false = ap is_eq (o.antisymm k e.0 ∙ ap ordering_reverse up) in
@@ -120,15 +122,24 @@ module _ {K X : Type 0} {R : K → K → Ordering} (o : IsTotalOrder R) (same : 
 
   -- of two values of one key the later stays
   pub insert-again : (m : Map R X) (k : K) (v w : X) → insert (insert m k v) k w ≡ insert m k w
-  insert-again m k v w = same_map o same _ _ (λ q. get-insert o (insert m k v) k w q ∙ ap (cond (eq_by_cmp R q k) (Some w)) (get-insert o m k v q) ∙ twice (eq_by_cmp R q k) (Some w) (Some v) (get m q) ∙ sym (get-insert o m k w q))
+  insert-again m k v w =
+      same_map o same _ _
+      (λ q. get-insert o (insert m k v) k w q ∙ ap (cond (eq_by_cmp R q k) (Some w)) (get-insert o m k v q) ∙ twice (eq_by_cmp R q k) (Some w) (Some v)
+      (get m q) ∙ sym (get-insert o m k w q))
 
   -- an insertion after a removal of the key is the insertion
   pub insert-remove : (m : Map R X) (k : K) (v : X) → insert (remove m k) k v ≡ insert m k v
-  insert-remove m k v = same_map o same _ _ (λ q. get-insert o (remove m k) k v q ∙ ap (cond (eq_by_cmp R q k) (Some v)) (get-remove o m k q) ∙ twice (eq_by_cmp R q k) (Some v) None (get m q) ∙ sym (get-insert o m k v q))
+  insert-remove m k v =
+      same_map o same _ _
+      (λ q. get-insert o (remove m k) k v q ∙ ap (cond (eq_by_cmp R q k) (Some v)) (get-remove o m k q) ∙ twice (eq_by_cmp R q k) (Some v) None
+      (get m q) ∙ sym (get-insert o m k v q))
 
   -- a removal after an insertion of the key is the removal
   pub remove-insert : (m : Map R X) (k : K) (v : X) → remove (insert m k v) k ≡ remove m k
-  remove-insert m k v = same_map o same _ _ (λ q. get-remove o (insert m k v) k q ∙ ap (cond (eq_by_cmp R q k) None) (get-insert o m k v q) ∙ twice (eq_by_cmp R q k) None (Some v) (get m q) ∙ sym (get-remove o m k q))
+  remove-insert m k v =
+      same_map o same _ _
+      (λ q. get-remove o (insert m k v) k q ∙ ap (cond (eq_by_cmp R q k) None) (get-insert o m k v q) ∙ twice (eq_by_cmp R q k) None (Some v) (get m q)
+      ∙ sym (get-remove o m k q))
 
   -- what is put at a new key and taken away again leaves the map as it was
   pub remove-insert_new : (m : Map R X) (k : K) (v : X) → get m k ≡ None → remove (insert m k v) k ≡ m
@@ -150,12 +161,15 @@ module _ {K X : Type 0} {R : K → K → Ordering} (o : IsTotalOrder R) (same : 
   permutation-put : (k : K) (v : X) (es : List (K × X)) → find R k es ≡ None → IsPermutation ((k, v) ∷ es) (put R k v es)
   permutation-put k v [] none = IsPermutation-refl ((k, v) ∷ [])
   permutation-put k v (e ∷ es) none =
-      elim (R k e.0) as (λ r. R k e.0 ≡ r → IsPermutation ((k, v) ∷ e ∷ es) (Rattle.core.specs.FinMap.Entries.by_order r ((k, v) ∷ e ∷ es) ((e.0, v) ∷ es) (e ∷ put R k v es))) [
+      elim (R k e.0) as
+      (λ r. R k e.0 ≡ r → IsPermutation ((k, v) ∷ e ∷ es)
+      (Rattle.core.specs.FinMap.Entries.by_order r ((k, v) ∷ e ∷ es) ((e.0, v) ∷ es) (e ∷ put R k v es))) [
         | Less ↦ λ h. IsPermutation-refl ((k, v) ∷ e ∷ es)
         | Equal ↦ λ h. absurd (true≢false (sym (ap is_eq h) ∙ (none_first (eq_by_cmp R k e.0) e.1 (find R k es) none).0))
         | Greater ↦ λ h.
             let rest = (none_first (eq_by_cmp R k e.0) e.1 (find R k es) none).1 in
-            IsPermutation-trans ((k, v) ∷ e ∷ es) (e ∷ (k, v) ∷ es) (e ∷ put R k v es) (IsPermutation-middle ((k, v) ∷ []) e es) (IsPermutation-cons e ((k, v) ∷ es) (put R k v es) (permutation-put k v es rest))
+            IsPermutation-trans ((k, v) ∷ e ∷ es) (e ∷ (k, v) ∷ es) (e ∷ put R k v es) (IsPermutation-middle ((k, v) ∷ []) e es)
+            (IsPermutation-cons e ((k, v) ∷ es) (put R k v es) (permutation-put k v es rest))
       ] refl
 
   -- a new key brings its entry, in its place
@@ -172,7 +186,8 @@ module _ {K X : Type 0} {R : K → K → Ordering} (o : IsTotalOrder R) (same : 
   pub entries-remove : (m : Map R X) (k : K) (v : X) → get m k ≡ Some v → IsPermutation ((k, v) ∷ entries (remove m k)) (entries m)
   entries-remove m k v e =
       let gone : get (remove m k) k ≡ None = get-remove o m k k ∙ ap (λ b. cond b None (get m k)) (tied o k) in
-      subst (λ (n : Map R X). IsPermutation ((k, v) ∷ entries (remove m k)) (entries n)) (insert-remove m k v ∙ insert-same m k v e) (entries-insert_new (remove m k) k v gone)
+      subst (λ (n : Map R X). IsPermutation ((k, v) ∷ entries (remove m k)) (entries n)) (insert-remove m k v ∙ insert-same m k v e)
+      (entries-insert_new (remove m k) k v gone)
 
   -- and its value
   pub values-remove : (m : Map R X) (k : K) (v : X) → get m k ≡ Some v → IsPermutation (v ∷ values (remove m k)) (values m)

@@ -1,14 +1,17 @@
 -- Subsets, widths of ranges, and gaps.
-use Rattle.std.proofs.Common.{◌≡◌, ℕ, ◌+◌, ◌-◌, ◌<◌, ◌≤◌, Bool, true, false, not, ◌&&◌, ◌||◌, ltb, leb, eqb, List, [], ◌∷◌, length, refl, sym, ap, ◌∙◌, arith, ◌⊎◌, inl, inr}
+use Rattle.std.proofs.Common.{◌≡◌, ℕ, ◌+◌, ◌-◌, ◌<◌, ◌≤◌, Bool, true, false, not, ◌&&◌, ◌||◌, ltb, leb, eqb, List, [], ◌∷◌, length, refl, sym, ap}
+use Rattle.std.proofs.Common.{◌∙◌, arith, ◌⊎◌, inl, inr}
 use Rattle.std.specs.List.{list_any, list_all}
 use Rattle.std.specs.Ordering.{nat_cmp}
 use Rattle.std.proofs.Math.Bool.{or-false, and-false}
 use Rattle.std.proofs.lemmas.Bool.{or_left, or_right, le-leb, cases_lt, true≢false, eqb-true, eq-eqb}
 use Rattle.plain_sets.specs.Maps.{empty, retain, len, keys}
 use Rattle.plain_sets.specs.Ranges.{Range, is_between, in_ranges, AreApart, width_of}
-use Rattle.plain_sets.specs.Numbers.{Numbers, has, with_range, without_range, within, set_of_range, union, IsSubset, is_subset, ranges, set_of_ranges, missing, gaps}
+use Rattle.plain_sets.specs.Numbers.{Numbers, has, with_range, without_range, within, set_of_range, union, IsSubset, is_subset, ranges, set_of_ranges}
+use Rattle.plain_sets.specs.Numbers.{missing, gaps}
 use Rattle.plain_sets.proofs.MapLaws.{len-empty}
-use Rattle.plain_sets.proofs.NumberLaws.{has-empty, has-retain, has-with_range, has-without_range, has-within, has-with_all, has-set_of_range, same_numbers, beyond, no_number}
+use Rattle.plain_sets.proofs.NumberLaws.{has-empty, has-retain, has-with_range, has-without_range, has-within, has-with_all, has-set_of_range}
+use Rattle.plain_sets.proofs.NumberLaws.{same_numbers, beyond, no_number}
 use Rattle.plain_sets.proofs.RangeLaws.{apart-ranges, below_ranges, has-keys, has-set_of_ranges, set_of_ranges-ranges, ranges_are}
 use Rattle.plain_sets.proofs.RangeChanges.{ranges-one_less}
 use Rattle.plain_sets.proofs.CountLaws.{len-retain_both, len-with_range, len-set_of_range, has-missing, none_left}
@@ -37,7 +40,8 @@ len-grows s a b = len-subset s (with_range s a b) (with_range-grows s a b)
 -- with a range that isn't empty there is a member
 pub len-some : (s : Numbers) (a b : ℕ) → a < b → 0 < len (with_range s a b)
 len-some s a b h =
-    let sub : IsSubset (set_of_range a b) (with_range s a b) = λ x e. has-with_range s a b x ∙ or_left (is_between a b x) (has s x) (sym (has-set_of_range a b x) ∙ e) in
+    let sub : IsSubset (set_of_range a b) (with_range s a b) =
+    λ x e. has-with_range s a b x ∙ or_left (is_between a b x) (has s x) (sym (has-set_of_range a b x) ∙ e) in
     omega (arith, len-subset (set_of_range a b) (with_range s a b) sub, len-set_of_range a b)
 
 -- one more member to test
@@ -71,9 +75,12 @@ pub all-subset : (s t : Numbers) → IsSubset s t → is_subset s t ≡ true
 all-subset s t sub = list_subset t (keys s) (λ x e. sub x (has-keys s x ∙ e))
 
 -- one more range, below the others
-width_step : (r : Range) (rs : List Range) (low : ℕ) → AreApart low (r ∷ rs) → len (set_of_ranges rs) ≡ width_of rs → len (with_range (set_of_ranges rs) r.from r.to) ≡ r.to - r.from + width_of rs
+width_step : (r : Range) (rs : List Range) (low : ℕ) → AreApart low (r ∷ rs) → len (set_of_ranges rs) ≡ width_of rs
+    → len (with_range (set_of_ranges rs) r.from r.to) ≡ r.to - r.from + width_of rs
 width_step r rs low apart rest =
-    let none : len (within (set_of_ranges rs) r.from r.to) ≡ 0 = none_left _ (λ x. has-within (set_of_ranges rs) r.from r.to x ∙ ap (λ b. is_between r.from r.to x && b) (has-set_of_ranges rs x) ∙ clear x (cases_lt x (r.to + 1))) in
+    let none : len (within (set_of_ranges rs) r.from r.to) ≡ 0 =
+    none_left _ (λ x. has-within (set_of_ranges rs) r.from r.to x ∙ ap (λ b. is_between r.from r.to x && b) (has-set_of_ranges rs x)
+    ∙ clear x (cases_lt x (r.to + 1))) in
     omega (arith, len-with_range (set_of_ranges rs) r.from r.to, none, rest) where
       clear : (x : ℕ) → ((x < r.to + 1) ⊎ (r.to + 1 ≤ x)) → (is_between r.from r.to x && in_ranges rs x) ≡ false
       clear x (inl h) = ap (λ b. is_between r.from r.to x && b) (below_ranges (r.to + 1) x rs apart.2 h) ∙ and-false (is_between r.from r.to x)
@@ -105,10 +112,12 @@ gaps-one_more s a b n = omega (arith, ap (λ t. length (ranges t)) (missing-with
 
 -- of an empty set all is missing
 pub missing-empty : (n : ℕ) → missing empty n ≡ set_of_range 0 n
-missing-empty n = same_numbers _ _ (λ q. has-missing empty n q ∙ ap (λ c. ltb q n && not c) (has-empty q) ∙ all (ltb q n) (leb 0 q) (le-leb 0 q (omega arith)) ∙ sym (has-set_of_range 0 n q)) where
-  all : (p z : Bool) → z ≡ true → (p && true) ≡ (z && p)
-  all true z e = rw e refl
-  all false z e = rw e refl
+missing-empty n =
+    same_numbers _ _ (λ q. has-missing empty n q ∙ ap (λ c. ltb q n && not c) (has-empty q) ∙ all (ltb q n) (leb 0 q) (le-leb 0 q (omega arith))
+    ∙ sym (has-set_of_range 0 n q)) where
+      all : (p z : Bool) → z ≡ true → (p && true) ≡ (z && p)
+      all true z e = rw e refl
+      all false z e = rw e refl
 
 -- a range is its only maximal range
 pub ranges-set_of_range : (a b : ℕ) → a < b → ranges (set_of_range a b) ≡ record { from = a; to = b } ∷ []

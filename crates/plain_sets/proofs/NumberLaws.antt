@@ -1,5 +1,6 @@
 -- Which numbers a set has after each change.
-use Rattle.std.proofs.Common.{◌≡◌, ℕ, ◌+◌, ◌-◌, ◌<◌, ◌≤◌, Bool, true, false, not, ◌&&◌, ◌||◌, cond, ltb, leb, eqb, List, [], ◌∷◌, length, replicate, refl, sym, ap, ◌∙◌, arith, Option, Some, None, ◌⊎◌, inl, inr}
+use Rattle.std.proofs.Common.{◌≡◌, ℕ, ◌+◌, ◌-◌, ◌<◌, ◌≤◌, Bool, true, false, not, ◌&&◌, ◌||◌, cond, ltb, leb, eqb, List, [], ◌∷◌, length, replicate}
+use Rattle.std.proofs.Common.{refl, sym, ap, ◌∙◌, arith, Option, Some, None, ◌⊎◌, inl, inr}
 use Rattle.std.specs.Option.{is_some}
 use Rattle.std.specs.List.{list_any, slice_get}
 use Rattle.std.specs.Ordering.{nat_cmp, eq_by_cmp}
@@ -36,11 +37,13 @@ has-empty q = ap is_some (get-empty nat_cmp q)
 
 -- a number more
 pub has-with_number : (s : Numbers) (x q : ℕ) → has (with_number s x) q ≡ (eqb q x || has s q)
-has-with_number s x q = ap is_some (get-insert nat_cmp_total s x tt q) ∙ some_or (eq_by_cmp nat_cmp q x) tt (get s q) ∙ ap (λ b. b || has s q) (unsigned_tied q x)
+has-with_number s x q =
+    ap is_some (get-insert nat_cmp_total s x tt q) ∙ some_or (eq_by_cmp nat_cmp q x) tt (get s q) ∙ ap (λ b. b || has s q) (unsigned_tied q x)
 
 -- a number less
 pub has-without_number : (s : Numbers) (x q : ℕ) → has (without_number s x) q ≡ (not (eqb q x) && has s q)
-has-without_number s x q = ap is_some (get-remove nat_cmp_total s x q) ∙ none_or (eq_by_cmp nat_cmp q x) (get s q) ∙ ap (λ b. not b && has s q) (unsigned_tied q x)
+has-without_number s x q =
+    ap is_some (get-remove nat_cmp_total s x q) ∙ none_or (eq_by_cmp nat_cmp q x) (get s q) ∙ ap (λ b. not b && has s q) (unsigned_tied q x)
 
 -- the members that pass a test
 pub has-retain : (s : Numbers) (p : ℕ → Bool) (q : ℕ) → has (retain s p) q ≡ (p q && has s q)
@@ -52,7 +55,8 @@ range_step : (a b q : ℕ) (o : Option (Unit {0})) → is_some o ≡ ltb (q - a)
 range_step a b q o e g = choose (cases_lt q a) (cases_lt q b) where
   choose : ((q < a) ⊎ (a ≤ q)) → ((q < b) ⊎ (b ≤ q)) → is_some (cond (leb a q && ltb q (a + (b - a))) o g) ≡ ((leb a q && ltb q b) || is_some g)
   choose (inl h) k = rw (lt-leb a q h) refl
-  choose (inr h) (inl k) = let near : q < a + (b - a) = omega arith in rw (le-leb a q h, lt-ltb q (a + (b - a)) near, lt-ltb q b k) (e ∙ lt-ltb (q - a) (b - a) (omega arith))
+  choose (inr h) (inl k) =
+      let near : q < a + (b - a) = omega arith in rw (le-leb a q h, lt-ltb q (a + (b - a)) near, lt-ltb q b k) (e ∙ lt-ltb (q - a) (b - a) (omega arith))
   choose (inr h) (inr k) = let far : a + (b - a) ≤ q = omega arith in rw (le-leb a q h, le-ltb q (a + (b - a)) far, le-ltb q b k) refl
 
 -- a range more
@@ -82,7 +86,8 @@ has-set_of_range a b q = has-with_range empty a b q ∙ ap (λ c. is_between a b
 -- a list of numbers more
 pub has-with_all : (xs : List ℕ) (s : Numbers) (q : ℕ) → has (with_all xs s) q ≡ (list_any (eqb q) xs || has s q)
 has-with_all [] s q = refl
-has-with_all (x ∷ xs) s q = has-with_number (with_all xs s) x q ∙ ap (λ b. eqb q x || b) (has-with_all xs s q) ∙ sym (or_assoc (eqb q x) (list_any (eqb q) xs) (has s q))
+has-with_all (x ∷ xs) s q =
+    has-with_number (with_all xs s) x q ∙ ap (λ b. eqb q x || b) (has-with_all xs s q) ∙ sym (or_assoc (eqb q x) (list_any (eqb q) xs) (has s q))
 
 -- two sets with the same numbers are one
 same_some : (o p : Option (Unit {0})) → is_some o ≡ is_some p → o ≡ p

@@ -36,11 +36,15 @@ module _ {X : Type 0} (key : X → ℕ × ℕ) where
   first-ordered xs = first_sorted xs (ordered key xs) (permutation-ordered key xs) (sorted-ordered key xs)
 
   -- a thing that none of the others is below comes before them
-  pub ordered-least : (x : X) (ys : List X) → AllByRecursion (λ y. is_below (key y) (key x) ≡ false) ys → DiffersFrom key x ys → ordered key (x ∷ ys) ≡ x ∷ ordered key ys
+  pub ordered-least : (x : X) (ys : List X) → AllByRecursion (λ y. is_below (key y) (key x) ≡ false) ys → DiffersFrom key x ys
+      → ordered key (x ∷ ys) ≡ x ∷ ordered key ys
   ordered-least x ys least differ =
       ordered-cons key x ys ∙ front key x (ordered key ys) (ordered-all key (λ y. is_below (key x) (key y) ≡ true) ys
-      (both_all (λ y. is_below (key y) (key x) ≡ false) (λ y. key x ≡ key y → ⊥) (λ y. is_below (key x) (key y) ≡ true) (λ y h ne. below_other (key y) (key x) (λ e. ne (sym e)) ∙ ap not h) ys least differ))
+      (both_all (λ y. is_below (key y) (key x) ≡ false) (λ y. key x ≡ key y → ⊥) (λ y. is_below (key x) (key y) ≡ true)
+      (λ y h ne. below_other (key y) (key x) (λ e. ne (sym e)) ∙ ap not h) ys least differ))
 
   -- also where it is taken out of their middle
-  pub ordered-taken : (xs ys : List X) (x : X) → IsPermutation xs (x ∷ ys) → KeysDiffer key xs → AllByRecursion (λ y. is_below (key y) (key x) ≡ false) ys → ordered key xs ≡ x ∷ ordered key ys
-  ordered-taken xs ys x same differ least = ordered-permuted key xs (x ∷ ys) same differ ∙ ordered-least x ys least (differ-permuted key xs (x ∷ ys) same differ).0
+  pub ordered-taken : (xs ys : List X) (x : X) → IsPermutation xs (x ∷ ys) → KeysDiffer key xs
+      → AllByRecursion (λ y. is_below (key y) (key x) ≡ false) ys → ordered key xs ≡ x ∷ ordered key ys
+  ordered-taken xs ys x same differ least =
+      ordered-permuted key xs (x ∷ ys) same differ ∙ ordered-least x ys least (differ-permuted key xs (x ∷ ys) same differ).0

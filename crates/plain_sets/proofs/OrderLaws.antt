@@ -69,15 +69,18 @@ module _ {X : Type 0} (key : X → ℕ × ℕ) where
   pub placed_swap : (x y : X) (l : List X) → key x ≢ key y → placed key x (placed key y l) ≡ placed key y (placed key x l)
   placed_swap x y [] ne = swap_two (is_below (key x) (key y)) (is_below (key y) (key x)) x y [] (below_other (key x) (key y) ne)
   placed_swap x y (z ∷ zs) ne =
-      elim (is_below (key x) (key z)) as (λ p. is_below (key x) (key z) ≡ p → placed key x (placed key y (z ∷ zs)) ≡ placed key y (cond p (x ∷ z ∷ zs) (z ∷ placed key x zs))) [
-        | true ↦ λ xz. elim (is_below (key y) (key z)) as (λ q. is_below (key y) (key z) ≡ q → placed key x (cond q (y ∷ z ∷ zs) (z ∷ placed key y zs)) ≡ placed key y (x ∷ z ∷ zs)) [
-          | true ↦ λ yz. rw (xz, yz) (swap_two (is_below (key x) (key y)) (is_below (key y) (key x)) x y (z ∷ zs) (below_other (key x) (key y) ne))
-          | false ↦ λ yz. rw (xz, yz, below_later (key x) (key y) (key z) xz yz) refl
-        ] refl
-        | false ↦ λ xz. elim (is_below (key y) (key z)) as (λ q. is_below (key y) (key z) ≡ q → placed key x (cond q (y ∷ z ∷ zs) (z ∷ placed key y zs)) ≡ placed key y (z ∷ placed key x zs)) [
-          | true ↦ λ yz. rw (xz, yz, below_later (key y) (key x) (key z) yz xz) refl
-          | false ↦ λ yz. rw (xz, yz) (ap (λ ys. z ∷ ys) (placed_swap x y zs ne))
-        ] refl
+      elim (is_below (key x) (key z)) as
+      (λ p. is_below (key x) (key z) ≡ p → placed key x (placed key y (z ∷ zs)) ≡ placed key y (cond p (x ∷ z ∷ zs) (z ∷ placed key x zs))) [
+        | true ↦ λ xz. elim (is_below (key y) (key z)) as
+            (λ q. is_below (key y) (key z) ≡ q → placed key x (cond q (y ∷ z ∷ zs) (z ∷ placed key y zs)) ≡ placed key y (x ∷ z ∷ zs)) [
+              | true ↦ λ yz. rw (xz, yz) (swap_two (is_below (key x) (key y)) (is_below (key y) (key x)) x y (z ∷ zs) (below_other (key x) (key y) ne))
+              | false ↦ λ yz. rw (xz, yz, below_later (key x) (key y) (key z) xz yz) refl
+            ] refl
+        | false ↦ λ xz. elim (is_below (key y) (key z)) as
+            (λ q. is_below (key y) (key z) ≡ q → placed key x (cond q (y ∷ z ∷ zs) (z ∷ placed key y zs)) ≡ placed key y (z ∷ placed key x zs)) [
+              | true ↦ λ yz. rw (xz, yz, below_later (key y) (key x) (key z) yz xz) refl
+              | false ↦ λ yz. rw (xz, yz) (ap (λ ys. z ∷ ys) (placed_swap x y zs ne))
+            ] refl
       ] refl
 
   -- what holds of x and of the others holds of them with x in its place
@@ -97,15 +100,24 @@ module _ {X : Type 0} (key : X → ℕ × ℕ) where
   front x (y ∷ ys) all = rw all.0 refl
 
   -- what is below the first of things in order is below them all
-  pub above_all : (x y : X) (ys : List X) → is_below (key x) (key y) ≡ true → AllByRecursion (λ z. is_below (key z) (key y) ≡ false) ys → AllByRecursion (λ z. is_below (key x) (key z) ≡ true) ys
-  above_all x y ys h all = all_weaker (λ z. is_below (key z) (key y) ≡ false) (λ z. is_below (key x) (key z) ≡ true) (λ z. below_on (key x) (key y) (key z) h) ys all
+  pub above_all : (x y : X) (ys : List X) → is_below (key x) (key y) ≡ true → AllByRecursion (λ z. is_below (key z) (key y) ≡ false) ys
+      → AllByRecursion (λ z. is_below (key x) (key z) ≡ true) ys
+  above_all x y ys h all =
+      all_weaker (λ z. is_below (key z) (key y) ≡ false) (λ z. is_below (key x) (key z) ≡ true) (λ z. below_on (key x) (key y) (key z) h) ys all
 
   -- with a thing in its place things are in order
   pub sorted-placed : (x : X) (ys : List X) → IsInOrder key ys → IsInOrder key (placed key x ys)
   sorted-placed x [] up = (tt, tt)
   sorted-placed x (y ∷ ys) up =
       cond_both (is_below (key x) (key y)) _ _ (IsInOrder key)
-      (λ e. ((below_one_way (key x) (key y) e, all_weaker (λ z. is_below (key x) (key z) ≡ true) (λ z. is_below (key z) (key x) ≡ false) (λ z. below_one_way (key x) (key z)) ys (above_all x y ys e up.0)), up))
+      (λ e. (
+        (
+          below_one_way (key x) (key y) e,
+          all_weaker (λ z. is_below (key x) (key z) ≡ true) (λ z. is_below (key z) (key x) ≡ false)
+              (λ z. below_one_way (key x) (key z)) ys (above_all x y ys e up.0),
+        ),
+        up,
+      ))
       (λ e. (placed-all (λ z. is_below (key z) (key y) ≡ false) x ys e up.0, sorted-placed x ys up.1))
 
   -- the things in order are in order
@@ -120,11 +132,13 @@ module _ {X : Type 0} (key : X → ℕ × ℕ) where
   permutation-placed x (y ∷ ys) =
       cond_both (is_below (key x) (key y)) _ _ (IsPermutation (x ∷ y ∷ ys))
       (λ _. IsPermutation-refl (x ∷ y ∷ ys))
-      (λ _. IsPermutation-trans (x ∷ y ∷ ys) (y ∷ x ∷ ys) (y ∷ placed key x ys) (IsPermutation-middle (x ∷ []) y ys) (IsPermutation-cons y (x ∷ ys) (placed key x ys) (permutation-placed x ys)))
+      (λ _. IsPermutation-trans (x ∷ y ∷ ys) (y ∷ x ∷ ys) (y ∷ placed key x ys) (IsPermutation-middle (x ∷ []) y ys)
+      (IsPermutation-cons y (x ∷ ys) (placed key x ys) (permutation-placed x ys)))
 
   -- and they are the same things
   pub permutation-ordered : (xs : List X) → IsPermutation xs (ordered key xs)
   unfolding ordered
   permutation-ordered [] = IsPermutation-refl []
   permutation-ordered (x ∷ xs) =
-      IsPermutation-trans (x ∷ xs) (x ∷ ordered key xs) (placed key x (ordered key xs)) (IsPermutation-cons x xs (ordered key xs) (permutation-ordered xs)) (permutation-placed x (ordered key xs))
+      IsPermutation-trans (x ∷ xs) (x ∷ ordered key xs) (placed key x (ordered key xs))
+      (IsPermutation-cons x xs (ordered key xs) (permutation-ordered xs)) (permutation-placed x (ordered key xs))

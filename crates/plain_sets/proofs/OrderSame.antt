@@ -1,5 +1,6 @@
 -- The same things come in the same order, also after a map or a filter.
-use Rattle.std.proofs.Common.{◌≡◌, ◌≢◌, ℕ, suc, ◌<◌, ◌≤◌, Bool, true, false, ◌&&◌, cond, eqb, List, [], ◌∷◌, length, map, refl, sym, ap, subst, ◌∙◌, arith, ◌⊎◌, inl, inr}
+use Rattle.std.proofs.Common.{◌≡◌, ◌≢◌, ℕ, suc, ◌<◌, ◌≤◌, Bool, true, false, ◌&&◌, cond, eqb, List, [], ◌∷◌, length, map, refl, sym, ap, subst, ◌∙◌}
+use Rattle.std.proofs.Common.{arith, ◌⊎◌, inl, inr}
 use Rattle.std.specs.List.{AllByRecursion, Contains, filter, sum_by}
 use Rattle.std.specs.List.Sorted.{IsPermutation}
 use Rattle.std.proofs.lemmas.Bool.{cond_both, cases_Bool, eqb-true, eq-eqb, and_parts}
@@ -51,7 +52,8 @@ module _ {X : Type 0} (key : X → ℕ × ℕ) where
 
   -- a thing of the key counts 1
   tied : (k : ℕ × ℕ) (x : X) → key x ≡ k → tie k x ≡ 1
-  tied k x e = let a : eqb (key x).0 k.0 ≡ true = eq-eqb _ _ (ap (λ p. p.0) e) in let b : eqb (key x).1 k.1 ≡ true = eq-eqb _ _ (ap (λ p. p.1) e) in rw (a, b) refl
+  tied k x e =
+      let a : eqb (key x).0 k.0 ≡ true = eq-eqb _ _ (ap (λ p. p.0) e) in let b : eqb (key x).1 k.1 ≡ true = eq-eqb _ _ (ap (λ p. p.1) e) in rw (a, b) refl
 
   -- another counts 0
   untied : (k : ℕ × ℕ) (x : X) → (key x ≡ k → ⊥) → tie k x ≡ 0
@@ -68,7 +70,8 @@ module _ {X : Type 0} (key : X → ℕ × ℕ) where
   -- and the other way round
   all_untied : (k : ℕ × ℕ) (xs : List X) → sum_by (tie k) xs ≡ 0 → AllByRecursion (λ y. k ≢ key y) xs
   all_untied k [] e = tt
-  all_untied k (x ∷ xs) e = (λ is. absurd (omega (arith, e, sum_by-cons (tie k) x xs, tied k x (sym is))), all_untied k xs (omega (arith, e, sum_by-cons (tie k) x xs)))
+  all_untied k (x ∷ xs) e =
+      (λ is. absurd (omega (arith, e, sum_by-cons (tie k) x xs, tied k x (sym is))), all_untied k xs (omega (arith, e, sum_by-cons (tie k) x xs)))
 
   -- with a thing more whose key is new, each key counts at most 1
   at_most_one : (k : ℕ × ℕ) (x : X) (xs : List X) → DiffersFrom key x xs → sum_by (tie k) xs ≤ 1 → sum_by (tie k) (x ∷ xs) ≤ 1
@@ -88,8 +91,10 @@ module _ {X : Type 0} (key : X → ℕ × ℕ) where
   -- and the other way round
   differ-few : (xs : List X) → ((k : ℕ × ℕ) → sum_by (tie k) xs ≤ 1) → KeysDiffer key xs
   differ-few [] few = tt
-  differ-few (x ∷ xs) few =
-      (all_untied (key x) xs (omega (arith, few (key x), sum_by-cons (tie (key x)) x xs, tied (key x) x refl)), differ-few xs (λ k. omega (arith, few k, sum_by-cons (tie k) x xs)))
+  differ-few (x ∷ xs) few = (
+    all_untied (key x) xs (omega (arith, few (key x), sum_by-cons (tie (key x)) x xs, tied (key x) x refl)),
+    differ-few xs (λ k. omega (arith, few k, sum_by-cons (tie k) x xs)),
+  )
 
   -- keys that differ do so in each order of the things
   pub differ-permuted : (xs ys : List X) → IsPermutation xs ys → KeysDiffer key xs → KeysDiffer key ys
@@ -104,7 +109,8 @@ module _ {X : Type 0} (key : X → ℕ × ℕ) where
         | inr later ↦ elim (at_head x y xs d) [
           | inl e ↦ e
           | inr later' ↦ absurd (all_at (λ z. key y ≢ key z) ys x differ.0 later
-              (tied_keys (key y) (key x) (all_at (λ z. is_below (key z) (key x) ≡ false) xs y up.0 later') (all_at (λ z. is_below (key z) (key y) ≡ false) ys x up'.0 later)))
+              (tied_keys (key y) (key x) (all_at (λ z. is_below (key z) (key x) ≡ false) xs y up.0 later')
+              (all_at (λ z. is_below (key z) (key y) ≡ false) ys x up'.0 later)))
         ]
       ]
 
@@ -126,17 +132,21 @@ module _ {X : Type 0} (key : X → ℕ × ℕ) where
       λ i. e i ∷ rest i
 
   -- the order in which things come doesn't matter where their keys differ
-  pub ordered-same : (xs ys : List X) → KeysDiffer key xs → KeysDiffer key ys → ((z : X) → Contains xs z → Contains ys z) → ((z : X) → Contains ys z → Contains xs z)
+  pub ordered-same : (xs ys : List X) → KeysDiffer key xs → KeysDiffer key ys → ((z : X) → Contains xs z → Contains ys z)
+      → ((z : X) → Contains ys z → Contains xs z)
       → ordered key xs ≡ ordered key ys
   ordered-same xs ys differ differ' to from =
       same_in_order (ordered key xs) (ordered key ys) (sorted-ordered key xs) (sorted-ordered key ys)
       (differ-permuted xs (ordered key xs) (permutation-ordered key xs) differ) (differ-permuted ys (ordered key ys) (permutation-ordered key ys) differ')
-      (λ z c. Contains-permutation ys (ordered key ys) z (permutation-ordered key ys) (to z (Contains-permutation (ordered key xs) xs z (IsPermutation-sym xs (ordered key xs) (permutation-ordered key xs)) c)))
-      (λ z c. Contains-permutation xs (ordered key xs) z (permutation-ordered key xs) (from z (Contains-permutation (ordered key ys) ys z (IsPermutation-sym ys (ordered key ys) (permutation-ordered key ys)) c)))
+      (λ z c. Contains-permutation ys (ordered key ys) z (permutation-ordered key ys)
+      (to z (Contains-permutation (ordered key xs) xs z (IsPermutation-sym xs (ordered key xs) (permutation-ordered key xs)) c)))
+      (λ z c. Contains-permutation xs (ordered key xs) z (permutation-ordered key xs)
+      (from z (Contains-permutation (ordered key ys) ys z (IsPermutation-sym ys (ordered key ys) (permutation-ordered key ys)) c)))
 
   -- nor does it matter of a permutation
   pub ordered-permuted : (xs ys : List X) → IsPermutation xs ys → KeysDiffer key xs → ordered key xs ≡ ordered key ys
-  ordered-permuted xs ys same differ = ordered-same xs ys differ (differ-permuted xs ys same differ) (λ z. Contains-permutation xs ys z same) (λ z. Contains-permutation ys xs z (IsPermutation-sym xs ys same))
+  ordered-permuted xs ys same differ = ordered-same xs ys differ (differ-permuted xs ys same differ) (λ z. Contains-permutation xs ys z same)
+      (λ z. Contains-permutation ys xs z (IsPermutation-sym xs ys same))
 
   -- a list in order whose keys differ stays as it is
   pub ordered-sorted : (xs : List X) → IsInOrder key xs → KeysDiffer key xs → ordered key xs ≡ xs
@@ -157,8 +167,11 @@ module _ {X : Type 0} (key : X → ℕ × ℕ) where
   placed-kept : (p : X → Bool) (x : X) (ys : List X) → IsInOrder key ys → filter p (placed key x ys) ≡ cond (p x) (placed key x (filter p ys)) (filter p ys)
   placed-kept p x [] up = refl
   placed-kept p x (y ∷ ys) up =
-      elim (is_below (key x) (key y)) as (λ b. is_below (key x) (key y) ≡ b → filter p (cond b (x ∷ y ∷ ys) (y ∷ placed key x ys)) ≡ cond (p x) (placed key x (filter p (y ∷ ys))) (filter p (y ∷ ys))) [
-        | true ↦ λ e. ap (λ l. cond (p x) l (filter p (y ∷ ys))) (sym (front key x (filter p (y ∷ ys)) (filter-all (λ z. is_below (key x) (key z) ≡ true) p (y ∷ ys) (e, above_all key x y ys e up.0))))
+      elim (is_below (key x) (key y)) as
+      (λ b. is_below (key x) (key y) ≡ b → filter p (cond b (x ∷ y ∷ ys) (y ∷ placed key x ys)) ≡ cond (p x) (placed key x (filter p (y ∷ ys)))
+      (filter p (y ∷ ys))) [
+        | true ↦ λ e. ap (λ l. cond (p x) l (filter p (y ∷ ys)))
+            (sym (front key x (filter p (y ∷ ys)) (filter-all (λ z. is_below (key x) (key z) ≡ true) p (y ∷ ys) (e, above_all key x y ys e up.0))))
         | false ↦ λ e. ap (λ l. cond (p y) (y ∷ l) l) (placed-kept p x ys up.1) ∙ kept_step x y (filter p ys) (p x) (p y) e
       ] refl
 
@@ -167,13 +180,15 @@ module _ {X : Type 0} (key : X → ℕ × ℕ) where
   unfolding ordered
   ordered-filter p [] = refl
   ordered-filter p (x ∷ xs) =
-      elim (p x) as (λ b. ordered key (cond b (x ∷ filter p xs) (filter p xs)) ≡ cond b (placed key x (filter p (ordered key xs))) (filter p (ordered key xs))) [
+      elim (p x) as (λ b. ordered key (cond b (x ∷ filter p xs) (filter p xs)) ≡ cond b (placed key x (filter p (ordered key xs)))
+      (filter p (ordered key xs))) [
         | true ↦ ap (placed key x) (ordered-filter p xs)
         | false ↦ ordered-filter p xs
       ] ∙ sym (placed-kept p x (ordered key xs) (sorted-ordered key xs))
 
 -- of the keys the order sees only which is below which
-module _ {X Y : Type 0} (key : X → ℕ × ℕ) (key' : Y → ℕ × ℕ) (f : X → Y) (P : X → Type 0) (agree : (x y : X) → P x → P y → is_below (key' (f x)) (key' (f y)) ≡ is_below (key x) (key y)) where
+module _ {X Y : Type 0} (key : X → ℕ × ℕ) (key' : Y → ℕ × ℕ) (f : X → Y) (P : X → Type 0)
+    (agree : (x y : X) → P x → P y → is_below (key' (f x)) (key' (f y)) ≡ is_below (key x) (key y)) where
   -- a map of a choice
   map-cond : (b : Bool) (xs ys : List X) → cond b (map f xs) (map f ys) ≡ map f (cond b xs ys)
   map-cond true xs ys = refl
@@ -191,5 +206,7 @@ module _ {X Y : Type 0} (key : X → ℕ × ℕ) (key' : Y → ℕ × ℕ) (f : 
   ordered-map (x ∷ xs) all = ap (placed key' (f x)) (ordered-map xs all.1) ∙ placed-map x (ordered key xs) all.0 (ordered-all key P xs all.1)
 
 -- a map that keeps the keys keeps the order
-pub ordered-map_same : {X Y : Type 0} (key : X → ℕ × ℕ) (key' : Y → ℕ × ℕ) (f : X → Y) → ((x : X) → key' (f x) ≡ key x) → (xs : List X) → ordered key' (map f xs) ≡ map f (ordered key xs)
-ordered-map_same key key' f same xs = ordered-map key key' f (λ _. Unit {0}) (λ x y p q i. is_below (same x i) (same y i)) xs (everywhere (λ _. Unit {0}) (λ _. tt) xs)
+pub ordered-map_same : {X Y : Type 0} (key : X → ℕ × ℕ) (key' : Y → ℕ × ℕ) (f : X → Y) → ((x : X) → key' (f x) ≡ key x) → (xs : List X)
+    → ordered key' (map f xs) ≡ map f (ordered key xs)
+ordered-map_same key key' f same xs =
+    ordered-map key key' f (λ _. Unit {0}) (λ x y p q i. is_below (same x i) (same y i)) xs (everywhere (λ _. Unit {0}) (λ _. tt) xs)

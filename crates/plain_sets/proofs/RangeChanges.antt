@@ -1,5 +1,6 @@
 -- The ranges of a set with a range more, and with one less.
-use Rattle.std.proofs.Common.{◌≡◌, ℕ, ◌+◌, ◌<◌, ◌≤◌, Bool, true, false, not, ◌&&◌, ◌||◌, ltb, leb, min, max, List, [], ◌∷◌, length, refl, sym, ap, ◌∙◌, arith, inl, inr}
+use Rattle.std.proofs.Common.{◌≡◌, ℕ, ◌+◌, ◌<◌, ◌≤◌, Bool, true, false, not, ◌&&◌, ◌||◌, ltb, leb, min, max, List, [], ◌∷◌, length, refl, sym, ap}
+use Rattle.std.proofs.Common.{◌∙◌, arith, inl, inr}
 use Rattle.std.proofs.lemmas.Bool.{cond_both, ltb-true, ltb-false, cases_lt}
 use Rattle.std.proofs.Math.Bool.{or_assoc, and-false}
 use Rattle.std.proofs.lemmas.Bool.Decides.{nat_tests}
@@ -19,27 +20,31 @@ or_swap true false r = refl
 or_swap false q r = refl
 
 -- the numbers of absorbed
-in_ranges-absorbed : (rs : List Range) (a b low x : ℕ) → a ≤ low → a < b → AreApart low rs → in_ranges (absorbed a b rs) x ≡ (is_between a b x || in_ranges rs x)
+in_ranges-absorbed : (rs : List Range) (a b low x : ℕ) → a ≤ low → a < b → AreApart low rs
+    → in_ranges (absorbed a b rs) x ≡ (is_between a b x || in_ranges rs x)
 in_ranges-absorbed [] a b low x al ab apart = refl
 in_ranges-absorbed (r ∷ rs) a b low x al ab apart =
     cond_both (ltb b r.from) _ _ (λ ss. in_ranges ss x ≡ (is_between a b x || (is_between r.from r.to x || in_ranges rs x)))
     (λ _. refl)
     (λ e. let above : r.from ≤ b = ltb-false _ _ e in
     in_ranges-absorbed rs (min a r.from) (max b r.to) (r.to + 1) x (omega arith) (omega arith) apart.2
-    ∙ ap (λ p. p || in_ranges rs x) (touching a b r.from r.to x ab apart.1 above (omega arith)) ∙ or_assoc (is_between a b x) (is_between r.from r.to x) (in_ranges rs x))
+    ∙ ap (λ p. p || in_ranges rs x) (touching a b r.from r.to x ab apart.1 above (omega arith))
+    ∙ or_assoc (is_between a b x) (is_between r.from r.to x) (in_ranges rs x))
 
 -- the numbers of joined
 pub in_ranges-joined : (rs : List Range) (a b low x : ℕ) → a < b → AreApart low rs → in_ranges (joined a b rs) x ≡ (is_between a b x || in_ranges rs x)
 in_ranges-joined [] a b low x ab apart = refl
 in_ranges-joined (r ∷ rs) a b low x ab apart =
     cond_both (ltb r.to a) _ _ (λ ss. in_ranges ss x ≡ (is_between a b x || (is_between r.from r.to x || in_ranges rs x)))
-    (λ _. ap (λ p. is_between r.from r.to x || p) (in_ranges-joined rs a b (r.to + 1) x ab apart.2) ∙ or_swap (is_between r.from r.to x) (is_between a b x) (in_ranges rs x))
+    (λ _. ap (λ p. is_between r.from r.to x || p) (in_ranges-joined rs a b (r.to + 1) x ab apart.2) ∙ or_swap (is_between r.from r.to x)
+    (is_between a b x) (in_ranges rs x))
     (λ e. let near : a ≤ r.to = ltb-false _ _ e in
     cond_both (ltb b r.from) _ _ (λ ss. in_ranges ss x ≡ (is_between a b x || (is_between r.from r.to x || in_ranges rs x)))
     (λ _. refl)
     (λ e'. let above : r.from ≤ b = ltb-false _ _ e' in
     in_ranges-absorbed rs (min a r.from) (max b r.to) (r.to + 1) x (omega arith) (omega arith) apart.2
-    ∙ ap (λ p. p || in_ranges rs x) (touching a b r.from r.to x ab apart.1 above near) ∙ or_assoc (is_between a b x) (is_between r.from r.to x) (in_ranges rs x)))
+    ∙ ap (λ p. p || in_ranges rs x) (touching a b r.from r.to x ab apart.1 above near) ∙ or_assoc (is_between a b x) (is_between r.from r.to x)
+    (in_ranges rs x)))
 
 -- absorbed leaves ranges apart
 apart-absorbed : (rs : List Range) (a b low low' : ℕ) → a ≤ low → low' ≤ a → a < b → AreApart low rs → AreApart low' (absorbed a b rs)
@@ -71,20 +76,24 @@ ranges-with_range s a b ab = ranges_are (with_range s a b) (joined a b (ranges s
 length-absorbed : (rs : List Range) (a b : ℕ) → length (absorbed a b rs) ≤ length rs + 1
 length-absorbed [] a b = omega arith
 length-absorbed (r ∷ rs) a b =
-    cond_both (ltb b r.from) _ _ (λ (ss : List Range). length ss ≤ length (r ∷ rs) + 1) (λ _. omega arith) (λ _. omega (arith, length-absorbed rs (min a r.from) (max b r.to)))
+    cond_both (ltb b r.from) _ _ (λ (ss : List Range). length ss ≤ length (r ∷ rs) + 1) (λ _. omega arith)
+    (λ _. omega (arith, length-absorbed rs (min a r.from) (max b r.to)))
 
 -- joined makes at most one range more
 length-joined : (rs : List Range) (a b : ℕ) → length (joined a b rs) ≤ length rs + 1
 length-joined [] a b = omega arith
 length-joined (r ∷ rs) a b =
-    cond_both (ltb r.to a) _ _ (λ (ss : List Range). length ss ≤ length (r ∷ rs) + 1) (λ _. omega (arith, length-joined rs a b)) (λ _. length-absorbed (r ∷ rs) a b)
+    cond_both (ltb r.to a) _ _ (λ (ss : List Range). length ss ≤ length (r ∷ rs) + 1) (λ _. omega (arith, length-joined rs a b))
+    (λ _. length-absorbed (r ∷ rs) a b)
 
 -- the numbers with a range in front
 in_led : (a b x : ℕ) (rs : List Range) → in_ranges (led a b rs) x ≡ (is_between a b x || in_ranges rs x)
-in_led a b x rs = cond_both (ltb a b) _ _ (λ ss. in_ranges ss x ≡ (is_between a b x || in_ranges rs x)) (λ _. refl) (λ e. ap (λ p. p || in_ranges rs x) (sym (no_number a b x (ltb-false a b e))))
+in_led a b x rs = cond_both (ltb a b) _ _ (λ ss. in_ranges ss x ≡ (is_between a b x || in_ranges rs x)) (λ _. refl)
+    (λ e. ap (λ p. p || in_ranges rs x) (sym (no_number a b x (ltb-false a b e))))
 
 -- what is left of a range is before and behind what is taken
-two_parts : (a b f t x : ℕ) → a < b → f < t → ((leb f x && ltb x (min t a)) || (leb (max f b) x && ltb x t)) ≡ (not (leb a x && ltb x b) && (leb f x && ltb x t))
+two_parts : (a b f t x : ℕ) → a < b → f < t
+    → ((leb f x && ltb x (min t a)) || (leb (max f b) x && ltb x t)) ≡ (not (leb a x && ltb x b) && (leb f x && ltb x t))
 two_parts a b f t x ab ft = grind (arith, nat_tests)
 
 -- one test before two others
@@ -120,7 +129,8 @@ apart-parted (r ∷ rs) a b low ab apart =
 -- a range less leaves what it doesn't touch
 pub ranges-without_range : (s : Numbers) (a b : ℕ) → a < b → ranges (without_range s a b) ≡ parted a b (ranges s)
 ranges-without_range s a b ab = ranges_are (without_range s a b) (parted a b (ranges s)) (apart-parted (ranges s) a b 0 ab (apart-ranges s))
-    (λ q. has-without_range s a b q ∙ ap (λ p. not (is_between a b q) && p) (sym (in_ranges-ranges s q)) ∙ sym (in_ranges-parted (ranges s) a b 0 q ab (apart-ranges s)))
+    (λ q. has-without_range s a b q ∙ ap (λ p. not (is_between a b q) && p) (sym (in_ranges-ranges s q))
+    ∙ sym (in_ranges-parted (ranges s) a b 0 q ab (apart-ranges s)))
 
 -- a range in front is at most one more
 pub length-led : (a b : ℕ) (rs : List Range) → length (led a b rs) ≤ length rs + 1

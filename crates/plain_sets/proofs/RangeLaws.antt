@@ -1,5 +1,6 @@
 -- The maximal ranges of a set, and the set of ranges that are apart.
-use Rattle.std.proofs.Common.{◌≡◌, ◌≢◌, ℕ, suc, ◌+◌, ◌<◌, ◌≤◌, Bool, true, false, ◌&&◌, ◌||◌, ltb, leb, eqb, T, List, [], ◌∷◌, map, refl, sym, ap, ◌∙◌, arith, ◌⊎◌, inl, inr}
+use Rattle.std.proofs.Common.{◌≡◌, ◌≢◌, ℕ, suc, ◌+◌, ◌<◌, ◌≤◌, Bool, true, false, ◌&&◌, ◌||◌, ltb, leb, eqb, T, List, [], ◌∷◌, map, refl, sym, ap}
+use Rattle.std.proofs.Common.{◌∙◌, arith, ◌⊎◌, inl, inr}
 use Rattle.std.specs.List.{list_any}
 use Rattle.std.specs.Ordering.{nat_cmp, eq_by_cmp}
 use Rattle.std.specs.Cmp.{unsigned_tied}
@@ -73,7 +74,8 @@ in_ranges-preceded : (x q : ℕ) (rs : List Range) → AreApart (suc x) rs → i
 in_ranges-preceded x q [] apart = ap (λ b. b || false) (one_number x q)
 in_ranges-preceded x q (r ∷ rs) apart =
     cond_both (eqb (x + 1) r.from) _ _ (λ ss. in_ranges ss q ≡ (eqb q x || (is_between r.from r.to q || in_ranges rs q)))
-    (λ e. ap (λ b. b || in_ranges rs q) (one_before x r.from r.to q (eqb-true (x + 1) r.from e) apart.1) ∙ or_assoc (eqb q x) (is_between r.from r.to q) (in_ranges rs q))
+    (λ e. ap (λ b. b || in_ranges rs q) (one_before x r.from r.to q (eqb-true (x + 1) r.from e) apart.1)
+    ∙ or_assoc (eqb q x) (is_between r.from r.to q) (in_ranges rs q))
     (λ e. ap (λ b. b || (is_between r.from r.to q || in_ranges rs q)) (one_number x q))
 
 -- the ranges of numbers have these numbers
@@ -163,7 +165,8 @@ same_ranges low (r ∷ rs) [] g h same = clash (same r.from) (at_from low r rs g
 same_ranges low (r ∷ rs) (s ∷ ss) g h same =
     let from : r.from ≡ s.from = same_from low r s rs ss g h same in
     let to : r.to ≡ s.to = same_to low r s rs ss g h same from in
-    let rest : rs ≡ ss = same_ranges (r.to + 1) rs ss g.2 (apart_lower (s.to + 1) (r.to + 1) ss (omega (arith, to)) h.2) (same_rest low r s rs ss g h same from to) in
+    let rest : rs ≡ ss =
+    same_ranges (r.to + 1) rs ss g.2 (apart_lower (s.to + 1) (r.to + 1) ss (omega (arith, to)) h.2) (same_rest low r s rs ss g h same from to) in
     λ i. record { from = from i; to = to i } ∷ rest i
 
 -- the members of ranges

@@ -10,12 +10,14 @@ use Rattle.plain_sets.proofs.CutLaws.{first_in-cut}
 -- joined ranges stand for the set with a range more
 pub set_of_ranges-joined : (rs : List Range) (a b low : ℕ) → a < b → AreApart low rs → set_of_ranges (joined a b rs) ≡ with_range (set_of_ranges rs) a b
 set_of_ranges-joined rs a b low ab apart = same_numbers _ _ (λ q.
-    has-set_of_ranges (joined a b rs) q ∙ in_ranges-joined rs a b low q ab apart ∙ ap (λ c. is_between a b q || c) (sym (has-set_of_ranges rs q)) ∙ sym (has-with_range (set_of_ranges rs) a b q))
+    has-set_of_ranges (joined a b rs) q ∙ in_ranges-joined rs a b low q ab apart ∙ ap (λ c. is_between a b q || c) (sym (has-set_of_ranges rs q))
+    ∙ sym (has-with_range (set_of_ranges rs) a b q))
 
 -- parted ranges stand for the set with a range less
 pub set_of_ranges-parted : (rs : List Range) (a b low : ℕ) → a < b → AreApart low rs → set_of_ranges (parted a b rs) ≡ without_range (set_of_ranges rs) a b
 set_of_ranges-parted rs a b low ab apart = same_numbers _ _ (λ q.
-    has-set_of_ranges (parted a b rs) q ∙ in_ranges-parted rs a b low q ab apart ∙ ap (λ c. not (is_between a b q) && c) (sym (has-set_of_ranges rs q)) ∙ sym (has-without_range (set_of_ranges rs) a b q))
+    has-set_of_ranges (parted a b rs) q ∙ in_ranges-parted rs a b low q ab apart ∙ ap (λ c. not (is_between a b q) && c)
+    (sym (has-set_of_ranges rs q)) ∙ sym (has-without_range (set_of_ranges rs) a b q))
 
 -- joined ranges are the ranges of the set with a range more
 pub ranges-joined : (rs : List Range) (a b : ℕ) → a < b → AreApart 0 rs → ranges (with_range (set_of_ranges rs) a b) ≡ joined a b rs

@@ -1,5 +1,6 @@
 -- A map in which the numbers from one on have the values of a list.
-use Rattle.std.proofs.Common.{◌≡◌, ℕ, zero, suc, ◌+◌, ◌-◌, ◌<◌, ◌≤◌, Bool, true, false, ◌&&◌, cond, ltb, leb, eqb, T, List, [], ◌∷◌, ◌++◌, length, refl, sym, ap, subst, ◌∙◌, arith, Option, Some, None, ◌⊎◌, inl, inr}
+use Rattle.std.proofs.Common.{◌≡◌, ℕ, zero, suc, ◌+◌, ◌-◌, ◌<◌, ◌≤◌, Bool, true, false, ◌&&◌, cond, ltb, leb, eqb, T, List, [], ◌∷◌, ◌++◌, length}
+use Rattle.std.proofs.Common.{refl, sym, ap, subst, ◌∙◌, arith, Option, Some, None, ◌⊎◌, inl, inr}
 use Rattle.std.specs.Option.{is_some}
 use Rattle.std.specs.List.{AllByRecursion, filter, slice_get}
 use Rattle.std.specs.Ordering.{nat_cmp, eq_by_cmp, is_lt}
@@ -53,7 +54,8 @@ module _ {X : Type 0} where
   above-over k b (f ∷ fs) h rise over = both _ _ (lt_holds k f.0 (omega (arith, over.0))) rise
 
   -- rising keys below b, and then from b on, rise from above k
-  above-append : (k b : ℕ) (es fs : List (ℕ × X)) → k < b → T (rises_above nat_cmp k es) → Under b es → T (rises nat_cmp fs) → Over b fs → T (rises_above nat_cmp k (es ++ fs))
+  above-append : (k b : ℕ) (es fs : List (ℕ × X)) → k < b → T (rises_above nat_cmp k es) → Under b es → T (rises nat_cmp fs) → Over b fs
+      → T (rises_above nat_cmp k (es ++ fs))
   above-append k b [] fs h up under rise over = above-over k b fs h rise over
   above-append k b (e ∷ es) fs h up under rise over = both _ _ (first _ _ up) (above-append e.0 b es fs under.0 (second _ _ up) under.1 rise over)
 
@@ -90,7 +92,8 @@ module _ {X : Type 0} where
   -- and end where it ends
   under-numbered : (a : ℕ) (xs : List X) → Under (a + length xs) (numbered a xs)
   under-numbered a [] = tt
-  under-numbered a (x ∷ xs) = (omega arith, under-higher (suc a + length xs) (a + suc (length xs)) (numbered (suc a) xs) (omega arith) (under-numbered (suc a) xs))
+  under-numbered a (x ∷ xs) =
+      (omega arith, under-higher (suc a + length xs) (a + suc (length xs)) (numbered (suc a) xs) (omega arith) (under-numbered (suc a) xs))
 
   -- they rise
   rises-numbered : (a : ℕ) (xs : List X) → T (rises nat_cmp (numbered a xs))
@@ -107,15 +110,18 @@ module _ {X : Type 0} where
   unfolding insert_all
   list-insert_all m a xs = list_if_rises _ m
       (rises-append (a + length xs) (filter (λ e. ltb e.0 a) m.list ++ numbered a xs) (filter (λ e. leb (a + length xs) e.0) m.list)
-      (rises-append a (filter (λ e. ltb e.0 a) m.list) (numbered a xs) (rises-filter (λ k. ltb k a) m.list m.sorted) (passes (λ e. e.0 < a) (λ e. ltb e.0 a) (λ e h. ltb-true _ _ h) m.list) (rises-numbered a xs) (over-numbered a xs))
-      (under-append (a + length xs) (filter (λ e. ltb e.0 a) m.list) (numbered a xs) (under-higher a (a + length xs) _ (omega arith) (passes (λ e. e.0 < a) (λ e. ltb e.0 a) (λ e h. ltb-true _ _ h) m.list)) (under-numbered a xs))
+      (rises-append a (filter (λ e. ltb e.0 a) m.list) (numbered a xs) (rises-filter (λ k. ltb k a) m.list m.sorted)
+      (passes (λ e. e.0 < a) (λ e. ltb e.0 a) (λ e h. ltb-true _ _ h) m.list) (rises-numbered a xs) (over-numbered a xs))
+      (under-append (a + length xs) (filter (λ e. ltb e.0 a) m.list) (numbered a xs)
+      (under-higher a (a + length xs) _ (omega arith) (passes (λ e. e.0 < a) (λ e. ltb e.0 a) (λ e h. ltb-true _ _ h) m.list)) (under-numbered a xs))
       (rises-filter (λ k. leb (a + length xs) k) m.list m.sorted)
       (passes (λ e. a + length xs ≤ e.0) (λ e. leb (a + length xs) e.0) (λ e h. leb-true _ _ h) m.list))
 
   -- what is found in two lists
   find-append : (q : ℕ) (es fs : List (ℕ × X)) → find nat_cmp q (es ++ fs) ≡ cond (is_some (find nat_cmp q es)) (find nat_cmp q es) (find nat_cmp q fs)
   find-append q [] fs = refl
-  find-append q (e ∷ es) fs = ap (cond (eq_by_cmp nat_cmp q e.0) (Some e.1)) (find-append q es fs) ∙ past (eq_by_cmp nat_cmp q e.0) e.1 (find nat_cmp q es) (find nat_cmp q fs)
+  find-append q (e ∷ es) fs =
+      ap (cond (eq_by_cmp nat_cmp q e.0) (Some e.1)) (find-append q es fs) ∙ past (eq_by_cmp nat_cmp q e.0) e.1 (find nat_cmp q es) (find nat_cmp q fs)
 
   -- what is found after a filter of the keys
   find-filter : (p : ℕ → Bool) (q : ℕ) (es : List (ℕ × X)) → find nat_cmp q (filter (λ e. p e.0) es) ≡ cond (p q) (find nat_cmp q es) None
@@ -170,6 +176,7 @@ module _ {X : Type 0} where
   get-insert_all m a xs q =
       ap (find nat_cmp q) (list-insert_all m a xs)
       ∙ find-append q (filter (λ e. ltb e.0 a) m.list ++ numbered a xs) (filter (λ e. leb (a + length xs) e.0) m.list)
-      ∙ ap (λ o. cond (is_some o) o (find nat_cmp q (filter (λ e. leb (a + length xs) e.0) m.list))) (find-append q (filter (λ e. ltb e.0 a) m.list) (numbered a xs))
+      ∙ ap (λ o. cond (is_some o) o (find nat_cmp q (filter (λ e. leb (a + length xs) e.0) m.list)))
+      (find-append q (filter (λ e. ltb e.0 a) m.list) (numbered a xs))
       ∙ rw (find-filter (λ k. ltb k a) q m.list, find-numbered a q xs, find-filter (λ k. leb (a + length xs) k) q m.list)
       (spread_step a (length xs) q (slice_get xs (q - a)) (find nat_cmp q m.list) (is_some-slice_get xs (q - a)) (cases_lt q a) (cases_lt q (a + length xs)))

@@ -1,5 +1,6 @@
 -- A map as the part of a list that is there so far.
-use Rattle.std.proofs.Common.{◌≡◌, ℕ, zero, suc, ◌+◌, ◌-◌, ◌<◌, ◌≤◌, Bool, true, false, ◌&&◌, cond, ltb, leb, Option, Some, None, List, [], ◌∷◌, length, map, take, drop, refl, sym, ap, ◌∙◌, arith, ◌⊎◌, inl, inr, append-nil}
+use Rattle.std.proofs.Common.{◌≡◌, ℕ, zero, suc, ◌+◌, ◌-◌, ◌<◌, ◌≤◌, Bool, true, false, ◌&&◌, cond, ltb, leb, Option, Some, None, List, [], ◌∷◌}
+use Rattle.std.proofs.Common.{length, map, take, drop, refl, sym, ap, ◌∙◌, arith, ◌⊎◌, inl, inr, append-nil}
 use Rattle.std.specs.Option.{is_some}
 use Rattle.std.specs.List.{slice_get, slice_range}
 use Rattle.std.specs.Ordering.{nat_cmp}
@@ -29,7 +30,8 @@ module _ {X : Type 0} where
   -- a map that answers as the list does has its values
   pub values-whole : (m : Map nat_cmp X) (xs : List X) → ((q : ℕ) → get m q ≡ slice_get xs q) → values m ≡ xs
   values-whole m xs same =
-      ap values (same_map nat_cmp_total nat_cmp-IsAntisymmetric m (insert_all empty 0 xs) (λ q. same q ∙ sym (got q (cases_lt q (length xs))))) ∙ values-insert_all_empty 0 xs where
+      ap values (same_map nat_cmp_total nat_cmp-IsAntisymmetric m (insert_all empty 0 xs) (λ q. same q ∙ sym (got q (cases_lt q (length xs)))))
+      ∙ values-insert_all_empty 0 xs where
         got : (q : ℕ) → ((q < length xs) ⊎ (length xs ≤ q)) → get (insert_all empty 0 xs) q ≡ slice_get xs q
         got q (inl h) =
             let here : leb 0 q ≡ true = le-leb 0 q (omega arith) in
@@ -60,13 +62,15 @@ module _ {X : Type 0} where
 
   -- and stays one with more of the list
   pub part-insert_all : (m : Map nat_cmp X) (xs : List X) (a b : ℕ) → IsPartOf m xs → IsPartOf (insert_all m a (slice_range xs a b)) xs
-  part-insert_all m xs a b part q x e = choose (leb a q && ltb q (a + length (slice_range xs a b))) refl (sym (get-insert_all m a (slice_range xs a b) q) ∙ e) where
-    choose : (c : Bool) → (leb a q && ltb q (a + length (slice_range xs a b))) ≡ c → cond c (slice_get (slice_range xs a b) (q - a)) (get m q) ≡ Some x → slice_get xs q ≡ Some x
-    choose true t f =
-        let above : a ≤ q = leb-true a q (and_parts (leb a q) (ltb q (a + length (slice_range xs a b))) t).0 in
-        let place : q - a + a ≡ q = omega arith in
-        ap (slice_get xs) (sym place) ∙ sym (get-drop a (q - a) xs) ∙ get-take (b - a) (q - a) (drop a xs) x f
-    choose false t f = part q x f
+  part-insert_all m xs a b part q x e =
+      choose (leb a q && ltb q (a + length (slice_range xs a b))) refl (sym (get-insert_all m a (slice_range xs a b) q) ∙ e) where
+        choose : (c : Bool) → (leb a q && ltb q (a + length (slice_range xs a b))) ≡ c
+            → cond c (slice_get (slice_range xs a b) (q - a)) (get m q) ≡ Some x → slice_get xs q ≡ Some x
+        choose true t f =
+            let above : a ≤ q = leb-true a q (and_parts (leb a q) (ltb q (a + length (slice_range xs a b))) t).0 in
+            let place : q - a + a ≡ q = omega arith in
+            ap (slice_get xs) (sym place) ∙ sym (get-drop a (q - a) xs) ∙ get-take (b - a) (q - a) (drop a xs) x f
+        choose false t f = part q x f
 
   -- a part with as many values as the list is the whole of it
   pub part-whole : (m : Map nat_cmp X) (xs : List X) → IsPartOf m xs → len m ≡ length xs → values m ≡ xs

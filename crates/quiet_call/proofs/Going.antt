@@ -23,7 +23,8 @@ first_left fs i f l is = drop_more fs i f l ∙ ap (λ g. g ∷ drop (i + 1) fs)
 
 -- the next frame may come
 pub next_comes : (q l : QuietCall) (fs : List SentFrame) (i : ℕ) (f : SentFrame) (done : Bool) → i < length fs → f ≡ get_or fs i f
-    → AmidRound q.settings (asked q) (answered q) q.clock (hosts_of l) (frames_of l) (answers l) (drop i fs) i done → MayCome q.settings (asked q) (answered q) q.clock f (hosts_of l)
+    → AmidRound q.settings (asked q) (answered q) q.clock (hosts_of l) (frames_of l) (answers l) (drop i fs) i done
+    → MayCome q.settings (asked q) (answered q) q.clock f (hosts_of l)
 next_comes q l fs i f done within is am =
     may_come q.settings (asked q) (answered q) q.clock (hosts_of l) (frames_of l) (answers l) f (drop (i + 1) fs) i done
     (subst (λ gs. AmidRound q.settings (asked q) (answered q) q.clock (hosts_of l) (frames_of l) (answers l) gs i done) (first_left fs i f within is) am)
@@ -40,19 +41,24 @@ came_at now now' size size' f done hs hs' fs fs' e g st =
     (subst (λ t. HasStepped t f.to (λ (h : Seen). arrival_step h.settings h.host t (arriving h f.from f.frame) (filled size)) done hs hs' fs fs') e st)
 
 pub turned_at : (now now' : ℕ) (id : HostId) (done : Bool) (hs hs' : List Seen) (fs fs' : List SentFrame) → now ≡ now'
-    → HasStepped now id (λ (h : Seen). turn_step h.settings h.host now) done hs hs' fs fs' → HasStepped now' id (λ (h : Seen). turn_step h.settings h.host now') done hs hs' fs fs'
+    → HasStepped now id (λ (h : Seen). turn_step h.settings h.host now) done hs hs' fs fs'
+    → HasStepped now' id (λ (h : Seen). turn_step h.settings h.host now') done hs hs' fs fs'
 turned_at now now' id done hs hs' fs fs' e st = subst (λ t. HasStepped t id (λ (h : Seen). turn_step h.settings h.host t) done hs hs' fs fs') e st
 
-pub goes_same : (s s' : Settings) (n n' m m' k k' x x' : ℕ) (hs : List Seen) (fs : List SentFrame) → s' ≡ s → n' ≡ n → m' ≡ m → k' ≡ k → x' ≡ x → GoesOn s n m k hs fs x → GoesOn s' n' m' k' hs fs x'
+pub goes_same : (s s' : Settings) (n n' m m' k k' x x' : ℕ) (hs : List Seen) (fs : List SentFrame) → s' ≡ s → n' ≡ n → m' ≡ m → k' ≡ k → x' ≡ x
+    → GoesOn s n m k hs fs x → GoesOn s' n' m' k' hs fs x'
 goes_same s s' n n' m m' k k' x x' hs fs a b c d e g =
     subst (λ t. GoesOn t n' m' k' hs fs x') (sym a) (subst (λ t. GoesOn s t m' k' hs fs x') (sym b) (subst (λ t. GoesOn s n t k' hs fs x') (sym c)
     (subst (λ t. GoesOn s n m t hs fs x') (sym d) (subst (λ t. GoesOn s n m k hs fs t) (sym e) g))))
 
 -- two turns end a round
 module _ (q l t u : QuietCall) (same : IsSameCall q l) (clock : l.clock ≡ q.clock) (left : List SentFrame) (none : left ≡ []) (i : ℕ) (done d0 d1 : Bool)
-    (am : AmidRound q.settings (asked q) (answered q) q.clock (hosts_of l) (frames_of l) (answers l) left i done) (t_same : IsSameCall l t) (t_clock : t.clock ≡ l.clock + 1)
-    (p : HasStepped (l.clock + 1 + l.settings.skew) client_id (λ (h : Seen). turn_step h.settings h.host (l.clock + 1 + l.settings.skew)) d0 (hosts_of l) (hosts_of t) (frames_of l) (frames_of t))
-    (r : HasStepped (own_clock t) server_id (λ (h : Seen). turn_step h.settings h.host (own_clock t)) d1 (hosts_of t) (hosts_of u) (frames_of t) (frames_of u)) where
+    (am : AmidRound q.settings (asked q) (answered q) q.clock (hosts_of l) (frames_of l) (answers l) left i done) (t_same : IsSameCall l t)
+    (t_clock : t.clock ≡ l.clock + 1)
+    (p : HasStepped (l.clock + 1 + l.settings.skew) client_id (λ (h : Seen). turn_step h.settings h.host (l.clock + 1 + l.settings.skew)) d0
+    (hosts_of l) (hosts_of t) (frames_of l) (frames_of t))
+    (r : HasStepped (own_clock t) server_id (λ (h : Seen). turn_step h.settings h.host (own_clock t)) d1 (hosts_of t) (hosts_of u) (frames_of t)
+    (frames_of u)) where
   abbrev next : ℕ
   next = q.clock + 1 + q.settings.skew
 

@@ -39,7 +39,8 @@ use Rattle.quiet_call.proofs.Unasked.{AskNone, unasked, none_asked}
 
 -- ---- frames
 
-pub frames-append : (s : Settings) (fs gs : List SentFrame) (ps qs : List Packet) → AreFramesOf s fs ps → AreFramesOf s gs qs → AreFramesOf s (fs ++ gs) (ps ++ qs)
+pub frames-append : (s : Settings) (fs gs : List SentFrame) (ps qs : List Packet) → AreFramesOf s fs ps → AreFramesOf s gs qs
+    → AreFramesOf s (fs ++ gs) (ps ++ qs)
 frames-append s fs gs ps qs a b = record {
   are = ap (λ xs. xs ++ gs) a.are ∙ ap (λ xs. frames_of s ps ++ xs) b.are ∙ sym (map-append (frame_of s) ps qs);
   formed = all-append (IsFormed s) ps qs a.formed b.formed;
@@ -49,7 +50,8 @@ frames-append s fs gs ps qs a b = record {
 read_as : (h : Seen) (p : Packet) (f : SentFrame) → IsFormed h.settings p → f ≡ frame_of h.settings p → h.host.id ≡ f.to → arriving h f.from f.frame ≡ Some p
 read_as h p f formed is name =
     ap (λ (g : SentFrame). arriving h g.from g.frame) is
-    ∙ ap (λ (i : HostId). option_map (λ (r : WirePacket × List ℕ). packet_between (frame_of h.settings p).from i r.0 r.1) (packet_in h.settings.wire (frame_of h.settings p).frame)) (name ∙ ap (λ (g : SentFrame). g.to) is)
+    ∙ ap (λ (i : HostId). option_map (λ (r : WirePacket × List ℕ). packet_between (frame_of h.settings p).from i r.0 r.1)
+    (packet_in h.settings.wire (frame_of h.settings p).frame)) (name ∙ ap (λ (g : SentFrame). g.to) is)
     ∙ ap (option_map (λ (r : WirePacket × List ℕ). packet_between (frame_of h.settings p).from (frame_of h.settings p).to r.0 r.1)) (read h.settings p formed)
     ∙ ap Some (between p)
 
@@ -58,7 +60,8 @@ pub done_any : (i j : ℕ) (told : List Told) → has_done (entries_from i told)
 done_any i j [] = refl
 done_any i j (Sends p ∷ told) = done_any (suc i) (suc j) told
 done_any i j (Says e ∷ told) = by e (done_any i j told) where
-  by : (e : PlainEntry) → has_done (entries_from i told) ≡ has_done (entries_from j told) → has_done (e ∷ entries_from i told) ≡ has_done (e ∷ entries_from j told)
+  by : (e : PlainEntry) → has_done (entries_from i told) ≡ has_done (entries_from j told)
+      → has_done (e ∷ entries_from i told) ≡ has_done (e ∷ entries_from j told)
   by (PlainDone id bytes) r = refl
   by e r = r
 
@@ -90,7 +93,8 @@ pub record Midway (s : Settings) (n m clock d : ℕ) (pending : List SentPacket)
   pub server_name : b.host.id ≡ server_id
 
 -- a delivery was carried out
-pub record Delivers (s : Settings) (n m clock d : ℕ) (rest : List SentPacket) (hosts : List Seen) (left new : List SentFrame) (done : Bool) (w : World) : Type 0 where
+pub record Delivers (s : Settings) (n m clock d : ℕ) (rest : List SentPacket) (hosts : List Seen) (left new : List SentFrame) (done : Bool)
+    (w : World) : Type 0 where
   pub after : After
   pub is : outcome s w (event.Deliver d) [] ≡ Done after
   pub a : Seen
@@ -99,7 +103,8 @@ pub record Delivers (s : Settings) (n m clock d : ℕ) (rest : List SentPacket) 
   pub midway : Midway s n m clock (suc d) rest a b left new after.world
   pub done_is : done ≡ has_done after.told
 
-module _ (s : Settings) (n m clock d : ℕ) (calm : IsCalm s n m) (x : SentPacket) (rest : List SentPacket) (a b : Seen) (f : SentFrame) (left new : List SentFrame) (w : World)
+module _ (s : Settings) (n m clock d : ℕ) (calm : IsCalm s n m) (x : SentPacket) (rest : List SentPacket) (a b : Seen) (f : SentFrame)
+    (left new : List SentFrame) (w : World)
     (mid : Midway s n m clock d (x ∷ rest) a b (f ∷ left) new w) where
   abbrev packets : List SentPacket
   packets = mid.old ++ ((x ∷ rest) ++ mid.fresh)
@@ -142,7 +147,8 @@ module _ (s : Settings) (n m clock d : ℕ) (calm : IsCalm s n m) (x : SentPacke
   -- the step of the code's host is that of the world's
   steps_alike : (h : Host) → arrival_step s h now (Some p) (next_answer mid.answers) ≡ arrival_step s h now (Some p) (filled m)
   steps_alike h = by mid.asked where
-    by : Asking s n m clock d (x ∷ rest) w mid.answers ⊎ AskNone (x ∷ rest) → arrival_step s h now (Some p) (next_answer mid.answers) ≡ arrival_step s h now (Some p) (filled m)
+    by : Asking s n m clock d (x ∷ rest) w mid.answers ⊎ AskNone (x ∷ rest)
+        → arrival_step s h now (Some p) (next_answer mid.answers) ≡ arrival_step s h now (Some p) (filled m)
     by (inl q) = ap (λ answers. arrival_step s h now (Some p) (next_answer answers)) q.left
     by (inr none) = same_unasked s h now (Some p) (filled m) (next_answer mid.answers) (unasked s h now p (filled m) none.0)
 
@@ -157,18 +163,24 @@ module _ (s : Settings) (n m clock d : ℕ) (calm : IsCalm s n m) (x : SentPacke
   asked_after : (y z : Host) (v : Work) → outcome s w (event.Deliver d) [] ≡ Done (record { world = world_after y z v; told = lines_after v })
       → Asking s n m clock (suc d) rest (world_after y z v) (answers_left v.told mid.answers) ⊎ AskNone rest
   asked_after y z v goes = by mid.asked where
-    by : Asking s n m clock d (x ∷ rest) w mid.answers ⊎ AskNone (x ∷ rest) → Asking s n m clock (suc d) rest (world_after y z v) (answers_left v.told mid.answers) ⊎ AskNone rest
+    by : Asking s n m clock d (x ∷ rest) w mid.answers ⊎ AskNone (x ∷ rest)
+        → Asking s n m clock (suc d) rest (world_after y z v) (answers_left v.told mid.answers) ⊎ AskNone rest
     by (inr none) = inr none.1
-    by (inl q) = next (subst (IsDelivered Client s n m clock (suc d) q.end q.told rest) goes (deliver_on s n m clock d q.end q.told x rest w (limits s n m calm) calm Client q.amid)) where
-      next : GoesOn Client s n m clock (suc d) q.end q.told rest (lines_after v) (world_after y z v) → Asking s n m clock (suc d) rest (world_after y z v) (answers_left v.told mid.answers) ⊎ AskNone rest
-      next (inl g) = inl (record { end = q.end; told = q.told; amid = g.1; left = ap (λ (u : World). u.answers) g.1.is })
-      next (inr (inl g)) = inr (none_asked m rest g.2.here g.2.may 0 _ g.2.first)
-      next (inr (inr g)) = client_server g.0
+    by (inl q) = next
+        (subst (IsDelivered Client s n m clock (suc d) q.end q.told rest) goes
+        (deliver_on s n m clock d q.end q.told x rest w (limits s n m calm) calm Client q.amid)) where
+          next : GoesOn Client s n m clock (suc d) q.end q.told rest (lines_after v) (world_after y z v)
+              → Asking s n m clock (suc d) rest (world_after y z v) (answers_left v.told mid.answers) ⊎ AskNone rest
+          next (inl g) = inl (record { end = q.end; told = q.told; amid = g.1; left = ap (λ (u : World). u.answers) g.1.is })
+          next (inr (inl g)) = inr (none_asked m rest g.2.here g.2.may 0 _ g.2.first)
+          next (inr (inr g)) = client_server g.0
 
   module _ (done : Bool) (hosts : List Seen) (new' : List SentFrame) where
-    ends_so : (y z : Seen) (v : Work) (more : List SentFrame) → hosts ≡ y ∷ z ∷ [] → y.settings ≡ s → z.settings ≡ s → y.host.id ≡ client_id → z.host.id ≡ server_id
+    ends_so : (y z : Seen) (v : Work) (more : List SentFrame) → hosts ≡ y ∷ z ∷ [] → y.settings ≡ s → z.settings ≡ s → y.host.id ≡ client_id
+        → z.host.id ≡ server_id
         → outcome s w (event.Deliver d) [] ≡ Done (record { world = world_after y.host z.host v; told = lines_after v })
-        → new' ≡ new ++ more → AreFramesOf s more (packets_in v.told) → done ≡ has_done (entries_from 0 v.told) → Delivers s n m clock d rest hosts left new' done w
+        → new' ≡ new ++ more → AreFramesOf s more (packets_in v.told) → done ≡ has_done (entries_from 0 v.told)
+        → Delivers s n m clock d rest hosts left new' done w
     ends_so y z v more hosts_are ys zs yn zn goes sent framed done_is = record {
       after = record { world = world_after y.host z.host v; told = lines_after v };
       is = goes;
@@ -180,12 +192,15 @@ module _ (s : Settings) (n m clock d : ℕ) (calm : IsCalm s n m) (x : SentPacke
         old = mid.old ++ x ∷ [];
         fresh = mid.fresh ++ stamped clock (packets_in v.told);
         answers = answers_left v.told mid.answers;
-        is = ap (λ ps. quiet_world s clock mid.spares y.host z.host ps (answers_left v.told mid.answers)) (moved mid.old x rest mid.fresh (stamped clock (packets_in v.told)));
+        is = ap (λ ps. quiet_world s clock mid.spares y.host z.host ps (answers_left v.told mid.answers))
+            (moved mid.old x rest mid.fresh (stamped clock (packets_in v.told)));
         so_many = length-snoc mid.old x ∙ ap suc mid.so_many;
         young = mid.young.1;
         left_are = record { are = rest_frames; formed = mid.left_are.formed.1 };
         new_are = subst (λ fs. AreFramesOf s fs (packets_of (mid.fresh ++ stamped clock (packets_in v.told)))) (sym sent)
-            (subst (AreFramesOf s (new ++ more)) (sym (map-append (λ (y : SentPacket). y.packet) mid.fresh (stamped clock (packets_in v.told)) ∙ ap (λ ps. packets_of mid.fresh ++ ps) (packets_of-stamped clock (packets_in v.told))))
+            (subst (AreFramesOf s (new ++ more))
+            (sym (map-append (λ (y : SentPacket). y.packet) mid.fresh (stamped clock (packets_in v.told)) ∙ ap (λ ps. packets_of mid.fresh ++ ps)
+            (packets_of-stamped clock (packets_in v.told))))
             (frames-append s new more (packets_of mid.fresh) (packets_in v.told) mid.new_are framed));
         asked = asked_after y.host z.host v goes;
         client = ys;
@@ -205,7 +220,8 @@ module _ (s : Settings) (n m clock d : ℕ) (calm : IsCalm s n m) (x : SentPacke
     -- what the host read and did
     arrives_is : (h : Seen) → h.settings ≡ s → h.host.id ≡ f.to → arrives h ≡ arrival_step s h.host now (Some p) (next_answer mid.answers)
     arrives_is h is name =
-        ap (λ o. arrival_step h.settings h.host now o (filled m)) (read_as h p f (subst (λ t. IsFormed t p) (sym is) mid.left_are.formed.0) (first_frame ∙ ap (λ t. frame_of t p) (sym is)) name)
+        ap (λ o. arrival_step h.settings h.host now o (filled m))
+        (read_as h p f (subst (λ t. IsFormed t p) (sym is) mid.left_are.formed.0) (first_frame ∙ ap (λ t. frame_of t p) (sym is)) name)
         ∙ ap (λ t. arrival_step t h.host now (Some p) (filled m)) is ∙ sym (steps_alike h.host)
 
     -- the frame goes to the packet's receiver
@@ -225,9 +241,11 @@ module _ (s : Settings) (n m clock d : ℕ) (calm : IsCalm s n m) (x : SentPacke
     abbrev step_of : Role → Seen → Work
     step_of r h = arrival_step s h.host now (Some (as_role r)) (next_answer mid.answers)
 
-    arrived : (r : Role) (h : Seen) → p.role ≡ r → h.settings ≡ s → h.host.id ≡ (frame_of s (as_role r)).to → (st : HasStepped now f.to arrives done (a ∷ b ∷ []) hosts new new') → h ≡ st.before → Arrived h st.after (step_of r h)
+    arrived : (r : Role) (h : Seen) → p.role ≡ r → h.settings ≡ s → h.host.id ≡ (frame_of s (as_role r)).to
+        → (st : HasStepped now f.to arrives done (a ∷ b ∷ []) hosts new new') → h ≡ st.before → Arrived h st.after (step_of r h)
     arrived r h e settings name st at =
-        let is : arrives h ≡ step_of r h = arrives_is h settings (name ∙ sym (to_is r e)) ∙ ap (λ q. arrival_step s h.host now (Some q) (next_answer mid.answers)) (p_is r e) in
+        let is : arrives h ≡ step_of r h =
+        arrives_is h settings (name ∙ sym (to_is r e)) ∙ ap (λ q. arrival_step s h.host now (Some q) (next_answer mid.answers)) (p_is r e) in
         let sent : sent_by h = subst sent_by (sym at) st.sent in
         record {
           host = st.host ∙ ap (λ (x : Seen). (arrives x).host) (sym at) ∙ ap (λ (u : Work). u.host) is;
@@ -235,15 +253,19 @@ module _ (s : Settings) (n m clock d : ℕ) (calm : IsCalm s n m) (x : SentPacke
           name = st.name ∙ ap (λ (x : Seen). x.host.id) (sym at);
           more = sent.0;
           sent = sent.1;
-          framed = subst (λ t. AreFramesOf t sent.0 (packets_in (step_of r h).told)) settings (subst (λ (u : Work). AreFramesOf h.settings sent.0 (packets_in u.told)) is sent.2);
+          framed = subst (λ t. AreFramesOf t sent.0 (packets_in (step_of r h).told)) settings
+              (subst (λ (u : Work). AreFramesOf h.settings sent.0 (packets_in u.told)) is sent.2);
           told = st.done_is ∙ ap (λ (x : Seen). has_done (entries_from 0 (arrives x).told)) (sym at) ∙ ap (λ (u : Work). has_done (entries_from 0 u.told)) is;
         }
 
     to_server : p.role ≡ Client → HasStepped now f.to arrives done (a ∷ b ∷ []) hosts new new' → Delivers s n m clock d rest hosts left new' done w
     to_server e st =
         let v : Work = step_of Client b in
-        let g : Arrived b st.after v = arrived Client b e mid.server mid.server_name st (same_some b st.before (ap (λ (i : HostId). slice_get (a ∷ b ∷ []) i.0) (sym (to_is Client e)) ∙ st.at)) in
-        ends_so a st.after v g.more (st.hosts_are ∙ ap (λ (i : HostId). slice_set (a ∷ b ∷ []) i.0 st.after) (to_is Client e)) mid.client g.settings mid.client_name (g.name ∙ mid.server_name)
+        let g : Arrived b st.after v =
+        arrived Client b e mid.server mid.server_name st
+        (same_some b st.before (ap (λ (i : HostId). slice_get (a ∷ b ∷ []) i.0) (sym (to_is Client e)) ∙ st.at)) in
+        ends_so a st.after v g.more (st.hosts_are ∙ ap (λ (i : HostId). slice_set (a ∷ b ∷ []) i.0 st.after) (to_is Client e)) mid.client g.settings
+        mid.client_name (g.name ∙ mid.server_name)
         (ap (λ u. outcome s u (event.Deliver d) []) mid.is
         ∙ server_gets_it s clock mid.spares a.host b.host packets mid.answers d x.tick p.at p.level p.body p.payload fresh_enough (found Client e)
         ∙ ap (λ (h : Host). Done (record { world = world_after a.host h v; told = lines_after v })) (sym g.host))
@@ -252,8 +274,11 @@ module _ (s : Settings) (n m clock d : ℕ) (calm : IsCalm s n m) (x : SentPacke
     to_client : p.role ≡ Server → HasStepped now f.to arrives done (a ∷ b ∷ []) hosts new new' → Delivers s n m clock d rest hosts left new' done w
     to_client e st =
         let v : Work = step_of Server a in
-        let g : Arrived a st.after v = arrived Server a e mid.client mid.client_name st (same_some a st.before (ap (λ (i : HostId). slice_get (a ∷ b ∷ []) i.0) (sym (to_is Server e)) ∙ st.at)) in
-        ends_so st.after b v g.more (st.hosts_are ∙ ap (λ (i : HostId). slice_set (a ∷ b ∷ []) i.0 st.after) (to_is Server e)) g.settings mid.server (g.name ∙ mid.client_name) mid.server_name
+        let g : Arrived a st.after v =
+        arrived Server a e mid.client mid.client_name st
+        (same_some a st.before (ap (λ (i : HostId). slice_get (a ∷ b ∷ []) i.0) (sym (to_is Server e)) ∙ st.at)) in
+        ends_so st.after b v g.more (st.hosts_are ∙ ap (λ (i : HostId). slice_set (a ∷ b ∷ []) i.0 st.after) (to_is Server e)) g.settings mid.server
+        (g.name ∙ mid.client_name) mid.server_name
         (ap (λ u. outcome s u (event.Deliver d) []) mid.is
         ∙ client_gets_it s clock mid.spares a.host b.host packets mid.answers d x.tick p.at p.level p.body p.payload fresh_enough (found Server e)
         ∙ ap (λ (h : Host). Done (record { world = world_after h b.host v; told = lines_after v })) (sym g.host))

@@ -1,5 +1,6 @@
 -- A round, as the code carries it out: frame by frame, and then the tick.
-use Rattle.std.proofs.Common.{◌≡◌, ◌≢◌, ◌<◌, ◌≤◌, ℕ, zero, suc, ◌+◌, ◌-◌, ◌*◌, ◌^◌, ◌||◌, inl, inr, Bool, false, Some, List, [], ◌∷◌, ◌++◌, length, refl, sym, ap, subst, ◌∙◌, arith}
+use Rattle.std.proofs.Common.{◌≡◌, ◌≢◌, ◌<◌, ◌≤◌, ℕ, zero, suc, ◌+◌, ◌-◌, ◌*◌, ◌^◌, ◌||◌, inl, inr, Bool, false, Some, List, [], ◌∷◌, ◌++◌, length}
+use Rattle.std.proofs.Common.{refl, sym, ap, subst, ◌∙◌, arith}
 use Rattle.std.specs.Prelude.{map, slice_get, slice_set, IfSome}
 use Rattle.std.proofs.Math.Bool.{or_assoc}
 use Rattle.std.proofs.lemmas.Bool.{cases_lt}
@@ -30,12 +31,16 @@ use Rattle.quiet_call.proofs.Beginning.{Come, come_on, Started, begins}
 
 -- ---- hosts that fit
 
-fits_later : (s : Settings) (now now' steps steps' : ℕ) (n : ℕ) (hs : List Seen) → now ≤ now' → steps ≤ steps' → HostsFit s now steps n hs → HostsFit s now' steps' n hs
+fits_later : (s : Settings) (now now' steps steps' : ℕ) (n : ℕ) (hs : List Seen) → now ≤ now' → steps ≤ steps' → HostsFit s now steps n hs
+    → HostsFit s now' steps' n hs
 fits_later s now now' steps steps' n [] later more fit = tt
-fits_later s now now' steps steps' n (h ∷ hs) later more fit =
-    (record { settings = fit.0.settings; name = fit.0.name; last = omega (arith, fit.0.last, later); order = omega (arith, fit.0.order, more) }, fits_later s now now' steps steps' (suc n) hs later more fit.1)
+fits_later s now now' steps steps' n (h ∷ hs) later more fit = (
+  record { settings = fit.0.settings; name = fit.0.name; last = omega (arith, fit.0.last, later); order = omega (arith, fit.0.order, more) },
+  fits_later s now now' steps steps' (suc n) hs later more fit.1,
+)
 
-fits_set : (s : Settings) (now steps n i : ℕ) (hs : List Seen) (before after : Seen) → slice_get hs i ≡ Some before → after.settings ≡ before.settings → after.host.id ≡ before.host.id → after.host.last ≡ now → after.host.order ≤ before.host.order + 64
+fits_set : (s : Settings) (now steps n i : ℕ) (hs : List Seen) (before after : Seen) → slice_get hs i ≡ Some before → after.settings ≡ before.settings
+    → after.host.id ≡ before.host.id → after.host.last ≡ now → after.host.order ≤ before.host.order + 64
     → HostsFit s now steps n hs → HostsFit s now (steps + 1) n (slice_set hs i after)
 fits_set s now steps n i [] before after at settings name last order fit = tt
 fits_set s now steps n zero (h ∷ hs) before after at settings name last order fit =
@@ -48,11 +53,15 @@ fits_set s now steps n zero (h ∷ hs) before after at settings name last order 
       },
       fits_later s now now steps (steps + 1) (suc n) hs (omega arith) (omega arith) fit.1,
     )
-fits_set s now steps n (suc i) (h ∷ hs) before after at settings name last order fit =
-    (record { settings = fit.0.settings; name = fit.0.name; last = fit.0.last; order = omega (arith, fit.0.order) }, fits_set s now steps (suc n) i hs before after at settings name last order fit.1)
+fits_set s now steps n (suc i) (h ∷ hs) before after at settings name last order fit = (
+  record { settings = fit.0.settings; name = fit.0.name; last = fit.0.last; order = omega (arith, fit.0.order) },
+  fits_set s now steps (suc n) i hs before after at settings name last order fit.1,
+)
 
-pub stepped_fit : (s : Settings) (now steps : ℕ) (id : HostId) (step : Seen → Work) (done : Bool) (hs hs' : List Seen) (fs fs' : List SentFrame) → HasStepped now id step done hs hs' fs fs' → HostsFit s now steps 0 hs → HostsFit s now (steps + 1) 0 hs'
-stepped_fit s now steps id step done hs hs' fs fs' st fit = subst (HostsFit s now (steps + 1) 0) (sym st.hosts_are) (fits_set s now steps 0 id.0 hs st.before st.after st.at st.settings st.name st.last st.order fit)
+pub stepped_fit : (s : Settings) (now steps : ℕ) (id : HostId) (step : Seen → Work) (done : Bool) (hs hs' : List Seen) (fs fs' : List SentFrame)
+    → HasStepped now id step done hs hs' fs fs' → HostsFit s now steps 0 hs → HostsFit s now (steps + 1) 0 hs'
+stepped_fit s now steps id step done hs hs' fs fs' st fit =
+    subst (HostsFit s now (steps + 1) 0) (sym st.hosts_are) (fits_set s now steps 0 id.0 hs st.before st.after st.at st.settings st.name st.last st.order fit)
 
 -- so many steps are few
 few_steps : (clock steps : ℕ) → clock < 4000000 → steps ≤ most_steps clock + (2 ^ 32 + 2) → 64 * steps < 2 ^ 63
@@ -61,7 +70,8 @@ few_steps clock steps early few = omega (arith, early, few)
 -- ---- in the midst of a round
 
 -- `i` of its frames are delivered, and `left` are to be; the call was done or not at those
-pub record AmidRound (s : Settings) (n m clock : ℕ) (hosts : List Seen) (frames : List SentFrame) (answers : ℕ) (left : List SentFrame) (i : ℕ) (done : Bool) : Type 0 where
+pub record AmidRound (s : Settings) (n m clock : ℕ) (hosts : List Seen) (frames : List SentFrame) (answers : ℕ) (left : List SentFrame) (i : ℕ)
+    (done : Bool) : Type 0 where
   pub calm : IsCalm s n m
   pub early : clock < 2 * (n + m)
   pub not_yet : (r : ℕ) → r ≤ clock → (round s n m r).done ≡ false
@@ -110,13 +120,15 @@ module _ (s : Settings) (n m clock : ℕ) where
   now = clock + s.skew
 
   -- nothing is delivered when it begins
-  pub round_starts : (hosts : List Seen) (frames : List SentFrame) (answers : ℕ) → GoesOn s n m clock hosts frames answers → AmidRound s n m clock hosts [] answers frames 0 false
+  pub round_starts : (hosts : List Seen) (frames : List SentFrame) (answers : ℕ) → GoesOn s n m clock hosts frames answers
+      → AmidRound s n m clock hosts [] answers frames 0 false
   round_starts hosts frames answers g =
       let p : InProgress s n m clock = reached s n m g.calm clock g.not_yet in
       let h = goes_hosts s n m clock p.measure p.goes in
       let two : Two (λ (x : Seen). x.host) hosts h.0 h.1.0 = two_of (λ (x : Seen). x.host) hosts h.0 h.1.0 (sym g.stand.hosts_are ∙ h.1.1) in
       let fit : HostsFit s now (most_steps clock) 0 (two.a ∷ two.b ∷ []) = subst (HostsFit s now (most_steps clock) 0) two.is g.fit in
-      let st : Started s n m clock (round s n m clock) two.a two.b frames = begins s n m clock p.measure two.a two.b frames p.goes g.stand.frames_are (g.stand.hosts_are ∙ ap (map (λ (x : Seen). x.host)) two.is)
+      let st : Started s n m clock (round s n m clock) two.a two.b frames =
+      begins s n m clock p.measure two.a two.b frames p.goes g.stand.frames_are (g.stand.hosts_are ∙ ap (map (λ (x : Seen). x.host)) two.is)
       fit.0.settings fit.1.0.settings fit.0.name fit.1.0.name in
       record {
         calm = g.calm;
@@ -157,10 +169,16 @@ module _ (s : Settings) (n m clock : ℕ) where
   frames_long : (fs : List SentFrame) (xs : List SentPacket) → AreFramesOf s fs (packets_of xs) → length xs ≡ length fs
   frames_long fs xs a = sym (ap length a.are ∙ length-map (packets_of xs) (frame_of s) ∙ length-map xs (λ (x : SentPacket). x.packet))
 
-  may_step : (steps i : ℕ) (id : HostId) (h : Seen) → clock < 2 * (n + m) → IsCalm s n m → steps ≤ most_steps clock + i → i ≤ 2 ^ 32 → HostFits s now steps id h → MayStep now h
-  may_step steps i id h early calm few within fit = record { last = fit.last; order = omega (arith, fit.order, few_steps clock steps (omega (arith, early, calm.request.1, calm.response.1)) (omega (arith, few, within))) }
+  may_step : (steps i : ℕ) (id : HostId) (h : Seen) → clock < 2 * (n + m) → IsCalm s n m → steps ≤ most_steps clock + i → i ≤ 2 ^ 32
+      → HostFits s now steps id h → MayStep now h
+  may_step steps i id h early calm few within fit =
+      record {
+        last = fit.last;
+        order = omega (arith, fit.order, few_steps clock steps (omega (arith, early, calm.request.1, calm.response.1)) (omega (arith, few, within)));
+      }
 
-  module _ (hosts : List Seen) (frames : List SentFrame) (answers : ℕ) (f : SentFrame) (left : List SentFrame) (i : ℕ) (done : Bool) (am : AmidRound s n m clock hosts frames answers (f ∷ left) i done) where
+  module _ (hosts : List Seen) (frames : List SentFrame) (answers : ℕ) (f : SentFrame) (left : List SentFrame) (i : ℕ) (done : Bool)
+      (am : AmidRound s n m clock hosts frames answers (f ∷ left) i done) where
     abbrev IsNext : SentPacket → List SentPacket → Type 0
     IsNext x rest = Midway s n m clock am.d (x ∷ rest) am.a am.b (f ∷ left) frames am.w
 
@@ -194,27 +212,31 @@ module _ (s : Settings) (n m clock : ℕ) where
       hosts_two h id fit = ap (λ (t : Settings). t.hosts) fit.settings ∙ am.calm.hosts
 
       by : (r : Role) → x.packet.role ≡ r → MayCome f (am.a ∷ am.b ∷ [])
-      by Client e = subst (λ g. MayCome g (am.a ∷ am.b ∷ [])) (sym (frame_is s n m clock am.d am.calm x rest am.a am.b f left frames am.w mid Client e)) (record {
-        to = omega arith;
-        may = two server_id am.b both_fit.1.0;
-        from = omega (arith, hosts_two am.b server_id both_fit.1.0);
-        other = λ q. zero_one (q ∙ both_fit.1.0.name);
-      })
-      by Server e = subst (λ g. MayCome g (am.a ∷ am.b ∷ [])) (sym (frame_is s n m clock am.d am.calm x rest am.a am.b f left frames am.w mid Server e)) (record {
-        to = omega arith;
-        may = two client_id am.a both_fit.0;
-        from = omega (arith, hosts_two am.a client_id both_fit.0);
-        other = λ q. one_zero (q ∙ both_fit.0.name);
-      })
+      by Client e =
+          subst (λ g. MayCome g (am.a ∷ am.b ∷ [])) (sym (frame_is s n m clock am.d am.calm x rest am.a am.b f left frames am.w mid Client e)) (record {
+            to = omega arith;
+            may = two server_id am.b both_fit.1.0;
+            from = omega (arith, hosts_two am.b server_id both_fit.1.0);
+            other = λ q. zero_one (q ∙ both_fit.1.0.name);
+          })
+      by Server e =
+          subst (λ g. MayCome g (am.a ∷ am.b ∷ [])) (sym (frame_is s n m clock am.d am.calm x rest am.a am.b f left frames am.w mid Server e)) (record {
+            to = omega arith;
+            may = two client_id am.a both_fit.0;
+            from = omega (arith, hosts_two am.a client_id both_fit.0);
+            other = λ q. one_zero (q ∙ both_fit.0.name);
+          })
 
     -- it is delivered
     pub delivered_on : (more : Bool) (hosts' : List Seen) (frames' : List SentFrame) (answers' : ℕ)
-        → HasStepped now f.to (λ (h : Seen). arrival_step h.settings h.host now (arriving h f.from f.frame) (filled m)) more hosts hosts' frames frames' → answers' ≤ answers + 1
+        → HasStepped now f.to (λ (h : Seen). arrival_step h.settings h.host now (arriving h f.from f.frame) (filled m)) more hosts hosts' frames
+        frames' → answers' ≤ answers + 1
         → AmidRound s n m clock hosts' frames' answers' left (i + 1) (done || more)
     delivered_on more hosts' frames' answers' st served =
         let step : Seen → Work = λ h. arrival_step h.settings h.host now (arriving h f.from f.frame) (filled m) in
         let v : Delivers s n m clock am.d rest hosts' left frames' more am.w =
-        delivers s n m clock am.d am.calm x rest am.a am.b f left frames am.w mid more hosts' frames' (subst (λ hs. HasStepped now f.to step more hs hosts' frames frames') am.hosts_are st) in
+        delivers s n m clock am.d am.calm x rest am.a am.b f left frames am.w mid more hosts' frames'
+        (subst (λ hs. HasStepped now f.to step more hs hosts' frames frames') am.hosts_are st) in
         record {
           calm = am.calm;
           early = am.early;
@@ -226,10 +248,12 @@ module _ (s : Settings) (n m clock : ℕ) where
           d = suc am.d;
           pending = rest;
           midway = v.midway;
-          come = come_on s (run_after s (round s n m clock)) (bare (event.Deliver am.d)) (deliveries (suc am.d) (length rest) ++ ticks 2 1) done more am.w v.after v.is v.done_is
+          come = come_on s (run_after s (round s n m clock)) (bare (event.Deliver am.d)) (deliveries (suc am.d) (length rest) ++ ticks 2 1) done more
+              am.w v.after v.is v.done_is
               (subst (λ ps. Come s (run_after s (round s n m clock)) (deliveries am.d (length ps) ++ ticks 2 1) done am.w) next.1.1 am.come);
           d_is = omega (arith, am.d_is, ap length next.1.1);
-          fit = subst (λ k. HostsFit s now k 0 hosts') {x = most_steps clock + i + 1} {y = most_steps clock + (i + 1)} (omega arith) (stepped_fit s now (most_steps clock + i) f.to step more hosts hosts' frames frames' st am.fit);
+          fit = subst (λ k. HostsFit s now k 0 hosts') {x = most_steps clock + i + 1} {y = most_steps clock + (i + 1)} (omega arith)
+              (stepped_fit s now (most_steps clock + i) f.to step more hosts hosts' frames frames' st am.fit);
           served = omega (arith, served, am.served);
           few = st.few;
           within = omega (arith, am.within);
@@ -265,13 +289,19 @@ module _ (s : Settings) (n m clock : ℕ) where
     abbrev MayTurn : List Seen → HostId → Type 0
     MayTurn hs id = (id.0 < length hs) × IfSome (slice_get hs id.0) (MayStep (clock + 1 + s.skew))
 
-    may_turn : (steps : ℕ) (id : HostId) (h : Seen) → steps ≤ most_steps clock + (i + 1) → HostFits s (clock + 1 + s.skew) steps id h → MayStep (clock + 1 + s.skew) h
+    may_turn : (steps : ℕ) (id : HostId) (h : Seen) → steps ≤ most_steps clock + (i + 1) → HostFits s (clock + 1 + s.skew) steps id h
+        → MayStep (clock + 1 + s.skew) h
     may_turn steps id h few fit = record { last = fit.last; order = omega (arith, fit.order, few_steps clock steps early (omega (arith, few, am.within))) }
 
     pub client_may : MayTurn hosts client_id
-    client_may = subst (λ hs. MayTurn hs client_id) (sym am.hosts_are) (omega arith, may_turn (most_steps clock + i) client_id am.a (omega arith) (subst (HostsFit s (clock + 1 + s.skew) (most_steps clock + i) 0) am.hosts_are fit_next).0)
+    client_may = subst (λ hs. MayTurn hs client_id) (sym am.hosts_are) (
+      omega arith,
+      may_turn (most_steps clock + i) client_id am.a (omega arith)
+          (subst (HostsFit s (clock + 1 + s.skew) (most_steps clock + i) 0) am.hosts_are fit_next).0,
+    )
 
-    module _ (d0 : Bool) (hosts0 : List Seen) (frames0 : List SentFrame) (p : HasStepped (clock + 1 + s.skew) client_id turn d0 hosts hosts0 frames frames0) where
+    module _ (d0 : Bool) (hosts0 : List Seen) (frames0 : List SentFrame)
+        (p : HasStepped (clock + 1 + s.skew) client_id turn d0 hosts hosts0 frames frames0) where
       fit0 : HostsFit s (clock + 1 + s.skew) (most_steps clock + i + 1) 0 hosts0
       fit0 = stepped_fit s (clock + 1 + s.skew) (most_steps clock + i) client_id turn d0 hosts hosts0 frames frames0 p fit_next
 
@@ -279,11 +309,17 @@ module _ (s : Settings) (n m clock : ℕ) where
       two0 = p.hosts_are ∙ ap (λ hs. slice_set hs 0 p.after) am.hosts_are
 
       pub server_may : MayTurn hosts0 server_id
-      server_may = subst (λ hs. MayTurn hs server_id) (sym two0) (omega arith, may_turn (most_steps clock + i + 1) server_id am.b (omega arith) (subst (HostsFit s (clock + 1 + s.skew) (most_steps clock + i + 1) 0) two0 fit0).1.0)
+      server_may = subst (λ hs. MayTurn hs server_id) (sym two0) (
+        omega arith,
+        may_turn (most_steps clock + i + 1) server_id am.b (omega arith)
+            (subst (HostsFit s (clock + 1 + s.skew) (most_steps clock + i + 1) 0) two0 fit0).1.0,
+      )
 
-      module _ (d1 : Bool) (hosts1 : List Seen) (frames1 : List SentFrame) (q : HasStepped (clock + 1 + s.skew) server_id turn d1 hosts0 hosts1 frames0 frames1) where
+      module _ (d1 : Bool) (hosts1 : List Seen) (frames1 : List SentFrame)
+          (q : HasStepped (clock + 1 + s.skew) server_id turn d1 hosts0 hosts1 frames0 frames1) where
         after : Ticked s clock am.d hosts1 frames1 (d0 || d1) (carried s am.w (ticks 2 1))
-        after = ticked s n m clock am.d am.a am.b frames am.w in_the_end (omega (arith, early)) d0 d1 hosts0 hosts1 frames0 frames1 (subst (λ hs. HasStepped (clock + 1 + s.skew) client_id turn d0 hs hosts0 frames frames0) am.hosts_are p) q
+        after = ticked s n m clock am.d am.a am.b frames am.w in_the_end (omega (arith, early)) d0 d1 hosts0 hosts1 frames0 frames1
+            (subst (λ hs. HasStepped (clock + 1 + s.skew) client_id turn d0 hs hosts0 frames frames0) am.hosts_are p) q
 
         abbrev r : Round
         r = round s n m clock
@@ -300,7 +336,9 @@ module _ (s : Settings) (n m clock : ℕ) where
         stand_next = record {
           clock_is = ap (λ (w : World). w.clock) come.world_is ∙ after.clock_is ∙ (let e : clock + 1 ≡ suc clock = omega arith in e);
           hosts_are = ap (λ (w : World). w.hosts) come.world_is ∙ after.world_hosts ∙ sym (ap (map (λ (h : Seen). h.host)) after.hosts_are);
-          frames_are = subst (λ k. AreFramesOf s frames1 (packets_from k (run_after s r).world)) (sym (let e : length r.world.packets ≡ am.d = sym am.d_is ∙ (let z : am.d + length am.pending ≡ am.d = omega (arith, ap length all_delivered) in z) in e))
+          frames_are = subst (λ k. AreFramesOf s frames1 (packets_from k (run_after s r).world))
+              (sym (let e : length r.world.packets ≡ am.d = sym am.d_is
+              ∙ (let z : am.d + length am.pending ≡ am.d = omega (arith, ap length all_delivered) in z) in e))
               (subst (λ w. AreFramesOf s frames1 (packets_from am.d w)) (sym come.world_is) after.frames_are);
         }
 
@@ -324,7 +362,8 @@ module _ (s : Settings) (n m clock : ℕ) where
             calm = am.calm;
             stand = to_next (λ k. StandFor s k hosts1 frames1 (round s n m k)) stand_next;
             not_yet = not_yet none;
-            fit = fits_later s (clock + 1 + s.skew) (clock + 1 + s.skew) (most_steps clock + i + 1 + 1) (most_steps (clock + 1)) 0 hosts1 (omega arith) (omega (arith, am.within))
+            fit = fits_later s (clock + 1 + s.skew) (clock + 1 + s.skew) (most_steps clock + i + 1 + 1) (most_steps (clock + 1)) 0 hosts1
+                (omega arith) (omega (arith, am.within))
                 (stepped_fit s (clock + 1 + s.skew) (most_steps clock + i + 1) server_id turn d1 hosts0 hosts1 frames0 frames1 q fit0);
             served = omega (arith, am.served, am.within);
             few = q.few;

@@ -44,7 +44,17 @@ module _ (s : Settings) (n m : ℕ) (calm : IsCalm s n m) where
   begins = new_world s (1 ∷ 1 ∷ []) 0 2 left
 
   abbrev went : After
-  went = record { world = record { clock = 0; hosts = step.host ∷ server ∷ []; leads = s.skew ∷ s.skew ∷ []; packets = [] ++ stamped 0 (packets_in step.told); spares = 0; answers = answers_left step.told left }; told = [] ++ entries_from 0 step.told }
+  went = record {
+    world = record {
+      clock = 0;
+      hosts = step.host ∷ server ∷ [];
+      leads = s.skew ∷ s.skew ∷ [];
+      packets = [] ++ stamped 0 (packets_in step.told);
+      spares = 0;
+      answers = answers_left step.told left;
+    };
+    told = [] ++ entries_from 0 step.told;
+  }
 
   -- it can start
   pub can_start : start_fault s client server_id request ≡ None
@@ -58,7 +68,8 @@ module _ (s : Settings) (n m : ℕ) (calm : IsCalm s n m) where
   unfolding first_round carried
   first_is = ap (carried_round 0) (carried_on s begins (record { event = event.Call client_id server_id 0; bytes = request }) [] went called)
 
-  stands : (a b : Seen) (frames : List SentFrame) → a.host ≡ step.host → b.host ≡ server → AreFramesOf s frames (packets_in step.told) → StandFor s 0 (a ∷ b ∷ []) frames (round s n m 0)
+  stands : (a b : Seen) (frames : List SentFrame) → a.host ≡ step.host → b.host ≡ server → AreFramesOf s frames (packets_in step.told)
+      → StandFor s 0 (a ∷ b ∷ []) frames (round s n m 0)
   unfolding round
   stands a b frames ah bh framed = subst (StandFor s 0 (a ∷ b ∷ []) frames) (sym first_is) (record {
     clock_is = refl;
@@ -70,17 +81,21 @@ module _ (s : Settings) (n m : ℕ) (calm : IsCalm s n m) where
   not_done r h = subst (λ k. (round s n m k).done ≡ false) {x = 0} (omega (arith, h)) (first_goes s n m calm).0
 
   -- two hosts were opened, and one has called
-  pub goes_on : (opened a b : Seen) (now : ℕ) (frames out : List SentFrame) (whole : List ℕ) → opened.settings ≡ s → opened.host ≡ client → b.settings ≡ s → b.host ≡ server → now ≡ s.skew
-      → IsDone opened (call_step opened.settings opened.host now server_id 0 request) a out whole → IsSameHost opened a → a.host.last ≡ now → frames ≡ out → length frames ≤ 2 ^ 32
+  pub goes_on : (opened a b : Seen) (now : ℕ) (frames out : List SentFrame) (whole : List ℕ) → opened.settings ≡ s → opened.host ≡ client
+      → b.settings ≡ s → b.host ≡ server → now ≡ s.skew
+      → IsDone opened (call_step opened.settings opened.host now server_id 0 request) a out whole → IsSameHost opened a → a.host.last ≡ now
+      → frames ≡ out → length frames ≤ 2 ^ 32
       → GoesOn s n m 0 (a ∷ b ∷ []) frames 0
   goes_on opened a b now frames out whole os oh bs bh at d same last sent few =
       let w_is : call_step opened.settings opened.host now server_id 0 request ≡ step =
-      ap (λ t. call_step t opened.host now server_id 0 request) os ∙ ap (λ h. call_step s h now server_id 0 request) oh ∙ ap step_at {x = now} {y = 0 + s.skew} (omega (arith, at)) in
+      ap (λ t. call_step t opened.host now server_id 0 request) os ∙ ap (λ h. call_step s h now server_id 0 request) oh
+      ∙ ap step_at {x = now} {y = 0 + s.skew} (omega (arith, at)) in
       record {
         calm = calm;
         stand = stands a b frames (d.host ∙ ap (λ (w : Work). w.host) w_is) bh
             (subst (λ (w : Work). AreFramesOf s frames (packets_in w.told)) w_is
-            (subst (λ t. AreFramesOf t frames (packets_in (call_step opened.settings opened.host now server_id 0 request).told)) os (record { are = sent ∙ d.posted; formed = d.formed })));
+            (subst (λ t. AreFramesOf t frames (packets_in (call_step opened.settings opened.host now server_id 0 request).told)) os
+            (record { are = sent ∙ d.posted; formed = d.formed })));
         not_yet = not_done;
         fit = (
           record {
@@ -89,7 +104,15 @@ module _ (s : Settings) (n m : ℕ) (calm : IsCalm s n m) where
             last = omega (arith, last, at);
             order = omega (arith, same.order, ap (λ (h : Host). h.order) oh);
           },
-          (record { settings = bs; name = ap (λ (h : Host). h.id) bh; last = omega (arith, ap (λ (h : Host). h.last) bh); order = omega (arith, ap (λ (h : Host). h.order) bh) }, tt),
+          (
+            record {
+              settings = bs;
+              name = ap (λ (h : Host). h.id) bh;
+              last = omega (arith, ap (λ (h : Host). h.last) bh);
+              order = omega (arith, ap (λ (h : Host). h.order) bh);
+            },
+            tt,
+          ),
         );
         served = omega arith;
         few = few;

@@ -1,5 +1,6 @@
 -- A host's step, and the frames that it sent, as the code has them.
-use Rattle.std.proofs.Common.{◌≡◌, ◌<◌, ◌≤◌, ◌^◌, ℕ, zero, suc, Bool, Some, List, [], ◌∷◌, ◌++◌, length, get_or, refl, sym, ap, subst, ◌∙◌, arith, Result, Ok, Err}
+use Rattle.std.proofs.Common.{◌≡◌, ◌<◌, ◌≤◌, ◌^◌, ℕ, zero, suc, Bool, Some, List, [], ◌∷◌, ◌++◌, length, get_or, refl, sym, ap, subst, ◌∙◌, arith}
+use Rattle.std.proofs.Common.{Result, Ok, Err}
 use Rattle.std.specs.Prelude.{IfSome, IfOk, OnOk, slice_get, slice_set}
 use Rattle.std.specs.List.{AllByRecursion}
 use Rattle.std.proofs.lemmas.Option.{slice_get_read}
@@ -47,22 +48,27 @@ counting_same m n e = sym (length-counting 0 m) ∙ ap length e ∙ length-count
 pub same_size : (old new : ℕ) → ((count number hold : ℕ) (q r : List ℕ) → (r ≡ counting 0 new) × (hold ≡ 0) → (r ≡ counting 0 old) × (hold ≡ 0)) → new ≡ old
 same_size old new before = counting_same new old (before 0 0 0 [] (counting 0 new) (refl, refl)).0
 
-one_answer : (h : Host) (size : ℕ) (whole : List ℕ) (m : Mark) → IsAllowed h (λ number q r hold. (r ≡ counting 0 size) × (hold ≡ 0)) whole m → IsReply h (filled size) m
-one_answer h size whole (mark.Ran id service hold) a = ap (λ bytes. record { bytes = bytes; hold = 0 }) (sym a.0) ∙ ap (λ n. record { bytes = response_of h id; hold = n }) (sym a.1)
+one_answer : (h : Host) (size : ℕ) (whole : List ℕ) (m : Mark) → IsAllowed h (λ number q r hold. (r ≡ counting 0 size) × (hold ≡ 0)) whole m
+    → IsReply h (filled size) m
+one_answer h size whole (mark.Ran id service hold) a =
+    ap (λ bytes. record { bytes = bytes; hold = 0 }) (sym a.0) ∙ ap (λ n. record { bytes = response_of h id; hold = n }) (sym a.1)
 one_answer h size whole m a = tt
 
-pub answered_so : (h : Host) (size : ℕ) (whole : List ℕ) (marks : List Mark) → AllByRecursion (IsAllowed h (λ number q r hold. (r ≡ counting 0 size) × (hold ≡ 0)) whole) marks → AllByRecursion (IsReply h (filled size)) marks
+pub answered_so : (h : Host) (size : ℕ) (whole : List ℕ) (marks : List Mark)
+    → AllByRecursion (IsAllowed h (λ number q r hold. (r ≡ counting 0 size) × (hold ≡ 0)) whole) marks → AllByRecursion (IsReply h (filled size)) marks
 answered_so h size whole [] all = tt
 answered_so h size whole (m ∷ ms) all = (one_answer h size whole m all.0, answered_so h size whole ms all.1)
 
 -- ---- a step
 
-module _ (now : ℕ) (id : HostId) (step : Seen → Work) (hosts new_hosts : List Seen) (frames new_frames : List SentFrame) (before after : Seen) (out : List SentFrame) (whole : List ℕ)
+module _ (now : ℕ) (id : HostId) (step : Seen → Work) (hosts new_hosts : List Seen) (frames new_frames : List SentFrame) (before after : Seen)
+    (out : List SentFrame) (whole : List ℕ)
     (within : id.0 < length hosts) (is : before ≡ get_or hosts id.0 before) (done_step : IsDone before (step before) after out whole) where
   pub holds_sent : IfSome (slice_get (slice_set hosts id.0 after) id.0) (λ h. HoldsSent h out)
   holds_sent = subst (λ o. IfSome o (λ h. HoldsSent h out)) (sym (at_set hosts id.0 after within)) done_step.sent
 
-  pub stepped : (done : Bool) → IsSameHost before after → after.host.last ≡ now → new_hosts ≡ slice_set hosts id.0 after → IfSome (slice_get (slice_set hosts id.0 after) id.0) (λ h. done ≡ has_done (shown_entries h out whole)) → new_frames ≡ frames ++ out
+  pub stepped : (done : Bool) → IsSameHost before after → after.host.last ≡ now → new_hosts ≡ slice_set hosts id.0 after
+      → IfSome (slice_get (slice_set hosts id.0 after) id.0) (λ h. done ≡ has_done (shown_entries h out whole)) → new_frames ≡ frames ++ out
       → length new_frames ≤ 2 ^ 32 → HasStepped now id step done hosts new_hosts frames new_frames
   stepped done same last hosts_are told sent few = record {
     before = before;

@@ -27,7 +27,8 @@ right_of : (a b : Bool) → (a || b) ≡ false → b ≡ false
 right_of true b e = cc
 right_of false b e = e
 
-not_told : (es : List PlainEntry) (i : ℕ) (e : PlainEntry) → slice_get es i ≡ Some e → has_done (e ∷ []) ≡ false → has_done (take i es) ≡ false → has_done (take (suc i) es) ≡ false
+not_told : (es : List PlainEntry) (i : ℕ) (e : PlainEntry) → slice_get es i ≡ Some e → has_done (e ∷ []) ≡ false → has_done (take i es) ≡ false
+    → has_done (take (suc i) es) ≡ false
 not_told [] i e at is before = cc
 not_told (x ∷ es) zero e at is before = ap (λ y. has_done (y ∷ [])) (same_some x e at) ∙ is
 not_told (x ∷ es) (suc i) e at is before =
@@ -35,5 +36,6 @@ not_told (x ∷ es) (suc i) e at is before =
     one_first x (take (suc i) es) ∙ ap (λ b. b || has_done (take (suc i) es)) (left_of (has_done (x ∷ [])) (has_done (take i es)) both)
     ∙ not_told es i e at is (right_of (has_done (x ∷ [])) (has_done (take i es)) both)
 
-pub none_told : (es : List PlainEntry) (i : ℕ) (e : PlainEntry) → slice_get es i ≡ Some e → has_done (e ∷ []) ≡ false → has_done (take i es) ≡ false → has_done (take (i + 1) es) ≡ false
+pub none_told : (es : List PlainEntry) (i : ℕ) (e : PlainEntry) → slice_get es i ≡ Some e → has_done (e ∷ []) ≡ false → has_done (take i es) ≡ false
+    → has_done (take (i + 1) es) ≡ false
 none_told es i e at is before = ap (λ k. has_done (take k es)) {x = i + 1} {y = suc i} (omega arith) ∙ not_told es i e at is before

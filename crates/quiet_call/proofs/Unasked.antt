@@ -60,7 +60,8 @@ rule_asks s m p a (Some row) q = a_row s m p.id p.payload a p.body q row row.sta
 
 -- ---- a step
 
-server_unrun : (s : Settings) (p : Packet) (a : Answer) (v : Work) → AsksNone Client p.body → run_count v.told ≡ 0 → run_count (comes_to_row s p a Client v).told ≡ 0
+server_unrun : (s : Settings) (p : Packet) (a : Answer) (v : Work) → AsksNone Client p.body → run_count v.told ≡ 0
+    → run_count (comes_to_row s p a Client v).told ≡ 0
 server_unrun s p a v q none =
     let did = server_gets s (moment s p.id v) p a (get v.host.servers p.id) in
     let says : List Told = said s v.host Server p.id v.host.id did.says in
@@ -78,12 +79,14 @@ server_unrun s p a v q none =
       none,
     ) in e)
 
-row_unrun : (s : Settings) (p : Packet) (a : Answer) (v : Work) (role : Role) → AsksNone role p.body → run_count v.told ≡ 0 → run_count (comes_to_row s p a role v).told ≡ 0
+row_unrun : (s : Settings) (p : Packet) (a : Answer) (v : Work) (role : Role) → AsksNone role p.body → run_count v.told ≡ 0
+    → run_count (comes_to_row s p a role v).told ≡ 0
 row_unrun s p a v Client q none = server_unrun s p a v q none
 row_unrun s p a v Server q none = client_unrun s p a v none
 
 calm_unrun : (n : ℕ) (w v : Work) → Calm n w v → run_count w.told ≡ 0 → run_count v.told ≡ 0
-calm_unrun n w v calm none = ap run_count calm.grown ∙ (let e : run_count (w.told ++ calm.told) ≡ 0 = omega (arith, run_count-append w.told calm.told, calm.quiet, none) in e)
+calm_unrun n w v calm none =
+    ap run_count calm.grown ∙ (let e : run_count (w.told ++ calm.told) ≡ 0 = omega (arith, run_count-append w.told calm.told, calm.quiet, none) in e)
 
 unrun : (told : List Told) → run_count told ≡ 0 → has_run told ≡ false
 unrun [] e = refl

@@ -37,7 +37,8 @@ pub record MayStep (now : ℕ) (h : Seen) : Type 0 where
 
 -- A host did a step at this tick of its own clock: its frames are under way behind the others, and it is known whether it
 -- told that a call was done.
-pub record HasStepped (now : ℕ) (id : HostId) (step : Seen → Work) (done : Bool) (hosts new_hosts : List Seen) (frames new_frames : List SentFrame) : Type 0 where
+pub record HasStepped (now : ℕ) (id : HostId) (step : Seen → Work) (done : Bool) (hosts new_hosts : List Seen)
+    (frames new_frames : List SentFrame) : Type 0 where
   pub before : Seen
   pub at : slice_get hosts id.0 ≡ Some before
   pub after : Seen

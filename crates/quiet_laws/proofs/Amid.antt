@@ -29,12 +29,14 @@ AreNew s clock [] = Unit {0}
 AreNew s clock (x ∷ xs) = IsNew s clock x × AreNew s clock xs
 
 pub as_ours : (s : Settings) (now : ℕ) (p : Packet) → IsOurs s now p → p ≡ ours p.role p.at p.level p.body p.payload
-as_ours s now p o = ap (λ i. record { role = p.role; id = i; server = p.server; inc = p.inc; at = p.at; level = p.level; body = p.body; payload = p.payload }) o.id
+as_ours s now p o =
+    ap (λ i. record { role = p.role; id = i; server = p.server; inc = p.inc; at = p.at; level = p.level; body = p.body; payload = p.payload }) o.id
     ∙ ap (λ i. record { role = p.role; id = the_call; server = i; inc = p.inc; at = p.at; level = p.level; body = p.body; payload = p.payload }) o.server
     ∙ ap (λ i. record { role = p.role; id = the_call; server = server_id; inc = i; at = p.at; level = p.level; body = p.body; payload = p.payload }) o.inc
 
 -- it isn't too old
-pub not_stale : (s : Settings) (clock : ℕ) (x : SentPacket) → 1 ≤ s.life → (s.wire ≡ 1) ⊎ (s.wire ≡ 2) → IsNew s clock x → is_stale s (clock + s.skew) x.packet ≡ false
+pub not_stale : (s : Settings) (clock : ℕ) (x : SentPacket) → 1 ≤ s.life → (s.wire ≡ 1) ⊎ (s.wire ≡ 2) → IsNew s clock x
+    → is_stale s (clock + s.skew) x.packet ≡ false
 not_stale s clock x life wire new = by wire where
   by : (s.wire ≡ 1) ⊎ (s.wire ≡ 2) → is_stale s (clock + s.skew) x.packet ≡ false
   by (inl e) = ap (λ v. (v == 2) && nat_lt (x.packet.at + s.life + 2 * s.skew) (clock + s.skew)) e

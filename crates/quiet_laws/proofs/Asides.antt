@@ -29,15 +29,28 @@ module _ (s : Settings) where
   noted : (role : Role) (o : Option ℕ) (h : Host) (told : List Told) → Aside role s h told (notes s o (record { host = h; told = told }))
   unfolding tuned
   noted role None h told = no_aside role h told
-  noted role (Some n) h told = record { tuning = (tuned s h.id h.tuning n).tuning; more = (tuned s h.id h.tuning n).told; is = refl; few = by (is_balance_due s (counted h.tuning n)) } where
-    by : (t : Bool) → AreAside role s h.last (cond {A = Tuned} t (record { tuning = rebalanced s (counted h.tuning n); told = Says (PlainBalance h.id (rebalanced s (counted h.tuning n)).own) ∷ [] }) (record { tuning = counted h.tuning n; told = [] })).told
-    by true = (tt, tt)
-    by false = tt
+  noted role (Some n) h told =
+      record {
+        tuning = (tuned s h.id h.tuning n).tuning;
+        more = (tuned s h.id h.tuning n).told;
+        is = refl;
+        few = by (is_balance_due s (counted h.tuning n));
+      } where
+        by : (t : Bool)
+            → AreAside role s h.last
+            (cond {A = Tuned} t
+            (record { tuning = rebalanced s (counted h.tuning n); told = Says (PlainBalance h.id (rebalanced s (counted h.tuning n)).own) ∷ [] })
+            (record { tuning = counted h.tuning n; told = [] })).told
+        by true = (tt, tt)
+        by false = tt
 
-  told_cutoffs : (role : Role) (v : Option ℕ) (h : Host) (told : List Told) → h.inc ≡ 1 → Aside role s h told (tells_cutoffs s role the_call server_id v (record { host = h; told = told }))
+  told_cutoffs : (role : Role) (v : Option ℕ) (h : Host) (told : List Told) → h.inc ≡ 1
+      → Aside role s h told (tells_cutoffs s role the_call server_id v (record { host = h; told = told }))
   told_cutoffs role None h told first = no_aside role h told
   told_cutoffs role (Some version) h told first = by (version == h.tuning.own.version) where
-    by : (t : Bool) → Aside role s h told (cond t (record { host = h; told = told }) (posts s role the_call server_id (body.Cutoffs h.tuning.own) (record { host = h; told = told })))
+    by : (t : Bool)
+        → Aside role s h told
+        (cond t (record { host = h; told = told }) (posts s role the_call server_id (body.Cutoffs h.tuning.own) (record { host = h; told = told })))
     by true = no_aside role h told
     by false = record { tuning = h.tuning; more = _; is = refl; few = (record { id = refl; server = refl; inc = first; at = refl }, refl, tt, tt) }
 
@@ -50,6 +63,7 @@ module _ (s : Settings) where
       record {
         tuning = c.tuning;
         more = a.more ++ c.more;
-        is = ap (λ w. tells_cutoffs s role the_call server_id v w) a.is ∙ c.is ∙ ap (λ t. record { host = record h { tuning = c.tuning }; told = t }) (append_assoc told a.more c.more);
+        is = ap (λ w. tells_cutoffs s role the_call server_id v w) a.is ∙ c.is ∙ ap (λ t. record { host = record h { tuning = c.tuning }; told = t })
+            (append_assoc told a.more c.more);
         few = aside-append role s h.last a.more c.more a.few c.few;
       }

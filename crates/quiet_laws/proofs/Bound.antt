@@ -28,7 +28,8 @@ module _ (s : Settings) (n m most : ℕ) (P : ℕ → ℕ → Type 0)
   up_to : (Q : ℕ → Type 0) (r : ℕ) → ((q : ℕ) → q < r → Q q) → Q r → (q : ℕ) → q < suc r → Q q
   up_to Q r before last q h = elim (cases_lt q r) [ inl e ↦ before q e | inr d ↦ subst Q {x = r} (omega (arith, h, d)) last ]
 
-  pub ends : (fuel r x : ℕ) → most < fuel + x → r ≤ x → P r x → ((q : ℕ) → q < suc r → (round s n m q).done ≡ false) → ((q : ℕ) → q < r → (run_after s (round s n m q)).fault ≡ None)
+  pub ends : (fuel r x : ℕ) → most < fuel + x → r ≤ x → P r x → ((q : ℕ) → q < suc r → (round s n m q).done ≡ false)
+      → ((q : ℕ) → q < r → (run_after s (round s n m q)).fault ≡ None)
       → EndsWithin s n m (most + 1)
   ends zero r x short early is before out = absurd (omega (arith, short, below r x is))
   ends (suc fuel) r x short early is before out =
@@ -42,5 +43,6 @@ module _ (s : Settings) (n m most : ℕ) (P : ℕ → ℕ → Type 0)
           started = started;
           carried_out = now_out;
         }
-        | inr f ↦ ends fuel (suc r) f.measure (omega (arith, short, f.more)) (omega (arith, early, f.more)) f.is (up_to (λ q. (round s n m q).done ≡ false) (suc r) before f.not_yet) now_out
+        | inr f ↦ ends fuel (suc r) f.measure (omega (arith, short, f.more)) (omega (arith, early, f.more)) f.is
+            (up_to (λ q. (round s n m q).done ≡ false) (suc r) before f.not_yet) now_out
       ]

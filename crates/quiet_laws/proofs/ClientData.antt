@@ -30,8 +30,10 @@ reply_put : (m : Moment) (n here given : ℕ) (part : Incoming) (r : ClientRow) 
     ≡ piece_added the_call r (with_bytes part here payload) (record d { version = version_of (piece_of n here version 0 payload) })
 reply_put m n here given part r version payload d f =
     let full : Did ClientRow = piece_added the_call r (with_bytes part here payload) (record d { version = version_of (piece_of n here version 0 payload) }) in
-    let gaps : Did ClientRow = record d { row = Some (with_part r part); version = version_of (piece_of n here version 0 payload); says = Tells (PlainGaps client_id the_call) ∷ [] } in
-    ap (λ t. cond (not t) (record d { row = Some (with_part r part) }) (cond (leaves_too_many_gaps part here payload) gaps full)) (eq-eqb part.length n f.length)
+    let gaps : Did ClientRow =
+    record d { row = Some (with_part r part); version = version_of (piece_of n here version 0 payload); says = Tells (PlainGaps client_id the_call) ∷ [] } in
+    ap (λ t. cond (not t) (record d { row = Some (with_part r part) }) (cond (leaves_too_many_gaps part here payload) gaps full))
+    (eq-eqb part.length n f.length)
     ∙ ap (λ t. cond t gaps full) (front_gaps n here given part f payload)
 
 -- a rule of the client that leaves the row, may have opened the response, and may be answered by CUTOFFS
@@ -49,7 +51,9 @@ unfolding insert empty maps.checked
 set_one old row = refl
 
 pub client_does : (s : Settings) (b : Bits) (credit : ℕ) (old : ClientRow) (order : ℕ) (opened version : Option ℕ) (row : ClientRow)
-    → Asked s b credit row order (asked s the_call server_id (record { row = Some row; order = order; opened = opened; version = version; says = []; finished = false }) (record { host = client_host b credit old; told = [] }))
+    → Asked s b credit row order
+    (asked s the_call server_id (record { row = Some row; order = order; opened = opened; version = version; says = []; finished = false })
+    (record { host = client_host b credit old; told = [] }))
 unfolding asked
 client_does s b credit old order opened version row =
     let h : Host = client_host (record b { order = order }) credit row in
@@ -57,8 +61,11 @@ client_does s b credit old order opened version row =
     record {
       bits = record b { order = order; tuning = a.tuning };
       aside = a.more;
-      is = ap (λ rows. tells [] (tells_cutoffs s Client the_call server_id version (notes s opened (record { host = record (client_host b credit old) { order = order; clients = rows }; told = [] })))) (set_one old row)
-          ∙ ap (tells []) a.is ∙ ap (λ t. record { host = client_host (record b { order = order; tuning = a.tuning }) credit row; told = t }) (append-nil a.more);
+      is = ap (λ rows. tells []
+          (tells_cutoffs s Client the_call server_id version
+          (notes s opened (record { host = record (client_host b credit old) { order = order; clients = rows }; told = [] })))) (set_one old row)
+          ∙ ap (tells []) a.is ∙ ap (λ t. record { host = client_host (record b { order = order; tuning = a.tuning }) credit row; told = t })
+          (append-nil a.more);
       order_is = refl;
       last = refl;
       refilled = refl;
@@ -92,35 +99,44 @@ module _ (s : Settings) (b : Bits) (credit now : ℕ) (answer : Answer) (at leve
   put old part d = piece_added the_call (r1 old) (with_bytes part here payload) (record d { version = version_of (piece_of n here version 0 payload) })
 
   pub to_part : (part : Incoming) → HasFront n here given part
-      → comes s (Some the_piece) answer (c0 1 (Some part)) ≡ asked s the_call server_id (put (Some part) part (keeps (n0 1 (Some part)) (r1 (Some part)))) (c0 1 (Some part))
+      → comes s (Some the_piece) answer (c0 1 (Some part)) ≡ asked s the_call server_id
+      (put (Some part) part (keeps (n0 1 (Some part)) (r1 (Some part)))) (c0 1 (Some part))
   unfolding takes client_gets get insert empty maps.checked
   to_part part f =
       fresh_taken s the_piece answer (c0 1 (Some part)) fresh
-      ∙ ap (λ d. asked s the_call server_id d (c0 1 (Some part))) (reply_put (n0 1 (Some part)) n here given part (r1 (Some part)) version payload (keeps (n0 1 (Some part)) (r1 (Some part))) f)
+      ∙ ap (λ d. asked s the_call server_id d (c0 1 (Some part)))
+      (reply_put (n0 1 (Some part)) n here given part (r1 (Some part)) version payload (keeps (n0 1 (Some part)) (r1 (Some part))) f)
 
   pub to_none : (seen : ℕ) → SeenSoFar seen None → pages_for n ≤ s.pages → HasFront n here given (incoming.opened server_id n b.order s.unsched)
-      → comes s (Some the_piece) answer (c0 seen None) ≡ asked s the_call server_id (put None (incoming.opened server_id n b.order s.unsched) (opening n (keeps (n0 seen None) (r1 None)))) (c0 seen None)
+      → comes s (Some the_piece) answer (c0 seen None) ≡ asked s the_call server_id
+      (put None (incoming.opened server_id n b.order s.unsched) (opening n (keeps (n0 seen None) (r1 None)))) (c0 seen None)
   unfolding takes client_gets get insert empty maps.checked maps.values maps.remove maps.retain maps.len
   to_none seen known pages f = fresh_taken s the_piece answer (c0 seen None) fresh ∙ by seen known where
     full : (seen : ℕ) → Did ClientRow
     full seen = says (n0 seen None) (Some (r1 None)) (Tells (PlainFullPages client_id the_call (pages_for n) (n0 seen None).free) ∷ [])
 
     opens : (seen : ℕ) → Did ClientRow
-    opens seen = piece_comes the_call (r1 None) (incoming.opened server_id n b.order s.unsched) (piece_of n here version 0 payload) (opening n (keeps (n0 seen None) (r1 None)))
+    opens seen = piece_comes the_call (r1 None) (incoming.opened server_id n b.order s.unsched) (piece_of n here version 0 payload)
+        (opening n (keeps (n0 seen None) (r1 None)))
 
     rest : (seen : ℕ) → asked s the_call server_id (cond (nat_lt (n0 seen None).free (pages_for n)) (full seen) (opens seen)) (c0 seen None)
         ≡ asked s the_call server_id (put None (incoming.opened server_id n b.order s.unsched) (opening n (keeps (n0 seen None) (r1 None)))) (c0 seen None)
     rest seen =
         ap (λ t. asked s the_call server_id (cond t (full seen) (opens seen)) (c0 seen None)) (le-ltb (n0 seen None).free (pages_for n) (omega (arith, pages)))
-        ∙ ap (λ d. asked s the_call server_id d (c0 seen None)) (reply_put (n0 seen None) n here given (incoming.opened server_id n b.order s.unsched) (r1 None) version payload (opening n (keeps (n0 seen None) (r1 None))) f)
+        ∙ ap (λ d. asked s the_call server_id d (c0 seen None))
+        (reply_put (n0 seen None) n here given (incoming.opened server_id n b.order s.unsched) (r1 None) version payload
+        (opening n (keeps (n0 seen None) (r1 None))) f)
 
-    by : (seen : ℕ) → SeenSoFar seen None → takes s the_piece answer (c0 seen None) ≡ asked s the_call server_id (put None (incoming.opened server_id n b.order s.unsched) (opening n (keeps (n0 seen None) (r1 None)))) (c0 seen None)
+    by : (seen : ℕ) → SeenSoFar seen None
+        → takes s the_piece answer (c0 seen None) ≡ asked s the_call server_id
+        (put None (incoming.opened server_id n b.order s.unsched) (opening n (keeps (n0 seen None) (r1 None)))) (c0 seen None)
     by zero Never = rest 0
     by (suc zero) Once = rest 1
     by (suc (suc _)) x = elim x [ ]
 
   module _ (seen : ℕ) (old : Option Incoming) (part : Incoming) (opened : Option ℕ) (next : ℕ) (f : HasFront n here given part)
-      (e : comes s (Some the_piece) answer (c0 seen old) ≡ asked s the_call server_id (put old part (record { row = Some (r1 old); order = next; opened = opened; version = None; says = []; finished = false })) (c0 seen old)) where
+      (e : comes s (Some the_piece) answer (c0 seen old) ≡ asked s the_call server_id
+      (put old part (record { row = Some (r1 old); order = next; opened = opened; version = None; says = []; finished = false })) (c0 seen old)) where
     abbrev version_is : Option ℕ
     version_is = version_of (piece_of n here version 0 payload)
 
@@ -131,17 +147,26 @@ module _ (s : Settings) (b : Bits) (credit now : ℕ) (answer : Answer) (at leve
     did_more = record { row = Some row_more; order = next; opened = opened; version = version_is; says = []; finished = false }
 
     abbrev did_last : Did ClientRow
-    did_last = record { row = None; order = next; opened = opened; version = version_is; says = Tells (PlainDone the_call (message (with_bytes part here payload))) ∷ []; finished = true }
+    did_last = record {
+      row = None;
+      order = next;
+      opened = opened;
+      version = version_is;
+      says = Tells (PlainDone the_call (message (with_bytes part here payload))) ∷ [];
+      finished = true;
+    }
 
     -- not whole with it
     pub more_comes : here + length payload < n → Asked s (at_tick now b) credit row_more next (comes s (Some the_piece) answer (c0 seen old))
     more_comes more =
         subst (λ w. Asked s (at_tick now b) credit row_more next w) {x = asked s the_call server_id did_more (c0 seen old)}
         (sym (e ∙ ap (λ t. asked s the_call server_id (cond t did_last did_more) (c0 seen old))
-        (front_whole n (here + length payload) given (with_bytes part here payload) (front_more n here given part f payload) ∙ ne_eqb _ _ (λ x. absurd (omega (arith, x, more))))))
+        (front_whole n (here + length payload) given (with_bytes part here payload) (front_more n here given part f payload)
+        ∙ ne_eqb _ _ (λ x. absurd (omega (arith, x, more))))))
         (client_does s (at_tick now b) credit (r0 seen old) next opened version_is row_more)
 
     -- whole with it
     pub last_comes : here + length payload ≡ n → comes s (Some the_piece) answer (c0 seen old) ≡ asked s the_call server_id did_last (c0 seen old)
     last_comes whole =
-        e ∙ ap (λ t. asked s the_call server_id (cond t did_last did_more) (c0 seen old)) (front_whole n (here + length payload) given (with_bytes part here payload) (front_more n here given part f payload) ∙ eq-eqb _ _ whole)
+        e ∙ ap (λ t. asked s the_call server_id (cond t did_last did_more) (c0 seen old))
+        (front_whole n (here + length payload) given (with_bytes part here payload) (front_more n here given part f payload) ∙ eq-eqb _ _ whole)

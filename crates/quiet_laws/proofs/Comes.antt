@@ -29,12 +29,14 @@ pub data SeenSoFar : ℕ → Option Incoming → Type 0 where
   Never : SeenSoFar 0 None
   Once : {part : Option Incoming} → SeenSoFar 1 part
 
-module _ (s : Settings) (b : Bits) (credit now : ℕ) (answer : Answer) (at level : ℕ) (payload : List ℕ) (request : List ℕ) (order : ℕ) (out : Outgoing) (heard base count : ℕ) where
+module _ (s : Settings) (b : Bits) (credit now : ℕ) (answer : Answer) (at level : ℕ) (payload : List ℕ) (request : List ℕ) (order : ℕ)
+    (out : Outgoing) (heard base count : ℕ) where
   abbrev pub asks : (seen : ℕ) → Option Incoming → ClientRow
   asks seen part = asking request order out heard base count seen part
 
   -- a GRANT to the request
-  pub client_granted : (seen : ℕ) (part : Option Incoming) → SeenSoFar seen part → (offset prio : ℕ) → is_stale s now (ours Server at level (body.Grant offset prio) payload) ≡ false
+  pub client_granted : (seen : ℕ) (part : Option Incoming) → SeenSoFar seen part → (offset prio : ℕ)
+      → is_stale s now (ours Server at level (body.Grant offset prio) payload) ≡ false
       → comes s (Some (ours Server at level (body.Grant offset prio) payload)) answer (begun (client_host b credit (asks seen part)) now)
       ≡ record { host = client_host (at_tick now b) credit (asking request order (grant out offset prio) now now 0 1 part); told = [] }
   unfolding takes asked client_gets get insert empty maps.checked
@@ -50,7 +52,8 @@ module _ (s : Settings) (b : Bits) (credit now : ℕ) (answer : Answer) (at leve
         by (suc (suc _)) part x = elim x [ ]
         by (suc zero) part Once = refl
 
-module _ (s : Settings) (b : Bits) (credit now : ℕ) (answer : Answer) (at level : ℕ) (payload : List ℕ) (row_order : ℕ) (response : List ℕ) (out : Outgoing) (order base count : ℕ) where
+module _ (s : Settings) (b : Bits) (credit now : ℕ) (answer : Answer) (at level : ℕ) (payload : List ℕ) (row_order : ℕ) (response : List ℕ)
+    (out : Outgoing) (order base count : ℕ) where
   abbrev pub replied : Outgoing → ℕ → ℕ → ServerRow
   replied out base count = record { order = row_order; state = Replying response out order base count }
 
@@ -81,20 +84,43 @@ module _ (s : Settings) (b : Bits) (credit now : ℕ) (answer : Answer) (at leve
   cutoffs_to_client = ours Server at level (body.Cutoffs cutoffs) payload
 
   -- CUTOFFS at the client leave the timer
-  pub client_hears : (request : List ℕ) (order : ℕ) (out : Outgoing) (heard base count seen : ℕ) (part : Option Incoming) → SeenSoFar seen part → is_stale s now cutoffs_to_client ≡ false
+  pub client_hears : (request : List ℕ) (order : ℕ) (out : Outgoing) (heard base count seen : ℕ) (part : Option Incoming) → SeenSoFar seen part
+      → is_stale s now cutoffs_to_client ≡ false
       → let h : Host = client_host (at_tick now b) credit (asking request order out heard base count seen part) in
       comes s (Some cutoffs_to_client) answer (begun (client_host b credit (asking request order out heard base count seen part)) now)
-      ≡ record { host = client_host (record b { last = now; peers = newer_peers s server_id cutoffs h }) credit (asking request order out now base 0 1 part); told = [] }
+      ≡ record {
+        host = client_host (record b { last = now; peers = newer_peers s server_id cutoffs h }) credit
+            (asking request order out now base 0 1 part);
+        told = [];
+      }
   unfolding takes asked client_gets get insert empty maps.checked
   client_hears request order out heard base count seen part known fresh =
       let w : Work = begun (client_host b credit (asking request order out heard base count seen part)) now in
       fresh_taken s cutoffs_to_client answer w fresh
-      ∙ ap (λ v. asked s the_call server_id (client_gets s (moment s the_call v) cutoffs_to_client (get v.host.clients the_call)) v) (heard_cutoffs s server_id cutoffs w)
+      ∙ ap (λ v. asked s the_call server_id (client_gets s (moment s the_call v) cutoffs_to_client (get v.host.clients the_call)) v)
+      (heard_cutoffs s server_id cutoffs w)
       ∙ by seen part known where
         by : (seen : ℕ) (part : Option Incoming) → SeenSoFar seen part
-            → let v : Work = record { host = client_host (record b { last = now; peers = newer_peers s server_id cutoffs (client_host (at_tick now b) credit (asking request order out heard base count seen part)) }) credit (asking request order out heard base count seen part); told = [] } in
+            → let v : Work =
+            record {
+              host = client_host
+                  (record b {
+                    last = now;
+                    peers = newer_peers s server_id cutoffs (client_host (at_tick now b) credit (asking request order out heard base count seen part));
+                  }) credit (asking request order out heard base count seen part);
+              told =
+                  [];
+            } in
             asked s the_call server_id (client_gets s (moment s the_call v) cutoffs_to_client (get v.host.clients the_call)) v
-            ≡ record { host = client_host (record b { last = now; peers = newer_peers s server_id cutoffs (client_host (at_tick now b) credit (asking request order out heard base count seen part)) }) credit (asking request order out now base 0 1 part); told = [] }
+            ≡ record {
+              host = client_host
+                  (record b {
+                    last = now;
+                    peers = newer_peers s server_id cutoffs (client_host (at_tick now b) credit (asking request order out heard base count seen part));
+                  }) credit (asking request order out now base 0 1 part);
+              told =
+                  [];
+            }
         by zero None Never = refl
         by zero (Some _) x = elim x [ ]
         by (suc (suc _)) part x = elim x [ ]
@@ -107,9 +133,14 @@ module _ (s : Settings) (b : Bits) (credit now : ℕ) (answer : Answer) (at leve
   pub server_hears : (row_order : ℕ) (response : List ℕ) (out : Outgoing) (order base count : ℕ) → is_stale s now cutoffs_to_server ≡ false
       → let row : ServerRow = record { order = row_order; state = Replying response out order base count } in
       comes s (Some cutoffs_to_server) answer (begun (server_host b credit (Some row)) now)
-      ≡ record { host = server_host (record b { last = now; peers = newer_peers s client_id cutoffs (server_host (at_tick now b) credit (Some row)) }) credit (Some (record { order = row_order; state = Replying response out order now 0 })); told = [] }
+      ≡ record {
+        host = server_host (record b { last = now; peers = newer_peers s client_id cutoffs (server_host (at_tick now b) credit (Some row)) })
+            credit (Some (record { order = row_order; state = Replying response out order now 0 }));
+        told = [];
+      }
   unfolding takes served server_gets get insert empty maps.checked
   server_hears row_order response out order base count fresh =
       let w : Work = begun (server_host b credit (Some (record { order = row_order; state = Replying response out order base count }))) now in
       fresh_taken s cutoffs_to_server answer w fresh
-      ∙ ap (λ v. served s the_call (server_gets s (moment s the_call v) cutoffs_to_server answer (get v.host.servers the_call)) v) (heard_cutoffs s client_id cutoffs w)
+      ∙ ap (λ v. served s the_call (server_gets s (moment s the_call v) cutoffs_to_server answer (get v.host.servers the_call)) v)
+      (heard_cutoffs s client_id cutoffs w)

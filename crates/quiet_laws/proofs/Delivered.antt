@@ -49,53 +49,65 @@ pub packets_of-append : (xs ys : List SentPacket) → packets_of (xs ++ ys) ≡ 
 packets_of-append xs ys = map-append (λ (x : SentPacket). x.packet) xs ys
 
 -- the packets of a step that told something aside and then sent pieces or GRANTs
-pub stamped_told : (tick : ℕ) (aside : List Told) (sent : List Packet) (told : List Told) → told ≡ aside ++ map Sends sent → packets_of (stamped tick (packets_in told)) ≡ packets_in aside ++ sent
+pub stamped_told : (tick : ℕ) (aside : List Told) (sent : List Packet) (told : List Told) → told ≡ aside ++ map Sends sent
+    → packets_of (stamped tick (packets_in told)) ≡ packets_in aside ++ sent
 stamped_told tick aside sent told e = packets_of-stamped tick (packets_in told) ∙ ap packets_in e ∙ packets_in-then aside sent
 
 -- ---- the end of a step
 
 module _ (s : Settings) (n : ℕ) (t : Times) (now : ℕ) (p : Packet) (answer : Answer) (h : Host) where
   -- a packet has come to the message's sender, and the step ends
-  pub sender_steps : (top may : ℕ) → 1 ≤ s.seg → top ≤ may → may ≤ n → (side role : Role) (c : Came side (IsSender role s n top may t) s now (comes s (Some p) answer (begun h now)))
+  pub sender_steps : (top may : ℕ) → 1 ≤ s.seg → top ≤ may → may ≤ n
+      → (side role : Role) (c : Came side (IsSender role s n top may t) s now (comes s (Some p) answer (begun h now)))
       → SenderEnded role s n top may t (record { host = c.host; told = c.told }) (arrival_step s h now (Some p) answer)
   unfolding arrival_step
   sender_steps top may some sent within side role c =
       subst (λ w. SenderEnded role s n top may t (record { host = c.host; told = c.told }) (ended s w)) {x = record { host = c.host; told = c.told }} (sym c.is)
       (sender_ends s n top may t some sent within role c.told c.host c.stands)
 
-  pub receiver_steps : (here given : ℕ) → 1 ≤ s.overcommit → here < n → given ≤ n → (side role : Role) (c : Came side (IsReceiver role s n here given t) s now (comes s (Some p) answer (begun h now)))
+  pub receiver_steps : (here given : ℕ) → 1 ≤ s.overcommit → here < n → given ≤ n
+      → (side role : Role) (c : Came side (IsReceiver role s n here given t) s now (comes s (Some p) answer (begun h now)))
       → ReceiverEnded role s n here given t (record { host = c.host; told = c.told }) (arrival_step s h now (Some p) answer)
   unfolding arrival_step
   receiver_steps here given some short within side role c =
-      subst (λ w. ReceiverEnded role s n here given t (record { host = c.host; told = c.told }) (ended s w)) {x = record { host = c.host; told = c.told }} (sym c.is)
+      subst (λ w. ReceiverEnded role s n here given t (record { host = c.host; told = c.told }) (ended s w))
+      {x = record { host = c.host; told = c.told }} (sym c.is)
       (receiver_ends s n here given t some short within role c.told c.host c.stands)
 
 -- ---- the world after a delivery
 
-module _ (role : Role) (s : Settings) (n m clock d end told : ℕ) (x : SentPacket) (rest : List SentPacket) (w : World) (a : Amid role s n m clock d end told (x ∷ rest) w) where
+module _ (role : Role) (s : Settings) (n m clock d end told : ℕ) (x : SentPacket) (rest : List SentPacket) (w : World)
+    (a : Amid role s n m clock d end told (x ∷ rest) w) where
   abbrev pub all_packets : List SentPacket
   all_packets = a.old ++ ((x ∷ rest) ++ a.fresh)
 
   -- the packets behind the fresh ones
-  behind : (aside v_told : List Told) (sent : List Packet) (top given top' given' : ℕ) → v_told ≡ aside ++ map Sends sent → AreAside (other role) s (clock + s.skew) aside
-      → flows n role end told (packets_of a.fresh) top given → flows n role top given sent top' given' → flows n role end told (packets_of (a.fresh ++ stamped clock (packets_in v_told))) top' given'
+  behind : (aside v_told : List Told) (sent : List Packet) (top given top' given' : ℕ) → v_told ≡ aside ++ map Sends sent
+      → AreAside (other role) s (clock + s.skew) aside
+      → flows n role end told (packets_of a.fresh) top given → flows n role top given sent top' given'
+      → flows n role end told (packets_of (a.fresh ++ stamped clock (packets_in v_told))) top' given'
   behind aside v_told sent top given top' given' e few old new =
-      subst (λ ps. flows n role end told ps top' given') (sym (packets_of-append a.fresh (stamped clock (packets_in v_told)) ∙ ap (λ ps. packets_of a.fresh ++ ps) (stamped_told clock aside sent v_told e)))
+      subst (λ ps. flows n role end told ps top' given')
+      (sym (packets_of-append a.fresh (stamped clock (packets_in v_told)) ∙ ap (λ ps. packets_of a.fresh ++ ps) (stamped_told clock aside sent v_told e)))
       (flows-append n role (packets_of a.fresh) (packets_in aside ++ sent) end told top given top' given' old
       (flows-append n role (packets_in aside) sent top given top given top' given' (aside_flows role s (clock + s.skew) n top given aside few) new))
 
-  newer_too : (aside v_told : List Told) (sent : List Packet) → v_told ≡ aside ++ map Sends sent → AreAside (other role) s (clock + s.skew) aside → AreOurs s (clock + s.skew) sent
+  newer_too : (aside v_told : List Told) (sent : List Packet) → v_told ≡ aside ++ map Sends sent → AreAside (other role) s (clock + s.skew) aside
+      → AreOurs s (clock + s.skew) sent
       → AreNew s (clock + 1) (a.fresh ++ stamped clock (packets_in v_told))
   newer_too aside v_told sent e few ours =
       new-append s (clock + 1) a.fresh (stamped clock (packets_in v_told)) a.newer
       (new_next s clock (packets_in v_told)
-      (subst (AreOurs s (clock + s.skew)) (sym (ap packets_in e ∙ packets_in-then aside sent)) (ours-append s (clock + s.skew) (packets_in aside) sent (aside_ours (other role) s (clock + s.skew) aside few) ours)))
+      (subst (AreOurs s (clock + s.skew)) (sym (ap packets_in e ∙ packets_in-then aside sent))
+      (ours-append s (clock + s.skew) (packets_in aside) sent (aside_ours (other role) s (clock + s.skew) aside few) ours)))
 
   -- the message's sender got it
   pub sender_on : (may : ℕ) (t : Times) (aside : List Told) (h : Host) (v : Work) → AreAside (other role) s (clock + s.skew) aside
-      → SenderEnded role s n a.top may t (record { host = h; told = aside }) v → t.last ≡ clock + s.skew → t.refilled ≡ a.at_sender.refilled → flows n role a.here may (packets_of rest) end told
+      → SenderEnded role s n a.top may t (record { host = h; told = aside }) v → t.last ≡ clock + s.skew → t.refilled ≡ a.at_sender.refilled
+      → flows n role a.here may (packets_of rest) end told
       → (clock + s.skew ≤ t.base + 1) ⊎ (may < told) → (end < a.top → clock + s.skew ≤ t.base)
-      → Amid role s n m clock (suc d) end told rest (world_by role s clock a.spares v.host a.receiver (all_packets ++ stamped clock (packets_in v.told)) (answers_by role m))
+      → Amid role s n m clock (suc d) end told rest
+      (world_by role s clock a.spares v.host a.receiver (all_packets ++ stamped clock (packets_in v.told)) (answers_by role m))
   sender_on may t aside h v few e last refilled goes_on ok anew = record {
     here = a.here;
     top = e.end;
@@ -137,9 +149,11 @@ module _ (role : Role) (s : Settings) (n m clock d end told : ℕ) (x : SentPack
 
   -- its receiver got it
   pub receiver_on : (here : ℕ) (t : Times) (aside : List Told) (h : Host) (v : Work) → AreAside (other role) s (clock + s.skew) aside
-      → ReceiverEnded role s n here a.given t (record { host = h; told = aside }) v → t.last ≡ clock + s.skew → t.refilled ≡ a.at_receiver.refilled → flows n role here a.may (packets_of rest) end told → here < n
+      → ReceiverEnded role s n here a.given t (record { host = h; told = aside }) v → t.last ≡ clock + s.skew → t.refilled ≡ a.at_receiver.refilled
+      → flows n role here a.may (packets_of rest) end told → here < n
       → (clock + s.skew ≤ t.base + 1) ⊎ (here < end) → (told < a.given → clock + s.skew ≤ t.base)
-      → Amid role s n m clock (suc d) end told rest (world_by role s clock a.spares a.sender v.host (all_packets ++ stamped clock (packets_in v.told)) (answers_by role m))
+      → Amid role s n m clock (suc d) end told rest
+      (world_by role s clock a.spares a.sender v.host (all_packets ++ stamped clock (packets_in v.told)) (answers_by role m))
   receiver_on here t aside h v few e last refilled goes_on short ok anew = record {
     here = here;
     top = a.top;

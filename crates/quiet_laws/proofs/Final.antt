@@ -32,4 +32,11 @@ quiet_ends s n m calm first started carries goes =
     started (suc most) 0 1 (omega arith) (omega arith) first.1
     (λ q h. subst (λ i. (round s n m i).done ≡ false) {x = 0} (omega (arith, h)) first.0)
     (λ q h. absurd (omega (arith, h))) in
-    record { rounds = e.rounds; within = omega (arith, e.within, calm.response.0); quiet = e.quiet; only = e.only; started = e.started; carried_out = e.carried_out }
+    record {
+      rounds = e.rounds;
+      within = omega (arith, e.within, calm.response.0);
+      quiet = e.quiet;
+      only = e.only;
+      started = e.started;
+      carried_out = e.carried_out;
+    }

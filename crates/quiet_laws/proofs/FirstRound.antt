@@ -54,13 +54,26 @@ module _ (s : Settings) (n m : ℕ) (calm : IsCalm s n m) where
   begins = new_world s (1 ∷ 1 ∷ []) 0 2 left
 
   abbrev went : After
-  went = record { world = record { clock = 0; hosts = step.host ∷ server ∷ []; leads = s.skew ∷ s.skew ∷ []; packets = [] ++ stamped 0 (packets_in step.told); spares = 0; answers = answers_left step.told left }; told = [] ++ entries_from 0 step.told }
+  went = record {
+    world = record {
+      clock = 0;
+      hosts = step.host ∷ server ∷ [];
+      leads = s.skew ∷ s.skew ∷ [];
+      packets = [] ++ stamped 0 (packets_in step.told);
+      spares = 0;
+      answers = answers_left step.told left;
+    };
+    told = [] ++ entries_from 0 step.told;
+  }
 
   called : outcome s begins (event.Call client_id server_id 0) request ≡ Done went
   unfolding outcome new_world
-  called = ap (λ o. started s begins client_id server_id 0 request client o) (no_fault s calm.hosts n request (length-counting 0 n) calm.request.0 calm.request.1 calls (0 + s.skew))
+  called = ap (λ o. started s begins client_id server_id 0 request client o)
+      (no_fault s calm.hosts n request (length-counting 0 n) calm.request.0 calm.request.1 calls (0 + s.skew))
 
-  ended_well : SenderEnded Client s n 0 (min n s.unsched) (times s calm.hosts n request (length-counting 0 n) calm.request.0 calm.request.1 calls (0 + s.skew)) (starts s server_id 0 request (begun client (0 + s.skew))) step
+  ended_well : SenderEnded Client s n 0 (min n s.unsched)
+      (times s calm.hosts n request (length-counting 0 n) calm.request.0 calm.request.1 calls (0 + s.skew))
+      (starts s server_id 0 request (begun client (0 + s.skew))) step
   ended_well = call_goes s calm.hosts n request (length-counting 0 n) calm.request.0 calm.request.1 calls (0 + s.skew) seg
 
   first_is : first_round s n m ≡ carried_round 0 (after_event went.told (record { world = went.world; told = []; count = 0; fault = None }))
@@ -74,7 +87,8 @@ module _ (s : Settings) (n m : ℕ) (calm : IsCalm s n m) where
   told_of ps = Says (PlainCall the_call server_id 0 request) ∷ map Sends ps
 
   abbrev world_of : List Packet → List Answer → World
-  world_of ps answers = record { clock = 0; hosts = step.host ∷ server ∷ []; leads = s.skew ∷ s.skew ∷ []; packets = stamped 0 ps; spares = 0; answers = answers }
+  world_of ps answers =
+      record { clock = 0; hosts = step.host ∷ server ∷ []; leads = s.skew ∷ s.skew ∷ []; packets = stamped 0 ps; spares = 0; answers = answers }
 
   world_is : (first_round s n m).world ≡ world_of sent left
   world_is = ap (λ (r : Round). r.world) first_is
@@ -116,7 +130,8 @@ module _ (s : Settings) (n m : ℕ) (calm : IsCalm s n m) where
     gets = server_stands s calm.hosts n request (length-counting 0 n) calm.request.0 calm.request.1 calls (0 + s.skew);
     new = stamped_new s 0 sent ended_well.ours;
     newer = tt;
-    first = subst (λ ps. flows n Client 0 (min n s.unsched) ps ended_well.end (min n s.unsched)) (sym (packets_of-stamped 0 sent)) (ended_well.flow (min n s.unsched));
+    first = subst (λ ps. flows n Client 0 (min n s.unsched) ps ended_well.end (min n s.unsched)) (sym (packets_of-stamped 0 sent))
+        (ended_well.flow (min n s.unsched));
     then_ = (refl, refl);
     sent = ended_well.within;
     granted = omega arith;
@@ -133,7 +148,18 @@ module _ (s : Settings) (n m : ℕ) (calm : IsCalm s n m) where
 
   pub first_goes : FirstGoes s n m
   unfolding round first_round amid_first
-  first_goes = (not_done, inl (record { end = ended_well.end; told = min n s.unsched; pending = stamped 0 sent; amid = amid_first; nothing = refl; way = inl is_sent; is = omega (arith, is_sent) }))
+  first_goes = (
+    not_done,
+    inl (record {
+      end = ended_well.end;
+      told = min n s.unsched;
+      pending = stamped 0 sent;
+      amid = amid_first;
+      nothing = refl;
+      way = inl is_sent;
+      is = omega (arith, is_sent);
+    }),
+  )
 
   pub first_started : (first_run s n m).fault ≡ None
   unfolding carried

@@ -26,7 +26,8 @@ take-one (suc (suc k)) x h = refl
 
 -- one message is chosen
 pub granted_one : {X : Type 0} (message : X → choice.Message) (k window : ℕ) (x : X) → 1 ≤ k
-    → grants message k window (x ∷ []) ≡ cond (nat_lt (message x).granted (new_end window (message x))) (record { to = x; offset = new_end window (message x); prio = 0 } ∷ []) [] ++ []
+    → grants message k window (x ∷ []) ≡ cond (nat_lt (message x).granted (new_end window (message x)))
+    (record { to = x; offset = new_end window (message x); prio = 0 } ∷ []) [] ++ []
 unfolding ordered firsts
 granted_one message k window x h = ap (λ cs. grants_from message window (length cs) 0 cs) (take-one k x h)
 
@@ -51,7 +52,10 @@ module _ (s : Settings) (some : 1 ≤ s.overcommit) (b : Bits) (credit row_order
       let a : Arriving = record { place = OfServer the_call; message = choice.seen part } in
       ap (λ gs. all_granted s gs w) (granted_one (λ (x : Arriving). x.message) s.overcommit s.window a some)
       ∙ by (nat_lt part.granted offset) where
-        by : (t : Bool) → all_granted s (cond t (record { to = record { place = OfServer the_call; message = choice.seen part }; offset = offset; prio = 0 } ∷ []) [] ++ []) (receives part base told)
+        by : (t : Bool)
+            → all_granted s
+            (cond t (record { to = record { place = OfServer the_call; message = choice.seen part }; offset = offset; prio = 0 } ∷ []) [] ++ [])
+            (receives part base told)
             ≡ cond t (receives (granted_to part offset) b.last (told ++ Sends grant_packet ∷ [])) (receives part base told)
         by true = refl
         by false = refl
@@ -60,7 +64,8 @@ module _ (s : Settings) (some : 1 ≤ s.overcommit) (b : Bits) (credit row_order
       ≡ cond u (receives (granted_to part offset) b.last (told ++ Sends grant_packet ∷ [])) (receives part base told)
   server_gives_by u e = server_gives ∙ ap (λ x. cond x (receives (granted_to part offset) b.last (told ++ Sends grant_packet ∷ [])) (receives part base told)) e
 
-module _ (s : Settings) (some : 1 ≤ s.overcommit) (b : Bits) (credit : ℕ) (request : List ℕ) (row_order : ℕ) (out : Outgoing) (heard base count seen : ℕ) (part : Incoming) (told : List Told) where
+module _ (s : Settings) (some : 1 ≤ s.overcommit) (b : Bits) (credit : ℕ) (request : List ℕ) (row_order : ℕ) (out : Outgoing)
+    (heard base count seen : ℕ) (part : Incoming) (told : List Told) where
   abbrev pub gets : Incoming → ℕ → List Told → Work
   gets p x t = record { host = client_host b credit (asking request row_order out heard x count seen (Some p)); told = t }
 
@@ -78,14 +83,18 @@ module _ (s : Settings) (some : 1 ≤ s.overcommit) (b : Bits) (credit : ℕ) (r
       let a : Arriving = record { place = OfClient the_call; message = choice.seen part } in
       ap (λ gs. all_granted s gs w) (granted_one (λ (x : Arriving). x.message) s.overcommit s.window a some)
       ∙ by (nat_lt part.granted response_offset) where
-        by : (t : Bool) → all_granted s (cond t (record { to = record { place = OfClient the_call; message = choice.seen part }; offset = response_offset; prio = 0 } ∷ []) [] ++ []) (gets part base told)
+        by : (t : Bool)
+            → all_granted s
+            (cond t (record { to = record { place = OfClient the_call; message = choice.seen part }; offset = response_offset; prio = 0 } ∷ []) []
+            ++ []) (gets part base told)
             ≡ cond t (gets (granted_to part response_offset) b.last (told ++ Sends response_grant ∷ [])) (gets part base told)
         by true = refl
         by false = refl
 
   pub client_gives_by : (u : Bool) → nat_lt part.granted response_offset ≡ u → gives_grants s (gets part base told)
       ≡ cond u (gets (granted_to part response_offset) b.last (told ++ Sends response_grant ∷ [])) (gets part base told)
-  client_gives_by u e = client_gives ∙ ap (λ x. cond x (gets (granted_to part response_offset) b.last (told ++ Sends response_grant ∷ [])) (gets part base told)) e
+  client_gives_by u e =
+      client_gives ∙ ap (λ x. cond x (gets (granted_to part response_offset) b.last (told ++ Sends response_grant ∷ [])) (gets part base told)) e
 
 -- hosts at which no message is in progress grant nothing
 module _ (s : Settings) (b : Bits) (credit : ℕ) (told : List Told) where
@@ -104,12 +113,17 @@ module _ (s : Settings) (b : Bits) (credit : ℕ) (told : List Told) where
       ap (λ cs. all_granted s (grants_from (λ (x : Arriving). x.message) s.window (length cs) 0 cs) w) (take-none s.overcommit)
 
   pub server_gives_none : (row_order order base count : ℕ) (response : List ℕ) (out : Outgoing)
-      → let w : Work = record { host = server_host b credit (Some (record { order = row_order; state = Replying response out order base count })); told = told } in gives_grants s w ≡ w
+      → let w : Work =
+      record { host = server_host b credit (Some (record { order = row_order; state = Replying response out order base count })); told = told } in
+      gives_grants s w ≡ w
   unfolding get insert empty maps.checked ordered firsts
   server_gives_none row_order order base count response out =
-      let w : Work = record { host = server_host b credit (Some (record { order = row_order; state = Replying response out order base count })); told = told } in
+      let w : Work =
+      record { host = server_host b credit (Some (record { order = row_order; state = Replying response out order base count })); told = told } in
       ap (λ cs. all_granted s (grants_from (λ (x : Arriving). x.message) s.window (length cs) 0 cs) w) (take-none s.overcommit)
 
   pub server_gives_nobody : let w : Work = record { host = server_host b credit None; told = told } in gives_grants s w ≡ w
   unfolding empty maps.checked ordered firsts
-  server_gives_nobody = ap (λ cs. all_granted s (grants_from (λ (x : Arriving). x.message) s.window (length cs) 0 cs) (record { host = server_host b credit None; told = told })) (take-none s.overcommit)
+  server_gives_nobody =
+      ap (λ cs. all_granted s (grants_from (λ (x : Arriving). x.message) s.window (length cs) 0 cs)
+      (record { host = server_host b credit None; told = told })) (take-none s.overcommit)

@@ -38,13 +38,16 @@ module _ (s : Settings) (n may now : ℕ) (role : Role) (X : Type 0) (F : (credi
   -- what one move of the pump does
   pub record Pumps : Type 0 where
     pub rests : (credit top base : ℕ) (x : X) (told : List Told) → may ≤ top → pumped_once s (F credit top base x told) ≡ None
-    pub short : (credit top base : ℕ) (x : X) (told : List Told) → top < may → credit < end_at top may s.seg - top → pumped_once s (F credit top base x told) ≡ None
+    pub short : (credit top base : ℕ) (x : X) (told : List Told) → top < may → credit < end_at top may s.seg - top
+        → pumped_once s (F credit top base x told) ≡ None
     pub sends : (credit top base : ℕ) (x : X) (told : List Told) → top < may → end_at top may s.seg - top ≤ credit
-        → pumped_once s (F credit top base x told) ≡ Some (F (credit - (end_at top may s.seg - top)) (end_at top may s.seg) now (step x) (told ++ Sends (piece credit top base x told) ∷ []))
+        → pumped_once s (F credit top base x told) ≡ Some
+        (F (credit - (end_at top may s.seg - top)) (end_at top may s.seg) now (step x) (told ++ Sends (piece credit top base x told) ∷ []))
     pub is_piece : (credit top base : ℕ) (x : X) (told : List Told) → top < may → IsPiece n role (end_at top may s.seg) top (piece credit top base x told)
     pub ours : (credit top base : ℕ) (x : X) (told : List Told) → AreOurs s now (piece credit top base x told ∷ [])
 
-  stays : (k credit top base : ℕ) (x : X) (told : List Told) → top ≤ may → (0 < k → s.seg ≤ credit → top < may → ⊥) → Pumped k credit top base told (F credit top base x told)
+  stays : (k credit top base : ℕ) (x : X) (told : List Told) → top ≤ may → (0 < k → s.seg ≤ credit → top < may → ⊥)
+      → Pumped k credit top base told (F credit top base x told)
   stays k credit top base x told h stuck = record {
     end = top;
     credit = credit;
@@ -65,25 +68,32 @@ module _ (s : Settings) (n may now : ℕ) (role : Role) (X : Type 0) (F : (credi
   last (inl e) = e
   last (inr e) = e
 
-  pub pumped : Pumps → 1 ≤ s.seg → (k credit top base : ℕ) (x : X) (told : List Told) → top ≤ may → Pumped k credit top base told (pumps s k (F credit top base x told))
+  pub pumped : Pumps → 1 ≤ s.seg → (k credit top base : ℕ) (x : X) (told : List Told) → top ≤ may
+      → Pumped k credit top base told (pumps s k (F credit top base x told))
   unfolding pumps
   pumped one some zero credit top base x told h = stays zero credit top base x told h (λ a b c. omega (arith, a))
   pumped one some (suc k) credit top base x told h = elim (cases_lt top may) [
     | inr rests ↦ at None (one.rests credit top base x told rests) (stays (suc k) credit top base x told h (λ a b c. omega (arith, c, rests)))
     | inl waits ↦ elim (cases_lt credit (end_at top may s.seg - top)) [
       | inl short ↦ at None (one.short credit top base x told waits short) (stays (suc k) credit top base x told h (λ a b c. omega (arith, short, b)))
-      | inr enough ↦ at (Some (F (credit - (end_at top may s.seg - top)) (end_at top may s.seg) now (step x) (told ++ Sends (piece credit top base x told) ∷ []))) (one.sends credit top base x told waits enough)
-          (more waits (pumped one some k (credit - (end_at top may s.seg - top)) (end_at top may s.seg) now (step x) (told ++ Sends (piece credit top base x told) ∷ []) (omega arith)))
+      | inr enough ↦ at
+          (Some (F (credit - (end_at top may s.seg - top)) (end_at top may s.seg) now (step x) (told ++ Sends (piece credit top base x told) ∷ [])))
+          (one.sends credit top base x told waits enough)
+          (more waits (pumped one some k (credit - (end_at top may s.seg - top)) (end_at top may s.seg) now (step x)
+          (told ++ Sends (piece credit top base x told) ∷ []) (omega arith)))
     ]
   ] where
     at : (o : Option Work) → pumped_once s (F credit top base x told) ≡ o
         → Pumped (suc k) credit top base told (elim o as (λ _. Work) [ None ↦ F credit top base x told | Some after ↦ pumps s k after ])
-        → Pumped (suc k) credit top base told (elim (pumped_once s (F credit top base x told)) as (λ _. Work) [ None ↦ F credit top base x told | Some after ↦ pumps s k after ])
+        → Pumped (suc k) credit top base told
+        (elim (pumped_once s (F credit top base x told)) as (λ _. Work) [ None ↦ F credit top base x told | Some after ↦ pumps s k after ])
     at o e x = rw e x
 
     more : top < may
-        → Pumped k (credit - (end_at top may s.seg - top)) (end_at top may s.seg) now (told ++ Sends (piece credit top base x told) ∷ []) (pumps s k (F (credit - (end_at top may s.seg - top)) (end_at top may s.seg) now (step x) (told ++ Sends (piece credit top base x told) ∷ [])))
-        → Pumped (suc k) credit top base told (pumps s k (F (credit - (end_at top may s.seg - top)) (end_at top may s.seg) now (step x) (told ++ Sends (piece credit top base x told) ∷ [])))
+        → Pumped k (credit - (end_at top may s.seg - top)) (end_at top may s.seg) now (told ++ Sends (piece credit top base x told) ∷ [])
+        (pumps s k (F (credit - (end_at top may s.seg - top)) (end_at top may s.seg) now (step x) (told ++ Sends (piece credit top base x told) ∷ [])))
+        → Pumped (suc k) credit top base told
+        (pumps s k (F (credit - (end_at top may s.seg - top)) (end_at top may s.seg) now (step x) (told ++ Sends (piece credit top base x told) ∷ [])))
     more waits after =
         let p : Packet = piece credit top base x told in
         record {

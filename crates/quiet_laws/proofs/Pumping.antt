@@ -1,5 +1,6 @@
 -- The client's pump, while the request is in progress.
-use Rattle.std.proofs.Common.{◌≡◌, ℕ, ◌+◌, ◌-◌, ◌*◌, ◌<◌, ◌≤◌, true, false, ◌&&◌, ◌||◌, Some, None, List, [], ◌∷◌, ◌++◌, length, drop, refl, ap, subst, ◌∙◌, arith, cond}
+use Rattle.std.proofs.Common.{◌≡◌, ℕ, ◌+◌, ◌-◌, ◌*◌, ◌<◌, ◌≤◌, true, false, ◌&&◌, ◌||◌, Some, None, List, [], ◌∷◌, ◌++◌, length, drop, refl, ap}
+use Rattle.std.proofs.Common.{subst, ◌∙◌, arith, cond}
 use Rattle.std.specs.Prelude.{nat_lt, nat_le, min}
 use Rattle.std.proofs.lemmas.Bool.{le-ltb, lt-ltb}
 use Rattle.std.proofs.lemmas.List.{length-take, length-drop}
@@ -41,18 +42,22 @@ module _ (s : Settings) (n : ℕ) (request : List ℕ) (size : length request �
   once_rests credit order top may prio heard base count seen told h =
       let w : Work = sending credit order top may prio heard base count seen told in
       let none : nat_lt top may ≡ false = le-ltb top may h in
-      ap (λ t. first_leaves s (least leaving_key ((cond (t && (nat_lt top n || nat_le b.last (heard + s.resend * (s.tries + 1)))) (leaving order top ∷ []) [] ++ []) ++ [])) w)
+      ap (λ t. first_leaves s
+      (least leaving_key ((cond (t && (nat_lt top n || nat_le b.last (heard + s.resend * (s.tries + 1)))) (leaving order top ∷ []) [] ++ []) ++ [])) w)
       (waits_at n s.unsched top may prio ∙ none)
 
   -- the piece that is sent next
   abbrev pub piece : (credit order top may prio heard base count seen : ℕ) → List Told → Packet
   piece credit order top may prio heard base count seen told =
       let w : Work = sending credit order top may prio heard base count seen told in
-      packet_from s w.host Client the_call server_id (request_content s (peer_cutoffs s w.host server_id).cutoffs None (asking request order (out_at n s.unsched top may prio) heard base count seen None) (range top (end_at top may s.seg)))
+      packet_from s w.host Client the_call server_id
+      (request_content s (peer_cutoffs s w.host server_id).cutoffs None
+      (asking request order (out_at n s.unsched top may prio) heard base count seen None) (range top (end_at top may s.seg)))
 
   abbrev pub after_piece : (credit order top may prio heard base count seen : ℕ) → List Told → Work
   after_piece credit order top may prio heard base count seen told =
-      sending (credit - (end_at top may s.seg - top)) order (end_at top may s.seg) may prio b.last b.last 0 seen (told ++ Sends (piece credit order top may prio heard base count seen told) ∷ [])
+      sending (credit - (end_at top may s.seg - top)) order (end_at top may s.seg) may prio b.last b.last 0 seen
+      (told ++ Sends (piece credit order top may prio heard base count seen told) ∷ [])
 
   once_sends : (credit order top may prio heard base count seen : ℕ) (told : List Told) → top < may → may ≤ n → end_at top may s.seg - top ≤ credit
       → pumped_once s (sending credit order top may prio heard base count seen told) ≡ Some (after_piece credit order top may prio heard base count seen told)
@@ -63,12 +68,15 @@ module _ (s : Settings) (n : ℕ) (request : List ℕ) (size : length request �
       let leave : Range → Work = λ x. request_leaves s the_call r x w in
       let end : ℕ = end_at top may s.seg in
       let new : nat_lt top n ≡ true = lt-ltb top n (omega (arith, h, within)) in
-      ap (λ t. first_leaves s (least leaving_key ((cond (t && (nat_lt top n || nat_le b.last (heard + s.resend * (s.tries + 1)))) (leaving order top ∷ []) [] ++ []) ++ [])) w)
+      ap (λ t. first_leaves s
+      (least leaving_key ((cond (t && (nat_lt top n || nat_le b.last (heard + s.resend * (s.tries + 1)))) (leaving order top ∷ []) [] ++ []) ++ [])) w)
       (waits_at n s.unsched top may prio ∙ lt-ltb top may h)
-      ∙ ap (λ t. first_leaves s (least leaving_key ((cond (t || nat_le b.last (heard + s.resend * (s.tries + 1))) (leaving order top ∷ []) [] ++ []) ++ [])) w) new
+      ∙ ap (λ t. first_leaves s
+      (least leaving_key ((cond (t || nat_le b.last (heard + s.resend * (s.tries + 1))) (leaving order top ∷ []) [] ++ []) ++ [])) w) new
       ∙ ap (λ o. if_affordable o w leave) (range_at n s.unsched top may prio s.seg h)
       ∙ ap (λ t. cond t None (Some (leave (range top end)))) (le-ltb credit (end - top) enough)
-      ∙ ap (λ x. Some (record { host = client_host b (credit - (end - top)) x; told = told ++ Sends (piece credit order top may prio heard base count seen told) ∷ [] }))
+      ∙ ap (λ x. Some
+      (record { host = client_host b (credit - (end - top)) x; told = told ++ Sends (piece credit order top may prio heard base count seen told) ∷ [] }))
       (ap (λ t. record (cond t (record r { heard = b.last; base = b.last; count = 0 }) r) { out = (next (out_at n s.unsched top may prio) s.seg).part }) new
       ∙ ap (λ o. asking request order o b.last b.last 0 seen None) (next_at n s.unsched top may prio s.seg h))
 
@@ -81,9 +89,12 @@ module _ (s : Settings) (n : ℕ) (request : List ℕ) (size : length request �
       let r : ClientRow = asking request order (out_at n s.unsched top may prio) heard base count seen None in
       let leave : Range → Work = λ x. request_leaves s the_call r x w in
       let end : ℕ = end_at top may s.seg in
-      ap (λ t. first_leaves s (least leaving_key ((cond (t && (nat_lt top n || nat_le b.last (heard + s.resend * (s.tries + 1)))) (leaving order top ∷ []) [] ++ []) ++ [])) w)
+      ap (λ t. first_leaves s
+      (least leaving_key ((cond (t && (nat_lt top n || nat_le b.last (heard + s.resend * (s.tries + 1)))) (leaving order top ∷ []) [] ++ []) ++ [])) w)
       (waits_at n s.unsched top may prio ∙ lt-ltb top may h)
-      ∙ ap (λ t. first_leaves s (least leaving_key ((cond (t || nat_le b.last (heard + s.resend * (s.tries + 1))) (leaving order top ∷ []) [] ++ []) ++ [])) w) (lt-ltb top n (omega (arith, h, within)))
+      ∙ ap (λ t. first_leaves s
+      (least leaving_key ((cond (t || nat_le b.last (heard + s.resend * (s.tries + 1))) (leaving order top ∷ []) [] ++ []) ++ [])) w)
+      (lt-ltb top n (omega (arith, h, within)))
       ∙ ap (λ o. if_affordable o w leave) (range_at n s.unsched top may prio s.seg h)
       ∙ ap (λ t. cond t None (Some (leave (range top end)))) (lt-ltb credit (end - top) short)
 
@@ -98,8 +109,15 @@ module _ (s : Settings) (n : ℕ) (request : List ℕ) (size : length request �
       flow = λ given ps last f.
           let end : ℕ = end_at top may s.seg in
           let p : Packet = piece credit order top may prio x.0 base x.1 seen told in
-          let long : length p.payload ≡ end - top = length-slice request (range top end) (omega (arith, size, within)) in
-          (refl, refl, refl, refl, refl, omega (arith, long, h, some), subst (λ z. flows n Client z given ps last given) {x = end} {y = top + length p.payload} (omega (arith, long, h, some)) f);
+          let long : length p.payload ≡ end - top = length-slice request (range top end) (omega (arith, size, within)) in (
+            refl,
+            refl,
+            refl,
+            refl,
+            refl,
+            omega (arith, long, h, some),
+            subst (λ z. flows n Client z given ps last given) {x = end} {y = top + length p.payload} (omega (arith, long, h, some)) f,
+          );
     };
     ours = λ credit top base x told. (record { id = refl; server = refl; inc = refl; at = refl }, tt);
   }

@@ -29,17 +29,21 @@ pub record WentOn (role : Role) (s : Settings) (n m clock least : ℕ) (r : Roun
 
 -- what becomes of a message of n bytes in a round, at whose beginning it measured x
 abbrev pub RoundOf : Role → Settings → (n m clock x : ℕ) → Round → Type 0
-RoundOf role s n m clock x r = (r.done ≡ true) ⊎ (WentOn role s n m clock x r ⊎ ((role ≡ Client) × ((y : ℕ) × Begins Server s m m (clock + 1) y r × (r.done ≡ false))))
+RoundOf role s n m clock x r =
+    (r.done ≡ true) ⊎ (WentOn role s n m clock x r ⊎ ((role ≡ Client) × ((y : ℕ) × Begins Server s m m (clock + 1) y r × (r.done ≡ false))))
 
-module _ (s : Settings) (l : Limits s) (n m clock x : ℕ) (calm : IsCalm s n m) (early : clock < 4000008) (role : Role) (r : Round) (b : Begins role s n m clock x r) where
+module _ (s : Settings) (l : Limits s) (n m clock x : ℕ) (calm : IsCalm s n m) (early : clock < 4000008) (role : Role) (r : Round)
+    (b : Begins role s n m clock x r) where
   packets_are : r.world.packets ≡ b.amid.old ++ (b.pending ++ [])
   packets_are = by role b.amid.is ∙ ap (λ ps. b.amid.old ++ (b.pending ++ ps)) b.nothing where
-    by : (role : Role) → r.world ≡ world_by role s clock b.amid.spares b.amid.sender b.amid.receiver (b.amid.old ++ (b.pending ++ b.amid.fresh)) (answers_by role m) → r.world.packets ≡ b.amid.old ++ (b.pending ++ b.amid.fresh)
+    by : (role : Role) → r.world ≡ world_by role s clock b.amid.spares b.amid.sender b.amid.receiver (b.amid.old ++ (b.pending ++ b.amid.fresh))
+        (answers_by role m) → r.world.packets ≡ b.amid.old ++ (b.pending ++ b.amid.fresh)
     by Client e = ap (λ (w : World). w.packets) e
     by Server e = ap (λ (w : World). w.packets) e
 
   pub so_many : length r.world.packets ≡ r.delivered + length b.pending
-  so_many = ap length packets_are ∙ length-append b.amid.old (b.pending ++ []) ∙ ap (λ k. k + length (b.pending ++ [])) b.amid.so_many ∙ ap (λ ps. r.delivered + length ps) (append-nil b.pending)
+  so_many = ap length packets_are ∙ length-append b.amid.old (b.pending ++ []) ∙ ap (λ k. k + length (b.pending ++ [])) b.amid.so_many
+      ∙ ap (λ ps. r.delivered + length ps) (append-nil b.pending)
 
   abbrev tick : List Happening
   tick = ticks 2 1
@@ -50,13 +54,16 @@ module _ (s : Settings) (l : Limits s) (n m clock x : ℕ) (calm : IsCalm s n m)
   next_is : next_round s r ≡ carried_round (r.delivered + length b.pending) goes
   next_is =
       ap (λ k. carried_round k (carried s r.world (deliveries r.delivered (k - r.delivered) ++ tick))) so_many
-      ∙ ap (λ k. carried_round (r.delivered + length b.pending) (carried s r.world (deliveries r.delivered k ++ tick))) {x = (r.delivered + length b.pending) - r.delivered} {y = length b.pending} (omega arith)
+      ∙ ap (λ k. carried_round (r.delivered + length b.pending) (carried s r.world (deliveries r.delivered k ++ tick)))
+      {x = (r.delivered + length b.pending) - r.delivered} {y = length b.pending} (omega arith)
 
   -- the same round, where the deliveries are past and the tick comes
   ticks_then : (P : World → Type 0) → (p : Passed s tick goes P) → next_round s r ≡ carried_round (r.delivered + length b.pending) (carried s p.world tick)
-  ticks_then P p = next_is ∙ same (r.delivered + length b.pending) goes (carried s p.world tick) p.world_is (ap has_done p.told_is ∙ done-append p.lines (carried s p.world tick).told ∙ ap (λ t. t || has_done (carried s p.world tick).told) p.not_done) where
-    same : (k : ℕ) (u v : Run) → u.world ≡ v.world → has_done u.told ≡ has_done v.told → carried_round k u ≡ carried_round k v
-    same k u v e f = ap (λ w. record { world = w; delivered = k; done = has_done u.told }) e ∙ ap (λ d. record { world = v.world; delivered = k; done = d }) f
+  ticks_then P p = next_is ∙ same (r.delivered + length b.pending) goes (carried s p.world tick) p.world_is
+      (ap has_done p.told_is ∙ done-append p.lines (carried s p.world tick).told ∙ ap (λ t. t || has_done (carried s p.world tick).told) p.not_done) where
+        same : (k : ℕ) (u v : Run) → u.world ≡ v.world → has_done u.told ≡ has_done v.told → carried_round k u ≡ carried_round k v
+        same k u v e f =
+            ap (λ w. record { world = w; delivered = k; done = has_done u.told }) e ∙ ap (λ d. record { world = v.world; delivered = k; done = d }) f
 
   sent : (b.amid.here ≤ b.end) × (b.amid.may ≤ b.told)
   sent = flows_grow n role (packets_of b.pending) b.amid.here b.amid.may b.end b.told b.amid.first
@@ -88,13 +95,15 @@ module _ (s : Settings) (l : Limits s) (n m clock x : ℕ) (calm : IsCalm s n m)
           | inr none ↦ omega (arith, b.is, none, sent.0, here, at_top, more (omega (arith, here, may, grant, at_top, b.amid.sent)))
         ]
 
-  replied : (p : Passed s tick goes (Amid Server s m m clock (r.delivered + length b.pending) 0 (min m s.unsched) [])) → (y : ℕ) × Begins Server s m m (clock + 1) y (next_round s r) × ((next_round s r).done ≡ false)
+  replied : (p : Passed s tick goes (Amid Server s m m clock (r.delivered + length b.pending) 0 (min m s.unsched) []))
+      → (y : ℕ) × Begins Server s m m (clock + 1) y (next_round s r) × ((next_round s r).done ≡ false)
   replied p =
       let d : ℕ = r.delivered + length b.pending in
       let c : IsCalm s m m = calm_reply s n m calm in
       let same = ticks_then (Amid Server s m m clock d 0 (min m s.unsched) []) p in (
         measure s l m m clock d 0 (min m s.unsched) p.world c early Server p.holds,
-        subst (Begins Server s m m (clock + 1) (measure s l m m clock d 0 (min m s.unsched) p.world c early Server p.holds)) (sym same) (begins_next s l m m clock d 0 (min m s.unsched) p.world c early Server p.holds),
+        subst (Begins Server s m m (clock + 1) (measure s l m m clock d 0 (min m s.unsched) p.world c early Server p.holds)) (sym same)
+            (begins_next s l m m clock d 0 (min m s.unsched) p.world c early Server p.holds),
         ap (λ (q : Round). q.done) same ∙ not_done s l m m clock d 0 (min m s.unsched) p.world c early Server p.holds,
       )
 
@@ -115,26 +124,38 @@ module _ (s : Settings) (n m : ℕ) (calm : IsCalm s n m) where
 
   pub round_goes : RoundGoes s n m
   unfolding round
-  round_goes r x early (inl b) = by (round_of s (limits s n m calm) n m r x calm (omega (arith, early, calm.request.1, calm.response.1)) Client (round s n m r) b) where
-    below : x + 1 ≤ 2 * n
-    below = begins_below Client s n m r x (round s n m r) b
+  round_goes r x early (inl b) =
+      by (round_of s (limits s n m calm) n m r x calm (omega (arith, early, calm.request.1, calm.response.1)) Client (round s n m r) b) where
+        below : x + 1 ≤ 2 * n
+        below = begins_below Client s n m r x (round s n m r) b
 
-    by : RoundOf Client s n m r x (next_round s (round s n m r)) → ((round s n m (suc r)).done ≡ true) ⊎ Further s n m (Goes s n m) r x
-    by (inl e) = inl e
-    by (inr (inl w)) = inr (record { measure = w.measure; more = w.more; is = inl (later r Client n m w.measure (round s n m (suc r)) w.begins); not_yet = w.not_done })
-    by (inr (inr w)) = inr (record {
-      measure = 2 * n + w.1.0;
-      more = omega (arith, below);
-      is = inr (omega arith, subst (λ k. Begins Server s m m (suc r) k (round s n m (suc r))) {x = w.1.0} {y = (2 * n + w.1.0) - 2 * n} (omega arith) (later r Server m m w.1.0 (round s n m (suc r)) w.1.1));
-      not_yet = w.1.2;
-    })
-  round_goes r x early (inr b) = by (round_of s (limits s n m calm) m m r (x - 2 * n) (calm_reply s n m calm) (omega (arith, early, calm.request.1, calm.response.1)) Server (round s n m r) b.1) where
-    by : RoundOf Server s m m r (x - 2 * n) (next_round s (round s n m r)) → ((round s n m (suc r)).done ≡ true) ⊎ Further s n m (Goes s n m) r x
-    by (inl e) = inl e
-    by (inr (inl w)) = inr (record {
-      measure = 2 * n + w.measure;
-      more = omega (arith, w.more, b.0);
-      is = inr (omega arith, subst (λ k. Begins Server s m m (suc r) k (round s n m (suc r))) {x = w.measure} {y = (2 * n + w.measure) - 2 * n} (omega arith) (later r Server m m w.measure (round s n m (suc r)) w.begins));
-      not_yet = w.not_done;
-    })
-    by (inr (inr w)) = client_server (sym w.0)
+        by : RoundOf Client s n m r x (next_round s (round s n m r)) → ((round s n m (suc r)).done ≡ true) ⊎ Further s n m (Goes s n m) r x
+        by (inl e) = inl e
+        by (inr (inl w)) =
+            inr (record { measure = w.measure; more = w.more; is = inl (later r Client n m w.measure (round s n m (suc r)) w.begins); not_yet = w.not_done })
+        by (inr (inr w)) = inr (record {
+          measure = 2 * n + w.1.0;
+          more = omega (arith, below);
+          is = inr (
+            omega arith,
+            subst (λ k. Begins Server s m m (suc r) k (round s n m (suc r))) {x = w.1.0} {y = (2 * n + w.1.0) - 2 * n} (omega arith)
+                (later r Server m m w.1.0 (round s n m (suc r)) w.1.1),
+          );
+          not_yet = w.1.2;
+        })
+  round_goes r x early (inr b) =
+      by (round_of s (limits s n m calm) m m r (x - 2 * n) (calm_reply s n m calm) (omega (arith, early, calm.request.1, calm.response.1)) Server
+      (round s n m r) b.1) where
+        by : RoundOf Server s m m r (x - 2 * n) (next_round s (round s n m r)) → ((round s n m (suc r)).done ≡ true) ⊎ Further s n m (Goes s n m) r x
+        by (inl e) = inl e
+        by (inr (inl w)) = inr (record {
+          measure = 2 * n + w.measure;
+          more = omega (arith, w.more, b.0);
+          is = inr (
+            omega arith,
+            subst (λ k. Begins Server s m m (suc r) k (round s n m (suc r))) {x = w.measure} {y = (2 * n + w.measure) - 2 * n}
+                (omega arith) (later r Server m m w.measure (round s n m (suc r)) w.begins),
+          );
+          not_yet = w.not_done;
+        })
+        by (inr (inr w)) = client_server (sym w.0)

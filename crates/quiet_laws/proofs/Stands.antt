@@ -82,7 +82,8 @@ pub record GetsResponse (s : Settings) (n here given : ℕ) (t : Times) (h : Hos
   pub known : SeenSoFar seen part
   pub last : bits.last ≡ t.last
   pub refilled : bits.refilled ≡ t.refilled
-  pub is : h ≡ client_host bits t.credit (asking request order (out_at (length request) s.unsched (length request) (length request) prio) heard t.base count seen part)
+  pub is : h ≡ client_host bits t.credit
+      (asking request order (out_at (length request) s.unsched (length request) (length request) prio) heard t.base count seen part)
 
 -- by the role of the message's sender
 abbrev pub IsSender : Role → Settings → (n top may : ℕ) → Times → Host → Type 0

@@ -1,5 +1,6 @@
 -- The request is whole: the server sends its response from then on. And the response is whole: the call is done.
-use Rattle.std.proofs.Common.{◌≡◌, ℕ, suc, ◌+◌, ◌≤◌, ◌⊎◌, inl, inr, true, false, Option, Some, None, List, [], ◌∷◌, ◌++◌, length, refl, sym, ap, subst, ◌∙◌, arith}
+use Rattle.std.proofs.Common.{◌≡◌, ℕ, suc, ◌+◌, ◌≤◌, ◌⊎◌, inl, inr, true, false, Option, Some, None, List, [], ◌∷◌, ◌++◌, length, refl, sym, ap}
+use Rattle.std.proofs.Common.{subst, ◌∙◌, arith}
 use Rattle.std.specs.Prelude.{min}
 use Rattle.homa_plain.specs.declared.packet.Role.{Role}
 use Rattle.homa_plain.specs.declared.packet.Role.TheVariants.{Client, Server}
@@ -27,7 +28,8 @@ pub aside_flows : (role : Role) (s : Settings) (now n x y : ℕ) (told : List To
 aside_flows role s now n x y [] a = (refl, refl)
 aside_flows role s now n x y (Says e ∷ told) a = aside_flows role s now n x y told a.1
 aside_flows role s now n x y (Sends p ∷ told) a = by p.body a.2 (inl a.1) (aside_flows role s now n x y told a.3) where
-  by : (b : Body) → IsCutoffs b → (p.role ≡ other role) ⊎ (role ≡ Server) → flows n role x y (packets_in told) x y → ahead n role x y p b (λ u v. flows n role u v (packets_in told) x y)
+  by : (b : Body) → IsCutoffs b → (p.role ≡ other role) ⊎ (role ≡ Server) → flows n role x y (packets_in told) x y
+      → ahead n role x y p b (λ u v. flows n role u v (packets_in told) x y)
   by (body.Cutoffs cutoffs) i r f = (r, f)
   by (body.Data size offset version service ack) i r f = absurd i
   by (body.Grant offset prio) i r f = absurd i
@@ -41,7 +43,8 @@ aside_flows role s now n x y (Sends p ∷ told) a = by p.body a.2 (inl a.1) (asi
 pub left_behind : (n may given m x y : ℕ) (ps : List Packet) → n ≤ may → flows n Client n may ps n given → flows m Server x y ps x y
 left_behind n may given m x y [] all f = (refl, refl)
 left_behind n may given m x y (p ∷ ps) all f = by p.body (left_behind n may given m x y ps all) f where
-  by : (b : Body) → (flows n Client n may ps n given → flows m Server x y ps x y) → ahead n Client n may p b (λ u v. flows n Client u v ps n given) → ahead m Server x y p b (λ u v. flows m Server u v ps x y)
+  by : (b : Body) → (flows n Client n may ps n given → flows m Server x y ps x y) → ahead n Client n may p b (λ u v. flows n Client u v ps n given)
+      → ahead m Server x y p b (λ u v. flows m Server u v ps x y)
   by (body.Cutoffs cutoffs) go a = (inr refl, go a.1)
   by (body.Data size offset version service ack) go a = absurd (omega (arith, a.5, (flows_grow n Client ps _ _ n given a.6).0))
   by (body.Grant offset prio) go a = absurd (omega (arith, a.1, a.2, all))
@@ -79,12 +82,24 @@ module _ (s : Settings) (n here given : ℕ) (t : Times) (now : ℕ) (response :
           request = _;
           response = _;
           is = ap (λ x. comes s (Some (request_piece at level n here version payload)) answer (begun x now)) e ∙ d.is;
-          stands = record { bits = d.bits; response = response; row_order = a.row_order; order = a.bits.order; prio = 0; count = 0; size = refl; last = d.last; refilled = d.refilled ∙ a.refilled; is = refl };
+          stands = record {
+            bits = d.bits;
+            response = response;
+            row_order = a.row_order;
+            order = a.bits.order;
+            prio = 0;
+            count = 0;
+            size = refl;
+            last = d.last;
+            refilled = d.refilled ∙ a.refilled;
+            is = refl;
+          };
           few = d.few;
         }
     by None g e =
         let part : Incoming = incoming.opened client_id n a.bits.order s.unsched in
-        let f : HasFront n here given part = subst (λ x. HasFront n x given part) (sym g.0) (subst (λ x. HasFront n 0 x part) (sym g.1) (front_opened client_id n a.bits.order s.unsched)) in
+        let f : HasFront n here given part =
+        subst (λ x. HasFront n x given part) (sym g.0) (subst (λ x. HasFront n 0 x part) (sym g.1) (front_opened client_id n a.bits.order s.unsched)) in
         let d = first_last s a.bits t.credit now answer at level n here given version payload fresh g.0 rows pages f whole refl in
         record {
           host = _;
@@ -92,7 +107,18 @@ module _ (s : Settings) (n here given : ℕ) (t : Times) (now : ℕ) (response :
           request = _;
           response = _;
           is = ap (λ x. comes s (Some (request_piece at level n here version payload)) answer (begun x now)) e ∙ d.is;
-          stands = record { bits = d.bits; response = response; row_order = a.bits.order; order = a.bits.order + 1; prio = 0; count = 0; size = refl; last = d.last; refilled = d.refilled ∙ a.refilled; is = refl };
+          stands = record {
+            bits = d.bits;
+            response = response;
+            row_order = a.bits.order;
+            order = a.bits.order + 1;
+            prio = 0;
+            count = 0;
+            size = refl;
+            last = d.last;
+            refilled = d.refilled ∙ a.refilled;
+            is = refl;
+          };
           few = d.few;
         }
 
@@ -101,6 +127,7 @@ pub done_is_told : (k : ℕ) (before after : List Told) (bytes : List ℕ) → h
 done_is_told k [] after bytes = refl
 done_is_told k (Sends p ∷ before) after bytes = done_is_told (suc k) before after bytes
 done_is_told k (Says e ∷ before) after bytes = by e (done_is_told k before after bytes) where
-  by : (e : PlainEntry) → has_done (entries_from k (before ++ Says (PlainDone the_call bytes) ∷ after)) ≡ true → has_done (e ∷ entries_from k (before ++ Says (PlainDone the_call bytes) ∷ after)) ≡ true
+  by : (e : PlainEntry) → has_done (entries_from k (before ++ Says (PlainDone the_call bytes) ∷ after)) ≡ true
+      → has_done (e ∷ entries_from k (before ++ Says (PlainDone the_call bytes) ∷ after)) ≡ true
   by (PlainDone id b) r = refl
   by e r = r

@@ -1,5 +1,6 @@
 -- The tick that ends a round, and begins the next one.
-use Rattle.std.proofs.Common.{◌≡◌, ℕ, ◌+◌, ◌*◌, ◌<◌, ◌≤◌, ◌⊎◌, inl, inr, ◌||◌, false, List, [], ◌∷◌, ◌++◌, length, refl, sym, ap, subst, ◌∙◌, arith, append_assoc}
+use Rattle.std.proofs.Common.{◌≡◌, ℕ, ◌+◌, ◌*◌, ◌<◌, ◌≤◌, ◌⊎◌, inl, inr, ◌||◌, false, List, [], ◌∷◌, ◌++◌, length, refl, sym, ap, subst, ◌∙◌, arith}
+use Rattle.std.proofs.Common.{append_assoc}
 use Rattle.std.specs.Prelude.{map, min}
 use Rattle.std.proofs.lemmas.Bool.{cases_lt}
 use Rattle.std.proofs.lemmas.List.{append-nil}
@@ -27,7 +28,8 @@ use Rattle.quiet_laws.proofs.Goings.{Limits, left_as_before}
 
 -- a tick of two hosts of which each tells of packets alone
 module _ (s : Settings) (clock spares : ℕ) (h0 h1 : Host) (packets : List SentPacket) (answers : List Answer) (sent0 sent1 : List Packet)
-    (told0 : (turn_step s h0 (clock + 1 + s.skew)).told ≡ map Sends sent0) (told1 : (turn_step s h1 (clock + 1 + s.skew)).told ≡ map Sends sent1) (below : clock < 1000000000000) where
+    (told0 : (turn_step s h0 (clock + 1 + s.skew)).told ≡ map Sends sent0) (told1 : (turn_step s h1 (clock + 1 + s.skew)).told ≡ map Sends sent1)
+    (below : clock < 1000000000000) where
   abbrev turned0 : Work
   turned0 = turn_step s h0 (clock + 1 + s.skew)
 
@@ -54,16 +56,28 @@ module _ (s : Settings) (clock spares : ℕ) (h0 h1 : Host) (packets : List Sent
       ∙ ap (λ b. b || has_done (entries_from (length (behind0 (map Sends sent0))) (map Sends sent1) ++ [])) (sends-quiet (length packets) sent0)
       ∙ quiet_end (length (behind0 (map Sends sent0))) sent1
 
-  pub tick_world : run.world ≡ quiet_world s (clock + 1) spares turned0.host turned1.host (packets ++ (stamped (clock + 1) sent0 ++ stamped (clock + 1) sent1)) answers
+  pub tick_world : run.world ≡ quiet_world s (clock + 1) spares turned0.host turned1.host
+      (packets ++ (stamped (clock + 1) sent0 ++ stamped (clock + 1) sent1)) answers
   tick_world =
       ap (λ (r : Run). r.world) (tick_is s clock spares h0 h1 packets answers below)
-      ∙ ap (λ t. quiet_world s (clock + 1) spares turned0.host turned1.host ((packets ++ stamped (clock + 1) (packets_in t)) ++ stamped (clock + 1) (packets_in turned1.told)) (answers_left turned1.told (answers_left t answers))) told0
-      ∙ ap (λ t. quiet_world s (clock + 1) spares turned0.host turned1.host ((packets ++ stamped (clock + 1) (packets_in (map Sends sent0))) ++ stamped (clock + 1) (packets_in t)) (answers_left t (answers_left (map Sends sent0) answers))) told1
-      ∙ ap (λ ps. quiet_world s (clock + 1) spares turned0.host turned1.host ((packets ++ stamped (clock + 1) ps) ++ stamped (clock + 1) (packets_in (map Sends sent1))) (answers_left (map Sends sent1) (answers_left (map Sends sent0) answers))) (packets_in-sends sent0)
-      ∙ ap (λ ps. quiet_world s (clock + 1) spares turned0.host turned1.host ((packets ++ stamped (clock + 1) sent0) ++ stamped (clock + 1) ps) (answers_left (map Sends sent1) (answers_left (map Sends sent0) answers))) (packets_in-sends sent1)
-      ∙ ap (λ ps. quiet_world s (clock + 1) spares turned0.host turned1.host ps (answers_left (map Sends sent1) (answers_left (map Sends sent0) answers))) (append_assoc packets (stamped (clock + 1) sent0) (stamped (clock + 1) sent1))
-      ∙ ap (λ left. quiet_world s (clock + 1) spares turned0.host turned1.host (packets ++ (stamped (clock + 1) sent0 ++ stamped (clock + 1) sent1)) (answers_left (map Sends sent1) left)) (left_as_before answers (map Sends sent0) (runs-sends sent0))
-      ∙ ap (λ left. quiet_world s (clock + 1) spares turned0.host turned1.host (packets ++ (stamped (clock + 1) sent0 ++ stamped (clock + 1) sent1)) left) (left_as_before answers (map Sends sent1) (runs-sends sent1))
+      ∙ ap (λ t. quiet_world s (clock + 1) spares turned0.host turned1.host
+      ((packets ++ stamped (clock + 1) (packets_in t)) ++ stamped (clock + 1) (packets_in turned1.told))
+      (answers_left turned1.told (answers_left t answers))) told0
+      ∙ ap (λ t. quiet_world s (clock + 1) spares turned0.host turned1.host
+      ((packets ++ stamped (clock + 1) (packets_in (map Sends sent0))) ++ stamped (clock + 1) (packets_in t))
+      (answers_left t (answers_left (map Sends sent0) answers))) told1
+      ∙ ap (λ ps. quiet_world s (clock + 1) spares turned0.host turned1.host
+      ((packets ++ stamped (clock + 1) ps) ++ stamped (clock + 1) (packets_in (map Sends sent1)))
+      (answers_left (map Sends sent1) (answers_left (map Sends sent0) answers))) (packets_in-sends sent0)
+      ∙ ap (λ ps. quiet_world s (clock + 1) spares turned0.host turned1.host ((packets ++ stamped (clock + 1) sent0) ++ stamped (clock + 1) ps)
+      (answers_left (map Sends sent1) (answers_left (map Sends sent0) answers))) (packets_in-sends sent1)
+      ∙ ap (λ ps. quiet_world s (clock + 1) spares turned0.host turned1.host ps
+      (answers_left (map Sends sent1) (answers_left (map Sends sent0) answers)))
+      (append_assoc packets (stamped (clock + 1) sent0) (stamped (clock + 1) sent1))
+      ∙ ap (λ left. quiet_world s (clock + 1) spares turned0.host turned1.host (packets ++ (stamped (clock + 1) sent0 ++ stamped (clock + 1) sent1))
+      (answers_left (map Sends sent1) left)) (left_as_before answers (map Sends sent0) (runs-sends sent0))
+      ∙ ap (λ left. quiet_world s (clock + 1) spares turned0.host turned1.host (packets ++ (stamped (clock + 1) sent0 ++ stamped (clock + 1) sent1))
+      left) (left_as_before answers (map Sends sent1) (runs-sends sent1))
 
 -- the packets of a tick, in the order of the hosts
 abbrev pub in_order : Role → List Packet → List Packet → List SentPacket → ℕ → List SentPacket
@@ -89,7 +103,8 @@ module _ (s : Settings) (l : Limits s) (n m clock d end told : ℕ) (w : World) 
       (elim a.sender_ok [ inl o ↦ omega (arith, o, calm.resend) | inr more ↦ absurd (omega (arith, more, all_may role a)) ])
       role l.seg a.sent (omega (arith, all_may role a, (flows_grow n role (packets_of a.fresh) end told a.top a.given a.then_).1, a.granted)) a.sender a.sends
 
-  pub grants : (role : Role) (a : Amid role s n m clock d end told [] w) → (c : Turned (IsReceiver role s n a.here a.given (ticked s now a.at_receiver)) s a.receiver now)
+  pub grants : (role : Role) (a : Amid role s n m clock d end told [] w)
+      → (c : Turned (IsReceiver role s n a.here a.given (ticked s now a.at_receiver)) s a.receiver now)
       × ReceiverEnded role s n a.here a.given (ticked s now a.at_receiver) (record { host = c.host; told = [] }) (turn_step s a.receiver now)
   grants role a =
       receiver_turn s n a.here a.given a.at_receiver now (omega (arith, a.receiver_last))
@@ -117,30 +132,35 @@ module _ (s : Settings) (l : Limits s) (n m clock d end told : ℕ) (w : World) 
   packets_are old fresh new = append_assoc old fresh new ∙ ap (λ ps. old ++ ps) (sym (append-nil (fresh ++ new)))
 
   world_is : (role : Role) (a : Amid role s n m clock d end told [] w)
-      → (carried s w (ticks 2 1)).world ≡ world_by role s (clock + 1) a.spares (turn_step s a.sender now).host (turn_step s a.receiver now).host (a.old ++ (under_way role a ++ [])) (answers_by role m)
+      → (carried s w (ticks 2 1)).world ≡ world_by role s (clock + 1) a.spares (turn_step s a.sender now).host (turn_step s a.receiver now).host
+      (a.old ++ (under_way role a ++ [])) (answers_by role m)
   world_is Client a =
       let e = (sends Client a).1 in
       let f = (grants Client a).1 in
       ap (λ v. (carried s v (ticks 2 1)).world) a.is
       ∙ tick_world s clock a.spares a.sender a.receiver (a.old ++ a.fresh) (answers_by Client m) e.sent f.sent e.told f.told (omega (arith, early))
-      ∙ ap (λ ps. quiet_world s (clock + 1) a.spares (turn_step s a.sender now).host (turn_step s a.receiver now).host ps (answers_by Client m)) (packets_are a.old a.fresh (stamped (clock + 1) e.sent ++ stamped (clock + 1) f.sent))
+      ∙ ap (λ ps. quiet_world s (clock + 1) a.spares (turn_step s a.sender now).host (turn_step s a.receiver now).host ps (answers_by Client m))
+      (packets_are a.old a.fresh (stamped (clock + 1) e.sent ++ stamped (clock + 1) f.sent))
   world_is Server a =
       let e = (sends Server a).1 in
       let f = (grants Server a).1 in
       ap (λ v. (carried s v (ticks 2 1)).world) a.is
       ∙ tick_world s clock a.spares a.receiver a.sender (a.old ++ a.fresh) (answers_by Server m) f.sent e.sent f.told e.told (omega (arith, early))
-      ∙ ap (λ ps. quiet_world s (clock + 1) a.spares (turn_step s a.receiver now).host (turn_step s a.sender now).host ps (answers_by Server m)) (packets_are a.old a.fresh (stamped (clock + 1) f.sent ++ stamped (clock + 1) e.sent))
+      ∙ ap (λ ps. quiet_world s (clock + 1) a.spares (turn_step s a.receiver now).host (turn_step s a.sender now).host ps (answers_by Server m))
+      (packets_are a.old a.fresh (stamped (clock + 1) f.sent ++ stamped (clock + 1) e.sent))
 
   -- ---- what is under way then
 
-  packets_then : (fresh : List SentPacket) (ps qs : List Packet) → packets_of (fresh ++ (stamped (clock + 1) ps ++ stamped (clock + 1) qs)) ≡ packets_of fresh ++ (ps ++ qs)
+  packets_then : (fresh : List SentPacket) (ps qs : List Packet)
+      → packets_of (fresh ++ (stamped (clock + 1) ps ++ stamped (clock + 1) qs)) ≡ packets_of fresh ++ (ps ++ qs)
   packets_then fresh ps qs =
       packets_of-append fresh (stamped (clock + 1) ps ++ stamped (clock + 1) qs)
       ∙ ap (λ xs. packets_of fresh ++ xs) (packets_of-append (stamped (clock + 1) ps) (stamped (clock + 1) qs))
       ∙ ap (λ xs. packets_of fresh ++ (xs ++ packets_of (stamped (clock + 1) qs))) (packets_of-stamped (clock + 1) ps)
       ∙ ap (λ xs. packets_of fresh ++ (ps ++ xs)) (packets_of-stamped (clock + 1) qs)
 
-  flows_from_there : (role : Role) (a : Amid role s n m clock d end told [] w) → flows n role end told (packets_of (under_way role a)) (sends role a).1.end (grants role a).1.now_given
+  flows_from_there : (role : Role) (a : Amid role s n m clock d end told [] w)
+      → flows n role end told (packets_of (under_way role a)) (sends role a).1.end (grants role a).1.now_given
   flows_from_there Client a =
       let e = (sends Client a).1 in
       let f = (grants Client a).1 in
@@ -154,22 +174,26 @@ module _ (s : Settings) (l : Limits s) (n m clock d end told : ℕ) (w : World) 
       (flows-append n Server (packets_of a.fresh) (f.sent ++ e.sent) end told a.top a.given e.end f.now_given a.then_
       (flows-append n Server f.sent e.sent a.top a.given a.top f.now_given e.end f.now_given (f.flow a.top) (e.flow f.now_given)))
 
-  flows_on : (role : Role) (a : Amid role s n m clock d end told [] w) → flows n role a.here a.may (packets_of (under_way role a)) (sends role a).1.end (grants role a).1.now_given
+  flows_on : (role : Role) (a : Amid role s n m clock d end told [] w)
+      → flows n role a.here a.may (packets_of (under_way role a)) (sends role a).1.end (grants role a).1.now_given
   flows_on role a =
       subst (λ i. flows n role i a.may (packets_of (under_way role a)) (sends role a).1.end (grants role a).1.now_given) (sym (all_here role a))
-      (subst (λ i. flows n role end i (packets_of (under_way role a)) (sends role a).1.end (grants role a).1.now_given) (sym (all_may role a)) (flows_from_there role a))
+      (subst (λ i. flows n role end i (packets_of (under_way role a)) (sends role a).1.end (grants role a).1.now_given) (sym (all_may role a))
+      (flows_from_there role a))
 
   all_new : (role : Role) (a : Amid role s n m clock d end told [] w) → AreNew s (clock + 1) (under_way role a)
   all_new Client a =
       let e = (sends Client a).1 in
       let f = (grants Client a).1 in
       new-append s (clock + 1) a.fresh (stamped (clock + 1) e.sent ++ stamped (clock + 1) f.sent) a.newer
-      (new-append s (clock + 1) (stamped (clock + 1) e.sent) (stamped (clock + 1) f.sent) (stamped_new s (clock + 1) e.sent e.ours) (stamped_new s (clock + 1) f.sent f.ours))
+      (new-append s (clock + 1) (stamped (clock + 1) e.sent) (stamped (clock + 1) f.sent) (stamped_new s (clock + 1) e.sent e.ours)
+      (stamped_new s (clock + 1) f.sent f.ours))
   all_new Server a =
       let e = (sends Server a).1 in
       let f = (grants Server a).1 in
       new-append s (clock + 1) a.fresh (stamped (clock + 1) f.sent ++ stamped (clock + 1) e.sent) a.newer
-      (new-append s (clock + 1) (stamped (clock + 1) f.sent) (stamped (clock + 1) e.sent) (stamped_new s (clock + 1) f.sent f.ours) (stamped_new s (clock + 1) e.sent e.ours))
+      (new-append s (clock + 1) (stamped (clock + 1) f.sent) (stamped (clock + 1) e.sent) (stamped_new s (clock + 1) f.sent f.ours)
+      (stamped_new s (clock + 1) e.sent e.ours))
 
   -- ---- the next round
 
@@ -177,7 +201,8 @@ module _ (s : Settings) (l : Limits s) (n m clock d end told : ℕ) (w : World) 
     pub e : SenderEnded role s n a.top a.may (ticked s now a.at_sender) (record { host = (sends role a).0.host; told = [] }) (turn_step s a.sender now)
     e = (sends role a).1
 
-    pub f : ReceiverEnded role s n a.here a.given (ticked s now a.at_receiver) (record { host = (grants role a).0.host; told = [] }) (turn_step s a.receiver now)
+    pub f : ReceiverEnded role s n a.here a.given (ticked s now a.at_receiver) (record { host = (grants role a).0.host; told = [] })
+        (turn_step s a.receiver now)
     f = (grants role a).1
 
     at_top : end ≤ a.top

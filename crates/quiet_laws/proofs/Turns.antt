@@ -20,7 +20,8 @@ use Rattle.quiet_laws.specs.Hosts.{the_call, Bits, client_host, server_host, ask
 none_due : (place : Place) (order at now : ℕ) (rests : Bool) → now < at → due timer_key now (timer place order (unless rests at) ++ []) ≡ []
 unfolding due ordered
 none_due place order at now true h = refl
-none_due place order at now false h = ap (λ t. take most_acts (ordered timer_key (cond t (record { place = place; at = at; order = order } ∷ []) []))) (lt-leb at now h)
+none_due place order at now false h =
+    ap (λ t. take most_acts (ordered timer_key (cond t (record { place = place; at = at; order = order } ∷ []) []))) (lt-leb at now h)
 
 module _ (s : Settings) (b : Bits) (credit : ℕ) (told : List Told) where
   pub client_waits : (request : List ℕ) (order : ℕ) (out : Outgoing) (heard base count seen : ℕ) (part : Option Incoming) → b.last < base + s.resend
@@ -35,17 +36,21 @@ module _ (s : Settings) (b : Bits) (credit : ℕ) (told : List Told) where
         more ts = append-nil (ts ++ [])
 
   pub server_waits : (row_order service : ℕ) (part : Incoming) (base count : ℕ) → b.last < base + s.resend
-      → let w : Work = record { host = server_host b credit (Some (record { order = row_order; state = Receiving service part base count })); told = told } in acts s w ≡ w
+      → let w : Work =
+      record { host = server_host b credit (Some (record { order = row_order; state = Receiving service part base count })); told = told } in acts s w ≡ w
   unfolding get insert empty maps.checked server_deadline
   server_waits row_order service part base count h =
       let w : Work = record { host = server_host b credit (Some (record { order = row_order; state = Receiving service part base count })); told = told } in
       ap (λ ts. all_act s ts w) (none_due (OfServer the_call) row_order (base + s.resend) b.last (has_no_gap part) h)
 
   pub replier_waits : (row_order : ℕ) (response : List ℕ) (out : Outgoing) (order base count : ℕ) → b.last < base + s.resend
-      → let w : Work = record { host = server_host b credit (Some (record { order = row_order; state = Replying response out order base count })); told = told } in acts s w ≡ w
+      → let w : Work =
+      record { host = server_host b credit (Some (record { order = row_order; state = Replying response out order base count })); told = told } in
+      acts s w ≡ w
   unfolding get insert empty maps.checked server_deadline
   replier_waits row_order response out order base count h =
-      let w : Work = record { host = server_host b credit (Some (record { order = row_order; state = Replying response out order base count })); told = told } in
+      let w : Work =
+      record { host = server_host b credit (Some (record { order = row_order; state = Replying response out order base count })); told = told } in
       ap (λ ts. all_act s ts w) (none_due (OfServer the_call) row_order (base + s.resend) b.last (has_waiting out) h)
 
   pub nobody_waits : let w : Work = record { host = server_host b credit None; told = told } in acts s w ≡ w

@@ -48,10 +48,14 @@ module _ (s : Settings) (clock : ℕ) (life : 1 ≤ s.life) where
     next : slice_get (a.old ++ (x ∷ (rest ++ a.fresh))) d ≡ Some x
     next = subst (λ k. slice_get (a.old ++ x ∷ (rest ++ a.fresh)) k ≡ Some x) a.so_many (at_end a.old x (rest ++ a.fresh))
 
-    found : (r : Role) → x.packet.role ≡ r → slice_get (a.old ++ (x ∷ (rest ++ a.fresh))) d ≡ Some (record { tick = x.tick; packet = ours r x.packet.at x.packet.level x.packet.body x.packet.payload })
-    found r e = next ∙ ap (λ (q : Packet). Some (record { tick = x.tick; packet = q })) (as_ours s (x.tick + s.skew) x.packet a.new.0.ours ∙ ap (λ i. ours i x.packet.at x.packet.level x.packet.body x.packet.payload) e)
+    found : (r : Role) → x.packet.role ≡ r
+        → slice_get (a.old ++ (x ∷ (rest ++ a.fresh))) d ≡ Some
+        (record { tick = x.tick; packet = ours r x.packet.at x.packet.level x.packet.body x.packet.payload })
+    found r e = next ∙ ap (λ (q : Packet). Some (record { tick = x.tick; packet = q }))
+        (as_ours s (x.tick + s.skew) x.packet a.new.0.ours ∙ ap (λ i. ours i x.packet.at x.packet.level x.packet.body x.packet.payload) e)
 
-    on : (h0 h1 : Host) (new : List Packet) (answers : List Answer) → Awaits s clock (suc d) rest (quiet_world s clock a.spares h0 h1 ((a.old ++ (x ∷ (rest ++ a.fresh))) ++ stamped clock new) answers)
+    on : (h0 h1 : Host) (new : List Packet) (answers : List Answer)
+        → Awaits s clock (suc d) rest (quiet_world s clock a.spares h0 h1 ((a.old ++ (x ∷ (rest ++ a.fresh))) ++ stamped clock new) answers)
     on h0 h1 new answers = record {
       spares = a.spares;
       one = h0;
@@ -66,44 +70,76 @@ module _ (s : Settings) (clock : ℕ) (life : 1 ≤ s.life) where
 
     by : (r : Role) → x.packet.role ≡ r → Delivers s clock d rest w
     by Client e =
-        let step : Work = arrival_step s a.two (clock + s.skew) (Some (ours Client x.packet.at x.packet.level x.packet.body x.packet.payload)) (next_answer a.answers) in
+        let step : Work =
+        arrival_step s a.two (clock + s.skew) (Some (ours Client x.packet.at x.packet.level x.packet.body x.packet.payload)) (next_answer a.answers) in
         record {
           after = _;
           is = ap (λ v. outcome s v (event.Deliver d) []) a.is
-              ∙ server_gets_it s clock a.spares a.one a.two (a.old ++ (x ∷ (rest ++ a.fresh))) a.answers d x.tick x.packet.at x.packet.level x.packet.body x.packet.payload (omega (arith, a.new.0.young, life)) (found Client e);
+              ∙ server_gets_it s clock a.spares a.one a.two (a.old ++ (x ∷ (rest ++ a.fresh))) a.answers d x.tick x.packet.at x.packet.level
+              x.packet.body x.packet.payload (omega (arith, a.new.0.young, life)) (found Client e);
           on = on a.one step.host (packets_in step.told) (answers_left step.told a.answers);
         }
     by Server e =
-        let step : Work = arrival_step s a.one (clock + s.skew) (Some (ours Server x.packet.at x.packet.level x.packet.body x.packet.payload)) (next_answer a.answers) in
+        let step : Work =
+        arrival_step s a.one (clock + s.skew) (Some (ours Server x.packet.at x.packet.level x.packet.body x.packet.payload)) (next_answer a.answers) in
         record {
           after = _;
           is = ap (λ v. outcome s v (event.Deliver d) []) a.is
-              ∙ client_gets_it s clock a.spares a.one a.two (a.old ++ (x ∷ (rest ++ a.fresh))) a.answers d x.tick x.packet.at x.packet.level x.packet.body x.packet.payload (omega (arith, a.new.0.young, life)) (found Server e);
+              ∙ client_gets_it s clock a.spares a.one a.two (a.old ++ (x ∷ (rest ++ a.fresh))) a.answers d x.tick x.packet.at x.packet.level
+              x.packet.body x.packet.payload (omega (arith, a.new.0.young, life)) (found Server e);
           on = on step.host a.two (packets_in step.told) (answers_left step.told a.answers);
         }
 
   ticks_on : (d : ℕ) (w : World) → clock < 4000008 → Awaits s clock d [] w → (carried s w (ticks 2 1)).fault ≡ None
-  ticks_on d w early a = ap (λ v. (carried s v (ticks 2 1)).fault) a.is ∙ ap (λ (r : Run). r.fault) (tick_is s clock a.spares a.one a.two (a.old ++ ([] ++ a.fresh)) a.answers (omega (arith, early)))
+  ticks_on d w early a = ap (λ v. (carried s v (ticks 2 1)).fault) a.is
+      ∙ ap (λ (r : Run). r.fault) (tick_is s clock a.spares a.one a.two (a.old ++ ([] ++ a.fresh)) a.answers (omega (arith, early)))
 
-  round_on : (xs : List SentPacket) (d : ℕ) (w : World) → clock < 4000008 → Awaits s clock d xs w → (carried s w (deliveries d (length xs) ++ ticks 2 1)).fault ≡ None
+  round_on : (xs : List SentPacket) (d : ℕ) (w : World) → clock < 4000008 → Awaits s clock d xs w
+      → (carried s w (deliveries d (length xs) ++ ticks 2 1)).fault ≡ None
   round_on [] d w early a = ticks_on d w early a
   round_on (x ∷ xs) d w early a =
       let g = delivers d x xs w a in
       ap (λ (r : Run). r.fault) (carried_on s w (bare (event.Deliver d)) (deliveries (suc d) (length xs) ++ ticks 2 1) g.after g.is)
       ∙ round_on xs (suc d) g.after.world early g.on
 
-  pub none_refused : (role : Role) (n m x : ℕ) (r : Round) → Limits s → IsCalm s n m → clock < 4000008 → Begins role s n m clock x r → (run_after s r).fault ≡ None
+  pub none_refused : (role : Role) (n m x : ℕ) (r : Round) → Limits s → IsCalm s n m → clock < 4000008 → Begins role s n m clock x r
+      → (run_after s r).fault ≡ None
   none_refused role n m x r l calm early b =
       ap (λ k. (carried s r.world (deliveries r.delivered (k - r.delivered) ++ ticks 2 1)).fault) (so_many s l n m clock x calm early role r b)
-      ∙ ap (λ k. (carried s r.world (deliveries r.delivered k ++ ticks 2 1)).fault) {x = (r.delivered + length b.pending) - r.delivered} {y = length b.pending} (omega arith)
+      ∙ ap (λ k. (carried s r.world (deliveries r.delivered k ++ ticks 2 1)).fault) {x = (r.delivered + length b.pending) - r.delivered}
+      {y = length b.pending} (omega arith)
       ∙ round_on b.pending r.delivered r.world early (awaits role b) where
         awaits : (role : Role) (b : Begins role s n m clock x r) → Awaits s clock r.delivered b.pending r.world
-        awaits Client b = record { spares = b.amid.spares; one = b.amid.sender; two = b.amid.receiver; old = b.amid.old; fresh = b.amid.fresh; answers = answers_by Client m; is = b.amid.is; so_many = b.amid.so_many; new = b.amid.new }
-        awaits Server b = record { spares = b.amid.spares; one = b.amid.receiver; two = b.amid.sender; old = b.amid.old; fresh = b.amid.fresh; answers = answers_by Server m; is = b.amid.is; so_many = b.amid.so_many; new = b.amid.new }
+        awaits Client b =
+            record {
+              spares = b.amid.spares;
+              one = b.amid.sender;
+              two = b.amid.receiver;
+              old = b.amid.old;
+              fresh = b.amid.fresh;
+              answers = answers_by Client m;
+              is = b.amid.is;
+              so_many = b.amid.so_many;
+              new = b.amid.new;
+            }
+        awaits Server b =
+            record {
+              spares = b.amid.spares;
+              one = b.amid.receiver;
+              two = b.amid.sender;
+              old = b.amid.old;
+              fresh = b.amid.fresh;
+              answers = answers_by Server m;
+              is = b.amid.is;
+              so_many = b.amid.so_many;
+              new = b.amid.new;
+            }
 
 -- the quiet call comes to its end
 pub comes_to_its_end : (s : Settings) (n m : ℕ) → IsCalm s n m → EndsWithin s n m (2 * (n + m) + 8)
 comes_to_its_end s n m calm = quiet_ends s n m calm (first_goes s n m calm) (first_started s n m calm) out (round_goes s n m calm) where
   out : (r x : ℕ) → r < 2 * (n + m) → Goes s n m r x → (run_after s (round s n m r)).fault ≡ None
-  out r x early (inl b) = none_refused s r (limits s n m calm).life Client n m x (round s n m r) (limits s n m calm) calm (omega (arith, early, calm.request.1, calm.response.1)) b
-  out r x early (inr b) = none_refused s r (limits s n m calm).life Server m m (x - 2 * n) (round s n m r) (limits s n m calm) (calm_reply s n m calm) (omega (arith, early, calm.request.1, calm.response.1)) b.1
+  out r x early (inl b) =
+      none_refused s r (limits s n m calm).life Client n m x (round s n m r) (limits s n m calm) calm (omega (arith, early, calm.request.1, calm.response.1)) b
+  out r x early (inr b) = none_refused s r (limits s n m calm).life Server m m (x - 2 * n) (round s n m r) (limits s n m calm) (calm_reply s n m calm)
+      (omega (arith, early, calm.request.1, calm.response.1)) b.1

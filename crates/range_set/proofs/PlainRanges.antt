@@ -1,5 +1,6 @@
 -- Lists of plain ranges: ends, fronts, and what is kept of them.
-use Rattle.std.proofs.Common.{◌≡◌, ℕ, suc, ◌+◌, ◌-◌, ◌<◌, ◌≤◌, true, false, ◌||◌, cond, ltb, min, max, List, [], ◌∷◌, ◌++◌, length, length-append, append_assoc, refl, sym, ap, ◌∙◌, arith}
+use Rattle.std.proofs.Common.{◌≡◌, ℕ, suc, ◌+◌, ◌-◌, ◌<◌, ◌≤◌, true, false, ◌||◌, cond, ltb, min, max, List, [], ◌∷◌, ◌++◌, length, length-append}
+use Rattle.std.proofs.Common.{append_assoc, refl, sym, ap, ◌∙◌, arith}
 use Rattle.std.proofs.lemmas.Bool.{cond_both, ltb-false, lt-ltb, le-ltb, cases_lt, true≢false}
 use Rattle.std.proofs.Common.{inl, inr}
 use Rattle.plain_sets.specs.Ranges.{Range as PlainRange, range, in_ranges, AreApart, width_of, absorbed, joined, led, parted}
@@ -88,7 +89,8 @@ small-led a b rs h small = cond_both (ltb a b) _ _ AreSmall (λ _. (h, small)) (
 pub small-parted : (rs : List PlainRange) (a b : ℕ) → AreSmall rs → AreSmall (parted a b rs)
 small-parted [] a b small = tt
 small-parted (r ∷ rs) a b small =
-    small-led r.from (min r.to a) (led (max r.from b) r.to (parted a b rs)) (omega (arith, small.0)) (small-led (max r.from b) r.to (parted a b rs) small.0 (small-parted rs a b small.1))
+    small-led r.from (min r.to a) (led (max r.from b) r.to (parted a b rs)) (omega (arith, small.0))
+    (small-led (max r.from b) r.to (parted a b rs) small.0 (small-parted rs a b small.1))
 
 -- what is taken below the ranges takes nothing of them
 pub parted-above : (rs : List PlainRange) (low a b : ℕ) → a < b → b ≤ low → AreApart low rs → parted a b rs ≡ rs
@@ -99,7 +101,8 @@ parted-above (r ∷ rs) low a b ab h apart =
     ∙ (λ i. led (from i) r.to (parted-above rs (r.to + 1) a b ab (omega (arith, apart.0, apart.1)) apart.2 i)) ∙ led-some r.from r.to rs apart.1
 
 -- where the front of the first range is taken, what is behind it is left
-pub parted-front : (r : PlainRange) (rs : List PlainRange) (low to : ℕ) → AreApart low (r ∷ rs) → r.from < to → to ≤ r.to → parted r.from to (r ∷ rs) ≡ led to r.to rs
+pub parted-front : (r : PlainRange) (rs : List PlainRange) (low to : ℕ) → AreApart low (r ∷ rs) → r.from < to → to ≤ r.to
+    → parted r.from to (r ∷ rs) ≡ led to r.to rs
 parted-front r rs low to apart some within =
     let from : max r.from to ≡ to = omega arith in
     led-none r.from (min r.to r.from) (led (max r.from to) r.to (parted r.from to rs)) (omega arith)
@@ -120,7 +123,8 @@ apart-rest (r ∷ rs) most apart some =
 -- what is left is no longer
 pub length-rest : (rs : List PlainRange) (most : ℕ) → length (rest_of most rs) ≤ length rs
 length-rest [] most = omega arith
-length-rest (r ∷ rs) most = cond_both (ltb (min r.to (r.from + most)) r.to) _ _ (λ (ss : List PlainRange). length ss ≤ suc (length rs)) (λ _. omega arith) (λ _. omega arith)
+length-rest (r ∷ rs) most =
+    cond_both (ltb (min r.to (r.from + most)) r.to) _ _ (λ (ss : List PlainRange). length ss ≤ suc (length rs)) (λ _. omega arith) (λ _. omega arith)
 
 -- what is left stays below a million
 pub small-rest : (rs : List PlainRange) (most : ℕ) → AreSmall rs → AreSmall (rest_of most rs)

@@ -19,10 +19,12 @@ next xs i d h = ap plain (drop-cons xs i d h) ∙ ap (λ k. range (get_or xs i d
 
 -- a range that ends below the added one stays
 pub below_next : (xs : List Range) (i a : ℕ) → i < length xs → (get_or xs i no_range).to < a
-    → ((b : ℕ) → joined a b (plain xs) ≡ plain (take i xs) ++ joined a b (plain (drop i xs))) → (b : ℕ) → joined a b (plain xs) ≡ plain (take (i + 1) xs) ++ joined a b (plain (drop (i + 1) xs))
+    → ((b : ℕ) → joined a b (plain xs) ≡ plain (take i xs) ++ joined a b (plain (drop i xs))) → (b : ℕ)
+    → joined a b (plain xs) ≡ plain (take (i + 1) xs) ++ joined a b (plain (drop (i + 1) xs))
 below_next xs i a h l so_far b =
     let r : Range = get_or xs i no_range in
-    let one : joined a b (plain (drop i xs)) ≡ range r.from r.to ∷ joined a b (plain (drop (i + 1) xs)) = ap (joined a b) (next xs i no_range h) ∙ rw (lt-ltb r.to a l) refl in
+    let one : joined a b (plain (drop i xs)) ≡ range r.from r.to ∷ joined a b (plain (drop (i + 1) xs)) =
+    ap (joined a b) (next xs i no_range h) ∙ rw (lt-ltb r.to a l) refl in
     so_far b ∙ ap (λ ys. plain (take i xs) ++ ys) one ∙ sym (plain_pushed (take i xs) r (joined a b (plain (drop (i + 1) xs))))
     ∙ ap (λ ys. plain ys ++ joined a b (plain (drop (i + 1) xs))) (sym (take_more xs i no_range h))
 
@@ -31,14 +33,16 @@ pub in_three : (xs ys : List Range) (r : Range) → plain ((xs ++ r ∷ []) ++ y
 in_three xs ys r = plain_append (xs ++ r ∷ []) ys ∙ plain_pushed xs r (plain ys)
 
 -- room for what is left of a range below the taken numbers
-pub room_below : (out : List Range) (r : Range) (here rest all : List PlainRange) (a b n : ℕ) → plain out ++ parted a b here ≡ all → here ≡ range r.from r.to ∷ rest → n ≡ min r.to a → length all ≤ 65
+pub room_below : (out : List Range) (r : Range) (here rest all : List PlainRange) (a b n : ℕ) → plain out ++ parted a b here ≡ all
+    → here ≡ range r.from r.to ∷ rest → n ≡ min r.to a → length all ≤ 65
     → length out + length (led r.from n []) ≤ 65
 room_below out r here rest all a b n so_far e is few =
     let f : plain out ++ parted a b (range r.from r.to ∷ rest) ≡ all = ap (λ ys. plain out ++ parted a b ys) (sym e) ∙ so_far in
     rw is (omega (arith, length-plain out, ap length f, room_first (plain out) (led (max r.from b) r.to (parted a b rest)) r.from (min r.to a)))
 
 -- room for what is left of it above them
-pub room_above : (out made : List Range) (r : Range) (here rest all : List PlainRange) (a b n m : ℕ) → plain out ++ parted a b here ≡ all → here ≡ range r.from r.to ∷ rest → n ≡ min r.to a → m ≡ max r.from b
+pub room_above : (out made : List Range) (r : Range) (here rest all : List PlainRange) (a b n m : ℕ) → plain out ++ parted a b here ≡ all
+    → here ≡ range r.from r.to ∷ rest → n ≡ min r.to a → m ≡ max r.from b
     → plain made ≡ plain out ++ led r.from n [] → length all ≤ 65 → length made + length (led m r.to []) ≤ 65
 room_above out made r here rest all a b n m so_far e is is' done few =
     let f : plain out ++ parted a b (range r.from r.to ∷ rest) ≡ all = ap (λ ys. plain out ++ parted a b ys) (sym e) ∙ so_far in

@@ -1,5 +1,6 @@
 -- The text of a recording is a schedule that is printed.
-use Rattle.std.proofs.Common.{◌≡◌, ◌≤◌, ℕ, ◌*◌, ◌^◌, Bool, true, false, Option, None, Some, List, [], ◌∷◌, ◌++◌, length, refl, sym, ap, ◌∙◌, subst, append-nil, append_assoc, length-append, arith}
+use Rattle.std.proofs.Common.{◌≡◌, ◌≤◌, ℕ, ◌*◌, ◌^◌, Bool, true, false, Option, None, Some, List, [], ◌∷◌, ◌++◌, length, refl, sym, ap, ◌∙◌, subst}
+use Rattle.std.proofs.Common.{append-nil, append_assoc, length-append, arith}
 use Rattle.std.specs.Prelude.{if◌then◌else◌}
 use Rattle.std.specs.List.{AllByRecursion, join_with_byte}
 use Rattle.std.specs.Option.{option_map}
@@ -26,7 +27,8 @@ use Rattle.record_laws.proofs.Replays.{schedules_replayed}
 
 texts-append : (a b : List Happening) → texts (a ++ b) ≡ texts a ++ texts b
 texts-append [] b = refl
-texts-append (h ∷ a) b = ap (λ (xs : List ℕ). event_text h.event h.bytes ++ xs) (texts-append a b) ∙ sym (append_assoc (event_text h.event h.bytes) (texts a) (texts b))
+texts-append (h ∷ a) b =
+    ap (λ (xs : List ℕ). event_text h.event h.bytes ++ xs) (texts-append a b) ∙ sym (append_assoc (event_text h.event h.bytes) (texts a) (texts b))
 
 not_strange : (b : Bool) (xs : List ℕ) → b ≡ false → (if b then xs else []) ≡ []
 not_strange b xs e = ap (λ (c : Bool). if c then xs else []) e
@@ -93,29 +95,36 @@ recorded_is (r ∷ rs) n k u =
     let other = no_other n r k.0 usual.0 in
     recorded-by n r rs usual.0
     ∙ (ap (behind (told n r)) (recorded_is rs (kept n r) k.1 usual.1)
-    ∙ ap uncut (ap (λ (xs : List ℕ). xs ++ texts (recorded_events (kept n r) rs)) (told_events n r other) ∙ (sym (texts-append (events n r) (recorded_events (kept n r) rs)) ∙ ap texts (sym (events-by n r rs)))))
+    ∙ ap uncut (ap (λ (xs : List ℕ). xs ++ texts (recorded_events (kept n r) rs)) (told_events n r other)
+    ∙ (sym (texts-append (events n r) (recorded_events (kept n r) rs)) ∙ ap texts (sym (events-by n r rs)))))
 
 -- from the settings on
 settings_told : (s : Settings) → told no_notes (Tells (PlainSettings s)) ≡ settings_text s
 unfolding told
 settings_told s = append-nil (settings_text s)
 
-whole_recorded : (s : Settings) (rs : List Report) → NoSettings rs → NoneStrange no_notes (Tells (PlainSettings s) ∷ rs) → recorded no_notes (Tells (PlainSettings s) ∷ rs) ≡ uncut (settings_text s ++ texts (recorded_events no_notes (Tells (PlainSettings s) ∷ rs)))
+whole_recorded : (s : Settings) (rs : List Report) → NoSettings rs → NoneStrange no_notes (Tells (PlainSettings s) ∷ rs)
+    → recorded no_notes (Tells (PlainSettings s) ∷ rs) ≡ uncut (settings_text s ++ texts (recorded_events no_notes (Tells (PlainSettings s) ∷ rs)))
 whole_recorded s rs k u =
     let r = Tells (PlainSettings s) in
     let usual = usual-by no_notes r rs u in
     recorded-by no_notes r rs refl
     ∙ (ap (behind (told no_notes r)) (recorded_is rs (kept no_notes r) k usual.1)
-    ∙ ap uncut (ap (λ (xs : List ℕ). xs ++ texts (recorded_events (kept no_notes r) rs)) (settings_told s) ∙ ap (λ (hs : List Happening). settings_text s ++ texts hs) (sym (events-by no_notes r rs))))
+    ∙ ap uncut (ap (λ (xs : List ℕ). xs ++ texts (recorded_events (kept no_notes r) rs)) (settings_told s)
+    ∙ ap (λ (hs : List Happening). settings_text s ++ texts hs) (sym (events-by no_notes r rs))))
 
 -- the text of a recording
-pub recording_is : (run : Run) (s : Settings) (turns : ℕ) → BeginsWith s run.reports → NoneStrange no_notes run.reports → run.end ≡ Some (Ended turns) → recording_text run ≡ schedule_text s (recorded_events no_notes run.reports) turns
+pub recording_is : (run : Run) (s : Settings) (turns : ℕ) → BeginsWith s run.reports → NoneStrange no_notes run.reports → run.end ≡ Some (Ended turns)
+    → recording_text run ≡ schedule_text s (recorded_events no_notes run.reports) turns
 unfolding recording_text
 recording_is run s turns k u e =
     let whole : recorded no_notes run.reports ≡ uncut (settings_text s ++ texts (recorded_events no_notes run.reports)) =
-    ap (recorded no_notes) k.first ∙ (whole_recorded s k.later k.only (subst (NoneStrange no_notes) k.first u) ∙ ap (λ (rs : List Report). uncut (settings_text s ++ texts (recorded_events no_notes rs))) (sym k.first)) in
+    ap (recorded no_notes) k.first
+    ∙ (whole_recorded s k.later k.only (subst (NoneStrange no_notes) k.first u)
+    ∙ ap (λ (rs : List Report). uncut (settings_text s ++ texts (recorded_events no_notes rs))) (sym k.first)) in
     ap (λ (r : Observed ℕ). with_end r run.end) whole
-    ∙ (ap (with_end (uncut (settings_text s ++ texts (recorded_events no_notes run.reports)))) e ∙ append_assoc (settings_text s) (texts (recorded_events no_notes run.reports)) (comment_text turns))
+    ∙ (ap (with_end (uncut (settings_text s ++ texts (recorded_events no_notes run.reports)))) e ∙ append_assoc (settings_text s)
+    (texts (recorded_events no_notes run.reports)) (comment_text turns))
 
 -- ---- a run whose recording has status 0
 
@@ -143,10 +152,13 @@ status_done run e = by_cut (recorded no_notes run.reports).is_cut refl e where
 -- ---- the events that are recorded can be printed
 
 event_printed : (packets : ℕ) → packets ≤ 2 ^ 64 → (e : Event) (bytes : List ℕ) → IsRecorded packets e bytes → IsPrinted (record { event = e; bytes = bytes })
-event_printed packets l (event.Call client server service) bytes k = record { fitting = (omega (arith, k.0), omega (arith, k.1), omega (arith, k.2)); bytes = k.3; few = omega (arith, k.4) }
-event_printed packets l (event.Deliver number) bytes k = record { fitting = omega (arith, k.0, l); bytes = subst IsBytes (sym k.1) (λ i. omega arith); few = omega (arith, ap length k.1) }
+event_printed packets l (event.Call client server service) bytes k =
+    record { fitting = (omega (arith, k.0), omega (arith, k.1), omega (arith, k.2)); bytes = k.3; few = omega (arith, k.4) }
+event_printed packets l (event.Deliver number) bytes k =
+    record { fitting = omega (arith, k.0, l); bytes = subst IsBytes (sym k.1) (λ i. omega arith); few = omega (arith, ap length k.1) }
 event_printed packets l event.Clock bytes k = record { fitting = tt; bytes = subst IsBytes (sym k) (λ i. omega arith); few = omega (arith, ap length k) }
-event_printed packets l (event.Turn host) bytes k = record { fitting = omega (arith, k.0); bytes = subst IsBytes (sym k.1) (λ i. omega arith); few = omega (arith, ap length k.1) }
+event_printed packets l (event.Turn host) bytes k =
+    record { fitting = omega (arith, k.0); bytes = subst IsBytes (sym k.1) (λ i. omega arith); few = omega (arith, ap length k.1) }
 event_printed packets l (event.Inject host) bytes k = record { fitting = omega (arith, k.0); bytes = k.1; few = omega (arith, k.2) }
 event_printed packets l (event.Restart host) bytes k = absurd k
 event_printed packets l (event.Shift host lead) bytes k = absurd k
@@ -175,8 +187,16 @@ texts_repeat bytes setup calls answers ticks receives boxes opened here fair ris
     let first = settings_first bytes setup calls answers ticks receives opened here fair rises done.usual in
     let text = recording_is run s done.turns first done.usual done.end in
     let whole : length (schedule_text s hs done.turns) ≤ most_bytes = omega (arith, long, ap length text) in
-    let many : length hs ≤ most_bytes = omega (arith, whole, length-append (settings_text s) (texts hs ++ comment_text done.turns), length-append (texts hs) (comment_text done.turns), as_many hs) in
-    let printed = all_printed (64 * length hs) (omega (arith, many)) hs (events_fit bytes setup calls answers ticks receives opened here fair rises fits done.usual) in
+    let many : length hs ≤ most_bytes =
+    omega (
+      arith,
+      whole,
+      length-append (settings_text s) (texts hs ++ comment_text done.turns),
+      length-append (texts hs) (comment_text done.turns),
+      as_many hs,
+    ) in
+    let printed =
+    all_printed (64 * length hs) (omega (arith, many)) hs (events_fit bytes setup calls answers ticks receives opened here fair rises fits done.usual) in
     let turns = turns_fit bytes setup calls answers ticks receives done.turns opened done.end in
     let events = recordings_repeat bytes setup calls answers ticks receives boxes opened here fair rises done.usual in
     let valid = (opening_is most_bytes bytes setup calls opened).is.valid in

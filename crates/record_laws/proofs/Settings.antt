@@ -4,7 +4,8 @@ use Rattle.std.specs.Prelude.{codes}
 use Rattle.std.specs.Fmt.{decimal}
 use Rattle.std.proofs.lemmas.Fmt.{length-decimal-le}
 use Rattle.homa_plain.specs.declared.settings.Name.{Name}
-use Rattle.homa_plain.specs.declared.settings.Name.TheVariants.{Hosts, Seg, Window, Unsched, Overcommit, Rate, Resend, Tries, Life, Pages, Calls, Served, Rebalance, Skew, Wire}
+use Rattle.homa_plain.specs.declared.settings.Name.TheVariants.{Hosts, Seg, Window, Unsched, Overcommit, Rate, Resend, Tries, Life, Pages, Calls}
+use Rattle.homa_plain.specs.declared.settings.Name.TheVariants.{Served, Rebalance, Skew, Wire}
 use Rattle.homa_plain.specs.Input.{ends_in_feed}
 use Rattle.homa_plain.specs.Text.{name_word, line_of_words}
 use Rattle.homa_plain.specs.Script.{Blank, SettingIs, Go, phrase_in, phrase_of, setting_text, setting_given}
@@ -68,9 +69,11 @@ setting_words_good : (name : Name) (n : ℕ) → n < 2 ^ 32 → AllWords (name_w
 setting_words_good name n h = (name_good name, (word-decimal n (omega (arith, h)), tt))
 
 -- the line of a setting
-pub setting_is : (name : Name) (n limit read : ℕ) → n < 2 ^ 32 → read + length (setting_text (name, n)) ≤ limit → phrase_in limit false read (setting_text (name, n)) ≡ Ok (SettingIs name n)
+pub setting_is : (name : Name) (n limit read : ℕ) → n < 2 ^ 32 → read + length (setting_text (name, n)) ≤ limit
+    → phrase_in limit false read (setting_text (name, n)) ≡ Ok (SettingIs name n)
 setting_is name n limit read h l =
-    phrase_words limit false read (name_word name ∷ decimal n ∷ []) (setting_words_good name n h) (omega (arith, name_short name, length-decimal-le 10 n (omega arith) (omega (arith, h)) (omega (arith, h)))) l
+    phrase_words limit false read (name_word name ∷ decimal n ∷ []) (setting_words_good name n h)
+    (omega (arith, name_short name, length-decimal-le 10 n (omega arith) (omega (arith, h)) (omega (arith, h)))) l
     ∙ (name_stands name (decimal n ∷ []) ∙ rw (operand-decimal (2 ^ 32 - 1) n [] (omega (arith, h)) (omega (arith, h))) refl)
 
 pub setting_feed : (name : Name) (n : ℕ) → n < 2 ^ 32 → ends_in_feed (setting_text (name, n)) ≡ true
@@ -84,9 +87,11 @@ comment_good : (n : ℕ) → n < 2 ^ 64 → AllWords (codes "#" ∷ codes "ok" �
 comment_good n h = (word-tested (codes "#") refl, (word-tested (codes "ok") refl, (word-decimal n h, tt)))
 
 -- the comment at the end
-pub comment_is : (n limit read : ℕ) → n < 2 ^ 64 → read + length (line_of_words (codes "#" ∷ codes "ok" ∷ decimal n ∷ [])) ≤ limit → phrase_in limit true read (line_of_words (codes "#" ∷ codes "ok" ∷ decimal n ∷ [])) ≡ Ok Blank
+pub comment_is : (n limit read : ℕ) → n < 2 ^ 64 → read + length (line_of_words (codes "#" ∷ codes "ok" ∷ decimal n ∷ [])) ≤ limit
+    → phrase_in limit true read (line_of_words (codes "#" ∷ codes "ok" ∷ decimal n ∷ [])) ≡ Ok Blank
 comment_is n limit read h l =
-    phrase_words limit true read (codes "#" ∷ codes "ok" ∷ decimal n ∷ []) (comment_good n h) (omega (arith, length-decimal-le 20 n (omega arith) (omega (arith, h)) h)) l
+    phrase_words limit true read (codes "#" ∷ codes "ok" ∷ decimal n ∷ []) (comment_good n h)
+    (omega (arith, length-decimal-le 20 n (omega arith) (omega (arith, h)) h)) l
 
 pub comment_feed : (n : ℕ) → n < 2 ^ 64 → ends_in_feed (line_of_words (codes "#" ∷ codes "ok" ∷ decimal n ∷ [])) ≡ true
 comment_feed n h = line_feed (codes "#" ∷ codes "ok" ∷ decimal n ∷ []) (comment_good n h)

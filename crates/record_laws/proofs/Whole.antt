@@ -1,5 +1,6 @@
 -- A schedule that is printed, as it is read.
-use Rattle.std.proofs.Common.{◌≡◌, ◌<◌, ◌≤◌, ℕ, ◌+◌, ◌^◌, zero, suc, arith, Bool, true, false, Option, None, Result, Ok, Err, List, [], ◌∷◌, ◌++◌, length, take, map, refl, sym, ap, ◌∙◌, subst, append_assoc, append-nil, length-append}
+use Rattle.std.proofs.Common.{◌≡◌, ◌<◌, ◌≤◌, ℕ, ◌+◌, ◌^◌, zero, suc, arith, Bool, true, false, Option, None, Result, Ok, Err, List, [], ◌∷◌, ◌++◌}
+use Rattle.std.proofs.Common.{length, take, map, refl, sym, ap, ◌∙◌, subst, append_assoc, append-nil, length-append}
 use Rattle.std.specs.Prelude.{codes, ◌==◌, if◌then◌else◌}
 use Rattle.std.specs.List.{flat_map, zip, AllByRecursion}
 use Rattle.std.proofs.lemmas.Bool.Decides.{nat_tests}
@@ -11,7 +12,8 @@ use Rattle.homa_plain.specs.Settings.{IsValid, usual, verdict}
 use Rattle.homa_plain.proofs.SettingsLemmas.{ok_is_valid}
 use Rattle.homa_plain.specs.Input.{lines_of}
 use Rattle.homa_plain.specs.Text.{settings_numbers, told_numbers}
-use Rattle.homa_plain.specs.Script.{Given, Blank, SettingIs, Go, Happens, Step, Steps, Refusal, steps_from, Opening, Opened, Unopened, opened_by, opening, opening_from, most_bytes, names, phrase_in, setting_text, settings_text, event_text, with_setting}
+use Rattle.homa_plain.specs.Script.{Given, Blank, SettingIs, Go, Happens, Step, Steps, Refusal, steps_from, Opening, Opened, Unopened, opened_by}
+use Rattle.homa_plain.specs.Script.{opening, opening_from, most_bytes, names, phrase_in, setting_text, settings_text, event_text, with_setting}
 use Rattle.homa_plain.specs.Replay.{Happening}
 use Rattle.script_lines.proofs.LinesOf.{lines_of-feed}
 use Rattle.homa_script.proofs.Events.{line_is}
@@ -24,11 +26,13 @@ use Rattle.record_laws.proofs.Settings.{setting_is, setting_feed, go_is, comment
 abbrev pub first : Step → Steps → Steps
 first step rest = record { steps = step ∷ rest.steps; refused = rest.refused }
 
-steps-happens : (limit read n : ℕ) (line : List ℕ) (lines : List (List ℕ)) (given : Given) → phrase_in limit true read line ≡ Ok (Happens given) → steps_from limit read n (line ∷ lines) ≡ first (record { line = n; given = given }) (steps_from limit (read + length line) (suc n) lines)
+steps-happens : (limit read n : ℕ) (line : List ℕ) (lines : List (List ℕ)) (given : Given) → phrase_in limit true read line ≡ Ok (Happens given)
+    → steps_from limit read n (line ∷ lines) ≡ first (record { line = n; given = given }) (steps_from limit (read + length line) (suc n) lines)
 unfolding steps_from
 steps-happens limit read n line lines given e = rw (e, steps_from) refl
 
-steps-blank : (limit read n : ℕ) (line : List ℕ) (lines : List (List ℕ)) → phrase_in limit true read line ≡ Ok Blank → steps_from limit read n (line ∷ lines) ≡ steps_from limit (read + length line) (suc n) lines
+steps-blank : (limit read n : ℕ) (line : List ℕ) (lines : List (List ℕ)) → phrase_in limit true read line ≡ Ok Blank
+    → steps_from limit read n (line ∷ lines) ≡ steps_from limit (read + length line) (suc n) lines
 unfolding steps_from
 steps-blank limit read n line lines e = rw (e, steps_from) refl
 
@@ -42,7 +46,8 @@ pub record AreSteps (hs : List Happening) (found : Steps) : Type 0 where
   pub given : map (λ (st : Step). st.given) found.steps ≡ map as_given hs
 
 -- the events and the comment
-pub events_read : (hs : List Happening) (turns limit read n : ℕ) → AllByRecursion IsPrinted hs → turns < 2 ^ 64 → read + length (texts hs ++ comment_text turns) ≤ limit → AreSteps hs (steps_from limit read n (lines_of (texts hs ++ comment_text turns)))
+pub events_read : (hs : List Happening) (turns limit read n : ℕ) → AllByRecursion IsPrinted hs → turns < 2 ^ 64
+    → read + length (texts hs ++ comment_text turns) ≤ limit → AreSteps hs (steps_from limit read n (lines_of (texts hs ++ comment_text turns)))
 events_read [] turns limit read n p t l =
     let text = comment_text turns in
     let lines : lines_of text ≡ text ∷ [] = ap lines_of (sym (append-nil text)) ∙ lines_of-feed text [] (comment_feed turns t) in
@@ -54,19 +59,25 @@ events_read (h ∷ hs) turns limit read n p t l =
     let more = texts hs ++ comment_text turns in
     let split : texts (h ∷ hs) ++ comment_text turns ≡ line ++ more = append_assoc line (texts hs) (comment_text turns) in
     let long : read + (length line + length more) ≤ limit = omega (arith, l, ap length split, length-append line more) in
-    let lines : lines_of (texts (h ∷ hs) ++ comment_text turns) ≡ line ∷ lines_of more = ap lines_of split ∙ lines_of-feed line more (event_feed h.event h.bytes p.0.fitting p.0.bytes) in
-    let is : steps_from limit read n (lines_of (texts (h ∷ hs) ++ comment_text turns)) ≡ first (record { line = n; given = as_given h }) (steps_from limit (read + length line) (suc n) (lines_of more)) =
-    ap (steps_from limit read n) lines ∙ steps-happens limit read n line (lines_of more) (as_given h) (line_is h.event h.bytes limit read p.0.fitting p.0.bytes p.0.few (omega (arith, long))) in
+    let lines : lines_of (texts (h ∷ hs) ++ comment_text turns) ≡ line ∷ lines_of more =
+    ap lines_of split ∙ lines_of-feed line more (event_feed h.event h.bytes p.0.fitting p.0.bytes) in
+    let is : steps_from limit read n (lines_of (texts (h ∷ hs) ++ comment_text turns)) ≡ first (record { line = n; given = as_given h })
+    (steps_from limit (read + length line) (suc n) (lines_of more)) =
+    ap (steps_from limit read n) lines ∙ steps-happens limit read n line (lines_of more) (as_given h)
+    (line_is h.event h.bytes limit read p.0.fitting p.0.bytes p.0.few (omega (arith, long))) in
     let rest = events_read hs turns limit (read + length line) (suc n) p.1 t (omega (arith, long)) in
     subst (AreSteps (h ∷ hs)) (sym is) (record { refused = rest.refused; given = ap (λ (gs : List Given). as_given h ∷ gs) rest.given })
 
 -- ---- up to `go`
 
-opening-setting : (limit read n : ℕ) (s : Settings) (line : List ℕ) (lines : List (List ℕ)) (name : Name) (m : ℕ) → phrase_in limit false read line ≡ Ok (SettingIs name m) → opening_from limit read n s (line ∷ lines) ≡ opening_from limit (read + length line) (suc n) (with_setting s name m) lines
+opening-setting : (limit read n : ℕ) (s : Settings) (line : List ℕ) (lines : List (List ℕ)) (name : Name) (m : ℕ)
+    → phrase_in limit false read line ≡ Ok (SettingIs name m) → opening_from limit read n s (line ∷ lines) ≡ opening_from limit (read + length line)
+    (suc n) (with_setting s name m) lines
 unfolding opening_from
 opening-setting limit read n s line lines name m e = rw (e, opening_from) refl
 
-opening-go : (limit read n : ℕ) (s : Settings) (line : List ℕ) (lines : List (List ℕ)) → phrase_in limit false read line ≡ Ok Go → opening_from limit read n s (line ∷ lines) ≡ opened_by s n (steps_from limit (read + length line) (suc n) lines)
+opening-go : (limit read n : ℕ) (s : Settings) (line : List ℕ) (lines : List (List ℕ)) → phrase_in limit false read line ≡ Ok Go
+    → opening_from limit read n s (line ∷ lines) ≡ opened_by s n (steps_from limit (read + length line) (suc n) lines)
 unfolding opening_from
 opening-go limit read n s line lines e = rw (e, opening_from) refl
 
@@ -85,7 +96,8 @@ pub record Goes (limit : ℕ) (s : Settings) (more : List ℕ) (o : Opening) : T
   pub within : read + length more ≤ limit
   pub is : o ≡ opened_by s line (steps_from limit read (suc line) (lines_of more))
 
-pub settings_read : (ms : List (Name × ℕ)) (s : Settings) (more : List ℕ) (limit read n : ℕ) → AllByRecursion IsSmall ms → read + length (flat_map setting_text ms ++ (codes "go\n" ++ more)) ≤ limit
+pub settings_read : (ms : List (Name × ℕ)) (s : Settings) (more : List ℕ) (limit read n : ℕ) → AllByRecursion IsSmall ms
+    → read + length (flat_map setting_text ms ++ (codes "go\n" ++ more)) ≤ limit
     → Goes limit (set_all s ms) more (opening_from limit read n s (lines_of (flat_map setting_text ms ++ (codes "go\n" ++ more))))
 settings_read [] s more limit read n k l =
     let go : List ℕ = codes "go\n" in
@@ -94,14 +106,16 @@ settings_read [] s more limit read n k l =
       read = read + length go;
       line = n;
       within = omega (arith, long);
-      is = ap (opening_from limit read n s) (lines_of-feed go more refl) ∙ opening-go limit read n s go (lines_of more) (go_is limit read (omega (arith, long)));
+      is =
+          ap (opening_from limit read n s) (lines_of-feed go more refl) ∙ opening-go limit read n s go (lines_of more) (go_is limit read (omega (arith, long)));
     }
 settings_read (m ∷ ms) s more limit read n k l =
     let line = setting_text m in
     let rest = flat_map setting_text ms ++ (codes "go\n" ++ more) in
     let split : flat_map setting_text (m ∷ ms) ++ (codes "go\n" ++ more) ≡ line ++ rest = append_assoc line (flat_map setting_text ms) (codes "go\n" ++ more) in
     let long : read + (length line + length rest) ≤ limit = omega (arith, l, ap length split, length-append line rest) in
-    let is : opening_from limit read n s (lines_of (flat_map setting_text (m ∷ ms) ++ (codes "go\n" ++ more))) ≡ opening_from limit (read + length line) (suc n) (with_setting s m.0 m.1) (lines_of rest) =
+    let is : opening_from limit read n s (lines_of (flat_map setting_text (m ∷ ms) ++ (codes "go\n" ++ more))) ≡ opening_from limit
+    (read + length line) (suc n) (with_setting s m.0 m.1) (lines_of rest) =
     ap (opening_from limit read n s) (ap lines_of split ∙ lines_of-feed line rest (setting_feed m.0 m.1 k.0))
     ∙ opening-setting limit read n s line (lines_of rest) m.0 m.1 (setting_is m.0 m.1 limit read k.0 (omega (arith, long))) in
     let g = settings_read ms (with_setting s m.0 m.1) more limit (read + length line) (suc n) k.1 (omega (arith, long)) in
@@ -134,8 +148,34 @@ all_small s v =
     let l = k.2 in
     let m = l.2 in
     let n = m.2 in
-    let o = n.2 in
-    (omega (arith, a.1), (omega (arith, b.1), (omega (arith, c.1), (omega (arith, d.1), (omega (arith, e.1), (omega (arith, f.1), (omega (arith, g.1), (omega (arith, h.1), (omega (arith, i.1), (omega (arith, j.1), (omega (arith, k.1), (omega (arith, l.1), (omega (arith, m.1), (omega (arith, n.1), (omega (arith, o.1), tt)))))))))))))))
+    let o = n.2 in (
+      omega (arith, a.1),
+      (
+        omega (arith, b.1),
+        (
+          omega (arith, c.1),
+          (
+            omega (arith, d.1),
+            (
+              omega (arith, e.1),
+              (
+                omega (arith, f.1),
+                (
+                  omega (arith, g.1),
+                  (
+                    omega (arith, h.1),
+                    (
+                      omega (arith, i.1),
+                      (omega (arith, j.1), (omega (arith, k.1), (omega (arith, l.1), (omega (arith, m.1), (omega (arith, n.1), (omega (arith, o.1), tt)))))),
+                    ),
+                  ),
+                ),
+              ),
+            ),
+          ),
+        ),
+      ),
+    )
 
 with_clock : Settings → ℕ → ℕ → Settings
 with_clock s skew wire = record s { skew = skew; wire = wire }
@@ -147,7 +187,8 @@ number_is m n e = grind (arith, nat_tests, e)
 all_set : (s : Settings) → set_all usual (take (told_numbers s) (numbered s)) ≡ s
 unfolding numbered with_clock
 all_set s = by_tests (s.wire == 1) (s.skew == 0) refl refl where
-  by_tests : (a b : Bool) → (s.wire == 1) ≡ a → (s.skew == 0) ≡ b → set_all usual (take (if a then (if b then 13 else 14) else 15) (zip names (settings_numbers s))) ≡ s
+  by_tests : (a b : Bool) → (s.wire == 1) ≡ a → (s.skew == 0) ≡ b
+      → set_all usual (take (if a then (if b then 13 else 14) else 15) (zip names (settings_numbers s))) ≡ s
   by_tests true true e f = ap (λ (k : ℕ). with_clock s k 1) (number_is s.skew 0 f) ∙ ap (λ (k : ℕ). with_clock s s.skew k) (number_is s.wire 1 e)
   by_tests true false e f = ap (λ (k : ℕ). with_clock s s.skew k) (number_is s.wire 1 e)
   by_tests false b e f = refl
@@ -157,7 +198,9 @@ valid_verdict s (Ok u) e v = refl
 valid_verdict s (Err fault) e v = absurd (let z : false ≡ true = (ok_is_valid s (Err fault) e).1 v in cc)
 
 opened-valid : (s : Settings) (n : ℕ) (steps : Steps) → IsValid s → opened_by s n steps ≡ Opened s steps
-opened-valid s n steps v = ap (λ (r : Result (Unit {0}) SettingFault). elim r [ Err fault ↦ Unopened (record { line = n; fault = Setting fault }) | Ok u ↦ Opened s steps ]) (valid_verdict s (verdict s) refl v)
+opened-valid s n steps v =
+    ap (λ (r : Result (Unit {0}) SettingFault). elim r [ Err fault ↦ Unopened (record { line = n; fault = Setting fault }) | Ok u ↦ Opened s steps ])
+    (valid_verdict s (verdict s) refl v)
 
 -- the settings' lines, with what follows
 settings_split : (s : Settings) (more : List ℕ) → settings_text s ++ more ≡ flat_map setting_text (take (told_numbers s) (numbered s)) ++ (codes "go\n" ++ more)
@@ -181,6 +224,7 @@ schedules_read s hs n v p t l =
       steps = found.steps;
       whole =
           ap (λ (xs : List ℕ). opening_from most_bytes 0 1 usual (lines_of xs)) split
-          ∙ (g.is ∙ (ap (λ (u : Settings). opened_by u g.line found) (all_set s) ∙ (opened-valid s g.line found v ∙ ap (Opened s) (same_steps found r.refused))));
+          ∙ (g.is ∙ (ap (λ (u : Settings). opened_by u g.line found) (all_set s)
+          ∙ (opened-valid s g.line found v ∙ ap (Opened s) (same_steps found r.refused))));
       given = r.given;
     }

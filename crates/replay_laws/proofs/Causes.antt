@@ -20,8 +20,10 @@ use Rattle.homa_plain.specs.Script.{Step, Refusal, Opening, Opened, Unopened, op
 use Rattle.homa_plain.specs.Shape.{IsCause}
 use Rattle.homa_plain.specs.Rules.{Answer}
 use Rattle.homa_plain.specs.Steps.{start_fault}
-use Rattle.homa_plain.specs.World.{World, SentPacket, Outcome, Refused, Done, outcome, host_at, calls_from, started, arrives_at, is_late, delivered, last_tick, turns, restarts, injected, shifted}
-use Rattle.homa_plain.specs.Replay.{Happening, Run, Replay, End, Finished, RefusedAt, after_event, with_told, end_after, events_of, carried, replayed, replay_opened, replay, last_entry}
+use Rattle.homa_plain.specs.World.{World, SentPacket, Outcome, Refused, Done, outcome, host_at, calls_from, started, arrives_at, is_late, delivered}
+use Rattle.homa_plain.specs.World.{last_tick, turns, restarts, injected, shifted}
+use Rattle.homa_plain.specs.Replay.{Happening, Run, Replay, End, Finished, RefusedAt, after_event, with_told, end_after, events_of, carried, replayed}
+use Rattle.homa_plain.specs.Replay.{replay_opened, replay, last_entry}
 use Rattle.trace_laws.specs.Shaped.{HasCause}
 
 -- ---- an event
@@ -35,15 +37,18 @@ by_test : (b : Bool) (x y : Outcome) → MayCome x → MayCome y → MayCome (if
 by_test true x y p q = p
 by_test false x y p q = q
 
-starts : (s : Settings) (w : World) (client server : HostId) (number : ℕ) (request : List ℕ) (h : Host) (fault : Option StartFault) → MayCome (started s w client server number request h fault)
+starts : (s : Settings) (w : World) (client server : HostId) (number : ℕ) (request : List ℕ) (h : Host) (fault : Option StartFault)
+    → MayCome (started s w client server number request h fault)
 starts s w client server number request h (Some fault) = tt
 starts s w client server number request h None = tt
 
-calls : (s : Settings) (w : World) (client server : HostId) (number : ℕ) (request : List ℕ) (o : Option Host) → MayCome (calls_from s w client server number request o)
+calls : (s : Settings) (w : World) (client server : HostId) (number : ℕ) (request : List ℕ) (o : Option Host)
+    → MayCome (calls_from s w client server number request o)
 calls s w client server number request None = tt
 calls s w client server number request (Some h) = starts s w client server number request h (start_fault s h server request)
 
-arrives : (s : Settings) (w : World) (id : HostId) (first : List PlainEntry) (packet : Option Packet) (o : Option Host) → MayCome (arrives_at s w id first packet o)
+arrives : (s : Settings) (w : World) (id : HostId) (first : List PlainEntry) (packet : Option Packet) (o : Option Host)
+    → MayCome (arrives_at s w id first packet o)
 arrives s w id first packet None = tt
 arrives s w id first packet (Some h) = tt
 
@@ -51,7 +56,8 @@ comes : (s : Settings) (w : World) (n : ℕ) (o : Option SentPacket) → MayCome
 comes s w n None = tt
 comes s w n (Some sent) =
     let id = receiver sent.packet in
-    by_test (is_late s w sent.tick) _ (arrives_at s w id (PlainDeliver n ∷ []) (Some sent.packet) (host_at w id)) tt (arrives s w id (PlainDeliver n ∷ []) (Some sent.packet) (host_at w id))
+    by_test (is_late s w sent.tick) _ (arrives_at s w id (PlainDeliver n ∷ []) (Some sent.packet) (host_at w id)) tt
+    (arrives s w id (PlainDeliver n ∷ []) (Some sent.packet) (host_at w id))
 
 has_turn : (s : Settings) (w : World) (id : HostId) (o : Option Host) → MayCome (turns s w id o)
 has_turn s w id None = tt
@@ -62,7 +68,8 @@ begins_anew s w id None spares = tt
 begins_anew s w id (Some h) zero = tt
 begins_anew s w id (Some h) (suc spares) = tt
 
-comes_from_outside : (s : Settings) (w : World) (id : HostId) (bytes : List ℕ) (o : Option Host) (read : Option (WirePacket × List ℕ)) → MayCome (injected s w id bytes o read)
+comes_from_outside : (s : Settings) (w : World) (id : HostId) (bytes : List ℕ) (o : Option Host) (read : Option (WirePacket × List ℕ))
+    → MayCome (injected s w id bytes o read)
 comes_from_outside s w id bytes None read = tt
 comes_from_outside s w id bytes (Some h) (Some read) = tt
 comes_from_outside s w id bytes (Some h) None = tt
@@ -88,7 +95,11 @@ unfolding carried
 run_cause s w [] = tt
 run_cause s w (e ∷ es) = by_outcome (outcome s w e.event e.bytes) (event_cause s w e.event e.bytes) (λ v. run_cause s v es) where
   by_outcome : (o : Outcome) → MayCome o → ((v : World) → IfSome (carried s v es).fault IsCause)
-      → IfSome (elim o as (λ _. Run) [ Refused fault ↦ record { world = w; told = []; count = 0; fault = Some (ByWorld fault) } | Done after ↦ after_event after.told (carried s after.world es) ]).fault IsCause
+      → IfSome (elim o as (λ _. Run) [
+        | Refused fault ↦ record { world = w; told = []; count = 0; fault = Some (ByWorld fault) }
+        | Done after ↦
+            after_event after.told (carried s after.world es)
+      ]).fault IsCause
   by_outcome (Refused fault) may later = may
   by_outcome (Done after) may later = later after.world
 
@@ -96,7 +107,8 @@ end_cause : (events : ℕ) (refused : Option Refusal) → HasCause (last_entry (
 end_cause events None = tt
 end_cause events (Some refusal) = tt
 
-lines_cause : (s : Settings) (w : World) (events : ℕ) (steps : List Step) (refused : Option Refusal) → HasCause (last_entry (replayed s w events steps refused).end)
+lines_cause : (s : Settings) (w : World) (events : ℕ) (steps : List Step) (refused : Option Refusal)
+    → HasCause (last_entry (replayed s w events steps refused).end)
 unfolding replayed
 lines_cause s w events [] refused = end_cause events refused
 lines_cause s w events (step ∷ steps) refused =

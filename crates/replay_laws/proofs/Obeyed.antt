@@ -31,7 +31,8 @@ pub replay_told : (bytes : List ℕ) (s : Settings) (steps : Steps) (answers : L
 unfolding replay
 replay_told bytes s steps answers boxes e = ap (λ (o : Opening). (replay_opened o answers boxes).told) e ∙ opened_told s steps answers boxes
 
-unopened_told : (bytes : List ℕ) (answers : List Answer) (boxes : ℕ) (o : Opening) → opening most_bytes bytes ≡ o → is_opened o ≡ false → (replay bytes answers boxes).told ≡ []
+unopened_told : (bytes : List ℕ) (answers : List Answer) (boxes : ℕ) (o : Opening) → opening most_bytes bytes ≡ o → is_opened o ≡ false
+    → (replay bytes answers boxes).told ≡ []
 unfolding replay
 unopened_told bytes answers boxes (Opened s steps) e opened = absurd cc
 unopened_told bytes answers boxes (Unopened refusal) e opened = ap (λ (p : Opening). (replay_opened p answers boxes).told) e
@@ -46,20 +47,23 @@ holds_first law v (line ∷ told) (suc n) h = (h.0, holds_first law (seen v line
 -- ---- the law
 
 module _ (law : View → PlainEntry → Type 0) (always : HoldsWithCause law) where
-  told_holds : (bytes : List ℕ) (answers : List Answer) (boxes : ℕ) → boxes ≤ last_incarnation → IsOpen bytes → Holds law nothing_seen (replay bytes answers boxes).told
+  told_holds : (bytes : List ℕ) (answers : List Answer) (boxes : ℕ) → boxes ≤ last_incarnation → IsOpen bytes
+      → Holds law nothing_seen (replay bytes answers boxes).told
   told_holds bytes answers boxes few o =
       let s = o.settings in
       let valid = opening_valid bytes s o.steps o.is in
       subst (Holds law nothing_seen) (sym (replay_told bytes s o.steps answers boxes o.is))
       (always s (replicate s.hosts 1) 0 boxes answers (events_in s.hosts o.steps.steps) (may_open s boxes valid few)).0
 
-  lines_hold : (bytes : List ℕ) (answers : List Answer) (boxes : ℕ) → boxes ≤ last_incarnation → IsOpen bytes → Holds law nothing_seen (lines (replay bytes answers boxes))
+  lines_hold : (bytes : List ℕ) (answers : List Answer) (boxes : ℕ) → boxes ≤ last_incarnation → IsOpen bytes
+      → Holds law nothing_seen (lines (replay bytes answers boxes))
   lines_hold bytes answers boxes few o =
       let s = o.settings in
       let valid = opening_valid bytes s o.steps o.is in
       let end = (replay bytes answers boxes).end in
       subst (λ (told : List PlainEntry). Holds law nothing_seen (told ++ last_entry end ∷ [])) (sym (replay_told bytes s o.steps answers boxes o.is))
-      ((always s (replicate s.hosts 1) 0 boxes answers (events_in s.hosts o.steps.steps) (may_open s boxes valid few)).1 (last_entry end) (last_is_last end) (replay_cause bytes answers boxes))
+      ((always s (replicate s.hosts 1) 0 boxes answers (events_in s.hosts o.steps.steps) (may_open s boxes valid few)).1 (last_entry end)
+      (last_is_last end) (replay_cause bytes answers boxes))
 
   every_replay : OfEveryReplay (Holds law nothing_seen)
   every_replay bytes answers boxes opens few = lines_hold bytes answers boxes few (is_open bytes (opening most_bytes bytes) refl opens)

@@ -8,7 +8,8 @@ use Rattle.homa_plain.specs.declared.fault.ScriptFault.{ScriptFault}
 use Rattle.homa_plain.specs.declared.fault.ScriptFault.TheVariants.{Setting}
 use Rattle.homa_plain.specs.Settings.{IsValid, verdict, usual}
 use Rattle.homa_plain.specs.Input.{lines_of}
-use Rattle.homa_plain.specs.Script.{Phrase, Blank, SettingIs, Go, Happens, Steps, Opening, Opened, Unopened, phrase_in, steps_from, with_setting, opened_by, opening_from, opening, most_bytes}
+use Rattle.homa_plain.specs.Script.{Phrase, Blank, SettingIs, Go, Happens, Steps, Opening, Opened, Unopened, phrase_in, steps_from, with_setting}
+use Rattle.homa_plain.specs.Script.{opened_by, opening_from, opening, most_bytes}
 use Rattle.homa_plain.specs.Rules.{Answer}
 use Rattle.homa_plain.specs.World.{last_tick}
 use Rattle.homa_plain.specs.Replay.{Finished, replay_opened, replay}
@@ -69,7 +70,8 @@ may_open s boxes valid few =
       valid = valid;
       hosts = many;
       from_one = all_ones (λ (inc : ℕ). 1 ≤ inc) s.hosts one;
-      up_to_last = all_ones (λ (inc : ℕ). inc + (boxes - length (replicate s.hosts 1)) ≤ last_incarnation) s.hosts (spares_fit s.hosts (length (replicate s.hosts 1)) boxes many valid.in_range.0 few);
+      up_to_last = all_ones (λ (inc : ℕ). inc + (boxes - length (replicate s.hosts 1)) ≤ last_incarnation) s.hosts
+          (spares_fit s.hosts (length (replicate s.hosts 1)) boxes many valid.in_range.0 few);
       tick = zeroth;
     } where
       one : 1 ≤ 1

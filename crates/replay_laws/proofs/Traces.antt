@@ -27,10 +27,19 @@ unfolding carried
 told_both s w [] more = refl
 told_both s w (e ∷ es) more = by_outcome (outcome s w e.event e.bytes) (λ v. told_both s v es more) where
   by_outcome : (o : Outcome) → ((v : World) → (carried s v (es ++ more)).told ≡ told_behind s (carried s v es) more (carried s v es).fault)
-      → (elim o as (λ _. Run) [ Refused fault ↦ record { world = w; told = []; count = 0; fault = Some (ByWorld fault) } | Done after ↦ after_event after.told (carried s after.world (es ++ more)) ]).told
-      ≡ (let run : Run = elim o as (λ _. Run) [ Refused fault ↦ record { world = w; told = []; count = 0; fault = Some (ByWorld fault) } | Done after ↦ after_event after.told (carried s after.world es) ] in told_behind s run more run.fault)
+      → (elim o as (λ _. Run) [
+        | Refused fault ↦ record { world = w; told = []; count = 0; fault = Some (ByWorld fault) }
+        | Done after ↦
+            after_event after.told (carried s after.world (es ++ more))
+      ]).told
+      ≡ (let run : Run = elim o as (λ _. Run) [
+        | Refused fault ↦ record { world = w; told = []; count = 0; fault = Some (ByWorld fault) }
+        | Done after ↦
+            after_event after.told (carried s after.world es)
+      ] in told_behind s run more run.fault)
   by_outcome (Refused fault) later = refl
-  by_outcome (Done after) later = let run = carried s after.world es in ap (λ (l : List PlainEntry). after.told ++ l) (later after.world) ∙ told_more s after.told run more run.fault
+  by_outcome (Done after) later =
+      let run = carried s after.world es in ap (λ (l : List PlainEntry). after.told ++ l) (later after.world) ∙ told_more s after.told run more run.fault
 
 -- the lines of a schedule
 pub told_lines : (s : Settings) (w : World) (events : ℕ) (steps : List Step) (refused : Option Refusal)

@@ -59,10 +59,17 @@ refused =
     []
 
 pub refused_lines : lines (replay (codes "go\ncall 0 1 0 6869\ndeliver 1\ntick\n") [] 2) ≡ refused ++ PlainRefused 3 (World NoSuchPacket) ∷ []
-unfolding is_utf8 chars digits decode_pairs encode_with encode empty checked get insert retain remove len keys values key_set insert_all with_range without_range within ranges first_in missing ordered firsts due level_of noted least_from bounds opening opening_from steps_from phrase_in bytes_of_word tuned client_deadline server_deadline asked served takes pumped_once pumps start_fault call_step arrival_step turn_step new_world outcome carried replayed replay
+unfolding is_utf8 chars digits decode_pairs encode_with encode empty checked get insert retain remove len keys values key_set insert_all with_range
+    without_range within ranges first_in missing ordered firsts due level_of noted least_from bounds opening opening_from steps_from phrase_in
+    bytes_of_word tuned client_deadline server_deadline asked served takes pumped_once pumps start_fault call_step arrival_step turn_step new_world
+    outcome carried replayed replay
 refused_lines = refl
 
 -- the trace of its four events is the same, since the world refuses the second one
-pub refused_trace : trace usual (1 ∷ 1 ∷ []) 0 2 [] (record { event = event.Call (host 0) (host 1) 0; bytes = 104 ∷ 105 ∷ [] } ∷ bare (event.Deliver 1) ∷ bare event.Clock ∷ bare (event.Turn (host 0)) ∷ []) ≡ refused
-unfolding empty checked get insert retain remove len keys values key_set insert_all with_range without_range within ranges first_in missing ordered firsts due level_of noted least_from bounds tuned client_deadline server_deadline asked served takes pumped_once pumps start_fault call_step arrival_step turn_step new_world outcome carried
+pub refused_trace : trace usual (1 ∷ 1 ∷ []) 0 2 []
+    (record { event = event.Call (host 0) (host 1) 0; bytes = 104 ∷ 105 ∷ [] } ∷ bare (event.Deliver 1) ∷ bare event.Clock ∷ bare
+    (event.Turn (host 0)) ∷ []) ≡ refused
+unfolding empty checked get insert retain remove len keys values key_set insert_all with_range without_range within ranges first_in missing ordered
+    firsts due level_of noted least_from bounds tuned client_deadline server_deadline asked served takes pumped_once pumps start_fault call_step
+    arrival_step turn_step new_world outcome carried
 refused_trace = refl

@@ -59,7 +59,8 @@ feeds_within : (xs : List ℕ) → feeds xs ≤ length (lines_of xs)
 feeds_within [] = omega arith
 feeds_within (b ∷ xs) = within_by b (feeds xs) (b == 10) (lines_of xs) (feeds_within xs)
 
-none_by : (t : Bool) (xs : List ℕ) → (if t then false else has_no_feed xs) ≡ true → (has_no_feed xs ≡ true → feeds xs ≡ 0) → (if t then suc (feeds xs) else feeds xs) ≡ 0
+none_by : (t : Bool) (xs : List ℕ) → (if t then false else has_no_feed xs) ≡ true → (has_no_feed xs ≡ true → feeds xs ≡ 0)
+    → (if t then suc (feeds xs) else feeds xs) ≡ 0
 none_by true xs h f = absurd cc
 none_by false xs h f = f h
 

@@ -375,7 +375,6 @@ fn a_drop_and_its_reopening(rt: HostRuntime) -> Result<(), Fail> {
 struct Poor;
 
 impl Service for Poor {
-
     ghost served = { λ poor. 0 };
 
     ghost allows = { λ poor count number q r hold. ⊥ };

@@ -1,5 +1,6 @@
 -- A service is asked at most once a step, and where none is asked the step is the same for every answer.
-use Rattle.std.proofs.Common.{◌≡◌, ℕ, suc, ◌+◌, ◌-◌, ◌≤◌, Bool, true, false, not, cond, Option, Some, None, List, [], ◌∷◌, ◌++◌, length, refl, sym, ap, subst, ◌∙◌, arith, append_assoc, ◌⊎◌, ◌↔◌, inl, inr}
+use Rattle.std.proofs.Common.{◌≡◌, ℕ, suc, ◌+◌, ◌-◌, ◌≤◌, Bool, true, false, not, cond, Option, Some, None, List, [], ◌∷◌, ◌++◌, length, refl, sym}
+use Rattle.std.proofs.Common.{ap, subst, ◌∙◌, arith, append_assoc, ◌⊎◌, ◌↔◌, inl, inr}
 use Rattle.std.specs.Prelude.{◌==◌, ◌||◌, nat_lt, nat_le}
 use Rattle.std.specs.List.{Contains}
 use Rattle.std.proofs.lemmas.Bool.{cond_both}
@@ -25,11 +26,15 @@ use Rattle.homa_plain.specs.Host.{Host, pages_for, Told, Says, packets_in}
 use Rattle.homa_plain.specs.Rules.{Moment, Answer, Piece, Say, Tells, Did, leaves, keeps, opening, version_of}
 use Rattle.homa_plain.specs.AtClient.{busy_for, unasked, client_gets}
 use Rattle.homa_plain.specs.AtClient as client
-use Rattle.homa_plain.specs.AtServer.{held_gets, replying_gets, buried_gets, runs, piece_added, piece_comes, opens, piece_of, unknown_gets, receiving_gets, row_gets, server_gets, server_acked}
-use Rattle.homa_plain.specs.Steps.{Work, begun, now_of, moment, said, asked, served, comes_to_row, acked, takes, is_stale, comes, tells, gives_grants, ended, arrival_step, has_run, arrival_or_none, hears_cutoffs, client_acted, server_acted, acts_at, all_act, acts, refilled, turn_step, starts, call_step}
+use Rattle.homa_plain.specs.AtServer.{held_gets, replying_gets, buried_gets, runs, piece_added, piece_comes, opens, piece_of, unknown_gets}
+use Rattle.homa_plain.specs.AtServer.{receiving_gets, row_gets, server_gets, server_acked}
+use Rattle.homa_plain.specs.Steps.{Work, begun, now_of, moment, said, asked, served, comes_to_row, acked, takes, is_stale, comes, tells, gives_grants}
+use Rattle.homa_plain.specs.Steps.{ended, arrival_step, has_run, arrival_or_none, hears_cutoffs, client_acted, server_acted, acts_at, all_act, acts}
+use Rattle.homa_plain.specs.Steps.{refilled, turn_step, starts, call_step}
 use Rattle.homa_plain.specs.Timers.{Place, OfClient, OfServer, Timer, timer_key, timers, resend_of, wanted, client_acts, state_acts, server_acts}
 use Rattle.step_laws.specs.StepLaws.{run_count}
-use Rattle.step_laws.proofs.ToldBy.{run_count-append, Calm, calm_none, calm_then, asks, said-runs, Carried, one_if_some, acked_one-calm, asked-carried, served-carried, hears_cutoffs-calm}
+use Rattle.step_laws.proofs.ToldBy.{run_count-append, Calm, calm_none, calm_then, asks, said-runs, Carried, one_if_some, acked_one-calm}
+use Rattle.step_laws.proofs.ToldBy.{asked-carried, served-carried, hears_cutoffs-calm}
 use Rattle.step_laws.proofs.StepEnd.{ended-calm}
 
 -- ---- two answers at a rule
@@ -81,7 +86,8 @@ module _ (s : Settings) (m : Moment) (id : CallId) where
       let part : Incoming = incoming.opened id.client piece.size m.order s.unsched in
       outcome_if a b (nat_le s.served m.rows) _ _ _ _ (inl (refl, refl))
       (outcome_if a b (nat_lt m.free (pages_for piece.size)) _ _ _ _ (inl (refl, refl))
-      (comes_piece piece.service part (record { order = m.order; state = Receiving piece.service part m.now 0 }) piece a b (opening piece.size (leaves m None)) refl))
+      (comes_piece piece.service part (record { order = m.order; state = Receiving piece.service part m.now 0 }) piece a b
+      (opening piece.size (leaves m None)) refl))
 
   unknown : (what : Body) (payload : List ℕ) (a b : Answer) → Outcome a b (unknown_gets s m id what payload a) (unknown_gets s m id what payload b)
   unknown (body.Data size offset version service ack) payload a b = opened (piece_of size offset version service payload) a b
@@ -101,7 +107,8 @@ module _ (s : Settings) (m : Moment) (id : CallId) where
   held_quiet (body.Resend from to prio) row = refl
   held_quiet what row = refl
 
-  replying_quiet : (what : Body) (row : ServerRow) (response : List ℕ) (out : Outgoing) (order : ℕ) → asks (replying_gets m what row response out order).says ≡ 0
+  replying_quiet : (what : Body) (row : ServerRow) (response : List ℕ) (out : Outgoing) (order : ℕ)
+      → asks (replying_gets m what row response out order).says ≡ 0
   replying_quiet (body.Grant offset prio) row response out order = refl
   replying_quiet (body.Resend from to prio) row response out order = busy_quiet (resend out from to prio).answer
   replying_quiet (body.Ack more) row response out order = refl
@@ -130,7 +137,8 @@ unasked_quiet m body.NeedAck = refl
 unasked_quiet m what = refl
 
 module _ (s : Settings) (m : Moment) (id : CallId) where
-  client_piece_quiet : (r : ClientRow) (part : Incoming) (piece : Piece) (d : Did ClientRow) → asks d.says ≡ 0 → asks (client.piece_comes id r part piece d).says ≡ 0
+  client_piece_quiet : (r : ClientRow) (part : Incoming) (piece : Piece) (d : Did ClientRow) → asks d.says ≡ 0
+      → asks (client.piece_comes id r part piece d).says ≡ 0
   client_piece_quiet r part piece d none =
       cond_both (not (part.length == piece.size)) _ _ (λ (e : Did ClientRow). asks e.says ≡ 0) (λ _. none)
       (λ _. cond_both (leaves_too_many_gaps part piece.offset piece.payload) _ _ (λ (e : Did ClientRow). asks e.says ≡ 0) (λ _. refl)
@@ -143,7 +151,8 @@ module _ (s : Settings) (m : Moment) (id : CallId) where
   response_quiet r (Some part) piece = client_piece_quiet r part piece (keeps m r) refl
 
   answered_quiet : (what : Body) (payload : List ℕ) (r : ClientRow) → asks (client.answered s m id what payload r).says ≡ 0
-  answered_quiet (body.Data size offset version service ack) payload r = response_quiet r r.part (record { size = size; offset = offset; version = version; service = service; payload = payload })
+  answered_quiet (body.Data size offset version service ack) payload r =
+      response_quiet r r.part (record { size = size; offset = offset; version = version; service = service; payload = payload })
   answered_quiet (body.Grant offset prio) payload r = refl
   answered_quiet (body.Resend from to prio) payload r = busy_quiet (resend r.out from to prio).answer
   answered_quiet body.Busy payload r = refl
@@ -187,15 +196,18 @@ once_later a n w v calm once = record {
   id = once.id;
   service = once.service;
   request = once.request;
-  is = calm.grown ∙ ap (λ t. t ++ calm.told) once.is ∙ append_assoc once.before (Says (PlainRun once.host once.id once.service once.request a.bytes a.hold) ∷ once.after) calm.told;
+  is = calm.grown ∙ ap (λ t. t ++ calm.told) once.is
+      ∙ append_assoc once.before (Says (PlainRun once.host once.id once.service once.request a.bytes a.hold) ∷ once.after) calm.told;
   quiet_before = once.quiet_before;
   quiet_after = omega (arith, run_count-append once.after calm.told, once.quiet_after, calm.quiet);
 }
 
 calm_count : (n : ℕ) (w v : Work) → Calm n w v → run_count v.told ≡ run_count w.told
-calm_count n w v calm = ap run_count calm.grown ∙ (let e : run_count (w.told ++ calm.told) ≡ run_count w.told = omega (arith, run_count-append w.told calm.told, calm.quiet) in e)
+calm_count n w v calm =
+    ap run_count calm.grown ∙ (let e : run_count (w.told ++ calm.told) ≡ run_count w.told = omega (arith, run_count-append w.told calm.told, calm.quiet) in e)
 
-alike_later : (a b : Answer) (bound : Work → ℕ) (move : Work → Work) → ((w : Work) → Calm (bound w) w (move w)) → (w v : Work) → StepsAlike a b w v → StepsAlike a b (move w) (move v)
+alike_later : (a b : Answer) (bound : Work → ℕ) (move : Work → Work) → ((w : Work) → Calm (bound w) w (move w)) → (w v : Work) → StepsAlike a b w v
+    → StepsAlike a b (move w) (move v)
 alike_later a b bound move calm w v (inl same) = inl (ap move same.0, calm_count (bound w) w (move w) (calm w) ∙ same.1)
 alike_later a b bound move calm w v (inr ran) = inr (once_later a (bound w) w (move w) (calm w) ran.0, once_later b (bound v) v (move v) (calm v) ran.1)
 
@@ -203,7 +215,15 @@ alike_later a b bound move calm w v (inr ran) = inr (once_later a (bound w) w (m
 carried_quiet : (n end : ℕ) (says : List Told) (w v : Work) → Carried n end says w v → run_count says ≡ 0 → run_count v.told ≡ run_count w.told
 carried_quiet n end says w v c none =
     ap run_count c.grown ∙ (let e : run_count (w.told ++ (c.before ++ (says ++ c.after))) ≡ run_count w.told =
-    omega (arith, run_count-append w.told (c.before ++ (says ++ c.after)), run_count-append c.before (says ++ c.after), run_count-append says c.after, c.quiet_before, c.quiet_after, none) in e)
+    omega (
+      arith,
+      run_count-append w.told (c.before ++ (says ++ c.after)),
+      run_count-append c.before (says ++ c.after),
+      run_count-append says c.after,
+      c.quiet_before,
+      c.quiet_after,
+      none,
+    ) in e)
 
 carried_once : (a : Answer) (n end : ℕ) (host : HostId) (id : CallId) (service : ℕ) (request : List ℕ) (w v : Work) → run_count w.told ≡ 0
     → Carried n end (Says (PlainRun host id service request a.bytes a.hold) ∷ []) w v → RanOnce a v.told
@@ -224,19 +244,25 @@ module _ (s : Settings) where
   served_once : (a : Answer) (id : CallId) (did : Did ServerRow) (w : Work) → run_count w.told ≡ 0 → Ran a did.says → RanOnce a (served s id did w).told
   served_once a id did w none ran =
       carried_once a (one_if_some did.version) did.order ran.host ran.id ran.service ran.request w (served s id did w) none
-      (subst (λ (says : List Say). Carried (one_if_some did.version) did.order (said s w.host Server id w.host.id says) w (served s id did w)) ran.is (served-carried s id did w))
+      (subst (λ (says : List Say). Carried (one_if_some did.version) did.order (said s w.host Server id w.host.id says) w (served s id did w)) ran.is
+      (served-carried s id did w))
 
   served_quiet : (id : CallId) (did : Did ServerRow) (w : Work) → asks did.says ≡ 0 → run_count (served s id did w).told ≡ run_count w.told
-  served_quiet id did w none = carried_quiet _ did.order _ w (served s id did w) (served-carried s id did w) (said-runs s w.host Server id w.host.id did.says ∙ none)
+  served_quiet id did w none =
+      carried_quiet _ did.order _ w (served s id did w) (served-carried s id did w) (said-runs s w.host Server id w.host.id did.says ∙ none)
 
-  asked_quiet : (id : CallId) (server : HostId) (did : Did ClientRow) (w : Work) → asks did.says ≡ 0 → run_count (asked s id server did w).told ≡ run_count w.told
-  asked_quiet id server did w none = carried_quiet _ did.order _ w (asked s id server did w) (asked-carried s id server did w) (said-runs s w.host Client id server did.says ∙ none)
+  asked_quiet : (id : CallId) (server : HostId) (did : Did ClientRow) (w : Work) → asks did.says ≡ 0
+      → run_count (asked s id server did w).told ≡ run_count w.told
+  asked_quiet id server did w none =
+      carried_quiet _ did.order _ w (asked s id server did w) (asked-carried s id server did w) (said-runs s w.host Client id server did.says ∙ none)
 
-  served_alike : (a b : Answer) (id : CallId) (d e : Did ServerRow) (w : Work) → run_count w.told ≡ 0 → Outcome a b d e → StepsAlike a b (served s id d w) (served s id e w)
+  served_alike : (a b : Answer) (id : CallId) (d e : Did ServerRow) (w : Work) → run_count w.told ≡ 0 → Outcome a b d e
+      → StepsAlike a b (served s id d w) (served s id e w)
   served_alike a b id d e w none (inl same) = inl (ap (λ did. served s id did w) same.0, served_quiet id d w same.1 ∙ none)
   served_alike a b id d e w none (inr ran) = inr (served_once a id d w none ran.0, served_once b id e w none ran.1)
 
-  row_alike : (p : Packet) (a b : Answer) (role : Role) (w : Work) → run_count w.told ≡ 0 → StepsAlike a b (comes_to_row s p a role w) (comes_to_row s p b role w)
+  row_alike : (p : Packet) (a b : Answer) (role : Role) (w : Work) → run_count w.told ≡ 0
+      → StepsAlike a b (comes_to_row s p a role w) (comes_to_row s p b role w)
   row_alike p a b Client w none = served_alike a b p.id _ _ w none (server_outcome s (moment s p.id w) p a b (get w.host.servers p.id))
   row_alike p a b Server w none = inl (refl, asked_quiet p.id p.server _ w (client_quiet s (moment s p.id w) p (get w.host.clients p.id)) ∙ none)
 
@@ -251,13 +277,15 @@ module _ (s : Settings) where
   takes_alike p a b w none =
       let heard : Work = hears_cutoffs s (sender p) p.inc p.body w in
       let quiet : run_count heard.told ≡ 0 = calm_count 0 w heard (hears_cutoffs-calm s (sender p) p.inc p.body w) ∙ none in
-      alike_later a b (λ _. 0) (acked s (acks p)) (acked-calm (acks p)) (comes_to_row s p a p.role heard) (comes_to_row s p b p.role heard) (row_alike p a b p.role heard quiet)
+      alike_later a b (λ _. 0) (acked s (acks p)) (acked-calm (acks p)) (comes_to_row s p a p.role heard) (comes_to_row s p b p.role heard)
+      (row_alike p a b p.role heard quiet)
 
   comes_alike : (o : Option Packet) (a b : Answer) (w : Work) → w.told ≡ [] → StepsAlike a b (comes s o a w) (comes s o b w)
   comes_alike None a b w none = inl (refl, ap (λ t. run_count (t ++ Says (PlainJunk w.host.id) ∷ [])) none)
   comes_alike (Some p) a b w none =
       elim (is_stale s (now_of w) p) as (λ c. StepsAlike a b
-      (cond c (tells (Says (PlainStale w.host.id p.at (now_of w)) ∷ []) w) (takes s p a w)) (cond c (tells (Says (PlainStale w.host.id p.at (now_of w)) ∷ []) w) (takes s p b w))) [
+      (cond c (tells (Says (PlainStale w.host.id p.at (now_of w)) ∷ []) w) (takes s p a w))
+      (cond c (tells (Says (PlainStale w.host.id p.at (now_of w)) ∷ []) w) (takes s p b w))) [
         | true ↦ inl (refl, ap (λ t. run_count (t ++ Says (PlainStale w.host.id p.at (now_of w)) ∷ [])) none)
         | false ↦ takes_alike p a b w (ap run_count none)
       ]
@@ -265,7 +293,8 @@ module _ (s : Settings) where
   arrival_alike : (h : Host) (now : ℕ) (o : Option Packet) (a b : Answer) → StepsAlike a b (arrival_step s h now o a) (arrival_step s h now o b)
   unfolding arrival_step
   arrival_alike h now o a b =
-      alike_later a b (λ w. s.overcommit + (64 - length (packets_in (gives_grants s w).told))) (ended s) (ended-calm s) (comes s o a (begun h now)) (comes s o b (begun h now)) (comes_alike o a b (begun h now) refl)
+      alike_later a b (λ w. s.overcommit + (64 - length (packets_in (gives_grants s w).told))) (ended s) (ended-calm s) (comes s o a (begun h now))
+      (comes s o b (begun h now)) (comes_alike o a b (begun h now) refl)
 
 -- ---- RUNs that are told
 
@@ -302,7 +331,12 @@ quiet_none (t ∷ told) host id service request response hold none c =
 once_count : (a : Answer) (told : List Told) → RanOnce a told → run_count told ≡ 1
 once_count a told once =
     ap run_count once.is ∙ (let e : run_count (once.before ++ (Says (PlainRun once.host once.id once.service once.request a.bytes a.hold) ∷ once.after)) ≡ 1 =
-    omega (arith, run_count-append once.before (Says (PlainRun once.host once.id once.service once.request a.bytes a.hold) ∷ once.after), once.quiet_before, once.quiet_after) in e)
+    omega (
+      arith,
+      run_count-append once.before (Says (PlainRun once.host once.id once.service once.request a.bytes a.hold) ∷ once.after),
+      once.quiet_before,
+      once.quiet_after,
+    ) in e)
 
 ran_once : (a : Answer) (told : List Told) → RanOnce a told → has_run told ≡ true
 ran_once a told once = has_run-count told (omega (arith, once_count a told once))
@@ -329,7 +363,8 @@ module _ (s : Settings) (h : Host) (now : ℕ) (o : Option Packet) where
   same_unasked a b none =
       elim (arrival_alike s h now o a b) [
         | inl same ↦ sym same.0
-        | inr each ↦ let e : run_count (arrival_step s h now o a).told ≡ 0 = no_run (arrival_step s h now o a).told none in absurd (omega (arith, e, once_count a (arrival_step s h now o a).told each.0))
+        | inr each ↦ let e : run_count (arrival_step s h now o a).told ≡ 0 =
+            no_run (arrival_step s h now o a).told none in absurd (omega (arith, e, once_count a (arrival_step s h now o a).told each.0))
       ]
 
   pub answer_told : (a : Answer) (host : HostId) (id : CallId) (service : ℕ) (request response : List ℕ) (hold : ℕ)
@@ -359,9 +394,11 @@ module _ (s : Settings) where
   client_acts-quiet m id r = cond_both (nat_lt r.count s.tries) _ _ (λ (e : Did ClientRow). asks e.says ≡ 0) (λ _. resend_quiet (wanted s r.part)) (λ _. refl)
 
   state_acts-quiet : (m : Moment) (id : CallId) (row : ServerRow) (state : State) → asks (state_acts s m id row state).says ≡ 0
-  state_acts-quiet m id row (Receiving service part base count) = cond_both (nat_lt count s.tries) _ _ (λ (e : Did ServerRow). asks e.says ≡ 0) (λ _. resend_quiet (first_gap part)) (λ _. refl)
+  state_acts-quiet m id row (Receiving service part base count) =
+      cond_both (nat_lt count s.tries) _ _ (λ (e : Did ServerRow). asks e.says ≡ 0) (λ _. resend_quiet (first_gap part)) (λ _. refl)
   state_acts-quiet m id row (Held response release) = refl
-  state_acts-quiet m id row (Replying response out order base count) = cond_both (nat_lt count s.tries) _ _ (λ (e : Did ServerRow). asks e.says ≡ 0) (λ _. refl) (λ _. refl)
+  state_acts-quiet m id row (Replying response out order base count) =
+      cond_both (nat_lt count s.tries) _ _ (λ (e : Did ServerRow). asks e.says ≡ 0) (λ _. refl) (λ _. refl)
   state_acts-quiet m id row (Buried until) = refl
 
   client_acted-quiet : (id : CallId) (o : Option ClientRow) (w : Work) → run_count (client_acted s id o w).told ≡ run_count w.told
@@ -381,7 +418,8 @@ module _ (s : Settings) where
   all_act-quiet (t ∷ ts) w = all_act-quiet ts (acts_at s t.place w) ∙ acts_at-quiet t.place w
 
   ended-quiet : (w : Work) → run_count w.told ≡ 0 → has_run (ended s w).told ≡ false
-  ended-quiet w none = has_run-quiet (ended s w).told (calm_count (s.overcommit + (64 - length (packets_in (gives_grants s w).told))) w (ended s w) (ended-calm s w) ∙ none)
+  ended-quiet w none =
+      has_run-quiet (ended s w).told (calm_count (s.overcommit + (64 - length (packets_in (gives_grants s w).told))) w (ended s w) (ended-calm s w) ∙ none)
 
   pub turn_unasked : (h : Host) (now : ℕ) → has_run (turn_step s h now).told ≡ false
   unfolding turn_step

@@ -16,7 +16,8 @@ use Rattle.homa_plain.specs.Host.{pages_for}
 use Rattle.homa_plain.specs.Rules.{Moment, Answer, Piece, Did, leaves, keeps, opening, version_of}
 use Rattle.homa_plain.specs.AtClient.{unasked, client_gets}
 use Rattle.homa_plain.specs.AtClient as client
-use Rattle.homa_plain.specs.AtServer.{held_gets, replying_gets, buried_gets, runs, piece_comes, opens, piece_of, unknown_gets, receiving_gets, row_gets, server_gets, state_acked, server_acked}
+use Rattle.homa_plain.specs.AtServer.{held_gets, replying_gets, buried_gets, runs, piece_comes, opens, piece_of, unknown_gets, receiving_gets}
+use Rattle.homa_plain.specs.AtServer.{row_gets, server_gets, state_acked, server_acked}
 use Rattle.homa_plain.specs.Timers.{client_acts, state_acts, server_acts}
 use Rattle.step_laws.specs.StepLaws.{client_order, server_order, response_order, request_order, reply_order, arriving_in, leaving_in}
 
@@ -56,21 +57,26 @@ pub record ClientKept (m : Moment) (row part : Option ℕ) (did : Did ClientRow)
 
 module _ (s : Settings) (m : Moment) (id : CallId) where
   -- a message that may just have been opened
-  client_piece_kept : (old : Option ℕ) (r : ClientRow) (part : Incoming) (piece : Piece) (d : Did ClientRow) → m.order ≤ d.order → IsKept m.order d.order old (Some part.order)
+  client_piece_kept : (old : Option ℕ) (r : ClientRow) (part : Incoming) (piece : Piece) (d : Did ClientRow) → m.order ≤ d.order
+      → IsKept m.order d.order old (Some part.order)
       → ClientKept m (Some r.order) old (client.piece_comes id r part piece d)
   client_piece_kept old r part piece d up kept =
       cond_both (not (part.length == piece.size)) _ _ (ClientKept m (Some r.order) old) (λ _. record { up = up; at_row = inr (inl refl); at_part = kept })
-      (λ _. cond_both (leaves_too_many_gaps part piece.offset piece.payload) _ _ (ClientKept m (Some r.order) old) (λ _. record { up = up; at_row = inr (inl refl); at_part = kept })
+      (λ _. cond_both (leaves_too_many_gaps part piece.offset piece.payload) _ _ (ClientKept m (Some r.order) old)
+      (λ _. record { up = up; at_row = inr (inl refl); at_part = kept })
       (λ _. cond_both (is_whole (with_bytes part piece.offset piece.payload)) _ _ (ClientKept m (Some r.order) old)
       (λ _. record { up = up; at_row = inl refl; at_part = inl refl })
       (λ _. record { up = up; at_row = inr (inl refl); at_part = kept })))
 
-  response_kept : (r : ClientRow) (o : Option Incoming) (piece : Piece) → r.part ≡ o → ClientKept m (Some r.order) (response_order r) (client.response_piece s m id r o piece)
+  response_kept : (r : ClientRow) (o : Option Incoming) (piece : Piece) → r.part ≡ o
+      → ClientKept m (Some r.order) (response_order r) (client.response_piece s m id r o piece)
   response_kept r None piece e =
-      cond_both (nat_lt m.free (pages_for piece.size)) _ _ (ClientKept m (Some r.order) (response_order r)) (λ _. record { up = omega arith; at_row = inr (inl refl); at_part = inr (inl refl) })
+      cond_both (nat_lt m.free (pages_for piece.size)) _ _ (ClientKept m (Some r.order) (response_order r))
+      (λ _. record { up = omega arith; at_row = inr (inl refl); at_part = inr (inl refl) })
       (λ _. client_piece_kept (response_order r) r (incoming.opened r.server piece.size m.order s.unsched) piece (opening piece.size (keeps m r)) (omega arith)
       (kept_new m.order (m.order + 1) (response_order r) m.order (omega arith) (omega arith)))
-  response_kept r (Some part) piece e = client_piece_kept (response_order r) r part piece (keeps m r) (omega arith) (inr (inl (ap (option_map (λ (p : Incoming). p.order)) (sym e))))
+  response_kept r (Some part) piece e =
+      client_piece_kept (response_order r) r part piece (keeps m r) (omega arith) (inr (inl (ap (option_map (λ (p : Incoming). p.order)) (sym e))))
 
   started_over_order : (r : ClientRow) (o : Option Incoming) → (client.started_over r o).order ≡ r.order
   started_over_order r None = refl
@@ -81,14 +87,19 @@ module _ (s : Settings) (m : Moment) (id : CallId) where
   started_over_part r (Some part) = refl
 
   answered_kept : (what : Body) (payload : List ℕ) (r : ClientRow) → ClientKept m (Some r.order) (response_order r) (client.answered s m id what payload r)
-  answered_kept (body.Data size offset version service ack) payload r = response_kept r r.part (record { size = size; offset = offset; version = version; service = service; payload = payload }) refl
+  answered_kept (body.Data size offset version service ack) payload r =
+      response_kept r r.part (record { size = size; offset = offset; version = version; service = service; payload = payload }) refl
   answered_kept (body.Grant offset prio) payload r = record { up = omega arith; at_row = inr (inl refl); at_part = inr (inl refl) }
   answered_kept (body.Resend from to prio) payload r = record { up = omega arith; at_row = inr (inl refl); at_part = inr (inl refl) }
   answered_kept body.Busy payload r = record { up = omega arith; at_row = inr (inl refl); at_part = inr (inl refl) }
   answered_kept (body.Cutoffs cutoffs) payload r = record { up = omega arith; at_row = inr (inl refl); at_part = inr (inl refl) }
   answered_kept (body.Unknown reason) payload r =
       cond_both (reason == 0) _ _ (ClientKept m (Some r.order) (response_order r))
-      (λ _. record { up = omega arith; at_row = inr (inl (ap Some (started_over_order r r.part))); at_part = inr (inl (ap (option_map (λ (p : Incoming). p.order)) (started_over_part r r.part))) })
+      (λ _. record {
+        up = omega arith;
+        at_row = inr (inl (ap Some (started_over_order r r.part)));
+        at_part = inr (inl (ap (option_map (λ (p : Incoming). p.order)) (started_over_part r r.part)));
+      })
       (λ _. record { up = omega arith; at_row = inl refl; at_part = inl refl })
   answered_kept body.NeedAck payload r = record { up = omega arith; at_row = inr (inl refl); at_part = inr (inl refl) }
   answered_kept (body.Ack more) payload r = record { up = omega arith; at_row = inr (inl refl); at_part = inr (inl refl) }
@@ -103,7 +114,8 @@ renewed_order inc r = cond_both (nat_lt r.seen inc) (record r { seen = inc; part
 
 renewed_part : (inc : ℕ) (r : ClientRow) → (response_order (client.renewed inc r) ≡ None) ⊎ (response_order (client.renewed inc r) ≡ response_order r)
 renewed_part inc r =
-    cond_both (nat_lt r.seen inc) (record r { seen = inc; part = None }) r (λ (q : ClientRow). (response_order q ≡ None) ⊎ (response_order q ≡ response_order r)) (λ _. inl refl) (λ _. inr refl)
+    cond_both (nat_lt r.seen inc) (record r { seen = inc; part = None }) r
+    (λ (q : ClientRow). (response_order q ≡ None) ⊎ (response_order q ≡ response_order r)) (λ _. inl refl) (λ _. inr refl)
 
 refreshed_order : (now : ℕ) (what : Body) (r : ClientRow) → (client.refreshed now what r).order ≡ r.order
 refreshed_order now (body.Unknown reason) r = refl
@@ -118,20 +130,25 @@ refreshed_part now (body.Cutoffs cutoffs) r = refl
 refreshed_part now what r = refl
 
 -- a packet of its server leaves the numbers or brings new ones
-pub client_kept : (s : Settings) (m : Moment) (p : Packet) (o : Option ClientRow) → ClientKept m (option_and_then client_order o) (option_and_then response_order o) (client_gets s m p o)
+pub client_kept : (s : Settings) (m : Moment) (p : Packet) (o : Option ClientRow)
+    → ClientKept m (option_and_then client_order o) (option_and_then response_order o) (client_gets s m p o)
 unfolding client_gets
 client_kept s m p None = unasked_kept s m p.id p.body
 client_kept s m p (Some r) =
     let later : ClientRow = client.renewed p.inc r in
     let q : ClientRow = client.refreshed m.now p.body later in
     let kept = answered_kept s m p.id p.body p.payload q in
-    cond_both (not ((sender p).0 == r.server.0)) (keeps m r) _ (ClientKept m (Some r.order) (response_order r)) (λ _. record { up = omega arith; at_row = inr (inl refl); at_part = inr (inl refl) })
-    (λ _. cond_both (nat_lt p.inc r.seen) (keeps m r) _ (ClientKept m (Some r.order) (response_order r)) (λ _. record { up = omega arith; at_row = inr (inl refl); at_part = inr (inl refl) })
+    cond_both (not ((sender p).0 == r.server.0)) (keeps m r) _ (ClientKept m (Some r.order) (response_order r))
+    (λ _. record { up = omega arith; at_row = inr (inl refl); at_part = inr (inl refl) })
+    (λ _. cond_both (nat_lt p.inc r.seen) (keeps m r) _ (ClientKept m (Some r.order) (response_order r))
+    (λ _. record { up = omega arith; at_row = inr (inl refl); at_part = inr (inl refl) })
     (λ _. record {
       up = kept.up;
-      at_row = kept_from m.order (client.answered s m p.id p.body p.payload q).order (Some r.order) (Some q.order) _ (inr (ap Some (refreshed_order m.now p.body later ∙ renewed_order p.inc r))) kept.at_row;
+      at_row = kept_from m.order (client.answered s m p.id p.body p.payload q).order (Some r.order) (Some q.order) _
+          (inr (ap Some (refreshed_order m.now p.body later ∙ renewed_order p.inc r))) kept.at_row;
       at_part = kept_from m.order (client.answered s m p.id p.body p.payload q).order (response_order r) (response_order q) _
-          (subst (λ (o : Option Incoming). (option_map (λ (w : Incoming). w.order) o ≡ None) ⊎ (option_map (λ (w : Incoming). w.order) o ≡ response_order r)) (sym (refreshed_part m.now p.body later)) (renewed_part p.inc r)) kept.at_part;
+          (subst (λ (o : Option Incoming). (option_map (λ (w : Incoming). w.order) o ≡ None)
+          ⊎ (option_map (λ (w : Incoming). w.order) o ≡ response_order r)) (sym (refreshed_part m.now p.body later)) (renewed_part p.inc r)) kept.at_part;
     }))
 
 -- its timer leaves them
@@ -151,18 +168,28 @@ pub record ServerKept (m : Moment) (row request reply : Option ℕ) (did : Did S
   pub at_reply : IsKept m.order did.order reply (option_and_then reply_order did.row)
 
 module _ (s : Settings) (m : Moment) (id : CallId) where
-  runs_kept : (old request reply : Option ℕ) (service : ℕ) (bytes : List ℕ) (a : Answer) (row : ServerRow) (d : Did ServerRow) → m.order ≤ d.order → IsKept m.order d.order old (Some row.order)
+  runs_kept : (old request reply : Option ℕ) (service : ℕ) (bytes : List ℕ) (a : Answer) (row : ServerRow) (d : Did ServerRow) → m.order ≤ d.order
+      → IsKept m.order d.order old (Some row.order)
       → ServerKept m old request reply (runs s m id service bytes a row d)
   runs_kept old request reply service bytes a row d up kept =
       cond_both (a.hold == 0) _ _ (ServerKept m old request reply)
-      (λ _. record { up = omega (arith, up); at_row = kept_higher m.order d.order (d.order + 1) old (Some row.order) (omega arith) kept; at_request = inl refl; at_reply = kept_new m.order (d.order + 1) reply d.order up (omega arith) })
+      (λ _. record {
+        up = omega (arith, up);
+        at_row = kept_higher m.order d.order (d.order + 1) old (Some row.order) (omega arith) kept;
+        at_request = inl refl;
+        at_reply = kept_new m.order (d.order + 1) reply d.order up (omega arith);
+      })
       (λ _. record { up = up; at_row = kept; at_request = inl refl; at_reply = inl refl })
 
-  server_piece_kept : (old request : Option ℕ) (service : ℕ) (part : Incoming) (row : ServerRow) (piece : Piece) (a : Answer) (d : Did ServerRow) → m.order ≤ d.order → IsKept m.order d.order old (Some row.order)
-      → IsKept m.order d.order request (Some part.order) → IsKept m.order d.order request (request_order row) → reply_order row ≡ None → ServerKept m old request None (piece_comes s m id service part row piece a d)
+  server_piece_kept : (old request : Option ℕ) (service : ℕ) (part : Incoming) (row : ServerRow) (piece : Piece) (a : Answer) (d : Did ServerRow)
+      → m.order ≤ d.order → IsKept m.order d.order old (Some row.order)
+      → IsKept m.order d.order request (Some part.order) → IsKept m.order d.order request (request_order row) → reply_order row ≡ None
+      → ServerKept m old request None (piece_comes s m id service part row piece a d)
   server_piece_kept old request service part row piece a d up kept arriving same none =
-      cond_both (not (part.length == piece.size) || not (service == piece.service)) _ _ (ServerKept m old request None) (λ _. record { up = up; at_row = kept; at_request = same; at_reply = inl none })
-      (λ _. cond_both (leaves_too_many_gaps part piece.offset piece.payload) _ _ (ServerKept m old request None) (λ _. record { up = up; at_row = kept; at_request = arriving; at_reply = inl refl })
+      cond_both (not (part.length == piece.size) || not (service == piece.service)) _ _ (ServerKept m old request None)
+      (λ _. record { up = up; at_row = kept; at_request = same; at_reply = inl none })
+      (λ _. cond_both (leaves_too_many_gaps part piece.offset piece.payload) _ _ (ServerKept m old request None)
+      (λ _. record { up = up; at_row = kept; at_request = arriving; at_reply = inl refl })
       (λ _. cond_both (is_whole (with_bytes part piece.offset piece.payload)) _ _ (ServerKept m old request None)
       (λ _. runs_kept old request None service (message (with_bytes part piece.offset piece.payload)) a row (record d { version = version_of piece }) up kept)
       (λ _. record { up = up; at_row = kept; at_request = arriving; at_reply = inl refl })))
@@ -171,37 +198,51 @@ module _ (s : Settings) (m : Moment) (id : CallId) where
   opens_kept piece a =
       let part : Incoming = incoming.opened id.client piece.size m.order s.unsched in
       let new : IsKept m.order (m.order + 1) None (Some m.order) = kept_new m.order (m.order + 1) None m.order (omega arith) (omega arith) in
-      cond_both (nat_le s.served m.rows) _ _ (ServerKept m None None None) (λ _. record { up = omega arith; at_row = inl refl; at_request = inl refl; at_reply = inl refl })
-      (λ _. cond_both (nat_lt m.free (pages_for piece.size)) _ _ (ServerKept m None None None) (λ _. record { up = omega arith; at_row = inl refl; at_request = inl refl; at_reply = inl refl })
-      (λ _. server_piece_kept None None piece.service part (record { order = m.order; state = Receiving piece.service part m.now 0 }) piece a (opening piece.size (leaves m None)) (omega arith) new new new refl))
+      cond_both (nat_le s.served m.rows) _ _ (ServerKept m None None None)
+      (λ _. record { up = omega arith; at_row = inl refl; at_request = inl refl; at_reply = inl refl })
+      (λ _. cond_both (nat_lt m.free (pages_for piece.size)) _ _ (ServerKept m None None None)
+      (λ _. record { up = omega arith; at_row = inl refl; at_request = inl refl; at_reply = inl refl })
+      (λ _. server_piece_kept None None piece.service part (record { order = m.order; state = Receiving piece.service part m.now 0 }) piece a
+      (opening piece.size (leaves m None)) (omega arith) new new new refl))
 
   unknown_kept : (what : Body) (payload : List ℕ) (a : Answer) → ServerKept m None None None (unknown_gets s m id what payload a)
   unknown_kept (body.Data size offset version service ack) payload a = opens_kept (piece_of size offset version service payload) a
   unknown_kept (body.Resend from to prio) payload a = record { up = omega arith; at_row = inl refl; at_request = inl refl; at_reply = inl refl }
   unknown_kept what payload a = record { up = omega arith; at_row = inl refl; at_request = inl refl; at_reply = inl refl }
 
-  receiving_kept : (what : Body) (payload : List ℕ) (a : Answer) (row : ServerRow) (service : ℕ) (part : Incoming) (base count : ℕ) → row.state ≡ Receiving service part base count
+  receiving_kept : (what : Body) (payload : List ℕ) (a : Answer) (row : ServerRow) (service : ℕ) (part : Incoming) (base count : ℕ)
+      → row.state ≡ Receiving service part base count
       → ServerKept m (Some row.order) (Some part.order) None (receiving_gets s m id what payload a row service part base)
   receiving_kept (body.Data size offset version service' ack) payload a row service part base count e =
-      server_piece_kept (Some row.order) (Some part.order) service part row (piece_of size offset version service' payload) a (leaves m None) (omega arith) (inr (inl refl)) (inr (inl refl))
+      server_piece_kept (Some row.order) (Some part.order) service part row (piece_of size offset version service' payload) a (leaves m None)
+      (omega arith) (inr (inl refl)) (inr (inl refl))
       (inr (inl (ap arriving_in e))) (ap leaving_in e)
-  receiving_kept (body.Resend from to prio) payload a row service part base count e = record { up = omega arith; at_row = inr (inl refl); at_request = inr (inl refl); at_reply = inl refl }
-  receiving_kept body.Busy payload a row service part base count e = record { up = omega arith; at_row = inr (inl refl); at_request = inr (inl refl); at_reply = inl refl }
-  receiving_kept what payload a row service part base count e = record { up = omega arith; at_row = inr (inl refl); at_request = inr (inl (ap arriving_in e)); at_reply = inl (ap leaving_in e) }
+  receiving_kept (body.Resend from to prio) payload a row service part base count e =
+      record { up = omega arith; at_row = inr (inl refl); at_request = inr (inl refl); at_reply = inl refl }
+  receiving_kept body.Busy payload a row service part base count e =
+      record { up = omega arith; at_row = inr (inl refl); at_request = inr (inl refl); at_reply = inl refl }
+  receiving_kept what payload a row service part base count e =
+      record { up = omega arith; at_row = inr (inl refl); at_request = inr (inl (ap arriving_in e)); at_reply = inl (ap leaving_in e) }
 
   held_kept : (what : Body) (row : ServerRow) → ServerKept m (Some row.order) (request_order row) (reply_order row) (held_gets m what row)
   held_kept (body.Resend from to prio) row = record { up = omega arith; at_row = inr (inl refl); at_request = inr (inl refl); at_reply = inr (inl refl) }
   held_kept what row = record { up = omega arith; at_row = inr (inl refl); at_request = inr (inl refl); at_reply = inr (inl refl) }
 
-  replying_kept : (what : Body) (row : ServerRow) (response : List ℕ) (out : Outgoing) (order base count : ℕ) → row.state ≡ Replying response out order base count
+  replying_kept : (what : Body) (row : ServerRow) (response : List ℕ) (out : Outgoing) (order base count : ℕ)
+      → row.state ≡ Replying response out order base count
       → ServerKept m (Some row.order) (request_order row) (Some order) (replying_gets m what row response out order)
-  replying_kept (body.Grant offset prio) row response out order base count e = record { up = omega arith; at_row = inr (inl refl); at_request = inl refl; at_reply = inr (inl refl) }
-  replying_kept (body.Resend from to prio) row response out order base count e = record { up = omega arith; at_row = inr (inl refl); at_request = inl refl; at_reply = inr (inl refl) }
-  replying_kept (body.Ack more) row response out order base count e = record { up = omega arith; at_row = inr (inl refl); at_request = inr (inl refl); at_reply = inr (inl (ap leaving_in e)) }
-  replying_kept what row response out order base count e = record { up = omega arith; at_row = inr (inl refl); at_request = inl refl; at_reply = inr (inl refl) }
+  replying_kept (body.Grant offset prio) row response out order base count e =
+      record { up = omega arith; at_row = inr (inl refl); at_request = inl refl; at_reply = inr (inl refl) }
+  replying_kept (body.Resend from to prio) row response out order base count e =
+      record { up = omega arith; at_row = inr (inl refl); at_request = inl refl; at_reply = inr (inl refl) }
+  replying_kept (body.Ack more) row response out order base count e =
+      record { up = omega arith; at_row = inr (inl refl); at_request = inr (inl refl); at_reply = inr (inl (ap leaving_in e)) }
+  replying_kept what row response out order base count e =
+      record { up = omega arith; at_row = inr (inl refl); at_request = inl refl; at_reply = inr (inl refl) }
 
   buried_kept : (what : Body) (row : ServerRow) → ServerKept m (Some row.order) (request_order row) (reply_order row) (buried_gets m what row)
-  buried_kept (body.Data size offset version service ack) row = record { up = omega arith; at_row = inr (inl refl); at_request = inr (inl refl); at_reply = inr (inl refl) }
+  buried_kept (body.Data size offset version service ack) row =
+      record { up = omega arith; at_row = inr (inl refl); at_request = inr (inl refl); at_reply = inr (inl refl) }
   buried_kept (body.Resend from to prio) row = record { up = omega arith; at_row = inr (inl refl); at_request = inr (inl refl); at_reply = inr (inl refl) }
   buried_kept what row = record { up = omega arith; at_row = inr (inl refl); at_request = inr (inl refl); at_reply = inr (inl refl) }
 
@@ -209,25 +250,35 @@ module _ (s : Settings) (m : Moment) (id : CallId) where
   row_kept : (what : Body) (payload : List ℕ) (a : Answer) (row : ServerRow) (state : State) → row.state ≡ state
       → ServerKept m (Some row.order) (request_order row) (reply_order row) (row_gets s m id what payload a row state)
   row_kept what payload a row (Receiving service part base count) e =
-      subst (λ (st : State). ServerKept m (Some row.order) (arriving_in st) (leaving_in st) (receiving_gets s m id what payload a row service part base)) (sym e) (receiving_kept what payload a row service part base count e)
+      subst (λ (st : State). ServerKept m (Some row.order) (arriving_in st) (leaving_in st)
+      (receiving_gets s m id what payload a row service part base)) (sym e) (receiving_kept what payload a row service part base count e)
   row_kept what payload a row (Held response release) e = held_kept what row
   row_kept what payload a row (Replying response out order base count) e =
-      subst (λ (st : State). ServerKept m (Some row.order) (request_order row) (leaving_in st) (replying_gets m what row response out order)) (sym e) (replying_kept what row response out order base count e)
+      subst (λ (st : State). ServerKept m (Some row.order) (request_order row) (leaving_in st) (replying_gets m what row response out order)) (sym e)
+      (replying_kept what row response out order base count e)
   row_kept what payload a row (Buried until) e = buried_kept what row
 
   acked_kept : (row : ServerRow) (state : State) → ServerKept m (Some row.order) (request_order row) (reply_order row) (state_acked s m id row state)
-  acked_kept row (Receiving service part base count) = record { up = omega arith; at_row = inr (inl refl); at_request = inr (inl refl); at_reply = inr (inl refl) }
+  acked_kept row (Receiving service part base count) =
+      record { up = omega arith; at_row = inr (inl refl); at_request = inr (inl refl); at_reply = inr (inl refl) }
   acked_kept row (Held response release) = record { up = omega arith; at_row = inr (inl refl); at_request = inl refl; at_reply = inl refl }
   acked_kept row (Replying response out order base count) = record { up = omega arith; at_row = inr (inl refl); at_request = inl refl; at_reply = inl refl }
   acked_kept row (Buried until) = record { up = omega arith; at_row = inr (inl refl); at_request = inr (inl refl); at_reply = inr (inl refl) }
 
-  acts_kept : (row : ServerRow) (state : State) → row.state ≡ state → ServerKept m (Some row.order) (request_order row) (reply_order row) (state_acts s m id row state)
+  acts_kept : (row : ServerRow) (state : State) → row.state ≡ state
+      → ServerKept m (Some row.order) (request_order row) (reply_order row) (state_acts s m id row state)
   acts_kept row (Receiving service part base count) e =
       cond_both (nat_lt count s.tries) _ _ (ServerKept m (Some row.order) (request_order row) (reply_order row))
       (λ _. record { up = omega arith; at_row = inr (inl refl); at_request = inr (inl (ap arriving_in (sym e))); at_reply = inl refl })
       (λ _. record { up = omega arith; at_row = inl refl; at_request = inl refl; at_reply = inl refl })
   acts_kept row (Held response release) e =
-      record { up = omega arith; at_row = inr (inl refl); at_request = inl refl; at_reply = kept_new m.order (m.order + 1) (reply_order row) m.order (omega arith) (omega arith) }
+      record {
+        up = omega arith;
+        at_row = inr (inl refl);
+        at_request = inl refl;
+        at_reply = kept_new m.order (m.order + 1) (reply_order row) m.order
+            (omega arith) (omega arith);
+      }
   acts_kept row (Replying response out order base count) e =
       cond_both (nat_lt count s.tries) _ _ (ServerKept m (Some row.order) (request_order row) (reply_order row))
       (λ _. record { up = omega arith; at_row = inr (inl refl); at_request = inl refl; at_reply = inr (inl (ap leaving_in (sym e))) })

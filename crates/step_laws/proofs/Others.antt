@@ -16,7 +16,9 @@ use Rattle.homa_plain.specs.Host.{peer_cutoffs}
 use Rattle.homa_plain.specs.Rules.{Did}
 use Rattle.homa_plain.specs.Timers.{Place, OfClient, OfServer, client_acts, server_acts}
 use Rattle.homa_plain.specs.Sending.{client_granted, server_granted, response_content, client_sends, state_sends}
-use Rattle.homa_plain.specs.Steps.{Work, now_of, asked, served, moment, client_acted, server_acted, acts_at, client_is_granted, server_is_granted, grants_at, request_leaves, response_leaves, client_leaves, state_leaves, server_leaves, leaves_from, next_id, new_call, starts}
+use Rattle.homa_plain.specs.Steps.{Work, now_of, asked, served, moment, client_acted, server_acted, acts_at, client_is_granted, server_is_granted}
+use Rattle.homa_plain.specs.Steps.{grants_at, request_leaves, response_leaves, client_leaves, state_leaves, server_leaves, leaves_from, next_id}
+use Rattle.homa_plain.specs.Steps.{new_call, starts}
 use Rattle.homa_plain.proofs.CallOrder.{call_total, calls_are}
 use Rattle.step_laws.specs.StepLaws.{LeavesOthers}
 use Rattle.step_laws.proofs.ToldBy.{asked-clients, asked-servers, served-servers, served-clients}
@@ -66,13 +68,17 @@ module _ (s : Settings) where
   acts_at-others (OfClient id) w = client_acted-others id (get w.host.clients id) w
   acts_at-others (OfServer id) w = server_acted-others id (get w.host.servers id) w
 
-  pub client_granted-others : (id : CallId) (grant : Body) (offset : ℕ) (o : Option ClientRow) (w : Work) → LeavesOthers (OfClient id) w (client_is_granted s id grant offset o w)
+  pub client_granted-others : (id : CallId) (grant : Body) (offset : ℕ) (o : Option ClientRow) (w : Work)
+      → LeavesOthers (OfClient id) w (client_is_granted s id grant offset o w)
   client_granted-others id grant offset None w = none-others (OfClient id) w
-  client_granted-others id grant offset (Some r) w = record { clients = λ q e. set_row-others w.host.clients id (Some (client_granted (now_of w) offset r)) q e; servers = λ q e. refl }
+  client_granted-others id grant offset (Some r) w =
+      record { clients = λ q e. set_row-others w.host.clients id (Some (client_granted (now_of w) offset r)) q e; servers = λ q e. refl }
 
-  pub server_granted-others : (id : CallId) (grant : Body) (offset : ℕ) (o : Option ServerRow) (w : Work) → LeavesOthers (OfServer id) w (server_is_granted s id grant offset o w)
+  pub server_granted-others : (id : CallId) (grant : Body) (offset : ℕ) (o : Option ServerRow) (w : Work)
+      → LeavesOthers (OfServer id) w (server_is_granted s id grant offset o w)
   server_granted-others id grant offset None w = none-others (OfServer id) w
-  server_granted-others id grant offset (Some row) w = record { clients = λ q e. refl; servers = λ q e. set_row-others w.host.servers id (Some (server_granted (now_of w) offset row)) q e }
+  server_granted-others id grant offset (Some row) w =
+      record { clients = λ q e. refl; servers = λ q e. set_row-others w.host.servers id (Some (server_granted (now_of w) offset row)) q e }
 
   pub grants_at-others : (place : Place) (offset prio : ℕ) (w : Work) → LeavesOthers place w (grants_at s place offset prio w)
   grants_at-others (OfClient id) offset prio w = client_granted-others id (body.Grant offset prio) offset (get w.host.clients id) w
@@ -82,12 +88,19 @@ module _ (s : Settings) where
   client_leaves-others id None w v e = cc
   client_leaves-others id (Some r) w v e =
       let l = left (next_range r.out s.seg) w v (λ range. request_leaves s id r range w) e in
-      subst (LeavesOthers (OfClient id) w) l.is (record { clients = λ q e. set_row-others w.host.clients id (Some (client_sends s (now_of w) r)) q e; servers = λ q e. refl })
+      subst (LeavesOthers (OfClient id) w) l.is
+      (record { clients = λ q e. set_row-others w.host.clients id (Some (client_sends s (now_of w) r)) q e; servers = λ q e. refl })
 
-  pub state_leaves-others : (id : CallId) (row : ServerRow) (state : State) (w v : Work) → state_leaves s id row state w ≡ Some v → LeavesOthers (OfServer id) w v
+  pub state_leaves-others : (id : CallId) (row : ServerRow) (state : State) (w v : Work) → state_leaves s id row state w ≡ Some v
+      → LeavesOthers (OfServer id) w v
   state_leaves-others id row (Replying response out order base count) w v e =
-      let l = left (next_range out s.seg) w v (λ range. response_leaves s id row (response_content s (peer_cutoffs s w.host id.client).cutoffs response out range) range w) e in
-      subst (LeavesOthers (OfServer id) w) l.is (record { clients = λ q e. refl; servers = λ q e. set_row-others w.host.servers id (Some (record row { state = state_sends s (now_of w) row.state })) q e })
+      let l = left (next_range out s.seg) w v
+      (λ range. response_leaves s id row (response_content s (peer_cutoffs s w.host id.client).cutoffs response out range) range w) e in
+      subst (LeavesOthers (OfServer id) w) l.is
+      (record {
+        clients = λ q e. refl;
+        servers = λ q e. set_row-others w.host.servers id (Some (record row { state = state_sends s (now_of w) row.state })) q e;
+      })
   state_leaves-others id row state w v e = cc
 
   server_leaves-others : (id : CallId) (o : Option ServerRow) (w v : Work) → server_leaves s id o w ≡ Some v → LeavesOthers (OfServer id) w v
@@ -98,7 +111,8 @@ module _ (s : Settings) where
   leaves_from-others (OfClient id) w v e = client_leaves-others id (get w.host.clients id) w v e
   leaves_from-others (OfServer id) w v e = server_leaves-others id (get w.host.servers id) w v e
 
-  pub starts-others : (server : HostId) (service : ℕ) (request : List ℕ) (w : Work) → LeavesOthers (OfClient (next_id w.host)) w (starts s server service request w)
+  pub starts-others : (server : HostId) (service : ℕ) (request : List ℕ) (w : Work)
+      → LeavesOthers (OfClient (next_id w.host)) w (starts s server service request w)
   starts-others server service request w = record {
     clients = λ q e. set_row-others w.host.clients (next_id w.host) (Some (new_call s (now_of w) w.host.order server service request)) q e;
     servers = λ q e. refl;

@@ -1,5 +1,6 @@
 -- The orders of a host's rows, of the messages that arrive at it and of those that it sends differ, after each step too.
-use Rattle.std.proofs.Common.{◌≡◌, ℕ, zero, suc, ◌-◌, ◌<◌, ◌≤◌, true, false, Option, Some, None, List, [], ◌∷◌, length, refl, sym, ap, subst, ◌∙◌, arith, ◌⊎◌, inl, inr}
+use Rattle.std.proofs.Common.{◌≡◌, ℕ, zero, suc, ◌-◌, ◌<◌, ◌≤◌, true, false, Option, Some, None, List, [], ◌∷◌, length, refl, sym, ap, subst, ◌∙◌}
+use Rattle.std.proofs.Common.{arith, ◌⊎◌, inl, inr}
 use Rattle.std.specs.Prelude.{nat_lt}
 use Rattle.std.specs.Option.{option_map, option_and_then}
 use Rattle.std.proofs.lemmas.Bool.{cond_both, cases_Bool}
@@ -24,13 +25,20 @@ use Rattle.homa_plain.specs.Rules.{Did, Answer}
 use Rattle.homa_plain.specs.AtClient.{client_gets}
 use Rattle.homa_plain.specs.AtServer.{server_gets, server_acked}
 use Rattle.homa_plain.specs.Timers.{Place, OfClient, OfServer, Timer, timer_key, timers, client_acts, server_acts}
-use Rattle.homa_plain.specs.Sending.{Arriving, arrivals, client_granted, server_granted, state_granted, granted_part, Leaving, leaving_key, departures, while_new, client_sends, state_sends, response_content}
-use Rattle.homa_plain.specs.Steps.{Work, begun, now_of, tells, asked, served, moment, comes_to_row, acked, takes, is_stale, comes, hears_cutoffs, client_acted, server_acted, acts_at, all_act, acts, refilled, client_is_granted, server_is_granted, grants_at, all_granted, gives_grants, request_leaves, response_leaves, client_leaves, state_leaves, server_leaves, leaves_from, first_leaves, pumped_once, pumps, most_packets, ended, next_id, new_call, starts, call_step, arrival_step, turn_step}
-use Rattle.step_laws.specs.StepLaws.{is_at_client, is_at_server, LeavesOthers, LeavesRows, client_order, server_order, response_order, request_order, reply_order, arriving_in, leaving_in, number_at, AreOwn, HasOwnOrders}
+use Rattle.homa_plain.specs.Sending.{Arriving, arrivals, client_granted, server_granted, state_granted, granted_part, Leaving, leaving_key}
+use Rattle.homa_plain.specs.Sending.{departures, while_new, client_sends, state_sends, response_content}
+use Rattle.homa_plain.specs.Steps.{Work, begun, now_of, tells, asked, served, moment, comes_to_row, acked, takes, is_stale, comes, hears_cutoffs}
+use Rattle.homa_plain.specs.Steps.{client_acted, server_acted, acts_at, all_act, acts, refilled, client_is_granted, server_is_granted, grants_at}
+use Rattle.homa_plain.specs.Steps.{all_granted, gives_grants, request_leaves, response_leaves, client_leaves, state_leaves, server_leaves}
+use Rattle.homa_plain.specs.Steps.{leaves_from, first_leaves, pumped_once, pumps, most_packets, ended, next_id, new_call, starts, call_step}
+use Rattle.homa_plain.specs.Steps.{arrival_step, turn_step}
+use Rattle.step_laws.specs.StepLaws.{is_at_client, is_at_server, LeavesOthers, LeavesRows, client_order, server_order, response_order, request_order}
+use Rattle.step_laws.specs.StepLaws.{reply_order, arriving_in, leaving_in, number_at, AreOwn, HasOwnOrders}
 use Rattle.step_laws.proofs.ToldBy.{asked-carried, served-carried, asked-clients, served-servers, hears_cutoffs-calm, hears_cutoffs-rows}
 use Rattle.step_laws.proofs.StepEnd.{left}
 use Rattle.homa_plain.proofs.CallOrder.{calls_are}
-use Rattle.step_laws.proofs.Others.{get-set_row, asked-others, served-others, starts-others, client_granted-others, server_granted-others, client_leaves-others, state_leaves-others}
+use Rattle.step_laws.proofs.Others.{get-set_row, asked-others, served-others, starts-others, client_granted-others, server_granted-others}
+use Rattle.step_laws.proofs.Others.{client_leaves-others, state_leaves-others}
 use Rattle.step_laws.proofs.Orders.{IsKept, kept_new, ClientKept, KeptAt, client_kept, client_acts-kept, server_kept, server_acked-kept, server_acts-kept}
 
 -- ---- numbers at places
@@ -39,7 +47,8 @@ none_some : {A : Type 0} (x : A) → None ≡ Some x → ⊥
 none_some x e = cc
 
 -- where the numbers at all places but one stay, and the one there was given out since or is no other, they are still their own
-module _ (low high : ℕ) (up : low ≤ high) (old new : Place → Option ℕ) (place : Place) (stay : (q : Place) → (q ≡ place) ⊎ (new q ≡ old q)) (kept : IsKept low high (old place) (new place)) (own : AreOwn low old) where
+module _ (low high : ℕ) (up : low ≤ high) (old new : Place → Option ℕ) (place : Place) (stay : (q : Place) → (q ≡ place) ⊎ (new q ≡ old q))
+    (kept : IsKept low high (old place) (new place)) (own : AreOwn low old) where
   -- a number at the place and at another
   no_other : (q : Place) (x : ℕ) → new place ≡ Some x → new q ≡ old q → new q ≡ Some x → q ≡ place
   no_other q x e same f = by_case kept where
@@ -87,7 +96,8 @@ own_same low high old new e same own = record {
 
 module _ (of_client : ClientRow → Option ℕ) (of_server : ServerRow → Option ℕ) where
   -- the numbers of all rows but one stay
-  stays : (place : Place) (w v : Work) → LeavesOthers place w v → (q : Place) → (q ≡ place) ⊎ (number_at of_client of_server v.host q ≡ number_at of_client of_server w.host q)
+  stays : (place : Place) (w v : Work) → LeavesOthers place w v → (q : Place)
+      → (q ≡ place) ⊎ (number_at of_client of_server v.host q ≡ number_at of_client of_server w.host q)
   stays place w v others (OfClient q) = by_case place (cases_Bool (is_at_client place q)) others where
     by_case : (at : Place) → (is_at_client at q ≡ true) ⊎ (is_at_client at q ≡ false) → LeavesOthers at w v
         → (OfClient q ≡ at) ⊎ (option_and_then of_client (get v.host.clients q) ≡ option_and_then of_client (get w.host.clients q))
@@ -106,18 +116,23 @@ module _ (of_client : ClientRow → Option ℕ) (of_server : ServerRow → Optio
       → IsKept w.host.order v.host.order (number_at of_client of_server w.host place) (number_at of_client of_server v.host place)
       → AreOwn w.host.order (number_at of_client of_server w.host) → AreOwn v.host.order (number_at of_client of_server v.host)
   own-move place w v others up kept own =
-      own_after w.host.order v.host.order up (number_at of_client of_server w.host) (number_at of_client of_server v.host) place (stays place w v others) kept own
+      own_after w.host.order v.host.order up (number_at of_client of_server w.host) (number_at of_client of_server v.host) place
+      (stays place w v others) kept own
 
   -- a move beside the rows
-  own-rows : (w v : Work) → LeavesRows w v → v.host.order ≡ w.host.order → AreOwn w.host.order (number_at of_client of_server w.host) → AreOwn v.host.order (number_at of_client of_server v.host)
-  own-rows w v rows e own = own_same w.host.order v.host.order (number_at of_client of_server w.host) (number_at of_client of_server v.host) (sym e) same own where
-    same : (q : Place) → number_at of_client of_server v.host q ≡ number_at of_client of_server w.host q
-    same (OfClient q) = ap (λ clients. option_and_then of_client (get clients q)) rows.clients
-    same (OfServer q) = ap (λ servers. option_and_then of_server (get servers q)) rows.servers
+  own-rows : (w v : Work) → LeavesRows w v → v.host.order ≡ w.host.order → AreOwn w.host.order (number_at of_client of_server w.host)
+      → AreOwn v.host.order (number_at of_client of_server v.host)
+  own-rows w v rows e own =
+      own_same w.host.order v.host.order (number_at of_client of_server w.host) (number_at of_client of_server v.host) (sym e) same own where
+        same : (q : Place) → number_at of_client of_server v.host q ≡ number_at of_client of_server w.host q
+        same (OfClient q) = ap (λ clients. option_and_then of_client (get clients q)) rows.clients
+        same (OfServer q) = ap (λ servers. option_and_then of_server (get servers q)) rows.servers
 
 -- what a rule left is what stands in the row
-moved_kept : {R : Type 0} (f : R → Option ℕ) (low high high' : ℕ) (old : Option ℕ) (o o' : Option R) → high' ≡ high → o' ≡ o → IsKept low high old (option_and_then f o) → IsKept low high' old (option_and_then f o')
-moved_kept f low high high' old o o' e g kept = subst (λ (n : ℕ). IsKept low n old (option_and_then f o')) (sym e) (subst (λ (r : Option _). IsKept low high old (option_and_then f r)) (sym g) kept)
+moved_kept : {R : Type 0} (f : R → Option ℕ) (low high high' : ℕ) (old : Option ℕ) (o o' : Option R) → high' ≡ high → o' ≡ o
+    → IsKept low high old (option_and_then f o) → IsKept low high' old (option_and_then f o')
+moved_kept f low high high' old o o' e g kept =
+    subst (λ (n : ℕ). IsKept low n old (option_and_then f o')) (sym e) (subst (λ (r : Option _). IsKept low high old (option_and_then f r)) (sym g) kept)
 
 abbrev pub Own : Work → Type 0
 Own w = HasOwnOrders w.host
@@ -131,7 +146,8 @@ own-beside w v rows e own = record {
 
 module _ (s : Settings) where
   pub asked-own : (id : CallId) (server : HostId) (did : Did ClientRow) (w : Work)
-      → ClientKept (moment s id w) (option_and_then client_order (get w.host.clients id)) (option_and_then response_order (get w.host.clients id)) did → Own w → Own (asked s id server did w)
+      → ClientKept (moment s id w) (option_and_then client_order (get w.host.clients id)) (option_and_then response_order (get w.host.clients id)) did
+      → Own w → Own (asked s id server did w)
   asked-own id server did w kept own =
       let v : Work = asked s id server did w in
       let order : v.host.order ≡ did.order = (asked-carried s id server did w).order in
@@ -139,9 +155,12 @@ module _ (s : Settings) where
       let up : w.host.order ≤ v.host.order = omega (arith, order, kept.up) in
       let others : LeavesOthers (OfClient id) w v = asked-others s id server did w in
       record {
-        rows = own-move client_order server_order (OfClient id) w v others up (moved_kept client_order w.host.order did.order v.host.order _ did.row (get v.host.clients id) order row kept.at_row) own.rows;
-        arriving = own-move response_order request_order (OfClient id) w v others up (moved_kept response_order w.host.order did.order v.host.order _ did.row (get v.host.clients id) order row kept.at_part) own.arriving;
-        leaving = own-move client_order reply_order (OfClient id) w v others up (moved_kept client_order w.host.order did.order v.host.order _ did.row (get v.host.clients id) order row kept.at_row) own.leaving;
+        rows = own-move client_order server_order (OfClient id) w v others up
+            (moved_kept client_order w.host.order did.order v.host.order _ did.row (get v.host.clients id) order row kept.at_row) own.rows;
+        arriving = own-move response_order request_order (OfClient id) w v others up
+            (moved_kept response_order w.host.order did.order v.host.order _ did.row (get v.host.clients id) order row kept.at_part) own.arriving;
+        leaving = own-move client_order reply_order (OfClient id) w v others up
+            (moved_kept client_order w.host.order did.order v.host.order _ did.row (get v.host.clients id) order row kept.at_row) own.leaving;
       }
 
   pub served-own : (id : CallId) (did : Did ServerRow) (w : Work) → KeptAt (moment s id w) (get w.host.servers id) did → Own w → Own (served s id did w)
@@ -152,16 +171,21 @@ module _ (s : Settings) where
       let up : w.host.order ≤ v.host.order = omega (arith, order, kept.up) in
       let others : LeavesOthers (OfServer id) w v = served-others s id did w in
       record {
-        rows = own-move client_order server_order (OfServer id) w v others up (moved_kept server_order w.host.order did.order v.host.order _ did.row (get v.host.servers id) order row kept.at_row) own.rows;
-        arriving = own-move response_order request_order (OfServer id) w v others up (moved_kept request_order w.host.order did.order v.host.order _ did.row (get v.host.servers id) order row kept.at_request) own.arriving;
-        leaving = own-move client_order reply_order (OfServer id) w v others up (moved_kept reply_order w.host.order did.order v.host.order _ did.row (get v.host.servers id) order row kept.at_reply) own.leaving;
+        rows = own-move client_order server_order (OfServer id) w v others up
+            (moved_kept server_order w.host.order did.order v.host.order _ did.row (get v.host.servers id) order row kept.at_row) own.rows;
+        arriving = own-move response_order request_order (OfServer id) w v others up
+            (moved_kept request_order w.host.order did.order v.host.order _ did.row (get v.host.servers id) order row kept.at_request) own.arriving;
+        leaving = own-move client_order reply_order (OfServer id) w v others up
+            (moved_kept reply_order w.host.order did.order v.host.order _ did.row (get v.host.servers id) order row kept.at_reply) own.leaving;
       }
 
   -- ---- a packet
 
   pub row-own : (p : Packet) (a : Answer) (role : Role) (w : Work) → Own w → Own (comes_to_row s p a role w)
-  row-own p a Client w own = served-own p.id (server_gets s (moment s p.id w) p a (get w.host.servers p.id)) w (server_kept s (moment s p.id w) p a (get w.host.servers p.id)) own
-  row-own p a Server w own = asked-own p.id p.server (client_gets s (moment s p.id w) p (get w.host.clients p.id)) w (client_kept s (moment s p.id w) p (get w.host.clients p.id)) own
+  row-own p a Client w own =
+      served-own p.id (server_gets s (moment s p.id w) p a (get w.host.servers p.id)) w (server_kept s (moment s p.id w) p a (get w.host.servers p.id)) own
+  row-own p a Server w own =
+      asked-own p.id p.server (client_gets s (moment s p.id w) p (get w.host.clients p.id)) w (client_kept s (moment s p.id w) p (get w.host.clients p.id)) own
 
   pub acked-own : (ids : List CallId) (w : Work) → Own w → Own (acked s ids w)
   acked-own [] w own = own
@@ -174,12 +198,14 @@ module _ (s : Settings) where
   takes-own p a w own =
       let heard : Work = hears_cutoffs s (sender p) p.inc p.body w in
       acked-own (acks p) (comes_to_row s p a p.role heard)
-      (row-own p a p.role heard (own-beside w heard (hears_cutoffs-rows s (sender p) p.inc p.body w) (hears_cutoffs-calm s (sender p) p.inc p.body w).order own))
+      (row-own p a p.role heard
+      (own-beside w heard (hears_cutoffs-rows s (sender p) p.inc p.body w) (hears_cutoffs-calm s (sender p) p.inc p.body w).order own))
 
   comes-own : (o : Option Packet) (a : Answer) (w : Work) → Own w → Own (comes s o a w)
   comes-own None a w own = record { rows = own.rows; arriving = own.arriving; leaving = own.leaving }
   comes-own (Some p) a w own =
-      cond_both (is_stale s (now_of w) p) (tells (Says (PlainStale w.host.id p.at (now_of w)) ∷ []) w) (takes s p a w) Own (λ _. record { rows = own.rows; arriving = own.arriving; leaving = own.leaving }) (λ _. takes-own p a w own)
+      cond_both (is_stale s (now_of w) p) (tells (Says (PlainStale w.host.id p.at (now_of w)) ∷ []) w) (takes s p a w) Own
+      (λ _. record { rows = own.rows; arriving = own.arriving; leaving = own.leaving }) (λ _. takes-own p a w own)
 
   -- ---- timers
 
@@ -187,13 +213,15 @@ module _ (s : Settings) where
   client_acted-own id None w e own = own
   client_acted-own id (Some r) w e own =
       asked-own id r.server (client_acts s (moment s id w) id r) w
-      (subst (λ (o : Option ClientRow). ClientKept (moment s id w) (option_and_then client_order o) (option_and_then response_order o) (client_acts s (moment s id w) id r)) (sym e) (client_acts-kept s (moment s id w) id r)) own
+      (subst (λ (o : Option ClientRow). ClientKept (moment s id w) (option_and_then client_order o) (option_and_then response_order o)
+      (client_acts s (moment s id w) id r)) (sym e) (client_acts-kept s (moment s id w) id r)) own
 
   pub server_acted-own : (id : CallId) (o : Option ServerRow) (w : Work) → get w.host.servers id ≡ o → Own w → Own (server_acted s id o w)
   server_acted-own id None w e own = own
   server_acted-own id (Some row) w e own =
       served-own id (server_acts s (moment s id w) id row) w
-      (subst (λ (o : Option ServerRow). KeptAt (moment s id w) o (server_acts s (moment s id w) id row)) (sym e) (server_acts-kept s (moment s id w) id row)) own
+      (subst (λ (o : Option ServerRow). KeptAt (moment s id w) o (server_acts s (moment s id w) id row)) (sym e)
+      (server_acts-kept s (moment s id w) id row)) own
 
   pub acts_at-own : (place : Place) (w : Work) → Own w → Own (acts_at s place w)
   acts_at-own (OfClient id) w own = client_acted-own id (get w.host.clients id) w refl own
@@ -205,30 +233,40 @@ module _ (s : Settings) where
 
 -- ---- rows that keep their numbers
 
-kept_like : {R : Type 0} (f : R → Option ℕ) (low high : ℕ) (o o' : Option R) (x y : R) → o ≡ Some x → o' ≡ Some y → f y ≡ f x → IsKept low high (option_and_then f o) (option_and_then f o')
+kept_like : {R : Type 0} (f : R → Option ℕ) (low high : ℕ) (o o' : Option R) (x y : R) → o ≡ Some x → o' ≡ Some y → f y ≡ f x
+    → IsKept low high (option_and_then f o) (option_and_then f o')
 kept_like f low high o o' x y e e' same = inr (inl (ap (option_and_then f) e' ∙ same ∙ ap (option_and_then f) (sym e)))
 
-own-client : (id : CallId) (r r' : ClientRow) (w v : Work) → LeavesOthers (OfClient id) w v → v.host.order ≡ w.host.order → get w.host.clients id ≡ Some r → get v.host.clients id ≡ Some r'
+own-client : (id : CallId) (r r' : ClientRow) (w v : Work) → LeavesOthers (OfClient id) w v → v.host.order ≡ w.host.order
+    → get w.host.clients id ≡ Some r → get v.host.clients id ≡ Some r'
     → r'.order ≡ r.order → response_order r' ≡ response_order r → Own w → Own v
 own-client id r r' w v others e was is order part own =
     let up : w.host.order ≤ v.host.order = omega (arith, e) in
     record {
-      rows = own-move client_order server_order (OfClient id) w v others up (kept_like client_order w.host.order v.host.order _ _ r r' was is (ap Some order)) own.rows;
-      arriving = own-move response_order request_order (OfClient id) w v others up (kept_like response_order w.host.order v.host.order _ _ r r' was is part) own.arriving;
-      leaving = own-move client_order reply_order (OfClient id) w v others up (kept_like client_order w.host.order v.host.order _ _ r r' was is (ap Some order)) own.leaving;
+      rows = own-move client_order server_order (OfClient id) w v others up
+          (kept_like client_order w.host.order v.host.order _ _ r r' was is (ap Some order)) own.rows;
+      arriving = own-move response_order request_order (OfClient id) w v others up
+          (kept_like response_order w.host.order v.host.order _ _ r r' was is part) own.arriving;
+      leaving = own-move client_order reply_order (OfClient id) w v others up
+          (kept_like client_order w.host.order v.host.order _ _ r r' was is (ap Some order)) own.leaving;
     }
 
-own-server : (id : CallId) (row row' : ServerRow) (w v : Work) → LeavesOthers (OfServer id) w v → v.host.order ≡ w.host.order → get w.host.servers id ≡ Some row → get v.host.servers id ≡ Some row'
+own-server : (id : CallId) (row row' : ServerRow) (w v : Work) → LeavesOthers (OfServer id) w v → v.host.order ≡ w.host.order
+    → get w.host.servers id ≡ Some row → get v.host.servers id ≡ Some row'
     → row'.order ≡ row.order → request_order row' ≡ request_order row → reply_order row' ≡ reply_order row → Own w → Own v
 own-server id row row' w v others e was is order request reply own =
     let up : w.host.order ≤ v.host.order = omega (arith, e) in
     record {
-      rows = own-move client_order server_order (OfServer id) w v others up (kept_like server_order w.host.order v.host.order _ _ row row' was is (ap Some order)) own.rows;
-      arriving = own-move response_order request_order (OfServer id) w v others up (kept_like request_order w.host.order v.host.order _ _ row row' was is request) own.arriving;
-      leaving = own-move client_order reply_order (OfServer id) w v others up (kept_like reply_order w.host.order v.host.order _ _ row row' was is reply) own.leaving;
+      rows = own-move client_order server_order (OfServer id) w v others up
+          (kept_like server_order w.host.order v.host.order _ _ row row' was is (ap Some order)) own.rows;
+      arriving = own-move response_order request_order (OfServer id) w v others up
+          (kept_like request_order w.host.order v.host.order _ _ row row' was is request) own.arriving;
+      leaving =
+          own-move client_order reply_order (OfServer id) w v others up (kept_like reply_order w.host.order v.host.order _ _ row row' was is reply) own.leaving;
     }
 
-granted_part_order : (offset : ℕ) (o : Option Incoming) → option_map (λ (p : Incoming). p.order) (granted_part offset o) ≡ option_map (λ (p : Incoming). p.order) o
+granted_part_order : (offset : ℕ) (o : Option Incoming)
+    → option_map (λ (p : Incoming). p.order) (granted_part offset o) ≡ option_map (λ (p : Incoming). p.order) o
 granted_part_order offset None = refl
 granted_part_order offset (Some part) = refl
 
@@ -249,27 +287,33 @@ sent_leaving s now (Replying response out order base count) = refl
 sent_leaving s now state = refl
 
 while_new_order : (now : ℕ) (r : ClientRow) → (while_new now r).order ≡ r.order
-while_new_order now r = cond_both (nat_lt r.out.top r.out.length) (record r { heard = now; base = now; count = 0 }) r (λ (q : ClientRow). q.order ≡ r.order) (λ _. refl) (λ _. refl)
+while_new_order now r = cond_both (nat_lt r.out.top r.out.length) (record r { heard = now; base = now; count = 0 }) r
+    (λ (q : ClientRow). q.order ≡ r.order) (λ _. refl) (λ _. refl)
 
 while_new_part : (now : ℕ) (r : ClientRow) → (while_new now r).part ≡ r.part
-while_new_part now r = cond_both (nat_lt r.out.top r.out.length) (record r { heard = now; base = now; count = 0 }) r (λ (q : ClientRow). q.part ≡ r.part) (λ _. refl) (λ _. refl)
+while_new_part now r =
+    cond_both (nat_lt r.out.top r.out.length) (record r { heard = now; base = now; count = 0 }) r (λ (q : ClientRow). q.part ≡ r.part) (λ _. refl) (λ _. refl)
 
 module _ (s : Settings) where
   -- ---- grants
 
-  pub client_granted-own : (id : CallId) (offset prio : ℕ) (o : Option ClientRow) (w : Work) → get w.host.clients id ≡ o → Own w → Own (client_is_granted s id (body.Grant offset prio) offset o w)
+  pub client_granted-own : (id : CallId) (offset prio : ℕ) (o : Option ClientRow) (w : Work) → get w.host.clients id ≡ o → Own w
+      → Own (client_is_granted s id (body.Grant offset prio) offset o w)
   client_granted-own id offset prio None w e own = own
   client_granted-own id offset prio (Some r) w e own =
       let v : Work = client_is_granted s id (body.Grant offset prio) offset (Some r) w in
       let row : ClientRow = client_granted (now_of w) offset r in
-      own-client id r row w v (client_granted-others s id (body.Grant offset prio) offset (Some r) w) refl e (get-set_row w.host.clients id (Some row)) refl (granted_part_order offset r.part) own
+      own-client id r row w v (client_granted-others s id (body.Grant offset prio) offset (Some r) w) refl e
+      (get-set_row w.host.clients id (Some row)) refl (granted_part_order offset r.part) own
 
-  pub server_granted-own : (id : CallId) (offset prio : ℕ) (o : Option ServerRow) (w : Work) → get w.host.servers id ≡ o → Own w → Own (server_is_granted s id (body.Grant offset prio) offset o w)
+  pub server_granted-own : (id : CallId) (offset prio : ℕ) (o : Option ServerRow) (w : Work) → get w.host.servers id ≡ o → Own w
+      → Own (server_is_granted s id (body.Grant offset prio) offset o w)
   server_granted-own id offset prio None w e own = own
   server_granted-own id offset prio (Some row) w e own =
       let v : Work = server_is_granted s id (body.Grant offset prio) offset (Some row) w in
       let after : ServerRow = server_granted (now_of w) offset row in
-      own-server id row after w v (server_granted-others s id (body.Grant offset prio) offset (Some row) w) refl e (get-set_row w.host.servers id (Some after)) refl
+      own-server id row after w v (server_granted-others s id (body.Grant offset prio) offset (Some row) w) refl e
+      (get-set_row w.host.servers id (Some after)) refl
       (granted_arriving (now_of w) offset row.state) (granted_leaving (now_of w) offset row.state) own
 
   pub grants_at-own : (place : Place) (offset prio : ℕ) (w : Work) → Own w → Own (grants_at s place offset prio w)
@@ -289,16 +333,21 @@ module _ (s : Settings) where
       let row : ClientRow = client_sends s (now_of w) r in
       let x : Work = request_leaves s id r l.range w in
       subst Own l.is
-      (own-client id r row w x (subst (LeavesOthers (OfClient id) w) (sym l.is) (client_leaves-others s id (Some r) w v e)) refl was (get-set_row w.host.clients id (Some row))
+      (own-client id r row w x (subst (LeavesOthers (OfClient id) w) (sym l.is) (client_leaves-others s id (Some r) w v e)) refl was
+      (get-set_row w.host.clients id (Some row))
       (while_new_order (now_of w) r) (ap (option_map (λ (p : Incoming). p.order)) (while_new_part (now_of w) r)) own)
 
-  server_sends-own : (id : CallId) (row : ServerRow) (state : State) (w v : Work) → row.state ≡ state → get w.host.servers id ≡ Some row → state_leaves s id row state w ≡ Some v → Own w → Own v
+  server_sends-own : (id : CallId) (row : ServerRow) (state : State) (w v : Work) → row.state ≡ state → get w.host.servers id ≡ Some row
+      → state_leaves s id row state w ≡ Some v → Own w → Own v
   server_sends-own id row (Replying response out order base count) w v st was e own =
-      let l = left (next_range out s.seg) w v (λ range. response_leaves s id row (response_content s (peer_cutoffs s w.host id.client).cutoffs response out range) range w) e in
+      let l = left (next_range out s.seg) w v
+      (λ range. response_leaves s id row (response_content s (peer_cutoffs s w.host id.client).cutoffs response out range) range w) e in
       let after : ServerRow = record row { state = state_sends s (now_of w) row.state } in
       let x : Work = response_leaves s id row (response_content s (peer_cutoffs s w.host id.client).cutoffs response out l.range) l.range w in
       subst Own l.is
-      (own-server id row after w x (subst (LeavesOthers (OfServer id) w) (sym l.is) (state_leaves-others s id row (Replying response out order base count) w v e)) refl was (get-set_row w.host.servers id (Some after))
+      (own-server id row after w x
+      (subst (LeavesOthers (OfServer id) w) (sym l.is) (state_leaves-others s id row (Replying response out order base count) w v e)) refl was
+      (get-set_row w.host.servers id (Some after))
       refl (sent_arriving s (now_of w) row.state) (sent_leaving s (now_of w) row.state) own)
   server_sends-own id row state w v st was e own = cc
 
@@ -330,7 +379,8 @@ module _ (s : Settings) where
   ended-own : (w : Work) → Own w → Own (ended s w)
   ended-own w own =
       let v : Work = gives_grants s w in
-      pumps-own (most_packets - length (packets_in v.told)) v (all_granted-own (grants (λ (a : Arriving). a.message) s.overcommit s.window (arrivals w.host)) w own)
+      pumps-own (most_packets - length (packets_in v.told)) v
+      (all_granted-own (grants (λ (a : Arriving). a.message) s.overcommit s.window (arrivals w.host)) w own)
 
   -- ---- steps
 
@@ -343,20 +393,28 @@ module _ (s : Settings) where
       let is : get v.host.clients id ≡ Some row = get-set_row w.host.clients id (Some row) in
       let others : LeavesOthers (OfClient id) w v = starts-others s server service request w in
       record {
-        rows = own-move client_order server_order (OfClient id) w v others up (moved_kept client_order w.host.order v.host.order v.host.order _ (Some row) (get v.host.clients id) refl is (kept_new w.host.order v.host.order _ w.host.order (omega arith) (omega arith))) own.rows;
-        arriving = own-move response_order request_order (OfClient id) w v others up (moved_kept response_order w.host.order v.host.order v.host.order _ (Some row) (get v.host.clients id) refl is (inl refl)) own.arriving;
-        leaving = own-move client_order reply_order (OfClient id) w v others up (moved_kept client_order w.host.order v.host.order v.host.order _ (Some row) (get v.host.clients id) refl is (kept_new w.host.order v.host.order _ w.host.order (omega arith) (omega arith))) own.leaving;
+        rows = own-move client_order server_order (OfClient id) w v others up
+            (moved_kept client_order w.host.order v.host.order v.host.order _ (Some row) (get v.host.clients id) refl is
+            (kept_new w.host.order v.host.order _ w.host.order (omega arith) (omega arith))) own.rows;
+        arriving = own-move response_order request_order (OfClient id) w v others up
+            (moved_kept response_order w.host.order v.host.order v.host.order _ (Some row) (get v.host.clients id) refl is (inl refl)) own.arriving;
+        leaving = own-move client_order reply_order (OfClient id) w v others up
+            (moved_kept client_order w.host.order v.host.order v.host.order _ (Some row) (get v.host.clients id) refl is
+            (kept_new w.host.order v.host.order _ w.host.order (omega arith) (omega arith))) own.leaving;
       }
 
   pub begun-own : (h : Host) (now : ℕ) → HasOwnOrders h → Own (begun h now)
   begun-own h now own = record { rows = own.rows; arriving = own.arriving; leaving = own.leaving }
 
   pub refilled-own : (h : Host) → HasOwnOrders h → HasOwnOrders (refilled s h)
-  refilled-own h own = cond_both (nat_lt h.refilled h.last) (record h { credit = s.rate; refilled = h.last }) h HasOwnOrders (λ _. record { rows = own.rows; arriving = own.arriving; leaving = own.leaving }) (λ _. own)
+  refilled-own h own = cond_both (nat_lt h.refilled h.last) (record h { credit = s.rate; refilled = h.last }) h HasOwnOrders
+      (λ _. record { rows = own.rows; arriving = own.arriving; leaving = own.leaving }) (λ _. own)
 
-  pub call-own : (h : Host) (now : ℕ) (server : HostId) (service : ℕ) (request : List ℕ) → HasOwnOrders h → HasOwnOrders (call_step s h now server service request).host
+  pub call-own : (h : Host) (now : ℕ) (server : HostId) (service : ℕ) (request : List ℕ) → HasOwnOrders h
+      → HasOwnOrders (call_step s h now server service request).host
   unfolding call_step
-  call-own h now server service request own = ended-own (starts s server service request (begun h now)) (starts-own server service request (begun h now) (begun-own h now own))
+  call-own h now server service request own =
+      ended-own (starts s server service request (begun h now)) (starts-own server service request (begun h now) (begun-own h now own))
 
   pub arrival-own : (h : Host) (now : ℕ) (o : Option Packet) (a : Answer) → HasOwnOrders h → HasOwnOrders (arrival_step s h now o a).host
   unfolding arrival_step
@@ -367,10 +425,13 @@ module _ (s : Settings) where
   turn-own h now own =
       let g : Host = record h { last = now } in
       let w : Work = begun (refilled s g) now in
-      ended-own (acts s w) (all_act-own s (due timer_key (now_of w) (timers s w.host)) w (begun-own (refilled s g) now (refilled-own g (record { rows = own.rows; arriving = own.arriving; leaving = own.leaving }))))
+      ended-own (acts s w)
+      (all_act-own s (due timer_key (now_of w) (timers s w.host)) w
+      (begun-own (refilled s g) now (refilled-own g (record { rows = own.rows; arriving = own.arriving; leaving = own.leaving }))))
 
 -- a new host has no row
-none_own : (of_client : ClientRow → Option ℕ) (of_server : ServerRow → Option ℕ) (s : Settings) (id : HostId) (inc last : ℕ) → AreOwn 0 (number_at of_client of_server (new_host s id inc last))
+none_own : (of_client : ClientRow → Option ℕ) (of_server : ServerRow → Option ℕ) (s : Settings) (id : HostId) (inc last : ℕ)
+    → AreOwn 0 (number_at of_client of_server (new_host s id inc last))
 none_own of_client of_server s id inc last = record { differ = λ p q x e f. absurd (none p x e); below = λ p x e. absurd (none p x e) } where
   none : (p : Place) (x : ℕ) → number_at of_client of_server (new_host s id inc last) p ≡ Some x → ⊥
   none (OfClient q) x e = none_some x (sym (ap (option_and_then of_client) (get-empty call_cmp q)) ∙ e)

@@ -1,5 +1,6 @@
 -- The rows that are due act as if the first of them were picked anew before each act: no act makes a row due.
-use Rattle.std.proofs.Common.{◌≡◌, ℕ, zero, suc, ◌+◌, ◌<◌, ◌≤◌, Bool, true, false, not, cond, Option, Some, None, List, [], ◌∷◌, ◌++◌, take, refl, sym, ap, subst, ◌∙◌, arith, inl, inr}
+use Rattle.std.proofs.Common.{◌≡◌, ℕ, zero, suc, ◌+◌, ◌<◌, ◌≤◌, Bool, true, false, not, cond, Option, Some, None, List, [], ◌∷◌, ◌++◌, take, refl}
+use Rattle.std.proofs.Common.{sym, ap, subst, ◌∙◌, arith, inl, inr}
 use Rattle.std.specs.Prelude.{nat_lt, nat_le}
 use Rattle.std.specs.List.{AllByRecursion, Contains, filter, flat_map}
 use Rattle.std.specs.Option.{option_and_then}
@@ -20,13 +21,15 @@ use Rattle.homa_plain.specs.Calls.{is_call}
 use Rattle.homa_plain.specs.Calls.{call_cmp}
 use Rattle.homa_plain.specs.Rows.{ClientRow, ServerRow, State, Receiving, Held, Replying, Buried, RowsOf, set_row}
 use Rattle.homa_plain.specs.Rules.{Moment, Did}
-use Rattle.homa_plain.specs.Timers.{Place, OfClient, OfServer, Timer, timer_key, timer, timers, unless, has_no_gap, client_deadline, server_deadline, is_client_at_rest, client_acts, state_acts, server_acts}
+use Rattle.homa_plain.specs.Timers.{Place, OfClient, OfServer, Timer, timer_key, timer, timers, unless, has_no_gap, client_deadline, server_deadline}
+use Rattle.homa_plain.specs.Timers.{is_client_at_rest, client_acts, state_acts, server_acts}
 use Rattle.homa_plain.specs.Steps.{Work, now_of, moment, asked, served, client_acted, server_acted, acts_at, all_act, acts}
 use Rattle.step_laws.specs.StepLaws.{first_acts, picked_anew}
 use Rattle.step_laws.proofs.ToldBy.{asked-carried, served-carried, asked-clients, asked-servers, served-servers, served-clients}
 use Rattle.homa_plain.proofs.CallOrder.{call_total, call_same, calls_are}
 use Rattle.step_laws.proofs.RowMaps.{filter_all, Around, around-get, absent-get, entries-insert, entries-removed}
-use Rattle.step_laws.proofs.Places.{client_inject, server_inject, two_sides, things-side, things-others, Pairwise, Differ, pairwise-filter, pairwise-ordered, one_timer, timers-differ}
+use Rattle.step_laws.proofs.Places.{client_inject, server_inject, two_sides, things-side, things-others, Pairwise, Differ, pairwise-filter}
+use Rattle.step_laws.proofs.Places.{pairwise-ordered, one_timer, timers-differ}
 
 -- ---- a row that acted isn't due
 
@@ -105,7 +108,8 @@ abbrev row_entry : {R : Type 0} → CallId → Option R → List (CallId × R)
 row_entry id None = []
 row_entry id (Some row) = (id, row) ∷ []
 
-entries-set_row : {R : Type 0} (rows : RowsOf R) (id : CallId) (old : R) (o : Option R) (a : Around call_cmp id old rows.list) → entries (set_row rows id o) ≡ a.front ++ (row_entry id o ++ a.back)
+entries-set_row : {R : Type 0} (rows : RowsOf R) (id : CallId) (old : R) (o : Option R) (a : Around call_cmp id old rows.list)
+    → entries (set_row rows id o) ≡ a.front ++ (row_entry id o ++ a.back)
 entries-set_row rows id old None a = entries-removed call_total call_same rows id old a
 entries-set_row rows id old (Some row) a = entries-insert call_total call_same rows id old row a
 
@@ -123,22 +127,26 @@ module _ {R : Type 0} (side : CallId → Place) (inject : (a b : CallId) → sid
       filter_all (is_other (side id)) (filter (is_due now) (flat_map row_timer es))
       (filter-all (λ t. is_other (side id) t ≡ true) (is_due now) (flat_map row_timer es)
       (all_weaker (λ (t : Timer). side id ≡ t.place → ⊥) (λ t. is_other (side id) t ≡ true) (λ t. other_true (side id) t) (flat_map row_timer es)
-      (things-others side inject (λ (t : Timer). t.place) (λ t. t.order) (λ (r : R). Some (order r)) row_timer (λ e. one_timer (side e.0) (order e.1) (deadline e.1)) id es all)))
+      (things-others side inject (λ (t : Timer). t.place) (λ t. t.order) (λ (r : R). Some (order r)) row_timer
+      (λ e. one_timer (side e.0) (order e.1) (deadline e.1)) id es all)))
 
   row_done : (id : CallId) (o : Option R) → IsLater now (option_and_then deadline o) → filter (is_due now) (flat_map row_timer (row_entry id o)) ≡ []
   row_done id None h = refl
-  row_done id (Some row) h = filter-append (is_due now) (timer (side id) (order row) (deadline row)) [] ∙ ap (λ l. l ++ []) (not_due now (side id) (order row) (deadline row) h)
+  row_done id (Some row) h =
+      filter-append (is_due now) (timer (side id) (order row) (deadline row)) [] ∙ ap (λ l. l ++ []) (not_due now (side id) (order row) (deadline row) h)
 
   -- filters of three parts
   due_parts : (p : Timer → Bool) (xs ys zs : List Timer) → filter p (xs ++ (ys ++ zs)) ≡ filter p xs ++ (filter p ys ++ filter p zs)
   due_parts p xs ys zs = filter-append p xs (ys ++ zs) ∙ ap (λ l. filter p xs ++ l) (filter-append p ys zs)
 
-  flat_parts : (xs ys zs : List (CallId × R)) → flat_map row_timer (xs ++ (ys ++ zs)) ≡ flat_map row_timer xs ++ (flat_map row_timer ys ++ flat_map row_timer zs)
+  flat_parts : (xs ys zs : List (CallId × R)) → flat_map row_timer (xs ++ (ys ++ zs)) ≡ flat_map row_timer xs
+      ++ (flat_map row_timer ys ++ flat_map row_timer zs)
   flat_parts xs ys zs = flat_map-append row_timer xs (ys ++ zs) ∙ ap (λ l. flat_map row_timer xs ++ l) (flat_map-append row_timer ys zs)
 
   -- of the rows of its side those that are due are those that were, but the one that acted
   side_due : (rows : RowsOf R) (id : CallId) (old : R) (o : Option R) → get rows id ≡ Some old → IsLater now (option_and_then deadline o)
-      → filter (is_due now) (flat_map row_timer (entries (set_row rows id o))) ≡ filter (is_other (side id)) (filter (is_due now) (flat_map row_timer (entries rows)))
+      → filter (is_due now) (flat_map row_timer (entries (set_row rows id o))) ≡ filter (is_other (side id))
+      (filter (is_due now) (flat_map row_timer (entries rows)))
   side_due rows id old o e later =
       let a = around-get call_total call_same rows id old e in
       let p : Timer → Bool = is_due now in
@@ -148,10 +156,13 @@ module _ {R : Type 0} (side : CallId → Place) (inject : (a b : CallId) → sid
       let acted : List Timer = flat_map row_timer (row_entry id o) in
       let was : List Timer = flat_map row_timer (row_entry id (Some old)) in
       let now_due : filter p (flat_map row_timer (entries (set_row rows id o))) ≡ filter p front ++ filter p back =
-      ap (λ es. filter p (flat_map row_timer es)) (entries-set_row rows id old o a) ∙ ap (filter p) (flat_parts a.front (row_entry id o) a.back) ∙ due_parts p front acted back
+      ap (λ es. filter p (flat_map row_timer es)) (entries-set_row rows id old o a) ∙ ap (filter p) (flat_parts a.front (row_entry id o) a.back)
+      ∙ due_parts p front acted back
       ∙ append_none (filter p acted) (filter p front) (filter p back) (row_done id o later) in
       let gone : filter q (filter p was) ≡ [] =
-      ap (filter q) (filter-append p (timer (side id) (order old) (deadline old)) []) ∙ filter-append q (filter p (timer (side id) (order old) (deadline old))) [] ∙ ap (λ l. l ++ []) (other_false (side id) (order old) (deadline old) now) in
+      ap (filter q) (filter-append p (timer (side id) (order old) (deadline old)) [])
+      ∙ filter-append q (filter p (timer (side id) (order old) (deadline old))) []
+      ∙ ap (λ l. l ++ []) (other_false (side id) (order old) (deadline old) now) in
       let then_due : filter q (filter p (flat_map row_timer (entries rows))) ≡ filter p front ++ filter p back =
       ap (λ es. filter q (filter p (flat_map row_timer es))) a.is ∙ ap (λ l. filter q (filter p l)) (flat_parts a.front (row_entry id (Some old)) a.back)
       ∙ ap (filter q) (due_parts p front was back) ∙ due_parts q (filter p front) (filter p was) (filter p back)
@@ -160,10 +171,13 @@ module _ {R : Type 0} (side : CallId → Place) (inject : (a b : CallId) → sid
       now_due ∙ sym then_due
 
   -- no row of the other side stands at a place
-  other_places : (place : Place) → ((id : CallId) → place ≡ side id → ⊥) → (rows : RowsOf R) → AllByRecursion (λ (t : Timer). place ≡ t.place → ⊥) (flat_map row_timer (entries rows))
+  other_places : (place : Place) → ((id : CallId) → place ≡ side id → ⊥) → (rows : RowsOf R)
+      → AllByRecursion (λ (t : Timer). place ≡ t.place → ⊥) (flat_map row_timer (entries rows))
   other_places place apart rows =
-      all_weaker (λ (t : Timer). (id : CallId) × (t.place ≡ side id)) (λ t. place ≡ t.place → ⊥) (λ t h f. apart h.0 (f ∙ h.1)) (flat_map row_timer (entries rows))
-      (things-side side inject (λ (t : Timer). t.place) (λ t. t.order) (λ (r : R). Some (order r)) row_timer (λ e. one_timer (side e.0) (order e.1) (deadline e.1)) (entries rows))
+      all_weaker (λ (t : Timer). (id : CallId) × (t.place ≡ side id)) (λ t. place ≡ t.place → ⊥) (λ t h f. apart h.0 (f ∙ h.1))
+      (flat_map row_timer (entries rows))
+      (things-side side inject (λ (t : Timer). t.place) (λ t. t.order) (λ (r : R). Some (order r)) row_timer
+      (λ e. one_timer (side e.0) (order e.1) (deadline e.1)) (entries rows))
 
   -- so those that are due stay
   other_side_due : (place : Place) → ((id : CallId) → place ≡ side id → ⊥) → (rows : RowsOf R)
@@ -171,13 +185,15 @@ module _ {R : Type 0} (side : CallId → Place) (inject : (a b : CallId) → sid
   other_side_due place apart rows =
       filter_all (is_other place) (filter (is_due now) (flat_map row_timer (entries rows)))
       (filter-all (λ t. is_other place t ≡ true) (is_due now) (flat_map row_timer (entries rows))
-      (all_weaker (λ (t : Timer). place ≡ t.place → ⊥) (λ t. is_other place t ≡ true) (λ t. other_true place t) (flat_map row_timer (entries rows)) (other_places place apart rows)))
+      (all_weaker (λ (t : Timer). place ≡ t.place → ⊥) (λ t. is_other place t ≡ true) (λ t. other_true place t) (flat_map row_timer (entries rows))
+      (other_places place apart rows)))
 
   -- a call without a row has no timer
   no_timer : (rows : RowsOf R) (id : CallId) (t : Timer) → get rows id ≡ None → t.place ≡ side id → Contains (flat_map row_timer (entries rows)) t → ⊥
   no_timer rows id t e at c =
       all_at (λ (u : Timer). side id ≡ u.place → ⊥) (flat_map row_timer (entries rows)) t
-      (things-others side inject (λ (u : Timer). u.place) (λ u. u.order) (λ (r : R). Some (order r)) row_timer (λ d. one_timer (side d.0) (order d.1) (deadline d.1)) id (entries rows) (absent-get call_total call_same rows id e)) c (sym at)
+      (things-others side inject (λ (u : Timer). u.place) (λ u. u.order) (λ (r : R). Some (order r)) row_timer
+      (λ d. one_timer (side d.0) (order d.1) (deadline d.1)) id (entries rows) (absent-get call_total call_same rows id e)) c (sym at)
 
 -- ---- an act
 
@@ -198,7 +214,8 @@ module _ (s : Settings) (resend : 1 ≤ s.resend) where
       elim (Contains-append_cases (client_timers w.host.clients) (server_timers w.host.servers) t c) [
         | inl mine ↦ absurd (no_timer OfClient client_inject (λ (r : ClientRow). r.order) (client_deadline s) 0 w.host.clients id t e at mine)
         | inr theirs ↦ absurd (all_at (λ (u : Timer). OfClient id ≡ u.place → ⊥) (server_timers w.host.servers) t
-            (other_places OfServer server_inject (λ (row : ServerRow). row.order) (server_deadline s) 0 (OfClient id) (λ q. two_sides id q) w.host.servers) theirs (sym at))
+            (other_places OfServer server_inject (λ (row : ServerRow). row.order) (server_deadline s) 0 (OfClient id)
+            (λ q. two_sides id q) w.host.servers) theirs (sym at))
       ]
   client_done id (Some r) w t e at c =
       let did : Did ClientRow = client_acts s (moment s id w) id r in
@@ -210,14 +227,18 @@ module _ (s : Settings) (resend : 1 ≤ s.resend) where
       let clients : v.host.clients ≡ set_row w.host.clients id did.row = asked-clients s id r.server did w in
       let servers : v.host.servers ≡ w.host.servers = asked-servers s id r.server did w in
       let mine : filter p (client_timers (set_row w.host.clients id did.row)) ≡ filter q (filter p (client_timers w.host.clients)) =
-      side_due OfClient client_inject (λ (x : ClientRow). x.order) (client_deadline s) now w.host.clients id r did.row e (client_later s resend (moment s id w) id r) in
+      side_due OfClient client_inject (λ (x : ClientRow). x.order) (client_deadline s) now w.host.clients id r did.row e
+      (client_later s resend (moment s id w) id r) in
       let theirs : filter q (filter p (server_timers w.host.servers)) ≡ filter p (server_timers w.host.servers) =
       other_side_due OfServer server_inject (λ (row : ServerRow). row.order) (server_deadline s) now (OfClient id) (λ a. two_sides id a) w.host.servers in
       let after : due_timers v ≡ filter p (client_timers (set_row w.host.clients id did.row)) ++ filter p (server_timers w.host.servers) =
-      (λ i. filter (is_due (last i)) (client_timers (clients i) ++ server_timers (servers i))) ∙ filter-append p (client_timers (set_row w.host.clients id did.row)) (server_timers w.host.servers) in
+      (λ i. filter (is_due (last i)) (client_timers (clients i) ++ server_timers (servers i)))
+      ∙ filter-append p (client_timers (set_row w.host.clients id did.row)) (server_timers w.host.servers) in
       let before : filter q (due_timers w) ≡ filter q (filter p (client_timers w.host.clients)) ++ filter q (filter p (server_timers w.host.servers)) =
-      ap (filter q) (filter-append p (client_timers w.host.clients) (server_timers w.host.servers)) ∙ filter-append q (filter p (client_timers w.host.clients)) (filter p (server_timers w.host.servers)) in
-      after ∙ ap (λ l. l ++ filter p (server_timers w.host.servers)) mine ∙ ap (λ l. filter q (filter p (client_timers w.host.clients)) ++ l) (sym theirs) ∙ sym before
+      ap (filter q) (filter-append p (client_timers w.host.clients) (server_timers w.host.servers))
+      ∙ filter-append q (filter p (client_timers w.host.clients)) (filter p (server_timers w.host.servers)) in
+      after ∙ ap (λ l. l ++ filter p (server_timers w.host.servers)) mine ∙ ap (λ l. filter q (filter p (client_timers w.host.clients)) ++ l)
+      (sym theirs) ∙ sym before
 
   server_done : (id : CallId) (o : Option ServerRow) (w : Work) (t : Timer) → get w.host.servers id ≡ o → t.place ≡ OfServer id → Contains (timers s w.host) t
       → due_timers (server_acted s id o w) ≡ filter (is_other (OfServer id)) (due_timers w)
@@ -225,7 +246,8 @@ module _ (s : Settings) (resend : 1 ≤ s.resend) where
       elim (Contains-append_cases (client_timers w.host.clients) (server_timers w.host.servers) t c) [
         | inr mine ↦ absurd (no_timer OfServer server_inject (λ (row : ServerRow). row.order) (server_deadline s) 0 w.host.servers id t e at mine)
         | inl theirs ↦ absurd (all_at (λ (u : Timer). OfServer id ≡ u.place → ⊥) (client_timers w.host.clients) t
-            (other_places OfClient client_inject (λ (r : ClientRow). r.order) (client_deadline s) 0 (OfServer id) (λ q f. two_sides q id (sym f)) w.host.clients) theirs (sym at))
+            (other_places OfClient client_inject (λ (r : ClientRow). r.order) (client_deadline s) 0 (OfServer id)
+            (λ q f. two_sides q id (sym f)) w.host.clients) theirs (sym at))
       ]
   server_done id (Some row) w t e at c =
       let did : Did ServerRow = server_acts s (moment s id w) id row in
@@ -237,17 +259,22 @@ module _ (s : Settings) (resend : 1 ≤ s.resend) where
       let clients : v.host.clients ≡ w.host.clients = served-clients s id did w in
       let servers : v.host.servers ≡ set_row w.host.servers id did.row = served-servers s id did w in
       let mine : filter p (server_timers (set_row w.host.servers id did.row)) ≡ filter q (filter p (server_timers w.host.servers)) =
-      side_due OfServer server_inject (λ (x : ServerRow). x.order) (server_deadline s) now w.host.servers id row did.row e (state_later s resend (moment s id w) id row row.state) in
+      side_due OfServer server_inject (λ (x : ServerRow). x.order) (server_deadline s) now w.host.servers id row did.row e
+      (state_later s resend (moment s id w) id row row.state) in
       let theirs : filter q (filter p (client_timers w.host.clients)) ≡ filter p (client_timers w.host.clients) =
       other_side_due OfClient client_inject (λ (r : ClientRow). r.order) (client_deadline s) now (OfServer id) (λ a f. two_sides a id (sym f)) w.host.clients in
       let after : due_timers v ≡ filter p (client_timers w.host.clients) ++ filter p (server_timers (set_row w.host.servers id did.row)) =
-      (λ i. filter (is_due (last i)) (client_timers (clients i) ++ server_timers (servers i))) ∙ filter-append p (client_timers w.host.clients) (server_timers (set_row w.host.servers id did.row)) in
+      (λ i. filter (is_due (last i)) (client_timers (clients i) ++ server_timers (servers i))) ∙ filter-append p (client_timers w.host.clients)
+      (server_timers (set_row w.host.servers id did.row)) in
       let before : filter q (due_timers w) ≡ filter q (filter p (client_timers w.host.clients)) ++ filter q (filter p (server_timers w.host.servers)) =
-      ap (filter q) (filter-append p (client_timers w.host.clients) (server_timers w.host.servers)) ∙ filter-append q (filter p (client_timers w.host.clients)) (filter p (server_timers w.host.servers)) in
-      after ∙ ap (λ l. filter p (client_timers w.host.clients) ++ l) mine ∙ ap (λ l. l ++ filter q (filter p (server_timers w.host.servers))) (sym theirs) ∙ sym before
+      ap (filter q) (filter-append p (client_timers w.host.clients) (server_timers w.host.servers))
+      ∙ filter-append q (filter p (client_timers w.host.clients)) (filter p (server_timers w.host.servers)) in
+      after ∙ ap (λ l. filter p (client_timers w.host.clients) ++ l) mine ∙ ap (λ l. l ++ filter q (filter p (server_timers w.host.servers)))
+      (sym theirs) ∙ sym before
 
   -- the rows that are due after an act are those that were, but the one that acted
-  act_done : (place : Place) (w : Work) (t : Timer) → t.place ≡ place → Contains (timers s w.host) t → due_timers (acts_at s place w) ≡ filter (is_other place) (due_timers w)
+  act_done : (place : Place) (w : Work) (t : Timer) → t.place ≡ place → Contains (timers s w.host) t
+      → due_timers (acts_at s place w) ≡ filter (is_other place) (due_timers w)
   act_done (OfClient id) w t at c = client_done id (get w.host.clients id) w t refl at c
   act_done (OfServer id) w t at c = server_done id (get w.host.servers id) w t refl at c
 
@@ -262,7 +289,9 @@ module _ (s : Settings) (resend : 1 ≤ s.resend) where
   first_is w t ts e =
       let all : AllByRecursion (Contains (timers s w.host)) (timers s w.host) = all_from (Contains (timers s w.host)) (timers s w.host) (λ u c. c) in
       let placed : AllByRecursion (Contains (timers s w.host)) (t ∷ ts) =
-      subst (AllByRecursion (Contains (timers s w.host))) e (ordered-all timer_key (Contains (timers s w.host)) (due_timers w) (filter-all (Contains (timers s w.host)) (is_due (now_of w)) (timers s w.host) all)) in
+      subst (AllByRecursion (Contains (timers s w.host))) e
+      (ordered-all timer_key (Contains (timers s w.host)) (due_timers w)
+      (filter-all (Contains (timers s w.host)) (is_due (now_of w)) (timers s w.host) all)) in
       placed.0
 
   others_after : (w : Work) (t : Timer) (ts : List Timer) → in_order w ≡ t ∷ ts → filter (is_other t.place) (t ∷ ts) ≡ ts
@@ -270,14 +299,17 @@ module _ (s : Settings) (resend : 1 ≤ s.resend) where
   others_after w t ts e =
       let apart : Pairwise (Differ (λ (u : Timer). u.place)) (t ∷ ts) =
       subst (Pairwise (Differ (λ (u : Timer). u.place))) e
-      (pairwise-ordered (Differ (λ (u : Timer). u.place)) (λ x y differ f. differ (sym f)) timer_key (due_timers w) (pairwise-filter (Differ (λ (u : Timer). u.place)) (is_due (now_of w)) (timers s w.host) (timers-differ s w.host))) in
+      (pairwise-ordered (Differ (λ (u : Timer). u.place)) (λ x y differ f. differ (sym f)) timer_key (due_timers w)
+      (pairwise-filter (Differ (λ (u : Timer). u.place)) (is_due (now_of w)) (timers s w.host) (timers-differ s w.host))) in
       ap (λ b. cond (not b) (t ∷ filter (is_other t.place) ts) (filter (is_other t.place) ts)) (place_itself t.place)
-      ∙ filter_all (is_other t.place) ts (all_weaker (λ (u : Timer). t.place ≡ u.place → ⊥) (λ u. is_other t.place u ≡ true) (λ u. other_true t.place u) ts apart.0)
+      ∙ filter_all (is_other t.place) ts
+      (all_weaker (λ (u : Timer). t.place ≡ u.place → ⊥) (λ u. is_other t.place u ≡ true) (λ u. other_true t.place u) ts apart.0)
 
   act_order : (w : Work) (t : Timer) (ts : List Timer) → in_order w ≡ t ∷ ts → in_order (acts_at s t.place w) ≡ ts
   unfolding in_order
   act_order w t ts e =
-      ap (ordered timer_key) (act_done t.place w t refl (first_is w t ts e)) ∙ ordered-filter timer_key (is_other t.place) (due_timers w) ∙ ap (filter (is_other t.place)) e ∙ others_after w t ts e
+      ap (ordered timer_key) (act_done t.place w t refl (first_is w t ts e)) ∙ ordered-filter timer_key (is_other t.place) (due_timers w)
+      ∙ ap (filter (is_other t.place)) e ∙ others_after w t ts e
 
   -- which row comes first
   first_due_is : (w : Work) → first_of (due timer_key (now_of w) (timers s w.host)) ≡ first_of (in_order w)

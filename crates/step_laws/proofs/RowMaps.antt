@@ -102,7 +102,8 @@ module _ {K X : Type 0} {R : K → K → Ordering} (o : IsTotalOrder R) (same : 
           back = es;
           is = λ i. (sym key i, value i) ∷ es;
           set = λ w. ap (λ r. by_order r ((k, w) ∷ d ∷ es) ((d.0, w) ∷ es) (d ∷ put R k w es)) f ∙ (λ i. (sym key i, w) ∷ es);
-          gone = ap (λ r. cond (not (is_eq r)) (d ∷ filter (λ e. not (eq_by_cmp R k e.0)) es) (filter (λ e. not (eq_by_cmp R k e.0)) es)) f ∙ filter_all (λ (e : K × X). not (eq_by_cmp R k e.0)) es (below_keeps k es below);
+          gone = ap (λ r. cond (not (is_eq r)) (d ∷ filter (λ e. not (eq_by_cmp R k e.0)) es) (filter (λ e. not (eq_by_cmp R k e.0)) es)) f
+              ∙ filter_all (λ (e : K × X). not (eq_by_cmp R k e.0)) es (below_keeps k es below);
           before = tt;
           after = below_others k es below;
         }
@@ -113,7 +114,8 @@ module _ {K X : Type 0} {R : K → K → Ordering} (o : IsTotalOrder R) (same : 
           back = rest.back;
           is = ap (λ l. d ∷ l) rest.is;
           set = λ w. ap (λ r. by_order r ((k, w) ∷ d ∷ es) ((d.0, w) ∷ es) (d ∷ put R k w es)) f ∙ ap (λ l. d ∷ l) (rest.set w);
-          gone = ap (λ r. cond (not (is_eq r)) (d ∷ filter (λ e. not (eq_by_cmp R k e.0)) es) (filter (λ e. not (eq_by_cmp R k e.0)) es)) f ∙ ap (λ l. d ∷ l) rest.gone;
+          gone = ap (λ r. cond (not (is_eq r)) (d ∷ filter (λ e. not (eq_by_cmp R k e.0)) es) (filter (λ e. not (eq_by_cmp R k e.0)) es)) f
+              ∙ ap (λ l. d ∷ l) rest.gone;
           before = (not_greater o k d.0 f, rest.before);
           after = rest.after;
         }
@@ -122,7 +124,8 @@ module _ {K X : Type 0} {R : K → K → Ordering} (o : IsTotalOrder R) (same : 
   absent : (k : K) (es : List (K × X)) → find R k es ≡ None → AllByRecursion (λ (e : K × X). k ≡ e.0 → ⊥) es
   absent k [] e = tt
   absent k (d ∷ es) e = at (absent k es) (R k d.0) refl where
-    at : (find R k es ≡ None → AllByRecursion (λ (e : K × X). k ≡ e.0 → ⊥) es) → (r : Ordering) → R k d.0 ≡ r → AllByRecursion (λ (e : K × X). k ≡ e.0 → ⊥) (d ∷ es)
+    at : (find R k es ≡ None → AllByRecursion (λ (e : K × X). k ≡ e.0 → ⊥) es) → (r : Ordering) → R k d.0 ≡ r
+        → AllByRecursion (λ (e : K × X). k ≡ e.0 → ⊥) (d ∷ es)
     at later Less f = (not_less o k d.0 f, later (ap (λ r. cond (is_eq r) (Some d.1) (find R k es)) (sym f) ∙ e))
     at later Equal f = absurd (none_is d.1 (find R k (d ∷ es)) e (ap (λ r. cond (is_eq r) (Some d.1) (find R k es)) f))
     at later Greater f = (not_greater o k d.0 f, later (ap (λ r. cond (is_eq r) (Some d.1) (find R k es)) (sym f) ∙ e))

@@ -13,7 +13,9 @@ use Rattle.homa_plain.specs.Rows.{ClientRow, ServerRow, State, Replying}
 use Rattle.homa_plain.specs.Host.{peer_cutoffs, packets_in}
 use Rattle.homa_plain.specs.Timers.{Place, OfClient, OfServer}
 use Rattle.homa_plain.specs.Sending.{Arriving, arrivals, Leaving, leaving_key, departures, response_content}
-use Rattle.homa_plain.specs.Steps.{Work, now_of, client_is_granted, server_is_granted, grants_at, all_granted, gives_grants, request_leaves, response_leaves, if_affordable, client_leaves, state_leaves, server_leaves, leaves_from, first_leaves, pumped_once, pumps, pump, ended}
+use Rattle.homa_plain.specs.Steps.{Work, now_of, client_is_granted, server_is_granted, grants_at, all_granted, gives_grants, request_leaves}
+use Rattle.homa_plain.specs.Steps.{response_leaves, if_affordable, client_leaves, state_leaves, server_leaves, leaves_from, first_leaves, pumped_once}
+use Rattle.homa_plain.specs.Steps.{pumps, pump, ended}
 use Rattle.homa_plain.proofs.ChoiceLaws.{few-grants}
 use Rattle.step_laws.proofs.ToldBy.{Calm, calm_none, calm_then, calm_more}
 
@@ -48,12 +50,14 @@ module _ (s : Settings) where
   all_granted-calm [] w = calm_none w
   all_granted-calm (g ∷ gs) w =
       let v : Work = grants_at s g.to.place g.offset g.prio w in
-      calm_more (1 + length gs) (suc (length gs)) w (all_granted s gs v) (omega arith) (calm_then 1 (length gs) w v (all_granted s gs v) (grants_at-calm g.to.place g.offset g.prio w) (all_granted-calm gs v))
+      calm_more (1 + length gs) (suc (length gs)) w (all_granted s gs v) (omega arith)
+      (calm_then 1 (length gs) w v (all_granted s gs v) (grants_at-calm g.to.place g.offset g.prio w) (all_granted-calm gs v))
 
   pub gives_grants-calm : (w : Work) → Calm s.overcommit w (gives_grants s w)
   gives_grants-calm w =
       let gs : List (Granted Arriving) = grants (λ (a : Arriving). a.message) s.overcommit s.window (arrivals w.host) in
-      calm_more (length gs) s.overcommit w (gives_grants s w) (few-grants (λ (a : Arriving). a.message) s.overcommit s.window (arrivals w.host)) (all_granted-calm gs w)
+      calm_more (length gs) s.overcommit w (gives_grants s w) (few-grants (λ (a : Arriving). a.message) s.overcommit s.window (arrivals w.host))
+      (all_granted-calm gs w)
 
   client_leaves-calm : (id : CallId) (o : Option ClientRow) (w v : Work) → client_leaves s id o w ≡ Some v → Calm 1 w v
   client_leaves-calm id None w v e = cc
@@ -63,7 +67,8 @@ module _ (s : Settings) where
 
   state_leaves-calm : (id : CallId) (row : ServerRow) (state : State) (w v : Work) → state_leaves s id row state w ≡ Some v → Calm 1 w v
   state_leaves-calm id row (Replying response out order base count) w v e =
-      let l = left (next_range out s.seg) w v (λ range. response_leaves s id row (response_content s (peer_cutoffs s w.host id.client).cutoffs response out range) range w) e in
+      let l = left (next_range out s.seg) w v
+      (λ range. response_leaves s id row (response_content s (peer_cutoffs s w.host id.client).cutoffs response out range) range w) e in
       subst (Calm 1 w) l.is (record { told = _; grown = refl; few = omega arith; quiet = refl; order = refl; last = refl })
   state_leaves-calm id row state w v e = cc
 
@@ -96,4 +101,5 @@ module _ (s : Settings) where
   pump-calm w = pumps-calm (64 - length (packets_in w.told)) w
 
   pub ended-calm : (w : Work) → Calm (s.overcommit + (64 - length (packets_in (gives_grants s w).told))) w (ended s w)
-  ended-calm w = calm_then s.overcommit (64 - length (packets_in (gives_grants s w).told)) w (gives_grants s w) (ended s w) (gives_grants-calm w) (pump-calm (gives_grants s w))
+  ended-calm w = calm_then s.overcommit (64 - length (packets_in (gives_grants s w).told)) w (gives_grants s w) (ended s w) (gives_grants-calm w)
+      (pump-calm (gives_grants s w))

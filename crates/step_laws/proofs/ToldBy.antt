@@ -1,5 +1,6 @@
 -- What the moves of a step tell, and what they leave of the host.
-use Rattle.std.proofs.Common.{◌≡◌, ℕ, suc, ◌+◌, ◌≤◌, Bool, true, false, Option, Some, None, List, [], ◌∷◌, ◌++◌, length, refl, sym, ap, ◌∙◌, arith, append_assoc}
+use Rattle.std.proofs.Common.{◌≡◌, ℕ, suc, ◌+◌, ◌≤◌, Bool, true, false, Option, Some, None, List, [], ◌∷◌, ◌++◌, length, refl, sym, ap, ◌∙◌, arith}
+use Rattle.std.proofs.Common.{append_assoc}
 use Rattle.std.specs.Prelude.{◌==◌, nat_lt}
 use Rattle.std.proofs.lemmas.List.{append-nil, length-append}
 use Rattle.std.proofs.lemmas.Bool.{cond_both}
@@ -82,7 +83,8 @@ module _ (s : Settings) where
 
   tuned-told : (host : HostId) (t : Tuning) (n : ℕ) → (length (packets_in (tuned s host t n).told) ≤ 0) × (run_count (tuned s host t n).told ≡ 0)
   unfolding tuned
-  tuned-told host t n = cond_both (is_balance_due s (counted t n)) _ _ (λ (u : Tuned). (length (packets_in u.told) ≤ 0) × (run_count u.told ≡ 0)) (λ _. (omega arith, refl)) (λ _. (omega arith, refl))
+  tuned-told host t n = cond_both (is_balance_due s (counted t n)) _ _ (λ (u : Tuned). (length (packets_in u.told) ≤ 0) × (run_count u.told ≡ 0))
+      (λ _. (omega arith, refl)) (λ _. (omega arith, refl))
 
   pub notes-calm : (o : Option ℕ) (w : Work) → Calm 0 w (notes s o w)
   notes-calm None w = calm_none w
@@ -97,11 +99,13 @@ module _ (s : Settings) where
   pub tells_cutoffs-calm : (role : Role) (id : CallId) (server : HostId) (o : Option ℕ) (w : Work) → Calm (one_if_some o) w (tells_cutoffs s role id server o w)
   tells_cutoffs-calm role id server None w = calm_none w
   tells_cutoffs-calm role id server (Some version) w =
-      cond_both (version == w.host.tuning.own.version) _ _ (Calm 1 w) (λ _. calm_more 0 1 w w (omega arith) (calm_none w)) (λ _. posts-calm role id server (body.Cutoffs w.host.tuning.own) w)
+      cond_both (version == w.host.tuning.own.version) _ _ (Calm 1 w) (λ _. calm_more 0 1 w w (omega arith) (calm_none w))
+      (λ _. posts-calm role id server (body.Cutoffs w.host.tuning.own) w)
 
   pub tells_cutoffs-rows : (role : Role) (id : CallId) (server : HostId) (o : Option ℕ) (w : Work) → LeavesRows w (tells_cutoffs s role id server o w)
   tells_cutoffs-rows role id server None w = rows_none w
-  tells_cutoffs-rows role id server (Some version) w = cond_both (version == w.host.tuning.own.version) _ _ (LeavesRows w) (λ _. rows_none w) (λ _. record { clients = refl; servers = refl })
+  tells_cutoffs-rows role id server (Some version) w =
+      cond_both (version == w.host.tuning.own.version) _ _ (LeavesRows w) (λ _. rows_none w) (λ _. record { clients = refl; servers = refl })
 
   acknowledged-calm : (server : HostId) (calls : List (ℕ × ℕ)) (w : Work) → Calm 1 w (acknowledged s server calls w)
   acknowledged-calm server [] w = calm_more 0 1 w w (omega arith) (calm_none w)
@@ -112,7 +116,8 @@ module _ (s : Settings) where
 
   acknowledged-rows : (server : HostId) (calls : List (ℕ × ℕ)) (w : Work) → LeavesRows w (acknowledged s server calls w)
   acknowledged-rows server [] w = rows_none w
-  acknowledged-rows server (call ∷ calls) w = cond_both (nat_lt (length calls) 4) _ _ (LeavesRows w) (λ _. record { clients = refl; servers = refl }) (λ _. record { clients = refl; servers = refl })
+  acknowledged-rows server (call ∷ calls) w =
+      cond_both (nat_lt (length calls) 4) _ _ (LeavesRows w) (λ _. record { clients = refl; servers = refl }) (λ _. record { clients = refl; servers = refl })
 
   pub finishes-calm : (id : CallId) (server : HostId) (done : Bool) (w : Work) → Calm (one_if done) w (finishes s id server done w)
   finishes-calm id server false w = calm_none w
@@ -124,11 +129,13 @@ module _ (s : Settings) where
 
   pub hears_cutoffs-calm : (peer : HostId) (inc : ℕ) (what : Body) (w : Work) → Calm 0 w (hears_cutoffs s peer inc what w)
   hears_cutoffs-calm peer inc (body.Cutoffs cutoffs) w =
-      cond_both (is_newer inc cutoffs (peer_cutoffs s w.host peer)) _ _ (Calm 0 w) (λ _. record { told = []; grown = sym (append-nil w.told); few = omega arith; quiet = refl; order = refl; last = refl }) (λ _. calm_none w)
+      cond_both (is_newer inc cutoffs (peer_cutoffs s w.host peer)) _ _ (Calm 0 w)
+      (λ _. record { told = []; grown = sym (append-nil w.told); few = omega arith; quiet = refl; order = refl; last = refl }) (λ _. calm_none w)
   hears_cutoffs-calm peer inc what w = calm_none w
 
   pub hears_cutoffs-rows : (peer : HostId) (inc : ℕ) (what : Body) (w : Work) → LeavesRows w (hears_cutoffs s peer inc what w)
-  hears_cutoffs-rows peer inc (body.Cutoffs cutoffs) w = cond_both (is_newer inc cutoffs (peer_cutoffs s w.host peer)) _ _ (LeavesRows w) (λ _. record { clients = refl; servers = refl }) (λ _. rows_none w)
+  hears_cutoffs-rows peer inc (body.Cutoffs cutoffs) w =
+      cond_both (is_newer inc cutoffs (peer_cutoffs s w.host peer)) _ _ (LeavesRows w) (λ _. record { clients = refl; servers = refl }) (λ _. rows_none w)
   hears_cutoffs-rows peer inc what w = rows_none w
 
 -- ---- what rules say
@@ -190,7 +197,8 @@ module _ (s : Settings) where
       record {
         before = a.told;
         after = b.told;
-        grown = b.grown ∙ ap (λ t. (t ++ said s w.host Client id server did.says) ++ b.told) a.grown ∙ grown_twice w.told a.told (said s w.host Client id server did.says) b.told;
+        grown = b.grown ∙ ap (λ t. (t ++ said s w.host Client id server did.says) ++ b.told) a.grown
+            ∙ grown_twice w.told a.told (said s w.host Client id server did.says) b.told;
         few = omega (arith, a.few, b.few);
         quiet_before = a.quiet;
         quiet_after = b.quiet;
@@ -205,7 +213,8 @@ module _ (s : Settings) where
       let put : Work = record w { host = record w.host { order = did.order; servers = set_row w.host.servers id did.row } } in
       let noted : Work = notes s did.opened put in
       let reply : Work = tells_cutoffs s Server id w.host.id did.version noted in
-      let a = calm_then 0 (one_if_some did.version) put noted reply (notes-calm s did.opened put) (tells_cutoffs-calm s Server id w.host.id did.version noted) in
+      let a =
+      calm_then 0 (one_if_some did.version) put noted reply (notes-calm s did.opened put) (tells_cutoffs-calm s Server id w.host.id did.version noted) in
       record {
         before = a.told;
         after = [];
@@ -218,7 +227,8 @@ module _ (s : Settings) where
         last = a.last;
       }
 
-  pub asked-clients : (id : CallId) (server : HostId) (did : Did ClientRow) (w : Work) → (asked s id server did w).host.clients ≡ set_row w.host.clients id did.row
+  pub asked-clients : (id : CallId) (server : HostId) (did : Did ClientRow) (w : Work)
+      → (asked s id server did w).host.clients ≡ set_row w.host.clients id did.row
   unfolding asked
   asked-clients id server did w =
       let put : Work = record w { host = record w.host { order = did.order; clients = set_row w.host.clients id did.row } } in
@@ -253,7 +263,8 @@ module _ (s : Settings) where
 -- ---- a call that is over
 
 -- a rule that says no RUN and opens nothing
-pub calm_carried : (n end : ℕ) (says : List Told) (w v : Work) → Carried n end says w v → run_count says ≡ 0 → end ≡ w.host.order → Calm (n + length (packets_in says)) w v
+pub calm_carried : (n end : ℕ) (says : List Told) (w v : Work) → Carried n end says w v → run_count says ≡ 0 → end ≡ w.host.order
+    → Calm (n + length (packets_in says)) w v
 calm_carried n end says w v c quiet same = record {
   told = c.before ++ (says ++ c.after);
   grown = c.grown;
@@ -287,5 +298,7 @@ acked_one-calm s id w =
     let still = server_acked-still s (moment s id w) id (get w.host.servers id) in
     let says : List Told = said s w.host Server id w.host.id did.says in
     let none : one_if_some did.version ≡ 0 = ap one_if_some still.version in
-    calm_more (one_if_some did.version + length (packets_in says)) 0 w (served s id did w) (omega (arith, none, said-posts s w.host Server id w.host.id did.says, still.few))
-    (calm_carried (one_if_some did.version) did.order says w (served s id did w) (served-carried s id did w) (said-runs s w.host Server id w.host.id did.says ∙ still.quiet) still.order)
+    calm_more (one_if_some did.version + length (packets_in says)) 0 w (served s id did w)
+    (omega (arith, none, said-posts s w.host Server id w.host.id did.says, still.few))
+    (calm_carried (one_if_some did.version) did.order says w (served s id did w) (served-carried s id did w)
+    (said-runs s w.host Server id w.host.id did.says ∙ still.quiet) still.order)

@@ -29,28 +29,37 @@ module _ (s : Settings) (m : Moment) (p : Packet) where
   module _ (r : ClientRow) where
     pub gets_elsewhere : is_host (sender p) r.server ≡ false → client_gets s m p (Some r) ≡ keeps m r
     unfolding client_gets
-    gets_elsewhere e = ap (λ b. cond (not b) (keeps m r) (cond (nat_lt p.inc r.seen) (keeps m r) (answered s m p.id p.body p.payload (refreshed m.now p.body (renewed p.inc r))))) e
+    gets_elsewhere e =
+        ap (λ b. cond (not b) (keeps m r)
+        (cond (nat_lt p.inc r.seen) (keeps m r) (answered s m p.id p.body p.payload (refreshed m.now p.body (renewed p.inc r))))) e
 
     pub gets_earlier : nat_lt p.inc r.seen ≡ true → client_gets s m p (Some r) ≡ keeps m r
     unfolding client_gets
     gets_earlier e =
-        ap (λ b. cond (not (is_host (sender p) r.server)) (keeps m r) (cond b (keeps m r) (answered s m p.id p.body p.payload (refreshed m.now p.body (renewed p.inc r))))) e ∙ same (not (is_host (sender p) r.server)) where
+        ap (λ b. cond (not (is_host (sender p) r.server)) (keeps m r)
+        (cond b (keeps m r) (answered s m p.id p.body p.payload (refreshed m.now p.body (renewed p.inc r))))) e
+        ∙ same (not (is_host (sender p) r.server)) where
           same : (b : Bool) → cond b (keeps m r) (keeps m r) ≡ keeps m r
           same true = refl
           same false = refl
 
-    pub gets_answered : is_host (sender p) r.server ≡ true → nat_lt p.inc r.seen ≡ false → client_gets s m p (Some r) ≡ answered s m p.id p.body p.payload (refreshed m.now p.body (renewed p.inc r))
+    pub gets_answered : is_host (sender p) r.server ≡ true → nat_lt p.inc r.seen ≡ false
+        → client_gets s m p (Some r) ≡ answered s m p.id p.body p.payload (refreshed m.now p.body (renewed p.inc r))
     unfolding client_gets
     gets_answered e f =
-        ap (λ b. cond (not b) (keeps m r) (cond (nat_lt p.inc r.seen) (keeps m r) (answered s m p.id p.body p.payload (refreshed m.now p.body (renewed p.inc r))))) e
+        ap (λ b. cond (not b) (keeps m r)
+        (cond (nat_lt p.inc r.seen) (keeps m r) (answered s m p.id p.body p.payload (refreshed m.now p.body (renewed p.inc r))))) e
         ∙ ap (λ b. cond b (keeps m r) (answered s m p.id p.body p.payload (refreshed m.now p.body (renewed p.inc r)))) f
 
     -- what the lines speak of in the row that heard of the packet
-    pub heard_row : nat_lt p.inc r.seen ≡ false → awaited (refreshed m.now p.body (renewed p.inc r)) ≡ record { server = r.server; seen = p.inc; part = cond (nat_lt r.seen p.inc) None r.part }
+    pub heard_row : nat_lt p.inc r.seen ≡ false
+        → awaited (refreshed m.now p.body (renewed p.inc r)) ≡ record { server = r.server; seen = p.inc; part = cond (nat_lt r.seen p.inc) None r.part }
     heard_row e = refreshed_same s m p.id m.now p.body (renewed p.inc r) ∙ by_test (nat_lt r.seen p.inc) refl where
-      by_test : (b : Bool) → nat_lt r.seen p.inc ≡ b → awaited (cond b (record r { seen = p.inc; part = None }) r) ≡ record { server = r.server; seen = p.inc; part = cond b None r.part }
+      by_test : (b : Bool) → nat_lt r.seen p.inc ≡ b
+          → awaited (cond b (record r { seen = p.inc; part = None }) r) ≡ record { server = r.server; seen = p.inc; part = cond b None r.part }
       by_test true f = refl
-      by_test false f = let same : r.seen ≡ p.inc = omega (arith, ltb-false p.inc r.seen e, ltb-false r.seen p.inc f) in (λ i. record { server = r.server; seen = same i; part = r.part })
+      by_test false f = let same : r.seen ≡ p.inc =
+          omega (arith, ltb-false p.inc r.seen e, ltb-false r.seen p.inc f) in (λ i. record { server = r.server; seen = same i; part = r.part })
 
 -- ---- one response
 
@@ -71,7 +80,8 @@ life_of v id h l (suc n) inc e =
     omega (arith, same)
 
 -- in the life of an incarnation a call answered once
-pub one_reply : (v : View) (q : CallId) (server : HostId) (h : Host) (inc : ℕ) (a b : List ℕ) → HasLives v server h → IsReplyOf v q server inc a → IsReplyOf v q server inc b → a ≡ b
+pub one_reply : (v : View) (q : CallId) (server : HostId) (h : Host) (inc : ℕ) (a b : List ℕ) → HasLives v server h → IsReplyOf v q server inc a
+    → IsReplyOf v q server inc b → a ≡ b
 one_reply v q server h inc a b l x y =
     let one : inc ≡ l.first + x.life = life_of v server h l x.life inc x.told in
     let two : inc ≡ l.first + y.life = life_of v server h l y.life inc y.told in
@@ -81,25 +91,31 @@ one_reply v q server h inc a b l x y =
       heads e = cc
 
 -- it is among the answers of that incarnation
-passes_more : (p q : Ran → Bool) → ((r : Ran) → p r ≡ true → q r ≡ true) → (rs : List Ran) (x : List ℕ) → map (λ (r : Ran). r.response) (filter p rs) ≡ x ∷ [] → Contains (map (λ (r : Ran). r.response) (filter q rs)) x
+passes_more : (p q : Ran → Bool) → ((r : Ran) → p r ≡ true → q r ≡ true) → (rs : List Ran) (x : List ℕ)
+    → map (λ (r : Ran). r.response) (filter p rs) ≡ x ∷ [] → Contains (map (λ (r : Ran). r.response) (filter q rs)) x
 passes_more p q all [] x e = cc
 passes_more p q all (r ∷ rs) x e = by_test (λ f. passes_more p q all rs x f) (p r) refl (q r) refl e where
-  kept : (b : Bool) → Contains (map (λ (r : Ran). r.response) (filter q rs)) x → Contains (map (λ (r : Ran). r.response) (cond b (r ∷ filter q rs) (filter q rs))) x
+  kept : (b : Bool) → Contains (map (λ (r : Ran). r.response) (filter q rs)) x
+      → Contains (map (λ (r : Ran). r.response) (cond b (r ∷ filter q rs) (filter q rs))) x
   kept true c = there r.response x (map (λ (r : Ran). r.response) (filter q rs)) c
   kept false c = c
 
   heads : (a : List ℕ) (xs : List (List ℕ)) → a ∷ xs ≡ x ∷ [] → a ≡ x
   heads a xs e = cc
 
-  by_test : (map (λ (r : Ran). r.response) (filter p rs) ≡ x ∷ [] → Contains (map (λ (r : Ran). r.response) (filter q rs)) x) → (b : Bool) → p r ≡ b → (c : Bool) → q r ≡ c → map (λ (r : Ran). r.response) (cond (p r) (r ∷ filter p rs) (filter p rs)) ≡ x ∷ [] → Contains (map (λ (r : Ran). r.response) (cond (q r) (r ∷ filter q rs) (filter q rs))) x
+  by_test : (map (λ (r : Ran). r.response) (filter p rs) ≡ x ∷ [] → Contains (map (λ (r : Ran). r.response) (filter q rs)) x) → (b : Bool) → p r ≡ b
+      → (c : Bool) → q r ≡ c → map (λ (r : Ran). r.response) (cond (p r) (r ∷ filter p rs) (filter p rs)) ≡ x ∷ []
+      → Contains (map (λ (r : Ran). r.response) (cond (q r) (r ∷ filter q rs) (filter q rs))) x
   by_test rest true f false g e = absurd (false≢true (sym g ∙ all r f))
   by_test rest true f true g e =
       let first : r.response ≡ x = heads r.response _ (sym (ap (λ b. map (λ (r : Ran). r.response) (cond b (r ∷ filter p rs) (filter p rs))) f) ∙ e) in
       subst (λ b. Contains (map (λ (r : Ran). r.response) (cond b (r ∷ filter q rs) (filter q rs))) x) (sym g)
-      (subst (λ (y : List ℕ). Contains (r.response ∷ map (λ (r : Ran). r.response) (filter q rs)) y) first (here r.response (map (λ (r : Ran). r.response) (filter q rs))))
+      (subst (λ (y : List ℕ). Contains (r.response ∷ map (λ (r : Ran). r.response) (filter q rs)) y) first
+      (here r.response (map (λ (r : Ran). r.response) (filter q rs))))
   by_test rest false f c g e = kept (q r) (rest (sym (ap (λ b. map (λ (r : Ran). r.response) (cond b (r ∷ filter p rs) (filter p rs))) f) ∙ e))
 
-pub among_answers : (v : View) (q : CallId) (server : HostId) (inc : ℕ) (response : List ℕ) → is_server_of v q server ≡ true → IsReplyOf v q server inc response → Contains (answers v q inc) response
+pub among_answers : (v : View) (q : CallId) (server : HostId) (inc : ℕ) (response : List ℕ) → is_server_of v q server ≡ true
+    → IsReplyOf v q server inc response → Contains (answers v q inc) response
 among_answers v q server inc response serves k =
     passes_more (λ (r : Ran). is_call r.id q && is_host r.host server && r.life == k.life) (is_run_in v q inc) pass v.runs response k.gave where
       pass : (r : Ran) → (is_call r.id q && is_host r.host server && r.life == k.life) ≡ true → is_run_in v q inc r ≡ true
@@ -107,6 +123,8 @@ among_answers v q server inc response serves k =
           let first = and_parts (is_call r.id q && is_host r.host server) (r.life == k.life) e in
           let both = and_parts (is_call r.id q) (is_host r.host server) first.0 in
           let at : r.host ≡ server = (hosts_are r.host server).0 both.1 in
-          let told : incarnation v r.host r.life ≡ Some inc = ap (λ (x : HostId). incarnation v x r.life) at ∙ ap (incarnation v server) (eqb-true r.life k.life first.1) ∙ k.told in
+          let told : incarnation v r.host r.life ≡ Some inc =
+          ap (λ (x : HostId). incarnation v x r.life) at ∙ ap (incarnation v server) (eqb-true r.life k.life first.1) ∙ k.told in
           ap (λ b. b && is_server_of v q r.host && option_map_or (λ i. i == inc) (incarnation v r.host r.life) false) both.0
-          ∙ ap (λ b. b && option_map_or (λ i. i == inc) (incarnation v r.host r.life) false) (ap (is_server_of v q) at ∙ serves) ∙ ap (λ o. option_map_or (λ i. i == inc) o false) told ∙ eq-eqb inc inc refl
+          ∙ ap (λ b. b && option_map_or (λ i. i == inc) (incarnation v r.host r.life) false) (ap (is_server_of v q) at ∙ serves)
+          ∙ ap (λ o. option_map_or (λ i. i == inc) o false) told ∙ eq-eqb inc inc refl

@@ -58,7 +58,8 @@ pub record IsAnswered (r : ClientRow) (d : Did ClientRow) : Type 0 where
   pub bare : AllBare d.says
   pub quiet : NoTimeouts d.says
 
-same_row : (r x : ClientRow) → x.out ≡ r.out → x.count ≡ r.count → x.base ≡ r.base → x.seen ≡ r.seen → x.server ≡ r.server → x.service ≡ r.service → x.request ≡ r.request → IsSameRow r x
+same_row : (r x : ClientRow) → x.out ≡ r.out → x.count ≡ r.count → x.base ≡ r.base → x.seen ≡ r.seen → x.server ≡ r.server → x.service ≡ r.service
+    → x.request ≡ r.request → IsSameRow r x
 same_row r x a b c d e f g = record {
   timer = record { top = ap (λ (o : Outgoing). o.top) a; long = ap (λ (o : Outgoing). o.length) a; count = b; base = c };
   seen = d;
@@ -79,10 +80,12 @@ module _ (s : Settings) (m : Moment) (id : CallId) where
       let quiet : NoTimeouts d.says = subst NoTimeouts (sym e) tt in
       let same = (λ (p : Incoming). let y : ClientRow = record r { part = Some p } in same_row r y refl refl refl refl refl refl refl) in
       cond_both (not (part.length == piece.size)) _ _ (IsAnswered r) (λ _. stays r (record r { part = Some part }) _ refl (same part) none bare quiet)
-      (λ _. cond_both (leaves_too_many_gaps part piece.offset piece.payload) _ _ (IsAnswered r) (λ _. stays r (record r { part = Some part }) _ refl (same part) refl tt tt)
+      (λ _. cond_both (leaves_too_many_gaps part piece.offset piece.payload) _ _ (IsAnswered r)
+      (λ _. stays r (record r { part = Some part }) _ refl (same part) refl tt tt)
       (λ _. cond_both (is_whole (with_bytes part piece.offset piece.payload)) _ _ (IsAnswered r)
       (λ _. record { row = λ y e. absurd (none_some y e); bare = tt; quiet = tt })
-      (λ _. stays r (record r { part = Some (with_bytes part piece.offset piece.payload) }) _ refl (same (with_bytes part piece.offset piece.payload)) none bare quiet)))
+      (λ _. stays r (record r { part = Some (with_bytes part piece.offset piece.payload) }) _ refl (same (with_bytes part piece.offset piece.payload))
+      none bare quiet)))
 
   response_answered : (r : ClientRow) (o : Option Incoming) (piece : Piece) → IsAnswered r (response_piece s m id r o piece)
   response_answered r None piece =
@@ -91,30 +94,38 @@ module _ (s : Settings) (m : Moment) (id : CallId) where
   response_answered r (Some part) piece = comes_answered r part piece (keeps m r) refl
 
   -- the request's part changes, but not as far as it was sent
-  out_is : (r : ClientRow) (out : Outgoing) → out.top ≡ r.out.top → out.length ≡ r.out.length → (outgoing.IsSound r.out → outgoing.IsSound out) → IsSameRow r (record r { out = out })
-  out_is r out top long sound = record { timer = record { top = top; long = long; count = refl; base = refl }; seen = refl; called = refl; request = refl; sound = sound }
+  out_is : (r : ClientRow) (out : Outgoing) → out.top ≡ r.out.top → out.length ≡ r.out.length → (outgoing.IsSound r.out → outgoing.IsSound out)
+      → IsSameRow r (record r { out = out })
+  out_is r out top long sound =
+      record { timer = record { top = top; long = long; count = refl; base = refl }; seen = refl; called = refl; request = refl; sound = sound }
 
   granted_out : (p : Outgoing) (end prio : ℕ) → ((outgoing.grant_up_to p end prio).top ≡ p.top) × ((outgoing.grant_up_to p end prio).length ≡ p.length)
-  granted_out p end prio = cond_both (nat_lt p.granted end) _ _ (λ (o : Outgoing). (o.top ≡ p.top) × (o.length ≡ p.length)) (λ _. (refl, refl)) (λ _. (refl, refl))
+  granted_out p end prio =
+      cond_both (nat_lt p.granted end) _ _ (λ (o : Outgoing). (o.top ≡ p.top) × (o.length ≡ p.length)) (λ _. (refl, refl)) (λ _. (refl, refl))
 
-  resent_out : (p : Outgoing) (a b prio : ℕ) → ((outgoing.resend_up_to p a b prio).part.top ≡ p.top) × ((outgoing.resend_up_to p a b prio).part.length ≡ p.length)
-  resent_out p a b prio = cond_both (outgoing.is_busy p a b) _ _ (λ (o : Resent). (o.part.top ≡ p.top) × (o.part.length ≡ p.length)) (λ _. (refl, refl)) (λ _. (refl, refl))
+  resent_out : (p : Outgoing) (a b prio : ℕ) → ((outgoing.resend_up_to p a b prio).part.top ≡ p.top)
+      × ((outgoing.resend_up_to p a b prio).part.length ≡ p.length)
+  resent_out p a b prio =
+      cond_both (outgoing.is_busy p a b) _ _ (λ (o : Resent). (o.part.top ≡ p.top) × (o.part.length ≡ p.length)) (λ _. (refl, refl)) (λ _. (refl, refl))
 
   busy_bare : (a : Answer) → AllBare (busy_for a) × NoTimeouts (busy_for a) × (ends_said (busy_for a) ≡ false)
   busy_bare Busy = ((tt, tt), tt, refl)
   busy_bare Queued = (tt, tt, refl)
 
   pub answered_is : (what : Body) (payload : List ℕ) (r : ClientRow) → IsAnswered r (answered s m id what payload r)
-  answered_is (body.Data size offset version service ack) payload r = response_answered r r.part (record { size = size; offset = offset; version = version; service = service; payload = payload })
+  answered_is (body.Data size offset version service ack) payload r =
+      response_answered r r.part (record { size = size; offset = offset; version = version; service = service; payload = payload })
   answered_is (body.Grant offset prio) payload r =
       let g = granted_out r.out (min offset r.out.length) prio in
       stays r (record r { out = grant r.out offset prio }) _ refl (out_is r (grant r.out offset prio) g.0 g.1 (sound-grant r.out offset prio)) refl tt tt
   answered_is (body.Resend from to prio) payload r =
       let g = resent_out r.out from (min to r.out.length) prio in
       let b = busy_bare (resend r.out from to prio).answer in
-      stays r (record r { out = (resend r.out from to prio).part }) _ refl (out_is r (resend r.out from to prio).part g.0 g.1 (sound-resend r.out from to prio)) b.2 b.0 b.1
+      stays r (record r { out = (resend r.out from to prio).part }) _ refl
+      (out_is r (resend r.out from to prio).part g.0 g.1 (sound-resend r.out from to prio)) b.2 b.0 b.1
   answered_is (body.Unknown reason) payload r =
-      cond_both (reason == 0) _ _ (IsAnswered r) (λ _. stays r (started_over r r.part) _ refl (over r.part) refl tt tt) (λ _. record { row = λ y e. absurd (none_some y e); bare = tt; quiet = tt }) where
+      cond_both (reason == 0) _ _ (IsAnswered r) (λ _. stays r (started_over r r.part) _ refl (over r.part) refl tt tt)
+      (λ _. record { row = λ y e. absurd (none_some y e); bare = tt; quiet = tt }) where
         over : (o : Option Incoming) → IsSameRow r (started_over r o)
         over None = out_is r (restart r.out) refl refl (sound-restart r.out)
         over (Some part) = same_row r r refl refl refl refl refl refl refl

@@ -24,7 +24,8 @@ pub record SameTimer (r x : ClientRow) : Type 0 where
   pub base : x.base ≡ r.base
 
 module _ (s : Settings) where
-  pub fair_same : (last now : ℕ) (r x : ClientRow) (ticks : List ℕ) (all : Bool) → last ≤ now → SameTimer r x → IsFairRow s last r ticks all → IsFairRow s now x ticks all
+  pub fair_same : (last now : ℕ) (r x : ClientRow) (ticks : List ℕ) (all : Bool) → last ≤ now → SameTimer r x → IsFairRow s last r ticks all
+      → IsFairRow s now x ticks all
   fair_same last now r x ticks all le same f = record {
     sent = (λ e. same.top ∙ f.sent.0 e ∙ sym same.long, λ e. f.sent.1 (sym same.top ∙ e ∙ same.long));
     each = f.each ∙ sym same.count;
@@ -35,7 +36,8 @@ module _ (s : Settings) where
   }
 
   -- the call is renewed
-  pub fair_renewed : (last now : ℕ) (r x : ClientRow) (ticks : List ℕ) (all : Bool) → x.out.top ≡ r.out.top → x.out.length ≡ r.out.length → x.count ≡ 0 → x.base ≤ now → IsFairRow s last r ticks all → IsFairRow s now x [] all
+  pub fair_renewed : (last now : ℕ) (r x : ClientRow) (ticks : List ℕ) (all : Bool) → x.out.top ≡ r.out.top → x.out.length ≡ r.out.length
+      → x.count ≡ 0 → x.base ≤ now → IsFairRow s last r ticks all → IsFairRow s now x [] all
   fair_renewed last now r x ticks all top long count base f = record {
     sent = (λ e. top ∙ f.sent.0 e ∙ sym long, λ e. f.sent.1 (sym top ∙ e ∙ long));
     each = sym count;
@@ -48,10 +50,12 @@ module _ (s : Settings) where
     nil_cons t rest e = cc
 
   pub renewed_same : (inc : ℕ) (r : ClientRow) → SameTimer r (renewed inc r)
-  renewed_same inc r = cond_both (nat_lt r.seen inc) _ _ (SameTimer r) (λ _. record { top = refl; long = refl; count = refl; base = refl }) (λ _. record { top = refl; long = refl; count = refl; base = refl })
+  renewed_same inc r = cond_both (nat_lt r.seen inc) _ _ (SameTimer r) (λ _. record { top = refl; long = refl; count = refl; base = refl })
+      (λ _. record { top = refl; long = refl; count = refl; base = refl })
 
   -- a packet that counts comes: all but UNKNOWN renews the call
-  pub fair_heard : (last now inc : ℕ) (what : Body) (r : ClientRow) (ticks : List ℕ) (all : Bool) → last ≤ now → IsFairRow s last r ticks all → IsFairRow s now (refreshed now what (renewed inc r)) (cond (is_unknown what) ticks []) all
+  pub fair_heard : (last now inc : ℕ) (what : Body) (r : ClientRow) (ticks : List ℕ) (all : Bool) → last ≤ now → IsFairRow s last r ticks all
+      → IsFairRow s now (refreshed now what (renewed inc r)) (cond (is_unknown what) ticks []) all
   fair_heard last now inc what r ticks all le f = by_body what where
     x : ClientRow
     x = renewed inc r
@@ -66,14 +70,16 @@ module _ (s : Settings) where
     by_body (body.Unknown reason) = fair_same last now r x ticks all le same f
     by_body body.NeedAck = fair_renewed last now r (refreshed now body.NeedAck x) ticks all same.top same.long refl before f
     by_body (body.Cutoffs cutoffs) = fair_renewed last now r (refreshed now (body.Cutoffs cutoffs) x) ticks all same.top same.long refl before f
-    by_body (body.Data size offset version service ack) = fair_renewed last now r (refreshed now (body.Data size offset version service ack) x) ticks all same.top same.long refl (omega arith) f
+    by_body (body.Data size offset version service ack) =
+        fair_renewed last now r (refreshed now (body.Data size offset version service ack) x) ticks all same.top same.long refl (omega arith) f
     by_body (body.Grant offset prio) = fair_renewed last now r (refreshed now (body.Grant offset prio) x) ticks all same.top same.long refl (omega arith) f
     by_body (body.Resend from to prio) = fair_renewed last now r (refreshed now (body.Resend from to prio) x) ticks all same.top same.long refl (omega arith) f
     by_body body.Busy = fair_renewed last now r (refreshed now body.Busy x) ticks all same.top same.long refl (omega arith) f
     by_body (body.Ack more) = fair_renewed last now r (refreshed now (body.Ack more) x) ticks all same.top same.long refl (omega arith) f
 
   -- each RESEND comes with enough time after the one before
-  pub spaced_more : (r : ClientRow) (ticks : List ℕ) (last now : ℕ) (all : Bool) → IsFairRow s last r ticks all → r.base + s.resend ≤ now → AreSpaced s.resend (now ∷ ticks)
+  pub spaced_more : (r : ClientRow) (ticks : List ℕ) (last now : ℕ) (all : Bool) → IsFairRow s last r ticks all → r.base + s.resend ≤ now
+      → AreSpaced s.resend (now ∷ ticks)
   spaced_more r [] last now all f due = tt
   spaced_more r (t ∷ ticks) last now all f due = (omega (arith, due, f.after t ticks refl), f.spaced)
 
@@ -92,12 +98,14 @@ module _ (s : Settings) where
     or_second true b e = absurd (true≢false e)
     or_second false b e = e
 
-    by_rest : (b : Bool) → is_client_at_rest r ≡ b → unless b (r.base + s.resend) ≡ Some at → (x : Range) × (wanted s r.part ≡ Some x) × (r.base + s.resend ≡ at)
+    by_rest : (b : Bool) → is_client_at_rest r ≡ b → unless b (r.base + s.resend) ≡ Some at
+        → (x : Range) × (wanted s r.part ≡ Some x) × (r.base + s.resend ≡ at)
     by_rest true rest e = absurd (none_some at e)
     by_rest false rest e = let p = by_part r.part (or_second _ (is_response_at_rest r.part) rest) in (p.0, p.1, some_is (r.base + s.resend) at e)
 
   -- it asks again
-  pub fair_asks : (last now at : ℕ) (r : ClientRow) (ticks : List ℕ) (all : Bool) → IsFairRow s last r ticks all → client_deadline s r ≡ Some at → at ≤ now → r.count < s.tries
+  pub fair_asks : (last now at : ℕ) (r : ClientRow) (ticks : List ℕ) (all : Bool) → IsFairRow s last r ticks all → client_deadline s r ≡ Some at
+      → at ≤ now → r.count < s.tries
       → IsFairRow s now (record r { count = r.count + 1; base = now }) (now ∷ ticks) all
   fair_asks last now at r ticks all f deadline over few =
       let due : r.base + s.resend ≡ at = (asks_one r at deadline).2 in
@@ -113,7 +121,8 @@ module _ (s : Settings) where
         heads t rest e = cc
 
   -- or the call times out, unanswered
-  pub fair_fails : (last now at : ℕ) (r : ClientRow) (ticks : List ℕ) (all : Bool) → IsFairRow s last r ticks all → client_deadline s r ≡ Some at → at ≤ now → nat_lt r.count s.tries ≡ false
+  pub fair_fails : (last now at : ℕ) (r : ClientRow) (ticks : List ℕ) (all : Bool) → IsFairRow s last r ticks all → client_deadline s r ≡ Some at
+      → at ≤ now → nat_lt r.count s.tries ≡ false
       → (length ticks ≡ s.tries) × AreSpaced s.resend (now ∷ ticks)
   fair_fails last now at r ticks all f deadline over many =
       let due : r.base + s.resend ≡ at = (asks_one r at deadline).2 in
@@ -121,5 +130,14 @@ module _ (s : Settings) where
       (omega (arith, f.each, f.most, enough), spaced_more r ticks last now all f (omega (arith, due, over)))
 
   -- its GRANT begins the timer anew
-  pub fair_granted : (last now offset : ℕ) (r : ClientRow) (ticks : List ℕ) (all : Bool) → last ≤ now → IsFairRow s last r ticks all → IsFairRow s now (client_granted now offset r) ticks all
-  fair_granted last now offset r ticks all le f = record { sent = f.sent; each = f.each; most = f.most; spaced = f.spaced; after = λ t rest e. omega (arith, f.after t rest e, f.base, le); base = omega arith }
+  pub fair_granted : (last now offset : ℕ) (r : ClientRow) (ticks : List ℕ) (all : Bool) → last ≤ now → IsFairRow s last r ticks all
+      → IsFairRow s now (client_granted now offset r) ticks all
+  fair_granted last now offset r ticks all le f =
+      record {
+        sent = f.sent;
+        each = f.each;
+        most = f.most;
+        spaced = f.spaced;
+        after = λ t rest e. omega (arith, f.after t rest e, f.base, le);
+        base = omega arith;
+      }

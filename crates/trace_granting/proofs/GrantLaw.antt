@@ -1,5 +1,6 @@
 -- Granting, of every trace.
-use Rattle.std.proofs.Common.{◌≡◌, ℕ, ◌+◌, ◌<◌, ◌≤◌, Bool, true, false, not, ◌⊎◌, cond, Some, None, List, [], length, inl, inr, refl, sym, ap, subst, ◌∙◌, arith}
+use Rattle.std.proofs.Common.{◌≡◌, ℕ, ◌+◌, ◌<◌, ◌≤◌, Bool, true, false, not, ◌⊎◌, cond, Some, None, List, [], length, inl, inr, refl, sym, ap, subst}
+use Rattle.std.proofs.Common.{◌∙◌, arith}
 use Rattle.std.specs.Prelude.{slice_get, slice_set}
 use Rattle.std.specs.Option.{option_and_then}
 use Rattle.std.proofs.lemmas.Bool.{false≢true, true≢false, cases_Bool}
@@ -11,7 +12,8 @@ use Rattle.homa_plain.specs.declared.event.Event.{Event}
 use Rattle.homa_plain.specs.declared.event.Event.TheVariants as event
 use Rattle.homa_plain.specs.declared.settings.Settings.{Settings}
 use Rattle.homa_plain.specs.Calls.{is_host, call_cmp}
-use Rattle.homa_plain.specs.Entries.{PlainEntry, PlainSettings, PlainDeliver, PlainClock, PlainRestart, PlainInject, PlainShift, PlainFinished, PlainRefused, PlainStalled}
+use Rattle.homa_plain.specs.Entries.{PlainEntry, PlainSettings, PlainDeliver, PlainClock, PlainRestart, PlainInject, PlainShift, PlainFinished}
+use Rattle.homa_plain.specs.Entries.{PlainRefused, PlainStalled}
 use Rattle.homa_plain.specs.Lines.{is_last}
 use Rattle.homa_plain.specs.Packets.{receiver}
 use Rattle.homa_plain.specs.Parts.{Part}
@@ -65,7 +67,8 @@ module _ (w : World) (host : HostId) (x : Host) (room : host.0 < length w.hosts)
 -- ---- what is so behind a step, and behind a line that leaves the parts
 
 module _ (s : Settings) (w : World) where
-  step_has : (v before : View) (host : HostId) (work : Work) → host.0 < length w.hosts → HasGrants s w before → StepGrants s w v host before work → HasGrants s (after_step w host [] work).world (said_so_far w v work)
+  step_has : (v before : View) (host : HostId) (work : Work) → host.0 < length w.hosts → HasGrants s w before → StepGrants s w v host before work
+      → HasGrants s (after_step w host [] work).world (said_so_far w v work)
   step_has v before host work room g r = record {
     within_all = r.ends.within;
     own = λ n x is. own n x (which w host work.host room n x is);
@@ -77,7 +80,8 @@ module _ (s : Settings) (w : World) where
     own n x (inr e) = g.own n x e.1
 
     orders : (n : HostId) (x : Host) → ((n ≡ host) × (x ≡ work.host)) ⊎ ((n ≡ host → ⊥) × (host_at w n ≡ Some x)) → IsInOrder n x (said_so_far w v work).now
-    orders n x (inl e) = subst (λ (m : HostId). IsInOrder m x (said_so_far w v work).now) (sym e.0) (subst (λ (y : Host). IsInOrder host y (said_so_far w v work).now) (sym e.1) r.ends.aged.order)
+    orders n x (inl e) = subst (λ (m : HostId). IsInOrder m x (said_so_far w v work).now) (sym e.0)
+        (subst (λ (y : Host). IsInOrder host y (said_so_far w v work).now) (sym e.1) r.ends.aged.order)
     orders n x (inr e) = r.ends.aged.elsewhere n x e.0 (g.orders n x e.1)
 
   -- each part stays or vanishes
@@ -100,10 +104,12 @@ module _ (s : Settings) (w : World) where
     pub fewer_order : (n : HostId) (h : Host) → IsInOrder n h v.now → IsInOrder n h u.now
     fewer_order n h k p q a b x y pa qb px qy xh yh = k p q a b x y pa qb (stood p x px) (stood q y qy) xh yh
 
-    pub fewer_placed : v.place ≤ u.place → ((q : Place) (y : Part) → part_in v.now q ≡ Some y → y.order < v.place) → (q : Place) (y : Part) → part_in u.now q ≡ Some y → y.order < u.place
+    pub fewer_placed : v.place ≤ u.place → ((q : Place) (y : Part) → part_in v.now q ≡ Some y → y.order < v.place) → (q : Place) (y : Part)
+        → part_in u.now q ≡ Some y → y.order < u.place
     fewer_placed later k q y is = let t : y.order < v.place = k q y (stood q y is) in omega (arith, t, later)
 
-  pub line_has : (x : World) (v u : View) → x.hosts ≡ w.hosts → ((q : Place) → part_in u.now q ≡ part_in v.now q) → v.place ≤ u.place → HasGrants s w v → HasGrants s x u
+  pub line_has : (x : World) (v u : View) → x.hosts ≡ w.hosts → ((q : Place) → part_in u.now q ≡ part_in v.now q) → v.place ≤ u.place
+      → HasGrants s w v → HasGrants s x u
   line_has x v u hosts same later g = record {
     within_all = fewer_within v u (λ q. inr (same q)) g.within_all;
     own = λ n h is. g.own n h (ap (λ hs. slice_get hs n.0) (sym hosts) ∙ is);
@@ -134,12 +140,15 @@ kept_or_gone m p q = by_test (p q) refl where
   by_test true e = inr (get-kept m p q ∙ ap (λ b. cond b (get m q) None) e)
   by_test false e = inl (get-kept m p q ∙ ap (λ b. cond b (get m q) None) e)
 
-restart_parts : (v : View) (host : HostId) (inc : ℕ) (q : Place) → (part_in (seen v (PlainRestart host inc)).now q ≡ None) ⊎ (part_in (seen v (PlainRestart host inc)).now q ≡ part_in v.now q)
+restart_parts : (v : View) (host : HostId) (inc : ℕ) (q : Place) → (part_in (seen v (PlainRestart host inc)).now q ≡ None)
+    ⊎ (part_in (seen v (PlainRestart host inc)).now q ≡ part_in v.now q)
 unfolding seen
 restart_parts v host inc (OfClient q) = kept_or_gone v.now.responses (λ id. not (is_host id.client host)) q
 restart_parts v host inc (OfServer q) = kept_or_gone v.now.requests (λ id. not (is_server_of v id host)) q
 
-pub line_settings : (v : View) → (((id : HostId) (bytes : List ℕ) → (seen v (PlainInject id bytes)).settings ≡ v.settings) × ((id : HostId) (n : ℕ) → (seen v (PlainShift id n)).settings ≡ v.settings)
+pub line_settings : (v : View)
+    → (((id : HostId) (bytes : List ℕ) → (seen v (PlainInject id bytes)).settings ≡ v.settings)
+    × ((id : HostId) (n : ℕ) → (seen v (PlainShift id n)).settings ≡ v.settings)
     × ((n : ℕ) → (seen v (PlainClock n)).settings ≡ v.settings) × ((id : HostId) (n : ℕ) → (seen v (PlainRestart id n)).settings ≡ v.settings))
 unfolding seen
 line_settings v = (λ id bytes. refl, λ id n. refl, λ n. refl, λ id n. refl)
@@ -189,13 +198,15 @@ record EventGrants (s : Settings) (v : View) (after : After) : Type 0 where
   pub holds : Holds Granting v after.told
   pub has : HasGrants s after.world (seen_all v after.told)
 
-event_grants : (s : Settings) (w : World) (v : View) (e : Event) (bytes : List ℕ) (after : After) → IsSoFar s w v → HasGrants s w v → outcome s w e bytes ≡ Done after → EventGrants s v after
+event_grants : (s : Settings) (w : World) (v : View) (e : Event) (bytes : List ℕ) (after : After) → IsSoFar s w v → HasGrants s w v
+    → outcome s w e bytes ≡ Done after → EventGrants s v after
 unfolding outcome
 event_grants s w v (event.Call client server number) bytes after so g e =
     let c = call_done s w after client server number bytes e in
     let r = call_grants s w v client c.host c.stands so.0 so.1 so.2 so.3 g server number bytes (some_within w.hosts server.0 c.other) in
     let has = step_has s w v v client _ (within w.hosts client.0 c.host c.stands) g r in
-    subst (EventGrants s v) (sym c.is) (record { holds = r.ends.holds; has = record { within_all = has.within_all; own = has.own; orders = has.orders; placed = has.placed } })
+    subst (EventGrants s v) (sym c.is)
+    (record { holds = r.ends.holds; has = record { within_all = has.within_all; own = has.own; orders = has.orders; placed = has.placed } })
 event_grants s w v (event.Deliver n) bytes after so g e =
     let c = deliver_done s w after n e in
     let host : HostId = receiver c.sent.packet in
@@ -218,7 +229,8 @@ event_grants s w v (event.Turn host) bytes after so g e =
     let c = turn_done s w after host (host_at w host) refl e in
     let r = turn_grants s w v host c.host c.stands so.0 so.1 so.2 so.3 g in
     let has = step_has s w v v host _ (within w.hosts host.0 c.host c.stands) g r in
-    subst (EventGrants s v) (sym c.is) (record { holds = r.ends.holds; has = record { within_all = has.within_all; own = has.own; orders = has.orders; placed = has.placed } })
+    subst (EventGrants s v) (sym c.is)
+    (record { holds = r.ends.holds; has = record { within_all = has.within_all; own = has.own; orders = has.orders; placed = has.placed } })
 event_grants s w v (event.Restart host) bytes after so g e =
     let c = restart_done s w after host (host_at w host) w.spares refl refl e in
     let u : View = seen v (PlainRestart host (c.host.inc + 1)) in
@@ -233,7 +245,8 @@ event_grants s w v (event.Inject host) bytes after so g e =
     let u : View = seen v line in
     let next : u.place ≡ v.place + 1 = line_place v line in
     let told_line = told_view s w v u (inject_same v host bytes) so.0 in
-    let true_line = line_true s w w v line tt tt (inject_fresh v host bytes) refl (λ q m. (w.clock, (stand w v q m).last, (stand w v q m).old, still_stand w v line tt (inject_calls v host bytes) q m)) so.2 in
+    let true_line = line_true s w w v line tt tt (inject_fresh v host bytes) refl
+    (λ q m. (w.clock, (stand w v q m).last, (stand w v q m).old, still_stand w v line tt (inject_calls v host bytes) q m)) so.2 in
     let served : AreServed w u = λ q x f. so.3 q x (ap (λ m. get m q) (sym (inject_calls v host bytes)) ∙ f) in
     let here = line_has s w w v u refl (inject_parts v host bytes) (omega (arith, next)) g in
     let all = inject_within s v host bytes (so.0).settings g.within_all in
@@ -263,9 +276,11 @@ no_parts s clock (OfClient q) = get-empty call_cmp q
 no_parts s clock (OfServer q) = get-empty call_cmp q
 
 opened_within : (s : Settings) (clock : ℕ) → PartsWithin s.window (seen (at_start clock) (PlainSettings s)).now
-opened_within s clock id = (subst (IsBoundedAt s.window) (sym (no_parts s clock (OfServer id))) tt, subst (IsBoundedAt s.window) (sym (no_parts s clock (OfClient id))) tt)
+opened_within s clock id =
+    (subst (IsBoundedAt s.window) (sym (no_parts s clock (OfServer id))) tt, subst (IsBoundedAt s.window) (sym (no_parts s clock (OfClient id))) tt)
 
-pub opened_grants : (s : Settings) (incs : List ℕ) (clock boxes : ℕ) (answers : List Answer) → HasGrants s (new_world s incs clock boxes answers) (seen (at_start clock) (PlainSettings s))
+pub opened_grants : (s : Settings) (incs : List ℕ) (clock boxes : ℕ) (answers : List Answer)
+    → HasGrants s (new_world s incs clock boxes answers) (seen (at_start clock) (PlainSettings s))
 unfolding new_world
 opened_grants s incs clock boxes answers = record {
   within_all = opened_within s clock;
@@ -293,5 +308,6 @@ last_granting s v line same k e = absurd (false≢true e)
 
 pub granting_always : HoldsAlways Granting
 granting_always =
-    always IsGrantingSoFar Granting (λ s incs clock boxes opening. first_granting s clock) (λ s incs clock boxes answers opening. (opened_so s incs clock boxes answers opening, opened_grants s incs clock boxes answers)) event_granting
+    always IsGrantingSoFar Granting (λ s incs clock boxes opening. first_granting s clock)
+    (λ s incs clock boxes answers opening. (opened_so s incs clock boxes answers opening, opened_grants s incs clock boxes answers)) event_granting
     (λ s w v line so e. last_granting s v line (so.0.0).settings so.1.within_all e)

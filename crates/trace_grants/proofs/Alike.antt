@@ -19,7 +19,8 @@ module _ {X : Type 0} (f g : X → ℕ × ℕ) where
 
   placed_alike : (x : X) (ys : List X) → AgreeWith x ys → placed f x ys ≡ placed g x ys
   placed_alike x [] all = refl
-  placed_alike x (y ∷ ys) all = ap (λ b. cond b (x ∷ y ∷ ys) (y ∷ placed f x ys)) all.0 ∙ ap (λ zs. cond (is_below (g x) (g y)) (x ∷ y ∷ ys) (y ∷ zs)) (placed_alike x ys all.1)
+  placed_alike x (y ∷ ys) all =
+      ap (λ b. cond b (x ∷ y ∷ ys) (y ∷ placed f x ys)) all.0 ∙ ap (λ zs. cond (is_below (g x) (g y)) (x ∷ y ∷ ys) (y ∷ zs)) (placed_alike x ys all.1)
 
   -- so both put things in one order
   pub ordered_alike : (xs : List X) → Agree xs → ordered f xs ≡ ordered g xs
@@ -44,10 +45,13 @@ module _ {X : Type 0} (m n : X → Message) where
   firsts_alike (x ∷ xs) same =
       ap (λ zs. x ∷ not_of (λ x. choice.sender (m x)) (choice.sender (m x)) zs) (firsts_alike xs same.1)
       ∙ ap (λ zs. x ∷ zs)
-      (not_alike (firsts (λ x. choice.sender (n x)) xs) (choice.sender (m x)) (firsts-all (λ x. choice.sender (n x)) (λ x. choice.sender (m x) ≡ choice.sender (n x)) xs same.1) ∙ ap (λ k. not_of (λ x. choice.sender (n x)) k (firsts (λ x. choice.sender (n x)) xs)) same.0)
+      (not_alike (firsts (λ x. choice.sender (n x)) xs) (choice.sender (m x))
+      (firsts-all (λ x. choice.sender (n x)) (λ x. choice.sender (m x) ≡ choice.sender (n x)) xs same.1)
+      ∙ ap (λ k. not_of (λ x. choice.sender (n x)) k (firsts (λ x. choice.sender (n x)) xs)) same.0)
 
   -- the chosen are the same, where senders are, and keys tell alike which comes first
   pub chosen_alike : (k : ℕ) (xs : List X) → SendersSame xs → Agree (λ x. choice_key (m x)) (λ x. choice_key (n x)) xs → chosen m k xs ≡ chosen n k xs
   chosen_alike k xs same agree =
       ap (λ ys. take k (firsts (λ x. choice.sender (m x)) ys)) (ordered_alike (λ x. choice_key (m x)) (λ x. choice_key (n x)) xs agree)
-      ∙ ap (take k) (firsts_alike (ordered (λ x. choice_key (n x)) xs) (ordered-all (λ x. choice_key (n x)) (λ x. choice.sender (m x) ≡ choice.sender (n x)) xs same))
+      ∙ ap (take k) (firsts_alike (ordered (λ x. choice_key (n x)) xs)
+      (ordered-all (λ x. choice_key (n x)) (λ x. choice.sender (m x) ≡ choice.sender (n x)) xs same))

@@ -42,40 +42,51 @@ pub record IsRaised (offset : ℕ) (x y : Part) : Type 0 where
 pub raised_is : (from to : HostId) (offset : ℕ) (x : Part) → IsRaised offset x (raised from to offset x)
 raised_is from to offset x =
     cond_both (is_host x.host from && is_host x.peer to && is_message x) _ _ (IsRaised offset x)
-    (λ _. record { host = refl; peer = refl; long = refl; arrived = refl; order = refl; granted = omega arith }) (λ _. record { host = refl; peer = refl; long = refl; arrived = refl; order = refl; granted = omega arith })
+    (λ _. record { host = refl; peer = refl; long = refl; arrived = refl; order = refl; granted = omega arith })
+    (λ _. record { host = refl; peer = refl; long = refl; arrived = refl; order = refl; granted = omega arith })
 
 -- where the hosts are the message's, it is raised
-raised_here : (from to : HostId) (offset : ℕ) (x : Part) → x.host ≡ from → x.peer ≡ to → is_message x ≡ true → (raised from to offset x).granted ≡ max x.granted offset
+raised_here : (from to : HostId) (offset : ℕ) (x : Part) → x.host ≡ from → x.peer ≡ to → is_message x ≡ true
+    → (raised from to offset x).granted ≡ max x.granted offset
 raised_here from to offset x a b c =
     ap (λ t. (cond (t && is_host x.peer to && is_message x) (record x { granted = max x.granted offset }) x).granted) ((hosts_are x.host from).1 a)
-    ∙ ap (λ t. (cond (t && is_message x) (record x { granted = max x.granted offset }) x).granted) ((hosts_are x.peer to).1 b) ∙ ap (λ t. (cond t (record x { granted = max x.granted offset }) x).granted) c
+    ∙ ap (λ t. (cond (t && is_message x) (record x { granted = max x.granted offset }) x).granted) ((hosts_are x.peer to).1 b)
+    ∙ ap (λ t. (cond t (record x { granted = max x.granted offset }) x).granted) c
 
 -- a line raises the granted end of one place's message, and leaves all other parts
 pub record RaisesAt (place : Place) (change : Part → Part) (m n : Progress) : Type 0 where
   pub here : part_in n place ≡ option_map change (part_in m place)
   pub others : (q : Place) → (q ≡ place → ⊥) → part_in n q ≡ part_in m q
 
-pub request_raises : (v : View) (n : ℕ) (p : Packet) (offset prio : ℕ) → p.role ≡ Server → p.body ≡ body.Grant offset prio → RaisesAt (OfServer p.id) (raised (sender p) (receiver p) offset) v.now (seen v (send_line n p)).now
+pub request_raises : (v : View) (n : ℕ) (p : Packet) (offset prio : ℕ) → p.role ≡ Server → p.body ≡ body.Grant offset prio
+    → RaisesAt (OfServer p.id) (raised (sender p) (receiver p) offset) v.now (seen v (send_line n p)).now
 request_raises v n p offset prio role what = record {
-  here = (request_granted v n p offset prio p.id role what).0 ∙ ap (λ b. cond b (option_map (raised (sender p) (receiver p) offset) (get v.now.requests p.id)) (get v.now.requests p.id)) ((calls_are p.id p.id).1 refl);
+  here = (request_granted v n p offset prio p.id role what).0
+      ∙ ap (λ b. cond b (option_map (raised (sender p) (receiver p) offset) (get v.now.requests p.id)) (get v.now.requests p.id))
+      ((calls_are p.id p.id).1 refl);
   others = other;
 } where
   other : (q : Place) → (q ≡ OfServer p.id → ⊥) → part_in (seen v (send_line n p)).now q ≡ part_in v.now q
   other (OfClient q) apart = (request_granted v n p offset prio q role what).1
   other (OfServer q) apart =
       (request_granted v n p offset prio q role what).0
-      ∙ ap (λ b. cond b (option_map (raised (sender p) (receiver p) offset) (get v.now.requests q)) (get v.now.requests q)) (false_from_ne_true (is_call q p.id) (λ t. apart (ap OfServer ((calls_are q p.id).0 t))))
+      ∙ ap (λ b. cond b (option_map (raised (sender p) (receiver p) offset) (get v.now.requests q)) (get v.now.requests q))
+      (false_from_ne_true (is_call q p.id) (λ t. apart (ap OfServer ((calls_are q p.id).0 t))))
 
-pub response_raises : (v : View) (n : ℕ) (p : Packet) (offset prio : ℕ) → p.role ≡ Client → p.body ≡ body.Grant offset prio → RaisesAt (OfClient p.id) (raised (sender p) (receiver p) offset) v.now (seen v (send_line n p)).now
+pub response_raises : (v : View) (n : ℕ) (p : Packet) (offset prio : ℕ) → p.role ≡ Client → p.body ≡ body.Grant offset prio
+    → RaisesAt (OfClient p.id) (raised (sender p) (receiver p) offset) v.now (seen v (send_line n p)).now
 response_raises v n p offset prio role what = record {
-  here = (response_granted v n p offset prio p.id role what).0 ∙ ap (λ b. cond b (option_map (raised (sender p) (receiver p) offset) (get v.now.responses p.id)) (get v.now.responses p.id)) ((calls_are p.id p.id).1 refl);
+  here = (response_granted v n p offset prio p.id role what).0
+      ∙ ap (λ b. cond b (option_map (raised (sender p) (receiver p) offset) (get v.now.responses p.id)) (get v.now.responses p.id))
+      ((calls_are p.id p.id).1 refl);
   others = other;
 } where
   other : (q : Place) → (q ≡ OfClient p.id → ⊥) → part_in (seen v (send_line n p)).now q ≡ part_in v.now q
   other (OfServer q) apart = (response_granted v n p offset prio q role what).1
   other (OfClient q) apart =
       (response_granted v n p offset prio q role what).0
-      ∙ ap (λ b. cond b (option_map (raised (sender p) (receiver p) offset) (get v.now.responses q)) (get v.now.responses q)) (false_from_ne_true (is_call q p.id) (λ t. apart (ap OfClient ((calls_are q p.id).0 t))))
+      ∙ ap (λ b. cond b (option_map (raised (sender p) (receiver p) offset) (get v.now.responses q)) (get v.now.responses q))
+      (false_from_ne_true (is_call q p.id) (λ t. apart (ap OfClient ((calls_are q p.id).0 t))))
 
 -- ---- places, one or another
 
@@ -103,7 +114,8 @@ pub record IsFromPart (offset : ℕ) (m : Progress) (place : Place) (y : Part) :
   pub stands : part_in m place ≡ Some part
   pub same : IsRaised offset part y
 
-part_before : (from to : HostId) (offset : ℕ) (at : Place) (m n : Progress) → RaisesAt at (raised from to offset) m n → (q : Place) (y : Part) → part_in n q ≡ Some y → IsFromPart offset m q y
+part_before : (from to : HostId) (offset : ℕ) (at : Place) (m n : Progress) → RaisesAt at (raised from to offset) m n → (q : Place) (y : Part)
+    → part_in n q ≡ Some y → IsFromPart offset m q y
 part_before from to offset at m n r q y is = by_place (same_place q at) where
   some : (o : Option Part) → part_in m at ≡ o → option_map (raised from to offset) o ≡ Some y → IsFromPart offset m at y
   some None e f = absurd (none_some y f)
@@ -111,14 +123,20 @@ part_before from to offset at m n r q y is = by_place (same_place q at) where
 
   by_place : (q ≡ at) ⊎ (q ≡ at → ⊥) → IsFromPart offset m q y
   by_place (inl same) = subst (λ (z : Place). IsFromPart offset m z y) (sym same) (some (part_in m at) refl (sym r.here ∙ ap (part_in n) (sym same) ∙ is))
-  by_place (inr other) = record { part = y; stands = sym (r.others q other) ∙ is; same = record { host = refl; peer = refl; long = refl; arrived = refl; order = refl; granted = omega arith } }
+  by_place (inr other) =
+      record {
+        part = y;
+        stands = sym (r.others q other) ∙ is;
+        same = record { host = refl; peer = refl; long = refl; arrived = refl; order = refl; granted = omega arith };
+      }
 
 -- ---- the lines keep the messages of the host at the step's start
 
 message_same : (x y : Part) → y.arrived ≡ x.arrived → y.length ≡ x.length → is_message y ≡ is_message x
 message_same x y a b i = nat_lt 0 (len (a i)) && not (len (a i) == b i)
 
-pub matched_raised : (h : Host) (host from to : HostId) (offset : ℕ) (at : Place) (m n : Progress) → RaisesAt at (raised from to offset) m n → IsMatched h host m → IsMatched h host n
+pub matched_raised : (h : Host) (host from to : HostId) (offset : ℕ) (at : Place) (m n : Progress) → RaisesAt at (raised from to offset) m n
+    → IsMatched h host m → IsMatched h host n
 matched_raised h host from to offset at m n r k = record {
   forth = λ place a stands. forth place a (k.forth place a stands);
   back = λ place y is mine message.
@@ -127,13 +145,15 @@ matched_raised h host from to offset at m n r k = record {
   orders = λ p q a b x y ast bt xt yt.
       let c = part_before from to offset at m n r p x xt in
       let d = part_before from to offset at m n r q y yt in
-      k.orders p q a b c.part d.part ast bt c.stands d.stands ∙ ap (λ (z : ℕ). nat_lt z d.part.order) (sym c.same.order) ∙ ap (nat_lt x.order) (sym d.same.order);
+      k.orders p q a b c.part d.part ast bt c.stands d.stands ∙ ap (λ (z : ℕ). nat_lt z d.part.order) (sym c.same.order)
+      ∙ ap (nat_lt x.order) (sym d.same.order);
   own = k.own;
 } where
   forth : (place : Place) (a : Message) → IsSeenAs host m place a → IsSeenAs host n place a
   forth place a s = by_place (same_place place at) where
     by_place : (place ≡ at) ⊎ (place ≡ at → ⊥) → IsSeenAs host n place a
-    by_place (inr other) = record { part = s.part; stands = r.others place other ∙ s.stands; at = s.at; peer = s.peer; long = s.long; arrived = s.arrived; message = s.message }
+    by_place (inr other) =
+        record { part = s.part; stands = r.others place other ∙ s.stands; at = s.at; peer = s.peer; long = s.long; arrived = s.arrived; message = s.message }
     by_place (inl same) =
         let y : Part = raised from to offset s.part in
         let e = raised_is from to offset s.part in
@@ -149,8 +169,10 @@ matched_raised h host from to offset at m n r k = record {
 
 -- ---- one GRANT
 
-module _ (s : Settings) (h : Host) (host : HostId) (u : View) (n : ℕ) (k : IsMatched h host u.now) (near : NowWithin s u) (g : Granted Arriving) (c : Contains (grants_of s h) g) (p : Packet)
-    (role : p.role ≡ role_at g.to.place) (call : p.id ≡ call_at g.to.place) (what : p.body ≡ body.Grant g.offset g.prio) (by : sender p ≡ host) (to : receiver p ≡ g.to.message.peer)
+module _ (s : Settings) (h : Host) (host : HostId) (u : View) (n : ℕ) (k : IsMatched h host u.now) (near : NowWithin s u) (g : Granted Arriving)
+    (c : Contains (grants_of s h) g) (p : Packet)
+    (role : p.role ≡ role_at g.to.place) (call : p.id ≡ call_at g.to.place) (what : p.body ≡ body.Grant g.offset g.prio) (by : sender p ≡ host)
+    (to : receiver p ≡ g.to.message.peer)
     (raises : RaisesAt g.to.place (raised (sender p) (receiver p) g.offset) u.now (seen u (send_line n p)).now) where
   abbrev u' : View
   u' = seen u (send_line n p)
@@ -169,8 +191,12 @@ module _ (s : Settings) (h : Host) (host : HostId) (u : View) (n : ℕ) (k : IsM
   unfolding allowed
   is_allowed same =
       let listed = grant_allowed h host u.now k s.overcommit s.window g c x seen_there.stands same in
-      let by_settings = subst (λ (t : Settings). Contains (map lines.told (grants lines.message t.overcommit t.window (lines.incoming u.now host))) (record { to = x.peer; role = role_at g.to.place; id = call_at g.to.place; offset = g.offset; prio = g.prio })) (sym near.settings) listed in
-      let by_host = subst (λ (y : HostId). Contains (map lines.told (grants lines.message u.settings.overcommit u.settings.window (lines.incoming u.now y))) (record { to = x.peer; role = role_at g.to.place; id = call_at g.to.place; offset = g.offset; prio = g.prio })) (sym by) by_settings in
+      let by_settings =
+      subst (λ (t : Settings). Contains (map lines.told (grants lines.message t.overcommit t.window (lines.incoming u.now host)))
+      (record { to = x.peer; role = role_at g.to.place; id = call_at g.to.place; offset = g.offset; prio = g.prio })) (sym near.settings) listed in
+      let by_host = subst
+      (λ (y : HostId). Contains (map lines.told (grants lines.message u.settings.overcommit u.settings.window (lines.incoming u.now y)))
+      (record { to = x.peer; role = role_at g.to.place; id = call_at g.to.place; offset = g.offset; prio = g.prio })) (sym by) by_settings in
       let by_peer : x.peer ≡ receiver p = seen_there.peer ∙ sym to in
       subst (IsAllowed u (sender p) (receiver p) p.role p.id) (sym what)
       (subst (Contains (map lines.told (grants lines.message u.settings.overcommit u.settings.window (lines.incoming u.now (sender p)))))
@@ -212,5 +238,6 @@ module _ (s : Settings) (h : Host) (host : HostId) (u : View) (n : ℕ) (k : IsM
   granted_end same y is =
       let z : Part = raised (sender p) (receiver p) g.offset x in
       let e : z ≡ y = some_is z y (sym (raises.here ∙ ap (option_map (raised (sender p) (receiver p) g.offset)) seen_there.stands) ∙ is) in
-      let top : z.granted ≡ max x.granted g.offset = raised_here (sender p) (receiver p) g.offset x (seen_there.at ∙ sym by) (seen_there.peer ∙ sym to) seen_there.message in
+      let top : z.granted ≡ max x.granted g.offset =
+      raised_here (sender p) (receiver p) g.offset x (seen_there.at ∙ sym by) (seen_there.peer ∙ sym to) seen_there.message in
       ap (λ (t : Part). t.granted) (sym e) ∙ top ∙ (let m : max x.granted g.offset ≡ g.offset = omega (arith, same, stood.more) in m)

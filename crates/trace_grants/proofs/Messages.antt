@@ -39,15 +39,21 @@ arrival_stands h a c = all_at (λ (x : Arriving). IsArrivingAt h x.message x.pla
 
 pub stands_arrival : (h : Host) (place : Place) (m : Message) → IsArrivingAt h m place → Contains (arrivals h) (record { place = place; message = m })
 stands_arrival h (OfClient id) m a =
-    Contains-append_left (flat_map (λ (e : CallId × ClientRow). arriving_at_client e.0 e.1.part) (entries h.clients)) (flat_map (λ (e : CallId × ServerRow). arriving_at_server e.0 e.1.state) (entries h.servers)) _
-    (in_flat (λ (e : CallId × ClientRow). arriving_at_client e.0 e.1.part) (entries h.clients) (id, a.row) _ (entry-get call_total call_same h.clients id a.row a.stands)
+    Contains-append_left (flat_map (λ (e : CallId × ClientRow). arriving_at_client e.0 e.1.part) (entries h.clients))
+    (flat_map (λ (e : CallId × ServerRow). arriving_at_server e.0 e.1.state) (entries h.servers)) _
+    (in_flat (λ (e : CallId × ClientRow). arriving_at_client e.0 e.1.part) (entries h.clients) (id, a.row) _
+    (entry-get call_total call_same h.clients id a.row a.stands)
     (subst (λ o. Contains (arriving_at_client id o) (record { place = OfClient id; message = m })) (sym a.has)
-    (subst (λ (x : Message). Contains (arriving_at_client id (Some a.part)) (record { place = OfClient id; message = x })) (sym a.message) (here (record { place = OfClient id; message = seen a.part }) []))))
+    (subst (λ (x : Message). Contains (arriving_at_client id (Some a.part)) (record { place = OfClient id; message = x })) (sym a.message)
+    (here (record { place = OfClient id; message = seen a.part }) []))))
 stands_arrival h (OfServer id) m a =
-    Contains-append_right (flat_map (λ (e : CallId × ClientRow). arriving_at_client e.0 e.1.part) (entries h.clients)) (flat_map (λ (e : CallId × ServerRow). arriving_at_server e.0 e.1.state) (entries h.servers)) _
-    (in_flat (λ (e : CallId × ServerRow). arriving_at_server e.0 e.1.state) (entries h.servers) (id, a.row) _ (entry-get call_total call_same h.servers id a.row a.stands)
+    Contains-append_right (flat_map (λ (e : CallId × ClientRow). arriving_at_client e.0 e.1.part) (entries h.clients))
+    (flat_map (λ (e : CallId × ServerRow). arriving_at_server e.0 e.1.state) (entries h.servers)) _
+    (in_flat (λ (e : CallId × ServerRow). arriving_at_server e.0 e.1.state) (entries h.servers) (id, a.row) _
+    (entry-get call_total call_same h.servers id a.row a.stands)
     (subst (λ o. Contains (arriving_at_server id o) (record { place = OfServer id; message = m })) (sym a.state)
-    (subst (λ (x : Message). Contains (arriving_at_server id (Receiving a.service a.part a.base a.count)) (record { place = OfServer id; message = x })) (sym a.message) (here (record { place = OfServer id; message = seen a.part }) []))))
+    (subst (λ (x : Message). Contains (arriving_at_server id (Receiving a.service a.part a.base a.count))
+    (record { place = OfServer id; message = x })) (sym a.message) (here (record { place = OfServer id; message = seen a.part }) []))))
 
 -- ---- lists
 
@@ -83,7 +89,8 @@ in_filter p (y ∷ ys) x c e = by_test (p y) refl (at_head y x ys c) (λ d. in_f
 pub of_filter : {X : Type 0} (p : X → Bool) (xs : List X) (x : X) → Contains (filter p xs) x → Contains xs x × (p x ≡ true)
 of_filter p [] x c = absurd (none_in x c)
 of_filter p (y ∷ ys) x c = by_test (p y) refl c (λ d. of_filter p ys x d) where
-  by_test : (b : Bool) → p y ≡ b → Contains (cond b (y ∷ filter p ys) (filter p ys)) x → (Contains (filter p ys) x → Contains ys x × (p x ≡ true)) → Contains (y ∷ ys) x × (p x ≡ true)
+  by_test : (b : Bool) → p y ≡ b → Contains (cond b (y ∷ filter p ys) (filter p ys)) x → (Contains (filter p ys) x → Contains ys x × (p x ≡ true))
+      → Contains (y ∷ ys) x × (p x ≡ true)
   by_test true f d rest = elim (at_head y x (filter p ys) d) as (λ _. Contains (y ∷ ys) x × (p x ≡ true)) [
     | inl same ↦ (subst (Contains (y ∷ ys)) same (here y ys), ap p (sym same) ∙ f)
     | inr later ↦ let r = rest later in (there y x ys r.0, r.1)
@@ -110,32 +117,42 @@ pub record IsLined (m : Progress) (host : HostId) (x : lines.Arriving) : Type 0 
 abbrev as_arriving : Role → CallId × Part → lines.Arriving
 as_arriving role e = record { role = role; id = e.0; part = e.1 }
 
-entry_lined : (m : Progress) (host : HostId) (x : lines.Arriving) → Contains (lines.arriving Server m.requests ++ lines.arriving Client m.responses) x → part_in m (place_of x.role x.id) ≡ Some x.part
-entry_lined m host x c = elim (Contains-append_cases (lines.arriving Server m.requests) (lines.arriving Client m.responses) x c) as (λ _. part_in m (place_of x.role x.id) ≡ Some x.part) [
-  | inl request ↦ let r = of_map (as_arriving Server) (entries m.requests) x request in
-      subst (λ (y : lines.Arriving). part_in m (place_of y.role y.id) ≡ Some y.part) r.made (get-entry call_total call_same m.requests r.from.0 r.from.1 r.listed)
-  | inr response ↦ let r = of_map (as_arriving Client) (entries m.responses) x response in
-      subst (λ (y : lines.Arriving). part_in m (place_of y.role y.id) ≡ Some y.part) r.made (get-entry call_total call_same m.responses r.from.0 r.from.1 r.listed)
-]
+entry_lined : (m : Progress) (host : HostId) (x : lines.Arriving) → Contains (lines.arriving Server m.requests ++ lines.arriving Client m.responses) x
+    → part_in m (place_of x.role x.id) ≡ Some x.part
+entry_lined m host x c = elim (Contains-append_cases (lines.arriving Server m.requests) (lines.arriving Client m.responses) x c) as
+    (λ _. part_in m (place_of x.role x.id) ≡ Some x.part) [
+      | inl request ↦ let r = of_map (as_arriving Server) (entries m.requests) x request in
+          subst (λ (y : lines.Arriving). part_in m (place_of y.role y.id) ≡ Some y.part) r.made
+          (get-entry call_total call_same m.requests r.from.0 r.from.1 r.listed)
+      | inr response ↦ let r = of_map (as_arriving Client) (entries m.responses) x response in
+          subst (λ (y : lines.Arriving). part_in m (place_of y.role y.id) ≡ Some y.part) r.made
+          (get-entry call_total call_same m.responses r.from.0 r.from.1 r.listed)
+    ]
 
 pub lined : (m : Progress) (host : HostId) (x : lines.Arriving) → Contains (lines.incoming m host) x → IsLined m host x
 lined m host x c =
-    let f = of_filter (λ (y : lines.Arriving). is_host y.part.host host && is_message y.part) (lines.arriving Server m.requests ++ lines.arriving Client m.responses) x c in
+    let f = of_filter (λ (y : lines.Arriving). is_host y.part.host host && is_message y.part)
+    (lines.arriving Server m.requests ++ lines.arriving Client m.responses) x c in
     let b = and_parts (is_host x.part.host host) (is_message x.part) f.1 in
     record { stands = entry_lined m host x f.0; at = b.0; message = b.1 }
 
 pub lined_in : (m : Progress) (host : HostId) (x : lines.Arriving) → IsLined m host x → Contains (lines.incoming m host) x
 lined_in m host x l =
-    in_filter (λ (y : lines.Arriving). is_host y.part.host host && is_message y.part) (lines.arriving Server m.requests ++ lines.arriving Client m.responses) x (by_role x.role refl)
+    in_filter (λ (y : lines.Arriving). is_host y.part.host host && is_message y.part)
+    (lines.arriving Server m.requests ++ lines.arriving Client m.responses) x (by_role x.role refl)
     (and_from (is_host x.part.host host) (is_message x.part) l.at l.message) where
       by_role : (role : Role) → x.role ≡ role → Contains (lines.arriving Server m.requests ++ lines.arriving Client m.responses) x
       by_role Server r =
           let y : lines.Arriving = record { role = Server; id = x.id; part = x.part } in
-          subst (Contains (lines.arriving Server m.requests ++ lines.arriving Client m.responses)) (ap (λ (role : Role). let z : lines.Arriving = record { role = role; id = x.id; part = x.part } in z) (sym r))
+          subst (Contains (lines.arriving Server m.requests ++ lines.arriving Client m.responses))
+          (ap (λ (role : Role). let z : lines.Arriving = record { role = role; id = x.id; part = x.part } in z) (sym r))
           (Contains-append_left (lines.arriving Server m.requests) (lines.arriving Client m.responses) y
-          (in_map (as_arriving Server) (entries m.requests) (x.id, x.part) (entry-get call_total call_same m.requests x.id x.part (sym (ap (λ (role : Role). part_in m (place_of role x.id)) r) ∙ l.stands))))
+          (in_map (as_arriving Server) (entries m.requests) (x.id, x.part)
+          (entry-get call_total call_same m.requests x.id x.part (sym (ap (λ (role : Role). part_in m (place_of role x.id)) r) ∙ l.stands))))
       by_role Client r =
           let y : lines.Arriving = record { role = Client; id = x.id; part = x.part } in
-          subst (Contains (lines.arriving Server m.requests ++ lines.arriving Client m.responses)) (ap (λ (role : Role). let z : lines.Arriving = record { role = role; id = x.id; part = x.part } in z) (sym r))
+          subst (Contains (lines.arriving Server m.requests ++ lines.arriving Client m.responses))
+          (ap (λ (role : Role). let z : lines.Arriving = record { role = role; id = x.id; part = x.part } in z) (sym r))
           (Contains-append_right (lines.arriving Server m.requests) (lines.arriving Client m.responses) y
-          (in_map (as_arriving Client) (entries m.responses) (x.id, x.part) (entry-get call_total call_same m.responses x.id x.part (sym (ap (λ (role : Role). part_in m (place_of role x.id)) r) ∙ l.stands))))
+          (in_map (as_arriving Client) (entries m.responses) (x.id, x.part)
+          (entry-get call_total call_same m.responses x.id x.part (sym (ap (λ (role : Role). part_in m (place_of role x.id)) r) ∙ l.stands))))

@@ -50,12 +50,14 @@ module _ (s : Settings) (m : Moment) (id : CallId) where
   runs_other : (service : ℕ) (request : List ℕ) (answer : Answer) (row : ServerRow) (d : Did ServerRow) → IsOther (runs s m id service request answer row d)
   runs_other service request answer row d = cond_both (answer.hold == 0) _ _ (λ (x : Did ServerRow). IsOther x) (λ _. tt) (λ _. tt)
 
-  comes_other : (service : ℕ) (part : Incoming) (row : ServerRow) (piece : Piece) (answer : Answer) (d : Did ServerRow) → IsOther d → IsOther (piece_comes s m id service part row piece answer d)
+  comes_other : (service : ℕ) (part : Incoming) (row : ServerRow) (piece : Piece) (answer : Answer) (d : Did ServerRow) → IsOther d
+      → IsOther (piece_comes s m id service part row piece answer d)
   comes_other service part row piece answer d before =
       cond_both (not (part.length == piece.size) || not (service == piece.service)) _ _ (λ (x : Did ServerRow). IsOther x) (λ _. before)
       (λ _. cond_both (leaves_too_many_gaps part piece.offset piece.payload) _ _ (λ (x : Did ServerRow). IsOther x) (λ _. tt)
       (λ _. cond_both (is_whole (with_bytes part piece.offset piece.payload)) _ _ (λ (x : Did ServerRow). IsOther x)
-      (λ _. runs_other service (incoming.message (with_bytes part piece.offset piece.payload)) answer row (record d { version = version_of piece })) (λ _. before)))
+      (λ _. runs_other service (incoming.message (with_bytes part piece.offset piece.payload)) answer row (record d { version = version_of piece }))
+      (λ _. before)))
 
   opens_other : (piece : Piece) (answer : Answer) → IsOther (opens s m id piece answer)
   opens_other piece answer =
@@ -68,7 +70,8 @@ module _ (s : Settings) (m : Moment) (id : CallId) where
   busy_other Queued = tt
 
   row_other : (what : Body) (payload : List ℕ) (answer : Answer) (row : ServerRow) (state : State) → IsOther (row_gets s m id what payload answer row state)
-  row_other (body.Data size offset version service ack) payload answer row (Receiving service' part base count) = comes_other service' part row (piece_of size offset version service payload) answer (leaves m None) tt
+  row_other (body.Data size offset version service ack) payload answer row (Receiving service' part base count) =
+      comes_other service' part row (piece_of size offset version service payload) answer (leaves m None) tt
   row_other (body.Resend from to prio) payload answer row (Receiving service part base count) = (refl, tt)
   row_other what payload answer row (Receiving service part base count) = tt
   row_other (body.Resend from to prio) payload answer row (Held response release) = (refl, tt)
@@ -103,7 +106,8 @@ module _ (s : Settings) (m : Moment) (id : CallId) where
   state_acts_other row (Receiving service part base count) =
       cond_both (nat_lt count s.tries) _ _ (λ (d : Did ServerRow). IsOther d × AllLateSays d.says) (λ _. asking_other (first_gap part)) (λ _. (tt, (tt, tt)))
   state_acts_other row (Held response release) = (tt, tt)
-  state_acts_other row (Replying response out order base count) = cond_both (nat_lt count s.tries) _ _ (λ (d : Did ServerRow). IsOther d × AllLateSays d.says) (λ _. ((refl, tt), tt)) (λ _. (tt, (tt, tt)))
+  state_acts_other row (Replying response out order base count) =
+      cond_both (nat_lt count s.tries) _ _ (λ (d : Did ServerRow). IsOther d × AllLateSays d.says) (λ _. ((refl, tt), tt)) (λ _. (tt, (tt, tt)))
   state_acts_other row (Buried until) = (tt, (tt, tt))
 
   pub server_acts_other : (row : ServerRow) → IsOther (server_acts s m id row) × AllLateSays (server_acts s m id row).says
@@ -119,11 +123,13 @@ module _ (s : Settings) (m : Moment) (id : CallId) where
 
   response_other : (r : ClientRow) (o : Option Incoming) (piece : Piece) → IsOther (response_piece s m id r o piece)
   response_other r None piece =
-      cond_both (nat_lt m.free (pages_for piece.size)) _ _ (λ (x : Did ClientRow). IsOther x) (λ _. tt) (λ _. client_comes_other r (incoming.opened r.server piece.size m.order s.unsched) piece (opening piece.size (keeps m r)) tt)
+      cond_both (nat_lt m.free (pages_for piece.size)) _ _ (λ (x : Did ClientRow). IsOther x) (λ _. tt)
+      (λ _. client_comes_other r (incoming.opened r.server piece.size m.order s.unsched) piece (opening piece.size (keeps m r)) tt)
   response_other r (Some part) piece = client_comes_other r part piece (keeps m r) tt
 
   answered_other : (what : Body) (payload : List ℕ) (r : ClientRow) → IsOther (answered s m id what payload r)
-  answered_other (body.Data size offset version service ack) payload r = response_other r r.part (record { size = size; offset = offset; version = version; service = service; payload = payload })
+  answered_other (body.Data size offset version service ack) payload r =
+      response_other r r.part (record { size = size; offset = offset; version = version; service = service; payload = payload })
   answered_other (body.Resend from to prio) payload r = busy_other (resend r.out from to prio).answer
   answered_other (body.Unknown reason) payload r = cond_both (reason == 0) _ _ (λ (x : Did ClientRow). IsOther x) (λ _. tt) (λ _. tt)
   answered_other body.NeedAck payload r = (refl, tt)
@@ -134,7 +140,8 @@ module _ (s : Settings) (m : Moment) (id : CallId) where
   unasked_other what = tt
 
   pub client_acts_other : (r : ClientRow) → IsOther (client_acts s m id r) × AllLateSays (client_acts s m id r).says
-  client_acts_other r = cond_both (nat_lt r.count s.tries) _ _ (λ (d : Did ClientRow). IsOther d × AllLateSays d.says) (λ _. asking_other (wanted s r.part)) (λ _. (tt, (tt, tt)))
+  client_acts_other r =
+      cond_both (nat_lt r.count s.tries) _ _ (λ (d : Did ClientRow). IsOther d × AllLateSays d.says) (λ _. asking_other (wanted s r.part)) (λ _. (tt, (tt, tt)))
 
 pub server_gets_other : (s : Settings) (m : Moment) (p : Packet) (answer : Answer) (o : Option ServerRow) → IsOther (server_gets s m p answer o)
 unfolding server_gets
@@ -146,7 +153,8 @@ unfolding client_gets
 client_gets_other s m p None = unasked_other s m p.id p.body
 client_gets_other s m p (Some q) =
     cond_both (not (is_host (sender p) q.server)) _ _ (λ (x : Did ClientRow). IsOther x) (λ _. tt)
-    (λ _. cond_both (nat_lt p.inc q.seen) _ _ (λ (x : Did ClientRow). IsOther x) (λ _. tt) (λ _. answered_other s m p.id p.body p.payload (refreshed m.now p.body (renewed p.inc q))))
+    (λ _. cond_both (nat_lt p.inc q.seen) _ _ (λ (x : Did ClientRow). IsOther x) (λ _. tt)
+    (λ _. answered_other s m p.id p.body p.payload (refreshed m.now p.body (renewed p.inc q))))
 
 -- ---- what is told
 
@@ -161,15 +169,20 @@ module _ (s : Settings) where
   notes_late None w = tt
   notes_late (Some n) w = cond_both (is_balance_due s (counted w.host.tuning n)) _ _ (λ (t : Tuned). AllLate t.told) (λ _. (tt, tt)) (λ _. tt)
 
-  reply_other : (role : Role) (id : CallId) (server : HostId) (o : Option ℕ) (w : Work) → NoGrants (packets_in (reply_told s role id server o w)) × AllLate (reply_told s role id server o w)
+  reply_other : (role : Role) (id : CallId) (server : HostId) (o : Option ℕ) (w : Work) → NoGrants (packets_in (reply_told s role id server o w))
+      × AllLate (reply_told s role id server o w)
   reply_other role id server None w = (tt, tt)
-  reply_other role id server (Some version) w = cond_both (version == w.host.tuning.own.version) _ _ (λ (t : List Told). NoGrants (packets_in t) × AllLate t) (λ _. (tt, tt)) (λ _. ((refl, tt), tt))
+  reply_other role id server (Some version) w =
+      cond_both (version == w.host.tuning.own.version) _ _ (λ (t : List Told). NoGrants (packets_in t) × AllLate t) (λ _. (tt, tt)) (λ _. ((refl, tt), tt))
 
-  ack_other : (server : HostId) (calls : List (ℕ × ℕ)) (w : Work) → NoGrants (packets_in (acknowledged_told s server calls w)) × AllLate (acknowledged_told s server calls w)
+  ack_other : (server : HostId) (calls : List (ℕ × ℕ)) (w : Work) → NoGrants (packets_in (acknowledged_told s server calls w))
+      × AllLate (acknowledged_told s server calls w)
   ack_other server [] w = (tt, tt)
-  ack_other server (call ∷ calls) w = cond_both (nat_lt (length calls) 4) _ _ (λ (t : List Told). NoGrants (packets_in t) × AllLate t) (λ _. (tt, tt)) (λ _. ((refl, tt), tt))
+  ack_other server (call ∷ calls) w =
+      cond_both (nat_lt (length calls) 4) _ _ (λ (t : List Told). NoGrants (packets_in t) × AllLate t) (λ _. (tt, tt)) (λ _. ((refl, tt), tt))
 
-  finishes_other : (id : CallId) (server : HostId) (done : Bool) (w : Work) → NoGrants (packets_in (finishes_told s id server done w)) × AllLate (finishes_told s id server done w)
+  finishes_other : (id : CallId) (server : HostId) (done : Bool) (w : Work) → NoGrants (packets_in (finishes_told s id server done w))
+      × AllLate (finishes_told s id server done w)
   finishes_other id server false w = (tt, tt)
   finishes_other id server true w = ack_other server (finished_at w.host server ++ (id.inc, id.seq) ∷ []) w
 
@@ -190,13 +203,15 @@ module _ (s : Settings) where
   pub served_other : (id : CallId) (did : Did ServerRow) (w : Work) → AllOther did.says → NoGrants (packets_in (served_told s id did w))
   served_other id did w other =
       subst NoGrants (sym (served_packets s id did w))
-      (all-append NotGrant (packets_in (reply_told s Server id w.host.id did.version (served_noted s id did w))) (packets_in (said s w.host Server id w.host.id did.says)) (reply_other Server id w.host.id did.version (served_noted s id did w)).0
+      (all-append NotGrant (packets_in (reply_told s Server id w.host.id did.version (served_noted s id did w)))
+      (packets_in (said s w.host Server id w.host.id did.says)) (reply_other Server id w.host.id did.version (served_noted s id did w)).0
       (said_other w.host Server id w.host.id did.says other))
 
   pub served_late : (id : CallId) (did : Did ServerRow) (w : Work) → AllLateSays did.says → AllLate (served_told s id did w)
   served_late id did w late =
       late-append (notes_told s did.opened (served_put s id did w)) _ (notes_late did.opened (served_put s id did w))
-      (late-append (reply_told s Server id w.host.id did.version (served_noted s id did w)) (said s w.host Server id w.host.id did.says) (reply_other Server id w.host.id did.version (served_noted s id did w)).1 (said_late w.host Server id w.host.id did.says late))
+      (late-append (reply_told s Server id w.host.id did.version (served_noted s id did w)) (said s w.host Server id w.host.id did.says)
+      (reply_other Server id w.host.id did.version (served_noted s id did w)).1 (said_late w.host Server id w.host.id did.says late))
 
   pub asked_other : (id : CallId) (server : HostId) (did : Did ClientRow) (w : Work) → AllOther did.says → NoGrants (packets_in (asked_told s id server did w))
   asked_other id server did w other =
@@ -205,7 +220,8 @@ module _ (s : Settings) where
       let ends = finishes_told s id server did.finished (asked_said s id server did w) in
       subst NoGrants (sym (asked_packets s id server did w))
       (all-append NotGrant (packets_in reply) (packets_in says ++ packets_in ends) (reply_other Client id server did.version (asked_noted s id server did w)).0
-      (all-append NotGrant (packets_in says) (packets_in ends) (said_other w.host Client id server did.says other) (finishes_other id server did.finished (asked_said s id server did w)).0))
+      (all-append NotGrant (packets_in says) (packets_in ends) (said_other w.host Client id server did.says other)
+      (finishes_other id server did.finished (asked_said s id server did w)).0))
 
   pub asked_late : (id : CallId) (server : HostId) (did : Did ClientRow) (w : Work) → AllLateSays did.says → AllLate (asked_told s id server did w)
   asked_late id server did w late =

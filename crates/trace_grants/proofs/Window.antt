@@ -15,13 +15,15 @@ use Rattle.homa_plain.specs.declared.entry.Why.TheVariants.{Timeout, Forgotten}
 use Rattle.homa_plain.specs.declared.settings.Settings.{Settings}
 use Rattle.homa_plain.specs.Wire.{is_client}
 use Rattle.homa_plain.specs.Calls.{is_host, is_call}
-use Rattle.homa_plain.specs.Entries.{PlainEntry, PlainCall, PlainDeliver, PlainInject, PlainSend, PlainRun, PlainDone, PlainFail, PlainDrop, PlainGaps, PlainBury, PlainFree, PlainFullRows, PlainFullPages, PlainBalance, PlainJunk, PlainStale}
+use Rattle.homa_plain.specs.Entries.{PlainEntry, PlainCall, PlainDeliver, PlainInject, PlainSend, PlainRun, PlainDone, PlainFail, PlainDrop}
+use Rattle.homa_plain.specs.Entries.{PlainGaps, PlainBury, PlainFree, PlainFullRows, PlainFullPages, PlainBalance, PlainJunk, PlainStale}
 use Rattle.homa_plain.specs.Packets.{Packet, send_line, sender, receiver}
 use Rattle.homa_plain.specs.Host.{Told, Says, Sends, packets_in, entries_from}
 use Rattle.homa_plain.specs.Parts.{Part, Parts, opened, grown}
 use Rattle.homa_plain.specs.View.{View, Called, Sent, Progress, is_server_of, sent_last, counts, has_run}
 use Rattle.homa_plain.specs.Seen as lines
-use Rattle.homa_plain.specs.Seen.{seen, seen_all, refused, failed, finished, dropped, said, renewed, heard, counted, admitted, to_server, to_client, is_delivery_to}
+use Rattle.homa_plain.specs.Seen.{seen, seen_all, refused, failed, finished, dropped, said, renewed, heard, counted, admitted, to_server, to_client}
+use Rattle.homa_plain.specs.Seen.{is_delivery_to}
 use Rattle.homa_plain.specs.Laws.{Holds}
 use Rattle.homa_plain.specs.Granting.{IsWithinAt, IsWithin, Granting, IsAllowed}
 use Rattle.trace_lines.specs.Told.{sent_of}
@@ -45,16 +47,20 @@ pub parts_within : (window : ℕ) (v : View) → v.settings.window ≡ window �
 parts_within window v e k id =
     let a = (k id).0 in
     let b = (k id).1 in
-    subst (λ (n : ℕ). IsWithinAt n (get v.now.requests id) × IsWithinAt n (get v.now.responses id)) (sym e) (bounded_within window (get v.now.requests id) a, bounded_within window (get v.now.responses id) b)
+    subst (λ (n : ℕ). IsWithinAt n (get v.now.requests id) × IsWithinAt n (get v.now.responses id)) (sym e)
+    (bounded_within window (get v.now.requests id) a, bounded_within window (get v.now.responses id) b)
 
 -- ---- one map
 
 module _ (window : ℕ) where
   within_gone : (parts : Parts) (id q : CallId) → IsBoundedAt window (get parts q) → IsBoundedAt window (get (remove parts id) q)
-  within_gone parts id q k = subst (IsBoundedAt window) (sym (get-gone parts id q)) (cond_both (is_call q id) None (get parts q) (IsBoundedAt window) (λ _. tt) (λ _. k))
+  within_gone parts id q k =
+      subst (IsBoundedAt window) (sym (get-gone parts id q)) (cond_both (is_call q id) None (get parts q) (IsBoundedAt window) (λ _. tt) (λ _. k))
 
-  within_set : (parts : Parts) (id : CallId) (p : Part) (q : CallId) → p.granted ≤ len p.arrived + window → IsBoundedAt window (get parts q) → IsBoundedAt window (get (insert parts id p) q)
-  within_set parts id p q new k = subst (IsBoundedAt window) (sym (get-set parts id p q)) (cond_both (is_call q id) (Some p) (get parts q) (IsBoundedAt window) (λ _. new) (λ _. k))
+  within_set : (parts : Parts) (id : CallId) (p : Part) (q : CallId) → p.granted ≤ len p.arrived + window → IsBoundedAt window (get parts q)
+      → IsBoundedAt window (get (insert parts id p) q)
+  within_set parts id p q new k =
+      subst (IsBoundedAt window) (sym (get-set parts id p q)) (cond_both (is_call q id) (Some p) (get parts q) (IsBoundedAt window) (λ _. new) (λ _. k))
 
   within_finished : (id : CallId) (m : Progress) → PartsWithin window m → PartsWithin window (finished id m)
   within_finished id m k q = ((k q).0, within_gone m.responses id q (k q).1)
@@ -68,7 +74,8 @@ module _ (window : ℕ) where
     true_false : true ≡ false → ⊥
     true_false e = cc
   within_said v p (body.Resend from to prio) m e k = cond_both (is_client p.role) _ _ (PartsWithin window) (λ _. k) (λ _. k)
-  within_said v p (body.Data size offset version service ack) m e k = cond_both (is_client p.role && not (sent_last v p.id)) _ _ (PartsWithin window) (λ _. k) (λ _. k)
+  within_said v p (body.Data size offset version service ack) m e k =
+      cond_both (is_client p.role && not (sent_last v p.id)) _ _ (PartsWithin window) (λ _. k) (λ _. k)
   within_said v p body.Busy m e k = k
   within_said v p (body.Cutoffs cutoffs) m e k = k
   within_said v p (body.Unknown reason) m e k = k
@@ -78,13 +85,18 @@ module _ (window : ℕ) where
   -- ---- deliveries
 
   within_heard : (p : Sent) (m : Progress) → PartsWithin window m → PartsWithin window (heard p m)
-  within_heard p m k q = ((k q).0, cond_both (nat_lt (unwrap_or (get m.live p.id) 0) p.inc) (remove m.responses p.id) m.responses (λ (parts : Parts). IsBoundedAt window (get parts q)) (λ _. within_gone m.responses p.id q (k q).1) (λ _. (k q).1))
+  within_heard p m k q = (
+    (k q).0,
+    cond_both (nat_lt (unwrap_or (get m.live p.id) 0) p.inc) (remove m.responses p.id) m.responses
+        (λ (parts : Parts). IsBoundedAt window (get parts q)) (λ _. within_gone m.responses p.id q (k q).1) (λ _. (k q).1),
+  )
 
   within_counted : (v : View) (p : Sent) (m : Progress) → PartsWithin window m → PartsWithin window (counted v p m)
   within_counted v p m k = cond_both (counts v m p) _ _ (PartsWithin window) (λ _. within_heard p m k) (λ _. k)
 
   -- more bytes of a part, or the first of one
-  within_grown : (place a b : ℕ) (o : Option Part) (first : Part) → IsBoundedAt window o → first.granted ≤ len first.arrived + window → IsBoundedAt window (Some (grown place a b (unwrap_or o first)))
+  within_grown : (place a b : ℕ) (o : Option Part) (first : Part) → IsBoundedAt window o → first.granted ≤ len first.arrived + window
+      → IsBoundedAt window (Some (grown place a b (unwrap_or o first)))
   within_grown place a b None first k new = omega (arith, new, len-grows first.arrived a (min b first.length))
   within_grown place a b (Some p) first k new = omega (arith, k, len-grows p.arrived a (min b p.length))
 
@@ -98,17 +110,27 @@ module _ (window : ℕ) where
         let first : Part = opened c.server p.id.client (length c.request) v.settings.unsched in
         let after : Part = grown v.place offset (offset + length p.payload) (unwrap_or (get m.requests p.id) first) in
         cond_both (is_host p.to c.server && not (has_run v c.server p.id)) _ _ (PartsWithin window)
-        (λ _ q. (within_set m.requests p.id after q (within_grown v.place offset (offset + length p.payload) (get m.requests p.id) first (k p.id).0 (opens_within c.server p.id.client (length c.request))) (k q).0, (k q).1)) (λ _. k)
+        (λ _ q. (
+          within_set m.requests p.id after q
+              (within_grown v.place offset (offset + length p.payload) (get m.requests p.id) first (k p.id).0
+              (opens_within c.server p.id.client (length c.request))) (k q).0,
+          (k q).1,
+        )) (λ _. k)
 
     within_client : (size offset : ℕ) (m : Progress) → PartsWithin window m → PartsWithin window (to_client v p size offset m)
     within_client size offset m k =
         let first : Part = opened p.to p.from size v.settings.unsched in
         let after : Part = grown v.place offset (offset + length p.payload) (unwrap_or (get m.responses p.id) first) in
         cond_both (counts v m p) _ _ (PartsWithin window)
-        (λ _ q. ((k q).0, within_set m.responses p.id after q (within_grown v.place offset (offset + length p.payload) (get m.responses p.id) first (k p.id).1 (opens_within p.to p.from size)) (k q).1)) (λ _. k)
+        (λ _ q. (
+          (k q).0,
+          within_set m.responses p.id after q
+              (within_grown v.place offset (offset + length p.payload) (get m.responses p.id) first (k p.id).1 (opens_within p.to p.from size)) (k q).1,
+        )) (λ _. k)
 
     within_admitted : (m : Progress) (what : Body) → PartsWithin window m → PartsWithin window (admitted v p m what)
-    within_admitted m (body.Data size offset version service ack) k = cond_both (is_client p.role) _ _ (PartsWithin window) (λ _. within_server offset m (get v.calls p.id) k) (λ _. within_client size offset m k)
+    within_admitted m (body.Data size offset version service ack) k =
+        cond_both (is_client p.role) _ _ (PartsWithin window) (λ _. within_server offset m (get v.calls p.id) k) (λ _. within_client size offset m k)
     within_admitted m (body.Grant offset prio) k = k
     within_admitted m (body.Resend from to prio) k = k
     within_admitted m body.Busy k = k
@@ -126,7 +148,8 @@ pub record AllWithin (s : Settings) (v : View) : Type 0 where
   pub if_refused : PartsWithin s.window v.if_refused
   pub if_stale : PartsWithin s.window v.if_stale
 
-pub deliver_within : (s : Settings) (v : View) (n : ℕ) → s.unsched ≤ s.window → v.settings ≡ s → PartsWithin s.window v.now → AllWithin s (seen v (PlainDeliver n))
+pub deliver_within : (s : Settings) (v : View) (n : ℕ) → s.unsched ≤ s.window → v.settings ≡ s → PartsWithin s.window v.now
+    → AllWithin s (seen v (PlainDeliver n))
 unfolding seen
 deliver_within s v n narrow same k = by_packet (slice_get v.packets n) where
   b : View
@@ -136,25 +159,46 @@ deliver_within s v n narrow same k = by_packet (slice_get v.packets n) where
   by_packet None = record { settings = same; now = k; if_refused = k; if_stale = k }
   by_packet (Some p) =
       let un : PartsWithin s.window (counted b p (record b.now { came = Some p })) = within_counted s.window b p (record b.now { came = Some p }) k in
-      record { settings = same; now = within_admitted s.window s narrow b same p (counted b p (record b.now { came = Some p })) p.body un; if_refused = un; if_stale = k }
+      record {
+        settings = same;
+        now = within_admitted s.window s narrow b same p (counted b p (record b.now { came = Some p })) p.body un;
+        if_refused = un;
+        if_stale = k;
+      }
 
-pub inject_within : (s : Settings) (v : View) (host : HostId) (bytes : List ℕ) → v.settings ≡ s → PartsWithin s.window v.now → AllWithin s (seen v (PlainInject host bytes))
+pub inject_within : (s : Settings) (v : View) (host : HostId) (bytes : List ℕ) → v.settings ≡ s → PartsWithin s.window v.now
+    → AllWithin s (seen v (PlainInject host bytes))
 unfolding seen
 inject_within s v host bytes same k = record { settings = same; now = k; if_refused = k; if_stale = k }
 
-pub call_within : (s : Settings) (v : View) (id : CallId) (server : HostId) (service : ℕ) (request : List ℕ) → v.settings ≡ s → PartsWithin s.window v.now → AllWithin s (seen v (PlainCall id server service request))
+pub call_within : (s : Settings) (v : View) (id : CallId) (server : HostId) (service : ℕ) (request : List ℕ) → v.settings ≡ s
+    → PartsWithin s.window v.now → AllWithin s (seen v (PlainCall id server service request))
 unfolding seen
 call_within s v id server service request same k = record { settings = same; now = k; if_refused = k; if_stale = k }
 
 refused_within : (s : Settings) (v : View) (host : HostId) (id : CallId) → AllWithin s v → AllWithin s (refused v host id)
 refused_within s v host id k =
-    cond_both (is_delivery_to v host id) _ _ (AllWithin s) (λ _. record { settings = k.settings; now = k.if_refused; if_refused = k.if_refused; if_stale = k.if_stale }) (λ _. k)
+    cond_both (is_delivery_to v host id) _ _ (AllWithin s)
+    (λ _. record { settings = k.settings; now = k.if_refused; if_refused = k.if_refused; if_stale = k.if_stale }) (λ _. k)
 
 failed_within : (s : Settings) (v : View) (id : CallId) (why : Why) → AllWithin s v → AllWithin s (failed v id why)
-failed_within s v id Timeout k = record { settings = k.settings; now = within_finished s.window id v.now k.now; if_refused = within_finished s.window id v.if_refused k.if_refused; if_stale = within_finished s.window id v.if_stale k.if_stale }
-failed_within s v id Forgotten k = record { settings = k.settings; now = within_finished s.window id v.now k.now; if_refused = within_finished s.window id v.if_refused k.if_refused; if_stale = within_finished s.window id v.if_stale k.if_stale }
+failed_within s v id Timeout k =
+    record {
+      settings = k.settings;
+      now = within_finished s.window id v.now k.now;
+      if_refused = within_finished s.window id v.if_refused k.if_refused;
+      if_stale = within_finished s.window id v.if_stale k.if_stale;
+    }
+failed_within s v id Forgotten k =
+    record {
+      settings = k.settings;
+      now = within_finished s.window id v.now k.now;
+      if_refused = within_finished s.window id v.if_refused k.if_refused;
+      if_stale = within_finished s.window id v.if_stale k.if_stale;
+    }
 
-as_line : (s : Settings) (v u : View) → AllWithin s v → u.settings ≡ v.settings → u.now ≡ v.now → u.if_refused ≡ v.if_refused → u.if_stale ≡ v.if_stale → AllWithin s u
+as_line : (s : Settings) (v u : View) → AllWithin s v → u.settings ≡ v.settings → u.now ≡ v.now → u.if_refused ≡ v.if_refused
+    → u.if_stale ≡ v.if_stale → AllWithin s u
 as_line s v u k a b c d = record {
   settings = a ∙ k.settings;
   now = subst (PartsWithin s.window) (sym b) k.now;
@@ -165,10 +209,21 @@ as_line s v u k a b c d = record {
 said_within : (s : Settings) (v : View) (line : PlainEntry) → IsSaid line → AllWithin s v → AllWithin s (seen v line)
 unfolding seen
 said_within s v (PlainRun host id service request response hold) said k = as_line s v _ k refl refl refl refl
-said_within s v (PlainDone id bytes) said k = record { settings = k.settings; now = within_finished s.window id v.now k.now; if_refused = within_finished s.window id v.if_refused k.if_refused; if_stale = within_finished s.window id v.if_stale k.if_stale }
+said_within s v (PlainDone id bytes) said k =
+    record {
+      settings = k.settings;
+      now = within_finished s.window id v.now k.now;
+      if_refused = within_finished s.window id v.if_refused k.if_refused;
+      if_stale = within_finished s.window id v.if_stale k.if_stale;
+    }
 said_within s v (PlainFail id why) said k = as_line s (failed v id why) _ (failed_within s v id why k) refl refl refl refl
 said_within s v (PlainDrop host id) said k =
-    record { settings = k.settings; now = within_dropped s.window v host id v.now k.now; if_refused = within_dropped s.window v host id v.if_refused k.if_refused; if_stale = within_dropped s.window v host id v.if_stale k.if_stale }
+    record {
+      settings = k.settings;
+      now = within_dropped s.window v host id v.now k.now;
+      if_refused = within_dropped s.window v host id v.if_refused k.if_refused;
+      if_stale = within_dropped s.window v host id v.if_stale k.if_stale;
+    }
 said_within s v (PlainGaps host id) said k = as_line s (refused v host id) _ (refused_within s v host id k) refl refl refl refl
 said_within s v (PlainBury host id until) said k = as_line s v _ k refl refl refl refl
 said_within s v (PlainFree host id) said k = as_line s v _ k refl refl refl refl
@@ -206,7 +261,8 @@ pub granting_sent : (v : View) (n : ℕ) (p : Packet) → is_grant p.body ≡ fa
 granting_sent v n p e k = (unallowed v (sender p) (receiver p) p.role p.id p.body e, k)
 
 -- the law holds at the lines of a move that gives no GRANT
-pub told_granting : (s : Settings) (v : View) (n : ℕ) (told : List Told) → AllInner told → NoGrants (packets_in told) → AllWithin s v → Holds Granting v (entries_from n told) × AllWithin s (seen_all v (entries_from n told))
+pub told_granting : (s : Settings) (v : View) (n : ℕ) (told : List Told) → AllInner told → NoGrants (packets_in told) → AllWithin s v
+    → Holds Granting v (entries_from n told) × AllWithin s (seen_all v (entries_from n told))
 told_granting s v n [] inner none k = (tt, k)
 told_granting s v n (Says entry ∷ told) inner none k =
     let a = said_within s v entry inner.0 k in
@@ -263,14 +319,17 @@ unfolding seen
 sent_now window v n p e k = within_said window v (sent_of p) p.body v.now e k
 
 -- the law holds at the lines of such a move, if it gives no GRANT
-pub told_late : (s : Settings) (v : View) (n : ℕ) (told : List Told) → AllLate told → NoGrants (packets_in told) → NowWithin s v → Holds Granting v (entries_from n told) × NowWithin s (seen_all v (entries_from n told))
+pub told_late : (s : Settings) (v : View) (n : ℕ) (told : List Told) → AllLate told → NoGrants (packets_in told) → NowWithin s v
+    → Holds Granting v (entries_from n told) × NowWithin s (seen_all v (entries_from n told))
 told_late s v n [] late none k = (tt, k)
 told_late s v n (Says entry ∷ told) late none k =
     let said = late_said entry late.0 in
-    let a : NowWithin s (seen v entry) = record { settings = (inner_same v entry (said_inner entry said)).settings ∙ k.settings; now = late_now s.window v entry late.0 k.now } in
+    let a : NowWithin s (seen v entry) =
+    record { settings = (inner_same v entry (said_inner entry said)).settings ∙ k.settings; now = late_now s.window v entry late.0 k.now } in
     let r = told_late s (seen v entry) n told late.1 none a in
     ((granting_said v entry said (parts_within s.window (seen v entry) (ap (λ (x : Settings). x.window) a.settings) a.now), r.0), r.1)
 told_late s v n (Sends p ∷ told) late none k =
-    let a : NowWithin s (seen v (send_line n p)) = record { settings = (inner_same v (send_line n p) tt).settings ∙ k.settings; now = sent_now s.window v n p none.0 k.now } in
+    let a : NowWithin s (seen v (send_line n p)) =
+    record { settings = (inner_same v (send_line n p) tt).settings ∙ k.settings; now = sent_now s.window v n p none.0 k.now } in
     let r = told_late s (seen v (send_line n p)) (suc n) told late none.1 a in
     ((granting_sent v n p none.0 (parts_within s.window (seen v (send_line n p)) (ap (λ (x : Settings). x.window) a.settings) a.now), r.0), r.1)

@@ -35,7 +35,12 @@ module _ (so : Settings → World → View → Type 0) (law : View → PlainEntr
   carried_so kept s w v [] k = record { holds = tt; world = w; so_there = k }
   carried_so kept s w v (e ∷ es) k = by_outcome (outcome s w e.event e.bytes) refl (λ w' v' l. carried_so kept s w' v' es l) where
     by_outcome : (o : Outcome) → outcome s w e.event e.bytes ≡ o → ((w' : World) (v' : View) → so s w' v' → IsSoBehind s v' (carried s w' es).told)
-        → IsSoBehind s v (elim o as (λ _. Run) [ Refused fault ↦ record { world = w; told = []; count = 0; fault = Some (ByWorld fault) } | Done after ↦ after_event after.told (carried s after.world es) ]).told
+        → IsSoBehind s v
+        (elim o as (λ _. Run) [
+          | Refused fault ↦ record { world = w; told = []; count = 0; fault = Some (ByWorld fault) }
+          | Done after ↦
+              after_event after.told (carried s after.world es)
+        ]).told
     by_outcome (Refused fault) e' later = record { holds = tt; world = w; so_there = k }
     by_outcome (Done after) e' later =
         let one = kept s w v e after k e' in
@@ -66,8 +71,10 @@ pub record IsNew (s : Settings) (number : ℕ) (h : Host) : Type 0 where
 
 pub hosts_new : (s : Settings) (n : ℕ) (incs : List ℕ) (i : ℕ) (h : Host) → slice_get (new_hosts s n incs) i ≡ Some h → IsNew s (n + i) h
 hosts_new s n [] i h e = absurd (none_some h e)
-hosts_new s n (inc ∷ incs) zero h e = let same : n ≡ n + 0 = omega arith in record { inc = inc; is = sym (some_is (new_host s (record { 0 = n }) inc 0) h e) ∙ ap (λ (m : ℕ). new_host s (record { 0 = m }) inc 0) same }
-hosts_new s n (inc ∷ incs) (suc i) h e = let r = hosts_new s (suc n) incs i h e in let same : suc n + i ≡ n + suc i = omega arith in record { inc = r.inc; is = r.is ∙ ap (λ (m : ℕ). new_host s (record { 0 = m }) r.inc 0) same }
+hosts_new s n (inc ∷ incs) zero h e = let same : n ≡ n + 0 = omega arith in
+    record { inc = inc; is = sym (some_is (new_host s (record { 0 = n }) inc 0) h e) ∙ ap (λ (m : ℕ). new_host s (record { 0 = m }) inc 0) same }
+hosts_new s n (inc ∷ incs) (suc i) h e = let r = hosts_new s (suc n) incs i h e in let same : suc n + i ≡ n + suc i =
+    omega arith in record { inc = r.inc; is = r.is ∙ ap (λ (m : ℕ). new_host s (record { 0 = m }) r.inc 0) same }
 
 pub length-new : (s : Settings) (n : ℕ) (incs : List ℕ) → length (new_hosts s n incs) ≡ length incs
 length-new s n [] = refl
@@ -89,7 +96,8 @@ told_first s incs clock boxes answers opening = record {
   valid = opening.valid;
   settings = refl;
   tick = refl;
-  leads = λ id l. ap (λ (o : Option ℕ). unwrap_or o s.skew) (get-empty nat_cmp id.0) ∙ sym (skew_at (length incs) id.0 s.skew (omega (arith, l, length-new s 0 incs)));
+  leads = λ id l. ap (λ (o : Option ℕ). unwrap_or o s.skew) (get-empty nat_cmp id.0)
+      ∙ sym (skew_at (length incs) id.0 s.skew (omega (arith, l, length-new s 0 incs)));
   packets = refl;
   names = λ id h is. named id h (hosts_new s 0 incs id.0 h is);
   lives = λ id h is. lived id h (hosts_new s 0 incs id.0 h is);

@@ -24,7 +24,8 @@ elsewhere (y ∷ xs) (suc i) zero x e = refl
 elsewhere (y ∷ xs) (suc i) (suc n) x e = elsewhere xs i n x (λ k. e (ap suc k))
 
 -- what each host has of something, where one is x and was y
-pub both_set : {A : Type 0} (none : A) (f : Host → A) (hs : List Host) (i n : ℕ) (x y : Host) → f x ≡ f y → at_host none f (slice_get (slice_set hs i x) n) ≡ at_host none f (slice_get (slice_set hs i y) n)
+pub both_set : {A : Type 0} (none : A) (f : Host → A) (hs : List Host) (i n : ℕ) (x y : Host) → f x ≡ f y
+    → at_host none f (slice_get (slice_set hs i x) n) ≡ at_host none f (slice_get (slice_set hs i y) n)
 both_set none f [] i n x y e = refl
 both_set none f (z ∷ hs) zero zero x y e = e
 both_set none f (z ∷ hs) zero (suc n) x y e = refl

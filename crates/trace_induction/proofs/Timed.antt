@@ -40,7 +40,8 @@ and_second : (a b : Bool) → a ≡ true → (a && b) ≡ false → b ≡ false
 and_second true b e f = f
 and_second false b e f = absurd (false≢true e)
 
-pub fresh : (s : Settings) (w : World) (sent : SentPacket) (now : ℕ) → IsValid s → IsDated s sent → w.clock ≤ now → is_late s w sent.tick ≡ false → is_stale s now sent.packet ≡ false → IsFresh s w sent
+pub fresh : (s : Settings) (w : World) (sent : SentPacket) (now : ℕ) → IsValid s → IsDated s sent → w.clock ≤ now → is_late s w sent.tick ≡ false
+    → is_stale s now sent.packet ≡ false → IsFresh s w sent
 fresh s w sent now valid dated from late stale = by_wire (wire_of s valid) where
   by_wire : (s.wire ≡ 1) ⊎ (s.wire ≡ 2) → IsFresh s w sent
   by_wire (inl one) =

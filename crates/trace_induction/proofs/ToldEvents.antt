@@ -1,5 +1,6 @@
 -- Each event keeps what the lines tell of clocks, names, lives and packets.
-use Rattle.std.proofs.Common.{◌≡◌, ℕ, zero, suc, ◌+◌, ◌≤◌, ◌<◌, Bool, true, false, Option, Some, None, List, [], ◌∷◌, ◌++◌, length, map, refl, sym, ap, subst, ◌∙◌, arith}
+use Rattle.std.proofs.Common.{◌≡◌, ℕ, zero, suc, ◌+◌, ◌≤◌, ◌<◌, Bool, true, false, Option, Some, None, List, [], ◌∷◌, ◌++◌, length, map, refl, sym}
+use Rattle.std.proofs.Common.{ap, subst, ◌∙◌, arith}
 use Rattle.std.specs.Prelude.{slice_get, slice_set, slice_index_or, unwrap_or, nat_lt}
 use Rattle.std.specs.List.{AllByRecursion}
 use Rattle.std.specs.Ordering.{nat_cmp, eq_by_cmp}
@@ -29,7 +30,8 @@ use Rattle.trace_lines.specs.Told.{IsDated, HasOwnName, HasLives, IsTold}
 use Rattle.trace_lines.proofs.Lives.{number_itself, same_number, get-there, get-elsewhere}
 use Rattle.trace_lines.proofs.Restarts.{lived_restarted, lives_here, lives_elsewhere}
 use Rattle.trace_induction.proofs.ToldMoves.{each_set, own_set}
-use Rattle.trace_induction.proofs.ToldSteps.{told_view, inject_same, call_same, deliver_same, set_same, IsSameHost, told_host, ToldAmid, told_ended, told_acts, told_comes}
+use Rattle.trace_induction.proofs.ToldSteps.{told_view, inject_same, call_same, deliver_same, set_same, IsSameHost, told_host, ToldAmid, told_ended}
+use Rattle.trace_induction.proofs.ToldSteps.{told_acts, told_comes}
 use Rattle.trace_induction.proofs.Hosts.{within, length-set, some_is, apart, none_some}
 use Rattle.trace_induction.proofs.Timed.{resend_of}
 use Rattle.trace_induction.proofs.Events.{after_step, call_done, deliver_done, inject_done, turn_done, restart_done, shift_done, clock_done}
@@ -68,7 +70,8 @@ told_packets_same s w v k = record {
 
 module _ (s : Settings) (w : World) (v : View) (host : HostId) (h : Host) (stands : host_at w host ≡ Some h) (k : IsTold s w v) where
   -- a host that takes a step, with nothing told yet but the event's line
-  pub begun_amid : (first : Host) → first.id ≡ h.id → first.inc ≡ h.inc → first.clients ≡ h.clients → first.last ≡ own_clock w host → ToldAmid s w v host (within w.hosts host.0 h stands) (record { host = first; told = [] })
+  pub begun_amid : (first : Host) → first.id ≡ h.id → first.inc ≡ h.inc → first.clients ≡ h.clients → first.last ≡ own_clock w host
+      → ToldAmid s w v host (within w.hosts host.0 h stands) (record { host = first; told = [] })
   begun_amid first id inc clients last =
       let same : IsSameHost s w host h first = record {
         name = id;
@@ -79,7 +82,8 @@ module _ (s : Settings) (w : World) (v : View) (host : HostId) (h : Host) (stand
       told_packets_same s (record w { hosts = slice_set w.hosts host.0 first }) v (told_host s w v host h first stands same k)
 
   -- a call starts
-  pub started_amid : (now : ℕ) (server : HostId) (service : ℕ) (request : List ℕ) → now ≡ own_clock w host → ToldAmid s w v host (within w.hosts host.0 h stands) (starts s server service request (begun h now))
+  pub started_amid : (now : ℕ) (server : HostId) (service : ℕ) (request : List ℕ) → now ≡ own_clock w host
+      → ToldAmid s w v host (within w.hosts host.0 h stands) (starts s server service request (begun h now))
   started_amid now server service request at =
       let work : Work = starts s server service request (begun h now) in
       let mine : h.id ≡ host = (k.names host h stands).name in
@@ -93,33 +97,43 @@ module _ (s : Settings) (w : World) (v : View) (host : HostId) (h : Host) (stand
       (told_packets_same s (record w { hosts = slice_set w.hosts host.0 work.host }) v (told_host s w v host h work.host stands same k))
 
   -- what the step leaves
-  pub after_told : (work : Work) → ToldAmid s w v host (within w.hosts host.0 h stands) work → IsTold s (after_step w host [] work).world (seen_all v (entries_from (length w.packets) work.told))
+  pub after_told : (work : Work) → ToldAmid s w v host (within w.hosts host.0 h stands) work
+      → IsTold s (after_step w host [] work).world (seen_all v (entries_from (length w.packets) work.told))
   after_told work a = told_answers s (put w host work) (said_so_far w v work) _ a
 
 -- ---- steps
 
 module _ (s : Settings) (w : World) (v : View) (host : HostId) (h : Host) (stands : host_at w host ≡ Some h) (k : IsTold s w v) where
-  call_told : (server : HostId) (number : ℕ) (request : List ℕ) → let work : Work = call_step s h (own_clock w host) server number request in IsTold s (after_step w host [] work).world (seen_all v (entries_from (length w.packets) work.told))
+  call_told : (server : HostId) (number : ℕ) (request : List ℕ) → let work : Work = call_step s h (own_clock w host) server number request in
+      IsTold s (after_step w host [] work).world (seen_all v (entries_from (length w.packets) work.told))
   unfolding call_step
   call_told server number request =
-      after_told s w v host h stands k (call_step s h (own_clock w host) server number request) (told_ended s w v host (within w.hosts host.0 h stands) (starts s server number request (begun h (own_clock w host))) (started_amid s w v host h stands k (own_clock w host) server number request refl))
+      after_told s w v host h stands k (call_step s h (own_clock w host) server number request)
+      (told_ended s w v host (within w.hosts host.0 h stands) (starts s server number request (begun h (own_clock w host)))
+      (started_amid s w v host h stands k (own_clock w host) server number request refl))
 
-  arrival_told : (o : Option Packet) (answer : Answer) → ((p : Packet) → o ≡ Some p → receiver p ≡ host) → let work : Work = arrival_step s h (own_clock w host) o answer in IsTold s (after_step w host [] work).world (seen_all v (entries_from (length w.packets) work.told))
+  arrival_told : (o : Option Packet) (answer : Answer) → ((p : Packet) → o ≡ Some p → receiver p ≡ host) → let work : Work =
+      arrival_step s h (own_clock w host) o answer in IsTold s (after_step w host [] work).world (seen_all v (entries_from (length w.packets) work.told))
   unfolding arrival_step
   arrival_told o answer at =
       after_told s w v host h stands k (arrival_step s h (own_clock w host) o answer)
       (told_ended s w v host (within w.hosts host.0 h stands) (comes s o answer (begun h (own_clock w host)))
-      (told_comes s w v host (within w.hosts host.0 h stands) o answer (begun h (own_clock w host)) at (begun_amid s w v host h stands k (record h { last = own_clock w host }) refl refl refl refl)))
+      (told_comes s w v host (within w.hosts host.0 h stands) o answer (begun h (own_clock w host)) at
+      (begun_amid s w v host h stands k (record h { last = own_clock w host }) refl refl refl refl)))
 
-  turn_told : let work : Work = turn_step s h (own_clock w host) in IsTold s (after_step w host [] work).world (seen_all v (entries_from (length w.packets) work.told))
+  turn_told : let work : Work =
+      turn_step s h (own_clock w host) in IsTold s (after_step w host [] work).world (seen_all v (entries_from (length w.packets) work.told))
   unfolding turn_step
   turn_told =
       let now : ℕ = own_clock w host in
       let l = within w.hosts host.0 h stands in
       let filled : Host = refilled s (record h { last = now }) in
-      let same = cond_both (nat_lt h.refilled now) (record h { last = now; credit = s.rate; refilled = now }) (record h { last = now }) (λ (x : Host). (x.id ≡ h.id) × (x.inc ≡ h.inc) × (x.clients ≡ h.clients)) (λ _. (refl, refl, refl)) (λ _. (refl, refl, refl)) in
+      let same = cond_both (nat_lt h.refilled now) (record h { last = now; credit = s.rate; refilled = now }) (record h { last = now })
+      (λ (x : Host). (x.id ≡ h.id) × (x.inc ≡ h.inc) × (x.clients ≡ h.clients)) (λ _. (refl, refl, refl)) (λ _. (refl, refl, refl)) in
       after_told s w v host h stands k (turn_step s h now)
-      (told_ended s w v host l (acts s (begun filled now)) (told_acts s w v host l (resend_of s k.valid) (begun filled now) (begun_amid s w v host h stands k (record filled { last = now }) same.0 same.1 same.2 refl)))
+      (told_ended s w v host l (acts s (begun filled now))
+      (told_acts s w v host l (resend_of s k.valid) (begun filled now)
+      (begun_amid s w v host h stands k (record filled { last = now }) same.0 same.1 same.2 refl)))
 
 -- ---- the other events
 
@@ -152,7 +166,8 @@ index_elsewhere (y ∷ xs) zero (suc n) x e = refl
 index_elsewhere (y ∷ xs) (suc i) zero x e = refl
 index_elsewhere (y ∷ xs) (suc i) (suc n) x e = index_elsewhere xs i n x (λ k. e (ap suc k))
 
-shifted_told : (s : Settings) (w : World) (v : View) (id : HostId) (n : ℕ) (h : Host) → host_at w id ≡ Some h → n ≤ band s → h.last ≤ w.clock + n → IsTold s w v → IsTold s (record w { leads = slice_set w.leads id.0 n }) (seen v (PlainShift id n))
+shifted_told : (s : Settings) (w : World) (v : View) (id : HostId) (n : ℕ) (h : Host) → host_at w id ≡ Some h → n ≤ band s → h.last ≤ w.clock + n
+    → IsTold s w v → IsTold s (record w { leads = slice_set w.leads id.0 n }) (seen v (PlainShift id n))
 unfolding seen
 shifted_told s w v id n h stands most forth k = record {
   valid = k.valid;
@@ -183,8 +198,11 @@ shifted_told s w v id n h stands most forth k = record {
   other : (m : HostId) → is_host m id ≡ false → slice_index_or (slice_set w.leads id.0 n) m.0 0 ≡ slice_index_or w.leads m.0 0
   other m e = index_elsewhere w.leads id.0 m.0 n (λ same. apart m id e (sym same))
 
-  by_host : (m : HostId) (b : Bool) → is_host m id ≡ b → m.0 < length w.hosts → unwrap_or (get (insert v.leads id.0 n) m.0) s.skew ≡ slice_index_or (slice_set w.leads id.0 n) m.0 0
-  by_host m true e l = ap (λ (o : Option ℕ). unwrap_or o s.skew) (ap (λ (x : HostId). get (insert v.leads id.0 n) x.0) ((hosts_are m id).0 e) ∙ get-there v.leads id.0 n) ∙ sym (here m e)
+  by_host : (m : HostId) (b : Bool) → is_host m id ≡ b → m.0 < length w.hosts
+      → unwrap_or (get (insert v.leads id.0 n) m.0) s.skew ≡ slice_index_or (slice_set w.leads id.0 n) m.0 0
+  by_host m true e l =
+      ap (λ (o : Option ℕ). unwrap_or o s.skew) (ap (λ (x : HostId). get (insert v.leads id.0 n) x.0) ((hosts_are m id).0 e) ∙ get-there v.leads id.0 n)
+      ∙ sym (here m e)
   by_host m false e l = ap (λ (o : Option ℕ). unwrap_or o s.skew) (get-elsewhere v.leads id.0 n m.0 (key m false e)) ∙ k.leads m l ∙ sym (other m e)
 
   lead_of : (m : HostId) (b : Bool) → is_host m id ≡ b → slice_index_or (slice_set w.leads id.0 n) m.0 0 ≤ band s
@@ -193,7 +211,8 @@ shifted_told s w v id n h stands most forth k = record {
 
   last_of : (m : HostId) (x : Host) → host_at w m ≡ Some x → (b : Bool) → is_host m id ≡ b → x.last ≤ w.clock + slice_index_or (slice_set w.leads id.0 n) m.0 0
   last_of m x is true e =
-      let same : h.last ≡ x.last = ap (λ (y : Host). y.last) (some_is h x (sym stands ∙ ap (λ (y : HostId). slice_get w.hosts y.0) (sym ((hosts_are m id).0 e)) ∙ is)) in
+      let same : h.last ≡ x.last =
+      ap (λ (y : Host). y.last) (some_is h x (sym stands ∙ ap (λ (y : HostId). slice_get w.hosts y.0) (sym ((hosts_are m id).0 e)) ∙ is)) in
       omega (arith, here m e, forth, same)
   last_of m x is false e = omega (arith, other m e, k.clocks.last m x is)
 
@@ -207,12 +226,15 @@ restarted_told s w v id h spares stands k = record {
   tick = k.tick;
   leads = λ m l. k.leads m (omega (arith, l, length-set w.hosts id.0 new));
   packets = k.packets;
-  names = each_set HasOwnName HasOwnName w.hosts id h new room (λ _. record { name = refl; own = λ q r is. absurd (none_some r (sym (get-empty call_cmp q) ∙ is)) }) (λ _ _ _ n. n) (back HasOwnName k.names);
-  lives = each_set (HasLives v) (HasLives after) w.hosts id h new room (λ l. lives_here v id (h.inc + 1) h new refl refl l) (λ m x e l. lives_elsewhere v id (h.inc + 1) m x (key m e) l) (back (HasLives v) k.lives);
+  names = each_set HasOwnName HasOwnName w.hosts id h new room
+      (λ _. record { name = refl; own = λ q r is. absurd (none_some r (sym (get-empty call_cmp q) ∙ is)) }) (λ _ _ _ n. n) (back HasOwnName k.names);
+  lives = each_set (HasLives v) (HasLives after) w.hosts id h new room (λ l. lives_here v id (h.inc + 1) h new refl refl l)
+      (λ m x e l. lives_elsewhere v id (h.inc + 1) m x (key m e) l) (back (HasLives v) k.lives);
   lived = lived_restarted v id (h.inc + 1) k.lived;
   clocks = record {
     lead = k.clocks.lead;
-    last = each_set (λ m x. x.last ≤ own_clock w m) (λ m x. x.last ≤ own_clock w m) w.hosts id h new room (λ l. l) (λ _ _ _ l. l) (back (λ m x. x.last ≤ own_clock w m) k.clocks.last);
+    last = each_set (λ m x. x.last ≤ own_clock w m) (λ m x. x.last ≤ own_clock w m) w.hosts id h new room (λ l. l) (λ _ _ _ l. l)
+        (back (λ m x. x.last ≤ own_clock w m) k.clocks.last);
     each = k.clocks.each ∙ sym (length-set w.hosts id.0 new);
   };
   dated = k.dated;
@@ -229,12 +251,14 @@ restarted_told s w v id h spares stands k = record {
   key : (m : HostId) → is_host m id ≡ false → eq_by_cmp nat_cmp m.0 id.0 ≡ false
   key m e = false_from_ne_true (eq_by_cmp nat_cmp m.0 id.0) (λ t. apart m id e (sym (same_number m.0 id.0 t)))
 
-  back : (P : HostId → Host → Type 0) → ((n : HostId) (x : Host) → slice_get w.hosts n.0 ≡ Some x → P n x) → (n : HostId) (x : Host) → slice_get (slice_set w.hosts id.0 h) n.0 ≡ Some x → P n x
+  back : (P : HostId → Host → Type 0) → ((n : HostId) (x : Host) → slice_get w.hosts n.0 ≡ Some x → P n x) → (n : HostId) (x : Host)
+      → slice_get (slice_set w.hosts id.0 h) n.0 ≡ Some x → P n x
   back P all n x is = all n x (ap (λ hs. slice_get hs n.0) (sym (set_same w.hosts id.0 h stands)) ∙ is)
 
 -- ---- every event
 
-pub told_event : (s : Settings) (w : World) (v : View) (e : Event) (bytes : List ℕ) (after : After) → IsTold s w v → outcome s w e bytes ≡ Done after → IsTold s after.world (seen_all v after.told)
+pub told_event : (s : Settings) (w : World) (v : View) (e : Event) (bytes : List ℕ) (after : After) → IsTold s w v → outcome s w e bytes ≡ Done after
+    → IsTold s after.world (seen_all v after.told)
 unfolding outcome
 told_event s w v (event.Call client server number) bytes after k e =
     let c = call_done s w after client server number bytes e in
@@ -242,7 +266,8 @@ told_event s w v (event.Call client server number) bytes after k e =
 told_event s w v (event.Deliver n) bytes after k e =
     let c = deliver_done s w after n e in
     subst (λ (x : After). IsTold s x.world (seen_all v x.told)) (sym c.is)
-    (arrival_told s w (seen v (PlainDeliver n)) (receiver c.sent.packet) c.host c.stands (told_view s w v (seen v (PlainDeliver n)) (deliver_same v n) k) (Some c.sent.packet) (next_answer w.answers)
+    (arrival_told s w (seen v (PlainDeliver n)) (receiver c.sent.packet) c.host c.stands
+    (told_view s w v (seen v (PlainDeliver n)) (deliver_same v n) k) (Some c.sent.packet) (next_answer w.answers)
     (λ p is. ap receiver (sym (some_is c.sent.packet p is))))
 told_event s w v event.Clock bytes after k e =
     let c = clock_done s w after e in
@@ -256,7 +281,8 @@ told_event s w v (event.Restart host) bytes after k e =
 told_event s w v (event.Inject host) bytes after k e =
     let c = inject_done s w after host bytes (host_at w host) (packet_in s.wire bytes) refl refl e in
     subst (λ (x : After). IsTold s x.world (seen_all v x.told)) (sym c.is)
-    (arrival_told s w (seen v (PlainInject host bytes)) host c.host c.stands (told_view s w v (seen v (PlainInject host bytes)) (inject_same v host bytes) k) None (next_answer w.answers) (λ p is. absurd (none_some p is)))
+    (arrival_told s w (seen v (PlainInject host bytes)) host c.host c.stands
+    (told_view s w v (seen v (PlainInject host bytes)) (inject_same v host bytes) k) None (next_answer w.answers) (λ p is. absurd (none_some p is)))
 told_event s w v (event.Shift host n) bytes after k e =
     let c = shift_done s w after host n (host_at w host) refl e in
     subst (λ (x : After). IsTold s x.world (seen_all v x.told)) (sym c.is) (shifted_told s w v host n c.host c.stands c.most c.forth k)

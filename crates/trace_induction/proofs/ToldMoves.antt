@@ -31,14 +31,17 @@ use Rattle.trace_induction.proofs.Frame.{move_said, move_packets, next_number}
 
 -- ---- what is so of each host, where one is set anew
 
-pub each_set : (P Q : HostId → Host → Type 0) (hs : List Host) (host : HostId) (x y : Host) → host.0 < length hs → (P host x → Q host y) → ((id : HostId) (h : Host) → is_host id host ≡ false → P id h → Q id h)
-    → ((id : HostId) (h : Host) → slice_get (slice_set hs host.0 x) id.0 ≡ Some h → P id h) → (id : HostId) (h : Host) → slice_get (slice_set hs host.0 y) id.0 ≡ Some h → Q id h
+pub each_set : (P Q : HostId → Host → Type 0) (hs : List Host) (host : HostId) (x y : Host) → host.0 < length hs → (P host x → Q host y)
+    → ((id : HostId) (h : Host) → is_host id host ≡ false → P id h → Q id h)
+    → ((id : HostId) (h : Host) → slice_get (slice_set hs host.0 x) id.0 ≡ Some h → P id h) → (id : HostId) (h : Host)
+    → slice_get (slice_set hs host.0 y) id.0 ≡ Some h → Q id h
 each_set P Q hs host x y stands here others all id h is = by_host (is_host id host) refl where
   by_host : (b : Bool) → is_host id host ≡ b → Q id h
   by_host true e =
       let same : id ≡ host = (hosts_are id host).0 e in
       let at : slice_get (slice_set hs host.0 y) host.0 ≡ Some h = ap (λ (n : HostId). slice_get (slice_set hs host.0 y) n.0) (sym same) ∙ is in
-      subst (λ (n : HostId). Q n h) (sym same) (subst (Q host) (some_is y h (sym (there hs host.0 y stands) ∙ at)) (here (all host x (there hs host.0 x stands))))
+      subst (λ (n : HostId). Q n h) (sym same)
+      (subst (Q host) (some_is y h (sym (there hs host.0 y stands) ∙ at)) (here (all host x (there hs host.0 x stands))))
   by_host false e =
       let other = apart id host e in
       others id h e (all id h (elsewhere hs host.0 id.0 x (λ k. other (sym k)) ∙ sym (elsewhere hs host.0 id.0 y (λ k. other (sym k))) ∙ is))
@@ -48,8 +51,10 @@ each_set P Q hs host x y stands here others all id h is = by_host (is_host id ho
 lives_of : (v : View) (id : HostId) (h k : Host) → k.inc ≡ h.inc → HasLives v id h → HasLives v id k
 lives_of v id h k e l = record { first = l.first; now = e ∙ l.now; later = l.later; told = l.told; sent = l.sent }
 
-module _ (s : Settings) (w : World) (v : View) (host : HostId) (work new : Work) (told : List Told) (clients : RowsOf ClientRow) (servers : RowsOf ServerRow) (m : IsMove work new told clients servers) (stands : host.0 < length w.hosts) where
-  of_life : (id : HostId) (h : Host) (ps : List Packet) → (id ≡ host → h.inc ≡ work.host.inc) → work.host.id ≡ host → AllByRecursion (IsFrom work.host) ps → AllByRecursion (IsOfLife id h) ps
+module _ (s : Settings) (w : World) (v : View) (host : HostId) (work new : Work) (told : List Told) (clients : RowsOf ClientRow)
+    (servers : RowsOf ServerRow) (m : IsMove work new told clients servers) (stands : host.0 < length w.hosts) where
+  of_life : (id : HostId) (h : Host) (ps : List Packet) → (id ≡ host → h.inc ≡ work.host.inc) → work.host.id ≡ host
+      → AllByRecursion (IsFrom work.host) ps → AllByRecursion (IsOfLife id h) ps
   of_life id h [] same name all = tt
   of_life id h (p ∷ ps) same name all = ((λ by. all.0.life ∙ sym (same (sym by ∙ all.0.by ∙ name))), of_life id h ps same name all.1)
 
@@ -62,7 +67,8 @@ module _ (s : Settings) (w : World) (v : View) (host : HostId) (work new : Work)
   sent_all (p ∷ ps) = ap (λ qs. sent_of p ∷ qs) (sent_all ps)
 
   -- where the rows as a client are of the host's own calls still
-  pub told_move : ((q : CallId) (r : ClientRow) → get clients q ≡ Some r → q.client ≡ host) → IsTold s (put w host work) (said_so_far w v work) → IsTold s (put w host new) (said_so_far w v new)
+  pub told_move : ((q : CallId) (r : ClientRow) → get clients q ≡ Some r → q.client ≡ host) → IsTold s (put w host work) (said_so_far w v work)
+      → IsTold s (put w host new) (said_so_far w v new)
   told_move own k =
       let before : View = said_so_far w v work in
       let after : View = seen_all before (entries_from (next_number w v host work new told clients servers m) told) in
@@ -74,19 +80,27 @@ module _ (s : Settings) (w : World) (v : View) (host : HostId) (work new : Work)
         valid = k.valid;
         settings = same.settings ∙ k.settings;
         tick = same.tick ∙ k.tick;
-        leads = λ id l. ap (λ (n : Map nat_cmp ℕ). unwrap_or (get n id.0) s.skew) same.leads ∙ k.leads id (omega (arith, l, length-set w.hosts host.0 new.host, length-set w.hosts host.0 work.host));
-        packets = told_packets before (next_number w v host work new told clients servers m) told m.inner ∙ ap (λ (ps : List Sent). ps ++ map sent_of (packets_in told)) k.packets
+        leads = λ id l. ap (λ (n : Map nat_cmp ℕ). unwrap_or (get n id.0) s.skew) same.leads
+            ∙ k.leads id (omega (arith, l, length-set w.hosts host.0 new.host, length-set w.hosts host.0 work.host));
+        packets = told_packets before (next_number w v host work new told clients servers m) told m.inner
+            ∙ ap (λ (ps : List Sent). ps ++ map sent_of (packets_in told)) k.packets
             ∙ ap (λ (ps : List Sent). map (λ (p : SentPacket). sent_of p.packet) (put w host work).packets ++ ps) (sym (sent_all (packets_in told)))
-            ∙ sym (map-append (λ (p : SentPacket). sent_of p.packet) (put w host work).packets (stamped w.clock (packets_in told))) ∙ ap (map (λ (p : SentPacket). sent_of p.packet)) (sym (move_packets w v host work new told clients servers m));
+            ∙ sym (map-append (λ (p : SentPacket). sent_of p.packet) (put w host work).packets (stamped w.clock (packets_in told)))
+            ∙ ap (map (λ (p : SentPacket). sent_of p.packet)) (sym (move_packets w v host work new told clients servers m));
         names = each_set HasOwnName HasOwnName w.hosts host work.host new.host stands
-            (λ n. record { name = m.id ∙ n.name; own = λ q r is. own q r (ap (λ (rows : RowsOf ClientRow). get rows q) (sym m.at_clients) ∙ is) }) (λ _ _ _ n. n) k.names;
+            (λ n. record { name = m.id ∙ n.name; own = λ q r is. own q r (ap (λ (rows : RowsOf ClientRow). get rows q) (sym m.at_clients) ∙ is) })
+            (λ _ _ _ n. n) k.names;
         lives = each_set (HasLives before) (HasLives after) w.hosts host work.host new.host stands
-            (λ l. lives_of after host work.host new.host m.inc (told_lives before (next_number w v host work new told clients servers m) told host work.host m.inner (of_life host work.host (packets_in told) (λ _. refl) here.name m.sent) l))
-            (λ id h e l. told_lives before (next_number w v host work new told clients servers m) told id h m.inner (of_life id h (packets_in told) (λ same. absurd (apart id host e (sym (ap (λ (n : HostId). n.0) same)))) here.name m.sent) l) k.lives;
+            (λ l. lives_of after host work.host new.host m.inc
+            (told_lives before (next_number w v host work new told clients servers m) told host work.host m.inner
+            (of_life host work.host (packets_in told) (λ _. refl) here.name m.sent) l))
+            (λ id h e l. told_lives before (next_number w v host work new told clients servers m) told id h m.inner
+            (of_life id h (packets_in told) (λ same. absurd (apart id host e (sym (ap (λ (n : HostId). n.0) same)))) here.name m.sent) l) k.lives;
         lived = told_lived before (next_number w v host work new told clients servers m) told m.inner k.lived;
         clocks = record {
           lead = k.clocks.lead;
-          last = each_set (λ id h. h.last ≤ own_clock w id) (λ id h. h.last ≤ own_clock w id) w.hosts host work.host new.host stands (λ l. omega (arith, l, m.last)) (λ _ _ _ l. l) k.clocks.last;
+          last = each_set (λ id h. h.last ≤ own_clock w id) (λ id h. h.last ≤ own_clock w id) w.hosts host work.host new.host stands
+              (λ l. omega (arith, l, m.last)) (λ _ _ _ l. l) k.clocks.last;
           each = k.clocks.each ∙ length-set w.hosts host.0 work.host ∙ sym (length-set w.hosts host.0 new.host);
         };
         dated = subst (AllByRecursion (IsDated s)) (sym (move_packets w v host work new told clients servers m))
@@ -94,7 +108,8 @@ module _ (s : Settings) (w : World) (v : View) (host : HostId) (work new : Work)
       })
 
 -- the rows of a client of which one is set are of its own calls, if that one is
-pub own_set : (host : HostId) (rows : RowsOf ClientRow) (id : CallId) (o : Option ClientRow) → id.client ≡ host → ((q : CallId) (r : ClientRow) → get rows q ≡ Some r → q.client ≡ host)
+pub own_set : (host : HostId) (rows : RowsOf ClientRow) (id : CallId) (o : Option ClientRow) → id.client ≡ host
+    → ((q : CallId) (r : ClientRow) → get rows q ≡ Some r → q.client ≡ host)
     → (q : CallId) (r : ClientRow) → get (set_row rows id o) q ≡ Some r → q.client ≡ host
 own_set host rows id o mine all q r is = by_call (is_call q id) refl where
   by_call : (b : Bool) → is_call q id ≡ b → q.client ≡ host

@@ -16,7 +16,8 @@ use Rattle.homa_plain.specs.Host.{Host, Told}
 use Rattle.homa_plain.specs.Rules.{Answer, Did}
 use Rattle.homa_plain.specs.Timers.{Place, OfClient, OfServer, client_acts, server_acts}
 use Rattle.homa_plain.specs.Sending.{client_granted, client_sends}
-use Rattle.homa_plain.specs.Steps.{Work, now_of, moment, asked, served, hears_cutoffs, comes_to_row, takes, is_stale, comes, client_acted, server_acted, acts_at, acts, ended}
+use Rattle.homa_plain.specs.Steps.{Work, now_of, moment, asked, served, hears_cutoffs, comes_to_row, takes, is_stale, comes, client_acted}
+use Rattle.homa_plain.specs.Steps.{server_acted, acts_at, acts, ended}
 use Rattle.homa_plain.specs.View.{View, Sent}
 use Rattle.homa_plain.specs.Seen.{seen, seen_all, delivered, delivery}
 use Rattle.homa_plain.specs.Seen as lines
@@ -89,7 +90,8 @@ pub record IsSameHost (s : Settings) (w : World) (id : HostId) (h k : Host) : Ty
   pub own : (q : CallId) (r : ClientRow) → get k.clients q ≡ Some r → q.client ≡ id
   pub last : k.last ≤ own_clock w id
 
-pub told_host : (s : Settings) (w : World) (v : View) (id : HostId) (h k : Host) → host_at w id ≡ Some h → IsSameHost s w id h k → IsTold s w v → IsTold s (record w { hosts = slice_set w.hosts id.0 k }) v
+pub told_host : (s : Settings) (w : World) (v : View) (id : HostId) (h k : Host) → host_at w id ≡ Some h → IsSameHost s w id h k → IsTold s w v
+    → IsTold s (record w { hosts = slice_set w.hosts id.0 k }) v
 told_host s w v id h k stands e t =
     let l : id.0 < length w.hosts = within w.hosts id.0 h stands in
     let same : slice_set w.hosts id.0 h ≡ w.hosts = set_same w.hosts id.0 h stands in
@@ -99,17 +101,21 @@ told_host s w v id h k stands e t =
       tick = t.tick;
       leads = λ n m. t.leads n (omega (arith, m, length-set w.hosts id.0 k));
       packets = t.packets;
-      names = each_set HasOwnName HasOwnName w.hosts id h k l (λ n. record { name = e.name ∙ n.name; own = e.own }) (λ _ _ _ n. n) (back same HasOwnName t.names);
-      lives = each_set (HasLives v) (HasLives v) w.hosts id h k l (λ x. record { first = x.first; now = e.inc ∙ x.now; later = x.later; told = x.told; sent = x.sent }) (λ _ _ _ x. x) (back same (HasLives v) t.lives);
+      names =
+          each_set HasOwnName HasOwnName w.hosts id h k l (λ n. record { name = e.name ∙ n.name; own = e.own }) (λ _ _ _ n. n) (back same HasOwnName t.names);
+      lives = each_set (HasLives v) (HasLives v) w.hosts id h k l
+          (λ x. record { first = x.first; now = e.inc ∙ x.now; later = x.later; told = x.told; sent = x.sent }) (λ _ _ _ x. x) (back same (HasLives v) t.lives);
       lived = t.lived;
       clocks = record {
         lead = t.clocks.lead;
-        last = each_set (λ n x. x.last ≤ own_clock w n) (λ n x. x.last ≤ own_clock w n) w.hosts id h k l (λ _. e.last) (λ _ _ _ x. x) (back same (λ n x. x.last ≤ own_clock w n) t.clocks.last);
+        last = each_set (λ n x. x.last ≤ own_clock w n) (λ n x. x.last ≤ own_clock w n) w.hosts id h k l (λ _. e.last) (λ _ _ _ x. x)
+            (back same (λ n x. x.last ≤ own_clock w n) t.clocks.last);
         each = t.clocks.each ∙ sym (length-set w.hosts id.0 k);
       };
       dated = t.dated;
     } where
-      back : slice_set w.hosts id.0 h ≡ w.hosts → (P : HostId → Host → Type 0) → ((n : HostId) (x : Host) → slice_get w.hosts n.0 ≡ Some x → P n x) → (n : HostId) (x : Host) → slice_get (slice_set w.hosts id.0 h) n.0 ≡ Some x → P n x
+      back : slice_set w.hosts id.0 h ≡ w.hosts → (P : HostId → Host → Type 0) → ((n : HostId) (x : Host) → slice_get w.hosts n.0 ≡ Some x → P n x)
+          → (n : HostId) (x : Host) → slice_get (slice_set w.hosts id.0 h) n.0 ≡ Some x → P n x
       back same P all n x is = all n x (ap (λ hs. slice_get hs n.0) (sym same) ∙ is)
 
 -- ---- moves
@@ -125,23 +131,30 @@ module _ (s : Settings) (w : World) (v : View) (host : HostId) (stands : host.0 
   own_amid work k = (k.names host work.host (there w.hosts host.0 work.host stands)).own
 
   -- a move that leaves the rows of the host as a client
-  told_beside : (work new : Work) (told : List Told) (servers : RowsOf ServerRow) → IsMove work new told work.host.clients servers → ToldAmid work → ToldAmid new
+  told_beside : (work new : Work) (told : List Told) (servers : RowsOf ServerRow) → IsMove work new told work.host.clients servers → ToldAmid work
+      → ToldAmid new
   told_beside work new told servers m k = told_move s w v host work new told work.host.clients servers m stands (own_amid work k) k
 
-  told_client : (work new : Work) (told : List Told) (id : CallId) (o : Option ClientRow) → id.client ≡ host → IsMove work new told (set_row work.host.clients id o) work.host.servers → ToldAmid work → ToldAmid new
-  told_client work new told id o mine m k = told_move s w v host work new told (set_row work.host.clients id o) work.host.servers m stands (own_set host work.host.clients id o mine (own_amid work k)) k
+  told_client : (work new : Work) (told : List Told) (id : CallId) (o : Option ClientRow) → id.client ≡ host
+      → IsMove work new told (set_row work.host.clients id o) work.host.servers → ToldAmid work → ToldAmid new
+  told_client work new told id o mine m k = told_move s w v host work new told (set_row work.host.clients id o) work.host.servers m stands
+      (own_set host work.host.clients id o mine (own_amid work k)) k
 
   pub told_served : (work : Work) (id : CallId) (did : Did ServerRow) → AllOwn work.host.id id did.says → ToldAmid work → ToldAmid (served s id did work)
-  told_served work id did own k = told_beside work (served s id did work) (served_told s id did work) (set_row work.host.servers id did.row) (served-move s id did work own) k
+  told_served work id did own k =
+      told_beside work (served s id did work) (served_told s id did work) (set_row work.host.servers id did.row) (served-move s id did work own) k
 
-  pub told_asked : (work : Work) (id : CallId) (server : HostId) (did : Did ClientRow) → id.client ≡ host → AllOwn id.client id did.says → ToldAmid work → ToldAmid (asked s id server did work)
-  told_asked work id server did mine own k = told_client work (asked s id server did work) (asked_told s id server did work) id did.row mine (asked-move s id server did work (mine ∙ sym (name_amid work k)) own) k
+  pub told_asked : (work : Work) (id : CallId) (server : HostId) (did : Did ClientRow) → id.client ≡ host → AllOwn id.client id did.says
+      → ToldAmid work → ToldAmid (asked s id server did work)
+  told_asked work id server did mine own k = told_client work (asked s id server did work) (asked_told s id server did work) id did.row mine
+      (asked-move s id server did work (mine ∙ sym (name_amid work k)) own) k
 
   told_grants : GrantKeeps s ToldAmid
   told_grants = record {
     response = λ work id r part offset prio k at has o m.
         let mine : id.client ≡ host = own_amid work k id r at in
-        told_client work _ _ id (Some (client_granted (now_of work) offset r)) mine (client_granted-move s id work offset prio r (mine ∙ sym (name_amid work k))) k;
+        told_client work _ _ id (Some (client_granted (now_of work) offset r)) mine
+        (client_granted-move s id work offset prio r (mine ∙ sym (name_amid work k))) k;
     request = λ work id row service part base count offset prio k at is o m. told_beside work _ _ _ (server_granted-move s id work offset prio row) k;
   }
 
@@ -160,15 +173,18 @@ module _ (s : Settings) (w : World) (v : View) (host : HostId) (stands : host.0 
   told_acted : (work : Work) (place : Place) (at : ℕ) → ToldAmid work → IsTimerAt s work.host at place → at ≤ now_of work → ToldAmid (acts_at s place work)
   told_acted work (OfClient id) at k timer past =
       subst (λ o. ToldAmid (client_acted s id o work)) (sym timer.1)
-      (told_asked work id (timer.0).server (client_acts s (moment s id work) id timer.0) (own_amid work k id timer.0 timer.1) (client_acts_quiet s (moment s id work) id timer.0).0 k)
+      (told_asked work id (timer.0).server (client_acts s (moment s id work) id timer.0) (own_amid work k id timer.0 timer.1)
+      (client_acts_quiet s (moment s id work) id timer.0).0 k)
   told_acted work (OfServer id) at k timer past =
-      subst (λ o. ToldAmid (server_acted s id o work)) (sym timer.1) (told_served work id (server_acts s (moment s id work) id timer.0) (server_acts_own s (moment s id work) id timer.0) k)
+      subst (λ o. ToldAmid (server_acted s id o work)) (sym timer.1)
+      (told_served work id (server_acts s (moment s id work) id timer.0) (server_acts_own s (moment s id work) id timer.0) k)
 
   pub told_acts : 1 ≤ s.resend → (work : Work) → ToldAmid work → ToldAmid (acts s work)
   told_acts resend work k = turn_kept s ToldAmid told_acted resend work k
 
   -- a packet is taken
-  told_row : (p : Packet) (answer : Answer) (role : Role) (work : Work) → receiver_of role p.id p.server ≡ host → ToldAmid work → ToldAmid (comes_to_row s p answer role work)
+  told_row : (p : Packet) (answer : Answer) (role : Role) (work : Work) → receiver_of role p.id p.server ≡ host → ToldAmid work
+      → ToldAmid (comes_to_row s p answer role work)
   told_row p answer Client work at k = told_served work p.id _ (gets_own s (moment s p.id work) p answer (get work.host.servers p.id)) k
   told_row p answer Server work at k = told_asked work p.id p.server _ at (gets_quiet s (moment s p.id work) p (get work.host.clients p.id)).0 k
 
@@ -176,9 +192,13 @@ module _ (s : Settings) (w : World) (v : View) (host : HostId) (stands : host.0 
   unfolding takes
   told_takes p answer work at k =
       acked_kept s ToldAmid (λ now id l. told_served now id _ (acked_own s (moment s id now) id (get now.host.servers id)) l) (acks p) _
-      (told_row p answer p.role (hears_cutoffs s (sender p) p.inc p.body work) at (told_beside work (hears_cutoffs s (sender p) p.inc p.body work) [] work.host.servers (hears-move s (sender p) p.inc p.body work) k))
+      (told_row p answer p.role (hears_cutoffs s (sender p) p.inc p.body work) at
+      (told_beside work (hears_cutoffs s (sender p) p.inc p.body work) [] work.host.servers (hears-move s (sender p) p.inc p.body work) k))
 
-  pub told_comes : (o : Option Packet) (answer : Answer) (work : Work) → ((p : Packet) → o ≡ Some p → receiver p ≡ host) → ToldAmid work → ToldAmid (comes s o answer work)
+  pub told_comes : (o : Option Packet) (answer : Answer) (work : Work) → ((p : Packet) → o ≡ Some p → receiver p ≡ host) → ToldAmid work
+      → ToldAmid (comes s o answer work)
   told_comes None answer work at k = told_beside work _ _ work.host.servers (says-move (PlainJunk work.host.id) work tt) k
   told_comes (Some p) answer work at k =
-      cond_both (is_stale s (now_of work) p) _ _ ToldAmid (λ _. told_beside work _ _ work.host.servers (says-move (PlainStale work.host.id p.at (now_of work)) work tt) k) (λ _. told_takes p answer work (at p refl) k)
+      cond_both (is_stale s (now_of work) p) _ _ ToldAmid
+      (λ _. told_beside work _ _ work.host.servers (says-move (PlainStale work.host.id p.at (now_of work)) work tt) k)
+      (λ _. told_takes p answer work (at p refl) k)

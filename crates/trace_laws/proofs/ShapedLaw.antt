@@ -9,7 +9,8 @@ use Rattle.homa_plain.specs.declared.id.HostId.{HostId}
 use Rattle.homa_plain.specs.declared.event.Event.{Event}
 use Rattle.homa_plain.specs.declared.event.Event.TheVariants as event
 use Rattle.homa_plain.specs.declared.settings.Settings.{Settings}
-use Rattle.homa_plain.specs.Entries.{PlainEntry, PlainSettings, PlainCall, PlainDeliver, PlainClock, PlainRestart, PlainInject, PlainShift, PlainFinished, PlainRefused, PlainStalled}
+use Rattle.homa_plain.specs.Entries.{PlainEntry, PlainSettings, PlainCall, PlainDeliver, PlainClock, PlainRestart, PlainInject, PlainShift}
+use Rattle.homa_plain.specs.Entries.{PlainFinished, PlainRefused, PlainStalled}
 use Rattle.homa_plain.specs.Lines.{is_last}
 use Rattle.homa_plain.specs.Packets.{receiver}
 use Rattle.homa_plain.specs.Host.{Host, new_host, entries_from}
@@ -54,7 +55,8 @@ record StepShaped (s : Settings) (w : World) (v : View) (host : HostId) (work : 
   hosts : length (after_step w host [] work).world.hosts ≡ s.hosts
 
 -- behind the event's line, if it has one
-module _ (s : Settings) (w : World) (v : View) (host : HostId) (h : Host) (stands : host_at w host ≡ Some h) (told : IsTold s w v) (k : IsKept s w v) (many : length w.hosts ≡ s.hosts) (b : IsBehind v) where
+module _ (s : Settings) (w : World) (v : View) (host : HostId) (h : Host) (stands : host_at w host ≡ Some h) (told : IsTold s w v) (k : IsKept s w v)
+    (many : length w.hosts ≡ s.hosts) (b : IsBehind v) where
   abbrev now : ℕ
   now = own_clock w host
 
@@ -68,13 +70,15 @@ module _ (s : Settings) (w : World) (v : View) (host : HostId) (h : Host) (stand
   begins x e =
       let name = told.names host h stands in
       record {
-        kept = begun_amid s w v host now h x stands e time.last time.within (e.id ∙ name.name) (λ q r is. name.own q r (ap (λ rows. get rows q) (sym e.clients) ∙ is)) k;
+        kept = begun_amid s w v host now h x stands e time.last time.within (e.id ∙ name.name)
+            (λ q r is. name.own q r (ap (λ rows. get rows q) (sym e.clients) ∙ is)) k;
         told = told_events.begun_amid s w v host h stands told x e.id e.inc e.clients e.last;
         shaped = (tt, b);
       }
 
   begun_now : IsShaped s w v host (own_clock w host) room (begun h (own_clock w host))
-  begun_now = begins (record h { last = own_clock w host }) (record { id = refl; inc = refl; seq = refl; clients = refl; servers = refl; finished = refl; last = refl })
+  begun_now =
+      begins (record h { last = own_clock w host }) (record { id = refl; inc = refl; seq = refl; clients = refl; servers = refl; finished = refl; last = refl })
 
   ends : (work : Work) → IsShaped s w v host (own_clock w host) room work → StepShaped s w v host (ended s work)
   ends work a =
@@ -82,7 +86,8 @@ module _ (s : Settings) (w : World) (v : View) (host : HostId) (h : Host) (stand
       record { shape = after.shaped.0; behind = after.shaped.1; hosts = length-set w.hosts host.0 (ended s work).host ∙ many }
 
   -- a call starts
-  new_call : (server : HostId) (number : ℕ) (request : List ℕ) → server.0 < length w.hosts → start_fault s h server request ≡ None → IsNewCall v (next_id h) server request
+  new_call : (server : HostId) (number : ℕ) (request : List ℕ) → server.0 < length w.hosts → start_fault s h server request ≡ None
+      → IsNewCall v (next_id h) server request
   new_call server number request there may =
       let m = may_start s h server request may in
       let name : h.id ≡ host = (told.names host h stands).name in
@@ -96,16 +101,21 @@ module _ (s : Settings) (w : World) (v : View) (host : HostId) (h : Host) (stand
       } where
         none_called : (o : Option Called) → get v.calls (next_id h) ≡ o → o ≡ None
         none_called None e = refl
-        none_called (Some c) e = absurd (false≢true (sym (unused s w v host (own_clock w host) h room time.within server number request begun_now.kept host) ∙ (begun_now.kept.kept.calls (next_id h) host).named c e))
+        none_called (Some c) e =
+            absurd (false≢true
+            (sym (unused s w v host (own_clock w host) h room time.within server number request begun_now.kept host)
+            ∙ (begun_now.kept.kept.calls (next_id h) host).named c e))
 
-  started : (server : HostId) (number : ℕ) (request : List ℕ) → server.0 < length w.hosts → start_fault s h server request ≡ None → IsShaped s w v host (own_clock w host) room (starts s server number request (begun h (own_clock w host)))
+  started : (server : HostId) (number : ℕ) (request : List ℕ) → server.0 < length w.hosts → start_fault s h server request ≡ None
+      → IsShaped s w v host (own_clock w host) room (starts s server number request (begun h (own_clock w host)))
   started server number request there may = record {
     kept = started_amid s w v host now h room time.within server number request begun_now.kept;
     told = told_events.started_amid s w v host h stands told now server number request refl;
     shaped = (((b, new_call server number request there may), tt), line_behind v (PlainCall (next_id h) server number request) refl b);
   }
 
-  call_shaped : (server : HostId) (number : ℕ) (request : List ℕ) → server.0 < length w.hosts → start_fault s h server request ≡ None → StepShaped s w v host (call_step s h (own_clock w host) server number request)
+  call_shaped : (server : HostId) (number : ℕ) (request : List ℕ) → server.0 < length w.hosts → start_fault s h server request ≡ None
+      → StepShaped s w v host (call_step s h (own_clock w host) server number request)
   unfolding call_step
   call_shaped server number request there may = ends (starts s server number request (begun h (own_clock w host))) (started server number request there may)
 
@@ -114,13 +124,17 @@ module _ (s : Settings) (w : World) (v : View) (host : HostId) (h : Host) (stand
   turn_step_shaped =
       let filled : Host = refilled s (record h { last = own_clock w host }) in
       ends (acts s (begun filled (own_clock w host)))
-      (turn_shaped s w v host now room time.from time.within (resend_of s told.valid) (begun filled (own_clock w host)) (begins (record filled { last = own_clock w host }) (begins_filled s h (own_clock w host))))
+      (turn_shaped s w v host now room time.from time.within (resend_of s told.valid) (begun filled (own_clock w host))
+      (begins (record filled { last = own_clock w host }) (begins_filled s h (own_clock w host))))
 
   junk_step_shaped : (answer : Answer) → StepShaped s w v host (arrival_step s h (own_clock w host) None answer)
   unfolding arrival_step
-  junk_step_shaped answer = ends (comes s None answer (begun h (own_clock w host))) (junk_shaped s w v host now room time.from time.within answer (begun h (own_clock w host)) begun_now)
+  junk_step_shaped answer =
+      ends (comes s None answer (begun h (own_clock w host)))
+      (junk_shaped s w v host now room time.from time.within answer (begun h (own_clock w host)) begun_now)
 
-  packet_step_shaped : (n : ℕ) (sent : SentPacket) (answer : Answer) → slice_get w.packets n ≡ Some sent → receiver sent.packet ≡ host → is_late s w sent.tick ≡ false → StepShaped s w v host (arrival_step s h (own_clock w host) (Some sent.packet) answer)
+  packet_step_shaped : (n : ℕ) (sent : SentPacket) (answer : Answer) → slice_get w.packets n ≡ Some sent → receiver sent.packet ≡ host
+      → is_late s w sent.tick ≡ false → StepShaped s w v host (arrival_step s h (own_clock w host) (Some sent.packet) answer)
   unfolding arrival_step
   packet_step_shaped n sent answer at to early =
       let fits = all_get (PacketFits s (amid w v host (begun h (own_clock w host)))) w.packets n sent
@@ -136,7 +150,8 @@ record EventShaped (s : Settings) (v : View) (after : After) : Type 0 where
   behind : IsBehind (seen_all v after.told)
   hosts : length after.world.hosts ≡ s.hosts
 
-event_shaped : (s : Settings) (w : World) (v : View) (e : Event) (bytes : List ℕ) (after : After) → IsTold s w v → IsKept s w v → length w.hosts ≡ s.hosts → IsBehind v → outcome s w e bytes ≡ Done after → EventShaped s v after
+event_shaped : (s : Settings) (w : World) (v : View) (e : Event) (bytes : List ℕ) (after : After) → IsTold s w v → IsKept s w v
+    → length w.hosts ≡ s.hosts → IsBehind v → outcome s w e bytes ≡ Done after → EventShaped s v after
 unfolding outcome
 event_shaped s w v (event.Call client server number) bytes after told k many b e =
     let c = call_done s w after client server number bytes e in
@@ -146,9 +161,12 @@ event_shaped s w v (event.Deliver n) bytes after told k many b e =
     let c = deliver_done s w after n e in
     let line : PlainEntry = PlainDeliver n in
     let sent : n < length v.packets = subst (λ (i : ℕ). n < i) (sym (ap length told.packets ∙ length_told w.packets)) (within w.packets n c.sent c.at) in
-    let r = packet_step_shaped s w (seen v line) (receiver c.sent.packet) c.host c.stands (told_view s w v (seen v line) (deliver_same v n) told) (deliver_line s w v n k) many (line_behind v line refl b) n c.sent (next_answer w.answers) c.at refl c.early in
+    let r = packet_step_shaped s w (seen v line) (receiver c.sent.packet) c.host c.stands (told_view s w v (seen v line) (deliver_same v n) told)
+    (deliver_line s w v n k) many (line_behind v line refl b) n c.sent (next_answer w.answers) c.at refl c.early in
     subst (EventShaped s v) (sym c.is) (record { shape = ((b, sent), r.shape); behind = r.behind; hosts = r.hosts })
-event_shaped s w v event.Clock bytes after told k many b e = subst (EventShaped s v) (sym (clock_done s w after e).is) (record { shape = ((b, tt), tt); behind = line_behind v (PlainClock (w.clock + 1)) refl b; hosts = many })
+event_shaped s w v event.Clock bytes after told k many b e =
+    subst (EventShaped s v) (sym (clock_done s w after e).is)
+    (record { shape = ((b, tt), tt); behind = line_behind v (PlainClock (w.clock + 1)) refl b; hosts = many })
 event_shaped s w v (event.Turn host) bytes after told k many b e =
     let c = turn_done s w after host (host_at w host) refl e in
     let r = turn_step_shaped s w v host c.host c.stands told k many b in
@@ -163,10 +181,12 @@ event_shaped s w v (event.Restart host) bytes after told k many b e =
 event_shaped s w v (event.Inject host) bytes after told k many b e =
     let c = inject_done s w after host bytes (host_at w host) (packet_in s.wire bytes) refl refl e in
     let line : PlainEntry = PlainInject host bytes in
-    let r = junk_step_shaped s w (seen v line) host c.host c.stands (told_view s w v (seen v line) (inject_same v host bytes) told) (inject_line s w v host bytes k) many (line_behind v line refl b) (next_answer w.answers) in
+    let r = junk_step_shaped s w (seen v line) host c.host c.stands (told_view s w v (seen v line) (inject_same v host bytes) told)
+    (inject_line s w v host bytes k) many (line_behind v line refl b) (next_answer w.answers) in
     subst (EventShaped s v) (sym c.is) (record { shape = ((b, tt), r.shape); behind = r.behind; hosts = r.hosts })
 event_shaped s w v (event.Shift host n) bytes after told k many b e =
-    subst (EventShaped s v) (sym (shift_done s w after host n (host_at w host) refl e).is) (record { shape = ((b, tt), tt); behind = line_behind v (PlainShift host n) refl b; hosts = many })
+    subst (EventShaped s v) (sym (shift_done s w after host n (host_at w host) refl e).is)
+    (record { shape = ((b, tt), tt); behind = line_behind v (PlainShift host n) refl b; hosts = many })
 
 -- ---- every trace
 
@@ -194,12 +214,19 @@ opened_hosts s incs clock boxes answers = length-new s 0 incs
 
 pub event_lines : KeptByEvent IsSoFar IsShapedLine
 event_lines s w v e after so done =
-    let k = event_shaped s w v e.event e.bytes after so.0 so.1 so.2 so.3 done in
-    (as_lines v after.told k.shape, (told_events.told_event s w v e.event e.bytes after so.0 done, (event_keeps s w v e.event e.bytes after so.0 so.1 done).kept, k.hosts, k.behind))
+    let k = event_shaped s w v e.event e.bytes after so.0 so.1 so.2 so.3 done in (
+      as_lines v after.told k.shape,
+      (told_events.told_event s w v e.event e.bytes after so.0 done, (event_keeps s w v e.event e.bytes after so.0 so.1 done).kept, k.hosts, k.behind),
+    )
 
 lines_always : HoldsAlways IsShapedLine
 lines_always = always IsSoFar IsShapedLine (λ s incs clock boxes opening cause. (refl, opening.valid))
-    (λ s incs clock boxes answers opening. (told_first s incs clock boxes answers opening, opened_kept s incs clock boxes answers, opened_hosts s incs clock boxes answers ∙ opening.hosts, opened_behind s clock))
+    (λ s incs clock boxes answers opening. (
+      told_first s incs clock boxes answers opening,
+      opened_kept s incs clock boxes answers,
+      opened_hosts s incs clock boxes answers ∙ opening.hosts,
+      opened_behind s clock,
+    ))
     event_lines (λ s w v line so e. last_shaped v line e so.3)
 
 -- lines behind which another one may stand are no last ones
@@ -221,7 +248,8 @@ opens v (line ∷ lines) n h =
     let both : (v.ended || is_last line) ≡ false = sym (ended_line v line) ∙ rest.1 in
     ((or_second v.ended (is_last line) both, rest.0), or_first v.ended (is_last line) both)
 
-shaped_lines : (v : View) (lines more : List PlainEntry) → AllOpen lines → Holds IsShapedLine v (lines ++ more) → ((u : View) → Holds IsShapedLine u more → Holds Shape u more) → Holds Shape v (lines ++ more)
+shaped_lines : (v : View) (lines more : List PlainEntry) → AllOpen lines → Holds IsShapedLine v (lines ++ more)
+    → ((u : View) → Holds IsShapedLine u more → Holds Shape u more) → Holds Shape v (lines ++ more)
 shaped_lines v [] more all h last = last v h
 shaped_lines v (line ∷ lines) more all h last = (h.0 (open_cause line all.0), shaped_lines (seen v line) lines more all.1 h.1 last)
 
@@ -230,6 +258,7 @@ shaped_always s incs clock boxes answers events opening =
     let told : List PlainEntry = trace s incs clock boxes answers events in
     let k = lines_always s incs clock boxes answers events opening in
     let all = (opens (at_start clock) told 0 (k.1 (PlainFinished 0) refl)).0 in (
-      subst (Holds Shape (at_start clock)) (append-nil told) (shaped_lines (at_start clock) told [] all (subst (Holds IsShapedLine (at_start clock)) (sym (append-nil told)) k.0) (λ u h. tt)),
+      subst (Holds Shape (at_start clock)) (append-nil told)
+          (shaped_lines (at_start clock) told [] all (subst (Holds IsShapedLine (at_start clock)) (sym (append-nil told)) k.0) (λ u h. tt)),
       λ line last cause. shaped_lines (at_start clock) told (line ∷ []) all (k.1 line last) (λ u h. (h.0 cause, tt)),
     )

@@ -1,5 +1,6 @@
 -- Lines within a step have the shape, where the calls that they name were made.
-use Rattle.std.proofs.Common.{◌≡◌, ℕ, zero, suc, ◌+◌, ◌≤◌, Bool, true, false, ◌||◌, Option, Some, None, List, [], ◌∷◌, ◌++◌, length, cond, refl, sym, ap, subst, ◌∙◌, arith}
+use Rattle.std.proofs.Common.{◌≡◌, ℕ, zero, suc, ◌+◌, ◌≤◌, Bool, true, false, ◌||◌, Option, Some, None, List, [], ◌∷◌, ◌++◌, length, cond, refl, sym}
+use Rattle.std.proofs.Common.{ap, subst, ◌∙◌, arith}
 use Rattle.std.specs.Prelude.{◌==◌, is_some, nat_lt, nat_le}
 use Rattle.std.specs.List.{AllByRecursion}
 use Rattle.std.proofs.lemmas.Bool.{cond_both, false≢true, ltb-false}
@@ -12,7 +13,8 @@ use Rattle.homa_plain.specs.declared.fault.StartFault.{StartFault}
 use Rattle.homa_plain.specs.declared.fault.StartFault.TheVariants.{Empty, TooLong, SelfCall, CallsFull, SeqSpent}
 use Rattle.homa_plain.specs.declared.settings.Settings.{Settings}
 use Rattle.homa_plain.specs.Calls.{is_host, call_cmp}
-use Rattle.homa_plain.specs.Entries.{PlainEntry, PlainSettings, PlainCall, PlainDeliver, PlainSend, PlainRefused, PlainFinished, PlainStalled, PlainRun, PlainDone, PlainFail, PlainDrop, PlainGaps, PlainBury, PlainFree, PlainFullRows, PlainFullPages}
+use Rattle.homa_plain.specs.Entries.{PlainEntry, PlainSettings, PlainCall, PlainDeliver, PlainSend, PlainRefused, PlainFinished, PlainStalled}
+use Rattle.homa_plain.specs.Entries.{PlainRun, PlainDone, PlainFail, PlainDrop, PlainGaps, PlainBury, PlainFree, PlainFullRows, PlainFullPages}
 use Rattle.homa_plain.specs.Lines.{is_last, named}
 use Rattle.homa_plain.specs.Packets.{Packet, send_line}
 use Rattle.homa_plain.specs.Host.{Host, Told, Says, Sends, packets_in, entries_from, Tuned, tuned, is_balance_due, counted, finished_at}
@@ -59,7 +61,8 @@ named_later v u e [] k = k
 named_later v u e (Says entry ∷ told) k = (made_later v u e (named entry) k.0, named_later v u e told k.1)
 named_later v u e (Sends p ∷ told) k = named_later v u e told k
 
-sent_later : (v u : View) → u.calls ≡ v.calls → (ps : List Packet) → AllByRecursion (λ (p : Packet). IsMade v (Some p.id)) ps → AllByRecursion (λ (p : Packet). IsMade u (Some p.id)) ps
+sent_later : (v u : View) → u.calls ≡ v.calls → (ps : List Packet) → AllByRecursion (λ (p : Packet). IsMade v (Some p.id)) ps
+    → AllByRecursion (λ (p : Packet). IsMade u (Some p.id)) ps
 sent_later v u e [] k = k
 sent_later v u e (p ∷ ps) k = (made_later v u e (Some p.id) k.0, sent_later v u e ps k.1)
 
@@ -82,7 +85,8 @@ own_made v h id (PlainFullPages host q need free) k own = subst (λ (x : CallId)
 own_made v h id entry k own = absurd own
 
 module _ (s : Settings) (v : View) where
-  pub said_named : (h : HostId) (id : CallId) (host : Host) (role : Role) (server : HostId) (says : List Say) → IsMade v (Some id) → AllOwn h id says → AllNamed v (said s host role id server says)
+  pub said_named : (h : HostId) (id : CallId) (host : Host) (role : Role) (server : HostId) (says : List Say) → IsMade v (Some id) → AllOwn h id says
+      → AllNamed v (said s host role id server says)
   said_named h id host role server [] k own = tt
   said_named h id host role server (Tells entry ∷ says) k own = (own_made v h id entry k own.0, said_named h id host role server says k own.1)
   said_named h id host role server (Posts what ∷ says) k own = said_named h id host role server says k own
@@ -114,18 +118,23 @@ said_shape v (PlainSend number from to inc role id level what payload) said b k 
 said_shape v (PlainRefused line fault) said b k = absurd said
 said_shape v entry said b k = (b, k)
 
-pub told_shape : (v : View) (n : ℕ) (told : List Told) → IsBehind v → n ≡ length v.packets → AllInner told → AllNamed v told → AllByRecursion (λ (p : Packet). IsMade v (Some p.id)) (packets_in told) → Holds Shape v (entries_from n told) × IsBehind (seen_all v (entries_from n told))
+pub told_shape : (v : View) (n : ℕ) (told : List Told) → IsBehind v → n ≡ length v.packets → AllInner told → AllNamed v told
+    → AllByRecursion (λ (p : Packet). IsMade v (Some p.id)) (packets_in told)
+    → Holds Shape v (entries_from n told) × IsBehind (seen_all v (entries_from n told))
 told_shape v n [] b number inner named sent = (tt, b)
 told_shape v n (Says entry ∷ told) b number inner named sent =
     let calls = (inner_same v entry (said_inner entry inner.0)).calls in
-    let rest = told_shape (seen v entry) n told (line_behind v entry (inner_open entry (said_inner entry inner.0)) b) (number ∙ ap length (sym (said_packets v entry inner.0))) inner.1
+    let rest = told_shape (seen v entry) n told (line_behind v entry (inner_open entry (said_inner entry inner.0)) b)
+    (number ∙ ap length (sym (said_packets v entry inner.0))) inner.1
     (named_later v (seen v entry) calls told named.1) (sent_later v (seen v entry) calls (packets_in told) sent) in
     ((said_shape v entry inner.0 b named.0, rest.0), rest.1)
 told_shape v n (Sends p ∷ told) b number inner named sent =
     let line : PlainEntry = send_line n p in
     let calls = (inner_same v line tt).calls in
-    let more : length (seen v line).packets ≡ length v.packets + 1 = ap length (told_packets v n (Sends p ∷ []) tt) ∙ length-append v.packets (sent_of p ∷ []) in
-    let rest = told_shape (seen v line) (suc n) told (line_behind v line refl b) (omega (arith, number, more)) inner (named_later v (seen v line) calls told named) (sent_later v (seen v line) calls (packets_in told) sent.1) in
+    let more : length (seen v line).packets ≡ length v.packets + 1 =
+    ap length (told_packets v n (Sends p ∷ []) tt) ∙ length-append v.packets (sent_of p ∷ []) in
+    let rest = told_shape (seen v line) (suc n) told (line_behind v line refl b) (omega (arith, number, more)) inner
+    (named_later v (seen v line) calls told named) (sent_later v (seen v line) calls (packets_in told) sent.1) in
     (((b, number, sent.0), rest.0), rest.1)
 
 -- ---- when a call may start
@@ -144,7 +153,8 @@ module _ (s : Settings) (h : Host) (server : HostId) (request : List ℕ) where
     rest : Option StartFault
     rest = cond (nat_le s.calls (len h.clients)) (Some CallsFull) (cond (nat_le 4294967295 h.seq) (Some SeqSpent) None)
 
-    by_empty : (a : Bool) → (length request == 0) ≡ a → (b : Bool) → nat_lt 1000000 (length request) ≡ b → (c : Bool) → is_host server h.id ≡ c → cond a (Some Empty) (cond b (Some TooLong) (cond c (Some SelfCall) rest)) ≡ None
+    by_empty : (a : Bool) → (length request == 0) ≡ a → (b : Bool) → nat_lt 1000000 (length request) ≡ b → (c : Bool) → is_host server h.id ≡ c
+        → cond a (Some Empty) (cond b (Some TooLong) (cond c (Some SelfCall) rest)) ≡ None
         → (1 ≤ length request) × (length request ≤ 1000000) × (is_host server h.id ≡ false)
     by_empty true f b g c k e = absurd (some_none Empty e)
     by_empty false f true g c k e = absurd (some_none TooLong e)

@@ -18,7 +18,8 @@ use Rattle.homa_plain.specs.Rules.{Moment, Answer, Did}
 use Rattle.homa_plain.specs.AtServer.{server_acked}
 use Rattle.homa_plain.specs.Sending.{response_content}
 use Rattle.homa_plain.specs.Timers.{Place, OfClient, OfServer, server_deadline, state_deadline, client_acts, server_acts}
-use Rattle.homa_plain.specs.Steps.{Work, now_of, tells, moment, served, asked, said, hears_cutoffs, comes_to_row, acked, takes, is_stale, comes, client_acted, server_acted, acts_at, acts, ended}
+use Rattle.homa_plain.specs.Steps.{Work, now_of, tells, moment, served, asked, said, hears_cutoffs, comes_to_row, acked, takes, is_stale, comes}
+use Rattle.homa_plain.specs.Steps.{client_acted, server_acted, acts_at, acts, ended}
 use Rattle.homa_plain.specs.View.{View}
 use Rattle.homa_plain.specs.Laws.{Holds}
 use Rattle.homa_plain.specs.Shape.{IsBehind, IsMade, Shape}
@@ -68,66 +69,88 @@ module _ (s : Settings) (w : World) (v : View) (host : HostId) (now : ℕ) (stan
     pub told : IsTold s (put w host work) (said_so_far w v work)
     pub shaped : Holds Shape v (entries_from (length w.packets) work.told) × IsBehind (said_so_far w v work)
 
-  shaped_move : (work new : Work) (told : List Told) (clients : RowsOf ClientRow) (servers : RowsOf ServerRow) → IsMove work new told clients servers → IsShaped work → IsAmid s w v host now new → AllNamed (said_so_far w v work) told → IsShaped new
+  shaped_move : (work new : Work) (told : List Told) (clients : RowsOf ClientRow) (servers : RowsOf ServerRow) → IsMove work new told clients servers
+      → IsShaped work → IsAmid s w v host now new → AllNamed (said_so_far w v work) told → IsShaped new
   shaped_move work new told clients servers move k after all_named =
       let u : View = said_so_far w v work in
       let number : ℕ = length w.packets + length (packets_in work.told) in
       let as_many : number ≡ length u.packets =
-      sym (ap length k.told.packets ∙ length_told (put w host work).packets ∙ length-append w.packets (stamped w.clock (packets_in work.told)) ∙ ap (λ n. length w.packets + n) (length_stamped w.clock (packets_in work.told))) in
-      let fits = all_back (PacketFits s (amid w v host new)) (put w host work).packets (stamped w.clock (packets_in told)) (subst (AllByRecursion (PacketFits s (amid w v host new))) (move_packets w v host work new told clients servers move) after.kept.packets) in
+      sym (ap length k.told.packets ∙ length_told (put w host work).packets ∙ length-append w.packets (stamped w.clock (packets_in work.told))
+      ∙ ap (λ n. length w.packets + n) (length_stamped w.clock (packets_in work.told))) in
+      let fits = all_back (PacketFits s (amid w v host new)) (put w host work).packets (stamped w.clock (packets_in told))
+      (subst (AllByRecursion (PacketFits s (amid w v host new))) (move_packets w v host work new told clients servers move) after.kept.packets) in
       let lines = told_shape u number told k.shaped.1 as_many move.inner all_named (sent (packets_in told) fits) in
       record {
         kept = after;
-        told = told_move s w v host work new told clients servers move stands (λ q r is. after.own q r (ap (λ (rows : RowsOf ClientRow). get rows q) move.at_clients ∙ is)) k.told;
+        told = told_move s w v host work new told clients servers move stands
+            (λ q r is. after.own q r (ap (λ (rows : RowsOf ClientRow). get rows q) move.at_clients ∙ is)) k.told;
         shaped = (
-          subst (Holds Shape v) (sym (ap (entries_from (length w.packets)) move.grown ∙ entries_from-append (length w.packets) work.told told)) (holds-append Shape v (entries_from (length w.packets) work.told) (entries_from number told) k.shaped.0 lines.0),
+          subst (Holds Shape v) (sym (ap (entries_from (length w.packets)) move.grown ∙ entries_from-append (length w.packets) work.told told))
+              (holds-append Shape v (entries_from (length w.packets) work.told) (entries_from number told) k.shaped.0 lines.0),
           subst IsBehind (sym (move_said w v host work new told clients servers move)) lines.1,
         );
       } where
-        sent : (ps : List Packet) → AllByRecursion (PacketFits s (amid w v host new)) (stamped w.clock ps) → AllByRecursion (λ (p : Packet). IsMade (said_so_far w v work) (Some p.id)) ps
+        sent : (ps : List Packet) → AllByRecursion (PacketFits s (amid w v host new)) (stamped w.clock ps)
+            → AllByRecursion (λ (p : Packet). IsMade (said_so_far w v work) (Some p.id)) ps
         sent [] all = tt
-        sent (p ∷ ps) all = (made_get (said_so_far w v work) p.id _ (sym (move_called w v host work new told clients servers move p.id) ∙ all.0.fits.made.called), sent ps all.1)
+        sent (p ∷ ps) all = (
+          made_get (said_so_far w v work) p.id _ (sym (move_called w v host work new told clients servers move p.id) ∙ all.0.fits.made.called),
+          sent ps all.1,
+        )
 
   -- a rule at a server, and one at a client
-  served_shaped : (work : Work) (id : CallId) (did : Did ServerRow) → AllOwn work.host.id id did.says → IsMadeTo host (amid w v host work id host) → IsShaped work → IsAmid s w v host now (served s id did work) → IsShaped (served s id did work)
+  served_shaped : (work : Work) (id : CallId) (did : Did ServerRow) → AllOwn work.host.id id did.says → IsMadeTo host (amid w v host work id host)
+      → IsShaped work → IsAmid s w v host now (served s id did work) → IsShaped (served s id did work)
   served_shaped work id did own made k after =
       let u : View = said_so_far w v work in
       let notes = notes_told s did.opened (served_put s id did work) in
       let reply = reply_told s Server id work.host.id did.version (served_noted s id did work) in
       let says = said s work.host Server id work.host.id did.says in
-      shaped_move work (served s id did work) (served_told s id did work) work.host.clients (set_row work.host.servers id did.row) (served-move s id did work own) k after
+      shaped_move work (served s id did work) (served_told s id did work) work.host.clients (set_row work.host.servers id did.row)
+      (served-move s id did work own) k after
       (named_append u notes (reply ++ says) (notes_named s u did.opened (served_put s id did work))
-      (named_append u reply says (reply_named s u Server id work.host.id did.version (served_noted s id did work)) (said_named s u work.host.id id work.host Server work.host.id did.says (made_get u id _ made.called) own)))
+      (named_append u reply says (reply_named s u Server id work.host.id did.version (served_noted s id did work))
+      (said_named s u work.host.id id work.host Server work.host.id did.says (made_get u id _ made.called) own)))
 
-  asked_shaped : (work : Work) (id : CallId) (server : HostId) (did : Did ClientRow) → id.client ≡ host → AllOwn id.client id did.says → IsMadeTo server (amid w v host work id server) → IsShaped work → IsAmid s w v host now (asked s id server did work) → IsShaped (asked s id server did work)
+  asked_shaped : (work : Work) (id : CallId) (server : HostId) (did : Did ClientRow) → id.client ≡ host → AllOwn id.client id did.says
+      → IsMadeTo server (amid w v host work id server) → IsShaped work → IsAmid s w v host now (asked s id server did work)
+      → IsShaped (asked s id server did work)
   asked_shaped work id server did mine own made k after =
       let u : View = said_so_far w v work in
       let notes = notes_told s did.opened (asked_put s id server did work) in
       let reply = reply_told s Client id server did.version (asked_noted s id server did work) in
       let says = said s work.host Client id server did.says in
       let ends = finishes_told s id server did.finished (asked_said s id server did work) in
-      shaped_move work (asked s id server did work) (asked_told s id server did work) (set_row work.host.clients id did.row) work.host.servers (asked-move s id server did work (mine ∙ sym k.kept.name) own) k after
+      shaped_move work (asked s id server did work) (asked_told s id server did work) (set_row work.host.clients id did.row) work.host.servers
+      (asked-move s id server did work (mine ∙ sym k.kept.name) own) k after
       (named_append u notes (reply ++ (says ++ ends)) (notes_named s u did.opened (asked_put s id server did work))
       (named_append u reply (says ++ ends) (reply_named s u Client id server did.version (asked_noted s id server did work))
-      (named_append u says ends (said_named s u id.client id work.host Client server did.says (made_get u id _ made.called) own) (finishes_named s u id server did.finished (asked_said s id server did work)))))
+      (named_append u says ends (said_named s u id.client id work.host Client server did.says (made_get u id _ made.called) own)
+      (finishes_named s u id server did.finished (asked_said s id server did work)))))
 
   -- ---- the calls that a packet acknowledges
 
-  acked_shaped : (qs : List CallId) (work : Work) → IsShaped work → w.clock ≤ now → AllByRecursion (λ q. IsOver host (amid w v host work q host)) qs → IsShaped (acked s qs work)
+  acked_shaped : (qs : List CallId) (work : Work) → IsShaped work → w.clock ≤ now → AllByRecursion (λ q. IsOver host (amid w v host work q host)) qs
+      → IsShaped (acked s qs work)
   acked_shaped [] work k from over = k
   acked_shaped (q ∷ qs) work k from over =
       let m : Moment = moment s q work in
       let o : Option ServerRow = get work.host.servers q in
       let did : Did ServerRow = server_acked s m q o in
       let own = acked_own s m q o in
-      let c = served_came s w v host now stands work q did k.kept own (server_acked_keeps s host (amid w v host work q host) m q o (k.kept.kept.calls q host) (server_there w v host work q stands) (omega (arith, from, k.kept.last)) over.0) in
-      acked_shaped qs (served s q did work) (served_shaped work q did own over.0.0 k c.amid) from (calls_later s (amid w v host work) (amid w v host (served s q did work)) c.goes host qs over.1)
+      let c = served_came s w v host now stands work q did k.kept own
+      (server_acked_keeps s host (amid w v host work q host) m q o (k.kept.kept.calls q host) (server_there w v host work q stands)
+      (omega (arith, from, k.kept.last)) over.0) in
+      acked_shaped qs (served s q did work) (served_shaped work q did own over.0.0 k c.amid) from
+      (calls_later s (amid w v host work) (amid w v host (served s q did work)) c.goes host qs over.1)
 
   -- ---- a line of its own
 
-  line_shaped : (entry : PlainEntry) (work : Work) → (said : IsSaid entry) → ((h : HostId) (q : CallId) → runs_told h q (Says entry ∷ []) ≡ false) → IsMade (said_so_far w v work) (named entry) → IsShaped work → IsShaped (tells (Says entry ∷ []) work)
+  line_shaped : (entry : PlainEntry) (work : Work) → (said : IsSaid entry) → ((h : HostId) (q : CallId) → runs_told h q (Says entry ∷ []) ≡ false)
+      → IsMade (said_so_far w v work) (named entry) → IsShaped work → IsShaped (tells (Says entry ∷ []) work)
   line_shaped entry work said quiet made k =
-      shaped_move work (tells (Says entry ∷ []) work) (Says entry ∷ []) work.host.clients work.host.servers (says-move entry work said) k (said_came s w v host now stands entry work said quiet k.kept) (made, tt)
+      shaped_move work (tells (Says entry ∷ []) work) (Says entry ∷ []) work.host.clients work.host.servers (says-move entry work said) k
+      (said_came s w v host now stands entry work said quiet k.kept) (made, tt)
 
   -- ---- rows act, and the step ends
 
@@ -139,10 +162,12 @@ module _ (s : Settings) (w : World) (v : View) (host : HostId) (now : ℕ) (stan
         let row : ServerRow = timer.0 in
         let did : Did ServerRow = server_acts s m id row in
         let here : (amid w v host work id host).server ≡ Some row.state = server_there w v host work id stands ∙ ap state_of timer.1 in
-        let is_now : IsNow s (amid w v host work id host) (now_of work) = record { from = omega (arith, from, k.kept.last); within = omega (arith, within, k.kept.last); last = last_there w v host work id stands } in
+        let is_now : IsNow s (amid w v host work id host) (now_of work) =
+        record { from = omega (arith, from, k.kept.last); within = omega (arith, within, k.kept.last); last = last_there w v host work id stands } in
         let own = server_acts_own s m id row in
         let keeps = server_acts_keeps s host (amid w v host work id host) m id row at (k.kept.kept.calls id host) here is_now (deadline_of row timer.2) past in
-        subst IsShaped (ap (λ o. server_acted s id o work) (sym timer.1)) (served_shaped work id did own keeps.change.made k (served_came s w v host now stands work id did k.kept own keeps).amid) where
+        subst IsShaped (ap (λ o. server_acted s id o work) (sym timer.1))
+        (served_shaped work id did own keeps.change.made k (served_came s w v host now stands work id did k.kept own keeps).amid) where
           deadline_of : (row : ServerRow) → server_deadline s row ≡ Some at → state_deadline s row.state ≡ Some at
           deadline_of row e = e
     acted_shaped work (OfClient id) at k timer past =
@@ -153,7 +178,8 @@ module _ (s : Settings) (w : World) (v : View) (host : HostId) (now : ℕ) (stan
         let row = (λ (n : HostId). let e : (amid w v host work id n).client ≡ Some r = client_there w v host work id n stands mine ∙ timer.1 in e) in
         let quiet = client_acts_quiet s m id r in
         let made = client_made s r.server (amid w v host work id r.server) r (k.kept.kept.calls id r.server) (row r.server) in
-        let after = (asked_came s w v host now stands work id r.server did k.kept mine quiet (client_acts_done s m id r) made (λ n. client_acts_keeps s n (amid w v host work id n) m id r (k.kept.kept.calls id n) (row n))).amid in
+        let after = (asked_came s w v host now stands work id r.server did k.kept mine quiet (client_acts_done s m id r) made
+        (λ n. client_acts_keeps s n (amid w v host work id n) m id r (k.kept.kept.calls id n) (row n))).amid in
         subst IsShaped (ap (λ o. client_acted s id o work) (sym timer.1)) (asked_shaped work id r.server did mine quiet.0 made k after)
 
     pub turn_shaped : 1 ≤ s.resend → (work : Work) → IsShaped work → IsShaped (acts s work)
@@ -163,23 +189,28 @@ module _ (s : Settings) (w : World) (v : View) (host : HostId) (now : ℕ) (stan
     ended_shaped seg work k = ended_kept s IsShaped
         (record {
           response = λ now' id r part offset prio k at has is more.
-              shaped_move now' _ _ _ _ (client_granted-move s id now' offset prio r (k.kept.own id r at ∙ sym k.kept.name)) k (client_granted_came s w v host now stands now' k.kept id offset prio r at).amid tt;
+              shaped_move now' _ _ _ _ (client_granted-move s id now' offset prio r (k.kept.own id r at ∙ sym k.kept.name)) k
+              (client_granted_came s w v host now stands now' k.kept id offset prio r at).amid tt;
           request = λ now' id row service part base count offset prio k at is same more.
-              shaped_move now' _ _ _ _ (server_granted-move s id now' offset prio row) k (server_granted_came s w v host now stands now' k.kept id offset prio row service part base count at is).amid tt;
+              shaped_move now' _ _ _ _ (server_granted-move s id now' offset prio row) k
+              (server_granted_came s w v host now stands now' k.kept id offset prio row service part base count at is).amid tt;
         })
         (record {
           request = λ now' id r range k at may next.
-              shaped_move now' _ _ _ _ (request_leaves-move s id now' r range (k.kept.own id r at ∙ sym k.kept.name)) k (request_came s w v host now stands now' k.kept id r range from within seg at may next).amid tt;
+              shaped_move now' _ _ _ _ (request_leaves-move s id now' r range (k.kept.own id r at ∙ sym k.kept.name)) k
+              (request_came s w v host now stands now' k.kept id r range from within seg at may next).amid tt;
           response = λ now' id row response out order base count range k at is next.
               let content = response_content s (peer_cutoffs s now'.host id.client).cutoffs response out range in
               shaped_move now' _ _ _ _ (response_leaves-move s id now' row content range) k
-              (response_came s w v host now stands now' k.kept id row response out order base count content range out.length range.from (peer_cutoffs s now'.host id.client).cutoffs.version 0 at is refl).amid tt;
+              (response_came s w v host now stands now' k.kept id row response out order base count content range out.length range.from
+              (peer_cutoffs s now'.host id.client).cutoffs.version 0 at is refl).amid tt;
         })
         work k
 
     -- ---- a packet comes
 
-    taken_shaped : (p : Packet) (t : ℕ) (answer : Answer) (work : Work) → IsShaped work → w.clock ≤ t + (times s).life → receiver p ≡ host → PacketFits s (amid w v host work) (record { tick = t; packet = p }) → IsShaped (takes s p answer work)
+    taken_shaped : (p : Packet) (t : ℕ) (answer : Answer) (work : Work) → IsShaped work → w.clock ≤ t + (times s).life → receiver p ≡ host
+        → PacketFits s (amid w v host work) (record { tick = t; packet = p }) → IsShaped (takes s p answer work)
     unfolding takes
     taken_shaped p t answer work k fresh to f = by_role p.role refl where
       heard : Work
@@ -189,7 +220,8 @@ module _ (s : Settings) (w : World) (v : View) (host : HostId) (now : ℕ) (stan
       first = heard_came s w v host now stands p work k.kept
 
       shaped_first : IsShaped (hears_cutoffs s (sender p) p.inc p.body work)
-      shaped_first = shaped_move work (hears_cutoffs s (sender p) p.inc p.body work) [] work.host.clients work.host.servers (hears-move s (sender p) p.inc p.body work) k first.amid tt
+      shaped_first = shaped_move work (hears_cutoffs s (sender p) p.inc p.body work) [] work.host.clients work.host.servers
+          (hears-move s (sender p) p.inc p.body work) k first.amid tt
 
       fits : PacketFits s (amid w v host (hears_cutoffs s (sender p) p.inc p.body work)) (record { tick = t; packet = p })
       fits = packet_later s (amid w v host work) (amid w v host (hears_cutoffs s (sender p) p.inc p.body work)) first.goes (record { tick = t; packet = p }) f
@@ -198,24 +230,34 @@ module _ (s : Settings) (w : World) (v : View) (host : HostId) (now : ℕ) (stan
       by_role Client e =
           let here : p.server ≡ host = sym (ap (λ (r : Role). receiver_of r p.id p.server) e) ∙ to in
           let u = amid w v host (hears_cutoffs s (sender p) p.inc p.body work) in
-          let as_client : Fits (times s) p.server (u p.id p.server) t Client p.body p.payload = subst (λ (r : Role). Fits (times s) p.server (u p.id p.server) t r p.body p.payload) e fits.fits in
-          let at_host : Fits (times s) host (u p.id host) t Client p.body p.payload = subst (λ (x : HostId). Fits (times s) x (u p.id x) t Client p.body p.payload) here as_client in
+          let as_client : Fits (times s) p.server (u p.id p.server) t Client p.body p.payload =
+          subst (λ (r : Role). Fits (times s) p.server (u p.id p.server) t r p.body p.payload) e fits.fits in
+          let at_host : Fits (times s) host (u p.id host) t Client p.body p.payload =
+          subst (λ (x : HostId). Fits (times s) x (u p.id x) t Client p.body p.payload) here as_client in
           let c = at_server s w v host now stands p t answer heard first.amid fresh at_host in
           let over = subst (λ (x : HostId). AllByRecursion (λ q. IsOver x (u q x)) (acks p)) here fits.acked in
-          acked_shaped (acks p) _ (served_shaped heard p.id _ (gets_own s (moment s p.id heard) p answer (get heard.host.servers p.id)) at_host.made shaped_first c.amid) from
+          acked_shaped (acks p) _
+          (served_shaped heard p.id _ (gets_own s (moment s p.id heard) p answer (get heard.host.servers p.id)) at_host.made shaped_first c.amid) from
           (calls_later s u (amid w v host (comes_to_row s p answer Client heard)) c.goes host (acks p) over)
       by_role Server e =
           let mine : p.id.client ≡ host = sym (ap (λ (r : Role). receiver_of r p.id p.server) e) ∙ to in
           let u = amid w v host (hears_cutoffs s (sender p) p.inc p.body work) in
-          let as_server : Fits (times s) p.server (u p.id p.server) t Server p.body p.payload = subst (λ (r : Role). Fits (times s) p.server (u p.id p.server) t r p.body p.payload) e fits.fits in
+          let as_server : Fits (times s) p.server (u p.id p.server) t Server p.body p.payload =
+          subst (λ (r : Role). Fits (times s) p.server (u p.id p.server) t r p.body p.payload) e fits.fits in
           let c = at_client s w v host now stands p t heard first.amid within fresh mine e as_server in
-          acked_shaped (acks p) _ (asked_shaped heard p.id p.server _ mine (gets_quiet s (moment s p.id heard) p (get heard.host.clients p.id)).0 as_server.made shaped_first c.amid) from
-          (calls_later s u (amid w v host (comes_to_row s p answer Server heard)) c.goes host (acks p) (no_acks (λ q. IsOver host (u q host)) (times s) (u p.id p.server) t p.id p.body as_server.fits))
+          acked_shaped (acks p) _
+          (asked_shaped heard p.id p.server _ mine (gets_quiet s (moment s p.id heard) p (get heard.host.clients p.id)).0 as_server.made
+          shaped_first c.amid) from
+          (calls_later s u (amid w v host (comes_to_row s p answer Server heard)) c.goes host (acks p)
+          (no_acks (λ q. IsOver host (u q host)) (times s) (u p.id p.server) t p.id p.body as_server.fits))
 
-    pub packet_shaped : (p : Packet) (t : ℕ) (answer : Answer) (work : Work) → IsShaped work → (is_stale s (now_of work) p ≡ false → w.clock ≤ t + (times s).life) → receiver p ≡ host → PacketFits s (amid w v host work) (record { tick = t; packet = p })
+    pub packet_shaped : (p : Packet) (t : ℕ) (answer : Answer) (work : Work) → IsShaped work
+        → (is_stale s (now_of work) p ≡ false → w.clock ≤ t + (times s).life) → receiver p ≡ host
+        → PacketFits s (amid w v host work) (record { tick = t; packet = p })
         → IsShaped (comes s (Some p) answer work)
     packet_shaped p t answer work k fresh to f =
-        cond_both (is_stale s (now_of work) p) _ _ IsShaped (λ _. line_shaped (PlainStale work.host.id p.at (now_of work)) work tt (λ h q. refl) tt k) (λ e. taken_shaped p t answer work k (fresh e) to f)
+        cond_both (is_stale s (now_of work) p) _ _ IsShaped (λ _. line_shaped (PlainStale work.host.id p.at (now_of work)) work tt (λ h q. refl) tt k)
+        (λ e. taken_shaped p t answer work k (fresh e) to f)
 
     pub junk_shaped : (answer : Answer) (work : Work) → IsShaped work → IsShaped (comes s None answer work)
     junk_shaped answer work k = line_shaped (PlainJunk work.host.id) work tt (λ h q. refl) tt k

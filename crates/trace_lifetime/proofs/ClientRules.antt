@@ -10,7 +10,8 @@ use Rattle.homa_plain.specs.Rows.{ClientRow, State, Receiving, Held, Replying, B
 use Rattle.homa_plain.specs.Rules.{Say, Tells, Posts, Did}
 use Rattle.homa_plain.specs.View.{Called}
 use Rattle.trace_induction.specs.Stands.{Stand, with_client}
-use Rattle.trace_lifetime.specs.Lifetime.{Times, span, gone_since, expiry, expiry_of, took_part, CoversReply, IsMadeTo, HasSentAll, RequestFits, RowFits, called_by, Lifetime, Later}
+use Rattle.trace_lifetime.specs.Lifetime.{Times, span, gone_since, expiry, expiry_of, took_part, CoversReply, IsMadeTo, HasSentAll, RequestFits}
+use Rattle.trace_lifetime.specs.Lifetime.{RowFits, called_by, Lifetime, Later}
 use Rattle.trace_induction.proofs.Hosts.{none_some, some_is}
 use Rattle.trace_lifetime.proofs.Later.{client_ends, made_at, row_at}
 use Rattle.trace_lifetime.proofs.ServerRules.{SaysFit}
@@ -82,7 +83,12 @@ module _ (s : Times) (h : HostId) (v : Stand) where
     client = λ r is.
         let p = n.like r is in
         let f = k.client p.0 p.1 in
-        record { called = f.called ∙ ap (λ (c : Called). Some c) p.2.called; size = p.2.long ∙ f.size ∙ ap (λ (c : Called). length c.request) p.2.called; out = p.2.out; heard = n.heard r is };
+        record {
+          called = f.called ∙ ap (λ (c : Called). Some c) p.2.called;
+          size = p.2.long ∙ f.size ∙ ap (λ (c : Called). length c.request) p.2.called;
+          out = p.2.out;
+          heard = n.heard r is;
+        };
     made = λ e. made_at h v (with_client v o) refl (k.made e);
     row = row_at h v (with_client v o) v.server refl refl (has_client o n) k.row;
     sent = λ e. has_client o n (k.sent e);
@@ -96,7 +102,8 @@ module _ (s : Times) (h : HostId) (v : Stand) where
   gone_change = record { like = λ r e. absurd (none_some r e); heard = λ r e. absurd (none_some r e); covered = λ r y e _. absurd (none_some r e) }
 
   -- a row like it
-  pub like_change : (q r : ClientRow) → v.client ≡ Some q → IsLike q r → r.heard ≤ v.clock + s.band → ((y : ℕ) → expiry_of v ≡ Some y → r.heard + s.patience + span s < y) → ClientChange s v (Some r)
+  pub like_change : (q r : ClientRow) → v.client ≡ Some q → IsLike q r → r.heard ≤ v.clock + s.band
+      → ((y : ℕ) → expiry_of v ≡ Some y → r.heard + s.patience + span s < y) → ClientChange s v (Some r)
   like_change q r at like heard covered = record {
     like = λ x e. (q, at, subst (IsLike q) (some_is r x e) like);
     heard = λ x e. subst (λ (y : ClientRow). y.heard ≤ v.clock + s.band) (some_is r x e) heard;
@@ -108,7 +115,8 @@ module _ (s : Times) (h : HostId) (v : Stand) where
   as_change q r k at like heard = like_change q r at like (omega (arith, heard, (k.client q at).heard)) (λ y is. omega (arith, heard, k.covered q y at is))
 
   -- the client hears now of a packet that may be taken
-  pub heard_change : (q r : ClientRow) (t : ℕ) → Lifetime s h v → v.client ≡ Some q → IsLike q r → r.heard ≤ v.clock + s.band → v.clock ≤ t + s.life → (h ≡ q.server → CoversReply s v t) → ClientChange s v (Some r)
+  pub heard_change : (q r : ClientRow) (t : ℕ) → Lifetime s h v → v.client ≡ Some q → IsLike q r → r.heard ≤ v.clock + s.band → v.clock ≤ t + s.life
+      → (h ≡ q.server → CoversReply s v t) → ClientChange s v (Some r)
   heard_change q r t k at like within fresh covers =
       like_change q r at like within
       (λ y is.
@@ -116,7 +124,8 @@ module _ (s : Times) (h : HostId) (v : Stand) where
       omega (arith, within, fresh, covers (sym ends) q y at is))
 
   -- a piece of the request is sent, before which the last byte was not
-  pub unsent_change : (q r : ClientRow) → Lifetime s h v → v.client ≡ Some q → IsLike q r → (q.out.top ≡ q.out.length → ⊥) → r.heard ≤ v.clock + s.band → ClientChange s v (Some r)
+  pub unsent_change : (q r : ClientRow) → Lifetime s h v → v.client ≡ Some q → IsLike q r → (q.out.top ≡ q.out.length → ⊥)
+      → r.heard ≤ v.clock + s.band → ClientChange s v (Some r)
   unsent_change q r k at like unsent within = like_change q r at like within (λ y is. absurd (unsent (k.sent (ran_expiry h v v.server y is k.row) q at)))
 
 -- the same call, request as far as it was sent, and moment at which the server was last heard of
@@ -141,7 +150,8 @@ pub like_itself : (r : ClientRow) → outgoing.IsSound r.out → IsLike r r
 like_itself r sound = record { called = refl; long = refl; sent = λ e. e; out = sound }
 
 -- the row goes, or is the same but for its response and its timer
-pub change_same : (s : Times) (v : Stand) (r : ClientRow) (o : Option ClientRow) → ClientChange s v (Some r) → ((x : ClientRow) → o ≡ Some x → IsSame r x) → ClientChange s v o
+pub change_same : (s : Times) (v : Stand) (r : ClientRow) (o : Option ClientRow) → ClientChange s v (Some r)
+    → ((x : ClientRow) → o ≡ Some x → IsSame r x) → ClientChange s v o
 change_same s v r o n same = record {
   like = λ x e. let p = n.like r refl in (p.0, p.1, like_same p.0 r x p.2 (same x e));
   heard = λ x e. omega (arith, (same x e).heard, n.heard r refl);
@@ -149,7 +159,8 @@ change_same s v r o n same = record {
 }
 
 -- packets other than pieces fit where the call was made
-pub says_bare : (s : Times) (h : HostId) (u : Stand) (o : Option ClientRow) (said : List Say) → IsMadeTo h u → AllBare o said → SaysFit s h u u.clock Client said
+pub says_bare : (s : Times) (h : HostId) (u : Stand) (o : Option ClientRow) (said : List Say) → IsMadeTo h u → AllBare o said
+    → SaysFit s h u u.clock Client said
 says_bare s h u o [] m all = tt
 says_bare s h u o (Tells entry ∷ said) m all = says_bare s h u o said m all
 says_bare s h u o (Posts what ∷ said) m all = (record { past = omega arith; made = m; fits = bare_fits what all.0 }, says_bare s h u o said m all.1) where

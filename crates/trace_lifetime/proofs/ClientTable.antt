@@ -18,13 +18,15 @@ use Rattle.homa_plain.specs.Packets.{Packet, sender, sender_of}
 use Rattle.homa_plain.specs.Rows.{ClientRow}
 use Rattle.homa_plain.specs.Host.{pages_for}
 use Rattle.homa_plain.specs.Rules.{Moment, Piece, Say, Posts, Did, keeps, says, opening, version_of}
-use Rattle.homa_plain.specs.AtClient.{renewed, refreshed, with_part, busy_for, piece_added, piece_comes, response_piece, started_over, answered, unasked, client_gets}
+use Rattle.homa_plain.specs.AtClient.{renewed, refreshed, with_part, busy_for, piece_added, piece_comes, response_piece, started_over, answered}
+use Rattle.homa_plain.specs.AtClient.{unasked, client_gets}
 use Rattle.homa_plain.proofs.CallOrder.{hosts_are}
 use Rattle.homa_plain.proofs.OutgoingLaws as out_laws
 use Rattle.trace_induction.specs.Stands.{Stand}
 use Rattle.trace_lifetime.specs.Lifetime.{Times, CoversReply, ReplyFits, Fits, Lifetime}
 use Rattle.trace_induction.proofs.Hosts.{none_some, some_is}
-use Rattle.trace_lifetime.proofs.ClientRules.{AllBare, IsLike, ClientChange, ClientKeeps, gone_change, like_change, as_change, heard_change, IsSame, same_row, like_same, like_itself, change_same}
+use Rattle.trace_lifetime.proofs.ClientRules.{AllBare, IsLike, ClientChange, ClientKeeps, gone_change, like_change, as_change, heard_change, IsSame}
+use Rattle.trace_lifetime.proofs.ClientRules.{same_row, like_same, like_itself, change_same}
 
 -- ---- the request
 
@@ -32,7 +34,8 @@ grant_top : (p : Outgoing) (offset prio : ℕ) → ((grant p offset prio).top �
 grant_top p offset prio = cond_both (nat_lt p.granted _) _ _ (λ (o : Outgoing). (o.top ≡ p.top) × (o.length ≡ p.length)) (λ _. (refl, refl)) (λ _. (refl, refl))
 
 resend_top : (p : Outgoing) (a b prio : ℕ) → ((resend p a b prio).part.top ≡ p.top) × ((resend p a b prio).part.length ≡ p.length)
-resend_top p a b prio = cond_both (is_busy p a _) _ _ (λ (o : outgoing.Resent). (o.part.top ≡ p.top) × (o.part.length ≡ p.length)) (λ _. (refl, refl)) (λ _. (refl, refl))
+resend_top p a b prio =
+    cond_both (is_busy p a _) _ _ (λ (o : outgoing.Resent). (o.part.top ≡ p.top) × (o.part.length ≡ p.length)) (λ _. (refl, refl)) (λ _. (refl, refl))
 
 busy_bare : (o : Option ClientRow) (a : Answer) → AllBare o (busy_for a)
 busy_bare o Busy = (tt, tt)
@@ -63,7 +66,8 @@ added_part id r part d silent =
 comes_part : (id : CallId) (r : ClientRow) (part : Incoming) (piece : Piece) (d : Did ClientRow) → d.says ≡ [] → IsPart r (piece_comes id r part piece d)
 comes_part id r part piece d silent =
     cond_both (not (part.length == piece.size)) _ _ (IsPart r)
-    (λ _. is_part r (with_part r part) (record d { row = Some (with_part r part) }) refl (other_part r part) (silent_bare (Some (with_part r part)) d.says silent))
+    (λ _. is_part r (with_part r part) (record d { row = Some (with_part r part) }) refl (other_part r part)
+    (silent_bare (Some (with_part r part)) d.says silent))
     (λ _. cond_both (leaves_too_many_gaps part piece.offset piece.payload) _ _ (IsPart r)
     (λ _. is_part r (with_part r part) _ refl (other_part r part) tt)
     (λ _. added_part id r (with_bytes part piece.offset piece.payload) (record d { version = version_of piece }) silent))
@@ -86,7 +90,8 @@ module _ (s : Times) (v : Stand) where
   row_keeps m r said n bare = record { row = n; bare = bare }
 
   -- the row with another outgoing part, of which as much was sent
-  out_keeps : (h : HostId) (m : Moment) (r : ClientRow) (out : Outgoing) (said : List Say) → ClientChange s v (Some r) → outgoing.IsSound out → out.top ≡ r.out.top → out.length ≡ r.out.length → AllBare (Some (record r { out = out })) said
+  out_keeps : (h : HostId) (m : Moment) (r : ClientRow) (out : Outgoing) (said : List Say) → ClientChange s v (Some r) → outgoing.IsSound out
+      → out.top ≡ r.out.top → out.length ≡ r.out.length → AllBare (Some (record r { out = out })) said
       → ClientKeeps s v (says m (Some (record r { out = out })) said)
   out_keeps h m r out said n sound top long bare =
       let x : ClientRow = record r { out = out } in
@@ -94,18 +99,22 @@ module _ (s : Times) (v : Stand) where
       let like : IsLike p.0 x = record { called = p.2.called; long = long ∙ p.2.long; sent = λ full. top ∙ p.2.sent full ∙ sym long; out = sound } in
       row_keeps m x said (like_change s h v p.0 x p.1 like (n.heard r refl) (λ y is. n.covered r y refl is)) bare
 
-  started_keeps : (h : HostId) (m : Moment) (r : ClientRow) (o : Option Incoming) → ClientChange s v (Some r) → outgoing.IsSound r.out → ClientKeeps s v (keeps m (started_over r o))
+  started_keeps : (h : HostId) (m : Moment) (r : ClientRow) (o : Option Incoming) → ClientChange s v (Some r) → outgoing.IsSound r.out
+      → ClientKeeps s v (keeps m (started_over r o))
   started_keeps h m r None n sound = out_keeps h m r (restart r.out) [] n (out_laws.sound-restart r.out sound) refl refl tt
   started_keeps h m r (Some part) n sound = row_keeps m r [] n tt
 
-  answered_keeps : (h : HostId) (c : Settings) (m : Moment) (id : CallId) (what : Body) (payload : List ℕ) (r : ClientRow) → ClientChange s v (Some r) → outgoing.IsSound r.out → ClientKeeps s v (answered c m id what payload r)
+  answered_keeps : (h : HostId) (c : Settings) (m : Moment) (id : CallId) (what : Body) (payload : List ℕ) (r : ClientRow) → ClientChange s v (Some r)
+      → outgoing.IsSound r.out → ClientKeeps s v (answered c m id what payload r)
   answered_keeps h c m id (body.Data size offset version service ack) payload r n sound =
       part_keeps r _ n (response_part c m id r r.part (record { size = size; offset = offset; version = version; service = service; payload = payload }))
   answered_keeps h c m id (body.Grant offset prio) payload r n sound =
-      out_keeps h m r (grant r.out offset prio) [] n (out_laws.sound-grant r.out offset prio sound) (grant_top r.out offset prio).0 (grant_top r.out offset prio).1 tt
+      out_keeps h m r (grant r.out offset prio) [] n (out_laws.sound-grant r.out offset prio sound) (grant_top r.out offset prio).0
+      (grant_top r.out offset prio).1 tt
   answered_keeps h c m id (body.Resend from to prio) payload r n sound =
       out_keeps h m r (resend r.out from to prio).part (busy_for (resend r.out from to prio).answer) n (out_laws.sound-resend r.out from to prio sound)
-      (resend_top r.out from to prio).0 (resend_top r.out from to prio).1 (busy_bare (Some (record r { out = (resend r.out from to prio).part })) (resend r.out from to prio).answer)
+      (resend_top r.out from to prio).0 (resend_top r.out from to prio).1
+      (busy_bare (Some (record r { out = (resend r.out from to prio).part })) (resend r.out from to prio).answer)
   answered_keeps h c m id (body.Unknown reason) payload r n sound =
       cond_both (reason == 0) _ _ (ClientKeeps s v) (λ _. started_keeps h m r r.part n sound) (λ _. record { row = gone_change s h v; bare = tt })
   answered_keeps h c m id body.NeedAck payload r n sound = row_keeps m r (Posts body.Busy ∷ []) n (tt, tt)
@@ -128,7 +137,8 @@ refreshed_out now other r = refl
 
 module _ (s : Times) (h : HostId) (v : Stand) where
   -- the server was heard of now, but not by UNKNOWN
-  came_change : (now t inc : ℕ) (what : Body) (q : ClientRow) → Lifetime s h v → v.client ≡ Some q → now ≤ v.clock + s.band → v.clock ≤ t + s.life → (h ≡ q.server → ReplyFits s v t what)
+  came_change : (now t inc : ℕ) (what : Body) (q : ClientRow) → Lifetime s h v → v.client ≡ Some q → now ≤ v.clock + s.band → v.clock ≤ t + s.life
+      → (h ≡ q.server → ReplyFits s v t what)
       → ClientChange s v (Some (refreshed now what (renewed inc q)))
   came_change now t inc what q k at within fresh fits = by_body what fits where
     r : ClientRow
@@ -142,11 +152,15 @@ module _ (s : Times) (h : HostId) (v : Stand) where
 
     by_body : (what : Body) → (h ≡ q.server → ReplyFits s v t what) → ClientChange s v (Some (refreshed now what r))
     by_body (body.Unknown reason) fits = as_change s h v q r k at like (sym (renewed_is inc q).heard)
-    by_body body.NeedAck fits = new (refreshed now body.NeedAck r) refl (record { called = like.called; long = like.long; sent = like.sent; out = like.out }) fits
-    by_body (body.Cutoffs cutoffs) fits = new (refreshed now (body.Cutoffs cutoffs) r) refl (record { called = like.called; long = like.long; sent = like.sent; out = like.out }) fits
-    by_body (body.Ack more) fits = new (refreshed now (body.Ack more) r) refl (record { called = like.called; long = like.long; sent = like.sent; out = like.out }) (λ e. absurd (fits e))
+    by_body body.NeedAck fits =
+        new (refreshed now body.NeedAck r) refl (record { called = like.called; long = like.long; sent = like.sent; out = like.out }) fits
+    by_body (body.Cutoffs cutoffs) fits =
+        new (refreshed now (body.Cutoffs cutoffs) r) refl (record { called = like.called; long = like.long; sent = like.sent; out = like.out }) fits
+    by_body (body.Ack more) fits =
+        new (refreshed now (body.Ack more) r) refl (record { called = like.called; long = like.long; sent = like.sent; out = like.out }) (λ e. absurd (fits e))
     by_body (body.Data size offset version service (Some call)) fits =
-        new (refreshed now (body.Data size offset version service (Some call)) r) refl (record { called = like.called; long = like.long; sent = like.sent; out = like.out }) (λ e. absurd (fits e))
+        new (refreshed now (body.Data size offset version service (Some call)) r) refl
+        (record { called = like.called; long = like.long; sent = like.sent; out = like.out }) (λ e. absurd (fits e))
     by_body other fits = new (refreshed now other r) refl (record { called = like.called; long = like.long; sent = like.sent; out = like.out }) fits
 
   -- nothing happens to a row
@@ -154,7 +168,8 @@ module _ (s : Times) (h : HostId) (v : Stand) where
   idle_keeps m q k at = record { row = as_change s h v q q k at (like_itself q (k.client q at).out) refl; bare = tt }
 
   -- a packet of a server comes, which may still be taken
-  pub client_gets_keeps : (c : Settings) (m : Moment) (p : Packet) (t : ℕ) (o : Option ClientRow) → Lifetime s h v → v.client ≡ o → m.now ≤ v.clock + s.band → v.clock ≤ t + s.life → p.role ≡ Server
+  pub client_gets_keeps : (c : Settings) (m : Moment) (p : Packet) (t : ℕ) (o : Option ClientRow) → Lifetime s h v → v.client ≡ o
+      → m.now ≤ v.clock + s.band → v.clock ≤ t + s.life → p.role ≡ Server
       → (h ≡ p.server → Fits s h v t Server p.body p.payload) → ClientKeeps s v (client_gets c m p o)
   unfolding client_gets
   client_gets_keeps c m p t None k at within fresh role f = unasked_keeps s v h m p.body
@@ -167,7 +182,8 @@ module _ (s : Times) (h : HostId) (v : Stand) where
       cond_both (nat_lt p.inc q.seen) _ _ (ClientKeeps s v)
       (λ _. idle_keeps m q k at)
       (λ _.
-      answered_keeps s v h c m p.id p.body p.payload (refreshed m.now p.body (renewed p.inc q)) (came_change m.now t p.inc p.body q k at within fresh (λ e. (f (e ∙ server)).fits))
+      answered_keeps s v h c m p.id p.body p.payload (refreshed m.now p.body (renewed p.inc q))
+      (came_change m.now t p.inc p.body q k at within fresh (λ e. (f (e ∙ server)).fits))
       (subst outgoing.IsSound ((renewed_is p.inc q).out ∙ sym (refreshed_out m.now p.body (renewed p.inc q))) (k.client q at).out))) where
         not_false : (b : Bool) → not b ≡ false → b ≡ true
         not_false true e = refl

@@ -1,5 +1,6 @@
 -- What else happens to a call's row at its client: it is made, its timer has come, it grants, it sends a piece of its request.
-use Rattle.std.proofs.Common.{◌≡◌, ℕ, ◌+◌, ◌-◌, ◌≤◌, ◌<◌, Bool, true, false, ◌||◌, ◌⊎◌, inl, inr, Option, Some, None, List, [], length, cond, refl, sym, ap, subst, arith}
+use Rattle.std.proofs.Common.{◌≡◌, ℕ, ◌+◌, ◌-◌, ◌≤◌, ◌<◌, Bool, true, false, ◌||◌, ◌⊎◌, inl, inr, Option, Some, None, List, [], length, cond, refl}
+use Rattle.std.proofs.Common.{sym, ap, subst, arith}
 use Rattle.std.specs.Prelude.{nat_lt, nat_le, take, drop, max, slice_range}
 use Rattle.std.specs.Option.{MatchOption}
 use Rattle.std.proofs.lemmas.Bool.{cond_both, ltb-true, leb-true, and_parts, false≢true}
@@ -36,12 +37,16 @@ module _ (c : Settings) (h : HostId) (v : Stand) where
   resend_bare row None = tt
   resend_bare row (Some r) = (tt, tt)
 
-  pub client_acts_keeps : (m : Moment) (id : CallId) (r : ClientRow) → Lifetime (times c) h v → v.client ≡ Some r → ClientKeeps (times c) v (client_acts c m id r)
+  pub client_acts_keeps : (m : Moment) (id : CallId) (r : ClientRow) → Lifetime (times c) h v → v.client ≡ Some r
+      → ClientKeeps (times c) v (client_acts c m id r)
   client_acts_keeps m id r k at =
       cond_both (nat_lt r.count c.tries) _ _ (ClientKeeps (times c) v)
       (λ _.
       let x : ClientRow = record r { count = r.count + 1; base = m.now } in
-      record { row = as_change (times c) h v r x k at (record { called = refl; long = refl; sent = λ e. e; out = (k.client r at).out }) refl; bare = resend_bare (Some x) (wanted c r.part) })
+      record {
+        row = as_change (times c) h v r x k at (record { called = refl; long = refl; sent = λ e. e; out = (k.client r at).out }) refl;
+        bare = resend_bare (Some x) (wanted c r.part);
+      })
       (λ _. record { row = gone_change (times c) h v; bare = tt })
 
   -- a row is changed, and one packet of its call is sent to its server
@@ -53,7 +58,8 @@ module _ (c : Settings) (h : HostId) (v : Stand) where
   made_here o r k at e = subst (λ (x : HostId). IsMadeTo x (with_client v o)) (sym e) (made_at r.server v (with_client v o) refl (client_made c h v r k at))
 
   -- a GRANT for the response
-  pub client_granted_keeps : (now offset prio : ℕ) (r : ClientRow) → Lifetime (times c) h v → v.client ≡ Some r → ClientSends r.server (Some (client_granted now offset r)) (body.Grant offset prio) []
+  pub client_granted_keeps : (now offset prio : ℕ) (r : ClientRow) → Lifetime (times c) h v → v.client ≡ Some r
+      → ClientSends r.server (Some (client_granted now offset r)) (body.Grant offset prio) []
   client_granted_keeps now offset prio r k at =
       let x : ClientRow = client_granted now offset r in
       record {
@@ -75,8 +81,10 @@ module _ (c : Settings) (h : HostId) (v : Stand) (q : ClientRow) (range : Range)
   length-slice a b = omega (arith, length-take (range.to - range.from) (drop range.from q.request), length-drop range.from q.request)
 
   -- the piece is a slice of the request, as the lines have it
-  slice_is : range.from ≤ range.to → range.to ≤ length q.request → slice q.request range ≡ slice_range q.request range.from (range.from + length (slice q.request range))
-  slice_is a b = ap (λ n. take n (drop range.from q.request)) (let e : range.to - range.from ≡ range.from + length (slice q.request range) - range.from = omega (arith, length-slice a b) in e)
+  slice_is : range.from ≤ range.to → range.to ≤ length q.request
+      → slice q.request range ≡ slice_range q.request range.from (range.from + length (slice q.request range))
+  slice_is a b = ap (λ n. take n (drop range.from q.request))
+      (let e : range.to - range.from ≡ range.from + length (slice q.request range) - range.from = omega (arith, length-slice a b) in e)
 
   next_is : next_range q.out c.seg ≡ Some range → (next q.out c.seg).part ≡ outgoing.sent q.out (Some range)
   next_is e = ap (outgoing.sent q.out) e
@@ -93,17 +101,20 @@ module _ (c : Settings) (h : HostId) (v : Stand) (q : ClientRow) (range : Range)
       record { called = while_new_is; long = o.1; sent = λ full. omega (arith, full, o.0, o.1, within); out = out_laws.sound-next q.out c.seg sound }
 
   front_of_next : outgoing.IsSound q.out → 0 < c.seg → next_range q.out c.seg ≡ Some range → outgoing.IsFront q.out c.seg range
-  front_of_next sound seg e = subst (λ (o : Option Range). MatchOption o (outgoing.IsIdle q.out) (outgoing.IsFront q.out c.seg)) e (out_laws.front-next_range q.out c.seg seg sound)
+  front_of_next sound seg e =
+      subst (λ (o : Option Range). MatchOption o (outgoing.IsIdle q.out) (outgoing.IsFront q.out c.seg)) e (out_laws.front-next_range q.out c.seg seg sound)
 
   -- while the request is new the client counts anew how long it hears nothing
   heard_cases : ((nat_lt q.out.top q.out.length ≡ true) × (gave.heard ≡ now)) ⊎ ((nat_lt q.out.top q.out.length ≡ false) × (gave.heard ≡ q.heard))
   heard_cases = by_test (nat_lt q.out.top q.out.length) refl where
-    by_test : (b : Bool) → nat_lt q.out.top q.out.length ≡ b → ((nat_lt q.out.top q.out.length ≡ true) × (gave.heard ≡ now)) ⊎ ((nat_lt q.out.top q.out.length ≡ false) × (gave.heard ≡ q.heard))
+    by_test : (b : Bool) → nat_lt q.out.top q.out.length ≡ b → ((nat_lt q.out.top q.out.length ≡ true) × (gave.heard ≡ now))
+        ⊎ ((nat_lt q.out.top q.out.length ≡ false) × (gave.heard ≡ q.heard))
     by_test true e = inl (e, ap (λ b. (cond b (record q { heard = now; base = now; count = 0 }) q).heard) e)
     by_test false e = inr (e, ap (λ b. (cond b (record q { heard = now; base = now; count = 0 }) q).heard) e)
 
   -- the piece fits, if the record of the call outlives it
-  gave_fits : Lifetime (times c) h v → v.client ≡ Some q → 0 < c.seg → next_range q.out c.seg ≡ Some range → (version : ℕ) (ack : Option (ℕ × ℕ)) → CoversRequest (times c) v v.clock → h ≡ q.server
+  gave_fits : Lifetime (times c) h v → v.client ≡ Some q → 0 < c.seg → next_range q.out c.seg ≡ Some range → (version : ℕ) (ack : Option (ℕ × ℕ))
+      → CoversRequest (times c) v v.clock → h ≡ q.server
       → Fits (times c) h (with_client v (Some gave)) v.clock Client (body.Data q.out.length range.from version q.service ack) piece_payload
   gave_fits k at seg e version ack covered same =
       let f = k.client q at in
@@ -125,11 +136,13 @@ module _ (c : Settings) (h : HostId) (v : Stand) (q : ClientRow) (range : Range)
           some = omega (arith, long, front.some);
           within = omega (arith, long, within, front.some);
           covered = covered;
-          last = λ all y is. subst (λ (z : ClientRow). z.out.top ≡ z.out.length) (some_is gave y is) (omega (arith, all, long, front.some, o.0, o.1, f.out.top, within));
+          last = λ all y is. subst (λ (z : ClientRow). z.out.top ≡ z.out.length) (some_is gave y is)
+              (omega (arith, all, long, front.some, o.0, o.1, f.out.top, within));
         };
       }
 
-  pub client_sends_keeps : Lifetime (times c) h v → v.client ≡ Some q → v.clock ≤ now → now ≤ v.clock + (times c).band → 0 < c.seg → may_send_request c now q ≡ true → next_range q.out c.seg ≡ Some range
+  pub client_sends_keeps : Lifetime (times c) h v → v.client ≡ Some q → v.clock ≤ now → now ≤ v.clock + (times c).band → 0 < c.seg
+      → may_send_request c now q ≡ true → next_range q.out c.seg ≡ Some range
       → (version : ℕ) (ack : Option (ℕ × ℕ)) → ClientSends c h v q.server (Some gave) (body.Data q.out.length range.from version q.service ack) piece_payload
   client_sends_keeps k at from soon seg may e version ack =
       let f = k.client q at in
@@ -137,13 +150,16 @@ module _ (c : Settings) (h : HostId) (v : Stand) (q : ClientRow) (range : Range)
       let like = gave_like f.out e (omega (arith, front.granted, f.out.within)) in
       elim heard_cases as (λ _. ClientSends c h v q.server (Some gave) (body.Data q.out.length range.from version q.service ack) piece_payload) [
         | inl p ↦
-            let unsent = (λ (full : q.out.top ≡ q.out.length). let l : q.out.top < q.out.length = ltb-true q.out.top q.out.length p.0 in let no : ⊥ = absurd (omega (arith, l, full)) in no) in
+            let unsent = (λ (full : q.out.top ≡ q.out.length). let l : q.out.top < q.out.length = ltb-true q.out.top q.out.length p.0 in
+            let no : ⊥ = absurd (omega (arith, l, full)) in no) in
             record {
               row = unsent_change (times c) h v q gave k at like unsent (omega (arith, p.1, soon));
               packet = gave_fits k at seg e version ack (λ y is. absurd (unsent (k.sent (ran_expiry h v v.server y is k.row) q at)));
             }
         | inr p ↦
-            let in_time : now ≤ q.heard + patience c = leb-true now (q.heard + patience c) (or_second (nat_lt q.out.top q.out.length) (nat_le now (q.heard + patience c)) p.0 (and_parts (has_waiting q.out) _ may).1) in
+            let in_time : now ≤ q.heard + patience c =
+            leb-true now (q.heard + patience c)
+            (or_second (nat_lt q.out.top q.out.length) (nat_le now (q.heard + patience c)) p.0 (and_parts (has_waiting q.out) _ may).1) in
             record {
               row = as_change (times c) h v q gave k at like p.1;
               packet = gave_fits k at seg e version ack (λ y is. omega (arith, in_time, from, k.covered q y at is));

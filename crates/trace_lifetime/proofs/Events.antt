@@ -44,13 +44,15 @@ module _ (c : Settings) (h : HostId) (v : Stand) (unused : v.old ≡ false) (k :
     replies = λ t past x e f. absurd (uncalled x e);
   }
 
-  pub lifetime_call : (now order : ℕ) (server : HostId) (service : ℕ) (request : List ℕ) → now ≤ v.clock + (times c).band → Lifetime (times c) h (with_call v (new_call c now order server service request))
+  pub lifetime_call : (now order : ℕ) (server : HostId) (service : ℕ) (request : List ℕ) → now ≤ v.clock + (times c).band
+      → Lifetime (times c) h (with_call v (new_call c now order server service request))
   lifetime_call now order server service request within =
       let r : ClientRow = new_call c now order server service request in
       record {
         last = k.last;
         named = λ x e. refl;
-        client = λ y is. subst (ClientFits (times c) (with_call v r)) (some_is r y is) (record { called = refl; size = refl; out = out_laws.sound-opened (length request) c.unsched; heard = within });
+        client = λ y is. subst (ClientFits (times c) (with_call v r)) (some_is r y is)
+            (record { called = refl; size = refl; out = out_laws.sound-opened (length request) c.unsched; heard = within });
         made = λ e. absurd (untaken e);
         row = untaken_row (with_call v r) v.server untaken;
         sent = λ e. absurd (untaken (ran_took v.ran v.server e));

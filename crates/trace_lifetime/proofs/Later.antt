@@ -10,7 +10,8 @@ use Rattle.homa_plain.specs.Rows.{ClientRow, State, Receiving, Held, Replying, B
 use Rattle.homa_plain.specs.View.{Called}
 use Rattle.trace_induction.specs.Stands.{Stand}
 use Rattle.trace_induction.proofs.Hosts.{none_some, some_is}
-use Rattle.trace_lifetime.specs.Lifetime.{Times, gone_since, expiry, call_to, IsMadeTo, IsOver, HasSentAll, RequestFits, ReplyFits, BodyFits, Fits, PartFits, RowFits, called_by, ClientFits, Lifetime, Later}
+use Rattle.trace_lifetime.specs.Lifetime.{Times, gone_since, expiry, call_to, IsMadeTo, IsOver, HasSentAll, RequestFits, ReplyFits, BodyFits, Fits}
+use Rattle.trace_lifetime.specs.Lifetime.{PartFits, RowFits, called_by, ClientFits, Lifetime, Later}
 
 pub none_from : {A : Type 0} (o : Option A) → ((x : A) → o ≡ Some x → ⊥) → o ≡ None
 none_from None h = refl
@@ -33,7 +34,8 @@ module _ (s : Times) where
   sent_later : (v u : Stand) (c : Called) → Later s v u → v.called ≡ Some c → HasSentAll v → HasSentAll u
   sent_later v u c l e has r is = let p = l.client c e r is in p.2 (has p.0 p.1)
 
-  request_later : (h : HostId) (v u : Stand) (t : ℕ) (what : Body) (payload : List ℕ) → Later s v u → t ≤ v.clock → RequestFits s h v t what payload → RequestFits s h u t what payload
+  request_later : (h : HostId) (v u : Stand) (t : ℕ) (what : Body) (payload : List ℕ) → Later s v u → t ≤ v.clock → RequestFits s h v t what payload
+      → RequestFits s h u t what payload
   request_later h v u t (body.Data size offset version service ack) payload l past f = record {
     request = f.request;
     called = l.called (call_to h service f.request) f.called;
@@ -52,12 +54,14 @@ module _ (s : Times) where
   reply_later v u t (body.Data size offset version service (Some call)) c l past e f = f
   reply_later v u t what c l past e f = l.replies t past c e f
 
-  body_later : (h : HostId) (v u : Stand) (t : ℕ) (role : Role) (what : Body) (payload : List ℕ) → Later s v u → t ≤ v.clock → IsMadeTo h v → BodyFits s h v t role what payload → BodyFits s h u t role what payload
+  body_later : (h : HostId) (v u : Stand) (t : ℕ) (role : Role) (what : Body) (payload : List ℕ) → Later s v u → t ≤ v.clock → IsMadeTo h v
+      → BodyFits s h v t role what payload → BodyFits s h u t role what payload
   body_later h v u t Client what payload l past m f = request_later h v u t what payload l past f
   body_later h v u t Server what payload l past m f = reply_later v u t what (call_to h m.service m.request) l past m.called f
 
   -- a packet that fits a moment, fits each later one
-  pub fits_later : (h : HostId) (v u : Stand) (t : ℕ) (role : Role) (what : Body) (payload : List ℕ) → Later s v u → Fits s h v t role what payload → Fits s h u t role what payload
+  pub fits_later : (h : HostId) (v u : Stand) (t : ℕ) (role : Role) (what : Body) (payload : List ℕ) → Later s v u → Fits s h v t role what payload
+      → Fits s h u t role what payload
   fits_later h v u t role what payload l f = record {
     past = omega (arith, l.clock, f.past);
     made = made_later h v u l f.made;
@@ -89,7 +93,8 @@ pub client_at : (s : Times) (v u : Stand) (r : ClientRow) → u.called ≡ v.cal
 client_at s v u r c from f = record { called = c ∙ f.called; size = f.size; out = f.out; heard = omega (arith, f.heard) }
 
 -- what holds of a part of the request speaks of the `call` line and the client's row
-pub part_at : (h : HostId) (v u : Stand) (service : ℕ) (part : Incoming) → u.called ≡ v.called → (HasSentAll v → HasSentAll u) → PartFits h v service part → PartFits h u service part
+pub part_at : (h : HostId) (v u : Stand) (service : ℕ) (part : Incoming) → u.called ≡ v.called → (HasSentAll v → HasSentAll u)
+    → PartFits h v service part → PartFits h u service part
 part_at h v u service part c has f = record {
   request = f.request;
   called = c ∙ f.called;

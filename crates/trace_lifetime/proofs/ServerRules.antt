@@ -1,5 +1,6 @@
 -- When a rule for a call's row at its server keeps the lifetime invariant.
-use Rattle.std.proofs.Common.{◌≡◌, ℕ, ◌+◌, ◌≤◌, ◌<◌, Bool, true, false, ◌||◌, ◌⊎◌, inl, inr, Option, Some, None, List, [], ◌∷◌, refl, sym, ap, subst, ◌∙◌, arith}
+use Rattle.std.proofs.Common.{◌≡◌, ℕ, ◌+◌, ◌≤◌, ◌<◌, Bool, true, false, ◌||◌, ◌⊎◌, inl, inr, Option, Some, None, List, [], ◌∷◌, refl, sym, ap, subst}
+use Rattle.std.proofs.Common.{◌∙◌, arith}
 use Rattle.std.proofs.lemmas.Bool.{false≢true}
 use Rattle.homa_plain.specs.declared.id.HostId.{HostId}
 use Rattle.homa_plain.specs.declared.packet.Role.{Role}
@@ -12,7 +13,8 @@ use Rattle.homa_plain.specs.Rows.{ClientRow, ServerRow, State, Receiving}
 use Rattle.homa_plain.specs.Rules.{Moment, Say, Tells, Posts, Did, leaves, says}
 use Rattle.trace_induction.specs.Stands.{Stand, state_of, with_server}
 use Rattle.trace_moves.proofs.Own.{runs_said}
-use Rattle.trace_lifetime.specs.Lifetime.{Times, span, expiry, expiry_of, took_part, CoversRequest, CoversReply, call_to, IsMadeTo, HasSentAll, BodyFits, Fits, PartFits, RowFits, Lifetime, Later}
+use Rattle.trace_lifetime.specs.Lifetime.{Times, span, expiry, expiry_of, took_part, CoversRequest, CoversReply, call_to, IsMadeTo, HasSentAll}
+use Rattle.trace_lifetime.specs.Lifetime.{BodyFits, Fits, PartFits, RowFits, Lifetime, Later}
 use Rattle.trace_induction.proofs.Hosts.{none_some}
 use Rattle.trace_lifetime.proofs.Later.{made_at, client_at, part_at, row_at}
 
@@ -25,12 +27,14 @@ SaysFit s h v t role (Posts what ∷ says) = Fits s h v t role what [] × SaysFi
 -- a run that a rule says is the call's first in this life of the host, with the service and the request of its `call` line, and the rule's only one
 abbrev pub RunsFit : HostId → Stand → List Say → Type 0
 RunsFit h v [] = Unit {0}
-RunsFit h v (Tells (PlainRun host id service request response hold) ∷ says) = (v.ran ≡ false) × (v.called ≡ Some (call_to h service request)) × (runs_said says ≡ false)
+RunsFit h v (Tells (PlainRun host id service request response hold) ∷ says) =
+    (v.ran ≡ false) × (v.called ≡ Some (call_to h service request)) × (runs_said says ≡ false)
 RunsFit h v (x ∷ says) = RunsFit h v says
 
 -- the record expires no earlier than before, or late enough for all that may still come of the call
 abbrev pub IsSafeExpiry : Times → Stand → ℕ → Type 0
-IsSafeExpiry s v y = ((x : ℕ) × (expiry_of v ≡ Some x) × (x ≤ y)) ⊎ ((v.clock + span s < y) × ((r : ClientRow) → v.client ≡ Some r → v.clock + span s + s.patience + span s < y))
+IsSafeExpiry s v y = ((x : ℕ) × (expiry_of v ≡ Some x) × (x ≤ y))
+    ⊎ ((v.clock + span s < y) × ((r : ClientRow) → v.client ≡ Some r → v.clock + span s + s.patience + span s < y))
 
 -- the row may become o, and the call have run or not
 pub record ServerChange (s : Times) (h : HostId) (v : Stand) (o : Option State) (ran : Bool) : Type 0 where
@@ -97,7 +101,8 @@ module _ (s : Times) (h : HostId) (v : Stand) where
   row_is o k at = subst (RowFits h v) at k.row
 
   -- the record doesn't expire
-  pub live_change : (o : Option State) (ran : Bool) → IsMadeTo h v → RowFits h (with_server v o ran) o → (ran ≡ true → HasSentAll v) → expiry ran v.last o ≡ None → ServerChange s h v o ran
+  pub live_change : (o : Option State) (ran : Bool) → IsMadeTo h v → RowFits h (with_server v o ran) o → (ran ≡ true → HasSentAll v)
+      → expiry ran v.last o ≡ None → ServerChange s h v o ran
   live_change o ran m f sent live = record { made = m; row = f; sent = sent; expires = λ y is. absurd (none_some y (sym live ∙ is)) }
 
   -- the row stays as it is
@@ -113,7 +118,8 @@ module _ (s : Times) (h : HostId) (v : Stand) where
   ran_same = elim v.ran as (λ b. b || false ≡ b) [ true ↦ refl | false ↦ refl ]
 
   -- a rule that asks no service
-  pub quiet_keeps : (d : Did ServerRow) → runs_said d.says ≡ false → ServerChange s h v (state_of d.row) v.ran → SaysFit s h (with_server v (state_of d.row) v.ran) v.clock Server d.says
+  pub quiet_keeps : (d : Did ServerRow) → runs_said d.says ≡ false → ServerChange s h v (state_of d.row) v.ran
+      → SaysFit s h (with_server v (state_of d.row) v.ran) v.clock Server d.says
       → ((x : ℕ) → d.version ≡ Some x → expiry v.ran v.last (state_of d.row) ≡ None) → ServerKeeps s h v d
   quiet_keeps d quiet a b c =
       let same : v.ran || runs_said d.says ≡ v.ran = ap (λ x. v.ran || x) quiet ∙ ran_same in
@@ -129,27 +135,34 @@ module _ (s : Times) (h : HostId) (v : Stand) where
   same_keeps m o made k at = quiet_keeps (leaves m o) refl (same_change (state_of o) made k at) tt (λ x e. absurd (none_some x e))
 
   -- a row that stands, and something that is said
-  pub row_keeps : (m : Moment) (row : ServerRow) (said : List Say) → IsMadeTo h v → RowFits h (with_server v (Some row.state) v.ran) (Some row.state) → (v.ran ≡ true → HasSentAll v)
-      → expiry v.ran v.last (Some row.state) ≡ None → runs_said said ≡ false → SaysFit s h (with_server v (Some row.state) v.ran) v.clock Server said → ServerKeeps s h v (says m (Some row) said)
-  row_keeps m row said made f sent live quiet fits = quiet_keeps (says m (Some row) said) quiet (live_change (Some row.state) v.ran made f sent live) fits (λ x e. absurd (none_some x e))
+  pub row_keeps : (m : Moment) (row : ServerRow) (said : List Say) → IsMadeTo h v → RowFits h (with_server v (Some row.state) v.ran) (Some row.state)
+      → (v.ran ≡ true → HasSentAll v)
+      → expiry v.ran v.last (Some row.state) ≡ None → runs_said said ≡ false → SaysFit s h (with_server v (Some row.state) v.ran) v.clock Server said
+      → ServerKeeps s h v (says m (Some row) said)
+  row_keeps m row said made f sent live quiet fits =
+      quiet_keeps (says m (Some row) said) quiet (live_change (Some row.state) v.ran made f sent live) fits (λ x e. absurd (none_some x e))
 
   -- ---- what is said
 
-  pub fits_server : (o : Option State) (ran : Bool) (what : Body) → IsMadeTo h v → BodyFits s h (with_server v o ran) v.clock Server what [] → Fits s h (with_server v o ran) v.clock Server what []
+  pub fits_server : (o : Option State) (ran : Bool) (what : Body) → IsMadeTo h v → BodyFits s h (with_server v o ran) v.clock Server what []
+      → Fits s h (with_server v o ran) v.clock Server what []
   fits_server o ran what m f = record { past = omega arith; made = made_at h v (with_server v o ran) refl m; fits = f }
 
   pub live_covers : (o : Option State) (ran : Bool) (t : ℕ) → expiry ran v.last o ≡ None → CoversReply s (with_server v o ran) t
   live_covers o ran t live r y at is = absurd (none_some y (sym live ∙ is))
 
-  pub says_unknown : (o : Option State) (ran : Bool) (reason : ℕ) → IsMadeTo h v → reason ≤ 1 → SaysFit s h (with_server v o ran) v.clock Server (Posts (body.Unknown reason) ∷ [])
+  pub says_unknown : (o : Option State) (ran : Bool) (reason : ℕ) → IsMadeTo h v → reason ≤ 1
+      → SaysFit s h (with_server v o ran) v.clock Server (Posts (body.Unknown reason) ∷ [])
   says_unknown o ran reason m low = (fits_server o ran (body.Unknown reason) m low, tt)
 
   -- a packet of a row that stands
-  pub says_live : (o : Option State) (ran : Bool) (what : Body) → IsMadeTo h v → (CoversReply s (with_server v o ran) v.clock → BodyFits s h (with_server v o ran) v.clock Server what [])
+  pub says_live : (o : Option State) (ran : Bool) (what : Body) → IsMadeTo h v
+      → (CoversReply s (with_server v o ran) v.clock → BodyFits s h (with_server v o ran) v.clock Server what [])
       → expiry ran v.last o ≡ None → SaysFit s h (with_server v o ran) v.clock Server (Posts what ∷ [])
   says_live o ran what m f live = (fits_server o ran what m (f (live_covers o ran v.clock live)), tt)
 
   -- ---- a request that isn't whole yet
 
-  pub part_now : (part : Incoming) (service base count : ℕ) → (v.ran ≡ false) × PartFits h v service part → RowFits h (with_server v (Some (Receiving service part base count)) v.ran) (Some (Receiving service part base count))
+  pub part_now : (part : Incoming) (service base count : ℕ) → (v.ran ≡ false) × PartFits h v service part
+      → RowFits h (with_server v (Some (Receiving service part base count)) v.ran) (Some (Receiving service part base count))
   part_now part service base count f = (f.0, part_at h v (with_server v (Some (Receiving service part base count)) v.ran) service part refl (λ e. e) f.1)

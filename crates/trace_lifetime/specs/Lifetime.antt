@@ -175,6 +175,7 @@ pub record Lifetime (s : Times) (h : HostId) (v : Stand) : Type 0 where
 pub record Later (s : Times) (v u : Stand) : Type 0 where
   pub clock : v.clock ≤ u.clock
   pub called : (c : Called) → v.called ≡ Some c → u.called ≡ Some c
-  pub client : (c : Called) → v.called ≡ Some c → (r : ClientRow) → u.client ≡ Some r → (q : ClientRow) × (v.client ≡ Some q) × (q.out.top ≡ q.out.length → r.out.top ≡ r.out.length)
+  pub client : (c : Called) → v.called ≡ Some c → (r : ClientRow) → u.client ≡ Some r
+      → (q : ClientRow) × (v.client ≡ Some q) × (q.out.top ≡ q.out.length → r.out.top ≡ r.out.length)
   pub requests : (t : ℕ) → t ≤ v.clock → CoversRequest s v t → CoversRequest s u t
   pub replies : (t : ℕ) → t ≤ v.clock → (c : Called) → v.called ≡ Some c → CoversReply s v t → CoversReply s u t

@@ -39,15 +39,18 @@ to_server_is : (v : View) (p : Sent) (offset : ℕ) (m : Progress) (o : Option C
 to_server_is v p offset m None = admitted_itself p m
 to_server_is v p offset m (Some c) =
     cond_both (is_host p.to c.server && not (has_run v c.server p.id)) _ _ (IsAdmitted p m)
-    (λ _. record { came = refl; live = refl; resends = refl; requests = λ q e. set_aside m.requests p.id _ q e; responses = λ q e. refl }) (λ _. admitted_itself p m)
+    (λ _. record { came = refl; live = refl; resends = refl; requests = λ q e. set_aside m.requests p.id _ q e; responses = λ q e. refl })
+    (λ _. admitted_itself p m)
 
 to_client_is : (v : View) (p : Sent) (size offset : ℕ) (m : Progress) → IsAdmitted p m (to_client v p size offset m)
 to_client_is v p size offset m =
     cond_both (counts v m p) _ _ (IsAdmitted p m)
-    (λ _. record { came = refl; live = refl; resends = refl; requests = λ q e. refl; responses = λ q e. set_aside m.responses p.id _ q e }) (λ _. admitted_itself p m)
+    (λ _. record { came = refl; live = refl; resends = refl; requests = λ q e. refl; responses = λ q e. set_aside m.responses p.id _ q e })
+    (λ _. admitted_itself p m)
 
 admitted_is : (v : View) (p : Sent) (m : Progress) (what : Body) → IsAdmitted p m (admitted v p m what)
-admitted_is v p m (body.Data size offset version service ack) = cond_both (is_client p.role) _ _ (IsAdmitted p m) (λ _. to_server_is v p offset m (get v.calls p.id)) (λ _. to_client_is v p size offset m)
+admitted_is v p m (body.Data size offset version service ack) =
+    cond_both (is_client p.role) _ _ (IsAdmitted p m) (λ _. to_server_is v p offset m (get v.calls p.id)) (λ _. to_client_is v p size offset m)
 admitted_is v p m (body.Grant offset prio) = admitted_itself p m
 admitted_is v p m (body.Resend from to prio) = admitted_itself p m
 admitted_is v p m body.Busy = admitted_itself p m
@@ -83,13 +86,15 @@ module _ (v : View) (n : ℕ) (p : Sent) (at : slice_get v.packets n ≡ Some p)
   deliver_resends = ap (λ (m : Progress). m.resends) now_is ∙ (admitted_is (begun v) p (unadmitted v p) p.body).resends
 
   pub deliver_came : (seen v (PlainDeliver n)).now.came ≡ Some p
-  deliver_came = ap (λ (m : Progress). m.came) now_is ∙ (admitted_is (begun v) p (unadmitted v p) p.body).came ∙ counted_came (begun v) p (record v.now { came = Some p; due = no_ends })
+  deliver_came = ap (λ (m : Progress). m.came) now_is ∙ (admitted_is (begun v) p (unadmitted v p) p.body).came
+      ∙ counted_came (begun v) p (record v.now { came = Some p; due = no_ends })
 
   pub deliver_level : IsLevel (seen v (PlainDeliver n))
   deliver_level =
       let a = admitted_is (begun v) p (unadmitted v p) p.body in
       let aside = (λ (q : CallId) (e : is_of (admitted (begun v) p (unadmitted v p) p.body) q ≡ false).
-      let same : is_call p.id q ≡ false = ap (λ (o : Option Sent). option_map_or (λ (x : Sent). is_call x.id q) o false) (sym (a.came ∙ counted_came (begun v) p (record v.now { came = Some p; due = no_ends }))) ∙ e in same) in
+      let same : is_call p.id q ≡ false = ap (λ (o : Option Sent). option_map_or (λ (x : Sent). is_call x.id q) o false)
+      (sym (a.came ∙ counted_came (begun v) p (record v.now { came = Some p; due = no_ends }))) ∙ e in same) in
       let level : AreLevel (unadmitted v p) (admitted (begun v) p (unadmitted v p) p.body) = record {
         came = sym a.came;
         live = λ q. ap (λ (m : Map call_cmp ℕ). get m q) (sym a.live);
@@ -117,10 +122,13 @@ module _ (v : View) (n : ℕ) (p : Sent) (at : slice_get v.packets n ≡ Some p)
   counted_resends e = let m : Progress = record v.now { came = Some p; due = no_ends } in ap (λ b. (cond b (heard p m) m).resends) e
 
   -- another call's are the same
-  pub deliver_aside : (q : CallId) → is_call p.id q ≡ false → (get (seen v (PlainDeliver n)).now.live q ≡ get v.now.live q) × (get (seen v (PlainDeliver n)).now.resends q ≡ get v.now.resends q)
+  pub deliver_aside : (q : CallId) → is_call p.id q ≡ false → (get (seen v (PlainDeliver n)).now.live q ≡ get v.now.live q)
+      × (get (seen v (PlainDeliver n)).now.resends q ≡ get v.now.resends q)
   deliver_aside q e = by_counts counts_now refl where
-    by_counts : (b : Bool) → counts_now ≡ b → (get (seen v (PlainDeliver n)).now.live q ≡ get v.now.live q) × (get (seen v (PlainDeliver n)).now.resends q ≡ get v.now.resends q)
-    by_counts false c = let u = uncounted c in (ap (λ (m : Map call_cmp ℕ). get m q) (deliver_live ∙ u.0), ap (λ (m : Map call_cmp (List ℕ)). get m q) (deliver_resends ∙ u.1))
+    by_counts : (b : Bool) → counts_now ≡ b → (get (seen v (PlainDeliver n)).now.live q ≡ get v.now.live q)
+        × (get (seen v (PlainDeliver n)).now.resends q ≡ get v.now.resends q)
+    by_counts false c =
+        let u = uncounted c in (ap (λ (m : Map call_cmp ℕ). get m q) (deliver_live ∙ u.0), ap (λ (m : Map call_cmp (List ℕ)). get m q) (deliver_resends ∙ u.1))
     by_counts true c = (
       ap (λ (m : Map call_cmp ℕ). get m q) (deliver_live ∙ counted_live c) ∙ sym (set_aside v.now.live p.id p.inc q e),
       ap (λ (m : Map call_cmp (List ℕ)). get m q) (deliver_resends ∙ counted_resends c) ∙ by_body (is_unknown p.body),
@@ -131,7 +139,8 @@ module _ (v : View) (n : ℕ) (p : Sent) (at : slice_get v.packets n ≡ Some p)
 
 -- ---- a delivery that is stale
 
-pub stale_now : (v : View) (n : ℕ) (host : HostId) (at now : ℕ) → (seen (seen v (PlainDeliver n)) (PlainStale host at now)).now ≡ record v.now { came = None; due = no_ends }
+pub stale_now : (v : View) (n : ℕ) (host : HostId) (at now : ℕ)
+    → (seen (seen v (PlainDeliver n)) (PlainStale host at now)).now ≡ record v.now { came = None; due = no_ends }
 unfolding seen
 stale_now v n host at now = by_packet (delivery (begun v) (PlainDeliver n)) where
   by_packet : (o : Option Sent) → (delivered (begun v) o).if_stale ≡ record v.now { came = None; due = no_ends }

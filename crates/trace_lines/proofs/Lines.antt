@@ -6,7 +6,9 @@ use Rattle.homa_plain.specs.declared.id.CallId.{CallId}
 use Rattle.homa_plain.specs.declared.id.HostId.{HostId}
 use Rattle.homa_plain.specs.declared.entry.Why.{Why}
 use Rattle.homa_plain.specs.declared.entry.Why.TheVariants.{Timeout, Forgotten}
-use Rattle.homa_plain.specs.Entries.{PlainEntry, PlainSettings, PlainCall, PlainDeliver, PlainClock, PlainRestart, PlainInject, PlainShift, PlainJunk, PlainStale, PlainSend, PlainRun, PlainDone, PlainFail, PlainDrop, PlainGaps, PlainBury, PlainFree, PlainFullRows, PlainFullPages, PlainBalance, PlainRecv, PlainFinished, PlainRefused, PlainStalled}
+use Rattle.homa_plain.specs.Entries.{PlainEntry, PlainSettings, PlainCall, PlainDeliver, PlainClock, PlainRestart, PlainInject, PlainShift, PlainJunk}
+use Rattle.homa_plain.specs.Entries.{PlainStale, PlainSend, PlainRun, PlainDone, PlainFail, PlainDrop, PlainGaps, PlainBury, PlainFree, PlainFullRows}
+use Rattle.homa_plain.specs.Entries.{PlainFullPages, PlainBalance, PlainRecv, PlainFinished, PlainRefused, PlainStalled}
 use Rattle.homa_plain.specs.Packets.{Packet, send_line}
 use Rattle.homa_plain.specs.Host.{Told, Says, Sends, packets_in, entries_from}
 use Rattle.homa_plain.specs.View.{View}
@@ -23,10 +25,12 @@ entries_from-append n [] b = ap (λ m. entries_from m b) (let e : n ≡ n + 0 = 
 entries_from-append n (Says entry ∷ a) b = ap (λ es. entry ∷ es) (entries_from-append n a b)
 entries_from-append n (Sends packet ∷ a) b =
     ap (λ es. send_line n packet ∷ es)
-    (entries_from-append (suc n) a b ∙ ap (λ m. entries_from (suc n) a ++ entries_from m b) (let e : suc n + length (packets_in a) ≡ n + suc (length (packets_in a)) = omega arith in e))
+    (entries_from-append (suc n) a b ∙ ap (λ m. entries_from (suc n) a ++ entries_from m b)
+    (let e : suc n + length (packets_in a) ≡ n + suc (length (packets_in a)) = omega arith in e))
 
 -- what the lines say, with those of a move behind those of the moves before it
-pub seen-told : (v : View) (n : ℕ) (a b : List Told) → seen_all v (entries_from n (a ++ b)) ≡ seen_all (seen_all v (entries_from n a)) (entries_from (n + length (packets_in a)) b)
+pub seen-told : (v : View) (n : ℕ) (a b : List Told) → seen_all v (entries_from n (a ++ b)) ≡ seen_all (seen_all v (entries_from n a))
+    (entries_from (n + length (packets_in a)) b)
 seen-told v n a b = ap (seen_all v) (entries_from-append n a b) ∙ seen_all-append v (entries_from n a) (entries_from (n + length (packets_in a)) b)
 
 -- a law holds at lines that stand one behind the other
@@ -81,23 +85,35 @@ same_itself : (v : View) → SameSetting v v
 same_itself v = record { settings = refl; tick = refl; leads = refl; restarts = refl; calls = refl }
 
 same_then : (v u x : View) → SameSetting v u → SameSetting u x → SameSetting v x
-same_then v u x a b = record { settings = b.settings ∙ a.settings; tick = b.tick ∙ a.tick; leads = b.leads ∙ a.leads; restarts = b.restarts ∙ a.restarts; calls = b.calls ∙ a.calls }
+same_then v u x a b =
+    record {
+      settings = b.settings ∙ a.settings;
+      tick = b.tick ∙ a.tick;
+      leads = b.leads ∙ a.leads;
+      restarts = b.restarts ∙ a.restarts;
+      calls = b.calls ∙ a.calls;
+    }
 
 same_refused : (v : View) (host : HostId) (id : CallId) → SameSetting v (refused v host id)
-same_refused v host id = cond_both (is_delivery_to v host id) _ _ (SameSetting v) (λ _. record { settings = refl; tick = refl; leads = refl; restarts = refl; calls = refl }) (λ _. record { settings = refl; tick = refl; leads = refl; restarts = refl; calls = refl })
+same_refused v host id =
+    cond_both (is_delivery_to v host id) _ _ (SameSetting v)
+    (λ _. record { settings = refl; tick = refl; leads = refl; restarts = refl; calls = refl })
+    (λ _. record { settings = refl; tick = refl; leads = refl; restarts = refl; calls = refl })
 
 same_failed : (v : View) (id : CallId) (why : Why) → SameSetting v (failed v id why)
 same_failed v id Timeout = record { settings = refl; tick = refl; leads = refl; restarts = refl; calls = refl }
 same_failed v id Forgotten = record { settings = refl; tick = refl; leads = refl; restarts = refl; calls = refl }
 
 -- a line's place aside
-as_seen : (v u x : View) → SameSetting v u → x.settings ≡ u.settings → x.tick ≡ u.tick → x.leads ≡ u.leads → x.restarts ≡ u.restarts → x.calls ≡ u.calls → SameSetting v x
+as_seen : (v u x : View) → SameSetting v u → x.settings ≡ u.settings → x.tick ≡ u.tick → x.leads ≡ u.leads → x.restarts ≡ u.restarts
+    → x.calls ≡ u.calls → SameSetting v x
 as_seen v u x e a b c d f = same_then v u x e (record { settings = a; tick = b; leads = c; restarts = d; calls = f })
 
 pub inner_same : (v : View) (line : PlainEntry) → IsInner line → SameSetting v (seen v line)
 unfolding seen
 inner_same v (PlainRun host id service request response hold) inner = record { settings = refl; tick = refl; leads = refl; restarts = refl; calls = refl }
-inner_same v (PlainSend number from to inc role id level what payload) inner = record { settings = refl; tick = refl; leads = refl; restarts = refl; calls = refl }
+inner_same v (PlainSend number from to inc role id level what payload) inner =
+    record { settings = refl; tick = refl; leads = refl; restarts = refl; calls = refl }
 inner_same v (PlainDone id bytes) inner = record { settings = refl; tick = refl; leads = refl; restarts = refl; calls = refl }
 inner_same v (PlainFail id why) inner = as_seen v (failed v id why) (seen v (PlainFail id why)) (same_failed v id why) refl refl refl refl refl
 inner_same v (PlainDrop host id) inner = record { settings = refl; tick = refl; leads = refl; restarts = refl; calls = refl }
@@ -115,7 +131,8 @@ inner_same v line inner = absurd inner
 pub told_same : (v : View) (n : ℕ) (told : List Told) → AllInner told → SameSetting v (seen_all v (entries_from n told))
 told_same v n [] inner = same_itself v
 told_same v n (Says entry ∷ told) inner = same_then v (seen v entry) _ (inner_same v entry (said_inner entry inner.0)) (told_same (seen v entry) n told inner.1)
-told_same v n (Sends packet ∷ told) inner = same_then v (seen v (send_line n packet)) _ (inner_same v (send_line n packet) tt) (told_same (seen v (send_line n packet)) (suc n) told inner)
+told_same v n (Sends packet ∷ told) inner =
+    same_then v (seen v (send_line n packet)) _ (inner_same v (send_line n packet) tt) (told_same (seen v (send_line n packet)) (suc n) told inner)
 
 -- ---- packets
 
@@ -148,7 +165,10 @@ unfolding seen
 sent_more v n packet = refl
 
 -- the packets, behind what a move tells
-pub told_packets : (v : View) (n : ℕ) (told : List Told) → AllInner told → (seen_all v (entries_from n told)).packets ≡ v.packets ++ map sent_of (packets_in told)
+pub told_packets : (v : View) (n : ℕ) (told : List Told) → AllInner told → (seen_all v (entries_from n told)).packets ≡ v.packets
+    ++ map sent_of (packets_in told)
 told_packets v n [] inner = sym (append-nil v.packets)
-told_packets v n (Says entry ∷ told) inner = told_packets (seen v entry) n told inner.1 ∙ ap (λ ps. ps ++ map sent_of (packets_in told)) (said_packets v entry inner.0)
-told_packets v n (Sends packet ∷ told) inner = told_packets (seen v (send_line n packet)) (suc n) told inner ∙ ap (λ ps. ps ++ map sent_of (packets_in told)) (sent_more v n packet) ∙ append_assoc v.packets (sent_of packet ∷ []) (map sent_of (packets_in told))
+told_packets v n (Says entry ∷ told) inner =
+    told_packets (seen v entry) n told inner.1 ∙ ap (λ ps. ps ++ map sent_of (packets_in told)) (said_packets v entry inner.0)
+told_packets v n (Sends packet ∷ told) inner = told_packets (seen v (send_line n packet)) (suc n) told inner
+    ∙ ap (λ ps. ps ++ map sent_of (packets_in told)) (sent_more v n packet) ∙ append_assoc v.packets (sent_of packet ∷ []) (map sent_of (packets_in told))

@@ -1,5 +1,6 @@
 -- The lives of hosts by the lines: through what a step tells, and through a restart.
-use Rattle.std.proofs.Common.{◌≡◌, ℕ, suc, ◌+◌, ◌≤◌, ◌<◌, Bool, true, false, ◌&&◌, Option, Some, None, List, [], ◌∷◌, ◌++◌, length, cond, refl, sym, ap, subst, ◌∙◌, arith}
+use Rattle.std.proofs.Common.{◌≡◌, ℕ, suc, ◌+◌, ◌≤◌, ◌<◌, Bool, true, false, ◌&&◌, Option, Some, None, List, [], ◌∷◌, ◌++◌, length, cond, refl, sym}
+use Rattle.std.proofs.Common.{ap, subst, ◌∙◌, arith}
 use Rattle.std.specs.Prelude.{◌==◌, not, is_some, unwrap_or, slice_get}
 use Rattle.std.specs.List.{AllByRecursion}
 use Rattle.std.specs.Ordering.{nat_cmp, eq_by_cmp}
@@ -15,7 +16,8 @@ use Rattle.homa_plain.specs.declared.id.CallId.{CallId}
 use Rattle.homa_plain.specs.declared.id.HostId.{HostId}
 use Rattle.homa_plain.specs.declared.entry.Why.{Why}
 use Rattle.homa_plain.specs.declared.entry.Why.TheVariants.{Timeout, Forgotten}
-use Rattle.homa_plain.specs.Entries.{PlainEntry, PlainRestart, PlainRun, PlainDone, PlainFail, PlainDrop, PlainGaps, PlainBury, PlainFree, PlainFullRows, PlainFullPages, PlainBalance, PlainJunk, PlainStale}
+use Rattle.homa_plain.specs.Entries.{PlainEntry, PlainRestart, PlainRun, PlainDone, PlainFail, PlainDrop, PlainGaps, PlainBury, PlainFree}
+use Rattle.homa_plain.specs.Entries.{PlainFullRows, PlainFullPages, PlainBalance, PlainJunk, PlainStale}
 use Rattle.homa_plain.specs.Packets.{Packet, send_line, sender}
 use Rattle.homa_plain.specs.Host.{Host, Told, Says, Sends, packets_in, entries_from}
 use Rattle.homa_plain.specs.View.{View, Sent, life, restarts_of}
@@ -64,7 +66,8 @@ said_firsts v (PlainStale host at now) said = refl
 said_firsts v line said = absurd said
 
 -- the lines say the same of who restarted, of first incarnations and of packets
-pub lives_same : (v u : View) (id : HostId) (h : Host) → u.restarts ≡ v.restarts → u.firsts ≡ v.firsts → u.packets ≡ v.packets → HasLives v id h → HasLives u id h
+pub lives_same : (v u : View) (id : HostId) (h : Host) → u.restarts ≡ v.restarts → u.firsts ≡ v.firsts → u.packets ≡ v.packets → HasLives v id h
+    → HasLives u id h
 lives_same v u id h r f p k =
     let same : restarts_of u id ≡ restarts_of v id = ap (λ (m : Map nat_cmp (List ℕ)). unwrap_or (get m id.0) []) r in
     record {
@@ -160,27 +163,35 @@ sent_lives v n p id h of k = record {
     by_new true f = ap Some inc
     by_new false f = known (get v.firsts id.0) refl f
 
-  all_old : (ps : List Sent) → AllByRecursion (λ (x : Sent). x.from ≡ id → x.inc ≡ k.first → get v.firsts id.0 ≡ Some k.first) ps → AllByRecursion (λ (x : Sent). x.from ≡ id → x.inc ≡ k.first → get (with_first v q) id.0 ≡ Some k.first) (ps ++ q ∷ [])
+  all_old : (ps : List Sent) → AllByRecursion (λ (x : Sent). x.from ≡ id → x.inc ≡ k.first → get v.firsts id.0 ≡ Some k.first) ps
+      → AllByRecursion (λ (x : Sent). x.from ≡ id → x.inc ≡ k.first → get (with_first v q) id.0 ≡ Some k.first) (ps ++ q ∷ [])
   all_old [] all = (set, tt)
   all_old (x ∷ ps) all = ((λ from inc. stays (all.0 from inc)), all_old ps all.1)
 
-  all_send : (ps : List Sent) → AllByRecursion (λ (x : Sent). x.from ≡ id → x.inc ≡ k.first → get v.firsts id.0 ≡ Some k.first) ps → AllByRecursion (λ (x : Sent). x.from ≡ id → x.inc ≡ k.first → get (with_first v q) id.0 ≡ Some k.first) (ps ++ q ∷ [])
+  all_send : (ps : List Sent) → AllByRecursion (λ (x : Sent). x.from ≡ id → x.inc ≡ k.first → get v.firsts id.0 ≡ Some k.first) ps
+      → AllByRecursion (λ (x : Sent). x.from ≡ id → x.inc ≡ k.first → get (with_first v q) id.0 ≡ Some k.first) (ps ++ q ∷ [])
   all_send ps all = all_old ps all
 
 -- behind what a move tells
-pub told_lives : (v : View) (n : ℕ) (told : List Told) (id : HostId) (h : Host) → AllInner told → AllByRecursion (IsOfLife id h) (packets_in told) → HasLives v id h → HasLives (seen_all v (entries_from n told)) id h
+pub told_lives : (v : View) (n : ℕ) (told : List Told) (id : HostId) (h : Host) → AllInner told → AllByRecursion (IsOfLife id h) (packets_in told)
+    → HasLives v id h → HasLives (seen_all v (entries_from n told)) id h
 told_lives v n [] id h inner sent k = k
 told_lives v n (Says entry ∷ told) id h inner sent k =
-    told_lives (seen v entry) n told id h inner.1 sent (lives_same v (seen v entry) id h (inner_same v entry (said_inner entry inner.0)).restarts (said_firsts v entry inner.0) (said_packets v entry inner.0) k)
-told_lives v n (Sends packet ∷ told) id h inner sent k = told_lives (seen v (send_line n packet)) (suc n) told id h inner sent.1 (sent_lives v n packet id h sent.0 k)
+    told_lives (seen v entry) n told id h inner.1 sent
+    (lives_same v (seen v entry) id h (inner_same v entry (said_inner entry inner.0)).restarts (said_firsts v entry inner.0) (said_packets v entry inner.0) k)
+told_lives v n (Sends packet ∷ told) id h inner sent k =
+    told_lives (seen v (send_line n packet)) (suc n) told id h inner sent.1 (sent_lives v n packet id h sent.0 k)
 
 -- ---- a `restart` line
 
 -- the lives of a host that restarts, and of the others
-pub restarts_at : (v : View) (host : HostId) (inc : ℕ) (n : HostId) (b : Bool) → eq_by_cmp nat_cmp n.0 host.0 ≡ b → restarts_of (seen v (PlainRestart host inc)) n ≡ cond b (restarts_of v host ++ inc ∷ []) (restarts_of v n)
+pub restarts_at : (v : View) (host : HostId) (inc : ℕ) (n : HostId) (b : Bool) → eq_by_cmp nat_cmp n.0 host.0 ≡ b
+    → restarts_of (seen v (PlainRestart host inc)) n ≡ cond b (restarts_of v host ++ inc ∷ []) (restarts_of v n)
 unfolding seen
 restarts_at v host inc n true e =
-    ap (λ (o : Option (List ℕ)). unwrap_or o []) (ap (get (insert v.restarts host.0 (restarts_of v host ++ inc ∷ []))) (same_number n.0 host.0 e) ∙ get-there v.restarts host.0 (restarts_of v host ++ inc ∷ []))
+    ap (λ (o : Option (List ℕ)). unwrap_or o [])
+    (ap (get (insert v.restarts host.0 (restarts_of v host ++ inc ∷ []))) (same_number n.0 host.0 e)
+    ∙ get-there v.restarts host.0 (restarts_of v host ++ inc ∷ []))
 restarts_at v host inc n false e = ap (λ (o : Option (List ℕ)). unwrap_or o []) (get-elsewhere v.restarts host.0 (restarts_of v host ++ inc ∷ []) n.0 e)
 
 -- one more life

@@ -13,7 +13,8 @@ use Rattle.homa_plain.specs.declared.entry.Why.{Why}
 use Rattle.homa_plain.specs.declared.entry.Why.TheVariants.{Timeout, Forgotten}
 use Rattle.homa_plain.specs.Wire.{is_client, is_server}
 use Rattle.homa_plain.specs.Calls.{is_host, is_call, call_cmp}
-use Rattle.homa_plain.specs.Entries.{PlainEntry, PlainRun, PlainDone, PlainFail, PlainDrop, PlainGaps, PlainBury, PlainFree, PlainFullRows, PlainFullPages, PlainBalance, PlainJunk}
+use Rattle.homa_plain.specs.Entries.{PlainEntry, PlainRun, PlainDone, PlainFail, PlainDrop, PlainGaps, PlainBury, PlainFree, PlainFullRows}
+use Rattle.homa_plain.specs.Entries.{PlainFullPages, PlainBalance, PlainJunk}
 use Rattle.homa_plain.specs.Packets.{Packet, send_line, sender, receiver}
 use Rattle.homa_plain.specs.Host.{Told, Says, Sends, entries_from}
 use Rattle.homa_plain.specs.Parts.{raised, changed}
@@ -76,7 +77,8 @@ refused_aside : (v : View) (host : HostId) (id q : CallId) → is_call q id ≡ 
 refused_aside v host id q e k = by_test (is_delivery_to v host id) refl where
   other : is_delivery_to v host id ≡ true → is_of v.now q ≡ false
   other t = by_packet v.now.came t where
-    by_packet : (o : Option Sent) → option_map_or (λ p. is_call p.id id && is_host p.to host) o false ≡ true → option_map_or (λ (p : Sent). is_call p.id q) o false ≡ false
+    by_packet : (o : Option Sent) → option_map_or (λ p. is_call p.id id && is_host p.to host) o false ≡ true
+        → option_map_or (λ (p : Sent). is_call p.id q) o false ≡ false
     by_packet None t = refl
     by_packet (Some p) t =
         let mine : p.id ≡ id = (calls_are p.id id).0 (and_parts (is_call p.id id) (is_host p.to host) t).0 in
@@ -94,11 +96,25 @@ said_aside v p (body.Grant offset prio) m q e = by_role (is_server p.role) where
     by_test true e = e
     by_test false e = refl
 
-  by_role : (b : Bool) → SameParts q m (cond b (record m { requests = changed (raised p.from p.to offset) m.requests p.id }) (record m { responses = changed (raised p.from p.to offset) m.responses p.id }))
-  by_role true = record { requests = get-changed (raised p.from p.to offset) m.requests p.id q ∙ ap (λ b. cond b (option_map (raised p.from p.to offset) (get m.requests q)) (get m.requests q)) off; responses = refl }
-  by_role false = record { requests = refl; responses = get-changed (raised p.from p.to offset) m.responses p.id q ∙ ap (λ b. cond b (option_map (raised p.from p.to offset) (get m.responses q)) (get m.responses q)) off }
-said_aside v p (body.Resend from to prio) m q e = cond_both (is_client p.role) _ _ (SameParts q m) (λ _. record { requests = refl; responses = refl }) (λ _. parts_itself q m)
-said_aside v p (body.Data size offset version service ack) m q e = cond_both (is_client p.role && not (sent_last v p.id)) _ _ (SameParts q m) (λ _. record { requests = refl; responses = refl }) (λ _. parts_itself q m)
+  by_role : (b : Bool)
+      → SameParts q m
+      (cond b (record m { requests = changed (raised p.from p.to offset) m.requests p.id })
+      (record m { responses = changed (raised p.from p.to offset) m.responses p.id }))
+  by_role true = record {
+    requests = get-changed (raised p.from p.to offset) m.requests p.id q
+        ∙ ap (λ b. cond b (option_map (raised p.from p.to offset) (get m.requests q)) (get m.requests q)) off;
+    responses = refl;
+  }
+  by_role false =
+      record {
+        requests = refl;
+        responses = get-changed (raised p.from p.to offset) m.responses p.id q
+            ∙ ap (λ b. cond b (option_map (raised p.from p.to offset) (get m.responses q)) (get m.responses q)) off;
+      }
+said_aside v p (body.Resend from to prio) m q e =
+    cond_both (is_client p.role) _ _ (SameParts q m) (λ _. record { requests = refl; responses = refl }) (λ _. parts_itself q m)
+said_aside v p (body.Data size offset version service ack) m q e =
+    cond_both (is_client p.role && not (sent_last v p.id)) _ _ (SameParts q m) (λ _. record { requests = refl; responses = refl }) (λ _. parts_itself q m)
 said_aside v p body.Busy m q e = parts_itself q m
 said_aside v p (body.Cutoffs cutoffs) m q e = parts_itself q m
 said_aside v p (body.Unknown reason) m q e = parts_itself q m
@@ -106,7 +122,8 @@ said_aside v p body.NeedAck m q e = parts_itself q m
 said_aside v p (body.Ack more) m q e = parts_itself q m
 
 dropped_aside : (v : View) (host : HostId) (id q : CallId) (m : Progress) → is_call q id ≡ false → SameParts q m (dropped v host id m)
-dropped_aside v host id q m e = cond_both (is_server_of v id host) _ _ (SameParts q m) (λ _. record { requests = gone_aside m.requests id q e; responses = refl }) (λ _. parts_itself q m)
+dropped_aside v host id q m e =
+    cond_both (is_server_of v id host) _ _ (SameParts q m) (λ _. record { requests = gone_aside m.requests id q e; responses = refl }) (λ _. parts_itself q m)
 
 line_aside : (v : View) (line : PlainEntry) (q : CallId) → IsUnstale line → IsLevel v → IsAside q line → SameParts q v.now (seen v line).now
 unfolding seen
@@ -128,45 +145,61 @@ unfolding seen
 sent_aside v n p q e = said_aside v (sent_of p) p.body v.now q e
 
 -- the parts of a call that a move doesn't speak of
-pub told_parts : (v : View) (n : ℕ) (told : List Told) (q : CallId) → AllUnstale told → IsLevel v → AllAside q told → SameParts q v.now (seen_all v (entries_from n told)).now
+pub told_parts : (v : View) (n : ℕ) (told : List Told) (q : CallId) → AllUnstale told → IsLevel v → AllAside q told
+    → SameParts q v.now (seen_all v (entries_from n told)).now
 told_parts v n [] q said k e = parts_itself q v.now
 told_parts v n (Says entry ∷ told) q said k e =
-    parts_then q v.now (seen v entry).now _ (line_aside v entry q said.0 k e.0) (told_parts (seen v entry) n told q said.1 (taken_level v entry (unstale_taken entry said.0) k) e.1)
+    parts_then q v.now (seen v entry).now _ (line_aside v entry q said.0 k e.0)
+    (told_parts (seen v entry) n told q said.1 (taken_level v entry (unstale_taken entry said.0) k) e.1)
 told_parts v n (Sends p ∷ told) q said k e =
-    parts_then q v.now (seen v (send_line n p)).now _ (sent_aside v n p q e.0) (told_parts (seen v (send_line n p)) (suc n) told q said (taken_level v (send_line n p) tt k) e.1)
+    parts_then q v.now (seen v (send_line n p)).now _ (sent_aside v n p q e.0)
+    (told_parts (seen v (send_line n p)) (suc n) told q said (taken_level v (send_line n p) tt k) e.1)
 
 -- ---- GRANTs
 
 -- of a request
 pub request_granted : (v : View) (n : ℕ) (p : Packet) (offset prio : ℕ) (q : CallId) → p.role ≡ Server → p.body ≡ body.Grant offset prio
-    → (get (seen v (send_line n p)).now.requests q ≡ cond (is_call q p.id) (option_map (raised (sender p) (receiver p) offset) (get v.now.requests q)) (get v.now.requests q)) × (get (seen v (send_line n p)).now.responses q ≡ get v.now.responses q)
+    → (get (seen v (send_line n p)).now.requests q ≡ cond (is_call q p.id) (option_map (raised (sender p) (receiver p) offset) (get v.now.requests q))
+    (get v.now.requests q)) × (get (seen v (send_line n p)).now.responses q ≡ get v.now.responses q)
 unfolding seen
 request_granted v n p offset prio q role what = (
   ap (λ (b : Body). get (said v (sent_of p) b v.now).requests q) what
-      ∙ ap (λ (x : Role). get (cond (is_server x) (record v.now { requests = changed (raised (sender p) (receiver p) offset) v.now.requests p.id }) (record v.now { responses = changed (raised (sender p) (receiver p) offset) v.now.responses p.id })).requests q) role
+      ∙ ap (λ (x : Role). get
+      (cond (is_server x) (record v.now { requests = changed (raised (sender p) (receiver p) offset) v.now.requests p.id })
+      (record v.now { responses = changed (raised (sender p) (receiver p) offset) v.now.responses p.id })).requests q) role
       ∙ get-changed (raised (sender p) (receiver p) offset) v.now.requests p.id q,
   ap (λ (b : Body). get (said v (sent_of p) b v.now).responses q) what
-      ∙ ap (λ (x : Role). get (cond (is_server x) (record v.now { requests = changed (raised (sender p) (receiver p) offset) v.now.requests p.id }) (record v.now { responses = changed (raised (sender p) (receiver p) offset) v.now.responses p.id })).responses q) role,
+      ∙ ap (λ (x : Role). get
+      (cond (is_server x) (record v.now { requests = changed (raised (sender p) (receiver p) offset) v.now.requests p.id })
+      (record v.now { responses = changed (raised (sender p) (receiver p) offset) v.now.responses p.id })).responses q) role,
 )
 
 -- of a response
 pub response_granted : (v : View) (n : ℕ) (p : Packet) (offset prio : ℕ) (q : CallId) → p.role ≡ Client → p.body ≡ body.Grant offset prio
-    → (get (seen v (send_line n p)).now.responses q ≡ cond (is_call q p.id) (option_map (raised (sender p) (receiver p) offset) (get v.now.responses q)) (get v.now.responses q)) × (get (seen v (send_line n p)).now.requests q ≡ get v.now.requests q)
+    → (get (seen v (send_line n p)).now.responses q ≡ cond (is_call q p.id)
+    (option_map (raised (sender p) (receiver p) offset) (get v.now.responses q)) (get v.now.responses q))
+    × (get (seen v (send_line n p)).now.requests q ≡ get v.now.requests q)
 unfolding seen
 response_granted v n p offset prio q role what = (
   ap (λ (b : Body). get (said v (sent_of p) b v.now).responses q) what
-      ∙ ap (λ (x : Role). get (cond (is_server x) (record v.now { requests = changed (raised (sender p) (receiver p) offset) v.now.requests p.id }) (record v.now { responses = changed (raised (sender p) (receiver p) offset) v.now.responses p.id })).responses q) role
+      ∙ ap (λ (x : Role). get
+      (cond (is_server x) (record v.now { requests = changed (raised (sender p) (receiver p) offset) v.now.requests p.id })
+      (record v.now { responses = changed (raised (sender p) (receiver p) offset) v.now.responses p.id })).responses q) role
       ∙ get-changed (raised (sender p) (receiver p) offset) v.now.responses p.id q,
   ap (λ (b : Body). get (said v (sent_of p) b v.now).requests q) what
-      ∙ ap (λ (x : Role). get (cond (is_server x) (record v.now { requests = changed (raised (sender p) (receiver p) offset) v.now.requests p.id }) (record v.now { responses = changed (raised (sender p) (receiver p) offset) v.now.responses p.id })).requests q) role,
+      ∙ ap (λ (x : Role). get
+      (cond (is_server x) (record v.now { requests = changed (raised (sender p) (receiver p) offset) v.now.requests p.id })
+      (record v.now { responses = changed (raised (sender p) (receiver p) offset) v.now.responses p.id })).requests q) role,
 )
 
 -- ---- requests that are given up, and calls that are done or failed
 
-pub drop_line : (v : View) (host : HostId) (id q : CallId) → is_server_of v id host ≡ true → get (seen v (PlainDrop host id)).now.requests q ≡ cond (is_call q id) None (get v.now.requests q)
+pub drop_line : (v : View) (host : HostId) (id q : CallId) → is_server_of v id host ≡ true
+    → get (seen v (PlainDrop host id)).now.requests q ≡ cond (is_call q id) None (get v.now.requests q)
 unfolding seen
 drop_line v host id q e = ap (λ b. get (cond b (record v.now { requests = remove v.now.requests id }) v.now).requests q) e ∙ get-gone v.now.requests id q
 
-pub done_line : (v : View) (id : CallId) (bytes : List ℕ) (q : CallId) → get (seen v (PlainDone id bytes)).now.responses q ≡ cond (is_call q id) None (get v.now.responses q)
+pub done_line : (v : View) (id : CallId) (bytes : List ℕ) (q : CallId)
+    → get (seen v (PlainDone id bytes)).now.responses q ≡ cond (is_call q id) None (get v.now.responses q)
 unfolding seen
 done_line v id bytes q = get-gone v.now.responses id q

@@ -13,7 +13,8 @@ use Rattle.homa_plain.specs.declared.entry.Why.{Why}
 use Rattle.homa_plain.specs.declared.entry.Why.TheVariants.{Timeout, Forgotten}
 use Rattle.homa_plain.specs.Wire.{is_client, is_server}
 use Rattle.homa_plain.specs.Calls.{is_call, call_cmp}
-use Rattle.homa_plain.specs.Entries.{PlainEntry, PlainCall, PlainInject, PlainSend, PlainRun, PlainDone, PlainFail, PlainDrop, PlainGaps, PlainBury, PlainFree, PlainFullRows, PlainFullPages, PlainBalance, PlainJunk, PlainStale}
+use Rattle.homa_plain.specs.Entries.{PlainEntry, PlainCall, PlainInject, PlainSend, PlainRun, PlainDone, PlainFail, PlainDrop, PlainGaps, PlainBury}
+use Rattle.homa_plain.specs.Entries.{PlainFree, PlainFullRows, PlainFullPages, PlainBalance, PlainJunk, PlainStale}
 use Rattle.homa_plain.specs.Packets.{send_line}
 use Rattle.homa_plain.specs.Host.{Told, Says, Sends, entries_from}
 use Rattle.homa_plain.specs.Parts.{Part, Parts, raised, changed, changed_part}
@@ -39,9 +40,11 @@ pub both_gone : {X : Type 0} (m n : Map call_cmp X) (id q : CallId) → get m q 
 both_gone m n id q e = get-gone m id q ∙ ap (λ o. cond (is_call q id) None o) e ∙ sym (get-gone n id q)
 
 -- the parts of which that of a call is changed
-pub get-changed : (change : Part → Part) (parts : Parts) (id q : CallId) → get (changed change parts id) q ≡ cond (is_call q id) (option_map change (get parts q)) (get parts q)
+pub get-changed : (change : Part → Part) (parts : Parts) (id q : CallId)
+    → get (changed change parts id) q ≡ cond (is_call q id) (option_map change (get parts q)) (get parts q)
 get-changed change parts id q = by_part (get parts id) refl (is_call q id) refl where
-  by_part : (o : Option Part) → get parts id ≡ o → (b : Bool) → is_call q id ≡ b → get (changed_part change parts id o) q ≡ cond b (option_map change (get parts q)) (get parts q)
+  by_part : (o : Option Part) → get parts id ≡ o → (b : Bool) → is_call q id ≡ b
+      → get (changed_part change parts id o) q ≡ cond b (option_map change (get parts q)) (get parts q)
   by_part None e false f = refl
   by_part None e true f = let none : get parts q ≡ None = ap (get parts) ((calls_are q id).0 f) ∙ e in none ∙ sym (ap (option_map change) none)
   by_part (Some p) e false f = get-set parts id (change p) q ∙ ap (λ b. cond b (Some (change p)) (get parts q)) f
@@ -91,18 +94,42 @@ module _ (m n : Progress) (k : AreLevel m n) where
   level_dropped : (v : View) (host : HostId) (id : CallId) → AreLevel (dropped v host id m) (dropped v host id n)
   level_dropped v host id = by_server (is_server_of v id host) where
     by_server : (b : Bool) → AreLevel (cond b (record m { requests = remove m.requests id }) m) (cond b (record n { requests = remove n.requests id }) n)
-    by_server true = record { came = k.came; live = k.live; resends = k.resends; requests = λ q o. both_gone m.requests n.requests id q (k.requests q o); responses = k.responses }
+    by_server true =
+        record {
+          came = k.came;
+          live = k.live;
+          resends = k.resends;
+          requests = λ q o. both_gone m.requests n.requests id q (k.requests q o);
+          responses = k.responses;
+        }
     by_server false = k
 
   level_renewed : (id : CallId) → AreLevel (renewed id m) (renewed id n)
-  level_renewed id = record { came = k.came; live = k.live; resends = λ q. both_set m.resends n.resends id [] q (k.resends q); requests = k.requests; responses = k.responses }
+  level_renewed id =
+      record { came = k.came; live = k.live; resends = λ q. both_set m.resends n.resends id [] q (k.resends q); requests = k.requests; responses = k.responses }
 
   level_said : (v : View) (p : Sent) (what : Body) → AreLevel (said v p what m) (said v p what n)
   level_said v p (body.Grant offset prio) = by_role (is_server p.role) where
-    by_role : (b : Bool) → AreLevel (cond b (record m { requests = changed (raised p.from p.to offset) m.requests p.id }) (record m { responses = changed (raised p.from p.to offset) m.responses p.id }))
-        (cond b (record n { requests = changed (raised p.from p.to offset) n.requests p.id }) (record n { responses = changed (raised p.from p.to offset) n.responses p.id }))
-    by_role true = record { came = k.came; live = k.live; resends = k.resends; requests = λ q o. both_changed (raised p.from p.to offset) m.requests n.requests p.id q (k.requests q o); responses = k.responses }
-    by_role false = record { came = k.came; live = k.live; resends = k.resends; requests = k.requests; responses = λ q o. both_changed (raised p.from p.to offset) m.responses n.responses p.id q (k.responses q o) }
+    by_role : (b : Bool)
+        → AreLevel (cond b (record m { requests = changed (raised p.from p.to offset) m.requests p.id })
+        (record m { responses = changed (raised p.from p.to offset) m.responses p.id }))
+        (cond b (record n { requests = changed (raised p.from p.to offset) n.requests p.id })
+        (record n { responses = changed (raised p.from p.to offset) n.responses p.id }))
+    by_role true = record {
+      came = k.came;
+      live = k.live;
+      resends = k.resends;
+      requests = λ q o. both_changed (raised p.from p.to offset) m.requests n.requests p.id q (k.requests q o);
+      responses = k.responses;
+    }
+    by_role false =
+        record {
+          came = k.came;
+          live = k.live;
+          resends = k.resends;
+          requests = k.requests;
+          responses = λ q o. both_changed (raised p.from p.to offset) m.responses n.responses p.id q (k.responses q o);
+        }
   level_said v p (body.Resend from to prio) = by_role (is_client p.role) where
     ticks : (x : Progress) → List ℕ
     ticks x = own_tick v p.id.client ∷ resends_of x p.id
@@ -110,7 +137,8 @@ module _ (m n : Progress) (k : AreLevel m n) where
     same : ticks m ≡ ticks n
     same = ap (λ (o : Option (List ℕ)). own_tick v p.id.client ∷ unwrap_or o []) (k.resends p.id)
 
-    by_role : (b : Bool) → AreLevel (cond b (record m { resends = insert m.resends p.id (ticks m) }) m) (cond b (record n { resends = insert n.resends p.id (ticks n) }) n)
+    by_role : (b : Bool)
+        → AreLevel (cond b (record m { resends = insert m.resends p.id (ticks m) }) m) (cond b (record n { resends = insert n.resends p.id (ticks n) }) n)
     by_role true = record {
       came = k.came;
       live = k.live;
@@ -139,7 +167,8 @@ level_failed v id Forgotten k = level_finished v.if_refused v.now k id
 pub taken_level : (v : View) (line : PlainEntry) → IsTaken line → IsLevel v → IsLevel (seen v line)
 unfolding seen
 taken_level v (PlainRun host id service request response hold) taken k = k
-taken_level v (PlainSend number from to inc role id level what payload) taken k = level_said v.if_refused v.now k v (record { from = from; to = to; inc = inc; role = role; id = id; body = what; payload = payload }) what
+taken_level v (PlainSend number from to inc role id level what payload) taken k =
+    level_said v.if_refused v.now k v (record { from = from; to = to; inc = inc; role = role; id = id; body = what; payload = payload }) what
 taken_level v (PlainDone id bytes) taken k = level_finished v.if_refused v.now k id
 taken_level v (PlainFail id why) taken k = level_failed v id why k
 taken_level v (PlainDrop host id) taken k = level_dropped v.if_refused v.now k v host id
@@ -186,7 +215,8 @@ ends-append q (Sends p ∷ a) b = ends-append q a b
 live_said : (v : View) (p : Sent) (what : Body) (m : Progress) (q : CallId) → get (said v p what m).live q ≡ get m.live q
 live_said v p (body.Grant offset prio) m q = cond_both (is_server p.role) _ _ (λ (x : Progress). get x.live q ≡ get m.live q) (λ _. refl) (λ _. refl)
 live_said v p (body.Resend from to prio) m q = cond_both (is_client p.role) _ _ (λ (x : Progress). get x.live q ≡ get m.live q) (λ _. refl) (λ _. refl)
-live_said v p (body.Data size offset version service ack) m q = cond_both (is_client p.role && not (sent_last v p.id)) _ _ (λ (x : Progress). get x.live q ≡ get m.live q) (λ _. refl) (λ _. refl)
+live_said v p (body.Data size offset version service ack) m q =
+    cond_both (is_client p.role && not (sent_last v p.id)) _ _ (λ (x : Progress). get x.live q ≡ get m.live q) (λ _. refl) (λ _. refl)
 live_said v p body.Busy m q = refl
 live_said v p (body.Cutoffs cutoffs) m q = refl
 live_said v p (body.Unknown reason) m q = refl
@@ -200,10 +230,12 @@ live_failed : (v : View) (id q : CallId) (why : Why) → get (failed v id why).n
 live_failed v id q Timeout = get-gone v.now.live id q
 live_failed v id q Forgotten = get-gone v.now.live id q
 
-taken_live : (v : View) (line : PlainEntry) (q : CallId) → IsTaken line → IsLevel v → get (seen v line).now.live q ≡ cond (is_end q line) None (get v.now.live q)
+taken_live : (v : View) (line : PlainEntry) (q : CallId) → IsTaken line → IsLevel v
+    → get (seen v line).now.live q ≡ cond (is_end q line) None (get v.now.live q)
 unfolding seen
 taken_live v (PlainRun host id service request response hold) q taken k = refl
-taken_live v (PlainSend number from to inc role id level what payload) q taken k = live_said v (record { from = from; to = to; inc = inc; role = role; id = id; body = what; payload = payload }) what v.now q
+taken_live v (PlainSend number from to inc role id level what payload) q taken k =
+    live_said v (record { from = from; to = to; inc = inc; role = role; id = id; body = what; payload = payload }) what v.now q
 taken_live v (PlainDone id bytes) q taken k = get-gone v.now.live id q
 taken_live v (PlainFail id why) q taken k = live_failed v id q why
 taken_live v (PlainDrop host id) q taken k = cond_both (is_server_of v id host) _ _ (λ (x : Progress). get x.live q ≡ get v.now.live q) (λ _. refl) (λ _. refl)
@@ -217,10 +249,12 @@ taken_live v (PlainJunk host) q taken k = refl
 taken_live v line q taken k = absurd taken
 
 -- behind what a move tells, those calls are live that were and that it doesn't end
-pub told_live : (v : View) (n : ℕ) (told : List Told) (q : CallId) → AllUnstale told → IsLevel v → get (seen_all v (entries_from n told)).now.live q ≡ cond (ends_told q told) None (get v.now.live q)
+pub told_live : (v : View) (n : ℕ) (told : List Told) (q : CallId) → AllUnstale told → IsLevel v
+    → get (seen_all v (entries_from n told)).now.live q ≡ cond (ends_told q told) None (get v.now.live q)
 told_live v n [] q said k = refl
 told_live v n (Says entry ∷ told) q said k =
-    told_live (seen v entry) n told q said.1 (taken_level v entry (unstale_taken entry said.0) k) ∙ ap (λ o. cond (ends_told q told) None o) (taken_live v entry q (unstale_taken entry said.0) k)
+    told_live (seen v entry) n told q said.1 (taken_level v entry (unstale_taken entry said.0) k) ∙ ap (λ o. cond (ends_told q told) None o)
+    (taken_live v entry q (unstale_taken entry said.0) k)
     ∙ join (is_end q entry) (ends_told q told) where
       join : (a b : Bool) → cond b None (cond a None (get v.now.live q)) ≡ cond (a || b) None (get v.now.live q)
       join true true = refl
@@ -228,7 +262,8 @@ told_live v n (Says entry ∷ told) q said k =
       join false true = refl
       join false false = refl
 told_live v n (Sends packet ∷ told) q said k =
-    told_live (seen v (send_line n packet)) (suc n) told q said (taken_level v (send_line n packet) tt k) ∙ ap (λ o. cond (ends_told q told) None o) (taken_live v (send_line n packet) q tt k)
+    told_live (seen v (send_line n packet)) (suc n) told q said (taken_level v (send_line n packet) tt k) ∙ ap (λ o. cond (ends_told q told) None o)
+    (taken_live v (send_line n packet) q tt k)
 
 -- ---- the lines of an event
 

@@ -1,5 +1,6 @@
 -- A host restarts: it has one more life, of the next incarnation, in which no call has run.
-use Rattle.std.proofs.Common.{◌≡◌, ℕ, zero, suc, ◌+◌, ◌≤◌, ◌<◌, Bool, true, false, ◌&&◌, ◌||◌, Some, List, [], ◌∷◌, ◌++◌, length, refl, sym, ap, subst, ◌∙◌, arith, inl, inr}
+use Rattle.std.proofs.Common.{◌≡◌, ℕ, zero, suc, ◌+◌, ◌≤◌, ◌<◌, Bool, true, false, ◌&&◌, ◌||◌, Some, List, [], ◌∷◌, ◌++◌, length, refl, sym, ap}
+use Rattle.std.proofs.Common.{subst, ◌∙◌, arith, inl, inr}
 use Rattle.std.specs.Prelude.{◌==◌, slice_get}
 use Rattle.std.specs.List.{AllByRecursion, list_any}
 use Rattle.std.specs.Ordering.{nat_cmp, eq_by_cmp}
@@ -26,32 +27,35 @@ module _ (v : View) (host : HostId) (inc : ℕ) where
   runs_same = refl
 
   pub unrun_restarted : (q : CallId) → AllLived v → has_run after host q ≡ false
-  unrun_restarted q all = ap (λ (rs : List Ran). list_any (λ (r : Ran). is_call r.id q && is_host r.host host && r.life == now) rs) runs_same ∙ by_runs v.runs all where
-    now : ℕ
-    now = life after host
+  unrun_restarted q all =
+      ap (λ (rs : List Ran). list_any (λ (r : Ran). is_call r.id q && is_host r.host host && r.life == now) rs) runs_same ∙ by_runs v.runs all where
+        now : ℕ
+        now = life after host
 
-    later : now ≡ life v host + 1
-    later = life_restarted v host inc
+        later : now ≡ life v host + 1
+        later = life_restarted v host inc
 
-    ended : (r : Ran) → r.life ≤ life v r.host → (b : Bool) → is_host r.host host ≡ b → (is_call r.id q && b && r.life == now) ≡ false
-    ended r before false e = off (is_call r.id q) (r.life == now) where
-      off : (a c : Bool) → ((a && false) && c) ≡ false
-      off true c = refl
-      off false c = refl
-    ended r before true e = off (is_call r.id q) (r.life == now) differ where
-      off : (a c : Bool) → c ≡ false → ((a && true) && c) ≡ false
-      off true c e = e
-      off false c e = refl
+        ended : (r : Ran) → r.life ≤ life v r.host → (b : Bool) → is_host r.host host ≡ b → (is_call r.id q && b && r.life == now) ≡ false
+        ended r before false e = off (is_call r.id q) (r.life == now) where
+          off : (a c : Bool) → ((a && false) && c) ≡ false
+          off true c = refl
+          off false c = refl
+        ended r before true e = off (is_call r.id q) (r.life == now) differ where
+          off : (a c : Bool) → c ≡ false → ((a && true) && c) ≡ false
+          off true c e = e
+          off false c e = refl
 
-      same : life v r.host ≡ life v host
-      same = ap (life v) ((hosts_are r.host host).0 e)
+          same : life v r.host ≡ life v host
+          same = ap (life v) ((hosts_are r.host host).0 e)
 
-      differ : (r.life == now) ≡ false
-      differ = false_from_ne_true (r.life == now) (λ t. let k : r.life ≡ now = eqb-true r.life now t in absurd (omega (arith, before, same, later, k)))
+          differ : (r.life == now) ≡ false
+          differ = false_from_ne_true (r.life == now) (λ t. let k : r.life ≡ now = eqb-true r.life now t in absurd (omega (arith, before, same, later, k)))
 
-    by_runs : (rs : List Ran) → AllByRecursion (λ (r : Ran). r.life ≤ life v r.host) rs → list_any (λ (r : Ran). is_call r.id q && is_host r.host host && r.life == now) rs ≡ false
-    by_runs [] all = refl
-    by_runs (r ∷ rs) all = ap (λ b. b || list_any (λ (r : Ran). is_call r.id q && is_host r.host host && r.life == now) rs) (ended r all.0 (is_host r.host host) refl) ∙ by_runs rs all.1
+        by_runs : (rs : List Ran) → AllByRecursion (λ (r : Ran). r.life ≤ life v r.host) rs
+            → list_any (λ (r : Ran). is_call r.id q && is_host r.host host && r.life == now) rs ≡ false
+        by_runs [] all = refl
+        by_runs (r ∷ rs) all = ap (λ b. b || list_any (λ (r : Ran). is_call r.id q && is_host r.host host && r.life == now) rs)
+            (ended r all.0 (is_host r.host host) refl) ∙ by_runs rs all.1
 
   pub ran_elsewhere : (n : HostId) (q : CallId) → is_host n host ≡ false → has_run after n q ≡ has_run v n q
   ran_elsewhere n q e =
@@ -111,5 +115,6 @@ module _ (v : View) (host : HostId) (inc : ℕ) where
           | inl less ↦ get_front (restarts_of v host) i inc less ∙ k.later i less
           | inr more ↦
               let at : i ≡ life v host = omega (arith, l, more) in
-              ap (slice_get (restarts_of v host ++ inc ∷ [])) at ∙ get_last (restarts_of v host) inc ∙ ap Some (let z : inc ≡ k.first + i + 1 = omega (arith, next, k.now, at) in z)
+              ap (slice_get (restarts_of v host ++ inc ∷ [])) at ∙ get_last (restarts_of v host) inc
+              ∙ ap Some (let z : inc ≡ k.first + i + 1 = omega (arith, next, k.now, at) in z)
         ]

@@ -1,5 +1,6 @@
 -- Which calls ran, and in which lives of their hosts, by the lines that a step tells.
-use Rattle.std.proofs.Common.{◌≡◌, ℕ, suc, ◌≤◌, Bool, true, false, ◌&&◌, ◌||◌, Option, Some, None, List, [], ◌∷◌, ◌++◌, length, refl, sym, ap, subst, ◌∙◌, arith}
+use Rattle.std.proofs.Common.{◌≡◌, ℕ, suc, ◌≤◌, Bool, true, false, ◌&&◌, ◌||◌, Option, Some, None, List, [], ◌∷◌, ◌++◌, length, refl, sym, ap, subst}
+use Rattle.std.proofs.Common.{◌∙◌, arith}
 use Rattle.std.specs.Prelude.{◌==◌, unwrap_or}
 use Rattle.std.specs.List.{AllByRecursion, list_any}
 use Rattle.std.specs.Ordering.{nat_cmp}
@@ -10,7 +11,8 @@ use Rattle.homa_plain.specs.declared.id.HostId.{HostId}
 use Rattle.homa_plain.specs.declared.entry.Why.{Why}
 use Rattle.homa_plain.specs.declared.entry.Why.TheVariants.{Timeout, Forgotten}
 use Rattle.homa_plain.specs.Calls.{is_host, is_call}
-use Rattle.homa_plain.specs.Entries.{PlainEntry, PlainDeliver, PlainRestart, PlainJunk, PlainStale, PlainSend, PlainRun, PlainDone, PlainFail, PlainDrop, PlainGaps, PlainBury, PlainFree, PlainFullRows, PlainFullPages, PlainBalance, PlainRecv}
+use Rattle.homa_plain.specs.Entries.{PlainEntry, PlainDeliver, PlainRestart, PlainJunk, PlainStale, PlainSend, PlainRun, PlainDone, PlainFail}
+use Rattle.homa_plain.specs.Entries.{PlainDrop, PlainGaps, PlainBury, PlainFree, PlainFullRows, PlainFullPages, PlainBalance, PlainRecv}
 use Rattle.homa_plain.specs.Packets.{send_line}
 use Rattle.homa_plain.specs.Host.{Told, Says, Sends, entries_from}
 use Rattle.homa_plain.specs.View.{View, Ran, Sent, has_run, life}
@@ -28,7 +30,8 @@ pub record SameRuns (v u : View) : Type 0 where
 pub ran_same : (v u : View) (h : HostId) (q : CallId) → SameRuns v u → has_run u h q ≡ has_run v h q
 ran_same v u h q e =
     ap (λ (rs : List Ran). list_any (λ (r : Ran). is_call r.id q && is_host r.host h && r.life == life u h) rs) e.runs
-    ∙ ap (λ (m : Map nat_cmp (List ℕ)). list_any (λ (r : Ran). is_call r.id q && is_host r.host h && r.life == length (unwrap_or (get m h.0) [])) v.runs) e.restarts
+    ∙ ap (λ (m : Map nat_cmp (List ℕ)). list_any (λ (r : Ran). is_call r.id q && is_host r.host h && r.life == length (unwrap_or (get m h.0) []))
+    v.runs) e.restarts
 
 pub lived_same : (v u : View) → SameRuns v u → AllLived v → AllLived u
 lived_same v u e all =
@@ -36,7 +39,8 @@ lived_same v u e all =
     (subst (λ (rs : List Ran). AllByRecursion (λ (r : Ran). r.life ≤ life v r.host) rs) (sym e.runs) all)
 
 same_refused : (v : View) (host : HostId) (id : CallId) → SameRuns v (refused v host id)
-same_refused v host id = cond_both (is_delivery_to v host id) _ _ (SameRuns v) (λ _. record { runs = refl; restarts = refl }) (λ _. record { runs = refl; restarts = refl })
+same_refused v host id =
+    cond_both (is_delivery_to v host id) _ _ (SameRuns v) (λ _. record { runs = refl; restarts = refl }) (λ _. record { runs = refl; restarts = refl })
 
 same_failed : (v : View) (id : CallId) (why : Why) → SameRuns v (failed v id why)
 same_failed v id Timeout = record { runs = refl; restarts = refl }
@@ -60,8 +64,10 @@ unrun_same v (PlainFail id why) quiet = let e = same_failed v id why in record {
 unrun_same v (PlainGaps host id) quiet = let e = same_refused v host id in record { runs = e.runs; restarts = e.restarts }
 unrun_same v (PlainFullRows host id rows limit) quiet = let e = same_refused v host id in record { runs = e.runs; restarts = e.restarts }
 unrun_same v (PlainFullPages host id need free) quiet = let e = same_refused v host id in record { runs = e.runs; restarts = e.restarts }
-unrun_same v (PlainDeliver packet) quiet = let e = same_delivered v (delivery (begun v) (PlainDeliver packet)) in record { runs = e.runs; restarts = e.restarts }
-unrun_same v (PlainRecv host from bytes) quiet = let e = same_delivered v (delivery (begun v) (PlainRecv host from bytes)) in record { runs = e.runs; restarts = e.restarts }
+unrun_same v (PlainDeliver packet) quiet =
+    let e = same_delivered v (delivery (begun v) (PlainDeliver packet)) in record { runs = e.runs; restarts = e.restarts }
+unrun_same v (PlainRecv host from bytes) quiet =
+    let e = same_delivered v (delivery (begun v) (PlainRecv host from bytes)) in record { runs = e.runs; restarts = e.restarts }
 unrun_same v line quiet = record { runs = refl; restarts = refl }
 
 -- ---- who ran, by what a step tells
@@ -78,14 +84,16 @@ runs_told h q (Sends packet ∷ told) = runs_told h q told
 
 pub runs-append : (h : HostId) (q : CallId) (a b : List Told) → runs_told h q (a ++ b) ≡ runs_told h q a || runs_told h q b
 runs-append h q [] b = refl
-runs-append h q (Says entry ∷ a) b = ap (λ x. is_run h q entry || x) (runs-append h q a b) ∙ or_assoc (is_run h q entry) (runs_told h q a) (runs_told h q b) where
-  or_assoc : (a b c : Bool) → (a || (b || c)) ≡ ((a || b) || c)
-  or_assoc true b c = refl
-  or_assoc false b c = refl
+runs-append h q (Says entry ∷ a) b =
+    ap (λ x. is_run h q entry || x) (runs-append h q a b) ∙ or_assoc (is_run h q entry) (runs_told h q a) (runs_told h q b) where
+      or_assoc : (a b c : Bool) → (a || (b || c)) ≡ ((a || b) || c)
+      or_assoc true b c = refl
+      or_assoc false b c = refl
 runs-append h q (Sends p ∷ a) b = runs-append h q a b
 
 -- a `run` line is of its host's present life
-run_more : (v : View) (h host : HostId) (q id : CallId) → (is_call id q && is_host host h && life v host == life v h) || has_run v h q ≡ (is_call id q && is_host host h) || has_run v h q
+run_more : (v : View) (h host : HostId) (q id : CallId)
+    → (is_call id q && is_host host h && life v host == life v h) || has_run v h q ≡ (is_call id q && is_host host h) || has_run v h q
 run_more v h host q id = ap (λ b. b || has_run v h q) (by_host (is_host host h) refl) where
   and_false : (a c : Bool) → ((a && false) && c) ≡ (a && false)
   and_false true c = refl
@@ -116,17 +124,20 @@ said_run v (PlainStale host at now) h q said = refl
 said_run v line h q said = absurd said
 
 -- behind what a move tells, those calls ran that did before it, and those that it says
-pub told_runs : (v : View) (n : ℕ) (told : List Told) (h : HostId) (q : CallId) → AllInner told → has_run (seen_all v (entries_from n told)) h q ≡ runs_told h q told || has_run v h q
+pub told_runs : (v : View) (n : ℕ) (told : List Told) (h : HostId) (q : CallId) → AllInner told
+    → has_run (seen_all v (entries_from n told)) h q ≡ runs_told h q told || has_run v h q
 told_runs v n [] h q inner = refl
 told_runs v n (Says entry ∷ told) h q inner =
-    told_runs (seen v entry) n told h q inner.1 ∙ ap (λ b. runs_told h q told || b) (said_run v entry h q inner.0) ∙ or_swap (runs_told h q told) (is_run h q entry) (has_run v h q) where
+    told_runs (seen v entry) n told h q inner.1 ∙ ap (λ b. runs_told h q told || b) (said_run v entry h q inner.0) ∙ or_swap (runs_told h q told)
+    (is_run h q entry) (has_run v h q) where
       or_swap : (a b c : Bool) → (a || (b || c)) ≡ ((b || a) || c)
       or_swap true true c = refl
       or_swap true false c = refl
       or_swap false true c = refl
       or_swap false false c = refl
 told_runs v n (Sends p ∷ told) h q inner =
-    told_runs (seen v (send_line n p)) (suc n) told h q inner ∙ ap (λ b. runs_told h q told || b) (ran_same v (seen v (send_line n p)) h q (unrun_same v (send_line n p) tt))
+    told_runs (seen v (send_line n p)) (suc n) told h q inner ∙ ap (λ b. runs_told h q told || b)
+    (ran_same v (seen v (send_line n p)) h q (unrun_same v (send_line n p) tt))
 
 -- ---- no run is of a life to come
 

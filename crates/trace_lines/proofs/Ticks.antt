@@ -15,7 +15,8 @@ use Rattle.homa_plain.specs.declared.entry.Why.{Why}
 use Rattle.homa_plain.specs.declared.entry.Why.TheVariants.{Timeout, Forgotten}
 use Rattle.homa_plain.specs.Wire.{is_client, is_server}
 use Rattle.homa_plain.specs.Calls.{is_call, call_cmp}
-use Rattle.homa_plain.specs.Entries.{PlainEntry, PlainRun, PlainDone, PlainFail, PlainDrop, PlainGaps, PlainBury, PlainFree, PlainFullRows, PlainFullPages, PlainBalance, PlainJunk}
+use Rattle.homa_plain.specs.Entries.{PlainEntry, PlainRun, PlainDone, PlainFail, PlainDrop, PlainGaps, PlainBury, PlainFree, PlainFullRows}
+use Rattle.homa_plain.specs.Entries.{PlainFullPages, PlainBalance, PlainJunk}
 use Rattle.homa_plain.specs.Packets.{Packet, send_line}
 use Rattle.homa_plain.specs.Host.{Told, Says, Sends, packets_in, entries_from}
 use Rattle.homa_plain.specs.View.{View, Called, Sent, Progress, own_tick, is_server_of, has_last, sent_last, resends_of}
@@ -40,7 +41,8 @@ set_aside : {X : Type 0} (m : Map call_cmp X) (id : CallId) (x : X) (q : CallId)
 set_aside m id x q e = get-set m id x q ∙ ap (λ b. cond b (Some x) (get m q)) e
 
 -- no other packet does
-ticks_said : (v : View) (p : Sent) (what : Body) (m : Progress) (q : CallId) → (is_call q p.id && asks p.role what) ≡ false → get (said v p what m).resends q ≡ get m.resends q
+ticks_said : (v : View) (p : Sent) (what : Body) (m : Progress) (q : CallId) → (is_call q p.id && asks p.role what) ≡ false
+    → get (said v p what m).resends q ≡ get m.resends q
 ticks_said v p what m q e = by_role p.role what refl e where
   off : (b : Bool) → (b && true) ≡ false → b ≡ false
   off b e = sym (and_true b) ∙ e where
@@ -49,11 +51,15 @@ ticks_said v p what m q e = by_role p.role what refl e where
     and_true false = refl
 
   by_role : (role : Role) (what : Body) → p.role ≡ role → (is_call q p.id && asks role what) ≡ false → get (said v p what m).resends q ≡ get m.resends q
-  by_role Client (body.Resend from to prio) r e = cond_both (is_client p.role) _ _ (λ (x : Progress). get x.resends q ≡ get m.resends q) (λ _. set_aside m.resends p.id (own_tick v p.id.client ∷ resends_of m p.id) q (off (is_call q p.id) e)) (λ _. refl)
+  by_role Client (body.Resend from to prio) r e = cond_both (is_client p.role) _ _ (λ (x : Progress). get x.resends q ≡ get m.resends q)
+      (λ _. set_aside m.resends p.id (own_tick v p.id.client ∷ resends_of m p.id) q (off (is_call q p.id) e)) (λ _. refl)
   by_role Client (body.Data size offset version service ack) r e =
-      cond_both (is_client p.role && not (sent_last v p.id)) _ _ (λ (x : Progress). get x.resends q ≡ get m.resends q) (λ _. set_aside m.resends p.id [] q (off (is_call q p.id) e)) (λ _. refl)
-  by_role Server (body.Resend from to prio) r e = ap (λ (x : Role). get (cond (is_client x) (record m { resends = insert m.resends p.id (own_tick v p.id.client ∷ resends_of m p.id) }) m).resends q) r
-  by_role Server (body.Data size offset version service ack) r e = ap (λ (x : Role). get (cond (is_client x && not (sent_last v p.id)) (renewed p.id m) m).resends q) r
+      cond_both (is_client p.role && not (sent_last v p.id)) _ _ (λ (x : Progress). get x.resends q ≡ get m.resends q)
+      (λ _. set_aside m.resends p.id [] q (off (is_call q p.id) e)) (λ _. refl)
+  by_role Server (body.Resend from to prio) r e =
+      ap (λ (x : Role). get (cond (is_client x) (record m { resends = insert m.resends p.id (own_tick v p.id.client ∷ resends_of m p.id) }) m).resends q) r
+  by_role Server (body.Data size offset version service ack) r e =
+      ap (λ (x : Role). get (cond (is_client x && not (sent_last v p.id)) (renewed p.id m) m).resends q) r
   by_role role (body.Grant offset prio) r e = cond_both (is_server p.role) _ _ (λ (x : Progress). get x.resends q ≡ get m.resends q) (λ _. refl) (λ _. refl)
   by_role role body.Busy r e = refl
   by_role role (body.Cutoffs cutoffs) r e = refl
@@ -74,7 +80,8 @@ unfolding seen
 ticks_line v (PlainRun host id service request response hold) q taken k = refl
 ticks_line v (PlainDone id bytes) q taken k = refl
 ticks_line v (PlainFail id why) q taken k = ticks_failed v id q why
-ticks_line v (PlainDrop host id) q taken k = cond_both (is_server_of v id host) _ _ (λ (x : Progress). get x.resends q ≡ get v.now.resends q) (λ _. refl) (λ _. refl)
+ticks_line v (PlainDrop host id) q taken k =
+    cond_both (is_server_of v id host) _ _ (λ (x : Progress). get x.resends q ≡ get v.now.resends q) (λ _. refl) (λ _. refl)
 ticks_line v (PlainGaps host id) q taken k = ticks_refused v host id q k
 ticks_line v (PlainBury host id until) q taken k = refl
 ticks_line v (PlainFree host id) q taken k = refl
@@ -92,26 +99,38 @@ abbrev pub NoneAsks : CallId → List Packet → Type 0
 NoneAsks q ps = AllByRecursion (λ (p : Packet). is_asking q p ≡ false) ps
 
 -- behind what a move tells, where it sends no RESEND and no piece of the call's request
-pub told_ticks : (v : View) (n : ℕ) (told : List Told) (q : CallId) → AllUnstale told → IsLevel v → NoneAsks q (packets_in told) → get (seen_all v (entries_from n told)).now.resends q ≡ get v.now.resends q
+pub told_ticks : (v : View) (n : ℕ) (told : List Told) (q : CallId) → AllUnstale told → IsLevel v → NoneAsks q (packets_in told)
+    → get (seen_all v (entries_from n told)).now.resends q ≡ get v.now.resends q
 told_ticks v n [] q said k none = refl
-told_ticks v n (Says entry ∷ told) q said k none = told_ticks (seen v entry) n told q said.1 (taken_level v entry (unstale_taken entry said.0) k) none ∙ ticks_line v entry q said.0 k
-told_ticks v n (Sends p ∷ told) q said k none = told_ticks (seen v (send_line n p)) (suc n) told q said (taken_level v (send_line n p) tt k) none.1 ∙ ticks_sent v n p q none.0
+told_ticks v n (Says entry ∷ told) q said k none =
+    told_ticks (seen v entry) n told q said.1 (taken_level v entry (unstale_taken entry said.0) k) none ∙ ticks_line v entry q said.0 k
+told_ticks v n (Sends p ∷ told) q said k none =
+    told_ticks (seen v (send_line n p)) (suc n) told q said (taken_level v (send_line n p) tt k) none.1 ∙ ticks_sent v n p q none.0
 
 -- a client's RESEND is one more
-pub resend_ticks : (v : View) (n : ℕ) (p : Packet) (from to prio : ℕ) → p.role ≡ Client → p.body ≡ body.Resend from to prio → resends_of (seen v (send_line n p)).now p.id ≡ own_tick v p.id.client ∷ resends_of v.now p.id
+pub resend_ticks : (v : View) (n : ℕ) (p : Packet) (from to prio : ℕ) → p.role ≡ Client → p.body ≡ body.Resend from to prio
+    → resends_of (seen v (send_line n p)).now p.id ≡ own_tick v p.id.client ∷ resends_of v.now p.id
 unfolding seen
 resend_ticks v n p from to prio role what =
-    ap (λ (b : Body). resends_of (said v (sent_of p) b v.now) p.id) what ∙ ap (λ (x : Role). resends_of (cond (is_client x) (record v.now { resends = insert v.now.resends p.id (own_tick v p.id.client ∷ resends_of v.now p.id) }) v.now) p.id) role
-    ∙ ap (λ (o : Option (List ℕ)). unwrap_or o []) (get-set v.now.resends p.id (own_tick v p.id.client ∷ resends_of v.now p.id) p.id ∙ ap (λ b. cond b (Some (own_tick v p.id.client ∷ resends_of v.now p.id)) (get v.now.resends p.id)) ((calls_are p.id p.id).1 refl))
+    ap (λ (b : Body). resends_of (said v (sent_of p) b v.now) p.id) what
+    ∙ ap (λ (x : Role). resends_of
+    (cond (is_client x) (record v.now { resends = insert v.now.resends p.id (own_tick v p.id.client ∷ resends_of v.now p.id) }) v.now) p.id) role
+    ∙ ap (λ (o : Option (List ℕ)). unwrap_or o [])
+    (get-set v.now.resends p.id (own_tick v p.id.client ∷ resends_of v.now p.id) p.id
+    ∙ ap (λ b. cond b (Some (own_tick v p.id.client ∷ resends_of v.now p.id)) (get v.now.resends p.id)) ((calls_are p.id p.id).1 refl))
 
 -- a piece of a request renews its call, until the last byte was sent
-pub piece_ticks : (v : View) (n : ℕ) (p : Packet) (size offset version service : ℕ) (ack : Option (ℕ × ℕ)) → p.role ≡ Client → p.body ≡ body.Data size offset version service ack
+pub piece_ticks : (v : View) (n : ℕ) (p : Packet) (size offset version service : ℕ) (ack : Option (ℕ × ℕ)) → p.role ≡ Client
+    → p.body ≡ body.Data size offset version service ack
     → resends_of (seen v (send_line n p)).now p.id ≡ cond (not (sent_last v p.id)) [] (resends_of v.now p.id)
 unfolding seen
 piece_ticks v n p size offset version service ack role what =
-    ap (λ (b : Body). resends_of (said v (sent_of p) b v.now) p.id) what ∙ ap (λ (x : Role). resends_of (cond (is_client x && not (sent_last v p.id)) (renewed p.id v.now) v.now) p.id) role ∙ by_test (not (sent_last v p.id)) where
+    ap (λ (b : Body). resends_of (said v (sent_of p) b v.now) p.id) what
+    ∙ ap (λ (x : Role). resends_of (cond (is_client x && not (sent_last v p.id)) (renewed p.id v.now) v.now) p.id) role
+    ∙ by_test (not (sent_last v p.id)) where
       by_test : (b : Bool) → resends_of (cond b (renewed p.id v.now) v.now) p.id ≡ cond b [] (resends_of v.now p.id)
-      by_test true = ap (λ (o : Option (List ℕ)). unwrap_or o []) (get-set v.now.resends p.id [] p.id ∙ ap (λ b. cond b (Some []) (get v.now.resends p.id)) ((calls_are p.id p.id).1 refl))
+      by_test true = ap (λ (o : Option (List ℕ)). unwrap_or o [])
+          (get-set v.now.resends p.id [] p.id ∙ ap (λ b. cond b (Some []) (get v.now.resends p.id)) ((calls_are p.id p.id).1 refl))
       by_test false = refl
 
 -- ---- the last byte of a request
@@ -127,10 +146,13 @@ any-append test (x ∷ xs) ys = ap (λ b. test x || b) (any-append test xs ys) �
 abbrev pub any_last : CallId → Option Called → List Sent → Bool
 any_last q o ps = option_map_or (λ (c : Called). list_any (λ (p : Sent). has_last q (length c.request) p p.body) ps) o false
 
-pub told_sent_last : (v : View) (n : ℕ) (told : List Told) (q : CallId) → AllInner told → sent_last (seen_all v (entries_from n told)) q ≡ sent_last v q || any_last q (get v.calls q) (map sent_of (packets_in told))
+pub told_sent_last : (v : View) (n : ℕ) (told : List Told) (q : CallId) → AllInner told
+    → sent_last (seen_all v (entries_from n told)) q ≡ sent_last v q || any_last q (get v.calls q) (map sent_of (packets_in told))
 told_sent_last v n told q inner =
     ap (λ (ps : List Sent). any_last q (get (seen_all v (entries_from n told)).calls q) ps) (told_packets v n told inner)
-    ∙ ap (λ (m : Map call_cmp Called). any_last q (get m q) (v.packets ++ map sent_of (packets_in told))) (told_same v n told inner).calls ∙ by_call (get v.calls q) where
-      by_call : (o : Option Called) → any_last q o (v.packets ++ map sent_of (packets_in told)) ≡ any_last q o v.packets || any_last q o (map sent_of (packets_in told))
+    ∙ ap (λ (m : Map call_cmp Called). any_last q (get m q) (v.packets ++ map sent_of (packets_in told))) (told_same v n told inner).calls
+    ∙ by_call (get v.calls q) where
+      by_call : (o : Option Called) → any_last q o (v.packets ++ map sent_of (packets_in told)) ≡ any_last q o v.packets || any_last q o
+          (map sent_of (packets_in told))
       by_call None = refl
       by_call (Some c) = any-append (λ (p : Sent). has_last q (length c.request) p p.body) v.packets (map sent_of (packets_in told))

@@ -10,7 +10,8 @@ use Rattle.homa_plain.specs.View.{View, Sent, Progress}
 abbrev pub is_of : Progress → CallId → Bool
 is_of m q = option_map_or (λ (p : Sent). is_call p.id q) m.came false
 
--- what rests on the deliveries, if that of the block is refused, and if it isn't: the same live calls and RESENDs, and the same parts but that of the delivery's call
+-- what rests on the deliveries, if that of the block is refused, and if it isn't: the same live calls and RESENDs, and the same parts but that of the
+-- delivery's call
 pub record AreLevel (m n : Progress) : Type 0 where
   pub came : m.came ≡ n.came
   pub live : (q : CallId) → get m.live q ≡ get n.live q

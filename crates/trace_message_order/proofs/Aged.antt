@@ -19,7 +19,8 @@ use Rattle.trace_grants.proofs.Window.{PartsWithin}
 use Rattle.trace_grants.proofs.GrantFold.{IsLawful, IsReady, ended_lawful}
 use Rattle.trace_message_order.proofs.Ready.{matched_of, granted_of, peers_of}
 use Rattle.trace_message_order.proofs.Each.{IsNow, now_ended}
-use Rattle.trace_message_order.proofs.Ages.{number, IsInOrder, AgedNumber, AgedPart, number_none, part_none, part_raises, order_here, order_elsewhere, placed_later}
+use Rattle.trace_message_order.proofs.Ages.{number, IsInOrder, AgedNumber, AgedPart, number_none, part_none, part_raises, order_here, order_elsewhere}
+use Rattle.trace_message_order.proofs.Ages.{placed_later}
 
 -- of a host's messages, and of those of all others, against the lines before its step
 pub record IsAged (w : World) (v : View) (host : HostId) (before : View) (work : Work) : Type 0 where
@@ -43,7 +44,8 @@ OldPart h v host = AgedPart h v host (OfClient (next_id h)) (Unit {0}) ⊥ (Unit
 abbrev pub IsOld : Settings → World → View → HostId → Host → View → Work → Type 0
 IsOld s w v host h before =
     IsNow s w v host before.place (OldNumber h before host) (number_none h before host (OfClient (next_id h)) (Unit {0}) ⊥ (Unit {0}) ⊥)
-    (OldPart h before host) (part_none h before host (OfClient (next_id h)) (Unit {0}) ⊥ (Unit {0}) ⊥) (part_raises h before host (OfClient (next_id h)) (Unit {0}) ⊥ (Unit {0}) ⊥)
+    (OldPart h before host) (part_none h before host (OfClient (next_id h)) (Unit {0}) ⊥ (Unit {0}) ⊥)
+    (part_raises h before host (OfClient (next_id h)) (Unit {0}) ⊥ (Unit {0}) ⊥)
 
 pub old_number : (h : Host) (v : View) (host : HostId) (q : Place) → OldNumber h v host q (number h q)
 old_number h v host q = inr (inl (refl, λ _. tt))
@@ -59,7 +61,8 @@ module _ (s : Settings) (w : World) (v : View) (host : HostId) where
   old_aged h before work k old =
       let u : View = said_so_far w v work in
       record {
-        order = order_here h before host (OfClient (next_id h)) (Unit {0}) ⊥ (Unit {0}) ⊥ k.order k.below k.placed work.host u.now old.numbers old.parts (λ _ bad. absurd bad) (λ bad. absurd bad);
+        order = order_here h before host (OfClient (next_id h)) (Unit {0}) ⊥ (Unit {0}) ⊥ k.order k.below k.placed work.host u.now old.numbers
+            old.parts (λ _ bad. absurd bad) (λ bad. absurd bad);
         elsewhere = λ n g apart same. order_elsewhere h before host (OfClient (next_id h)) (Unit {0}) ⊥ (Unit {0}) ⊥ n g u.now apart same old.parts;
         placed = placed_later h before host (OfClient (next_id h)) (Unit {0}) ⊥ (Unit {0}) ⊥ k.placed u.now u.place old.late (λ bad. absurd bad) old.parts;
       }
@@ -70,7 +73,8 @@ module _ (s : Settings) (w : World) (v : View) (host : HostId) where
     pub within : PartsWithin s.window (said_so_far w v work).now
     pub aged : IsAged w v host before work
 
-  module _ (stands : host.0 < length w.hosts) (before : View) (work : Work) (own : HasOwnOrders work.host) (kept : IsKept s (put w host work) (said_so_far w v work)) (same : IsTrue s (put w host work) (said_so_far w v work))
+  module _ (stands : host.0 < length w.hosts) (before : View) (work : Work) (own : HasOwnOrders work.host)
+      (kept : IsKept s (put w host work) (said_so_far w v work)) (same : IsTrue s (put w host work) (said_so_far w v work))
       (lawful : IsLawful s w v host work) (aged : IsAged w v host before work) where
     abbrev u : View
     u = said_so_far w v work
@@ -94,10 +98,13 @@ module _ (s : Settings) (w : World) (v : View) (host : HostId) where
 
     pub step_ends : Ends before (ended s work)
     step_ends =
-        let last = now_ended s w v host (said_so_far w v work).place (OldNumber work.host (said_so_far w v work) host) (number_none work.host (said_so_far w v work) host (OfClient (next_id work.host)) (Unit {0}) ⊥ (Unit {0}) ⊥)
-        (OldPart work.host (said_so_far w v work) host) (part_none work.host (said_so_far w v work) host (OfClient (next_id work.host)) (Unit {0}) ⊥ (Unit {0}) ⊥)
+        let last = now_ended s w v host (said_so_far w v work).place (OldNumber work.host (said_so_far w v work) host)
+        (number_none work.host (said_so_far w v work) host (OfClient (next_id work.host)) (Unit {0}) ⊥ (Unit {0}) ⊥)
+        (OldPart work.host (said_so_far w v work) host)
+        (part_none work.host (said_so_far w v work) host (OfClient (next_id work.host)) (Unit {0}) ⊥ (Unit {0}) ⊥)
         (part_raises work.host (said_so_far w v work) host (OfClient (next_id work.host)) (Unit {0}) ⊥ (Unit {0}) ⊥) work start in
-        let a = old_aged work.host (said_so_far w v work) (ended s work) (record { order = aged.order; below = λ q a e. own.arriving.below q a e; placed = aged.placed }) last in
+        let a = old_aged work.host (said_so_far w v work) (ended s work)
+        (record { order = aged.order; below = λ q a e. own.arriving.below q a e; placed = aged.placed }) last in
         let l = ended_lawful s w v host work ready in
         record {
           holds = l.holds;

@@ -18,7 +18,8 @@ number h q = number_at response_order request_order h q
 -- of two messages of a host, the same came first by its numbers and by the lines
 abbrev pub IsInOrder : HostId → Host → Progress → Type 0
 IsInOrder host h m =
-    (p q : Place) (a b : ℕ) (x y : Part) → number h p ≡ Some a → number h q ≡ Some b → part_in m p ≡ Some x → part_in m q ≡ Some y → x.host ≡ host → y.host ≡ host → nat_lt a b ≡ nat_lt x.order y.order
+    (p q : Place) (a b : ℕ) (x y : Part) → number h p ≡ Some a → number h q ≡ Some b → part_in m p ≡ Some x → part_in m q ≡ Some y → x.host ≡ host
+    → y.host ≡ host → nat_lt a b ≡ nat_lt x.order y.order
 
 less_not : (a b : ℕ) → b ≤ a → nat_lt a b ≡ false
 less_not a b k = false_from_ne_true (nat_lt a b) (λ e. absurd (omega (arith, k, ltb-true a b e)))
@@ -67,15 +68,34 @@ module _ (h : Host) (v : View) (host : HostId) (place : Place) (old_row new_row 
   part_raises q x from to offset (inr (inl k)) =
       let r = raised_is from to offset x in
       let same : x ≡ k.part = some_is x k.part k.has in
-      inr (inl (record { before = k.before; had = k.had; part = raised from to offset x; has = refl; order = r.order ∙ ap (λ (y : Part). y.order) same ∙ k.order; host_is = r.host ∙ ap (λ (y : Part). y.host) same ∙ k.host_is; why = k.why }))
+      inr (inl (record {
+        before = k.before;
+        had = k.had;
+        part = raised from to offset x;
+        has = refl;
+        order = r.order ∙ ap (λ (y : Part). y.order) same
+            ∙ k.order;
+        host_is = r.host ∙ ap (λ (y : Part). y.host) same ∙ k.host_is;
+        why = k.why;
+      }))
   part_raises q x from to offset (inr (inr k)) =
       let r = raised_is from to offset x in
       let same : x ≡ k.part = some_is x k.part k.has in
-      inr (inr (record { at = k.at; why = k.why; part = raised from to offset x; has = refl; order = r.order ∙ ap (λ (y : Part). y.order) same ∙ k.order; host_is = r.host ∙ ap (λ (y : Part). y.host) same ∙ k.host_is }))
+      inr (inr (record {
+        at = k.at;
+        why = k.why;
+        part = raised from to offset x;
+        has = refl;
+        order = r.order ∙ ap (λ (y : Part). y.order) same
+            ∙ k.order;
+        host_is = r.host ∙ ap (λ (y : Part). y.host) same ∙ k.host_is;
+      }))
 
-  module _ (same : IsInOrder host h v.now) (below : (q : Place) (a : ℕ) → number h q ≡ Some a → a < h.order) (placed : (q : Place) (y : Part) → part_in v.now q ≡ Some y → y.order < v.place)
+  module _ (same : IsInOrder host h v.now) (below : (q : Place) (a : ℕ) → number h q ≡ Some a → a < h.order)
+      (placed : (q : Place) (y : Part) → part_in v.now q ≡ Some y → y.order < v.place)
       (k : Host) (m : Progress) (numbers : (q : Place) → AgedNumber q (number k q)) (parts : (q : Place) → AgedPart q (part_in m q))
-      (ahead : old_row → new_line → (a : ℕ) → number h place ≡ Some a → ⊥) (behind : new_row → old_line → (y : Part) → part_in v.now place ≡ Some y → (a : ℕ) → number k place ≡ Some a → ⊥) where
+      (ahead : old_row → new_line → (a : ℕ) → number h place ≡ Some a → ⊥)
+      (behind : new_row → old_line → (y : Part) → part_in v.now place ≡ Some y → (a : ℕ) → number k place ≡ Some a → ⊥) where
     -- the message that was there, and a new one
     record IsOld (q : Place) (a : ℕ) (x : Part) : Type 0 where
       pub had : number h q ≡ Some a
@@ -95,7 +115,13 @@ module _ (h : Host) (v : View) (host : HostId) (place : Place) (old_row new_row 
       old_number i (inl e) = absurd (none_some x (sym e ∙ p))
       old_number i (inr (inl j)) =
           let is : x ≡ j.part = some_is x j.part (sym p ∙ j.has) in
-          inl (record { had = sym i.0 ∙ n; before = j.before; stood = j.had; order = ap (λ (y : Part). y.order) is ∙ j.order; host_is = ap (λ (y : Part). y.host) is ∙ j.host_is })
+          inl (record {
+            had = sym i.0 ∙ n;
+            before = j.before;
+            stood = j.had;
+            order = ap (λ (y : Part). y.order) is ∙ j.order;
+            host_is = ap (λ (y : Part). y.host) is ∙ j.host_is;
+          })
       old_number i (inr (inr j)) = absurd (ahead (i.1 j.at) j.why a (ap (number h) (sym j.at) ∙ sym i.0 ∙ n))
 
       new_number : IsNewNumber q (number k q) → AgedPart q (part_in m q) → IsOld q a x ⊎ IsNew q a x
@@ -115,7 +141,8 @@ module _ (h : Host) (v : View) (host : HostId) (place : Place) (old_row new_row 
     order_here p q a b x y pa qb px qy xh yh = by_age (aged p a x pa px) (aged q b y qb qy) where
       by_age : IsOld p a x ⊎ IsNew p a x → IsOld q b y ⊎ IsNew q b y → nat_lt a b ≡ nat_lt x.order y.order
       by_age (inl i) (inl j) =
-          same p q a b i.before j.before i.had j.had i.stood j.stood (sym i.host_is ∙ xh) (sym j.host_is ∙ yh) ∙ ap (λ (n : ℕ). nat_lt n j.before.order) (sym i.order) ∙ ap (nat_lt x.order) (sym j.order)
+          same p q a b i.before j.before i.had j.had i.stood j.stood (sym i.host_is ∙ xh) (sym j.host_is ∙ yh)
+          ∙ ap (λ (n : ℕ). nat_lt n j.before.order) (sym i.order) ∙ ap (nat_lt x.order) (sym j.order)
       by_age (inl i) (inr j) =
           let l : a < h.order = below p a i.had in
           let t : i.before.order < v.place = placed p i.before i.stood in
@@ -129,12 +156,14 @@ module _ (h : Host) (v : View) (host : HostId) (place : Place) (old_row new_row 
           less_not a b (omega (arith, one)) ∙ sym (less_not x.order y.order (omega (arith, i.order, j.order)))
 
   -- at the other hosts
-  pub order_elsewhere : (other : HostId) (g : Host) (m : Progress) → (other ≡ host → ⊥) → IsInOrder other g v.now → ((q : Place) → AgedPart q (part_in m q)) → IsInOrder other g m
+  pub order_elsewhere : (other : HostId) (g : Host) (m : Progress) → (other ≡ host → ⊥) → IsInOrder other g v.now
+      → ((q : Place) → AgedPart q (part_in m q)) → IsInOrder other g m
   order_elsewhere other g m apart same parts p q a b x y pa qb px qy xh yh =
       let i = old p x px xh in
       let j = old q y qy yh in
       same p q a b i.before j.before pa qb i.had j.had (sym (part_is p x px i ∙ i.host_is) ∙ xh) (sym (part_is q y qy j ∙ j.host_is) ∙ yh)
-      ∙ ap (λ (n : ℕ). nat_lt n j.before.order) (sym (ap (λ (z : Part). z.order) (one p x px i) ∙ i.order)) ∙ ap (nat_lt x.order) (sym (ap (λ (z : Part). z.order) (one q y qy j) ∙ j.order)) where
+      ∙ ap (λ (n : ℕ). nat_lt n j.before.order) (sym (ap (λ (z : Part). z.order) (one p x px i) ∙ i.order))
+      ∙ ap (nat_lt x.order) (sym (ap (λ (z : Part). z.order) (one q y qy j) ∙ j.order)) where
         old : (q : Place) (x : Part) → part_in m q ≡ Some x → x.host ≡ other → IsOldPart q (part_in m q)
         old q x is at = by_part (parts q) where
           by_part : AgedPart q (part_in m q) → IsOldPart q (part_in m q)
@@ -149,9 +178,11 @@ module _ (h : Host) (v : View) (host : HostId) (place : Place) (old_row new_row 
         part_is q x is k = ap (λ (z : Part). z.host) (one q x is k)
 
   -- and each part's place is that of a line before
-  pub placed_later : ((q : Place) (y : Part) → part_in v.now q ≡ Some y → y.order < v.place) → (m : Progress) (last : ℕ) → v.place ≤ last → (new_line → v.place < last) → ((q : Place) → AgedPart q (part_in m q)) → (q : Place) (x : Part) → part_in m q ≡ Some x → x.order < last
+  pub placed_later : ((q : Place) (y : Part) → part_in v.now q ≡ Some y → y.order < v.place) → (m : Progress) (last : ℕ) → v.place ≤ last
+      → (new_line → v.place < last) → ((q : Place) → AgedPart q (part_in m q)) → (q : Place) (x : Part) → part_in m q ≡ Some x → x.order < last
   placed_later placed m last later more parts q x is = by_part (parts q) where
     by_part : AgedPart q (part_in m q) → x.order < last
     by_part (inl e) = absurd (none_some x (sym e ∙ is))
-    by_part (inr (inl k)) = let t : k.before.order < v.place = placed q k.before k.had in omega (arith, t, later, k.order, ap (λ (z : Part). z.order) (some_is x k.part (sym is ∙ k.has)))
+    by_part (inr (inl k)) = let t : k.before.order < v.place =
+        placed q k.before k.had in omega (arith, t, later, k.order, ap (λ (z : Part). z.order) (some_is x k.part (sym is ∙ k.has)))
     by_part (inr (inr k)) = let t : v.place < last = more k.why in omega (arith, t, k.order, ap (λ (z : Part). z.order) (some_is x k.part (sym is ∙ k.has)))

@@ -52,11 +52,14 @@ use Rattle.trace_message_order.proofs.Aged.{IsAged, IsSet}
 
 -- ---- rows that receive a request
 
-receives : (o : Option ServerRow) (a : ℕ) → request_number o ≡ Some a → (state : State) × (row : ℕ × Incoming) × (state_of o ≡ Some state) × (receiving (state_of o) ≡ Some row)
+receives : (o : Option ServerRow) (a : ℕ) → request_number o ≡ Some a → (state : State) × (row : ℕ × Incoming) × (state_of o ≡ Some state)
+    × (receiving (state_of o) ≡ Some row)
 receives None a e = absurd (none_some a e)
 receives (Some row) a e = by_state row.state refl e where
-  by_state : (state : State) → row.state ≡ state → arriving_in state ≡ Some a → (x : State) × (r : ℕ × Incoming) × (state_of (Some row) ≡ Some x) × (receiving (state_of (Some row)) ≡ Some r)
-  by_state (Receiving service part base count) is f = (Receiving service part base count, (service, part), ap (λ (x : State). Some x) is, ap (λ (x : State). receiving (Some x)) is)
+  by_state : (state : State) → row.state ≡ state → arriving_in state ≡ Some a → (x : State) × (r : ℕ × Incoming) × (state_of (Some row) ≡ Some x)
+      × (receiving (state_of (Some row)) ≡ Some r)
+  by_state (Receiving service part base count) is f =
+      (Receiving service part base count, (service, part), ap (λ (x : State). Some x) is, ap (λ (x : State). receiving (Some x)) is)
   by_state (Held response release) is f = absurd (none_some a f)
   by_state (Replying response out order base count) is f = absurd (none_some a f)
   by_state (Buried until) is f = absurd (none_some a f)
@@ -81,8 +84,10 @@ place_next : (v : View) (n : ℕ) → (seen v (PlainDeliver n)).place ≡ v.plac
 unfolding seen
 place_next v n = refl
 
-module _ (s : Settings) (w : World) (v : View) (n : ℕ) (host : HostId) (h : Host) (stands : host_at w host ≡ Some h) (room : host.0 < length w.hosts) (name : h.id ≡ host) (own : (q : CallId) (r : ClientRow) → get h.clients q ≡ Some r → q.client ≡ host)
-    (kept : IsKept s w v) (true_to : IsTrue s w v) (set : IsSet v host h) (now : ℕ) (p : Packet) (came : slice_get v.packets n ≡ Some (sent_of p)) (to : receiver p ≡ host) (answer : Answer) where
+module _ (s : Settings) (w : World) (v : View) (n : ℕ) (host : HostId) (h : Host) (stands : host_at w host ≡ Some h) (room : host.0 < length w.hosts)
+    (name : h.id ≡ host) (own : (q : CallId) (r : ClientRow) → get h.clients q ≡ Some r → q.client ≡ host)
+    (kept : IsKept s w v) (true_to : IsTrue s w v) (set : IsSet v host h) (now : ℕ) (p : Packet) (came : slice_get v.packets n ≡ Some (sent_of p))
+    (to : receiver p ≡ host) (answer : Answer) where
   abbrev line : View
   line = seen v (PlainDeliver n)
 
@@ -111,7 +116,8 @@ module _ (s : Settings) (w : World) (v : View) (n : ℕ) (host : HostId) (h : Ho
     N = AgedNumber h v host (OfServer p.id) (Unit {0}) (request_number (get h.servers p.id) ≡ None) (Unit {0}) (get v.now.requests p.id ≡ None)
 
     abbrev Each : Work → Type 0
-    Each = IsEach s w line host line.place N (number_none h v host (OfServer p.id) (Unit {0}) (request_number (get h.servers p.id) ≡ None) (Unit {0}) (get v.now.requests p.id ≡ None))
+    Each = IsEach s w line host line.place N
+        (number_none h v host (OfServer p.id) (Unit {0}) (request_number (get h.servers p.id) ≡ None) (Unit {0}) (get v.now.requests p.id ≡ None))
         (AgedPart h v host (OfServer p.id) (Unit {0}) (request_number (get h.servers p.id) ≡ None) (Unit {0}) (get v.now.requests p.id ≡ None))
         (part_none h v host (OfServer p.id) (Unit {0}) (request_number (get h.servers p.id) ≡ None) (Unit {0}) (get v.now.requests p.id ≡ None))
         (part_raises h v host (OfServer p.id) (Unit {0}) (request_number (get h.servers p.id) ≡ None) (Unit {0}) (get v.now.requests p.id ≡ None))
@@ -119,19 +125,27 @@ module _ (s : Settings) (w : World) (v : View) (n : ℕ) (host : HostId) (h : Ho
     state_here : server_state w p.id host ≡ state_of (get h.servers p.id)
     state_here = ap (λ o. at_host None (λ (g : Host). state_of (get g.servers p.id)) o) stands
 
-    lined_request : IsSameRequest s p.id.client (call_to host made.service made.request) (has_run v host p.id) (receiving (state_of (get h.servers p.id))) (get v.now.requests p.id)
-    lined_request = subst (λ o. IsSameRequest s p.id.client (call_to host made.service made.request) (has_run v host p.id) (receiving o) (get v.now.requests p.id)) state_here ((true_to.same p.id host).request (call_to host made.service made.request) made.called refl)
+    lined_request : IsSameRequest s p.id.client (call_to host made.service made.request) (has_run v host p.id)
+        (receiving (state_of (get h.servers p.id))) (get v.now.requests p.id)
+    lined_request =
+        subst (λ o. IsSameRequest s p.id.client (call_to host made.service made.request) (has_run v host p.id) (receiving o) (get v.now.requests p.id))
+        state_here ((true_to.same p.id host).request (call_to host made.service made.request) made.called refl)
 
     filled : (c : Called) → get v.calls p.id ≡ Some c → has_run v c.server p.id ≡ false → (y : Part) → get v.now.requests p.id ≡ Some y → 0 < len y.arrived
-    filled c called unrun y is = by_row (receiving (server_state w p.id c.server)) (subst (IsSameRequest s p.id.client c (has_run v c.server p.id) (receiving (server_state w p.id c.server))) is ((true_to.same p.id c.server).request c called refl)) where
-      by_row : (o : Option (ℕ × Incoming)) → IsSameRequest s p.id.client c (has_run v c.server p.id) o (Some y) → 0 < len y.arrived
-      by_row (Some row) k = k.1.some
-      by_row None k = absurd (none_some y (sym (k.0 unrun)))
+    filled c called unrun y is =
+        by_row (receiving (server_state w p.id c.server))
+        (subst (IsSameRequest s p.id.client c (has_run v c.server p.id) (receiving (server_state w p.id c.server))) is
+        ((true_to.same p.id c.server).request c called refl)) where
+          by_row : (o : Option (ℕ × Incoming)) → IsSameRequest s p.id.client c (has_run v c.server p.id) o (Some y) → 0 < len y.arrived
+          by_row (Some row) k = k.1.some
+          by_row None k = absurd (none_some y (sym (k.0 unrun)))
 
     ahead : Unit {0} → get v.now.requests p.id ≡ None → (a : ℕ) → number h (OfServer p.id) ≡ Some a → ⊥
     ahead old none a e =
         let r = receives (get h.servers p.id) a e in
-        subst (IsSameRequest s p.id.client (call_to host made.service made.request) (has_run v host p.id) (Some r.1)) none (subst (λ o. IsSameRequest s p.id.client (call_to host made.service made.request) (has_run v host p.id) o (get v.now.requests p.id)) r.3 lined_request)
+        subst (IsSameRequest s p.id.client (call_to host made.service made.request) (has_run v host p.id) (Some r.1)) none
+        (subst (λ o. IsSameRequest s p.id.client (call_to host made.service made.request) (has_run v host p.id) o (get v.now.requests p.id)) r.3
+        lined_request)
 
     heard_each : Each heard
     heard_each = each_beside s w line host line.place N _ _ _ _ first heard [] heard_move tt (record {
@@ -148,18 +162,30 @@ module _ (s : Settings) (w : World) (v : View) (n : ℕ) (host : HostId) (h : Ho
 
     new_number : N (OfServer p.id) (request_number (server_gets s (moment s p.id heard) p answer (get heard.host.servers p.id)).row)
     new_number = by_number (server_number s (moment s p.id heard) p answer (get heard.host.servers p.id)) where
-      by_number : ServerNumber heard.host.order (request_number (get heard.host.servers p.id)) (request_number did.row) → N (OfServer p.id) (request_number did.row)
-      by_number (Stayed is) = number_stays N (number_none h v host (OfServer p.id) (Unit {0}) (request_number (get h.servers p.id) ≡ None) (Unit {0}) (get v.now.requests p.id ≡ None)) (OfServer p.id) (request_number (get heard.host.servers p.id)) (request_number did.row) is (heard_each.numbers (OfServer p.id))
+      by_number : ServerNumber heard.host.order (request_number (get heard.host.servers p.id)) (request_number did.row)
+          → N (OfServer p.id) (request_number did.row)
+      by_number (Stayed is) =
+          number_stays N
+          (number_none h v host (OfServer p.id) (Unit {0}) (request_number (get h.servers p.id) ≡ None) (Unit {0}) (get v.now.requests p.id ≡ None))
+          (OfServer p.id) (request_number (get heard.host.servers p.id)) (request_number did.row) is (heard_each.numbers (OfServer p.id))
       by_number (Given none given) =
           let l : heard.host.order ≤ given.0 = given.2 in
-          inr (inr (record { at = refl; why = ap (λ rows. request_number (get rows p.id)) (sym heard_move.at_servers) ∙ none; given = given.0; has = given.1; late = omega (arith, l, heard_order) }))
+          inr (inr (record {
+            at = refl;
+            why = ap (λ rows. request_number (get rows p.id)) (sym heard_move.at_servers) ∙ none;
+            given = given.0;
+            has = given.1;
+            late = omega (arith, l, heard_order);
+          }))
 
     row_each : Each (served s p.id did heard)
-    row_each = each_served s w line host line.place N _ _ _ _ heard p.id did (gets_own s (moment s p.id heard) p answer (get heard.host.servers p.id)) new_number heard_each
+    row_each = each_served s w line host line.place N _ _ _ _ heard p.id did (gets_own s (moment s p.id heard) p answer (get heard.host.servers p.id))
+        new_number heard_each
 
     taken_each : Each (takes s p answer first)
     unfolding takes
-    taken_each = each_acked s w line host line.place N _ _ _ _ (acks p) (comes_to_row s p answer p.role heard) (subst (λ (r : Role). Each (comes_to_row s p answer r heard)) (sym role) row_each)
+    taken_each = each_acked s w line host line.place N _ _ _ _ (acks p) (comes_to_row s p answer p.role heard)
+        (subst (λ (r : Role). Each (comes_to_row s p answer r heard)) (sym role) row_each)
 
     abbrev work : Work
     work = takes s p answer (begun h now)
@@ -167,26 +193,32 @@ module _ (s : Settings) (w : World) (v : View) (n : ℕ) (host : HostId) (h : Ho
     abbrev u : View
     u = said_so_far w line work
 
-    pub server_aged : IsKept s (put w host (takes s p answer (begun h now))) (said_so_far w (seen v (PlainDeliver n)) (takes s p answer (begun h now))) → IsAged w (seen v (PlainDeliver n)) host v (takes s p answer (begun h now))
+    pub server_aged : IsKept s (put w host (takes s p answer (begun h now)))
+        (said_so_far w (seen v (PlainDeliver n)) (takes s p answer (begun h now))) → IsAged w (seen v (PlainDeliver n)) host v (takes s p answer (begun h now))
     server_aged later =
         let next : line.place ≡ v.place + 1 = place_next v n in
         let late : line.place ≤ u.place = taken_each.late in
         record {
-          order = order_here h v host (OfServer p.id) (Unit {0}) NewRow (Unit {0}) NewLine set.order set.below set.placed work.host u.now taken_each.numbers taken_each.parts.now ahead behind;
+          order = order_here h v host (OfServer p.id) (Unit {0}) NewRow (Unit {0}) NewLine set.order set.below set.placed work.host u.now
+              taken_each.numbers taken_each.parts.now ahead behind;
           elsewhere = λ m g apart same. order_elsewhere h v host (OfServer p.id) (Unit {0}) NewRow (Unit {0}) NewLine m g u.now apart same taken_each.parts.now;
-          placed = placed_later h v host (OfServer p.id) (Unit {0}) NewRow (Unit {0}) NewLine set.placed u.now u.place (omega (arith, next, late)) (λ _. omega (arith, next, late)) taken_each.parts.now;
+          placed = placed_later h v host (OfServer p.id) (Unit {0}) NewRow (Unit {0}) NewLine set.placed u.now u.place (omega (arith, next, late))
+              (λ _. omega (arith, next, late)) taken_each.parts.now;
         } where
           behind : NewRow → Unit {0} → (y : Part) → part_in v.now (OfServer p.id) ≡ Some y → (a : ℕ) → number work.host (OfServer p.id) ≡ Some a → ⊥
           behind none old y is a e = by_ran (cases_Bool (has_run v host p.id)) where
-            r : (state : State) × (row : ℕ × Incoming) × (state_of (get (takes s p answer (begun h now)).host.servers p.id) ≡ Some state) × (receiving (state_of (get (takes s p answer (begun h now)).host.servers p.id)) ≡ Some row)
+            r : (state : State) × (row : ℕ × Incoming) × (state_of (get (takes s p answer (begun h now)).host.servers p.id) ≡ Some state)
+                × (receiving (state_of (get (takes s p answer (begun h now)).host.servers p.id)) ≡ Some row)
             r = receives (get work.host.servers p.id) a e
 
             unran : has_run u host p.id ≡ false
-            unran = unran_here host (amid w line host work p.id host) (amid w line host work p.id host).server r.1 (ap receiving (server_there w line host work p.id room) ∙ r.3) (later.calls p.id host).row
+            unran = unran_here host (amid w line host work p.id host) (amid w line host work p.id host).server r.1
+                (ap receiving (server_there w line host work p.id room) ∙ r.3) (later.calls p.id host).row
 
             k : IsSameRequest s p.id.client (call_to host made.service made.request) (has_run v host p.id) None (Some y)
             k = subst (IsSameRequest s p.id.client (call_to host made.service made.request) (has_run v host p.id) None) is
-                (subst (λ o. IsSameRequest s p.id.client (call_to host made.service made.request) (has_run v host p.id) o (get v.now.requests p.id)) (receives_none (get h.servers p.id) none) lined_request)
+                (subst (λ o. IsSameRequest s p.id.client (call_to host made.service made.request) (has_run v host p.id) o (get v.now.requests p.id))
+                (receives_none (get h.servers p.id) none) lined_request)
 
             same_run : has_run v host p.id ≡ true → has_run line host p.id ≡ true
             same_run f = ran_same v line host p.id (unrun_same v (PlainDeliver n) tt) ∙ f
@@ -217,7 +249,8 @@ module _ (s : Settings) (w : World) (v : View) (n : ℕ) (host : HostId) (h : Ho
     none_m = number_none h v host (OfClient p.id) OldMine NewMine OldPart NewPart
 
     abbrev Every : Work → Type 0
-    Every = IsEach s w line host line.place M (number_none h v host (OfClient p.id) OldMine NewMine OldPart NewPart) (AgedPart h v host (OfClient p.id) OldMine NewMine OldPart NewPart)
+    Every = IsEach s w line host line.place M (number_none h v host (OfClient p.id) OldMine NewMine OldPart NewPart)
+        (AgedPart h v host (OfClient p.id) OldMine NewMine OldPart NewPart)
         (part_none h v host (OfClient p.id) OldMine NewMine OldPart NewPart) (part_raises h v host (OfClient p.id) OldMine NewMine OldPart NewPart)
 
     row_here : client_row w p.id ≡ get h.clients p.id
@@ -247,11 +280,15 @@ module _ (s : Settings) (w : World) (v : View) (n : ℕ) (host : HostId) (h : Ho
 
       counts_is : counts (lines.begun v) (came_only v (sent_of p)) (sent_of p) ≡ (is_host r.server (sender p) && nat_le r.seen p.inc)
       counts_is =
-          counts_by v (came_only v (sent_of p)) (sent_of p) (is_host r.server (sender p)) (nat_le r.seen p.inc) (ap (λ o. option_map_or (λ (c : Called). is_host c.server (sender p)) o false) called)
-          (ap (λ o. option_map_or (λ latest. nat_le latest p.inc) o false) live_is) (ap is_server role) ((hosts_are (receiver_of p.role p.id p.server) p.id.client).1 (ap (λ (x : Role). receiver_of x p.id p.server) role))
+          counts_by v (came_only v (sent_of p)) (sent_of p) (is_host r.server (sender p)) (nat_le r.seen p.inc)
+          (ap (λ o. option_map_or (λ (c : Called). is_host c.server (sender p)) o false) called)
+          (ap (λ o. option_map_or (λ latest. nat_le latest p.inc) o false) live_is) (ap is_server role)
+          ((hosts_are (receiver_of p.role p.id p.server) p.id.client).1 (ap (λ (x : Role). receiver_of x p.id p.server) role))
 
       heard_counts : IsHeard p r → counts (lines.begun v) (came_only v (sent_of p)) (sent_of p) ≡ true
-      heard_counts k = counts_is ∙ ap (λ a. a && nat_le r.seen p.inc) ((hosts_are r.server (sender p)).1 (sym ((hosts_are (sender p) r.server).0 k.from))) ∙ le-leb r.seen p.inc (ltb-false p.inc r.seen k.latest)
+      heard_counts k =
+          counts_is ∙ ap (λ a. a && nat_le r.seen p.inc) ((hosts_are r.server (sender p)).1 (sym ((hosts_are (sender p) r.server).0 k.from)))
+          ∙ le-leb r.seen p.inc (ltb-false p.inc r.seen k.latest)
 
       counts_heard : counts (lines.begun v) (came_only v (sent_of p)) (sent_of p) ≡ true → IsHeard p r
       counts_heard e =
@@ -269,9 +306,12 @@ module _ (s : Settings) (w : World) (v : View) (n : ℕ) (host : HostId) (h : Ho
       by_row : (o : Option ClientRow) → get h.clients p.id ≡ o → response_number o ≡ Some a → ⊥
       by_row None is e = none_some a e
       by_row (Some r) is e = by_part r.part refl e new.1 where
-        by_part : (o : Option Incoming) → r.part ≡ o → option_map (λ (q : Incoming). q.order) o ≡ Some a → (get v.now.responses p.id ≡ None) ⊎ (nat_lt (unwrap_or (get v.now.live p.id) 0) p.inc ≡ true) → ⊥
+        by_part : (o : Option Incoming) → r.part ≡ o → option_map (λ (q : Incoming). q.order) o ≡ Some a
+            → (get v.now.responses p.id ≡ None) ⊎ (nat_lt (unwrap_or (get v.now.live p.id) 0) p.inc ≡ true) → ⊥
         by_part None f g why = none_some a g
-        by_part (Some q) f g (inl none) = subst (IsSamePiece s v p.id r.server r.seen (Some q)) none (subst (λ o. IsSamePiece s v p.id r.server r.seen o (get v.now.responses p.id)) f (piece_is r is))
+        by_part (Some q) f g (inl none) =
+            subst (IsSamePiece s v p.id r.server r.seen (Some q)) none
+            (subst (λ o. IsSamePiece s v p.id r.server r.seen o (get v.now.responses p.id)) f (piece_is r is))
         by_part (Some q) f g (inr later) = old r is (counts_heard r is new.0) (sym (later_is r is) ∙ later)
 
     behind_mine : NewMine → OldPart → (y : Part) → part_in v.now (OfClient p.id) ≡ Some y → ⊥
@@ -281,7 +321,8 @@ module _ (s : Settings) (w : World) (v : View) (n : ℕ) (host : HostId) (h : Ho
       by_first (inl none) = by_part (new.0).part refl none where
         by_part : (o : Option Incoming) → (new.0).part ≡ o → option_map (λ (q : Incoming). q.order) o ≡ None → ⊥
         by_part (Some q) f g = none_some q.order (sym g)
-        by_part None f g = none_some y (sym (subst (λ o. IsSamePiece s v p.id (new.0).server (new.0).seen o (get v.now.responses p.id)) f (piece_is new.0 new.1)) ∙ stood)
+        by_part None f g =
+            none_some y (sym (subst (λ o. IsSamePiece s v p.id (new.0).server (new.0).seen o (get v.now.responses p.id)) f (piece_is new.0 new.1)) ∙ stood)
 
     -- as long as the row hasn't got the packet, nothing is said of its number
     abbrev Early : Place → Option ℕ → Type 0
@@ -297,7 +338,8 @@ module _ (s : Settings) (w : World) (v : View) (n : ℕ) (host : HostId) (h : Ho
     early_first : (q : Place) → (q ≡ OfClient p.id) ⊎ AgedNumber h v host (OfClient p.id) OldMine NewMine OldPart NewPart q (number h q)
     early_first (OfServer q) = inr (inr (inl (refl, λ e. absurd (place_other q p.id e))))
     early_first (OfClient q) = by_call (cases_Bool (is_call q p.id)) where
-      by_call : (is_call q p.id ≡ true) ⊎ (is_call q p.id ≡ false) → (OfClient q ≡ OfClient p.id) ⊎ AgedNumber h v host (OfClient p.id) OldMine NewMine OldPart NewPart (OfClient q) (number h (OfClient q))
+      by_call : (is_call q p.id ≡ true) ⊎ (is_call q p.id ≡ false)
+          → (OfClient q ≡ OfClient p.id) ⊎ AgedNumber h v host (OfClient p.id) OldMine NewMine OldPart NewPart (OfClient q) (number h (OfClient q))
       by_call (inl e) = inl (ap OfClient ((calls_are q p.id).0 e))
       by_call (inr e) = inr (inr (inl (refl, λ f. absurd (true≢false (sym (client_place q p.id f) ∙ e)))))
 
@@ -333,7 +375,8 @@ module _ (s : Settings) (w : World) (v : View) (n : ℕ) (host : HostId) (h : Ho
           inr (inr (record { at = refl; why = (r, sym rows_are ∙ row, k, begins); given = given.0; has = given.1; late = omega (arith, l, heard_order) }))
 
     asked_early : EachEarly (asked s p.id p.server did_ask heard)
-    asked_early = each_asked s w line host line.place Early _ _ _ _ heard p.id p.server did_ask mine (gets_quiet s (moment s p.id heard) p (get heard.host.clients p.id)).0 (inl refl) heard_early
+    asked_early = each_asked s w line host line.place Early _ _ _ _ heard p.id p.server did_ask mine
+        (gets_quiet s (moment s p.id heard) p (get heard.host.clients p.id)).0 (inl refl) heard_early
 
     asked_every : Every (asked s p.id p.server did_ask heard)
     asked_every = record {
@@ -350,13 +393,15 @@ module _ (s : Settings) (w : World) (v : View) (n : ℕ) (host : HostId) (h : Ho
       row_now : get new.clients p.id ≡ did_ask.row
       row_now = ap (λ (rows : RowsOf ClientRow). get rows p.id) (asked-clients s p.id p.server did_ask heard) ∙ get-set_row heard.host.clients p.id did_ask.row
 
-      at_place : (q : Place) → (q ≡ OfClient p.id) ⊎ AgedNumber h v host (OfClient p.id) OldMine NewMine OldPart NewPart q (number (asked s p.id p.server did_ask heard).host q) → M q (number (asked s p.id p.server did_ask heard).host q)
+      at_place : (q : Place) → (q ≡ OfClient p.id) ⊎ AgedNumber h v host (OfClient p.id) OldMine NewMine OldPart NewPart q
+          (number (asked s p.id p.server did_ask heard).host q) → M q (number (asked s p.id p.server did_ask heard).host q)
       at_place q (inr k) = k
       at_place q (inl e) = subst (λ (x : Place). M x (number new x)) (sym e) (subst (λ o. M (OfClient p.id) (response_number o)) (sym row_now) new_mine)
 
     taken_every : Every (takes s p answer first)
     unfolding takes
-    taken_every = each_acked s w line host line.place M _ _ _ _ (acks p) (comes_to_row s p answer p.role heard) (subst (λ (r : Role). Every (comes_to_row s p answer r heard)) (sym role) asked_every)
+    taken_every = each_acked s w line host line.place M _ _ _ _ (acks p) (comes_to_row s p answer p.role heard)
+        (subst (λ (r : Role). Every (comes_to_row s p answer r heard)) (sym role) asked_every)
 
     pub client_aged : IsAged w (seen v (PlainDeliver n)) host v (takes s p answer (begun h now))
     client_aged =
@@ -365,7 +410,9 @@ module _ (s : Settings) (w : World) (v : View) (n : ℕ) (host : HostId) (h : Ho
         let next : line.place ≡ v.place + 1 = place_next v n in
         let late : line.place ≤ u.place = taken_every.late in
         record {
-          order = order_here h v host (OfClient p.id) OldMine NewMine OldPart NewPart set.order set.below set.placed work.host u.now taken_every.numbers taken_every.parts.now ahead_mine (λ new old y stood _ _. behind_mine new old y stood);
+          order = order_here h v host (OfClient p.id) OldMine NewMine OldPart NewPart set.order set.below set.placed work.host u.now
+              taken_every.numbers taken_every.parts.now ahead_mine (λ new old y stood _ _. behind_mine new old y stood);
           elsewhere = λ m g apart same. order_elsewhere h v host (OfClient p.id) OldMine NewMine OldPart NewPart m g u.now apart same taken_every.parts.now;
-          placed = placed_later h v host (OfClient p.id) OldMine NewMine OldPart NewPart set.placed u.now u.place (omega (arith, next, late)) (λ _. omega (arith, next, late)) taken_every.parts.now;
+          placed = placed_later h v host (OfClient p.id) OldMine NewMine OldPart NewPart set.placed u.now u.place (omega (arith, next, late))
+              (λ _. omega (arith, next, late)) taken_every.parts.now;
         }

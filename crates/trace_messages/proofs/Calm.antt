@@ -18,7 +18,8 @@ use Rattle.homa_plain.specs.declared.packet.Body.{Body}
 use Rattle.homa_plain.specs.declared.packet.Body.TheVariants as body
 use Rattle.homa_plain.specs.declared.settings.Settings.{Settings}
 use Rattle.homa_plain.specs.Calls.{is_host, is_call}
-use Rattle.homa_plain.specs.Entries.{PlainEntry, PlainRun, PlainRestart, PlainBury, PlainFree, PlainDrop, PlainFail, PlainBalance, PlainJunk, PlainStale, PlainSend}
+use Rattle.homa_plain.specs.Entries.{PlainEntry, PlainRun, PlainRestart, PlainBury, PlainFree, PlainDrop, PlainFail, PlainBalance, PlainJunk}
+use Rattle.homa_plain.specs.Entries.{PlainStale, PlainSend}
 use Rattle.homa_plain.specs.Packets.{Packet, send_line}
 use Rattle.homa_plain.specs.Host.{Host, Told, Says, Sends, packets_in, entries_from, Tuned, tuned, is_balance_due, counted, finished_at}
 use Rattle.homa_plain.specs.Rules.{Say, Tells, Posts}
@@ -84,9 +85,12 @@ record SameDue (m n : Progress) : Type 0 where
   came : n.came ≡ m.came
 
 said_due : (v : View) (p : Sent) (what : Body) (m : Progress) → SameDue m (lines.said v p what m)
-said_due v p (body.Grant offset prio) m = cond_both (is_server p.role) _ _ (SameDue m) (λ _. record { due = refl; came = refl }) (λ _. record { due = refl; came = refl })
-said_due v p (body.Resend from to prio) m = cond_both (is_client p.role) _ _ (SameDue m) (λ _. record { due = refl; came = refl }) (λ _. record { due = refl; came = refl })
-said_due v p (body.Data size offset version service ack) m = cond_both (is_client p.role && not (sent_last v p.id)) _ _ (SameDue m) (λ _. record { due = refl; came = refl }) (λ _. record { due = refl; came = refl })
+said_due v p (body.Grant offset prio) m =
+    cond_both (is_server p.role) _ _ (SameDue m) (λ _. record { due = refl; came = refl }) (λ _. record { due = refl; came = refl })
+said_due v p (body.Resend from to prio) m =
+    cond_both (is_client p.role) _ _ (SameDue m) (λ _. record { due = refl; came = refl }) (λ _. record { due = refl; came = refl })
+said_due v p (body.Data size offset version service ack) m =
+    cond_both (is_client p.role && not (sent_last v p.id)) _ _ (SameDue m) (λ _. record { due = refl; came = refl }) (λ _. record { due = refl; came = refl })
 said_due v p what m = record { due = refl; came = refl }
 
 dropped_due : (v : View) (host : HostId) (id : CallId) (m : Progress) → SameDue m (dropped v host id m)
@@ -122,23 +126,28 @@ same_replies v u n q runs restarts =
     ∙ ap (λ (m : Map nat_cmp (List ℕ)). map (λ (r : Ran). r.response) (runs_of v n q (length (unwrap_or (get m n.0) [])))) restarts
 
 -- the line of a run of another call, or at another host
-run_replies : (v : View) (host n : HostId) (id q : CallId) (service : ℕ) (request response : List ℕ) (hold : ℕ) → (is_call id q && is_host host n) ≡ false → replies (seen v (PlainRun host id service request response hold)) n q ≡ replies v n q
+run_replies : (v : View) (host n : HostId) (id q : CallId) (service : ℕ) (request response : List ℕ) (hold : ℕ)
+    → (is_call id q && is_host host n) ≡ false → replies (seen v (PlainRun host id service request response hold)) n q ≡ replies v n q
 unfolding seen
 run_replies v host n id q service request response hold quiet =
-    ap (λ b. map (λ (r : Ran). r.response) (cond b (new ∷ runs_of v n q (life v n)) (runs_of v n q (life v n)))) (ap (λ b. b && life v host == life v n) quiet) where
+    ap (λ b. map (λ (r : Ran). r.response) (cond b (new ∷ runs_of v n q (life v n)) (runs_of v n q (life v n))))
+    (ap (λ b. b && life v host == life v n) quiet) where
       new : Ran
       new = record { host = host; life = life v host; id = id; response = response }
 
 -- of the call itself
-pub own_replies : (v : View) (host : HostId) (id : CallId) (service : ℕ) (request response : List ℕ) (hold : ℕ) → replies v host id ≡ [] → replies (seen v (PlainRun host id service request response hold)) host id ≡ response ∷ []
+pub own_replies : (v : View) (host : HostId) (id : CallId) (service : ℕ) (request response : List ℕ) (hold : ℕ) → replies v host id ≡ []
+    → replies (seen v (PlainRun host id service request response hold)) host id ≡ response ∷ []
 unfolding seen
 own_replies v host id service request response hold none =
-    ap (λ b. map (λ (r : Ran). r.response) (cond b (new ∷ runs_of v host id (life v host)) (runs_of v host id (life v host)))) passes ∙ ap (λ xs. response ∷ xs) none where
+    ap (λ b. map (λ (r : Ran). r.response) (cond b (new ∷ runs_of v host id (life v host)) (runs_of v host id (life v host)))) passes
+    ∙ ap (λ xs. response ∷ xs) none where
       new : Ran
       new = record { host = host; life = life v host; id = id; response = response }
 
       passes : (is_call id id && is_host host host && life v host == life v host) ≡ true
-      passes = ap (λ b. b && is_host host host && life v host == life v host) ((calls_are id id).1 refl) ∙ ap (λ b. b && life v host == life v host) ((hosts_are host host).1 refl) ∙ eq-eqb (life v host) (life v host) refl
+      passes = ap (λ b. b && is_host host host && life v host == life v host) ((calls_are id id).1 refl) ∙ ap (λ b. b && life v host == life v host)
+          ((hosts_are host host).1 refl) ∙ eq-eqb (life v host) (life v host) refl
 
 -- a line within a step that doesn't say that a call runs leaves what it answered
 said_replies : (v : View) (line : PlainEntry) (n : HostId) (q : CallId) → IsSaid line → is_run n q line ≡ false → replies (seen v line) n q ≡ replies v n q
@@ -146,12 +155,15 @@ said_replies v (PlainRun host id service request response hold) n q said quiet =
 said_replies v (PlainRestart host inc) n q said quiet = absurd said
 said_replies v line n q said quiet = let e = unrun_same v line tt in same_replies v (seen v line) n q e.runs e.restarts
 
-pub told_replies : (v : View) (k : ℕ) (told : List Told) (n : HostId) (q : CallId) → AllInner told → runs_told n q told ≡ false → replies (seen_all v (entries_from k told)) n q ≡ replies v n q
+pub told_replies : (v : View) (k : ℕ) (told : List Told) (n : HostId) (q : CallId) → AllInner told → runs_told n q told ≡ false
+    → replies (seen_all v (entries_from k told)) n q ≡ replies v n q
 told_replies v k [] n q inner quiet = refl
 told_replies v k (Says entry ∷ told) n q inner quiet =
-    told_replies (seen v entry) k told n q inner.1 (or_second (is_run n q entry) (runs_told n q told) quiet) ∙ said_replies v entry n q inner.0 (or_first (is_run n q entry) (runs_told n q told) quiet)
+    told_replies (seen v entry) k told n q inner.1 (or_second (is_run n q entry) (runs_told n q told) quiet) ∙ said_replies v entry n q inner.0
+    (or_first (is_run n q entry) (runs_told n q told) quiet)
 told_replies v k (Sends p ∷ told) n q inner quiet =
-    told_replies (seen v (send_line k p)) (suc k) told n q inner quiet ∙ (let e = unrun_same v (send_line k p) tt in same_replies v (seen v (send_line k p)) n q e.runs e.restarts)
+    told_replies (seen v (send_line k p)) (suc k) told n q inner quiet
+    ∙ (let e = unrun_same v (send_line k p) tt in same_replies v (seen v (send_line k p)) n q e.runs e.restarts)
 
 -- ---- all of it
 
@@ -177,7 +189,8 @@ calm_append a b x y = record {
   unstale = unstale-append a b x.unstale y.unstale;
   aside = λ q. aside-append q a b (x.aside q) (y.aside q);
   live = λ q. ends-append q a b ∙ ap (λ t. t || ends_told q b) (x.live q) ∙ y.live q;
-  plain = subst (AllByRecursion (λ (p : Packet). IsCalmBody p.body)) (sym (packets_in-append a b)) (all-append (λ (p : Packet). IsCalmBody p.body) (packets_in a) (packets_in b) x.plain y.plain);
+  plain = subst (AllByRecursion (λ (p : Packet). IsCalmBody p.body)) (sym (packets_in-append a b))
+      (all-append (λ (p : Packet). IsCalmBody p.body) (packets_in a) (packets_in b) x.plain y.plain);
 }
 
 no_grant : (what : Body) → IsCalmBody what → is_grant what ≡ false
@@ -186,23 +199,33 @@ no_grant what c = refl
 
 -- one packet
 pub calm_packet : (p : Packet) → IsCalmBody p.body → IsCalmTold (Sends p ∷ [])
-calm_packet p c = record { steady = tt; unstale = tt; aside = λ q. (ap (λ b. is_call q p.id && b) (no_grant p.body c) ∙ and-false (is_call q p.id), tt); live = λ q. refl; plain = (c, tt) }
+calm_packet p c =
+    record {
+      steady = tt;
+      unstale = tt;
+      aside = λ q. (ap (λ b. is_call q p.id && b) (no_grant p.body c) ∙ and-false (is_call q p.id), tt);
+      live = λ q. refl;
+      plain = (c, tt);
+    }
 
 module _ (s : Settings) where
   pub calm_notes : (o : Option ℕ) (w : Work) → IsCalmTold (notes_told s o w)
   unfolding tuned
   calm_notes None w = calm_none
-  calm_notes (Some n) w = cond_both (is_balance_due s (counted w.host.tuning n)) _ _ (λ (t : Tuned). IsCalmTold t.told) (λ _. record { steady = (tt, tt); unstale = (tt, tt); aside = λ q. (tt, tt); live = λ q. refl; plain = tt }) (λ _. calm_none)
+  calm_notes (Some n) w = cond_both (is_balance_due s (counted w.host.tuning n)) _ _ (λ (t : Tuned). IsCalmTold t.told)
+      (λ _. record { steady = (tt, tt); unstale = (tt, tt); aside = λ q. (tt, tt); live = λ q. refl; plain = tt }) (λ _. calm_none)
 
   pub calm_reply : (role : Role) (id : CallId) (server : HostId) (o : Option ℕ) (w : Work) → IsCalmTold (reply_told s role id server o w)
   calm_reply role id server None w = calm_none
   calm_reply role id server (Some version) w =
-      cond_both (version == w.host.tuning.own.version) _ _ IsCalmTold (λ _. calm_none) (λ _. calm_packet (packet_from s w.host role id server (bare (body.Cutoffs w.host.tuning.own))) tt)
+      cond_both (version == w.host.tuning.own.version) _ _ IsCalmTold (λ _. calm_none)
+      (λ _. calm_packet (packet_from s w.host role id server (bare (body.Cutoffs w.host.tuning.own))) tt)
 
   calm_acknowledged : (server : HostId) (calls : List (ℕ × ℕ)) (w : Work) → IsCalmTold (acknowledged_told s server calls w)
   calm_acknowledged server [] w = calm_none
   calm_acknowledged server (call ∷ calls) w =
-      cond_both (nat_lt (length calls) 4) _ _ IsCalmTold (λ _. calm_none) (λ _. calm_packet (packet_from s w.host Client (record { client = w.host.id; inc = call.0; seq = call.1 }) server (bare (body.Ack calls))) tt)
+      cond_both (nat_lt (length calls) 4) _ _ IsCalmTold (λ _. calm_none)
+      (λ _. calm_packet (packet_from s w.host Client (record { client = w.host.id; inc = call.0; seq = call.1 }) server (bare (body.Ack calls))) tt)
 
   pub calm_finishes : (id : CallId) (server : HostId) (done : Bool) (w : Work) → IsCalmTold (finishes_told s id server done w)
   calm_finishes id server false w = calm_none
@@ -218,7 +241,8 @@ module _ (s : Settings) where
       record { steady = (tt, rest.steady); unstale = (tt, rest.unstale); aside = λ x. (tt, rest.aside x); live = rest.live; plain = rest.plain }
   calm_said h role id server (Tells entry ∷ says) c = absurd c
   calm_said h role id server (Posts what ∷ says) c =
-      calm_append (Sends (packet_from s h role id server (bare what)) ∷ []) (said s h role id server says) (calm_packet (packet_from s h role id server (bare what)) c.0) (calm_said h role id server says c.1)
+      calm_append (Sends (packet_from s h role id server (bare what)) ∷ []) (said s h role id server says)
+      (calm_packet (packet_from s h role id server (bare what)) c.0) (calm_said h role id server says c.1)
 
 -- nor does a rule that is calm ask a service
 pub calm_quiet : (says : List Say) → AllCalm says → runs_said says ≡ false
@@ -254,7 +278,8 @@ calm_view v n told c level = record {
 }
 
 -- packets that are no pieces carry no reply
-pub calm_truthful : (v : View) (tick : ℕ) (ps : List Packet) → AllByRecursion (λ (p : Packet). IsCalmBody p.body) ps → AllByRecursion (IsTruthful v) (stamped tick ps)
+pub calm_truthful : (v : View) (tick : ℕ) (ps : List Packet) → AllByRecursion (λ (p : Packet). IsCalmBody p.body) ps
+    → AllByRecursion (IsTruthful v) (stamped tick ps)
 calm_truthful v tick [] all = tt
 calm_truthful v tick (p ∷ ps) all = (by_role p.role, calm_truthful v tick ps all.1) where
   by_body : (what : Body) → IsCalmBody what → RepliesTo v p.id p.server p.inc what p.payload

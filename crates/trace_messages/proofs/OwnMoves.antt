@@ -1,5 +1,6 @@
 -- Moves that change what has arrived of their own call, or send a piece of a message.
-use Rattle.std.proofs.Common.{◌≡◌, ℕ, ◌+◌, ◌-◌, ◌≤◌, ◌<◌, max, Bool, true, false, ◌&&◌, Option, Some, None, List, [], ◌∷◌, length, cond, refl, sym, ap, subst, ◌∙◌, arith}
+use Rattle.std.proofs.Common.{◌≡◌, ℕ, ◌+◌, ◌-◌, ◌≤◌, ◌<◌, max, Bool, true, false, ◌&&◌, Option, Some, None, List, [], ◌∷◌, length, cond, refl, sym}
+use Rattle.std.proofs.Common.{ap, subst, ◌∙◌, arith}
 use Rattle.std.specs.Prelude.{not, take, drop}
 use Rattle.std.specs.Option.{option_map, MatchOption}
 use Rattle.std.proofs.lemmas.Bool.{cond_both, lt-ltb}
@@ -56,13 +57,16 @@ drop_responses v host id q = cond_both (is_server_of v id host) _ _ (λ (m : Pro
 module _ (v : View) (host : HostId) (id : CallId) (level : IsLevel v) where
   pub drop_own : OwnLine id v (lines.seen v (PlainDrop host id))
   drop_own = record {
-    others = λ q e. let p = told_parts v 0 (Says (PlainDrop host id) ∷ []) q (tt, tt) level (turned id q e, tt) in tale_is _ _ (told_live v 0 (Says (PlainDrop host id) ∷ []) q (tt, tt) level) p.requests p.responses;
+    others = λ q e. let p = told_parts v 0 (Says (PlainDrop host id) ∷ []) q (tt, tt) level (turned id q e, tt) in
+        tale_is _ _ (told_live v 0 (Says (PlainDrop host id) ∷ []) q (tt, tt) level) p.requests p.responses;
     level = told_level v 0 (Says (PlainDrop host id) ∷ []) (tt, tt) level;
     block = told_block v 0 (Says (PlainDrop host id) ∷ []) (tt, tt);
   }
 
-  pub drop_tale : is_server_of v id host ≡ true → tale (lines.seen v (PlainDrop host id)).now id ≡ record { live = get v.now.live id; request = None; response = get v.now.responses id }
-  drop_tale serves = tale_is _ _ (told_live v 0 (Says (PlainDrop host id) ∷ []) id (tt, tt) level) (drop_line v host id id serves ∙ ap (λ b. cond b None (get v.now.requests id)) ((calls_are id id).1 refl)) (drop_responses v host id id)
+  pub drop_tale : is_server_of v id host ≡ true
+      → tale (lines.seen v (PlainDrop host id)).now id ≡ record { live = get v.now.live id; request = None; response = get v.now.responses id }
+  drop_tale serves = tale_is _ _ (told_live v 0 (Says (PlainDrop host id) ∷ []) id (tt, tt) level)
+      (drop_line v host id id serves ∙ ap (λ b. cond b None (get v.now.requests id)) ((calls_are id id).1 refl)) (drop_responses v host id id)
 
 -- a call fails
 fail_requests : (v : View) (id q : CallId) (why : Why) → get (lines.seen v (PlainFail id why)).now.requests q ≡ get v.now.requests q
@@ -81,12 +85,15 @@ pub record EndedLine (id : CallId) (v u : View) : Type 0 where
   pub level : IsLevel u
   pub itself : tale u.now id ≡ record { live = None; request = get v.now.requests id; response = None }
 
-ended_line : (v : View) (id : CallId) (entry : PlainEntry) → IsLevel v → IsUnstale entry → ((q : CallId) → is_call q id ≡ false → IsAside q entry) → ((q : CallId) → is_end q entry ≡ is_call q id)
+ended_line : (v : View) (id : CallId) (entry : PlainEntry) → IsLevel v → IsUnstale entry → ((q : CallId) → is_call q id ≡ false → IsAside q entry)
+    → ((q : CallId) → is_end q entry ≡ is_call q id)
     → get (lines.seen v entry).now.requests id ≡ get v.now.requests id → get (lines.seen v entry).now.responses id ≡ None → EndedLine id v (lines.seen v entry)
 ended_line v id entry level unstale aside ends requests responses =
-    let live = (λ (q : CallId) (b : Bool) (e : is_call q id ≡ b). told_live v 0 (Says entry ∷ []) q (unstale, tt) level ∙ ap (λ t. cond t None (get v.now.live q)) (or-false (is_end q entry) ∙ ends q ∙ e)) in
+    let live = (λ (q : CallId) (b : Bool) (e : is_call q id ≡ b). told_live v 0 (Says entry ∷ []) q (unstale, tt) level
+    ∙ ap (λ t. cond t None (get v.now.live q)) (or-false (is_end q entry) ∙ ends q ∙ e)) in
     record {
-      others = λ q e. let p = told_parts v 0 (Says entry ∷ []) q (unstale, tt) level (aside q (turned id q e), tt) in tale_is _ _ (live q false (turned id q e)) p.requests p.responses;
+      others = λ q e. let p = told_parts v 0 (Says entry ∷ []) q (unstale, tt) level (aside q (turned id q e), tt) in
+          tale_is _ _ (live q false (turned id q e)) p.requests p.responses;
       level = told_level v 0 (Says entry ∷ []) (unstale, tt) level;
       itself = tale_is _ _ (live id true ((calls_are id id).1 refl)) requests responses;
     }
@@ -109,13 +116,15 @@ done_responses v id bytes = get-gone v.now.responses id id ∙ ap (λ b. cond b 
 pub done_ended : (v : View) (id : CallId) (bytes : List ℕ) → IsLevel v → EndedLine id v (lines.seen v (PlainDone id bytes))
 done_ended v id bytes level = ended_line v id (PlainDone id bytes) level tt (λ q e. e) (λ q. refl) (done_requests v id id bytes) (done_responses v id bytes)
 
-pub done_block : (v : View) (id : CallId) (bytes : List ℕ) → ((lines.seen v (PlainDone id bytes)).here ≡ record v.here { dones = id ∷ v.here.dones }) × ((lines.seen v (PlainDone id bytes)).now.due ≡ v.now.due)
+pub done_block : (v : View) (id : CallId) (bytes : List ℕ) → ((lines.seen v (PlainDone id bytes)).here ≡ record v.here { dones = id ∷ v.here.dones })
+    × ((lines.seen v (PlainDone id bytes)).now.due ≡ v.now.due)
 unfolding lines.seen
 done_block v id bytes = (refl, refl)
 
 -- ---- GRANTs
 
-module _ (s : Settings) (h : HostId) (message : List ℕ) (p : Incoming) (q : Part) (offset : ℕ) (k : IsSamePart s h message p q) (is : offset ≡ new_end s.window (seen p)) (more : p.granted < offset) where
+module _ (s : Settings) (h : HostId) (message : List ℕ) (p : Incoming) (q : Part) (offset : ℕ) (k : IsSamePart s h message p q)
+    (is : offset ≡ new_end s.window (seen p)) (more : p.granted < offset) where
   message_is : is_message q ≡ true
   message_is = ap (λ b. b && not (parts.is_whole q)) (lt-ltb 0 (len q.arrived) k.some) ∙ ap not k.missing
 
@@ -149,7 +158,8 @@ module _ (s : Settings) (h : HostId) (message : List ℕ) (p : Incoming) (q : Pa
   peer_granted from to = cond_both (is_host q.host from && is_host q.peer to && is_message q) _ _ (λ (x : Part). x.peer ≡ q.peer) (λ _. refl) (λ _. refl)
 
 -- a packet of one call: what a GRANT leaves
-grant_others : (v : View) (n : ℕ) (p : Packet) (id : CallId) → p.id ≡ id → IsLevel v → (q : CallId) → is_call id q ≡ false → tale (lines.seen v (send_line n p)).now q ≡ tale v.now q
+grant_others : (v : View) (n : ℕ) (p : Packet) (id : CallId) → p.id ≡ id → IsLevel v → (q : CallId) → is_call id q ≡ false
+    → tale (lines.seen v (send_line n p)).now q ≡ tale v.now q
 grant_others v n p id of level q e =
     let aside = ap (λ (x : CallId). is_call q x && is_grant p.body) of ∙ ap (λ b. b && is_grant p.body) (turned id q e) in
     let parts = told_parts v n (Sends p ∷ []) q tt level (aside, tt) in
@@ -168,18 +178,31 @@ module _ (v : View) (n : ℕ) (p : Packet) (id : CallId) (of : p.id ≡ id) (lev
 
   -- a GRANT raises the part of its call's request, or response
   pub request_tale : (offset prio : ℕ) → p.role ≡ Server → p.body ≡ body.Grant offset prio
-      → tale (lines.seen v (send_line n p)).now id ≡ record { live = get v.now.live id; request = option_map (raised (sender p) (receiver p) offset) (get v.now.requests id); response = get v.now.responses id }
+      → tale (lines.seen v (send_line n p)).now id
+      ≡ record {
+        live = get v.now.live id;
+        request = option_map (raised (sender p) (receiver p) offset) (get v.now.requests id);
+        response = get v.now.responses id;
+      }
   request_tale offset prio role what =
       let g = request_granted v n p offset prio id role what in
-      tale_is _ _ (told_live v n (Sends p ∷ []) id tt level) (g.0 ∙ ap (λ b. cond b (option_map (raised (sender p) (receiver p) offset) (get v.now.requests id)) (get v.now.requests id)) itself) g.1 where
+      tale_is _ _ (told_live v n (Sends p ∷ []) id tt level)
+      (g.0 ∙ ap (λ b. cond b (option_map (raised (sender p) (receiver p) offset) (get v.now.requests id)) (get v.now.requests id)) itself) g.1 where
         itself : is_call id p.id ≡ true
         itself = (calls_are id p.id).1 (sym of)
 
   pub response_tale : (offset prio : ℕ) → p.role ≡ Client → p.body ≡ body.Grant offset prio
-      → tale (lines.seen v (send_line n p)).now id ≡ record { live = get v.now.live id; request = get v.now.requests id; response = option_map (raised (sender p) (receiver p) offset) (get v.now.responses id) }
+      → tale (lines.seen v (send_line n p)).now id
+      ≡ record {
+        live = get v.now.live id;
+        request = get v.now.requests id;
+        response = option_map (raised (sender p) (receiver p) offset)
+            (get v.now.responses id);
+      }
   response_tale offset prio role what =
       let g = response_granted v n p offset prio id role what in
-      tale_is _ _ (told_live v n (Sends p ∷ []) id tt level) g.1 (g.0 ∙ ap (λ b. cond b (option_map (raised (sender p) (receiver p) offset) (get v.now.responses id)) (get v.now.responses id)) itself) where
+      tale_is _ _ (told_live v n (Sends p ∷ []) id tt level) g.1
+      (g.0 ∙ ap (λ b. cond b (option_map (raised (sender p) (receiver p) offset) (get v.now.responses id)) (get v.now.responses id)) itself) where
         itself : is_call id p.id ≡ true
         itself = (calls_are id p.id).1 (sym of)
 
@@ -189,9 +212,11 @@ length-slice : (xs : List ℕ) (r : Range) → r.from ≤ r.to → r.to ≤ leng
 length-slice xs r a b = omega (arith, length-take (r.to - r.from) (drop r.from xs), length-drop r.from xs)
 
 -- the next piece of a message is a slice of it
-pub next_slice : (xs : List ℕ) (out : Outgoing) (seg : ℕ) (r : Range) → 0 < seg → outgoing.IsSound out → out.length ≡ length xs → next_range out seg ≡ Some r → IsSlice xs out.length r.from (slice xs r)
+pub next_slice : (xs : List ℕ) (out : Outgoing) (seg : ℕ) (r : Range) → 0 < seg → outgoing.IsSound out → out.length ≡ length xs
+    → next_range out seg ≡ Some r → IsSlice xs out.length r.from (slice xs r)
 next_slice xs out seg r some sound size e =
-    let front : outgoing.IsFront out seg r = subst (λ (o : Option Range). MatchOption o (outgoing.IsIdle out) (outgoing.IsFront out seg)) e (out_laws.front-next_range out seg some sound) in
+    let front : outgoing.IsFront out seg r =
+    subst (λ (o : Option Range). MatchOption o (outgoing.IsIdle out) (outgoing.IsFront out seg)) e (out_laws.front-next_range out seg some sound) in
     let within : r.to ≤ out.length = omega (arith, front.granted, sound.within) in
     let long = length-slice xs r (omega (arith, front.some)) (omega (arith, size, within)) in
     record {

@@ -14,7 +14,8 @@ use Rattle.homa_plain.specs.declared.entry.Why.TheVariants.{Timeout, Forgotten}
 use Rattle.homa_plain.specs.declared.packet.Body.{Body}
 use Rattle.homa_plain.specs.declared.packet.Role.{Role}
 use Rattle.homa_plain.specs.Calls.{is_host, is_call}
-use Rattle.homa_plain.specs.Entries.{PlainEntry, PlainDeliver, PlainRestart, PlainSend, PlainRun, PlainFail, PlainGaps, PlainFullRows, PlainFullPages, PlainRecv}
+use Rattle.homa_plain.specs.Entries.{PlainEntry, PlainDeliver, PlainRestart, PlainSend, PlainRun, PlainFail, PlainGaps, PlainFullRows, PlainFullPages}
+use Rattle.homa_plain.specs.Entries.{PlainRecv}
 use Rattle.homa_plain.specs.View.{View, Ran, Sent, has_run, life, restarts_of, incarnation}
 use Rattle.homa_plain.specs.Seen.{seen, seen_all, refused, failed, is_delivery_to, delivered, delivery, begun, with_first}
 use Rattle.homa_plain.specs.Laws.{Holds, Once}
@@ -69,15 +70,16 @@ firsts_line v line e = refl
 
 -- the first packet of a host tells one, but not where one was told
 first_stays : (v : View) (p : Sent) (host : HostId) (inc : ℕ) → get v.firsts host.0 ≡ Some inc → get (with_first v p) host.0 ≡ Some inc
-first_stays v p host inc e = cond_both (life v p.from == 0 && not (contains_key v.firsts p.from.0)) _ _ (λ (m : Map nat_cmp ℕ). get m host.0 ≡ Some inc) new (λ _. e) where
-  new : (life v p.from == 0 && not (contains_key v.firsts p.from.0)) ≡ true → get (insert v.firsts p.from.0 p.inc) host.0 ≡ Some inc
-  new t = get-insert nat_cmp_total v.firsts p.from.0 p.inc host.0 ∙ by_key (eq_by_cmp nat_cmp host.0 p.from.0) refl where
-    untold : not (contains_key v.firsts p.from.0) ≡ true
-    untold = (and_parts (life v p.from == 0) (not (contains_key v.firsts p.from.0)) t).1
+first_stays v p host inc e =
+    cond_both (life v p.from == 0 && not (contains_key v.firsts p.from.0)) _ _ (λ (m : Map nat_cmp ℕ). get m host.0 ≡ Some inc) new (λ _. e) where
+      new : (life v p.from == 0 && not (contains_key v.firsts p.from.0)) ≡ true → get (insert v.firsts p.from.0 p.inc) host.0 ≡ Some inc
+      new t = get-insert nat_cmp_total v.firsts p.from.0 p.inc host.0 ∙ by_key (eq_by_cmp nat_cmp host.0 p.from.0) refl where
+        untold : not (contains_key v.firsts p.from.0) ≡ true
+        untold = (and_parts (life v p.from == 0) (not (contains_key v.firsts p.from.0)) t).1
 
-    by_key : (b : Bool) → eq_by_cmp nat_cmp host.0 p.from.0 ≡ b → cond b (Some p.inc) (get v.firsts host.0) ≡ Some inc
-    by_key false f = e
-    by_key true f = absurd (false≢true (ap (λ o. not (is_some o)) (sym e ∙ ap (get v.firsts) (same_number host.0 p.from.0 f)) ∙ untold))
+        by_key : (b : Bool) → eq_by_cmp nat_cmp host.0 p.from.0 ≡ b → cond b (Some p.inc) (get v.firsts host.0) ≡ Some inc
+        by_key false f = e
+        by_key true f = absurd (false≢true (ap (λ o. not (is_some o)) (sym e ∙ ap (get v.firsts) (same_number host.0 p.from.0 f)) ∙ untold))
 
 get_front : (xs ys : List ℕ) (i x : ℕ) → slice_get xs i ≡ Some x → slice_get (xs ++ ys) i ≡ Some x
 get_front [] ys i x e = cc
@@ -85,7 +87,8 @@ get_front (y ∷ xs) ys zero x e = e
 get_front (y ∷ xs) ys (suc i) x e = get_front xs ys i x e
 
 -- a restart tells one more
-restart_stays : (v : View) (host : HostId) (inc : ℕ) (n : HostId) (i x : ℕ) → slice_get (restarts_of v n) i ≡ Some x → slice_get (restarts_of (seen v (PlainRestart host inc)) n) i ≡ Some x
+restart_stays : (v : View) (host : HostId) (inc : ℕ) (n : HostId) (i x : ℕ) → slice_get (restarts_of v n) i ≡ Some x
+    → slice_get (restarts_of (seen v (PlainRestart host inc)) n) i ≡ Some x
 restart_stays v host inc n i x e = by_key (eq_by_cmp nat_cmp n.0 host.0) refl where
   by_key : (b : Bool) → eq_by_cmp nat_cmp n.0 host.0 ≡ b → slice_get (restarts_of (seen v (PlainRestart host inc)) n) i ≡ Some x
   by_key true f =
@@ -106,10 +109,12 @@ module _ (v : View) (q : CallId) (server : HostId) (inc : ℕ) (response : List 
       record {
         life = k.life;
         told = incarnation_same v (seen v line) server k.life (firsts_line v line unsent) same.restarts ∙ k.told;
-        gave = ap (λ (rs : List Ran). map (λ (r : Ran). r.response) (filter (λ (r : Ran). is_call r.id q && is_host r.host server && r.life == k.life) rs)) same.runs ∙ k.gave;
+        gave = ap (λ (rs : List Ran). map (λ (r : Ran). r.response)
+            (filter (λ (r : Ran). is_call r.id q && is_host r.host server && r.life == k.life) rs)) same.runs ∙ k.gave;
       }
 
-  send_reply : (number : ℕ) (from to : HostId) (inc' : ℕ) (role : Role) (id : CallId) (level : ℕ) (what : Body) (payload : List ℕ) → IsReplyOf (seen v (PlainSend number from to inc' role id level what payload)) q server inc response
+  send_reply : (number : ℕ) (from to : HostId) (inc' : ℕ) (role : Role) (id : CallId) (level : ℕ) (what : Body) (payload : List ℕ)
+      → IsReplyOf (seen v (PlainSend number from to inc' role id level what payload)) q server inc response
   unfolding seen
   send_reply number from to inc' role id level what payload = record { life = k.life; told = by_life k.life k.told; gave = k.gave } where
     by_life : (n : ℕ) → incarnation v server n ≡ Some inc → incarnation (seen v (PlainSend number from to inc' role id level what payload)) server n ≡ Some inc
@@ -124,35 +129,40 @@ module _ (v : View) (q : CallId) (server : HostId) (inc : ℕ) (response : List 
     by_life (suc n) e = restart_stays v host inc' server n inc e
 
   -- a run is another call's, or another life's, since once holds
-  run_reply : (host : HostId) (id : CallId) (service : ℕ) (request given : List ℕ) (hold : ℕ) → has_run v host id ≡ false → IsReplyOf (seen v (PlainRun host id service request given hold)) q server inc response
+  run_reply : (host : HostId) (id : CallId) (service : ℕ) (request given : List ℕ) (hold : ℕ) → has_run v host id ≡ false
+      → IsReplyOf (seen v (PlainRun host id service request given hold)) q server inc response
   unfolding seen
-  run_reply host id service request given hold unrun = record { life = k.life; told = by_life k.life k.told; gave = ap (λ b. map (λ (r : Ran). r.response) (cond b (new ∷ old) old)) other ∙ k.gave } where
-    new : Ran
-    new = record { host = host; life = life v host; id = id; response = given }
+  run_reply host id service request given hold unrun =
+      record { life = k.life; told = by_life k.life k.told; gave = ap (λ b. map (λ (r : Ran). r.response) (cond b (new ∷ old) old)) other ∙ k.gave } where
+        new : Ran
+        new = record { host = host; life = life v host; id = id; response = given }
 
-    passes : Ran → Bool
-    passes r = is_call r.id q && is_host r.host server && r.life == k.life
+        passes : Ran → Bool
+        passes r = is_call r.id q && is_host r.host server && r.life == k.life
 
-    old : List Ran
-    old = filter (λ (r : Ran). is_call r.id q && is_host r.host server && r.life == k.life) v.runs
+        old : List Ran
+        old = filter (λ (r : Ran). is_call r.id q && is_host r.host server && r.life == k.life) v.runs
 
-    by_life : (n : ℕ) → incarnation v server n ≡ Some inc → incarnation (seen v (PlainRun host id service request given hold)) server n ≡ Some inc
-    by_life zero e = e
-    by_life (suc n) e = e
+        by_life : (n : ℕ) → incarnation v server n ≡ Some inc → incarnation (seen v (PlainRun host id service request given hold)) server n ≡ Some inc
+        by_life zero e = e
+        by_life (suc n) e = e
 
-    other : (is_call id q && is_host host server && life v host == k.life) ≡ false
-    other = by_test (is_call id q && is_host host server && life v host == k.life) refl where
-      by_test : (b : Bool) → (is_call id q && is_host host server && life v host == k.life) ≡ b → b ≡ false
-      by_test false e = refl
-      by_test true e =
-          let first = and_parts (is_call id q && is_host host server) (life v host == k.life) e in
-          let both = and_parts (is_call id q) (is_host host server) first.0 in
-          let same_call : id ≡ q = (calls_are id q).0 both.0 in
-          let same_host : host ≡ server = (hosts_are host server).0 both.1 in
-          let same_life : life v server ≡ k.life = ap (life v) (sym same_host) ∙ eqb-true (life v host) k.life first.1 in
-          let none : has_run v server q ≡ false = ap (λ (x : HostId). has_run v x q) (sym same_host) ∙ ap (λ (x : CallId). has_run v host x) (sym same_call) ∙ unrun in
-          let gone = none_pass (λ (r : Ran). is_call r.id q && is_host r.host server && r.life == life v server) v.runs none in
-          absurd (nil_cons response [] (sym (ap (λ (n : ℕ). map (λ (r : Ran). r.response) (filter (λ (r : Ran). is_call r.id q && is_host r.host server && r.life == n) v.runs)) (sym same_life) ∙ ap (map (λ (r : Ran). r.response)) gone) ∙ k.gave))
+        other : (is_call id q && is_host host server && life v host == k.life) ≡ false
+        other = by_test (is_call id q && is_host host server && life v host == k.life) refl where
+          by_test : (b : Bool) → (is_call id q && is_host host server && life v host == k.life) ≡ b → b ≡ false
+          by_test false e = refl
+          by_test true e =
+              let first = and_parts (is_call id q && is_host host server) (life v host == k.life) e in
+              let both = and_parts (is_call id q) (is_host host server) first.0 in
+              let same_call : id ≡ q = (calls_are id q).0 both.0 in
+              let same_host : host ≡ server = (hosts_are host server).0 both.1 in
+              let same_life : life v server ≡ k.life = ap (life v) (sym same_host) ∙ eqb-true (life v host) k.life first.1 in
+              let none : has_run v server q ≡ false =
+              ap (λ (x : HostId). has_run v x q) (sym same_host) ∙ ap (λ (x : CallId). has_run v host x) (sym same_call) ∙ unrun in
+              let gone = none_pass (λ (r : Ran). is_call r.id q && is_host r.host server && r.life == life v server) v.runs none in
+              absurd (nil_cons response []
+              (sym (ap (λ (n : ℕ). map (λ (r : Ran). r.response) (filter (λ (r : Ran). is_call r.id q && is_host r.host server && r.life == n) v.runs))
+              (sym same_life) ∙ ap (map (λ (r : Ran). r.response)) gone) ∙ k.gave))
 
   pub line_reply : (line : PlainEntry) → Once v line → IsReplyOf (seen v line) q server inc response
   line_reply (PlainRun host id service request given hold) once = run_reply host id service request given hold once.0
@@ -160,18 +170,23 @@ module _ (v : View) (q : CallId) (server : HostId) (inc : ℕ) (response : List 
   line_reply (PlainSend number from to inc' role id level what payload) once = send_reply number from to inc' role id level what payload
   line_reply line once = unsent_reply line tt tt
 
-pub lines_reply : (v : View) (lines : List PlainEntry) (q : CallId) (server : HostId) (inc : ℕ) (response : List ℕ) → Holds Once v lines → IsReplyOf v q server inc response → IsReplyOf (seen_all v lines) q server inc response
+pub lines_reply : (v : View) (lines : List PlainEntry) (q : CallId) (server : HostId) (inc : ℕ) (response : List ℕ) → Holds Once v lines
+    → IsReplyOf v q server inc response → IsReplyOf (seen_all v lines) q server inc response
 lines_reply v [] q server inc response once k = k
-lines_reply v (line ∷ lines) q server inc response once k = lines_reply (seen v line) lines q server inc response once.1 (line_reply v q server inc response k line once.0)
+lines_reply v (line ∷ lines) q server inc response once k =
+    lines_reply (seen v line) lines q server inc response once.1 (line_reply v q server inc response k line once.0)
 
 -- so packets stay truthful
-pub lines_truthful : (v : View) (lines : List PlainEntry) → Holds Once v lines → (ps : List SentPacket) → AllByRecursion (IsTruthful v) ps → AllByRecursion (IsTruthful (seen_all v lines)) ps
+pub lines_truthful : (v : View) (lines : List PlainEntry) → Holds Once v lines → (ps : List SentPacket) → AllByRecursion (IsTruthful v) ps
+    → AllByRecursion (IsTruthful (seen_all v lines)) ps
 lines_truthful v lines once [] all = tt
 lines_truthful v lines once (p ∷ ps) all = (by_role p.packet.role all.0, lines_truthful v lines once ps all.1) where
-  by_body : (what : Body) → RepliesTo v p.packet.id p.packet.server p.packet.inc what p.packet.payload → RepliesTo (seen_all v lines) p.packet.id p.packet.server p.packet.inc what p.packet.payload
+  by_body : (what : Body) → RepliesTo v p.packet.id p.packet.server p.packet.inc what p.packet.payload
+      → RepliesTo (seen_all v lines) p.packet.id p.packet.server p.packet.inc what p.packet.payload
   by_body (body.Data size offset version service ack) f = (f.0, lines_reply v lines p.packet.id p.packet.server p.packet.inc f.0 once f.1, f.2)
   by_body other f = tt
 
-  by_role : (role : Role) → CarriesReply v role p.packet.id p.packet.server p.packet.inc p.packet.body p.packet.payload → CarriesReply (seen_all v lines) role p.packet.id p.packet.server p.packet.inc p.packet.body p.packet.payload
+  by_role : (role : Role) → CarriesReply v role p.packet.id p.packet.server p.packet.inc p.packet.body p.packet.payload
+      → CarriesReply (seen_all v lines) role p.packet.id p.packet.server p.packet.inc p.packet.body p.packet.payload
   by_role Client f = tt
   by_role Server f = by_body p.packet.body f

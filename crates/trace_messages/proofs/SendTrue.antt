@@ -24,7 +24,8 @@ use Rattle.homa_plain.specs.View.{View, Called, Sent, life, incarnation}
 use Rattle.homa_plain.specs.World.{World}
 use Rattle.trace_lines.specs.Told.{HasLives, IsTold, sent_of}
 use Rattle.trace_lines.proofs.Lines.{told_packets}
-use Rattle.trace_moves.proofs.SendMoves.{server_grant, server_granted-move, client_grant, client_granted-move, response_piece, response_leaves-move, request_piece, request_leaves-move}
+use Rattle.trace_moves.proofs.SendMoves.{server_grant, server_granted-move, client_grant, client_granted-move, response_piece, response_leaves-move}
+use Rattle.trace_moves.proofs.SendMoves.{request_piece, request_leaves-move}
 use Rattle.trace_induction.specs.Stands.{Stand, state_of, with_client, with_server, put, said_so_far, amid}
 use Rattle.trace_induction.specs.Contents.{replies, Replies}
 use Rattle.trace_induction.proofs.Hosts.{there}
@@ -41,8 +42,10 @@ use Rattle.trace_messages.proofs.ActMoves.{sent_view, server_packet_gave, server
 -- ---- GRANTs
 
 -- a request that a GRANT is for
-request_raised : (s : Settings) (client : HostId) (c : Called) (ran : Bool) (service : ℕ) (part : Incoming) (o : Option Part) (offset : ℕ) (from to : HostId) → from ≡ c.server → to ≡ client → offset ≡ new_end s.window (seen part) → part.granted < offset
-    → IsSameRequest s client c ran (Some (service, part)) o → IsSameRequest s client c ran (Some (service, granted_to part offset)) (option_map (raised from to offset) o)
+request_raised : (s : Settings) (client : HostId) (c : Called) (ran : Bool) (service : ℕ) (part : Incoming) (o : Option Part) (offset : ℕ)
+    (from to : HostId) → from ≡ c.server → to ≡ client → offset ≡ new_end s.window (seen part) → part.granted < offset
+    → IsSameRequest s client c ran (Some (service, part)) o
+    → IsSameRequest s client c ran (Some (service, granted_to part offset)) (option_map (raised from to offset) o)
 request_raised s client c ran service part None offset from to a b is more k = absurd k
 request_raised s client c ran service part (Some q) offset from to a b is more k = (
   k.0,
@@ -50,7 +53,8 @@ request_raised s client c ran service part (Some q) offset from to a b is more k
   peer_granted s c.server c.request part q offset k.1 is more from to ∙ k.2,
 )
 
-response_raised : (s : Settings) (u : View) (id : CallId) (server : HostId) (inc : ℕ) (part : Incoming) (o : Option Part) (offset : ℕ) (from to : HostId) → from ≡ id.client → to ≡ server → offset ≡ new_end s.window (seen part) → part.granted < offset
+response_raised : (s : Settings) (u : View) (id : CallId) (server : HostId) (inc : ℕ) (part : Incoming) (o : Option Part) (offset : ℕ)
+    (from to : HostId) → from ≡ id.client → to ≡ server → offset ≡ new_end s.window (seen part) → part.granted < offset
     → IsSamePiece s u id server inc (Some part) o → IsSamePiece s u id server inc (Some (granted_to part offset)) (option_map (raised from to offset) o)
 response_raised s u id server inc part None offset from to a b is more k = absurd k
 response_raised s u id server inc part (Some q) offset from to a b is more k = (
@@ -60,14 +64,17 @@ response_raised s u id server inc part (Some q) offset from to a b is more k = (
   peer_granted s id.client k.0 part q offset k.2 is more from to ∙ k.3,
 )
 
-module _ (s : Settings) (w : World) (v : View) (host : HostId) (now : ℕ) (stands : host.0 < length w.hosts) (work : Work) (k : IsAmid s w v host now work) (id : CallId) (t : IsTrue s (put w host work) (said_so_far w v work)) where
+module _ (s : Settings) (w : World) (v : View) (host : HostId) (now : ℕ) (stands : host.0 < length w.hosts) (work : Work)
+    (k : IsAmid s w v host now work) (id : CallId) (t : IsTrue s (put w host work) (said_so_far w v work)) where
   -- where the lines of a packet are numbered
   abbrev number : ℕ
   number = length w.packets + length (packets_in work.told)
 
-  pub server_granted_true : (offset prio : ℕ) (row : ServerRow) (service : ℕ) (part : Incoming) (base count : ℕ) → get work.host.servers id ≡ Some row → row.state ≡ Receiving service part base count → offset ≡ new_end s.window (seen part) → part.granted < offset
+  pub server_granted_true : (offset prio : ℕ) (row : ServerRow) (service : ℕ) (part : Incoming) (base count : ℕ) → get work.host.servers id ≡ Some row
+      → row.state ≡ Receiving service part base count → offset ≡ new_end s.window (seen part) → part.granted < offset
       → IsAmid s w v host now (server_is_granted s id (body.Grant offset prio) offset (Some row) work)
-      → IsTrue s (put w host (server_is_granted s id (body.Grant offset prio) offset (Some row) work)) (said_so_far w v (server_is_granted s id (body.Grant offset prio) offset (Some row) work))
+      → IsTrue s (put w host (server_is_granted s id (body.Grant offset prio) offset (Some row) work))
+      (said_so_far w v (server_is_granted s id (body.Grant offset prio) offset (Some row) work))
   server_granted_true offset prio row service part base count at is end more after =
       let u : View = said_so_far w v work in
       let p : Packet = server_grant s id work offset prio in
@@ -76,7 +83,12 @@ module _ (s : Settings) (w : World) (v : View) (host : HostId) (now : ℕ) (stan
       let here : x.server ≡ Some (Receiving service part base count) = server_there w v host work id stands ∙ ap state_of at ∙ ap (λ (y : State). Some y) is in
       let made = row_made (times s) host x (Receiving service part base count) (k.kept.calls id host) here in
       let told = request_tale u number p id refl t.level offset prio refl refl in
-      let raised_tale : Tale = record { live = get u.now.live id; request = option_map (raised (sender p) (receiver p) offset) (get u.now.requests id); response = get u.now.responses id } in
+      let raised_tale : Tale =
+      record {
+        live = get u.now.live id;
+        request = option_map (raised (sender p) (receiver p) offset) (get u.now.requests id);
+        response = get u.now.responses id;
+      } in
       let old = t.same id host in
       let state : State = Receiving service (granted_to part offset) (now_of work) count in
       let granted : IsSame s (sent_view s w v host now stands work new id p) id host (with_server x (Some state) x.ran) raised_tale = record {
@@ -88,20 +100,32 @@ module _ (s : Settings) (w : World) (v : View) (host : HostId) (now : ℕ) (stan
         response = response_later s u (send_line number p ∷ []) id x.client (get u.now.responses id) (tt, tt) old.response;
         replies = tt;
       } in
-      let itself = subst (IsSame s (sent_view s w v host now stands work new id p) id host (with_server x (Some (state_granted (now_of work) offset row.state)) x.ran)) (sym told)
-      (subst (λ (y : State). IsSame s (sent_view s w v host now stands work new id p) id host (with_server x (Some (state_granted (now_of work) offset y)) x.ran) raised_tale) (sym is) granted) in
-      server_packet_true s w v host now stands work new id p (server_granted (now_of work) offset row) (server_granted-move s id work offset prio row) after refl made t itself (ap (λ (y : Tale). y.live) told) (ap (λ (y : Tale). y.response) told) tt
+      let itself = subst
+      (IsSame s (sent_view s w v host now stands work new id p) id host (with_server x (Some (state_granted (now_of work) offset row.state)) x.ran))
+      (sym told)
+      (subst (λ (y : State). IsSame s (sent_view s w v host now stands work new id p) id host
+      (with_server x (Some (state_granted (now_of work) offset y)) x.ran) raised_tale) (sym is) granted) in
+      server_packet_true s w v host now stands work new id p (server_granted (now_of work) offset row) (server_granted-move s id work offset prio row)
+      after refl made t itself (ap (λ (y : Tale). y.live) told) (ap (λ (y : Tale). y.response) told) tt
 
-  pub client_granted_true : (offset prio : ℕ) (r : ClientRow) (part : Incoming) → get work.host.clients id ≡ Some r → r.part ≡ Some part → offset ≡ new_end s.window (seen part) → part.granted < offset
+  pub client_granted_true : (offset prio : ℕ) (r : ClientRow) (part : Incoming) → get work.host.clients id ≡ Some r → r.part ≡ Some part
+      → offset ≡ new_end s.window (seen part) → part.granted < offset
       → IsAmid s w v host now (client_is_granted s id (body.Grant offset prio) offset (Some r) work)
-      → IsTrue s (put w host (client_is_granted s id (body.Grant offset prio) offset (Some r) work)) (said_so_far w v (client_is_granted s id (body.Grant offset prio) offset (Some r) work))
+      → IsTrue s (put w host (client_is_granted s id (body.Grant offset prio) offset (Some r) work))
+      (said_so_far w v (client_is_granted s id (body.Grant offset prio) offset (Some r) work))
   client_granted_true offset prio r part at has end more after =
       let u : View = said_so_far w v work in
       let p : Packet = client_grant s id work offset prio r in
       let new : Work = client_is_granted s id (body.Grant offset prio) offset (Some r) work in
       let mine : id.client ≡ host = k.own id r at in
       let told = response_tale u number p id refl t.level offset prio refl refl in
-      let raised_tale : Tale = record { live = get u.now.live id; request = get u.now.requests id; response = option_map (raised (sender p) (receiver p) offset) (get u.now.responses id) } in
+      let raised_tale : Tale =
+      record {
+        live = get u.now.live id;
+        request = get u.now.requests id;
+        response = option_map (raised (sender p) (receiver p) offset)
+            (get u.now.responses id);
+      } in
       let after_view : View = sent_view s w v host now stands work new id p in
       let each = (λ (n : HostId).
       let x : Stand = amid w v host work id n in
@@ -109,17 +133,23 @@ module _ (s : Settings) (w : World) (v : View) (host : HostId) (now : ℕ) (stan
       let old = t.same id n in
       let later = response_later s u (send_line number p ∷ []) id x.client (get u.now.responses id) (tt, tt) old.response in
       let before : IsSamePiece s after_view id r.server r.seen (Some part) (get u.now.responses id) =
-      subst (λ o. IsSamePiece s after_view id r.server r.seen o (get u.now.responses id)) has (subst (λ o. IsSameResponse s after_view id o (get u.now.responses id)) row later) in
+      subst (λ o. IsSamePiece s after_view id r.server r.seen o (get u.now.responses id)) has
+      (subst (λ o. IsSameResponse s after_view id o (get u.now.responses id)) row later) in
       let granted : IsSame s after_view id n (with_client x (Some (client_granted (now_of work) offset r))) raised_tale = record {
         live = old.live ∙ ap (option_map (λ (y : ClientRow). y.seen)) row;
         request = old.request;
         unmade = old.unmade;
-        response = subst (λ o. IsSamePiece s after_view id r.server r.seen (granted_part offset o) (option_map (raised (sender p) (receiver p) offset) (get u.now.responses id))) (sym has)
+        response = subst
+            (λ o. IsSamePiece s after_view id r.server r.seen (granted_part offset o)
+            (option_map (raised (sender p) (receiver p) offset) (get u.now.responses id))) (sym has)
             (response_raised s after_view id r.server r.seen part (get u.now.responses id) offset (sender p) (receiver p) refl refl end more before);
-        replies = subst (λ xs. Replies xs x.server) (sym (client_packet_gave s w v host now stands work new id p (client_granted (now_of work) offset r) mine (client_granted-move s id work offset prio r (mine ∙ sym k.name)) after id n)) old.replies;
+        replies = subst (λ xs. Replies xs x.server)
+            (sym (client_packet_gave s w v host now stands work new id p (client_granted (now_of work) offset r) mine
+            (client_granted-move s id work offset prio r (mine ∙ sym k.name)) after id n)) old.replies;
       } in
       subst (IsSame s after_view id n (with_client x (Some (client_granted (now_of work) offset r)))) (sym told) granted) in
-      client_packet_true s w v host now stands work new id p (client_granted (now_of work) offset r) mine (client_granted-move s id work offset prio r (mine ∙ sym k.name)) after refl t each tt
+      client_packet_true s w v host now stands work new id p (client_granted (now_of work) offset r) mine
+      (client_granted-move s id work offset prio r (mine ∙ sym k.name)) after refl t each tt
 
   -- ---- pieces
 
@@ -142,18 +172,24 @@ module _ (s : Settings) (w : World) (v : View) (host : HostId) (now : ℕ) (stan
         live = old.live ∙ live_awaited x.client (Some (client_sends s (now_of work) r)) same;
         request = old.request;
         unmade = old.unmade;
-        response = response_awaited s after_view id x.client (Some (client_sends s (now_of work) r)) (get u.now.responses id) same (response_later s u (send_line number p ∷ []) id x.client (get u.now.responses id) (tt, tt) old.response);
-        replies = subst (λ xs. Replies xs x.server) (sym (client_packet_gave s w v host now stands work new id p (client_sends s (now_of work) r) mine (request_leaves-move s id work r range (mine ∙ sym k.name)) after id n)) old.replies;
+        response = response_awaited s after_view id x.client (Some (client_sends s (now_of work) r)) (get u.now.responses id) same
+            (response_later s u (send_line number p ∷ []) id x.client (get u.now.responses id) (tt, tt) old.response);
+        replies = subst (λ xs. Replies xs x.server)
+            (sym (client_packet_gave s w v host now stands work new id p (client_sends s (now_of work) r) mine
+            (request_leaves-move s id work r range (mine ∙ sym k.name)) after id n)) old.replies;
       } in
       subst (IsSame s after_view id n (with_client x (Some (client_sends s (now_of work) r)))) (sym told) sent) in
-      client_packet_true s w v host now stands work new id p (client_sends s (now_of work) r) mine (request_leaves-move s id work r range (mine ∙ sym k.name)) after refl t each tt where
+      client_packet_true s w v host now stands work new id p (client_sends s (now_of work) r) mine
+      (request_leaves-move s id work r range (mine ∙ sym k.name)) after refl t each tt where
         while_same : (r : ClientRow) (now : ℕ) → awaiting (Some (client_sends s now r)) ≡ awaiting (Some r)
         while_same r now = cond_both (nat_lt r.out.top r.out.length) _ _ (λ (y : ClientRow). awaiting (Some y) ≡ awaiting (Some r)) (λ _. refl) (λ _. refl)
 
   -- of a response, in the life that answered
-  pub response_true : (row : ServerRow) (response : List ℕ) (out : Outgoing) (order base count : ℕ) (range : Range) → 0 < s.seg → get work.host.servers id ≡ Some row → row.state ≡ Replying response out order base count → next_range out s.seg ≡ Some range
+  pub response_true : (row : ServerRow) (response : List ℕ) (out : Outgoing) (order base count : ℕ) (range : Range) → 0 < s.seg
+      → get work.host.servers id ≡ Some row → row.state ≡ Replying response out order base count → next_range out s.seg ≡ Some range
       → let content : Content = response_content s (peer_cutoffs s work.host id.client).cutoffs response out range in
-      IsAmid s w v host now (response_leaves s id row content range work) → IsTold s (put w host (response_leaves s id row content range work)) (said_so_far w v (response_leaves s id row content range work))
+      IsAmid s w v host now (response_leaves s id row content range work)
+      → IsTold s (put w host (response_leaves s id row content range work)) (said_so_far w v (response_leaves s id row content range work))
       → IsTrue s (put w host (response_leaves s id row content range work)) (said_so_far w v (response_leaves s id row content range work))
   response_true row response out order base count range seg at is front after told_after =
       let u : View = said_so_far w v work in
@@ -162,9 +198,11 @@ module _ (s : Settings) (w : World) (v : View) (host : HostId) (now : ℕ) (stan
       let new : Work = response_leaves s id row content range work in
       let next_row : ServerRow = record row { state = state_sends s (now_of work) row.state } in
       let x : Stand = amid w v host work id host in
-      let here : x.server ≡ Some (Replying response out order base count) = server_there w v host work id stands ∙ ap state_of at ∙ ap (λ (y : State). Some y) is in
+      let here : x.server ≡ Some (Replying response out order base count) =
+      server_there w v host work id stands ∙ ap state_of at ∙ ap (λ (y : State). Some y) is in
       let made = row_made (times s) host x (Replying response out order base count) (k.kept.calls id host) here in
-      let fits : RowFits host x (Some (Replying response out order base count)) = row_is (times s) host x (Some (Replying response out order base count)) (k.kept.calls id host) here in
+      let fits : RowFits host x (Some (Replying response out order base count)) =
+      row_is (times s) host x (Some (Replying response out order base count)) (k.kept.calls id host) here in
       let told = packet_tale u number p id refl t.level refl id in
       let old = t.same id host in
       let gave : Replies (replies u host id) (Some (Replying response out order base count)) = subst (Replies (replies u host id)) here old.replies in
@@ -180,17 +218,24 @@ module _ (s : Settings) (w : World) (v : View) (host : HostId) (now : ℕ) (stan
       } in
       let itself = subst (IsSame s after_view id host (with_server x (Some (state_sends s (now_of work) row.state)) x.ran)) (sym told)
       (subst (λ (y : State). IsSame s after_view id host (with_server x (Some (state_sends s (now_of work) y)) x.ran) (tale u.now id)) (sym is) sent) in
-      let said_is : said_so_far w v new ≡ after_view = move_said w v host work new (Sends p ∷ []) work.host.clients _ (response_leaves-move s id work row content range) in
-      let lives : HasLives after_view host new.host = subst (λ (y : View). HasLives y host new.host) said_is (told_after.lives host new.host (there w.hosts host.0 new.host stands)) in
+      let said_is : said_so_far w v new ≡ after_view =
+      move_said w v host work new (Sends p ∷ []) work.host.clients _ (response_leaves-move s id work row content range) in
+      let lives : HasLives after_view host new.host =
+      subst (λ (y : View). HasLives y host new.host) said_is (told_after.lives host new.host (there w.hosts host.0 new.host stands)) in
       let packets = told_packets u number (Sends p ∷ []) tt in
       let known = reply_now after_view host new.host id response lives (sent_of p) (u.packets) packets k.name refl (still ∙ gave.0) in
-      server_packet_true s w v host now stands work new id p next_row (response_leaves-move s id work row content range) after refl made t itself (ap (λ (y : Tale). y.live) told) (ap (λ (y : Tale). y.response) told)
-      (response, subst (λ (h : HostId). IsReplyOf after_view id h work.host.inc response) (sym k.name) known, next_slice response out s.seg range seg fits.1 gave.1 front) where
+      server_packet_true s w v host now stands work new id p next_row (response_leaves-move s id work row content range) after refl made t itself
+      (ap (λ (y : Tale). y.live) told) (ap (λ (y : Tale). y.response) told) (
+        response,
+        subst (λ (h : HostId). IsReplyOf after_view id h work.host.inc response) (sym k.name) known,
+        next_slice response out s.seg range seg fits.1 gave.1 front,
+      ) where
         all_last : (P : Sent → Type 0) (xs : List Sent) (x : Sent) → AllByRecursion P (xs ++ x ∷ []) → P x
         all_last P [] x all = all.0
         all_last P (y ∷ xs) x all = all_last P xs x all.1
 
-        reply_now : (u : View) (host : HostId) (h : Host) (q : CallId) (response : List ℕ) → HasLives u host h → (p : Sent) (ps : List Sent) → u.packets ≡ ps ++ p ∷ [] → p.from ≡ host → p.inc ≡ h.inc → replies u host q ≡ response ∷ [] → IsReplyOf u q host h.inc response
+        reply_now : (u : View) (host : HostId) (h : Host) (q : CallId) (response : List ℕ) → HasLives u host h → (p : Sent) (ps : List Sent)
+            → u.packets ≡ ps ++ p ∷ [] → p.from ≡ host → p.inc ≡ h.inc → replies u host q ≡ response ∷ [] → IsReplyOf u q host h.inc response
         reply_now u host h q response l p ps has from inc gave = record { life = life u host; told = by_life (life u host) refl; gave = gave } where
           told_first : p.inc ≡ l.first → get u.firsts host.0 ≡ Some l.first
           told_first e =

@@ -69,7 +69,8 @@ module _ (s : Settings) (m : Moment) (id : CallId) where
   unknown_still (body.Resend from to prio) payload answer other = record { calm = (tt, tt); part = refl; replies = λ xs e. tt }
   unknown_still what payload answer other = record { calm = tt; part = refl; replies = λ xs e. tt }
 
-  pub receiving_still : (what : Body) (payload : List ℕ) (answer : Answer) (row : ServerRow) (service : ℕ) (part : Incoming) (base count : ℕ) → row.state ≡ Receiving service part base count → IsOther what
+  pub receiving_still : (what : Body) (payload : List ℕ) (answer : Answer) (row : ServerRow) (service : ℕ) (part : Incoming) (base count : ℕ)
+      → row.state ≡ Receiving service part base count → IsOther what
       → StillServed (Some (Receiving service part base count)) (receiving_gets s m id what payload answer row service part base)
   receiving_still what payload answer row service part base count is other = by_body what other where
     same : receiving (Some row.state) ≡ Some (service, part)
@@ -78,7 +79,8 @@ module _ (s : Settings) (m : Moment) (id : CallId) where
     stays : (xs : List (List ℕ)) → Replies xs (Some row.state)
     stays xs = subst (λ (x : State). Replies xs (Some x)) (sym is) tt
 
-    by_body : (what : Body) → IsOther what → StillServed (Some (Receiving service part base count)) (receiving_gets s m id what payload answer row service part base)
+    by_body : (what : Body) → IsOther what
+        → StillServed (Some (Receiving service part base count)) (receiving_gets s m id what payload answer row service part base)
     by_body (body.Data size offset version service' ack) other = absurd other
     by_body (body.Resend from to prio) other = record { calm = (tt, tt); part = refl; replies = λ xs e. tt }
     by_body body.Busy other = record { calm = tt; part = refl; replies = λ xs e. tt }
@@ -89,13 +91,16 @@ module _ (s : Settings) (m : Moment) (id : CallId) where
   held_still (body.Resend from to prio) row = record { calm = (tt, tt); part = refl; replies = λ xs e. e }
   held_still what row = record { calm = tt; part = refl; replies = λ xs e. e }
 
-  pub replying_still : (what : Body) (row : ServerRow) (response : List ℕ) (out : Outgoing) (order base count : ℕ) → row.state ≡ Replying response out order base count
+  pub replying_still : (what : Body) (row : ServerRow) (response : List ℕ) (out : Outgoing) (order base count : ℕ)
+      → row.state ≡ Replying response out order base count
       → StillServed (Some (Replying response out order base count)) (replying_gets m what row response out order)
   replying_still what row response out order base count is = by_body what where
     by_body : (what : Body) → StillServed (Some (Replying response out order base count)) (replying_gets m what row response out order)
     by_body (body.Grant offset prio) = record { calm = tt; part = refl; replies = λ xs e. (e.0, grant_long out offset prio ∙ e.1) }
-    by_body (body.Resend from to prio) = record { calm = busy_calm (resend out from to prio).answer; part = refl; replies = λ xs e. (e.0, resend_long out from to prio ∙ e.1) }
-    by_body (body.Ack more) = record { calm = tt; part = ap (λ (x : State). receiving (Some x)) is; replies = λ xs e. subst (λ (x : State). Replies xs (Some x)) (sym is) e }
+    by_body (body.Resend from to prio) =
+        record { calm = busy_calm (resend out from to prio).answer; part = refl; replies = λ xs e. (e.0, resend_long out from to prio ∙ e.1) }
+    by_body (body.Ack more) =
+        record { calm = tt; part = ap (λ (x : State). receiving (Some x)) is; replies = λ xs e. subst (λ (x : State). Replies xs (Some x)) (sym is) e }
     by_body what = record { calm = tt; part = refl; replies = λ xs e. e }
 
   pub buried_still : (what : Body) (row : ServerRow) → StillServed (Some row.state) (buried_gets m what row)
@@ -108,7 +113,8 @@ module _ (s : Settings) (m : Moment) (id : CallId) where
   state_acked_still : (row : ServerRow) (state : State) → row.state ≡ state → StillServed (Some row.state) (state_acked s m id row state)
   state_acked_still row (Receiving service part base count) is = record { calm = tt; part = refl; replies = λ xs e. e }
   state_acked_still row (Held response release) is = record { calm = tt; part = sym (ap (λ (x : State). receiving (Some x)) is); replies = λ xs e. tt }
-  state_acked_still row (Replying response out order base count) is = record { calm = tt; part = sym (ap (λ (x : State). receiving (Some x)) is); replies = λ xs e. tt }
+  state_acked_still row (Replying response out order base count) is =
+      record { calm = tt; part = sym (ap (λ (x : State). receiving (Some x)) is); replies = λ xs e. tt }
   state_acked_still row (Buried until) is = record { calm = tt; part = refl; replies = λ xs e. e }
 
   pub acked_still : (o : Option ServerRow) → StillServed (state_of o) (server_acked s m id o)
@@ -121,7 +127,8 @@ module _ (s : Settings) (m : Moment) (id : CallId) where
     pub says : d.says ≡ Tells (PlainDrop m.host id) ∷ []
     pub row : d.row ≡ None
 
-  state_acts_still : (row : ServerRow) (state : State) → row.state ≡ state → StillServed (Some state) (state_acts s m id row state) ⊎ Drops (state_acts s m id row state)
+  state_acts_still : (row : ServerRow) (state : State) → row.state ≡ state → StillServed (Some state) (state_acts s m id row state)
+      ⊎ Drops (state_acts s m id row state)
   state_acts_still row (Receiving service part base count) is =
       cond_both (nat_lt count s.tries) _ _ (λ (d : Did ServerRow). StillServed (Some (Receiving service part base count)) d ⊎ Drops d)
       (λ _. inl (record { calm = resend_calm s (first_gap part); part = refl; replies = λ xs e. tt })) (λ _. inr (record { says = refl; row = refl }))
@@ -184,11 +191,17 @@ module _ (s : Settings) (m : Moment) (id : CallId) where
   started_same r None = refl
   started_same r (Some part) = refl
 
-  pub unknown_answered : (reason : ℕ) (payload : List ℕ) (r : ClientRow) → ((reason == 0) ≡ true → StillAsked (Some r) (answered s m id (body.Unknown reason) payload r)) × ((reason == 0) ≡ false → Forgets id (answered s m id (body.Unknown reason) payload r))
+  pub unknown_answered : (reason : ℕ) (payload : List ℕ) (r : ClientRow)
+      → ((reason == 0) ≡ true → StillAsked (Some r) (answered s m id (body.Unknown reason) payload r))
+      × ((reason == 0) ≡ false → Forgets id (answered s m id (body.Unknown reason) payload r))
   unknown_answered reason payload r = by_test (reason == 0) where
     by_test : (b : Bool)
-        → (b ≡ true → StillAsked (Some r) (if b then record { row = Some (started_over r r.part); order = m.order; opened = None; version = None; says = []; finished = false } else record { row = None; order = m.order; opened = None; version = None; says = Tells (PlainFail id Forgotten) ∷ []; finished = false }))
-        × (b ≡ false → Forgets id (if b then record { row = Some (started_over r r.part); order = m.order; opened = None; version = None; says = []; finished = false } else record { row = None; order = m.order; opened = None; version = None; says = Tells (PlainFail id Forgotten) ∷ []; finished = false }))
+        → (b ≡ true → StillAsked (Some r)
+        (if b then record { row = Some (started_over r r.part); order = m.order; opened = None; version = None; says = []; finished = false }
+        else record { row = None; order = m.order; opened = None; version = None; says = Tells (PlainFail id Forgotten) ∷ []; finished = false }))
+        × (b ≡ false → Forgets id
+        (if b then record { row = Some (started_over r r.part); order = m.order; opened = None; version = None; says = []; finished = false }
+        else record { row = None; order = m.order; opened = None; version = None; says = Tells (PlainFail id Forgotten) ∷ []; finished = false }))
     by_test true = (λ _. record { calm = tt; row = ap (λ (x : Awaited). Some x) (started_same r r.part) }, λ e. absurd (differ e)) where
       differ : true ≡ false → ⊥
       differ e = cc

@@ -47,7 +47,8 @@ pub record IsReplyOf (v : View) (q : CallId) (server : HostId) (inc : ℕ) (resp
 
 -- a piece of a response is one of what its sender answered in the life that sent it
 abbrev pub RepliesTo : View → CallId → HostId → ℕ → Body → List ℕ → Type 0
-RepliesTo v id server inc (body.Data size offset version service ack) payload = (response : List ℕ) × IsReplyOf v id server inc response × IsSlice response size offset payload
+RepliesTo v id server inc (body.Data size offset version service ack) payload =
+    (response : List ℕ) × IsReplyOf v id server inc response × IsSlice response size offset payload
 RepliesTo v id server inc other payload = Unit {0}
 
 -- a packet of the server, if it is a piece of a response, is of what was answered; of a client's packet nothing is said
@@ -79,7 +80,8 @@ IsSameRequest s client c ran None q = (ran ≡ false → q ≡ None) × NoMessag
 abbrev pub IsSamePiece : Settings → View → CallId → HostId → ℕ → Option Incoming → Option Part → Type 0
 IsSamePiece s v q server seen None o = o ≡ None
 IsSamePiece s v q server seen (Some p) None = ⊥
-IsSamePiece s v q server seen (Some p) (Some o) = (response : List ℕ) × IsReplyOf v q server seen response × IsSamePart s q.client response p o × (o.peer ≡ server)
+IsSamePiece s v q server seen (Some p) (Some o) =
+    (response : List ℕ) × IsReplyOf v q server seen response × IsSamePart s q.client response p o × (o.peer ≡ server)
 
 -- a response at its client: the lines have of it what the row has; where there is no row, the lines have none
 abbrev pub IsSameResponse : Settings → View → CallId → Option ClientRow → Option Part → Type 0

@@ -17,7 +17,9 @@ use Rattle.step_laws.proofs.ToldBy.{packets_in-append, asked-clients, asked-serv
 use Rattle.step_laws.proofs.Places.{all-append}
 use Rattle.trace_lines.proofs.Lines.{AllInner, inner-append}
 use Rattle.trace_moves.proofs.Own.{AllOwn}
-use Rattle.trace_moves.proofs.Moves.{IsFrom, IsMove, notes_told, reply_told, acknowledged_told, finishes_told, SameHost, host_itself, host_then, all_from_same, from_host, notes-host, reply-host, notes-told, reply-told, notes_none, notes_inner, reply_inner, reply_from, said_inner, said_from}
+use Rattle.trace_moves.proofs.Moves.{IsFrom, IsMove, notes_told, reply_told, acknowledged_told, finishes_told, SameHost, host_itself, host_then}
+use Rattle.trace_moves.proofs.Moves.{all_from_same, from_host, notes-host, reply-host, notes-told, reply-told, notes_none, notes_inner, reply_inner}
+use Rattle.trace_moves.proofs.Moves.{reply_from, said_inner, said_from}
 
 -- ---- a call is done
 
@@ -29,7 +31,9 @@ module _ (s : Settings) where
     ack = Sends (packet_from s w.host Client (record { client = w.host.id; inc = call.0; seq = call.1 }) server (bare (body.Ack calls)))
 
     by_test : (b : Bool)
-        → (cond b (record w { host = with_finished server (call ∷ calls) w.host }) (posts s Client (record { client = w.host.id; inc = call.0; seq = call.1 }) server (body.Ack calls) (record w { host = with_finished server [] w.host }))).told
+        → (cond b (record w { host = with_finished server (call ∷ calls) w.host })
+        (posts s Client (record { client = w.host.id; inc = call.0; seq = call.1 }) server (body.Ack calls)
+        (record w { host = with_finished server [] w.host }))).told
         ≡ w.told ++ (cond b [] (ack ∷ []))
     by_test true = sym (append-nil w.told)
     by_test false = refl
@@ -40,7 +44,9 @@ module _ (s : Settings) where
 
   acknowledged-host : (server : HostId) (calls : List (ℕ × ℕ)) (w : Work) → SameHost w (acknowledged s server calls w)
   acknowledged-host server [] w = host_itself w
-  acknowledged-host server (call ∷ calls) w = cond_both (nat_lt (length calls) 4) _ _ (SameHost w) (λ _. record { id = refl; inc = refl; seq = refl; last = refl }) (λ _. record { id = refl; inc = refl; seq = refl; last = refl })
+  acknowledged-host server (call ∷ calls) w =
+      cond_both (nat_lt (length calls) 4) _ _ (SameHost w) (λ _. record { id = refl; inc = refl; seq = refl; last = refl })
+      (λ _. record { id = refl; inc = refl; seq = refl; last = refl })
 
   finishes-host : (id : CallId) (server : HostId) (done : Bool) (w : Work) → SameHost w (finishes s id server done w)
   finishes-host id server false w = host_itself w
@@ -77,20 +83,26 @@ module _ (s : Settings) (id : CallId) (server : HostId) (did : Did ClientRow) (w
   asked_said = tells (said s w.host Client id server did.says) (tells_cutoffs s Client id server did.version asked_noted)
 
   abbrev pub asked_told : List Told
-  asked_told = notes_told s did.opened asked_put ++ (reply_told s Client id server did.version asked_noted ++ (said s w.host Client id server did.says ++ finishes_told s id server did.finished asked_said))
+  asked_told = notes_told s did.opened asked_put
+      ++ (reply_told s Client id server did.version asked_noted
+      ++ (said s w.host Client id server did.says ++ finishes_told s id server did.finished asked_said))
 
   asked-grown : (asked s id server did w).told ≡ w.told ++ asked_told
   unfolding asked
   asked-grown =
       finishes-told s id server did.finished asked_said
-      ∙ ap (λ t. (t ++ said s w.host Client id server did.says) ++ finishes_told s id server did.finished asked_said) (reply-told s Client id server did.version asked_noted ∙ ap (λ t. t ++ reply_told s Client id server did.version asked_noted) (notes-told s did.opened asked_put))
-      ∙ shuffle w.told (notes_told s did.opened asked_put) (reply_told s Client id server did.version asked_noted) (said s w.host Client id server did.says) (finishes_told s id server did.finished asked_said) where
+      ∙ ap (λ t. (t ++ said s w.host Client id server did.says) ++ finishes_told s id server did.finished asked_said)
+      (reply-told s Client id server did.version asked_noted ∙ ap (λ t. t ++ reply_told s Client id server did.version asked_noted)
+      (notes-told s did.opened asked_put))
+      ∙ shuffle w.told (notes_told s did.opened asked_put) (reply_told s Client id server did.version asked_noted)
+      (said s w.host Client id server did.says) (finishes_told s id server did.finished asked_said) where
         shuffle : (a b c d e : List Told) → (((a ++ b) ++ c) ++ d) ++ e ≡ a ++ (b ++ (c ++ (d ++ e)))
         shuffle a b c d e = simp append_assoc
 
   said-host : SameHost w asked_said
   said-host =
-      let a = host_then asked_put asked_noted (tells_cutoffs s Client id server did.version asked_noted) (notes-host s did.opened asked_put) (reply-host s Client id server did.version asked_noted) in
+      let a = host_then asked_put asked_noted (tells_cutoffs s Client id server did.version asked_noted) (notes-host s did.opened asked_put)
+      (reply-host s Client id server did.version asked_noted) in
       record { id = a.id; inc = a.inc; seq = a.seq; last = a.last }
 
   asked-host : SameHost w (asked s id server did w)
@@ -99,7 +111,8 @@ module _ (s : Settings) (id : CallId) (server : HostId) (did : Did ClientRow) (w
 
   -- the packets: the answer to a first piece, what the rule says, and the ACK of five calls
   pub asked_packets : packets_in asked_told
-      ≡ packets_in (reply_told s Client id server did.version asked_noted) ++ (packets_in (said s w.host Client id server did.says) ++ packets_in (finishes_told s id server did.finished asked_said))
+      ≡ packets_in (reply_told s Client id server did.version asked_noted)
+      ++ (packets_in (said s w.host Client id server did.says) ++ packets_in (finishes_told s id server did.finished asked_said))
   asked_packets =
       let reply = reply_told s Client id server did.version asked_noted in
       let says = said s w.host Client id server did.says in
@@ -109,7 +122,8 @@ module _ (s : Settings) (id : CallId) (server : HostId) (did : Did ClientRow) (w
       ∙ packets_in-append reply (says ++ ends)
       ∙ ap (λ ps. packets_in reply ++ ps) (packets_in-append says ends)
 
-  pub asked-move : id.client ≡ w.host.id → AllOwn id.client id did.says → IsMove w (asked s id server did w) asked_told (set_row w.host.clients id did.row) w.host.servers
+  pub asked-move : id.client ≡ w.host.id → AllOwn id.client id did.says
+      → IsMove w (asked s id server did w) asked_told (set_row w.host.clients id did.row) w.host.servers
   asked-move mine own =
       let h = asked-host in
       let reply = reply_told s Client id server did.version asked_noted in
@@ -119,10 +133,12 @@ module _ (s : Settings) (id : CallId) (server : HostId) (did : Did ClientRow) (w
       record {
         grown = asked-grown;
         inner = inner-append (notes_told s did.opened asked_put) (reply ++ (says ++ ends)) (notes_inner s did.opened asked_put)
-            (inner-append reply (says ++ ends) (reply_inner s Client id server did.version asked_noted) (inner-append says ends (said_inner s w.host Client id server id.client did.says own) (finishes_inner s id server did.finished asked_said)));
+            (inner-append reply (says ++ ends) (reply_inner s Client id server did.version asked_noted)
+            (inner-append says ends (said_inner s w.host Client id server id.client did.says own) (finishes_inner s id server did.finished asked_said)));
         sent = subst (AllByRecursion (IsFrom w.host)) (sym asked_packets)
             (all-append (IsFrom w.host) (packets_in reply) (packets_in says ++ packets_in ends)
-            (all_from_same w asked_noted (packets_in reply) (record { id = noted.id; inc = noted.inc; seq = noted.seq; last = noted.last }) (reply_from s Client id server did.version asked_noted (mine ∙ sym noted.id)))
+            (all_from_same w asked_noted (packets_in reply) (record { id = noted.id; inc = noted.inc; seq = noted.seq; last = noted.last })
+            (reply_from s Client id server did.version asked_noted (mine ∙ sym noted.id)))
             (all-append (IsFrom w.host) (packets_in says) (packets_in ends) (said_from s w.host Client id server id.client did.says mine)
             (all_from_same w asked_said (packets_in ends) said-host (finishes_from s id server did.finished asked_said))));
         id = h.id;
@@ -146,4 +162,5 @@ module _ (s : Settings) (id : CallId) (server : HostId) (did : Did ClientRow) (w
 
     reply_finished : (o : Option ℕ) → (tells_cutoffs s Client id server o asked_noted).host.finished ≡ asked_noted.host.finished
     reply_finished None = refl
-    reply_finished (Some version) = cond_both (version == asked_noted.host.tuning.own.version) _ _ (λ (x : Work). x.host.finished ≡ asked_noted.host.finished) (λ _. refl) (λ _. refl)
+    reply_finished (Some version) =
+        cond_both (version == asked_noted.host.tuning.own.version) _ _ (λ (x : Work). x.host.finished ≡ asked_noted.host.finished) (λ _. refl) (λ _. refl)

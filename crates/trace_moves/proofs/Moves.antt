@@ -1,5 +1,6 @@
 -- What each move of a step tells, as a list, and what it leaves of its host.
-use Rattle.std.proofs.Common.{◌≡◌, ℕ, ◌≤◌, Bool, true, false, Option, Some, None, List, [], ◌∷◌, ◌++◌, length, cond, refl, sym, ap, subst, ◌∙◌, arith, append_assoc}
+use Rattle.std.proofs.Common.{◌≡◌, ℕ, ◌≤◌, Bool, true, false, Option, Some, None, List, [], ◌∷◌, ◌++◌, length, cond, refl, sym, ap, subst, ◌∙◌, arith}
+use Rattle.std.proofs.Common.{append_assoc}
 use Rattle.std.specs.Prelude.{◌==◌, nat_lt, if◌then◌else◌}
 use Rattle.std.specs.List.{AllByRecursion}
 use Rattle.std.proofs.lemmas.List.{append-nil}
@@ -50,13 +51,15 @@ notes_told s (Some n) w = (tuned s w.host.id w.host.tuning n).told
 -- in answer to a first piece by other cutoffs
 abbrev pub reply_told : Settings → Role → CallId → HostId → Option ℕ → Work → List Told
 reply_told s role id server None w = []
-reply_told s role id server (Some version) w = if version == w.host.tuning.own.version then [] else Sends (packet_from s w.host role id server (bare (body.Cutoffs w.host.tuning.own))) ∷ []
+reply_told s role id server (Some version) w =
+    if version == w.host.tuning.own.version then [] else Sends (packet_from s w.host role id server (bare (body.Cutoffs w.host.tuning.own))) ∷ []
 
 -- where a call is done: an ACK of five calls, or nothing
 abbrev pub acknowledged_told : Settings → HostId → List (ℕ × ℕ) → Work → List Told
 acknowledged_told s server [] w = []
 acknowledged_told s server (call ∷ calls) w =
-    if nat_lt (length calls) 4 then [] else Sends (packet_from s w.host Client (record { client = w.host.id; inc = call.0; seq = call.1 }) server (bare (body.Ack calls))) ∷ []
+    if nat_lt (length calls) 4 then []
+    else Sends (packet_from s w.host Client (record { client = w.host.id; inc = call.0; seq = call.1 }) server (bare (body.Ack calls))) ∷ []
 
 abbrev pub finishes_told : Settings → CallId → HostId → Bool → Work → List Told
 finishes_told s id server false w = []
@@ -88,7 +91,8 @@ module _ (s : Settings) where
   dated_now : (h : Host) → (if s.wire == 1 then 0 else h.last) ≤ h.last
   dated_now h = cond_both (s.wire == 1) 0 h.last (λ (t : ℕ). t ≤ h.last) (λ _. omega arith) (λ _. omega arith)
 
-  pub from_host : (h : Host) (role : Role) (id : CallId) (server : HostId) (content : Content) → sender_of role id server ≡ h.id → IsFrom h (packet_from s h role id server content)
+  pub from_host : (h : Host) (role : Role) (id : CallId) (server : HostId) (content : Content) → sender_of role id server ≡ h.id
+      → IsFrom h (packet_from s h role id server content)
   from_host h role id server content mine = record { by = mine; life = refl; dated = dated_now h }
 
   -- ---- cutoffs
@@ -99,13 +103,15 @@ module _ (s : Settings) where
 
   pub reply-host : (role : Role) (id : CallId) (server : HostId) (o : Option ℕ) (w : Work) → SameHost w (tells_cutoffs s role id server o w)
   reply-host role id server None w = host_itself w
-  reply-host role id server (Some version) w = cond_both (version == w.host.tuning.own.version) _ _ (SameHost w) (λ _. host_itself w) (λ _. record { id = refl; inc = refl; seq = refl; last = refl })
+  reply-host role id server (Some version) w =
+      cond_both (version == w.host.tuning.own.version) _ _ (SameHost w) (λ _. host_itself w) (λ _. record { id = refl; inc = refl; seq = refl; last = refl })
 
   pub notes-told : (o : Option ℕ) (w : Work) → (notes s o w).told ≡ w.told ++ notes_told s o w
   notes-told None w = sym (append-nil w.told)
   notes-told (Some n) w = refl
 
-  pub reply-told : (role : Role) (id : CallId) (server : HostId) (o : Option ℕ) (w : Work) → (tells_cutoffs s role id server o w).told ≡ w.told ++ reply_told s role id server o w
+  pub reply-told : (role : Role) (id : CallId) (server : HostId) (o : Option ℕ) (w : Work) → (tells_cutoffs s role id server o w).told ≡ w.told
+      ++ reply_told s role id server o w
   reply-told role id server None w = sym (append-nil w.told)
   reply-told role id server (Some version) w = by_test (version == w.host.tuning.own.version) where
     packet : Told
@@ -130,10 +136,12 @@ module _ (s : Settings) where
   reply_inner role id server None w = tt
   reply_inner role id server (Some version) w = cond_both (version == w.host.tuning.own.version) _ _ AllInner (λ _. tt) (λ _. tt)
 
-  pub reply_from : (role : Role) (id : CallId) (server : HostId) (o : Option ℕ) (w : Work) → sender_of role id server ≡ w.host.id → AllByRecursion (IsFrom w.host) (packets_in (reply_told s role id server o w))
+  pub reply_from : (role : Role) (id : CallId) (server : HostId) (o : Option ℕ) (w : Work) → sender_of role id server ≡ w.host.id
+      → AllByRecursion (IsFrom w.host) (packets_in (reply_told s role id server o w))
   reply_from role id server None w mine = tt
   reply_from role id server (Some version) w mine =
-      cond_both (version == w.host.tuning.own.version) _ _ (λ (t : List Told). AllByRecursion (IsFrom w.host) (packets_in t)) (λ _. tt) (λ _. (from_host w.host role id server (bare (body.Cutoffs w.host.tuning.own)) mine, tt))
+      cond_both (version == w.host.tuning.own.version) _ _ (λ (t : List Told). AllByRecursion (IsFrom w.host) (packets_in t)) (λ _. tt)
+      (λ _. (from_host w.host role id server (bare (body.Cutoffs w.host.tuning.own)) mine, tt))
 
   -- ---- what a rule says
 
@@ -174,21 +182,29 @@ module _ (s : Settings) (id : CallId) (did : Did ServerRow) (w : Work) where
   served-grown : (served s id did w).told ≡ w.told ++ served_told
   unfolding served
   served-grown =
-      ap (λ t. t ++ said s w.host Server id w.host.id did.says) (reply-told s Server id w.host.id did.version served_noted ∙ ap (λ t. t ++ reply_told s Server id w.host.id did.version served_noted) (notes-told s did.opened served_put))
-      ∙ append_assoc (w.told ++ notes_told s did.opened served_put) (reply_told s Server id w.host.id did.version served_noted) (said s w.host Server id w.host.id did.says)
-      ∙ append_assoc w.told (notes_told s did.opened served_put) (reply_told s Server id w.host.id did.version served_noted ++ said s w.host Server id w.host.id did.says)
+      ap (λ t. t ++ said s w.host Server id w.host.id did.says)
+      (reply-told s Server id w.host.id did.version served_noted ∙ ap (λ t. t ++ reply_told s Server id w.host.id did.version served_noted)
+      (notes-told s did.opened served_put))
+      ∙ append_assoc (w.told ++ notes_told s did.opened served_put) (reply_told s Server id w.host.id did.version served_noted)
+      (said s w.host Server id w.host.id did.says)
+      ∙ append_assoc w.told (notes_told s did.opened served_put)
+      (reply_told s Server id w.host.id did.version served_noted ++ said s w.host Server id w.host.id did.says)
 
   served-host : SameHost w (served s id did w)
   unfolding served
   served-host =
-      let a = host_then served_put served_noted (tells_cutoffs s Server id w.host.id did.version served_noted) (notes-host s did.opened served_put) (reply-host s Server id w.host.id did.version served_noted) in
+      let a = host_then served_put served_noted (tells_cutoffs s Server id w.host.id did.version served_noted) (notes-host s did.opened served_put)
+      (reply-host s Server id w.host.id did.version served_noted) in
       record { id = a.id; inc = a.inc; seq = a.seq; last = a.last }
 
   -- the packets: the answer to a first piece, and what the rule says
-  pub served_packets : packets_in served_told ≡ packets_in (reply_told s Server id w.host.id did.version served_noted) ++ packets_in (said s w.host Server id w.host.id did.says)
+  pub served_packets : packets_in served_told ≡ packets_in (reply_told s Server id w.host.id did.version served_noted)
+      ++ packets_in (said s w.host Server id w.host.id did.says)
   served_packets =
-      packets_in-append (notes_told s did.opened served_put) (reply_told s Server id w.host.id did.version served_noted ++ said s w.host Server id w.host.id did.says)
-      ∙ ap (λ ps. ps ++ packets_in (reply_told s Server id w.host.id did.version served_noted ++ said s w.host Server id w.host.id did.says)) (notes_none s did.opened served_put)
+      packets_in-append (notes_told s did.opened served_put)
+      (reply_told s Server id w.host.id did.version served_noted ++ said s w.host Server id w.host.id did.says)
+      ∙ ap (λ ps. ps ++ packets_in (reply_told s Server id w.host.id did.version served_noted ++ said s w.host Server id w.host.id did.says))
+      (notes_none s did.opened served_put)
       ∙ packets_in-append (reply_told s Server id w.host.id did.version served_noted) (said s w.host Server id w.host.id did.says)
 
   pub served-move : AllOwn w.host.id id did.says → IsMove w (served s id did w) served_told w.host.clients (set_row w.host.servers id did.row)
@@ -198,9 +214,12 @@ module _ (s : Settings) (id : CallId) (did : Did ServerRow) (w : Work) where
       let reply = reply_told s Server id w.host.id did.version served_noted in
       record {
         grown = served-grown;
-        inner = inner-append (notes_told s did.opened served_put) (reply ++ says) (notes_inner s did.opened served_put) (inner-append reply says (reply_inner s Server id w.host.id did.version served_noted) (said_inner s w.host Server id w.host.id w.host.id did.says own));
+        inner = inner-append (notes_told s did.opened served_put) (reply ++ says) (notes_inner s did.opened served_put)
+            (inner-append reply says (reply_inner s Server id w.host.id did.version served_noted)
+            (said_inner s w.host Server id w.host.id w.host.id did.says own));
         sent = subst (AllByRecursion (IsFrom w.host)) (sym served_packets) (all-append (IsFrom w.host) (packets_in reply) (packets_in says)
-            (noted_from did.opened (reply_from s Server id w.host.id did.version served_noted (sym (notes-host s did.opened served_put).id))) (said_from s w.host Server id w.host.id w.host.id did.says refl));
+            (noted_from did.opened (reply_from s Server id w.host.id did.version served_noted (sym (notes-host s did.opened served_put).id)))
+            (said_from s w.host Server id w.host.id w.host.id did.says refl));
         id = h.id;
         inc = h.inc;
         seq = h.seq;
@@ -208,10 +227,13 @@ module _ (s : Settings) (id : CallId) (did : Did ServerRow) (w : Work) where
         at_clients = served-clients s id did w;
         at_servers = served-servers s id did w;
       } where
-        noted_from : (o : Option ℕ) → AllByRecursion (IsFrom served_noted.host) (packets_in (reply_told s Server id w.host.id did.version served_noted)) → AllByRecursion (IsFrom w.host) (packets_in (reply_told s Server id w.host.id did.version served_noted))
+        noted_from : (o : Option ℕ)
+            → AllByRecursion (IsFrom served_noted.host) (packets_in (reply_told s Server id w.host.id did.version served_noted))
+            → AllByRecursion (IsFrom w.host) (packets_in (reply_told s Server id w.host.id did.version served_noted))
         noted_from o all =
             let a = notes-host s did.opened served_put in
-            all_from_same w served_noted (packets_in (reply_told s Server id w.host.id did.version served_noted)) (record { id = a.id; inc = a.inc; seq = a.seq; last = a.last }) all
+            all_from_same w served_noted (packets_in (reply_told s Server id w.host.id did.version served_noted))
+            (record { id = a.id; inc = a.inc; seq = a.seq; last = a.last }) all
 
   pub served-finished : (served s id did w).host.finished ≡ w.host.finished
   unfolding served
@@ -222,4 +244,5 @@ module _ (s : Settings) (id : CallId) (did : Did ServerRow) (w : Work) where
 
     reply_finished : (o : Option ℕ) → (tells_cutoffs s Server id w.host.id o served_noted).host.finished ≡ served_noted.host.finished
     reply_finished None = refl
-    reply_finished (Some version) = cond_both (version == served_noted.host.tuning.own.version) _ _ (λ (x : Work). x.host.finished ≡ served_noted.host.finished) (λ _. refl) (λ _. refl)
+    reply_finished (Some version) =
+        cond_both (version == served_noted.host.tuning.own.version) _ _ (λ (x : Work). x.host.finished ≡ served_noted.host.finished) (λ _. refl) (λ _. refl)

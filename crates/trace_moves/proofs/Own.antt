@@ -71,10 +71,12 @@ abbrev IsServedRule : HostId → CallId → Did ServerRow → Type 0
 IsServedRule h id d = AllServed h id d.says
 
 module _ (s : Settings) (m : Moment) (id : CallId) where
-  runs_served : (service : ℕ) (request : List ℕ) (answer : Answer) (row : ServerRow) (d : Did ServerRow) → IsServedRule m.host id (runs s m id service request answer row d)
+  runs_served : (service : ℕ) (request : List ℕ) (answer : Answer) (row : ServerRow) (d : Did ServerRow)
+      → IsServedRule m.host id (runs s m id service request answer row d)
   runs_served service request answer row d = cond_both (answer.hold == 0) _ _ (IsServedRule m.host id) (λ _. ((refl, refl), tt)) (λ _. ((refl, refl), tt))
 
-  comes_served : (service : ℕ) (part : Incoming) (row : ServerRow) (piece : Piece) (answer : Answer) (d : Did ServerRow) → AllServed m.host id d.says → IsServedRule m.host id (piece_comes s m id service part row piece answer d)
+  comes_served : (service : ℕ) (part : Incoming) (row : ServerRow) (piece : Piece) (answer : Answer) (d : Did ServerRow) → AllServed m.host id d.says
+      → IsServedRule m.host id (piece_comes s m id service part row piece answer d)
   comes_served service part row piece answer d before =
       cond_both (not (part.length == piece.size) || not (service == piece.service)) _ _ (IsServedRule m.host id) (λ _. before)
       (λ _. cond_both (leaves_too_many_gaps part piece.offset piece.payload) _ _ (IsServedRule m.host id) (λ _. ((refl, refl), tt))
@@ -91,8 +93,10 @@ module _ (s : Settings) (m : Moment) (id : CallId) where
   busy_served h Busy = tt
   busy_served h Queued = tt
 
-  row_served : (what : Body) (payload : List ℕ) (answer : Answer) (row : ServerRow) (state : State) → IsServedRule m.host id (row_gets s m id what payload answer row state)
-  row_served (body.Data size offset version service ack) payload answer row (Receiving service' part base count) = comes_served service' part row (piece_of size offset version service payload) answer (leaves m None) tt
+  row_served : (what : Body) (payload : List ℕ) (answer : Answer) (row : ServerRow) (state : State)
+      → IsServedRule m.host id (row_gets s m id what payload answer row state)
+  row_served (body.Data size offset version service ack) payload answer row (Receiving service' part base count) =
+      comes_served service' part row (piece_of size offset version service payload) answer (leaves m None) tt
   row_served what payload answer row (Receiving service part base count) = tt
   row_served (body.Resend from to prio) payload answer row (Held response release) = tt
   row_served what payload answer row (Held response release) = tt
@@ -125,9 +129,11 @@ module _ (s : Settings) (m : Moment) (id : CallId) where
   asking_served h (Some r) = (tt, refl)
 
   state_acts_served : (row : ServerRow) (state : State) → IsServedRule m.host id (state_acts s m id row state)
-  state_acts_served row (Receiving service part base count) = cond_both (nat_lt count s.tries) _ _ (IsServedRule m.host id) (λ _. (asking_served m.host (first_gap part)).0) (λ _. ((refl, refl), tt))
+  state_acts_served row (Receiving service part base count) =
+      cond_both (nat_lt count s.tries) _ _ (IsServedRule m.host id) (λ _. (asking_served m.host (first_gap part)).0) (λ _. ((refl, refl), tt))
   state_acts_served row (Held response release) = tt
-  state_acts_served row (Replying response out order base count) = cond_both (nat_lt count s.tries) _ _ (IsServedRule m.host id) (λ _. tt) (λ _. ((refl, refl), tt))
+  state_acts_served row (Replying response out order base count) =
+      cond_both (nat_lt count s.tries) _ _ (IsServedRule m.host id) (λ _. tt) (λ _. ((refl, refl), tt))
   state_acts_served row (Buried until) = ((refl, refl), tt)
 
   pub server_acts_served : (row : ServerRow) → IsServedRule m.host id (server_acts s m id row)
@@ -158,7 +164,8 @@ module _ (s : Settings) (m : Moment) (id : CallId) where
 
   response_quiet : (r : ClientRow) (o : Option Incoming) (piece : Piece) → IsQuiet id (response_piece s m id r o piece)
   response_quiet r None piece =
-      cond_both (nat_lt m.free (pages_for piece.size)) _ _ (IsQuiet id) (λ _. (((refl, refl), tt), refl)) (λ _. comes_quiet r (incoming.opened r.server piece.size m.order s.unsched) piece (opening piece.size (keeps m r)) (tt, refl))
+      cond_both (nat_lt m.free (pages_for piece.size)) _ _ (IsQuiet id) (λ _. (((refl, refl), tt), refl))
+      (λ _. comes_quiet r (incoming.opened r.server piece.size m.order s.unsched) piece (opening piece.size (keeps m r)) (tt, refl))
   response_quiet r (Some part) piece = comes_quiet r part piece (keeps m r) (tt, refl)
 
   busy_quiet : (a : ResendAnswer) → AllOwn id.client id (busy_for a) × (runs_said (busy_for a) ≡ false)
@@ -166,7 +173,8 @@ module _ (s : Settings) (m : Moment) (id : CallId) where
   busy_quiet Queued = (tt, refl)
 
   answered_quiet : (what : Body) (payload : List ℕ) (r : ClientRow) → IsQuiet id (answered s m id what payload r)
-  answered_quiet (body.Data size offset version service ack) payload r = response_quiet r r.part (record { size = size; offset = offset; version = version; service = service; payload = payload })
+  answered_quiet (body.Data size offset version service ack) payload r =
+      response_quiet r r.part (record { size = size; offset = offset; version = version; service = service; payload = payload })
   answered_quiet (body.Resend from to prio) payload r = busy_quiet (resend r.out from to prio).answer
   answered_quiet (body.Unknown reason) payload r = cond_both (reason == 0) _ _ (IsQuiet id) (λ _. (tt, refl)) (λ _. ((refl, tt), refl))
   answered_quiet what payload r = (tt, refl)
@@ -176,11 +184,15 @@ module _ (s : Settings) (m : Moment) (id : CallId) where
   unasked_quiet what = (tt, refl)
 
   pub client_acts_quiet : (r : ClientRow) → IsQuiet id (client_acts s m id r)
-  client_acts_quiet r = cond_both (nat_lt r.count s.tries) _ _ (IsQuiet id) (λ _. let a = asking_served s m id id.client (wanted s r.part) in (served_own id.client id (resend_of s (wanted s r.part)) a.0, a.1)) (λ _. ((refl, tt), refl))
+  client_acts_quiet r =
+      cond_both (nat_lt r.count s.tries) _ _ (IsQuiet id)
+      (λ _. let a = asking_served s m id id.client (wanted s r.part) in (served_own id.client id (resend_of s (wanted s r.part)) a.0, a.1))
+      (λ _. ((refl, tt), refl))
 
 pub gets_quiet : (s : Settings) (m : Moment) (p : Packet) (o : Option ClientRow) → IsQuiet p.id (client_gets s m p o)
 unfolding client_gets
 gets_quiet s m p None = unasked_quiet s m p.id p.body
 gets_quiet s m p (Some q) =
     cond_both (not (is_host (sender p) q.server)) _ _ (IsQuiet p.id) (λ _. (tt, refl))
-    (λ _. cond_both (nat_lt p.inc q.seen) _ _ (IsQuiet p.id) (λ _. (tt, refl)) (λ _. answered_quiet s m p.id p.body p.payload (refreshed m.now p.body (renewed p.inc q))))
+    (λ _. cond_both (nat_lt p.inc q.seen) _ _ (IsQuiet p.id) (λ _. (tt, refl))
+    (λ _. answered_quiet s m p.id p.body p.payload (refreshed m.now p.body (renewed p.inc q))))

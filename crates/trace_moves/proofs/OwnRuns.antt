@@ -26,7 +26,8 @@ module _ (s : Settings) (h : HostId) (q : CallId) where
 
   pub reply-runs : (role : Role) (id : CallId) (server : HostId) (o : Option ℕ) (w : Work) → runs_told h q (reply_told s role id server o w) ≡ false
   reply-runs role id server None w = refl
-  reply-runs role id server (Some version) w = cond_both (version == w.host.tuning.own.version) _ _ (λ (t : List Told). runs_told h q t ≡ false) (λ _. refl) (λ _. refl)
+  reply-runs role id server (Some version) w =
+      cond_both (version == w.host.tuning.own.version) _ _ (λ (t : List Told). runs_told h q t ≡ false) (λ _. refl) (λ _. refl)
 
   acknowledged-runs : (server : HostId) (calls : List (ℕ × ℕ)) (w : Work) → runs_told h q (acknowledged_told s server calls w) ≡ false
   acknowledged-runs server [] w = refl
@@ -37,7 +38,8 @@ module _ (s : Settings) (h : HostId) (q : CallId) where
   finishes-runs id server true w = acknowledged-runs server (finished_at w.host server ++ (id.inc, id.seq) ∷ []) w
 
   -- what a rule says
-  pub says-runs : (host : Host) (role : Role) (id : CallId) (server n : HostId) (says : List Say) → AllOwn n id says → runs_told h q (said s host role id server says) ≡ runs_said says && (is_call id q && is_host n h)
+  pub says-runs : (host : Host) (role : Role) (id : CallId) (server n : HostId) (says : List Say) → AllOwn n id says
+      → runs_told h q (said s host role id server says) ≡ runs_said says && (is_call id q && is_host n h)
   says-runs host role id server n [] own = refl
   says-runs host role id server n (Posts what ∷ says) own = says-runs host role id server n says own
   says-runs host role id server n (Tells entry ∷ says) own = by_entry entry own.0 (says-runs host role id server n says own.1) where
@@ -53,7 +55,8 @@ module _ (s : Settings) (h : HostId) (q : CallId) where
     by_entry : (entry : PlainEntry) → IsOwn n id entry → runs_told h q (said s host role id server says) ≡ runs_said says && here
         → is_run h q entry || runs_told h q (said s host role id server says) ≡ runs_said (Tells entry ∷ says) && here
     by_entry (PlainRun host' id' service request response hold) own e =
-        ap (λ b. b || runs_told h q (said s host role id server says)) (ap (λ (x : CallId). is_call x q && is_host host' h) own.1 ∙ ap (λ (x : HostId). is_call id q && is_host x h) own.0)
+        ap (λ b. b || runs_told h q (said s host role id server says))
+        (ap (λ (x : CallId). is_call x q && is_host host' h) own.1 ∙ ap (λ (x : HostId). is_call id q && is_host x h) own.0)
         ∙ ap (λ b. here || b) e ∙ or_and (runs_said says) here
     by_entry (PlainDone id' bytes) own e = e
     by_entry (PlainFail id' why) own e = e
@@ -66,7 +69,8 @@ module _ (s : Settings) (h : HostId) (q : CallId) where
     by_entry line own e = absurd own
 
   -- a rule at a server
-  pub served-runs : (id : CallId) (did : Did ServerRow) (w : Work) → AllOwn w.host.id id did.says → runs_told h q (served_told s id did w) ≡ runs_said did.says && (is_call id q && is_host w.host.id h)
+  pub served-runs : (id : CallId) (did : Did ServerRow) (w : Work) → AllOwn w.host.id id did.says
+      → runs_told h q (served_told s id did w) ≡ runs_said did.says && (is_call id q && is_host w.host.id h)
   served-runs id did w own =
       let noted = notes_told s did.opened (served_put s id did w) in
       let reply = reply_told s Server id w.host.id did.version (served_noted s id did w) in
@@ -76,13 +80,17 @@ module _ (s : Settings) (h : HostId) (q : CallId) where
       ∙ says-runs w.host Server id w.host.id w.host.id did.says own
 
   -- a rule at a client that asks no service
-  pub asked-runs : (id : CallId) (server : HostId) (did : Did ClientRow) (w : Work) → AllOwn id.client id did.says → runs_said did.says ≡ false → runs_told h q (asked_told s id server did w) ≡ false
+  pub asked-runs : (id : CallId) (server : HostId) (did : Did ClientRow) (w : Work) → AllOwn id.client id did.says → runs_said did.says ≡ false
+      → runs_told h q (asked_told s id server did w) ≡ false
   asked-runs id server did w own quiet =
       let noted = notes_told s did.opened (asked_put s id server did w) in
       let reply = reply_told s Client id server did.version (asked_noted s id server did w) in
       let says = said s w.host Client id server did.says in
       let ends = finishes_told s id server did.finished (asked_said s id server did w) in
-      runs-append h q noted (reply ++ (says ++ ends)) ∙ ap (λ b. b || runs_told h q (reply ++ (says ++ ends))) (notes-runs did.opened (asked_put s id server did w))
-      ∙ runs-append h q reply (says ++ ends) ∙ ap (λ b. b || runs_told h q (says ++ ends)) (reply-runs Client id server did.version (asked_noted s id server did w))
-      ∙ runs-append h q says ends ∙ ap (λ b. b || runs_told h q ends) (says-runs w.host Client id server id.client did.says own ∙ ap (λ b. b && (is_call id q && is_host id.client h)) quiet)
+      runs-append h q noted (reply ++ (says ++ ends)) ∙ ap (λ b. b || runs_told h q (reply ++ (says ++ ends)))
+      (notes-runs did.opened (asked_put s id server did w))
+      ∙ runs-append h q reply (says ++ ends) ∙ ap (λ b. b || runs_told h q (says ++ ends))
+      (reply-runs Client id server did.version (asked_noted s id server did w))
+      ∙ runs-append h q says ends ∙ ap (λ b. b || runs_told h q ends)
+      (says-runs w.host Client id server id.client did.says own ∙ ap (λ b. b && (is_call id q && is_host id.client h)) quiet)
       ∙ finishes-runs id server did.finished (asked_said s id server did w)

@@ -45,7 +45,8 @@ module _ (s : Settings) (m : Moment) (id : CallId) where
   response_done r (Some part) piece = comes_done r part piece (keeps m r) refl
 
   answered_done : (what : Body) (payload : List ℕ) (r : ClientRow) → GoesWhenDone (answered s m id what payload r)
-  answered_done (body.Data size offset version service ack) payload r = response_done r r.part (record { size = size; offset = offset; version = version; service = service; payload = payload })
+  answered_done (body.Data size offset version service ack) payload r =
+      response_done r r.part (record { size = size; offset = offset; version = version; service = service; payload = payload })
   answered_done (body.Unknown reason) payload r = cond_both (reason == 0) _ _ GoesWhenDone (λ _ t. absurd (false≢true t)) (λ _ t. absurd (false≢true t))
   answered_done what payload r = λ t. absurd (false≢true t)
 
@@ -61,12 +62,14 @@ unfolding client_gets
 gets_done s m p None = unasked_done m p.body
 gets_done s m p (Some q) =
     cond_both (not (is_host (sender p) q.server)) _ _ GoesWhenDone (λ _ t. absurd (false≢true t))
-    (λ _. cond_both (nat_lt p.inc q.seen) _ _ GoesWhenDone (λ _ t. absurd (false≢true t)) (λ _. answered_done s m p.id p.body p.payload (refreshed m.now p.body (renewed p.inc q))))
+    (λ _. cond_both (nat_lt p.inc q.seen) _ _ GoesWhenDone (λ _ t. absurd (false≢true t))
+    (λ _. answered_done s m p.id p.body p.payload (refreshed m.now p.body (renewed p.inc q))))
 
 -- ---- lists of finished calls
 
 -- what holds of the calls of each list, where one list is set
-pub all_set : (P : ℕ → ℕ × ℕ → Type 0) (xs : List (List (ℕ × ℕ))) (i n : ℕ) (x : List (ℕ × ℕ)) → AllByRecursion (P i) x → ((k : ℕ) → AllByRecursion (P k) (slice_index_or xs k [])) → AllByRecursion (P n) (slice_index_or (slice_set xs i x) n [])
+pub all_set : (P : ℕ → ℕ × ℕ → Type 0) (xs : List (List (ℕ × ℕ))) (i n : ℕ) (x : List (ℕ × ℕ)) → AllByRecursion (P i) x
+    → ((k : ℕ) → AllByRecursion (P k) (slice_index_or xs k [])) → AllByRecursion (P n) (slice_index_or (slice_set xs i x) n [])
 all_set P [] i n x new all = all n
 all_set P (y ∷ xs) zero zero x new all = new
 all_set P (y ∷ xs) zero (suc n) x new all = all (suc n)
@@ -86,29 +89,36 @@ module _ (s : Settings) (P : ℕ → ℕ × ℕ → Type 0) where
   abbrev pub AllFinished : List (List (ℕ × ℕ)) → Type 0
   AllFinished lists = (k : ℕ) → AllByRecursion (P k) (slice_index_or lists k [])
 
-  acknowledged_finished : (server : HostId) (calls : List (ℕ × ℕ)) (w : Work) → AllByRecursion (P server.0) calls → AllFinished w.host.finished → AllFinished (acknowledged s server calls w).host.finished
+  acknowledged_finished : (server : HostId) (calls : List (ℕ × ℕ)) (w : Work) → AllByRecursion (P server.0) calls → AllFinished w.host.finished
+      → AllFinished (acknowledged s server calls w).host.finished
   acknowledged_finished server [] w new all = all
   acknowledged_finished server (call ∷ calls) w new all =
       cond_both (nat_lt (length calls) 4) _ _ (λ (x : Work). AllFinished x.host.finished)
       (λ _ k. all_set P w.host.finished server.0 k (call ∷ calls) new all) (λ _ k. all_set P w.host.finished server.0 k [] tt all)
 
-  finishes_finished : (id : CallId) (server : HostId) (done : Bool) (w : Work) → (done ≡ true → P server.0 (id.inc, id.seq)) → AllFinished w.host.finished → AllFinished (finishes s id server done w).host.finished
+  finishes_finished : (id : CallId) (server : HostId) (done : Bool) (w : Work) → (done ≡ true → P server.0 (id.inc, id.seq))
+      → AllFinished w.host.finished → AllFinished (finishes s id server done w).host.finished
   finishes_finished id server false w one all = all
-  finishes_finished id server true w one all = acknowledged_finished server (finished_at w.host server ++ (id.inc, id.seq) ∷ []) w (all_more (P server.0) (finished_at w.host server) (id.inc, id.seq) (all server.0) (one refl)) all
+  finishes_finished id server true w one all = acknowledged_finished server (finished_at w.host server ++ (id.inc, id.seq) ∷ []) w
+      (all_more (P server.0) (finished_at w.host server) (id.inc, id.seq) (all server.0) (one refl)) all
 
-  pub asked_finished : (id : CallId) (server : HostId) (did : Did ClientRow) (work : Work) → (did.finished ≡ true → P server.0 (id.inc, id.seq)) → AllFinished work.host.finished → AllFinished (asked s id server did work).host.finished
+  pub asked_finished : (id : CallId) (server : HostId) (did : Did ClientRow) (work : Work) → (did.finished ≡ true → P server.0 (id.inc, id.seq))
+      → AllFinished work.host.finished → AllFinished (asked s id server did work).host.finished
   unfolding asked
-  asked_finished id server did work one all = finishes_finished id server did.finished (asked_said s id server did work) one (subst AllFinished (sym (said-finished s id server did work)) all)
+  asked_finished id server did work one all =
+      finishes_finished id server did.finished (asked_said s id server did work) one (subst AllFinished (sym (said-finished s id server did work)) all)
 
 -- ---- what packets acknowledge
 
 -- whatever holds of the calls of a list, holds of them as calls of its client
-pub all_named : (P : CallId → Type 0) (client : HostId) (calls : List (ℕ × ℕ)) → AllByRecursion (λ (c : ℕ × ℕ). P (call_of client c)) calls → AllByRecursion P (calls_of client calls)
+pub all_named : (P : CallId → Type 0) (client : HostId) (calls : List (ℕ × ℕ)) → AllByRecursion (λ (c : ℕ × ℕ). P (call_of client c)) calls
+    → AllByRecursion P (calls_of client calls)
 all_named P client [] all = tt
 all_named P client (c ∷ calls) all = (all.0, all_named P client calls all.1)
 
 -- a piece of a request acknowledges the oldest finished call, or none
-pub riding : (P : CallId → Type 0) (id : CallId) (calls : List (ℕ × ℕ)) (size offset version service : ℕ) → AllByRecursion (λ (c : ℕ × ℕ). P (call_of id.client c)) calls → AllByRecursion P (acks_in id (body.Data size offset version service (oldest calls)))
+pub riding : (P : CallId → Type 0) (id : CallId) (calls : List (ℕ × ℕ)) (size offset version service : ℕ)
+    → AllByRecursion (λ (c : ℕ × ℕ). P (call_of id.client c)) calls → AllByRecursion P (acks_in id (body.Data size offset version service (oldest calls)))
 riding P id [] size offset version service all = tt
 riding P id (c ∷ calls) size offset version service all = cond_both (not (is_call (call_of id.client c) id)) _ _ (AllByRecursion P) (λ _. (all.0, tt)) (λ _. tt)
 

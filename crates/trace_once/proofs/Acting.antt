@@ -25,12 +25,14 @@ use Rattle.trace_once.proofs.ServedCame.{served_came}
 use Rattle.trace_once.proofs.AskedCame.{asked_came}
 use Rattle.trace_once.proofs.SentCame.{server_granted_came, client_granted_came, response_came, request_came}
 
-module _ (s : Settings) (w : World) (v : View) (host : HostId) (now : ℕ) (stands : host.0 < length w.hosts) (from : w.clock ≤ now) (within : now ≤ w.clock + (times s).band) where
+module _ (s : Settings) (w : World) (v : View) (host : HostId) (now : ℕ) (stands : host.0 < length w.hosts) (from : w.clock ≤ now)
+    (within : now ≤ w.clock + (times s).band) where
   is_now : (work : Work) (q : CallId) → IsAmid s w v host now work → IsNow s (amid w v host work q host) (now_of work)
   is_now work q k = record { from = omega (arith, from, k.last); within = omega (arith, within, k.last); last = last_there w v host work q stands }
 
   -- a row whose deadline has come acts
-  pub acted_came : (work : Work) (place : Place) (at : ℕ) → IsAmid s w v host now work → IsTimerAt s work.host at place → at ≤ now_of work → IsAmid s w v host now (acts_at s place work)
+  pub acted_came : (work : Work) (place : Place) (at : ℕ) → IsAmid s w v host now work → IsTimerAt s work.host at place → at ≤ now_of work
+      → IsAmid s w v host now (acts_at s place work)
   unfolding server_deadline
   acted_came work (OfServer id) at k timer past =
       let m : Moment = moment s id work in
@@ -59,12 +61,14 @@ module _ (s : Settings) (w : World) (v : View) (host : HostId) (now : ℕ) (stan
   ended_came seg work k = ended_kept s (IsAmid s w v host now)
       (record {
         response = λ now' id r part offset prio k at has is more. (client_granted_came s w v host now stands now' k id offset prio r at).amid;
-        request = λ now' id row service part base count offset prio k at is same more. (server_granted_came s w v host now stands now' k id offset prio row service part base count at is).amid;
+        request = λ now' id row service part base count offset prio k at is same more.
+            (server_granted_came s w v host now stands now' k id offset prio row service part base count at is).amid;
       })
       (record {
         request = λ now' id r range k at may next. (request_came s w v host now stands now' k id r range from within seg at may next).amid;
         response = λ now' id row response out order base count range k at is next.
-            (response_came s w v host now stands now' k id row response out order base count (response_content s (peer_cutoffs s now'.host id.client).cutoffs response out range) range
+            (response_came s w v host now stands now' k id row response out order base count
+            (response_content s (peer_cutoffs s now'.host id.client).cutoffs response out range) range
             out.length range.from (peer_cutoffs s now'.host id.client).cutoffs.version 0 at is refl).amid;
       })
       work k

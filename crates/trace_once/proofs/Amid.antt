@@ -50,36 +50,46 @@ module _ (s : Settings) (w : World) (v : View) (host : HostId) (now : ℕ) where
     -- those of the host that acts
     pub own_lists : (work : Work) → IsAmid work → AreOver work (finished_at work.host)
     own_lists work k m =
-        subst (λ o. AllByRecursion (λ (c : ℕ × ℕ). IsOver m (amid w v host work (call_of host c) m)) (at_host [] (λ h. finished_at h m) o)) (there w.hosts host.0 work.host stands) (k.kept.finished host m)
+        subst (λ o. AllByRecursion (λ (c : ℕ × ℕ). IsOver m (amid w v host work (call_of host c) m)) (at_host [] (λ h. finished_at h m) o))
+        (there w.hosts host.0 work.host stands) (k.kept.finished host m)
 
-    pub lists_still : (work new : Work) → IsAmid work → AllGo s (amid w v host work) (amid w v host new) → new.host.finished ≡ work.host.finished → AreOver new (finished_at new.host)
+    pub lists_still : (work new : Work) → IsAmid work → AllGo s (amid w v host work) (amid w v host new) → new.host.finished ≡ work.host.finished
+        → AreOver new (finished_at new.host)
     lists_still work new k goes same m =
-        subst (λ (f : List (List (ℕ × ℕ))). AllByRecursion (λ (c : ℕ × ℕ). IsOver m (amid w v host new (call_of host c) m)) (slice_index_or f m.0 [])) (sym same)
+        subst (λ (f : List (List (ℕ × ℕ))). AllByRecursion (λ (c : ℕ × ℕ). IsOver m (amid w v host new (call_of host c) m)) (slice_index_or f m.0 []))
+        (sym same)
         (lists_later s (amid w v host work) (amid w v host new) goes host m (finished_at work.host m) (own_lists work k m))
 
     module _ (work new : Work) (told : List Told) (clients : RowsOf ClientRow) (servers : RowsOf ServerRow) (move : IsMove work new told clients servers) where
       all_lists : IsAmid work → AllGo s (amid w v host work) (amid w v host new) → AreOver new (finished_at new.host)
-          → (n m : HostId) → AllByRecursion (λ (c : ℕ × ℕ). IsOver m (amid w v host new (call_of n c) m)) (at_host [] (λ h. finished_at h m) (slice_get (slice_set w.hosts host.0 new.host) n.0))
+          → (n m : HostId)
+          → AllByRecursion (λ (c : ℕ × ℕ). IsOver m (amid w v host new (call_of n c) m))
+          (at_host [] (λ h. finished_at h m) (slice_get (slice_set w.hosts host.0 new.host) n.0))
       all_lists k goes over n m = by_host (is_host host n) refl where
         lists : HostId → Option Host → Type 0
         lists x o = AllByRecursion (λ (c : ℕ × ℕ). IsOver m (amid w v host new (call_of x c) m)) (at_host [] (λ h. finished_at h m) o)
 
         by_host : (b : Bool) → is_host host n ≡ b → lists n (slice_get (slice_set w.hosts host.0 new.host) n.0)
-        by_host true e = subst (λ (x : HostId). lists x (slice_get (slice_set w.hosts host.0 new.host) x.0)) ((hosts_are host n).0 e) (subst (lists host) (sym (there w.hosts host.0 new.host stands)) (over m))
+        by_host true e = subst (λ (x : HostId). lists x (slice_get (slice_set w.hosts host.0 new.host) x.0)) ((hosts_are host n).0 e)
+            (subst (lists host) (sym (there w.hosts host.0 new.host stands)) (over m))
         by_host false e =
             subst (lists n) (elsewhere w.hosts host.0 n.0 work.host (apart host n e) ∙ sym (elsewhere w.hosts host.0 n.0 new.host (apart host n e)))
-            (lists_later s (amid w v host work) (amid w v host new) goes n m (at_host [] (λ h. finished_at h m) (slice_get (slice_set w.hosts host.0 work.host) n.0)) (k.kept.finished n m))
+            (lists_later s (amid w v host work) (amid w v host new) goes n m
+            (at_host [] (λ h. finished_at h m) (slice_get (slice_set w.hosts host.0 work.host) n.0)) (k.kept.finished n m))
 
       -- a move keeps all, where every call goes on, its packets fit, its host's lists are right, and once holds at its lines
-      pub moved : IsAmid work → AllGo s (amid w v host work) (amid w v host new) → AllByRecursion (PacketFits s (amid w v host new)) (stamped w.clock (packets_in told))
-          → AreOver new (finished_at new.host) → AreOwn host clients → Holds Once (said_so_far w v work) (entries_from (next_number w v host work new told clients servers move) told) → Came work new
+      pub moved : IsAmid work → AllGo s (amid w v host work) (amid w v host new)
+          → AllByRecursion (PacketFits s (amid w v host new)) (stamped w.clock (packets_in told))
+          → AreOver new (finished_at new.host) → AreOwn host clients
+          → Holds Once (said_so_far w v work) (entries_from (next_number w v host work new told clients servers move) told) → Came work new
       moved k goes fits over own once = record {
         goes = goes;
         amid = record {
           kept = record {
             calls = λ q n. (goes q n).kept;
             packets = subst (AllByRecursion (PacketFits s (amid w v host new))) (sym (move_packets w v host work new told clients servers move))
-                (all-append (PacketFits s (amid w v host new)) (put w host work).packets (stamped w.clock (packets_in told)) (packets_later s (amid w v host work) (amid w v host new) goes (put w host work).packets k.kept.packets) fits);
+                (all-append (PacketFits s (amid w v host new)) (put w host work).packets (stamped w.clock (packets_in told))
+                (packets_later s (amid w v host work) (amid w v host new) goes (put w host work).packets k.kept.packets) fits);
             finished = all_lists k goes over;
           };
           name = move.id ∙ k.name;

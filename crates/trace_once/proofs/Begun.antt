@@ -34,10 +34,13 @@ pub record Begins (h x : Host) (now : ℕ) : Type 0 where
 -- as a turn begins
 pub begins_filled : (s : Settings) (h : Host) (now : ℕ) → Begins h (record (refilled s (record h { last = now })) { last = now }) now
 begins_filled s h now =
-    cond_both (nat_lt h.refilled now) (record h { last = now; credit = s.rate; refilled = now }) (record h { last = now }) (λ (x : Host). Begins h (record x { last = now }) now)
-    (λ _. record { id = refl; inc = refl; seq = refl; clients = refl; servers = refl; finished = refl; last = refl }) (λ _. record { id = refl; inc = refl; seq = refl; clients = refl; servers = refl; finished = refl; last = refl })
+    cond_both (nat_lt h.refilled now) (record h { last = now; credit = s.rate; refilled = now }) (record h { last = now })
+    (λ (x : Host). Begins h (record x { last = now }) now)
+    (λ _. record { id = refl; inc = refl; seq = refl; clients = refl; servers = refl; finished = refl; last = refl })
+    (λ _. record { id = refl; inc = refl; seq = refl; clients = refl; servers = refl; finished = refl; last = refl })
 
-module _ (s : Settings) (w : World) (v : View) (host : HostId) (now : ℕ) (h x : Host) (stands : host_at w host ≡ Some h) (b : Begins h x now) (after : h.last ≤ now) (within : now ≤ w.clock + (times s).band) where
+module _ (s : Settings) (w : World) (v : View) (host : HostId) (now : ℕ) (h x : Host) (stands : host_at w host ≡ Some h) (b : Begins h x now)
+    (after : h.last ≤ now) (within : now ≤ w.clock + (times s).band) where
   -- the last tick of each host
   abbrev pub lasts : HostId → ℕ
   lasts n = at_host 0 (λ (y : Host). y.last) (slice_get (slice_set w.hosts host.0 x) n.0)
@@ -46,7 +49,8 @@ module _ (s : Settings) (w : World) (v : View) (host : HostId) (now : ℕ) (h x 
   begun_stand q n =
       stand_is _ _ refl refl
       (set_same false (is_old q) w.hosts host.0 q.client.0 h x stands
-      (ap (λ (i : ℕ). nat_lt q.inc i || (q.inc == i && nat_lt q.seq x.seq)) b.inc ∙ ap (λ (i : ℕ). nat_lt q.inc h.inc || (q.inc == h.inc && nat_lt q.seq i)) b.seq))
+      (ap (λ (i : ℕ). nat_lt q.inc i || (q.inc == i && nat_lt q.seq x.seq)) b.inc
+      ∙ ap (λ (i : ℕ). nat_lt q.inc h.inc || (q.inc == h.inc && nat_lt q.seq i)) b.seq))
       refl
       (set_same None (λ y. get y.clients q) w.hosts host.0 q.client.0 h x stands (ap (λ (rows : RowsOf ClientRow). get rows q) b.clients))
       (set_same None (λ y. state_of (get y.servers q)) w.hosts host.0 n.0 h x stands (ap (λ rows. state_of (get rows q)) b.servers))
@@ -56,9 +60,13 @@ module _ (s : Settings) (w : World) (v : View) (host : HostId) (now : ℕ) (h x 
   goes k q n =
       let old : Stand = stand w v q n in
       let rises = last_rises w.hosts host.0 n.0 h x stands (omega (arith, after, b.last)) in
-      let soon = set_holds 0 (λ (y : Host). y.last) (λ l. l ≤ w.clock + (times s).band) w.hosts host.0 n.0 x (omega (arith, b.last, within)) (k.calls q n).last in
+      let soon =
+      set_holds 0 (λ (y : Host). y.last) (λ l. l ≤ w.clock + (times s).band) w.hosts host.0 n.0 x (omega (arith, b.last, within)) (k.calls q n).last in
       subst (Goes (times s) n old) (sym (begun_stand q n))
-      (record { later = later_at (times s) old w.clock (lasts n) old.old (omega arith) rises (λ e. e); kept = lifetime_at (times s) old w.clock (lasts n) old.old (omega arith) rises (λ e. e) n soon (k.calls q n) })
+      (record {
+        later = later_at (times s) old w.clock (lasts n) old.old (omega arith) rises (λ e. e);
+        kept = lifetime_at (times s) old w.clock (lasts n) old.old (omega arith) rises (λ e. e) n soon (k.calls q n);
+      })
 
   pub begun_amid : x.id ≡ host → AreOwn host x.clients → IsKept s w v → IsAmid s w v host now (record { host = x; told = [] })
   begun_amid name own k = record {

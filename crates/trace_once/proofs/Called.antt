@@ -1,5 +1,6 @@
 -- A call starts: nothing was so of it before, and for all others nothing changes.
-use Rattle.std.proofs.Common.{◌≡◌, ℕ, zero, suc, ◌+◌, ◌≤◌, ◌<◌, Bool, true, false, ◌&&◌, ◌||◌, Some, None, List, [], ◌∷◌, length, refl, sym, ap, subst, ◌∙◌, inl, inr, arith}
+use Rattle.std.proofs.Common.{◌≡◌, ℕ, zero, suc, ◌+◌, ◌≤◌, ◌<◌, Bool, true, false, ◌&&◌, ◌||◌, Some, None, List, [], ◌∷◌, length, refl, sym, ap}
+use Rattle.std.proofs.Common.{subst, ◌∙◌, inl, inr, arith}
 use Rattle.std.specs.Prelude.{◌==◌, nat_lt, slice_get, slice_set}
 use Rattle.std.proofs.lemmas.Bool.{lt-ltb, le-ltb, eq-eqb, or_cases, and_parts, ltb-true}
 use Rattle.std.proofs.Math.Bool.{and-false}
@@ -39,7 +40,8 @@ old_more q h x inc seq e =
       | inr both ↦
           let p = and_parts (q.inc == h.inc) (nat_lt q.seq h.seq) both in
           let less : q.seq < h.seq = ltb-true q.seq h.seq p.1 in
-          let now : (q.inc == x.inc && nat_lt q.seq x.seq) ≡ true = ap (λ b. b && nat_lt q.seq x.seq) (ap (λ i. q.inc == i) inc ∙ p.0) ∙ lt-ltb q.seq x.seq (omega (arith, less, seq)) in
+          let now : (q.inc == x.inc && nat_lt q.seq x.seq) ≡ true =
+          ap (λ b. b && nat_lt q.seq x.seq) (ap (λ i. q.inc == i) inc ∙ p.0) ∙ lt-ltb q.seq x.seq (omega (arith, less, seq)) in
           ap (λ b. nat_lt q.inc x.inc || b) now ∙ or_true (nat_lt q.inc x.inc)
     ] where
       or_true : (b : Bool) → b || true ≡ true
@@ -48,11 +50,13 @@ old_more q h x inc seq e =
 
 -- the next name wasn't, and then it is
 pub next_unused : (h : Host) → is_old (next_id h) h ≡ false
-next_unused h = ap (λ b. b || (h.inc == h.inc && nat_lt h.seq h.seq)) (le-ltb h.inc h.inc (omega arith)) ∙ ap (λ b. (h.inc == h.inc) && b) (le-ltb h.seq h.seq (omega arith)) ∙ and-false (h.inc == h.inc)
+next_unused h = ap (λ b. b || (h.inc == h.inc && nat_lt h.seq h.seq)) (le-ltb h.inc h.inc (omega arith)) ∙ ap (λ b. (h.inc == h.inc) && b)
+    (le-ltb h.seq h.seq (omega arith)) ∙ and-false (h.inc == h.inc)
 
 next_used : (h x : Host) → x.inc ≡ h.inc → x.seq ≡ h.seq + 1 → is_old (next_id h) x ≡ true
 next_used h x inc seq =
-    let now : (h.inc == x.inc && nat_lt h.seq x.seq) ≡ true = ap (λ b. b && nat_lt h.seq x.seq) (eq-eqb h.inc x.inc (sym inc)) ∙ lt-ltb h.seq x.seq (omega (arith, seq)) in
+    let now : (h.inc == x.inc && nat_lt h.seq x.seq) ≡ true =
+    ap (λ b. b && nat_lt h.seq x.seq) (eq-eqb h.inc x.inc (sym inc)) ∙ lt-ltb h.seq x.seq (omega (arith, seq)) in
     ap (λ b. nat_lt h.inc x.inc || b) now ∙ or_true (nat_lt h.inc x.inc) where
       or_true : (b : Bool) → b || true ≡ true
       or_true true = refl
@@ -60,7 +64,8 @@ next_used h x inc seq =
 
 -- ---- the start
 
-module _ (s : Settings) (w : World) (v : View) (host : HostId) (now : ℕ) (h : Host) (room : host.0 < length w.hosts) (within : now ≤ w.clock + (times s).band) (server : HostId) (number : ℕ) (request : List ℕ) (k : IsAmid s w v host now (begun h now)) where
+module _ (s : Settings) (w : World) (v : View) (host : HostId) (now : ℕ) (h : Host) (room : host.0 < length w.hosts)
+    (within : now ≤ w.clock + (times s).band) (server : HostId) (number : ℕ) (request : List ℕ) (k : IsAmid s w v host now (begun h now)) where
   abbrev id : CallId
   id = next_id h
 
@@ -92,11 +97,13 @@ module _ (s : Settings) (w : World) (v : View) (host : HostId) (now : ℕ) (h : 
         at_client x = ap (λ (y : HostId). slice_get (slice_set w.hosts host.0 x) y.0) k.name ∙ there w.hosts host.0 x room
 
   pub unused : (n : HostId) → (amid w v host before (next_id h) n).old ≡ false
-  unused n = ap (λ o. at_host false (is_old (next_id h)) o) (ap (λ (y : HostId). slice_get (slice_set w.hosts host.0 before.host) y.0) k.name ∙ there w.hosts host.0 before.host room) ∙ next_unused h
+  unused n = ap (λ o. at_host false (is_old (next_id h)) o)
+      (ap (λ (y : HostId). slice_get (slice_set w.hosts host.0 before.host) y.0) k.name ∙ there w.hosts host.0 before.host room) ∙ next_unused h
 
   -- and at each other
   pub stand_other : (q : CallId) (n : HostId) → is_call q id ≡ false
-      → amid w v host after q n ≡ at (amid w v host before q n) w.clock (amid w v host before q n).last (at_host false (is_old q) (slice_get (slice_set w.hosts host.0 after.host) q.client.0))
+      → amid w v host after q n ≡ at (amid w v host before q n) w.clock (amid w v host before q n).last
+      (at_host false (is_old q) (slice_get (slice_set w.hosts host.0 after.host) q.client.0))
   unfolding seen
   stand_other q n e =
       stand_is _ _ refl
@@ -107,9 +114,11 @@ module _ (s : Settings) (w : World) (v : View) (host : HostId) (now : ℕ) (h : 
       (both_set None (λ y. state_of (get y.servers q)) w.hosts host.0 n.0 after.host before.host refl)
       (ran_still q n)
 
-  old_still : (q : CallId) (i : ℕ) → at_host false (is_old q) (slice_get (slice_set w.hosts host.0 before.host) i) ≡ true → at_host false (is_old q) (slice_get (slice_set w.hosts host.0 after.host) i) ≡ true
+  old_still : (q : CallId) (i : ℕ) → at_host false (is_old q) (slice_get (slice_set w.hosts host.0 before.host) i) ≡ true
+      → at_host false (is_old q) (slice_get (slice_set w.hosts host.0 after.host) i) ≡ true
   old_still q i e = by_list w.hosts host.0 i e where
-    by_list : (hs : List Host) (j i : ℕ) → at_host false (is_old q) (slice_get (slice_set hs j before.host) i) ≡ true → at_host false (is_old q) (slice_get (slice_set hs j after.host) i) ≡ true
+    by_list : (hs : List Host) (j i : ℕ) → at_host false (is_old q) (slice_get (slice_set hs j before.host) i) ≡ true
+        → at_host false (is_old q) (slice_get (slice_set hs j after.host) i) ≡ true
     by_list [] j i e = e
     by_list (y ∷ hs) zero zero e = old_more q before.host after.host refl refl e
     by_list (y ∷ hs) zero (suc i) e = e
@@ -123,14 +132,19 @@ module _ (s : Settings) (w : World) (v : View) (host : HostId) (now : ℕ) (h : 
         let old : Stand = amid w v host before id n in
         subst (λ (x : CallId). Goes (times s) n (amid w v host before x n) (amid w v host after x n)) (sym ((calls_are q id).0 e))
         (subst (Goes (times s) n old) (sym (stand_here n))
-        (record { later = later_call s n old (unused n) (k.kept.calls id n) row; kept = lifetime_call s n old (unused n) (k.kept.calls id n) now h.order server number request within }))
+        (record {
+          later = later_call s n old (unused n) (k.kept.calls id n) row;
+          kept = lifetime_call s n old (unused n) (k.kept.calls id n) now h.order server number request within;
+        }))
     by_call false e =
         let old : Stand = amid w v host before q n in
         let named : Bool = at_host false (is_old q) (slice_get (slice_set w.hosts host.0 after.host) q.client.0) in
         subst (Goes (times s) n old) (sym (stand_other q n e))
         (record {
           later = later_at (times s) old w.clock old.last named (omega arith) (omega arith) (old_still q q.client.0);
-          kept = lifetime_at (times s) old w.clock old.last named (omega arith) (omega arith) (old_still q q.client.0) n (k.kept.calls q n).last (k.kept.calls q n);
+          kept =
+              lifetime_at (times s) old w.clock old.last named (omega arith) (omega arith) (old_still q q.client.0) n (k.kept.calls q n).last
+              (k.kept.calls q n);
         })
 
   pub started_amid : IsAmid s w v host now (starts s server number request (begun h now))

@@ -31,13 +31,16 @@ module _ (s : Settings) (v u : CallId → HostId → Stand) (go : AllGo s v u) w
   calls_later n [] all = tt
   calls_later n (q ∷ qs) all = (over_later (times s) n (v q n) (u q n) (go q n).later all.0, calls_later n qs all.1)
 
-  pub lists_later : (client m : HostId) (cs : List (ℕ × ℕ)) → AllByRecursion (λ (c : ℕ × ℕ). IsOver m (v (call_of client c) m)) cs → AllByRecursion (λ (c : ℕ × ℕ). IsOver m (u (call_of client c) m)) cs
+  pub lists_later : (client m : HostId) (cs : List (ℕ × ℕ)) → AllByRecursion (λ (c : ℕ × ℕ). IsOver m (v (call_of client c) m)) cs
+      → AllByRecursion (λ (c : ℕ × ℕ). IsOver m (u (call_of client c) m)) cs
   lists_later client m [] all = tt
-  lists_later client m (c ∷ cs) all = (over_later (times s) m (v (call_of client c) m) (u (call_of client c) m) (go (call_of client c) m).later all.0, lists_later client m cs all.1)
+  lists_later client m (c ∷ cs) all =
+      (over_later (times s) m (v (call_of client c) m) (u (call_of client c) m) (go (call_of client c) m).later all.0, lists_later client m cs all.1)
 
   pub packet_later : (p : SentPacket) → PacketFits s v p → PacketFits s u p
   packet_later p f = record {
-    fits = fits_later (times s) p.packet.server (v p.packet.id p.packet.server) (u p.packet.id p.packet.server) p.tick p.packet.role p.packet.body p.packet.payload (go p.packet.id p.packet.server).later f.fits;
+    fits = fits_later (times s) p.packet.server (v p.packet.id p.packet.server) (u p.packet.id p.packet.server) p.tick p.packet.role p.packet.body
+        p.packet.payload (go p.packet.id p.packet.server).later f.fits;
     acked = calls_later p.packet.server (acks p.packet) f.acked;
   }
 

@@ -57,7 +57,8 @@ step_keeps s w v host now work k = record { once = k.once; kept = record { calls
 
 -- ---- a host's steps
 
-module _ (s : Settings) (w : World) (v : View) (host : HostId) (h : Host) (stands : host_at w host ≡ Some h) (told : IsTold s w v) (u : View) (k : IsKept s w u) where
+module _ (s : Settings) (w : World) (v : View) (host : HostId) (h : Host) (stands : host_at w host ≡ Some h) (told : IsTold s w v) (u : View)
+    (k : IsKept s w u) where
   time : IsTimed s w host h (own_clock w host)
   time = timed s w host h told.clocks stands
 
@@ -68,31 +69,39 @@ module _ (s : Settings) (w : World) (v : View) (host : HostId) (h : Host) (stand
   begins : (x : Host) → Begins h x (own_clock w host) → IsAmid s w u host (own_clock w host) (record { host = x; told = [] })
   begins x b =
       let name = told.names host h stands in
-      begun_amid s w u host (own_clock w host) h x stands b time.last time.within (b.id ∙ name.name) (λ q r is. name.own q r (ap (λ (rows : RowsOf ClientRow). get rows q) (sym b.clients) ∙ is)) k
+      begun_amid s w u host (own_clock w host) h x stands b time.last time.within (b.id ∙ name.name)
+      (λ q r is. name.own q r (ap (λ (rows : RowsOf ClientRow). get rows q) (sym b.clients) ∙ is)) k
 
   begun_now : IsAmid s w u host (own_clock w host) (begun h (own_clock w host))
-  begun_now = begins (record h { last = own_clock w host }) (record { id = refl; inc = refl; seq = refl; clients = refl; servers = refl; finished = refl; last = refl })
+  begun_now =
+      begins (record h { last = own_clock w host }) (record { id = refl; inc = refl; seq = refl; clients = refl; servers = refl; finished = refl; last = refl })
 
   -- it ends
   ends : (work : Work) → IsAmid s w u host (own_clock w host) work → StepKeeps s w u host (ended s work)
-  ends work a = step_keeps s w u host (own_clock w host) (ended s work) (ended_came s w u host (own_clock w host) room time.from time.within (seg_of s told.valid) work a)
+  ends work a =
+      step_keeps s w u host (own_clock w host) (ended s work) (ended_came s w u host (own_clock w host) room time.from time.within (seg_of s told.valid) work a)
 
   call_keeps : (server : HostId) (number : ℕ) (request : List ℕ) → StepKeeps s w u host (call_step s h (own_clock w host) server number request)
   unfolding call_step
-  call_keeps server number request = ends (starts s server number request (begun h (own_clock w host))) (started_amid s w u host (own_clock w host) h room time.within server number request begun_now)
+  call_keeps server number request = ends (starts s server number request (begun h (own_clock w host)))
+      (started_amid s w u host (own_clock w host) h room time.within server number request begun_now)
 
   turn_keeps : StepKeeps s w u host (turn_step s h (own_clock w host))
   unfolding turn_step
   turn_keeps =
       let filled : Host = refilled s (record h { last = own_clock w host }) in
-      ends (acts s (begun filled (own_clock w host))) (turn_came s w u host (own_clock w host) room time.from time.within (resend_of s told.valid) (begun filled (own_clock w host)) (begins (record filled { last = own_clock w host }) (begins_filled s h (own_clock w host))))
+      ends (acts s (begun filled (own_clock w host)))
+      (turn_came s w u host (own_clock w host) room time.from time.within (resend_of s told.valid) (begun filled (own_clock w host))
+      (begins (record filled { last = own_clock w host }) (begins_filled s h (own_clock w host))))
 
   junk_keeps : (answer : Answer) → StepKeeps s w u host (arrival_step s h (own_clock w host) None answer)
   unfolding arrival_step
-  junk_keeps answer = ends (comes s None answer (begun h (own_clock w host))) (junk_came s w u host (own_clock w host) room answer (begun h (own_clock w host)) begun_now)
+  junk_keeps answer =
+      ends (comes s None answer (begun h (own_clock w host))) (junk_came s w u host (own_clock w host) room answer (begun h (own_clock w host)) begun_now)
 
   -- a packet that was sent, and isn't late
-  packet_keeps : (n : ℕ) (sent : SentPacket) (answer : Answer) → slice_get w.packets n ≡ Some sent → receiver sent.packet ≡ host → is_late s w sent.tick ≡ false → StepKeeps s w u host (arrival_step s h (own_clock w host) (Some sent.packet) answer)
+  packet_keeps : (n : ℕ) (sent : SentPacket) (answer : Answer) → slice_get w.packets n ≡ Some sent → receiver sent.packet ≡ host
+      → is_late s w sent.tick ≡ false → StepKeeps s w u host (arrival_step s h (own_clock w host) (Some sent.packet) answer)
   unfolding arrival_step
   packet_keeps n sent answer at to early =
       let fits = all_get (PacketFits s (amid w u host (begun h (own_clock w host)))) w.packets n sent
@@ -108,7 +117,8 @@ pub record EventKeeps (s : Settings) (v : View) (after : After) : Type 0 where
   pub once : Holds Once v after.told
   pub kept : IsKept s after.world (seen_all v after.told)
 
-pub event_keeps : (s : Settings) (w : World) (v : View) (e : Event) (bytes : List ℕ) (after : After) → IsTold s w v → IsKept s w v → outcome s w e bytes ≡ Done after → EventKeeps s v after
+pub event_keeps : (s : Settings) (w : World) (v : View) (e : Event) (bytes : List ℕ) (after : After) → IsTold s w v → IsKept s w v
+    → outcome s w e bytes ≡ Done after → EventKeeps s v after
 unfolding outcome
 event_keeps s w v (event.Call client server number) bytes after told k e =
     let c = call_done s w after client server number bytes e in
@@ -118,8 +128,10 @@ event_keeps s w v (event.Deliver n) bytes after told k e =
     let c = deliver_done s w after n e in
     let u : View = seen v (PlainDeliver n) in
     let r = packet_keeps s w v (receiver c.sent.packet) c.host c.stands told u (deliver_line s w v n k) n c.sent (next_answer w.answers) c.at refl c.early in
-    subst (EventKeeps s v) (sym c.is) (record { once = (tt, r.once); kept = record { calls = r.kept.calls; packets = r.kept.packets; finished = r.kept.finished } })
-event_keeps s w v event.Clock bytes after told k e = subst (EventKeeps s v) (sym (clock_done s w after e).is) (record { once = (tt, tt); kept = tick_kept s w v k })
+    subst (EventKeeps s v) (sym c.is)
+    (record { once = (tt, r.once); kept = record { calls = r.kept.calls; packets = r.kept.packets; finished = r.kept.finished } })
+event_keeps s w v event.Clock bytes after told k e =
+    subst (EventKeeps s v) (sym (clock_done s w after e).is) (record { once = (tt, tt); kept = tick_kept s w v k })
 event_keeps s w v (event.Turn host) bytes after told k e =
     let c = turn_done s w after host (host_at w host) refl e in
     let r = turn_keeps s w v host c.host c.stands told v k in
@@ -130,17 +142,22 @@ event_keeps s w v (event.Restart host) bytes after told k e =
 event_keeps s w v (event.Inject host) bytes after told k e =
     let c = inject_done s w after host bytes (host_at w host) (packet_in s.wire bytes) refl refl e in
     let r = junk_keeps s w v host c.host c.stands told (seen v (PlainInject host bytes)) (inject_line s w v host bytes k) (next_answer w.answers) in
-    subst (EventKeeps s v) (sym c.is) (record { once = (tt, r.once); kept = record { calls = r.kept.calls; packets = r.kept.packets; finished = r.kept.finished } })
-event_keeps s w v (event.Shift host n) bytes after told k e = subst (EventKeeps s v) (sym (shift_done s w after host n (host_at w host) refl e).is) (record { once = (tt, tt); kept = shift_kept s w v host n k })
+    subst (EventKeeps s v) (sym c.is)
+    (record { once = (tt, r.once); kept = record { calls = r.kept.calls; packets = r.kept.packets; finished = r.kept.finished } })
+event_keeps s w v (event.Shift host n) bytes after told k e =
+    subst (EventKeeps s v) (sym (shift_done s w after host n (host_at w host) refl e).is) (record { once = (tt, tt); kept = shift_kept s w v host n k })
 
 -- ---- the law
 
 pub event_once : KeptByEvent IsSoFar Once
-event_once s w v e after so done = let k = event_keeps s w v e.event e.bytes after so.0 so.1 done in (k.once, (told_event s w v e.event e.bytes after so.0 done, k.kept))
+event_once s w v e after so done =
+    let k = event_keeps s w v e.event e.bytes after so.0 so.1 done in (k.once, (told_event s w v e.event e.bytes after so.0 done, k.kept))
 
 last_once : (v : View) (line : PlainEntry) → is_last line ≡ true → Once v line
 last_once v (PlainRun host id service request response hold) e = absurd (false≢true e)
 last_once v line e = tt
 
 pub once_always : HoldsAlways Once
-once_always = always IsSoFar Once (λ s incs clock boxes opening. tt) (λ s incs clock boxes answers opening. (told_first s incs clock boxes answers opening, opened_kept s incs clock boxes answers)) event_once (λ s w v line so e. last_once v line e)
+once_always = always IsSoFar Once (λ s incs clock boxes opening. tt)
+    (λ s incs clock boxes answers opening. (told_first s incs clock boxes answers opening, opened_kept s incs clock boxes answers)) event_once
+    (λ s w v line so e. last_once v line e)

@@ -44,11 +44,16 @@ line_once v line quiet = tt
 
 pub quiet_once : (v : View) (n : ℕ) (told : List Told) → IsQuietTold told → Holds Once v (entries_from n told)
 quiet_once v n [] quiet = tt
-quiet_once v n (Says entry ∷ told) quiet = (line_once v entry (λ h q. or_first (is_run h q entry) (runs_told h q told) (quiet h q)), quiet_once (seen v entry) n told (λ h q. or_second (is_run h q entry) (runs_told h q told) (quiet h q)))
+quiet_once v n (Says entry ∷ told) quiet = (
+  line_once v entry (λ h q. or_first (is_run h q entry) (runs_told h q told) (quiet h q)),
+  quiet_once (seen v entry) n told (λ h q. or_second (is_run h q entry) (runs_told h q told) (quiet h q)),
+)
 quiet_once v n (Sends packet ∷ told) quiet = (tt, quiet_once (seen v (send_line n packet)) (suc n) told quiet)
 
-pub once_append : (v : View) (n : ℕ) (a b : List Told) → Holds Once v (entries_from n a) → Holds Once (seen_all v (entries_from n a)) (entries_from (n + length (packets_in a)) b) → Holds Once v (entries_from n (a ++ b))
-once_append v n a b first second = subst (Holds Once v) (sym (entries_from-append n a b)) (holds-append Once v (entries_from n a) (entries_from (n + length (packets_in a)) b) first second)
+pub once_append : (v : View) (n : ℕ) (a b : List Told) → Holds Once v (entries_from n a)
+    → Holds Once (seen_all v (entries_from n a)) (entries_from (n + length (packets_in a)) b) → Holds Once v (entries_from n (a ++ b))
+once_append v n a b first second =
+    subst (Holds Once v) (sym (entries_from-append n a b)) (holds-append Once v (entries_from n a) (entries_from (n + length (packets_in a)) b) first second)
 
 -- ---- what a rule says
 
@@ -57,7 +62,8 @@ abbrev pub IsAsStood : CallId → HostId → Stand → View → Type 0
 IsAsStood id h stand v = (has_run v h id ≡ stand.ran) × (get v.calls id ≡ stand.called)
 
 -- lines within a step that don't say that it runs leave that
-pub stood_still : (id : CallId) (h : HostId) (stand : Stand) (v : View) (n : ℕ) (told : List Told) → AllInner told → runs_told h id told ≡ false → IsAsStood id h stand v → IsAsStood id h stand (seen_all v (entries_from n told))
+pub stood_still : (id : CallId) (h : HostId) (stand : Stand) (v : View) (n : ℕ) (told : List Told) → AllInner told → runs_told h id told ≡ false
+    → IsAsStood id h stand v → IsAsStood id h stand (seen_all v (entries_from n told))
 stood_still id h stand v n told inner quiet e = (
   told_runs v n told h id inner ∙ ap (λ b. b || has_run v h id) quiet ∙ e.0,
   ap (λ (c : Map call_cmp Called). get c id) (told_same v n told inner).calls ∙ e.1,
@@ -83,7 +89,8 @@ module _ (s : Settings) (host : Host) (role : Role) (id : CallId) (server h : Ho
   own_said (PlainFullPages x q need free) own quiet = (tt, refl)
   own_said line own quiet = absurd own
 
-  pub says_once : (v : View) (n : ℕ) (says : List Say) → AllOwn h id says → RunsFit h stand says → IsAsStood id h stand v → Holds Once v (entries_from n (said_by says))
+  pub says_once : (v : View) (n : ℕ) (says : List Say) → AllOwn h id says → RunsFit h stand says → IsAsStood id h stand v
+      → Holds Once v (entries_from n (said_by says))
   says_once v n [] own fits e = tt
   says_once v n (Tells (PlainRun x q service request response hold) ∷ says) own fits e = (
     (
@@ -95,4 +102,8 @@ module _ (s : Settings) (host : Host) (role : Role) (id : CallId) (server h : Ho
   says_once v n (Tells entry ∷ says) own fits e =
       let line = own_said entry own.0 refl in
       (tt, says_once (seen v entry) n says own.1 fits (stood_still id h stand v n (Says entry ∷ []) (line.0, tt) (ap (λ b. b || false) line.1) e))
-  says_once v n (Posts what ∷ says) own fits e = (tt, says_once (seen v (send_line n (packet_from s host role id server (bare what)))) (suc n) says own fits (stood_still id h stand v n (Sends (packet_from s host role id server (bare what)) ∷ []) tt refl e))
+  says_once v n (Posts what ∷ says) own fits e = (
+    tt,
+    says_once (seen v (send_line n (packet_from s host role id server (bare what)))) (suc n) says own fits
+        (stood_still id h stand v n (Sends (packet_from s host role id server (bare what)) ∷ []) tt refl e),
+  )

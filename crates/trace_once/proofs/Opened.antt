@@ -33,12 +33,14 @@ nothing_yet s n v last called client server ran = record {
 }
 
 -- what each new host has of something
-pub new_at : {A : Type 0} (none : A) (f : Host → A) (s : Settings) (incs : List ℕ) (k n : ℕ) → ((id : HostId) (inc : ℕ) → f (new_host s id inc 0) ≡ none) → at_host none f (slice_get (new_hosts s k incs) n) ≡ none
+pub new_at : {A : Type 0} (none : A) (f : Host → A) (s : Settings) (incs : List ℕ) (k n : ℕ)
+    → ((id : HostId) (inc : ℕ) → f (new_host s id inc 0) ≡ none) → at_host none f (slice_get (new_hosts s k incs) n) ≡ none
 new_at none f s [] k n same = refl
 new_at none f s (inc ∷ incs) k zero same = same _ inc
 new_at none f s (inc ∷ incs) k (suc n) same = new_at none f s incs (suc k) n same
 
-pub opened_kept : (s : Settings) (incs : List ℕ) (clock boxes : ℕ) (answers : List Answer) → IsKept s (new_world s incs clock boxes answers) (seen (at_start clock) (PlainSettings s))
+pub opened_kept : (s : Settings) (incs : List ℕ) (clock boxes : ℕ) (answers : List Answer)
+    → IsKept s (new_world s incs clock boxes answers) (seen (at_start clock) (PlainSettings s))
 unfolding new_world seen
 opened_kept s incs clock boxes answers = record {
   calls = λ q n. nothing_yet (times s) n (stand w v q n)
@@ -46,7 +48,8 @@ opened_kept s incs clock boxes answers = record {
       (new_at None (λ h. get h.clients q) s incs 0 q.client.0 (λ _ _. get-empty call_cmp q))
       (new_at None (λ h. state_of (get h.servers q)) s incs 0 n.0 (λ _ _. ap state_of (get-empty call_cmp q))) refl;
   packets = tt;
-  finished = λ n m. subst (λ (cs : List (ℕ × ℕ)). AllByRecursion (λ (c : ℕ × ℕ). IsOver m (stand w v (call_of n c) m)) cs) (sym (new_at [] (λ h. finished_at h m) s incs 0 n.0 (λ _ _. none_finished s.hosts m.0))) tt;
+  finished = λ n m. subst (λ (cs : List (ℕ × ℕ)). AllByRecursion (λ (c : ℕ × ℕ). IsOver m (stand w v (call_of n c) m)) cs)
+      (sym (new_at [] (λ h. finished_at h m) s incs 0 n.0 (λ _ _. none_finished s.hosts m.0))) tt;
 } where
   w : World
   w = new_world s incs clock boxes answers

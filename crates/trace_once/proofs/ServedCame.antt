@@ -55,7 +55,8 @@ drop_false : (a b : Bool) → ((a && false) || b) ≡ b
 drop_false true b = refl
 drop_false false b = refl
 
-module _ (s : Settings) (w : World) (v : View) (host : HostId) (now : ℕ) (stands : host.0 < length w.hosts) (work : Work) (id : CallId) (did : Did ServerRow) where
+module _ (s : Settings) (w : World) (v : View) (host : HostId) (now : ℕ) (stands : host.0 < length w.hosts) (work : Work) (id : CallId)
+    (did : Did ServerRow) where
   module _ (k : IsAmid s w v host now work) (own : AllOwn work.host.id id did.says) (d : ServerKeeps (times s) host (amid w v host work id host) did) where
     new : Work
     new = served s id did work
@@ -64,16 +65,22 @@ module _ (s : Settings) (w : World) (v : View) (host : HostId) (now : ℕ) (stan
     move = served-move s id did work own
 
     ran_by : (q : CallId) (n : HostId) (b : Bool) → (is_call id q && is_host host n) ≡ b → runs_told n q (served_told s id did work) ≡ (runs_said did.says && b)
-    ran_by q n b e = served-runs s n q id did work own ∙ ap (λ (x : HostId). runs_said did.says && (is_call id q && is_host x n)) k.name ∙ ap (λ x. runs_said did.says && x) e
+    ran_by q n b e =
+        served-runs s n q id did work own ∙ ap (λ (x : HostId). runs_said did.says && (is_call id q && is_host x n)) k.name
+        ∙ ap (λ x. runs_said did.says && x) e
 
     pub served_stand : (q : CallId) (n : HostId) (b : Bool) → (is_call id q && is_host host n) ≡ b
-        → amid w v host (served s id did work) q n ≡ with_server (amid w v host work q n) (cond b (state_of did.row) (amid w v host work q n).server) ((runs_said did.says && b) || (amid w v host work q n).ran)
+        → amid w v host (served s id did work) q n ≡ with_server (amid w v host work q n) (cond b (state_of did.row) (amid w v host work q n).server)
+        ((runs_said did.says && b) || (amid w v host work q n).ran)
     served_stand q n b e =
-        server_stand w v host work (served s id did work) (served_told s id did work) work.host.clients (set_row work.host.servers id did.row) move stands id did.row refl refl q n b e
-        ∙ ap (λ x. with_server (amid w v host work q n) (cond b (state_of did.row) (amid w v host work q n).server) (x || (amid w v host work q n).ran)) (ran_by q n b e)
+        server_stand w v host work (served s id did work) (served_told s id did work) work.host.clients (set_row work.host.servers id did.row) move
+        stands id did.row refl refl q n b e
+        ∙ ap (λ x. with_server (amid w v host work q n) (cond b (state_of did.row) (amid w v host work q n).server)
+        (x || (amid w v host work q n).ran)) (ran_by q n b e)
 
     -- the call itself
-    here : amid w v host (served s id did work) id host ≡ with_server (amid w v host work id host) (state_of did.row) ((amid w v host work id host).ran || runs_said did.says)
+    here : amid w v host (served s id did work) id host ≡ with_server (amid w v host work id host) (state_of did.row)
+        ((amid w v host work id host).ran || runs_said did.says)
     here =
         served_stand id host true (ap (λ b. b && is_host host host) ((calls_are id id).1 refl) ∙ (hosts_are host host).1 refl)
         ∙ ap (λ (b : Bool). with_server (amid w v host work id host) (state_of did.row) b) (swap_true (runs_said did.says) (amid w v host work id host).ran)
@@ -97,19 +104,25 @@ module _ (s : Settings) (w : World) (v : View) (host : HostId) (now : ℕ) (stan
           (subst (λ (x : HostId). Goes (times s) x (amid w v host work id x) (amid w v host (served s id did work) id x)) ((hosts_are host n).0 p.1) goes_here)
       by_test false e =
           goes_still (times s) n (amid w v host work q n) (amid w v host (served s id did work) q n) (k.kept.calls q n)
-          (served_stand q n false e ∙ ap (λ (b : Bool). with_server (amid w v host work q n) (amid w v host work q n).server b) (drop_false (runs_said did.says) (amid w v host work q n).ran))
+          (served_stand q n false e ∙ ap (λ (b : Bool). with_server (amid w v host work q n) (amid w v host work q n).server b)
+          (drop_false (runs_said did.says) (amid w v host work q n).ran))
 
     -- ---- the packets that are sent
 
-    said_fit : (u : CallId → HostId → Stand) (h : HostId) (says : List Say) → SaysFit (times s) h (u id h) w.clock Server says → AllByRecursion (PacketFits s u) (stamped w.clock (packets_in (said s work.host Server id h says)))
+    said_fit : (u : CallId → HostId → Stand) (h : HostId) (says : List Say) → SaysFit (times s) h (u id h) w.clock Server says
+        → AllByRecursion (PacketFits s u) (stamped w.clock (packets_in (said s work.host Server id h says)))
     said_fit u h [] f = tt
     said_fit u h (Tells entry ∷ says) f = said_fit u h says f
-    said_fit u h (Posts what ∷ says) f = (record { fits = f.0; acked = no_acks (λ q. IsOver h (u q h)) (times s) (u id h) w.clock id what f.0.fits }, said_fit u h says f.1)
+    said_fit u h (Posts what ∷ says) f =
+        (record { fits = f.0; acked = no_acks (λ q. IsOver h (u q h)) (times s) (u id h) w.clock id what f.0.fits }, said_fit u h says f.1)
 
-    reply_fits : (u : CallId → HostId → Stand) (h : HostId) (o : Option ℕ) (x : Work) → ((n : ℕ) → o ≡ Some n → Fits (times s) h (u id h) w.clock Server (body.Cutoffs x.host.tuning.own) []) → AllByRecursion (PacketFits s u) (stamped w.clock (packets_in (reply_told s Server id h o x)))
+    reply_fits : (u : CallId → HostId → Stand) (h : HostId) (o : Option ℕ) (x : Work)
+        → ((n : ℕ) → o ≡ Some n → Fits (times s) h (u id h) w.clock Server (body.Cutoffs x.host.tuning.own) [])
+        → AllByRecursion (PacketFits s u) (stamped w.clock (packets_in (reply_told s Server id h o x)))
     reply_fits u h None x f = tt
     reply_fits u h (Some version) x f =
-        cond_both (version == x.host.tuning.own.version) _ _ (λ (t : List Told). AllByRecursion (PacketFits s u) (stamped w.clock (packets_in t))) (λ _. tt) (λ _. (record { fits = f version refl; acked = tt }, tt))
+        cond_both (version == x.host.tuning.own.version) _ _ (λ (t : List Told). AllByRecursion (PacketFits s u) (stamped w.clock (packets_in t)))
+        (λ _. tt) (λ _. (record { fits = f version refl; acked = tt }, tt))
 
     fits : AllByRecursion (PacketFits s (amid w v host (served s id did work))) (stamped w.clock (packets_in (served_told s id did work)))
     fits =
@@ -120,11 +133,14 @@ module _ (s : Settings) (w : World) (v : View) (host : HostId) (now : ℕ) (stan
         let says = said_fit u host did.says (subst (λ (x : Stand). SaysFit (times s) host x w.clock Server did.says) (sym here) d.says) in
         let reply = reply_fits u host did.version noted (λ n is.
         subst (λ (x : Stand). Fits (times s) host x w.clock Server (body.Cutoffs noted.host.tuning.own) []) (sym here)
-        (fits_server (times s) host old (state_of did.row) ran (body.Cutoffs noted.host.tuning.own) d.change.made (live_covers (times s) host old (state_of did.row) ran w.clock (d.cutoffs n is)))) in
+        (fits_server (times s) host old (state_of did.row) ran (body.Cutoffs noted.host.tuning.own) d.change.made
+        (live_covers (times s) host old (state_of did.row) ran w.clock (d.cutoffs n is)))) in
         let both = (λ (h : HostId). packets_in (reply_told s Server id h did.version noted) ++ packets_in (said s work.host Server id h did.says)) in
         subst (λ (ps : List Packet). AllByRecursion (PacketFits s u) (stamped w.clock ps)) (sym (served_packets s id did work ∙ ap both k.name))
-        (subst (AllByRecursion (PacketFits s u)) (sym (stamped-append w.clock (packets_in (reply_told s Server id host did.version noted)) (packets_in (said s work.host Server id host did.says))))
-        (all-append (PacketFits s u) (stamped w.clock (packets_in (reply_told s Server id host did.version noted))) (stamped w.clock (packets_in (said s work.host Server id host did.says))) reply says))
+        (subst (AllByRecursion (PacketFits s u))
+        (sym (stamped-append w.clock (packets_in (reply_told s Server id host did.version noted)) (packets_in (said s work.host Server id host did.says))))
+        (all-append (PacketFits s u) (stamped w.clock (packets_in (reply_told s Server id host did.version noted)))
+        (stamped w.clock (packets_in (said s work.host Server id host did.says))) reply says))
 
     -- ---- the lines that are told
 
@@ -140,13 +156,16 @@ module _ (s : Settings) (w : World) (v : View) (host : HostId) (now : ℕ) (stan
         let inner = inner_back noted (reply ++ says) move.inner in
         let mine = subst (λ (x : HostId). AllOwn x id did.says) k.name own in
         let old : Stand = amid w v host work id host in
-        let still = stood_still id host old v0 n noted (inner_front noted (reply ++ says) move.inner) (notes-runs s host id did.opened (served_put s id did work)) (refl, refl) in
+        let still = stood_still id host old v0 n noted (inner_front noted (reply ++ says) move.inner)
+        (notes-runs s host id did.opened (served_put s id did work)) (refl, refl) in
         once_append v0 n noted (reply ++ says) (quiet_once v0 n noted (λ h q. notes-runs s h q did.opened (served_put s id did work)))
         (once_append v1 n1 reply says (quiet_once v1 n1 reply (λ h q. reply-runs s h q Server id work.host.id did.version (served_noted s id did work)))
         (says_once s work.host Server id work.host.id host old (seen_all v1 (entries_from n1 reply)) (n1 + length (packets_in reply)) did.says mine d.runs
-        (stood_still id host old v1 n1 reply (inner_front reply says inner) (reply-runs s host id Server id work.host.id did.version (served_noted s id did work)) still)))
+        (stood_still id host old v1 n1 reply (inner_front reply says inner)
+        (reply-runs s host id Server id work.host.id did.version (served_noted s id did work)) still)))
 
     pub served_came : Came s w v host now work (served s id did work)
     served_came =
-        moved s w v host now stands work (served s id did work) (served_told s id did work) work.host.clients (set_row work.host.servers id did.row) move k goes fits
+        moved s w v host now stands work (served s id did work) (served_told s id did work) work.host.clients
+        (set_row work.host.servers id did.row) move k goes fits
         (lists_still s w v host now stands work (served s id did work) k goes (served-finished s id did work)) k.own once

@@ -41,7 +41,8 @@ use Rattle.trace_messages.specs.Tales.{IsTruthful, IsTrue}
 use Rattle.trace_returned.specs.Closing.{Forgotten, Closed}
 use Rattle.trace_returned.proofs.Saying.{IsSaying}
 use Rattle.trace_returned.proofs.Stepping.{junk_saying, turn_saying, ended_saying, packet_saying}
-use Rattle.trace_returned.proofs.Beginning.{AreServed, closed_line, inject_fresh, shift_fresh, clock_fresh, line_true, begun_saying, begun_before, started_saying, opened_true, opened_served}
+use Rattle.trace_returned.proofs.Beginning.{AreServed, closed_line, inject_fresh, shift_fresh, clock_fresh, line_true, begun_saying, begun_before}
+use Rattle.trace_returned.proofs.Beginning.{started_saying, opened_true, opened_served}
 use Rattle.trace_returned.proofs.Restart.{restarted_true}
 
 -- what is so of a world and of the lines up to it
@@ -57,7 +58,8 @@ record StepSays (s : Settings) (w : World) (v : View) (host : HostId) (work : Wo
   pub same : IsTrue s (after_step w host [] work).world (seen_all v (entries_from (length w.packets) work.told))
   pub served : AreServed (after_step w host [] work).world (seen_all v (entries_from (length w.packets) work.told))
 
-step_says : (s : Settings) (w : World) (v : View) (host : HostId) (now : ℕ) (stands : host.0 < length w.hosts) (work : Work) → IsSaying s w v host now stands work → StepSays s w v host work
+step_says : (s : Settings) (w : World) (v : View) (host : HostId) (now : ℕ) (stands : host.0 < length w.hosts) (work : Work)
+    → IsSaying s w v host now stands work → StepSays s w v host work
 step_says s w v host now stands work k = record {
   returned = k.returned.0;
   closed = k.returned.2;
@@ -65,7 +67,8 @@ step_says s w v host now stands work k = record {
   served = λ q c e. subst (λ (n : ℕ). c.server.0 < n) (sym (length-set w.hosts host.0 work.host)) (k.returned.1 q c e);
 }
 
-module _ (s : Settings) (w : World) (v : View) (host : HostId) (h : Host) (stands : host_at w host ≡ Some h) (told : IsTold s w v) (k : IsKept s w v) (t : IsTrue s w v) (served : AreServed w v) where
+module _ (s : Settings) (w : World) (v : View) (host : HostId) (h : Host) (stands : host_at w host ≡ Some h) (told : IsTold s w v) (k : IsKept s w v)
+    (t : IsTrue s w v) (served : AreServed w v) where
   time : IsTimed s w host h (own_clock w host)
   time = timed s w host h told.clocks stands
 
@@ -77,29 +80,37 @@ module _ (s : Settings) (w : World) (v : View) (host : HostId) (h : Host) (stand
 
   -- it ends
   ends : (work : Work) → IsSaying s w v host (own_clock w host) room work → StepSays s w v host (ended s work)
-  ends work a = step_says s w v host (own_clock w host) room (ended s work) (ended_saying s w v host (own_clock w host) room time.from time.within (seg_of s told.valid) work a)
+  ends work a = step_says s w v host (own_clock w host) room (ended s work)
+      (ended_saying s w v host (own_clock w host) room time.from time.within (seg_of s told.valid) work a)
 
   begun_now : IsSaying s w v host (own_clock w host) (within w.hosts host.0 h stands) (begun h (own_clock w host))
   begun_now = begun_saying s w v host h (record h { last = own_clock w host }) stands told same_begins time.last time.within k t served
 
-  call_says : (server : HostId) (number : ℕ) (request : List ℕ) → server.0 < length w.hosts → StepSays s w v host (call_step s h (own_clock w host) server number request)
+  call_says : (server : HostId) (number : ℕ) (request : List ℕ) → server.0 < length w.hosts
+      → StepSays s w v host (call_step s h (own_clock w host) server number request)
   unfolding call_step
-  call_says server number request there = ends (starts s server number request (begun h (own_clock w host))) (started_saying s w v host h stands told time.within server number request begun_now there)
+  call_says server number request there = ends (starts s server number request (begun h (own_clock w host)))
+      (started_saying s w v host h stands told time.within server number request begun_now there)
 
   turn_says : StepSays s w v host (turn_step s h (own_clock w host))
   unfolding turn_step
   turn_says =
       let filled : Host = refilled s (record h { last = own_clock w host }) in
-      let first = begun_saying s w v host h (record filled { last = own_clock w host }) stands told (begins_filled s h (own_clock w host)) time.last time.within k t served in
-      ends (acts s (begun filled (own_clock w host))) (turn_saying s w v host (own_clock w host) room time.from time.within (resend_of s told.valid) (begun filled (own_clock w host)) first)
+      let first = begun_saying s w v host h (record filled { last = own_clock w host }) stands told (begins_filled s h (own_clock w host)) time.last
+      time.within k t served in
+      ends (acts s (begun filled (own_clock w host)))
+      (turn_saying s w v host (own_clock w host) room time.from time.within (resend_of s told.valid) (begun filled (own_clock w host)) first)
 
   junk_says : (answer : Answer) → StepSays s w v host (arrival_step s h (own_clock w host) None answer)
   unfolding arrival_step
-  junk_says answer = ends (comes s None answer (begun h (own_clock w host))) (junk_saying s w v host (own_clock w host) room (begun h (own_clock w host)) begun_now)
+  junk_says answer =
+      ends (comes s None answer (begun h (own_clock w host))) (junk_saying s w v host (own_clock w host) room (begun h (own_clock w host)) begun_now)
 
 -- a packet that was sent, and isn't late
-module _ (s : Settings) (w : World) (v : View) (n : ℕ) (host : HostId) (h : Host) (stands : host_at w host ≡ Some h) (told : IsTold s w v) (k : IsKept s w v) (t : IsTrue s w v) (served : AreServed w v) where
-  packet_says : (sent : SentPacket) (answer : Answer) → slice_get w.packets n ≡ Some sent → receiver sent.packet ≡ host → is_late s w sent.tick ≡ false → StepSays s w (seen v (PlainDeliver n)) host (arrival_step s h (own_clock w host) (Some sent.packet) answer)
+module _ (s : Settings) (w : World) (v : View) (n : ℕ) (host : HostId) (h : Host) (stands : host_at w host ≡ Some h) (told : IsTold s w v)
+    (k : IsKept s w v) (t : IsTrue s w v) (served : AreServed w v) where
+  packet_says : (sent : SentPacket) (answer : Answer) → slice_get w.packets n ≡ Some sent → receiver sent.packet ≡ host
+      → is_late s w sent.tick ≡ false → StepSays s w (seen v (PlainDeliver n)) host (arrival_step s h (own_clock w host) (Some sent.packet) answer)
   unfolding arrival_step
   packet_says sent answer at to early =
       let now : ℕ = own_clock w host in
@@ -107,10 +118,13 @@ module _ (s : Settings) (w : World) (v : View) (n : ℕ) (host : HostId) (h : Ho
       let room = within w.hosts host.0 h stands in
       let line : View = seen v (PlainDeliver n) in
       let first : Work = begun h now in
-      let b = begun_before s w v n host h (record h { last = now }) stands told (record { id = refl; inc = refl; seq = refl; clients = refl; servers = refl; finished = refl; last = refl }) time.last time.within k t served in
-      let fits = all_get (PacketFits s (amid w line host first)) w.packets n sent (subst (AllByRecursion (PacketFits s (amid w line host first))) (append-nil w.packets) b.amid.kept.packets) at in
+      let b = begun_before s w v n host h (record h { last = now }) stands told
+      (record { id = refl; inc = refl; seq = refl; clients = refl; servers = refl; finished = refl; last = refl }) time.last time.within k t served in
+      let fits = all_get (PacketFits s (amid w line host first)) w.packets n sent
+      (subst (AllByRecursion (PacketFits s (amid w line host first))) (append-nil w.packets) b.amid.kept.packets) at in
       let carries = all_get (IsTruthful line) w.packets n sent (subst (AllByRecursion (IsTruthful line)) (append-nil w.packets) b.packets) at in
-      let came : slice_get v.packets n ≡ Some (sent_of sent.packet) = ap (λ (ps : List Sent). slice_get ps n) told.packets ∙ (slice_get-map (λ (p : SentPacket). sent_of p.packet) w.packets n ∙ ap (option_map (λ (p : SentPacket). sent_of p.packet)) at) in
+      let came : slice_get v.packets n ≡ Some (sent_of sent.packet) = ap (λ (ps : List Sent). slice_get ps n) told.packets
+      ∙ (slice_get-map (λ (p : SentPacket). sent_of p.packet) w.packets n ∙ ap (option_map (λ (p : SentPacket). sent_of p.packet)) at) in
       step_says s w line host now room (ended s (comes s (Some sent.packet) answer first))
       (ended_saying s w line host now room time.from time.within (seg_of s told.valid) (comes s (Some sent.packet) answer first)
       (packet_saying s w v n host now room sent.packet sent.tick answer first came told.settings served b time.from time.within
@@ -130,7 +144,8 @@ pub record EventSays (s : Settings) (v : View) (after : After) : Type 0 where
   pub same : IsTrue s after.world (seen_all v after.told)
   pub served : AreServed after.world (seen_all v after.told)
 
-pub event_says : (s : Settings) (w : World) (v : View) (e : Event) (bytes : List ℕ) (after : After) → IsTold s w v → IsKept s w v → IsTrue s w v → AreServed w v → outcome s w e bytes ≡ Done after → EventSays s v after
+pub event_says : (s : Settings) (w : World) (v : View) (e : Event) (bytes : List ℕ) (after : After) → IsTold s w v → IsKept s w v → IsTrue s w v
+    → AreServed w v → outcome s w e bytes ≡ Done after → EventSays s v after
 unfolding outcome
 event_says s w v (event.Call client server number) bytes after told k t served e =
     let c = call_done s w after client server number bytes e in
@@ -151,7 +166,12 @@ event_says s w v event.Clock bytes after told k t served e =
       returned = (tt, tt);
       closed = (closed_line v line t.closed, tt);
       same = line_true s w (record w { clock = w.clock + 1 }) v line tt tt (clock_fresh v (w.clock + 1)) refl
-          (λ q m. (w.clock + 1, (stand w v q m).last, (stand w v q m).old, ap (λ (x : Stand). at x (w.clock + 1) x.last x.old) (still_stand w v line tt (clock_calls v (w.clock + 1)) q m))) t;
+          (λ q m. (
+            w.clock + 1,
+            (stand w v q m).last,
+            (stand w v q m).old,
+            ap (λ (x : Stand). at x (w.clock + 1) x.last x.old) (still_stand w v line tt (clock_calls v (w.clock + 1)) q m),
+          )) t;
       served = λ q c f. served q c (ap (λ m. get m q) (sym (clock_calls v (w.clock + 1))) ∙ f);
     })
 event_says s w v (event.Turn host) bytes after told k t served e =
@@ -165,14 +185,17 @@ event_says s w v (event.Restart host) bytes after told k t served e =
       returned = (tt, tt);
       closed = (closed_line v line t.closed, tt);
       same = restarted_true s w v host c.host c.spares c.stands told.lived k t;
-      served = λ q x f. subst (λ (n : ℕ). x.server.0 < n) (sym (length-set w.hosts host.0 (new_host s host (c.host.inc + 1) c.host.last))) (served q x (ap (λ m. get m q) (sym (restart_calls v host (c.host.inc + 1))) ∙ f));
+      served = λ q x f. subst (λ (n : ℕ). x.server.0 < n) (sym (length-set w.hosts host.0 (new_host s host (c.host.inc + 1) c.host.last)))
+          (served q x (ap (λ m. get m q) (sym (restart_calls v host (c.host.inc + 1))) ∙ f));
     })
 event_says s w v (event.Inject host) bytes after told k t served e =
     let c = inject_done s w after host bytes (host_at w host) (packet_in s.wire bytes) refl refl e in
     let line : PlainEntry = PlainInject host bytes in
     let told_line = told_view s w v (seen v line) (inject_same v host bytes) told in
-    let true_line = line_true s w w v line tt tt (inject_fresh v host bytes) refl (λ q m. (w.clock, (stand w v q m).last, (stand w v q m).old, still_stand w v line tt (inject_calls v host bytes) q m)) t in
-    let r = junk_says s w (seen v line) host c.host c.stands told_line (inject_line s w v host bytes k) true_line (λ q x f. served q x (ap (λ m. get m q) (sym (inject_calls v host bytes)) ∙ f)) (next_answer w.answers) in
+    let true_line = line_true s w w v line tt tt (inject_fresh v host bytes) refl
+    (λ q m. (w.clock, (stand w v q m).last, (stand w v q m).old, still_stand w v line tt (inject_calls v host bytes) q m)) t in
+    let r = junk_says s w (seen v line) host c.host c.stands told_line (inject_line s w v host bytes k) true_line
+    (λ q x f. served q x (ap (λ m. get m q) (sym (inject_calls v host bytes)) ∙ f)) (next_answer w.answers) in
     subst (EventSays s v) (sym c.is) (record {
       returned = (tt, r.returned);
       closed = (closed_line v line t.closed, r.closed);
@@ -181,7 +204,8 @@ event_says s w v (event.Inject host) bytes after told k t served e =
     })
 event_says s w v (event.Shift host n) bytes after told k t served e =
     let line : PlainEntry = PlainShift host n in
-    let same = line_true s w w v line tt tt (shift_fresh v host n) refl (λ q m. (w.clock, (stand w v q m).last, (stand w v q m).old, still_stand w v line tt (shift_calls v host n) q m)) t in
+    let same = line_true s w w v line tt tt (shift_fresh v host n) refl
+    (λ q m. (w.clock, (stand w v q m).last, (stand w v q m).old, still_stand w v line tt (shift_calls v host n) q m)) t in
     subst (EventSays s v) (sym (shift_done s w after host n (host_at w host) refl e).is) (record {
       returned = (tt, tt);
       closed = (closed_line v line t.closed, tt);
@@ -191,17 +215,27 @@ event_says s w v (event.Shift host n) bytes after told k t served e =
 
 -- ---- the laws
 
-pub so_later : (s : Settings) (w : World) (v : View) (e : Event) (bytes : List ℕ) (after : After) → IsSoFar s w v → outcome s w e bytes ≡ Done after → EventSays s v after → IsSoFar s after.world (seen_all v after.told)
-so_later s w v e bytes after so done says = (told_event s w v e bytes after so.0 done, (event_keeps s w v e bytes after so.0 so.1 done).kept, says.same, says.served)
+pub so_later : (s : Settings) (w : World) (v : View) (e : Event) (bytes : List ℕ) (after : After) → IsSoFar s w v → outcome s w e bytes ≡ Done after
+    → EventSays s v after → IsSoFar s after.world (seen_all v after.told)
+so_later s w v e bytes after so done says =
+    (told_event s w v e bytes after so.0 done, (event_keeps s w v e bytes after so.0 so.1 done).kept, says.same, says.served)
 
 event_returned : KeptByEvent IsSoFar Returned
-event_returned s w v e after so done = let k = event_says s w v e.event e.bytes after so.0 so.1 so.2 so.3 done in (k.returned, so_later s w v e.event e.bytes after so done k)
+event_returned s w v e after so done =
+    let k = event_says s w v e.event e.bytes after so.0 so.1 so.2 so.3 done in (k.returned, so_later s w v e.event e.bytes after so done k)
 
 event_closed : KeptByEvent IsSoFar Closed
-event_closed s w v e after so done = let k = event_says s w v e.event e.bytes after so.0 so.1 so.2 so.3 done in (k.closed, so_later s w v e.event e.bytes after so done k)
+event_closed s w v e after so done =
+    let k = event_says s w v e.event e.bytes after so.0 so.1 so.2 so.3 done in (k.closed, so_later s w v e.event e.bytes after so done k)
 
-pub opened_so : (s : Settings) (incs : List ℕ) (clock boxes : ℕ) (answers : List Answer) → IsOpening s incs clock boxes → IsSoFar s (new_world s incs clock boxes answers) (seen (at_start clock) (PlainSettings s))
-opened_so s incs clock boxes answers opening = (told_first s incs clock boxes answers opening, opened_kept s incs clock boxes answers, opened_true s incs clock boxes answers, opened_served s incs clock boxes answers)
+pub opened_so : (s : Settings) (incs : List ℕ) (clock boxes : ℕ) (answers : List Answer) → IsOpening s incs clock boxes
+    → IsSoFar s (new_world s incs clock boxes answers) (seen (at_start clock) (PlainSettings s))
+opened_so s incs clock boxes answers opening = (
+  told_first s incs clock boxes answers opening,
+  opened_kept s incs clock boxes answers,
+  opened_true s incs clock boxes answers,
+  opened_served s incs clock boxes answers,
+)
 
 last_returned : (v : View) (line : PlainEntry) → is_last line ≡ true → Returned v line
 last_returned v (PlainDone id bytes) e = absurd (false≢true e)
@@ -211,10 +245,12 @@ pub returned_always : HoldsAlways Returned
 returned_always = always IsSoFar Returned (λ s incs clock boxes opening. tt) opened_so event_returned (λ s w v line so e. last_returned v line e)
 
 pub closed_always : HoldsAlways Closed
-closed_always = always IsSoFar Closed (λ s incs clock boxes opening e. absurd (false≢true e)) opened_so event_closed (λ s w v line so e. closed_line v line so.2.closed)
+closed_always =
+    always IsSoFar Closed (λ s incs clock boxes opening e. absurd (false≢true e)) opened_so event_closed (λ s w v line so e. closed_line v line so.2.closed)
 
 -- what follows at each line
-pub holds_map : (a b : View → PlainEntry → Type 0) → ((v : View) (line : PlainEntry) → a v line → b v line) → (v : View) (lines : List PlainEntry) → Holds a v lines → Holds b v lines
+pub holds_map : (a b : View → PlainEntry → Type 0) → ((v : View) (line : PlainEntry) → a v line → b v line) → (v : View) (lines : List PlainEntry)
+    → Holds a v lines → Holds b v lines
 holds_map a b follows v [] h = tt
 holds_map a b follows v (line ∷ lines) h = (follows v line h.0, holds_map a b follows (seen v line) lines h.1)
 

@@ -7,7 +7,8 @@ use Rattle.homa_plain.specs.declared.id.HostId.{HostId}
 use Rattle.homa_plain.specs.declared.packet.Role.{Role}
 use Rattle.homa_plain.specs.declared.packet.Role.TheVariants.{Client, Server}
 use Rattle.homa_plain.specs.declared.settings.Settings.{Settings}
-use Rattle.homa_plain.specs.Entries.{PlainEntry, PlainDone, PlainBury, PlainFree, PlainSettings, PlainCall, PlainDeliver, PlainClock, PlainRestart, PlainInject, PlainShift, PlainRecv, PlainFinished, PlainRefused, PlainStalled}
+use Rattle.homa_plain.specs.Entries.{PlainEntry, PlainDone, PlainBury, PlainFree, PlainSettings, PlainCall, PlainDeliver, PlainClock, PlainRestart}
+use Rattle.homa_plain.specs.Entries.{PlainInject, PlainShift, PlainRecv, PlainFinished, PlainRefused, PlainStalled}
 use Rattle.homa_plain.specs.Lines.{closes}
 use Rattle.homa_plain.specs.Packets.{send_line}
 use Rattle.homa_plain.specs.Rows.{ClientRow, ServerRow, RowsOf, set_row}
@@ -71,7 +72,8 @@ steady_undone [] e = tt
 steady_undone (Says entry ∷ told) e = (steady_line entry e.0, steady_undone told e.1)
 steady_undone (Sends p ∷ told) e = steady_undone told e
 
-pub said_undone : (s : Settings) (h : Host) (role : Role) (id : CallId) (server : HostId) (says : List Say) → AreUndone says → AllUndone (said s h role id server says)
+pub said_undone : (s : Settings) (h : Host) (role : Role) (id : CallId) (server : HostId) (says : List Say) → AreUndone says
+    → AllUndone (said s h role id server says)
 said_undone s h role id server [] e = tt
 said_undone s h role id server (Tells entry ∷ says) e = (e.0, said_undone s h role id server says e.1)
 said_undone s h role id server (Posts what ∷ says) e = said_undone s h role id server says e
@@ -112,7 +114,9 @@ module _ (s : Settings) (w : World) (v : View) (host : HostId) (now : ℕ) (stan
   -- returned held at each line so far, each call that the lines tell was made to a host that stands, and closed blocks had what was due
   abbrev pub HasSaid : Work → Type 0
   HasSaid work =
-      Holds Returned v (entries_from (length w.packets) work.told) × ((q : CallId) (c : Called) → get (said_so_far w v work).calls q ≡ Some c → c.server.0 < length w.hosts) × Holds Closed v (entries_from (length w.packets) work.told)
+      Holds Returned v (entries_from (length w.packets) work.told)
+      × ((q : CallId) (c : Called) → get (said_so_far w v work).calls q ≡ Some c → c.server.0 < length w.hosts)
+      × Holds Closed v (entries_from (length w.packets) work.told)
 
   -- all is so that is so between two steps
   pub record IsSaying (work : Work) : Type 0 where
@@ -122,7 +126,8 @@ module _ (s : Settings) (w : World) (v : View) (host : HostId) (now : ℕ) (stan
     pub returned : HasSaid work
 
   -- a move
-  pub returned_move : (work new : Work) (told : List Told) (clients : RowsOf ClientRow) (servers : RowsOf ServerRow) → IsMove work new told clients servers → HasSaid work
+  pub returned_move : (work new : Work) (told : List Told) (clients : RowsOf ClientRow) (servers : RowsOf ServerRow)
+      → IsMove work new told clients servers → HasSaid work
       → Holds Returned (said_so_far w v work) (entries_from (length w.packets + length (packets_in work.told)) told) → HasSaid new
   returned_move work new told clients servers move k holds = (
     subst (Holds Returned v) (sym (ap (entries_from (length w.packets)) move.grown ∙ entries_from-append (length w.packets) work.told told))
@@ -133,35 +138,47 @@ module _ (s : Settings) (w : World) (v : View) (host : HostId) (now : ℕ) (stan
         (inner_closed (said_so_far w v work) (length w.packets + length (packets_in work.told)) told move.inner)),
   )
 
-  pub moved_saying : (work new : Work) (told : List Told) (clients : RowsOf ClientRow) (servers : RowsOf ServerRow) → IsMove work new told clients servers → IsTold s (put w host work) (said_so_far w v work)
+  pub moved_saying : (work new : Work) (told : List Told) (clients : RowsOf ClientRow) (servers : RowsOf ServerRow)
+      → IsMove work new told clients servers → IsTold s (put w host work) (said_so_far w v work)
       → HasSaid work → IsAmid s w v host now new → IsTrue s (put w host new) (said_so_far w v new)
       → Holds Returned (said_so_far w v work) (entries_from (length w.packets + length (packets_in work.told)) told) → IsSaying new
   moved_saying work new told clients servers move told_before returned after same holds = record {
     amid = after;
-    told = told_move s w v host work new told clients servers move stands (λ q r is. after.own q r (ap (λ (rows : RowsOf ClientRow). get rows q) move.at_clients ∙ is)) told_before;
+    told = told_move s w v host work new told clients servers move stands
+        (λ q r is. after.own q r (ap (λ (rows : RowsOf ClientRow). get rows q) move.at_clients ∙ is)) told_before;
     same = same;
     returned = returned_move work new told clients servers move returned holds;
   }
 
   -- a rule at a server
-  pub served_saying : (work : Work) (id : CallId) (did : Did ServerRow) → AllOwn work.host.id id did.says → IsTold s (put w host work) (said_so_far w v work) → HasSaid work
-      → IsAmid s w v host now (served s id did work) → IsTrue s (put w host (served s id did work)) (said_so_far w v (served s id did work)) → AreUndone did.says → IsSaying (served s id did work)
+  pub served_saying : (work : Work) (id : CallId) (did : Did ServerRow) → AllOwn work.host.id id did.says
+      → IsTold s (put w host work) (said_so_far w v work) → HasSaid work
+      → IsAmid s w v host now (served s id did work) → IsTrue s (put w host (served s id did work)) (said_so_far w v (served s id did work))
+      → AreUndone did.says → IsSaying (served s id did work)
   served_saying work id did own told_before returned after same undone =
       let notes = notes_told s did.opened (served_put s id did work) in
       let reply = reply_told s Server id work.host.id did.version (served_noted s id did work) in
       let says = said s work.host Server id work.host.id did.says in
-      moved_saying work (served s id did work) (served_told s id did work) work.host.clients (set_row work.host.servers id did.row) (served-move s id did work own) told_before returned after same
+      moved_saying work (served s id did work) (served_told s id did work) work.host.clients (set_row work.host.servers id did.row)
+      (served-move s id did work own) told_before returned after same
       (undone_holds (said_so_far w v work) (length w.packets + length (packets_in work.told)) (served_told s id did work)
       (undone_append notes (reply ++ says) (steady_undone notes (calm_notes s did.opened (served_put s id did work)).steady)
-      (undone_append reply says (steady_undone reply (calm_reply s Server id work.host.id did.version (served_noted s id did work)).steady) (said_undone s work.host Server id work.host.id did.says undone))))
+      (undone_append reply says (steady_undone reply (calm_reply s Server id work.host.id did.version (served_noted s id did work)).steady)
+      (said_undone s work.host Server id work.host.id did.says undone))))
 
   -- a rule at a client, which may say that its call is done
   abbrev pub done_view : Work → CallId → HostId → Did ClientRow → View
-  done_view work id server did = seen_all (said_so_far w v work) (entries_from (length w.packets + length (packets_in work.told)) (notes_told s did.opened (asked_put s id server did work) ++ reply_told s Client id server did.version (asked_noted s id server did work)))
+  done_view work id server did =
+      seen_all (said_so_far w v work)
+      (entries_from (length w.packets + length (packets_in work.told))
+      (notes_told s did.opened (asked_put s id server did work) ++ reply_told s Client id server did.version (asked_noted s id server did work)))
 
-  pub asked_saying : (work : Work) (id : CallId) (server : HostId) (did : Did ClientRow) → id.client ≡ work.host.id → AllOwn id.client id did.says → IsTold s (put w host work) (said_so_far w v work)
-      → HasSaid work → IsAmid s w v host now (asked s id server did work) → IsTrue s (put w host (asked s id server did work)) (said_so_far w v (asked s id server did work))
-      → ((n : ℕ) → Holds Returned (done_view work id server did) (entries_from n (said s work.host Client id server did.says))) → IsSaying (asked s id server did work)
+  pub asked_saying : (work : Work) (id : CallId) (server : HostId) (did : Did ClientRow) → id.client ≡ work.host.id → AllOwn id.client id did.says
+      → IsTold s (put w host work) (said_so_far w v work)
+      → HasSaid work → IsAmid s w v host now (asked s id server did work)
+      → IsTrue s (put w host (asked s id server did work)) (said_so_far w v (asked s id server did work))
+      → ((n : ℕ) → Holds Returned (done_view work id server did) (entries_from n (said s work.host Client id server did.says)))
+      → IsSaying (asked s id server did work)
   asked_saying work id server did mine own told_before returned after same holds =
       let number : ℕ = length w.packets + length (packets_in work.told) in
       let u : View = said_so_far w v work in
@@ -169,19 +186,33 @@ module _ (s : Settings) (w : World) (v : View) (host : HostId) (now : ℕ) (stan
       let reply = reply_told s Client id server did.version (asked_noted s id server did work) in
       let says = said s work.host Client id server did.says in
       let ends = finishes_told s id server did.finished (asked_said s id server did work) in
-      let front_holds = undone_holds u number (notes ++ reply) (undone_append notes reply (steady_undone notes (calm_notes s did.opened (asked_put s id server did work)).steady) (steady_undone reply (calm_reply s Client id server did.version (asked_noted s id server did work)).steady)) in
+      let front_holds =
+      undone_holds u number (notes ++ reply)
+      (undone_append notes reply (steady_undone notes (calm_notes s did.opened (asked_put s id server did work)).steady)
+      (steady_undone reply (calm_reply s Client id server did.version (asked_noted s id server did work)).steady)) in
       let front : View = done_view work id server did in
       let at : ℕ = number + length (packets_in (notes ++ reply)) in
       let mid : View = seen_all front (entries_from at says) in
-      let back = holds_told front at says ends (holds at) (undone_holds mid (at + length (packets_in says)) ends (steady_undone ends (calm_finishes s id server did.finished (asked_said s id server did work)).steady)) in
-      moved_saying work (asked s id server did work) (asked_told s id server did work) (set_row work.host.clients id did.row) work.host.servers (asked-move s id server did work mine own) told_before returned after same
-      (subst (λ (t : List Told). Holds Returned u (entries_from number t)) (append_assoc notes reply (says ++ ends)) (holds_told u number (notes ++ reply) (says ++ ends) front_holds back)) where
-        holds_told : (x : View) (n : ℕ) (a b : List Told) → Holds Returned x (entries_from n a) → Holds Returned (seen_all x (entries_from n a)) (entries_from (n + length (packets_in a)) b) → Holds Returned x (entries_from n (a ++ b))
-        holds_told x n a b first second = subst (Holds Returned x) (sym (entries_from-append n a b)) (holds-append Returned x (entries_from n a) (entries_from (n + length (packets_in a)) b) first second)
+      let back = holds_told front at says ends (holds at)
+      (undone_holds mid (at + length (packets_in says)) ends
+      (steady_undone ends (calm_finishes s id server did.finished (asked_said s id server did work)).steady)) in
+      moved_saying work (asked s id server did work) (asked_told s id server did work) (set_row work.host.clients id did.row) work.host.servers
+      (asked-move s id server did work mine own) told_before returned after same
+      (subst (λ (t : List Told). Holds Returned u (entries_from number t)) (append_assoc notes reply (says ++ ends))
+      (holds_told u number (notes ++ reply) (says ++ ends) front_holds back)) where
+        holds_told : (x : View) (n : ℕ) (a b : List Told) → Holds Returned x (entries_from n a)
+            → Holds Returned (seen_all x (entries_from n a)) (entries_from (n + length (packets_in a)) b) → Holds Returned x (entries_from n (a ++ b))
+        holds_told x n a b first second =
+            subst (Holds Returned x) (sym (entries_from-append n a b))
+            (holds-append Returned x (entries_from n a) (entries_from (n + length (packets_in a)) b) first second)
 
   -- one that says of no call that it is done
-  pub undone_saying : (work : Work) (id : CallId) (server : HostId) (did : Did ClientRow) → id.client ≡ work.host.id → AllOwn id.client id did.says → IsTold s (put w host work) (said_so_far w v work)
-      → HasSaid work → IsAmid s w v host now (asked s id server did work) → IsTrue s (put w host (asked s id server did work)) (said_so_far w v (asked s id server did work))
+  pub undone_saying : (work : Work) (id : CallId) (server : HostId) (did : Did ClientRow) → id.client ≡ work.host.id → AllOwn id.client id did.says
+      → IsTold s (put w host work) (said_so_far w v work)
+      → HasSaid work → IsAmid s w v host now (asked s id server did work)
+      → IsTrue s (put w host (asked s id server did work)) (said_so_far w v (asked s id server did work))
       → AreUndone did.says → IsSaying (asked s id server did work)
   undone_saying work id server did mine own told_before returned after same undone =
-      asked_saying work id server did mine own told_before returned after same (λ n. undone_holds (done_view work id server did) n (said s work.host Client id server did.says) (said_undone s work.host Client id server did.says undone))
+      asked_saying work id server did mine own told_before returned after same
+      (λ n. undone_holds (done_view work id server did) n (said s work.host Client id server did.says)
+      (said_undone s work.host Client id server did.says undone))

@@ -11,4 +11,5 @@ Forgotten v line = closes line ≡ true → SameCalls v.here.forgotten v.now.due
 
 -- runs, done calls and forgotten ones
 abbrev pub Closed : View → PlainEntry → Type 0
-Closed v line = closes line ≡ true → SameCalls v.here.runs v.now.due.runs × SameCalls v.here.dones v.now.due.dones × SameCalls v.here.forgotten v.now.due.forgotten
+Closed v line =
+    closes line ≡ true → SameCalls v.here.runs v.now.due.runs × SameCalls v.here.dones v.now.due.dones × SameCalls v.here.forgotten v.now.due.forgotten

@@ -1,5 +1,6 @@
 -- The packets that rules send are well formed.
-use Rattle.std.proofs.Common.{◌≡◌, zero, suc, ◌<◌, ◌≤◌, ℕ, ◌+◌, ◌-◌, Bool, true, false, Option, None, Some, List, [], ◌∷◌, length, take, drop, refl, sym, ap, subst, MatchOption, length-drop, true≢false, arith}
+use Rattle.std.proofs.Common.{◌≡◌, zero, suc, ◌<◌, ◌≤◌, ℕ, ◌+◌, ◌-◌, Bool, true, false, Option, None, Some, List, [], ◌∷◌, length, take, drop, refl}
+use Rattle.std.proofs.Common.{sym, ap, subst, MatchOption, length-drop, true≢false, arith}
 use Rattle.std.specs.Prelude.{◌==◌, if◌then◌else◌, nat_lt, IfSome}
 use Rattle.std.proofs.lemmas.Bool.{cond_both}
 use Rattle.plain_sets.specs.Ranges.{Range}
@@ -97,7 +98,8 @@ slice_length bytes r a b = length-take-le (r.to - r.from) (drop r.from bytes) (o
 
 -- a piece of a message that may be sent
 piece_fits : (s : Settings) → IsValid s → (role : Role) (bytes : List ℕ) (out : Outgoing) → IsMessage bytes → IsPart bytes out
-    → (c : Cutoffs) → c.version < 65536 → (service : ℕ) → service < 256 → (ack : Option (ℕ × ℕ)) → IfSome ack IsCall → (role ≡ Server → (service ≡ 0) × (ack ≡ None))
+    → (c : Cutoffs) → c.version < 65536 → (service : ℕ) → service < 256 → (ack : Option (ℕ × ℕ)) → IfSome ack IsCall
+    → (role ≡ Server → (service ≡ 0) × (ack ≡ None))
     → (range : Range) → next_range out s.seg ≡ Some range
     → IsPiece role (level_at s c out range.from) out.length range.from c.version service ack (slice bytes range)
 piece_fits s v role bytes out message part c few service small ack acked of range e =

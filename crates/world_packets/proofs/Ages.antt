@@ -62,7 +62,8 @@ module _ (s : Settings) (now : ℕ) where
 
   -- ---- the packets of a tick
 
-  pub late_aged : (tick : ℕ) (frames : List Frame) (n : ℕ) → n ≡ length frames → s.wire ≡ 1 → tick + s.life < now → AllAged s now (map (WholePacket tick) frames) (replicate n (LatePacket tick))
+  pub late_aged : (tick : ℕ) (frames : List Frame) (n : ℕ) → n ≡ length frames → s.wire ≡ 1 → tick + s.life < now
+      → AllAged s now (map (WholePacket tick) frames) (replicate n (LatePacket tick))
   late_aged tick [] zero e one old = tt
   late_aged tick [] (suc n) e one old = absurd (omega (arith, e))
   late_aged tick (f ∷ frames) zero e one old = absurd (omega (arith, e))

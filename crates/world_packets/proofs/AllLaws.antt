@@ -1,5 +1,6 @@
 -- All packets of a world.
-use Rattle.std.proofs.Common.{◌≡◌, ◌<◌, ◌≤◌, ℕ, zero, suc, ◌+◌, ◌-◌, true, false, Some, List, [], ◌∷◌, ◌++◌, length, length-append, append_assoc, get_or, drop, sym, ap, ◌∙◌, subst, arith}
+use Rattle.std.proofs.Common.{◌≡◌, ◌<◌, ◌≤◌, ℕ, zero, suc, ◌+◌, ◌-◌, true, false, Some, List, [], ◌∷◌, ◌++◌, length, length-append, append_assoc}
+use Rattle.std.proofs.Common.{get_or, drop, sym, ap, ◌∙◌, subst, arith}
 use Rattle.std.specs.Prelude.{◌==◌, map, slice_get}
 use Rattle.std.specs.List.{flat_map}
 use Rattle.std.proofs.lemmas.Bool.Decides.{nat_tests}
@@ -17,7 +18,8 @@ abbrev pub TicksEnd : ℕ → List Tick → ℕ → Type 0
 TicksEnd n ts end = firsts_at (λ (t : Tick). t.first) kept_of n ts end ≡ true
 
 -- how many there are
-pub count_all : (past : List KeptPacket) (ts : List Tick) (first : ℕ) (front : List KeptPacket) (n : ℕ) → TicksEnd (length past) ts first → length front ≡ n → first + n ≡ length (past ++ flat_map kept_of ts ++ front)
+pub count_all : (past : List KeptPacket) (ts : List Tick) (first : ℕ) (front : List KeptPacket) (n : ℕ) → TicksEnd (length past) ts first
+    → length front ≡ n → first + n ≡ length (past ++ flat_map kept_of ts ++ front)
 count_all past ts first front n e h =
     let end = firsts_end (λ (t : Tick). t.first) kept_of (length past) ts first e in
     let two = length-append past (flat_map kept_of ts) in
@@ -25,13 +27,15 @@ count_all past ts first front n e h =
     omega (arith, end, two, all, h)
 
 -- one that is too old
-pub in_past : (past some rest : List KeptPacket) (n : ℕ) (k : KeptPacket) → n < length past → slice_get past n ≡ Some k → slice_get (past ++ some ++ rest) n ≡ Some k
+pub in_past : (past some rest : List KeptPacket) (n : ℕ) (k : KeptPacket) → n < length past → slice_get past n ≡ Some k
+    → slice_get (past ++ some ++ rest) n ≡ Some k
 in_past past some rest n k h g =
     let two = length-append past some in
     get-left (past ++ some) rest n (omega (arith, two, h)) ∙ get-left past some n h ∙ g
 
 -- one of an earlier tick
-pub earlier : (past : List KeptPacket) (ts : List Tick) (first n : ℕ) (t : Tick) (front : List KeptPacket) (k : KeptPacket) → TicksEnd (length past) ts first → length past ≤ n → n < first → IsIn (λ (t : Tick). t.first) kept_of ts (length past) n t
+pub earlier : (past : List KeptPacket) (ts : List Tick) (first n : ℕ) (t : Tick) (front : List KeptPacket) (k : KeptPacket)
+    → TicksEnd (length past) ts first → length past ≤ n → n < first → IsIn (λ (t : Tick). t.first) kept_of ts (length past) n t
     → slice_get (kept_of t) (n - t.first) ≡ Some k → slice_get (past ++ flat_map kept_of ts ++ front) n ≡ Some k
 earlier past ts first n t front k e from to is g =
     let end = firsts_end (λ (t : Tick). t.first) kept_of (length past) ts first e in
@@ -41,13 +45,15 @@ earlier past ts first n t front k e from to is g =
     ∙ is.same ∙ g
 
 -- one of the last tick
-pub in_front : (past : List KeptPacket) (ts : List Tick) (first n : ℕ) (front : List KeptPacket) (k : KeptPacket) → TicksEnd (length past) ts first → first ≤ n → slice_get front (n - first) ≡ Some k → slice_get (past ++ flat_map kept_of ts ++ front) n ≡ Some k
+pub in_front : (past : List KeptPacket) (ts : List Tick) (first n : ℕ) (front : List KeptPacket) (k : KeptPacket) → TicksEnd (length past) ts first
+    → first ≤ n → slice_get front (n - first) ≡ Some k → slice_get (past ++ flat_map kept_of ts ++ front) n ≡ Some k
 in_front past ts first n front k e h g =
     let end = firsts_end (λ (t : Tick). t.first) kept_of (length past) ts first e in
     let two = length-append past (flat_map kept_of ts) in
     get-right (past ++ flat_map kept_of ts) front (n - first) n (omega (arith, end, two, h)) ∙ g
 
-pub whole_at : (tick : ℕ) (frames : List Frame) (i : ℕ) (f : Frame) → slice_get frames i ≡ Some f → slice_get (map (WholePacket tick) frames) i ≡ Some (WholePacket tick f)
+pub whole_at : (tick : ℕ) (frames : List Frame) (i : ℕ) (f : Frame) → slice_get frames i ≡ Some f
+    → slice_get (map (WholePacket tick) frames) i ≡ Some (WholePacket tick f)
 whole_at tick [] i f e = absurd cc
 whole_at tick (g ∷ frames) zero f e = let same : g ≡ f = cc in ap (λ (x : Frame). Some (WholePacket tick x)) same
 whole_at tick (g ∷ frames) (suc i) f e = whole_at tick frames i f e

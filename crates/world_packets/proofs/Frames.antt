@@ -1,5 +1,6 @@
 -- The packets of a block with one more.
-use Rattle.std.proofs.Common.{◌≡◌, ◌≤◌, ℕ, zero, suc, ◌+◌, ◌-◌, Bool, true, false, List, [], ◌∷◌, ◌++◌, length, take, drop, get_or, ◌<◌, refl, sym, ap, ◌∙◌, arith, length-drop, length-append, true≢false}
+use Rattle.std.proofs.Common.{◌≡◌, ◌≤◌, ℕ, zero, suc, ◌+◌, ◌-◌, Bool, true, false, List, [], ◌∷◌, ◌++◌, length, take, drop, get_or, ◌<◌, refl, sym}
+use Rattle.std.proofs.Common.{ap, ◌∙◌, arith, length-drop, length-append, true≢false}
 use Rattle.std.proofs.lemmas.Bool.Decides.{nat_tests}
 use Rattle.std.specs.Prelude.{◌==◌, ◌&&◌, nat_le, Some, slice_get}
 use Rattle.std.proofs.lemmas.List.{drop-append-le, take-append-le}
@@ -36,7 +37,8 @@ below at (q ∷ recs) end e = let b = both (nat_le at q.end) (ends_at q.end recs
 
 pub one_more_ends : (at : ℕ) (recs : List Rec) (old : ℕ) (r : Rec) → ends_at at recs old ≡ true → old ≤ r.end → ends_at at (recs ++ r ∷ []) r.end ≡ true
 one_more_ends at [] old r e h = join (nat_le at r.end) (r.end == r.end) (to_le at r.end (omega (arith, from_eq at old e, h))) (same_eq r.end)
-one_more_ends at (q ∷ recs) old r e h = let b = both (nat_le at q.end) (ends_at q.end recs old) e in join (nat_le at q.end) (ends_at q.end (recs ++ r ∷ []) r.end) b.0 (one_more_ends q.end recs old r b.1 h)
+one_more_ends at (q ∷ recs) old r e h = let b = both (nat_le at q.end) (ends_at q.end recs old) e in
+    join (nat_le at q.end) (ends_at q.end (recs ++ r ∷ []) r.end) b.0 (one_more_ends q.end recs old r b.1 h)
 
 last_part : (at end : ℕ) (bytes xs : List ℕ) → at ≡ length bytes → end ≡ length bytes + length xs → take (end - at) (drop at (bytes ++ xs)) ≡ xs
 last_part at end bytes xs a h =
@@ -51,7 +53,8 @@ front_part at end bytes xs a h =
 
 pub one_more : (at : ℕ) (recs : List Rec) (bytes xs : List ℕ) (r : Rec) → ends_at at recs (length bytes) ≡ true → r.end ≡ length bytes + length xs
     → frames_from at (recs ++ r ∷ []) (bytes ++ xs) ≡ frames_from at recs bytes ++ record { from = r.from; to = r.to; bytes = xs } ∷ []
-one_more at [] bytes xs r e h = ap (λ (ys : List ℕ). record { from = r.from; to = r.to; bytes = ys } ∷ []) (last_part at r.end bytes xs (from_eq at (length bytes) e) h)
+one_more at [] bytes xs r e h =
+    ap (λ (ys : List ℕ). record { from = r.from; to = r.to; bytes = ys } ∷ []) (last_part at r.end bytes xs (from_eq at (length bytes) e) h)
 one_more at (q ∷ recs) bytes xs r e h =
     let b = both (nat_le at q.end) (ends_at q.end recs (length bytes)) e in
     let first = front_part at q.end bytes xs (from_le at q.end b.0) (below q.end recs (length bytes) b.1) in
@@ -59,15 +62,19 @@ one_more at (q ∷ recs) bytes xs r e h =
     ∙ ap (λ (fs : List Frame). record { from = q.from; to = q.to; bytes = take (q.end - at) (drop at bytes) } ∷ fs) (one_more q.end recs bytes xs r b.1 h)
 
 -- the block after a push
-pub pushed_ends : (recs new : List Rec) (bytes xs all : List ℕ) (r : Rec) → ends_at 0 recs (length bytes) ≡ true → new ≡ recs ++ r ∷ [] → all ≡ bytes ++ xs → r.end ≡ length all → ends_at 0 new (length all) ≡ true
+pub pushed_ends : (recs new : List Rec) (bytes xs all : List ℕ) (r : Rec) → ends_at 0 recs (length bytes) ≡ true → new ≡ recs ++ r ∷ []
+    → all ≡ bytes ++ xs → r.end ≡ length all → ends_at 0 new (length all) ≡ true
 pushed_ends recs new bytes xs all r e n a h =
     let long : length all ≡ length bytes + length xs = ap length a ∙ length-append bytes xs in
-    ap (λ (rs : List Rec). ends_at 0 rs (length all)) n ∙ (ap (λ (k : ℕ). ends_at 0 (recs ++ r ∷ []) k) (sym h) ∙ one_more_ends 0 recs (length bytes) r e (omega (arith, h, long)))
+    ap (λ (rs : List Rec). ends_at 0 rs (length all)) n
+    ∙ (ap (λ (k : ℕ). ends_at 0 (recs ++ r ∷ []) k) (sym h) ∙ one_more_ends 0 recs (length bytes) r e (omega (arith, h, long)))
 
-pub pushed : (recs new : List Rec) (bytes xs all : List ℕ) (r : Rec) → ends_at 0 recs (length bytes) ≡ true → new ≡ recs ++ r ∷ [] → all ≡ bytes ++ xs → r.end ≡ length all
+pub pushed : (recs new : List Rec) (bytes xs all : List ℕ) (r : Rec) → ends_at 0 recs (length bytes) ≡ true → new ≡ recs ++ r ∷ [] → all ≡ bytes ++ xs
+    → r.end ≡ length all
     → frames_from 0 new all ≡ frames_from 0 recs bytes ++ record { from = r.from; to = r.to; bytes = xs } ∷ []
 pushed recs new bytes xs all r e n a h =
-    ap (λ (rs : List Rec). frames_from 0 rs all) n ∙ (ap (λ (ys : List ℕ). frames_from 0 (recs ++ r ∷ []) ys) a ∙ one_more 0 recs bytes xs r e (h ∙ (ap length a ∙ length-append bytes xs)))
+    ap (λ (rs : List Rec). frames_from 0 rs all) n
+    ∙ (ap (λ (ys : List ℕ). frames_from 0 (recs ++ r ∷ []) ys) a ∙ one_more 0 recs bytes xs r e (h ∙ (ap length a ∙ length-append bytes xs)))
 
 -- ---- one of the packets
 
@@ -79,7 +86,8 @@ length-frames at [] bytes = refl
 length-frames at (q ∷ recs) bytes = ap suc (length-frames q.end recs bytes)
 
 pub frame_at : (at : ℕ) (recs : List Rec) (bytes : List ℕ) (i : ℕ) (r : Rec) → slice_get recs i ≡ Some r
-    → slice_get (frames_from at recs bytes) i ≡ Some (record { from = r.from; to = r.to; bytes = take (r.end - start_at at recs i) (drop (start_at at recs i) bytes) })
+    → slice_get (frames_from at recs bytes) i ≡ Some
+    (record { from = r.from; to = r.to; bytes = take (r.end - start_at at recs i) (drop (start_at at recs i) bytes) })
 frame_at at [] bytes i r e = absurd cc
 frame_at at (q ∷ recs) bytes zero r e =
     let same : q ≡ r = cc in
@@ -87,7 +95,8 @@ frame_at at (q ∷ recs) bytes zero r e =
 frame_at at (q ∷ recs) bytes (suc i) r e = frame_at q.end recs bytes i r e
 
 -- where it begins and ends
-pub within_at : (at : ℕ) (recs : List Rec) (end i : ℕ) (r : Rec) → ends_at at recs end ≡ true → slice_get recs i ≡ Some r → (start_at at recs i ≤ r.end) × (r.end ≤ end)
+pub within_at : (at : ℕ) (recs : List Rec) (end i : ℕ) (r : Rec) → ends_at at recs end ≡ true → slice_get recs i ≡ Some r
+    → (start_at at recs i ≤ r.end) × (r.end ≤ end)
 within_at at [] end i r e h = absurd cc
 within_at at (q ∷ recs) end zero r e h =
     let b = both (nat_le at q.end) (ends_at q.end recs end) e in
@@ -118,7 +127,8 @@ start_got recs i r some h e =
     sym (start_behind 0 recs (i - 1) r (got recs (i - 1) r (omega (arith, h, some)) e)) ∙ ap (λ (k : ℕ). start_at 0 recs k) one
 
 -- the packet that a span shows
-pub frame_by : (recs : List Rec) (bytes all : List ℕ) (i : ℕ) (r : Rec) (start end : ℕ) → slice_get recs i ≡ Some r → start ≡ start_at 0 recs i → end ≡ end_of recs i → all ≡ bytes
+pub frame_by : (recs : List Rec) (bytes all : List ℕ) (i : ℕ) (r : Rec) (start end : ℕ) → slice_get recs i ≡ Some r → start ≡ start_at 0 recs i
+    → end ≡ end_of recs i → all ≡ bytes
     → slice_get (frames_from 0 recs bytes) i ≡ Some (record { from = r.from; to = r.to; bytes = take (end - start) (drop start all) })
 frame_by recs bytes all i r start end e a b same =
     let last = b ∙ sym (end_got recs i r e) in

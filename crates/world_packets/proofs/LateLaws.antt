@@ -1,5 +1,6 @@
 -- Packets of a few ticks that are late for good.
-use Rattle.std.proofs.Common.{◌≡◌, ◌<◌, ◌≤◌, ℕ, zero, suc, ◌+◌, ◌-◌, Some, List, [], ◌∷◌, ◌++◌, length, length-append, append_assoc, get_or, drop, drop-cons, refl, sym, ap, ◌∙◌, arith}
+use Rattle.std.proofs.Common.{◌≡◌, ◌<◌, ◌≤◌, ℕ, zero, suc, ◌+◌, ◌-◌, Some, List, [], ◌∷◌, ◌++◌, length, length-append, append_assoc, get_or, drop}
+use Rattle.std.proofs.Common.{drop-cons, refl, sym, ap, ◌∙◌, arith}
 use Rattle.std.specs.Prelude.{replicate, slice_get}
 use Rattle.std.proofs.lemmas.List.{length-replicate}
 use Rattle.world_packets.specs.declared.late_ticks.Later.{Later}
@@ -13,14 +14,16 @@ pub last_more : (tick : ℕ) (ls : List Later) (l : Later) → last_tick tick (l
 last_more tick [] l = refl
 last_more tick (k ∷ ls) l = last_more (tick + k.gap) ls l
 
-later_more : (tick : ℕ) (ls : List Later) (l : Later) → later_kept tick (ls ++ l ∷ []) ≡ later_kept tick ls ++ replicate l.count (LatePacket (last_tick tick ls + l.gap))
+later_more : (tick : ℕ) (ls : List Later) (l : Later) → later_kept tick (ls ++ l ∷ []) ≡ later_kept tick ls
+    ++ replicate l.count (LatePacket (last_tick tick ls + l.gap))
 later_more tick [] l = no_more (replicate l.count (LatePacket (tick + l.gap))) where
   no_more : {A : Type 0} (xs : List A) → xs ++ [] ≡ xs
   no_more [] = refl
   no_more (x ∷ xs) = ap (λ ys. x ∷ ys) (no_more xs)
 later_more tick (k ∷ ls) l =
     ap (λ (xs : List KeptPacket). replicate k.count (LatePacket (tick + k.gap)) ++ xs) (later_more (tick + k.gap) ls l)
-    ∙ sym (append_assoc (replicate k.count (LatePacket (tick + k.gap))) (later_kept (tick + k.gap) ls) (replicate l.count (LatePacket (last_tick tick (k ∷ ls) + l.gap))))
+    ∙ sym (append_assoc (replicate k.count (LatePacket (tick + k.gap))) (later_kept (tick + k.gap) ls)
+    (replicate l.count (LatePacket (last_tick tick (k ∷ ls) + l.gap))))
 
 pub late_more : (tick many : ℕ) (ls : List Later) (l : Later) (now count : ℕ) → last_tick tick ls + l.gap ≡ now → l.count ≡ count
     → late_kept tick many (ls ++ l ∷ []) ≡ late_kept tick many ls ++ replicate count (LatePacket now)
@@ -53,7 +56,8 @@ first_tick tick many ls i h =
     let long = length-replicate many (LatePacket tick) in
     get-left (replicate many (LatePacket tick)) (later_kept tick ls) i (omega (arith, h, long)) ∙ get-same many i (LatePacket tick) h
 
-pub left_first : (tick many : ℕ) (ls : List Later) (i : ℕ) → many ≤ i → i < length (late_kept tick many ls) → IsLeft (late_kept tick many ls) i tick ls (i - many)
+pub left_first : (tick many : ℕ) (ls : List Later) (i : ℕ) → many ≤ i → i < length (late_kept tick many ls)
+    → IsLeft (late_kept tick many ls) i tick ls (i - many)
 left_first tick many ls i h l =
     let long = length-replicate many (LatePacket tick) in
     let two = length-append (replicate many (LatePacket tick)) (later_kept tick ls) in
@@ -66,7 +70,8 @@ module _ (all : List KeptPacket) (i tick : ℕ) (l : Later) (ls : List Later) (l
   pub is_here : left < l.count → slice_get all i ≡ Some (LatePacket (tick + l.gap))
   is_here k =
       let long = length-replicate l.count (LatePacket (tick + l.gap)) in
-      h.same ∙ get-left (replicate l.count (LatePacket (tick + l.gap))) (later_kept (tick + l.gap) ls) left (omega (arith, k, long)) ∙ get-same l.count left (LatePacket (tick + l.gap)) k
+      h.same ∙ get-left (replicate l.count (LatePacket (tick + l.gap))) (later_kept (tick + l.gap) ls) left (omega (arith, k, long))
+      ∙ get-same l.count left (LatePacket (tick + l.gap)) k
 
   pub left_next : l.count ≤ left → IsLeft all i (tick + l.gap) ls (left - l.count)
   left_next k =

@@ -1,5 +1,6 @@
 -- Packets that lie in several parts, one part behind the other.
-use Rattle.std.proofs.Common.{◌≡◌, ◌<◌, ◌≤◌, ℕ, zero, suc, ◌+◌, ◌-◌, true, false, List, [], ◌∷◌, ◌++◌, length, length-append, get_or, refl, sym, ap, ◌∙◌, subst, arith}
+use Rattle.std.proofs.Common.{◌≡◌, ◌<◌, ◌≤◌, ℕ, zero, suc, ◌+◌, ◌-◌, true, false, List, [], ◌∷◌, ◌++◌, length, length-append, get_or, refl, sym, ap}
+use Rattle.std.proofs.Common.{◌∙◌, subst, arith}
 use Rattle.std.specs.Prelude.{◌==◌, nat_le, slice_get}
 use Rattle.std.specs.List.{flat_map, AllWithin}
 use Rattle.std.specs.List.Sorted.{IsPartitionedBy}
@@ -33,7 +34,8 @@ module _ {T : Type 0} (first : T → ℕ) (kept : T → List KeptPacket) where
   head_first : (n : ℕ) (t : T) (ts : List T) (end : ℕ) → firsts_at first kept n (t ∷ ts) end ≡ true → first t ≡ n
   head_first n t ts end e = from_eq (first t) n (both (first t == n) (firsts_at first kept (n + length (kept t)) ts end) e).0
 
-  pub rest_firsts : (n : ℕ) (t : T) (ts : List T) (end : ℕ) → firsts_at first kept n (t ∷ ts) end ≡ true → firsts_at first kept (n + length (kept t)) ts end ≡ true
+  pub rest_firsts : (n : ℕ) (t : T) (ts : List T) (end : ℕ) → firsts_at first kept n (t ∷ ts) end ≡ true
+      → firsts_at first kept (n + length (kept t)) ts end ≡ true
   rest_firsts n t ts end e = (both (first t == n) (firsts_at first kept (n + length (kept t)) ts end) e).1
 
   pub firsts_end : (n : ℕ) (ts : List T) (end : ℕ) → firsts_at first kept n ts end ≡ true → n + length (flat_map kept ts) ≡ end
@@ -43,10 +45,12 @@ module _ {T : Type 0} (first : T → ℕ) (kept : T → List KeptPacket) where
       let two = length-append (kept t) (flat_map kept ts) in
       omega (arith, rest, two)
 
-  pub firsts_push : (n : ℕ) (ts : List T) (end later : ℕ) (t : T) → firsts_at first kept n ts end ≡ true → first t ≡ end → later ≡ end + length (kept t) → firsts_at first kept n (ts ++ t ∷ []) later ≡ true
+  pub firsts_push : (n : ℕ) (ts : List T) (end later : ℕ) (t : T) → firsts_at first kept n ts end ≡ true → first t ≡ end
+      → later ≡ end + length (kept t) → firsts_at first kept n (ts ++ t ∷ []) later ≡ true
   firsts_push n [] end later t e f h =
       let same = from_eq n end e in
-      join (first t == n) (n + length (kept t) == later) (to_eq (first t) n (omega (arith, f, same))) (to_eq (n + length (kept t)) later (omega (arith, h, same)))
+      join (first t == n) (n + length (kept t) == later) (to_eq (first t) n (omega (arith, f, same)))
+      (to_eq (n + length (kept t)) later (omega (arith, h, same)))
   firsts_push n (u ∷ ts) end later t e f h =
       let b = both (first u == n) (firsts_at first kept (n + length (kept u)) ts end) e in
       join (first u == n) (firsts_at first kept (n + length (kept u)) (ts ++ t ∷ []) later) b.0 (firsts_push (n + length (kept u)) ts end later t b.1 f h)
@@ -56,9 +60,11 @@ module _ {T : Type 0} (first : T → ℕ) (kept : T → List KeptPacket) where
   no_less : (n : ℕ) (ts : List T) (end i : ℕ) (d : T) → firsts_at first kept n ts end ≡ true → i < length ts → n ≤ first (get_or ts i d)
   no_less n [] end i d e h = absurd (omega (arith, h))
   no_less n (t ∷ ts) end zero d e h = omega (arith, head_first n t ts end e)
-  no_less n (t ∷ ts) end (suc i) d e h = let rest = no_less (n + length (kept t)) ts end i d (rest_firsts n t ts end e) (omega (arith, h)) in omega (arith, rest)
+  no_less n (t ∷ ts) end (suc i) d e h =
+      let rest = no_less (n + length (kept t)) ts end i d (rest_firsts n t ts end e) (omega (arith, h)) in omega (arith, rest)
 
-  rises : (n : ℕ) (ts : List T) (end i j : ℕ) (d : T) → firsts_at first kept n ts end ≡ true → i ≤ j → j < length ts → first (get_or ts i d) ≤ first (get_or ts j d)
+  rises : (n : ℕ) (ts : List T) (end i j : ℕ) (d : T) → firsts_at first kept n ts end ≡ true → i ≤ j → j < length ts
+      → first (get_or ts i d) ≤ first (get_or ts j d)
   rises n [] end i j d e le h = absurd (omega (arith, h))
   rises n (t ∷ ts) end zero j d e le h = let least = no_less n (t ∷ ts) end j d e h in omega (arith, least, head_first n t ts end e)
   rises n (t ∷ ts) end (suc i) zero d e le h = absurd (omega (arith, le))
@@ -70,13 +76,16 @@ module _ {T : Type 0} (first : T → ℕ) (kept : T → List KeptPacket) where
       to_le (first (get_or ts i d)) n (omega (arith, up, from_le (first (get_or ts j d)) n below))
 
   -- before the place of the search there is a part
-  pub some_before : (m n : ℕ) (ts : List T) (end i : ℕ) → firsts_at first kept m ts end ≡ true → m ≤ n → n < end → AllWithin (λ (t : T). nat_le (first t) n ≡ false) ts i (length ts) → 0 < i
+  pub some_before : (m n : ℕ) (ts : List T) (end i : ℕ) → firsts_at first kept m ts end ≡ true → m ≤ n → n < end
+      → AllWithin (λ (t : T). nat_le (first t) n ≡ false) ts i (length ts) → 0 < i
   some_before m n [] end i e from to right = absurd (omega (arith, from_eq m end e, from, to))
-  some_before m n (t ∷ ts) end zero e from to right = absurd (omega (arith, from_gt (first t) n (right 0 t (omega arith) (omega arith)), head_first m t ts end e, from))
+  some_before m n (t ∷ ts) end zero e from to right =
+      absurd (omega (arith, from_gt (first t) n (right 0 t (omega arith) (omega arith)), head_first m t ts end e, from))
   some_before m n (t ∷ ts) end (suc i) e from to right = omega arith
 
   -- the last of these has the packet
-  pub is_in : (m n : ℕ) (ts : List T) (end i : ℕ) (t : T) → firsts_at first kept m ts end ≡ true → m ≤ n → n < end → i ≤ length ts → AllWithin (λ (t : T). nat_le (first t) n ≡ true) ts 0 i
+  pub is_in : (m n : ℕ) (ts : List T) (end i : ℕ) (t : T) → firsts_at first kept m ts end ≡ true → m ≤ n → n < end → i ≤ length ts
+      → AllWithin (λ (t : T). nat_le (first t) n ≡ true) ts 0 i
       → AllWithin (λ (t : T). nat_le (first t) n ≡ false) ts i (length ts) → t ≡ get_or ts (i - 1) t → IsIn first kept ts m n t
   is_in m n [] end i t e from to l left right is = absurd (omega (arith, from_eq m end e, from, to))
   is_in m n (u ∷ ts) end zero t e from to l left right is = absurd (omega (arith, some_before m n (u ∷ ts) end zero e from to right))
@@ -86,9 +95,11 @@ module _ {T : Type 0} (first : T → ℕ) (kept : T → List KeptPacket) where
       subst (IsIn first kept (u ∷ ts) m n) (sym is) (record {
         from = omega (arith, at, from);
         place = omega (arith, at, from, here);
-        same = ap (λ (k : ℕ). slice_get (kept u ++ flat_map kept ts) k) (omega (arith, at)) ∙ get-left (kept u) (flat_map kept ts) (n - first u) (omega (arith, at, from, here));
+        same = ap (λ (k : ℕ). slice_get (kept u ++ flat_map kept ts) k) (omega (arith, at)) ∙ get-left (kept u) (flat_map kept ts) (n - first u)
+            (omega (arith, at, from, here));
       }) where
-        last_of : (us : List T) → firsts_at first kept (m + length (kept u)) us end ≡ true → AllWithin (λ (t : T). nat_le (first t) n ≡ false) us 0 (length us) → n < m + length (kept u)
+        last_of : (us : List T) → firsts_at first kept (m + length (kept u)) us end ≡ true
+            → AllWithin (λ (t : T). nat_le (first t) n ≡ false) us 0 (length us) → n < m + length (kept u)
         last_of [] b none = omega (arith, from_eq (m + length (kept u)) end b, to)
         last_of (v ∷ us) b none = omega (arith, head_first (m + length (kept u)) v us end b, from_gt (first v) n (none 0 v (omega arith) (omega arith)))
   is_in m n (u ∷ []) end (suc (suc i)) t e from to l left right is = absurd (omega (arith, l))

@@ -29,7 +29,8 @@ pub tells_clock : (bytes payload : List ℕ) (packet : WirePacket) → Some (pac
 tells_clock bytes payload packet e = ((packet, payload), sym e, refl)
 
 -- one packet more
-pub adds_more : (reach now : ℕ) (frames : List Frame) (before after : List Old) (i : ℕ) (f : Frame) (o : Old) → AddsOlds reach now (take i frames) before after → slice_get frames i ≡ Some f → IsOld reach now f.to f.bytes o
+pub adds_more : (reach now : ℕ) (frames : List Frame) (before after : List Old) (i : ℕ) (f : Frame) (o : Old)
+    → AddsOlds reach now (take i frames) before after → slice_get frames i ≡ Some f → IsOld reach now f.to f.bytes o
     → AddsOlds reach now (take (i + 1) frames) before (after ++ o ∷ [])
 adds_more reach now frames before after i f o a e is =
     let next : suc i ≡ i + 1 = omega arith in (
@@ -42,7 +43,8 @@ adds_more reach now frames before after i f o a e is =
     assoc [] ys zs = refl
     assoc (x ∷ xs) ys zs = ap (λ (os : List Old). x ∷ os) (assoc xs ys zs)
 
-    more : (frames : List Frame) (olds : List Old) (i : ℕ) → AreOlds reach now (take i frames) olds → slice_get frames i ≡ Some f → AreOlds reach now (take (suc i) frames) (olds ++ o ∷ [])
+    more : (frames : List Frame) (olds : List Old) (i : ℕ) → AreOlds reach now (take i frames) olds → slice_get frames i ≡ Some f
+        → AreOlds reach now (take (suc i) frames) (olds ++ o ∷ [])
     more [] olds i h e = absurd cc
     more (g ∷ frames) [] zero h e = let same : f ≡ g = cc in (subst (λ (x : Frame). IsOld reach now x.to x.bytes o) same is, tt)
     more (g ∷ frames) (p ∷ olds) zero h e = absurd h
@@ -55,11 +57,14 @@ adds_none reach now frames olds = ([], sym (no_more olds), tt) where
   no_more [] = refl
   no_more (o ∷ os) = ap (λ (ps : List Old). o ∷ ps) (no_more os)
 
-pub adds_all : (reach now : ℕ) (frames : List Frame) (before after : List Old) (n : ℕ) → n ≡ length frames → AddsOlds reach now (take n frames) before after → AddsOlds reach now frames before after
-adds_all reach now frames before after n e h = subst (λ (fs : List Frame). AddsOlds reach now fs before after) (ap (λ (k : ℕ). take k frames) e ∙ take-length frames) h
+pub adds_all : (reach now : ℕ) (frames : List Frame) (before after : List Old) (n : ℕ) → n ≡ length frames
+    → AddsOlds reach now (take n frames) before after → AddsOlds reach now frames before after
+adds_all reach now frames before after n e h =
+    subst (λ (fs : List Frame). AddsOlds reach now fs before after) (ap (λ (k : ℕ). take k frames) e ∙ take-length frames) h
 
 -- what was there before
-pub still_before : (reach now : ℕ) (frames : List Frame) (before after : List Old) → AddsOlds reach now frames before after → take (length before) after ≡ before
+pub still_before : (reach now : ℕ) (frames : List Frame) (before after : List Old) → AddsOlds reach now frames before after
+    → take (length before) after ≡ before
 still_before reach now frames before after a = ap (λ (os : List Old). take (length before) os) a.1 ∙ front before a.0 where
   front : (xs ys : List Old) → take (length xs) (xs ++ ys) ≡ xs
   front [] ys = refl
@@ -77,14 +82,17 @@ old_at (p ∷ olds) (suc i) o e = old_at olds i o e
 -- ---- a tick's packets behind those that were too old before
 
 module _ (s : Settings) (now tick : ℕ) (frames : List Frame) where
-  pub takes_late : (before after : List KeptPacket) (n : ℕ) → n ≡ length frames → s.wire ≡ 1 → tick + s.life < now → after ≡ before ++ replicate n (LatePacket tick)
+  pub takes_late : (before after : List KeptPacket) (n : ℕ) → n ≡ length frames → s.wire ≡ 1 → tick + s.life < now
+      → after ≡ before ++ replicate n (LatePacket tick)
       → AllAged s now (before ++ map (WholePacket tick) frames) after
   takes_late before after n e one old is =
       subst (AllAged s now (before ++ map (WholePacket tick) frames)) (sym is)
-      (all_aged-append s now before before (map (WholePacket tick) frames) (replicate n (LatePacket tick)) (all_aged_self s now before) (late_aged s now tick frames n e one old))
+      (all_aged-append s now before before (map (WholePacket tick) frames) (replicate n (LatePacket tick)) (all_aged_self s now before)
+      (late_aged s now tick frames n e one old))
 
   pub takes_stale : (before after : List Old) (reach : ℕ) → s.wire ≡ 2 → reach ≡ s.life + 2 * s.skew → AddsOlds reach now frames before after
       → AllAged s now (olds_kept before ++ map (WholePacket tick) frames) (olds_kept after)
   takes_stale before after reach two far a =
       subst (AllAged s now (olds_kept before ++ map (WholePacket tick) frames)) (sym (ap olds_kept a.1 ∙ olds-append before a.0))
-      (all_aged-append s now (olds_kept before) (olds_kept before) (map (WholePacket tick) frames) (olds_kept a.0) (all_aged_self s now (olds_kept before)) (stale_aged s now tick reach frames a.0 two far a.2))
+      (all_aged-append s now (olds_kept before) (olds_kept before) (map (WholePacket tick) frames) (olds_kept a.0)
+      (all_aged_self s now (olds_kept before)) (stale_aged s now tick reach frames a.0 two far a.2))

@@ -70,10 +70,12 @@ module _ (s : Settings) (now : ℕ) where
 
   no_old-later : (tick : ℕ) (ls : List Later) → HasNoOld s now (later_kept tick ls)
   no_old-later tick [] = tt
-  no_old-later tick (l ∷ ls) = no_old-append (replicate l.count (LatePacket (tick + l.gap))) (later_kept (tick + l.gap) ls) (no_old-late l.count (tick + l.gap)) (no_old-later (tick + l.gap) ls)
+  no_old-later tick (l ∷ ls) = no_old-append (replicate l.count (LatePacket (tick + l.gap))) (later_kept (tick + l.gap) ls)
+      (no_old-late l.count (tick + l.gap)) (no_old-later (tick + l.gap) ls)
 
   no_old-late_ticks : (t : LateTicks) → HasNoOld s now (late_of t)
-  no_old-late_ticks t = no_old-append (replicate t.many (LatePacket t.tick)) (later_kept t.tick t.later.items) (no_old-late t.many t.tick) (no_old-later t.tick t.later.items)
+  no_old-late_ticks t =
+      no_old-append (replicate t.many (LatePacket t.tick)) (later_kept t.tick t.later.items) (no_old-late t.many t.tick) (no_old-later t.tick t.later.items)
 
   no_old-full : (ts : List LateTicks) → HasNoOld s now (flat_map late_of ts)
   no_old-full [] = tt
@@ -84,29 +86,34 @@ module _ (s : Settings) (now : ℕ) where
   no_old-olds (o ∷ olds) = no_old-olds olds
 
   pub no_old-past : (p : Past) → HasNoOld s now (past_kept p)
-  no_old-past (Late lates) = no_old-append (flat_map late_of lates.full.items) (late_of lates.latest) (no_old-full lates.full.items) (no_old-late_ticks lates.latest)
+  no_old-past (Late lates) =
+      no_old-append (flat_map late_of lates.full.items) (late_of lates.latest) (no_old-full lates.full.items) (no_old-late_ticks lates.latest)
   no_old-past (Stale olds) = no_old-olds olds.items
 
   -- ---- the packets of a tick
 
-  pub no_old-one : (tick : ℕ) (frames : List Frame) (i : ℕ) (f : Frame) → slice_get frames i ≡ Some f → IsRecent s now tick f → HasNoOld s now (map (WholePacket tick) frames)
+  pub no_old-one : (tick : ℕ) (frames : List Frame) (i : ℕ) (f : Frame) → slice_get frames i ≡ Some f → IsRecent s now tick f
+      → HasNoOld s now (map (WholePacket tick) frames)
   no_old-one tick [] i f e r = tt
   no_old-one tick (g ∷ frames) i f e r = record { number = i; frame = f; whole = whole_at tick (g ∷ frames) i f e; recent = r }
 
   -- its tick alone says so
-  pub no_old-tick : (tick : ℕ) (frames : List Frame) → (s.wire ≡ 1 → now ≤ tick + s.life) → (s.wire ≡ 2 → now ≤ tick + s.life + 4 * s.skew) → HasNoOld s now (map (WholePacket tick) frames)
+  pub no_old-tick : (tick : ℕ) (frames : List Frame) → (s.wire ≡ 1 → now ≤ tick + s.life) → (s.wire ≡ 2 → now ≤ tick + s.life + 4 * s.skew)
+      → HasNoOld s now (map (WholePacket tick) frames)
   no_old-tick tick [] one two = tt
   no_old-tick tick (f ∷ frames) one two = no_old-one tick (f ∷ frames) 0 f refl (record { in_time = one; not_stale = λ e. inl (two e) })
 
   -- the clock of one of them does
-  pub no_old-clock : (tick reach : ℕ) (frames : List Frame) → s.wire ≡ 2 → reach ≡ s.life + 2 * s.skew → HasNotOld reach now frames → HasNoOld s now (map (WholePacket tick) frames)
+  pub no_old-clock : (tick reach : ℕ) (frames : List Frame) → s.wire ≡ 2 → reach ≡ s.life + 2 * s.skew → HasNotOld reach now frames
+      → HasNoOld s now (map (WholePacket tick) frames)
   no_old-clock tick reach frames two e h = no_old-one tick frames h.0 h.1 h.2 (record {
     in_time = λ one. absurd (omega (arith, one, two));
     not_stale = λ _. inr (λ at tells. omega (arith, h.3 at tells, e));
   })
 
   -- and then there may be more behind them
-  no_old-front : (tick : ℕ) (frames : List Frame) (rest : List KeptPacket) → 0 < length (map (WholePacket tick) frames) → HasNoOld s now (map (WholePacket tick) frames) → HasNoOld s now (map (WholePacket tick) frames ++ rest)
+  no_old-front : (tick : ℕ) (frames : List Frame) (rest : List KeptPacket) → 0 < length (map (WholePacket tick) frames)
+      → HasNoOld s now (map (WholePacket tick) frames) → HasNoOld s now (map (WholePacket tick) frames ++ rest)
   no_old-front tick [] rest l h = absurd (omega (arith, l))
   no_old-front tick (f ∷ frames) rest l h = has_recent-left tick (map (WholePacket tick) (f ∷ frames)) rest h
 
@@ -115,7 +122,8 @@ module _ (s : Settings) (now : ℕ) where
 
   -- ---- all packets
 
-  pub no_old-all : (past : Past) (ts : List Tick) (tick : ℕ) (frames : List Frame) → tick ≡ now → HasNoOld s now (flat_map kept_of ts) → HasNoOld s now (past_kept past ++ flat_map kept_of ts ++ map (WholePacket tick) frames)
+  pub no_old-all : (past : Past) (ts : List Tick) (tick : ℕ) (frames : List Frame) → tick ≡ now → HasNoOld s now (flat_map kept_of ts)
+      → HasNoOld s now (past_kept past ++ flat_map kept_of ts ++ map (WholePacket tick) frames)
   no_old-all past ts tick frames e h =
       no_old-append (past_kept past ++ flat_map kept_of ts) (map (WholePacket tick) frames)
       (no_old-append (past_kept past) (flat_map kept_of ts) (no_old-past past) h)

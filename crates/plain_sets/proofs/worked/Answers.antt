@@ -1,4 +1,5 @@
-use Rattle.plain_sets.proofs.Examples.{map_keys, map_values, map_bytes, two_ranges, joined_ranges, parted_range, count, two_gaps, below_three, from_two, in_no_range, three_in_order, behind_its_own, two_senders}
+use Rattle.plain_sets.proofs.Examples.{map_keys, map_values, map_bytes, two_ranges, joined_ranges, parted_range, count, two_gaps, below_three}
+use Rattle.plain_sets.proofs.Examples.{from_two, in_no_range, three_in_order, behind_its_own, two_senders}
 use Rattle.plain_sets.proofs.worked.Goals as goal
 
 pub returns-clause-map_keys : goal.returns-clause-map_keys

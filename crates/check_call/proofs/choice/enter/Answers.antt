@@ -27,4 +27,5 @@ returns c =
     let m = c.args.message in
     let here : c.place_in-place.result ≡ place_in m ws = c.place_in-place.ensures ∙ ap (place_in m) c.deref.ensures.value in
     let kept : c.retain.new.self.items ≡ not_of sender_of (sender_of m) ws = filter_same _ _ _ (λ x b f' k. search rules) _ _ c.retain.ensures.filtered in
-    c.in_ok-insert.ensures.items ∙ rw (kept, here) ((enters_at m ws).changes (rw (c.deref-2.ensures.value, here) at (sym c.is_blocked.ensures ∙ c.if-is_blocked.false)))
+    c.in_ok-insert.ensures.items
+    ∙ rw (kept, here) ((enters_at m ws).changes (rw (c.deref-2.ensures.value, here) at (sym c.is_blocked.ensures ∙ c.if-is_blocked.false)))

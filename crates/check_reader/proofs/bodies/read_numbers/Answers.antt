@@ -8,13 +8,15 @@ use Rattle.check_reader.proofs.bodies.read_numbers.Goals as goal
 pub returns-in_err-value-clause-value : goal.returns-in_err-value-clause-value
 returns-in_err-value-clause-value c =
     let f = c.from_residual.ensures in
-    rw f (sym (c.loop-n.invariant.value ∙ times-none (number_at (2 ^ 32)) c.loop-n.numbers (length c.loop-n.numbers) c.loop-n.n-index (left c.loop-n.rest) (omega arith) (sym c.in_err-value.ensures.value)))
+    rw f (sym (c.loop-n.invariant.value ∙ times-none (number_at (2 ^ 32)) c.loop-n.numbers (length c.loop-n.numbers) c.loop-n.n-index
+    (left c.loop-n.rest) (omega arith) (sym c.in_err-value.ensures.value)))
 
 pub loop-n-preserved : goal.loop-n-preserved
 loop-n-preserved c = record {
   value =
       rw length-set (c.loop-n.invariant.value
-      ∙ times-more (number_at (2 ^ 32)) c.loop-n.numbers c.loop-n.n-index c.in_ok-value.value (left c.loop-n.rest) (left c.in_ok-value.behind) (omega arith) (sym c.in_ok-value.ensures.value));
+      ∙ times-more (number_at (2 ^ 32)) c.loop-n.numbers c.loop-n.n-index c.in_ok-value.value (left c.loop-n.rest) (left c.in_ok-value.behind)
+      (omega arith) (sym c.in_ok-value.ensures.value));
   shorter = omega (arith, c.in_ok-value.ensures.shorter);
 }
 

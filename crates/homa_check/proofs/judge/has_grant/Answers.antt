@@ -10,7 +10,9 @@ pub returns : goal.returns
 returns c v f =
     let t = c.args.trace.now in
     let g = c.args.grant.now in
-    let chosen = c.deref-2.ensures.value ∙ (c.in_ok-chosen.ensures ∙ ap (λ (l : List Message). take t.settings.overcommit (firsts sender_of (ordered key_of l))) c.deref.ensures.value) in
+    let chosen = c.deref-2.ensures.value
+    ∙ (c.in_ok-chosen.ensures ∙ ap (λ (l : List Message). take t.settings.overcommit (firsts sender_of (ordered key_of l))) c.deref.ensures.value) in
     c.is_granted.ensures
     ∙ (ap (λ (l : List Message). is_grant_among t.settings.window (length l) 0 g l) chosen
-    ∙ granted_is v c.args.host g t.settings.overcommit t.settings.window c.in_ok-messages.messages.items (ap (λ s. s.overcommit) f.kept.settings) (ap (λ s. s.window) f.kept.settings) (c.in_ok-messages.ensures v f))
+    ∙ granted_is v c.args.host g t.settings.overcommit t.settings.window c.in_ok-messages.messages.items (ap (λ s. s.overcommit) f.kept.settings)
+    (ap (λ s. s.window) f.kept.settings) (c.in_ok-messages.ensures v f))

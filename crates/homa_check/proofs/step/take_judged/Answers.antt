@@ -13,7 +13,8 @@ returns-then-are_within-clause-judged c v f small before =
     let k = c.in_ok-take.ensures v f small two.0 two.1 in
     let w = seen v line in
     let kept = both (keeps_window w c.to_test-before.result) (keeps_window w c.to_test.result) (sym (c.are_within.ensures w k.kept) ∙ c.if-are_within.true) in
-    (windows_kept v c.args.trace.now c.take.new.self line f before k (ap (keeps_window w) (sym c.to_test-before.ensures) ∙ kept.0) (ap (keeps_window w) (sym c.to_test.ensures) ∙ kept.1)).1
+    (windows_kept v c.args.trace.now c.take.new.self line f before k (ap (keeps_window w) (sym c.to_test-before.ensures) ∙ kept.0)
+    (ap (keeps_window w) (sym c.to_test.ensures) ∙ kept.1)).1
 
 pub returns-then-are_within-clause-next : goal.returns-then-are_within-clause-next
 returns-then-are_within-clause-next c v f small before none =
@@ -22,7 +23,8 @@ returns-then-are_within-clause-next c v f small before none =
     let k = c.in_ok-take.ensures v f small two.0 two.1 in
     let w = seen v line in
     let kept = both (keeps_window w c.to_test-before.result) (keeps_window w c.to_test.result) (sym (c.are_within.ensures w k.kept) ∙ c.if-are_within.true) in
-    (windows_kept v c.args.trace.now c.take.new.self line f before k (ap (keeps_window w) (sym c.to_test-before.ensures) ∙ kept.0) (ap (keeps_window w) (sym c.to_test.ensures) ∙ kept.1)).0
+    (windows_kept v c.args.trace.now c.take.new.self line f before k (ap (keeps_window w) (sym c.to_test-before.ensures) ∙ kept.0)
+    (ap (keeps_window w) (sym c.to_test.ensures) ∙ kept.1)).0
 
 pub returns-clause-judged : goal.returns-clause-judged
 returns-clause-judged c v f small before =
@@ -30,4 +32,5 @@ returns-clause-judged c v f small before =
     let two = shape_and_once v line before in
     let k = c.in_ok-take.ensures v f small two.0 two.1 in
     let w = seen v line in
-    window_left v c.args.trace.now c.take.new.self line c.to_test-before.result c.to_test.result before (sym (c.are_within.ensures w k.kept) ∙ c.if-are_within.false)
+    window_left v c.args.trace.now c.take.new.self line c.to_test-before.result c.to_test.result before
+    (sym (c.are_within.ensures w k.kept) ∙ c.if-are_within.false)

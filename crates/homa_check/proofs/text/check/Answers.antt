@@ -13,7 +13,9 @@ returns g c =
       verdict = h.verdict;
       yes = IfOk-weaker c.judge_all.result _ _ (λ verdict v bytes n k e. (yes_is bytes n).0 (v bytes k ∙ ap plain_verdict e)) h.verdict;
       end = h.end;
-      no = IfOk-weaker c.judge_all.result _ _ (λ verdict v bytes line clause k e. no_is bytes line (clause_of clause) (v bytes k ∙ ap plain_verdict e)) h.verdict;
+      no =
+          IfOk-weaker c.judge_all.result _ _ (λ verdict v bytes line clause k e. no_is bytes line (clause_of clause) (v bytes k ∙ ap plain_verdict e))
+          h.verdict;
       cut = h.cut;
       read_on = h.read_on;
       risen = h.risen;

@@ -27,14 +27,17 @@ pub returns-in-Some-clause-next : goal.returns-in-Some-clause-next
 returns-in-Some-clause-next g c v f p =
     let got = rw c.in-Line.is at c.in_ok-next.ensures.next in
     line_fails v (reading c.args.lines.now) (reading c.next.new.self) _ _ c.in-Some.clause got c.requires.longest c.requires.limit
-    (sym (ap (option_map clause_of) c.in-Some.is) ∙ (c.in_ok-clause-in-Line.ensures.judged v f (omega (arith, p)) ∙ ap (λ b. judged_text v (entry_of b)) c.bytes.ensures))
+    (sym (ap (option_map clause_of) c.in-Some.is)
+    ∙ (c.in_ok-clause-in-Line.ensures.judged v f (omega (arith, p)) ∙ ap (λ b. judged_text v (entry_of b)) c.bytes.ensures))
 
 pub returns-in-None-clause-next : goal.returns-in-None-clause-next
 returns-in-None-clause-next g c v f p =
     let got = rw c.in-Line.is at c.in_ok-next.ensures.next in
     line_taken v (reading c.args.lines.now) (reading c.next.new.self) _ _ c.step.new.trace got c.requires.longest c.requires.limit
-    (sym (ap (option_map clause_of) c.in-None.is) ∙ (c.in_ok-clause-in-Line.ensures.judged v f (omega (arith, p)) ∙ ap (λ b. judged_text v (entry_of b)) c.bytes.ensures))
-    (subst (λ (b : List ℕ). Follows (seen_text v (entry_of b)) c.step.new.trace) c.bytes.ensures (c.in_ok-clause-in-Line.ensures.next v f (omega (arith, p)) c.in-None.is))
+    (sym (ap (option_map clause_of) c.in-None.is)
+    ∙ (c.in_ok-clause-in-Line.ensures.judged v f (omega (arith, p)) ∙ ap (λ b. judged_text v (entry_of b)) c.bytes.ensures))
+    (subst (λ (b : List ℕ). Follows (seen_text v (entry_of b)) c.step.new.trace) c.bytes.ensures
+    (c.in_ok-clause-in-Line.ensures.next v f (omega (arith, p)) c.in-None.is))
 
 pub returns-in-None-clause-read : goal.returns-in-None-clause-read
 returns-in-None-clause-read g c e =

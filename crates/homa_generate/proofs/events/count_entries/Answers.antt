@@ -10,7 +10,8 @@ pub loop-i-preserved : goal.loop-i-preserved
 loop-i-preserved g c =
     let told = g.P.Playing.told c.args.world.now in
     let inside : c.loop-i.i < length told = omega (arith, c.entries-count.ensures, c.loop-i-test.true) in
-    kind_counted c.args.counts.now c.loop-i.counts c.note_kind.new.self told c.loop-i.i c.kind.result inside c.kind.ensures c.loop-i.invariant c.in_ok-note_kind.ensures.ok
+    kind_counted c.args.counts.now c.loop-i.counts c.note_kind.new.self told c.loop-i.i c.kind.result inside c.kind.ensures c.loop-i.invariant
+    c.in_ok-note_kind.ensures.ok
 
 pub returns : goal.returns
 returns g c =

@@ -18,12 +18,15 @@ loop-number-preserved g c =
       | in-Some w ↦ rw w.fabric-is (record {
         entered = λ v h new.
             let x = w.in-Some.ensures v h in
-            l.invariant.entered v h new ∙ entered_next s v.packets l.number x.0 w.in-Some.packet l.fabric.fabric w.sent.new.self.fabric x.1 x.2 w.sent.ensures.sent;
+            l.invariant.entered v h new ∙ entered_next s v.packets l.number x.0 w.in-Some.packet l.fabric.fabric w.sent.new.self.fabric x.1 x.2
+            w.sent.ensures.sent;
         life = w.sent.ensures.life ∙ l.invariant.life;
         hosts = w.sent.ensures.hosts ∙ l.invariant.hosts;
       })
       | in_default w ↦ rw w.fabric-is (record {
-        entered = λ v h new. absurd (all_shown s v c.args.first l.number new (omega (arith, l.auto)) (omega (arith, c.packets-end.ensures v h, c.loop-number-test.true)) (w.in_default.ensures v h));
+        entered = λ v h new. absurd
+            (all_shown s v c.args.first l.number new (omega (arith, l.auto)) (omega (arith, c.packets-end.ensures v h, c.loop-number-test.true))
+            (w.in_default.ensures v h));
         life = l.invariant.life;
         hosts = l.invariant.hosts;
       })
@@ -33,4 +36,5 @@ pub returns-clause-entered : goal.returns-clause-entered
 returns-clause-entered g c = λ w h new.
     let l = c.loop-number in
     let past : length w.packets ≤ l.number = omega (arith, c.packets-end.ensures w h, c.loop-number-test.false) in
-    sym (l.invariant.entered w h new ∙ ap (λ (xs : List SentPacket). all_sent (g.P.Playing.settings c.args.world.now) l.number xs l.fabric.fabric) (drop_all l.number w.packets past))
+    sym (l.invariant.entered w h new ∙ ap (λ (xs : List SentPacket). all_sent (g.P.Playing.settings c.args.world.now) l.number xs l.fabric.fabric)
+    (drop_all l.number w.packets past))

@@ -9,7 +9,9 @@ abbrev pub invariant-loop-number : goal.invariant-loop-number
 invariant-loop-number g l =
     let p = g.P.Playing in
     record {
-      entered : (w : World) → p.stands l.fn.world w → AreNew (p.settings l.fn.world) w l.fn.first → all_sent (p.settings l.fn.world) l.fn.first (drop l.fn.first w.packets) l.fn.fabric.fabric ≡ all_sent (p.settings l.fn.world) l.number (drop l.number w.packets) l.fabric.fabric;
+      entered : (w : World) → p.stands l.fn.world w → AreNew (p.settings l.fn.world) w l.fn.first
+          → all_sent (p.settings l.fn.world) l.fn.first (drop l.fn.first w.packets) l.fn.fabric.fabric ≡ all_sent (p.settings l.fn.world) l.number
+          (drop l.number w.packets) l.fabric.fabric;
       life : l.fabric.life ≡ l.fn.fabric.life;
       hosts : length l.fabric.fabric.destinations ≡ length l.fn.fabric.fabric.destinations;
     }

@@ -7,7 +7,8 @@ use Rattle.homa_generate.proofs.events.happen.Goals as goal
 pub returns-in-Err-clause-carried : goal.returns-in-Err-clause-carried
 returns-in-Err-clause-carried g c =
     IfOk-weaker c.refused.result _ _
-    (λ done known w h. done_as _ w _ _ _ _ _ _ _ done (one_refused _ w _ _ _ _ _ c.in-Err.fault (c.in-Err.ensures.fault w h) known.1 (c.in-Err.ensures.kept w h) c.in-Err.ensures.allows) (sym known.0))
+    (λ done known w h. done_as _ w _ _ _ _ _ _ _ done
+    (one_refused _ w _ _ _ _ _ c.in-Err.fault (c.in-Err.ensures.fault w h) known.1 (c.in-Err.ensures.kept w h) c.in-Err.ensures.allows) (sym known.0))
     c.refused.ensures
 
 pub returns-clause-carried : goal.returns-clause-carried

@@ -9,7 +9,8 @@ use Rattle.homa_generate.proofs.events.tick.Goals as goal
 
 pub returns-then-not-branch-clause-carried : goal.returns-then-not-branch-clause-carried
 returns-then-not-branch-clause-carried g c = λ w h.
-    then_stopped _ w (bare event.Clock ∷ []) (turns_of 0 c.args.hosts) _ _ _ _ _ (done_as _ w _ _ _ _ _ _ _ _ (c.in_ok-happen.ensures.carried w h) c.if-not-branch.true) (ticks c.args.hosts 1) (one_tick c.args.hosts)
+    then_stopped _ w (bare event.Clock ∷ []) (turns_of 0 c.args.hosts) _ _ _ _ _
+    (done_as _ w _ _ _ _ _ _ _ _ (c.in_ok-happen.ensures.carried w h) c.if-not-branch.true) (ticks c.args.hosts 1) (one_tick c.args.hosts)
 
 pub returns-clause-carried : goal.returns-clause-carried
 returns-clause-carried g c =

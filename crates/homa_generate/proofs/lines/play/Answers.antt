@@ -12,7 +12,8 @@ use Rattle.homa_generate.proofs.lines.play.Goals as goal
 
 pub returns-in_err-show-clause-stopped : goal.returns-in_err-show-clause-stopped
 returns-in_err-show-clause-stopped g c =
-    MatchResult-from_err _ _ _ c.from_residual.ensures.0 (λ _ r at. line_stopped _ (given_of c.args.line.now) r _ _ _ (g.met.P.Playing.allows_none c.args.world.now) c.in_err-show.ensures.err)
+    MatchResult-from_err _ _ _ c.from_residual.ensures.0
+    (λ _ r at. line_stopped _ (given_of c.args.line.now) r _ _ _ (g.met.P.Playing.allows_none c.args.world.now) c.in_err-show.ensures.err)
 
 pub returns-in_err-carry-clause-stopped : goal.returns-in_err-carry-clause-stopped
 returns-in_err-carry-clause-stopped g c =
@@ -21,5 +22,8 @@ returns-in_err-carry-clause-stopped g c =
 
 pub returns-clause-gone : goal.returns-clause-gone
 returns-clause-gone g c = λ r at.
-    line_gone _ (given_of c.args.line.now) _ r _ _ _ _ _ _ c.packets-first.result at refl c.in_ok-show.ensures.ok (c.packets-first.ensures r.world at.world) c.requires.ready.version (made_line c.args.line.now) c.in_ok-carry.ensures.carried
-    (λ w h fresh. c.enter.ensures.entered w h (subst (λ (s : Settings). AreNew s w c.packets-first.result) (sym c.in_ok-carry.ensures.settings) fresh) ∙ ap (λ (s : Settings). all_sent s c.packets-first.result (drop c.packets-first.result w.packets) c.args.progress.now.fabric.fabric) c.in_ok-carry.ensures.settings)
+    line_gone _ (given_of c.args.line.now) _ r _ _ _ _ _ _ c.packets-first.result at refl c.in_ok-show.ensures.ok
+    (c.packets-first.ensures r.world at.world) c.requires.ready.version (made_line c.args.line.now) c.in_ok-carry.ensures.carried
+    (λ w h fresh. c.enter.ensures.entered w h (subst (λ (s : Settings). AreNew s w c.packets-first.result) (sym c.in_ok-carry.ensures.settings) fresh)
+    ∙ ap (λ (s : Settings). all_sent s c.packets-first.result (drop c.packets-first.result w.packets) c.args.progress.now.fabric.fabric)
+    c.in_ok-carry.ensures.settings)

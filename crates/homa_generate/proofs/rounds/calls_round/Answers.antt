@@ -31,8 +31,10 @@ returns-in_err-call-clause-stopped g c =
     let one : calls_a_round - l.counter ≡ suc (calls_a_round - (l.counter + 1)) = omega (arith, c.loop-test.true) in
     MatchResult-from_err _ _ _ c.from_residual.ensures.0
     (λ _ r at.
-    then_stopped s _ _ (calls_round (calls_a_round - (l.counter + 1)) s) one_call r _ _ _ _ _ _ l.invariant.steady.settings (calls_extend (calls_a_round - (l.counter + 1)) s) (call_extends s)
-    (next_call s _ r _ _ _ _ _ (calls_a_round - l.counter) (calls_a_round - (l.counter + 1)) one (ne_eqb _ _ c.if-progress-eq0.false) (l.invariant.gone r at)) c.in_err-call.ensures.stopped)
+    then_stopped s _ _ (calls_round (calls_a_round - (l.counter + 1)) s) one_call r _ _ _ _ _ _ l.invariant.steady.settings
+    (calls_extend (calls_a_round - (l.counter + 1)) s) (call_extends s)
+    (next_call s _ r _ _ _ _ _ (calls_a_round - l.counter) (calls_a_round - (l.counter + 1)) one (ne_eqb _ _ c.if-progress-eq0.false)
+    (l.invariant.gone r at)) c.in_err-call.ensures.stopped)
 
 pub loop-preserved : goal.loop-preserved
 loop-preserved g c =
@@ -43,7 +45,8 @@ loop-preserved g c =
     record {
       gone = λ r at.
           then_gone s _ _ (calls_round (calls_a_round - (l.counter + 1)) s) one_call r _ _ _ _ _ _ _ _ l.invariant.steady.settings
-          (next_call s _ r _ _ _ _ _ (calls_a_round - l.counter) (calls_a_round - (l.counter + 1)) one (ne_eqb _ _ c.if-progress-eq0.false) (l.invariant.gone r at)) e.gone;
+          (next_call s _ r _ _ _ _ _ (calls_a_round - l.counter) (calls_a_round - (l.counter + 1)) one (ne_eqb _ _ c.if-progress-eq0.false)
+          (l.invariant.gone r at)) e.gone;
       steady = steady_on _ _ _ _ _ _ _ _ _ (33 * l.counter) 33 _ l.invariant.steady e.steady (omega arith);
       quiet = e.faulted.quiet ∙ l.invariant.quiet;
       same = g.met.K.Sink.same_on _ _ _ l.invariant.same e.same;

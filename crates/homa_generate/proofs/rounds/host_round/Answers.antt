@@ -22,7 +22,9 @@ returns-in_default-clause-gone g c = λ r at.
     let l = c.loop in
     let one : most_handed - l.counter ≡ suc (most_handed - (l.counter + 1)) = omega (arith, c.loop-test.true) in
     let first = l.invariant.gone r at in
-    round_ended s c.args.to.0 (most_handed - l.counter) (most_handed - (l.counter + 1)) _ r _ _ _ _ _ _ first l.progress.fabric.life c.clock.result one (l.invariant.steady.life ∙ c.requires.ready.life) (c.clock.ensures first.next.world first.stood.world) c.next.ensures.fabric refl refl refl (sym c.next.ensures.number ∙ c.in_default.is)
+    round_ended s c.args.to.0 (most_handed - l.counter) (most_handed - (l.counter + 1)) _ r _ _ _ _ _ _ first l.progress.fabric.life c.clock.result
+    one (l.invariant.steady.life ∙ c.requires.ready.life) (c.clock.ensures first.next.world first.stood.world) c.next.ensures.fabric refl refl refl
+    (sym c.next.ensures.number ∙ c.in_default.is)
 
 pub returns-in_err-play-clause-stopped : goal.returns-in_err-play-clause-stopped
 returns-in_err-play-clause-stopped g c =
@@ -32,8 +34,11 @@ returns-in_err-play-clause-stopped g c =
     MatchResult-from_err _ _ _ c.from_residual.ensures.0
     (λ _ r at.
     let first = l.invariant.gone r at in
-    then_stopped s _ _ (host_round (most_handed - (l.counter + 1)) s c.args.to.0) (deliver c.in-Some.number) r _ _ _ _ _ _ l.invariant.steady.settings (host_extends (most_handed - (l.counter + 1)) s c.args.to.0) (λ x. line_extends s _ x)
-    (packet_handed s c.args.to.0 (most_handed - l.counter) (most_handed - (l.counter + 1)) _ r _ _ _ _ _ _ first l.progress.fabric.life c.clock.result one (l.invariant.steady.life ∙ c.requires.ready.life) (c.clock.ensures first.next.world first.stood.world) c.next.ensures.fabric refl refl refl c.in-Some.number (sym c.next.ensures.number ∙ c.in-Some.is))
+    then_stopped s _ _ (host_round (most_handed - (l.counter + 1)) s c.args.to.0) (deliver c.in-Some.number) r _ _ _ _ _ _ l.invariant.steady.settings
+    (host_extends (most_handed - (l.counter + 1)) s c.args.to.0) (λ x. line_extends s _ x)
+    (packet_handed s c.args.to.0 (most_handed - l.counter) (most_handed - (l.counter + 1)) _ r _ _ _ _ _ _ first l.progress.fabric.life c.clock.result
+    one (l.invariant.steady.life ∙ c.requires.ready.life) (c.clock.ensures first.next.world first.stood.world) c.next.ensures.fabric refl refl refl
+    c.in-Some.number (sym c.next.ensures.number ∙ c.in-Some.is))
     c.in_err-play.ensures.stopped)
 
 pub loop-preserved : goal.loop-preserved
@@ -46,9 +51,13 @@ loop-preserved g c =
       gone = λ r at.
           let first = l.invariant.gone r at in
           then_gone s _ _ (host_round (most_handed - (l.counter + 1)) s c.args.to.0) (deliver c.in-Some.number) r _ _ _ _ _ _ _ _ l.invariant.steady.settings
-          (packet_handed s c.args.to.0 (most_handed - l.counter) (most_handed - (l.counter + 1)) _ r _ _ _ _ _ _ first l.progress.fabric.life c.clock.result one (l.invariant.steady.life ∙ c.requires.ready.life) (c.clock.ensures first.next.world first.stood.world) c.next.ensures.fabric refl refl refl c.in-Some.number (sym c.next.ensures.number ∙ c.in-Some.is))
+          (packet_handed s c.args.to.0 (most_handed - l.counter) (most_handed - (l.counter + 1)) _ r _ _ _ _ _ _ first l.progress.fabric.life
+          c.clock.result one (l.invariant.steady.life ∙ c.requires.ready.life) (c.clock.ensures first.next.world first.stood.world)
+          c.next.ensures.fabric refl refl refl c.in-Some.number (sym c.next.ensures.number ∙ c.in-Some.is))
           e.gone;
-      steady = steady_on _ _ _ _ _ _ _ _ _ (33 * l.counter) 33 _ (steady_on _ _ _ _ _ _ _ _ _ _ 0 _ l.invariant.steady (record { settings = refl; life = c.next.ensures.life; hosts = c.next.ensures.hosts; counted = omega arith }) (omega arith)) e.steady (omega arith);
+      steady = steady_on _ _ _ _ _ _ _ _ _ (33 * l.counter) 33 _
+          (steady_on _ _ _ _ _ _ _ _ _ _ 0 _ l.invariant.steady
+          (record { settings = refl; life = c.next.ensures.life; hosts = c.next.ensures.hosts; counted = omega arith }) (omega arith)) e.steady (omega arith);
       quiet = e.faulted.quiet ∙ l.invariant.quiet;
       same = g.met.K.Sink.same_on _ _ _ l.invariant.same e.same;
     }

@@ -12,7 +12,8 @@ invariant-loop g l =
     let s = p.settings l.fn.world in
     record {
       gone : (r : Generated) → IsAt (holds_of l.fn.progress (k.taken l.fn.sink)) (p.stands l.fn.world) r
-          → HasGone (host_round most_handed s l.fn.to.0) (host_round (most_handed - l.counter) s l.fn.to.0) r (holds_of l.fn.progress (k.taken l.fn.sink)) (holds_of l.progress (k.taken l.sink)) (p.stands l.world) (p.allows l.fn.world) (p.allows l.world);
+          → HasGone (host_round most_handed s l.fn.to.0) (host_round (most_handed - l.counter) s l.fn.to.0) r
+          (holds_of l.fn.progress (k.taken l.fn.sink)) (holds_of l.progress (k.taken l.sink)) (p.stands l.world) (p.allows l.fn.world) (p.allows l.world);
       steady : IsSteady s (p.settings l.world) l.fn.progress l.progress (p.events l.fn.world) (p.events l.world) (33 * l.counter);
       quiet : k.faults l.sink ≡ k.faults l.fn.sink;
       same : k.is_same l.fn.sink l.sink;

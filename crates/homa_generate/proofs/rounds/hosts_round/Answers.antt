@@ -25,7 +25,8 @@ returns-in_err-host_round-clause-stopped g c =
     let one : s.hosts - l.host ≡ suc (s.hosts - (l.host + 1)) = omega (arith, many, c.loop-host-test.true) in
     MatchResult-from_err _ _ _ c.from_residual.ensures.0
     (λ _ r at.
-    then_stopped s _ _ (hosts_round s (l.host + 1) (s.hosts - (l.host + 1))) (λ (o : Settings). host_round most_handed o l.host) r _ _ _ _ _ _ l.invariant.steady.settings (hosts_extend s (l.host + 1) (s.hosts - (l.host + 1))) (host_extends most_handed s l.host)
+    then_stopped s _ _ (hosts_round s (l.host + 1) (s.hosts - (l.host + 1))) (λ (o : Settings). host_round most_handed o l.host) r _ _ _ _ _ _
+    l.invariant.steady.settings (hosts_extend s (l.host + 1) (s.hosts - (l.host + 1))) (host_extends most_handed s l.host)
     (next_host s _ r _ _ _ _ _ l.host (s.hosts - l.host) (s.hosts - (l.host + 1)) one (l.invariant.gone r at)) c.in_err-host_round.ensures.stopped)
 
 pub loop-host-preserved : goal.loop-host-preserved
@@ -37,7 +38,8 @@ loop-host-preserved g c =
     let one : s.hosts - l.host ≡ suc (s.hosts - (l.host + 1)) = omega (arith, many, c.loop-host-test.true) in
     record {
       gone = λ r at.
-          then_gone s _ _ (hosts_round s (l.host + 1) (s.hosts - (l.host + 1))) (λ (o : Settings). host_round most_handed o l.host) r _ _ _ _ _ _ _ _ l.invariant.steady.settings
+          then_gone s _ _ (hosts_round s (l.host + 1) (s.hosts - (l.host + 1))) (λ (o : Settings). host_round most_handed o l.host) r _ _ _ _ _ _ _ _
+          l.invariant.steady.settings
           (next_host s _ r _ _ _ _ _ l.host (s.hosts - l.host) (s.hosts - (l.host + 1)) one (l.invariant.gone r at)) e.gone;
       steady = steady_on _ _ _ _ _ _ _ _ _ (1056000 * l.host) 1056000 _ l.invariant.steady e.steady (omega arith);
       quiet = e.faulted.quiet ∙ l.invariant.quiet;

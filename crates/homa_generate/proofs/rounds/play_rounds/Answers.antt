@@ -26,7 +26,8 @@ returns-in_err-round-clause-stopped g c =
     let one : most_rounds - l.counter ≡ suc k = omega (arith, c.loop-test.true) in
     MatchResult-from_err _ _ _ c.from_residual.ensures.0
     (λ _ r at.
-    then_stopped s _ _ (λ x. by_end k s x (is_over x)) next_round r _ _ _ _ _ _ l.invariant.steady.settings (λ x. end_extends k s x (is_over x) (rounds_extend k s)) (round_extends s)
+    then_stopped s _ _ (λ x. by_end k s x (is_over x)) next_round r _ _ _ _ _ _ l.invariant.steady.settings
+    (λ x. end_extends k s x (is_over x) (rounds_extend k s)) (round_extends s)
     (next_rounds s _ r _ _ _ _ _ (most_rounds - l.counter) k one (l.invariant.gone r at)) c.in_err-round.ensures.stopped)
 
 pub returns-then-is_over-clause-gone : goal.returns-then-is_over-clause-gone
@@ -35,7 +36,8 @@ returns-then-is_over-clause-gone g c = λ r at.
     let l = c.loop in
     let k = most_rounds - (l.counter + 1) in
     let one : most_rounds - l.counter ≡ suc k = omega (arith, c.loop-test.true) in
-    let done = then_gone s _ _ (λ x. by_end k s x (is_over x)) next_round r _ _ _ _ _ _ _ _ l.invariant.steady.settings (next_rounds s _ r _ _ _ _ _ (most_rounds - l.counter) k one (l.invariant.gone r at)) c.in_ok-round.ensures.gone in
+    let done = then_gone s _ _ (λ x. by_end k s x (is_over x)) next_round r _ _ _ _ _ _ _ _ l.invariant.steady.settings
+    (next_rounds s _ r _ _ _ _ _ (most_rounds - l.counter) k one (l.invariant.gone r at)) c.in_ok-round.ensures.gone in
     run_over s _ r _ _ _ _ _ k done (sym (c.is_over.ensures done.next done.stood.world done.stood.left) ∙ c.if-is_over.true)
 
 pub loop-preserved : goal.loop-preserved
@@ -47,7 +49,8 @@ loop-preserved g c =
     let one : most_rounds - l.counter ≡ suc k = omega (arith, c.loop-test.true) in
     record {
       gone = λ r at.
-          let done = then_gone s _ _ (λ x. by_end k s x (is_over x)) next_round r _ _ _ _ _ _ _ _ l.invariant.steady.settings (next_rounds s _ r _ _ _ _ _ (most_rounds - l.counter) k one (l.invariant.gone r at)) e.gone in
+          let done = then_gone s _ _ (λ x. by_end k s x (is_over x)) next_round r _ _ _ _ _ _ _ _ l.invariant.steady.settings
+          (next_rounds s _ r _ _ _ _ _ (most_rounds - l.counter) k one (l.invariant.gone r at)) e.gone in
           run_on s _ r _ _ _ _ _ k done (sym (c.is_over.ensures done.next done.stood.world done.stood.left) ∙ c.if-is_over.false);
       steady = steady_on _ _ _ _ _ _ _ _ _ (40000000 * l.counter) 40000000 _ l.invariant.steady e.steady (omega arith);
       quiet = e.faulted.quiet ∙ l.invariant.quiet;

@@ -13,16 +13,19 @@ pub returns-in_err-play-clause-stopped : goal.returns-in_err-play-clause-stopped
 returns-in_err-play-clause-stopped g c =
     let s = g.P.Playing.settings c.args.world.now in
     MatchResult-from_err _ _ _ c.from_residual.ensures.0
-    (λ _ r at. then_stopped s _ _ (after_tick s) (λ (o : Settings). with_line o (GivenTicks 1)) r _ _ _ _ _ _ refl (ticked_extends s) (λ x. line_extends s (GivenTicks 1) x) (round_opens s r _ _ _ at) c.in_err-play.ensures.stopped)
+    (λ _ r at. then_stopped s _ _ (after_tick s) (λ (o : Settings). with_line o (GivenTicks 1)) r _ _ _ _ _ _ refl (ticked_extends s)
+    (λ x. line_extends s (GivenTicks 1) x) (round_opens s r _ _ _ at) c.in_err-play.ensures.stopped)
 
 pub returns-in_err-hosts_round-clause-stopped : goal.returns-in_err-hosts_round-clause-stopped
 returns-in_err-hosts_round-clause-stopped g c =
     let s = g.P.Playing.settings c.args.world.now in
     MatchResult-from_err _ _ _ c.from_residual-in_err-hosts_round.ensures.0
     (λ _ r at.
-    then_stopped s _ _ (calls_round calls_a_round s) (λ (o : Settings). hosts_round o 0 o.hosts) r _ _ _ _ _ _ c.in_ok-play.ensures.steady.settings (calls_extend calls_a_round s) (hosts_extend s 0 s.hosts)
+    then_stopped s _ _ (calls_round calls_a_round s) (λ (o : Settings). hosts_round o 0 o.hosts) r _ _ _ _ _ _ c.in_ok-play.ensures.steady.settings
+    (calls_extend calls_a_round s) (hosts_extend s 0 s.hosts)
     (budgets_set s _ r _ _ _ _ _ _
-    (then_gone s _ _ (after_tick s) (λ (o : Settings). with_line o (GivenTicks 1)) r _ _ _ _ _ _ _ _ refl (round_opens s r _ _ _ at) c.in_ok-play.ensures.gone) c.begin.ensures.destinations c.begin.ensures.random refl refl refl)
+    (then_gone s _ _ (after_tick s) (λ (o : Settings). with_line o (GivenTicks 1)) r _ _ _ _ _ _ _ _ refl
+    (round_opens s r _ _ _ at) c.in_ok-play.ensures.gone) c.begin.ensures.destinations c.begin.ensures.random refl refl refl)
     c.in_err-hosts_round.ensures.stopped)
 
 pub returns-in_err-calls_round-clause-stopped : goal.returns-in_err-calls_round-clause-stopped
@@ -30,10 +33,12 @@ returns-in_err-calls_round-clause-stopped g c =
     let s = g.P.Playing.settings c.args.world.now in
     MatchResult-from_err _ _ _ c.from_residual-in_err-calls_round.ensures.0
     (λ _ r at.
-    then_stopped s _ _ (λ x. x) (calls_round calls_a_round) r _ _ _ _ _ _ (c.in_ok-hosts_round.ensures.steady.settings ∙ c.in_ok-play.ensures.steady.settings) id_extends (calls_extend calls_a_round s)
+    then_stopped s _ _ (λ x. x) (calls_round calls_a_round) r _ _ _ _ _ _
+    (c.in_ok-hosts_round.ensures.steady.settings ∙ c.in_ok-play.ensures.steady.settings) id_extends (calls_extend calls_a_round s)
     (then_gone s _ _ (calls_round calls_a_round s) (λ (o : Settings). hosts_round o 0 o.hosts) r _ _ _ _ _ _ _ _ c.in_ok-play.ensures.steady.settings
     (budgets_set s _ r _ _ _ _ _ _
-    (then_gone s _ _ (after_tick s) (λ (o : Settings). with_line o (GivenTicks 1)) r _ _ _ _ _ _ _ _ refl (round_opens s r _ _ _ at) c.in_ok-play.ensures.gone) c.begin.ensures.destinations c.begin.ensures.random refl refl refl)
+    (then_gone s _ _ (after_tick s) (λ (o : Settings). with_line o (GivenTicks 1)) r _ _ _ _ _ _ _ _ refl
+    (round_opens s r _ _ _ at) c.in_ok-play.ensures.gone) c.begin.ensures.destinations c.begin.ensures.random refl refl refl)
     c.in_ok-hosts_round.ensures.gone)
     c.in_err-calls_round.ensures.stopped)
 
@@ -43,6 +48,7 @@ returns-clause-gone g c = λ r at.
     then_gone s _ _ (λ x. x) (calls_round calls_a_round) r _ _ _ _ _ _ _ _ (c.in_ok-hosts_round.ensures.steady.settings ∙ c.in_ok-play.ensures.steady.settings)
     (then_gone s _ _ (calls_round calls_a_round s) (λ (o : Settings). hosts_round o 0 o.hosts) r _ _ _ _ _ _ _ _ c.in_ok-play.ensures.steady.settings
     (budgets_set s _ r _ _ _ _ _ _
-    (then_gone s _ _ (after_tick s) (λ (o : Settings). with_line o (GivenTicks 1)) r _ _ _ _ _ _ _ _ refl (round_opens s r _ _ _ at) c.in_ok-play.ensures.gone) c.begin.ensures.destinations c.begin.ensures.random refl refl refl)
+    (then_gone s _ _ (after_tick s) (λ (o : Settings). with_line o (GivenTicks 1)) r _ _ _ _ _ _ _ _ refl
+    (round_opens s r _ _ _ at) c.in_ok-play.ensures.gone) c.begin.ensures.destinations c.begin.ensures.random refl refl refl)
     c.in_ok-hosts_round.ensures.gone)
     c.in_ok-calls_round.ensures.gone

@@ -17,7 +17,8 @@ use Rattle.homa_host.proofs.at_server.touched_version.Goals as goal
 touched_by : (d : ServerDid) (place : ℕ) (P : ℕ → Type 0) → d ≡ did.Touched place → P place → IfServerTouched d P
 touched_by d place P e h = subst (λ (d : ServerDid). IfServerTouched d P) (sym e) h
 
-arrives_in : (piece : Option Piece) (pool : Pool) (state : HeldState) (part : Part) → Some part ≡ state_part state → version_in_state piece (seen_state pool state) ≡ first_version piece
+arrives_in : (piece : Option Piece) (pool : Pool) (state : HeldState) (part : Part) → Some part ≡ state_part state
+    → version_in_state piece (seen_state pool state) ≡ first_version piece
 arrives_in piece pool (Arriving service held base count) part e = refl
 arrives_in piece pool (Keeping response release) part e = cc
 arrives_in piece pool (Answering response out order base count) part e = cc
@@ -46,4 +47,5 @@ returns-in_err-_arrives c = λ p pool id r head. touched_by c.args.did.now c.in-
 pub returns : goal.returns
 returns c = λ p pool id r head. touched_by c.args.did.now c.in-Touched.place _ c.in-Touched.is (λ stands.
     head_version p.body p.payload c.in_ok-head.field-0 (sym c.in_ok-head.was ∙ head)
-    ∙ sym (arrives_in (piece_in p.body p.payload) pool r.state c.in_ok-_arrives._arrives.now (let e = c.incoming.ensures id r stands in let f = c.in_ok-_arrives.was in cc)))
+    ∙ sym (arrives_in (piece_in p.body p.payload) pool r.state c.in_ok-_arrives._arrives.now
+    (let e = c.incoming.ensures id r stands in let f = c.in_ok-_arrives.was in cc)))

@@ -7,5 +7,6 @@ use Rattle.homa_host.proofs.outcome.new_end_of.Goals as goal
 
 pub returns-clause-end : goal.returns-clause-end
 returns-clause-end c = λ pool inside.
-    let arrived : c.arrived.result ≡ len (seen pool c.args.part.now).bytes = c.arrived.ensures.seen pool inside ∙ len-key_set (seen pool c.args.part.now).bytes in
+    let arrived : c.arrived.result ≡ len (seen pool c.args.part.now).bytes =
+    c.arrived.ensures.seen pool inside ∙ len-key_set (seen pool c.args.part.now).bytes in
     c.min.ensures ∙ (λ i. min (c.len.ensures.value i) (arrived i + c.args.window))

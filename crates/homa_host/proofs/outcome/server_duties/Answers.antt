@@ -17,7 +17,9 @@ arriving_part pool (Keeping response release) = refl
 arriving_part pool (Answering response out order base count) = refl
 arriving_part pool (Gone until) = refl
 
-waiting_reply : (pool : Pool) (state : HeldState) → option_and_then (λ (o : OutFacts). cond o.waiting (Some (record { left = o.left; order = o.order })) None) (out_facts state) ≡ reply_duty (seen_state pool state)
+waiting_reply : (pool : Pool) (state : HeldState)
+    → option_and_then (λ (o : OutFacts). cond o.waiting (Some (record { left = o.left; order = o.order })) None) (out_facts state) ≡ reply_duty
+    (seen_state pool state)
 waiting_reply pool (Arriving service part base count) = refl
 waiting_reply pool (Keeping response release) = refl
 waiting_reply pool (Answering response out order base count) = refl
@@ -28,7 +30,11 @@ returns c id r pool stands are =
     let facts = c.row-facts.ensures.facts id r stands in
     let part = c.incoming.ensures id r stands in
     let within = subst (IsInPool pool) (sym part) (in_pool c.args.servers.now.rows c.args.place id r stands pool are) in
-    let timer = c.deadline_of.ensures ∙ ap (λ (f : RowFacts). timer_duty f.order c.deadline.result) facts ∙ ap (timer_duty r.order) (c.deadline.ensures id r pool stands are) in
-    let arrival = c.arrival_of.ensures pool within ∙ ap (λ (o : Option Part). arrival_duty (seen_part pool o)) part ∙ ap arrival_duty (arriving_part pool r.state) in
-    let waiting = c.waiting_of.ensures ∙ ap (λ (f : RowFacts). option_and_then (λ (o : OutFacts). cond o.waiting (Some (record { left = o.left; order = o.order })) None) f.out) facts ∙ waiting_reply pool r.state in
+    let timer = c.deadline_of.ensures ∙ ap (λ (f : RowFacts). timer_duty f.order c.deadline.result) facts
+    ∙ ap (timer_duty r.order) (c.deadline.ensures id r pool stands are) in
+    let arrival =
+    c.arrival_of.ensures pool within ∙ ap (λ (o : Option Part). arrival_duty (seen_part pool o)) part ∙ ap arrival_duty (arriving_part pool r.state) in
+    let waiting = c.waiting_of.ensures
+    ∙ ap (λ (f : RowFacts). option_and_then (λ (o : OutFacts). cond o.waiting (Some (record { left = o.left; order = o.order })) None) f.out) facts
+    ∙ waiting_reply pool r.state in
     λ i. record { timer = timer i; arrival = arrival i; waiting = waiting i }

@@ -22,19 +22,24 @@ returns-then-not-has_all-clause-same_pool c = λ e.
     absurd (omega (
       arith,
       c.remove.ensures.too_many.0 e,
-      ranges_few c.args.missing.now c.args.offset (c.args.offset + length c.args.bytes.now) (omega (arith, c.requires.some)) (λ all. true≢false (sym (c.has_all.ensures.all.1 all) ∙ c.if-not-has_all.true)),
+      ranges_few c.args.missing.now c.args.offset (c.args.offset + length c.args.bytes.now) (omega (arith, c.requires.some))
+          (λ all. true≢false (sym (c.has_all.ensures.all.1 all) ∙ c.if-not-has_all.true)),
       c.requires.few,
     ))
 
 pub returns-in-Count-clause-bytes : goal.returns-in-Count-clause-bytes
 returns-in-Count-clause-bytes c =
-    let fits : c.args.offset + length c.args.bytes.now ≤ length (bytes_of c.args.pool.now c.args.lease.now) = omega (arith, c.requires.fits, length-bytes_of c.args.pool.now c.args.lease.now c.requires.lease) in
+    let fits : c.args.offset + length c.args.bytes.now ≤ length (bytes_of c.args.pool.now c.args.lease.now) =
+    omega (arith, c.requires.fits, length-bytes_of c.args.pool.now c.args.lease.now c.requires.lease) in
     anyway c.remove-changed.result _
-    (subst (λ (xs : List ℕ). IsFilled c.args.missing.now c.args.offset (c.args.offset + length c.args.bytes.now) c.args.bytes.now (bytes_of c.args.pool.now c.args.lease.now) xs)
+    (subst (λ (xs : List ℕ). IsFilled c.args.missing.now c.args.offset (c.args.offset + length c.args.bytes.now) c.args.bytes.now
+    (bytes_of c.args.pool.now c.args.lease.now) xs)
     (sym (pool-written c.args.pool.now c.write.new.self c.args.lease.now _ c.write.ensures))
-    (filled_whole c.args.missing.now c.args.offset c.args.bytes.now (bytes_of c.args.pool.now c.args.lease.now) fits (c.has_all.ensures.all.0 c.if-not-has_all.false)))
+    (filled_whole c.args.missing.now c.args.offset c.args.bytes.now (bytes_of c.args.pool.now c.args.lease.now) fits
+    (c.has_all.ensures.all.0 c.if-not-has_all.false)))
 
 pub returns-in-Count-clause-pool : goal.returns-in-Count-clause-pool
 returns-in-Count-clause-pool c =
     anyway c.remove-changed.result _
-    (c.write.ensures ∙ ap (with_bytes c.args.pool.now c.args.lease.now) (sym (pool-written c.args.pool.now c.write.new.self c.args.lease.now _ c.write.ensures)))
+    (c.write.ensures ∙ ap (with_bytes c.args.pool.now c.args.lease.now)
+    (sym (pool-written c.args.pool.now c.write.new.self c.args.lease.now _ c.write.ensures)))

@@ -20,13 +20,19 @@ pub loop-from-preserved : goal.loop-from-preserved
 loop-from-preserved c =
     let inv = c.loop-from.invariant in
     let within = c.in-Some.ensures.within in
-    let next = next_is c.args.missing.now c.loop-from.from (c.args.offset + length c.args.bytes.now) (c.in-Some.first, c.in-Some.after) c.in-Some.ensures.value in
-    let fits : c.args.offset + length c.args.bytes.now ≤ length (bytes_of c.args.pool.now c.args.lease.now) = omega (arith, c.requires.fits, length-bytes_of c.args.pool.now c.args.lease.now c.requires.lease) in
+    let next =
+    next_is c.args.missing.now c.loop-from.from (c.args.offset + length c.args.bytes.now) (c.in-Some.first, c.in-Some.after) c.in-Some.ensures.value in
+    let fits : c.args.offset + length c.args.bytes.now ≤ length (bytes_of c.args.pool.now c.args.lease.now) =
+    omega (arith, c.requires.fits, length-bytes_of c.args.pool.now c.args.lease.now c.requires.lease) in
     let now = pool-written c.loop-from.pool c.write.new.self c.args.lease.now _ c.write.ensures in
-    let pool : c.write.new.self ≡ with_bytes c.args.pool.now c.args.lease.now (bytes_of c.write.new.self c.args.lease.now) = pool-again c.args.pool.now c.loop-from.pool c.write.new.self c.args.lease.now _ inv.pool c.write.ensures in
-    let filled : IsFilled c.args.missing.now c.args.offset c.in-Some.after c.args.bytes.now (bytes_of c.args.pool.now c.args.lease.now) (bytes_of c.write.new.self c.args.lease.now) =
+    let pool : c.write.new.self ≡ with_bytes c.args.pool.now c.args.lease.now (bytes_of c.write.new.self c.args.lease.now) =
+    pool-again c.args.pool.now c.loop-from.pool c.write.new.self c.args.lease.now _ inv.pool c.write.ensures in
+    let filled : IsFilled c.args.missing.now c.args.offset c.in-Some.after c.args.bytes.now (bytes_of c.args.pool.now c.args.lease.now)
+    (bytes_of c.write.new.self c.args.lease.now) =
     subst (λ (xs : List ℕ). IsFilled c.args.missing.now c.args.offset c.in-Some.after c.args.bytes.now (bytes_of c.args.pool.now c.args.lease.now) xs) (sym now)
-    (filled_more c.args.missing.now c.args.offset c.loop-from.from c.in-Some.first c.in-Some.after c.args.bytes.now (bytes_of c.args.pool.now c.args.lease.now) (bytes_of c.loop-from.pool c.args.lease.now) inv.filled inv.low within.0 within.1 within.2 fits next.none next.all) in
+    (filled_more c.args.missing.now c.args.offset c.loop-from.from c.in-Some.first c.in-Some.after c.args.bytes.now
+    (bytes_of c.args.pool.now c.args.lease.now) (bytes_of c.loop-from.pool c.args.lease.now) inv.filled inv.low within.0 within.1 within.2 fits
+    next.none next.all) in
     record {
       low = omega (arith, inv.low, within.0, within.1);
       high = within.2;

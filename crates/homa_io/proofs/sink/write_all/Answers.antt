@@ -21,7 +21,8 @@ returns-in_err-written g c =
 
 pub loop-written-preserved : goal.loop-written-preserved
 loop-written-preserved g c = record {
-  so_far = part_taken _ _ _ c.args.bytes.now c.loop-written.written c.in_ok-written.field-0 c.loop-written.invariant.so_far (rw take_rest at c.in_ok-written.ensures.taken);
+  so_far = part_taken _ _ _ c.args.bytes.now c.loop-written.written c.in_ok-written.field-0 c.loop-written.invariant.so_far
+      (rw take_rest at c.in_ok-written.ensures.taken);
   within = omega (arith, c.in_ok-written.ensures.fits, length-drop c.loop-written.written c.args.bytes.now);
   quiet = c.in_ok-written.ensures.quiet ∙ c.loop-written.invariant.quiet;
   same = g.met.K.Sink.same_on _ _ _ c.loop-written.invariant.same c.in_ok-written.ensures.same;

@@ -6,4 +6,5 @@ returns-in_err-from-clause-range c = rw (c.from_residual.ensures, ← c.self.vie
 
 pub returns-clause-range : goal.returns-clause-range
 returns-clause-range c =
-    rw (c.min.ensures, ← c.self.view_is) (front_some _ c.args.seg c.in_ok-from.from c.in_ok-from.to c.self.invariant.sound c.in_ok-from.ensures.value c.in_ok-from.ensures.within.0)
+    rw (c.min.ensures, ← c.self.view_is)
+    (front_some _ c.args.seg c.in_ok-from.from c.in_ok-from.to c.self.invariant.sound c.in_ok-from.ensures.value c.in_ok-from.ensures.within.0)

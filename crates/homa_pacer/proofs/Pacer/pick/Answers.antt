@@ -17,7 +17,8 @@ returns-in_err-slot-clause-least c =
 pub returns-in_err-slot-clause-none : goal.returns-in_err-slot-clause-none
 returns-in_err-slot-clause-none c =
     let is = c.from_residual.ensures ∙ ap (option_map (λ (x : Item). x.0)) c.in_err-slot.ensures in
-    rw is (subst (λ (p : Pace). IsNone (option_map (λ (x : Item). x.0) (heap.first_of (list_of c.self.inside.heap))) ↔ (p.ready ≡ [])) c.self.view_is (none-first (list_of c.self.inside.heap)))
+    rw is (subst (λ (p : Pace). IsNone (option_map (λ (x : Item). x.0) (heap.first_of (list_of c.self.inside.heap))) ↔ (p.ready ≡ [])) c.self.view_is
+    (none-first (list_of c.self.inside.heap)))
 
 pub returns-clause-least : goal.returns-clause-least
 returns-clause-least c =
@@ -27,12 +28,16 @@ returns-clause-least c =
 
 pub returns-clause-none : goal.returns-clause-none
 returns-clause-none c =
-    let is : Some c.in_ok-slot.slot ≡ option_map (λ (x : Item). x.0) (heap.first_of (list_of c.self.inside.heap)) = ap (option_map (λ (x : Item). x.0)) c.in_ok-slot.ensures in
+    let is : Some c.in_ok-slot.slot ≡ option_map (λ (x : Item). x.0) (heap.first_of (list_of c.self.inside.heap)) =
+    ap (option_map (λ (x : Item). x.0)) c.in_ok-slot.ensures in
     subst (λ (o : Option ℕ). IsNone o ↔ (c.args.self.now.ready ≡ [])) (sym is)
-    (subst (λ (p : Pace). IsNone (option_map (λ (x : Item). x.0) (heap.first_of (list_of c.self.inside.heap))) ↔ (p.ready ≡ [])) c.self.view_is (none-first (list_of c.self.inside.heap)))
+    (subst (λ (p : Pace). IsNone (option_map (λ (x : Item). x.0) (heap.first_of (list_of c.self.inside.heap))) ↔ (p.ready ≡ [])) c.self.view_is
+    (none-first (list_of c.self.inside.heap)))
 
 pub returns-clause-within : goal.returns-clause-within
 returns-clause-within c =
-    let is : Some c.in_ok-slot.slot ≡ option_map (λ (x : Item). x.0) (heap.first_of (list_of c.self.inside.heap)) = ap (option_map (λ (x : Item). x.0)) c.in_ok-slot.ensures in
+    let is : Some c.in_ok-slot.slot ≡ option_map (λ (x : Item). x.0) (heap.first_of (list_of c.self.inside.heap)) =
+    ap (option_map (λ (x : Item). x.0)) c.in_ok-slot.ensures in
     subst (λ (o : Option ℕ). IfSome o (λ slot. slot < c.args.self.now.slots)) (sym is)
-    (subst (λ (p : Pace). IfSome (option_map (λ (x : Item). x.0) (heap.first_of (list_of c.self.inside.heap))) (λ slot. slot < p.slots)) c.self.view_is (within-first (length c.self.inside.heap.cells) (list_of c.self.inside.heap) c.self.invariant.within))
+    (subst (λ (p : Pace). IfSome (option_map (λ (x : Item). x.0) (heap.first_of (list_of c.self.inside.heap))) (λ slot. slot < p.slots))
+    c.self.view_is (within-first (length c.self.inside.heap.cells) (list_of c.self.inside.heap) c.self.invariant.within))

@@ -3,7 +3,8 @@ use Rattle.std.proofs.lemmas.List.{get_or_past}
 use Rattle.homa_record.proofs.store.grow.Goals as goal
 
 -- a list of numbers that is filled up with 0 is the same at each place
-filled : (old new : List ℕ) (n : ℕ) → length old < n → length new ≡ n → ((k d : ℕ) → k < n → k < length old → get_or new k d ≡ get_or old k d) → ((k d : ℕ) → length old ≤ k → k < n → get_or new k d ≡ 0)
+filled : (old new : List ℕ) (n : ℕ) → length old < n → length new ≡ n → ((k d : ℕ) → k < n → k < length old → get_or new k d ≡ get_or old k d)
+    → ((k d : ℕ) → length old ≤ k → k < n → get_or new k d ≡ 0)
     → (b : ℕ) → get_or new b 0 ≡ get_or old b 0
 filled old new n few len same more b = elim (below b (length old)) [
   | inl h ↦ same b 0 (omega (arith, h, few)) h

@@ -21,4 +21,5 @@ pub returns-clause-refused : goal.returns-clause-refused
 returns-clause-refused g c =
     let first = c.in_ok-answer.ensures.played (ap Ok (is_none c.in_ok-answer.answer (sym c.is_some.ensures ∙ c.if-is_some.false))) in
     if_some c.in_ok-turned.turned _ _ c.in_ok-turned.ensures.refused
-    (λ fault r w h. then_refused _ _ _ _ _ _ _ _ _ _ _ c.in_ok-answer.ensures.settings (first w h) [] (tick_of c.args.hosts) fault (sym (append-nil (tick_of c.args.hosts))) r)
+    (λ fault r w h. then_refused _ _ _ _ _ _ _ _ _ _ _ c.in_ok-answer.ensures.settings (first w h) [] (tick_of c.args.hosts) fault
+    (sym (append-nil (tick_of c.args.hosts))) r)

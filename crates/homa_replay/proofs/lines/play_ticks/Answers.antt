@@ -16,14 +16,16 @@ pub returns-then-is_some-clause-refused : goal.returns-then-is_some-clause-refus
 returns-then-is_some-clause-refused g c =
     let l = c.loop-tick in
     if_some c.in_ok-answer.answer _ _ c.in_ok-answer.ensures.refused
-    (λ fault r w h. then_refused _ _ _ _ _ _ _ _ _ _ _ l.invariant.settings (l.invariant.played w h) (ticks c.args.hosts (c.args.n - (l.tick + 1))) (ticks c.args.hosts c.args.n) fault (around_tick c.args.hosts l.tick c.args.n c.loop-tick-test.true) r)
+    (λ fault r w h. then_refused _ _ _ _ _ _ _ _ _ _ _ l.invariant.settings (l.invariant.played w h) (ticks c.args.hosts (c.args.n - (l.tick + 1)))
+    (ticks c.args.hosts c.args.n) fault (around_tick c.args.hosts l.tick c.args.n c.loop-tick-test.true) r)
 
 pub loop-tick-preserved : goal.loop-tick-preserved
 loop-tick-preserved g c =
     let l = c.loop-tick in
     let e = c.in_ok-answer.ensures in
     record {
-      played = λ w h. then_played _ _ _ _ _ _ _ _ _ _ _ l.invariant.settings (l.invariant.played w h) _ _ (ticks c.args.hosts (l.tick + 1)) (next_tick c.args.hosts l.tick) (e.played (ap Ok (is_none c.in_ok-answer.answer (sym c.is_some.ensures ∙ c.if-is_some.false))));
+      played = λ w h. then_played _ _ _ _ _ _ _ _ _ _ _ l.invariant.settings (l.invariant.played w h) _ _ (ticks c.args.hosts (l.tick + 1))
+          (next_tick c.args.hosts l.tick) (e.played (ap Ok (is_none c.in_ok-answer.answer (sym c.is_some.ensures ∙ c.if-is_some.false))));
       settings = e.settings ∙ l.invariant.settings;
       counted = omega (arith, e.counted, l.invariant.counted);
       quiet = e.quiet ∙ l.invariant.quiet;

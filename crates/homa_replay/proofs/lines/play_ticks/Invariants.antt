@@ -10,7 +10,8 @@ invariant-loop-tick g l =
     let p = g.P.Playing in
     let k = g.K.Sink in
     record {
-      played : (w : World) → p.stands l.fn.world w → ArePlayed (p.settings l.fn.world) w (ticks l.hosts l.tick) (p.stands l.world) (k.taken l.fn.sink) (k.taken l.sink) (p.allows l.fn.world) (p.allows l.world);
+      played : (w : World) → p.stands l.fn.world w → ArePlayed (p.settings l.fn.world) w (ticks l.hosts l.tick) (p.stands l.world) (k.taken l.fn.sink)
+          (k.taken l.sink) (p.allows l.fn.world) (p.allows l.world);
       settings : p.settings l.world ≡ p.settings l.fn.world;
       counted : p.events l.world ≤ p.events l.fn.world + l.tick * (l.hosts + 1);
       quiet : k.faults l.sink ≡ k.faults l.fn.sink;

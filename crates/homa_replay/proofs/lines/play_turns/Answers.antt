@@ -16,14 +16,16 @@ pub returns-then-is_some-clause-refused : goal.returns-then-is_some-clause-refus
 returns-then-is_some-clause-refused g c =
     let l = c.loop-host in
     if_some c.in_ok-answer.answer _ _ c.in_ok-answer.ensures.refused
-    (λ fault r w h. then_refused _ _ _ _ _ _ _ _ _ _ _ l.invariant.settings (l.invariant.played w h) (turns_of (l.host + 1) (c.args.hosts - (l.host + 1))) (turns_of 0 c.args.hosts) fault (around_turn l.host c.args.hosts c.loop-host-test.true) r)
+    (λ fault r w h. then_refused _ _ _ _ _ _ _ _ _ _ _ l.invariant.settings (l.invariant.played w h)
+    (turns_of (l.host + 1) (c.args.hosts - (l.host + 1))) (turns_of 0 c.args.hosts) fault (around_turn l.host c.args.hosts c.loop-host-test.true) r)
 
 pub loop-host-preserved : goal.loop-host-preserved
 loop-host-preserved g c =
     let l = c.loop-host in
     let e = c.in_ok-answer.ensures in
     record {
-      played = λ w h. then_played _ _ _ _ _ _ _ _ _ _ _ l.invariant.settings (l.invariant.played w h) _ _ (turns_of 0 (l.host + 1)) (next_turn l.host) (e.played (ap Ok (is_none c.in_ok-answer.answer (sym c.is_some.ensures ∙ c.if-is_some.false))));
+      played = λ w h. then_played _ _ _ _ _ _ _ _ _ _ _ l.invariant.settings (l.invariant.played w h) _ _ (turns_of 0 (l.host + 1)) (next_turn l.host)
+          (e.played (ap Ok (is_none c.in_ok-answer.answer (sym c.is_some.ensures ∙ c.if-is_some.false))));
       settings = e.settings ∙ l.invariant.settings;
       counted = omega (arith, e.counted, l.invariant.counted);
       quiet = e.quiet ∙ l.invariant.quiet;

@@ -24,7 +24,8 @@ returns-in_err-settings-clause-part g c =
 pub returns-in_default-clause-printed : goal.returns-in_default-clause-printed
 returns-in_default-clause-printed g c =
     let o = g.P.Opens in
-    printed_allowed (replay_of (o.many c.args.boxes)) _ _ _ is_unasked (o.are_allowed c.args.boxes) _ (λ told h. g.met.P.Opens.unasked c.args.boxes told h) (c.in_ok-settings.ensures.refused (ap Ok c.in_default.is) (o.many c.args.boxes))
+    printed_allowed (replay_of (o.many c.args.boxes)) _ _ _ is_unasked (o.are_allowed c.args.boxes) _
+    (λ told h. g.met.P.Opens.unasked c.args.boxes told h) (c.in_ok-settings.ensures.refused (ap Ok c.in_default.is) (o.many c.args.boxes))
 
 pub returns-in_default-clause-front : goal.returns-in_default-clause-front
 returns-in_default-clause-front g c =
@@ -59,8 +60,10 @@ returns-clause-printed g c =
     let read = rw c.in-Some.is at c.in_ok-settings.ensures.opened in
     let line = rw c.in-Some.is at c.in_ok-settings.ensures.line in
     let w = c.in_ok-world.ensures.opened in
-    composed_printed (o.many c.args.boxes) _ _ _ _ _ c.in-Some.settings w.first c.begin.new.reader.place (o.are_allowed c.args.boxes) (g.P.Playing.allows c.in_ok-world.world) read line w.is_first c.in_ok-world.ensures.allows c.in_ok-accepted.accepted
-    (printed_settings _ c.in-Some.settings w.first c.begin.new.reader.place _ _ _ (g.P.Playing.allows c.in_ok-world.world) c.in_ok-accepted.accepted c.in_ok-world.ensures.settings (c.in_ok-accepted.ensures.printed w.first w.stood))
+    composed_printed (o.many c.args.boxes) _ _ _ _ _ c.in-Some.settings w.first c.begin.new.reader.place (o.are_allowed c.args.boxes)
+    (g.P.Playing.allows c.in_ok-world.world) read line w.is_first c.in_ok-world.ensures.allows c.in_ok-accepted.accepted
+    (printed_settings _ c.in-Some.settings w.first c.begin.new.reader.place _ _ _ (g.P.Playing.allows c.in_ok-world.world) c.in_ok-accepted.accepted
+    c.in_ok-world.ensures.settings (c.in_ok-accepted.ensures.printed w.first w.stood))
 
 pub returns-clause-to_end : goal.returns-clause-to_end
 returns-clause-to_end g c =

@@ -32,13 +32,16 @@ pub returns-in_ok-put_refused-in-Err-clause-refused : goal.returns-in_ok-put_ref
 returns-in_ok-put_refused-in-Err-clause-refused g c =
     let limit = ap (λ (r : Script). r.place.limit) c.requires in
     let read = rw c.in-Err.is at c.in_ok-settings.ensures.gives.read in
-    λ _ boxes. begin_refused boxes _ _ _ _ c.in_ok-settings.ensures.taken _ c.line.result c.in-Err.fault (unopened_at _ c.line.result c.read_ahead.new.reader.place _ _ c.in-Err.fault limit c.line.ensures read) c.in_ok-put_refused-in-Err.ensures.ok
+    λ _ boxes. begin_refused boxes _ _ _ _ c.in_ok-settings.ensures.taken _ c.line.result c.in-Err.fault
+    (unopened_at _ c.line.result c.read_ahead.new.reader.place _ _ c.in-Err.fault limit c.line.ensures read) c.in_ok-put_refused-in-Err.ensures.ok
 
 pub returns-in_ok-put_refused-in-Err-clause-front : goal.returns-in_ok-put_refused-in-Err-clause-front
 returns-in_ok-put_refused-in-Err-clause-front g c =
     let limit = ap (λ (r : Script). r.place.limit) c.requires in
     let read = rw c.in-Err.is at c.in_ok-settings.ensures.gives.read in
-    λ _ boxes. begin_refused_cut boxes _ _ _ _ c.in_ok-settings.ensures.taken _ c.line.result c.in-Err.fault (unopened_at _ c.line.result c.read_ahead.new.reader.place _ _ c.in-Err.fault limit c.line.ensures read) (front_whole _ _ _ c.in_ok-put_refused-in-Err.ensures.ok)
+    λ _ boxes. begin_refused_cut boxes _ _ _ _ c.in_ok-settings.ensures.taken _ c.line.result c.in-Err.fault
+    (unopened_at _ c.line.result c.read_ahead.new.reader.place _ _ c.in-Err.fault limit c.line.ensures read)
+    (front_whole _ _ _ c.in_ok-put_refused-in-Err.ensures.ok)
 
 pub returns-in_ok-put_refused-in-Err-clause-behind : goal.returns-in_ok-put_refused-in-Err-clause-behind
 returns-in_ok-put_refused-in-Err-clause-behind g c =

@@ -13,7 +13,8 @@ use Rattle.homa_replay.proofs.Exits.{err_if, stop_of}
 use Rattle.homa_replay.proofs.Fronts.{front_whole}
 use Rattle.homa_replay.proofs.Fars.{far_start, fars_end}
 use Rattle.homa_replay.proofs.Turns.{played_at, refused_at, cut_at}
-use Rattle.homa_replay.proofs.LineSteps.{at_end, at_refusal, at_line, at_cut, line_done, line_refused, line_cut, last_cut, renumbered, few_events, line_on, line_ended, end_left, length-events}
+use Rattle.homa_replay.proofs.LineSteps.{at_end, at_refusal, at_line, at_cut, line_done, line_refused, line_cut, last_cut, renumbered, few_events}
+use Rattle.homa_replay.proofs.LineSteps.{line_on, line_ended, end_left, length-events}
 use Rattle.homa_replay.proofs.schedule.carry_on.Goals as goal
 
 pub lines-init : goal.lines-init
@@ -55,7 +56,8 @@ returns-in_err-put_refused-in-Err-clause-part g c =
     (λ w h. let d = l.invariant.due w h in
     last_cut (left_at s w 0 c.args.reader.now.place) _ _ _ _ _ _ _ (RefusedAt c.line.result (ByScript c.in-Err.fault))
     (renumbered (left_at s w 0 c.args.reader.now.place) _ _ _ _ _ _ c.line.result new.place.number (ByScript c.in-Err.fault) c.line.ensures
-    (at_refusal (left_at s w 0 c.args.reader.now.place) _ _ _ _ _ _ _ _ s d.0 l.events l.reader.place new.place new.operand c.in_ok-next.ensures.taken d.2 c.in-Err.fault next))
+    (at_refusal (left_at s w 0 c.args.reader.now.place) _ _ _ _ _ _ _ _ s d.0 l.events l.reader.place new.place new.operand c.in_ok-next.ensures.taken
+    d.2 c.in-Err.fault next))
     (g.met.P.Playing.allows_none l.world) c.in_err-put_refused-in-Err.ensures.err)
 
 pub returns-in-Err-clause-printed : goal.returns-in-Err-clause-printed
@@ -67,7 +69,8 @@ returns-in-Err-clause-printed g c =
     λ w h. let d = l.invariant.due w h in
     fars_end (left_at s w 0 c.args.reader.now.place) _ _ _ _ _ _ _ (RefusedAt c.line.result (ByScript c.in-Err.fault)) false
     (renumbered (left_at s w 0 c.args.reader.now.place) _ _ _ _ _ _ c.line.result new.place.number (ByScript c.in-Err.fault) c.line.ensures
-    (at_refusal (left_at s w 0 c.args.reader.now.place) _ _ _ _ _ _ _ _ s d.0 l.events l.reader.place new.place new.operand c.in_ok-next.ensures.taken d.2 c.in-Err.fault next))
+    (at_refusal (left_at s w 0 c.args.reader.now.place) _ _ _ _ _ _ _ _ s d.0 l.events l.reader.place new.place new.operand c.in_ok-next.ensures.taken
+    d.2 c.in-Err.fault next))
     (g.met.P.Playing.allows_none l.world) c.in_ok-put_refused-in-Err.ensures.ok refl
 
 pub returns-in_err-put_entry-clause-part : goal.returns-in_err-put_entry-clause-part
@@ -80,7 +83,8 @@ returns-in_err-put_entry-clause-part g c =
     err_if _ _ _ c.from_residual-in_err-put_entry.ensures.1
     (λ w h. let d = l.invariant.due w h in
     last_cut (left_at s w 0 c.args.reader.now.place) _ _ _ _ _ _ _ (Finished l.events)
-    (at_end (left_at s w 0 c.args.reader.now.place) _ _ _ _ _ _ _ _ s d.0 l.events l.reader.place new.place new.operand c.in_ok-next.ensures.taken d.2 c.in-Ok.next ended next)
+    (at_end (left_at s w 0 c.args.reader.now.place) _ _ _ _ _ _ _ _ s d.0 l.events l.reader.place new.place new.operand c.in_ok-next.ensures.taken d.2
+    c.in-Ok.next ended next)
     (g.met.P.Playing.allows_none l.world) c.in_err-put_entry.ensures.err)
 
 pub returns-then-is_end-clause-printed : goal.returns-then-is_end-clause-printed
@@ -92,7 +96,8 @@ returns-then-is_end-clause-printed g c =
     let ended = sym c.is_end.ensures ∙ c.if-is_end.true in
     λ w h. let d = l.invariant.due w h in
     fars_end (left_at s w 0 c.args.reader.now.place) _ _ _ _ _ _ _ (Finished l.events) true
-    (at_end (left_at s w 0 c.args.reader.now.place) _ _ _ _ _ _ _ _ s d.0 l.events l.reader.place new.place new.operand c.in_ok-next.ensures.taken d.2 c.in-Ok.next ended next)
+    (at_end (left_at s w 0 c.args.reader.now.place) _ _ _ _ _ _ _ _ s d.0 l.events l.reader.place new.place new.operand c.in_ok-next.ensures.taken d.2
+    c.in-Ok.next ended next)
     (g.met.P.Playing.allows_none l.world) c.in_ok-put_entry.ensures.ok refl
 
 pub returns-then-is_end-clause-to_end : goal.returns-then-is_end-clause-to_end
@@ -103,7 +108,8 @@ returns-then-is_end-clause-to_end g c =
     let next = rw c.in-Ok.is at c.in_ok-next.ensures.gives.read in
     let ended = sym c.is_end.ensures ∙ c.if-is_end.true in
     λ _ w h bytes e. let d = l.invariant.due w h in
-    end_left (left_at s w 0 c.args.reader.now.place) _ _ _ _ _ _ _ l.reader.place new.place new.operand (left_at s d.0 l.events l.reader.place) c.in-Ok.next d.2 ended next bytes e
+    end_left (left_at s w 0 c.args.reader.now.place) _ _ _ _ _ _ _ l.reader.place new.place new.operand
+    (left_at s d.0 l.events l.reader.place) c.in-Ok.next d.2 ended next bytes e
 
 pub returns-in_err-refused-clause-part : goal.returns-in_err-refused-clause-part
 returns-in_err-refused-clause-part g c =
@@ -117,7 +123,8 @@ returns-in_err-refused-clause-part g c =
     err_if _ _ _ c.from_residual-in_err-refused.ensures.1
     (λ w h. let d = l.invariant.due w h in
     line_cut (left_at s w 0 c.args.reader.now.place) _ _ _ _ _ _ _ s d.0 l.events new.place.number es new.place
-    (at_line (left_at s w 0 c.args.reader.now.place) _ _ _ _ _ _ _ _ s d.0 l.events l.reader.place new.place new.operand c.in_ok-next.ensures.taken d.2 c.in-Ok.next given c.args.hosts going (ap (given_of c.in-Ok.next) (sym c.bytes.ensures.bytes)) (sym c.requires.hosts) next)
+    (at_line (left_at s w 0 c.args.reader.now.place) _ _ _ _ _ _ _ _ s d.0 l.events l.reader.place new.place new.operand c.in_ok-next.ensures.taken
+    d.2 c.in-Ok.next given c.args.hosts going (ap (given_of c.in-Ok.next) (sym c.bytes.ensures.bytes)) (sym c.requires.hosts) next)
     _ (cut_at _ s d.0 _ _ _ l.invariant.settings es _ (c.in_err-refused.ensures.cut d.0 d.1)))
 
 pub returns-in_err-put_refused-clause-part : goal.returns-in_err-put_refused-clause-part
@@ -133,9 +140,11 @@ returns-in_err-put_refused-clause-part g c =
     err_if _ Write _ (stop_of _ _ _ c.from_residual-in_err-put_refused.ensures.1 c.in_err-put_refused.ensures.stop)
     (λ w h. let d = l.invariant.due w h in
     last_cut (left_at s w 0 c.args.reader.now.place) _ _ _ _ _ _ (λ more. more ≡ []) (RefusedAt c.line-in-Some.result (ByWorld c.in-Some.fault))
-    (renumbered (left_at s w 0 c.args.reader.now.place) _ _ _ _ _ (λ more. more ≡ []) c.line-in-Some.result new.place.number (ByWorld c.in-Some.fault) c.line-in-Some.ensures
+    (renumbered (left_at s w 0 c.args.reader.now.place) _ _ _ _ _ (λ more. more ≡ []) c.line-in-Some.result new.place.number
+    (ByWorld c.in-Some.fault) c.line-in-Some.ensures
     (line_refused (left_at s w 0 c.args.reader.now.place) _ _ _ _ _ _ _ s d.0 l.events new.place.number es new.place
-    (at_line (left_at s w 0 c.args.reader.now.place) _ _ _ _ _ _ _ _ s d.0 l.events l.reader.place new.place new.operand c.in_ok-next.ensures.taken d.2 c.in-Ok.next given c.args.hosts going (ap (given_of c.in-Ok.next) (sym c.bytes.ensures.bytes)) (sym c.requires.hosts) next)
+    (at_line (left_at s w 0 c.args.reader.now.place) _ _ _ _ _ _ _ _ s d.0 l.events l.reader.place new.place new.operand c.in_ok-next.ensures.taken
+    d.2 c.in-Ok.next given c.args.hosts going (ap (given_of c.in-Ok.next) (sym c.bytes.ensures.bytes)) (sym c.requires.hosts) next)
     c.in-Some.fault (refused_at _ s d.0 _ _ _ l.invariant.settings es c.in-Some.fault (refused d.0 d.1))))
     refl c.in_err-put_refused.ensures.err)
 
@@ -151,9 +160,11 @@ returns-in-Some-clause-printed g c =
     let refused = rw c.in-Some.is at c.in_ok-refused.ensures.refused in
     λ w h. let d = l.invariant.due w h in
     fars_end (left_at s w 0 c.args.reader.now.place) _ _ _ _ _ (λ more. more ≡ []) _ (RefusedAt c.line-in-Some.result (ByWorld c.in-Some.fault)) false
-    (renumbered (left_at s w 0 c.args.reader.now.place) _ _ _ _ _ (λ more. more ≡ []) c.line-in-Some.result new.place.number (ByWorld c.in-Some.fault) c.line-in-Some.ensures
+    (renumbered (left_at s w 0 c.args.reader.now.place) _ _ _ _ _ (λ more. more ≡ []) c.line-in-Some.result new.place.number
+    (ByWorld c.in-Some.fault) c.line-in-Some.ensures
     (line_refused (left_at s w 0 c.args.reader.now.place) _ _ _ _ _ _ _ s d.0 l.events new.place.number es new.place
-    (at_line (left_at s w 0 c.args.reader.now.place) _ _ _ _ _ _ _ _ s d.0 l.events l.reader.place new.place new.operand c.in_ok-next.ensures.taken d.2 c.in-Ok.next given c.args.hosts going (ap (given_of c.in-Ok.next) (sym c.bytes.ensures.bytes)) (sym c.requires.hosts) next)
+    (at_line (left_at s w 0 c.args.reader.now.place) _ _ _ _ _ _ _ _ s d.0 l.events l.reader.place new.place new.operand c.in_ok-next.ensures.taken
+    d.2 c.in-Ok.next given c.args.hosts going (ap (given_of c.in-Ok.next) (sym c.bytes.ensures.bytes)) (sym c.requires.hosts) next)
     c.in-Some.fault (refused_at _ s d.0 _ _ _ l.invariant.settings es c.in-Some.fault (refused d.0 d.1))))
     refl c.in_ok-put_refused.ensures.ok refl
 
@@ -179,7 +190,8 @@ lines-preserved g c =
             a.next,
             a.stood,
             line_done (left_at s w 0 c.args.reader.now.place) _ _ _ _ _ _ _ s d.0 l.events new.place.number es new.place
-                (at_line (left_at s w 0 c.args.reader.now.place) _ _ _ _ _ _ _ _ s d.0 l.events l.reader.place new.place new.operand e.taken d.2 c.in-Ok.next given c.args.hosts going (ap (given_of c.in-Ok.next) (sym c.bytes.ensures.bytes)) (sym c.requires.hosts) next)
+                (at_line (left_at s w 0 c.args.reader.now.place) _ _ _ _ _ _ _ _ s d.0 l.events l.reader.place new.place new.operand e.taken d.2
+                c.in-Ok.next given c.args.hosts going (ap (given_of c.in-Ok.next) (sym c.bytes.ensures.bytes)) (sym c.requires.hosts) next)
                 _ _ n (length-events c.args.hosts c.in-Ok.next c.bytes.result.now going ∙ sym c.line_events-events.ensures) a,
           );
       took = lines_on _ _ _ _ _ _ l.invariant.took e.took;
@@ -206,7 +218,8 @@ returns-in-Err-clause-front g c =
     (λ w h. let d = l.invariant.due w h in
     last_cut (left_at s w 0 c.args.reader.now.place) _ _ _ _ _ _ _ (RefusedAt c.line.result (ByScript c.in-Err.fault))
     (renumbered (left_at s w 0 c.args.reader.now.place) _ _ _ _ _ _ c.line.result new.place.number (ByScript c.in-Err.fault) c.line.ensures
-    (at_refusal (left_at s w 0 c.args.reader.now.place) _ _ _ _ _ _ _ _ s d.0 l.events l.reader.place new.place new.operand c.in_ok-next.ensures.taken d.2 c.in-Err.fault next))
+    (at_refusal (left_at s w 0 c.args.reader.now.place) _ _ _ _ _ _ _ _ s d.0 l.events l.reader.place new.place new.operand c.in_ok-next.ensures.taken
+    d.2 c.in-Err.fault next))
     (g.met.P.Playing.allows_none l.world) (front_whole _ _ _ c.in_ok-put_refused-in-Err.ensures.ok))
 
 pub returns-then-is_end-clause-front : goal.returns-then-is_end-clause-front
@@ -218,7 +231,8 @@ returns-then-is_end-clause-front g c =
     let ended = sym c.is_end.ensures ∙ c.if-is_end.true in
     (λ w h. let d = l.invariant.due w h in
     last_cut (left_at s w 0 c.args.reader.now.place) _ _ _ _ _ _ _ (Finished l.events)
-    (at_end (left_at s w 0 c.args.reader.now.place) _ _ _ _ _ _ _ _ s d.0 l.events l.reader.place new.place new.operand c.in_ok-next.ensures.taken d.2 c.in-Ok.next ended next)
+    (at_end (left_at s w 0 c.args.reader.now.place) _ _ _ _ _ _ _ _ s d.0 l.events l.reader.place new.place new.operand c.in_ok-next.ensures.taken d.2
+    c.in-Ok.next ended next)
     (g.met.P.Playing.allows_none l.world) (front_whole _ _ _ c.in_ok-put_entry.ensures.ok))
 
 pub returns-in-Some-clause-front : goal.returns-in-Some-clause-front
@@ -233,9 +247,11 @@ returns-in-Some-clause-front g c =
     let refused = rw c.in-Some.is at c.in_ok-refused.ensures.refused in
     (λ w h. let d = l.invariant.due w h in
     last_cut (left_at s w 0 c.args.reader.now.place) _ _ _ _ _ _ (λ more. more ≡ []) (RefusedAt c.line-in-Some.result (ByWorld c.in-Some.fault))
-    (renumbered (left_at s w 0 c.args.reader.now.place) _ _ _ _ _ (λ more. more ≡ []) c.line-in-Some.result new.place.number (ByWorld c.in-Some.fault) c.line-in-Some.ensures
+    (renumbered (left_at s w 0 c.args.reader.now.place) _ _ _ _ _ (λ more. more ≡ []) c.line-in-Some.result new.place.number
+    (ByWorld c.in-Some.fault) c.line-in-Some.ensures
     (line_refused (left_at s w 0 c.args.reader.now.place) _ _ _ _ _ _ _ s d.0 l.events new.place.number es new.place
-    (at_line (left_at s w 0 c.args.reader.now.place) _ _ _ _ _ _ _ _ s d.0 l.events l.reader.place new.place new.operand c.in_ok-next.ensures.taken d.2 c.in-Ok.next given c.args.hosts going (ap (given_of c.in-Ok.next) (sym c.bytes.ensures.bytes)) (sym c.requires.hosts) next)
+    (at_line (left_at s w 0 c.args.reader.now.place) _ _ _ _ _ _ _ _ s d.0 l.events l.reader.place new.place new.operand c.in_ok-next.ensures.taken
+    d.2 c.in-Ok.next given c.args.hosts going (ap (given_of c.in-Ok.next) (sym c.bytes.ensures.bytes)) (sym c.requires.hosts) next)
     c.in-Some.fault (refused_at _ s d.0 _ _ _ l.invariant.settings es c.in-Some.fault (refused d.0 d.1))))
     refl (front_whole _ _ _ c.in_ok-put_refused.ensures.ok))
 
@@ -269,5 +285,6 @@ returns-in-Some-clause-behind g c =
     c.in_ok-put_refused.ensures.ok c.line-in-Some.ensures (lines_on _ _ _ _ _ _ l.invariant.took e.took) e.pending
     (left_at s w 0 c.args.reader.now.place) _ _ _ _
     (line_refused (left_at s w 0 c.args.reader.now.place) _ _ _ _ _ _ _ s d.0 l.events new.place.number es new.place
-    (at_line (left_at s w 0 c.args.reader.now.place) _ _ _ _ _ _ _ _ s d.0 l.events l.reader.place new.place new.operand e.taken d.2 c.in-Ok.next given c.args.hosts going (ap (given_of c.in-Ok.next) (sym c.bytes.ensures.bytes)) (sym c.requires.hosts) next)
+    (at_line (left_at s w 0 c.args.reader.now.place) _ _ _ _ _ _ _ _ s d.0 l.events l.reader.place new.place new.operand e.taken d.2 c.in-Ok.next
+    given c.args.hosts going (ap (given_of c.in-Ok.next) (sym c.bytes.ensures.bytes)) (sym c.requires.hosts) next)
     c.in-Some.fault (refused_at _ s d.0 _ _ _ l.invariant.settings es c.in-Some.fault (refused d.0 d.1)))

@@ -13,7 +13,8 @@ invariant-lines g l =
     let snk = g.K.Sink in
     record {
       due : (first : World) → p.stands l.fn.world first → (w : World) × p.stands l.world w
-          × AreFar (left_at (p.settings l.fn.world) first 0 l.fn.reader.place) (src.left l.fn.source) (src.left l.source) (snk.taken l.fn.sink) (snk.taken l.sink) (p.allows l.fn.world) (p.allows l.world) (left_at (p.settings l.fn.world) w l.events l.reader.place);
+          × AreFar (left_at (p.settings l.fn.world) first 0 l.fn.reader.place) (src.left l.fn.source) (src.left l.source) (snk.taken l.fn.sink)
+          (snk.taken l.sink) (p.allows l.fn.world) (p.allows l.world) (left_at (p.settings l.fn.world) w l.events l.reader.place);
       took : TakesLines l.fn.reader.place l.reader.place (src.left l.fn.source) (src.left l.source);
       settings : p.settings l.world ≡ p.settings l.fn.world;
       started : l.reader.started ≡ true;

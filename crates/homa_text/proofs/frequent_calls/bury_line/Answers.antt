@@ -4,5 +4,7 @@ use Rattle.homa_text.proofs.frequent_calls.bury_line.Goals as goal
 
 pub returns : goal.returns
 returns c =
-    more _ _ _ _ (more _ _ _ _ (more _ _ _ _ (more _ _ _ _ (more _ _ _ _ c.requires c.add.ensures.items) c.add_spaced_host.ensures.items) c.add_spaced_id.ensures.items) c.add_spaced.ensures.items) c.add-2.ensures.items
+    more _ _ _ _ (more _ _ _ _
+    (more _ _ _ _ (more _ _ _ _ (more _ _ _ _ c.requires c.add.ensures.items) c.add_spaced_host.ensures.items) c.add_spaced_id.ensures.items)
+    c.add_spaced.ensures.items) c.add-2.ensures.items
     ∙ bury_text c.args.host c.args.id c.args.until

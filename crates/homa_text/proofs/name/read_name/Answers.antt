@@ -16,5 +16,6 @@ same_option (Some x) = refl
 pub returns : goal.returns
 returns c =
     let word = c.args.word.now in
-    let found = find_from_yields_List (λ name. bytes_eq word (name_word name)) _ _ c.find.result c.find.ensures.ran (YieldsList-from_copied (YieldsList-from_slice names cc)) (λ x b q k. search (rules, tests)) in
+    let found = find_from_yields_List (λ name. bytes_eq word (name_word name)) _ _ c.find.result c.find.ensures.ran
+    (YieldsList-from_copied (YieldsList-from_slice names cc)) (λ x b q k. search (rules, tests)) in
     sym (same_option c.find.result) ∙ found

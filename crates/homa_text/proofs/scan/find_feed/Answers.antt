@@ -8,7 +8,15 @@ use Rattle.homa_text.proofs.InLine.{in_line_start, in_line_then, in_line_more, i
 use Rattle.homa_text.proofs.scan.find_feed.Goals as goal
 
 pub loop-n-init : goal.loop-n-init
-loop-n-init g c = record { line = in_line_start _ _ _ c.clear.ensures.none; room = c.clear.ensures.room; within = omega arith; stays = λ h. (refl, h); quiet = refl; same = g.met.S.Source.same_self _ }
+loop-n-init g c =
+    record {
+      line = in_line_start _ _ _ c.clear.ensures.none;
+      room = c.clear.ensures.room;
+      within = omega arith;
+      stays = λ h. (refl, h);
+      quiet = refl;
+      same = g.met.S.Source.same_self _;
+    }
 
 pub returns-in_err-fill-clause-err : goal.returns-in_err-fill-clause-err
 returns-in_err-fill-clause-err g c =

@@ -5,7 +5,8 @@ use Rattle.homa_timers.proofs.Timers.arm.Goals as goal
 pub invariant_of-self : goal.invariant_of-self
 invariant_of-self c =
     let x : Item = (c.args.slot, record { first = c.args.at; second = c.args.order }) in
-    armed-sound c.self.inside.heap c.replace.new.heap c.args.self.now c.self.view_is c.replace.ensures.cap x c.replace.ensures.list c.requires.order c.requires.slot c.self.invariant
+    armed-sound c.self.inside.heap c.replace.new.heap c.args.self.now c.self.view_is c.replace.ensures.cap x c.replace.ensures.list c.requires.order
+    c.requires.slot c.self.invariant
 
 pub returns-clause-timers : goal.returns-clause-timers
 returns-clause-timers c =

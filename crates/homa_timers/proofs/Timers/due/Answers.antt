@@ -17,7 +17,8 @@ returns-in_err-slot-clause-first c =
 pub returns-in_err-slot-clause-none : goal.returns-in_err-slot-clause-none
 returns-in_err-slot-clause-none c =
     let is = c.from_residual.ensures ∙ ap (due_slot c.args.now) c.in_err-slot.ensures in
-    rw is (subst (λ (a : Armed). IsNone (due_slot c.args.now (heap.first_of (list_of c.self.inside.heap))) ↔ NoneDue c.args.now a.timers) c.self.view_is (due-none c.args.now (list_of c.self.inside.heap) c.self.invariant.in_order))
+    rw is (subst (λ (a : Armed). IsNone (due_slot c.args.now (heap.first_of (list_of c.self.inside.heap))) ↔ NoneDue c.args.now a.timers)
+    c.self.view_is (due-none c.args.now (list_of c.self.inside.heap) c.self.invariant.in_order))
 
 pub returns-clause-first : goal.returns-clause-first
 returns-clause-first c =
@@ -28,9 +29,11 @@ returns-clause-first c =
 pub returns-clause-none : goal.returns-clause-none
 returns-clause-none c =
     let is = c.then_some.ensures ∙ ap (due_slot c.args.now) c.in_ok-slot.ensures in
-    rw is (subst (λ (a : Armed). IsNone (due_slot c.args.now (heap.first_of (list_of c.self.inside.heap))) ↔ NoneDue c.args.now a.timers) c.self.view_is (due-none c.args.now (list_of c.self.inside.heap) c.self.invariant.in_order))
+    rw is (subst (λ (a : Armed). IsNone (due_slot c.args.now (heap.first_of (list_of c.self.inside.heap))) ↔ NoneDue c.args.now a.timers)
+    c.self.view_is (due-none c.args.now (list_of c.self.inside.heap) c.self.invariant.in_order))
 
 pub returns-clause-within : goal.returns-clause-within
 returns-clause-within c =
     let is = c.then_some.ensures ∙ ap (due_slot c.args.now) c.in_ok-slot.ensures in
-    rw is (subst (λ (a : Armed). IfSome (due_slot c.args.now (heap.first_of (list_of c.self.inside.heap))) (λ slot. slot < a.slots)) c.self.view_is (due-within c.args.now (length c.self.inside.heap.cells) (list_of c.self.inside.heap) c.self.invariant.within))
+    rw is (subst (λ (a : Armed). IfSome (due_slot c.args.now (heap.first_of (list_of c.self.inside.heap))) (λ slot. slot < a.slots)) c.self.view_is
+    (due-within c.args.now (length c.self.inside.heap.cells) (list_of c.self.inside.heap) c.self.invariant.within))

@@ -7,7 +7,8 @@ pub print_recording-requires-clause-ready : goal.print_recording-requires-clause
 print_recording-requires-clause-ready g c = record { enough = c.requires.ready.enough; at_most = c.requires.ready.at_most; none = c.requires.ready.none }
 
 pub returns-clause-recorded : goal.returns-clause-recorded
-returns-clause-recorded g c = λ bytes had. rw c.status_of_recorded.ensures (has_recorded _ bytes _ _ _ c.print_recording.result (c.print_recording.ensures.recorded bytes had))
+returns-clause-recorded g c =
+    λ bytes had. rw c.status_of_recorded.ensures (has_recorded _ bytes _ _ _ c.print_recording.result (c.print_recording.ensures.recorded bytes had))
 
 pub returns-clause-command : goal.returns-clause-command
 returns-clause-command g c = λ e. is_command c.print_recording.result (sym c.status_of_recorded.ensures ∙ e)

@@ -14,11 +14,13 @@ use Rattle.host_incoming.proofs.putting.open_by_piece.Goals as goal
 pub put_piece-requires-clause-pool : goal.put_piece-requires-clause-pool
 put_piece-requires-clause-pool c =
     let leased = lease-taken c.args.pool.now c.take.new.self c.in-Ok.lease c.args.size c.in-Ok.ensures.len c.in-Ok.ensures.zeros in
-    begun_in c.take.new.self c.open-part.result c.args.peer c.args.size c.args.order 0 c.min.result c.in-Ok.lease c.open-part.ensures.part leased c.in-Ok.ensures.len
+    begun_in c.take.new.self c.open-part.result c.args.peer c.args.size c.args.order 0 c.min.result c.in-Ok.lease c.open-part.ensures.part leased
+    c.in-Ok.ensures.len
 
 pub put_piece-requires-clause-short : goal.put_piece-requires-clause-short
 put_piece-requires-clause-short c =
-    begun_short c.take.new.self c.open-part.result c.args.peer c.args.size c.args.order 0 c.min.result c.in-Ok.lease c.open-part.ensures.part (omega (arith, c.requires.some, c.requires.fits))
+    begun_short c.take.new.self c.open-part.result c.args.peer c.args.size c.args.order 0 c.min.result c.in-Ok.lease c.open-part.ensures.part
+    (omega (arith, c.requires.some, c.requires.fits))
 
 pub give-requires : goal.give-requires
 give-requires c =
@@ -32,7 +34,8 @@ returns-in-Last c =
     let leased = lease-taken c.args.pool.now c.take.new.self c.in-Ok.lease c.args.size c.in-Ok.ensures.len c.in-Ok.ensures.zeros in
     let lease = begun_lease c.take.new.self c.open-part.result c.args.peer c.args.size c.args.order 0 c.min.result c.in-Ok.lease c.open-part.ensures.part in
     let same : c.close.result ≡ c.in-Ok.lease = c.close.ensures ∙ ap (λ (x : Part). x.lease) c.in-Last.ensures.same_part ∙ lease in
-    let p = begun_seen c.take.new.self c.open-part.result c.args.peer c.args.size c.args.order c.args.unsched c.min.result c.in-Ok.lease c.open-part.ensures.part (c.open-part.ensures.seen c.take.new.self leased) c.min.ensures in
+    let p = begun_seen c.take.new.self c.open-part.result c.args.peer c.args.size c.args.order c.args.unsched c.min.result c.in-Ok.lease
+    c.open-part.ensures.part (c.open-part.ensures.seen c.take.new.self leased) c.min.ensures in
     record {
       enough = enough_if (pages_for c.args.size) (free_pages c.args.pool.now) c.in-Ok.ensures.full.1;
       whole = ap (λ (p : Incoming). is_whole (with_bytes p c.args.offset c.args.bytes.now)) (sym p) ∙ c.in-Last.ensures.whole;
@@ -45,7 +48,8 @@ pub returns-in-Taken : goal.returns-in-Taken
 returns-in-Taken c =
     let leased = lease-taken c.args.pool.now c.take.new.self c.in-Ok.lease c.args.size c.in-Ok.ensures.len c.in-Ok.ensures.zeros in
     let lease = begun_lease c.take.new.self c.open-part.result c.args.peer c.args.size c.args.order 0 c.min.result c.in-Ok.lease c.open-part.ensures.part in
-    let p = begun_seen c.take.new.self c.open-part.result c.args.peer c.args.size c.args.order c.args.unsched c.min.result c.in-Ok.lease c.open-part.ensures.part (c.open-part.ensures.seen c.take.new.self leased) c.min.ensures in
+    let p = begun_seen c.take.new.self c.open-part.result c.args.peer c.args.size c.args.order c.args.unsched c.min.result c.in-Ok.lease
+    c.open-part.ensures.part (c.open-part.ensures.seen c.take.new.self leased) c.min.ensures in
     record {
       enough = enough_if (pages_for c.args.size) (free_pages c.args.pool.now) c.in-Ok.ensures.full.1;
       missing = ap (λ (p : Incoming). is_whole (with_bytes p c.args.offset c.args.bytes.now)) (sym p) ∙ c.in-Taken.ensures.missing;
@@ -53,11 +57,14 @@ returns-in-Taken c =
       short = c.in-Taken.ensures.short;
       length = c.in-Taken.ensures.length ∙ ap (λ (x : Part). x.length) c.open-part.ensures.part;
       moves = begun c.args.pool.now c.take.new.self c.put_piece.new.pool c.open-part.result c.put_piece.new.part c.in-Ok.lease _
-          lease c.in-Taken.ensures.lease c.in-Ok.ensures.fresh c.in-Ok.ensures.zeros c.take.ensures.within c.in-Taken.ensures.moves (sym c.in-Taken.ensures.length) c.in-Taken.ensures.written c.in-Taken.ensures.moves.within;
+          lease c.in-Taken.ensures.lease c.in-Ok.ensures.fresh c.in-Ok.ensures.zeros c.take.ensures.within c.in-Taken.ensures.moves
+          (sym c.in-Taken.ensures.length) c.in-Taken.ensures.written c.in-Taken.ensures.moves.within;
     }
 
 pub unreachable-requires : goal.unreachable-requires
 unreachable-requires c =
     let leased = lease-taken c.args.pool.now c.take.new.self c.in-Ok.lease c.args.size c.in-Ok.ensures.len c.in-Ok.ensures.zeros in
-    let p = begun_seen c.take.new.self c.open-part.result c.args.peer c.args.size c.args.order c.args.unsched c.min.result c.in-Ok.lease c.open-part.ensures.part (c.open-part.ensures.seen c.take.new.self leased) c.min.ensures in
-    true≢false (sym c.in-TooMany.ensures.many ∙ ap (λ (p : Incoming). leaves_too_many_gaps p c.args.offset c.args.bytes.now) p ∙ first_taken c.args.peer c.args.size c.args.order c.args.unsched c.args.offset c.args.bytes.now)
+    let p = begun_seen c.take.new.self c.open-part.result c.args.peer c.args.size c.args.order c.args.unsched c.min.result c.in-Ok.lease
+    c.open-part.ensures.part (c.open-part.ensures.seen c.take.new.self leased) c.min.ensures in
+    true≢false (sym c.in-TooMany.ensures.many ∙ ap (λ (p : Incoming). leaves_too_many_gaps p c.args.offset c.args.bytes.now) p
+    ∙ first_taken c.args.peer c.args.size c.args.order c.args.unsched c.args.offset c.args.bytes.now)

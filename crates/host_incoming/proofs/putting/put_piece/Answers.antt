@@ -37,7 +37,8 @@ returns-in_default c =
     let later = c.accept.ensures.sound in
     let few = few_if c.accept.result (leaves_too_many_gaps p c.args.offset c.args.bytes.now) c.accept.ensures.too_many c.in_default.not-TooManyGaps in
     let some : 0 < p.length - len p.bytes = omega (arith, c.whole_with.ensures.missing, c.requires.short) in
-    let unfinished = not_complete p c.args.offset c.args.bytes.now sound.below c.requires.fits some (sym c.whole_with.ensures.completes ∙ c.if-whole_with.false) in
+    let unfinished =
+    not_complete p c.args.offset c.args.bytes.now sound.below c.requires.fits some (sym c.whole_with.ensures.completes ∙ c.if-whole_with.false) in
     let seen_now = c.accept.ensures.taken few in
     let left = open-missing (seen new after) later.below (ap is_whole seen_now ∙ unfinished) in
     record {
@@ -48,5 +49,6 @@ returns-in_default c =
       length = ap (λ (x : Part). x.length) c.accept.ensures.part;
       lease = ap (λ (x : Part). x.lease) c.accept.ensures.part;
       written = c.accept.ensures.others;
-      moves = written old new part after c.requires.pool c.accept.ensures.pool (ap (λ (x : Part). x.lease) c.accept.ensures.part) (ap (λ (x : Part). x.length) c.accept.ensures.part) c.accept.ensures.others;
+      moves = written old new part after c.requires.pool c.accept.ensures.pool (ap (λ (x : Part). x.lease) c.accept.ensures.part)
+          (ap (λ (x : Part). x.length) c.accept.ensures.part) c.accept.ensures.others;
     }

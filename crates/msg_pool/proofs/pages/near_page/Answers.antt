@@ -11,14 +11,18 @@ behind : (next : List ℕ) (near : Near) (first i : ℕ) → IsNear next near �
 behind next near first i is same = ap (λ p. page_at next p i) (sym is ∙ ap (λ f. page_at next f near.steps) same) ∙ sym (page_at-plus next first near.steps i)
 
 -- and the one that is looked for
-there : (next : List ℕ) (near : Near) (first steps : ℕ) → IsNear next near → near.first ≡ first → near.steps ≤ steps → page_at next near.page (steps - near.steps) ≡ page_at next first steps
+there : (next : List ℕ) (near : Near) (first steps : ℕ) → IsNear next near → near.first ≡ first → near.steps ≤ steps
+    → page_at next near.page (steps - near.steps) ≡ page_at next first steps
 there next near first steps is same low = behind next near first (steps - near.steps) is same ∙ ap (page_at next first) (omega arith)
 
 pub nth_page-page-requires : goal.nth_page-page-requires
-nth_page-page-requires c = λ i h. subst (λ p. p < length c.args.next.now) (sym (behind c.args.next.now c.args.near.now c.args.first i c.requires.near c.if-near-first.true)) (c.requires.chain (c.args.near.now.steps + i) (omega arith))
+nth_page-page-requires c =
+    λ i h. subst (λ p. p < length c.args.next.now) (sym (behind c.args.next.now c.args.near.now c.args.first i c.requires.near c.if-near-first.true))
+    (c.requires.chain (c.args.near.now.steps + i) (omega arith))
 
 pub returns-then-near-steps-clause-page : goal.returns-then-near-steps-clause-page
-returns-then-near-steps-clause-page c = c.nth_page-page.ensures ∙ there c.args.next.now c.args.near.now c.args.first c.args.steps c.requires.near c.if-near-first.true c.if-near-steps.true
+returns-then-near-steps-clause-page c =
+    c.nth_page-page.ensures ∙ there c.args.next.now c.args.near.now c.args.first c.args.steps c.requires.near c.if-near-first.true c.if-near-steps.true
 
 pub returns-then-near-steps-clause-near : goal.returns-then-near-steps-clause-near
 returns-then-near-steps-clause-near c = sym (returns-then-near-steps-clause-page c)

@@ -10,7 +10,9 @@ loop-i-preserved c =
     let page : ℕ → ℕ = page_at c.args.next.now c.args.first in
     let source : ℕ → ℕ = slice_index c.args.bytes.now in
     let order : c.max-from.result ≤ c.min-to.result = omega (arith, c.max-from.ensures, c.min-to.ensures) in
-    let piece : IsPiece page source (byte_at c.loop-i.block) (byte_at c.put_piece.new.self) c.loop-i.page c.loop-i.i c.args.offset (c.args.offset + length c.args.bytes.now) c.max-from.result c.min-to.result = record {
+    let piece : IsPiece page source (byte_at c.loop-i.block) (byte_at c.put_piece.new.self) c.loop-i.page c.loop-i.i c.args.offset
+    (c.args.offset + length c.args.bytes.now) c.max-from.result c.min-to.result =
+    record {
       is_here = c.loop-i.invariant.page;
       is_from = c.max-from.ensures;
       is_to = c.min-to.ensures;

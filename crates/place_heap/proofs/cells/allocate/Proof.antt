@@ -1,5 +1,11 @@
 -- `allocate` makes a block of empty cells of the room that it is given. Assumes `Logic`.
-use Rattle.place_heap.proofs.Walks.{ℕ, ◌*◌, ◌≤◌, ◌<◌, ◌^◌, List, [], ◌∷◌, refl, sym, lit<, w64, arith, None, proved, id⊢, ftrue, flft, named, Val, vint, fact, tables, ‵, raw, ◌⊛◌, some, later, at_ret, ◌$◌, ◌∵◌, !, qed, done, move, keep, drop, use1, use2, split, join, fsplit, fjoin, feq_i, pick, await, rewrite, suffices, frame, whole, agg, enter, of_opd, lit, bin, stop, fld, no_more, and_then, first, exec, returns, alloc_all, pass_all, free_all, look_at, get, get_in, sets, sets_last, lands_as, env, usize, RefOf, yes, Is, lone, owns, uint_vals, uint_Tells, Ptr, block_ptr, ptr_val, ShrRef, shr_vals, shr_Tells, plain, nothing, owned, heard, calls_at, lasts, triple_of, Stays, walk_of, says, stay_dropped, Goes-dropped, ends_at, framed, after}
+use Rattle.place_heap.proofs.Walks.{ℕ, ◌*◌, ◌≤◌, ◌<◌, ◌^◌, List, [], ◌∷◌, refl, sym, lit<, w64, arith, None, proved, id⊢, ftrue, flft, named, Val}
+use Rattle.place_heap.proofs.Walks.{vint, fact, tables, ‵, raw, ◌⊛◌, some, later, at_ret, ◌$◌, ◌∵◌, !, qed, done, move, keep, drop, use1, use2, split}
+use Rattle.place_heap.proofs.Walks.{join, fsplit, fjoin, feq_i, pick, await, rewrite, suffices, frame, whole, agg, enter, of_opd, lit, bin, stop, fld}
+use Rattle.place_heap.proofs.Walks.{no_more, and_then, first, exec, returns, alloc_all, pass_all, free_all, look_at, get, get_in, sets, sets_last}
+use Rattle.place_heap.proofs.Walks.{lands_as, env, usize, RefOf, yes, Is, lone, owns, uint_vals, uint_Tells, Ptr, block_ptr, ptr_val, ShrRef}
+use Rattle.place_heap.proofs.Walks.{shr_vals, shr_Tells, plain, nothing, owned, heard, calls_at, lasts, triple_of, Stays, walk_of, says, stay_dropped}
+use Rattle.place_heap.proofs.Walks.{Goes-dropped, ends_at, framed, after}
 use lib.ListN.{replicate, length-replicate}
 use mathlib.Core.Bool.{true, false}
 use mir.Syntax.{Body, ty_array}
@@ -74,7 +80,8 @@ allocate_spec 𝓤 𝓛 𝓜 𝓡 wired =
     enter ! _ _ _ _ _ $ alloc_all ! (λ l. pass_all ! refl ((tt, tt), ((tt, record { fits = are.1.0.1 }), tt)) $
     let En = env (code.function).locals l in
     let both : Body = head (after 2 (code.function).body) in
-    let Then : After 𝓤 𝓛.H = any_q (after_seq 𝓤 𝓛.H (Wp 𝓤 𝓛.H 𝓣.C 𝓣.Λ En (after 3 (code.function).body) (at_return 𝓤 𝓛.H En (W.post y))) (at_return 𝓤 𝓛.H En (W.post y))) in
+    let Then : After 𝓤 𝓛.H =
+    any_q (after_seq 𝓤 𝓛.H (Wp 𝓤 𝓛.H 𝓣.C 𝓣.Λ En (after 3 (code.function).body) (at_return 𝓤 𝓛.H En (W.post y))) (at_return 𝓤 𝓛.H En (W.post y))) in
     sets ! (bin ! (get ! refl) (lit ! tt) (record { fits = fits })) refl (tt, record { fits = fits }) $
     let has : HasLayout τ bytes 8 = (capped_is bytes fits, refl) in
     use0 𝓛 (raw (fact 𝓤 (HasLayout τ bytes 8))) (fact_i 𝓤 (HasLayout τ bytes 8) (emp 𝓤) has) $
@@ -82,9 +89,11 @@ allocate_spec 𝓤 𝓛 𝓜 𝓡 wired =
     flt_i ! bytes (2 ^ 64) fits $ feq_i ! (List Val) (vint w64 bytes ∷ []) (vint w64 bytes ∷ []) refl $ fjoin ! $ fjoin ! $
     move ! (2 ∷ 0 ∷ []) $ fjoin ! $ nothing ! $ move ! (3 ∷ 0 ∷ []) $ join ! $ join ! $
     use2 𝓛 (raw (G.pre z)) (id⊢ 𝓤 _) $
-    calls_at ! (framed 𝓤 𝓛.H 𝓜 𝓣) G (met 𝓤 𝓛 𝓜 𝓡 (code.calls-std_heap::GlobalAllocator::allocate 𝓡.env wired)) z (and_then ! (get ! refl) (and_then ! (get ! refl) (and_then ! (lit ! tt) (no_more !)))) (λ v.
+    calls_at ! (framed 𝓤 𝓛.H 𝓜 𝓣) G (met 𝓤 𝓛 𝓜 𝓡 (code.calls-std_heap::GlobalAllocator::allocate 𝓡.env wired)) z
+    (and_then ! (get ! refl) (and_then ! (get ! refl) (and_then ! (lit ! tt) (no_more !)))) (λ v.
     use1 𝓛 (later (some (λ (r : Answer.Denot). ((‵ (flft κs.0 qs.0) ⊛ ‵ ftrue) ⊛ ‵ (Answer.own_val r (v ∷ [])))
-    ⊛ some (λ (ws : Unit {0} × (Unit {0} × (Unit {0} × Unit {0}))). ‵ (lasts g.ended κs z.0.3 ws) ⊛ ‵ (block_if_ok (ghosts.dealloc_token a.0.now) τ r))))) (id⊢ 𝓤 _) $ await ! tt $ pick ! (λ r.
+    ⊛ some (λ (ws : Unit {0} × (Unit {0} × (Unit {0} × Unit {0}))). ‵ (lasts g.ended κs z.0.3 ws) ⊛ ‵
+    (block_if_ok (ghosts.dealloc_token a.0.now) τ r))))) (id⊢ 𝓤 _) $ await ! tt $ pick ! (λ r.
     split ! $ move ! (1 ∷ []) $ pick ! (λ ws. split ! $ drop ! $ move ! (1 ∷ []) $ split ! $ split ! $ move ! (2 ∷ 3 ∷ 0 ∷ []) $
     answered ! a.0.now τ v r
     (λ b o e.
@@ -94,17 +103,21 @@ allocate_spec 𝓤 𝓛 𝓜 𝓡 wired =
     let made : Val = pair_val (BL.lowered base) (vstruct vnil) in
     let typed : T (has_ty (lone Both.mir) made) × WT made = (tt, ((tt, tt), (tt, tt))) in
     let ok = first_Good (lone Both.mir) made typed in
-    lands_as ! e refl (Answer-typed true b o) $ first ! $ switches_on ! (get_tag ! (vrt ! refl (fld ! refl (stop !))) (whole !)) $ exec ! 𝓣.C 𝓣.Λ En (arm_body 0 both) Then $
-    sets ! (of_opd ! (get_in ! (vrt ! refl (fld ! refl (stop !))) (in_variant ! 0 0 refl refl (whole !)))) refl (tt, tt) $ sets ! (of_opd ! (get ! refl)) refl (tt, tt) $
+    lands_as ! e refl (Answer-typed true b o) $ first ! $ switches_on ! (get_tag ! (vrt ! refl (fld ! refl (stop !))) (whole !)) $ exec ! 𝓣.C 𝓣.Λ En
+    (arm_body 0 both) Then $
+    sets ! (of_opd ! (get_in ! (vrt ! refl (fld ! refl (stop !))) (in_variant ! 0 0 refl refl (whole !)))) refl (tt, tt) $ sets !
+    (of_opd ! (get ! refl)) refl (tt, tt) $
     sets ! (agg ! (and_then ! (get ! refl) (no_more !))) refl (tt, (tt, tt)) $
     sets ! (agg ! (no_more !)) refl (tt, tt) $
     sets ! (agg ! (and_then ! (get ! refl) (and_then ! (get ! refl) (no_more !)))) refl typed $
     sets_last ! (agg ! (and_then ! (lit ! tt) (and_then ! (get ! refl) (no_more !)))) refl ok $
     exec ! 𝓣.C 𝓣.Λ En (after 3 (code.function).body) (at_ret En (W.post y)) $ sets ! (of_opd ! (get ! refl)) refl ok $
     returns ! (look_at ! 0 refl) $ free_all ! refl $
-    move ! (1 ∷ []) $ fpack ! Global (λ alloc. ghosts.dealloc_token alloc τ p) a.0.now $ move ! (1 ∷ []) $ as_written ! (ty_array cell_ty len) b o $ use1 𝓛 (‵ (places b o block.slots)) (of_room 𝓛 b len o) $
+    move ! (1 ∷ []) $ fpack ! Global (λ alloc. ghosts.dealloc_token alloc τ p) a.0.now $ move ! (1 ∷ []) $ as_written !
+    (ty_array cell_ty len) b o $ use1 𝓛 (‵ (places b o block.slots)) (of_room 𝓛 b len o) $
     rewrite ! 1 (λ (n : ℕ). ‵ (may_free (block_ty n) p)) (sym (length-replicate len None)) refl $ fjoin ! $
-    owned ! (Struct (Owning.shape r_type)) (Is (Struct (Owning.shape r_type))) (Struct-Makes 𝓛 (Owning.shape r_type) tt) tt (vstruct vnil ∷ []) (tt, (refl, tt)) $ fjoin ! $
+    owned ! (Struct (Owning.shape r_type)) (Is (Struct (Owning.shape r_type))) (Struct-Makes 𝓛 (Owning.shape r_type) tt) tt (vstruct vnil ∷ [])
+    (tt, (refl, tt)) $ fjoin ! $
     owned ! B (Is B) (LL.makes b_type BL.the_plain 𝓛) base (BL.lowered base ∷ []) ((ptr_val p ∷ [], tt), (refl, (refl, tt))) $
     use2 𝓛 (‵ (Both.own_val (base, block) (made ∷ []))) (pair_of 𝓛 B R base block (BL.lowered base) (vstruct vnil)) $
     use1 𝓛 (‵ (Out.own_val (Ok (base, block)) (live 0 (vcons made vnil) ∷ []))) (ok_of 𝓛 Both AE.the_row (base, block) made) $
@@ -113,7 +126,8 @@ allocate_spec 𝓤 𝓛 𝓜 𝓡 wired =
     (λ e.
     let Refusal : RattleType = Struct (Declared.shape AE.the_type) in
     let none : Val = live 1 (vcons (vstruct vnil) vnil) in
-    lands_as ! e refl (Answer-typed false 0 0) $ first ! $ switches_on ! (get_tag ! (vrt ! refl (fld ! refl (stop !))) (whole !)) $ exec ! 𝓣.C 𝓣.Λ En (arm_body 1 both) Then $
+    lands_as ! e refl (Answer-typed false 0 0) $ first ! $ switches_on ! (get_tag ! (vrt ! refl (fld ! refl (stop !))) (whole !)) $ exec ! 𝓣.C 𝓣.Λ En
+    (arm_body 1 both) Then $
     sets ! (of_opd ! (get_in ! (vrt ! refl (fld ! refl (stop !))) (in_variant ! 1 0 refl refl (whole !)))) refl (tt, tt) $
     sets_last ! (agg ! (and_then ! (lit ! tt) (and_then ! (get ! refl) (no_more !)))) refl (tt, (record { fits = lit< tt }, (tt, tt))) $
     exec ! 𝓣.C 𝓣.Λ En (after 3 (code.function).body) (at_ret En (W.post y)) $ sets ! (of_opd ! (get ! refl)) refl (tt, (record { fits = lit< tt }, (tt, tt))) $

@@ -1,5 +1,11 @@
 -- `free` makes room of the cells, whatever they hold, and hands the block back. Assumes `Logic`.
-use Rattle.place_heap.proofs.Walks.{◌≡◌, ℕ, ◌*◌, ◌≤◌, ◌<◌, ◌^◌, List, [], ◌∷◌, refl, sym, ap, subst, lit<, length, w64, arith, proved, full_share, id⊢, ftrue, fat, flft, named, Val, vunit, vint, vptr, fact, tables, ‵, raw, ◌⊛◌, some, later, at_ret, ◌$◌, ◌∵◌, !, qed, done, move, keep, drop, use1, use2, split, join, fsplit, fjoin, feq_i, feq_l, pick, await, rewrite, suffices, whole, sub, enter, of_opd, lit, unit_lit, bin, stop, fld, no_more, and_then, first, blocks, exec, returns, alloc_all, pass_all, free_all, look_at, get, get_in, sets, lands_last, take_at, give_at, env, usize, unit, RefOf, yes, lone, owns, uint_vals, uint_Tells, Ptr, block_ptr, in_a_block, ShrRef, shr_vals, shr_Tells, plain, nothing, heard, only, calls_at_last, lasts, triple_of, Stays, walk_of, stay_dropped, Goes-dropped, ends_at, framed, after}
+use Rattle.place_heap.proofs.Walks.{◌≡◌, ℕ, ◌*◌, ◌≤◌, ◌<◌, ◌^◌, List, [], ◌∷◌, refl, sym, ap, subst, lit<, length, w64, arith, proved, full_share}
+use Rattle.place_heap.proofs.Walks.{id⊢, ftrue, fat, flft, named, Val, vunit, vint, vptr, fact, tables, ‵, raw, ◌⊛◌, some, later, at_ret, ◌$◌, ◌∵◌, ! }
+use Rattle.place_heap.proofs.Walks.{qed, done, move, keep, drop, use1, use2, split, join, fsplit, fjoin, feq_i, feq_l, pick, await, rewrite, suffices}
+use Rattle.place_heap.proofs.Walks.{whole, sub, enter, of_opd, lit, unit_lit, bin, stop, fld, no_more, and_then, first, blocks, exec, returns}
+use Rattle.place_heap.proofs.Walks.{alloc_all, pass_all, free_all, look_at, get, get_in, sets, lands_last, take_at, give_at, env, usize, unit, RefOf}
+use Rattle.place_heap.proofs.Walks.{yes, lone, owns, uint_vals, uint_Tells, Ptr, block_ptr, in_a_block, ShrRef, shr_vals, shr_Tells, plain, nothing}
+use Rattle.place_heap.proofs.Walks.{heard, only, calls_at_last, lasts, triple_of, Stays, walk_of, stay_dropped, Goes-dropped, ends_at, framed, after}
 use base.Logic.{emp}
 use base.Fml.{froom}
 use lib.Dec.{T}
@@ -24,7 +30,10 @@ use Rattle.place_heap.specs.Ownership.{block_owns, block_ty, may_free}
 use Rattle.place_heap.proofs.Memory.{cell_ty, to_room}
 
 abbrev stayed : Stays f.ended.signature.params f.ended.kept
-stayed = (stay_dropped (RefOf (0 ∷ []) tt (plain (λ _. H)) (λ _. tt)) yes, (stay_dropped (plain (λ _. B)) yes, (stay_dropped (plain (λ _. usize)) yes, (stay_dropped (plain (λ _. R)) yes, tt))))
+stayed = (
+  stay_dropped (RefOf (0 ∷ []) tt (plain (λ _. H)) (λ _. tt)) yes,
+  (stay_dropped (plain (λ _. B)) yes, (stay_dropped (plain (λ _. usize)) yes, (stay_dropped (plain (λ _. R)) yes, tt))),
+)
 
 pub free_spec : {M : Type 1} → statement M
 free_spec 𝓤 𝓛 𝓜 𝓡 wired =
@@ -44,23 +53,28 @@ free_spec 𝓤 𝓛 𝓜 𝓡 wired =
     (λ κs. (shr_Tells (named 0) κs.0 H, (BL.lowers.val_is, (uint_Tells w64, (RL.lowers.val_is, tt)))))
     (λ κs qs bounds a _ are.
     let base = a.1.0 in let len : ℕ = a.1.1.0 in let h = a.1.1.1.0 in let bytes : ℕ = len * 24 in let τ = block_ty len in
-    let vs : List Val × (List Val × (List Val × (List Val × Unit {0}))) = (shr_vals a.0, (BL.lowered base ∷ [], (uint_vals w64 len, (RL.lowered h ∷ [], tt)))) in
+    let vs : List Val × (List Val × (List Val × (List Val × Unit {0}))) =
+    (shr_vals a.0, (BL.lowered base ∷ [], (uint_vals w64 len, (RL.lowered h ∷ [], tt)))) in
     let y : W.Ghost = ((κs, qs, bounds, a, vs), tt) in
     let G = triple_of 𝓛 g.signature (g.spec 𝓛 𝓜.mem 𝓡.returns) in
-    qed 𝓛 (((‵ (flft κs.0 qs.0) ⊛ ‵ ftrue) ⊛ ‵ (owns (ShrRef (named 0) κs.0 H ∷ B ∷ usize ∷ R ∷ []) a vs)) ∷ raw (fact 𝓤 ((h.at ≡ base.ptr) × (length h.slots ≡ len) × (len ≤ 8192))) ∷ []) ∵
+    qed 𝓛 (((‵ (flft κs.0 qs.0) ⊛ ‵ ftrue) ⊛ ‵ (owns (ShrRef (named 0) κs.0 H ∷ B ∷ usize ∷ R ∷ []) a vs)) ∷ raw
+    (fact 𝓤 ((h.at ≡ base.ptr) × (length h.slots ≡ len) × (len ≤ 8192))) ∷ []) ∵
     move ! (1 ∷ []) $ heard ! _ (λ asked.
     split ! $ split ! $ move ! (2 ∷ []) $ fsplit ! $ move ! (1 ∷ []) $ fsplit ! $ drop ! $ fsplit ! $ drop ! $ fsplit ! $ fsplit ! $ keep ! (1 ∷ 3 ∷ 4 ∷ []) $
     -- [the block; the reference to the allocator; the token]
     let fits : bytes < 2 ^ 64 = omega arith in
-    enter ! _ _ _ _ _ $ alloc_all ! (λ l. pass_all ! refl ((tt, tt), (((BL.the_row_laws.lawful 𝓛).typed base _ are.1.0).0, ((tt, record { fits = are.1.1.0.1 }), ((tt, tt), tt)))) $
+    enter ! _ _ _ _ _ $ alloc_all !
+    (λ l. pass_all ! refl ((tt, tt), (((BL.the_row_laws.lawful 𝓛).typed base _ are.1.0).0, ((tt, record { fits = are.1.1.0.1 }), ((tt, tt), tt)))) $
     let En = env (code.function).locals l in
     rewrite ! 0 (λ (p : Ptr). ‵ (block_owns p h.slots)) asked.0 refl $
     in_a_block ! base.ptr (λ p. block_owns p h.slots) (id⊢ 𝓤 _) (λ b o e. fsplit ! $
     take_at ! 2 $ rewrite ! 0 (λ (p : Ptr). ‵ (fat full_share (lone B.mir) (l 2) 0 (BL.lowered (record { ptr = p })))) e refl $ give_at ! 2 $
     use1 𝓛 (‵ (froom (ty_array cell_ty (length h.slots)) b o)) (to_room 𝓛 b h.slots o) $
-    rewrite ! 0 (λ (n : ℕ). ‵ (froom (ty_array cell_ty n) b o)) asked.1 refl $ rewrite ! 1 (λ (n : ℕ). ‵ (may_free (block_ty n) (block_ptr b o))) asked.1 refl $ as_raw ! (ty_array cell_ty len) b o $
+    rewrite ! 0 (λ (n : ℕ). ‵ (froom (ty_array cell_ty n) b o)) asked.1 refl $ rewrite ! 1 (λ (n : ℕ). ‵ (may_free (block_ty n) (block_ptr b o)))
+    asked.1 refl $ as_raw ! (ty_array cell_ty len) b o $
     move ! (1 ∷ []) $ fpick ! (λ alloc. move ! (1 ∷ []) $
-    let z : G.Ghost = ((κs, qs, tt, (a.0, (block_ptr b o, (bytes, (8, tt)))), (shr_vals a.0, (vptr b o ∷ [], (vint w64 bytes ∷ [], (vint w64 8 ∷ [], tt))))), τ) in
+    let z : G.Ghost =
+    ((κs, qs, tt, (a.0, (block_ptr b o, (bytes, (8, tt)))), (shr_vals a.0, (vptr b o ∷ [], (vint w64 bytes ∷ [], (vint w64 8 ∷ [], tt))))), τ) in
     let has : HasLayout τ bytes 8 = (capped_is bytes fits, refl) in
     first ! $ blocks ! $
     sets ! (of_opd ! (get_in ! (fld ! refl (stop !)) (sub ! 0 refl (whole !)))) refl (tt, tt) $
@@ -71,12 +85,15 @@ free_spec 𝓤 𝓛 𝓜 𝓡 wired =
     feq_i ! (List Val) (vptr b o ∷ []) (vptr b o ∷ []) refl $ fjoin ! $
     move ! (2 ∷ 0 ∷ []) $ fjoin ! $ nothing ! $ move ! (3 ∷ 0 ∷ []) $ join ! $ join ! $
     use2 𝓛 (raw (G.pre z)) (id⊢ 𝓤 _) $
-    calls_at_last ! (framed 𝓤 𝓛.H 𝓜 𝓣) G (met 𝓤 𝓛 𝓜 𝓡 (code.calls-std_heap::GlobalAllocator::deallocate 𝓡.env wired)) z (and_then ! (get ! refl) (and_then ! (get ! refl) (and_then ! (get ! refl) (and_then ! (lit ! tt) (no_more !))))) (λ v.
+    calls_at_last ! (framed 𝓤 𝓛.H 𝓜 𝓣) G (met 𝓤 𝓛 𝓜 𝓡 (code.calls-std_heap::GlobalAllocator::deallocate 𝓡.env wired)) z
+    (and_then ! (get ! refl) (and_then ! (get ! refl) (and_then ! (get ! refl) (and_then ! (lit ! tt) (no_more !))))) (λ v.
     use1 𝓛 (later (some (λ (r : Unit {0}). ((‵ (flft κs.0 qs.0) ⊛ ‵ ftrue) ⊛ ‵ (unit.own_val r (v ∷ []))) ⊛
     some (λ (ws : Unit {0} × (Unit {0} × (Unit {0} × (Unit {0} × Unit {0})))). ‵ (lasts g.ended κs z.0.3 ws) ⊛ ‵ ftrue)))) (id⊢ 𝓤 _) $ await ! tt $ pick ! (λ r.
     split ! $ split ! $ move ! (1 ∷ []) $ feq_l ! (λ is_unit.
-    lands_last ! refl (subst (λ (u : Val). T (has_ty ty_unit u) × WT u) (sym (ap only is_unit)) (tt, tt)) $ exec ! 𝓣.C 𝓣.Λ En (after 1 (code.function).body) (at_ret En (W.post y)) $
+    lands_last ! refl (subst (λ (u : Val). T (has_ty ty_unit u) × WT u) (sym (ap only is_unit)) (tt, tt)) $ exec ! 𝓣.C 𝓣.Λ En
+    (after 1 (code.function).body) (at_ret En (W.post y)) $
     sets ! (of_opd ! (unit_lit !)) refl (tt, tt) $ returns ! (look_at ! 0 refl) $ free_all ! refl $ keep ! (0 ∷ []) $
     suffices ! _ (ends_at 𝓛 f.ended stayed c y vunit tt (tt, (tt, (tt, (tt, tt)))) (tt, (tt, (tt, (tt, tt))))) $
-    feq_i ! (List Val) (vunit ∷ []) (vunit ∷ []) refl $ nothing ! $ nothing ! $ fjoin ! $ nothing ! $ fjoin ! $ nothing ! $ fjoin ! $ nothing ! $ fjoin ! $ join ! $
+    feq_i ! (List Val) (vunit ∷ []) (vunit ∷ []) refl $ nothing ! $ nothing ! $ fjoin ! $ nothing ! $ fjoin ! $ nothing ! $ fjoin ! $ nothing ! $
+    fjoin ! $ join ! $
     move ! (1 ∷ 0 ∷ []) $ join ! $ nothing ! $ move ! (1 ∷ 0 ∷ []) $ done !))))))))

@@ -19,9 +19,12 @@ returns-then-not-stands_before-clause-sifted g c =
 
 pub down-preserved : goal.down-preserved
 down-preserved g c =
-    let child = c.least_child-below.result in let down = c.least_child-below.ensures.least in let one = c.place_item.ensures in let two = c.place_item-in-down.ensures in
-    let wrote = wrote_both c.down.cells c.place_item.new.cells c.place_item-in-down.new.cells c.down.i child.0 c.args.item child.1 one.items one.places one.len two.items two.places two.len in
-    let step = sift_down_step c.down.cells c.place_item-in-down.new.cells c.args.len c.down.i child.0 c.args.item child.1 c.down.invariant.can down (sym c.stands_before.ensures ∙ c.if-not-stands_before.false) wrote in
+    let child =
+    c.least_child-below.result in let down = c.least_child-below.ensures.least in let one = c.place_item.ensures in let two = c.place_item-in-down.ensures in
+    let wrote = wrote_both c.down.cells c.place_item.new.cells c.place_item-in-down.new.cells c.down.i child.0 c.args.item child.1 one.items
+    one.places one.len two.items two.places two.len in
+    let step = sift_down_step c.down.cells c.place_item-in-down.new.cells c.args.len c.down.i child.0 c.args.item child.1 c.down.invariant.can down
+    (sym c.stands_before.ensures ∙ c.if-not-stands_before.false) wrote in
     record {
       can = step.0;
       same_len = step.1.same_len ∙ c.down.invariant.same_len;

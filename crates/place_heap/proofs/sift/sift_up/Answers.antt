@@ -7,8 +7,10 @@ use Rattle.place_heap.proofs.sift.sift_up.Goals as goal
 pub up-preserved : goal.up-preserved
 up-preserved g c =
     let above = c.item_at-parent.result in let one = c.place_item.ensures in let two = c.place_item-in-up.ensures in
-    let wrote = wrote_both c.up.cells c.place_item.new.cells c.place_item-in-up.new.cells c.up.i (parent c.up.i) c.args.item above one.items one.places one.len two.items two.places two.len in
-    let step = sift_up_step c.up.cells c.place_item-in-up.new.cells c.args.len c.up.i c.args.item above c.up-test.true c.up.invariant.can (sym c.item_at-parent.ensures.item)
+    let wrote = wrote_both c.up.cells c.place_item.new.cells c.place_item-in-up.new.cells c.up.i (parent c.up.i) c.args.item above one.items
+    one.places one.len two.items two.places two.len in
+    let step = sift_up_step c.up.cells c.place_item-in-up.new.cells c.args.len c.up.i c.args.item above c.up-test.true c.up.invariant.can
+    (sym c.item_at-parent.ensures.item)
     (sym c.stands_before.ensures ∙ c.if-not-stands_before.false) wrote in
     record {
       can = step.0;

@@ -10,4 +10,6 @@ loop-i-preserved c =
     c.in_ok-push.ensures.items ∙ ap (λ xs. xs ++ frame_with from to c.in_ok-bytes.bytes.items ∷ []) c.loop-i.invariant
     ∙ ap (λ bytes. (c.args.under_way.now.items ++ take c.loop-i.i fs) ++ frame_with from to bytes ∷ []) c.in_ok-bytes.ensures.items
     ∙ append_assoc c.args.under_way.now.items (take c.loop-i.i fs) (frame_with from to c.bytes.result.now ∷ [])
-    ∙ ap (λ gs. c.args.under_way.now.items ++ gs) (one_kept fs c.loop-i.i from to c.bytes.result.now (omega (arith, c.loop-i-test.true, c.len-i-end.ensures.len)) c.sender-from.ensures c.receiver-to.ensures c.bytes.ensures)
+    ∙ ap (λ gs. c.args.under_way.now.items ++ gs)
+    (one_kept fs c.loop-i.i from to c.bytes.result.now (omega (arith, c.loop-i-test.true, c.len-i-end.ensures.len)) c.sender-from.ensures
+    c.receiver-to.ensures c.bytes.ensures)

@@ -6,8 +6,10 @@ returns-clause-value c = rw (c.first_cut.ensures, c.as_slice.ensures.value) (fir
 
 pub returns-clause-none : goal.returns-clause-none
 returns-clause-none c =
-    rw (c.first_cut.ensures, c.as_slice.ensures.value, first_value _ _ c.args.a c.args.b c.self.view_is c.self.invariant.apart) (none_first c.args.self.now c.args.a c.args.b)
+    rw (c.first_cut.ensures, c.as_slice.ensures.value, first_value _ _ c.args.a c.args.b c.self.view_is c.self.invariant.apart)
+    (none_first c.args.self.now c.args.a c.args.b)
 
 pub returns-clause-within : goal.returns-clause-within
 returns-clause-within c =
-    rw (c.first_cut.ensures, c.as_slice.ensures.value, first_value _ _ c.args.a c.args.b c.self.view_is c.self.invariant.apart) (within_first c.args.self.now c.args.a c.args.b)
+    rw (c.first_cut.ensures, c.as_slice.ensures.value, first_value _ _ c.args.a c.args.b c.self.view_is c.self.invariant.apart)
+    (within_first c.args.self.now c.args.a c.args.b)

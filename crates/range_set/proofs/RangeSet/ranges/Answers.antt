@@ -6,4 +6,5 @@ use Rattle.range_set.proofs.RangeSet.ranges.Goals as goal
 
 pub returns-clause-value : goal.returns-clause-value
 returns-clause-value c =
-    rw (c.len.ensures.value, ← c.self.view_is) (sym (ap length (ranges-set_of_ranges (plain c.self.inside.kept.items) c.self.invariant.apart) ∙ length-plain c.self.inside.kept.items))
+    rw (c.len.ensures.value, ← c.self.view_is)
+    (sym (ap length (ranges-set_of_ranges (plain c.self.inside.kept.items) c.self.invariant.apart) ∙ length-plain c.self.inside.kept.items))

@@ -23,7 +23,14 @@ pub overflow_sub-result : goal.overflow_sub-result
 overflow_sub-result c =
     let made : plain c.as_slice-4.result.now ≡ parted c.args.a c.args.b (plain c.args.kept.now.items) = cc in
     let old : c.as_slice-2.result.now ≡ c.args.kept.now.items = cc in
-    omega (arith, c.width-before.ensures, ap (λ rs. width_of (plain rs)) old, c.width.ensures, ap width_of made, parted_narrower c.args.kept.now.items c.args.a c.args.b c.requires.rising c.requires.kept)
+    omega (
+      arith,
+      c.width-before.ensures,
+      ap (λ rs. width_of (plain rs)) old,
+      c.width.ensures,
+      ap width_of made,
+      parted_narrower c.args.kept.now.items c.args.a c.args.b c.requires.rising c.requires.kept,
+    )
 
 pub returns-clause-removed : goal.returns-clause-removed
 returns-clause-removed c =

@@ -5,7 +5,12 @@ use Rattle.range_set.proofs.kept.width.Goals as goal
 
 pub overflow_add-total : goal.overflow_add-total
 overflow_add-total c =
-    omega (arith, width-kept c.args.kept.now c.requires, ap width_of (next c.args.kept.now c.loop-range.range-index no_range c.loop-range-test.true), c.loop-range.invariant.so_far)
+    omega (
+      arith,
+      width-kept c.args.kept.now c.requires,
+      ap width_of (next c.args.kept.now c.loop-range.range-index no_range c.loop-range-test.true),
+      c.loop-range.invariant.so_far,
+    )
 
 pub loop-range-preserved : goal.loop-range-preserved
 loop-range-preserved c =

@@ -10,7 +10,8 @@ loop-i-init c =
     let frames = frames_of c.args.block.now in
     let olds = c.args.olds.now.items in
     record {
-      adds = subst (λ (os : List Old). AddsOlds c.args.reach c.args.now (take 0 frames) olds os) (sym c.in_ok-reserve.ensures.items) (adds_none c.args.reach c.args.now frames olds);
+      adds = subst (λ (os : List Old). AddsOlds c.args.reach c.args.now (take 0 frames) olds os) (sym c.in_ok-reserve.ensures.items)
+          (adds_none c.args.reach c.args.now frames olds);
       room = omega (arith, c.in_ok-reserve.ensures.ok, c.len.ensures);
     }
 
@@ -23,6 +24,7 @@ loop-i-preserved c =
     let long = ap length items ∙ length-append c.loop-i.olds.items (c.in-Some.old ∷ []) in
     record {
       adds = subst (λ (os : List Old). AddsOlds c.args.reach c.args.now (take (c.loop-i.i + 1) frames) olds os) (sym items)
-          (adds_more c.args.reach c.args.now frames olds c.loop-i.olds.items c.loop-i.i f c.in-Some.old c.loop-i.invariant.adds c.get.ensures c.in-Some.ensures.some);
+          (adds_more c.args.reach c.args.now frames olds c.loop-i.olds.items c.loop-i.i f c.in-Some.old c.loop-i.invariant.adds c.get.ensures
+          c.in-Some.ensures.some);
       room = omega (arith, c.loop-i.invariant.room, long, c.push.ensures.capacity);
     }

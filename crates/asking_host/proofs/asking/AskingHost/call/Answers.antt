@@ -14,7 +14,8 @@ invariant_of-self c =
     c.self.invariant (c.if-not-may_begin.ensures.0 refl).few c.call.ensures.steady (omega arith)
     (called c.call.result d.host c.call.new.self _ c.call.new.out c.call.ensures.step c.call.ensures.same)
     (after_call d.host c.call.new.self c.call.new.out a.now (c.if-not-may_begin.ensures.0 refl).now_is c.call.result _
-    (call_rests d.host.settings d.host.host a.now a.server a.number a.request.items) c.call.ensures.step c.call.ensures.last c.call.ensures.same c.self.invariant.rest)
+    (call_rests d.host.settings d.host.host a.now a.server a.number a.request.items) c.call.ensures.step c.call.ensures.last c.call.ensures.same
+    c.self.invariant.rest)
 
 pub invariant_of-self-2 : goal.invariant_of-self-2
 invariant_of-self-2 c =
@@ -24,7 +25,8 @@ invariant_of-self-2 c =
     c.self.invariant (c.if-not-may_begin.ensures.0 refl).few c.call.ensures.steady (omega arith)
     (called c.call.result d.host c.call.new.self _ c.call.new.out c.call.ensures.step c.call.ensures.same)
     (after_call d.host c.call.new.self c.call.new.out a.now (c.if-not-may_begin.ensures.0 refl).now_is c.call.result _
-    (call_rests d.host.settings d.host.host a.now a.server a.number a.request.items) c.call.ensures.step c.call.ensures.last c.call.ensures.same c.self.invariant.rest)
+    (call_rests d.host.settings d.host.host a.now a.server a.number a.request.items) c.call.ensures.step c.call.ensures.last c.call.ensures.same
+    c.self.invariant.rest)
 
 pub returns-clause-step : goal.returns-clause-step
 returns-clause-step c =

@@ -11,7 +11,8 @@ returns-then-is_some-clause-may_act c =
     subst (λ (d : Driven). MayAct d.host (c.last.result + 1)) c.self.view_is
     (inl (
       ap (λ n. n + 1) c.last.ensures,
-      bytes_wait c.self.inside.host c.pacer.result.now.ready c.pacer.ensures (λ none. true≢false (sym (sym c.is_some.ensures ∙ c.if-is_some.true) ∙ c.pick.ensures.none.1 none)),
+      bytes_wait c.self.inside.host c.pacer.result.now.ready c.pacer.ensures
+          (λ none. true≢false (sym (sym c.is_some.ensures ∙ c.if-is_some.true) ∙ c.pick.ensures.none.1 none)),
     ))
 
 pub returns-clause-idle : goal.returns-clause-idle

@@ -11,7 +11,8 @@ use Rattle.check_lines.specs.declared.block.Named.TheVariants.{Only, Several}
 use Rattle.check_lines.proofs.NamedLaws.{not_due, just_due, other_due, several_due}
 use Rattle.check_lines.proofs.block.Named.is_exactly.Goals as goal
 
-only_due : (id : CallId) (ids : List CallId) (due : Option CallId) → 0 < length ids → AllByRecursion (λ q. q ≡ id) ids → option_map_or (is_call id) due false ≡ are_same_calls ids (option_to_list due)
+only_due : (id : CallId) (ids : List CallId) (due : Option CallId) → 0 < length ids → AllByRecursion (λ q. q ≡ id) ids
+    → option_map_or (is_call id) due false ≡ are_same_calls ids (option_to_list due)
 only_due id ids None h all = sym (not_due ids h)
 only_due id ids (Some d) h all =
     elim (is_call id d) as (λ b. is_call id d ≡ b → b ≡ are_same_calls ids (d ∷ [])) [

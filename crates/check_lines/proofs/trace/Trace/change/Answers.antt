@@ -9,4 +9,5 @@ returns-clause-kept c v w f keeps made ch changes =
     let rest = c.change_delivery.ensures.rest in
     let k = keeps_delivery v c.args.self.now mid rest keeps in
     c.in_ok-keep.ensures.kept v w f k changes
-    (changed_stands v mid c.args.id c.args.change f c.spot.result c.changed-spot.result k (subst (λ z. IsChange z c.args.id c.args.change f) (sym rest) ch) c.spot.ensures c.changed-spot.ensures)
+    (changed_stands v mid c.args.id c.args.change f c.spot.result c.changed-spot.result k
+    (subst (λ z. IsChange z c.args.id c.args.change f) (sym rest) ch) c.spot.ensures c.changed-spot.ensures)

@@ -34,5 +34,7 @@ returns-clause-taken c v p keeps place due e =
     subst (λ (q : CallId). StandsAt t q c.delivered-delivered.result.now (f (spot v.now q))) (sym ids) (rw known leaves.now) in
     let kept = c.in_ok-keep.ensures.kept v w f k changes stands in
     let stale : c.spot-stale.result ≡ spot_in call (lives_in t id call.server) = rw made.1 at c.spot-stale.ensures in
-    let was = subst (λ (s : Spot). StandsFor b s (spot v.now p.id)) (sym (stale ∙ ap (λ (q : CallId). spot_in call (lives_in t q call.server)) ids)) (stands_now v t p.id call k there) in
-    some_after v _ p _ b (keeps_delivery w c.keep.new.self _ refl kept) due (c.in_ok-keep.ensures.sets p.id ∙ known) refl e leaves.refused was leaves.due leaves.due_then
+    let was = subst (λ (s : Spot). StandsFor b s (spot v.now p.id)) (sym (stale ∙ ap (λ (q : CallId). spot_in call (lives_in t q call.server)) ids))
+    (stands_now v t p.id call k there) in
+    some_after v _ p _ b (keeps_delivery w c.keep.new.self _ refl kept) due (c.in_ok-keep.ensures.sets p.id ∙ known) refl e leaves.refused was
+    leaves.due leaves.due_then

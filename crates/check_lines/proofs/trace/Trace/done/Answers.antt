@@ -15,5 +15,6 @@ returns-clause-taken c v o bytes r made =
     let ch = ends t id in
     let h : IsHere mid.here v.here = subst (λ x. IsHere x v.here) (sym e.count.here) r.here in
     here_takes v o (PlainDone id bytes) t mid (record mid.here { dones = c.with-self.result }) r
-    (e.kept v (seen v (PlainDone id bytes)) finished_spot r.kept made ch (done_changes v o id bytes r.is)) (e.block o finished_spot ch made r.delivered) (done_due v id bytes) e.due
+    (e.kept v (seen v (PlainDone id bytes)) finished_spot r.kept made ch (done_changes v o id bytes r.is))
+    (e.block o finished_spot ch made r.delivered) (done_due v id bytes) e.due
     (done_here v mid.here c.with-self.result id bytes h (c.with-self.ensures v.here.dones h.dones))

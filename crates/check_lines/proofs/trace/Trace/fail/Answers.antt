@@ -19,7 +19,8 @@ returns-in-Timeout-clause-taken c v o r made =
     let h : IsHere mid.here v.here = subst (λ x. IsHere x v.here) (sym e.count.here) r.here in
     subst (λ (w : Why). Takes v o (PlainFail id w) mid) (sym c.in-Timeout.is)
     (here_takes v o (PlainFail id Timeout) t mid mid.here r
-    (e.kept v (seen v (PlainFail id Timeout)) finished_spot r.kept made ch (fail_changes v o id Timeout r.is)) (e.block o finished_spot ch made r.delivered) (fail_due v id Timeout) e.due
+    (e.kept v (seen v (PlainFail id Timeout)) finished_spot r.kept made ch (fail_changes v o id Timeout r.is))
+    (e.block o finished_spot ch made r.delivered) (fail_due v id Timeout) e.due
     (timeout_here v mid.here id h))
 
 pub returns-in-Forgotten-clause-taken : goal.returns-in-Forgotten-clause-taken
@@ -33,5 +34,6 @@ returns-in-Forgotten-clause-taken c v o r made =
     let u = record mid { here = record mid.here { forgotten = c.with-self.result } } in
     subst (λ (w : Why). Takes v o (PlainFail id w) u) (sym c.in-Forgotten.is)
     (here_takes v o (PlainFail id Forgotten) t mid (record mid.here { forgotten = c.with-self.result }) r
-    (e.kept v (seen v (PlainFail id Forgotten)) finished_spot r.kept made ch (fail_changes v o id Forgotten r.is)) (e.block o finished_spot ch made r.delivered) (fail_due v id Forgotten) e.due
+    (e.kept v (seen v (PlainFail id Forgotten)) finished_spot r.kept made ch (fail_changes v o id Forgotten r.is))
+    (e.block o finished_spot ch made r.delivered) (fail_due v id Forgotten) e.due
     (forgotten_here v mid.here c.with-self.result id h (c.with-self.ensures v.here.forgotten h.forgotten)))

@@ -16,4 +16,5 @@ returns-clause-taken c v o r made =
     let f = dropped_at v host id in
     let ch = drops v t host id c.change_of_drop-change.result r.kept c.change_of_drop-change.ensures in
     let h : IsHere mid.here v.here = subst (λ x. IsHere x v.here) (sym e.count.here) r.here in
-    here_takes v o (PlainDrop host id) t mid mid.here r (e.kept v (seen v (PlainDrop host id)) f r.kept made ch (drop_changes v o host id r.is)) (e.block o f ch made r.delivered) (drop_due v host id) e.due (drop_here v mid.here host id h)
+    here_takes v o (PlainDrop host id) t mid mid.here r (e.kept v (seen v (PlainDrop host id)) f r.kept made ch (drop_changes v o host id r.is))
+    (e.block o f ch made r.delivered) (drop_due v host id) e.due (drop_here v mid.here host id h)

@@ -17,4 +17,5 @@ returns-in-Some-call c v keeps =
     let kept = c.spot_in.ensures ∙ ap (spot_in x) c.lives.ensures in
     let st = subst (λ (k : Spot). StandsFor b k (spot v.now id)) (sym kept) (stands_now v t id x keeps c.in-Some-call.ensures.some) in
     c.is_within.ensures b (spot v.now id) st
-    ∙ (ap (λ s. is_within_spot s.window (spot v.now id)) (sym keeps.settings) ∙ sym (ap (λ o. option_map_or (λ (q : CallId). is_within_spot v.settings.window (spot v.now q)) o true) c.in-Some.is))
+    ∙ (ap (λ s. is_within_spot s.window (spot v.now id)) (sym keeps.settings)
+    ∙ sym (ap (λ o. option_map_or (λ (q : CallId). is_within_spot v.settings.window (spot v.now q)) o true) c.in-Some.is))

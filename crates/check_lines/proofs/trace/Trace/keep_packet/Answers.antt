@@ -16,9 +16,16 @@ returns-clause-kept c v p keeps made e =
     let b = c.note_last.new.self in
     let f = c.in_ok-note_first.ensures in
     let l = c.note_last.ensures in
-    let is_made : contains_key v.calls p.id ≡ true = subst (λ (q : CallId). contains_key v.calls q ≡ true) (ap (λ x. x.id) e) (sym (made_kept v t k.id keeps) ∙ made) in
+    let is_made : contains_key v.calls p.id ≡ true =
+    subst (λ (q : CallId). contains_key v.calls q ≡ true) (ap (λ x. x.id) e) (sym (made_kept v t k.id keeps) ∙ made) in
     packet_keeps v t _ k p keeps e is_made
-    (ap (λ z. z.settings) l.rest ∙ ap (λ z. z.settings) f.rest) (ap (λ z. z.tick) l.rest ∙ ap (λ z. z.tick) f.rest) (ap (λ z. z.ids) l.rest ∙ ap (λ z. z.ids) f.rest)
-    (λ h. ap (λ z. lead_of (host_at z h)) l.rest ∙ f.lead h) (λ h. ap (λ z. restarts_in (host_at z h)) l.rest ∙ f.restarts h) (λ h. ap (λ z. first_of (host_at z h)) l.rest ∙ f.first h)
-    (record { asked = λ h q. ap (λ z. asked_of (host_at z h) q) l.rest ∙ f.lists.asked h q; awaited = λ h q. ap (λ z. awaited_of (host_at z h) q) l.rest ∙ f.lists.awaited h q })
-    (λ q. l.calls q ∙ ap (λ z. call_or k.id (sent_with k) (call_at z) q) f.rest) (l.len ∙ ap (λ z. length z.calls.items) f.rest) (c.in_ok-push.ensures.items ∙ ap (λ ps. ps ++ k ∷ []) (ap (λ z. z.packets.items) l.rest ∙ ap (λ z. z.packets.items) f.rest))
+    (ap (λ z. z.settings) l.rest ∙ ap (λ z. z.settings) f.rest) (ap (λ z. z.tick) l.rest ∙ ap (λ z. z.tick) f.rest)
+    (ap (λ z. z.ids) l.rest ∙ ap (λ z. z.ids) f.rest)
+    (λ h. ap (λ z. lead_of (host_at z h)) l.rest ∙ f.lead h) (λ h. ap (λ z. restarts_in (host_at z h)) l.rest ∙ f.restarts h)
+    (λ h. ap (λ z. first_of (host_at z h)) l.rest ∙ f.first h)
+    (record {
+      asked = λ h q. ap (λ z. asked_of (host_at z h) q) l.rest ∙ f.lists.asked h q;
+      awaited = λ h q. ap (λ z. awaited_of (host_at z h) q) l.rest ∙ f.lists.awaited h q;
+    })
+    (λ q. l.calls q ∙ ap (λ z. call_or k.id (sent_with k) (call_at z) q) f.rest) (l.len ∙ ap (λ z. length z.calls.items) f.rest)
+    (c.in_ok-push.ensures.items ∙ ap (λ ps. ps ++ k ∷ []) (ap (λ z. z.packets.items) l.rest ∙ ap (λ z. z.packets.items) f.rest))

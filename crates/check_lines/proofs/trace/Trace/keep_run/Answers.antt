@@ -14,11 +14,13 @@ returns-in_ok-insert-in-Some-clause-kept c v keeps server =
     let at = c.in-Some.at in
     let place = c.in-Some.ensures.some.0 in
     let x = c.index_mut.result.now in
-    let here : call_at t id ≡ Some x = call_at_place t.ids.keys t.calls.items id at place ∙ (slice_get-get_or t.calls.items at x (place_within t.ids.keys t.calls.items id at place) ∙ ap (λ z. Some z) (sym c.index_mut.ensures.value)) in
+    let here : call_at t id ≡ Some x = call_at_place t.ids.keys t.calls.items id at place
+    ∙ (slice_get-get_or t.calls.items at x (place_within t.ids.keys t.calls.items id at place) ∙ ap (λ z. Some z) (sym c.index_mut.ensures.value)) in
     let d : Call = record x { runs = c.insert.new.self } in
     let run : Run = record { life = c.life-life.result; response = c.in_ok-response-in-Some.response } in
     run_keeps v t id c.args.host c.args.response.now keeps _ at d place
-    (run_here v t id c.args.host c.args.response.now keeps x d run here server c.life-life.ensures c.in_ok-response-in-Some.ensures.items refl (c.in_ok-insert-in-Some.ensures.items ∙ ap (λ rs. run ∷ rs) c.reserve_exact.ensures.items)) refl refl
+    (run_here v t id c.args.host c.args.response.now keeps x d run here server c.life-life.ensures c.in_ok-response-in-Some.ensures.items refl
+    (c.in_ok-insert-in-Some.ensures.items ∙ ap (λ rs. run ∷ rs) c.reserve_exact.ensures.items)) refl refl
 
 pub returns-in_ok-insert-in-Some-clause-sets : goal.returns-in_ok-insert-in-Some-clause-sets
 returns-in_ok-insert-in-Some-clause-sets c =
@@ -27,6 +29,7 @@ returns-in_ok-insert-in-Some-clause-sets c =
     let at = c.in-Some.at in
     let place = c.in-Some.ensures.some.0 in
     let x = c.index_mut.result.now in
-    let here : call_at t id ≡ Some x = call_at_place t.ids.keys t.calls.items id at place ∙ (slice_get-get_or t.calls.items at x (place_within t.ids.keys t.calls.items id at place) ∙ ap (λ z. Some z) (sym c.index_mut.ensures.value)) in
+    let here : call_at t id ≡ Some x = call_at_place t.ids.keys t.calls.items id at place
+    ∙ (slice_get-get_or t.calls.items at x (place_within t.ids.keys t.calls.items id at place) ∙ ap (λ z. Some z) (sym c.index_mut.ensures.value)) in
     let d : Call = record x { runs = c.insert.new.self } in
     run_sets t (set_call t at d) id at x d place here (λ client gap. refl) refl refl refl

@@ -30,4 +30,5 @@ returns-clause-calls c q =
       | else-call w ↦ w.call-is ∙ ap (λ b. b || c.has_last-last.result) (sym w.if-call.false)
     ] in
     let new : sent_with k x ≡ record x { sent_last = c.if-call.call } = λ i. record x { sent_last = sym (was ∙ ap (λ b. x.sent_last || b) last) i } in
-    subst (λ (d : Call). call_in t.ids.keys (slice_set t.calls.items at d) q ≡ call_or k.id (sent_with k) (call_in t.ids.keys t.calls.items) q) new (call_changed t.ids.keys t.calls.items k.id at x (sent_with k) q place here)
+    subst (λ (d : Call). call_in t.ids.keys (slice_set t.calls.items at d) q ≡ call_or k.id (sent_with k) (call_in t.ids.keys t.calls.items) q) new
+    (call_changed t.ids.keys t.calls.items k.id at x (sent_with k) q place here)

@@ -21,8 +21,11 @@ returns-clause-calls c q =
     let old = c.index_mut.result.now in
     let within = place_within ks cs c.args.id c.args.at c.requires in
     let here : slice_get cs c.args.at ≡ Some old = slice_get-get_or cs c.args.at old within ∙ ap (λ x. Some x) (sym c.index_mut.ensures.value) in
-    let seen : slice_get cs c.args.at ≡ Some c.index.result.now = slice_get-get_or cs c.args.at c.index.result.now within ∙ ap (λ x. Some x) (sym c.index.ensures) in
+    let seen : slice_get cs c.args.at ≡ Some c.index.result.now =
+    slice_get-get_or cs c.args.at c.index.result.now within ∙ ap (λ x. Some x) (sym c.index.ensures) in
     let same : c.index.result.now ≡ old = cc in
     let change = λ (d : Call). record d { lives = lives_in t c.args.id d.server; spot = c.args.spot } in
-    let new : change old ≡ c.keep.new.self = (λ i. record old { lives = sym (c.lives-lives.ensures ∙ ap (λ x. lives_in t c.args.id x.server) same) i; spot = c.args.spot }) ∙ sym c.keep.ensures in
-    subst (λ (d : Call). call_in ks (slice_set cs c.args.at d) q ≡ call_or c.args.id change (call_in ks cs) q) new (call_changed ks cs c.args.id c.args.at old change q c.requires here)
+    let new : change old ≡ c.keep.new.self =
+    (λ i. record old { lives = sym (c.lives-lives.ensures ∙ ap (λ x. lives_in t c.args.id x.server) same) i; spot = c.args.spot }) ∙ sym c.keep.ensures in
+    subst (λ (d : Call). call_in ks (slice_set cs c.args.at d) q ≡ call_or c.args.id change (call_in ks cs) q) new
+    (call_changed ks cs c.args.id c.args.at old change q c.requires here)

@@ -10,4 +10,5 @@ returns-clause-taken c v o service request hold r server =
     let mid = c.keep_run.new.self in
     let e = c.in_ok-keep_run.ensures in
     let h : IsHere mid.here v.here = subst (λ x. IsHere x v.here) (sym e.count.here) r.here in
-    run_line v o t mid c.args.host c.args.id service request c.args.response.now hold c.with-self.result r (e.kept v r.kept server) (delivered_on t mid o e.sets e.delivery r.delivered) e.delivery h (c.with-self.ensures v.here.runs h.runs)
+    run_line v o t mid c.args.host c.args.id service request c.args.response.now hold c.with-self.result r (e.kept v r.kept server)
+    (delivered_on t mid o e.sets e.delivery r.delivered) e.delivery h (c.with-self.ensures v.here.runs h.runs)

@@ -30,5 +30,6 @@ returns-clause-block c v p o keeps made e what is =
     let mid = c.change.new.self in
     let f = said_spot v p p.body in
     let ch = sent_change v t k p c.args.body.now c.change_of-change.result keeps e what c.change_of-change.ensures in
-    let block = subst (λ (q : CallId). IsDelivered mid mid.delivery (option_map (undo_each (only q f)) o)) (ap (λ x. x.id) e) (c.in_ok-change.ensures.block o f ch made is) in
+    let block = subst (λ (q : CallId). IsDelivered mid mid.delivery (option_map (undo_each (only q f)) o)) (ap (λ x. x.id) e)
+    (c.in_ok-change.ensures.block o f ch made is) in
     delivered_on mid c.keep_packet.new.self (option_map (undo_each (only p.id f)) o) c.in_ok-keep_packet.ensures.sets c.in_ok-keep_packet.ensures.delivery block

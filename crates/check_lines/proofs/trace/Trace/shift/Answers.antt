@@ -10,7 +10,8 @@ returns-clause-lead c h =
     let u = c.know.new.self in
     let old = c.index_mut.result.now in
     let k = c.in_ok-know.ensures in
-    let here : slice_get u.hosts.items c.args.host.0 ≡ Some old = slice_get-get_or u.hosts.items c.args.host.0 old k.known ∙ ap (λ x. Some x) (sym c.index_mut.ensures.value) in
+    let here : slice_get u.hosts.items c.args.host.0 ≡ Some old =
+    slice_get-get_or u.hosts.items c.args.host.0 old k.known ∙ ap (λ x. Some x) (sym c.index_mut.ensures.value) in
     changed_by lead_of (λ x. Some c.args.n) c.args.self.now u c.args.host h old (record old { lead = Some c.args.n }) k.hosts.lead here refl
 
 pub returns-clause-first : goal.returns-clause-first
@@ -18,7 +19,8 @@ returns-clause-first c h =
     let u = c.know.new.self in
     let old = c.index_mut.result.now in
     let k = c.in_ok-know.ensures in
-    let here : slice_get u.hosts.items c.args.host.0 ≡ Some old = slice_get-get_or u.hosts.items c.args.host.0 old k.known ∙ ap (λ x. Some x) (sym c.index_mut.ensures.value) in
+    let here : slice_get u.hosts.items c.args.host.0 ≡ Some old =
+    slice_get-get_or u.hosts.items c.args.host.0 old k.known ∙ ap (λ x. Some x) (sym c.index_mut.ensures.value) in
     same_at first_of u.hosts.items c.args.host.0 h.0 old (record old { lead = Some c.args.n }) here refl ∙ k.hosts.first h
 
 pub returns-clause-restarts : goal.returns-clause-restarts
@@ -26,5 +28,6 @@ returns-clause-restarts c h =
     let u = c.know.new.self in
     let old = c.index_mut.result.now in
     let k = c.in_ok-know.ensures in
-    let here : slice_get u.hosts.items c.args.host.0 ≡ Some old = slice_get-get_or u.hosts.items c.args.host.0 old k.known ∙ ap (λ x. Some x) (sym c.index_mut.ensures.value) in
+    let here : slice_get u.hosts.items c.args.host.0 ≡ Some old =
+    slice_get-get_or u.hosts.items c.args.host.0 old k.known ∙ ap (λ x. Some x) (sym c.index_mut.ensures.value) in
     same_at restarts_in u.hosts.items c.args.host.0 h.0 old (record old { lead = Some c.args.n }) here refl ∙ k.hosts.restarts h

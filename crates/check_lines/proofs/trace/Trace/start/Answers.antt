@@ -18,7 +18,8 @@ returns-clause-kept c v keeps fresh =
       sent_last = false;
       runs = c.new.result;
       lives = c.lives-lives.result;
-      spot = record { live = Some 0; request = None; response = None; resends = record { count = 0; latest = record { tick = 0; lead = 0 }; are_spaced = true } };
+      spot =
+          record { live = Some 0; request = None; response = None; resends = record { count = 0; latest = record { tick = 0; lead = 0 }; are_spaced = true } };
       asked = c.empty.result;
       answered = c.empty-2.result;
     } in
@@ -36,5 +37,6 @@ returns-clause-kept c v keeps fresh =
       spot_is = refl;
     })
     refl
-    (c.in_ok-insert.ensures.keys ∙ ap (λ b. if b then t.ids.keys else t.ids.keys ++ id ∷ []) (not_among _ t.ids.keys t.calls.items id (same_id id) keeps.aligned none))
+    (c.in_ok-insert.ensures.keys ∙ ap (λ b. if b then t.ids.keys else t.ids.keys ++ id ∷ [])
+    (not_among _ t.ids.keys t.calls.items id (same_id id) keeps.aligned none))
     c.in_ok-push.ensures.items

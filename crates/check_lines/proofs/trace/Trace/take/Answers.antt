@@ -8,4 +8,5 @@ returns c v f small shape once =
     let t = c.args.self.now in
     let r = ready v t f in
     let e = c.in_ok-take_line.ensures in
-    taken_is v f.block.undo t c.take_line.new.self _ (plain c.args.line.now) f r (e.taken v f.block.undo r f.place f.first shape once) e.numbers small refl c.saturating_add-self.ensures c.is_ended-self.ensures
+    taken_is v f.block.undo t c.take_line.new.self _ (plain c.args.line.now) f r (e.taken v f.block.undo r f.place f.first shape once) e.numbers small
+    refl c.saturating_add-self.ensures c.is_ended-self.ensures

@@ -18,7 +18,8 @@ returns-in_ok-done-in-Done-clause-taken c v o r other shape once =
     let t = c.args.self.now in
     let s = subst (λ (e : Entry). has_shape v (plain e) ≡ true) c.in-Done.is shape in
     let e = c.in_ok-done-in-Done.ensures in
-    subst (λ (x : Entry). Takes v o (plain x) c.done.new.self) (sym c.in-Done.is) (e.taken v o c.in-Done.bytes.now r (made_by v t c.in-Done.id (is_behind v) r.kept s))
+    subst (λ (x : Entry). Takes v o (plain x) c.done.new.self) (sym c.in-Done.is)
+    (e.taken v o c.in-Done.bytes.now r (made_by v t c.in-Done.id (is_behind v) r.kept s))
 
 pub returns-in_ok-fail-in-Fail-clause-taken : goal.returns-in_ok-fail-in-Fail-clause-taken
 returns-in_ok-fail-in-Fail-clause-taken c v o r other shape once =
@@ -39,35 +40,45 @@ returns-in_ok-run-in-Run-clause-taken c v o r other shape once =
     let t = c.args.self.now in
     let s = subst (λ (e : Entry). has_shape v (plain e) ≡ true) c.in-Run.is shape in
     let e = c.in_ok-run-in-Run.ensures in
-    subst (λ (x : Entry). Takes v o (plain x) c.run.new.self) (sym c.in-Run.is) (e.taken v o c.in-Run.service c.in-Run.request.now c.in-Run.hold r (server_by v c.in-Run.id c.in-Run.host c.in-Run.service c.in-Run.request.now (not (has_run v c.in-Run.host c.in-Run.id)) (subst (λ (x : Entry). runs_once v (plain x) ≡ true) c.in-Run.is once)))
+    subst (λ (x : Entry). Takes v o (plain x) c.run.new.self) (sym c.in-Run.is)
+    (e.taken v o c.in-Run.service c.in-Run.request.now c.in-Run.hold r
+    (server_by v c.in-Run.id c.in-Run.host c.in-Run.service c.in-Run.request.now (not (has_run v c.in-Run.host c.in-Run.id))
+    (subst (λ (x : Entry). runs_once v (plain x) ≡ true) c.in-Run.is once)))
 
 pub returns-in_ok-forget-in-Stale-clause-taken : goal.returns-in_ok-forget-in-Stale-clause-taken
 returns-in_ok-forget-in-Stale-clause-taken c v o r other shape once =
     let t = c.args.self.now in
     let s = subst (λ (e : Entry). has_shape v (plain e) ≡ true) c.in-Stale.is shape in
     let e = c.in_ok-forget-in-Stale.ensures in
-    subst (λ (x : Entry). Takes v o (plain x) c.forget.new.self) (sym c.in-Stale.is) (stale_line v o t c.forget.new.self c.in-Stale.host c.in-Stale.at c.in-Stale.now r (e.kept v o r) e.delivery e.count.here)
+    subst (λ (x : Entry). Takes v o (plain x) c.forget.new.self) (sym c.in-Stale.is)
+    (stale_line v o t c.forget.new.self c.in-Stale.host c.in-Stale.at c.in-Stale.now r (e.kept v o r) e.delivery e.count.here)
 
 pub returns-in_ok-refuse-in-Gaps-clause-taken : goal.returns-in_ok-refuse-in-Gaps-clause-taken
 returns-in_ok-refuse-in-Gaps-clause-taken c v o r other shape once =
     let t = c.args.self.now in
     let s = subst (λ (e : Entry). has_shape v (plain e) ≡ true) c.in-Gaps.is shape in
     let e = c.in_ok-refuse-in-Gaps.ensures in
-    subst (λ (x : Entry). Takes v o (plain x) c.refuse.new.self) (sym c.in-Gaps.is) (gaps_line v o t c.refuse.new.self (PlainGaps c.in-Gaps.host c.in-Gaps.id) c.in-Gaps.host c.in-Gaps.id refl refl r (e.kept v o r) (e.delivered v o r) (e.due v o r) e.count.here)
+    subst (λ (x : Entry). Takes v o (plain x) c.refuse.new.self) (sym c.in-Gaps.is)
+    (gaps_line v o t c.refuse.new.self (PlainGaps c.in-Gaps.host c.in-Gaps.id) c.in-Gaps.host c.in-Gaps.id refl refl r (e.kept v o r)
+    (e.delivered v o r) (e.due v o r) e.count.here)
 
 pub returns-in_ok-refuse-in-FullRows-clause-taken : goal.returns-in_ok-refuse-in-FullRows-clause-taken
 returns-in_ok-refuse-in-FullRows-clause-taken c v o r other shape once =
     let t = c.args.self.now in
     let s = subst (λ (e : Entry). has_shape v (plain e) ≡ true) c.in-FullRows.is shape in
     let e = c.in_ok-refuse-in-FullRows.ensures in
-    subst (λ (x : Entry). Takes v o (plain x) c.refuse-in-FullRows.new.self) (sym c.in-FullRows.is) (gaps_line v o t c.refuse-in-FullRows.new.self (PlainFullRows c.in-FullRows.host c.in-FullRows.id c.in-FullRows.rows c.in-FullRows.limit) c.in-FullRows.host c.in-FullRows.id refl refl r (e.kept v o r) (e.delivered v o r) (e.due v o r) e.count.here)
+    subst (λ (x : Entry). Takes v o (plain x) c.refuse-in-FullRows.new.self) (sym c.in-FullRows.is)
+    (gaps_line v o t c.refuse-in-FullRows.new.self (PlainFullRows c.in-FullRows.host c.in-FullRows.id c.in-FullRows.rows c.in-FullRows.limit)
+    c.in-FullRows.host c.in-FullRows.id refl refl r (e.kept v o r) (e.delivered v o r) (e.due v o r) e.count.here)
 
 pub returns-in_ok-refuse-in-FullPages-clause-taken : goal.returns-in_ok-refuse-in-FullPages-clause-taken
 returns-in_ok-refuse-in-FullPages-clause-taken c v o r other shape once =
     let t = c.args.self.now in
     let s = subst (λ (e : Entry). has_shape v (plain e) ≡ true) c.in-FullPages.is shape in
     let e = c.in_ok-refuse-in-FullPages.ensures in
-    subst (λ (x : Entry). Takes v o (plain x) c.refuse-in-FullPages.new.self) (sym c.in-FullPages.is) (gaps_line v o t c.refuse-in-FullPages.new.self (PlainFullPages c.in-FullPages.host c.in-FullPages.id c.in-FullPages.need c.in-FullPages.free) c.in-FullPages.host c.in-FullPages.id refl refl r (e.kept v o r) (e.delivered v o r) (e.due v o r) e.count.here)
+    subst (λ (x : Entry). Takes v o (plain x) c.refuse-in-FullPages.new.self) (sym c.in-FullPages.is)
+    (gaps_line v o t c.refuse-in-FullPages.new.self (PlainFullPages c.in-FullPages.host c.in-FullPages.id c.in-FullPages.need c.in-FullPages.free)
+    c.in-FullPages.host c.in-FullPages.id refl refl r (e.kept v o r) (e.delivered v o r) (e.due v o r) e.count.here)
 
 pub returns-in_ok-send-in-Send-clause-taken : goal.returns-in_ok-send-in-Send-clause-taken
 returns-in_ok-send-in-Send-clause-taken c v o r other shape once =
@@ -83,7 +94,8 @@ returns-in_ok-send-in-Send-clause-taken c v o r other shape once =
     (send_line v o t c.send.new.self p a.number a.level r (e.kept v p r.kept made is refl) (e.block v p o r.kept made is refl r.delivered) e.due e.count.here)
 
 -- the line of no event says nothing of what is kept
-others : (c : goal.In_default) (v : View) (o : Option Undo) → Ready v o c.args.self.now → IsOther (plain c.args.line.now) → (x : Entry) → c.args.line.now ≡ x → Takes v o (plain x) c.args.self.now
+others : (c : goal.In_default) (v : View) (o : Option Undo) → Ready v o c.args.self.now → IsOther (plain c.args.line.now) → (x : Entry)
+    → c.args.line.now ≡ x → Takes v o (plain x) c.args.self.now
 others c v o r other (entry.Settings a) e = absurd (subst (λ (y : Entry). IsOther (plain y)) e other)
 others c v o r other (entry.Call a b d f) e = let h : true ≡ false = subst (λ (y : Entry). is_event (plain y) ≡ false) e c.requires in absurd cc
 others c v o r other (entry.Deliver a) e = let h : true ≡ false = subst (λ (y : Entry). is_event (plain y) ≡ false) e c.requires in absurd cc

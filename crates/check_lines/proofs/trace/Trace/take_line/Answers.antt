@@ -25,4 +25,5 @@ other line none x e = tt
 pub returns-in_default-clause-taken : goal.returns-in_default-clause-taken
 returns-in_default-clause-taken c =
     let line = c.args.line.now in
-    on_ok_weaker c.take_other.result (λ k v o r place first shape once. k v o r place (other line c.in_default.not-Settings line refl) shape once) c.take_other.ensures.taken
+    on_ok_weaker c.take_other.result (λ k v o r place first shape once. k v o r place (other line c.in_default.not-Settings line refl) shape once)
+    c.take_other.ensures.taken

@@ -25,4 +25,5 @@ kept_in old new pool slot row some are moves =
     in_after old.rows new.rows pool pool at.0 moved.changed.others are moved.moves
 
 pub returns : goal.returns
-returns c = kept_in c.args.self.now.table c.emit.new.self c.args.self.now.pool c.args.slot _ c.requires.stands c.requires.pool (λ id r stands is. c.emit.ensures.row id r c.args.self.now.pool stands is)
+returns c = kept_in c.args.self.now.table c.emit.new.self c.args.self.now.pool c.args.slot _ c.requires.stands c.requires.pool
+    (λ id r stands is. c.emit.ensures.row id r c.args.self.now.pool stands is)

@@ -18,15 +18,18 @@ abbrev part_in : Option (Placed HeldRow) → Option Part
 part_in o = option_and_then (λ (x : Placed HeldRow). x.row.part) o
 
 no_part : (pool : Pool) (a b : Option Part) → a ≡ None → b ≡ None → Moves pool a pool b
-no_part pool a b e f = subst (λ (o : Option Part). Moves pool o pool b) (sym e) (subst (λ (o : Option Part). Moves pool None pool o) (sym f) (still pool None tt))
+no_part pool a b e f =
+    subst (λ (o : Option Part). Moves pool o pool b) (sym e) (subst (λ (o : Option Part). Moves pool None pool o) (sym f) (still pool None tt))
 
 started_in : (old : Clients) (server : HostId) (service : ℕ) (request : List ℕ) (now order : ℕ) (new : Clients) (slot : ℕ) (id : CallId) (pool : Pool)
     → Started old server service request now order new slot id → AreIn pool (part_at old.rows) → AreIn pool (part_at new.rows)
 started_in old server service request now order new slot id pool started are =
     in_after old.rows new.rows pool pool id started.changed.others are (no_part pool _ _ (ap part_in started.first) started.part)
 
-still_in : {E : Type 0} (old : Clients) (server : HostId) (service : ℕ) (request : List ℕ) (now order : ℕ) (new : Clients) (pool : Pool) (r : Result (ℕ × CallId) E)
-    → OnErr r (new ≡ old) → IfOk r (λ x. Started old server service request now order new x.0 x.1) → AreIn pool (part_at old.rows) → AreIn pool (part_at new.rows)
+still_in : {E : Type 0} (old : Clients) (server : HostId) (service : ℕ) (request : List ℕ) (now order : ℕ) (new : Clients) (pool : Pool)
+    (r : Result (ℕ × CallId) E)
+    → OnErr r (new ≡ old) → IfOk r (λ x. Started old server service request now order new x.0 x.1) → AreIn pool (part_at old.rows)
+    → AreIn pool (part_at new.rows)
 still_in old server service request now order new pool (Ok x) same started are = started_in old server service request now order new x.0 x.1 pool started are
 still_in old server service request now order new pool (Err e) same started are = subst (λ (t : Clients). AreIn pool (part_at t.rows)) (sym same) are
 

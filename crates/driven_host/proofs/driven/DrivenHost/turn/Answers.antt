@@ -7,7 +7,8 @@ use Rattle.driven_host.proofs.driven.DrivenHost.turn.Goals as goal
 
 pub invariant_of-self : goal.invariant_of-self
 invariant_of-self c =
-    stepped c.self.inside.host c.turn.new.self c.self.inside.suite c.self.inside.suite c.self.inside.out c.turn.new.out c.self.inside.id c.self.inside.hosts c.self.inside.steps
+    stepped c.self.inside.host c.turn.new.self c.self.inside.suite c.self.inside.suite c.self.inside.out c.turn.new.out c.self.inside.id
+    c.self.inside.hosts c.self.inside.steps
     c.self.invariant (c.if-not-may_begin.ensures.0 refl).few c.turn.ensures.steady (omega arith) (c.turn.ensures.step []).sent
 
 pub returns-clause-step : goal.returns-clause-step

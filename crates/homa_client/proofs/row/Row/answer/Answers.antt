@@ -28,12 +28,15 @@ returns-else-is_some c s host now rows e =
     let m = moment_of host now c.args.order old self.part rows in
     let piece = piece_of c.in-Data.length c.in-Data.offset c.in-Data.version c.in-Data.service c.args.payload.now in
     let gone : is_some self.part ≡ false = ap (λ (r : HeldRow). is_some r.part) (sym c.self.view_is) ∙ sym c.is_some.ensures ∙ c.if-is_some.false in
-    rw c.in-Data.is (subst (λ (o : Option Incoming). Gave m c.args.id (Some piece) (response_piece s m c.args.id (seen_row old self) o piece) old self c.open_with.new.pool c.open_with.new.self c.open_with.new.scratch c.open_with.result)
+    rw c.in-Data.is
+    (subst (λ (o : Option Incoming). Gave m c.args.id (Some piece) (response_piece s m c.args.id (seen_row old self) o piece) old self
+    c.open_with.new.pool c.open_with.new.self c.open_with.new.scratch c.open_with.result)
     (sym (part_gone old self.part gone)) (c.open_with.ensures s c.args.id host now rows c.in-Data.version c.in-Data.service e))
 
 pub returns-in-Resend : goal.returns-in-Resend
 returns-in-Resend c s host now rows e = rw c.in-Resend.is (record {
   did = c.resend.ensures.did (moment_of host now c.args.order c.args.pool.now c.args.self.now.part rows) c.args.id c.args.pool.now c.args.scratch.now;
-  moves = subst (λ (o : Option Part). Moves c.args.pool.now c.args.self.now.part c.args.pool.now o) (sym c.resend.ensures.part) (still c.args.pool.now c.args.self.now.part c.requires.pool);
+  moves = subst (λ (o : Option Part). Moves c.args.pool.now c.args.self.now.part c.args.pool.now o) (sym c.resend.ensures.part)
+      (still c.args.pool.now c.args.self.now.part c.requires.pool);
   gone = c.resend.ensures.stays;
 })

@@ -11,5 +11,6 @@ returns-then-is_at_rest c s pool e inside = ap (λ b. unless b (c.args.self.now.
 pub returns : goal.returns
 unfolding client_deadline
 returns c s pool e inside =
-    let at : c.self.inside.base + c.from.result ≡ c.args.self.now.base + s.resend = omega (arith, ap (λ (r : HeldRow). r.base) c.self.view_is, c.from.ensures, e) in
+    let at : c.self.inside.base + c.from.result ≡ c.args.self.now.base + s.resend =
+    omega (arith, ap (λ (r : HeldRow). r.base) c.self.view_is, c.from.ensures, e) in
     ap Some at ∙ ap (λ b. unless b (c.args.self.now.base + s.resend)) (sym c.if-is_at_rest.false ∙ c.is_at_rest.ensures pool inside)

@@ -12,4 +12,5 @@ invariant_of-self c =
 pub invariant_of-self-in-Forgotten : goal.invariant_of-self-in-Forgotten
 invariant_of-self-in-Forgotten c =
     subst (IsTable c.self.inside.host c.self.inside.inc c.self.inside.seq c.self.inside.settings) (sym c.remove-in-Forgotten.ensures.removed)
-    (table_remove c.self.inside.host c.self.inside.inc c.self.inside.seq c.self.inside.settings c.self.inside.rows c.self.invariant c.remove-in-Forgotten.result.0)
+    (table_remove c.self.inside.host c.self.inside.inc c.self.inside.seq c.self.inside.settings c.self.inside.rows c.self.invariant
+    c.remove-in-Forgotten.result.0)

@@ -20,7 +20,8 @@ returns-in_default-clause-received c =
     let t = the_view c.self.inside in
     let p = from_server c.args.from t.host c.args.packet.now c.args.payload.now in
     rw (← c.self.view_is) (between c.args.from c.args.packet.now c.args.payload.now c.requires.role t c.args.pool.now c.args.now c.args.order _ _ _ _
-    (received_none t c.args.pool.now p c.args.now c.args.order c.args.scratch.now are c.in_default.ensures.absent c.not_live.result (λ m. c.not_live.ensures.did m p c.args.scratch.now) c.not_live.ensures.slot c.not_live.ensures.said))
+    (received_none t c.args.pool.now p c.args.now c.args.order c.args.scratch.now are c.in_default.ensures.absent c.not_live.result
+    (λ m. c.not_live.ensures.did m p c.args.scratch.now) c.not_live.ensures.slot c.not_live.ensures.said))
 
 pub returns-then-not-takes-clause-received : goal.returns-then-not-takes-clause-received
 returns-then-not-takes-clause-received c =
@@ -28,9 +29,11 @@ returns-then-not-takes-clause-received c =
     let t = the_view c.self.inside in
     let p = from_server c.args.from t.host c.args.packet.now c.args.payload.now in
     let at = some_placed (get t.rows p.id) c.in-Some.slot (sym c.in-Some.ensures.place) in
-    let there : StandsAt c.args.self.now.rows p.id c.in-Some.slot at.0 = subst (λ (t : Clients). StandsAt t.rows p.id c.in-Some.slot at.0) c.self.view_is at.1 in
+    let there : StandsAt c.args.self.now.rows p.id c.in-Some.slot at.0 =
+    subst (λ (t : Clients). StandsAt t.rows p.id c.in-Some.slot at.0) c.self.view_is at.1 in
     let refused : false ≡ (is_host c.args.from at.0.server && not (ltb c.args.packet.now.sender at.0.seen)) =
-    sym c.if-not-takes.true ∙ c.takes.ensures ∙ ap (λ (r : HeldRow). is_host c.args.from r.server && not (ltb c.args.packet.now.sender r.seen)) (c.row_at.ensures p.id at.0 there) in
+    sym c.if-not-takes.true ∙ c.takes.ensures ∙ ap (λ (r : HeldRow). is_host c.args.from r.server && not (ltb c.args.packet.now.sender r.seen))
+    (c.row_at.ensures p.id at.0 there) in
     rw (← c.self.view_is) (between c.args.from c.args.packet.now c.args.payload.now c.requires.role t c.args.pool.now c.args.now c.args.order _ _ _ _
     (received_other t c.args.pool.now p c.args.now c.args.order c.args.scratch.now are c.in-Some.slot at.0 at.1 refused))
 
@@ -41,14 +44,16 @@ receive-did-requires-clause-pool c =
     part_stands c.args.pool.now c.self.inside.rows.rows are at.0 c.in-Some.slot c.row_mut.result.now at.1
 
 pub invariant_of-self : goal.invariant_of-self
-invariant_of-self c = table_set c.self.inside.host c.self.inside.inc c.self.inside.seq c.self.inside.settings c.self.inside.rows c.self.invariant c.in-Some.slot c.receive-did.new.self
+invariant_of-self c = table_set c.self.inside.host c.self.inside.inc c.self.inside.seq c.self.inside.settings c.self.inside.rows c.self.invariant
+    c.in-Some.slot c.receive-did.new.self
 
 pub finish-requires : goal.finish-requires
 finish-requires c =
     let t = the_view c.self.inside in
     let p = from_server c.args.from t.host c.args.packet.now c.args.payload.now in
     let at = some_placed (get t.rows p.id) c.in-Some.slot (sym c.in-Some.ensures.place) in
-    ap (option_map (λ (s : CallId × HeldRow). s.0)) (put_spot t c.self.inside.rows.room c.row_mut.ensures.placed p.id c.in-Some.slot at.0 c.receive-did.new.self at.1)
+    ap (option_map (λ (s : CallId × HeldRow). s.0))
+    (put_spot t c.self.inside.rows.room c.row_mut.ensures.placed p.id c.in-Some.slot at.0 c.receive-did.new.self at.1)
 
 pub returns-clause-received : goal.returns-clause-received
 returns-clause-received c =
@@ -56,14 +61,19 @@ returns-clause-received c =
     let t = the_view c.self.inside in
     let p = from_server c.args.from t.host c.args.packet.now c.args.payload.now in
     let at = some_placed (get t.rows p.id) c.in-Some.slot (sym c.in-Some.ensures.place) in
-    let there : StandsAt c.args.self.now.rows p.id c.in-Some.slot at.0 = subst (λ (t : Clients). StandsAt t.rows p.id c.in-Some.slot at.0) c.self.view_is at.1 in
-    let is : c.row_mut.result.now ≡ at.0 = lent c.self.inside.rows.room c.self.inside.rows.rows c.row_mut.ensures.placed c.in-Some.slot c.row_mut.result.now c.row_mut.ensures.row p.id at.0 at.1 in
+    let there : StandsAt c.args.self.now.rows p.id c.in-Some.slot at.0 =
+    subst (λ (t : Clients). StandsAt t.rows p.id c.in-Some.slot at.0) c.self.view_is at.1 in
+    let is : c.row_mut.result.now ≡ at.0 =
+    lent c.self.inside.rows.room c.self.inside.rows.rows c.row_mut.ensures.placed c.in-Some.slot c.row_mut.result.now c.row_mut.ensures.row p.id at.0 at.1 in
     let stands : StandsAt t.rows p.id c.in-Some.slot c.row_mut.result.now = subst (StandsAt t.rows p.id c.in-Some.slot) (sym is) at.1 in
     let takes : true ≡ (is_host c.args.from c.row_mut.result.now.server && not (ltb c.args.packet.now.sender c.row_mut.result.now.seen)) =
-    sym c.if-not-takes.false ∙ c.takes.ensures ∙ ap (λ (r : HeldRow). is_host c.args.from r.server && not (ltb c.args.packet.now.sender r.seen)) (c.row_at.ensures p.id at.0 there ∙ sym is) in
-    let gave = received_gave t c.self.inside.rows.room c.row_mut.ensures.placed p c.in-Some.slot c.row_mut.result.now c.receive-did.new.self stands c.args.pool.now c.receive-did.new.pool are c.args.now c.args.order c.receive-did.new.scratch c.receive-did.result
+    sym c.if-not-takes.false ∙ c.takes.ensures ∙ ap (λ (r : HeldRow). is_host c.args.from r.server && not (ltb c.args.packet.now.sender r.seen))
+    (c.row_at.ensures p.id at.0 there ∙ sym is) in
+    let gave = received_gave t c.self.inside.rows.room c.row_mut.ensures.placed p c.in-Some.slot c.row_mut.result.now c.receive-did.new.self stands
+    c.args.pool.now c.receive-did.new.pool are c.args.now c.args.order c.receive-did.new.scratch c.receive-did.result
     takes (λ rows. c.receive-did.ensures t.settings t.host rows refl) in
-    rw (← c.self.view_is, c.finish.ensures.answer, c.finish.ensures.rows) (between c.args.from c.args.packet.now c.args.payload.now c.requires.role t c.args.pool.now c.args.now c.args.order _ _ _ _ gave)
+    rw (← c.self.view_is, c.finish.ensures.answer, c.finish.ensures.rows)
+    (between c.args.from c.args.packet.now c.args.payload.now c.requires.role t c.args.pool.now c.args.now c.args.order _ _ _ _ gave)
 
 pub returns-clause-pool : goal.returns-clause-pool
 returns-clause-pool c =
@@ -71,7 +81,10 @@ returns-clause-pool c =
     let t = the_view c.self.inside in
     let p = from_server c.args.from t.host c.args.packet.now c.args.payload.now in
     let at = some_placed (get t.rows p.id) c.in-Some.slot (sym c.in-Some.ensures.place) in
-    let is : c.row_mut.result.now ≡ at.0 = lent c.self.inside.rows.room c.self.inside.rows.rows c.row_mut.ensures.placed c.in-Some.slot c.row_mut.result.now c.row_mut.ensures.row p.id at.0 at.1 in
+    let is : c.row_mut.result.now ≡ at.0 =
+    lent c.self.inside.rows.room c.self.inside.rows.rows c.row_mut.ensures.placed c.in-Some.slot c.row_mut.result.now c.row_mut.ensures.row p.id at.0 at.1 in
     let stands : StandsAt t.rows p.id c.in-Some.slot c.row_mut.result.now = subst (StandsAt t.rows p.id c.in-Some.slot) (sym is) at.1 in
-    rw c.finish.ensures.rows (received_in t c.self.inside.rows.room c.row_mut.ensures.placed p c.in-Some.slot c.row_mut.result.now c.receive-did.new.self stands c.args.pool.now c.receive-did.new.pool are c.args.now c.args.order c.receive-did.new.scratch c.receive-did.result
+    rw c.finish.ensures.rows
+    (received_in t c.self.inside.rows.room c.row_mut.ensures.placed p c.in-Some.slot c.row_mut.result.now c.receive-did.new.self stands
+    c.args.pool.now c.receive-did.new.pool are c.args.now c.args.order c.receive-did.new.scratch c.receive-did.result
     (λ rows. c.receive-did.ensures t.settings t.host rows refl))

@@ -11,7 +11,9 @@ use Rattle.homa_client.proofs.table.ClientTable.start.Goals as goal
 
 pub invariant_of-self : goal.invariant_of-self
 invariant_of-self c =
-    rw c.insert-slot.ensures.inserted (table_insert c.self.inside.host c.self.inside.inc c.self.inside.seq c.self.inside.settings c.self.inside.rows c.self.invariant (record { place = c.insert-slot.result; row = c.open-row.result }))
+    rw c.insert-slot.ensures.inserted
+    (table_insert c.self.inside.host c.self.inside.inc c.self.inside.seq c.self.inside.settings c.self.inside.rows c.self.invariant
+    (record { place = c.insert-slot.result; row = c.open-row.result }))
 
 pub returns-clause-started : goal.returns-clause-started
 returns-clause-started c =

@@ -7,14 +7,17 @@ use Rattle.homa_fabric.proofs.HandedLaws.{highest_none, highest_some}
 use Rattle.homa_fabric.proofs.inbound.Destination.highest.Goals as goal
 
 pub loop-level-init : goal.loop-level-init
-loop-level-init c = λ k past. ap (λ (d : Destination). level_of d k) (sym c.self.view_is) ∙ levels_past c.self.inside.levels.items c.self.inside.budget c.self.inside.again k c.self.invariant past
+loop-level-init c = λ k past. ap (λ (d : Destination). level_of d k) (sym c.self.view_is)
+    ∙ levels_past c.self.inside.levels.items c.self.inside.budget c.self.inside.again k c.self.invariant past
 
 pub returns-then-not-is_empty-clause-level : goal.returns-then-not-is_empty-clause-level
 returns-then-not-is_empty-clause-level c =
     let inside : c.loop-level.level - 1 < 8 = omega arith in
-    let first = some_at c.self.inside.levels.items c.self.inside.budget c.self.inside.again (c.loop-level.level - 1) c.index.result.now c.self.invariant inside c.index.ensures c.if-not-is_empty.ensures in
+    let first = some_at c.self.inside.levels.items c.self.inside.budget c.self.inside.again (c.loop-level.level - 1) c.index.result.now
+    c.self.invariant inside c.index.ensures c.if-not-is_empty.ensures in
     ap (λ (n : ℕ). Some n) (sym (zero-add (c.loop-level.level - 1)))
-    ∙ sym (highest_some 0 (c.loop-level.level - 1) c.args.self.now.levels first.0 first.1 (ap (λ (d : Destination). level_of d (c.loop-level.level - 1)) (sym c.self.view_is) ∙ first.2) (λ j above. c.loop-level.invariant j (omega arith)))
+    ∙ sym (highest_some 0 (c.loop-level.level - 1) c.args.self.now.levels first.0 first.1
+    (ap (λ (d : Destination). level_of d (c.loop-level.level - 1)) (sym c.self.view_is) ∙ first.2) (λ j above. c.loop-level.invariant j (omega arith)))
 
 pub loop-level-preserved : goal.loop-level-preserved
 loop-level-preserved c = λ k from.
@@ -22,7 +25,8 @@ loop-level-preserved c = λ k from.
     elim (eq-or-lt_of_le from) [
       | inl here ↦ ap (level_of c.args.self.now) (sym here)
           ∙ ap (λ (d : Destination). level_of d (c.loop-level.level - 1)) (sym c.self.view_is)
-          ∙ none_at c.self.inside.levels.items c.self.inside.budget c.self.inside.again (c.loop-level.level - 1) c.index.result.now c.self.invariant inside c.index.ensures c.if-not-is_empty.ensures
+          ∙ none_at c.self.inside.levels.items c.self.inside.budget c.self.inside.again (c.loop-level.level - 1) c.index.result.now c.self.invariant
+          inside c.index.ensures c.if-not-is_empty.ensures
       | inr above ↦ c.loop-level.invariant k (omega arith)
     ]
 

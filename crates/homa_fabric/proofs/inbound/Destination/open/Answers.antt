@@ -10,10 +10,12 @@ pub loop-init : goal.loop-init
 loop-init c = c.in_ok-levels.ensures.items
 
 pub loop-preserved : goal.loop-preserved
-loop-preserved c = c.in_ok-push.ensures.items ∙ ap (λ (q : Buffer Queued). c.loop.levels.items ++ q ∷ []) c.in_ok-with_capacity.ensures ∙ one_more c.loop.counter c.loop.levels.items (buffer [] most_queued) c.loop.invariant
+loop-preserved c = c.in_ok-push.ensures.items ∙ ap (λ (q : Buffer Queued). c.loop.levels.items ++ q ∷ []) c.in_ok-with_capacity.ensures
+    ∙ one_more c.loop.counter c.loop.levels.items (buffer [] most_queued) c.loop.invariant
 
 eight : (c : goal.After-loop) → c.loop.levels.items ≡ replicate 8 (buffer [] most_queued)
-eight c = let all : c.loop.counter ≡ 8 = omega (arith, c.loop-test.false, c.loop.auto) in c.loop.invariant ∙ ap (λ (n : ℕ). replicate n (buffer [] most_queued)) all
+eight c =
+    let all : c.loop.counter ≡ 8 = omega (arith, c.loop-test.false, c.loop.auto) in c.loop.invariant ∙ ap (λ (n : ℕ). replicate n (buffer [] most_queued)) all
 
 pub invariant_of-result : goal.invariant_of-result
 invariant_of-result c = subst AreQueues (sym (eight c)) empty_queues

@@ -14,7 +14,8 @@ pub loop-destination-preserved : goal.loop-destination-preserved
 loop-destination-preserved c =
     let all = c.deref_mut-destination-items.result.now in
     ap (set c.loop-destination.destination-items c.loop-destination.destination-index) (c.refill.ensures ∙ ap refilled (sym c.destination-item.is))
-    ∙ map_over_more refilled all c.loop-destination.destination-items c.loop-destination.destination-index c.destination-item.result c.loop-destination-test.true c.loop-destination.invariant c.destination-item.is
+    ∙ map_over_more refilled all c.loop-destination.destination-items c.loop-destination.destination-index c.destination-item.result
+    c.loop-destination-test.true c.loop-destination.invariant c.destination-item.is
 
 -- nothing is left behind the last turn
 gone_over : (ds : List Destination) (i : ℕ) → length ds ≤ i → map refilled (take i ds) ++ drop i ds ≡ map refilled ds

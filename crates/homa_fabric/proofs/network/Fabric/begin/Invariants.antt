@@ -4,4 +4,5 @@ use Rattle.generated_runs.specs.Fabric.{refilled}
 use Rattle.homa_fabric.proofs.network.Fabric.begin.Given as goal
 
 abbrev pub invariant-loop-destination : goal.invariant-loop-destination
-invariant-loop-destination l = l.destination-items ≡ map refilled (take l.destination-index l.initial.destination-items) ++ drop l.destination-index l.initial.destination-items
+invariant-loop-destination l =
+    l.destination-items ≡ map refilled (take l.destination-index l.initial.destination-items) ++ drop l.destination-index l.initial.destination-items

@@ -9,10 +9,12 @@ pub loop-init : goal.loop-init
 loop-init c = c.in_ok-destinations.ensures.items
 
 pub loop-preserved : goal.loop-preserved
-loop-preserved c = c.in_ok-push.ensures.items ∙ ap (λ (d : Destination). c.loop.destinations.items ++ d ∷ []) c.in_ok-open.ensures ∙ one_more c.loop.counter c.loop.destinations.items idle c.loop.invariant
+loop-preserved c = c.in_ok-push.ensures.items ∙ ap (λ (d : Destination). c.loop.destinations.items ++ d ∷ []) c.in_ok-open.ensures
+    ∙ one_more c.loop.counter c.loop.destinations.items idle c.loop.invariant
 
 all_idle : (c : goal.After-new) → c.loop.destinations.items ≡ replicate c.args.settings.now.hosts idle
-all_idle c = let all : c.loop.counter ≡ c.args.settings.now.hosts = omega (arith, c.loop-test.false, c.loop.auto) in c.loop.invariant ∙ ap (λ (n : ℕ). replicate n idle) all
+all_idle c = let all : c.loop.counter ≡ c.args.settings.now.hosts =
+    omega (arith, c.loop-test.false, c.loop.auto) in c.loop.invariant ∙ ap (λ (n : ℕ). replicate n idle) all
 
 pub invariant_of-result : goal.invariant_of-result
 invariant_of-result c =

@@ -37,5 +37,6 @@ loop-kind-preserved g c =
     let so_far = c.loop-kind.invariant.so_far in
     record {
       so_far = went_on g.met.K.Sink.same_on so_far c.in_ok-put_line.ensures
-          (wrote_entry (count_line c.args.self.now) kinds i k _ _ _ _ inside (get_or_default kinds i k kind.Call inside) line so_far.ok c.in_ok-put_line.ensures.ok);
+          (wrote_entry (count_line c.args.self.now) kinds i k _ _ _ _ inside (get_or_default kinds i k kind.Call inside) line so_far.ok
+          c.in_ok-put_line.ensures.ok);
     }

@@ -50,9 +50,11 @@ pub put-requires-clause-order : goal.put-requires-clause-order
 put-requires-clause-order c key is =
     let kept = kept_as c.self.view_is c.self.invariant in
     let message = in_table kept c.args.slot c.index.result.now c.in-Some.peer (slot_within kept c.args.slot c.requires) c.index.ensures c.in-Some.is in
-    let had : record { first = message.entry.remaining; second = message.entry.order } ≡ c.in-Some-key.key = same_some _ _ (sym (own_key kept message c.index-2.result.now c.index-2.ensures) ∙ sym c.key.ensures ∙ c.in-Some-key.is) in
+    let had : record { first = message.entry.remaining; second = message.entry.order } ≡ c.in-Some-key.key =
+    same_some _ _ (sym (own_key kept message c.index-2.result.now c.index-2.ensures) ∙ sym c.key.ensures ∙ c.in-Some-key.is) in
     subst (λ n. IsOwnOrder c.args.slot n c.args.self.now.entries)
-    (ap (λ (k : Key). k.second) had ∙ ap (λ (k : Key). k.second) (same_some (record { first = c.from.result; second = c.in-Some-key.key.second }) key is)) (own_order kept message)
+    (ap (λ (k : Key). k.second) had
+    ∙ ap (λ (k : Key). k.second) (same_some (record { first = c.from.result; second = c.in-Some-key.key.second }) key is)) (own_order kept message)
 
 pub put-requires-clause-same : goal.put-requires-clause-same
 put-requires-clause-same c =
@@ -64,7 +66,16 @@ returns-clause-changed c =
     let b : Book = c.args.self.now in
     let kept = kept_as c.self.view_is c.self.invariant in
     let message = in_table kept c.args.slot c.index.result.now c.in-Some.peer (slot_within kept c.args.slot c.requires) c.index.ensures c.in-Some.is in
-    let had : record { first = message.entry.remaining; second = message.entry.order } ≡ c.in-Some-key.key = same_some _ _ (sym (own_key kept message c.index-2.result.now c.index-2.ensures) ∙ sym c.key.ensures ∙ c.in-Some-key.is) in
+    let had : record { first = message.entry.remaining; second = message.entry.order } ≡ c.in-Some-key.key =
+    same_some _ _ (sym (own_key kept message c.index-2.result.now c.index-2.ensures) ∙ sym c.key.ensures ∙ c.in-Some-key.is) in
     c.put.ensures.put
-    ∙ (λ i. record b { entries = placed entry_key (record { slot = sym message.slot_is i; peer = sym message.peer_is i; remaining = c.from.ensures i; order = ap (λ (k : Key). k.second) (sym had) i }) (without (sym message.slot_is i) b.entries) })
+    ∙ (λ i. record b {
+      entries = placed entry_key
+          (record {
+            slot = sym message.slot_is i;
+            peer = sym message.peer_is i;
+            remaining = c.from.ensures i;
+            order = ap (λ (k : Key). k.second) (sym had) i;
+          }) (without (sym message.slot_is i) b.entries);
+    })
     ∙ ap (λ o. record b { entries = with_remaining c.args.remaining o b.entries }) (sym message.found)

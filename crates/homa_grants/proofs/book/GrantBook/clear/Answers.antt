@@ -7,7 +7,8 @@ use Rattle.homa_grants.proofs.EntryLaws.{without-again, entry_of-without}
 use Rattle.homa_grants.proofs.book.GrantBook.clear.Goals as goal
 
 pub returns-then-is_some_and-clause-others : goal.returns-then-is_some_and-clause-others
-returns-then-is_some_and-clause-others c = ap (λ (b : Book). without c.args.slot b.entries) c.leave.ensures.left ∙ without-again c.args.slot c.args.self.now.entries
+returns-then-is_some_and-clause-others c =
+    ap (λ (b : Book). without c.args.slot b.entries) c.leave.ensures.left ∙ without-again c.args.slot c.args.self.now.entries
 
 pub returns-then-is_some_and-clause-peer : goal.returns-then-is_some_and-clause-peer
 returns-then-is_some_and-clause-peer c e is =
@@ -17,4 +18,5 @@ returns-then-is_some_and-clause-peer c e is =
 pub returns-then-is_some_and-clause-orders : goal.returns-then-is_some_and-clause-orders
 returns-then-is_some_and-clause-orders c order own =
     let left = ap (λ (b : Book). b.entries) c.leave.ensures.left in
-    subst (IsOwnOrder c.args.slot order) (sym left) (filter-all (λ (e : Entry). e.order ≡ order → e.slot ≡ c.args.slot) (λ e. not (eqb e.slot c.args.slot)) c.args.self.now.entries own)
+    subst (IsOwnOrder c.args.slot order) (sym left)
+    (filter-all (λ (e : Entry). e.order ≡ order → e.slot ≡ c.args.slot) (λ e. not (eqb e.slot c.args.slot)) c.args.self.now.entries own)

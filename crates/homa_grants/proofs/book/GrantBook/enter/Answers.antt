@@ -9,7 +9,9 @@ use Rattle.homa_grants.proofs.book.GrantBook.enter.Goals as goal
 
 pub put-requires-clause-order : goal.put-requires-clause-order
 put-requires-clause-order c key is =
-    subst (λ n. IsOwnOrder c.args.slot n c.clear.new.self.entries) (ap (λ (k : Key). k.second) (same_some (record { first = c.from.result; second = c.args.order }) key is)) (c.clear.ensures.orders c.args.order c.requires.order)
+    subst (λ n. IsOwnOrder c.args.slot n c.clear.new.self.entries)
+    (ap (λ (k : Key). k.second) (same_some (record { first = c.from.result; second = c.args.order }) key is))
+    (c.clear.ensures.orders c.args.order c.requires.order)
 
 pub returns-clause-entered : goal.returns-clause-entered
 returns-clause-entered c =
@@ -18,5 +20,6 @@ returns-clause-entered c =
       slots = ap (λ (b : Book). b.slots) same i;
       hosts = ap (λ (b : Book). b.hosts) same i;
       most = ap (λ (b : Book). b.most) same i;
-      entries = placed entry_key (record { slot = c.args.slot; peer = c.args.peer.0; remaining = c.from.ensures i; order = c.args.order }) (c.clear.ensures.others i);
+      entries =
+          placed entry_key (record { slot = c.args.slot; peer = c.args.peer.0; remaining = c.from.ensures i; order = c.args.order }) (c.clear.ensures.others i);
     })

@@ -6,7 +6,8 @@ use Rattle.homa_grants.proofs.KeptLaws.{kept_as, in_table, not_in_table}
 use Rattle.homa_grants.proofs.book.GrantBook.leave.Goals as goal
 
 pub put-requires-clause-peer : goal.put-requires-clause-peer
-put-requires-clause-peer c = (in_table (kept_as c.self.view_is c.self.invariant) c.args.slot c.index.result.now c.in-Some.peer c.requires c.index.ensures c.in-Some.is).peer_in
+put-requires-clause-peer c =
+    (in_table (kept_as c.self.view_is c.self.invariant) c.args.slot c.index.result.now c.in-Some.peer c.requires c.index.ensures c.in-Some.is).peer_in
 
 pub returns-in_default-clause-left : goal.returns-in_default-clause-left
 returns-in_default-clause-left c =

@@ -44,12 +44,16 @@ returns-in-Ok-clause-step c whole =
     let o = c.self.inside.parts in
     let w = starts o.control.settings c.args.server c.args.number c.args.request.items (begun (host_of o) c.args.now) in
     let starts_here = subst (λ (f : List SentFrame). Amid w c.start.new.self f) (sym c.clear.ensures) c.in-Ok.ensures.step in
-    let amid = ended_through o.control.settings w c.start.new.self c.end_step.new.self c.clear.new.self c.end_step.new.out c.in-Ok.ensures.steady.settings starts_here c.end_step.ensures.step in
-    subst (λ (h : Seen). IsDone h (call_step h.settings h.host c.args.now c.args.server c.args.number c.args.request.items) (seen_of c.end_step.new.self) c.end_step.new.out whole) c.self.view_is
-    (call_done o c.end_step.new.self c.self.invariant c.args.now (c.end_step.ensures.settings ∙ c.in-Ok.ensures.steady.settings) c.end_step.new.out c.args.server c.args.number c.args.request.items amid whole)
+    let amid = ended_through o.control.settings w c.start.new.self c.end_step.new.self c.clear.new.self c.end_step.new.out
+    c.in-Ok.ensures.steady.settings starts_here c.end_step.ensures.step in
+    subst (λ (h : Seen). IsDone h (call_step h.settings h.host c.args.now c.args.server c.args.number c.args.request.items)
+    (seen_of c.end_step.new.self) c.end_step.new.out whole) c.self.view_is
+    (call_done o c.end_step.new.self c.self.invariant c.args.now (c.end_step.ensures.settings ∙ c.in-Ok.ensures.steady.settings) c.end_step.new.out
+    c.args.server c.args.number c.args.request.items amid whole)
 
 pub returns-in-Ok-clause-no_fault : goal.returns-in-Ok-clause-no_fault
-returns-in-Ok-clause-no_fault c = subst (λ (h : Seen). start_fault h.settings h.host c.args.server c.args.request.items ≡ None) c.self.view_is c.in-Ok.ensures.no_fault
+returns-in-Ok-clause-no_fault c =
+    subst (λ (h : Seen). start_fault h.settings h.host c.args.server c.args.request.items ≡ None) c.self.view_is c.in-Ok.ensures.no_fault
 
 pub returns-in-Ok-clause-id : goal.returns-in-Ok-clause-id
 returns-in-Ok-clause-id c = subst (λ (h : Seen). c.in-Ok.id ≡ next_id h.host) c.self.view_is c.in-Ok.ensures.id
@@ -59,29 +63,37 @@ returns-in-Ok-clause-steady c =
     let o = c.self.inside.parts in
     let w = starts o.control.settings c.args.server c.args.number c.args.request.items (begun (host_of o) c.args.now) in
     let starts_here = subst (λ (f : List SentFrame). Amid w c.start.new.self f) (sym c.clear.ensures) c.in-Ok.ensures.step in
-    let amid = ended_through o.control.settings w c.start.new.self c.end_step.new.self c.clear.new.self c.end_step.new.out c.in-Ok.ensures.steady.settings starts_here c.end_step.ensures.step in
+    let amid = ended_through o.control.settings w c.start.new.self c.end_step.new.self c.clear.new.self c.end_step.new.out
+    c.in-Ok.ensures.steady.settings starts_here c.end_step.ensures.step in
     subst (λ (h : Seen). IsSameHost h (seen_of c.end_step.new.self)) c.self.view_is
-    (call_same o c.end_step.new.self c.self.invariant c.args.now (c.end_step.ensures.settings ∙ c.in-Ok.ensures.steady.settings) c.end_step.new.out c.args.server c.args.number c.args.request.items amid)
+    (call_same o c.end_step.new.self c.self.invariant c.args.now (c.end_step.ensures.settings ∙ c.in-Ok.ensures.steady.settings) c.end_step.new.out
+    c.args.server c.args.number c.args.request.items amid)
 
 pub returns-in-Ok-clause-last : goal.returns-in-Ok-clause-last
 returns-in-Ok-clause-last c =
     let o = c.self.inside.parts in
     let w = starts o.control.settings c.args.server c.args.number c.args.request.items (begun (host_of o) c.args.now) in
     let starts_here = subst (λ (f : List SentFrame). Amid w c.start.new.self f) (sym c.clear.ensures) c.in-Ok.ensures.step in
-    let amid = ended_through o.control.settings w c.start.new.self c.end_step.new.self c.clear.new.self c.end_step.new.out c.in-Ok.ensures.steady.settings starts_here c.end_step.ensures.step in
-    call_last o c.end_step.new.self c.self.invariant c.args.now (c.end_step.ensures.settings ∙ c.in-Ok.ensures.steady.settings) c.end_step.new.out c.args.server c.args.number c.args.request.items amid
+    let amid = ended_through o.control.settings w c.start.new.self c.end_step.new.self c.clear.new.self c.end_step.new.out
+    c.in-Ok.ensures.steady.settings starts_here c.end_step.ensures.step in
+    call_last o c.end_step.new.self c.self.invariant c.args.now (c.end_step.ensures.settings ∙ c.in-Ok.ensures.steady.settings) c.end_step.new.out
+    c.args.server c.args.number c.args.request.items amid
 
 pub returns-in-Err-clause-fault : goal.returns-in-Err-clause-fault
-returns-in-Err-clause-fault c = subst (λ (h : Seen). start_fault h.settings h.host c.args.server c.args.request.items ≡ Some c.in-Err.refused.0) c.self.view_is c.in-Err.ensures.fault
+returns-in-Err-clause-fault c =
+    subst (λ (h : Seen). start_fault h.settings h.host c.args.server c.args.request.items ≡ Some c.in-Err.refused.0) c.self.view_is c.in-Err.ensures.fault
 
 pub returns-in-Err-clause-back : goal.returns-in-Err-clause-back
 returns-in-Err-clause-back c = c.in-Err.ensures.back
 
 pub returns-in-Err-clause-same : goal.returns-in-Err-clause-same
-returns-in-Err-clause-same c = quiet_seen c.self.inside.parts c.start.new.self c.args.self.now c.tell_nothing.new.self c.self.view_is c.in-Err.ensures.same c.tell_nothing.ensures
+returns-in-Err-clause-same c =
+    quiet_seen c.self.inside.parts c.start.new.self c.args.self.now c.tell_nothing.new.self c.self.view_is c.in-Err.ensures.same c.tell_nothing.ensures
 
 pub returns-in-Err-clause-none : goal.returns-in-Err-clause-none
 returns-in-Err-clause-none c = c.clear.ensures
 
 pub returns-in-Err-clause-steady : goal.returns-in-Err-clause-steady
-returns-in-Err-clause-steady c = quiet_same c.args.self.now _ (quiet_seen c.self.inside.parts c.start.new.self c.args.self.now c.tell_nothing.new.self c.self.view_is c.in-Err.ensures.same c.tell_nothing.ensures)
+returns-in-Err-clause-steady c =
+    quiet_same c.args.self.now _
+    (quiet_seen c.self.inside.parts c.start.new.self c.args.self.now c.tell_nothing.new.self c.self.view_is c.in-Err.ensures.same c.tell_nothing.ensures)

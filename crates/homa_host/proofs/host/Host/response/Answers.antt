@@ -8,10 +8,12 @@ use Rattle.homa_host.proofs.host.Host.response.Goals as goal
 
 pub returns-in-Some : goal.returns-in-Some
 returns-in-Some c =
-    subst (λ r. unwrap_or (option_copied r) [] ≡ response_of (host_of c.self.inside.parts) c.args.id) c.in-Some.is (response-there c.self.inside.parts c.args.id (option_copied c.response.result) c.response.ensures)
+    subst (λ r. unwrap_or (option_copied r) [] ≡ response_of (host_of c.self.inside.parts) c.args.id) c.in-Some.is
+    (response-there c.self.inside.parts c.args.id (option_copied c.response.result) c.response.ensures)
     ∙ ap (λ (h : Seen). response_of h.host c.args.id) c.self.view_is
 
 pub returns-in-None : goal.returns-in-None
 returns-in-None c =
-    subst (λ r. unwrap_or (option_copied r) [] ≡ response_of (host_of c.self.inside.parts) c.args.id) c.in-None.is (response-there c.self.inside.parts c.args.id (option_copied c.response.result) c.response.ensures)
+    subst (λ r. unwrap_or (option_copied r) [] ≡ response_of (host_of c.self.inside.parts) c.args.id) c.in-None.is
+    (response-there c.self.inside.parts c.args.id (option_copied c.response.result) c.response.ensures)
     ∙ ap (λ (h : Seen). response_of h.host c.args.id) c.self.view_is

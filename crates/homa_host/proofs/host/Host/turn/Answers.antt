@@ -14,7 +14,8 @@ begin-requires c = c.requires.now
 pub act_all-requires-clause-kept : goal.act_all-requires-clause-kept
 act_all-requires-clause-kept c =
     let later = subst (λ (h : Seen). h.host.last ≤ c.args.now) (sym c.self.view_is) c.requires.later in
-    filled_kept c.self.inside.parts c.self.invariant c.args.now c.requires.now later c.begin.new.self c.begin.ensures c.refill.new.self c.refill.ensures.refilled
+    filled_kept c.self.inside.parts c.self.invariant c.args.now c.requires.now later c.begin.new.self c.begin.ensures c.refill.new.self
+    c.refill.ensures.refilled
 
 pub act_all-requires-clause-order : goal.act_all-requires-clause-order
 act_all-requires-clause-order c = subst (λ (h : Seen). h.host.order < 9223372036854775808) (sym c.self.view_is) c.requires.order
@@ -42,24 +43,33 @@ pub returns-clause-step : goal.returns-clause-step
 returns-clause-step c whole =
     let later = subst (λ (h : Seen). h.host.last ≤ c.args.now) (sym c.self.view_is) c.requires.later in
     let s = c.act_all.ensures.steady in
-    let amid = turn_through c.self.inside.parts c.self.invariant c.args.now c.requires.now later c.begin.new.self c.begin.ensures c.refill.new.self c.refill.ensures.refilled
-    c.act_all.new.self c.end_step.new.self c.clear.new.self c.act_all.new.out c.end_step.new.out c.clear.ensures c.act_all.ensures.step s.settings c.end_step.ensures.step in
+    let amid = turn_through c.self.inside.parts c.self.invariant c.args.now c.requires.now later c.begin.new.self c.begin.ensures c.refill.new.self
+    c.refill.ensures.refilled
+    c.act_all.new.self c.end_step.new.self c.clear.new.self c.act_all.new.out c.end_step.new.out c.clear.ensures c.act_all.ensures.step s.settings
+    c.end_step.ensures.step in
     subst (λ (h : Seen). IsDone h (turn_step h.settings h.host c.args.now) (seen_of c.end_step.new.self) c.end_step.new.out whole) c.self.view_is
-    (turn_done c.self.inside.parts c.end_step.new.self c.self.invariant c.args.now (c.end_step.ensures.settings ∙ s.settings ∙ ap (λ (k : Control). k.settings) c.begin.ensures) c.end_step.new.out amid whole)
+    (turn_done c.self.inside.parts c.end_step.new.self c.self.invariant c.args.now
+    (c.end_step.ensures.settings ∙ s.settings ∙ ap (λ (k : Control). k.settings) c.begin.ensures) c.end_step.new.out amid whole)
 
 pub returns-clause-steady : goal.returns-clause-steady
 returns-clause-steady c =
     let later = subst (λ (h : Seen). h.host.last ≤ c.args.now) (sym c.self.view_is) c.requires.later in
     let s = c.act_all.ensures.steady in
-    let amid = turn_through c.self.inside.parts c.self.invariant c.args.now c.requires.now later c.begin.new.self c.begin.ensures c.refill.new.self c.refill.ensures.refilled
-    c.act_all.new.self c.end_step.new.self c.clear.new.self c.act_all.new.out c.end_step.new.out c.clear.ensures c.act_all.ensures.step s.settings c.end_step.ensures.step in
+    let amid = turn_through c.self.inside.parts c.self.invariant c.args.now c.requires.now later c.begin.new.self c.begin.ensures c.refill.new.self
+    c.refill.ensures.refilled
+    c.act_all.new.self c.end_step.new.self c.clear.new.self c.act_all.new.out c.end_step.new.out c.clear.ensures c.act_all.ensures.step s.settings
+    c.end_step.ensures.step in
     subst (λ (h : Seen). IsSameHost h (seen_of c.end_step.new.self)) c.self.view_is
-    (turn_same c.self.inside.parts c.end_step.new.self c.self.invariant c.args.now (c.end_step.ensures.settings ∙ s.settings ∙ ap (λ (k : Control). k.settings) c.begin.ensures) c.end_step.new.out amid)
+    (turn_same c.self.inside.parts c.end_step.new.self c.self.invariant c.args.now
+    (c.end_step.ensures.settings ∙ s.settings ∙ ap (λ (k : Control). k.settings) c.begin.ensures) c.end_step.new.out amid)
 
 pub returns-clause-last : goal.returns-clause-last
 returns-clause-last c =
     let later = subst (λ (h : Seen). h.host.last ≤ c.args.now) (sym c.self.view_is) c.requires.later in
     let s = c.act_all.ensures.steady in
-    let amid = turn_through c.self.inside.parts c.self.invariant c.args.now c.requires.now later c.begin.new.self c.begin.ensures c.refill.new.self c.refill.ensures.refilled
-    c.act_all.new.self c.end_step.new.self c.clear.new.self c.act_all.new.out c.end_step.new.out c.clear.ensures c.act_all.ensures.step s.settings c.end_step.ensures.step in
-    turn_last c.self.inside.parts c.end_step.new.self c.self.invariant c.args.now (c.end_step.ensures.settings ∙ s.settings ∙ ap (λ (k : Control). k.settings) c.begin.ensures) c.end_step.new.out amid
+    let amid = turn_through c.self.inside.parts c.self.invariant c.args.now c.requires.now later c.begin.new.self c.begin.ensures c.refill.new.self
+    c.refill.ensures.refilled
+    c.act_all.new.self c.end_step.new.self c.clear.new.self c.act_all.new.out c.end_step.new.out c.clear.ensures c.act_all.ensures.step s.settings
+    c.end_step.ensures.step in
+    turn_last c.self.inside.parts c.end_step.new.self c.self.invariant c.args.now
+    (c.end_step.ensures.settings ∙ s.settings ∙ ap (λ (k : Control). k.settings) c.begin.ensures) c.end_step.new.out amid

@@ -26,9 +26,11 @@ server_acts-requires-clause-due c =
 pub returns-then-slot-calls-clause-step : goal.returns-then-slot-calls-clause-step
 returns-then-slot-calls-clause-step c =
     let calls = ap (λ (s : Settings). s.calls) c.settings.ensures.settings in
-    client_first c.args.self.now c.requires.kept c.args.slot c.requires.due (omega (arith, calls, c.if-slot-calls.true)) c.client_acts.new.self c.args.out.now c.client_acts.new.out c.client_acts.ensures.step
+    client_first c.args.self.now c.requires.kept c.args.slot c.requires.due (omega (arith, calls, c.if-slot-calls.true)) c.client_acts.new.self
+    c.args.out.now c.client_acts.new.out c.client_acts.ensures.step
 
 pub returns-else-slot-calls-clause-step : goal.returns-else-slot-calls-clause-step
 returns-else-slot-calls-clause-step c =
     let calls = ap (λ (s : Settings). s.calls) c.settings.ensures.settings in
-    server_first c.args.self.now c.requires.kept c.args.slot c.requires.due _ (omega (arith, calls, c.if-slot-calls.false)) c.server_acts.new.self c.args.out.now c.server_acts.new.out c.server_acts.ensures.step
+    server_first c.args.self.now c.requires.kept c.args.slot c.requires.due _ (omega (arith, calls, c.if-slot-calls.false)) c.server_acts.new.self
+    c.args.out.now c.server_acts.new.out c.server_acts.ensures.step

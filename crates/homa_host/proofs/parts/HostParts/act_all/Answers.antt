@@ -15,7 +15,9 @@ loop-init c = record {
 
 pub act-requires-clause-due : goal.act-requires-clause-due
 act-requires-clause-due c =
-    let first = subst (λ n. c.due.result ≡ option_map (λ (t : armed.Timer). t.slot) (first_of (due armed.timer_key n c.loop.self.books.timers.timers))) c.last.ensures c.due.ensures.first in
+    let first = subst
+    (λ n. c.due.result ≡ option_map (λ (t : armed.Timer). t.slot) (first_of (due armed.timer_key n c.loop.self.books.timers.timers))) c.last.ensures
+    c.due.ensures.first in
     sym first ∙ c.in-Some.is
 
 pub loop-preserved : goal.loop-preserved
@@ -39,10 +41,14 @@ loop-preserved c =
 pub returns-in_default-clause-step : goal.returns-in_default-clause-step
 returns-in_default-clause-step c =
     let inv = c.loop.invariant in
-    let first = subst (λ n. c.due.result ≡ option_map (λ (t : armed.Timer). t.slot) (first_of (due armed.timer_key n c.loop.self.books.timers.timers))) c.last.ensures c.due.ensures.first in
-    turned_early c.args.self.now c.loop.self c.args.out.now c.loop.out c.requires.kept (32 - c.loop.counter) inv.steady.settings inv.rest (none_due c.loop.self inv.kept (sym first ∙ c.in_default.is))
+    let first = subst
+    (λ n. c.due.result ≡ option_map (λ (t : armed.Timer). t.slot) (first_of (due armed.timer_key n c.loop.self.books.timers.timers))) c.last.ensures
+    c.due.ensures.first in
+    turned_early c.args.self.now c.loop.self c.args.out.now c.loop.out c.requires.kept (32 - c.loop.counter) inv.steady.settings inv.rest
+    (none_due c.loop.self inv.kept (sym first ∙ c.in_default.is))
 
 pub returns-clause-step : goal.returns-clause-step
 returns-clause-step c =
     let inv = c.loop.invariant in
-    turned c.args.self.now c.loop.self c.args.out.now c.loop.out c.requires.kept (subst (IsTurning c.args.self.now c.args.out.now c.loop.self c.loop.out) (omega (arith, c.loop-test.false)) inv.rest)
+    turned c.args.self.now c.loop.self c.args.out.now c.loop.out c.requires.kept
+    (subst (IsTurning c.args.self.now c.args.out.now c.loop.self c.loop.out) (omega (arith, c.loop-test.false)) inv.rest)

@@ -28,9 +28,12 @@ loop-inc-preserved c =
         frames_sent = omega (arith, s.frames_sent, inv.steady.frames_sent);
         order = omega (arith, s.order, inv.steady.order);
       };
-      others = λ q all. c.server_acked.ensures.others q (at_call (λ (id : CallId). q ≡ id → ⊥) c.args.client c.args.calls.now c.loop-inc.inc-index c.loop-inc-test.true all) ∙ inv.others q all;
-      rest = acking_on c.args.self.now c.loop-inc.self c.server_acked.new.self c.args.out.now c.loop-inc.out c.server_acked.new.out (calls_of c.args.client c.args.calls.now) (calls_of c.args.client (drop (c.loop-inc.inc-index + 1) c.args.calls.now)) _ inv.steady.settings
-          (subst (IsAcking c.args.self.now c.args.out.now (calls_of c.args.client c.args.calls.now) c.loop-inc.self c.loop-inc.out) more inv.rest) c.server_acked.ensures.step;
+      others = λ q all. c.server_acked.ensures.others q
+          (at_call (λ (id : CallId). q ≡ id → ⊥) c.args.client c.args.calls.now c.loop-inc.inc-index c.loop-inc-test.true all) ∙ inv.others q all;
+      rest = acking_on c.args.self.now c.loop-inc.self c.server_acked.new.self c.args.out.now c.loop-inc.out c.server_acked.new.out
+          (calls_of c.args.client c.args.calls.now) (calls_of c.args.client (drop (c.loop-inc.inc-index + 1) c.args.calls.now)) _ inv.steady.settings
+          (subst (IsAcking c.args.self.now c.args.out.now (calls_of c.args.client c.args.calls.now) c.loop-inc.self c.loop-inc.out) more inv.rest)
+          c.server_acked.ensures.step;
     }
 
 pub returns-clause-step : goal.returns-clause-step

@@ -12,6 +12,7 @@ abbrev pub invariant-loop-inc : goal.invariant-loop-inc
 invariant-loop-inc l = record {
   kept : IsKept l.self;
   steady : Steady l.inc-index 0 0 l.initial.self l.initial.out l.self l.out;
-  others : (q : CallId) → AllByRecursion (λ (id : CallId). q ≡ id → ⊥) (calls_of l.client l.calls) → response_of (host_of l.self) q ≡ response_of (host_of l.initial.self) q;
+  others : (q : CallId) → AllByRecursion (λ (id : CallId). q ≡ id → ⊥) (calls_of l.client l.calls)
+      → response_of (host_of l.self) q ≡ response_of (host_of l.initial.self) q;
   rest : IsAcking l.initial.self l.initial.out (calls_of l.client l.calls) l.self l.out (calls_of l.client (drop l.inc-index l.calls));
 }

@@ -25,12 +25,16 @@ use Rattle.homa_host.proofs.parts.HostParts.arrives.Goals.{After-tell, In-Some}
 
 -- what is no packet is told
 junk : (g : given.Over) (c : After-tell g) → HasTold c.args.self.now c.args.now (PlainJunk c.args.self.now.control.id) c.tell.new.self
-junk g c = told_by c.args.self.now c.requires.kept c.args.now c.requires.now c.requires.later (PlainJunk c.args.self.now.control.id) refl c.begin.new.self c.tell.new.self c.begin.ensures c.tell.ensures
+junk g c = told_by c.args.self.now c.requires.kept c.args.now c.requires.now c.requires.later (PlainJunk c.args.self.now.control.id) refl
+    c.begin.new.self c.tell.new.self c.begin.ensures c.tell.ensures
 
 -- what a datagram is read as, at its host
-came : (g : given.Over) (c : In-Some g) → Some (packet_between c.args.from c.args.self.now.control.id c.in-Some.packet (part c.args.frame.now c.in-Some.span)) ≡ arriving (seen_of c.args.self.now) c.args.from c.args.frame.now
+came : (g : given.Over) (c : In-Some g)
+    → Some (packet_between c.args.from c.args.self.now.control.id c.in-Some.packet (part c.args.frame.now c.in-Some.span)) ≡ arriving
+    (seen_of c.args.self.now) c.args.from c.args.frame.now
 came g c = sym (ap (option_map (λ (r : WirePacket × List ℕ). packet_between c.args.from c.args.self.now.control.id r.0 r.1))
-    (sym (subst (λ (s : Settings). Some (c.in-Some.packet, part c.args.frame.now c.in-Some.span) ≡ packet_in s.wire c.args.frame.now) c.settings.ensures.settings c.in-Some.ensures.read)))
+    (sym (subst (λ (s : Settings). Some (c.in-Some.packet, part c.args.frame.now c.in-Some.span) ≡ packet_in s.wire c.args.frame.now)
+    c.settings.ensures.settings c.in-Some.ensures.read)))
 
 pub decode-requires : goal.decode-requires
 decode-requires g c =
@@ -83,10 +87,15 @@ pub returns-in-None-clause-step : goal.returns-in-None-clause-step
 returns-in-None-clause-step g c a replies =
     let o = c.args.self.now in
     let read = sym (subst (λ (s : Settings). None ≡ packet_in s.wire c.args.frame.now) c.settings.ensures.settings c.in-None.ensures.read) in
-    let is : arriving (seen_of o) c.args.from c.args.frame.now ≡ None = ap (option_map (λ (r : WirePacket × List ℕ). packet_between c.args.from o.control.id r.0 r.1)) read in
+    let is : arriving (seen_of o) c.args.from c.args.frame.now ≡ None =
+    ap (option_map (λ (r : WirePacket × List ℕ). packet_between c.args.from o.control.id r.0 r.1)) read in
     let w = tells (Says (PlainJunk o.control.id) ∷ []) (begun (host_of o) c.args.now) in
-    subst (λ (p : Option Packet). Amid (comes o.control.settings p a (begun (host_of o) c.args.now)) (record o { control = c.tell.new.self }) c.args.out.now × AllByRecursion (IsWhole c.args.scratch.now) (comes o.control.settings p a (begun (host_of o) c.args.now)).told) (sym is)
-    (subst (λ f. Amid w (record o { control = c.tell.new.self }) f) (sym c.requires.out) (junk g (goal.at.returns-in-None-clause-step g c).After-tell).amid, (tt, tt))
+    subst (λ (p : Option Packet). Amid (comes o.control.settings p a (begun (host_of o) c.args.now)) (record o { control = c.tell.new.self })
+    c.args.out.now × AllByRecursion (IsWhole c.args.scratch.now) (comes o.control.settings p a (begun (host_of o) c.args.now)).told) (sym is) (
+      subst (λ f. Amid w (record o { control = c.tell.new.self }) f) (sym c.requires.out)
+          (junk g (goal.at.returns-in-None-clause-step g c).After-tell).amid,
+      (tt, tt),
+    )
 
 pub returns-in-None-clause-steady : goal.returns-in-None-clause-steady
 returns-in-None-clause-steady g c = (junk g (goal.at.returns-in-None-clause-steady g c).After-tell).steady c.args.out.now c.requires.out
@@ -95,15 +104,18 @@ pub returns-in-None-clause-kept : goal.returns-in-None-clause-kept
 returns-in-None-clause-kept g c = (junk g (goal.at.returns-in-None-clause-kept g c).After-tell).kept
 
 pub returns-in-None-clause-served : goal.returns-in-None-clause-served
-returns-in-None-clause-served g c = served_none (g.V.Service.served c.args.service.now) c.tell.new.self.marks (junk g (goal.at.returns-in-None-clause-served g c).After-tell).quiet
+returns-in-None-clause-served g c =
+    served_none (g.V.Service.served c.args.service.now) c.tell.new.self.marks (junk g (goal.at.returns-in-None-clause-served g c).After-tell).quiet
 
 pub returns-in-None-clause-answered : goal.returns-in-None-clause-answered
-returns-in-None-clause-answered g c = answered_none (host_of (record c.args.self.now { control = c.tell.new.self })) c.tell.new.self.marks (junk g (goal.at.returns-in-None-clause-answered g c).After-tell).quiet
+returns-in-None-clause-answered g c = answered_none (host_of (record c.args.self.now { control = c.tell.new.self })) c.tell.new.self.marks
+    (junk g (goal.at.returns-in-None-clause-answered g c).After-tell).quiet
 
 pub returns-in-None-clause-allowed : goal.returns-in-None-clause-allowed
 returns-in-None-clause-allowed g c =
     let quiet = (junk g (goal.at.returns-in-None-clause-allowed g c).After-tell).quiet in
-    none_allowed (host_of (record c.args.self.now { control = c.tell.new.self })) (g.V.Service.allows c.args.service.now (g.V.Service.served c.args.service.now)) c.args.scratch.now c.tell.new.self.marks quiet
+    none_allowed (host_of (record c.args.self.now { control = c.tell.new.self }))
+    (g.V.Service.allows c.args.service.now (g.V.Service.served c.args.service.now)) c.args.scratch.now c.tell.new.self.marks quiet
 
 pub returns-in-None-clause-allows_before : goal.returns-in-None-clause-allows_before
 returns-in-None-clause-allows_before g c count number hold q r allows = allows
@@ -112,7 +124,8 @@ pub returns-in-Some-clause-step : goal.returns-in-Some-clause-step
 returns-in-Some-clause-step g c =
     let o = c.args.self.now in
     subst (λ (p : Option Packet). OnOk c.comes.result ((a : Answer) → AllByRecursion (IsReply (host_of c.comes.new.self) a) c.comes.new.self.control.marks
-    → (Amid (comes o.control.settings p a (begun (host_of o) c.args.now)) c.comes.new.self c.comes.new.out) × AllByRecursion (IsWhole c.comes.new.scratch) (comes o.control.settings p a (begun (host_of o) c.args.now)).told))
+    → (Amid (comes o.control.settings p a (begun (host_of o) c.args.now)) c.comes.new.self c.comes.new.out)
+    × AllByRecursion (IsWhole c.comes.new.scratch) (comes o.control.settings p a (begun (host_of o) c.args.now)).told))
     (came g (goal.at.returns-in-Some-clause-step g c).In-Some) c.comes.ensures.step
 
 pub returns-in-Some-clause-steady : goal.returns-in-Some-clause-steady
@@ -133,7 +146,8 @@ returns-in-Some-clause-allowed g c = c.comes.ensures.allowed
 pub returns-in-Some-clause-asks : goal.returns-in-Some-clause-asks
 returns-in-Some-clause-asks g c =
     let o = c.args.self.now in
-    subst (λ (p : Option Packet). IfErr c.comes.result (λ e. (a : Answer) → HasAsked e.id e.number c.comes.new.scratch (comes o.control.settings p a (begun (host_of o) c.args.now)).told))
+    subst (λ (p : Option Packet). IfErr c.comes.result
+    (λ e. (a : Answer) → HasAsked e.id e.number c.comes.new.scratch (comes o.control.settings p a (begun (host_of o) c.args.now)).told))
     (came g (goal.at.returns-in-Some-clause-asks g c).In-Some) c.comes.ensures.asks
 
 pub returns-in-Some-clause-same : goal.returns-in-Some-clause-same

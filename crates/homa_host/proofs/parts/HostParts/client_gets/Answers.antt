@@ -24,32 +24,54 @@ use Rattle.homa_host.proofs.parts.HostParts.client_gets.Goals as goal
 use Rattle.homa_host.proofs.parts.HostParts.client_gets.Goals.{After-receive-did}
 
 -- what the table took up
-taken : (c : After-receive-did) → HasReceived c.args.self.now c.args.from c.args.packet.now c.args.payload.now c.last-now.result c.receive-did.new.self c.receive-did.new.pool c.receive-did.new.scratch c.receive-did.result
-taken c = record { role = c.requires.role; now_is = c.last-now.ensures; most = omega (arith, c.free-free.ensures.whole); received = c.receive-did.ensures.received; inside = c.receive-did.ensures.pool }
+taken : (c : After-receive-did)
+    → HasReceived c.args.self.now c.args.from c.args.packet.now c.args.payload.now c.last-now.result c.receive-did.new.self c.receive-did.new.pool
+    c.receive-did.new.scratch c.receive-did.result
+taken c = record {
+  role = c.requires.role;
+  now_is = c.last-now.ensures;
+  most = omega (arith, c.free-free.ensures.whole);
+  received = c.receive-did.ensures.received;
+  inside = c.receive-did.ensures.pool;
+}
 
 pub receive-did-requires-clause-pool : goal.receive-did-requires-clause-pool
 receive-did-requires-clause-pool c = client_parts c.args.self.now c.requires.kept.parts
 
 pub touched_version-touched-requires : goal.touched_version-touched-requires
-touched_version-touched-requires c = record { stands = touched_stays _ c.receive-did.result (gets_stands c.args.self.now c.requires.kept (taken (goal.at.touched_version-touched-requires c).After-receive-did)) }
+touched_version-touched-requires c =
+    record {
+      stands = touched_stays _ c.receive-did.result
+          (gets_stands c.args.self.now c.requires.kept (taken (goal.at.touched_version-touched-requires c).After-receive-did));
+    }
 
 pub follow_client-requires-clause-stands : goal.follow_client-requires-clause-stands
-follow_client-requires-clause-stands c = (gets_follows c.args.self.now c.requires.kept (taken (goal.at.follow_client-requires-clause-stands c).After-receive-did) c.client_change.result c.client_change.ensures).stands
+follow_client-requires-clause-stands c =
+    (gets_follows c.args.self.now c.requires.kept (taken (goal.at.follow_client-requires-clause-stands c).After-receive-did) c.client_change.result
+    c.client_change.ensures).stands
 
 pub follow_client-requires-clause-may : goal.follow_client-requires-clause-may
-follow_client-requires-clause-may c = (gets_follows c.args.self.now c.requires.kept (taken (goal.at.follow_client-requires-clause-may c).After-receive-did) c.client_change.result c.client_change.ensures).may
+follow_client-requires-clause-may c =
+    (gets_follows c.args.self.now c.requires.kept (taken (goal.at.follow_client-requires-clause-may c).After-receive-did) c.client_change.result
+    c.client_change.ensures).may
 
 pub follow_client-requires-clause-room : goal.follow_client-requires-clause-room
-follow_client-requires-clause-room c = (gets_follows c.args.self.now c.requires.kept (taken (goal.at.follow_client-requires-clause-room c).After-receive-did) c.client_change.result c.client_change.ensures).room
+follow_client-requires-clause-room c =
+    (gets_follows c.args.self.now c.requires.kept (taken (goal.at.follow_client-requires-clause-room c).After-receive-did) c.client_change.result
+    c.client_change.ensures).room
 
 pub follow_client-requires-clause-within : goal.follow_client-requires-clause-within
-follow_client-requires-clause-within c = (gets_follows c.args.self.now c.requires.kept (taken (goal.at.follow_client-requires-clause-within c).After-receive-did) c.client_change.result c.client_change.ensures).within
+follow_client-requires-clause-within c =
+    (gets_follows c.args.self.now c.requires.kept (taken (goal.at.follow_client-requires-clause-within c).After-receive-did) c.client_change.result
+    c.client_change.ensures).within
 
 pub returns-clause-kept : goal.returns-clause-kept
 returns-clause-kept c =
     let host = c.args.self.now in
-    gets_kept host c.requires.kept (taken (goal.at.returns-clause-kept c).After-receive-did) c.settle_client.new.self c.follow_client.new.books (host.order + c.client_orders.result) (ap (λ n. host.order + n) c.client_orders.ensures.order)
-    c.client_change.result c.client_change.ensures c.follow_client.ensures (one_of c.client_outcome-outcome.result.opened) c.settle_client.ensures.sound c.settle_client.ensures.same c.settle_client.ensures.opened c.client_outcome-outcome.ensures.opened
+    gets_kept host c.requires.kept (taken (goal.at.returns-clause-kept c).After-receive-did) c.settle_client.new.self c.follow_client.new.books
+    (host.order + c.client_orders.result) (ap (λ n. host.order + n) c.client_orders.ensures.order)
+    c.client_change.result c.client_change.ensures c.follow_client.ensures (one_of c.client_outcome-outcome.result.opened)
+    c.settle_client.ensures.sound c.settle_client.ensures.same c.settle_client.ensures.opened c.client_outcome-outcome.ensures.opened
 
 pub returns-clause-step : goal.returns-clause-step
 returns-clause-step c = λ w a amid.
@@ -58,15 +80,27 @@ returns-clause-step c = λ w a amid.
     let x = taken (goal.at.returns-clause-step c).After-receive-did in
     let q = p host c.requires.kept x in
     let did : Did ClientRow = gets host c.requires.kept x w in
-    let touched = gets_touched host c.requires.kept x c.touched_version-touched.result (piece_in c.args.packet.now.body c.args.payload.now) (λ r. c.touched_version-touched.ensures q c.receive-did.new.pool q.id r c.head_of-head.ensures) in
+    let touched = gets_touched host c.requires.kept x c.touched_version-touched.result (piece_in c.args.packet.now.body c.args.payload.now)
+    (λ r. c.touched_version-touched.ensures q c.receive-did.new.pool q.id r c.head_of-head.ensures) in
     let outcome = subst (λ (x : Did ClientRow). IsOutcome x c.client_outcome-outcome.result) (sym (gets_is host c.requires.kept x w amid.host))
-    (c.client_outcome-outcome.ensures.outcome (moment s q.id w) q (row_at c.receive-did.new.pool c.receive-did.new.self.rows q.id) c.receive-did.new.scratch c.head_of-head.ensures touched) in
-    let settled = subst (λ (h : HostId). IsAt (asked s (record { client = h; inc = c.args.packet.now.inc; seq = c.args.packet.now.seq }) c.args.from did w) c.settle_client.new.self c.settle_client.new.out) c.id.ensures
+    (c.client_outcome-outcome.ensures.outcome (moment s q.id w) q (row_at c.receive-did.new.pool c.receive-did.new.self.rows q.id)
+    c.receive-did.new.scratch c.head_of-head.ensures touched) in
+    let settled = subst
+    (λ (h : HostId). IsAt (asked s (record { client = h; inc = c.args.packet.now.inc; seq = c.args.packet.now.seq }) c.args.from did w)
+    c.settle_client.new.self c.settle_client.new.out) c.id.ensures
     (c.settle_client.ensures.step did w outcome (at-amid w host c.args.out.now amid)) in
-    let after = gets_amid host c.requires.kept x c.settle_client.new.self c.follow_client.new.books (host.order + c.client_orders.result) (ap (λ n. host.order + n) c.client_orders.ensures.order)
+    let after = gets_amid host c.requires.kept x c.settle_client.new.self c.follow_client.new.books (host.order + c.client_orders.result)
+    (ap (λ n. host.order + n) c.client_orders.ensures.order)
     c.client_change.result c.client_change.ensures c.follow_client.ensures w c.args.out.now c.settle_client.new.out amid settled in
     subst (λ (x : Packet). Amid (asked s x.id x.server (client_gets s (moment s x.id w) x (get w.host.clients x.id)) w)
-    (record { control = c.settle_client.new.self; clients = c.receive-did.new.self; servers = host.servers; pool = c.receive-did.new.pool; books = c.follow_client.new.books; order = host.order + c.client_orders.result }) c.settle_client.new.out)
+    (record {
+      control = c.settle_client.new.self;
+      clients = c.receive-did.new.self;
+      servers = host.servers;
+      pool = c.receive-did.new.pool;
+      books = c.follow_client.new.books;
+      order = host.order + c.client_orders.result;
+    }) c.settle_client.new.out)
     (is_p host c.requires.kept x) after
 
 pub returns-clause-whole : goal.returns-clause-whole
@@ -76,5 +110,6 @@ returns-clause-whole c = λ w a amid none.
     let told = c.receive-did.new.scratch in
     let x = taken (goal.at.returns-clause-whole c).After-receive-did in
     let before = subst (λ (t : List Told). AllByRecursion (IsWhole told) t) (sym none) tt in
-    subst (λ (x : Packet). AllByRecursion (IsWhole told) (asked s x.id x.server (client_gets s (moment s x.id w) x (get w.host.clients x.id)) w).told) (is_p host c.requires.kept x)
+    subst (λ (x : Packet). AllByRecursion (IsWhole told) (asked s x.id x.server (client_gets s (moment s x.id w) x (get w.host.clients x.id)) w).told)
+    (is_p host c.requires.kept x)
     (asked-whole s told (p host c.requires.kept x).id c.args.from (gets host c.requires.kept x w) w before (gets_whole host c.requires.kept x w amid.host))

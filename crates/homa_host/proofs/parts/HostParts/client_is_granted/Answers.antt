@@ -29,7 +29,8 @@ record Ends (c : After-granted) (a : Arriving) : Type 0 where
   now : a.message.granted ≡ c.granted.result
   new : new_end c.args.self.now.control.settings.window a.message ≡ c.new_end_of-offset.result
 
-ends : (c : After-granted) (id : CallId) (r : HeldRow) (a : Arriving) → StandsAt c.args.self.now.clients.rows id c.args.slot r → a.place ≡ OfClient id → Contains (arrivals (host_of c.args.self.now)) a → Ends c a
+ends : (c : After-granted) (id : CallId) (r : HeldRow) (a : Arriving) → StandsAt c.args.self.now.clients.rows id c.args.slot r → a.place ≡ OfClient id
+    → Contains (arrivals (host_of c.args.self.now)) a → Ends c a
 ends c id r a stands at arrives =
     let h = c.args.self.now in
     let p = c.in-Some.part.now in
@@ -37,19 +38,23 @@ ends c id r a stands at arrives =
     let message = message_at h c.requires.kept id c.args.slot r stands p a is at arrives in
     record {
       now = ap (λ m. m.granted) message ∙ sym c.granted.ensures.value;
-      new = sym (c.new_end_of-offset.ensures.end h.pool (part_inside h c.requires.kept id c.args.slot r stands p is) ∙ (λ i. new_end (c.settings.ensures.settings i).window (sym message i)));
+      new = sym (c.new_end_of-offset.ensures.end h.pool (part_inside h c.requires.kept id c.args.slot r stands p is)
+          ∙ (λ i. new_end (c.settings.ensures.settings i).window (sym message i)));
     }
 
 -- what is so of a row at the place once the table granted to it
 record HasGranted (c : After-granted-2) (id : CallId) (r : HeldRow) : Type 0 where
   facts : c.row-facts.result ≡ facts id r
-  moved : Moved id c.args.self.now.clients c.args.self.now.pool c.granted-2.new.self c.args.self.now.pool (Some (client_granted c.args.self.now.control.last c.new_end_of-offset.result (seen_row c.args.self.now.pool r)))
+  moved : Moved id c.args.self.now.clients c.args.self.now.pool c.granted-2.new.self c.args.self.now.pool
+      (Some (client_granted c.args.self.now.control.last c.new_end_of-offset.result (seen_row c.args.self.now.pool r)))
   follows : CanFollowClient c.granted-2.new.self c.args.self.now.books (Stays c.args.slot)
 
 granted : (c : After-granted-2) (id : CallId) (r : HeldRow) → StandsAt c.args.self.now.clients.rows id c.args.slot r → HasGranted c id r
 granted c id r stands =
     let h = c.args.self.now in
-    let moved = subst (λ n. Moved id h.clients h.pool c.granted-2.new.self h.pool (Some (client_granted n c.new_end_of-offset.result (seen_row h.pool r)))) c.last.ensures (c.granted-2.ensures id r h.pool stands (inside h c.requires.kept id c.args.slot r stands)) in
+    let moved = subst
+    (λ n. Moved id h.clients h.pool c.granted-2.new.self h.pool (Some (client_granted n c.new_end_of-offset.result (seen_row h.pool r))))
+    c.last.ensures (c.granted-2.ensures id r h.pool stands (inside h c.requires.kept id c.args.slot r stands)) in
     record {
       facts = c.row-facts.ensures.facts id r stands;
       moved = moved;
@@ -70,36 +75,44 @@ pub returns-then-offset-granted-clause-step : goal.returns-then-offset-granted-c
 returns-then-offset-granted-clause-step c = λ id r a w stands at arrives amid.
     let h = c.args.self.now in
     let e = ends (goal.at.returns-then-offset-granted-clause-step c).After-granted id r a stands at arrives in
-    subst (λ (v : Work). Amid v h c.args.out.now) (sym (grant_none h.control.settings a c.args.prio w (omega (arith, e.new, e.now, c.if-offset-granted.true)))) amid
+    subst (λ (v : Work). Amid v h c.args.out.now)
+    (sym (grant_none h.control.settings a c.args.prio w (omega (arith, e.new, e.now, c.if-offset-granted.true)))) amid
 
 pub returns-then-offset-granted-clause-changes : goal.returns-then-offset-granted-clause-changes
 returns-then-offset-granted-clause-changes c = λ id r stands. changes_none c.args.self.now c.requires.kept id c.args.slot r stands
 
 pub follow_client-requires-clause-stands : goal.follow_client-requires-clause-stands
-follow_client-requires-clause-stands c = let a = c.requires.arrives in (granted (goal.at.follow_client-requires-clause-stands c).After-granted-2 a.0 a.1 a.2).follows.stands
+follow_client-requires-clause-stands c =
+    let a = c.requires.arrives in (granted (goal.at.follow_client-requires-clause-stands c).After-granted-2 a.0 a.1 a.2).follows.stands
 
 pub follow_client-requires-clause-may : goal.follow_client-requires-clause-may
-follow_client-requires-clause-may c = let a = c.requires.arrives in (granted (goal.at.follow_client-requires-clause-may c).After-granted-2 a.0 a.1 a.2).follows.may
+follow_client-requires-clause-may c =
+    let a = c.requires.arrives in (granted (goal.at.follow_client-requires-clause-may c).After-granted-2 a.0 a.1 a.2).follows.may
 
 pub follow_client-requires-clause-room : goal.follow_client-requires-clause-room
-follow_client-requires-clause-room c = let a = c.requires.arrives in (granted (goal.at.follow_client-requires-clause-room c).After-granted-2 a.0 a.1 a.2).follows.room
+follow_client-requires-clause-room c =
+    let a = c.requires.arrives in (granted (goal.at.follow_client-requires-clause-room c).After-granted-2 a.0 a.1 a.2).follows.room
 
 pub follow_client-requires-clause-within : goal.follow_client-requires-clause-within
-follow_client-requires-clause-within c = let a = c.requires.arrives in (granted (goal.at.follow_client-requires-clause-within c).After-granted-2 a.0 a.1 a.2).follows.within
+follow_client-requires-clause-within c =
+    let a = c.requires.arrives in (granted (goal.at.follow_client-requires-clause-within c).After-granted-2 a.0 a.1 a.2).follows.within
 
 pub post-requires-clause-call : goal.post-requires-clause-call
 post-requires-clause-call c =
     let kept = c.requires.kept in
     let a = c.requires.arrives in
-    subst (λ (f : RowFacts). 1 ≤ f.id.inc) (sym (c.row-facts.ensures.facts a.0 a.1 a.2)) (subst (λ n. 1 ≤ n) (sym (owned c.args.self.now kept a.0 c.args.slot a.1 a.2).1) kept.control.inc)
+    subst (λ (f : RowFacts). 1 ≤ f.id.inc) (sym (c.row-facts.ensures.facts a.0 a.1 a.2))
+    (subst (λ n. 1 ≤ n) (sym (owned c.args.self.now kept a.0 c.args.slot a.1 a.2).1) kept.control.inc)
 
 pub returns-clause-kept : goal.returns-clause-kept
 returns-clause-kept c =
     let h = c.args.self.now in
     let a = c.requires.arrives in
     let x = granted (goal.at.returns-clause-kept c).After-granted-2 a.0 a.1 a.2 in
-    granted_kept h c.requires.kept a.0 c.args.slot a.1 a.2 c.new_end_of-offset.result c.granted-2.new.self x.moved c.follow_client.new.books c.follow_client.ensures c.post.new.self
-    (sound_told h.control c.post.new.self _ c.post.ensures.marks (omega (arith, c.requires.room.marks_left)) c.requires.kept.control) (beside_told h.control c.post.new.self _ c.post.ensures.marks)
+    granted_kept h c.requires.kept a.0 c.args.slot a.1 a.2 c.new_end_of-offset.result c.granted-2.new.self x.moved c.follow_client.new.books
+    c.follow_client.ensures c.post.new.self
+    (sound_told h.control c.post.new.self _ c.post.ensures.marks (omega (arith, c.requires.room.marks_left)) c.requires.kept.control)
+    (beside_told h.control c.post.new.self _ c.post.ensures.marks)
 
 pub returns-clause-step : goal.returns-clause-step
 returns-clause-step c = λ id r a w stands at arrives amid.
@@ -107,13 +120,18 @@ returns-clause-step c = λ id r a w stands at arrives amid.
     let offset = c.new_end_of-offset.result in
     let x = granted (goal.at.returns-clause-step c).After-granted-2 id r stands in
     let e = ends (goal.at.returns-clause-step c).After-granted id r a stands at arrives in
-    let posted : (w : Work) → IsAt w h.control c.args.out.now → IsAt (posts h.control.settings Client id r.server (body.Grant offset c.args.prio) w) c.post.new.self c.post.new.out = λ w at.
-    subst (λ (f : RowFacts). IsAt (posts h.control.settings Client f.id f.peer (body.Grant offset c.args.prio) w) c.post.new.self c.post.new.out) x.facts (c.post.ensures.step w at) in
-    client_granted_to h c.requires.kept id c.args.slot r stands offset c.granted-2.new.self x.moved c.follow_client.new.books c.follow_client.ensures c.post.new.self c.args.out.now c.post.new.out c.args.prio
+    let posted : (w : Work) → IsAt w h.control c.args.out.now
+    → IsAt (posts h.control.settings Client id r.server (body.Grant offset c.args.prio) w) c.post.new.self c.post.new.out =
+    λ w at.
+    subst (λ (f : RowFacts). IsAt (posts h.control.settings Client f.id f.peer (body.Grant offset c.args.prio) w) c.post.new.self c.post.new.out)
+    x.facts (c.post.ensures.step w at) in
+    client_granted_to h c.requires.kept id c.args.slot r stands offset c.granted-2.new.self x.moved c.follow_client.new.books c.follow_client.ensures
+    c.post.new.self c.args.out.now c.post.new.out c.args.prio
     posted a w at e.new (omega (arith, e.now, c.if-offset-granted.false)) amid
 
 pub returns-clause-changes : goal.returns-clause-changes
 returns-clause-changes c = λ id r stands.
     let h = c.args.self.now in
     let x = granted (goal.at.returns-clause-changes c).After-granted-2 id r stands in
-    changes_to h c.requires.kept id c.args.slot r stands c.granted-2.new.self _ x.moved c.post.new.self (beside_told h.control c.post.new.self _ c.post.ensures.marks) c.follow_client.new.books
+    changes_to h c.requires.kept id c.args.slot r stands c.granted-2.new.self _ x.moved c.post.new.self
+    (beside_told h.control c.post.new.self _ c.post.ensures.marks) c.follow_client.new.books

@@ -26,23 +26,30 @@ use Rattle.homa_host.proofs.parts.HostParts.comes.Goals as goal
 use Rattle.homa_host.proofs.parts.HostParts.comes.Goals.{After-is_stale, After-tell, After-settings-settings, After-client_gets, After-acknowledged}
 
 -- whether the packet is too old
-age : (g : given.Over) (c : After-is_stale g) → came.is_stale_here c.args.self.now.control.settings c.args.now c.args.from c.args.self.now.control.id c.args.packet.now c.args.payload.now ≡ c.is_stale.result
+age : (g : given.Over) (c : After-is_stale g)
+    → came.is_stale_here c.args.self.now.control.settings c.args.now c.args.from c.args.self.now.control.id c.args.packet.now c.args.payload.now
+    ≡ c.is_stale.result
 age g c = let o = c.args.self.now in
-    sym (subst (λ (t : Settings). c.is_stale.result ≡ came.is_stale_here t c.args.now c.args.from o.control.id c.args.packet.now c.args.payload.now) c.settings.ensures.settings (c.is_stale.ensures (packet_between c.args.from o.control.id c.args.packet.now c.args.payload.now) refl))
+    sym (subst (λ (t : Settings). c.is_stale.result ≡ came.is_stale_here t c.args.now c.args.from o.control.id c.args.packet.now c.args.payload.now)
+    c.settings.ensures.settings (c.is_stale.ensures (packet_between c.args.from o.control.id c.args.packet.now c.args.payload.now) refl))
 
 -- one that is too old is told
-stale : (g : given.Over) (c : After-tell g) → HasTold c.args.self.now c.args.now (PlainStale c.args.self.now.control.id c.args.packet.now.at c.args.now) c.tell.new.self
-stale g c = told_by c.args.self.now c.requires.kept c.args.now c.requires.now c.requires.later (PlainStale c.args.self.now.control.id c.args.packet.now.at c.args.now) refl c.begin.new.self c.tell.new.self c.begin.ensures c.tell.ensures
+stale : (g : given.Over) (c : After-tell g)
+    → HasTold c.args.self.now c.args.now (PlainStale c.args.self.now.control.id c.args.packet.now.at c.args.now) c.tell.new.self
+stale g c = told_by c.args.self.now c.requires.kept c.args.now c.requires.now c.requires.later
+    (PlainStale c.args.self.now.control.id c.args.packet.now.at c.args.now) refl c.begin.new.self c.tell.new.self c.begin.ensures c.tell.ensures
 
 -- the cutoffs of one of a server are heard
 heard : (g : given.Over) (c : After-settings-settings g) → HasHeard c.args.self.now c.args.from c.args.packet.now c.args.now c.hear.new.self
-heard g c = heard_by c.args.self.now c.requires.kept c.args.from c.args.packet.now c.args.now c.requires.later c.begin-in-Server.new.self c.hear.new.self c.begin-in-Server.ensures c.hear.ensures.same c.settings-settings.ensures.sound c.hear.ensures.step
+heard g c = heard_by c.args.self.now c.requires.kept c.args.from c.args.packet.now c.args.now c.requires.later c.begin-in-Server.new.self
+    c.hear.new.self c.begin-in-Server.ensures c.hear.ensures.same c.settings-settings.ensures.sound c.hear.ensures.step
 
 -- what the packet of a server did at the client of its call: no service is asked
 record AtClient (g : given.Over) (c : After-client_gets g) : Type 0 where
   step : (a : Answer) → let o = c.args.self.now in
       let s = o.control.settings in
-      let w = comes_to_row s (packet_between c.args.from o.control.id c.args.packet.now c.args.payload.now) a Server (heard_work o c.args.from c.args.packet.now c.args.now) in
+      let w = comes_to_row s (packet_between c.args.from o.control.id c.args.packet.now c.args.payload.now) a Server
+      (heard_work o c.args.from c.args.packet.now c.args.now) in
       Amid w c.client_gets.new.self c.client_gets.new.out × AllByRecursion (IsWhole c.client_gets.new.scratch) w.told
   quiet : has_ran c.client_gets.new.self.control.marks ≡ false
 
@@ -55,10 +62,14 @@ at_client g c x =
     let p = packet_between c.args.from c.hear.new.self.id c.args.packet.now c.args.payload.now in
     let some : Answer = record { bytes = []; hold = 0 } in
     record {
-      step = λ a. subst (λ (y : Settings × HostId). let w = comes_to_row y.0 (packet_between c.args.from y.1 c.args.packet.now c.args.payload.now) a Server v in Amid w c.client_gets.new.self c.client_gets.new.out × AllByRecursion (IsWhole c.client_gets.new.scratch) w.told)
-          (λ i. (x.on.settings i, x.on.id i))
-          (c.client_gets.ensures.step v a there, c.client_gets.ensures.whole v a there (came.heard_told s c.args.from c.args.packet.now.sender c.args.packet.now.body (host_of o) c.args.now));
-      quiet = came.server_marks c.hear.new.self.settings p some v (came.heard_count s c.args.from c.args.packet.now.sender c.args.packet.now.body (host_of o) c.args.now)
+      step = λ a. subst (λ (y : Settings × HostId). let w = comes_to_row y.0 (packet_between c.args.from y.1 c.args.packet.now c.args.payload.now) a
+          Server v in Amid w c.client_gets.new.self c.client_gets.new.out × AllByRecursion (IsWhole c.client_gets.new.scratch) w.told)
+          (λ i. (x.on.settings i, x.on.id i)) (
+            c.client_gets.ensures.step v a there,
+            c.client_gets.ensures.whole v a there (came.heard_told s c.args.from c.args.packet.now.sender c.args.packet.now.body (host_of o) c.args.now),
+          );
+      quiet = came.server_marks c.hear.new.self.settings p some v
+          (came.heard_count s c.args.from c.args.packet.now.sender c.args.packet.now.body (host_of o) c.args.now)
           c.client_gets.new.self c.client_gets.new.out (c.client_gets.ensures.step v some there);
     }
 
@@ -83,9 +94,12 @@ at_server g c =
     let v = heard_work o c.args.from c.args.packet.now c.args.now in
     let quiet = came.heard_count s c.args.from c.args.packet.now.sender c.args.packet.now.body (host_of o) c.args.now in
     let step : (w : Work) → Amid w mid c.server_gets.new.out → Amid (acked s (acks p) w) q c.acknowledged.new.out = λ w amid.
-    subst (λ (y : Settings × HostId). Amid (acked y.0 (acks (packet_between c.args.from y.1 c.args.packet.now c.args.payload.now)) w) q c.acknowledged.new.out) (λ i. (e.steady.settings i, e.steady.id i)) (c.acknowledged.ensures.step c.args.payload.now w amid) in
+    subst (λ (y : Settings × HostId). Amid (acked y.0 (acks (packet_between c.args.from y.1 c.args.packet.now c.args.payload.now)) w) q
+    c.acknowledged.new.out) (λ i. (e.steady.settings i, e.steady.id i)) (c.acknowledged.ensures.step c.args.payload.now w amid) in
     let others : AllByRecursion (λ (id : CallId). p.id ≡ id → ⊥) (acks p) → response_of (host_of q) p.id ≡ response_of (host_of mid) p.id =
-    λ apart. c.acknowledged.ensures.others c.args.payload.now p.id (subst (λ (me : HostId). AllByRecursion (λ (id : CallId). p.id ≡ id → ⊥) (acks (packet_between c.args.from me c.args.packet.now c.args.payload.now))) (sym e.steady.id) apart) in
+    λ apart. c.acknowledged.ensures.others c.args.payload.now p.id
+    (subst (λ (me : HostId). AllByRecursion (λ (id : CallId). p.id ≡ id → ⊥)
+    (acks (packet_between c.args.from me c.args.packet.now c.args.payload.now))) (sym e.steady.id) apart) in
     let amid = (e.step e.answered.0 e.answered.1).0 in
     record {
       alike = came.client_alike s p v quiet mid q c.server_gets.new.out c.acknowledged.new.out step others e.answered.0 amid;
@@ -108,7 +122,8 @@ pub returns-then-is_stale-clause-step : goal.returns-then-is_stale-clause-step
 returns-then-is_stale-clause-step g c a replies =
     let o = c.args.self.now in
     let at = goal.at.returns-then-is_stale-clause-step g c in
-    let is = came.stale_comes o.control.settings (host_of o) c.args.now c.args.from o.control.id c.args.packet.now c.args.payload.now a (age g at.After-is_stale ∙ c.if-is_stale.true) in
+    let is = came.stale_comes o.control.settings (host_of o) c.args.now c.args.from o.control.id c.args.packet.now c.args.payload.now a
+    (age g at.After-is_stale ∙ c.if-is_stale.true) in
     let w = tells (Says (PlainStale o.control.id c.args.packet.now.at c.args.now) ∷ []) (begun (host_of o) c.args.now) in
     subst (λ (w : Work). Amid w (record o { control = c.tell.new.self }) c.args.out.now × AllByRecursion (IsWhole c.args.scratch.now) w.told) (sym is)
     (subst (λ f. Amid w (record o { control = c.tell.new.self }) f) (sym c.requires.out) (stale g at.After-tell).amid, (tt, tt))
@@ -120,15 +135,18 @@ pub returns-then-is_stale-clause-kept : goal.returns-then-is_stale-clause-kept
 returns-then-is_stale-clause-kept g c = (stale g (goal.at.returns-then-is_stale-clause-kept g c).After-tell).kept
 
 pub returns-then-is_stale-clause-served : goal.returns-then-is_stale-clause-served
-returns-then-is_stale-clause-served g c = served_none (g.V.Service.served c.args.service.now) c.tell.new.self.marks (stale g (goal.at.returns-then-is_stale-clause-served g c).After-tell).quiet
+returns-then-is_stale-clause-served g c =
+    served_none (g.V.Service.served c.args.service.now) c.tell.new.self.marks (stale g (goal.at.returns-then-is_stale-clause-served g c).After-tell).quiet
 
 pub returns-then-is_stale-clause-answered : goal.returns-then-is_stale-clause-answered
-returns-then-is_stale-clause-answered g c = answered_none (host_of (record c.args.self.now { control = c.tell.new.self })) c.tell.new.self.marks (stale g (goal.at.returns-then-is_stale-clause-answered g c).After-tell).quiet
+returns-then-is_stale-clause-answered g c = answered_none (host_of (record c.args.self.now { control = c.tell.new.self })) c.tell.new.self.marks
+    (stale g (goal.at.returns-then-is_stale-clause-answered g c).After-tell).quiet
 
 pub returns-then-is_stale-clause-allowed : goal.returns-then-is_stale-clause-allowed
 returns-then-is_stale-clause-allowed g c =
     let quiet = (stale g (goal.at.returns-then-is_stale-clause-allowed g c).After-tell).quiet in
-    none_allowed (host_of (record c.args.self.now { control = c.tell.new.self })) (g.V.Service.allows c.args.service.now (g.V.Service.served c.args.service.now)) c.args.scratch.now c.tell.new.self.marks quiet
+    none_allowed (host_of (record c.args.self.now { control = c.tell.new.self }))
+    (g.V.Service.allows c.args.service.now (g.V.Service.served c.args.service.now)) c.args.scratch.now c.tell.new.self.marks quiet
 
 pub returns-then-is_stale-clause-allows_before : goal.returns-then-is_stale-clause-allows_before
 returns-then-is_stale-clause-allows_before g c count number hold q r allows = allows
@@ -140,17 +158,21 @@ pub hear-requires-clause-peer : goal.hear-requires-clause-peer
 hear-requires-clause-peer g c = subst (λ n. c.args.from.0 < n) (sym (ap (λ k. k.settings.hosts) c.begin-in-Server.ensures)) c.requires.from
 
 pub hear-requires-clause-fit : goal.hear-requires-clause-fit
-hear-requires-clause-fit g c = came.fit_cutoffs c.args.packet.now.role c.args.packet.now.level c.args.packet.now.body c.args.payload.now c.requires.formed.of_kind
+hear-requires-clause-fit g c =
+    came.fit_cutoffs c.args.packet.now.role c.args.packet.now.level c.args.packet.now.body c.args.payload.now c.requires.formed.of_kind
 
 pub client_gets-requires-clause-kept : goal.client_gets-requires-clause-kept
 client_gets-requires-clause-kept g c = (heard g (goal.at.client_gets-requires-clause-kept g c).After-settings-settings).kept
 
 pub client_gets-requires-clause-from : goal.client_gets-requires-clause-from
-client_gets-requires-clause-from g c = subst (λ (s : Settings). c.args.from.0 < s.hosts) (sym (heard g (goal.at.client_gets-requires-clause-from g c).After-settings-settings).on.settings) c.requires.from
+client_gets-requires-clause-from g c =
+    subst (λ (s : Settings). c.args.from.0 < s.hosts)
+    (sym (heard g (goal.at.client_gets-requires-clause-from g c).After-settings-settings).on.settings) c.requires.from
 
 pub client_gets-requires-clause-formed : goal.client_gets-requires-clause-formed
 client_gets-requires-clause-formed g c =
-    subst (λ (s : Settings). IsWellFormed s.wire c.args.packet.now c.args.payload.now) (sym (heard g (goal.at.client_gets-requires-clause-formed g c).After-settings-settings).on.settings) c.requires.formed
+    subst (λ (s : Settings). IsWellFormed s.wire c.args.packet.now c.args.payload.now)
+    (sym (heard g (goal.at.client_gets-requires-clause-formed g c).After-settings-settings).on.settings) c.requires.formed
 
 pub client_gets-requires-clause-role : goal.client_gets-requires-clause-role
 client_gets-requires-clause-role g c = c.in-Server.is
@@ -204,7 +226,8 @@ returns-in-Err-clause-asks g c a =
     let is = came.client_comes s (host_of o) c.args.now c.args.from o.control.id c.args.packet.now c.args.payload.now a fresh c.in-Client.is in
     let asked = came.acked_asks s (acks p) (comes_to_row s p a Client v) _ (c.in-Err.ensures.asks a) in
     subst (λ (w : Work). HasAsked id c.service_of-number.result c.server_gets.new.scratch w.told) (sym is)
-    (subst (λ (n : ℕ). HasAsked id n c.server_gets.new.scratch (acked s (acks p) (comes_to_row s p a Client v)).told) (sym (c.service_of-number.ensures c.args.payload.now)) asked)
+    (subst (λ (n : ℕ). HasAsked id n c.server_gets.new.scratch (acked s (acks p) (comes_to_row s p a Client v)).told)
+    (sym (c.service_of-number.ensures c.args.payload.now)) asked)
 
 pub returns-in-Err-clause-same : goal.returns-in-Err-clause-same
 returns-in-Err-clause-same g c = c.in-Err.ensures.same
@@ -228,7 +251,11 @@ pub acknowledged-requires-clause-from : goal.acknowledged-requires-clause-from
 acknowledged-requires-clause-from g c = subst (λ (s : Settings). c.args.from.0 < s.hosts) (sym c.in-Ok.ensures.steady.settings) c.requires.from
 
 pub acknowledged-requires-clause-formed : goal.acknowledged-requires-clause-formed
-acknowledged-requires-clause-formed g c = (c.args.payload.now, subst (λ (s : Settings). IsWellFormed s.wire c.args.packet.now c.args.payload.now) (sym c.in-Ok.ensures.steady.settings) c.requires.formed)
+acknowledged-requires-clause-formed g c = (
+  c.args.payload.now,
+  subst (λ (s : Settings). IsWellFormed s.wire c.args.packet.now c.args.payload.now)
+      (sym c.in-Ok.ensures.steady.settings) c.requires.formed,
+)
 
 pub acknowledged-requires-clause-role : goal.acknowledged-requires-clause-role
 acknowledged-requires-clause-role g c = c.in-Client.is
@@ -245,8 +272,10 @@ pub returns-in-Server-clause-step : goal.returns-in-Server-clause-step
 returns-in-Server-clause-step g c a replies =
     let o = c.args.self.now in
     let at = goal.at.returns-in-Server-clause-step g c in
-    let is = came.server_comes o.control.settings (host_of o) c.args.now c.args.from o.control.id c.args.packet.now c.args.payload.now a (age g at.After-is_stale ∙ c.if-is_stale.false) c.in-Server.is c.requires.formed.of_kind in
-    subst (λ (w : Work). Amid w c.client_gets.new.self c.client_gets.new.out × AllByRecursion (IsWhole c.client_gets.new.scratch) w.told) (sym is) ((at_client g at.After-client_gets (heard g at.After-settings-settings)).step a)
+    let is = came.server_comes o.control.settings (host_of o) c.args.now c.args.from o.control.id c.args.packet.now c.args.payload.now a
+    (age g at.After-is_stale ∙ c.if-is_stale.false) c.in-Server.is c.requires.formed.of_kind in
+    subst (λ (w : Work). Amid w c.client_gets.new.self c.client_gets.new.out × AllByRecursion (IsWhole c.client_gets.new.scratch) w.told) (sym is)
+    ((at_client g at.After-client_gets (heard g at.After-settings-settings)).step a)
 
 pub returns-in-Server-clause-steady : goal.returns-in-Server-clause-steady
 returns-in-Server-clause-steady g c =
@@ -280,7 +309,8 @@ pub returns-in-Server-clause-allowed : goal.returns-in-Server-clause-allowed
 returns-in-Server-clause-allowed g c =
     let at = goal.at.returns-in-Server-clause-allowed g c in
     let x = at_client g at.After-client_gets (heard g at.After-settings-settings) in
-    none_allowed (host_of c.client_gets.new.self) (g.V.Service.allows c.args.service.now (g.V.Service.served c.args.service.now)) c.client_gets.new.scratch c.client_gets.new.self.control.marks x.quiet
+    none_allowed (host_of c.client_gets.new.self) (g.V.Service.allows c.args.service.now (g.V.Service.served c.args.service.now))
+    c.client_gets.new.scratch c.client_gets.new.self.control.marks x.quiet
 
 pub returns-in-Server-clause-allows_before : goal.returns-in-Server-clause-allows_before
 returns-in-Server-clause-allows_before g c count number hold q r allows = allows
@@ -290,18 +320,28 @@ returns-in-Ok-clause-step g c a replies =
     let o = c.args.self.now in
     let at = goal.at.returns-in-Ok-clause-step g c in
     let x = at_server g at.After-acknowledged in
-    let is = came.client_comes o.control.settings (host_of o) c.args.now c.args.from o.control.id c.args.packet.now c.args.payload.now a (age g at.After-is_stale ∙ c.if-is_stale.false) c.in-Client.is in
-    subst (λ (w : Work). Amid w c.acknowledged.new.self c.acknowledged.new.out × AllByRecursion (IsWhole c.server_gets.new.scratch) w.told) (sym is) (x.step a (c.in-Ok.ensures.step a (x.alike.back a replies)))
+    let is = came.client_comes o.control.settings (host_of o) c.args.now c.args.from o.control.id c.args.packet.now c.args.payload.now a
+    (age g at.After-is_stale ∙ c.if-is_stale.false) c.in-Client.is in
+    subst (λ (w : Work). Amid w c.acknowledged.new.self c.acknowledged.new.out × AllByRecursion (IsWhole c.server_gets.new.scratch) w.told) (sym is)
+    (x.step a (c.in-Ok.ensures.step a (x.alike.back a replies)))
 
 pub returns-in-Ok-clause-steady : goal.returns-in-Ok-clause-steady
 returns-in-Ok-clause-steady g c =
     let e = c.in-Ok.ensures.steady in
     let t = c.acknowledged.ensures.steady in
-    record { settings = t.settings ∙ e.settings; id = t.id ∙ e.id; last = t.last ∙ e.last; marks_told = omega (arith, t.marks_told, e.marks_told); frames_sent = omega (arith, t.frames_sent, e.frames_sent); order = omega (arith, t.order, e.order) }
+    record {
+      settings = t.settings ∙ e.settings;
+      id = t.id ∙ e.id;
+      last = t.last ∙ e.last;
+      marks_told = omega (arith, t.marks_told, e.marks_told);
+      frames_sent = omega (arith, t.frames_sent, e.frames_sent);
+      order = omega (arith, t.order, e.order);
+    }
 
 pub returns-in-Ok-clause-served : goal.returns-in-Ok-clause-served
 returns-in-Ok-clause-served g c =
-    subst (λ (b : Bool). g.V.Service.served c.server_gets.new.service ≡ cond b (g.V.Service.served c.args.service.now + 1) (g.V.Service.served c.args.service.now)) (sym (at_server g (goal.at.returns-in-Ok-clause-served g c).After-acknowledged).alike.ran)
+    subst (λ (b : Bool). g.V.Service.served c.server_gets.new.service ≡ cond b (g.V.Service.served c.args.service.now + 1)
+    (g.V.Service.served c.args.service.now)) (sym (at_server g (goal.at.returns-in-Ok-clause-served g c).After-acknowledged).alike.ran)
     c.in-Ok.ensures.served
 
 pub returns-in-Ok-clause-answered : goal.returns-in-Ok-clause-answered
@@ -311,7 +351,8 @@ returns-in-Ok-clause-answered g c =
 
 pub returns-in-Ok-clause-allowed : goal.returns-in-Ok-clause-allowed
 returns-in-Ok-clause-allowed g c =
-    (at_server g (goal.at.returns-in-Ok-clause-allowed g c).After-acknowledged).alike.allowed (g.V.Service.allows c.args.service.now (g.V.Service.served c.args.service.now)) c.server_gets.new.scratch c.in-Ok.ensures.allowed
+    (at_server g (goal.at.returns-in-Ok-clause-allowed g c).After-acknowledged).alike.allowed
+    (g.V.Service.allows c.args.service.now (g.V.Service.served c.args.service.now)) c.server_gets.new.scratch c.in-Ok.ensures.allowed
 
 pub returns-in-Ok-clause-kept : goal.returns-in-Ok-clause-kept
 returns-in-Ok-clause-kept g c = c.acknowledged.ensures.kept

@@ -21,7 +21,8 @@ ranks-init c =
 pub grant-requires-clause-arrives : goal.grant-requires-clause-arrives
 grant-requires-clause-arrives c =
     let inv = c.ranks.invariant in
-    let next = next_grant c.args.self.now c.args.out.now c.ranks.self c.ranks.out c.as_slice-slot-items.result.now c.ranks.slot-index inv.slots c.ranks-test.true inv.rest in
+    let next = next_grant c.args.self.now c.args.out.now c.ranks.self c.ranks.out c.as_slice-slot-items.result.now c.ranks.slot-index inv.slots
+    c.ranks-test.true inv.rest in
     (next.a, next.there, next.at)
 
 pub ranks-preserved : goal.ranks-preserved
@@ -46,8 +47,11 @@ ranks-preserved c =
       rank = rank;
       few = inv.few;
       slots = inv.slots;
-      rest = granting_on c.args.self.now c.args.out.now c.ranks.self c.grant.new.self c.ranks.out c.grant.new.out next.a (drop (i + 1) (chosen_now c.args.self.now))
-          (get_or slots i 0) (c.ranks.rank - 1) inv.steady.settings (left_of f (chosen_now c.args.self.now) slots (i + 1) (c.ranks.rank - 1) inv.slots rank) next.granting
+      rest =
+          granting_on c.args.self.now c.args.out.now c.ranks.self c.grant.new.self c.ranks.out c.grant.new.out next.a
+          (drop (i + 1) (chosen_now c.args.self.now))
+          (get_or slots i 0) (c.ranks.rank - 1) inv.steady.settings
+          (left_of f (chosen_now c.args.self.now) slots (i + 1) (c.ranks.rank - 1) inv.slots rank) next.granting
           (λ w. c.grant.ensures.step next.a w next.there next.at) (c.grant.ensures.changes next.a next.there next.at);
     }
 
@@ -56,4 +60,5 @@ returns-clause-step c =
     let inv = c.ranks.invariant in
     let f = λ (a : Arriving). slot_of (seen_of c.args.self.now) a.place in
     let end = none_left f (chosen_now c.args.self.now) c.ranks.slot-index (omega (arith, ap length inv.slots, c.ranks.auto.slot-index-end)) in
-    granting_done c.args.self.now c.args.out.now c.ranks.self c.ranks.out (subst (IsGranting c.args.self.now c.args.out.now c.ranks.self c.ranks.out) end inv.rest)
+    granting_done c.args.self.now c.args.out.now c.ranks.self c.ranks.out
+    (subst (IsGranting c.args.self.now c.args.out.now c.ranks.self c.ranks.out) end inv.rest)

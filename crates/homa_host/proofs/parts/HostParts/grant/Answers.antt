@@ -44,7 +44,8 @@ returns-then-slot-calls-clause-changes c = λ a arrives at.
     let below : c.args.slot < h.control.settings.calls = omega (arith, ap (λ s. s.calls) c.settings.ensures.settings) in
     let p = arrives_at_client h kept a c.args.slot arrives at below in
     let r = arriving_client h kept a p.0 c.args.slot arrives p.1 at in
-    subst (λ (q : Place). ChangesAt q c.args.slot (seen_of h) (seen_of c.client_is_granted.new.self)) (sym p.1) (c.client_is_granted.ensures.changes p.0 r.0 r.1)
+    subst (λ (q : Place). ChangesAt q c.args.slot (seen_of h) (seen_of c.client_is_granted.new.self)) (sym p.1)
+    (c.client_is_granted.ensures.changes p.0 r.0 r.1)
 
 pub returns-else-slot-calls-clause-step : goal.returns-else-slot-calls-clause-step
 returns-else-slot-calls-clause-step c = λ a w arrives at am.
@@ -67,4 +68,5 @@ returns-else-slot-calls-clause-changes c = λ a arrives at.
     let place : h.control.settings.calls + (c.args.slot - c.settings.result.now.calls) ≡ c.args.slot = omega (arith, calls) in
     let r = arriving_server h kept a p.0 (c.args.slot - c.settings.result.now.calls) arrives p.1 (at ∙ sym place) in
     subst (λ (n : ℕ). ChangesAt a.place n (seen_of h) (seen_of c.server_is_granted.new.self)) place
-    (subst (λ (q : Place). ChangesAt q (h.control.settings.calls + (c.args.slot - c.settings.result.now.calls)) (seen_of h) (seen_of c.server_is_granted.new.self)) (sym p.1) (c.server_is_granted.ensures.changes p.0 r.0 r.1))
+    (subst (λ (q : Place). ChangesAt q (h.control.settings.calls + (c.args.slot - c.settings.result.now.calls)) (seen_of h)
+    (seen_of c.server_is_granted.new.self)) (sym p.1) (c.server_is_granted.ensures.changes p.0 r.0 r.1))

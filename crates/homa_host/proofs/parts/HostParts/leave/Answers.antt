@@ -12,4 +12,5 @@ request_leaves-requires-clause-stands c =
 pub response_leaves-requires-clause-stands : goal.response_leaves-requires-clause-stands
 response_leaves-requires-clause-stands c =
     let e : c.settings.result.now.calls ≡ c.args.self.now.control.settings.calls = ap (λ s. s.calls) c.settings.ensures.settings in
-    subst (λ n. IsSome (spot_at c.args.self.now.servers.rows (c.args.slot - n))) (sym e) (picked_server c.args.self.now c.requires.kept c.args.slot c.requires.picked (omega (arith, e)))
+    subst (λ n. IsSome (spot_at c.args.self.now.servers.rows (c.args.slot - n))) (sym e)
+    (picked_server c.args.self.now c.requires.kept c.args.slot c.requires.picked (omega (arith, e)))

@@ -12,13 +12,15 @@ returns-in_default-clause-step c =
 pub returns-in-Short-clause-step : goal.returns-in-Short-clause-step
 returns-in-Short-clause-step c =
     let inv = c.pieces.invariant in
-    let short : WasShort c.pieces.self c.pieces.out c.leave.new.self c.leave.new.out = subst (λ r. IsPumped c.pieces.self c.pieces.out c.leave.new.self c.leave.new.out r) c.in-Short.is c.leave.ensures.pumped in
+    let short : WasShort c.pieces.self c.pieces.out c.leave.new.self c.leave.new.out =
+    subst (λ r. IsPumped c.pieces.self c.pieces.out c.leave.new.self c.leave.new.out r) c.in-Short.is c.leave.ensures.pumped in
     pumped_short c.args.self.now c.args.out.now c.pieces.self c.leave.new.self c.pieces.out c.leave.new.out inv.settings inv.step short
 
 pub pieces-preserved : goal.pieces-preserved
 pieces-preserved c =
     let inv = c.pieces.invariant in
-    let on = pumping_on c.args.self.now c.args.out.now c.pieces.self c.leave.new.self c.pieces.out c.leave.new.out c.leave.result c.in_default-leave.not-Short c.leave.ensures.pumped inv.settings (omega (arith, c.len.ensures.len)) inv.told inv.step in
+    let on = pumping_on c.args.self.now c.args.out.now c.pieces.self c.leave.new.self c.pieces.out c.leave.new.out c.leave.result
+    c.in_default-leave.not-Short c.leave.ensures.pumped inv.settings (omega (arith, c.len.ensures.len)) inv.told inv.step in
     record { kept = c.leave.ensures.kept; settings = c.leave.ensures.steady.settings ∙ inv.settings; told = on.told; step = on.step }
 
 pub returns-clause-step : goal.returns-clause-step

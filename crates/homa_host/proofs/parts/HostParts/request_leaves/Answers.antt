@@ -16,7 +16,8 @@ use Rattle.homa_host.specs.declared.outcome.Change.TheVariants.{Stays}
 use Rattle.homa_host.proofs.Emits.{at_spot}
 use Rattle.homa_host.proofs.CanFollow.{CanFollowClient}
 use Rattle.homa_host.proofs.ClientStays.{owned, knows, beside_sent}
-use Rattle.homa_host.proofs.ClientLeaves.{IsNext, HasEmitted, emitted_at, rests_kept, rests_idle, short_kept, short_ends, request_there, sent_follows, sent_kept, sent_step}
+use Rattle.homa_host.proofs.ClientLeaves.{IsNext, HasEmitted, emitted_at, rests_kept, rests_idle, short_kept, short_ends, request_there, sent_follows}
+use Rattle.homa_host.proofs.ClientLeaves.{sent_kept, sent_step}
 use Rattle.homa_host.proofs.parts.HostParts.request_leaves.Goals as goal
 use Rattle.homa_host.proofs.parts.HostParts.request_leaves.Goals.{After-emit}
 
@@ -35,13 +36,15 @@ left c e is =
     record {
       next = next;
       facts = c.row-facts.ensures.facts a.0 a.1 a.2;
-      emitted = emitted_at h c.requires.kept c.args.slot next c.emit.new.self c.last.result c.credit-credit.result c.emit.result e c.last.ensures c.credit-credit.ensures is
+      emitted = emitted_at h c.requires.kept c.args.slot next c.emit.new.self c.last.result c.credit-credit.result c.emit.result e c.last.ensures
+          c.credit-credit.ensures is
           (c.emit.ensures.row a.0 a.1 h.pool a.2) (c.emit.ensures.emitted a.0 a.1 h.pool a.2);
       affordable = subst (λ e. IfSent e (IsAffordable a.1.out.length h.clients.settings.seg c.credit-credit.result)) is (c.emit.ensures.sent a.0 a.1 a.2);
     }
 
 -- a piece is sent: the books can follow once it is paid for
-follows : (c : After-emit) {from to : ℕ} → c.emit.result ≡ Sent from to → (pacer : Pace) → pacer ≡ record c.args.self.now.books.pacer { credit = c.args.self.now.books.pacer.credit - (to - from) }
+follows : (c : After-emit) {from to : ℕ} → c.emit.result ≡ Sent from to → (pacer : Pace)
+    → pacer ≡ record c.args.self.now.books.pacer { credit = c.args.self.now.books.pacer.credit - (to - from) }
     → CanFollowClient c.emit.new.self (record c.args.self.now.books { pacer = pacer }) (Stays c.args.slot)
 follows c {from} {to} is pacer spent =
     let x = left c (Sent from to) is in
@@ -68,7 +71,8 @@ pub send_request-requires-clause-call : goal.send_request-requires-clause-call
 send_request-requires-clause-call c =
     let kept = c.requires.kept in
     let x = left (goal.at.send_request-requires-clause-call c).After-emit _ c.in-Sent.is in
-    subst (λ (f : RowFacts). 1 ≤ f.id.inc) (sym x.facts) (subst (λ n. 1 ≤ n) (sym (owned c.args.self.now kept x.next.id c.args.slot x.next.row x.next.stands).1) kept.control.inc)
+    subst (λ (f : RowFacts). 1 ≤ f.id.inc) (sym x.facts)
+    (subst (λ n. 1 ≤ n) (sym (owned c.args.self.now kept x.next.id c.args.slot x.next.row x.next.stands).1) kept.control.inc)
 
 pub send_request-requires-clause-piece : goal.send_request-requires-clause-piece
 send_request-requires-clause-piece c =
@@ -103,16 +107,19 @@ spend-requires c =
     omega (arith, x.affordable.paid, c.credit-credit.ensures)
 
 pub follow_client-requires-clause-stands : goal.follow_client-requires-clause-stands
-follow_client-requires-clause-stands c = (follows (goal.at.follow_client-requires-clause-stands c).After-emit c.in-Sent.is c.spend.new.self c.spend.ensures.spent).stands
+follow_client-requires-clause-stands c =
+    (follows (goal.at.follow_client-requires-clause-stands c).After-emit c.in-Sent.is c.spend.new.self c.spend.ensures.spent).stands
 
 pub follow_client-requires-clause-may : goal.follow_client-requires-clause-may
 follow_client-requires-clause-may c = (follows (goal.at.follow_client-requires-clause-may c).After-emit c.in-Sent.is c.spend.new.self c.spend.ensures.spent).may
 
 pub follow_client-requires-clause-room : goal.follow_client-requires-clause-room
-follow_client-requires-clause-room c = (follows (goal.at.follow_client-requires-clause-room c).After-emit c.in-Sent.is c.spend.new.self c.spend.ensures.spent).room
+follow_client-requires-clause-room c =
+    (follows (goal.at.follow_client-requires-clause-room c).After-emit c.in-Sent.is c.spend.new.self c.spend.ensures.spent).room
 
 pub follow_client-requires-clause-within : goal.follow_client-requires-clause-within
-follow_client-requires-clause-within c = (follows (goal.at.follow_client-requires-clause-within c).After-emit c.in-Sent.is c.spend.new.self c.spend.ensures.spent).within
+follow_client-requires-clause-within c =
+    (follows (goal.at.follow_client-requires-clause-within c).After-emit c.in-Sent.is c.spend.new.self c.spend.ensures.spent).within
 
 pub returns-in-Rests-clause-kept : goal.returns-in-Rests-clause-kept
 returns-in-Rests-clause-kept c =
@@ -138,7 +145,8 @@ pub returns-in-Some-clause-kept : goal.returns-in-Some-clause-kept
 returns-in-Some-clause-kept c =
     let h = c.args.self.now in
     let x = left (goal.at.returns-in-Some-clause-kept c).After-emit (Sent c.in-Sent.from c.in-Sent.to) c.in-Sent.is in
-    sent_kept h c.requires.kept c.args.slot x.next c.in-Sent.from c.in-Sent.to c.emit.new.self x.emitted c.spend.new.self c.spend.ensures.spent c.follow_client.new.books c.follow_client.ensures
+    sent_kept h c.requires.kept c.args.slot x.next c.in-Sent.from c.in-Sent.to c.emit.new.self x.emitted c.spend.new.self c.spend.ensures.spent
+    c.follow_client.new.books c.follow_client.ensures
     c.send_request.new.self c.send_request.ensures.sound (beside_sent h.control c.send_request.new.self c.send_request.ensures.same)
 
 pub returns-in-Some-clause-pumped : goal.returns-in-Some-clause-pumped
@@ -151,10 +159,15 @@ returns-in-Some-clause-pumped c =
     let request : c.request-request.result.now ≡ n.row.request = c.request-request.ensures n.id y.1 y.2 ∙ y.3 in
     let message = same_some _ _ (sym c.in-Some.is ∙ ap (λ (f : RowFacts). f.out) x.facts) in
     let r = range c.in-Sent.from c.in-Sent.to in
-    let posted : (w : Work) → IsAt w h.control c.args.out.now → IsAt (request_leaves h.control.settings n.id row r w) c.send_request.new.self c.send_request.new.out = λ w at.
-    subst (λ (q : CallId). IsAt (request_leaves h.control.settings q row r w) c.send_request.new.self c.send_request.new.out) (ap (λ (f : RowFacts). f.id) x.facts)
-    (c.send_request.ensures.step w row at (sym (ap (λ (f : RowFacts). f.peer) x.facts)) (sym request) (sym (ap (λ m. m.length) message)) (sym (ap (λ m. m.prio) message)) (sym (ap (λ m. m.service) message))) in
-    sent_step h c.requires.kept c.args.slot n c.in-Sent.from c.in-Sent.to c.emit.new.self x.emitted c.spend.new.self c.spend.ensures.spent c.follow_client.new.books c.follow_client.ensures
+    let posted : (w : Work) → IsAt w h.control c.args.out.now
+    → IsAt (request_leaves h.control.settings n.id row r w) c.send_request.new.self c.send_request.new.out =
+    λ w at.
+    subst (λ (q : CallId). IsAt (request_leaves h.control.settings q row r w) c.send_request.new.self c.send_request.new.out)
+    (ap (λ (f : RowFacts). f.id) x.facts)
+    (c.send_request.ensures.step w row at (sym (ap (λ (f : RowFacts). f.peer) x.facts)) (sym request) (sym (ap (λ m. m.length) message))
+    (sym (ap (λ m. m.prio) message)) (sym (ap (λ m. m.service) message))) in
+    sent_step h c.requires.kept c.args.slot n c.in-Sent.from c.in-Sent.to c.emit.new.self x.emitted c.spend.new.self c.spend.ensures.spent
+    c.follow_client.new.books c.follow_client.ensures
     c.args.out.now c.send_request.new.self c.send_request.new.out posted c.send_request.ensures.frames c.send_request.ensures.marks
 
 pub unreachable-requires : goal.unreachable-requires

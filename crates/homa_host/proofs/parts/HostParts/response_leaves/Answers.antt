@@ -25,7 +25,8 @@ use Rattle.homa_host.proofs.Emits.{at_spot}
 use Rattle.homa_host.proofs.CanFollow.{CanFollowServer}
 use Rattle.homa_host.proofs.ClientStays.{Beside}
 use Rattle.homa_host.proofs.ServerStays.{knows}
-use Rattle.homa_host.proofs.ServerLeaves.{IsNext, HasEmitted, emitted_at, rests_kept, rests_idle, short_kept, short_ends, response_there, sent_follows, sent_kept, sent_step}
+use Rattle.homa_host.proofs.ServerLeaves.{IsNext, HasEmitted, emitted_at, rests_kept, rests_idle, short_kept, short_ends, response_there}
+use Rattle.homa_host.proofs.ServerLeaves.{sent_follows, sent_kept, sent_step}
 use Rattle.homa_host.proofs.parts.HostParts.response_leaves.Goals as goal
 use Rattle.homa_host.proofs.parts.HostParts.response_leaves.Goals.{After-emit}
 
@@ -45,9 +46,11 @@ left c e is =
     record {
       next = next;
       facts = c.row-facts.ensures.facts a.0 a.1 a.2;
-      emitted = emitted_at h c.requires.kept c.args.place next c.emit.new.self c.last.result c.credit-credit.result c.emit.result e c.last.ensures c.credit-credit.ensures is
+      emitted = emitted_at h c.requires.kept c.args.place next c.emit.new.self c.last.result c.credit-credit.result c.emit.result e c.last.ensures
+          c.credit-credit.ensures is
           (c.emit.ensures.moved a.0 a.1 h.pool a.2) (c.emit.ensures.emitted a.0 a.1 h.pool a.2);
-      affordable = subst (λ e. IfSent e (IsAffordable (length (response_in a.1.state)) h.servers.settings.seg c.credit-credit.result)) is (c.emit.ensures.bytes a.0 a.1 a.2);
+      affordable = subst (λ e. IfSent e (IsAffordable (length (response_in a.1.state)) h.servers.settings.seg c.credit-credit.result)) is
+          (c.emit.ensures.bytes a.0 a.1 a.2);
       calls = ap (λ (s : Settings). s.calls) c.settings.ensures.settings;
     }
 
@@ -59,14 +62,16 @@ module _ (c : After-emit) {from to : ℕ} (is : c.emit.result ≡ Sent from to) 
   told : (let a = x.emitted.view.0 in c.row-facts.result.out ≡ out_facts (Answering a.response a.out a.order a.base a.count))
   told = ap (λ (f : RowFacts). f.out) x.facts ∙ ap out_facts x.emitted.view.0.is
 
-  stored : option_and_then (λ (y : Placed HeldServer). state_response y.row.state) (get c.emit.new.self.rows c.row-facts.result.id) ≡ Some x.emitted.view.0.response
+  stored : option_and_then (λ (y : Placed HeldServer). state_response y.row.state) (get c.emit.new.self.rows c.row-facts.result.id)
+      ≡ Some x.emitted.view.0.response
   stored =
       ap (λ (f : RowFacts). option_and_then (λ (y : Placed HeldServer). state_response y.row.state) (get c.emit.new.self.rows f.id)) x.facts
       ∙ response_there c.args.self.now c.requires.kept c.args.place x.next from to c.emit.new.self x.emitted
 
   follows : (pacer : Pace) → pacer ≡ record c.args.self.now.books.pacer { credit = c.args.self.now.books.pacer.credit - (to - from) }
       → CanFollowServer c.emit.new.self c.settings.result.now.calls (record c.args.self.now.books { pacer = pacer }) (Stays c.args.place)
-  follows pacer spent = sent_follows c.args.self.now c.requires.kept c.args.place x.next from to c.emit.new.self x.emitted c.settings.result.now.calls pacer x.calls spent
+  follows pacer spent =
+      sent_follows c.args.self.now c.requires.kept c.args.place x.next from to c.emit.new.self x.emitted c.settings.result.now.calls pacer x.calls spent
 
 pub overflow_add-calls : goal.overflow_add-calls
 overflow_add-calls c =
@@ -97,7 +102,8 @@ pub send_response-requires-clause-client : goal.send_response-requires-clause-cl
 send_response-requires-clause-client c =
     let h = c.args.self.now in
     let x = left (goal.at.send_response-requires-clause-client c).After-emit _ c.in-Sent.is in
-    subst (λ (f : RowFacts). f.id.client.0 < h.control.settings.hosts) (sym x.facts) (knows h c.requires.kept x.next.id c.args.place x.next.row x.next.stands).client
+    subst (λ (f : RowFacts). f.id.client.0 < h.control.settings.hosts) (sym x.facts)
+    (knows h c.requires.kept x.next.id c.args.place x.next.row x.next.stands).client
 
 pub send_response-requires-clause-call : goal.send_response-requires-clause-call
 send_response-requires-clause-call c =
@@ -111,7 +117,8 @@ send_response-requires-clause-piece c =
     let x = left b (Sent c.in-Sent.from c.in-Sent.to) c.in-Sent.is in
     let a = x.emitted.view.0 in
     let message = same_some _ _ (sym c.in-Some.is ∙ told b c.in-Sent.is) in
-    let response : c.in-Some-response.response.now ≡ a.response = same_some _ _ (sym (ap option_copied c.in-Some-response.is) ∙ c.response.ensures ∙ stored b c.in-Sent.is) in
+    let response : c.in-Some-response.response.now ≡ a.response =
+    same_some _ _ (sym (ap option_copied c.in-Some-response.is) ∙ c.response.ensures ∙ stored b c.in-Sent.is) in
     let is : IsReplied a.response a.out a.base = subst held.IsKept a.is x.next.sound in
     let long : c.in-Some.message.length ≡ a.out.length = ap (λ (m : OutFacts). m.length) message in
     let size : length c.in-Some-response.response.now ≡ length a.response = ap length response in
@@ -137,25 +144,32 @@ spend-requires c =
     omega (arith, x.affordable.paid, c.credit-credit.ensures)
 
 pub follow_server-requires-clause-stands : goal.follow_server-requires-clause-stands
-follow_server-requires-clause-stands c = (follows (goal.at.follow_server-requires-clause-stands c).After-emit c.in-Sent.is c.spend.new.self c.spend.ensures.spent).stands
+follow_server-requires-clause-stands c =
+    (follows (goal.at.follow_server-requires-clause-stands c).After-emit c.in-Sent.is c.spend.new.self c.spend.ensures.spent).stands
 
 pub follow_server-requires-clause-may : goal.follow_server-requires-clause-may
 follow_server-requires-clause-may c = (follows (goal.at.follow_server-requires-clause-may c).After-emit c.in-Sent.is c.spend.new.self c.spend.ensures.spent).may
 
 pub follow_server-requires-clause-room : goal.follow_server-requires-clause-room
-follow_server-requires-clause-room c = (follows (goal.at.follow_server-requires-clause-room c).After-emit c.in-Sent.is c.spend.new.self c.spend.ensures.spent).room
+follow_server-requires-clause-room c =
+    (follows (goal.at.follow_server-requires-clause-room c).After-emit c.in-Sent.is c.spend.new.self c.spend.ensures.spent).room
 
 pub follow_server-requires-clause-calls : goal.follow_server-requires-clause-calls
-follow_server-requires-clause-calls c = (follows (goal.at.follow_server-requires-clause-calls c).After-emit c.in-Sent.is c.spend.new.self c.spend.ensures.spent).calls
+follow_server-requires-clause-calls c =
+    (follows (goal.at.follow_server-requires-clause-calls c).After-emit c.in-Sent.is c.spend.new.self c.spend.ensures.spent).calls
 
 pub follow_server-requires-clause-within : goal.follow_server-requires-clause-within
-follow_server-requires-clause-within c = (follows (goal.at.follow_server-requires-clause-within c).After-emit c.in-Sent.is c.spend.new.self c.spend.ensures.spent).within
+follow_server-requires-clause-within c =
+    (follows (goal.at.follow_server-requires-clause-within c).After-emit c.in-Sent.is c.spend.new.self c.spend.ensures.spent).within
 
 pub follow_server-requires-clause-small : goal.follow_server-requires-clause-small
-follow_server-requires-clause-small c = (follows (goal.at.follow_server-requires-clause-small c).After-emit c.in-Sent.is c.spend.new.self c.spend.ensures.spent).small
+follow_server-requires-clause-small c =
+    (follows (goal.at.follow_server-requires-clause-small c).After-emit c.in-Sent.is c.spend.new.self c.spend.ensures.spent).small
 
 -- the pacer is told that the message rests
-rests : (c : After-emit) (pacer : Pace) → pacer ≡ record c.args.self.now.books.pacer { ready = without (c.settings.result.now.calls + c.args.place) c.args.self.now.books.pacer.ready } → (x : HasLeft c Rests)
+rests : (c : After-emit) (pacer : Pace)
+    → pacer ≡ record c.args.self.now.books.pacer { ready = without (c.settings.result.now.calls + c.args.place) c.args.self.now.books.pacer.ready }
+    → (x : HasLeft c Rests)
     → pacer ≡ record c.args.self.now.books.pacer { ready = without (c.args.self.now.control.settings.calls + c.args.place) c.args.self.now.books.pacer.ready }
 rests c pacer idle x = idle ∙ ap (λ n. record c.args.self.now.books.pacer { ready = without (n + c.args.place) c.args.self.now.books.pacer.ready }) x.calls
 
@@ -169,7 +183,8 @@ pub returns-in-Rests-clause-pumped : goal.returns-in-Rests-clause-pumped
 returns-in-Rests-clause-pumped c =
     let b = (goal.at.returns-in-Rests-clause-pumped c).After-emit in
     let x = left b Rests c.in-Rests.is in
-    rests_idle c.args.self.now c.requires.kept c.args.place x.next c.emit.new.self x.emitted c.idle.new.self (rests b c.idle.new.self c.idle.ensures.idle x) c.args.out.now
+    rests_idle c.args.self.now c.requires.kept c.args.place x.next c.emit.new.self x.emitted c.idle.new.self
+    (rests b c.idle.new.self c.idle.ensures.idle x) c.args.out.now
 
 pub returns-in-Short-clause-kept : goal.returns-in-Short-clause-kept
 returns-in-Short-clause-kept c =
@@ -185,8 +200,10 @@ pub returns-in-Some-response-clause-kept : goal.returns-in-Some-response-clause-
 returns-in-Some-response-clause-kept c =
     let h = c.args.self.now in
     let x = left (goal.at.returns-in-Some-response-clause-kept c).After-emit (Sent c.in-Sent.from c.in-Sent.to) c.in-Sent.is in
-    sent_kept h c.requires.kept c.args.place x.next c.in-Sent.from c.in-Sent.to c.emit.new.self x.emitted c.settings.result.now.calls c.spend.new.self x.calls c.spend.ensures.spent c.follow_server.new.books c.follow_server.ensures
-    c.send_response.new.self c.send_response.ensures.sound (subst (Beside h.control) (sym c.send_response.ensures.same) (record { settings = refl; id = refl; inc = refl; last = refl; opened = refl }))
+    sent_kept h c.requires.kept c.args.place x.next c.in-Sent.from c.in-Sent.to c.emit.new.self x.emitted c.settings.result.now.calls c.spend.new.self
+    x.calls c.spend.ensures.spent c.follow_server.new.books c.follow_server.ensures
+    c.send_response.new.self c.send_response.ensures.sound
+    (subst (Beside h.control) (sym c.send_response.ensures.same) (record { settings = refl; id = refl; inc = refl; last = refl; opened = refl }))
 
 pub returns-in-Some-response-clause-pumped : goal.returns-in-Some-response-clause-pumped
 returns-in-Some-response-clause-pumped c =
@@ -195,13 +212,21 @@ returns-in-Some-response-clause-pumped c =
     let x = left b (Sent c.in-Sent.from c.in-Sent.to) c.in-Sent.is in
     let a = x.emitted.view.0 in
     let message = same_some _ _ (sym c.in-Some.is ∙ told b c.in-Sent.is) in
-    let response : c.in-Some-response.response.now ≡ a.response = same_some _ _ (sym (ap option_copied c.in-Some-response.is) ∙ c.response.ensures ∙ stored b c.in-Sent.is) in
+    let response : c.in-Some-response.response.now ≡ a.response =
+    same_some _ _ (sym (ap option_copied c.in-Some-response.is) ∙ c.response.ensures ∙ stored b c.in-Sent.is) in
     let row = seen_server h.pool x.next.row in
     let r = range c.in-Sent.from c.in-Sent.to in
     let posted : (w : Work) → IsAt w h.control c.args.out.now
-    → IsAt (response_leaves h.control.settings x.next.id row (response_content h.control.settings (peer_cutoffs h.control.settings w.host x.next.id.client).cutoffs a.response a.out r) r w) c.send_response.new.self c.send_response.new.out = λ w at.
-    subst (λ (q : CallId × List ℕ). IsAt (response_leaves h.control.settings q.0 row (response_content h.control.settings (peer_cutoffs h.control.settings w.host q.0.client).cutoffs q.1 a.out r) r w) c.send_response.new.self c.send_response.new.out)
+    → IsAt (response_leaves h.control.settings x.next.id row
+    (response_content h.control.settings (peer_cutoffs h.control.settings w.host x.next.id.client).cutoffs a.response a.out r) r w)
+    c.send_response.new.self c.send_response.new.out =
+    λ w at.
+    subst (λ (q : CallId × List ℕ). IsAt
+    (response_leaves h.control.settings q.0 row
+    (response_content h.control.settings (peer_cutoffs h.control.settings w.host q.0.client).cutoffs q.1 a.out r) r w) c.send_response.new.self
+    c.send_response.new.out)
     (λ i. ((x.facts i).id, response i))
     (c.send_response.ensures.step w row a.out at (sym (ap (λ (m : OutFacts). m.length) message)) (sym (ap (λ (m : OutFacts). m.prio) message))) in
-    sent_step h c.requires.kept c.args.place x.next c.in-Sent.from c.in-Sent.to c.emit.new.self x.emitted c.settings.result.now.calls c.spend.new.self x.calls c.spend.ensures.spent c.follow_server.new.books c.follow_server.ensures
+    sent_step h c.requires.kept c.args.place x.next c.in-Sent.from c.in-Sent.to c.emit.new.self x.emitted c.settings.result.now.calls c.spend.new.self
+    x.calls c.spend.ensures.spent c.follow_server.new.books c.follow_server.ensures
     c.args.out.now c.send_response.new.self c.send_response.new.out posted c.send_response.ensures.frames c.send_response.ensures.marks

@@ -15,18 +15,30 @@ use Rattle.homa_host.proofs.parts.HostParts.server_acked.Goals.{After-acked_chan
 
 -- what the table answered
 answered : (c : After-acked_change-change) → IsAck c.args.self.now c.args.id c.last-now.result c.ack-acked.new.self c.ack-acked.result
-answered c = record { acked = c.ack-acked.ensures.acked; same = c.ack-acked.ensures.same; slot = c.ack-acked.ensures.slot; moved = c.ack-acked.ensures.moved; placed = c.rows-rows.ensures.placed }
+answered c = record {
+  acked = c.ack-acked.ensures.acked;
+  same = c.ack-acked.ensures.same;
+  slot = c.ack-acked.ensures.slot;
+  moved = c.ack-acked.ensures.moved;
+  placed = c.rows-rows.ensures.placed;
+}
 
 -- the books can follow
-follows : (c : After-acked_change-change) → CanFollowServer c.ack-acked.new.self c.settings-settings.result.now.calls c.args.self.now.books c.acked_change-change.result
-follows c = acked_follows c.args.self.now c.requires.kept c.args.id c.requires.client c.requires.call c.last-now.result c.last-now.ensures c.ack-acked.new.self c.ack-acked.result (answered c)
-    c.settings-settings.result.now.calls c.acked_change-change.result (ap (λ (s : Settings). s.calls) c.settings-settings.ensures.settings) c.acked_change-change.ensures
+follows : (c : After-acked_change-change)
+    → CanFollowServer c.ack-acked.new.self c.settings-settings.result.now.calls c.args.self.now.books c.acked_change-change.result
+follows c = acked_follows c.args.self.now c.requires.kept c.args.id c.requires.client c.requires.call c.last-now.result c.last-now.ensures
+    c.ack-acked.new.self c.ack-acked.result (answered c)
+    c.settings-settings.result.now.calls c.acked_change-change.result (ap (λ (s : Settings). s.calls) c.settings-settings.ensures.settings)
+    c.acked_change-change.ensures
 
 -- they followed
 followed : (c : After-follow_server) → IsAck c.args.self.now c.args.id c.last-now.result c.ack-acked.new.self c.ack-acked.result
-    → FollowedServer c.ack-acked.new.self c.args.self.now.control.settings.calls (acked_change c.ack-acked.result) c.args.self.now.books c.follow_server.new.books
-followed c is = acked_followed c.args.self.now c.requires.kept c.args.id c.requires.client c.requires.call c.last-now.result c.last-now.ensures c.ack-acked.new.self c.ack-acked.result is
-    c.settings-settings.result.now.calls c.acked_change-change.result (ap (λ (s : Settings). s.calls) c.settings-settings.ensures.settings) c.acked_change-change.ensures c.follow_server.new.books c.follow_server.ensures
+    → FollowedServer c.ack-acked.new.self c.args.self.now.control.settings.calls (acked_change c.ack-acked.result) c.args.self.now.books
+    c.follow_server.new.books
+followed c is = acked_followed c.args.self.now c.requires.kept c.args.id c.requires.client c.requires.call c.last-now.result c.last-now.ensures
+    c.ack-acked.new.self c.ack-acked.result is
+    c.settings-settings.result.now.calls c.acked_change-change.result (ap (λ (s : Settings). s.calls) c.settings-settings.ensures.settings)
+    c.acked_change-change.ensures c.follow_server.new.books c.follow_server.ensures
 
 pub follow_server-requires-clause-stands : goal.follow_server-requires-clause-stands
 follow_server-requires-clause-stands c = (follows (goal.at.follow_server-requires-clause-stands c).After-acked_change-change).stands
@@ -50,7 +62,8 @@ pub returns-clause-kept : goal.returns-clause-kept
 returns-clause-kept c =
     let at = goal.at.returns-clause-kept c in
     let is = answered at.After-acked_change-change in
-    acked_kept c.args.self.now c.requires.kept c.args.id c.requires.client c.requires.call c.last-now.result c.last-now.ensures c.ack-acked.new.self c.ack-acked.result is
+    acked_kept c.args.self.now c.requires.kept c.args.id c.requires.client c.requires.call c.last-now.result c.last-now.ensures c.ack-acked.new.self
+    c.ack-acked.result is
     c.follow_server.new.books c.settle_server.new.self (followed at.After-follow_server is) c.settle_server.ensures.sound c.settle_server.ensures.same
     (omega (arith, c.settle_server.ensures.opened, ap one_of c.acked_outcome-outcome.ensures.opened))
 
@@ -61,8 +74,11 @@ returns-clause-step c = λ w amid.
     let at = goal.at.returns-clause-step c in
     let is = answered at.After-acked_change-change in
     let did : Did ServerRow = did_at host kept c.args.id c.requires.client c.requires.call c.last-now.result c.last-now.ensures c.ack-acked.new.self w in
-    let outcome = subst (λ (d : Did ServerRow). IsOutcome d c.acked_outcome-outcome.result) (sym (acked_at host kept c.args.id c.requires.client c.requires.call c.last-now.result c.last-now.ensures c.ack-acked.new.self c.ack-acked.result is w amid.host))
-    (c.acked_outcome-outcome.ensures.outcome (moment host.control.settings c.args.id w) (row_now host kept c.args.id c.requires.client c.requires.call c.last-now.result c.last-now.ensures c.ack-acked.new.self)) in
+    let outcome = subst (λ (d : Did ServerRow). IsOutcome d c.acked_outcome-outcome.result)
+    (sym (acked_at host kept c.args.id c.requires.client c.requires.call c.last-now.result c.last-now.ensures c.ack-acked.new.self
+    c.ack-acked.result is w amid.host))
+    (c.acked_outcome-outcome.ensures.outcome (moment host.control.settings c.args.id w)
+    (row_now host kept c.args.id c.requires.client c.requires.call c.last-now.result c.last-now.ensures c.ack-acked.new.self)) in
     acked_amid host kept c.args.id c.requires.client c.requires.call c.last-now.result c.last-now.ensures c.ack-acked.new.self c.ack-acked.result is
     c.follow_server.new.books c.settle_server.new.self (followed at.After-follow_server is) w c.args.out.now c.settle_server.new.out amid
     (c.settle_server.ensures.step did w outcome (at-amid w host c.args.out.now amid))
@@ -71,5 +87,13 @@ pub returns-clause-others : goal.returns-clause-others
 returns-clause-others c = λ q ne.
     let host = c.args.self.now in
     let is = answered (goal.at.returns-clause-others c).After-acked_change-change in
-    acked_others host c.requires.kept c.args.id c.requires.client c.requires.call c.last-now.result c.last-now.ensures c.ack-acked.new.self c.ack-acked.result is
-    (host_of (record { control = c.settle_server.new.self; clients = host.clients; servers = c.ack-acked.new.self; pool = host.pool; books = c.follow_server.new.books; order = host.order })) refl q ne
+    acked_others host c.requires.kept c.args.id c.requires.client c.requires.call c.last-now.result c.last-now.ensures c.ack-acked.new.self
+    c.ack-acked.result is
+    (host_of (record {
+      control = c.settle_server.new.self;
+      clients = host.clients;
+      servers = c.ack-acked.new.self;
+      pool = host.pool;
+      books = c.follow_server.new.books;
+      order = host.order;
+    })) refl q ne

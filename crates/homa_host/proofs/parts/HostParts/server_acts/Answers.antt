@@ -26,17 +26,21 @@ record HasActed (c : After-server_act_change-change) (id : CallId) (r : HeldServ
 
 acted : (c : After-server_act_change-change) (id : CallId) (r : HeldServer) → StandsAt c.args.self.now.servers.rows id c.args.place r → HasActed c id r
 acted c id r stands = record {
-  row = acted_by c.args.self.now c.requires.kept c.args.place c.last-now.result c.last-now.ensures c.act-act.new.self c.act-act.new.pool c.act-act.result id r stands
-      (λ free rows. c.act-act.ensures.acted id r free rows stands) (c.act-act.ensures.left id r stands) (c.act-act.ensures.moved id r stands) c.rows-rows.ensures.placed;
+  row = acted_by c.args.self.now c.requires.kept c.args.place c.last-now.result c.last-now.ensures c.act-act.new.self c.act-act.new.pool
+      c.act-act.result id r stands
+      (λ free rows. c.act-act.ensures.acted id r free rows stands) (c.act-act.ensures.left id r stands)
+      (c.act-act.ensures.moved id r stands) c.rows-rows.ensures.placed;
   calls = ap (λ (s : Settings). s.calls) c.settings-settings.ensures.settings;
 }
 
 -- the books can follow
-follows : (c : After-server_act_change-change) → CanFollowServer c.act-act.new.self c.settings-settings.result.now.calls c.args.self.now.books c.server_act_change-change.result
+follows : (c : After-server_act_change-change)
+    → CanFollowServer c.act-act.new.self c.settings-settings.result.now.calls c.args.self.now.books c.server_act_change-change.result
 follows c =
     let a = at_spot c.args.self.now.servers.rows c.args.place c.requires.stands in
     let x = acted c a.0 a.1 a.2 in
-    acted_follows c.args.self.now c.requires.kept c.args.place c.act-act.new.self c.act-act.new.pool c.act-act.result a.0 a.1 x.row c.settings-settings.result.now.calls c.server_act_change-change.result x.calls c.server_act_change-change.ensures
+    acted_follows c.args.self.now c.requires.kept c.args.place c.act-act.new.self c.act-act.new.pool c.act-act.result a.0 a.1 x.row
+    c.settings-settings.result.now.calls c.server_act_change-change.result x.calls c.server_act_change-change.ensures
 
 pub act-act-requires-clause-pool : goal.act-act-requires-clause-pool
 act-act-requires-clause-pool c = server_parts c.args.self.now c.requires.kept.parts
@@ -70,8 +74,10 @@ returns-clause-kept c =
     let host = c.args.self.now in
     let a = at_spot host.servers.rows c.args.place c.requires.stands in
     let x = acted (goal.at.returns-clause-kept c).After-server_act_change-change a.0 a.1 a.2 in
-    acted_kept host c.requires.kept c.args.place c.act-act.new.self c.act-act.new.pool c.act-act.result a.0 a.1 x.row c.settings-settings.result.now.calls c.server_act_change-change.result x.calls c.server_act_change-change.ensures
-    c.follow_server.new.books c.follow_server.ensures (host.order + c.server_act_orders.result) (ap (λ n. host.order + n) c.server_act_orders.ensures.orders) c.settle_server.new.self c.settle_server.ensures.sound c.settle_server.ensures.same
+    acted_kept host c.requires.kept c.args.place c.act-act.new.self c.act-act.new.pool c.act-act.result a.0 a.1 x.row
+    c.settings-settings.result.now.calls c.server_act_change-change.result x.calls c.server_act_change-change.ensures
+    c.follow_server.new.books c.follow_server.ensures (host.order + c.server_act_orders.result)
+    (ap (λ n. host.order + n) c.server_act_orders.ensures.orders) c.settle_server.new.self c.settle_server.ensures.sound c.settle_server.ensures.same
     (omega (arith, c.settle_server.ensures.opened, ap one_of c.server_act_outcome-outcome.ensures.opened, c.requires.kept.opened))
 
 pub returns-clause-step : goal.returns-clause-step
@@ -80,8 +86,13 @@ returns-clause-step c = λ id r w stands amid.
     let s = host.control.settings in
     let x = acted (goal.at.returns-clause-step c).After-server_act_change-change id r stands in
     let did : Did ServerRow = did_at host c.requires.kept c.args.place c.act-act.new.self c.act-act.new.pool c.act-act.result id r x.row w in
-    let outcome = subst (λ (d : Did ServerRow). IsOutcome d c.server_act_outcome-outcome.result) (sym (acted_at host c.requires.kept c.args.place c.act-act.new.self c.act-act.new.pool c.act-act.result id r x.row w amid.host))
-    (c.server_act_outcome-outcome.ensures.outcome s (moment s id w) id (server_at c.act-act.new.pool c.act-act.new.self.rows id) (ap (λ (s : Settings). s.overcommit - 1) c.settings-settings.ensures.settings)) in
-    let settled = subst (λ (f : RowFacts). IsAt (served s f.id did w) c.settle_server.new.self c.settle_server.new.out) (c.row-facts.ensures.facts id r stands) (c.settle_server.ensures.step did w outcome (at-amid w host c.args.out.now amid)) in
-    acted_amid host c.requires.kept c.args.place c.act-act.new.self c.act-act.new.pool c.act-act.result id r x.row c.settings-settings.result.now.calls c.server_act_change-change.result x.calls c.server_act_change-change.ensures
-    c.follow_server.new.books c.follow_server.ensures (host.order + c.server_act_orders.result) (ap (λ n. host.order + n) c.server_act_orders.ensures.orders) c.settle_server.new.self w c.args.out.now c.settle_server.new.out amid settled
+    let outcome = subst (λ (d : Did ServerRow). IsOutcome d c.server_act_outcome-outcome.result)
+    (sym (acted_at host c.requires.kept c.args.place c.act-act.new.self c.act-act.new.pool c.act-act.result id r x.row w amid.host))
+    (c.server_act_outcome-outcome.ensures.outcome s (moment s id w) id (server_at c.act-act.new.pool c.act-act.new.self.rows id)
+    (ap (λ (s : Settings). s.overcommit - 1) c.settings-settings.ensures.settings)) in
+    let settled = subst (λ (f : RowFacts). IsAt (served s f.id did w) c.settle_server.new.self c.settle_server.new.out)
+    (c.row-facts.ensures.facts id r stands) (c.settle_server.ensures.step did w outcome (at-amid w host c.args.out.now amid)) in
+    acted_amid host c.requires.kept c.args.place c.act-act.new.self c.act-act.new.pool c.act-act.result id r x.row
+    c.settings-settings.result.now.calls c.server_act_change-change.result x.calls c.server_act_change-change.ensures
+    c.follow_server.new.books c.follow_server.ensures (host.order + c.server_act_orders.result)
+    (ap (λ n. host.order + n) c.server_act_orders.ensures.orders) c.settle_server.new.self w c.args.out.now c.settle_server.new.out amid settled

@@ -29,24 +29,37 @@ use Rattle.homa_host.proofs.parts.HostParts.server_gets.Goals.{After-settings-se
 
 -- what is so once the host heard the packet, which its table had taken up
 taken : (g : given.Over) (c : After-settings-settings g)
-    → HasTaken c.args.self.now c.args.from c.args.packet.now c.args.payload.now c.args.now c.hear.new.self c.receive.new.self c.receive.new.pool c.receive.new.scratch (g.V.Service.allows c.args.service.now (g.V.Service.served c.args.service.now)) c.in_ok-did.did
+    → HasTaken c.args.self.now c.args.from c.args.packet.now c.args.payload.now c.args.now c.hear.new.self c.receive.new.self c.receive.new.pool
+    c.receive.new.scratch (g.V.Service.allows c.args.service.now (g.V.Service.served c.args.service.now)) c.in_ok-did.did
 taken g c =
     let host = c.args.self.now in
-    let heard = heard_by host c.requires.kept c.args.from c.args.packet.now c.args.now c.requires.later c.begin.new.self c.hear.new.self c.begin.ensures c.hear.ensures.same c.settings-settings.ensures.sound c.hear.ensures.step in
-    taken_by host c.args.from c.args.packet.now c.args.payload.now c.args.now c.hear.new.self c.receive.new.self c.receive.new.pool c.receive.new.scratch (g.V.Service.allows c.args.service.now (g.V.Service.served c.args.service.now)) c.in_ok-did.did
-    heard c.requires.from c.requires.other c.requires.role c.requires.formed.call.0 (omega (arith, c.free-free.ensures.whole)) c.in_ok-did.ensures.received c.rows-rows.ensures.placed
+    let heard = heard_by host c.requires.kept c.args.from c.args.packet.now c.args.now c.requires.later c.begin.new.self c.hear.new.self
+    c.begin.ensures c.hear.ensures.same c.settings-settings.ensures.sound c.hear.ensures.step in
+    taken_by host c.args.from c.args.packet.now c.args.payload.now c.args.now c.hear.new.self c.receive.new.self c.receive.new.pool
+    c.receive.new.scratch (g.V.Service.allows c.args.service.now (g.V.Service.served c.args.service.now)) c.in_ok-did.did
+    heard c.requires.from c.requires.other c.requires.role c.requires.formed.call.0 (omega (arith, c.free-free.ensures.whole))
+    c.in_ok-did.ensures.received c.rows-rows.ensures.placed
 
 -- the books followed
-followed : (g : given.Over) (c : After-follow_server g) → FollowedServer c.receive.new.self c.hear.new.self.settings.calls (server_change c.in_ok-did.did) c.args.self.now.books c.follow_server.new.books
+followed : (g : given.Over) (c : After-follow_server g)
+    → FollowedServer c.receive.new.self c.hear.new.self.settings.calls (server_change c.in_ok-did.did) c.args.self.now.books c.follow_server.new.books
 followed g c = subst (λ (t : Change × ℕ). FollowedServer c.receive.new.self t.1 t.0 c.args.self.now.books c.follow_server.new.books)
     (λ i. (c.server_change-change.ensures i, ap (λ (s : Settings). s.calls) c.settings-settings.ensures.settings i)) c.follow_server.ensures
 
 -- what came of the packet
 settled : (g : given.Over) (c : After-settle_server g)
-    → HasTaken c.args.self.now c.args.from c.args.packet.now c.args.payload.now c.args.now c.hear.new.self c.receive.new.self c.receive.new.pool c.receive.new.scratch (g.V.Service.allows c.args.service.now (g.V.Service.served c.args.service.now)) c.in_ok-did.did
+    → HasTaken c.args.self.now c.args.from c.args.packet.now c.args.payload.now c.args.now c.hear.new.self c.receive.new.self c.receive.new.pool
+    c.receive.new.scratch (g.V.Service.allows c.args.service.now (g.V.Service.served c.args.service.now)) c.in_ok-did.did
     → FollowedServer c.receive.new.self c.hear.new.self.settings.calls (server_change c.in_ok-did.did) c.args.self.now.books c.follow_server.new.books
     → HasSettled c.args.self.now c.args.from c.args.packet.now c.args.payload.now c.args.now
-    (record { control = c.settle_server.new.self; clients = c.args.self.now.clients; servers = c.receive.new.self; pool = c.receive.new.pool; books = c.follow_server.new.books; order = c.args.self.now.order + c.server_orders.result })
+    (record {
+      control = c.settle_server.new.self;
+      clients = c.args.self.now.clients;
+      servers = c.receive.new.self;
+      pool = c.receive.new.pool;
+      books = c.follow_server.new.books;
+      order = c.args.self.now.order + c.server_orders.result;
+    })
     c.settle_server.new.out c.receive.new.scratch (g.V.Service.allows c.args.service.now (g.V.Service.served c.args.service.now)) c.in_ok-did.did
 settled g c x follows =
     let host = c.args.self.now in
@@ -55,11 +68,14 @@ settled g c x follows =
     let packet = q host x in
     let w = heard_work host c.args.from c.args.packet.now c.args.now in
     let row = row_now heard x.heard.kept x.taken in
-    let touched = gets_touched heard x.heard.kept x.taken c.touched_version-touched.result (piece_in packet.body packet.payload) (λ r. c.touched_version-touched.ensures packet c.receive.new.pool packet.id r c.head_of-head.ensures) in
-    settled_by host x c.settle_server.new.self c.settle_server.new.out c.follow_server.new.books (host.order + c.server_orders.result) (ap (λ n. host.order + n) c.server_orders.ensures.order) follows (λ a reply.
+    let touched = gets_touched heard x.heard.kept x.taken c.touched_version-touched.result (piece_in packet.body packet.payload)
+    (λ r. c.touched_version-touched.ensures packet c.receive.new.pool packet.id r c.head_of-head.ensures) in
+    settled_by host x c.settle_server.new.self c.settle_server.new.out c.follow_server.new.books (host.order + c.server_orders.result)
+    (ap (λ n. host.order + n) c.server_orders.ensures.order) follows (λ a reply.
     c.settle_server.ensures.step (rule host x a) w
     (subst (λ (d : Did ServerRow). IsOutcome d c.server_outcome-outcome.result) (sym (rule_is host x a reply))
-    (c.server_outcome-outcome.ensures.outcome s (moment s packet.id w) packet row c.receive.new.scratch a c.head_of-head.ensures (sym (ap (λ (s : Settings). s.served) c.settings-settings.ensures.settings)) (c.service_of-number.ensures packet.payload) touched refl))
+    (c.server_outcome-outcome.ensures.outcome s (moment s packet.id w) packet row c.receive.new.scratch a c.head_of-head.ensures
+    (sym (ap (λ (s : Settings). s.served) c.settings-settings.ensures.settings)) (c.service_of-number.ensures packet.payload) touched refl))
     (at-amid w heard c.args.out.now (subst (λ frames. Amid w heard frames) (sym c.requires.out) x.heard.amid)))
 
 err_any : {A E : Type 0} (r : Result A E) (P : Type 0) → P → OnErr r P
@@ -90,7 +106,9 @@ returns-in_err-did-clause-asks g c =
     let number = service_in (piece_in c.args.packet.now.body c.args.payload.now) in
     served_asks s q.id (server_gets s (moment s q.id w) q a (get w.host.servers q.id)) w (record { id = id; service = number; request = c.receive.new.scratch })
     (heard_count s c.args.from c.args.packet.now.sender c.args.packet.now.body (host_of host) c.args.now)
-    (subst (IsAsked id number c.receive.new.scratch) (gets_then host c.requires.kept c.args.from c.requires.other c.args.packet.now c.args.payload.now c.requires.role c.args.now (omega (arith, c.free-free.ensures.whole)) a w w.host.peers
+    (subst (IsAsked id number c.receive.new.scratch)
+    (gets_then host c.requires.kept c.args.from c.requires.other c.args.packet.now c.args.payload.now c.requires.role c.args.now
+    (omega (arith, c.free-free.ensures.whole)) a w w.host.peers
     (heard_host s c.args.from c.args.packet.now.sender c.args.packet.now.body host c.args.now)) (c.in_err-did.ensures.asks a)))
 
 pub touched_version-touched-requires : goal.touched_version-touched-requires
@@ -106,15 +124,19 @@ follow_server-requires-clause-stands g c =
 pub follow_server-requires-clause-may : goal.follow_server-requires-clause-may
 follow_server-requires-clause-may g c =
     let x = taken g (goal.at.follow_server-requires-clause-may g c).After-settings-settings in
-    subst (λ (t : Change × ℕ). IfStays t.0 (MayStayServer c.receive.new.self t.1 c.args.self.now.books)) (λ i. (sym c.server_change-change.ensures i, sym (ap (λ (s : Settings). s.calls) c.settings-settings.ensures.settings) i))
+    subst (λ (t : Change × ℕ). IfStays t.0 (MayStayServer c.receive.new.self t.1 c.args.self.now.books))
+    (λ i. (sym c.server_change-change.ensures i, sym (ap (λ (s : Settings). s.calls) c.settings-settings.ensures.settings) i))
     (gets_may (record c.args.self.now { control = c.hear.new.self }) x.heard.kept x.taken)
 
 pub returns-clause-kept : goal.returns-clause-kept
 returns-clause-kept g c =
     let host = c.args.self.now in
     let x = taken g (goal.at.returns-clause-kept g c).After-settings-settings in
-    gets_kept (record host { control = c.hear.new.self }) x.heard.kept x.taken c.settle_server.new.self c.follow_server.new.books (host.order + c.server_orders.result) (ap (λ n. host.order + n) c.server_orders.ensures.order) (followed g (goal.at.returns-clause-kept g c).After-follow_server)
-    (one_of c.server_outcome-outcome.result.opened) c.settle_server.ensures.sound c.settle_server.ensures.same c.settle_server.ensures.opened c.server_outcome-outcome.ensures.opened
+    gets_kept (record host { control = c.hear.new.self }) x.heard.kept x.taken c.settle_server.new.self c.follow_server.new.books
+    (host.order + c.server_orders.result) (ap (λ n. host.order + n) c.server_orders.ensures.order)
+    (followed g (goal.at.returns-clause-kept g c).After-follow_server)
+    (one_of c.server_outcome-outcome.result.opened) c.settle_server.ensures.sound c.settle_server.ensures.same c.settle_server.ensures.opened
+    c.server_outcome-outcome.ensures.opened
 
 pub returns-clause-step : goal.returns-clause-step
 returns-clause-step g c =

@@ -33,7 +33,8 @@ record Ends (c : After-granted) (a : Arriving) : Type 0 where
   now : a.message.granted ≡ c.granted.result
   new : new_end c.args.self.now.control.settings.window a.message ≡ c.new_end_of-offset.result
 
-ends : (c : After-granted) (id : CallId) (r : HeldServer) (a : Arriving) → StandsAt c.args.self.now.servers.rows id c.args.place r → a.place ≡ OfServer id → Contains (arrivals (host_of c.args.self.now)) a → Ends c a
+ends : (c : After-granted) (id : CallId) (r : HeldServer) (a : Arriving) → StandsAt c.args.self.now.servers.rows id c.args.place r
+    → a.place ≡ OfServer id → Contains (arrivals (host_of c.args.self.now)) a → Ends c a
 ends c id r a stands at arrives =
     let h = c.args.self.now in
     let p = c.in-Some.part.now in
@@ -41,26 +42,31 @@ ends c id r a stands at arrives =
     let message = message_at h c.requires.kept id c.args.place r stands p a is at arrives in
     record {
       now = ap (λ m. m.granted) message ∙ sym c.granted.ensures.value;
-      new = sym (c.new_end_of-offset.ensures.end h.pool (part_inside h c.requires.kept id c.args.place r stands p is) ∙ (λ i. new_end (c.settings-settings.ensures.settings i).window (sym message i)));
+      new = sym (c.new_end_of-offset.ensures.end h.pool (part_inside h c.requires.kept id c.args.place r stands p is)
+          ∙ (λ i. new_end (c.settings-settings.ensures.settings i).window (sym message i)));
     }
 
 -- what is so of a row at the place once the table granted to it
 record HasGranted (c : After-granted-2) (id : CallId) (r : HeldServer) : Type 0 where
   facts : c.row-facts.result ≡ server_facts id r
-  moved : ServerMoved id c.args.self.now.servers c.args.self.now.pool c.granted-2.new.self c.args.self.now.pool (Some (server_granted c.args.self.now.control.last c.new_end_of-offset.result (seen_server c.args.self.now.pool r)))
+  moved : ServerMoved id c.args.self.now.servers c.args.self.now.pool c.granted-2.new.self c.args.self.now.pool
+      (Some (server_granted c.args.self.now.control.last c.new_end_of-offset.result (seen_server c.args.self.now.pool r)))
   calls : c.settings-settings.result.now.calls ≡ c.args.self.now.control.settings.calls
   follows : CanFollowServer c.granted-2.new.self c.settings-settings.result.now.calls c.args.self.now.books (Stays c.args.place)
 
 granted : (c : After-granted-2) (id : CallId) (r : HeldServer) → StandsAt c.args.self.now.servers.rows id c.args.place r → HasGranted c id r
 granted c id r stands =
     let h = c.args.self.now in
-    let moved = subst (λ n. ServerMoved id h.servers h.pool c.granted-2.new.self h.pool (Some (server_granted n c.new_end_of-offset.result (seen_server h.pool r)))) c.last.ensures (c.granted-2.ensures id r h.pool stands (all_inside h c.requires.kept id c.args.place r stands)) in
+    let moved = subst
+    (λ n. ServerMoved id h.servers h.pool c.granted-2.new.self h.pool (Some (server_granted n c.new_end_of-offset.result (seen_server h.pool r))))
+    c.last.ensures (c.granted-2.ensures id r h.pool stands (all_inside h c.requires.kept id c.args.place r stands)) in
     let calls = ap (λ (s : Settings). s.calls) c.settings-settings.ensures.settings in
     record {
       facts = c.row-facts.ensures.facts id r stands;
       moved = moved;
       calls = calls;
-      follows = granted_follows h c.requires.kept id c.args.place r stands c.new_end_of-offset.result c.granted-2.new.self moved c.settings-settings.result.now.calls calls;
+      follows = granted_follows h c.requires.kept id c.args.place r stands c.new_end_of-offset.result c.granted-2.new.self moved
+          c.settings-settings.result.now.calls calls;
     }
 
 pub incoming-requires : goal.incoming-requires
@@ -77,28 +83,35 @@ pub returns-then-offset-granted-clause-step : goal.returns-then-offset-granted-c
 returns-then-offset-granted-clause-step c = λ id r a w stands at arrives amid.
     let h = c.args.self.now in
     let e = ends (goal.at.returns-then-offset-granted-clause-step c).After-granted id r a stands at arrives in
-    subst (λ (v : Work). Amid v h c.args.out.now) (sym (grant_none h.control.settings a c.args.prio w (omega (arith, e.new, e.now, c.if-offset-granted.true)))) amid
+    subst (λ (v : Work). Amid v h c.args.out.now)
+    (sym (grant_none h.control.settings a c.args.prio w (omega (arith, e.new, e.now, c.if-offset-granted.true)))) amid
 
 pub returns-then-offset-granted-clause-changes : goal.returns-then-offset-granted-clause-changes
 returns-then-offset-granted-clause-changes c = λ id r stands. changes_none c.args.self.now c.requires.kept id c.args.place r stands
 
 pub follow_server-requires-clause-stands : goal.follow_server-requires-clause-stands
-follow_server-requires-clause-stands c = let a = c.requires.arrives in (granted (goal.at.follow_server-requires-clause-stands c).After-granted-2 a.0 a.1 a.2).follows.stands
+follow_server-requires-clause-stands c =
+    let a = c.requires.arrives in (granted (goal.at.follow_server-requires-clause-stands c).After-granted-2 a.0 a.1 a.2).follows.stands
 
 pub follow_server-requires-clause-may : goal.follow_server-requires-clause-may
-follow_server-requires-clause-may c = let a = c.requires.arrives in (granted (goal.at.follow_server-requires-clause-may c).After-granted-2 a.0 a.1 a.2).follows.may
+follow_server-requires-clause-may c =
+    let a = c.requires.arrives in (granted (goal.at.follow_server-requires-clause-may c).After-granted-2 a.0 a.1 a.2).follows.may
 
 pub follow_server-requires-clause-room : goal.follow_server-requires-clause-room
-follow_server-requires-clause-room c = let a = c.requires.arrives in (granted (goal.at.follow_server-requires-clause-room c).After-granted-2 a.0 a.1 a.2).follows.room
+follow_server-requires-clause-room c =
+    let a = c.requires.arrives in (granted (goal.at.follow_server-requires-clause-room c).After-granted-2 a.0 a.1 a.2).follows.room
 
 pub follow_server-requires-clause-calls : goal.follow_server-requires-clause-calls
-follow_server-requires-clause-calls c = let a = c.requires.arrives in (granted (goal.at.follow_server-requires-clause-calls c).After-granted-2 a.0 a.1 a.2).follows.calls
+follow_server-requires-clause-calls c =
+    let a = c.requires.arrives in (granted (goal.at.follow_server-requires-clause-calls c).After-granted-2 a.0 a.1 a.2).follows.calls
 
 pub follow_server-requires-clause-within : goal.follow_server-requires-clause-within
-follow_server-requires-clause-within c = let a = c.requires.arrives in (granted (goal.at.follow_server-requires-clause-within c).After-granted-2 a.0 a.1 a.2).follows.within
+follow_server-requires-clause-within c =
+    let a = c.requires.arrives in (granted (goal.at.follow_server-requires-clause-within c).After-granted-2 a.0 a.1 a.2).follows.within
 
 pub follow_server-requires-clause-small : goal.follow_server-requires-clause-small
-follow_server-requires-clause-small c = let a = c.requires.arrives in (granted (goal.at.follow_server-requires-clause-small c).After-granted-2 a.0 a.1 a.2).follows.small
+follow_server-requires-clause-small c =
+    let a = c.requires.arrives in (granted (goal.at.follow_server-requires-clause-small c).After-granted-2 a.0 a.1 a.2).follows.small
 
 pub post-requires-clause-call : goal.post-requires-clause-call
 post-requires-clause-call c =
@@ -110,8 +123,10 @@ returns-clause-kept c =
     let h = c.args.self.now in
     let a = c.requires.arrives in
     let x = granted (goal.at.returns-clause-kept c).After-granted-2 a.0 a.1 a.2 in
-    granted_kept h c.requires.kept a.0 c.args.place a.1 a.2 c.new_end_of-offset.result c.granted-2.new.self x.moved c.settings-settings.result.now.calls x.calls c.follow_server.new.books c.follow_server.ensures c.post.new.self
-    (sound_told h.control c.post.new.self _ c.post.ensures.marks (omega (arith, c.requires.room.marks_left)) c.requires.kept.control) (beside_told h.control c.post.new.self _ c.post.ensures.marks)
+    granted_kept h c.requires.kept a.0 c.args.place a.1 a.2 c.new_end_of-offset.result c.granted-2.new.self x.moved
+    c.settings-settings.result.now.calls x.calls c.follow_server.new.books c.follow_server.ensures c.post.new.self
+    (sound_told h.control c.post.new.self _ c.post.ensures.marks (omega (arith, c.requires.room.marks_left)) c.requires.kept.control)
+    (beside_told h.control c.post.new.self _ c.post.ensures.marks)
 
 pub returns-clause-step : goal.returns-clause-step
 returns-clause-step c = λ id r a w stands at arrives amid.
@@ -119,13 +134,18 @@ returns-clause-step c = λ id r a w stands at arrives amid.
     let offset = c.new_end_of-offset.result in
     let x = granted (goal.at.returns-clause-step c).After-granted-2 id r stands in
     let e = ends (goal.at.returns-clause-step c).After-granted id r a stands at arrives in
-    let posted : (w : Work) → IsAt w h.control c.args.out.now → IsAt (posts h.control.settings Server id h.control.id (body.Grant offset c.args.prio) w) c.post.new.self c.post.new.out = λ w at.
-    subst (λ (q : HostId × CallId). IsAt (posts h.control.settings Server q.1 q.0 (body.Grant offset c.args.prio) w) c.post.new.self c.post.new.out) (λ i. (c.id-server.ensures i, (x.facts i).id)) (c.post.ensures.step w at) in
-    server_granted_to h c.requires.kept id c.args.place r stands offset c.granted-2.new.self x.moved c.settings-settings.result.now.calls x.calls c.follow_server.new.books c.follow_server.ensures c.post.new.self c.args.out.now c.post.new.out c.args.prio
+    let posted : (w : Work) → IsAt w h.control c.args.out.now
+    → IsAt (posts h.control.settings Server id h.control.id (body.Grant offset c.args.prio) w) c.post.new.self c.post.new.out =
+    λ w at.
+    subst (λ (q : HostId × CallId). IsAt (posts h.control.settings Server q.1 q.0 (body.Grant offset c.args.prio) w) c.post.new.self c.post.new.out)
+    (λ i. (c.id-server.ensures i, (x.facts i).id)) (c.post.ensures.step w at) in
+    server_granted_to h c.requires.kept id c.args.place r stands offset c.granted-2.new.self x.moved c.settings-settings.result.now.calls x.calls
+    c.follow_server.new.books c.follow_server.ensures c.post.new.self c.args.out.now c.post.new.out c.args.prio
     posted a w at e.new (omega (arith, e.now, c.if-offset-granted.false)) amid
 
 pub returns-clause-changes : goal.returns-clause-changes
 returns-clause-changes c = λ id r stands.
     let h = c.args.self.now in
     let x = granted (goal.at.returns-clause-changes c).After-granted-2 id r stands in
-    changes_to h c.requires.kept id c.args.place r stands c.granted-2.new.self _ x.moved c.post.new.self (beside_told h.control c.post.new.self _ c.post.ensures.marks) c.follow_server.new.books
+    changes_to h c.requires.kept id c.args.place r stands c.granted-2.new.self _ x.moved c.post.new.self
+    (beside_told h.control c.post.new.self _ c.post.ensures.marks) c.follow_server.new.books

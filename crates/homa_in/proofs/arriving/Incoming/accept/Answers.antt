@@ -17,10 +17,26 @@ comes r s t P e both = (λ f. both.0 (sym e ∙ f), λ p. e ∙ both.1 p)
 
 pub invariant_of-self : goal.invariant_of-self
 invariant_of-self c =
-    let fields : Part = record { peer = c.self.inside.peer; length = c.self.inside.len; order = c.self.inside.order; granted = c.self.inside.granted; missing = c.self.inside.missing; lease = c.self.inside.lease } in
+    let fields : Part =
+    record {
+      peer = c.self.inside.peer;
+      length = c.self.inside.len;
+      order = c.self.inside.order;
+      granted = c.self.inside.granted;
+      missing = c.self.inside.missing;
+      lease = c.self.inside.lease;
+    } in
     let did = c.place.ensures in
     let here : IsPlaced c.args.pool.now c.place.new.pool fields c.place.new.missing c.args.offset c.args.bytes.now c.place.result =
-    record { too_many = did.too_many; unchanged = did.unchanged; same_pool = did.same_pool; removed = did.removed; bytes = did.bytes; pool = did.pool; fits = did.fits } in
+    record {
+      too_many = did.too_many;
+      unchanged = did.unchanged;
+      same_pool = did.same_pool;
+      removed = did.removed;
+      bytes = did.bytes;
+      pool = did.pool;
+      fits = did.fits;
+    } in
     holds_placed c.args.pool.now c.place.new.pool fields c.place.new.missing c.args.offset c.args.bytes.now c.place.result here c.self.invariant
 
 pub returns : goal.returns
@@ -33,21 +49,39 @@ returns c =
     let piece = c.args.bytes.now in
     let fits = c.requires.fits in
     let changed = c.place.result in
-    let fields : Part = record { peer = c.self.inside.peer; length = c.self.inside.len; order = c.self.inside.order; granted = c.self.inside.granted; missing = c.self.inside.missing; lease = c.self.inside.lease } in
+    let fields : Part =
+    record {
+      peer = c.self.inside.peer;
+      length = c.self.inside.len;
+      order = c.self.inside.order;
+      granted = c.self.inside.granted;
+      missing = c.self.inside.missing;
+      lease = c.self.inside.lease;
+    } in
     let did = c.place.ensures in
     let here : IsPlaced old new fields missing a piece changed =
-    record { too_many = did.too_many; unchanged = did.unchanged; same_pool = did.same_pool; removed = did.removed; bytes = did.bytes; pool = did.pool; fits = did.fits } in
+    record {
+      too_many = did.too_many;
+      unchanged = did.unchanged;
+      same_pool = did.same_pool;
+      removed = did.removed;
+      bytes = did.bytes;
+      pool = did.pool;
+      fits = did.fits;
+    } in
     let is = is_seen old fields part c.self.view_is c.requires.pool c.self.invariant in
     let placed = subst (λ (p : Part). IsPlaced old new p missing a piece changed) c.self.view_is here in
     let answered : c.match-place.result ≡ answer (seen old part) a piece = elim c.match-place.branch [
       | in-TooMany w ↦ w.result-is ∙ many_placed old new part is c.requires.pool a piece fits missing changed placed w.in-TooMany.is
-      | in-Count w ↦ w.result-is ∙ w.taken.ensures ∙ count_placed old new part is c.requires.pool a piece fits missing changed w.in-Count.count placed w.in-Count.is
+      | in-Count w ↦ w.result-is ∙ w.taken.ensures ∙ count_placed old new part is c.requires.pool a piece fits missing changed w.in-Count.count placed
+          w.in-Count.is
     ] in
     let many = comes c.match-place.result _ _ _ answered (answer-many old part is a piece fits) in
     let repeats = comes c.match-place.result _ _ _ answered (answer-repeat old part is a piece fits) in
     let after = ap (λ (p : Part). record p { missing = missing }) c.self.view_is in
     let inside = in_placed old new part is c.requires.pool a piece fits missing changed placed in
-    let now = is_seen new (record part { missing = missing }) (record part { missing = missing }) refl inside (holds_placed old new part missing a piece changed placed (subst Holds c.self.view_is c.self.invariant)) in
+    let now = is_seen new (record part { missing = missing }) (record part { missing = missing }) refl inside
+    (holds_placed old new part missing a piece changed placed (subst Holds c.self.view_is c.self.invariant)) in
     record {
       answer = answered;
       too_many = many;
@@ -57,7 +91,8 @@ returns c =
       part = after;
       others = others_placed old new part is c.requires.pool a piece fits missing changed placed;
       pool = subst (IsIn new) (sym after) inside;
-      missing = ap (λ (p : Part). len p.missing) after ∙ remaining-seen new (record part { missing = missing }) now ∙ ap (λ (p : Part). remaining (seen new p)) (sym after);
+      missing = ap (λ (p : Part). len p.missing) after ∙ remaining-seen new (record part { missing = missing }) now
+          ∙ ap (λ (p : Part). remaining (seen new p)) (sym after);
       sound = subst (λ (p : Part). IsSound (seen new p)) (sym after) (sound-seen new (record part { missing = missing }) now);
       refused = λ r.
           let both = refused_placed old new part is c.requires.pool a piece fits missing changed placed (many.0 r) in

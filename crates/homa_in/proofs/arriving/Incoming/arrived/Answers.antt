@@ -12,4 +12,5 @@ returns-clause-value c = rw (← c.self.view_is) (omega (arith, c.count.ensures.
 
 pub returns-clause-seen : goal.returns-clause-seen
 returns-clause-seen c = λ pool inside.
-    arrived-seen pool c.args.self.now (is_seen pool _ c.args.self.now c.self.view_is inside c.self.invariant) (c.self.inside.len - c.count.result) (returns-clause-value c)
+    arrived-seen pool c.args.self.now (is_seen pool _ c.args.self.now c.self.view_is inside c.self.invariant) (c.self.inside.len - c.count.result)
+    (returns-clause-value c)

@@ -6,4 +6,5 @@ use Rattle.homa_in.specs.Part.{Part}
 use Rattle.homa_in.proofs.arriving.Incoming.len.Goals as goal
 
 pub returns-clause-missing : goal.returns-clause-missing
-returns-clause-missing c = omega (arith, ap (λ (p : Part). len p.missing) c.self.view_is, len-below c.self.inside.missing c.self.inside.len c.self.invariant.below)
+returns-clause-missing c =
+    omega (arith, ap (λ (p : Part). len p.missing) c.self.view_is, len-below c.self.inside.missing c.self.inside.len c.self.invariant.below)

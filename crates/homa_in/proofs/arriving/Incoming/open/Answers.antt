@@ -7,7 +7,8 @@ use Rattle.homa_in.proofs.arriving.Incoming.open.Goals as goal
 
 pub invariant_of-result : goal.invariant_of-result
 invariant_of-result c =
-    subst (λ (m : Numbers). IsPart c.args.len c.args.granted m c.args.lease) (sym c.upto.ensures) (part-unarrived c.args.len c.args.granted c.args.lease c.requires.lease (omega arith) c.requires.granted)
+    subst (λ (m : Numbers). IsPart c.args.len c.args.granted m c.args.lease) (sym c.upto.ensures)
+    (part-unarrived c.args.len c.args.granted c.args.lease c.requires.lease (omega arith) c.requires.granted)
 
 pub returns-clause-seen : goal.returns-clause-seen
 returns-clause-seen c = λ pool held.

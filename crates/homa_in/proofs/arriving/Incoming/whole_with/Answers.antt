@@ -22,7 +22,8 @@ pub returns-then-not-has_the_last-clause-completes : goal.returns-then-not-has_t
 returns-then-not-has_the_last-clause-completes c =
     let is = is_seen c.args.pool.now _ c.args.self.now c.self.view_is c.requires.pool c.self.invariant in
     completes_false c.args.pool.now c.args.self.now is c.args.offset c.args.bytes.now c.requires.fits
-    (λ h. not_both c.if-not-has_the_last.true (c.has_the_last.ensures.1 (subst (IsLast c.args.offset (c.args.offset + length c.args.bytes.now)) (sym c.self.view_is) h)))
+    (λ h. not_both c.if-not-has_the_last.true
+    (c.has_the_last.ensures.1 (subst (IsLast c.args.offset (c.args.offset + length c.args.bytes.now)) (sym c.self.view_is) h)))
 
 pub returns-clause-completes : goal.returns-clause-completes
 returns-clause-completes c =
@@ -36,18 +37,23 @@ returns-clause-message c =
     let is = is_seen c.args.pool.now _ c.args.self.now c.self.view_is c.requires.pool c.self.invariant in
     let last : IsLast c.args.offset (c.args.offset + length c.args.bytes.now) c.args.self.now =
     subst (IsLast c.args.offset (c.args.offset + length c.args.bytes.now)) c.self.view_is (c.has_the_last.ensures.0 c.if-not-has_the_last.false) in
-    let fill = subst (λ (xs : List ℕ). IsFilled c.self.inside.missing c.args.offset (c.args.offset + length c.args.bytes.now) c.args.bytes.now xs c.put_missing.new.scratch) c.fill.ensures c.put_missing.ensures in
-    let fill' = subst (λ (p : Part). IsFilled p.missing c.args.offset (c.args.offset + length c.args.bytes.now) c.args.bytes.now (bytes_of c.args.pool.now p.lease) c.put_missing.new.scratch) c.self.view_is fill in
+    let fill = subst (λ (xs : List ℕ). IsFilled c.self.inside.missing c.args.offset (c.args.offset + length c.args.bytes.now) c.args.bytes.now xs
+    c.put_missing.new.scratch) c.fill.ensures c.put_missing.ensures in
+    let fill' = subst (λ (p : Part). IsFilled p.missing c.args.offset (c.args.offset + length c.args.bytes.now) c.args.bytes.now
+    (bytes_of c.args.pool.now p.lease) c.put_missing.new.scratch) c.self.view_is fill in
     message-filled c.args.pool.now c.args.self.now is c.args.offset c.args.bytes.now c.requires.fits c.put_missing.new.scratch last.1 fill'
 
 pub returns-then-not-has_the_last-clause-missing : goal.returns-then-not-has_the_last-clause-missing
-returns-then-not-has_the_last-clause-missing c = remaining-seen c.args.pool.now c.args.self.now (is_seen c.args.pool.now _ c.args.self.now c.self.view_is c.requires.pool c.self.invariant)
+returns-then-not-has_the_last-clause-missing c =
+    remaining-seen c.args.pool.now c.args.self.now (is_seen c.args.pool.now _ c.args.self.now c.self.view_is c.requires.pool c.self.invariant)
 
 pub returns-then-not-has_the_last-clause-sound : goal.returns-then-not-has_the_last-clause-sound
-returns-then-not-has_the_last-clause-sound c = sound-seen c.args.pool.now c.args.self.now (is_seen c.args.pool.now _ c.args.self.now c.self.view_is c.requires.pool c.self.invariant)
+returns-then-not-has_the_last-clause-sound c =
+    sound-seen c.args.pool.now c.args.self.now (is_seen c.args.pool.now _ c.args.self.now c.self.view_is c.requires.pool c.self.invariant)
 
 pub returns-clause-missing : goal.returns-clause-missing
-returns-clause-missing c = remaining-seen c.args.pool.now c.args.self.now (is_seen c.args.pool.now _ c.args.self.now c.self.view_is c.requires.pool c.self.invariant)
+returns-clause-missing c =
+    remaining-seen c.args.pool.now c.args.self.now (is_seen c.args.pool.now _ c.args.self.now c.self.view_is c.requires.pool c.self.invariant)
 
 pub returns-clause-sound : goal.returns-clause-sound
 returns-clause-sound c = sound-seen c.args.pool.now c.args.self.now (is_seen c.args.pool.now _ c.args.self.now c.self.view_is c.requires.pool c.self.invariant)

@@ -17,7 +17,8 @@ pub loop-self-preserved : goal.loop-self-preserved
 loop-self-preserved g c =
     let l = c.loop-self in
     record {
-      so_far = goes_on _ _ _ _ _ _ _ _ (c.deref.ensures.value ∙ ap (λ v. v.items) l.invariant.items) l.invariant.onward l.invariant.so_far (rw take_rest at c.in_ok-self.ensures.taken);
+      so_far = goes_on _ _ _ _ _ _ _ _ (c.deref.ensures.value ∙ ap (λ v. v.items) l.invariant.items) l.invariant.onward l.invariant.so_far
+          (rw take_rest at c.in_ok-self.ensures.taken);
       items = l.invariant.items;
       direct = l.invariant.direct;
       onward = omega (arith, l.invariant.onward);

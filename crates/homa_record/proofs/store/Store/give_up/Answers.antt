@@ -10,7 +10,8 @@ not_none zero e = absurd (let z : false ≡ true = e in cc)
 not_none (suc n) e = omega arith
 
 pub overflow_sub-self : goal.overflow_sub-self
-overflow_sub-self c = let s = c.loop-self.self in first_tick_by s.tick s.ring.items c.index.result.now (omega (arith, not_none (deque_len s.ring) c.loop-self-test.ensures)) c.index.ensures s.rising
+overflow_sub-self c = let s = c.loop-self.self in
+    first_tick_by s.tick s.ring.items c.index.result.now (omega (arith, not_none (deque_len s.ring) c.loop-self-test.ensures)) c.index.ensures s.rising
 
 pub invariant_of-self : goal.invariant_of-self
 invariant_of-self c =
@@ -18,7 +19,8 @@ invariant_of-self c =
     let some : 0 < length s.ring.items = omega (arith, not_none (deque_len s.ring) c.loop-self-test.ensures) in
     record {
       fits = c.after-self.type_inv;
-      indexed = popped_by s.first s.heads.items s.ring.items c.after-self.result c.pop_front.new.self.items some s.indexed s.fits c.after-self.ensures c.pop_front.ensures.rest;
+      indexed = popped_by s.first s.heads.items s.ring.items c.after-self.result c.pop_front.new.self.items some s.indexed s.fits c.after-self.ensures
+          c.pop_front.ensures.rest;
       rising = rest_rising_by s.tick s.ring.items c.pop_front.new.self.items some c.pop_front.ensures.rest s.rising;
     }
 
@@ -26,5 +28,6 @@ pub returns-else-self-index-clause-stored : goal.returns-else-self-index-clause-
 returns-else-self-index-clause-stored c =
     let s = c.loop-self.self in
     let l = c.loop-self.invariant in
-    let live = all_live_by c.args.life s.tick s.tick s.ring.items c.index.result.now (omega (arith, not_none (deque_len s.ring) c.loop-self-test.ensures)) c.index.ensures (omega (arith, c.if-self-index.false, c.from.ensures)) s.rising in
+    let live = all_live_by c.args.life s.tick s.tick s.ring.items c.index.result.now
+    (omega (arith, not_none (deque_len s.ring) c.loop-self-test.ensures)) c.index.ensures (omega (arith, c.if-self-index.false, c.from.ensures)) s.rising in
     sym live ∙ (ap (λ (now : ℕ). filter (is_in_life c.args.life now) (map kept_of s.ring.items)) l.tick ∙ l.live)

@@ -10,4 +10,5 @@ pub returns : goal.returns
 returns c =
     let t = c.self.inside in
     subst (λ (v : Servers). (id : CallId) (r : HeldServer) → StandsAt v.rows id c.args.slot r → c.in-Some.row.now ≡ r) c.self.view_is
-    (λ id r stands. ap (λ (x : CallId × HeldServer). x.1) (found_spot t.rows.room t.rows.rows c.args.slot c.get.ensures.placed (c.in-Some.field-0-0, c.in-Some.row.now) c.in-Some.ensures.row id r stands))
+    (λ id r stands. ap (λ (x : CallId × HeldServer). x.1)
+    (found_spot t.rows.room t.rows.rows c.args.slot c.get.ensures.placed (c.in-Some.field-0-0, c.in-Some.row.now) c.in-Some.ensures.row id r stands))

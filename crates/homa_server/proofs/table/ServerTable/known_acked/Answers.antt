@@ -30,12 +30,14 @@ returns-clause-acked c =
     let stands = known_stands t.settings.served rows c.args.id c.args.slot placed here row c.row_mut.ensures.row in
     subst (λ (v : Servers). (pool : Pool) (order : ℕ) → AreIn pool (request_at v.rows)
     → server_acked v.settings (server_moment v c.args.now order pool c.args.id) c.args.id (server_at pool v.rows c.args.id)
-    ≡ acked_of (server_moment v c.args.now order pool c.args.id) c.args.id (server_at pool (set_at rows c.args.slot after) c.args.id) c.bury_at_ack.result) c.self.view_is
+    ≡ acked_of (server_moment v c.args.now order pool c.args.id) c.args.id (server_at pool (set_at rows c.args.slot after) c.args.id)
+    c.bury_at_ack.result) c.self.view_is
     (λ pool order are.
     let v : Servers = record { host = t.host; settings = t.settings; rows = rows } in
     let m = server_moment v c.args.now order pool c.args.id in
     acked_at t.settings.served rows c.args.slot placed t.host t.settings c.args.id row stands pool pool after are
-    (known_still t.settings.served rows c.args.id c.args.slot placed here row c.row_mut.ensures.row after pool c.bury_at_ack.ensures.part are) m c.bury_at_ack.result
+    (known_still t.settings.served rows c.args.id c.args.slot placed here row c.row_mut.ensures.row after pool c.bury_at_ack.ensures.part are) m
+    c.bury_at_ack.result
     (c.bury_at_ack.ensures.did c.args.id t.host order m.free m.rows pool))
 
 pub returns-clause-slot : goal.returns-clause-slot
@@ -57,7 +59,8 @@ returns-clause-moved c =
     let here = subst (λ (v : Servers). Some c.args.slot ≡ slot_at v.rows c.args.id) (sym c.self.view_is) c.requires.stands in
     let stands = known_stands t.settings.served rows c.args.id c.args.slot placed here row c.row_mut.ensures.row in
     subst (λ (v : Servers). (pool : Pool) → AreIn pool (request_at v.rows)
-    → ServerMoved c.args.id v pool (record { host = t.host; settings = t.settings; rows = set_at rows c.args.slot after }) pool (server_at pool (set_at rows c.args.slot after) c.args.id)) c.self.view_is
+    → ServerMoved c.args.id v pool (record { host = t.host; settings = t.settings; rows = set_at rows c.args.slot after }) pool
+    (server_at pool (set_at rows c.args.slot after) c.args.id)) c.self.view_is
     (λ pool are.
     let moves = known_still t.settings.served rows c.args.id c.args.slot placed here row c.row_mut.ensures.row after pool c.bury_at_ack.ensures.part are in
     moved_new t.settings.served rows c.args.slot placed t.host t.settings c.args.id row stands pool pool after are moves)
@@ -75,7 +78,9 @@ returns-clause-same c =
     let placed = subst (λ (v : Servers). ArePlaced v.settings.served v.rows) (sym c.self.view_is) c.requires.placed in
     let here = subst (λ (v : Servers). Some c.args.slot ≡ slot_at v.rows c.args.id) (sym c.self.view_is) c.requires.stands in
     let stands = known_stands t.settings.served rows c.args.id c.args.slot placed here row c.row_mut.ensures.row in
-    subst (λ (v : Servers). IfNone c.bury_at_ack.result (record { host = t.host; settings = t.settings; rows = set_at rows c.args.slot after } ≡ v)) c.self.view_is
+    subst (λ (v : Servers). IfNone c.bury_at_ack.result (record { host = t.host; settings = t.settings; rows = set_at rows c.args.slot after } ≡ v))
+    c.self.view_is
     (none_so c.bury_at_ack.result (after ≡ row) _ (λ same.
     ap (λ (r : HeldServer). record { host = t.host; settings = t.settings; rows = set_at rows c.args.slot r }) same
-    ∙ ap (λ (m : ServerRows). record { host = t.host; settings = t.settings; rows = m }) (new-same t.settings.served rows c.args.slot placed t.host t.settings c.args.id row stands)) c.bury_at_ack.ensures.same)
+    ∙ ap (λ (m : ServerRows). record { host = t.host; settings = t.settings; rows = m })
+    (new-same t.settings.served rows c.args.slot placed t.host t.settings c.args.id row stands)) c.bury_at_ack.ensures.same)

@@ -29,7 +29,8 @@ receive-requires-clause-pool g c =
     let placed = subst (λ (v : Servers). ArePlaced v.settings.served v.rows) (sym c.self.view_is) c.requires.placed in
     let here = subst (λ (v : Servers). Some c.args.slot ≡ slot_at v.rows c.args.id) (sym c.self.view_is) c.requires.stands in
     let stands = known_stands t.settings.served t.rows.rows c.args.id c.args.slot placed here c.row_mut-row.result.now c.row_mut-row.ensures.row in
-    in_pool t.rows.rows c.args.slot c.args.id c.row_mut-row.result.now stands c.args.pool.now (subst (λ (v : Servers). AreIn c.args.pool.now (request_at v.rows)) (sym c.self.view_is) c.requires.pool)
+    in_pool t.rows.rows c.args.slot c.args.id c.row_mut-row.result.now stands c.args.pool.now
+    (subst (λ (v : Servers). AreIn c.args.pool.now (request_at v.rows)) (sym c.self.view_is) c.requires.pool)
 
 pub returns-clause-received : goal.returns-clause-received
 returns-clause-received g c =
@@ -44,12 +45,16 @@ returns-clause-received g c =
     subst (λ (v : Servers). IfOk c.receive.result (λ answer. (role : Role) (server : HostId) (inc at level : ℕ)
     → Served v c.args.pool.now (packet_of c.args.id c.args.body.now c.args.payload.now role server inc at level) c.args.now c.args.order
     (record { host = t.host; settings = t.settings; rows = set_at rows c.args.slot after }) c.receive.new.pool c.receive.new.scratch
-    (λ request response hold. g.V.Service.allows c.args.service.now (g.V.Service.served c.args.service.now) (service_in (piece_in c.args.body.now c.args.payload.now)) request response hold) answer)) c.self.view_is
-    (if_ok_all c.receive.result _ _ _ _ _ _ _ _ c.receive.ensures.did c.receive.ensures.slot c.receive.ensures.says c.receive.ensures.idle c.receive.ensures.moves c.receive.ensures.allowed c.receive.ensures.named
+    (λ request response hold. g.V.Service.allows c.args.service.now (g.V.Service.served c.args.service.now)
+    (service_in (piece_in c.args.body.now c.args.payload.now)) request response hold) answer)) c.self.view_is
+    (if_ok_all c.receive.result _ _ _ _ _ _ _ _ c.receive.ensures.did c.receive.ensures.slot c.receive.ensures.says c.receive.ensures.idle
+    c.receive.ensures.moves c.receive.ensures.allowed c.receive.ensures.named
     (λ answer did slot says idle moves allowed named role server inc at level.
-    served_at t.settings.served rows c.args.slot placed t.host t.settings c.args.id row stands c.args.body.now c.args.payload.now role server inc at level c.args.now c.args.order
+    served_at t.settings.served rows c.args.slot placed t.host t.settings c.args.id row stands c.args.body.now c.args.payload.now role server inc at
+    level c.args.now c.args.order
     c.args.pool.now c.receive.new.pool after are moves c.receive.new.scratch
-    (λ request response hold. g.V.Service.allows c.args.service.now (g.V.Service.served c.args.service.now) (service_in (piece_in c.args.body.now c.args.payload.now)) request response hold) answer
+    (λ request response hold. g.V.Service.allows c.args.service.now (g.V.Service.served c.args.service.now)
+    (service_in (piece_in c.args.body.now c.args.payload.now)) request response hold) answer
     (did c.args.id t.host) slot named says idle allowed))
 
 pub returns-clause-pool : goal.returns-clause-pool
@@ -66,7 +71,8 @@ returns-clause-pool g c =
     (on_err_so c.receive.result _ _ (on_err_both c.receive.result _ _ c.receive.ensures.same c.receive.ensures.same_pool)
     (λ both.
     subst (λ (p : Pool). Moves c.args.pool.now (state_part row.state) p (state_part after.state)) (sym both.1)
-    (known_still t.settings.served rows c.args.id c.args.slot placed here row c.row_mut-row.ensures.row after c.args.pool.now (ap (λ (r : HeldServer). state_part r.state) both.0) are))) in
+    (known_still t.settings.served rows c.args.id c.args.slot placed here row c.row_mut-row.ensures.row after c.args.pool.now
+    (ap (λ (r : HeldServer). state_part r.state) both.0) are))) in
     still_at t.settings.served rows c.args.slot placed t.host t.settings c.args.id row stands c.args.pool.now c.receive.new.pool after are moves
 
 pub returns-clause-asks : goal.returns-clause-asks
@@ -81,11 +87,13 @@ returns-clause-asks g c =
     let are = subst (λ (v : Servers). AreIn c.args.pool.now (request_at v.rows)) (sym c.self.view_is) c.requires.pool in
     subst (λ (v : Servers). OnErr c.receive.result ((role : Role) (server : HostId) (inc at level : ℕ) (a : Answer)
     → IsAsked c.args.id (service_in (piece_in c.args.body.now c.args.payload.now)) c.receive.new.scratch
-    (server_gets v.settings (server_moment v c.args.now c.args.order c.args.pool.now c.args.id) (packet_of c.args.id c.args.body.now c.args.payload.now role server inc at level) a
+    (server_gets v.settings (server_moment v c.args.now c.args.order c.args.pool.now c.args.id)
+    (packet_of c.args.id c.args.body.now c.args.payload.now role server inc at level) a
     (server_at c.args.pool.now v.rows c.args.id)))) c.self.view_is
     (on_err_so c.receive.result _ _ c.receive.ensures.asks
     (λ asks role server inc at level.
-    asked_at t.settings.served rows c.args.slot placed t.host t.settings c.args.id row stands c.args.body.now c.args.payload.now role server inc at level c.args.now c.args.order c.args.pool.now (service_in (piece_in c.args.body.now c.args.payload.now)) c.receive.new.scratch (asks c.args.id)))
+    asked_at t.settings.served rows c.args.slot placed t.host t.settings c.args.id row stands c.args.body.now c.args.payload.now role server inc at
+    level c.args.now c.args.order c.args.pool.now (service_in (piece_in c.args.body.now c.args.payload.now)) c.receive.new.scratch (asks c.args.id)))
 
 pub returns-clause-same : goal.returns-clause-same
 returns-clause-same g c =
@@ -99,5 +107,6 @@ returns-clause-same g c =
     on_err_so c.receive.result _ _ c.receive.ensures.same
     (λ same.
     ap (λ (r : HeldServer). record { host = t.host; settings = t.settings; rows = set_at rows c.args.slot r }) same
-    ∙ ap (λ (m : ServerRows). record { host = t.host; settings = t.settings; rows = m }) (new-same t.settings.served rows c.args.slot placed t.host t.settings c.args.id row stands)
+    ∙ ap (λ (m : ServerRows). record { host = t.host; settings = t.settings; rows = m })
+    (new-same t.settings.served rows c.args.slot placed t.host t.settings c.args.id row stands)
     ∙ c.self.view_is)

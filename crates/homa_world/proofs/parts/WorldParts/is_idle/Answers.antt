@@ -7,11 +7,13 @@ use Rattle.homa_world.proofs.parts.WorldParts.is_idle.Goals as goal
 
 pub loop-host-preserved : goal.loop-host-preserved
 loop-host-preserved g c = λ w stands.
-    one_free w.hosts c.loop-host.host c.live.result (omega (arith, c.loop-host-test.true, hosts_count _ c.args.self.now w c.requires.kept stands)) (c.live.ensures w stands) c.if-live-ne0.false (c.loop-host.invariant w stands)
+    one_free w.hosts c.loop-host.host c.live.result (omega (arith, c.loop-host-test.true, hosts_count _ c.args.self.now w c.requires.kept stands))
+    (c.live.ensures w stands) c.if-live-ne0.false (c.loop-host.invariant w stands)
 
 pub returns-then-live-ne0 : goal.returns-then-live-ne0
 returns-then-live-ne0 g c = λ w stands.
-    sym (one_busy w.hosts c.loop-host.host c.live.result (omega (arith, c.loop-host-test.true, hosts_count _ c.args.self.now w c.requires.kept stands)) (c.live.ensures w stands) c.if-live-ne0.true)
+    sym (one_busy w.hosts c.loop-host.host c.live.result
+    (omega (arith, c.loop-host-test.true, hosts_count _ c.args.self.now w c.requires.kept stands)) (c.live.ensures w stands) c.if-live-ne0.true)
 
 pub returns : goal.returns
 returns g c = λ w stands.

@@ -10,7 +10,8 @@ use Rattle.homa_world.proofs.parts.WorldParts.tick.Goals as goal
 
 pub returns-then-self-eq-LAST_TICK-clause-fault : goal.returns-then-self-eq-LAST_TICK-clause-fault
 returns-then-self-eq-LAST_TICK-clause-fault g c = λ w stands.
-    refused_by c.args.self.now.settings w event.Clock [] fault.ClockEnd refl (events.clock_refused c.args.self.now.settings w (stands.clock ∙ c.if-self-eq-LAST_TICK.true))
+    refused_by c.args.self.now.settings w event.Clock [] fault.ClockEnd refl
+    (events.clock_refused c.args.self.now.settings w (stands.clock ∙ c.if-self-eq-LAST_TICK.true))
 
 pub returns-clause-done : goal.returns-clause-done
 returns-clause-done g c = λ w stands. record {

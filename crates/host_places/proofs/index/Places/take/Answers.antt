@@ -5,7 +5,8 @@ use Rattle.std.specs.List.{range_with_len}
 use Rattle.std.proofs.lemmas.List.Sorted.{answers_always}
 use Rattle.plain_sets.specs.Maps.{get, values}
 use Rattle.host_places.specs.Index.{map_of}
-use Rattle.host_places.proofs.IndexLaws.{found_at, gap_at, get-at, len-map_of, counted, map_of-insert, last_within, last_free, kept_taken, kept_more, used_within}
+use Rattle.host_places.proofs.IndexLaws.{found_at, gap_at, get-at, len-map_of, counted, map_of-insert, last_within, last_free, kept_taken, kept_more}
+use Rattle.host_places.proofs.IndexLaws.{used_within}
 use Rattle.host_places.proofs.index.Places.take.Goals as goal
 
 pub have_free-requires-clause-room : goal.have_free-requires-clause-room
@@ -27,7 +28,8 @@ unreachable-requires c =
     let index = c.self.inside.index.items in
     let rising = c.self.invariant.0.rising in
     let by_key = c.binary_search_by_key.ensures.position (λ e. e.0) (answers_always _ _ _ (λ f a r g called. search rules)) in
-    let at = found_at index c.deref.result.now rising c.args.id c.binary_search_by_key.result c.in-Ok.field-0 c.binary_search_by_key.ensures.bound by_key c.deref.ensures.value c.in-Ok.is in
+    let at = found_at index c.deref.result.now rising c.args.id c.binary_search_by_key.result c.in-Ok.field-0 c.binary_search_by_key.ensures.bound
+    by_key c.deref.ensures.value c.in-Ok.is in
     let none : get (map_of index) c.args.id ≡ None = rw (← c.self.view_is) at c.requires.absent in
     let some = get-at index rising c.args.id c.in-Ok.field-0 at (c.args.id, 0) in
     cc
@@ -39,10 +41,13 @@ invariant_of-self c =
     let room = rw (← c.self.view_is) at c.requires.room in
     let more = kept_more (vec_len c.self.inside.free == 0) _ _ index _ _ c.have_free.ensures.free c.have_free.ensures.used kept in
     let by_key = c.binary_search_by_key.ensures.position (λ e. e.0) (answers_always _ _ _ (λ f a r g called. search rules)) in
-    let gap = gap_at index c.deref.result.now kept.rising c.args.id c.binary_search_by_key.result c.in-Err.i c.binary_search_by_key.ensures.bound by_key c.deref.ensures.value c.in-Err.is in
+    let gap = gap_at index c.deref.result.now kept.rising c.args.id c.binary_search_by_key.result c.in-Err.i c.binary_search_by_key.ensures.bound
+    by_key c.deref.ensures.value c.in-Err.is in
     let last = c.pop.ensures.items ∙ ap (λ r. c.pop.new.self.items ++ option_to_list r) c.unwrap-place.ensures in (
-      kept_taken c.have_free.new.used index c.insert.new.self.items c.have_free.new.free.items c.pop.new.self.items c.args.id c.in-Err.i c.unwrap-place.result more gap last c.in-Ok-insert.ensures.items,
-      used_within (vec_len c.self.inside.free) _ _ _ c.have_free.ensures.used c.self.invariant.1 (λ none. omega (arith, none, c.self.inside.free.ok.0, room, counted c.self.inside.used (map_of index) c.self.inside.free.items kept.all)),
+      kept_taken c.have_free.new.used index c.insert.new.self.items c.have_free.new.free.items c.pop.new.self.items c.args.id c.in-Err.i
+          c.unwrap-place.result more gap last c.in-Ok-insert.ensures.items,
+      used_within (vec_len c.self.inside.free) _ _ _ c.have_free.ensures.used c.self.invariant.1
+          (λ none. omega (arith, none, c.self.inside.free.ok.0, room, counted c.self.inside.used (map_of index) c.self.inside.free.items kept.all)),
       omega (arith, c.self.invariant.2, c.insert.ensures.capacity),
       omega (arith, c.self.invariant.3, c.pop.ensures.capacity, c.have_free.ensures.capacity),
     )
@@ -60,7 +65,8 @@ returns-clause-taken c =
     let index = c.self.inside.index.items in
     let rising = c.self.invariant.0.rising in
     let by_key = c.binary_search_by_key.ensures.position (λ e. e.0) (answers_always _ _ _ (λ f a r g called. search rules)) in
-    let gap = gap_at index c.deref.result.now rising c.args.id c.binary_search_by_key.result c.in-Err.i c.binary_search_by_key.ensures.bound by_key c.deref.ensures.value c.in-Err.is in
+    let gap = gap_at index c.deref.result.now rising c.args.id c.binary_search_by_key.result c.in-Err.i c.binary_search_by_key.ensures.bound by_key
+    c.deref.ensures.value c.in-Err.is in
     let e = ap map_of c.in-Ok-insert.ensures.items ∙ map_of-insert index rising c.args.id c.in-Err.i c.unwrap-place.result gap in
     rw (← c.self.view_is) (λ i. record { room = c.self.inside.room; at = e i })
 
@@ -73,7 +79,8 @@ returns-clause-within c =
     let last = c.pop.ensures.items ∙ ap (λ r. c.pop.new.self.items ++ option_to_list r) c.unwrap-place.ensures in
     let all = subst (λ (fs : List ℕ). IsPermutation (range_with_len 0 c.have_free.new.used) (values (map_of index) ++ fs)) last more.all in
     let within = last_within c.have_free.new.used (map_of index) c.pop.new.self.items c.unwrap-place.result all in
-    let used = used_within (vec_len c.self.inside.free) _ _ _ c.have_free.ensures.used c.self.invariant.1 (λ none. omega (arith, none, c.self.inside.free.ok.0, room, counted c.self.inside.used (map_of index) c.self.inside.free.items kept.all)) in
+    let used = used_within (vec_len c.self.inside.free) _ _ _ c.have_free.ensures.used c.self.invariant.1
+    (λ none. omega (arith, none, c.self.inside.free.ok.0, room, counted c.self.inside.used (map_of index) c.self.inside.free.items kept.all)) in
     rw (← c.self.view_is) (omega (arith, within, used))
 
 pub returns-clause-free : goal.returns-clause-free

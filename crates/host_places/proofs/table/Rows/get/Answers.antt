@@ -10,7 +10,9 @@ pub returns-in_err-id-clause-row : goal.returns-in_err-id-clause-row
 returns-in_err-id-clause-row g c =
     let spots = c.self.inside.spots.items in
     let past = rw c.deref.ensures.value at c.in_err-id.ensures.lookup.3 in
-    rw (← c.self.view_is) (ap (option_map (λ s. (s.0, s.1.now))) c.from_residual.ensures ∙ sym (spot-is c.self.inside.places spots c.self.invariant.0 c.args.place ∙ ap spot_in (get_or_past spots c.args.place Free past)))
+    rw (← c.self.view_is)
+    (ap (option_map (λ s. (s.0, s.1.now))) c.from_residual.ensures
+    ∙ sym (spot-is c.self.inside.places spots c.self.invariant.0 c.args.place ∙ ap spot_in (get_or_past spots c.args.place Free past)))
 
 pub returns-in_err-id-clause-placed : goal.returns-in_err-id-clause-placed
 returns-in_err-id-clause-placed g c = rw (← c.self.view_is) (rows_placed c.self.inside.places c.self.inside.spots.items c.self.invariant.0)

@@ -26,8 +26,10 @@ unreachable-requires g c =
     let more = c.store_spot.new.spots in
     let place = c.take-place.result in
     let within : place < length more.items = omega (arith, c.store_spot.ensures.stored, more.ok.0) in
-    let free = ap (λ s. get_or s place Free) c.store_spot.ensures.spots ∙ more-at spots _ place ∙ free-is c.self.inside.places spots c.self.invariant.0 place c.take-place.ensures.free in
-    free_not_of c.in-Of.field-0 c.in-Of.field-1 (sym free ∙ spot_read more.items place c.index_mut.result.now within c.index_mut.ensures.value ∙ sym c.replace-free.ensures.value ∙ c.in-Of.is)
+    let free = ap (λ s. get_or s place Free) c.store_spot.ensures.spots ∙ more-at spots _ place
+    ∙ free-is c.self.inside.places spots c.self.invariant.0 place c.take-place.ensures.free in
+    free_not_of c.in-Of.field-0 c.in-Of.field-1
+    (sym free ∙ spot_read more.items place c.index_mut.result.now within c.index_mut.ensures.value ∙ sym c.replace-free.ensures.value ∙ c.in-Of.is)
 
 pub invariant_of-self : goal.invariant_of-self
 invariant_of-self g c =
@@ -35,11 +37,14 @@ invariant_of-self g c =
     let spots = c.self.inside.spots.items in
     let more = c.store_spot.new.spots in
     let none = no_place places spots c.self.invariant.0 c.args.id (rw (← c.self.view_is) at c.requires.absent) in
-    let few : length more.items ≤ places.room = omega (arith, c.store_spot.ensures.len, more.ok.0, c.self.inside.spots.ok.0, c.self.invariant.0.few, c.take-place.ensures.within) in
+    let few : length more.items ≤ places.room =
+    omega (arith, c.store_spot.ensures.len, more.ok.0, c.self.inside.spots.ok.0, c.self.invariant.0.few, c.take-place.ensures.within) in
     let are = stored places spots more.items _ c.store_spot.ensures.spots c.self.invariant.0 few in
     let within : c.take-place.result < length more.items = omega (arith, c.store_spot.ensures.stored, more.ok.0) in
-    rw (c.take-place.ensures.taken, c.replace-free.ensures.after)
-    (spots-insert places more.items c.args.id c.take-place.result c.args.row are none within c.take-place.ensures.free, omega (arith, c.self.invariant.1, c.store_spot.ensures.capacity))
+    rw (c.take-place.ensures.taken, c.replace-free.ensures.after) (
+      spots-insert places more.items c.args.id c.take-place.result c.args.row are none within c.take-place.ensures.free,
+      omega (arith, c.self.invariant.1, c.store_spot.ensures.capacity),
+    )
 
 pub returns-clause-inserted : goal.returns-clause-inserted
 returns-clause-inserted g c =
@@ -47,7 +52,8 @@ returns-clause-inserted g c =
     let spots = c.self.inside.spots.items in
     let more = c.store_spot.new.spots in
     let none = no_place places spots c.self.invariant.0 c.args.id (rw (← c.self.view_is) at c.requires.absent) in
-    let few : length more.items ≤ places.room = omega (arith, c.store_spot.ensures.len, more.ok.0, c.self.inside.spots.ok.0, c.self.invariant.0.few, c.take-place.ensures.within) in
+    let few : length more.items ≤ places.room =
+    omega (arith, c.store_spot.ensures.len, more.ok.0, c.self.inside.spots.ok.0, c.self.invariant.0.few, c.take-place.ensures.within) in
     let are = stored places spots more.items _ c.store_spot.ensures.spots c.self.invariant.0 few in
     let within : c.take-place.result < length more.items = omega (arith, c.store_spot.ensures.stored, more.ok.0) in
     let room = ap (λ t. t.room) c.take-place.ensures.taken in
@@ -57,4 +63,5 @@ returns-clause-inserted g c =
     rw (← c.self.view_is) (λ i. record { room = room i; rows = rows i })
 
 pub returns-clause-free : goal.returns-clause-free
-returns-clause-free g c = rw (← c.self.view_is) (free_place c.self.inside.places c.self.inside.spots.items c.self.invariant.0 c.take-place.result c.take-place.ensures.free)
+returns-clause-free g c =
+    rw (← c.self.view_is) (free_place c.self.inside.places c.self.inside.spots.items c.self.invariant.0 c.take-place.result c.take-place.ensures.free)

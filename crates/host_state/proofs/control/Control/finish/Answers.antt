@@ -8,10 +8,17 @@ use Rattle.host_state.specs.Fields.{control_by, peer_of}
 use Rattle.host_state.proofs.control.Control.finish.Goals as goal
 
 pub returns-in_default-clause-step : goal.returns-in_default-clause-step
-returns-in_default-clause-step c w at = at-joined w c.args.self.now _ c.args.out.now c.args.server (c.args.id.inc, c.args.id.seq) (search rules) (search rules) at
+returns-in_default-clause-step c w at =
+    at-joined w c.args.self.now _ c.args.out.now c.args.server (c.args.id.inc, c.args.id.seq) (search rules) (search rules) at
 
 pub returns-clause-step : goal.returns-clause-step
-returns-clause-step c = subst (λ (s : Control). (w : Work) → IsAt w s c.args.out.now → IsAt (acknowledged s.settings c.args.server (finished_at w.host c.args.server ++ (c.args.id.inc, c.args.id.seq) ∷ []) w) c.post.new.self c.post.new.out)
+returns-clause-step c =
+    subst (λ (s : Control). (w : Work) → IsAt w s c.args.out.now → IsAt
+    (acknowledged s.settings c.args.server (finished_at w.host c.args.server ++ (c.args.id.inc, c.args.id.seq) ∷ []) w) c.post.new.self c.post.new.out)
     c.self.view_is (λ w at.
-    at-five w _ c.post.new.self c.args.out.now c.post.new.out c.args.server (c.args.id.inc, c.args.id.seq) (slice_index_or c.deref.result.now 0 (0, 0)) c.more_of-more.result (search rules) (search rules)
-    (λ v a. c.post.ensures.step v (subst (λ (f : List (List (ℕ × ℕ))). IsAt v (control_by c.self.inside.settings c.self.inside.id c.self.inside.inc c.self.inside.last c.self.inside.own c.self.inside.recent c.self.inside.opened (map peer_of c.self.inside.peers.items) f c.self.inside.marks) c.args.out.now) (sym (c.in-Some.ensures.emptied)) a)) at)
+    at-five w _ c.post.new.self c.args.out.now c.post.new.out c.args.server (c.args.id.inc, c.args.id.seq)
+    (slice_index_or c.deref.result.now 0 (0, 0)) c.more_of-more.result (search rules) (search rules)
+    (λ v a. c.post.ensures.step v
+    (subst (λ (f : List (List (ℕ × ℕ))). IsAt v
+    (control_by c.self.inside.settings c.self.inside.id c.self.inside.inc c.self.inside.last c.self.inside.own c.self.inside.recent
+    c.self.inside.opened (map peer_of c.self.inside.peers.items) f c.self.inside.marks) c.args.out.now) (sym (c.in-Some.ensures.emptied)) a)) at)

@@ -14,7 +14,8 @@ returns-clause-step g c =
 
 pub returns-clause-no_fault : goal.returns-clause-no_fault
 returns-clause-no_fault g c =
-    at_read _ c.args.self.now.hosts.items c.args.client.0 c.index_mut-host.result.now c.requires.client c.index_mut-host.ensures.value c.in_default.ensures.no_fault
+    at_read _ c.args.self.now.hosts.items c.args.client.0 c.index_mut-host.result.now c.requires.client c.index_mut-host.ensures.value
+    c.in_default.ensures.no_fault
 
 pub returns-in-Err-clause-fault : goal.returns-in-Err-clause-fault
 returns-in-Err-clause-fault g c =
@@ -22,4 +23,5 @@ returns-in-Err-clause-fault g c =
 
 pub returns-in-Err-clause-known : goal.returns-in-Err-clause-known
 returns-in-Err-clause-known g c =
-    still c.args.self.now.hosts.items c.args.client.0 c.index_mut-host.result.now c.call.new.self c.requires.client c.index_mut-host.ensures.value c.in-Err.ensures.same
+    still c.args.self.now.hosts.items c.args.client.0 c.index_mut-host.result.now c.call.new.self c.requires.client c.index_mut-host.ensures.value
+    c.in-Err.ensures.same

@@ -14,4 +14,5 @@ pub returns-clause-few : goal.returns-clause-few
 returns-clause-few g c =
     let st = c.args.self.now in
     let h = c.index.result.now in
-    at_index IsFew (shown_entries h st.outbox st.scratch) c.args.i _ (left_read st st.hosts.items c.args.host.0 h c.requires.host c.index.ensures c.requires.sent).1 c.entry.ensures
+    at_index IsFew (shown_entries h st.outbox st.scratch) c.args.i _
+    (left_read st st.hosts.items c.args.host.0 h c.requires.host c.index.ensures c.requires.sent).1 c.entry.ensures

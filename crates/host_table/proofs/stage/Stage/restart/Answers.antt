@@ -8,7 +8,8 @@ use Rattle.host_table.proofs.stage.Stage.restart.Goals as goal
 pub returns-clause-done : goal.returns-clause-done
 returns-clause-done g c = record {
   some = any_left c.replace.result c.is_err.result (spares_of c.args.self.now) c.is_err.ensures.value c.if-is_err.false c.replace.ensures.none;
-  known = map-set known c.args.self.now.hosts.items c.args.host.0 c.in-Ok.fresh ∙ ap (λ h. slice_set (known_of c.args.self.now) c.args.host.0 (known h)) c.in-Ok.ensures;
+  known = map-set known c.args.self.now.hosts.items c.args.host.0 c.in-Ok.fresh
+      ∙ ap (λ h. slice_set (known_of c.args.self.now) c.args.host.0 (known h)) c.in-Ok.ensures;
   seats = where_ok _ c.replace.result c.is_err.result c.is_err.ensures.value c.if-is_err.false c.replace.ensures.places;
   spares = where_ok _ c.replace.result c.is_err.result c.is_err.ensures.value c.if-is_err.false c.replace.ensures.spares;
 }

@@ -22,5 +22,6 @@ pub returns-clause-behind : goal.returns-clause-behind
 returns-clause-behind c =
     let block = c.self.inside in
     λ k h.
-    byte-with_zeros c.put_stored.new.stored.items (block.pages * 4096) c.args.page k ∙ c.put_stored.ensures.behind k h ∙ c.store_page.ensures.bytes (c.args.page * 4096 + k)
+    byte-with_zeros c.put_stored.new.stored.items (block.pages * 4096) c.args.page k ∙ c.put_stored.ensures.behind k h
+    ∙ c.store_page.ensures.bytes (c.args.page * 4096 + k)
     ∙ sym (byte-with_zeros block.stored.items (block.pages * 4096) c.args.page k) ∙ ap (λ b. byte_at b c.args.page k) c.self.view_is

@@ -14,32 +14,44 @@ zero_chain-self-inside-requires-clause-chain c =
     λ i h. subst (λ next. page_at next c.self.inside.head i < length next) (sym c.deref.ensures.value) (free i (omega arith))
 
 pub insert_reserved-number-requires : goal.insert_reserved-number-requires
-insert_reserved-number-requires c = has_room c.self.inside.block c.self.inside.next.items c.self.inside.head c.self.inside.free c.self.inside.chains c.self.invariant.0 (omega (arith, c.requires.some, c.div_ceil-need.ensures, c.if-self-need.false))
+insert_reserved-number-requires c = has_room c.self.inside.block c.self.inside.next.items c.self.inside.head c.self.inside.free c.self.inside.chains
+    c.self.invariant.0 (omega (arith, c.requires.some, c.div_ceil-need.ensures, c.if-self-need.false))
 
 pub invariant_of-self : goal.invariant_of-self
 invariant_of-self c = (
-  subst (λ page. AreKept c.zero_chain-self-inside.new.block c.self.inside.next.items page (c.self.inside.free - c.div_ceil-need.result) c.insert_reserved-number.new.self)
+  subst (λ page. AreKept c.zero_chain-self-inside.new.block c.self.inside.next.items page (c.self.inside.free - c.div_ceil-need.result)
+      c.insert_reserved-number.new.self)
       (ap (λ next. page_at next c.self.inside.head c.div_ceil-need.result) (sym c.deref.ensures.value) ∙ sym c.zero_chain-self-inside.ensures.page)
-      (take-kept c.self.inside.block c.self.inside.next.items c.self.inside.head c.self.inside.free c.self.inside.chains c.self.invariant.0 c.args.len c.div_ceil-need.result (omega (arith, c.div_ceil-need.ensures)) c.requires.some c.requires.small c.if-self-need.false
-      c.zero_chain-self-inside.new.block c.deref.result.now c.deref.ensures.value c.zero_chain-self-inside.ensures.len c.zero_chain-self-inside.ensures.zeros c.zero_chain-self-inside.ensures.kept
-      c.insert_reserved-number.new.self c.insert_reserved-number.result c.insert_reserved-number.ensures.was_vacant c.insert_reserved-number.ensures.updates c.insert_reserved-number.ensures.len c.insert_reserved-number.ensures.capacity),
+      (take-kept c.self.inside.block c.self.inside.next.items c.self.inside.head c.self.inside.free c.self.inside.chains c.self.invariant.0 c.args.len
+      c.div_ceil-need.result (omega (arith, c.div_ceil-need.ensures)) c.requires.some c.requires.small c.if-self-need.false
+      c.zero_chain-self-inside.new.block c.deref.result.now c.deref.ensures.value c.zero_chain-self-inside.ensures.len
+      c.zero_chain-self-inside.ensures.zeros c.zero_chain-self-inside.ensures.kept
+      c.insert_reserved-number.new.self c.insert_reserved-number.result c.insert_reserved-number.ensures.was_vacant
+      c.insert_reserved-number.ensures.updates c.insert_reserved-number.ensures.len c.insert_reserved-number.ensures.capacity),
   c.self.invariant.1,
 )
 
 pub returns-clause-fresh : goal.returns-clause-fresh
 returns-clause-fresh c =
     ap (λ (p : Pool). get p.leases c.insert_reserved-number.result) (sym c.self.view_is)
-    ∙ take-fresh c.self.inside.block c.self.inside.next.items c.self.inside.head c.self.inside.free c.self.inside.chains c.self.invariant.0 c.args.len c.div_ceil-need.result (omega (arith, c.div_ceil-need.ensures)) c.requires.some c.requires.small c.if-self-need.false
-    c.zero_chain-self-inside.new.block c.deref.result.now c.deref.ensures.value c.zero_chain-self-inside.ensures.len c.zero_chain-self-inside.ensures.zeros c.zero_chain-self-inside.ensures.kept
-    c.insert_reserved-number.new.self c.insert_reserved-number.result c.insert_reserved-number.ensures.was_vacant c.insert_reserved-number.ensures.updates c.insert_reserved-number.ensures.len c.insert_reserved-number.ensures.capacity
+    ∙ take-fresh c.self.inside.block c.self.inside.next.items c.self.inside.head c.self.inside.free c.self.inside.chains c.self.invariant.0 c.args.len
+    c.div_ceil-need.result (omega (arith, c.div_ceil-need.ensures)) c.requires.some c.requires.small c.if-self-need.false
+    c.zero_chain-self-inside.new.block c.deref.result.now c.deref.ensures.value c.zero_chain-self-inside.ensures.len
+    c.zero_chain-self-inside.ensures.zeros c.zero_chain-self-inside.ensures.kept
+    c.insert_reserved-number.new.self c.insert_reserved-number.result c.insert_reserved-number.ensures.was_vacant
+    c.insert_reserved-number.ensures.updates c.insert_reserved-number.ensures.len c.insert_reserved-number.ensures.capacity
 
 pub returns-clause-zeros : goal.returns-clause-zeros
 returns-clause-zeros c =
     let lease : Held = record { number = c.insert_reserved-number.result; len = c.args.len } in
-    view_with c.self.inside.block c.self.inside.next.items c.self.inside.chains c.insert_reserved-number.result c.args.len c.args.self.now lease c.self.view_is refl (length c.self.inside.next.items) _ (replicate c.args.len 0) (replicate c.args.len 0) refl
-    (take-leases c.self.inside.block c.self.inside.next.items c.self.inside.head c.self.inside.free c.self.inside.chains c.self.invariant.0 c.args.len c.div_ceil-need.result (omega (arith, c.div_ceil-need.ensures)) c.requires.some c.requires.small c.if-self-need.false
-    c.zero_chain-self-inside.new.block c.deref.result.now c.deref.ensures.value c.zero_chain-self-inside.ensures.len c.zero_chain-self-inside.ensures.zeros c.zero_chain-self-inside.ensures.kept
-    c.insert_reserved-number.new.self c.insert_reserved-number.result c.insert_reserved-number.ensures.was_vacant c.insert_reserved-number.ensures.updates c.insert_reserved-number.ensures.len c.insert_reserved-number.ensures.capacity) refl
+    view_with c.self.inside.block c.self.inside.next.items c.self.inside.chains c.insert_reserved-number.result c.args.len c.args.self.now lease
+    c.self.view_is refl (length c.self.inside.next.items) _ (replicate c.args.len 0) (replicate c.args.len 0) refl
+    (take-leases c.self.inside.block c.self.inside.next.items c.self.inside.head c.self.inside.free c.self.inside.chains c.self.invariant.0 c.args.len
+    c.div_ceil-need.result (omega (arith, c.div_ceil-need.ensures)) c.requires.some c.requires.small c.if-self-need.false
+    c.zero_chain-self-inside.new.block c.deref.result.now c.deref.ensures.value c.zero_chain-self-inside.ensures.len
+    c.zero_chain-self-inside.ensures.zeros c.zero_chain-self-inside.ensures.kept
+    c.insert_reserved-number.new.self c.insert_reserved-number.result c.insert_reserved-number.ensures.was_vacant
+    c.insert_reserved-number.ensures.updates c.insert_reserved-number.ensures.len c.insert_reserved-number.ensures.capacity) refl
 
 pub returns-clause-within : goal.returns-clause-within
 returns-clause-within c = omega (arith, (invariant_of-self c).0.total)

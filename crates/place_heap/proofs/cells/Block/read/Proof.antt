@@ -1,5 +1,11 @@
 -- `read` shows the value of one cell that the block lends. Assumes `Logic`.
-use Rattle.place_heap.proofs.Walks.{◌≡◌, ℕ, ◌+◌, ◌*◌, ◌≤◌, ◌<◌, ◌^◌, List, [], ◌∷◌, refl, ◌∙◌, length, get_or, w64, arith, Some, None, proved, full_share, id⊢, ftrue, fat, flft, named, Val, vptr, fact, tables, ‵, raw, ◌⊛◌, at_ret, ◌$◌, ◌∵◌, !, qed, done, move, keep, drop, use1, split, join, fsplit, fjoin, feq_i, rewrite, suffices, frame, whole, sub, enter, of_opd, lit, bin, addr, stop, fld, first, blocks, exec, returns, alloc_all, pass_all, free_all, look_at, get, get_in, through, sets, sets_last, take_at, give_at, env, usize, RefOf, hide, unhide, Option, Cell, yes, lone, owns, uint_vals, uint_Tells, Ptr, in_a_block, ShrRef, shr_vals, shr_Tells, plain, nothing, heard, Stays, walk_of, says, stay_dropped, Goes-dropped, ends_at, after}
+use Rattle.place_heap.proofs.Walks.{◌≡◌, ℕ, ◌+◌, ◌*◌, ◌≤◌, ◌<◌, ◌^◌, List, [], ◌∷◌, refl, ◌∙◌, length, get_or, w64, arith, Some, None, proved}
+use Rattle.place_heap.proofs.Walks.{full_share, id⊢, ftrue, fat, flft, named, Val, vptr, fact, tables, ‵, raw, ◌⊛◌, at_ret, ◌$◌, ◌∵◌, !, qed, done}
+use Rattle.place_heap.proofs.Walks.{move, keep, drop, use1, split, join, fsplit, fjoin, feq_i, rewrite, suffices, frame, whole, sub, enter, of_opd}
+use Rattle.place_heap.proofs.Walks.{lit, bin, addr, stop, fld, first, blocks, exec, returns, alloc_all, pass_all, free_all, look_at, get, get_in}
+use Rattle.place_heap.proofs.Walks.{through, sets, sets_last, take_at, give_at, env, usize, RefOf, hide, unhide, Option, Cell, yes, lone, owns}
+use Rattle.place_heap.proofs.Walks.{uint_vals, uint_Tells, Ptr, in_a_block, ShrRef, shr_vals, shr_Tells, plain, nothing, heard, Stays, walk_of, says}
+use Rattle.place_heap.proofs.Walks.{stay_dropped, Goes-dropped, ends_at, after}
 use Rattle.place_heap.specs.contracts.cells.Block.read as f
 use Rattle.place_heap.proofs.cells.Block.read.Statement.{statement}
 use Rattle.place_heap.proofs.cells.Block.read.Code as code
@@ -15,8 +21,10 @@ stayed = (stay_dropped (RefOf (0 ∷ []) tt (plain (λ _. R)) (λ _. tt)) yes, (
 pub read_spec : {M : Type 1} → statement M
 read_spec 𝓤 𝓛 𝓜 𝓡 wired =
     let c = f.clauses 𝓛 𝓜.mem 𝓡.returns in let W = walk_of 𝓛 f.ended stayed c in let 𝓣 = tables 𝓤 𝓛.H 𝓜 𝓡 𝓡.env in
-    proved 𝓛 f.ended stayed c 𝓜 𝓡
-    (Goes-dropped 𝓛 1 (RefOf (0 ∷ []) tt (plain (λ _. R)) (λ _. tt)) yes (λ κs x w. refl), (Goes-dropped 𝓛 1 (plain (λ _. B)) yes (λ κs x w. refl), (Goes-dropped 𝓛 1 (plain (λ _. usize)) yes (λ κs x w. refl), tt)))
+    proved 𝓛 f.ended stayed c 𝓜 𝓡 (
+      Goes-dropped 𝓛 1 (RefOf (0 ∷ []) tt (plain (λ _. R)) (λ _. tt)) yes (λ κs x w. refl),
+      (Goes-dropped 𝓛 1 (plain (λ _. B)) yes (λ κs x w. refl), (Goes-dropped 𝓛 1 (plain (λ _. usize)) yes (λ κs x w. refl), tt)),
+    )
     f.Key.name code.function (code.unfolded 𝓤 𝓛.H 𝓜 𝓡 wired)
     (λ κs. (shr_vals, ((λ x. BL.lowered x ∷ []), (uint_vals w64, tt))))
     (λ κs. (shr_Tells (named 0) κs.0 R, (BL.lowers.val_is, (uint_Tells w64, tt))))
@@ -24,12 +32,14 @@ read_spec 𝓤 𝓛 𝓜 𝓡 wired =
     let b = a.0.ref_ptr.0 in let o = a.0.ref_ptr.1 in let h = a.0.now in let base = a.1.0 in let i : ℕ = a.1.1.0 in
     let vs : List Val × (List Val × (List Val × Unit {0})) = (shr_vals a.0, (BL.lowered base ∷ [], (uint_vals w64 i, tt))) in
     let y : W.Ghost = ((κs, qs, bounds, a, vs), tt) in
-    qed 𝓛 (((‵ (flft κs.0 qs.0) ⊛ ‵ ftrue) ⊛ ‵ (owns (ShrRef (named 0) κs.0 R ∷ B ∷ usize ∷ []) a vs)) ∷ raw (fact 𝓤 ((base.ptr ≡ h.at) × (length h.slots ≤ 8192) × ((x : Cell) × (get_or h.slots i None ≡ Some x)))) ∷ []) ∵
+    qed 𝓛 (((‵ (flft κs.0 qs.0) ⊛ ‵ ftrue) ⊛ ‵ (owns (ShrRef (named 0) κs.0 R ∷ B ∷ usize ∷ []) a vs)) ∷ raw
+    (fact 𝓤 ((base.ptr ≡ h.at) × (length h.slots ≤ 8192) × ((x : Cell) × (get_or h.slots i None ≡ Some x)))) ∷ []) ∵
     move ! (1 ∷ []) $ heard ! _ (λ asked.
     let x = asked.2.0 in let inside = filled_inside h.slots i x asked.2.1 in
     split ! $ split ! $ move ! (2 ∷ []) $ fsplit ! $ keep ! (0 ∷ 2 ∷ []) $ fsplit ! $ drop ! $
     -- [what a reference to self holds; the token]
-    enter ! _ _ _ _ _ $ alloc_all ! (λ l. pass_all ! refl ((tt, tt), (((BL.the_row_laws.lawful 𝓛).typed base _ are.1.0).0, ((tt, record { fits = are.1.1.0.1 }), tt))) $
+    enter ! _ _ _ _ _ $ alloc_all !
+    (λ l. pass_all ! refl ((tt, tt), (((BL.the_row_laws.lawful 𝓛).typed base _ are.1.0).0, ((tt, record { fits = are.1.1.0.1 }), tt))) $
     unhide ! $ fsplit ! $ drop ! $ in_a_block ! h.at (λ p. block_lends p h.slots κs.0) (id⊢ 𝓤 _) (λ b' o' e.
     let far : i * 24 < 2 ^ 64 = omega arith in
     take_at ! 2 $ rewrite ! 0 (λ (p : Ptr). ‵ (fat full_share (lone B.mir) (l 2) 0 (BL.lowered (record { ptr = p })))) (asked.0 ∙ e) refl $ give_at ! 2 $
@@ -42,5 +52,6 @@ read_spec 𝓤 𝓛 𝓜 𝓡 wired =
     sets ! (of_opd ! (get ! refl)) refl (tt, tt) $
     feq_i ! (List Val) (vptr b' (i * 24 + o') ∷ []) (vptr b' (i * 24 + o') ∷ []) refl $ fjoin ! $
     returns ! (look_at ! 0 refl) $ free_all ! refl $ keep ! (1 ∷ 0 ∷ []) $
-    suffices ! _ (ends_at 𝓛 f.ended stayed c y (vptr b' (i * 24 + o')) (record { ref_ptr = (b', i * 24 + o'); now = x }) (tt, (tt, (tt, tt))) (tt, (tt, (tt, tt)))) $ says ! asked.2.1 $
+    suffices ! _ (ends_at 𝓛 f.ended stayed c y (vptr b' (i * 24 + o')) (record { ref_ptr = (b', i * 24 + o'); now = x }) (tt, (tt, (tt, tt)))
+    (tt, (tt, (tt, tt)))) $ says ! asked.2.1 $
     nothing ! $ move ! (1 ∷ 0 ∷ []) $ join ! $ frame ! $ nothing ! $ nothing ! $ fjoin ! $ nothing ! $ fjoin ! $ nothing ! $ fjoin ! $ done !))))

@@ -1,5 +1,11 @@
 -- `write` puts a value into one cell of the block. Assumes `Logic`.
-use Rattle.place_heap.proofs.Walks.{◌≡◌, ℕ, ◌+◌, ◌*◌, ◌≤◌, ◌<◌, ◌^◌, List, [], ◌∷◌, refl, sym, ◌∙◌, length, set, get_or, length-set, w64, arith, Some, None, proved, full_share, id⊢, ftrue, fat, flft, named, Val, vunit, fact, tables, ‵, raw, ◌⊛◌, at_ret, ◌$◌, ◌∵◌, !, qed, done, move, keep, drop, use1, use2, split, join, fsplit, fsplit3, fjoin, fjoin3, feq_i, rewrite, suffices, frame, whole, sub, enter, of_opd, lit, unit_lit, bin, init, stop, fld, assigns_last, first, blocks, exec, returns, alloc_all, pass_all, free_all, look_at, get, get_in, through, sets, take_at, give_at, env, usize, yes, lone, owns, uint_vals, uint_Tells, Ptr, block_ptr, in_a_block, MutRef, mut_vals, mut_Tells, plain, nothing, opens, closes, heard, Stays, walk_of, says, stay_dropped, Goes-dropped, stay_ref, Goes-ref, ends_at, after}
+use Rattle.place_heap.proofs.Walks.{◌≡◌, ℕ, ◌+◌, ◌*◌, ◌≤◌, ◌<◌, ◌^◌, List, [], ◌∷◌, refl, sym, ◌∙◌, length, set, get_or, length-set, w64, arith, Some}
+use Rattle.place_heap.proofs.Walks.{None, proved, full_share, id⊢, ftrue, fat, flft, named, Val, vunit, fact, tables, ‵, raw, ◌⊛◌, at_ret, ◌$◌, ◌∵◌}
+use Rattle.place_heap.proofs.Walks.{ !, qed, done, move, keep, drop, use1, use2, split, join, fsplit, fsplit3, fjoin, fjoin3, feq_i, rewrite, suffices}
+use Rattle.place_heap.proofs.Walks.{frame, whole, sub, enter, of_opd, lit, unit_lit, bin, init, stop, fld, assigns_last, first, blocks, exec, returns}
+use Rattle.place_heap.proofs.Walks.{alloc_all, pass_all, free_all, look_at, get, get_in, through, sets, take_at, give_at, env, usize, yes, lone, owns}
+use Rattle.place_heap.proofs.Walks.{uint_vals, uint_Tells, Ptr, block_ptr, in_a_block, MutRef, mut_vals, mut_Tells, plain, nothing, opens, closes}
+use Rattle.place_heap.proofs.Walks.{heard, Stays, walk_of, says, stay_dropped, Goes-dropped, stay_ref, Goes-ref, ends_at, after}
 use Rattle.place_heap.specs.contracts.cells.Block.write as f
 use Rattle.place_heap.proofs.cells.Block.write.Statement.{statement}
 use Rattle.place_heap.proofs.cells.Block.write.Code as code
@@ -14,13 +20,21 @@ use base.Fml.{froom}
 use borrow.Table.OneValue.{part_in}
 
 abbrev stayed : Stays f.ended.signature.params f.ended.kept
-stayed = (stay_ref (0 ∷ []) tt (plain (λ _. R)), (stay_dropped (plain (λ _. B)) yes, (stay_dropped (plain (λ _. usize)) yes, (stay_dropped (plain (λ _. C)) yes, tt))))
+stayed = (
+  stay_ref (0 ∷ []) tt (plain (λ _. R)),
+  (stay_dropped (plain (λ _. B)) yes, (stay_dropped (plain (λ _. usize)) yes, (stay_dropped (plain (λ _. C)) yes, tt))),
+)
 
 pub write_spec : {M : Type 1} → statement M
 write_spec 𝓤 𝓛 𝓜 𝓡 wired =
     let c = f.clauses 𝓛 𝓜.mem 𝓡.returns in let W = walk_of 𝓛 f.ended stayed c in let 𝓣 = tables 𝓤 𝓛.H 𝓜 𝓡 𝓡.env in
-    proved 𝓛 f.ended stayed c 𝓜 𝓡
-    (Goes-ref 𝓛 1 0 tt (plain (λ _. R)), (Goes-dropped 𝓛 1 (plain (λ _. B)) yes (λ κs x w. refl), (Goes-dropped 𝓛 1 (plain (λ _. usize)) yes (λ κs x w. refl), (Goes-dropped 𝓛 1 (plain (λ _. C)) yes (λ κs x w. refl), tt))))
+    proved 𝓛 f.ended stayed c 𝓜 𝓡 (
+      Goes-ref 𝓛 1 0 tt (plain (λ _. R)),
+      (
+        Goes-dropped 𝓛 1 (plain (λ _. B)) yes (λ κs x w. refl),
+        (Goes-dropped 𝓛 1 (plain (λ _. usize)) yes (λ κs x w. refl), (Goes-dropped 𝓛 1 (plain (λ _. C)) yes (λ κs x w. refl), tt)),
+      ),
+    )
     f.Key.name code.function (code.unfolded 𝓤 𝓛.H 𝓜 𝓡 wired)
     (λ κs. (mut_vals, ((λ x. BL.lowered x ∷ []), (uint_vals w64, ((λ x. CL.lowered x ∷ []), tt)))))
     (λ κs. (mut_Tells (named 0) κs.0 R, (BL.lowers.val_is, (uint_Tells w64, (CL.lowers.val_is, tt)))))
@@ -30,11 +44,13 @@ write_spec 𝓤 𝓛 𝓜 𝓡 wired =
     let y : W.Ghost = ((κs, qs, bounds, a, vs), tt) in
     let good = ((CL.the_row_laws.lawful 𝓛).typed x (v ∷ []) are.1.1.1.0).0 in
     let new : R.Denot = record h { slots = set h.slots i (Some x) } in
-    qed 𝓛 (((‵ (flft κs.0 qs.0) ⊛ ‵ ftrue) ⊛ ‵ (owns (MutRef (named 0) κs.0 R ∷ B ∷ usize ∷ C ∷ []) a vs)) ∷ raw (fact 𝓤 ((base.ptr ≡ h.at) × (i < length h.slots) × (length h.slots ≤ 8192))) ∷ []) ∵
+    qed 𝓛 (((‵ (flft κs.0 qs.0) ⊛ ‵ ftrue) ⊛ ‵ (owns (MutRef (named 0) κs.0 R ∷ B ∷ usize ∷ C ∷ []) a vs)) ∷ raw
+    (fact 𝓤 ((base.ptr ≡ h.at) × (i < length h.slots) × (length h.slots ≤ 8192))) ∷ []) ∵
     move ! (1 ∷ []) $ heard ! _ (λ asked.
     split ! $ split ! $ move ! (2 ∷ []) $ fsplit ! $ move ! (1 ∷ []) $ fsplit ! $ drop ! $ fsplit ! $ drop ! $ fsplit ! $ keep ! (2 ∷ 3 ∷ 0 ∷ []) $
     -- [self; the token; what the cell owns]
-    enter ! _ _ _ _ _ $ alloc_all ! (λ l. pass_all ! refl ((tt, tt), (((BL.the_row_laws.lawful 𝓛).typed base _ are.1.0).0, ((tt, record { fits = are.1.1.0.1 }), (good, tt)))) $
+    enter ! _ _ _ _ _ $ alloc_all !
+    (λ l. pass_all ! refl ((tt, tt), (((BL.the_row_laws.lawful 𝓛).typed base _ are.1.0).0, ((tt, record { fits = are.1.1.0.1 }), (good, tt)))) $
     fsplit3 ! $ move ! (1 ∷ 2 ∷ 3 ∷ []) $ opens ! tt R b o (λ us. move ! (1 ∷ []) $ fsplit ! $ move ! (1 ∷ []) $
     in_a_block ! h.at (λ p. block_owns p h.slots) (id⊢ 𝓤 _) (λ b' o' e. fsplit ! $
     let far : i * 24 < 2 ^ 64 = omega arith in

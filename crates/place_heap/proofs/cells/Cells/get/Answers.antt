@@ -33,4 +33,5 @@ returns-else-mark-clause-value g c =
     let long : length c.args.self.now ≡ s.cap = ap length (sym c.self.view_is) ∙ values_len s.marks.items s.block.slots s.cap in
     let read = get_or_read s.marks.items c.args.i c.index-mark.result.now (omega (arith, c.self.invariant.many)) c.index-mark.ensures 0 in
     let blank = place_blank c.self.invariant c.args.i (omega arith) (λ e. absurd (omega (arith, read, e, c.if-mark.false))) in
-    c.unused.ensures ∙ (ap unused_cell (c.place_of_mark.ensures ∙ ap (noted_place s.cap) read) ∙ (sym blank ∙ ap (λ cells. cell_at cells c.args.i) c.self.view_is))
+    c.unused.ensures
+    ∙ (ap unused_cell (c.place_of_mark.ensures ∙ ap (noted_place s.cap) read) ∙ (sym blank ∙ ap (λ cells. cell_at cells c.args.i) c.self.view_is))

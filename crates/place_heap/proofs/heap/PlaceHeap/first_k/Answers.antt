@@ -12,7 +12,11 @@ pops-init g c =
     record {
       few = omega arith;
       room = omega (arith, ap length c.add.ensures.front, length-child items len 0 c.new-front.result.items, ap length c.new-front.ensures);
-      state = ((λ _. false), rw (c.add.ensures.front, c.new-front.ensures, c.clear.ensures) (front_starts items len (omega (arith, items_len c.self.inside.cells, c.self.invariant.within))));
+      state = (
+        (λ _. false),
+        rw (c.add.ensures.front, c.new-front.ensures, c.clear.ensures)
+            (front_starts items len (omega (arith, items_len c.self.inside.cells, c.self.invariant.within))),
+      );
       cost = omega (arith, c.add.ensures.steps);
     }
 
@@ -37,11 +41,14 @@ unfolding list_of
 returns-else-not-is_empty-clause-list g c =
     let items = items_of c.self.inside.cells in let len = c.self.inside.len in
     let state = c.pops.invariant.state in
-    no_more_left items len c.args.k c.pops.front.items c.pops.out.items state.0 state.1 (empty_front c.pops.front.items (sym c.is_empty.ensures ∙ c.if-not-is_empty.false)) c.pops.invariant.few ∙ ap (λ h. take c.args.k (list_of h)) c.self.view_is
+    no_more_left items len c.args.k c.pops.front.items c.pops.out.items state.0 state.1
+    (empty_front c.pops.front.items (sym c.is_empty.ensures ∙ c.if-not-is_empty.false)) c.pops.invariant.few
+    ∙ ap (λ h. take c.args.k (list_of h)) c.self.view_is
 
 pub returns-after-pops-clause-list : goal.returns-after-pops-clause-list
 unfolding list_of
 returns-after-pops-clause-list g c =
     let items = items_of c.self.inside.cells in let len = c.self.inside.len in
     let state = c.pops.invariant.state in
-    enough items len c.args.k c.pops.front.items c.pops.out.items state.0 state.1 (omega (arith, c.pops.invariant.few, c.pops-test.false, c.len.ensures.value)) ∙ ap (λ h. take c.args.k (list_of h)) c.self.view_is
+    enough items len c.args.k c.pops.front.items c.pops.out.items state.0 state.1
+    (omega (arith, c.pops.invariant.few, c.pops-test.false, c.len.ensures.value)) ∙ ap (λ h. take c.args.k (list_of h)) c.self.view_is

@@ -22,15 +22,18 @@ sift_up-requires g c =
 pub invariant_of-self : goal.invariant_of-self
 invariant_of-self g c =
     let inside : c.args.slot < length c.self.inside.cells = subst (λ (h : Held). c.args.slot < length h.cells) (sym c.self.view_is) c.requires.slot in
-    let room = room_for c.self.inside.cells c.self.inside.len c.self.invariant c.args.slot inside (ap (λ h. key_in c.args.slot (list_of h)) c.self.view_is ∙ c.requires.absent) in
-    kept_again c.place_item.new.cells c.sift_up.new.cells (c.self.inside.len + 1) (omega (arith, c.self.invariant.small, c.place_item.ensures.len)) (omega (arith, room, c.place_item.ensures.len)) c.sift_up.ensures.sifted
+    let room = room_for c.self.inside.cells c.self.inside.len c.self.invariant c.args.slot inside
+    (ap (λ h. key_in c.args.slot (list_of h)) c.self.view_is ∙ c.requires.absent) in
+    kept_again c.place_item.new.cells c.sift_up.new.cells (c.self.inside.len + 1) (omega (arith, c.self.invariant.small, c.place_item.ensures.len))
+    (omega (arith, room, c.place_item.ensures.len)) c.sift_up.ensures.sifted
 
 pub returns-clause-list : goal.returns-clause-list
 returns-clause-list g c =
     let cells = c.self.inside.cells in let len = c.self.inside.len in let x : Item = (c.args.slot, c.args.key) in
     let inside : c.args.slot < length cells = subst (λ (h : Held). c.args.slot < length h.cells) (sym c.self.view_is) c.requires.slot in
     let none = absent_in cells len c.self.invariant c.args.slot inside (ap (λ h. key_in c.args.slot (list_of h)) c.self.view_is ∙ c.requires.absent) in
-    list_after_insert cells c.place_item.new.cells c.sift_up.new.cells len x c.self.invariant inside none c.place_item.ensures.items c.place_item.ensures.places c.place_item.ensures.len c.sift_up.ensures.sifted
+    list_after_insert cells c.place_item.new.cells c.sift_up.new.cells len x c.self.invariant inside none c.place_item.ensures.items
+    c.place_item.ensures.places c.place_item.ensures.len c.sift_up.ensures.sifted
     ∙ ap (λ h. placed x (list_of h)) c.self.view_is
 
 pub returns-clause-kept : goal.returns-clause-kept

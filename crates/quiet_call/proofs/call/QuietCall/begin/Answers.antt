@@ -40,7 +40,9 @@ unreachable-requires c =
     let q = c.args.self.now in
     let h = c.index_mut-client.result.now in
     let is : h ≡ opened q.settings client_id = c.index_mut-client.ensures.value ∙ ap (λ xs. get_or xs 0 h) c.requires.opened.hosts in
-    none_some (sym (can_start q.settings (asked q) (answered q) c.requires.calm) ∙ (sym (ap (λ (x : Seen). start_fault x.settings x.host server_id c.in_ok-bytes.bytes.items) is ∙ ap (start_fault q.settings (opened q.settings client_id).host server_id) c.in_ok-bytes.ensures) ∙ c.in_default.ensures.fault)) where
+    none_some (sym (can_start q.settings (asked q) (answered q) c.requires.calm)
+    ∙ (sym (ap (λ (x : Seen). start_fault x.settings x.host server_id c.in_ok-bytes.bytes.items) is
+    ∙ ap (start_fault q.settings (opened q.settings client_id).host server_id) c.in_ok-bytes.ensures) ∙ c.in_default.ensures.fault)) where
       none_some : {A : Type 0} {x : A} → None ≡ Some x → ⊥
       none_some e = cc
 
@@ -54,9 +56,11 @@ returns-clause-goes_on c =
     let a = c.call.new.self in
     let at : now ≡ s.skew = omega (arith, c.own_clock-now.ensures, c.requires.opened.clock) in
     on_ok_by _ _ _ c.keep.result
-    (λ kept few. goes_same s s (asked q) (asked q) (answered q) (answered q) 0 q.clock 0 (answers q) (slice_set (hosts_of q) 0 a) c.keep.new.under_way.items refl refl refl c.requires.opened.clock c.requires.opened.answers
+    (λ kept few. goes_same s s (asked q) (asked q) (answered q) (answered q) 0 q.clock 0 (answers q)
+    (slice_set (hosts_of q) 0 a) c.keep.new.under_way.items refl refl refl c.requires.opened.clock c.requires.opened.answers
     (subst (λ hs. GoesOn s (asked q) (answered q) 0 hs c.keep.new.under_way.items 0) (sym (ap (λ hs. slice_set hs 0 a) c.requires.opened.hosts))
-    (goes_on s (asked q) (answered q) c.requires.calm h a (opened s server_id) now c.keep.new.under_way.items c.call.new.out [] (ap (λ (x : Seen). x.settings) is) (ap (λ (x : Seen). x.host) is) refl refl at
+    (goes_on s (asked q) (answered q) c.requires.calm h a (opened s server_id) now c.keep.new.under_way.items c.call.new.out []
+    (ap (λ (x : Seen). x.settings) is) (ap (λ (x : Seen). x.host) is) refl refl at
     (subst (λ bytes. IsDone h (call_step h.settings h.host now server_id 0 bytes) a c.call.new.out []) c.in_ok-bytes.ensures (c.in-Ok.ensures.step []))
     c.call.ensures.steady c.in-Ok.ensures.last (kept ∙ ap (λ fs. fs ++ c.call.new.out) c.requires.opened.frames) few)))
     c.keep.ensures.kept c.keep.ensures.few

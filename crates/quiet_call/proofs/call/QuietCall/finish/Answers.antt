@@ -7,4 +7,5 @@ unreachable-requires c =
     let l = c.loop-self.self in
     let inv = c.loop-self.invariant in
     let e = c.quiet_calls_end.ensures l.settings (asked l) (answered l) inv.goes_on.calm in
-    true≢false (sym e.quiet.done ∙ inv.goes_on.not_yet e.rounds (omega (arith, e.within, c.loop-self-test.false, c.bound-most.ensures, c.size.ensures, inv.same.asked, inv.same.answered)))
+    true≢false (sym e.quiet.done ∙ inv.goes_on.not_yet e.rounds
+    (omega (arith, e.within, c.loop-self-test.false, c.bound-most.ensures, c.size.ensures, inv.same.asked, inv.same.answered)))

@@ -9,4 +9,6 @@ pub returns : goal.returns
 returns c =
     let recs = c.args.self.now.recs.items in
     let long = length-frames 0 recs c.args.self.now.bytes.items in
-    frame_by recs c.args.self.now.bytes.items c.deref.result.now c.args.i c.index-rec.result.now _ _ (got recs c.args.i c.index-rec.result.now (omega (arith, long)) c.index-rec.ensures) c.span-start.ensures.start c.span-start.ensures.end c.deref.ensures.value
+    frame_by recs c.args.self.now.bytes.items c.deref.result.now c.args.i c.index-rec.result.now _ _
+    (got recs c.args.i c.index-rec.result.now (omega (arith, long)) c.index-rec.ensures) c.span-start.ensures.start c.span-start.ensures.end
+    c.deref.ensures.value

@@ -35,7 +35,8 @@ returns-clause-order c =
     let recs = b.recs.items in
     let long = length-frames 0 recs b.bytes.items in
     let start = start_got recs c.args.i c.index-2.result.now (omega arith) (omega (arith, long)) c.index-2.ensures in
-    let order = (within_at 0 recs (length b.bytes.items) c.args.i c.index.result.now b.ends (got recs c.args.i c.index.result.now (omega (arith, long)) c.index.ensures)).0 in
+    let order = (within_at 0 recs (length b.bytes.items) c.args.i c.index.result.now b.ends
+    (got recs c.args.i c.index.result.now (omega (arith, long)) c.index.ensures)).0 in
     omega (arith, start, order)
 
 pub returns-clause-within : goal.returns-clause-within

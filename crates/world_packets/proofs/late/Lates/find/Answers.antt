@@ -11,8 +11,10 @@ pub overflow_sub-place : goal.overflow_sub-place
 overflow_sub-place c =
     let l = c.args.self.now in
     let ts = c.as_slice.result.now in
-    let e = subst (λ (us : List LateTicks). firsts_at (λ (t : LateTicks). t.first) late_of 0 us l.latest.first ≡ true) (sym c.as_slice.ensures.value) l.firsts in
-    let point = IsPartitionPoint-from_clause (λ (t : LateTicks). nat_le t.first c.args.n) ts c.partition_point-place.result c.partition_point-place.ensures.partitioned
+    let e =
+    subst (λ (us : List LateTicks). firsts_at (λ (t : LateTicks). t.first) late_of 0 us l.latest.first ≡ true) (sym c.as_slice.ensures.value) l.firsts in
+    let point =
+    IsPartitionPoint-from_clause (λ (t : LateTicks). nat_le t.first c.args.n) ts c.partition_point-place.result c.partition_point-place.ensures.partitioned
     (parted (λ (t : LateTicks). t.first) late_of 0 c.args.n ts l.latest.first e) (λ a r q k. search rules) in
     some_before (λ (t : LateTicks). t.first) late_of 0 c.args.n ts l.latest.first c.partition_point-place.result e (omega arith) c.requires point.1
 
@@ -20,9 +22,13 @@ pub returns : goal.returns
 returns c =
     let l = c.args.self.now in
     let ts = c.as_slice.result.now in
-    let e = subst (λ (us : List LateTicks). firsts_at (λ (t : LateTicks). t.first) late_of 0 us l.latest.first ≡ true) (sym c.as_slice.ensures.value) l.firsts in
-    let point = IsPartitionPoint-from_clause (λ (t : LateTicks). nat_le t.first c.args.n) ts c.partition_point-place.result c.partition_point-place.ensures.partitioned
+    let e =
+    subst (λ (us : List LateTicks). firsts_at (λ (t : LateTicks). t.first) late_of 0 us l.latest.first ≡ true) (sym c.as_slice.ensures.value) l.firsts in
+    let point =
+    IsPartitionPoint-from_clause (λ (t : LateTicks). nat_le t.first c.args.n) ts c.partition_point-place.result c.partition_point-place.ensures.partitioned
     (parted (λ (t : LateTicks). t.first) late_of 0 c.args.n ts l.latest.first e) (λ a r q k. search rules) in
-    let here = subst (λ (us : List LateTicks). c.index.result.now ≡ get_or us (c.partition_point-place.result - 1) c.index.result.now) (sym c.as_slice.ensures.value) c.index.ensures in
+    let here = subst (λ (us : List LateTicks). c.index.result.now ≡ get_or us (c.partition_point-place.result - 1) c.index.result.now)
+    (sym c.as_slice.ensures.value) c.index.ensures in
     subst (λ (us : List LateTicks). IsIn (λ (t : LateTicks). t.first) late_of us 0 c.args.n c.index.result.now) c.as_slice.ensures.value
-    (is_in (λ (t : LateTicks). t.first) late_of 0 c.args.n ts l.latest.first c.partition_point-place.result c.index.result.now e (omega arith) c.requires c.partition_point-place.ensures.bound point.0 point.1 here)
+    (is_in (λ (t : LateTicks). t.first) late_of 0 c.args.n ts l.latest.first c.partition_point-place.result c.index.result.now e
+    (omega arith) c.requires c.partition_point-place.ensures.bound point.0 point.1 here)

@@ -24,6 +24,7 @@ invariant_of-self-2 c =
     let next = ap (λ (x : LateTicks). x.first) c.replace-full.ensures.after in
     record {
       firsts = subst (λ (ts : List LateTicks). firsts_at (λ (u : LateTicks). u.first) late_of 0 ts c.replace-full.new.dest.first ≡ true) (sym items)
-          (firsts_push (λ (u : LateTicks). u.first) late_of 0 l.full.items l.latest.first c.replace-full.new.dest.first t l.firsts (was ∙ c.if-push.ensures.first)
+          (firsts_push (λ (u : LateTicks). u.first) late_of 0 l.full.items l.latest.first c.replace-full.new.dest.first t l.firsts
+          (was ∙ c.if-push.ensures.first)
           (omega (arith, next, c.open-next.ensures.first, c.end.ensures, long, c.if-push.ensures.first)));
     }

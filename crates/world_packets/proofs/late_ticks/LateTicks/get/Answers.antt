@@ -25,7 +25,8 @@ returns-then-left-count c =
     let all = late_of c.args.self.now in
     let t = c.loop-later.tick in
     let left = subst (λ (ls : List Later). IsLeft all c.args.i t ls c.loop-later.left) at c.loop-later.invariant.left in
-    is_here all c.args.i t item (drop (k + 1) ts) c.loop-later.left left (omega (arith, c.from-count.ensures)) ∙ ap (λ (g : ℕ). Some (LatePacket (t + g))) (sym c.from-tick.ensures)
+    is_here all c.args.i t item (drop (k + 1) ts) c.loop-later.left left (omega (arith, c.from-count.ensures))
+    ∙ ap (λ (g : ℕ). Some (LatePacket (t + g))) (sym c.from-tick.ensures)
 
 pub loop-later-preserved : goal.loop-later-preserved
 loop-later-preserved c =

@@ -22,7 +22,8 @@ invariant_of-self-2 c =
     record {
       valid = p.valid;
       firsts = subst (λ (ts : List Tick). firsts_at (λ (u : Tick). u.first) kept_of (length (past_kept p.past)) ts later ≡ true) (sym items)
-          (firsts_push (λ (u : Tick). u.first) kept_of (length (past_kept p.past)) p.ticks.items p.first later t p.firsts refl (omega (arith, long, same, c.len-count.ensures)));
+          (firsts_push (λ (u : Tick). u.first) kept_of (length (past_kept p.past)) p.ticks.items p.first later t p.firsts refl
+          (omega (arith, long, same, c.len-count.ensures)));
       few = omega (arith, none, p.few, c.len-count.ensures);
       wire = p.wire;
       filled = subst EachHolds (sym items) (holds_push p.ticks.items t p.filled (omega (arith, long, same, c.len-count.ensures, c.if-count-eq0.false)));

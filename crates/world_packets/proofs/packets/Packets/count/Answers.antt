@@ -9,4 +9,5 @@ use Rattle.world_packets.proofs.packets.Packets.count.Goals as goal
 pub returns : goal.returns
 returns c =
     let p = c.args.self.now in
-    count_all (past_kept p.past) p.ticks.items p.first (map (WholePacket p.tick) (frames_of p.front)) c.len.result p.firsts (length-map (frames_of p.front) (WholePacket p.tick) ∙ sym c.len.ensures)
+    count_all (past_kept p.past) p.ticks.items p.first (map (WholePacket p.tick) (frames_of p.front)) c.len.result p.firsts
+    (length-map (frames_of p.front) (WholePacket p.tick) ∙ sym c.len.ensures)

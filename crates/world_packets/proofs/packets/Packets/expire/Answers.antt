@@ -35,7 +35,8 @@ invariant_of-self-in-loop-self c =
     let aged = rw c.if-not-branch.false at c.in_ok-take.ensures.aged in
     record {
       valid = p.valid;
-      firsts = given_firsts p.settings c.args.now (past_kept p.past) (past_kept c.take.new.self) t rest aged p.first (subst (λ (us : List Tick). TicksEnd (length (past_kept p.past)) us p.first) ts p.firsts);
+      firsts = given_firsts p.settings c.args.now (past_kept p.past) (past_kept c.take.new.self) t rest aged p.first
+          (subst (λ (us : List Tick). TicksEnd (length (past_kept p.past)) us p.first) ts p.firsts);
       few = p.few;
       wire = c.take.ensures.wire ∙ p.wire;
       filled = holds_rest t rest (subst EachHolds ts p.filled);
@@ -56,7 +57,8 @@ loop-self-preserved-else-not-branch c =
     let step = subst (λ (us : List Tick). AllAged p.settings c.args.now (past ++ flat_map kept_of us ++ front) later) (sym ts)
     (given_all p.settings c.args.now past (past_kept c.take.new.self) t rest aged front) in
     record {
-      aged = all_aged_on s c.args.now (kept_all c.args.self.now) (kept_all p) later l.aged (subst (λ (x : Settings). AllAged x c.args.now (kept_all p) later) l.settings step);
+      aged = all_aged_on s c.args.now (kept_all c.args.self.now) (kept_all p) later l.aged
+          (subst (λ (x : Settings). AllAged x c.args.now (kept_all p) later) l.settings step);
       settings = l.settings;
       front = l.front;
       tick = l.tick;
@@ -71,4 +73,5 @@ returns-then-not-branch-clause-no_old c =
     let ts = front_tick p.ticks.items rest t (omega (arith, not_none (deque_len p.ticks) c.loop-self-test.ensures)) c.index.ensures refl in
     let left = c.in_ok-take.ensures.left p.wire c.if-not-branch.true in
     subst (λ (us : List Tick). HasNoOld s c.args.now (flat_map kept_of us)) (sym ts)
-    (no_old-ticks s c.args.now t rest (subst EachHolds ts p.filled) (subst (λ (x : Settings). HasNoOld x c.args.now (kept_of t)) c.loop-self.invariant.settings left))
+    (no_old-ticks s c.args.now t rest (subst EachHolds ts p.filled)
+    (subst (λ (x : Settings). HasNoOld x c.args.now (kept_of t)) c.loop-self.invariant.settings left))

@@ -11,7 +11,8 @@ pub overflow_sub-place : goal.overflow_sub-place
 overflow_sub-place c =
     let p = c.args.self.now in
     let m = length (past_kept p.past) in
-    let point = IsPartitionPoint-from_clause (λ (t : Tick). nat_le t.first c.args.n) p.ticks.items c.partition_point-place.result c.partition_point-place.ensures.partitioned
+    let point = IsPartitionPoint-from_clause (λ (t : Tick). nat_le t.first c.args.n) p.ticks.items c.partition_point-place.result
+    c.partition_point-place.ensures.partitioned
     (parted (λ (t : Tick). t.first) kept_of m c.args.n p.ticks.items p.first p.firsts) (λ a r q k. search rules) in
     some_before (λ (t : Tick). t.first) kept_of m c.args.n p.ticks.items p.first c.partition_point-place.result p.firsts c.requires.from c.requires.to point.1
 
@@ -19,7 +20,9 @@ pub returns : goal.returns
 returns c =
     let p = c.args.self.now in
     let m = length (past_kept p.past) in
-    let point = IsPartitionPoint-from_clause (λ (t : Tick). nat_le t.first c.args.n) p.ticks.items c.partition_point-place.result c.partition_point-place.ensures.partitioned
+    let point = IsPartitionPoint-from_clause (λ (t : Tick). nat_le t.first c.args.n) p.ticks.items c.partition_point-place.result
+    c.partition_point-place.ensures.partitioned
     (parted (λ (t : Tick). t.first) kept_of m c.args.n p.ticks.items p.first p.firsts) (λ a r q k. search rules) in
-    is_in (λ (t : Tick). t.first) kept_of m c.args.n p.ticks.items p.first c.partition_point-place.result c.index.result.now p.firsts c.requires.from c.requires.to
+    is_in (λ (t : Tick). t.first) kept_of m c.args.n p.ticks.items p.first c.partition_point-place.result c.index.result.now p.firsts c.requires.from
+    c.requires.to
     (omega (arith, c.partition_point-place.ensures.bound)) point.0 point.1 c.index.ensures

@@ -9,7 +9,8 @@ use Rattle.world_packets.proofs.packets.Packets.push.Goals as goal
 pub invariant_of-self : goal.invariant_of-self
 invariant_of-self c =
     let p = c.args.self.now in
-    let all = count_all (past_kept p.past) p.ticks.items p.first (map (WholePacket p.tick) (frames_of p.front)) (length (frames_of p.front)) p.firsts (length-map (frames_of p.front) (WholePacket p.tick)) in
+    let all = count_all (past_kept p.past) p.ticks.items p.first (map (WholePacket p.tick) (frames_of p.front)) (length (frames_of p.front)) p.firsts
+    (length-map (frames_of p.front) (WholePacket p.tick)) in
     let f : Frame = record { from = c.args.from; to = c.args.to; bytes = c.args.bytes.now } in
     let more = ap length c.push.ensures.frames ∙ length-append (frames_of p.front) (f ∷ []) in
     record { valid = p.valid; firsts = p.firsts; few = omega (arith, all, more, c.requires.room.few); wire = p.wire; filled = p.filled }
@@ -18,8 +19,10 @@ pub returns-clause-room : goal.returns-clause-room
 returns-clause-room c =
     let p = c.args.self.now in
     let new = c.push.new.self in
-    let all = count_all (past_kept p.past) p.ticks.items p.first (map (WholePacket p.tick) (frames_of p.front)) (length (frames_of p.front)) p.firsts (length-map (frames_of p.front) (WholePacket p.tick)) in
-    let later = count_all (past_kept p.past) p.ticks.items p.first (map (WholePacket p.tick) (frames_of new)) (length (frames_of new)) p.firsts (length-map (frames_of new) (WholePacket p.tick)) in
+    let all = count_all (past_kept p.past) p.ticks.items p.first (map (WholePacket p.tick) (frames_of p.front)) (length (frames_of p.front)) p.firsts
+    (length-map (frames_of p.front) (WholePacket p.tick)) in
+    let later = count_all (past_kept p.past) p.ticks.items p.first (map (WholePacket p.tick) (frames_of new)) (length (frames_of new)) p.firsts
+    (length-map (frames_of new) (WholePacket p.tick)) in
     let f : Frame = record { from = c.args.from; to = c.args.to; bytes = c.args.bytes.now } in
     let more = ap length c.push.ensures.frames ∙ length-append (frames_of p.front) (f ∷ []) in
     λ n h. record {

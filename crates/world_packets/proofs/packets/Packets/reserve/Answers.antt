@@ -14,14 +14,16 @@ use Rattle.world_packets.proofs.packets.Packets.reserve.Goals as goal
 pub returns-in_err-turn_over-clause-aged : goal.returns-in_err-turn_over-clause-aged
 returns-in_err-turn_over-clause-aged c =
     let s = c.args.self.now.settings in
-    subst (λ (ks : List KeptPacket). AllAged s c.args.now (kept_all c.args.self.now) ks) (sym c.in_err-turn_over.ensures.kept) (all_aged_self s c.args.now (kept_all c.args.self.now))
+    subst (λ (ks : List KeptPacket). AllAged s c.args.now (kept_all c.args.self.now) ks) (sym c.in_err-turn_over.ensures.kept)
+    (all_aged_self s c.args.now (kept_all c.args.self.now))
 
 pub returns-clause-room : goal.returns-clause-room
 returns-clause-room c =
     let t = c.turn_over.new.self in
     let e = c.expire.new.self in
     let size = c.in_ok-reserve.ensures.size ∙ ap (λ (b : Block). size_of b) c.in_ok-expire.ensures.front in
-    let kept = ap (λ (fs : List Frame). length (past_kept e.past ++ flat_map kept_of e.ticks.items ++ map (WholePacket e.tick) fs)) c.in_ok-reserve.ensures.frames in
+    let kept =
+    ap (λ (fs : List Frame). length (past_kept e.past ++ flat_map kept_of e.ticks.items ++ map (WholePacket e.tick) fs)) c.in_ok-reserve.ensures.frames in
     let aged = length-aged t.settings c.args.now (kept_all t) (kept_all e) c.in_ok-expire.ensures.aged in
     let turned = ap length c.in_ok-turn_over.ensures.kept in
     record {

@@ -15,7 +15,8 @@ returns-in_ok-push-in-Late-clause-aged c =
     let t = c.args.tick.now in
     let after = lates_kept c.push.new.self in
     subst (λ (p : Past). AllAged s c.args.now (past_kept p ++ kept_of t) after) (sym c.in-Late.is)
-    (takes_late s c.args.now t.tick (frames_of t.block) (lates_kept c.in-Late.lates) after c.len.result c.len.ensures c.if-s-eq1.true (c.if-not-is_old.ensures.old refl c.if-s-eq1.true) c.in_ok-push-in-Late.ensures.more)
+    (takes_late s c.args.now t.tick (frames_of t.block) (lates_kept c.in-Late.lates) after c.len.result c.len.ensures c.if-s-eq1.true
+    (c.if-not-is_old.ensures.old refl c.if-s-eq1.true) c.in_ok-push-in-Late.ensures.more)
 
 pub returns-in-Stale-clause-aged : goal.returns-in-Stale-clause-aged
 returns-in-Stale-clause-aged c =
@@ -25,7 +26,8 @@ returns-in-Stale-clause-aged c =
     let after = c.push_olds.new.olds.items in
     let wire = c.requires.valid.in_range.2.2.2.2.2.2.2.2.2.2.2.2.2.2 in
     let two : s.wire ≡ 2 = omega (arith, wire.0, wire.1, c.if-s-ne1.true) in
-    if_taken c.push_olds.result (AddsOlds c.from-reach.result c.args.now (frames_of t.block) before after) (after ≡ before) (AllAged s c.args.now (past_kept c.args.self.now ++ kept_of t) (olds_kept after)) (olds_kept after ≡ past_kept c.args.self.now)
+    if_taken c.push_olds.result (AddsOlds c.from-reach.result c.args.now (frames_of t.block) before after) (after ≡ before)
+    (AllAged s c.args.now (past_kept c.args.self.now ++ kept_of t) (olds_kept after)) (olds_kept after ≡ past_kept c.args.self.now)
     (λ a. subst (λ (p : Past). AllAged s c.args.now (past_kept p ++ kept_of t) (olds_kept after)) (sym c.in-Stale.is)
     (takes_stale s c.args.now t.tick (frames_of t.block) before after c.from-reach.result two c.from-reach.ensures a))
     (λ same. ap olds_kept same ∙ ap past_kept (sym c.in-Stale.is))
