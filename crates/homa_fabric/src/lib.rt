@@ -6,15 +6,13 @@
 //! definitions (`generated_runs`) beside the life of a packet.
 //!
 //! Main promise: each call does to the fabric what its definition does, so that it all is a function of the seed. All
-//! memory is taken by `Fabric::open`.
+//! memory is taken by `Fabric::open`. Tests stand in `generate_tests`.
 #![tactic(auto)]
 
 mod draws;
 mod inbound;
 mod network;
 mod queued;
-#[cfg(test)]
-mod tests;
 
 pub use draws::Traffic;
 pub use network::Fabric;

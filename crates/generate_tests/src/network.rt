@@ -1,5 +1,6 @@
-//! The draws of the seeds come from another program of the generator; what follows from them was worked out by hand.
-use super::*;
+// The network between hosts. The draws of the seeds come from another program of the generator; what follows from them was
+// worked out by hand.
+use homa_fabric::{Fabric, Traffic};
 use homa_plain::{HostId, Settings};
 use std::test::Fail;
 
