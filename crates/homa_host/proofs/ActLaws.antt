@@ -33,7 +33,7 @@ use Rattle.homa_host.specs.Outcomes.{client_act_change, FollowedClient}
 use Rattle.homa_host.specs.declared.outcome.Change.{Change}
 use Rattle.homa_host.specs.declared.parts.HostParts.{HostParts}
 use Rattle.homa_host.proofs.AskedLaws.{silent, asked_amid, asked_kept, asked_orders}
-use Rattle.homa_host.proofs.CanFollow.{CanFollowClient}
+use Rattle.homa_host.specs.Outcomes.{CanFollowClient}
 use Rattle.homa_host.proofs.ClientKept.{own_call}
 use Rattle.homa_host.proofs.FollowLaws.{IsChange, follow_room, follow_within, follow_stands, follow_may, follow_books}
 

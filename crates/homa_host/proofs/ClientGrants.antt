@@ -32,7 +32,7 @@ use Rattle.homa_host.specs.declared.outcome.Change.TheVariants.{Stays}
 use Rattle.homa_host.proofs.Begun.{at-amid, amid-at}
 use Rattle.homa_host.proofs.SlotRows.{client_row}
 use Rattle.homa_host.proofs.ClientKept.{own_like, host_after}
-use Rattle.homa_host.proofs.CanFollow.{CanFollowClient}
+use Rattle.homa_host.specs.Outcomes.{CanFollowClient}
 use Rattle.homa_host.proofs.ClientStays.{Beside, stood, knows, can_follow, followed_by, kept_stays}
 
 -- a message that is granted as much already is left

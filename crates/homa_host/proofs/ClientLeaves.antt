@@ -44,7 +44,7 @@ use Rattle.homa_host.specs.declared.outcome.Change.TheVariants.{Stays}
 use Rattle.homa_host.proofs.Begun.{at-amid, amid-at, rest-amid}
 use Rattle.homa_host.proofs.SlotRows.{client_row, client_standing, kept_slots}
 use Rattle.homa_host.proofs.ClientKept.{own_like, host_after}
-use Rattle.homa_host.proofs.CanFollow.{CanFollowClient}
+use Rattle.homa_host.specs.Outcomes.{CanFollowClient}
 use Rattle.homa_host.proofs.ClientStays.{Beside, stood, knows, inside, spends, kept_spent, kept_same, amid_same, stands_after, spot_after, can_follow}
 use Rattle.homa_host.proofs.ClientStays.{followed_by, kept_stays}
 use Rattle.homa_host.proofs.Emits.{IsView, view_of, picked_in, few_ready}

@@ -51,7 +51,7 @@ use Rattle.homa_host.specs.Parts.{host_of, seen_of, part_in, IsKept}
 use Rattle.homa_host.specs.Amid.{Amid}
 use Rattle.homa_host.proofs.Begun.{at-amid, amid-at, rest-amid}
 use Rattle.homa_host.specs.Outcomes.{MayStayClient, FollowedClient}
-use Rattle.homa_host.proofs.CanFollow.{CanFollowClient}
+use Rattle.homa_host.specs.Outcomes.{CanFollowClient}
 use Rattle.homa_host.proofs.SlotRows.{client_row, client_standing, kept_slots}
 use Rattle.homa_host.proofs.ClientKept.{own_like, at_slot_after, places_after, slot_within, parts_in, host_after, seen_after, changes, duty_own, kept_after}
 

@@ -27,7 +27,7 @@ use Rattle.homa_host.specs.declared.outcome.Change.{Change}
 use Rattle.homa_host.proofs.Begun.{kept-control}
 use Rattle.homa_host.proofs.ClientKept.{servers_same}
 use Rattle.homa_host.proofs.AskedLaws.{silent, amid_asked, asked_kept, asked_orders}
-use Rattle.homa_host.proofs.CanFollow.{CanFollowClient}
+use Rattle.homa_host.specs.Outcomes.{CanFollowClient}
 use Rattle.homa_host.proofs.FollowLaws.{standing, follow_within, follow_stands, follow_may, follow_books}
 use Rattle.homa_host.proofs.GetsLaws.{HasReceived, got, gets, gets_order, gets_moved, gets_stood, gets_change, gets_known, gets_own, no_change}
 use Rattle.homa_host.proofs.GetsLaws.{no_orders, no_touch, touched_row}

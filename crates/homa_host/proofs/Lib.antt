@@ -1,4 +1,3 @@
-pub mod CanFollow
 pub mod ClientKept
 pub mod AskedLaws
 pub mod FollowLaws

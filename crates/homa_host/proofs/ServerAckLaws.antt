@@ -41,7 +41,7 @@ use Rattle.homa_host.specs.declared.parts.HostParts.{HostParts}
 use Rattle.homa_host.proofs.AskedLaws.{silent, served-aside, amid_of}
 use Rattle.homa_host.proofs.Begun.{GoesOn, kept-control}
 use Rattle.homa_host.proofs.ServerKept.{server_parts, host_after, served_orders, served_kept}
-use Rattle.homa_host.proofs.CanFollow.{CanFollowServer}
+use Rattle.homa_host.specs.ServerFollow.{CanFollowServer}
 use Rattle.homa_host.proofs.ServerFollows.{IsServerChange, follow_within, follow_stands, follow_may, follow_books}
 use Rattle.homa_host.proofs.ServerActLaws.{at_slot, row_get, not_own, slot_low, stays_at, placed_in, moment_of, known_row, few_places}
 

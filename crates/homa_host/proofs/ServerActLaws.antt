@@ -34,7 +34,7 @@ use Rattle.homa_host.specs.ServerFollow.{server_act_change, server_act_orders, F
 use Rattle.homa_host.specs.declared.outcome.Change.{Change}
 use Rattle.homa_host.specs.declared.parts.HostParts.{HostParts}
 use Rattle.homa_host.proofs.AskedLaws.{silent}
-use Rattle.homa_host.proofs.CanFollow.{CanFollowServer}
+use Rattle.homa_host.specs.ServerFollow.{CanFollowServer}
 use Rattle.homa_host.proofs.ServerKept.{seen_after, served_orders, served_kept, served_amid}
 use Rattle.homa_host.proofs.ServerFollows.{IsServerChange, same_settings, follow_room, follow_within, follow_stands, follow_may, follow_books}
 

@@ -36,6 +36,7 @@ use Rattle.homa_server.specs.declared.answers.ServerDid.{ServerDid}
 use Rattle.homa_server.specs.declared.answers.ServerDid.TheVariants as did
 use Rattle.host_state.specs.Control.{Control, IsSound, IsAt}
 use Rattle.host_books.specs.declared.books.Books.{Books}
+use Rattle.host_books.specs.Duties.{HaveRoom}
 use Rattle.host_book_laws.specs.Pages.{client_pages, server_pages}
 use Rattle.host_book_laws.specs.Duty.{server_duty_in, followed}
 use Rattle.host_book_laws.specs.Stood.{Stood}
@@ -44,8 +45,8 @@ use Rattle.host_laws.specs.Peers.{KnowsClient, KnowsSender}
 use Rattle.host_laws.proofs.Known.{server_gets-known}
 use Rattle.homa_host.specs.Parts.{host_of, seen_of, IsKept}
 use Rattle.homa_host.specs.Amid.{Amid}
-use Rattle.homa_host.specs.Outcomes.{server_change, server_orders, one_if, IfStays, IfServerTouched}
-use Rattle.homa_host.specs.ServerFollow.{MayStayServer, FollowedServer}
+use Rattle.homa_host.specs.Outcomes.{server_change, server_orders, one_if, IfStays, IfChanged, IfServerTouched}
+use Rattle.homa_host.specs.ServerFollow.{MayStayServer, CanFollowServer, FollowedServer}
 use Rattle.homa_host.specs.declared.parts.HostParts.{HostParts}
 use Rattle.homa_host.specs.declared.outcome.Change.{Change}
 use Rattle.homa_host.specs.declared.outcome.Change.TheVariants.{Nothing}
@@ -53,8 +54,8 @@ use Rattle.homa_host.proofs.AskedLaws.{silent, served-aside, amid_of}
 use Rattle.homa_host.proofs.Begun.{GoesOn, kept-control}
 use Rattle.homa_host.proofs.ServerHeard.{HasHeard}
 use Rattle.homa_host.proofs.ServerKept.{state_pages_of, seen_after, clients_same, served_orders, served_kept}
-use Rattle.homa_host.proofs.ServerFollows.{IsServerChange, follow_stands, follow_may, follow_books}
-use Rattle.homa_host.proofs.ServerActLaws.{placed_in, known_row}
+use Rattle.homa_host.proofs.ServerFollows.{IsServerChange, follow_stands, follow_within, follow_may, follow_books}
+use Rattle.homa_host.proofs.ServerActLaws.{placed_in, known_row, few_places}
 
 -- ---- answers
 
@@ -367,6 +368,10 @@ module _ (c : HostParts) (kept : IsKept c) {from : HostId} {packet : WirePacket}
     stands_there : IfStays (server_change d) (λ n. IsSome (spot_at servers.rows n))
     stands_there = follow_stands c kept p.id slot servers pool row_now got.moved before after placed (server_change d) change
 
+    within_there : IfChanged (server_change d) (λ n. n < servers.settings.served)
+    within_there = follow_within c kept p.id slot servers pool row_now got.moved before after placed (server_change d)
+        (subst (λ n. n < c.control.settings.served) there.1.1 (placed.within p.id there.0 there.1.0)) change
+
     books_there : (books : Books) → FollowedServer servers c.control.settings.calls (server_change d) c.books books
         → books ≡ followed (c.control.settings.calls + slot) (server_duty_in c.control.settings row_now) c.books
     books_there books f = follow_books c kept p.id slot servers pool row_now got.moved before after placed (server_change d) books change f
@@ -395,8 +400,18 @@ module _ (c : HostParts) (kept : IsKept c) {from : HostId} {packet : WirePacket}
   pub gets_stands : IfStays (server_change d) (λ n. IsSome (spot_at servers.rows n))
   gets_stands = by_slot _ (λ e. subst (λ (ch : Change). IfStays ch (λ n. IsSome (spot_at servers.rows n))) (sym (no_change d e)) tt) stands_there
 
-  pub gets_may : IfStays (server_change d) (MayStayServer servers c.control.settings.calls c.books)
-  gets_may = by_slot _ (λ e. subst (λ (ch : Change). IfStays ch (MayStayServer servers c.control.settings.calls c.books)) (sym (no_change d e)) tt) may_there
+  -- the books can follow this change, where so many slots of clients' rows stand before
+  pub gets_follows : (calls : ℕ) (ch : Change) → calls ≡ c.control.settings.calls → ch ≡ server_change d → CanFollowServer servers calls c.books ch
+  gets_follows calls ch calls_are ch_is = subst (λ (y : ℕ × Change). CanFollowServer servers y.0 c.books y.1) (λ i. (sym calls_are i, sym ch_is i)) (record {
+    stands = gets_stands;
+    may = by_slot _ (λ e. subst (λ (ch : Change). IfStays ch (MayStayServer servers c.control.settings.calls c.books)) (sym (no_change d e)) tt) may_there;
+    room = subst (λ (s : Settings). HaveRoom s c.books) (sym same) kept.room;
+    calls = ap (λ (s : Settings). s.calls) (sym same);
+    within = by_slot _ (λ e. subst (λ (ch : Change). IfChanged ch (λ n. n < servers.settings.served)) (sym (no_change d e)) tt) within_there;
+    small = few_places c kept c.control.settings servers.settings refl same;
+  }) where
+    same : servers.settings ≡ c.control.settings
+    same = ap (λ (t : Servers). t.settings) got.moved.kept ∙ kept.one.server_settings
 
   -- the version in a first piece of the row that was touched
   pub gets_touched : (v : Option ℕ) (piece : Option Piece)

@@ -30,7 +30,7 @@ use Rattle.homa_host.proofs.Begun.{at-amid, amid-at}
 use Rattle.homa_host.proofs.SlotRows.{server_row}
 use Rattle.homa_host.proofs.ClientKept.{own_like}
 use Rattle.homa_host.proofs.ClientGrants.{grant_some, work_of}
-use Rattle.homa_host.proofs.CanFollow.{CanFollowServer}
+use Rattle.homa_host.specs.ServerFollow.{CanFollowServer}
 use Rattle.homa_host.proofs.ClientStays.{Beside}
 use Rattle.homa_host.proofs.ServerStays.{knows, host_put, can_follow, followed_by, kept_stays}
 

@@ -48,7 +48,7 @@ use Rattle.homa_host.proofs.SlotRows.{server_row, server_standing, kept_slots}
 use Rattle.homa_host.proofs.ClientKept.{own_like}
 use Rattle.homa_host.specs.ServerFollow.{FollowedServer}
 use Rattle.homa_host.specs.declared.outcome.Change.TheVariants.{Stays}
-use Rattle.homa_host.proofs.CanFollow.{CanFollowServer}
+use Rattle.homa_host.specs.ServerFollow.{CanFollowServer}
 use Rattle.homa_host.proofs.ClientStays.{Beside, spends, kept_spent}
 use Rattle.homa_host.proofs.Emits.{few_ready, picked_in}
 use Rattle.homa_host.proofs.ServerStays.{knows, all_inside, host_put, kept_same, amid_same, stands_after, can_follow, followed_by, kept_stays}

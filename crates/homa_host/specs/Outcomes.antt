@@ -1,14 +1,14 @@
 -- What the tables' answers have a host do.
-use Rattle.std.specs.Prelude.{◌≡◌, ◌+◌, ◌<◌, ◌==◌, IfSome, ℕ, Bool, true, false, if◌then◌else◌, Option, None, Some}
+use Rattle.std.specs.Prelude.{◌≡◌, ◌+◌, ◌<◌, ◌==◌, IfSome, IsSome, ℕ, Bool, true, false, if◌then◌else◌, Option, None, Some}
 use Rattle.homa_plain.specs.declared.packet.Body.{Body}
 use Rattle.homa_plain.specs.declared.packet.Body.TheVariants as body
 use Rattle.host_books.specs.declared.books.Books.{Books}
 use Rattle.host_books.specs.declared.books.Arrival.{Arrival}
-use Rattle.host_books.specs.Duties.{AreOwn}
+use Rattle.host_books.specs.Duties.{AreOwn, HaveRoom}
 use Rattle.host_book_laws.specs.Duty.{no_duties, client_duty, followed}
 use Rattle.homa_plain.specs.declared.id.CallId.{CallId}
 use Rattle.msg_pool.specs.Pool.{Pool}
-use Rattle.host_places.specs.Placed.{StandsAt}
+use Rattle.host_places.specs.Placed.{StandsAt, spot_at}
 use Rattle.host_incoming.specs.Pooled.{IsInPool}
 use Rattle.homa_client.specs.Held.{HeldRow, seen_row}
 use Rattle.homa_client.specs.AtTable.{Clients}
@@ -152,6 +152,13 @@ pub record MayStayClient (t : Clients) (b : Books) (slot : ℕ) : Type 0 where
   pub inside : IsInPool pool row.part
   pub peer : IfSome (client_duty t.settings (seen_row pool row)).arrival (λ (a : Arrival). a.peer.0 < t.settings.hosts)
   pub own : AreOwn b slot (client_duty t.settings (seen_row pool row))
+
+-- the books can follow a change of a client's row
+pub record CanFollowClient (t : Clients) (b : Books) (change : Change) : Type 0 where
+  pub stands : IfStays change (λ slot. IsSome (spot_at t.rows slot))
+  pub may : IfStays change (MayStayClient t b)
+  pub room : HaveRoom t.settings b
+  pub within : IfChanged change (λ slot. slot < t.settings.calls)
 
 -- the books when they followed a change of a client's row
 abbrev pub FollowedClient : Clients → Change → Books → Books → Type 0

@@ -1,17 +1,18 @@
 -- The books when they follow a change of a server's row.
-use Rattle.std.specs.Prelude.{◌≡◌, ◌+◌, ◌<◌, ℕ, IfSome, Option, Some, None}
+use Rattle.std.specs.Prelude.{◌≡◌, ◌+◌, ◌<◌, ℕ, IfSome, IsSome, Option, Some, None}
 use Rattle.homa_plain.specs.declared.id.CallId.{CallId}
 use Rattle.msg_pool.specs.Pool.{Pool}
 use Rattle.host_incoming.specs.Pooled.{AreIn}
-use Rattle.host_places.specs.Placed.{StandsAt}
+use Rattle.host_places.specs.Placed.{StandsAt, spot_at}
 use Rattle.homa_server.specs.Held.{HeldServer, seen_server}
 use Rattle.homa_server.specs.Table.{Servers, request_at}
 use Rattle.host_books.specs.declared.books.Books.{Books}
 use Rattle.host_books.specs.declared.books.Arrival.{Arrival}
-use Rattle.host_books.specs.Duties.{AreOwn}
+use Rattle.host_books.specs.Duties.{AreOwn, HaveRoom}
 use Rattle.host_book_laws.specs.Duty.{no_duties, server_duty, followed}
 use Rattle.homa_server.specs.declared.answers.ServerAct.{ServerAct}
 use Rattle.homa_server.specs.declared.answers.ServerAct.TheVariants as act
+use Rattle.homa_host.specs.Outcomes.{IfStays, IfChanged}
 use Rattle.homa_host.specs.declared.outcome.Change.{Change}
 use Rattle.homa_host.specs.declared.outcome.Change.TheVariants.{Nothing, Stays, Goes}
 
@@ -24,6 +25,15 @@ pub record MayStayServer (t : Servers) (calls : ℕ) (b : Books) (place : ℕ) :
   pub inside : AreIn pool (request_at t.rows)
   pub peer : IfSome (server_duty t.settings (seen_server pool row)).arrival (λ (a : Arrival). a.peer.0 < t.settings.hosts)
   pub own : AreOwn b (calls + place) (server_duty t.settings (seen_server pool row))
+
+-- the books can follow a change of a server's row, whose slots stand behind `base` others
+pub record CanFollowServer (t : Servers) (base : ℕ) (b : Books) (change : Change) : Type 0 where
+  pub stands : IfStays change (λ place. IsSome (spot_at t.rows place))
+  pub may : IfStays change (MayStayServer t base b)
+  pub room : HaveRoom t.settings b
+  pub calls : base ≡ t.settings.calls
+  pub within : IfChanged change (λ place. place < t.settings.served)
+  pub small : base + t.settings.served < 4294967296
 
 -- the books that followed
 abbrev pub FollowedServer : Servers → ℕ → Change → Books → Books → Type 0

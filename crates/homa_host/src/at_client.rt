@@ -36,7 +36,7 @@ use host_view::Outbox;
 use msg_pool::Scratch;
 
 /// What became of a message that was to be sent.
-#[derive(Clone, Copy, Debug, PartialEq, Eq)]
+#[derive(Clone, Copy)]
 pub(crate) enum Pumped {
     /// Its next piece was sent.
     Sent,

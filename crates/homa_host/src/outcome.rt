@@ -33,7 +33,7 @@ use host_state::{Outcome, Said};
 use host_view::Mark;
 
 /// What became of the row at a place.
-#[derive(Clone, Copy, Debug, PartialEq, Eq)]
+#[derive(Clone, Copy)]
 pub(crate) enum Change {
     /// No row changed.
     Nothing,
@@ -45,7 +45,7 @@ pub(crate) enum Change {
 
 /// What a piece tells of its message: how many bytes the message has, and the version of the cutoffs, if this is the
 /// first piece.
-#[derive(Clone, Copy, Debug, PartialEq, Eq)]
+#[derive(Clone, Copy)]
 pub(crate) struct Head {
     pub length: u32,
     pub version: Option<u16>,

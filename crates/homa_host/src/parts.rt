@@ -1,5 +1,5 @@
 // The parts of a host, and the moves of its steps beside those of one row.
-ghost use Rattle.std.specs.Prelude.{◌≡◌, ◌≢◌, ℕ, ◌+◌, ◌<◌, ◌≤◌, ◌^◌, Some, None, [], List, length, IfOk, IfErr, OnOk, OnErr, IsSome};
+ghost use Rattle.std.specs.Prelude.{◌≡◌, ◌≢◌, ℕ, ◌+◌, ◌<◌, ◌≤◌, ◌^◌, Some, None, [], List, length, IfOk, IfErr, OnOk, OnErr};
 ghost use Rattle.std.specs.Prelude.{if◌then◌else◌};
 ghost use Rattle.std.specs.List.{AllByRecursion};
 ghost use Rattle.plain_sets.specs.Maps.{empty};
@@ -11,15 +11,13 @@ ghost use Rattle.homa_plain.specs.Packets.{Packet as PlainPacket, acks, calls_of
 ghost use Rattle.homa_plain.specs.Host.{new_host};
 ghost use Rattle.homa_plain.specs.Rules.{Answer};
 ghost use Rattle.homa_plain.specs.Steps.{Work, begun, starts, comes, acked, is_stale, start_fault, next_id};
-ghost use Rattle.host_places.specs.Placed.{spot_at};
 ghost use Rattle.host_view.specs.Marks.{has_ran, response_of, IsReply, IsAllowed, IsWhole};
 ghost use Rattle.host_view.specs.Done.{arriving};
-ghost use Rattle.host_books.specs.Duties.{HaveRoom};
 ghost use Rattle.homa_host.specs.Parts.{host_of, seen_of, IsKept};
 ghost use Rattle.homa_host.specs.Asking.{HasAsked};
 ghost use Rattle.homa_host.specs.Amid.{Amid, Steady, HasRoom, IsBegun, HasCome};
-ghost use Rattle.homa_host.specs.ServerFollow.{MayStayServer, FollowedServer};
-ghost use Rattle.homa_host.specs.Outcomes.{IfStays, IfChanged, MayStayClient, FollowedClient};
+ghost use Rattle.homa_host.specs.ServerFollow.{CanFollowServer, FollowedServer};
+ghost use Rattle.homa_host.specs.Outcomes.{CanFollowClient, FollowedClient};
 
 use crate::Asked;
 use crate::at_server::service_of;
@@ -69,14 +67,24 @@ impl HostParts {
           marks = [];
         }) }
     {
-        Ok(HostParts {
-            control: Control::open(alloc, id, inc, last, settings)?,
-            clients: ClientTable::open(alloc, id, inc, 0, settings)?,
-            servers: ServerTable::open(alloc, id, settings)?,
-            pool: MsgPool::new(alloc, settings.pages)?,
-            books: Books::open(alloc, settings)?,
-            order: 0,
-        })
+        // All are opened before any is looked at: where one fails, the others are dropped in one place.
+        match (
+            Control::open(alloc, id, inc, last, settings),
+            ClientTable::open(alloc, id, inc, 0, settings),
+            ServerTable::open(alloc, id, settings),
+            MsgPool::new(alloc, settings.pages),
+            Books::open(alloc, settings),
+        ) {
+            (Ok(control), Ok(clients), Ok(servers), Ok(pool), Ok(books)) => Ok(HostParts {
+                control,
+                clients,
+                servers,
+                pool,
+                books,
+                order: 0,
+            }),
+            _ => Err(AllocError),
+        }
     }
 
     // A call starts.
@@ -318,10 +326,7 @@ fn is_stale(settings: &Settings, at: u64, now: u64) -> bool
 
 // The books follow a change of a client's row.
 pub(crate) fn follow_client(books: &mut Books, clients: &ClientTable, change: Change)
-    requires stands { IfStays change (λ slot. IsSome (spot_at clients.now.rows slot)) }
-    requires may { IfStays change (MayStayClient clients.now books.old) }
-    requires room { HaveRoom clients.now.settings books.old }
-    requires within { IfChanged change (λ slot. slot < clients.now.settings.calls) }
+    requires { CanFollowClient clients.now books.old change }
     ensures { FollowedClient clients.now change books.old books.new }
 {
     match change {
@@ -333,12 +338,7 @@ pub(crate) fn follow_client(books: &mut Books, clients: &ClientTable, change: Ch
 
 // The books follow a change of a server's row, whose slots stand behind those of `calls` clients' rows.
 pub(crate) fn follow_server(books: &mut Books, servers: &ServerTable, calls: u32, change: Change)
-    requires stands { IfStays change (λ place. IsSome (spot_at servers.now.rows place)) }
-    requires may { IfStays change (MayStayServer servers.now calls books.old) }
-    requires room { HaveRoom servers.now.settings books.old }
-    requires calls { calls ≡ servers.now.settings.calls }
-    requires within { IfChanged change (λ place. place < servers.now.settings.served) }
-    requires small { calls + servers.now.settings.served < 2 ^ 32 }
+    requires { CanFollowServer servers.now calls books.old change }
     ensures { FollowedServer servers.now calls change books.old books.new }
 {
     match change {

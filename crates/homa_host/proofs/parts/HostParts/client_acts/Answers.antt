@@ -12,7 +12,7 @@ use Rattle.host_state.specs.Control.{IsAt}
 use Rattle.host_state.specs.Saying.{one_of}
 use Rattle.homa_host.proofs.Begun.{at-amid}
 use Rattle.homa_host.proofs.Emits.{at_spot}
-use Rattle.homa_host.proofs.CanFollow.{CanFollowClient}
+use Rattle.homa_host.specs.Outcomes.{CanFollowClient}
 use Rattle.homa_host.proofs.ClientKept.{client_parts}
 use Rattle.homa_host.proofs.ActLaws.{RowActed, acted_by, row_known, did_at, acted_at, acted_follows, acted_kept, acted_amid}
 use Rattle.homa_host.proofs.parts.HostParts.client_acts.Goals as goal
@@ -35,17 +35,8 @@ follows c =
 pub act-act-requires-clause-pool : goal.act-act-requires-clause-pool
 act-act-requires-clause-pool c = client_parts c.args.self.now c.requires.kept.parts
 
-pub follow_client-requires-clause-room : goal.follow_client-requires-clause-room
-follow_client-requires-clause-room c = (follows (goal.at.follow_client-requires-clause-room c).After-client_act_change-change).room
-
-pub follow_client-requires-clause-within : goal.follow_client-requires-clause-within
-follow_client-requires-clause-within c = (follows (goal.at.follow_client-requires-clause-within c).After-client_act_change-change).within
-
-pub follow_client-requires-clause-stands : goal.follow_client-requires-clause-stands
-follow_client-requires-clause-stands c = (follows (goal.at.follow_client-requires-clause-stands c).After-client_act_change-change).stands
-
-pub follow_client-requires-clause-may : goal.follow_client-requires-clause-may
-follow_client-requires-clause-may c = (follows (goal.at.follow_client-requires-clause-may c).After-client_act_change-change).may
+pub follow_client-requires : goal.follow_client-requires
+follow_client-requires c = follows (goal.at.follow_client-requires c).After-client_act_change-change
 
 pub settle_client-requires-clause-server : goal.settle_client-requires-clause-server
 settle_client-requires-clause-server c =

@@ -45,25 +45,9 @@ touched_version-touched-requires c =
           (gets_stands c.args.self.now c.requires.kept (taken (goal.at.touched_version-touched-requires c).After-receive-did));
     }
 
-pub follow_client-requires-clause-stands : goal.follow_client-requires-clause-stands
-follow_client-requires-clause-stands c =
-    (gets_follows c.args.self.now c.requires.kept (taken (goal.at.follow_client-requires-clause-stands c).After-receive-did) c.client_change.result
-    c.client_change.ensures).stands
-
-pub follow_client-requires-clause-may : goal.follow_client-requires-clause-may
-follow_client-requires-clause-may c =
-    (gets_follows c.args.self.now c.requires.kept (taken (goal.at.follow_client-requires-clause-may c).After-receive-did) c.client_change.result
-    c.client_change.ensures).may
-
-pub follow_client-requires-clause-room : goal.follow_client-requires-clause-room
-follow_client-requires-clause-room c =
-    (gets_follows c.args.self.now c.requires.kept (taken (goal.at.follow_client-requires-clause-room c).After-receive-did) c.client_change.result
-    c.client_change.ensures).room
-
-pub follow_client-requires-clause-within : goal.follow_client-requires-clause-within
-follow_client-requires-clause-within c =
-    (gets_follows c.args.self.now c.requires.kept (taken (goal.at.follow_client-requires-clause-within c).After-receive-did) c.client_change.result
-    c.client_change.ensures).within
+pub follow_client-requires : goal.follow_client-requires
+follow_client-requires c =
+    gets_follows c.args.self.now c.requires.kept (taken (goal.at.follow_client-requires c).After-receive-did) c.client_change.result c.client_change.ensures
 
 pub returns-clause-kept : goal.returns-clause-kept
 returns-clause-kept c =

@@ -18,7 +18,7 @@ use Rattle.homa_host.specs.Parts.{host_of}
 use Rattle.homa_host.specs.Amid.{Amid}
 use Rattle.homa_host.specs.declared.outcome.Change.TheVariants.{Stays}
 use Rattle.homa_host.proofs.SlotRows.{client_spot}
-use Rattle.homa_host.proofs.CanFollow.{CanFollowClient}
+use Rattle.homa_host.specs.Outcomes.{CanFollowClient}
 use Rattle.homa_host.proofs.ClientStays.{inside, part_inside, owned, changes_none, changes_to, message_at, beside_told, sound_told}
 use Rattle.homa_host.proofs.ClientGrants.{grant_none, granted_follows, granted_kept, client_granted_to}
 use Rattle.homa_host.proofs.parts.HostParts.client_is_granted.Goals as goal
@@ -81,21 +81,8 @@ returns-then-offset-granted-clause-step c = λ id r a w stands at arrives amid.
 pub returns-then-offset-granted-clause-changes : goal.returns-then-offset-granted-clause-changes
 returns-then-offset-granted-clause-changes c = λ id r stands. changes_none c.args.self.now c.requires.kept id c.args.slot r stands
 
-pub follow_client-requires-clause-stands : goal.follow_client-requires-clause-stands
-follow_client-requires-clause-stands c =
-    let a = c.requires.arrives in (granted (goal.at.follow_client-requires-clause-stands c).After-granted-2 a.0 a.1 a.2).follows.stands
-
-pub follow_client-requires-clause-may : goal.follow_client-requires-clause-may
-follow_client-requires-clause-may c =
-    let a = c.requires.arrives in (granted (goal.at.follow_client-requires-clause-may c).After-granted-2 a.0 a.1 a.2).follows.may
-
-pub follow_client-requires-clause-room : goal.follow_client-requires-clause-room
-follow_client-requires-clause-room c =
-    let a = c.requires.arrives in (granted (goal.at.follow_client-requires-clause-room c).After-granted-2 a.0 a.1 a.2).follows.room
-
-pub follow_client-requires-clause-within : goal.follow_client-requires-clause-within
-follow_client-requires-clause-within c =
-    let a = c.requires.arrives in (granted (goal.at.follow_client-requires-clause-within c).After-granted-2 a.0 a.1 a.2).follows.within
+pub follow_client-requires : goal.follow_client-requires
+follow_client-requires c = let a = c.requires.arrives in (granted (goal.at.follow_client-requires c).After-granted-2 a.0 a.1 a.2).follows
 
 pub post-requires-clause-call : goal.post-requires-clause-call
 post-requires-clause-call c =

@@ -14,7 +14,7 @@ use Rattle.host_state.specs.Control.{IsAt}
 use Rattle.homa_pacer.specs.Pace.{Pace}
 use Rattle.homa_host.specs.declared.outcome.Change.TheVariants.{Stays}
 use Rattle.homa_host.proofs.Emits.{at_spot}
-use Rattle.homa_host.proofs.CanFollow.{CanFollowClient}
+use Rattle.homa_host.specs.Outcomes.{CanFollowClient}
 use Rattle.homa_host.proofs.ClientStays.{owned, knows, beside_sent}
 use Rattle.homa_host.proofs.ClientLeaves.{IsNext, HasEmitted, emitted_at, rests_kept, rests_idle, short_kept, short_ends, request_there, sent_follows}
 use Rattle.homa_host.proofs.ClientLeaves.{sent_kept, sent_step}
@@ -106,20 +106,8 @@ spend-requires c =
     let x = left (goal.at.spend-requires c).After-emit (Sent c.in-Sent.from c.in-Sent.to) c.in-Sent.is in
     omega (arith, x.affordable.paid, c.credit-credit.ensures)
 
-pub follow_client-requires-clause-stands : goal.follow_client-requires-clause-stands
-follow_client-requires-clause-stands c =
-    (follows (goal.at.follow_client-requires-clause-stands c).After-emit c.in-Sent.is c.spend.new.self c.spend.ensures.spent).stands
-
-pub follow_client-requires-clause-may : goal.follow_client-requires-clause-may
-follow_client-requires-clause-may c = (follows (goal.at.follow_client-requires-clause-may c).After-emit c.in-Sent.is c.spend.new.self c.spend.ensures.spent).may
-
-pub follow_client-requires-clause-room : goal.follow_client-requires-clause-room
-follow_client-requires-clause-room c =
-    (follows (goal.at.follow_client-requires-clause-room c).After-emit c.in-Sent.is c.spend.new.self c.spend.ensures.spent).room
-
-pub follow_client-requires-clause-within : goal.follow_client-requires-clause-within
-follow_client-requires-clause-within c =
-    (follows (goal.at.follow_client-requires-clause-within c).After-emit c.in-Sent.is c.spend.new.self c.spend.ensures.spent).within
+pub follow_client-requires : goal.follow_client-requires
+follow_client-requires c = follows (goal.at.follow_client-requires c).After-emit c.in-Sent.is c.spend.new.self c.spend.ensures.spent
 
 pub returns-in-Rests-clause-kept : goal.returns-in-Rests-clause-kept
 returns-in-Rests-clause-kept c =

@@ -22,7 +22,7 @@ use Rattle.host_state.specs.Control.{IsAt}
 use Rattle.homa_pacer.specs.Pace.{Pace, without}
 use Rattle.homa_host.specs.declared.outcome.Change.TheVariants.{Stays}
 use Rattle.homa_host.proofs.Emits.{at_spot}
-use Rattle.homa_host.proofs.CanFollow.{CanFollowServer}
+use Rattle.homa_host.specs.ServerFollow.{CanFollowServer}
 use Rattle.homa_host.proofs.ClientStays.{Beside}
 use Rattle.homa_host.proofs.ServerStays.{knows}
 use Rattle.homa_host.proofs.ServerLeaves.{IsNext, HasEmitted, emitted_at, rests_kept, rests_idle, short_kept, short_ends, response_there}
@@ -143,28 +143,8 @@ spend-requires c =
     let x = left (goal.at.spend-requires c).After-emit (Sent c.in-Sent.from c.in-Sent.to) c.in-Sent.is in
     omega (arith, x.affordable.paid, c.credit-credit.ensures)
 
-pub follow_server-requires-clause-stands : goal.follow_server-requires-clause-stands
-follow_server-requires-clause-stands c =
-    (follows (goal.at.follow_server-requires-clause-stands c).After-emit c.in-Sent.is c.spend.new.self c.spend.ensures.spent).stands
-
-pub follow_server-requires-clause-may : goal.follow_server-requires-clause-may
-follow_server-requires-clause-may c = (follows (goal.at.follow_server-requires-clause-may c).After-emit c.in-Sent.is c.spend.new.self c.spend.ensures.spent).may
-
-pub follow_server-requires-clause-room : goal.follow_server-requires-clause-room
-follow_server-requires-clause-room c =
-    (follows (goal.at.follow_server-requires-clause-room c).After-emit c.in-Sent.is c.spend.new.self c.spend.ensures.spent).room
-
-pub follow_server-requires-clause-calls : goal.follow_server-requires-clause-calls
-follow_server-requires-clause-calls c =
-    (follows (goal.at.follow_server-requires-clause-calls c).After-emit c.in-Sent.is c.spend.new.self c.spend.ensures.spent).calls
-
-pub follow_server-requires-clause-within : goal.follow_server-requires-clause-within
-follow_server-requires-clause-within c =
-    (follows (goal.at.follow_server-requires-clause-within c).After-emit c.in-Sent.is c.spend.new.self c.spend.ensures.spent).within
-
-pub follow_server-requires-clause-small : goal.follow_server-requires-clause-small
-follow_server-requires-clause-small c =
-    (follows (goal.at.follow_server-requires-clause-small c).After-emit c.in-Sent.is c.spend.new.self c.spend.ensures.spent).small
+pub follow_server-requires : goal.follow_server-requires
+follow_server-requires c = follows (goal.at.follow_server-requires c).After-emit c.in-Sent.is c.spend.new.self c.spend.ensures.spent
 
 -- the pacer is told that the message rests
 rests : (c : After-emit) (pacer : Pace)

@@ -8,7 +8,7 @@ use Rattle.host_state.specs.Saying.{one_of, IsOutcome}
 use Rattle.homa_host.specs.Parts.{host_of}
 use Rattle.homa_host.specs.ServerFollow.{FollowedServer, acked_change}
 use Rattle.homa_host.proofs.Begun.{at-amid}
-use Rattle.homa_host.proofs.CanFollow.{CanFollowServer}
+use Rattle.homa_host.specs.ServerFollow.{CanFollowServer}
 use Rattle.homa_host.proofs.ServerAckLaws.{IsAck, row_now, did_at, acked_at, acked_others, acked_follows, acked_followed, acked_kept, acked_amid}
 use Rattle.homa_host.proofs.parts.HostParts.server_acked.Goals as goal
 use Rattle.homa_host.proofs.parts.HostParts.server_acked.Goals.{After-acked_change-change, After-follow_server}
@@ -40,23 +40,8 @@ followed c is = acked_followed c.args.self.now c.requires.kept c.args.id c.requi
     c.settings-settings.result.now.calls c.acked_change-change.result (ap (λ (s : Settings). s.calls) c.settings-settings.ensures.settings)
     c.acked_change-change.ensures c.follow_server.new.books c.follow_server.ensures
 
-pub follow_server-requires-clause-stands : goal.follow_server-requires-clause-stands
-follow_server-requires-clause-stands c = (follows (goal.at.follow_server-requires-clause-stands c).After-acked_change-change).stands
-
-pub follow_server-requires-clause-within : goal.follow_server-requires-clause-within
-follow_server-requires-clause-within c = (follows (goal.at.follow_server-requires-clause-within c).After-acked_change-change).within
-
-pub follow_server-requires-clause-room : goal.follow_server-requires-clause-room
-follow_server-requires-clause-room c = (follows (goal.at.follow_server-requires-clause-room c).After-acked_change-change).room
-
-pub follow_server-requires-clause-calls : goal.follow_server-requires-clause-calls
-follow_server-requires-clause-calls c = (follows (goal.at.follow_server-requires-clause-calls c).After-acked_change-change).calls
-
-pub follow_server-requires-clause-small : goal.follow_server-requires-clause-small
-follow_server-requires-clause-small c = (follows (goal.at.follow_server-requires-clause-small c).After-acked_change-change).small
-
-pub follow_server-requires-clause-may : goal.follow_server-requires-clause-may
-follow_server-requires-clause-may c = (follows (goal.at.follow_server-requires-clause-may c).After-acked_change-change).may
+pub follow_server-requires : goal.follow_server-requires
+follow_server-requires c = follows (goal.at.follow_server-requires c).After-acked_change-change
 
 pub returns-clause-kept : goal.returns-clause-kept
 returns-clause-kept c =

@@ -13,7 +13,7 @@ use Rattle.homa_server.specs.Held.{HeldServer}
 use Rattle.homa_server.specs.Table.{server_at}
 use Rattle.homa_host.proofs.Emits.{at_spot}
 use Rattle.homa_host.proofs.Begun.{at-amid}
-use Rattle.homa_host.proofs.CanFollow.{CanFollowServer}
+use Rattle.homa_host.specs.ServerFollow.{CanFollowServer}
 use Rattle.homa_host.proofs.ServerKept.{server_parts}
 use Rattle.homa_host.proofs.ServerActLaws.{RowActed, acted_by, row_known, did_at, acted_at, acted_follows, acted_kept, acted_amid}
 use Rattle.homa_host.proofs.parts.HostParts.server_acts.Goals as goal
@@ -45,23 +45,8 @@ follows c =
 pub act-act-requires-clause-pool : goal.act-act-requires-clause-pool
 act-act-requires-clause-pool c = server_parts c.args.self.now c.requires.kept.parts
 
-pub follow_server-requires-clause-stands : goal.follow_server-requires-clause-stands
-follow_server-requires-clause-stands c = (follows (goal.at.follow_server-requires-clause-stands c).After-server_act_change-change).stands
-
-pub follow_server-requires-clause-within : goal.follow_server-requires-clause-within
-follow_server-requires-clause-within c = (follows (goal.at.follow_server-requires-clause-within c).After-server_act_change-change).within
-
-pub follow_server-requires-clause-room : goal.follow_server-requires-clause-room
-follow_server-requires-clause-room c = (follows (goal.at.follow_server-requires-clause-room c).After-server_act_change-change).room
-
-pub follow_server-requires-clause-calls : goal.follow_server-requires-clause-calls
-follow_server-requires-clause-calls c = (follows (goal.at.follow_server-requires-clause-calls c).After-server_act_change-change).calls
-
-pub follow_server-requires-clause-small : goal.follow_server-requires-clause-small
-follow_server-requires-clause-small c = (follows (goal.at.follow_server-requires-clause-small c).After-server_act_change-change).small
-
-pub follow_server-requires-clause-may : goal.follow_server-requires-clause-may
-follow_server-requires-clause-may c = (follows (goal.at.follow_server-requires-clause-may c).After-server_act_change-change).may
+pub follow_server-requires : goal.follow_server-requires
+follow_server-requires c = follows (goal.at.follow_server-requires c).After-server_act_change-change
 
 pub settle_server-requires-clause-call : goal.settle_server-requires-clause-call
 settle_server-requires-clause-call c =

@@ -4,8 +4,8 @@ use Rattle.homa_plain.specs.declared.settings.Settings.{Settings}
 use Rattle.host_state.specs.Saying.{one_of, IsOutcome}
 use Rattle.homa_plain.specs.declared.id.CallId.{CallId}
 use Rattle.homa_host.specs.Parts.{host_of, IsKept}
-use Rattle.homa_host.specs.Outcomes.{IfStays, server_change}
-use Rattle.homa_host.specs.ServerFollow.{MayStayServer, FollowedServer}
+use Rattle.homa_host.specs.Outcomes.{server_change}
+use Rattle.homa_host.specs.ServerFollow.{FollowedServer}
 use Rattle.homa_host.specs.declared.outcome.Change.{Change}
 use Rattle.homa_host.specs.declared.parts.HostParts.{HostParts}
 use Rattle.homa_host.proofs.ServerKept.{server_parts}
@@ -22,7 +22,7 @@ use Rattle.host_incoming.specs.Pieces.{piece_in}
 use Rattle.homa_server.specs.Answers.{service_in, IsAsked}
 use Rattle.homa_host.specs.Amid.{Amid}
 use Rattle.homa_host.proofs.Begun.{at-amid}
-use Rattle.homa_host.proofs.ServerGets.{HasTaken, taken_by, touched_stays, gets_stands, gets_may, gets_kept, gets_touched, gets_then, heard_host, row_now}
+use Rattle.homa_host.proofs.ServerGets.{HasTaken, taken_by, touched_stays, gets_stands, gets_follows, gets_kept, gets_touched, gets_then, heard_host, row_now}
 use Rattle.homa_host.proofs.parts.HostParts.server_gets.Given as given
 use Rattle.homa_host.proofs.parts.HostParts.server_gets.Goals as goal
 use Rattle.homa_host.proofs.parts.HostParts.server_gets.Goals.{After-settings-settings, After-follow_server, After-settle_server}
@@ -116,17 +116,11 @@ touched_version-touched-requires g c =
     let x = taken g (goal.at.touched_version-touched-requires g c).After-settings-settings in
     record { stands = touched_stays _ c.in_ok-did.did (gets_stands (record c.args.self.now { control = c.hear.new.self }) x.heard.kept x.taken) }
 
-pub follow_server-requires-clause-stands : goal.follow_server-requires-clause-stands
-follow_server-requires-clause-stands g c =
-    let x = taken g (goal.at.follow_server-requires-clause-stands g c).After-settings-settings in
-    rw c.server_change-change.ensures (gets_stands (record c.args.self.now { control = c.hear.new.self }) x.heard.kept x.taken)
-
-pub follow_server-requires-clause-may : goal.follow_server-requires-clause-may
-follow_server-requires-clause-may g c =
-    let x = taken g (goal.at.follow_server-requires-clause-may g c).After-settings-settings in
-    subst (λ (t : Change × ℕ). IfStays t.0 (MayStayServer c.receive.new.self t.1 c.args.self.now.books))
-    (λ i. (sym c.server_change-change.ensures i, sym (ap (λ (s : Settings). s.calls) c.settings-settings.ensures.settings) i))
-    (gets_may (record c.args.self.now { control = c.hear.new.self }) x.heard.kept x.taken)
+pub follow_server-requires : goal.follow_server-requires
+follow_server-requires g c =
+    let x = taken g (goal.at.follow_server-requires g c).After-settings-settings in
+    gets_follows (record c.args.self.now { control = c.hear.new.self }) x.heard.kept x.taken c.settings-settings.result.now.calls
+    c.server_change-change.result (ap (λ (s : Settings). s.calls) c.settings-settings.ensures.settings) c.server_change-change.ensures
 
 pub returns-clause-kept : goal.returns-clause-kept
 returns-clause-kept g c =

@@ -20,7 +20,7 @@ use Rattle.homa_host.specs.Parts.{host_of}
 use Rattle.homa_host.specs.Amid.{Amid}
 use Rattle.homa_host.specs.declared.outcome.Change.TheVariants.{Stays}
 use Rattle.homa_host.proofs.SlotRows.{server_spot}
-use Rattle.homa_host.proofs.CanFollow.{CanFollowServer}
+use Rattle.homa_host.specs.ServerFollow.{CanFollowServer}
 use Rattle.homa_host.proofs.ClientStays.{beside_told, sound_told}
 use Rattle.homa_host.proofs.ClientGrants.{grant_none}
 use Rattle.homa_host.proofs.ServerStays.{knows, all_inside, part_inside, changes_none, changes_to, message_at}
@@ -89,29 +89,8 @@ returns-then-offset-granted-clause-step c = λ id r a w stands at arrives amid.
 pub returns-then-offset-granted-clause-changes : goal.returns-then-offset-granted-clause-changes
 returns-then-offset-granted-clause-changes c = λ id r stands. changes_none c.args.self.now c.requires.kept id c.args.place r stands
 
-pub follow_server-requires-clause-stands : goal.follow_server-requires-clause-stands
-follow_server-requires-clause-stands c =
-    let a = c.requires.arrives in (granted (goal.at.follow_server-requires-clause-stands c).After-granted-2 a.0 a.1 a.2).follows.stands
-
-pub follow_server-requires-clause-may : goal.follow_server-requires-clause-may
-follow_server-requires-clause-may c =
-    let a = c.requires.arrives in (granted (goal.at.follow_server-requires-clause-may c).After-granted-2 a.0 a.1 a.2).follows.may
-
-pub follow_server-requires-clause-room : goal.follow_server-requires-clause-room
-follow_server-requires-clause-room c =
-    let a = c.requires.arrives in (granted (goal.at.follow_server-requires-clause-room c).After-granted-2 a.0 a.1 a.2).follows.room
-
-pub follow_server-requires-clause-calls : goal.follow_server-requires-clause-calls
-follow_server-requires-clause-calls c =
-    let a = c.requires.arrives in (granted (goal.at.follow_server-requires-clause-calls c).After-granted-2 a.0 a.1 a.2).follows.calls
-
-pub follow_server-requires-clause-within : goal.follow_server-requires-clause-within
-follow_server-requires-clause-within c =
-    let a = c.requires.arrives in (granted (goal.at.follow_server-requires-clause-within c).After-granted-2 a.0 a.1 a.2).follows.within
-
-pub follow_server-requires-clause-small : goal.follow_server-requires-clause-small
-follow_server-requires-clause-small c =
-    let a = c.requires.arrives in (granted (goal.at.follow_server-requires-clause-small c).After-granted-2 a.0 a.1 a.2).follows.small
+pub follow_server-requires : goal.follow_server-requires
+follow_server-requires c = let a = c.requires.arrives in (granted (goal.at.follow_server-requires c).After-granted-2 a.0 a.1 a.2).follows
 
 pub post-requires-clause-call : goal.post-requires-clause-call
 post-requires-clause-call c =
