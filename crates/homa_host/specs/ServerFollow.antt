@@ -1,5 +1,5 @@
 -- The books when they follow a change of a server's row.
-use Rattle.std.specs.Prelude.{◌≡◌, ◌+◌, ◌<◌, ℕ, IfSome, IsSome, Option, Some, None}
+use Rattle.std.specs.Prelude.{◌≡◌, ◌+◌, ◌^◌, ◌<◌, ℕ, IfSome, IsSome, Option, Some, None}
 use Rattle.homa_plain.specs.declared.id.CallId.{CallId}
 use Rattle.msg_pool.specs.Pool.{Pool}
 use Rattle.host_incoming.specs.Pooled.{AreIn}
@@ -33,7 +33,7 @@ pub record CanFollowServer (t : Servers) (base : ℕ) (b : Books) (change : Chan
   pub room : HaveRoom t.settings b
   pub calls : base ≡ t.settings.calls
   pub within : IfChanged change (λ place. place < t.settings.served)
-  pub small : base + t.settings.served < 4294967296
+  pub small : base + t.settings.served < 2 ^ 32
 
 -- the books that followed
 abbrev pub FollowedServer : Servers → ℕ → Change → Books → Books → Type 0
