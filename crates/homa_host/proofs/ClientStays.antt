@@ -1,25 +1,21 @@
 -- A client's row becomes another, at its place, and the pool stays.
-use Rattle.std.proofs.Common.{◌≡◌, ◌<◌, ◌≤◌, ℕ, ◌-◌, ◌⊎◌, inl, inr, Bool, true, false, Option, Some, None, IsSome, List, [], ◌∷◌, ◌++◌, length, refl}
-use Rattle.std.proofs.Common.{sym, ap, subst, ◌∙◌, arith}
+use Rattle.std.proofs.Common.{◌≡◌, ◌<◌, ◌≤◌, ℕ, ◌-◌, ◌⊎◌, inl, inr, Option, Some, None, IsSome, List, refl, sym, ap, subst, ◌∙◌}
 use Rattle.std.specs.List.{Contains}
-use Rattle.std.proofs.lemmas.List.{length-append}
 use Rattle.std.specs.Option.{IfSome, option_map, option_and_then}
 use Rattle.plain_sets.specs.Maps.{get}
 use Rattle.plain_sets.proofs.MapLaws.{same_map}
-use Rattle.homa_plain.proofs.CallOrder.{call_total, call_same, calls_are}
-use Rattle.homa_plain.specs.Calls.{is_call}
+use Rattle.homa_plain.proofs.CallOrder.{call_total, call_same}
 use Rattle.plain_sets.proofs.OrderSame.{all_at}
 use Rattle.homa_plain.specs.declared.id.CallId.{CallId}
 use Rattle.homa_plain.specs.declared.settings.Settings.{Settings}
 use Rattle.homa_plain.specs.Choice.{seen}
 use Rattle.homa_plain.specs.Host.{Host}
 use Rattle.homa_plain.specs.Incoming.{Incoming}
-use Rattle.homa_plain.specs.Rows.{ClientRow, set_row}
+use Rattle.homa_plain.specs.Rows.{ClientRow, RowsOf, set_row}
 use Rattle.homa_plain.specs.Sending.{Arriving, arrivals, arriving_at_client}
 use Rattle.homa_plain.specs.Steps.{Work}
 use Rattle.homa_plain.specs.Timers.{Place, OfClient, OfServer}
 use Rattle.step_laws.specs.StepLaws.{HasOwnOrders}
-use Rattle.step_laws.proofs.Others.{get-set_row, set_row-others}
 use Rattle.homa_in.specs.Part as part
 use Rattle.homa_in.specs.Part.{Part, IsIn}
 use Rattle.host_incoming.specs.Pooled.{IsInPool, HasNumber, AreIn, seen_part}
@@ -30,16 +26,16 @@ use Rattle.host_places.proofs.PlacedLaws.{spot-stands, one_call}
 use Rattle.homa_client.specs.Held.{HeldRow, seen_row}
 use Rattle.homa_client.specs.AtTable.{Clients, Moved, seen_rows, place_at}
 use Rattle.host_state.specs.Control.{Control, IsSound}
-use Rattle.host_view.specs.declared.mark.Mark.{Mark}
 use Rattle.host_view.specs.declared.outbox.SentFrame.{SentFrame}
-use Rattle.host_view.specs.Seen.{Seen}
-use Rattle.host_view.specs.Follow.{ChangesAt, client_arrival}
+use Rattle.host_view.specs.Seen.{Seen, slot_of}
+use Rattle.host_view.specs.Follow.{ChangesAt, has_row, client_arrival}
 use Rattle.host_books.specs.declared.books.Arrival.{Arrival}
 use Rattle.host_books.specs.declared.books.Books.{Books}
 use Rattle.host_books.specs.Duties.{AreOwn, AreBooked, HaveRoom}
 use Rattle.host_book_laws.proofs.Changing.{books_stay}
 use Rattle.host_book_laws.specs.Duty.{client_duty, arrival_duty, followed}
 use Rattle.host_book_laws.specs.SameRows.{SameRows}
+use Rattle.host_book_laws.proofs.Splits.{is_set}
 use Rattle.host_book_laws.proofs.Tables.{made_of}
 use Rattle.host_book_laws.proofs.Things.{thing_at}
 use Rattle.host_book_laws.proofs.Books.{arrival_things}
@@ -52,7 +48,7 @@ use Rattle.homa_host.specs.Amid.{Amid}
 use Rattle.homa_host.proofs.Begun.{at-amid, amid-at, rest-amid}
 use Rattle.homa_host.specs.Outcomes.{MayStayClient, FollowedClient}
 use Rattle.homa_host.specs.Outcomes.{CanFollowClient}
-use Rattle.homa_host.proofs.SlotRows.{client_row, client_standing, kept_slots}
+use Rattle.homa_host.proofs.SlotRows.{client_row, kept_slots}
 use Rattle.homa_host.proofs.ClientKept.{own_like, at_slot_after, places_after, slot_within, parts_in, host_after, seen_after, changes, duty_own, kept_after}
 
 -- ---- the control goes on, and leaves what the rows depend on
@@ -64,9 +60,9 @@ pub record Beside (old new : Control) : Type 0 where
   pub last : new.last ≡ old.last
   pub opened : new.tuning.opened ≡ old.tuning.opened
 
--- one more entry was told
-pub beside_told : (old new : Control) (m : Mark) → new ≡ record old { marks = old.marks ++ m ∷ [] } → Beside old new
-beside_told old new m e = subst (Beside old) (sym e) (record { settings = refl; id = refl; inc = refl; last = refl; opened = refl })
+-- it stays
+pub beside_none : (c : Control) → Beside c c
+beside_none c = record { settings = refl; id = refl; inc = refl; last = refl; opened = refl }
 
 -- a piece was sent
 pub beside_sent : (old new : Control) → new ≡ record old { finished = new.finished; marks = new.marks } → Beside old new
@@ -79,64 +75,57 @@ beside_sent old new e =
       opened = ap (λ (c : Control). c.tuning.opened) e;
     }
 
-pub sound_told : (old new : Control) (m : Mark) → new ≡ record old { marks = old.marks ++ m ∷ [] } → length old.marks < 128 → IsSound old → IsSound new
-sound_told old new m e room sound = subst IsSound (sym e) (record {
-  valid = sound.valid;
-  host = sound.host;
-  inc = sound.inc;
-  last = sound.last;
-  own = sound.own;
-  peers = sound.peers;
-  peer_cutoffs = sound.peer_cutoffs;
-  finished = sound.finished;
-  few = sound.few;
-  calls = sound.calls;
-  room = omega (arith, length-append old.marks (m ∷ []));
-})
-
 -- a change is one, whatever stands beside the rows
 pub changes_like : (place : Place) (n : ℕ) (old g h : Seen) → SameRows g h → ChangesAt place n old g → ChangesAt place n old h
-changes_like place n old g h same change = by_place place (subst (ChangesAt place n old) (λ i. record {
-  settings = same.settings i;
-  host = record g.host { last = same.last i; clients = same.clients i; servers = same.servers i };
-  client_places = same.client_places i;
-  server_places = same.server_places i;
-  marks = g.marks;
-}) change) where
-  middle : Seen
-  middle = record {
-    settings = h.settings;
-    host = record g.host { last = h.host.last; clients = h.host.clients; servers = h.host.servers };
-    client_places = h.client_places;
-    server_places = h.server_places;
-    marks = g.marks;
-  }
+changes_like place n old g h same change =
+    let c = subst (ChangesAt place n old) (λ i. record {
+      settings = same.settings i;
+      host = record g.host { last = same.last i; clients = same.clients i; servers = same.servers i };
+      client_places = same.client_places i;
+      server_places = same.server_places i;
+      marks = g.marks;
+    }) change in
+    record {
+      settings = c.settings;
+      last = c.last;
+      clients = c.clients;
+      servers = c.servers;
+      client_places = c.client_places;
+      server_places = c.server_places;
+      before = c.before;
+      after = after place c.after;
+      slots_before = c.slots_before;
+      slots_after = record { clients = c.slots_after.clients; servers = c.slots_after.servers };
+    } where
+      middle : Seen
+      middle = record {
+        settings = h.settings;
+        host = record g.host { last = h.host.last; clients = h.host.clients; servers = h.host.servers };
+        client_places = h.client_places;
+        server_places = h.server_places;
+        marks = g.marks;
+      }
 
-  by_place : (p : Place) → ChangesAt p n old middle → ChangesAt p n old h
-  by_place (OfClient id) c = record {
-    settings = c.settings;
-    last = c.last;
-    clients = c.clients;
-    servers = c.servers;
-    client_places = c.client_places;
-    server_places = c.server_places;
-    before = c.before;
-    after = c.after;
-    slots_before = c.slots_before;
-    slots_after = record { clients = c.slots_after.clients; servers = c.slots_after.servers };
-  }
-  by_place (OfServer id) c = record {
-    settings = c.settings;
-    last = c.last;
-    clients = c.clients;
-    servers = c.servers;
-    client_places = c.client_places;
-    server_places = c.server_places;
-    before = c.before;
-    after = c.after;
-    slots_before = c.slots_before;
-    slots_after = record { clients = c.slots_after.clients; servers = c.slots_after.servers };
-  }
+      after : (p : Place) → (has_row middle p → slot_of middle p ≡ n) → has_row h p → slot_of h p ≡ n
+      after (OfClient id) is = is
+      after (OfServer id) is = is
+
+-- nothing changes where the rows stay
+pub changes_none : (c : HostParts) → IsKept c → (place : Place) (n : ℕ) → slot_of (seen_of c) place ≡ n → ChangesAt place n (seen_of c) (seen_of c)
+changes_none c kept place n at =
+    let slots = kept_slots c kept in
+    record {
+      settings = refl;
+      last = refl;
+      clients = λ q e. refl;
+      servers = λ q e. refl;
+      client_places = λ q e. refl;
+      server_places = λ q e. refl;
+      before = λ has. at;
+      after = λ has. at;
+      slots_before = slots;
+      slots_after = slots;
+    }
 
 -- ---- the books
 
@@ -147,12 +136,10 @@ parts_like c d same are = record {
   apart = λ j k n x y. are.apart j k n (subst (HasNumber n) (same j) x) (subst (HasNumber n) (same k) y);
 }
 
--- the bytes of a packet are spent
-abbrev pub spends : ℕ → Books → Books
-spends n b = record b { pacer = record b.pacer { credit = b.pacer.credit - n } }
-
-pub kept_spent : (c : HostParts) (n : ℕ) → IsKept c → IsKept (record c { books = spends n c.books })
-kept_spent c n kept = record {
+-- all holds with other books that hold what the rows say
+pub kept_books : (c : HostParts) (books : Books) → IsKept c → HaveRoom c.control.settings books → AreBooked (seen_of c) books
+    → IsKept (record c { books = books })
+kept_books c books kept room booked = record {
   control = kept.control;
   one = record {
     client = kept.one.client;
@@ -165,29 +152,47 @@ kept_spent c n kept = record {
   known = record { clients = kept.known.clients; own = kept.known.own; servers = kept.known.servers };
   foreign = kept.foreign;
   opened = kept.opened;
-  parts = parts_like c (record c { books = spends n c.books }) (λ k. same k) kept.parts;
+  parts = parts_like c (record c { books = books }) (λ k. same k) kept.parts;
   pages = kept.pages;
   leased = kept.leased;
   client_places = kept.client_places;
   server_places = kept.server_places;
-  room = record {
-    timers = kept.room.timers;
-    grants = kept.room.grants;
-    hosts = kept.room.hosts;
-    most = kept.room.most;
-    pacer = kept.room.pacer;
-    rate = kept.room.rate;
-  };
-  booked =
-      let b = books_stay (seen_of c) (seen_of (record c { books = spends n c.books })) c.books
-      (record { settings = refl; last = refl; clients = refl; servers = refl; client_places = refl; server_places = refl }) kept.booked in
-      record { armed = b.armed; entered = b.entered; ready = b.ready };
+  room = room;
+  booked = books_stay (seen_of c) (seen_of (record c { books = books })) books
+      (record { settings = refl; last = refl; clients = refl; servers = refl; client_places = refl; server_places = refl }) booked;
 } where
-  same : (k : Place) → part_in (record c { books = spends n c.books }) k ≡ part_in c k
+  same : (k : Place) → part_in (record c { books = books }) k ≡ part_in c k
   same (OfClient id) = refl
   same (OfServer id) = refl
 
--- ---- the row
+-- the bytes of a packet are spent
+abbrev pub spends : ℕ → Books → Books
+spends n b = record b { pacer = record b.pacer { credit = b.pacer.credit - n } }
+
+pub kept_spent : (c : HostParts) (n : ℕ) → IsKept c → IsKept (record c { books = spends n c.books })
+kept_spent c n kept =
+    let room = kept.room in
+    let booked = kept.booked in
+    kept_books c (spends n c.books) kept
+    (record { timers = room.timers; grants = room.grants; hosts = room.hosts; most = room.most; pacer = room.pacer; rate = room.rate })
+    (record { armed = booked.armed; entered = booked.entered; ready = booked.ready })
+
+-- ---- the rows
+
+-- the places stay where the row of a call stays at its place
+pub places_stay : {R : Type 0} (rows new : RowsOf (Placed R)) (id : CallId) (n : ℕ) (r s : R) → StandsAt rows id n r → StandsAt new id n s
+    → ((q : CallId) → (q ≡ id → ⊥) → get new q ≡ get rows q)
+    → mapped (λ (x : Placed R). x.place) new ≡ mapped (λ (x : Placed R). x.place) rows
+places_stay {R} rows new id n r s stood stands others = same_map call_total call_same _ _ (λ q.
+    get-mapped (λ (x : Placed R). x.place) new q ∙ by_one q (one_call q id) ∙ sym (get-mapped (λ (x : Placed R). x.place) rows q)) where
+      by_one : (q : CallId) → (q ≡ id) ⊎ (q ≡ id → ⊥) → option_map (λ (x : Placed R). x.place) (get new q) ≡ option_map (λ (x : Placed R). x.place) (get rows q)
+      by_one q (inl is) =
+          ap (option_map (λ (x : Placed R). x.place)) (ap (get new) is ∙ stands) ∙ sym (ap (option_map (λ (x : Placed R). x.place)) (ap (get rows) is ∙ stood))
+      by_one q (inr ne) = ap (option_map (λ (x : Placed R). x.place)) (others q ne)
+
+-- the rows stay where the row of a call is put that is there
+pub put_same : {R : Type 0} (rows : RowsOf R) (id : CallId) (r : R) → get rows id ≡ Some r → set_row rows id (Some r) ≡ rows
+put_same rows id r there = sym (is_set rows rows id (λ q e. refl) ∙ ap (set_row rows id) there)
 
 arrival_known : (n : ℕ) (o : Option Incoming) → IfSome o (λ (p : Incoming). p.peer.0 < n) → IfSome (arrival_duty o) (λ (a : Arrival). a.peer.0 < n)
 arrival_known n None k = tt
@@ -209,24 +214,6 @@ module _ (c : HostParts) (kept : IsKept c) (id : CallId) (slot : ℕ) (r : HeldR
   -- a part of it stands in the pool
   pub part_inside : (p : Part) → r.part ≡ Some p → IsIn c.pool p
   part_inside p e = subst (IsInPool c.pool) e inside
-
-  -- nothing changes where the rows stay
-  pub changes_none : ChangesAt (OfClient id) slot (seen_of c) (seen_of c)
-  changes_none =
-      let slots = kept_slots c kept in
-      let at = client_standing c id slot r stands in
-      record {
-        settings = refl;
-        last = refl;
-        clients = λ q e. refl;
-        servers = λ q e. refl;
-        client_places = λ q e. refl;
-        server_places = λ q e. refl;
-        before = λ has. at.1;
-        after = λ has. at.1;
-        slots_before = slots;
-        slots_after = slots;
-      }
 
   -- the message that arrives is its part
   pub message_at : (p : Part) (a : Arriving) → r.part ≡ Some p → a.place ≡ OfClient id → Contains (arrivals (host_of c)) a
@@ -273,16 +260,7 @@ module _ (c : HostParts) (kept : IsKept c) (id : CallId) (slot : ℕ) (r : HeldR
 
     -- its place stays
     pub places_same : mapped (λ (x : Placed HeldRow). x.place) clients.rows ≡ mapped (λ (x : Placed HeldRow). x.place) c.clients.rows
-    places_same = same_map call_total call_same _ _ (λ q.
-        get-mapped (λ (x : Placed HeldRow). x.place) clients.rows q
-        ∙ by_one q (one_call q id)
-        ∙ sym (get-mapped (λ (x : Placed HeldRow). x.place) c.clients.rows q)) where
-          by_one : (q : CallId) → (q ≡ id) ⊎ (q ≡ id → ⊥) → option_map (λ (x : Placed HeldRow). x.place) (get clients.rows q) ≡ option_map
-              (λ (x : Placed HeldRow). x.place) (get c.clients.rows q)
-          by_one q (inl is) = ap (λ k. option_map (λ (x : Placed HeldRow). x.place) (get clients.rows k)) is
-              ∙ ap (option_map (λ (x : Placed HeldRow). x.place)) stands_after.1 ∙ sym (ap (option_map (λ (x : Placed HeldRow). x.place)) stands)
-              ∙ ap (λ k. option_map (λ (x : Placed HeldRow). x.place) (get c.clients.rows k)) (sym is)
-          by_one q (inr ne) = ap (option_map (λ (x : Placed HeldRow). x.place)) (moved.changed.others q ne)
+    places_same = places_stay c.clients.rows clients.rows id slot r stands_after.0 stands stands_after.1 moved.changed.others
 
     -- what is seen changed there alone
     pub changes_to : (control : Control) → Beside c.control control → (books : Books)
@@ -354,15 +332,7 @@ module _ (c : HostParts) (kept : IsKept c) (id : CallId) (slot : ℕ) (r : HeldR
 
   module _ (clients : Clients) (moved : Moved id c.clients c.pool clients c.pool (Some (seen_row c.pool r))) where
     pub rows_same : seen_rows c.pool clients.rows ≡ seen_rows c.pool c.clients.rows
-    rows_same = moved.rows ∙ same_map call_total call_same _ _ (λ q. by_one q (is_call q id) refl) where
-      by_one : (q : CallId) (b : Bool) → is_call q id ≡ b → get (set_row (seen_rows c.pool c.clients.rows) id (Some (seen_row c.pool r))) q ≡ get
-          (seen_rows c.pool c.clients.rows) q
-      by_one q true e =
-          let is = (calls_are q id).0 e in
-          ap (get (set_row (seen_rows c.pool c.clients.rows) id (Some (seen_row c.pool r)))) is ∙ get-set_row (seen_rows c.pool c.clients.rows) id
-          (Some (seen_row c.pool r))
-          ∙ sym (client_row c id slot r stands) ∙ ap (get (seen_rows c.pool c.clients.rows)) (sym is)
-      by_one q false e = set_row-others (seen_rows c.pool c.clients.rows) id (Some (seen_row c.pool r)) q e
+    rows_same = moved.rows ∙ put_same (seen_rows c.pool c.clients.rows) id (seen_row c.pool r) (client_row c id slot r stands)
 
     module _ (books : Books) (credit : books.pacer.credit ≡ c.books.pacer.credit) (refilled : books.pacer.refilled ≡ c.books.pacer.refilled) where
       -- so is the host
@@ -389,46 +359,16 @@ module _ (c : HostParts) (kept : IsKept c) (id : CallId) (slot : ℕ) (r : HeldR
           let after : HostParts = record { control = c.control; clients = clients; servers = c.servers; pool = c.pool; books = books; order = c.order } in
           let own : HasOwnOrders (host_after c kept id slot stood clients c.pool (Some row) moved c.order) =
           own_like (host_of c) (host_after c kept id slot stood clients c.pool (Some row) moved c.order) refl (sym rows_same) refl kept.own in
-          let k = kept_stays clients row moved own knows c.control kept.control
-          (record { settings = refl; id = refl; inc = refl; last = refl; opened = refl }) (followed slot (client_duty c.control.settings row) c.books) refl in
-          record {
-            control = k.control;
-            one = record {
-              client = k.one.client;
-              life = k.one.life;
-              client_settings = k.one.client_settings;
-              server = k.one.server;
-              server_settings = k.one.server_settings;
-            };
-            own = record { rows = k.own.rows; arriving = k.own.arriving; leaving = k.own.leaving };
-            known = record { clients = k.known.clients; own = k.known.own; servers = k.known.servers };
-            foreign = k.foreign;
-            opened = k.opened;
-            parts = parts_like (record after { books = followed slot (client_duty c.control.settings row) c.books }) after (λ p. same p) k.parts;
-            pages = k.pages;
-            leased = k.leased;
-            client_places = k.client_places;
-            server_places = k.server_places;
-            room = room;
-            booked = books_stay (seen_of c) (seen_of after) books
-                (record {
-                  settings = refl;
-                  last = refl;
-                  clients = sym rows_same;
-                  servers = refl;
-                  client_places = sym (places_same clients row moved);
-                  server_places = refl;
-                }) booked;
-          } where
-            same : (p : Place)
-                → part_in (record { control = c.control; clients = clients; servers = c.servers; pool = c.pool; books = books; order = c.order }) p
-                ≡ part_in (record {
-                  control = c.control;
-                  clients = clients;
-                  servers = c.servers;
-                  pool = c.pool;
-                  books = followed slot (client_duty c.control.settings (seen_row c.pool r)) c.books;
-                  order = c.order;
-                }) p
-            same (OfClient q) = refl
-            same (OfServer q) = refl
+          let k = kept_stays clients row moved own knows c.control kept.control (beside_none c.control)
+          (followed slot (client_duty c.control.settings row) c.books) refl in
+          let middle = record after { books = followed slot (client_duty c.control.settings row) c.books } in
+          kept_books middle books k room
+          (books_stay (seen_of c) (seen_of middle) books
+          (record {
+            settings = refl;
+            last = refl;
+            clients = sym rows_same;
+            servers = refl;
+            client_places = sym (places_same clients row moved);
+            server_places = refl;
+          }) booked)

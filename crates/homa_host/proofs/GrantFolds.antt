@@ -22,19 +22,20 @@ use Rattle.host_book_laws.proofs.GrantsEach.{grants_each, chosen_arrive, chosen_
 use Rattle.homa_host.specs.declared.parts.HostParts.{HostParts}
 use Rattle.homa_host.specs.Parts.{host_of, seen_of, IsKept}
 use Rattle.homa_host.specs.Amid.{Amid}
+use Rattle.homa_host.specs.Granting.{ArrivesAt}
 
 -- the messages that are granted to in this step
 abbrev pub chosen_now : HostParts → List Arriving
 chosen_now c = chosen (λ (a : Arriving). a.message) c.control.settings.overcommit (arrivals (host_of c))
 
 -- one of them arrives still, at its slot
-abbrev pub ArrivesAt : HostParts → HostParts → Arriving → Type 0
-ArrivesAt first c a = Contains (arrivals (host_of c)) a × (slot_of (seen_of c) a.place ≡ slot_of (seen_of first) a.place)
+abbrev pub StillArrives : HostParts → HostParts → Arriving → Type 0
+StillArrives first c a = ArrivesAt c (slot_of (seen_of first) a.place) a
 
 -- these are left to be granted to
 pub record IsGranting (first : HostParts) (before : List SentFrame) (c : HostParts) (out : List SentFrame) (rest : List Arriving) : Type 0 where
   pub step : (w : Work) → Amid w first before → (v : Work) × (gives_grants first.control.settings w ≡ granted_each first.control.settings rest v) × Amid v c out
-  pub arrive : AllByRecursion (ArrivesAt first c) rest
+  pub arrive : AllByRecursion (StillArrives first c) rest
   pub differ : SendersDiffer (λ (a : Arriving). sender a.message) rest
 
 -- at first all are
@@ -46,8 +47,8 @@ granting_first c out = record {
         ∙ ap (λ (h : Host). granted_each c.control.settings (chosen (λ (b : Arriving). b.message) c.control.settings.overcommit (arrivals h)) w) (sym a.host),
     a,
   );
-  arrive = all_weaker (λ (a : Arriving). Contains (arrivals (host_of c)) a) (ArrivesAt c c) (λ a there. (there, refl)) (chosen_now c)
-      (chosen_arrive c.control.settings.overcommit (record { host = host_of c; told = [] }));
+  arrive = all_weaker (λ (a : Arriving). Contains (arrivals (host_of c)) a) (StillArrives c c) (λ a there. record { there = there; at = refl })
+      (chosen_now c) (chosen_arrive c.control.settings.overcommit (record { host = host_of c; told = [] }));
   differ = chosen_differ c.control.settings.overcommit (record { host = host_of c; told = [] });
 }
 
@@ -67,16 +68,16 @@ granting_on first before c d out more a rest n prio same last granting step chan
   arrive = each rest granting.arrive.1 granting.differ.0;
   differ = granting.differ.1;
 } where
-  each : (bs : List Arriving) → AllByRecursion (ArrivesAt first c) bs → AllByRecursion (λ b. sender a.message ≢ sender b.message) bs
-      → AllByRecursion (ArrivesAt first d) bs
+  each : (bs : List Arriving) → AllByRecursion (StillArrives first c) bs → AllByRecursion (λ b. sender a.message ≢ sender b.message) bs
+      → AllByRecursion (StillArrives first d) bs
   each [] all differ = tt
   each (b ∷ bs) all differ =
       let apart = λ (e : b.place ≡ a.place). differ.0
-      (ap (λ (x : Arriving). sender x.message) (one_thing arrival_things (host_of c) a b granting.arrive.0.0 all.0.0 (sym e))) in (
-        (
-          thing_stays arrival_things a.place (host_of c) (host_of d) change.clients change.servers b apart all.0.0,
-          slots_stay a.place n (seen_of c) (seen_of d) change b.place (λ e. apart (sym e)) ∙ all.0.1,
-        ),
+      (ap (λ (x : Arriving). sender x.message) (one_thing arrival_things (host_of c) a b granting.arrive.0.there all.0.there (sym e))) in (
+        record {
+          there = thing_stays arrival_things a.place (host_of c) (host_of d) change.clients change.servers b apart all.0.there;
+          at = slots_stay a.place n (seen_of c) (seen_of d) change b.place (λ e. apart (sym e)) ∙ all.0.at;
+        },
         each bs all.1 differ.1,
       )
 
@@ -112,8 +113,7 @@ next_of f (x ∷ xs) (suc i) l =
 pub record IsNextGrant (first : HostParts) (before : List SentFrame) (c : HostParts) (out : List SentFrame) (slot : ℕ) (rest : List Arriving) : Type 0 where
   pub a : Arriving
   pub granting : IsGranting first before c out (a ∷ rest)
-  pub there : Contains (arrivals (host_of c)) a
-  pub at : slot_of (seen_of c) a.place ≡ slot
+  pub arrives : ArrivesAt c slot a
 
 pub next_grant : (first : HostParts) (before : List SentFrame) (c : HostParts) (out : List SentFrame) (slots : List ℕ) (i : ℕ)
     → slots ≡ map (λ (a : Arriving). slot_of (seen_of first) a.place) (chosen_now first)
@@ -126,8 +126,7 @@ next_grant first before c out slots i e l granting =
     record {
       a = n.0;
       granting = g;
-      there = g.arrive.0.0;
-      at = g.arrive.0.1 ∙ n.2 ∙ ap (λ ns. get_or ns i 0) (sym e);
+      arrives = record { there = g.arrive.0.there; at = g.arrive.0.at ∙ n.2 ∙ ap (λ ns. get_or ns i 0) (sym e) };
     }
 
 -- none is left at the end

@@ -18,6 +18,7 @@ pub mod ServerFollows
 pub mod RanLaws
 pub mod ServerActLaws
 pub mod ClientStays
+pub mod Grants
 pub mod ClientGrants
 pub mod ServerAckLaws
 pub mod Emits

@@ -1,12 +1,11 @@
 -- A server's row becomes another, at its place, and the pool stays.
-use Rattle.std.proofs.Common.{◌≡◌, ◌<◌, ◌≤◌, ◌+◌, ℕ, ◌⊎◌, inl, inr, Bool, true, false, Option, Some, None, IsSome, List, refl, sym, ap, subst, ◌∙◌, arith}
+use Rattle.std.proofs.Common.{◌≡◌, ◌<◌, ◌≤◌, ◌+◌, ℕ, inl, inr, Bool, true, false, Option, Some, None, IsSome, List, refl, sym, ap, subst, ◌∙◌, arith}
 use Rattle.std.specs.List.{Contains}
-use Rattle.std.specs.Option.{IfSome, option_map, option_and_then}
+use Rattle.std.specs.Option.{IfSome, option_and_then}
 use Rattle.plain_sets.specs.Maps.{get}
-use Rattle.plain_sets.proofs.MapLaws.{same_map}
 use Rattle.plain_sets.proofs.OrderSame.{all_at, none_in}
 use Rattle.plain_sets.proofs.MapMembers.{same_some}
-use Rattle.homa_plain.proofs.CallOrder.{call_total, call_same, calls_are}
+use Rattle.homa_plain.proofs.CallOrder.{calls_are}
 use Rattle.homa_plain.specs.Calls.{is_call}
 use Rattle.homa_plain.specs.declared.id.CallId.{CallId}
 use Rattle.homa_plain.specs.declared.settings.Settings.{Settings}
@@ -15,15 +14,14 @@ use Rattle.homa_plain.specs.Host.{Host}
 use Rattle.homa_plain.specs.Rows.{ServerRow, State, Receiving, Held, Replying, Buried, set_row}
 use Rattle.homa_plain.specs.Sending.{Arriving as Arrives, arrivals, arriving_at_server}
 use Rattle.homa_plain.specs.Steps.{Work}
-use Rattle.homa_plain.specs.Timers.{Place, OfClient, OfServer}
+use Rattle.homa_plain.specs.Timers.{OfServer}
 use Rattle.step_laws.specs.StepLaws.{HasOwnOrders}
-use Rattle.step_laws.proofs.Others.{get-set_row, set_row-others}
+use Rattle.step_laws.proofs.Others.{set_row-others}
 use Rattle.homa_in.specs.Part as part
 use Rattle.homa_in.specs.Part.{Part, IsIn}
 use Rattle.host_incoming.specs.Pooled.{IsInPool, AreIn}
 use Rattle.host_places.specs.Placed.{Placed, ArePlaced, StandsAt, spot_at}
 use Rattle.host_places.specs.Mapped.{mapped}
-use Rattle.host_places.proofs.MappedLaws.{get-mapped}
 use Rattle.host_places.proofs.PlacedLaws.{spot-stands, one_call}
 use Rattle.homa_server.specs.Held.{HeldServer, HeldState, Arriving, Keeping, Answering, Gone, seen_server, seen_state, state_part}
 use Rattle.homa_server.specs.Table.{Servers, ServerMoved, seen_servers, request_at}
@@ -42,14 +40,14 @@ use Rattle.host_laws.specs.Peers.{KnowsClient, KnowsSender, KnowsPeers}
 use Rattle.host_laws.proofs.Known.{known-server}
 use Rattle.homa_host.specs.declared.outcome.Change.TheVariants.{Stays}
 use Rattle.homa_host.specs.declared.parts.HostParts.{HostParts}
-use Rattle.homa_host.specs.Parts.{host_of, seen_of, part_in, IsKept}
+use Rattle.homa_host.specs.Parts.{host_of, seen_of, IsKept}
 use Rattle.homa_host.specs.Amid.{Amid}
 use Rattle.homa_host.specs.ServerFollow.{MayStayServer, FollowedServer}
 use Rattle.homa_host.proofs.Begun.{at-amid, amid-at, rest-amid}
-use Rattle.homa_host.proofs.SlotRows.{server_row, server_standing, kept_slots}
+use Rattle.homa_host.proofs.SlotRows.{server_row, server_standing}
 use Rattle.homa_host.proofs.ClientKept.{own_like}
 use Rattle.homa_host.specs.ServerFollow.{CanFollowServer}
-use Rattle.homa_host.proofs.ClientStays.{Beside, changes_like, parts_like}
+use Rattle.homa_host.proofs.ClientStays.{Beside, beside_none, changes_like, kept_books, places_stay, put_same}
 use Rattle.homa_host.proofs.ServerKept.{server_parts, requests_in, host_after, seen_after, changes, duty_own, kept_after}
 
 arrival_known : (n : ℕ) (state : State) → KnowsSender n state → IfSome (arrival_duty (arriving state)) (λ (a : Arrival). a.peer.0 < n)
@@ -70,24 +68,6 @@ module _ (c : HostParts) (kept : IsKept c) (id : CallId) (place : ℕ) (r : Held
   part_inside p e =
       subst (IsInPool c.pool) e
       (subst (IsInPool c.pool) (ap (option_and_then (λ (x : Placed HeldServer). state_part x.row.state)) stands) (kept.parts.within (OfServer id)))
-
-  -- nothing changes where the rows stay
-  pub changes_none : ChangesAt (OfServer id) (c.control.settings.calls + place) (seen_of c) (seen_of c)
-  changes_none =
-      let slots = kept_slots c kept in
-      let at = server_standing c id place r stands in
-      record {
-        settings = refl;
-        last = refl;
-        clients = λ q e. refl;
-        servers = λ q e. refl;
-        client_places = λ q e. refl;
-        server_places = λ q e. refl;
-        before = λ has. at.1;
-        after = λ has. at.1;
-        slots_before = slots;
-        slots_after = slots;
-      }
 
   -- the message that arrives is its part
   pub message_at : (p : Part) (a : Arrives) → state_part r.state ≡ Some p → a.place ≡ OfServer id → Contains (arrivals (host_of c)) a
@@ -165,16 +145,7 @@ module _ (c : HostParts) (kept : IsKept c) (id : CallId) (place : ℕ) (r : Held
 
     -- its place stays
     pub places_same : mapped (λ (x : Placed HeldServer). x.place) servers.rows ≡ mapped (λ (x : Placed HeldServer). x.place) c.servers.rows
-    places_same = same_map call_total call_same _ _ (λ q.
-        get-mapped (λ (x : Placed HeldServer). x.place) servers.rows q
-        ∙ by_one q (one_call q id)
-        ∙ sym (get-mapped (λ (x : Placed HeldServer). x.place) c.servers.rows q)) where
-          by_one : (q : CallId) → (q ≡ id) ⊎ (q ≡ id → ⊥) → option_map (λ (x : Placed HeldServer). x.place) (get servers.rows q) ≡ option_map
-              (λ (x : Placed HeldServer). x.place) (get c.servers.rows q)
-          by_one q (inl is) = ap (λ k. option_map (λ (x : Placed HeldServer). x.place) (get servers.rows k)) is
-              ∙ ap (option_map (λ (x : Placed HeldServer). x.place)) stands_after.1 ∙ sym (ap (option_map (λ (x : Placed HeldServer). x.place)) stands)
-              ∙ ap (λ k. option_map (λ (x : Placed HeldServer). x.place) (get c.servers.rows k)) (sym is)
-          by_one q (inr ne) = ap (option_map (λ (x : Placed HeldServer). x.place)) (moved.changed.others q ne)
+    places_same = places_stay c.servers.rows servers.rows id place r stands_after.0 stands stands_after.1 moved.changed.others
 
     -- what is seen changed there alone
     pub changes_to : (control : Control) → Beside c.control control → (books : Books)
@@ -275,15 +246,7 @@ module _ (c : HostParts) (kept : IsKept c) (id : CallId) (place : ℕ) (r : Held
 
   module _ (servers : Servers) (moved : ServerMoved id c.servers c.pool servers c.pool (Some (seen_server c.pool r))) where
     pub rows_same : seen_servers c.pool servers.rows ≡ seen_servers c.pool c.servers.rows
-    rows_same = moved.rows ∙ same_map call_total call_same _ _ (λ q. by_one q (is_call q id) refl) where
-      by_one : (q : CallId) (b : Bool) → is_call q id ≡ b
-          → get (set_row (seen_servers c.pool c.servers.rows) id (Some (seen_server c.pool r))) q ≡ get (seen_servers c.pool c.servers.rows) q
-      by_one q true e =
-          let is = (calls_are q id).0 e in
-          ap (get (set_row (seen_servers c.pool c.servers.rows) id (Some (seen_server c.pool r)))) is
-          ∙ get-set_row (seen_servers c.pool c.servers.rows) id (Some (seen_server c.pool r))
-          ∙ sym (server_row c id place r stands) ∙ ap (get (seen_servers c.pool c.servers.rows)) (sym is)
-      by_one q false e = set_row-others (seen_servers c.pool c.servers.rows) id (Some (seen_server c.pool r)) q e
+    rows_same = moved.rows ∙ put_same (seen_servers c.pool c.servers.rows) id (seen_server c.pool r) (server_row c id place r stands)
 
     module _ (books : Books) (credit : books.pacer.credit ≡ c.books.pacer.credit) (refilled : books.pacer.refilled ≡ c.books.pacer.refilled) where
       -- so is the host
@@ -309,48 +272,16 @@ module _ (c : HostParts) (kept : IsKept c) (id : CallId) (place : ℕ) (r : Held
           let row = seen_server c.pool r in
           let after : HostParts = record { control = c.control; clients = c.clients; servers = servers; pool = c.pool; books = books; order = c.order } in
           let own : HasOwnOrders (host_put servers row moved) = own_like (host_of c) (host_put servers row moved) refl refl (sym rows_same) kept.own in
-          let k = kept_stays servers row moved own knows c.control kept.control
-          (record { settings = refl; id = refl; inc = refl; last = refl; opened = refl })
+          let k = kept_stays servers row moved own knows c.control kept.control (beside_none c.control)
           (followed (c.control.settings.calls + place) (server_duty c.control.settings row) c.books) refl in
-          record {
-            control = k.control;
-            one = record {
-              client = k.one.client;
-              life = k.one.life;
-              client_settings = k.one.client_settings;
-              server = k.one.server;
-              server_settings = k.one.server_settings;
-            };
-            own = record { rows = k.own.rows; arriving = k.own.arriving; leaving = k.own.leaving };
-            known = record { clients = k.known.clients; own = k.known.own; servers = k.known.servers };
-            foreign = k.foreign;
-            opened = k.opened;
-            parts = parts_like (record after { books = followed (c.control.settings.calls + place) (server_duty c.control.settings row) c.books })
-                after (λ p. same p) k.parts;
-            pages = k.pages;
-            leased = k.leased;
-            client_places = k.client_places;
-            server_places = k.server_places;
-            room = room;
-            booked = books_stay (seen_of c) (seen_of after) books
-                (record {
-                  settings = refl;
-                  last = refl;
-                  clients = refl;
-                  servers = sym rows_same;
-                  client_places = refl;
-                  server_places = sym (places_same servers row moved);
-                }) booked;
-          } where
-            same : (p : Place)
-                → part_in (record { control = c.control; clients = c.clients; servers = servers; pool = c.pool; books = books; order = c.order }) p
-                ≡ part_in (record {
-                  control = c.control;
-                  clients = c.clients;
-                  servers = servers;
-                  pool = c.pool;
-                  books = followed (c.control.settings.calls + place) (server_duty c.control.settings (seen_server c.pool r)) c.books;
-                  order = c.order;
-                }) p
-            same (OfClient q) = refl
-            same (OfServer q) = refl
+          let middle = record after { books = followed (c.control.settings.calls + place) (server_duty c.control.settings row) c.books } in
+          kept_books middle books k room
+          (books_stay (seen_of c) (seen_of middle) books
+          (record {
+            settings = refl;
+            last = refl;
+            clients = refl;
+            servers = sym rows_same;
+            client_places = refl;
+            server_places = sym (places_same servers row moved);
+          }) booked)

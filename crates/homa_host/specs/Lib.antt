@@ -4,3 +4,4 @@ pub mod Outcomes
 pub mod Public
 pub mod ServerFollow
 pub mod Asking
+pub mod Granting

@@ -1,5 +1,5 @@
 // The moves of a host's calls at their client.
-ghost use Rattle.std.specs.Prelude.{◌≡◌, ◌+◌, ◌<◌, ◌≤◌, ◌^◌, Some, [], IsSome, Contains};
+ghost use Rattle.std.specs.Prelude.{◌≡◌, ◌+◌, ◌<◌, ◌^◌, Some, [], IsSome};
 ghost use Rattle.std.specs.List.{AllByRecursion};
 ghost use Rattle.std.specs.Option.{option_map};
 ghost use Rattle.homa_plain.specs.declared.id.CallId.{CallId};
@@ -9,7 +9,6 @@ ghost use Rattle.homa_plain.specs.Wire.{IsWellFormed};
 ghost use Rattle.homa_plain.specs.Packets.{Packet as PlainPacket, packet_between};
 ghost use Rattle.homa_plain.specs.Rules.{Answer};
 ghost use Rattle.homa_plain.specs.Timers.{OfClient};
-ghost use Rattle.homa_plain.specs.Sending.{Arriving, arrivals};
 ghost use Rattle.homa_plain.specs.Steps.{Work, comes_to_row, acts_at};
 ghost use Rattle.msg_pool.specs.Pool.{Pool};
 ghost use Rattle.host_incoming.specs.Pieces.{piece_in};
@@ -18,19 +17,17 @@ ghost use Rattle.homa_client.specs.Held.{HeldRow, seen_row};
 ghost use Rattle.homa_client.specs.AtTable.{version_at, IsDueAt};
 ghost use Rattle.homa_pacer.specs.Pace.{ready_key};
 ghost use Rattle.host_view.specs.Marks.{IsWhole};
-ghost use Rattle.homa_host.specs.Parts.{host_of, seen_of, IsKept};
+ghost use Rattle.homa_host.specs.Parts.{IsKept};
 ghost use Rattle.homa_host.specs.Amid.{Amid, Steady, HasRoom, IsPumped};
-ghost use Rattle.host_book_laws.specs.Ends.{grant_to};
-ghost use Rattle.host_view.specs.Follow.{ChangesAt};
 ghost use Rattle.homa_host.specs.Outcomes.{head_in, IfTouched};
 
 use crate::outcome::{
     Change, Head, client_act_change, client_act_outcome, client_change, client_orders,
-    client_outcome, head_of, new_end_of,
+    client_outcome, head_of,
 };
 use crate::parts::{HostParts, follow_client};
 use homa_client::{ClientDid, ClientTable};
-use homa_plain::{Body, CallId, Emitted, HostId, Packet, Role};
+use homa_plain::{CallId, Emitted, HostId, Packet};
 use host_state::Leaving;
 use host_view::Outbox;
 use msg_pool::Scratch;
@@ -115,34 +112,6 @@ impl HostParts {
         let outcome = client_act_outcome(act, prio);
         self.control
             .settle_client(facts.id, facts.peer, outcome, out);
-    }
-
-    // The response in the row at a place is granted to up to its new end, where that is more than it is granted already.
-    pub(crate) fn client_is_granted(&mut self, slot: u32, prio: u8, out: &mut Outbox)
-        requires kept { IsKept self.old }
-        requires arrives { (id : CallId) × (r : HeldRow) × StandsAt self.old.clients.rows id slot r × IsSome r.part }
-        requires prio { prio ≤ 7 }
-        requires room { HasRoom 1 1 self.old out.old }
-        ensures kept { IsKept self.new }
-        ensures step { (id : CallId) (r : HeldRow) (a : Arriving) (w : Work) → StandsAt self.old.clients.rows id slot r → a.place ≡ OfClient id
-            → Contains (arrivals (host_of self.old)) a → Amid w self.old out.old → Amid (grant_to self.old.control.settings a prio w) self.new out.new }
-        ensures changes { (id : CallId) (r : HeldRow) → StandsAt self.old.clients.rows id slot r
-            → ChangesAt (OfClient id) slot (seen_of self.old) (seen_of self.new) }
-        ensures steady { Steady 1 1 0 self.old out.old self.new out.new }
-    {
-        let Some(part) = self.clients.incoming(slot) else {
-            unreachable!()
-        };
-        let offset = new_end_of(part, self.control.settings().window);
-        if offset <= part.granted() {
-            return;
-        }
-        let facts = self.clients.row(slot);
-        self.clients.granted(slot, offset, self.control.last());
-        follow_client(&mut self.books, &self.clients, Change::Stays(slot));
-        let grant = Body::Grant { offset, prio };
-        self.control
-            .post(Role::Client, facts.id, facts.peer, grant, out);
     }
 
     // The next piece of the request in the row at a place goes out.

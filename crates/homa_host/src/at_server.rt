@@ -1,5 +1,5 @@
 // The moves of the calls that a host serves.
-ghost use Rattle.std.specs.Prelude.{◌≡◌, ◌≢◌, ℕ, Option, None, ◌+◌, ◌<◌, ◌≤◌, ◌^◌, Some, [], List, OnOk, OnErr, IsSome, IsSomeAnd, Contains};
+ghost use Rattle.std.specs.Prelude.{◌≡◌, ◌≢◌, ℕ, Option, None, ◌+◌, ◌<◌, ◌≤◌, ◌^◌, Some, [], List, OnOk, OnErr, IsSome, IsSomeAnd};
 ghost use Rattle.std.specs.Prelude.{if◌then◌else◌};
 ghost use Rattle.std.specs.List.{AllByRecursion};
 ghost use Rattle.std.specs.Option.{option_map};
@@ -12,32 +12,28 @@ ghost use Rattle.homa_plain.specs.Packets.{Packet as PlainPacket, packet_between
 ghost use Rattle.homa_plain.specs.Rules.{Answer, Moment};
 ghost use Rattle.homa_plain.specs.AtServer.{server_acked};
 ghost use Rattle.homa_plain.specs.Timers.{OfServer, server_deadline};
-ghost use Rattle.homa_plain.specs.Sending.{Arriving, arrivals};
 ghost use Rattle.homa_plain.specs.Steps.{Work, begun, hears_cutoffs, comes_to_row, acts_at, served, moment};
 ghost use Rattle.msg_pool.specs.Pool.{Pool};
 ghost use Rattle.host_incoming.specs.Pieces.{piece_in};
 ghost use Rattle.host_places.specs.Placed.{StandsAt, spot_at};
-ghost use Rattle.homa_server.specs.Held.{HeldServer, seen_server, state_part};
+ghost use Rattle.homa_server.specs.Held.{HeldServer, seen_server};
 ghost use Rattle.homa_server.specs.Answers.{version_there, service_in, acked_of};
 ghost use Rattle.host_state.specs.Saying.{IsOutcome, FitsSaid, outcome_marks, outcome_frames};
 ghost use Rattle.homa_plain.specs.Rows.{ServerRow};
 ghost use Rattle.homa_pacer.specs.Pace.{ready_key};
 ghost use Rattle.host_view.specs.Marks.{has_ran, response_of, IsReply, IsAllowed, IsWhole};
-ghost use Rattle.homa_host.specs.Parts.{host_of, seen_of, IsKept};
+ghost use Rattle.homa_host.specs.Parts.{host_of, IsKept};
 ghost use Rattle.homa_host.specs.Asking.{HasAsked};
 ghost use Rattle.homa_host.specs.Amid.{Amid, Steady, HasRoom, HasCome, IsPumped};
-ghost use Rattle.host_book_laws.specs.Ends.{grant_to};
-ghost use Rattle.host_view.specs.Follow.{ChangesAt};
 ghost use Rattle.homa_host.specs.ServerFollow.{server_act_change, server_act_orders, acked_change};
 ghost use Rattle.homa_host.specs.Outcomes.{head_in, IfServerTouched};
 
 use crate::at_client::Pumped;
 use crate::outcome::{
-    Change, Head, head_of, new_end_of, server_act_outcome, server_change, server_orders,
-    server_outcome,
+    Change, Head, head_of, server_act_outcome, server_change, server_orders, server_outcome,
 };
 use crate::parts::{HostParts, follow_server};
-use homa_plain::{Body, CallId, Emitted, HostId, Packet, Role};
+use homa_plain::{Body, CallId, Emitted, HostId, Packet};
 use homa_server::{ServerAct, ServerDid, ServerTable};
 use homa_service::Service;
 use host_state::{Leaving, Outcome, Said};
@@ -168,37 +164,6 @@ impl HostParts {
         follow_server(&mut self.books, &self.servers, settings.calls, change);
         let outcome = server_act_outcome(act, settings.overcommit as u8 - 1);
         self.control.settle_server(facts.id, outcome, out);
-    }
-
-    // The request in the row at a place is granted to up to its new end, where that is more than it is granted already.
-    pub(crate) fn server_is_granted(&mut self, place: u32, prio: u8, out: &mut Outbox)
-        requires kept { IsKept self.old }
-        requires arrives { (id : CallId) × (r : HeldServer) × StandsAt self.old.servers.rows id place r × IsSome (state_part r.state) }
-        requires prio { prio ≤ 7 }
-        requires room { HasRoom 1 1 self.old out.old }
-        ensures kept { IsKept self.new }
-        ensures step { (id : CallId) (r : HeldServer) (a : Arriving) (w : Work) → StandsAt self.old.servers.rows id place r → a.place ≡ OfServer id
-            → Contains (arrivals (host_of self.old)) a → Amid w self.old out.old → Amid (grant_to self.old.control.settings a prio w) self.new out.new }
-        ensures changes { (id : CallId) (r : HeldServer) → StandsAt self.old.servers.rows id place r
-            → ChangesAt (OfServer id) (self.old.control.settings.calls + place) (seen_of self.old) (seen_of self.new) }
-        ensures steady { Steady 1 1 0 self.old out.old self.new out.new }
-    {
-        let settings = *self.control.settings();
-        let Some(part) = self.servers.incoming(place) else {
-            unreachable!()
-        };
-        let offset = new_end_of(part, settings.window);
-        if offset <= part.granted() {
-            return;
-        }
-        let facts = self.servers.row(place);
-        self.servers.granted(place, offset, self.control.last());
-        let change = Change::Stays(place);
-        follow_server(&mut self.books, &self.servers, settings.calls, change);
-        let grant = Body::Grant { offset, prio };
-        let server = self.control.id();
-        self.control
-            .post(Role::Server, facts.id, server, grant, out);
     }
 
     // The next piece of the response in the row at a place goes out.

@@ -1,23 +1,26 @@
 // What rows do in turn, and how each step ends: grants, and then the pump.
-ghost use Rattle.std.specs.Prelude.{◌≡◌, ◌+◌, ◌<◌, ◌≤◌, ◌^◌, Some, [], Contains};
+ghost use Rattle.std.specs.Prelude.{◌≡◌, ◌+◌, ◌<◌, ◌≤◌, ◌^◌, Some, [], IsSomeAnd, option_copied};
 ghost use Rattle.std.specs.Option.{option_map};
 ghost use Rattle.plain_sets.specs.Ordered.{first_of};
 ghost use Rattle.homa_plain.specs.Choice.{least, due};
 ghost use Rattle.homa_plain.specs.Timers.{timers, timer_key as plain_key};
-ghost use Rattle.homa_plain.specs.Sending.{Arriving, arrivals};
+ghost use Rattle.homa_plain.specs.Sending.{Arriving};
 ghost use Rattle.homa_plain.specs.Steps.{Work, now_of, acts, gives_grants, pump, ended};
 ghost use Rattle.step_laws.specs.StepLaws.{first_acts};
 ghost use Rattle.homa_timers.specs.Armed.{timer_key};
 ghost use Rattle.homa_pacer.specs.Pace.{ready_key};
-ghost use Rattle.host_view.specs.Seen.{slot_of};
-ghost use Rattle.homa_host.specs.Parts.{host_of, seen_of, IsKept};
+ghost use Rattle.homa_host.specs.Parts.{seen_of, IsKept};
+ghost use Rattle.homa_host.specs.Granting.{ArrivesAt, IsPartOf, IsRaised};
 ghost use Rattle.homa_host.specs.Amid.{Amid, Steady, HasRoom, IsPumped};
 ghost use Rattle.host_book_laws.specs.Ends.{grant_to};
 ghost use Rattle.host_view.specs.Follow.{ChangesAt};
 
 use crate::at_client::Pumped;
-use crate::parts::HostParts;
+use crate::outcome::{Change, new_end_of};
+use crate::parts::{HostParts, follow_client, follow_server};
 use arrayvec::ArrayVec;
+use homa_in::Incoming;
+use homa_plain::{Body, CallId, HostId, Role};
 use host_view::Outbox;
 
 /// How many rows act in a turn at most.
@@ -93,24 +96,68 @@ impl HostParts {
         }
     }
 
-    // The message of a slot is granted to.
+    // The message of a slot is granted to up to its new end, where that is more than it is granted already.
     fn grant(&mut self, slot: u32, prio: u8, out: &mut Outbox)
         requires kept { IsKept self.old }
-        requires arrives { (a : Arriving) × Contains (arrivals (host_of self.old)) a × (slot_of (seen_of self.old) a.place ≡ slot) }
+        requires arrives { (a : Arriving) × ArrivesAt self.old slot a }
         requires prio { prio ≤ 7 }
         requires room { HasRoom 1 1 self.old out.old }
         ensures kept { IsKept self.new }
-        ensures step { (a : Arriving) (w : Work) → Contains (arrivals (host_of self.old)) a → slot_of (seen_of self.old) a.place ≡ slot
-            → Amid w self.old out.old → Amid (grant_to self.old.control.settings a prio w) self.new out.new }
-        ensures changes { (a : Arriving) → Contains (arrivals (host_of self.old)) a → slot_of (seen_of self.old) a.place ≡ slot
-            → ChangesAt a.place slot (seen_of self.old) (seen_of self.new) }
+        ensures step { (a : Arriving) (w : Work) → ArrivesAt self.old slot a → Amid w self.old out.old
+            → Amid (grant_to self.old.control.settings a prio w) self.new out.new }
+        ensures changes { (a : Arriving) → ArrivesAt self.old slot a → ChangesAt a.place slot (seen_of self.old) (seen_of self.new) }
         ensures steady { Steady 1 1 0 self.old out.old self.new out.new }
+    {
+        let Some(part) = self.incoming(slot) else {
+            unreachable!()
+        };
+        let offset = new_end_of(part, self.control.settings().window);
+        if offset <= part.granted() {
+            return;
+        }
+        let (role, id, server) = self.raise(slot, offset);
+        let grant = Body::Grant { offset, prio };
+        self.control.post(role, id, server, grant, out);
+    }
+
+    // The message that arrives in the row of a slot.
+    fn incoming(&self, slot: u32) -> Option<&Incoming>
+        requires kept { IsKept self.now }
+        requires arrives { (a : Arriving) × ArrivesAt self.now slot a }
+        ensures { (a : Arriving) → ArrivesAt self.now slot a → IsSomeAnd (option_copied result) (IsPartOf self.now.pool a) }
     {
         let calls = self.control.settings().calls;
         if slot < calls {
-            self.client_is_granted(slot, prio, out);
+            self.clients.incoming(slot)
         } else {
-            self.server_is_granted(slot - calls, prio, out);
+            self.servers.incoming(slot - calls)
+        }
+    }
+
+    // The row of a slot notes up to where its message is granted, and the books follow. The answer is the side of its call
+    // at which the message comes in, the call, and the call's server.
+    fn raise(&mut self, slot: u32, offset: u32) -> (Role, CallId, HostId)
+        requires kept { IsKept self.old }
+        requires arrives { (a : Arriving) × ArrivesAt self.old slot a × (a.message.granted ≤ offset) × (offset ≤ a.message.length) }
+        ensures kept { IsKept self.new }
+        ensures raised { (a : Arriving) → ArrivesAt self.old slot a → IsRaised self.old self.new slot a offset result.0 result.1 result.2 }
+        ensures control { self.new.control ≡ self.old.control }
+        ensures order { self.new.order ≡ self.old.order }
+    {
+        let calls = self.control.settings().calls;
+        let now = self.control.last();
+        if slot < calls {
+            let facts = self.clients.row(slot);
+            self.clients.granted(slot, offset, now);
+            follow_client(&mut self.books, &self.clients, Change::Stays(slot));
+            (Role::Client, facts.id, facts.peer)
+        } else {
+            let place = slot - calls;
+            let facts = self.servers.row(place);
+            self.servers.granted(place, offset, now);
+            let change = Change::Stays(place);
+            follow_server(&mut self.books, &self.servers, calls, change);
+            (Role::Server, facts.id, self.control.id())
         }
     }
 

@@ -11,8 +11,10 @@ use Rattle.homa_plain.specs.Entries.{PlainStale}
 use Rattle.homa_plain.specs.Host.{Says}
 use Rattle.homa_plain.specs.Settings.{IsValid}
 use Rattle.host_state.specs.Control.{Control}
-use Rattle.homa_plain.specs.Steps.{Work, begun, tells, acked, comes_to_row}
+use Rattle.homa_plain.specs.Steps.{Asked, Work, begun, tells, acked, comes_to_row}
 use Rattle.homa_plain.specs.Wire.{IsWellFormed}
+use Rattle.host_incoming.specs.Pieces.{piece_in}
+use Rattle.homa_server.specs.Answers.{service_in}
 use Rattle.host_view.specs.Marks.{has_ran, response_of, IsWhole}
 use Rattle.homa_host.specs.Parts.{host_of}
 use Rattle.homa_host.specs.Asking.{HasAsked}
@@ -224,7 +226,8 @@ returns-in-Err-clause-asks g c a =
     let id : CallId = record { client = c.args.from; inc = c.args.packet.now.inc; seq = c.args.packet.now.seq } in
     let fresh = age g (goal.at.returns-in-Err-clause-asks g c).After-is_stale ∙ c.if-is_stale.false in
     let is = came.client_comes s (host_of o) c.args.now c.args.from o.control.id c.args.packet.now c.args.payload.now a fresh c.in-Client.is in
-    let asked = came.acked_asks s (acks p) (comes_to_row s p a Client v) _ (c.in-Err.ensures.asks a) in
+    let request : Asked = record { id = id; service = service_in (piece_in c.args.packet.now.body c.args.payload.now); request = c.server_gets.new.scratch } in
+    let asked = came.acked_asks s (acks p) (comes_to_row s p a Client v) request (c.in-Err.ensures.asks a) in
     subst (λ (w : Work). HasAsked id c.service_of-number.result c.server_gets.new.scratch w.told) (sym is)
     (subst (λ (n : ℕ). HasAsked id n c.server_gets.new.scratch (acked s (acks p) (comes_to_row s p a Client v)).told)
     (sym (c.service_of-number.ensures c.args.payload.now)) asked)

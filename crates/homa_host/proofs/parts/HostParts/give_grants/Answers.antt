@@ -23,7 +23,7 @@ grant-requires-clause-arrives c =
     let inv = c.ranks.invariant in
     let next = next_grant c.args.self.now c.args.out.now c.ranks.self c.ranks.out c.as_slice-slot-items.result.now c.ranks.slot-index inv.slots
     c.ranks-test.true inv.rest in
-    (next.a, next.there, next.at)
+    (next.a, next.arrives)
 
 pub ranks-preserved : goal.ranks-preserved
 ranks-preserved c =
@@ -52,7 +52,7 @@ ranks-preserved c =
           (drop (i + 1) (chosen_now c.args.self.now))
           (get_or slots i 0) (c.ranks.rank - 1) inv.steady.settings
           (left_of f (chosen_now c.args.self.now) slots (i + 1) (c.ranks.rank - 1) inv.slots rank) next.granting
-          (λ w. c.grant.ensures.step next.a w next.there next.at) (c.grant.ensures.changes next.a next.there next.at);
+          (λ w. c.grant.ensures.step next.a w next.arrives) (c.grant.ensures.changes next.a next.arrives);
     }
 
 pub returns-clause-step : goal.returns-clause-step
