@@ -108,8 +108,10 @@ more_carried s w a b st su old mid new p q r done first next =
     let second = next first.next first.stood in
     let parts : (later : List Answer) → IsJoined (carried s (answering (shown (first.told ++ second.told) ++ later) w) (a ++ b))
     (carried s (answering (shown first.told ++ (shown second.told ++ later)) w) a) (carried s (answering (shown second.told ++ later) first.next) b) =
-    λ later. rw (shown_parts first.told second.told later, ← (first.world (shown second.told ++ later)))
-    (joined s (answering (shown first.told ++ (shown second.told ++ later)) w) a b (no_fault _ (first.ends (shown second.told ++ later)))) in
+    λ later.
+    let rest = shown second.told ++ later in
+    rw (shown_parts first.told second.told later, ← (first.world rest))
+    (joined s (answering (shown first.told ++ rest) w) a b (no_fault _ (first.ends rest))) in
     record {
       next = second.next;
       stood = second.stood;

@@ -9,12 +9,12 @@ use Rattle.homa_plain.specs.World.{World, host_at}
 use Rattle.rand_pcg.specs.Lcg.{Lcg}
 use Rattle.generated_runs.specs.Draws.{Traffic, next_traffic}
 use Rattle.generated_runs.specs.Fabric.{Destination, Fabric, refilled}
-use Rattle.generated_runs.specs.Rounds.{Generated, with_line, live_at, with_call, host_round, hosts_round, most_handed, calls_round, round_begun}
-use Rattle.generated_runs.specs.Rounds.{next_round, is_over, rounds}
+use Rattle.generated_runs.specs.Rounds.{Generated, with_line, live_at, with_call, host_round, hosts_round, most_handed, calls_round, calls_a_round}
+use Rattle.generated_runs.specs.Rounds.{round_begun, next_round, is_over, rounds}
 use Rattle.generated_runs.proofs.Going.{hosts_step, hosts_none, by_left, calls_step, calls_none, round_is, by_end, rounds_step, rounds_none}
 use Rattle.homa_generate.specs.Going.{answered, Holds, IsAt, HasGone}
 use Rattle.homa_generate.specs.Steps.{one_call}
-use Rattle.homa_generate.proofs.Goings.{gone_on, gone_beside, gone_as}
+use Rattle.homa_generate.proofs.Goings.{gone_on, gone_beside, gone_as, then_gone}
 use Rattle.homa_generate.proofs.Extending.{after_begun, after_tick}
 
 module _ (s : Settings) (all : Generated → Generated) (g : Generated) (a b : Holds) (st : World → Type 0) (p q : List PlainEntry → Type 0) where
@@ -112,6 +112,24 @@ budgets_set s all g a b c st p q first destinations random left counts taken =
       left = left ∙ first.stood.left;
     })
     refl refl counts taken (λ answers. refl))
+
+-- the tick is done, and each host has its budget
+pub round_ticked : (s : Settings) (g : Generated) (a b c : Holds) (st su : World → Type 0) (p q : List PlainEntry → Type 0) → IsAt a st g
+    → ((x : Generated) → IsAt a st x → HasGone (with_line s (GivenTicks 1)) (λ y. y) x a b su p q)
+    → c.fabric.destinations ≡ map refilled b.fabric.destinations → c.fabric.random ≡ b.fabric.random → c.left ≡ b.left → c.counts ≡ b.counts
+    → c.taken ≡ b.taken → HasGone (next_round s) (after_begun s) g a c su p q
+round_ticked s g a b c st su p q at ticks destinations random left counts taken =
+    budgets_set s (next_round s) g a b c su p q
+    (then_gone s s (next_round s) (after_tick s) (λ (o : Settings). with_line o (GivenTicks 1)) g a a b st su p p q refl (round_opens s g a st p at) ticks)
+    destinations random left counts taken
+
+-- and each host was handed what it is handed in a round
+pub round_handed : (s t : Settings) (g : Generated) (a b c : Holds) (st su : World → Type 0) (p q r : List PlainEntry → Type 0) → t ≡ s
+    → HasGone (next_round s) (after_begun s) g a b st p q
+    → ((x : Generated) → IsAt b st x → HasGone (hosts_round t 0 t.hosts) (λ y. y) x b c su q r)
+    → HasGone (next_round s) (calls_round calls_a_round s) g a c su p r
+round_handed s t g a b c st su p q r same first hands =
+    then_gone s t (next_round s) (calls_round calls_a_round s) (λ (o : Settings). hosts_round o 0 o.hosts) g a b c st su p q r same first hands
 
 -- ---- a call
 
