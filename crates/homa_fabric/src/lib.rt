@@ -6,7 +6,7 @@
 //! definitions (`generated_runs`) beside the life of a packet.
 //!
 //! Main promise: each call does to the fabric what its definition does, so that it all is a function of the seed. All
-//! memory is taken by `Fabric::open`. Tests stand in `generate_tests`.
+//! memory is taken by `Fabric::open`. Tests stand in `run_tests`.
 #![tactic(auto)]
 
 mod draws;

@@ -3,7 +3,7 @@
 //! Model: a run is the definitions' (`generated_runs`), of a seed and a number of calls; what the services answer isn't
 //! known before, so a run goes on whatever they will answer.
 //! Main promise: `make` prints the schedule of the run, `count` its summary, with the answers that its own `run` lines
-//! show, which the boxes allow; where `make` stops early, a front of the schedule was printed. Tests stand in `generate_tests`.
+//! show, which the boxes allow; where `make` stops early, a front of the schedule was printed. Tests stand in `run_tests`.
 #![tactic(auto)]
 
 mod events;

@@ -239,6 +239,27 @@ fn words_of_refusal<'a>(line: u64, fault: LineFault) -> WordList<'a>
     list
 }
 
+// A name and a word.
+fn of_one<'a>(name: &'a [u8], a: Word<'a>) -> WordList<'a>
+    ensures texts { map word_text result.items ≡ name.now ∷ word_text a.entry ∷ [] }
+{
+    list_of(name, &[a])
+}
+
+// A name and two words.
+fn of_two<'a>(name: &'a [u8], a: Word<'a>, b: Word<'a>) -> WordList<'a>
+    ensures texts { map word_text result.items ≡ name.now ∷ word_text a.entry ∷ word_text b.entry ∷ [] }
+{
+    list_of(name, &[a, b])
+}
+
+// A name and three words.
+fn of_three<'a>(name: &'a [u8], a: Word<'a>, b: Word<'a>, c: Word<'a>) -> WordList<'a>
+    ensures texts { map word_text result.items ≡ name.now ∷ word_text a.entry ∷ word_text b.entry ∷ word_text c.entry ∷ [] }
+{
+    list_of(name, &[a, b, c])
+}
+
 /// The words of an entry.
 pub(crate) fn words_of_entry<'a>(entry: &Entry<'a>) -> WordList<'a>
     ensures { map word_text result.items ≡ entry_words (plain entry.now) }
@@ -251,13 +272,13 @@ pub(crate) fn words_of_entry<'a>(entry: &Entry<'a>) -> WordList<'a>
             service,
             bytes,
         } => words_of_call(id, server, service, bytes),
-        Entry::Deliver { packet } => list_of(b"deliver", &[Number(packet)]),
-        Entry::Clock { tick } => list_of(b"clock", &[Number(tick)]),
-        Entry::Restart { host, inc } => list_of(b"restart", &[Host(host), Number(u64::from(inc))]),
-        Entry::Inject { host, bytes } => list_of(b"inject", &[Host(host), Hex(bytes)]),
-        Entry::Shift { host, n } => list_of(b"shift", &[Host(host), Number(u64::from(n))]),
-        Entry::Junk { host } => list_of(b"junk", &[Host(host)]),
-        Entry::Stale { host, at, now } => list_of(b"stale", &[Host(host), Number(at), Number(now)]),
+        Entry::Deliver { packet } => of_one(b"deliver", Number(packet)),
+        Entry::Clock { tick } => of_one(b"clock", Number(tick)),
+        Entry::Restart { host, inc } => of_two(b"restart", Host(host), Number(u64::from(inc))),
+        Entry::Inject { host, bytes } => of_two(b"inject", Host(host), Hex(bytes)),
+        Entry::Shift { host, n } => of_two(b"shift", Host(host), Number(u64::from(n))),
+        Entry::Junk { host } => of_one(b"junk", Host(host)),
+        Entry::Stale { host, at, now } => of_three(b"stale", Host(host), Number(at), Number(now)),
         Entry::Send {
             number,
             from,
@@ -281,12 +302,12 @@ pub(crate) fn words_of_entry<'a>(entry: &Entry<'a>) -> WordList<'a>
             response,
             hold,
         } => words_of_run(host, id, service, request, response, hold),
-        Entry::Done { id, bytes } => list_of(b"done", &[Id(id), Hex(bytes)]),
-        Entry::Fail { id, why } => list_of(b"fail", &[Id(id), why_text(why)]),
-        Entry::Drop { host, id } => list_of(b"drop", &[Host(host), Id(id)]),
-        Entry::Gaps { host, id } => list_of(b"gaps", &[Host(host), Id(id)]),
-        Entry::Bury { host, id, until } => list_of(b"bury", &[Host(host), Id(id), Number(until)]),
-        Entry::Free { host, id } => list_of(b"free", &[Host(host), Id(id)]),
+        Entry::Done { id, bytes } => of_two(b"done", Id(id), Hex(bytes)),
+        Entry::Fail { id, why } => of_two(b"fail", Id(id), why_text(why)),
+        Entry::Drop { host, id } => of_two(b"drop", Host(host), Id(id)),
+        Entry::Gaps { host, id } => of_two(b"gaps", Host(host), Id(id)),
+        Entry::Bury { host, id, until } => of_three(b"bury", Host(host), Id(id), Number(until)),
+        Entry::Free { host, id } => of_two(b"free", Host(host), Id(id)),
         Entry::FullRows {
             host,
             id,
@@ -300,12 +321,9 @@ pub(crate) fn words_of_entry<'a>(entry: &Entry<'a>) -> WordList<'a>
             free,
         } => full(host, id, b"pages", need, free),
         Entry::Balance { host, ref cutoffs } => words_of_balance(host, cutoffs),
-        Entry::Recv { host, from, bytes } => list_of(
-            b"recv",
-            &[Host(host), Host(from), Hex(bytes)],
-        ),
-        Entry::Finished { n } => list_of(b"ok", &[Number(n)]),
+        Entry::Recv { host, from, bytes } => of_three(b"recv", Host(host), Host(from), Hex(bytes)),
+        Entry::Finished { n } => of_one(b"ok", Number(n)),
         Entry::Refused { line, fault } => words_of_refusal(line, fault),
-        Entry::Stalled { turns, now } => list_of(b"stalled", &[Number(turns), Number(now)]),
+        Entry::Stalled { turns, now } => of_two(b"stalled", Number(turns), Number(now)),
     }
 }

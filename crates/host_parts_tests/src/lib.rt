@@ -13,5 +13,3 @@ mod outgoing;
 mod parts;
 #[cfg(test)]
 mod places;
-#[cfg(test)]
-mod services;

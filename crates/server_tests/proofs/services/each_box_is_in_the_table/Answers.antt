@@ -1,7 +1,7 @@
 -- A replaced host has a seat again.
 use Rattle.homa_service.specs.Table.{places, spares}
 use Rattle.homa_service.proofs.TableLaws.{full-replaced}
-use Rattle.host_parts_tests.proofs.services.each_box_is_in_the_table.Goals as goal
+use Rattle.server_tests.proofs.services.each_box_is_in_the_table.Goals as goal
 
 pub loop-left-preserved : goal.loop-left-preserved
 loop-left-preserved g c =

@@ -1,6 +1,6 @@
 use Rattle.std.specs.Prelude.{◌≡◌, length}
 use Rattle.std.specs.List.{AllByRecursion}
-use Rattle.generate_tests.proofs.schedules.letters.Given as goal
+use Rattle.run_tests.proofs.schedules.letters.Given as goal
 
 -- so many were made, and none has answered
 abbrev pub invariant-loop-made : goal.invariant-loop-made

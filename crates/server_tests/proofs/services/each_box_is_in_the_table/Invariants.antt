@@ -1,7 +1,7 @@
 -- As many boxes as were made, and host 1 has a seat.
 use Rattle.std.proofs.Common.{◌≡◌, length, IsSome}
 use Rattle.homa_service.specs.Table.{places, place_of}
-use Rattle.host_parts_tests.proofs.services.each_box_is_in_the_table.Given as goal
+use Rattle.server_tests.proofs.services.each_box_is_in_the_table.Given as goal
 
 abbrev pub invariant-loop-made : goal.invariant-loop-made
 invariant-loop-made g l = length l.boxes.items ≡ l._made

@@ -1,5 +1,0 @@
-//! Tests of the recorder.
-#![tactic(auto)]
-
-#[cfg(test)]
-mod recording;
