@@ -150,8 +150,8 @@ HOMA_POINTERS size_t homa_entries(homa_host *host);
 /* Entry `i`, from 0. REFUSED: there is no such entry; nothing is written. */
 HOMA_POINTERS uint32_t homa_entry(homa_host *host, size_t i, homa_entry_info *info);
 
-/* How many bytes the message has that became whole in the last step: 0 to 1,000,000. It is the request that is asked about or was
- * answered (HOMA_RAN), or the response of a call that is done (HOMA_DONE). A step makes one message whole at most. */
+/* How many bytes the message has that became whole in the last step: 1 to 1,000,000, or 0 where none did. It is the request that is
+ * asked about or was answered (HOMA_RAN), or the response of a call that is done (HOMA_DONE). A step makes one message whole at most. */
 HOMA_POINTERS size_t homa_whole_len(homa_host *host);
 
 /* Copies that message to the front of `room`. REFUSED: too little room; nothing is written. */

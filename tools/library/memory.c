@@ -1,6 +1,6 @@
 /* One call between two hosts with each allocation refused in turn: what wants memory answers HOMA_NO_MEMORY, the same again is done,
- * the call ends well, and all memory is given back. Link with -Wl,--wrap=malloc,--wrap=realloc,--wrap=free. Prints
- * 'memory: N passed, M failed', one for each allocation. */
+ * the call ends well, and all memory is given back. A call that can't start is refused before it asks for memory. Link with
+ * -Wl,--wrap=malloc,--wrap=realloc,--wrap=free. Prints 'memory: N passed, M failed', one for each allocation. */
 #include "homa.h"
 #include <stdio.h>
 #include <stdlib.h>
@@ -65,15 +65,26 @@ static bool hand_over(homa_host *hosts, uint16_t from, uint64_t now) {
     return true;
 }
 
+/* Calls that can't start: for want of another host, of bytes, and of room for one more live call. */
+static bool is_refused_first(homa_host *host) {
+    homa_call_id id;
+    unsigned long before = asked_for;
+    bool refuses = homa_call(host, 9, 7, request, sizeof request, 0, &id) == HOMA_REFUSED && homa_call(host, 1, 7, request, 0, 0, &id) == HOMA_REFUSED
+        && homa_call(host, 1, 7, request, sizeof request, 0, &id) == HOMA_REFUSED;
+    return refuses && asked_for == before;
+}
+
 /* The whole of it. */
 static bool one_call(void) {
     homa_settings settings;
     homa_host hosts[2] = { HOMA_CLOSED, HOMA_CLOSED };
     homa_call_id id;
     homa_usual(&settings);
+    settings.calls = 1;
     for (uint16_t i = 0; i < 2; i++)
         if (AGAIN(homa_open(&settings, i, 1, 0, &hosts[i])) != HOMA_OK) return false;
     if (AGAIN(homa_call(&hosts[0], 1, 7, request, sizeof request, 0, &id)) != HOMA_OK) return false;
+    if (!is_refused_first(&hosts[0])) return false;
     if (!hand_over(hosts, 0, 0)) return false;
     for (uint64_t now = 0; now < 10; now++)
         for (uint16_t i = 0; i < 2; i++)

@@ -111,7 +111,7 @@ static void step_wrongly(homa_host *host) {
     check(is_filled(&asked, sizeof asked), "nobody asks");
     check(homa_turn(host, 9) == HOMA_REFUSED, "a turn at a tick that is over");
     check(homa_deliver(host, 1, bytes, 65535, 10, bytes, 0, &asked) == HOMA_OK, "no packet");
-    check(homa_entries(host) == 1 && homa_frames(host) == 0, "what is told of no packet");
+    check(homa_entries(host) == 1 && homa_frames(host) == 0 && homa_whole_len(host) == 0, "what is told of no packet");
     check(homa_call(host, 1, 0, bytes, 5, 10, &id) == HOMA_OK && id.client == 0 && id.incarnation == 7 && id.number == 1, "the next call");
 }
 
@@ -138,10 +138,13 @@ static void read_wrongly(homa_host *client, homa_host *server) {
     check(homa_whole(server, room, 5, &len) == HOMA_OK && len == 5 && memcmp(room, bytes, 5) == 0 && is_filled(room + 5, 1495), "a room that is right");
     check(homa_deliver(server, 0, frame, had, 10, bytes, LONG, &asked) == HOMA_REFUSED, "an answer that is too long, where one is wanted");
     check(homa_deliver(server, 0, frame, had, 10, bytes, 0, &asked) == HOMA_ASKS, "it asks again");
-    check(homa_deliver(server, 0, frame, had, 10, bytes, LONG - 1, &asked) == HOMA_OK, "the longest answer");
+    check(homa_deliver(server, 0, frame, had, 10, bytes, LONG - 1, &asked) == HOMA_OK && homa_whole_len(server) == 5, "the longest answer");
     check(homa_deliver(server, 0, frame, had, 10, bytes, 5, &asked) == HOMA_OK, "the same datagram once more");
+    check(homa_whole_len(server) == 0, "no message becomes whole twice");
     for (size_t i = 0; i < homa_entries(server); i++)
         check(homa_entry(server, i, &entry) == HOMA_OK && entry.kind == HOMA_OTHER, "it doesn't run twice");
+    check(homa_deliver(server, 0, frame, had, 10, bytes, 5, &asked) == HOMA_OK && homa_turn(server, 10) == HOMA_OK, "a turn");
+    check(homa_whole_len(server) == 0, "no message becomes whole in a turn");
 }
 
 int main(void) {

@@ -1,26 +1,26 @@
 // A host whose requests its caller answers.
-ghost use Rattle.std.specs.Prelude.{ℕ, ◌≡◌, ◌≢◌, ◌<◌, ◌≤◌, ◌+◌, ◌↔◌, IsTrue, IsSome, Some, None, [], length, slice_get, IfOk, IfSome, IfNone};
+ghost use Rattle.std.specs.Prelude.{ℕ, ◌≡◌, ◌≢◌, ◌<◌, ◌≤◌, ◌+◌, ◌↔◌, IsTrue, IsSome, Some, None, true, false, [], length, slice_get, IfOk, IfSome, IfNone};
 ghost use Rattle.std.specs.List.{AllByRecursion};
 ghost use Rattle.std.specs.Option.{option_map};
 ghost use Rattle.plain_sets.specs.Ordered.{first_of};
 ghost use Rattle.homa_plain.specs.Settings.{IsValid};
 ghost use Rattle.homa_plain.specs.Entries.{plain};
 ghost use Rattle.homa_plain.specs.Rules.{Answer};
-ghost use Rattle.homa_plain.specs.Steps.{start_fault, next_id, call_step, arrival_step, turn_step};
+ghost use Rattle.homa_plain.specs.Steps.{start_fault, next_id, has_run, call_step, arrival_step, turn_step};
 ghost use Rattle.host_view.specs.Marks.{shown_entries, IsAllowed};
 ghost use Rattle.host_view.specs.Done.{arriving};
 ghost use Rattle.homa_host.specs.declared.asked.Asked.{Asked};
 ghost use Rattle.homa_host.specs.Asking.{HasAsked};
 ghost use Rattle.driven_host.specs.Driven.{IsStep, IsStill, IsOther};
 ghost use Rattle.asking_host.specs.declared.asking.Came.TheVariants.{Taken, Asks, NoMemory, Refused};
-ghost use Rattle.asking_host.specs.Asking.{opened, MayBegin, IsGiven};
+ghost use Rattle.asking_host.specs.Asking.{opened, MayBegin, MayCall, is_whole, has_whole, IsGiven};
 ghost use Rattle.asking_host.specs.Turns.{IsIdleTurn, MayAct};
 
 use crate::given::{Given, MOST_BYTES};
 use homa_host::{Asked, Host};
 use homa_plain::{CallId, Entry, HostId, Settings};
 use homa_timers::Timers;
-use host_view::Outbox;
+use host_view::{Mark, Outbox};
 use msg_pool::Scratch;
 use place_books::first;
 use std::alloc::{AllocError, Global};
@@ -55,6 +55,8 @@ pub struct AskingHost {
     id: HostId,
     // How many hosts there are.
     hosts: u32,
+    // How many calls may be live.
+    calls: u32,
     // How many steps were begun.
     steps: u64,
 }
@@ -67,7 +69,7 @@ impl Model for AskingHost {
 
     ghost view = { λ d. record { host = d.host; served = d.served; steps = d.steps; out = d.out; whole = d.scratch } };
 
-    ghost invariant = { λ d. IsKept d.host d.served d.out d.id d.hosts d.steps };
+    ghost invariant = { λ d. IsKept d.host d.served d.out d.id d.hosts d.calls d.steps };
 }
 
 impl AskingHost {
@@ -95,8 +97,22 @@ impl AskingHost {
             scratch,
             id,
             hosts: settings.hosts,
+            calls: settings.calls,
             steps: 0,
         })
+    }
+
+    /// Whether a call of a service of this host, with a request of so many bytes, may start at tick `now` of the host's own
+    /// clock: a step may begin, there is another host of this name, the request has 1 to 1,000,000 bytes, and there is room
+    /// for one more live call. Then it can be made, unless the numbers of this incarnation are used up.
+    pub fn may_call(&self, server: HostId, bytes: usize, now: u64) -> bool
+        ensures { IsTrue result ↔ MayCall self.now.host self.now.steps server bytes now }
+    {
+        may_begin(&self.host, self.steps, now)
+            && is_other(self.id, self.hosts, server)
+            && 1 <= bytes
+            && bytes <= MOST_BYTES
+            && self.host.live() < self.calls
     }
 
     /// Calls a service of another host, at tick `now` of the host's own clock. None where the call can't start, where there
@@ -104,8 +120,12 @@ impl AskingHost {
     pub fn call(&mut self, server: HostId, number: u8, request: Vec<u8>, now: u64) -> Option<CallId>
         ensures begins { MayBegin self.old.host self.old.steps now → IsOther self.old.host server
             → start_fault self.old.host.settings self.old.host.host server request.items ≡ None → IsSome result }
+        ensures may_begin { IfSome result (λ _. MayBegin self.old.host self.old.steps now) }
+        ensures other { IfSome result (λ _. IsOther self.old.host server) }
+        ensures no_fault { IfSome result (λ _. start_fault self.old.host.settings self.old.host.host server request.items ≡ None) }
         ensures id { IfSome result (λ id. id ≡ next_id self.old.host.host) }
         ensures step { IfSome result (λ _. IsStep (call_step self.old.host.settings self.old.host.host now server number request.items) self.old self.new) }
+        ensures whole { IfSome result (λ _. self.new.whole ≡ []) }
         ensures served { self.new.served ≡ self.old.served }
         ensures same { IfNone result (IsStill self.old self.new) }
         ensures steps { self.new.steps ≤ self.old.steps + 1 }
@@ -114,6 +134,7 @@ impl AskingHost {
             return None;
         }
         self.steps += 1;
+        self.scratch.set(&[]);
         let Ok(id) = self.host.call(server, number, request, now, &mut self.out) else {
             return None;
         };
@@ -133,14 +154,20 @@ impl AskingHost {
     ) -> Came
         ensures begins { MayBegin self.old.host self.old.steps now → IsOther self.old.host from → length answer.now ≤ 1000000
             → result ≢ Refused }
+        ensures may_begin { result ≢ Refused → MayBegin self.old.host self.old.steps now }
+        ensures other { result ≢ Refused → IsOther self.old.host from }
+        ensures most { result ≢ Refused → length answer.now ≤ 1000000 }
         ensures step { result ≡ Taken → (a : Answer)
             × IsStep (arrival_step self.old.host.settings self.old.host.host now (arriving self.old.host from frame.now) a) self.old self.new }
         ensures given { result ≡ Taken
             → AllByRecursion (IsAllowed self.new.host.host (IsGiven answer.now) self.new.whole) self.new.host.marks }
+        ensures none_whole { result ≡ Taken → has_whole self.new.host.marks ≡ false → self.new.whole ≡ [] }
         ensures asks { (e : Asked) → result ≡ Asks e → (a : Answer) → HasAsked e.id e.number self.new.whole
             (arrival_step self.old.host.settings self.old.host.host now (arriving self.old.host from frame.now) a).told }
         ensures unanswered { (e : Asked) → result ≡ Asks e → answer.now ≡ [] }
         ensures answered { result ≡ NoMemory → answer.now ≢ [] }
+        ensures no_memory { result ≡ NoMemory → (a : Answer)
+            → has_run (arrival_step self.old.host.settings self.old.host.host now (arriving self.old.host from frame.now) a).told ≡ true }
         ensures same { result ≢ Taken → IsStill self.old self.new }
         ensures steps { self.new.steps ≤ self.old.steps + 1 }
     {
@@ -166,7 +193,12 @@ impl AskingHost {
         );
         self.served = given.served;
         match came {
-            Ok(()) => Came::Taken,
+            Ok(()) => {
+                if !tells_whole(&self.host) {
+                    self.scratch.set(&[]);
+                }
+                Came::Taken
+            }
             Err(asked) if answer.is_empty() => Came::Asks(asked),
             Err(_) => Came::NoMemory,
         }
@@ -175,7 +207,9 @@ impl AskingHost {
     /// A turn at tick `now` of the host's own clock. None where no step may begin.
     pub fn turn(&mut self, now: u64) -> Option<()>
         ensures begins { MayBegin self.old.host self.old.steps now → IsSome result }
+        ensures may_begin { IfSome result (λ _. MayBegin self.old.host self.old.steps now) }
         ensures step { IfSome result (λ _. IsStep (turn_step self.old.host.settings self.old.host.host now) self.old self.new) }
+        ensures whole { IfSome result (λ _. self.new.whole ≡ []) }
         ensures served { self.new.served ≡ self.old.served }
         ensures same { IfNone result (IsStill self.old self.new) }
         ensures steps { self.new.steps ≤ self.old.steps + 1 }
@@ -184,6 +218,7 @@ impl AskingHost {
             return None;
         }
         self.steps += 1;
+        self.scratch.set(&[]);
         self.host.turn(now, &mut self.out);
         Some(())
     }
@@ -218,7 +253,7 @@ impl AskingHost {
     }
 
     /// The message that became whole in its last step: the request that is asked about, the one that was answered, or the
-    /// response of a call that is done.
+    /// response of a call that is done. Empty where none became whole.
     pub fn whole(&self) -> &[u8]
         ensures { result.now ≡ self.now.whole }
     {
@@ -246,6 +281,25 @@ fn may_begin(host: &Host, steps: u64, now: u64) -> bool
     ensures { IsTrue result ↔ MayBegin host.now steps now }
 {
     now <= LAST_TICK && host.last() <= now && steps < MOST_STEPS
+}
+
+// Whether a message became whole in a host's last step.
+fn tells_whole(host: &Host) -> bool
+    ensures { result ≡ has_whole host.now.marks }
+{
+    for i in 0..host.entries() {
+        if makes_whole(host.mark(i)) {
+            return true;
+        }
+    }
+    false
+}
+
+// Whether a message became whole with this mark.
+fn makes_whole(mark: &Mark) -> bool
+    ensures { result ≡ is_whole mark.now }
+{
+    matches!(mark, Mark::Ran { .. } | Mark::Done { .. })
 }
 
 // The earliest deadline. None where no timer is armed.

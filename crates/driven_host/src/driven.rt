@@ -94,6 +94,9 @@ impl DrivenHost {
     pub fn call(&mut self, server: HostId, number: u8, request: Vec<u8>, now: u64) -> Option<CallId>
         ensures begins { MayBegin self.old.host self.old.steps now → IsOther self.old.host server
             → start_fault self.old.host.settings self.old.host.host server request.items ≡ None → IsSome result }
+        ensures may_begin { IfSome result (λ _. MayBegin self.old.host self.old.steps now) }
+        ensures other { IfSome result (λ _. IsOther self.old.host server) }
+        ensures no_fault { IfSome result (λ _. start_fault self.old.host.settings self.old.host.host server request.items ≡ None) }
         ensures id { IfSome result (λ id. id ≡ next_id self.old.host.host) }
         ensures step { IfSome result (λ _. IsStep (call_step self.old.host.settings self.old.host.host now server number request.items) self.old self.new) }
         ensures served { self.new.served ≡ self.old.served }
@@ -115,6 +118,8 @@ impl DrivenHost {
     pub fn deliver(&mut self, alloc: Global, from: HostId, frame: &[u8], now: u64) -> Option<()>
         ensures begins { MayBegin self.old.host self.old.steps now → IsOther self.old.host from → IfNone result ((a : Answer)
             → has_run (arrival_step self.old.host.settings self.old.host.host now (arriving self.old.host from frame.now) a).told ≡ true) }
+        ensures may_begin { IfSome result (λ _. MayBegin self.old.host self.old.steps now) }
+        ensures other { IfSome result (λ _. IsOther self.old.host from) }
         ensures step { IfSome result (λ _. (a : Answer)
             × IsStep (arrival_step self.old.host.settings self.old.host.host now (arriving self.old.host from frame.now) a) self.old self.new) }
         ensures allowed { IfSome result (λ _. AllByRecursion (IsAllowed self.new.host.host (may_answer self.old.served) self.new.whole) self.new.host.marks) }
@@ -143,6 +148,7 @@ impl DrivenHost {
     /// A turn at tick `now` of the host's own clock. None where no step may begin.
     pub fn turn(&mut self, now: u64) -> Option<()>
         ensures begins { MayBegin self.old.host self.old.steps now → IsSome result }
+        ensures may_begin { IfSome result (λ _. MayBegin self.old.host self.old.steps now) }
         ensures step { IfSome result (λ _. IsStep (turn_step self.old.host.settings self.old.host.host now) self.old self.new) }
         ensures served { self.new.served ≡ self.old.served }
         ensures same { IfNone result (IsStill self.old self.new) }

@@ -1,14 +1,14 @@
 // What C begins: a host, its steps, and its end.
-ghost use Rattle.std.specs.Prelude.{◌≡◌, ◌≢◌, ◌≤◌, ◌<◌, ℕ, true, false, [], None, length};
+ghost use Rattle.std.specs.Prelude.{◌≡◌, ◌≢◌, ◌≤◌, ◌<◌, ◌⊎◌, ℕ, true, false, [], None, length};
 ghost use Rattle.std.specs.List.{AllByRecursion};
 ghost use Rattle.homa_plain.specs.Settings.{IsValid};
 ghost use Rattle.homa_plain.specs.Rules.{Answer};
-ghost use Rattle.homa_plain.specs.Steps.{start_fault, next_id};
+ghost use Rattle.homa_plain.specs.Steps.{start_fault, next_id, has_run};
 ghost use Rattle.host_view.specs.Marks.{IsAllowed};
 ghost use Rattle.homa_host.specs.declared.asked.Asked.{Asked};
 ghost use Rattle.homa_host.specs.Asking.{HasAsked};
 ghost use Rattle.driven_host.specs.Driven.{IsStep, IsStill, IsOther};
-ghost use Rattle.asking_host.specs.Asking.{opened, MayBegin, IsGiven};
+ghost use Rattle.asking_host.specs.Asking.{opened, MayBegin, MayCall, has_whole, IsGiven};
 ghost use Rattle.asking_host.specs.Turns.{IsIdleTurn, MayAct};
 ghost use Rattle.homa_c.specs.Shown.{shown_call, shown_asked, given_settings};
 ghost use Rattle.homa_c.specs.Begun.{calling, receiving, turning};
@@ -46,6 +46,11 @@ pub extern "C" fn homa_open(
     ensures was_open { host.old.is_open ≡ true → result ≡ 2 }
     ensures begins { host.old.is_open ≡ false → IsValid (given_settings settings.now) → id < settings.now.hosts → 1 ≤ inc
         → last ≤ 1000000002000 → result ≢ 2 }
+    ensures valid { result ≢ 2 → IsValid (given_settings settings.now) }
+    ensures named { result ≢ 2 → id < settings.now.hosts }
+    ensures incarnation { result ≢ 2 → 1 ≤ inc }
+    ensures last { result ≢ 2 → last ≤ 1000000002000 }
+    ensures codes { (result ≡ 0) ⊎ (result ≡ 2) ⊎ (result ≡ 3) }
     ensures same { result ≢ 0 → host.new ≡ host.old }
 {
     let settings = settings.get();
@@ -94,7 +99,8 @@ pub extern "C" fn homa_close(alloc: Global, host: &mut Handle) -> u32
 }
 
 /// Calls service `number` of another host, at tick `now` of the host's own clock. Refused where the handle isn't open, no step
-/// may begin at that tick, there is no other host of this name, or the call can't start.
+/// may begin at that tick, there is no other host of this name, or the call can't start: that is seen before the request is copied, unless the
+/// numbers of this incarnation are used up.
 #[unsafe(no_mangle)]
 pub extern "C" fn homa_call(
     alloc: Global,
@@ -110,8 +116,14 @@ pub extern "C" fn homa_call(
         → IsOther host.old.slot.held.host (record { 0 = server })
         → start_fault host.old.slot.held.host.settings host.old.slot.held.host.host (record { 0 = server }) request.now ≡ None
         → result ≢ 2 }
+    ensures may_call { result ≢ 2
+        → MayCall host.old.slot.held.host host.old.slot.held.steps (record { 0 = server }) (length request.now) now }
+    ensures no_fault { result ≡ 0
+        → start_fault host.old.slot.held.host.settings host.old.slot.held.host.host (record { 0 = server }) request.now ≡ None }
+    ensures codes { (result ≡ 0) ⊎ (result ≡ 2) ⊎ (result ≡ 3) }
     ensures id { result ≡ 0 → id.new ≡ shown_call (next_id host.old.slot.held.host.host) }
     ensures step { result ≡ 0 → IsStep (calling host.old.slot.held now server number request.now) host.old.slot.held host.new.slot.held }
+    ensures whole { result ≡ 0 → host.new.slot.held.whole ≡ [] }
     ensures same { result ≢ 0 → IsStill host.old.slot.held host.new.slot.held }
     ensures unwritten { result ≢ 0 → id.new ≡ id.old }
     ensures open { host.new.is_open ≡ host.old.is_open }
@@ -120,6 +132,9 @@ pub extern "C" fn homa_call(
         return REFUSED;
     }
     let held = host.slot.as_mut();
+    if !held.may_call(HostId(server), request.len(), now) {
+        return REFUSED;
+    }
     let Ok(request) = Vec::from_slice(alloc, request) else {
         return NO_MEMORY;
     };
@@ -151,13 +166,19 @@ pub extern "C" fn homa_deliver(
     ensures long { 65535 < length frame.now → result ≡ 2 }
     ensures begins { host.old.is_open ≡ true → MayBegin host.old.slot.held.host host.old.slot.held.steps now
         → IsOther host.old.slot.held.host (record { 0 = from }) → length frame.now ≤ 65535 → length answer.now ≤ 1000000 → result ≢ 2 }
+    ensures may_begin { result ≢ 2 → MayBegin host.old.slot.held.host host.old.slot.held.steps now }
+    ensures other { result ≢ 2 → IsOther host.old.slot.held.host (record { 0 = from }) }
+    ensures most { result ≢ 2 → length answer.now ≤ 1000000 }
+    ensures codes { (result ≡ 0) ⊎ (result ≡ 1) ⊎ (result ≡ 2) ⊎ (result ≡ 3) }
     ensures step { result ≡ 0 → (a : Answer) × IsStep (receiving host.old.slot.held now from frame.now a) host.old.slot.held host.new.slot.held }
     ensures given { result ≡ 0 → AllByRecursion (IsAllowed host.new.slot.held.host.host (IsGiven answer.now) host.new.slot.held.whole)
         host.new.slot.held.host.marks }
+    ensures none_whole { result ≡ 0 → has_whole host.new.slot.held.host.marks ≡ false → host.new.slot.held.whole ≡ [] }
     ensures asks { result ≡ 1 → (e : Asked) × (asked.new ≡ shown_asked e)
         × ((a : Answer) → HasAsked e.id e.number host.new.slot.held.whole (receiving host.old.slot.held now from frame.now a).told) }
     ensures unanswered { result ≡ 1 → answer.now ≡ [] }
     ensures answered { result ≡ 3 → answer.now ≢ [] }
+    ensures no_memory { result ≡ 3 → (a : Answer) → has_run (receiving host.old.slot.held now from frame.now a).told ≡ true }
     ensures same { result ≢ 0 → IsStill host.old.slot.held host.new.slot.held }
     ensures unwritten { result ≢ 1 → asked.new ≡ asked.old }
     ensures open { host.new.is_open ≡ host.old.is_open }
@@ -182,7 +203,9 @@ pub extern "C" fn homa_deliver(
 pub extern "C" fn homa_turn(host: &mut Handle, now: u64) -> u32
     ensures closed { host.old.is_open ≡ false → result ≡ 2 }
     ensures begins { host.old.is_open ≡ true → MayBegin host.old.slot.held.host host.old.slot.held.steps now → result ≡ 0 }
+    ensures may_begin { result ≡ 0 → MayBegin host.old.slot.held.host host.old.slot.held.steps now }
     ensures or_refused { result ≢ 0 → result ≡ 2 }
+    ensures whole { result ≡ 0 → host.new.slot.held.whole ≡ [] }
     ensures step { result ≡ 0 → IsStep (turning host.old.slot.held now) host.old.slot.held host.new.slot.held }
     ensures same { result ≢ 0 → IsStill host.old.slot.held host.new.slot.held }
     ensures open { host.new.is_open ≡ host.old.is_open }

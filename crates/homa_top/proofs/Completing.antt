@@ -15,7 +15,7 @@ completed may_tell bytes left old new NoCommand run never command read write net
 completed may_tell bytes left old new Refused run never command read write net usual =
     let r = run.refused refl in
     let w = r.whole in
-    absurd (never w.answers w.ticks w.gave r.line r.fault w.from.ticked w.from.rises w.from.shows w.from.allowed w.ended)
+    absurd (never w.answers w.ticks w.gave r.line r.fault w.from.ticked w.from.rises w.from.received w.from.shows w.from.allowed w.ended)
 completed may_tell bytes left old new ReadFailed run never command read write net usual = absurd (read refl)
 completed may_tell bytes left old new WriteFailed run never command read write net usual = absurd (write refl)
 completed may_tell bytes left old new NoMemory run never command read write net usual = inr (inr refl)

@@ -111,7 +111,7 @@ completed may_tell bytes left old new NoCommand run never command read write net
 completed may_tell bytes left old new Refused run never command read write net =
     let w = run.refused refl in
     let r = refused_end _ _ w.status_is in
-    absurd (never w.answers w.ticks w.gave r.line r.fault w.from.ticked w.from.rises w.from.shows w.from.allowed r.is)
+    absurd (never w.answers w.ticks w.gave r.line r.fault w.from.ticked w.from.rises w.from.received w.from.shows w.from.allowed r.is)
 completed may_tell bytes left old new ReadFailed run never command read write net = absurd (read refl)
 completed may_tell bytes left old new WriteFailed run never command read write net = absurd (write refl)
 completed may_tell bytes left old new NoMemory run never command read write net = inr (inr (inr refl))

@@ -8,7 +8,7 @@ use Rattle.homa_plain.specs.Judge.{Clause}
 use Rattle.homa_plain.specs.Quiet.{IsQuiet}
 use Rattle.homa_plain.specs.Answers.{shown}
 use Rattle.homa_plain.specs.Rules.{Answer}
-use Rattle.node_runs.specs.Course.{Arrival, AreTicks, Ended, RefusedAt, StalledAt, node_run}
+use Rattle.node_runs.specs.Course.{Arrival, AreTicks, AreReceived, Ended, RefusedAt, StalledAt, node_run}
 use Rattle.node_runs.specs.Texts.{entries, node_text, recording_text}
 use Rattle.homa_node.specs.Served.{AreGiven}
 use Rattle.node_trace.specs.Traces.{Around, IsWhole, IsBrokenOff, IsEndCut}
@@ -63,8 +63,8 @@ pub record IsNo (bytes : List ℕ) (old new : Option (List ℕ)) : Type 0 where
   pub fails : IsNoTrace bytes line clause
   pub printed : new ≡ appended old (verdict_text (verdict.No line clause))
 
--- the verdict on these bytes was printed; with the status of a fault or of want of memory, a front of it; a read fault comes in the midst of a
--- line, and the lines that came whole obey all laws
+-- the verdict on these bytes was printed; with the status of a fault or of want of memory, a front of it; where reading failed, perhaps in the
+-- midst of a line, the lines that came whole obey all laws
 pub record HasJudged (bytes : List ℕ) (left old new : Option (List ℕ)) (status : ExitStatus) : Type 0 where
   pub yes : status ≡ Done → IsYes bytes left old new
   pub no : status ≡ Refused → IsNo bytes old new
@@ -102,7 +102,7 @@ module _ (may_tell : List PlainEntry → Type 0) where
   -- whatever the services may answer, the clock may give of its ticks and the net may give, no line of the script is refused
   abbrev pub IsNeverRefused : List ℕ → Option (List ℕ) → Type 0
   IsNeverRefused bytes held = (answers : List Answer) (ticks : List ℕ) (gave : List (Option Arrival)) (line : ℕ) (fault : LineFault)
-      → AreGiven held ticks → AreTicks 0 ticks → shown (entries (node_run bytes answers ticks gave).reports) ≡ answers
+      → AreGiven held ticks → AreTicks 0 ticks → AreReceived gave → shown (entries (node_run bytes answers ticks gave).reports) ≡ answers
       → may_tell (entries (node_run bytes answers ticks gave).reports)
       → (node_run bytes answers ticks gave).end ≡ Some (RefusedAt line fault) → ⊥
 

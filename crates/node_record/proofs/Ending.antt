@@ -175,6 +175,8 @@ module _ (may_tell : List PlainEntry → Type 0) (bytes : List ℕ) (t0 t1 t2 : 
           reports = is.reports;
           more = begins_all.more;
           begins = begins_all.reports_are;
+          strange = subst (λ (rs : List Report). (recorded no_notes rs).is_cut ≡ true) (append-nil is.reports)
+              (strange_observed told kept strange t0 t1 no_notes is.reports [] is.told_part).1;
           status_is = status_by run true cut;
           text = same ∙ (k.0 ∙ ap (appended t0) (ap (λ (rs : List Report). (recorded no_notes rs).told) (sym begins_all.reports_are)
               ∙ sym (text_by run true cut)));

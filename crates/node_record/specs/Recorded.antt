@@ -1,10 +1,11 @@
 -- What is printed of a recording, and what the net took and gave meanwhile.
-use Rattle.std.specs.Prelude.{◌≡◌, ◌⊎◌, ℕ, Option, Some, List, [], ◌++◌}
+use Rattle.std.specs.Prelude.{◌≡◌, ◌⊎◌, ℕ, true, Option, Some, List, [], ◌++◌}
 use Rattle.homa_io.specs.Outside.{appended}
 use Rattle.homa_plain.specs.Entries.{PlainEntry}
 use Rattle.homa_plain.specs.Rules.{Answer}
 use Rattle.node_runs.specs.Course.{Report, Arrival, node_run}
-use Rattle.node_runs.specs.Texts.{recording_text, recording_status, recorded_sent}
+use Rattle.node_runs.specs.Recorder.{no_notes}
+use Rattle.node_runs.specs.Texts.{recorded, recording_text, recording_status, recorded_sent}
 use Rattle.node_turns.specs.Told.{listed}
 use Rattle.node_trace.specs.Traces.{Around, IsGiven, IsEndCut, IsBrokenOff}
 use Rattle.node_record.specs.declared.end.Recorded.{Recorded}
@@ -22,7 +23,7 @@ module _ (may_tell : List PlainEntry → Type 0) where
     pub took : new.sent ≡ listed old.sent (node_run bytes answers ticks gave).sent
 
   -- A datagram of the run is strange: the recording up to the first such was printed, with it, and the net took the datagrams up to there.
-  -- These reports of the run were come to; the answers are those that their `run` lines show, which the boxes allow.
+  -- The run begins with these reports, up to the strange one at least; the answers are those that their `run` lines show, which the boxes allow.
   pub record IsCutShort (bytes : List ℕ) (old new : Around) : Type 0 where
     pub answers : List Answer
     pub ticks : List ℕ
@@ -30,6 +31,7 @@ module _ (may_tell : List PlainEntry → Type 0) where
     pub reports : List Report
     pub more : List Report
     pub begins : (node_run bytes answers ticks gave).reports ≡ reports ++ more
+    pub strange : (recorded no_notes reports).is_cut ≡ true
     pub from : IsGiven may_tell old new answers ticks gave reports
     pub status_is : recording_status (node_run bytes answers ticks gave) ≡ Some 8
     pub text : new.taken ≡ appended old.taken (recording_text (node_run bytes answers ticks gave))

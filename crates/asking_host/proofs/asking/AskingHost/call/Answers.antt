@@ -10,7 +10,7 @@ pub invariant_of-self : goal.invariant_of-self
 invariant_of-self c =
     let d = c.self.inside in
     let a = c.args in
-    stepped d.host c.call.new.self d.served d.served d.out c.call.new.out d.id d.hosts d.steps
+    stepped d.host c.call.new.self d.served d.served d.out c.call.new.out d.id d.hosts d.calls d.steps
     c.self.invariant (c.if-not-may_begin.ensures.0 refl).few c.call.ensures.steady (omega arith)
     (called c.call.result d.host c.call.new.self _ c.call.new.out c.call.ensures.step c.call.ensures.same)
     (after_call d.host c.call.new.self c.call.new.out a.now (c.if-not-may_begin.ensures.0 refl).now_is c.call.result _
@@ -21,7 +21,7 @@ pub invariant_of-self-2 : goal.invariant_of-self-2
 invariant_of-self-2 c =
     let d = c.self.inside in
     let a = c.args in
-    stepped d.host c.call.new.self d.served d.served d.out c.call.new.out d.id d.hosts d.steps
+    stepped d.host c.call.new.self d.served d.served d.out c.call.new.out d.id d.hosts d.calls d.steps
     c.self.invariant (c.if-not-may_begin.ensures.0 refl).few c.call.ensures.steady (omega arith)
     (called c.call.result d.host c.call.new.self _ c.call.new.out c.call.ensures.step c.call.ensures.same)
     (after_call d.host c.call.new.self c.call.new.out a.now (c.if-not-may_begin.ensures.0 refl).now_is c.call.result _
@@ -32,5 +32,5 @@ pub returns-clause-step : goal.returns-clause-step
 returns-clause-step c =
     let a = c.args in
     subst (λ (d : Driven). IsDone d.host (call_step d.host.settings d.host.host a.now a.server a.number a.request.items) c.call.new.self c.call.new.out
-    c.self.inside.scratch)
-    c.self.view_is (c.in-Ok.ensures.step c.self.inside.scratch)
+    c.set.new.self)
+    c.self.view_is (c.in-Ok.ensures.step c.set.new.self)

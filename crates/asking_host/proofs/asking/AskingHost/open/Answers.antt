@@ -11,6 +11,7 @@ invariant_of-result c =
     record {
       name = ap (λ (g : Seen). g.host.id) is;
       hosts_are = ap (λ (g : Seen). g.settings.hosts) is;
+      calls_are = ap (λ (g : Seen). g.settings.calls) is;
       order = omega (arith, ap (λ (g : Seen). g.host.order) is);
       served_few = omega arith;
       few = omega arith;

@@ -12,11 +12,11 @@ invariant_of-self c =
     let e = c.turn.ensures in
     let begins = c.if-not-may_begin.ensures.0 refl in
     let done = e.step [] in
-    stepped d.host c.turn.new.self d.served d.served d.out c.turn.new.out d.id d.hosts d.steps
+    stepped d.host c.turn.new.self d.served d.served d.out c.turn.new.out d.id d.hosts d.calls d.steps
     c.self.invariant begins.few e.steady (omega arith) done.sent
     (after d.host c.turn.new.self c.turn.new.out c.args.now begins.now_is _ [] (turn_rests d.host.settings d.host.host c.args.now) done e.last)
 
 pub returns-clause-step : goal.returns-clause-step
 returns-clause-step c =
-    subst (λ (d : Driven). IsDone d.host (turn_step d.host.settings d.host.host c.args.now) c.turn.new.self c.turn.new.out c.self.inside.scratch)
-    c.self.view_is (c.turn.ensures.step c.self.inside.scratch)
+    subst (λ (d : Driven). IsDone d.host (turn_step d.host.settings d.host.host c.args.now) c.turn.new.self c.turn.new.out c.set.new.self)
+    c.self.view_is (c.turn.ensures.step c.set.new.self)
