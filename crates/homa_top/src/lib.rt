@@ -1,8 +1,10 @@
-//! The top call: what the program does, from the words of the command line and the bytes that come in to
-//! the bytes that go out and the status.
+//! The top call: what the program does, from the words of the command line and the bytes that come in to the bytes that go
+//! out and the status.
 //!
-//! Main promise, the headline: where the words are `replay`, what the sink took is the replay text of the
-//! bytes that the source had, and the trace in it obeys all laws.
+//! The model: a source is what it has left, a sink what it took, a net the datagrams that it took and gave, a clock the ticks
+//! that it is to give. Main promise, the headline: where the words are `replay`, what the sink took is the replay text of the
+//! bytes that the source had, and the trace in it obeys all laws. Of each other command, too, what was printed is the text
+//! that its definition has for what came in.
 #![tactic(auto)]
 
 mod commands;
