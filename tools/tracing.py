@@ -6,7 +6,7 @@ import sys
 # The lines that begin a block: an event each.
 EVENTS = ("call", "deliver", "recv", "clock", "restart", "inject", "shift")
 LAST_LINES = ("ok", "refused", "stalled", "stranger")
-# Where the other lines that name a host have it, by their first word.
+# Where a line has its host, by its first word; those of calls and packets tell theirs in another way.
 HOSTS = {"restart": 1, "inject": 1, "junk": 1, "stale": 1, "run": 1, "drop": 1, "bury": 1, "free": 1, "full": 1, "gaps": 1, "balance": 1, "recv": 1, "shift": 1}
 SETTINGS = ("hosts", "seg", "window", "unsched", "overcommit", "rate", "resend", "tries", "life", "pages", "calls", "served", "rebalance", "skew", "wire")
 USUAL = dict(zip(SETTINGS, (2, 1400, 10000, 10000, 4, 14000, 4, 5, 20, 1024, 256, 1024, 0, 0, 1)))
