@@ -24,6 +24,7 @@ typedef struct {
     unsigned long done, failed;
 } node;
 
+static pid_t server;
 static uint64_t start_ns;
 static size_t request_len;
 static uint8_t request[MOST_MESSAGE], reversed[MOST_MESSAGE], message[MOST_MESSAGE];
@@ -31,6 +32,7 @@ static uint8_t request[MOST_MESSAGE], reversed[MOST_MESSAGE], message[MOST_MESSA
 static void need(bool holds, const char *what) {
     if (holds) return;
     fprintf(stderr, "echo: %s\n", what);
+    if (server > 0) kill(server, SIGKILL);
     exit(1);
 }
 
@@ -156,7 +158,7 @@ int main(int argc, char **argv) {
     settings.life = 1000;
     open_sockets(sockets);
     start_ns = nanoseconds();
-    pid_t server = fork();
+    server = fork();
     need(server >= 0, "fork");
     uint16_t id = server == 0;
     node n = { HOMA_CLOSED, sockets[id], 1 - id, 0, 0 };

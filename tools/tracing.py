@@ -1,13 +1,13 @@
 """What the tools share: a trace's lines, whole or thinned, and sums over its calls and packets."""
 import math
-import re
+import os
 import sys
 
-# A word of bytes, whole or as `*LENGTH`, as thin-trace writes it.
-BYTES = re.compile(r"-|\*\d+|(?:[0-9a-f]{2})+")
 # The lines that begin a block: an event each.
 EVENTS = ("call", "deliver", "recv", "clock", "restart", "inject", "shift")
 LAST_LINES = ("ok", "refused", "stalled", "stranger")
+# Where a line has its host, by its first word; those of calls and packets tell theirs in another way.
+HOSTS = {"restart": 1, "inject": 1, "junk": 1, "stale": 1, "run": 1, "drop": 1, "bury": 1, "free": 1, "full": 1, "gaps": 1, "balance": 1, "recv": 1, "shift": 1}
 SETTINGS = ("hosts", "seg", "window", "unsched", "overcommit", "rate", "resend", "tries", "life", "pages", "calls", "served", "rebalance", "skew", "wire")
 USUAL = dict(zip(SETTINGS, (2, 1400, 10000, 10000, 4, 14000, 4, 5, 20, 1024, 256, 1024, 0, 0, 1)))
 RANGES = dict(
@@ -81,10 +81,14 @@ class Sent:
 
 def lines_of(source):
     """The words of each line with its number, as long as the lines are those of a trace."""
+    is_over = False
     for number, line in enumerate(source, 1):
         words = line.rstrip("\n").split(" ")
         if not words[0].islower() or number == 1 and words[0] not in ("settings", "refused"):
             raise NoTrace(f"line {number} is no line of a trace: {line[:80].rstrip()}")
+        if is_over:
+            raise NoTrace(f"line {number} stands behind the last line of a trace: {line[:80].rstrip()}")
+        is_over = words[0] in LAST_LINES
         yield number, words
 
 
@@ -104,4 +108,21 @@ def share_of(values, share):
 
 def stop(tool, why, status=2):
     print(f"{tool}: {why}", file=sys.stderr)
+    sys.exit(status)
+
+
+def run(tool, main, faults=(NoTrace, OSError, ValueError, IndexError)):
+    """Runs a tool, and ends with its status: with 2 for these faults, where what it was given is no trace or can't be read, and with 141, as other
+    programs, where nobody reads any more what it prints."""
+    try:
+        try:
+            status = main()
+        finally:
+            sys.stdout.flush()
+    except BrokenPipeError:
+        # what is left to be written goes nowhere
+        os.dup2(os.open(os.devnull, os.O_WRONLY), 1)
+        status = 141
+    except faults as why:
+        stop(tool, why)
     sys.exit(status)
