@@ -98,7 +98,8 @@ int main(int n, char **words) {
     printf("%ld\n", now() - begun);
 }
 """
-count, folder = int(sys.argv[1]), tempfile.mkdtemp()
+count, room = int(sys.argv[1]), tempfile.TemporaryDirectory()
+folder = room.name
 for name, text, words in (("notes", NOTES, ["-shared", "-fPIC", "-ldl"]), ("echo", ECHO, [])):
     with open(f"{folder}/{name}.c", "w") as it:
         it.write(text)

@@ -9,7 +9,8 @@ cd "$(dirname "$0")/.."
 PYTHONPATH=tools exec python3 - "${1:-100000}" <<'P'
 import os, subprocess, sys, tempfile, time
 from nodes import PROGRAM, free_ports, knows, memory, script_of
-count, folder = int(sys.argv[1]), tempfile.mkdtemp()
+count, room = int(sys.argv[1]), tempfile.TemporaryDirectory()
+folder = room.name
 if not knows("record"):
     sys.exit(f"{PROGRAM} isn't built, or has no command `record`")
 EACH, SIZE = 20, 100

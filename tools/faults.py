@@ -13,6 +13,7 @@ LIBRARY = r"""
 #include <arpa/inet.h>
 #include <dlfcn.h>
 #include <errno.h>
+#include <poll.h>
 #include <stdarg.h>
 #include <stdio.h>
 #include <stdlib.h>
@@ -69,12 +70,29 @@ int ioctl(int fd, unsigned long request, ...) {
     if (request == FIONBIO) NET
     return real(fd, request, what);
 }
-/* with STEP a receive doesn't wait, and from its third reading on the clock goes on by so many microseconds each time: the first is
-   the node's start, and the second its first loop turn, which has tick 0 */
+static int port(const struct sockaddr *at) { return ntohs(((const struct sockaddr_in *) at)->sin_port); }
+static int own_port(int fd) {
+    struct sockaddr_in own;
+    socklen_t room = sizeof own;
+    getsockname(fd, (struct sockaddr *) &own, &room);
+    return port((struct sockaddr *) &own);
+}
+/* how many datagrams were sent to each port and haven't come: a system may hand one over after its `sendto` has returned */
+static unsigned long under_way[65536];
+/* with STEP a receive waits where a datagram is under way to it, for a second at most, and else not at all; and from its third
+   reading on the clock goes on by so many microseconds each time: the first is the node's start, and the second its first loop
+   turn, which has tick 0 */
 ssize_t recvfrom(int fd, void *to, size_t n, int flags, struct sockaddr *from, socklen_t *size) {
     REAL(recvfrom);
     NET
-    return real(fd, to, n, number("STEP") ? flags | MSG_DONTWAIT : flags, from, size);
+    if (!number("STEP")) return real(fd, to, n, flags, from, size);
+    unsigned long *left = &under_way[own_port(fd)];
+    if (*left) {
+        struct pollfd it = { fd, POLLIN, 0 };
+        poll(&it, 1, 1000);
+        --*left;
+    }
+    return real(fd, to, n, flags | MSG_DONTWAIT, from, size);
 }
 int clock_gettime(clockid_t id, struct timespec *to) {
     REAL(clock_gettime);
@@ -85,7 +103,6 @@ int clock_gettime(clockid_t id, struct timespec *to) {
     to->tv_nsec = passed % 1000000 * 1000;
     return 0;
 }
-static int port(const struct sockaddr *at) { return ntohs(((const struct sockaddr_in *) at)->sin_port); }
 /* each datagram is written down to the file that LOG names, with both ports; of each LOSE the last one is taken and not sent */
 ssize_t sendto(int fd, const void *from, size_t n, int flags, const struct sockaddr *to, socklen_t size) {
     REAL(sendto);
@@ -94,16 +111,14 @@ ssize_t sendto(int fd, const void *from, size_t n, int flags, const struct socka
     NET
     sends++;
     if (getenv("LOG")) {
-        struct sockaddr_in own;
-        socklen_t room = sizeof own;
-        getsockname(fd, (struct sockaddr *) &own, &room);
         if (!log) log = fopen(getenv("LOG"), "w");
-        fprintf(log, "%d %d ", port((struct sockaddr *) &own), port(to));
+        fprintf(log, "%d %d ", own_port(fd), port(to));
         for (size_t i = 0; i < n; i++) fprintf(log, "%02x", ((const unsigned char *) from)[i]);
         fputc('\n', log);
         fflush(log);
     }
     if (lose && sends % lose == 0) return n;
+    under_way[port(to)]++;
     return real(fd, from, n, flags, to, size);
 }
 """

@@ -1,11 +1,9 @@
 """Rows of tools/hostile for floods: a client whose calls never complete, beside another client's calls to the same server."""
-import signal
 import socket
 import subprocess
-import threading
 import time
 
-from hostile_nodes import Live, waits
+from hostile_nodes import Live, Sending, waits
 from nodes import LOOPBACK, PROGRAM, free_ports, is_bound, memory, script_of, until
 
 # Of each flood in a world: what its calls take of the server, the settings, the bytes of its requests, whether all of a request comes or its
@@ -119,12 +117,12 @@ def first_piece(seq, length, size):
     return bytes.fromhex("0101000700000001") + (1).to_bytes(4, "big") + seq.to_bytes(4, "big") + length.to_bytes(4, "big") + bytes(16) + bytes(size)
 
 
-class Sender(threading.Thread):
+class Sender(Sending):
     """Sends requests that never complete from host 0's port to host 2's, so many a second."""
 
     def __init__(self, ports, a_second, length, size):
         super().__init__()
-        self.ports, self.a_second, self.length, self.size, self.sent, self.is_over = ports, a_second, length, size, 0, False
+        self.ports, self.a_second, self.length, self.size = ports, a_second, length, size
 
     def run(self):
         with socket.socket(socket.AF_INET, socket.SOCK_DGRAM) as own:
@@ -153,29 +151,28 @@ def calls_of(lines, first, last):
     return len(own), sum(ended.get(it, False) for it in own), sum(it not in ended for it in own)
 
 
+def grows(server, seconds):
+    """What a server has asked for of memory when so many seconds are over, and when as many more are."""
+    sizes = []
+    for _ in range(2):
+        time.sleep(seconds)
+        sizes.append(memory(server.process, "VmData"))
+    return sizes
+
+
 def flooded(kind, a_second, length, size, ticks):
     """Two processes, a client and a server, under a flood that begins with them; at half of its time the server is killed, and another with the
     next incarnation takes its port. Yields as a row does."""
     ports, settings = free_ports(3), {"resend": 50, "life": 1000}
-    client = Live(script_of(ports, [f"at {k} call 1 2 0 {k:08x}" for k in range(10, ticks, 5)], here=[1], end=ticks + 600, **settings))
-    server = Live(script_of(ports, here=[2], end=10**6, **settings))
-    until(lambda: is_bound(ports[1]) and is_bound(ports[2]))
-    flood = Sender(ports, a_second, length, size)
-    flood.start()
-    time.sleep(ticks / 400)
-    sizes = [memory(server.process, "VmData")]
-    time.sleep(ticks / 400)
-    sizes.append(memory(server.process, "VmData"))
-    server.process.send_signal(signal.SIGKILL)
-    server.end()
-    full = sum(line.startswith("full 2 ") for line in server.lines())
-    server = Live(script_of(ports, here=[2], end=10**6, inc=2, **settings))
-    status = client.end()
-    flood.is_over = True
-    flood.join()
-    server.process.send_signal(signal.SIGKILL)
-    server.end()
-    lines = client.lines()
+    with Live(script_of(ports, [f"at {k} call 1 2 0 {k:08x}" for k in range(10, ticks, 5)], here=[1], end=ticks + 600, **settings)) as client:
+        with Live(script_of(ports, here=[2], end=10**6, **settings)) as server:
+            until(lambda: is_bound(ports[1]) and is_bound(ports[2]))
+            with Sender(ports, a_second, length, size):
+                sizes = grows(server, ticks / 400)
+                server.kill()
+                with Live(script_of(ports, here=[2], end=10**6, inc=2, **settings)):
+                    status = client.end()
+    full, lines = sum(line.startswith("full 2 ") for line in server.lines()), client.lines()
     before, behind, every = calls_of(lines, 0, ticks // 2), calls_of(lines, ticks // 2, ticks), calls_of(lines, 0, ticks)
     took = waits(lines)
     figure = (f"{kind}, {a_second} a second: {before[1]} of {before[0]} done, and {behind[1]} of {behind[0]} behind the server's restart; "

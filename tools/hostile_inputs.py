@@ -56,24 +56,27 @@ def bent(draw, data):
 
 
 def is_end(word, status, told):
-    """Whether a run ended as its last line says: a schedule's or a script's with `ok`, `stalled` or `refused`, a verdict with yes or no."""
+    """Whether a run ended as its last line says: a schedule's or a script's with `ok`, `stalled` or `refused`, a verdict with yes or no. A node whose port
+    can't be had has no line."""
     last = told.rsplit(b"\n", 2)[-2] if told.endswith(b"\n") else b""
     if word == "check":
         return {0: b"yes ", 2: b"no "}.get(status) == last[: 4 if status == 0 else 3]
+    if word in ("node", "record") and status == 6:
+        return told == b""
     firsts = {0: b"# ok " if word == "record" else b"ok ", 2: b"refused ", **({7: b"stalled "} if word in ("node", "record") else {})}
     return status in firsts and last.startswith(firsts[status])
 
 
 def bent_inputs(faults, chosen):
-    """Schedules, traces and scripts with something changed: the status is 0, 2 or, of a node, 7, the last line says the same, and `check` says
+    """Schedules, traces and scripts with something changed: the status is 0, 2 or, of a node, 7 or 6, the last line says the same, and `check` says
     yes to a replay's trace up to there."""
     draw, until, k = random.Random(f"bent {chosen.seed}"), time.monotonic() + chosen.minutes * 8, 0
     with open(os.path.join(TOP, "crates", "homa", "stdin"), "rb") as it:
         schedules = [it.read(), homa(["make", str(chosen.seed), "3"]).stdout]
-    traces = [homa(["replay"], it).stdout for it in schedules]
+    traces, scripts = [homa(["replay"], it).stdout for it in schedules], [smallest()]
     while k < 30 or time.monotonic() < until:
         k += 1
-        for word, inputs, how in (("replay", schedules, {}), ("check", traces, {}), *((word, [smallest()], STEPS) for word in chosen.words)):
+        for word, inputs, how in (("replay", schedules, {}), ("check", traces, {}), *((word, scripts, STEPS) for word in chosen.words)):
             given = bent(draw, draw.choice(inputs))
             got = faults.run([word], given, **how) if how else homa([word], given)
             yield is_end(word, got.returncode, got.stdout), f"{word} of input {k} of seed {chosen.seed}: status {got.returncode}, {got.stdout[-60:]}"

@@ -1,9 +1,11 @@
 """Rows of tools/hostile for `homa node` and `homa record`, over sockets of this machine."""
 import os
 import random
+import shutil
 import signal
 import socket
 import subprocess
+import tempfile
 import threading
 import time
 
@@ -28,15 +30,26 @@ def request_of(k, size):
 
 
 class Live:
-    """A process of `homa node` that runs, with what it prints."""
+    """A process of `homa node` that runs, with what it prints. Its script is a file: a node reads as it goes, so a long one would fill a pipe."""
 
-    def __init__(self, script, **how):
-        self.process = subprocess.Popen([PROGRAM, "node"], stdin=subprocess.PIPE, stdout=subprocess.PIPE, **how)
+    def __init__(self, script):
+        with tempfile.TemporaryFile() as given:
+            given.write(script.encode())
+            given.seek(0)
+            self.process = subprocess.Popen([PROGRAM, "node"], stdin=given, stdout=subprocess.PIPE)
         self.told = b""
-        self.reader = threading.Thread(target=self.read)
+        self.reader = threading.Thread(target=self.read, daemon=True)
         self.reader.start()
-        self.process.stdin.write(script.encode())
-        self.process.stdin.close()
+
+    def __enter__(self):
+        return self
+
+    def __exit__(self, *_):
+        self.kill()
+
+    def kill(self):
+        self.process.kill()
+        self.end()
 
     def read(self):
         while part := os.read(self.process.stdout.fileno(), 1 << 20):
@@ -48,6 +61,10 @@ class Live:
 
     def lines(self):
         return self.told.decode().splitlines()
+
+    def verdict(self):
+        """What `check` says of the lines."""
+        return subprocess.run([PROGRAM, "check"], input=self.told, capture_output=True).stdout.decode().strip()
 
 
 def echoed(lines, client, count):
@@ -76,15 +93,36 @@ def failing_nets(faults, chosen):
 
 def taken_ports(faults, chosen):
     """A port that another socket has, and one that an ordinary user may not have: status 6, and nothing printed."""
+    least = least_port()
+    said = [] if least > 1023 else [f"port 1023 isn't tried: an ordinary user may have the ports from {least} on"]
     for word in chosen.words:
         with socket.socket(socket.AF_INET, socket.SOCK_DGRAM) as taken:
             taken.bind((LOOPBACK, 0))
             (free,) = free_ports(1)
             got = subprocess.run([PROGRAM, word], input=script_of([free, taken.getsockname()[1]]).encode(), capture_output=True)
-        yield (got.returncode, got.stdout) == (6, b""), f"{word} at a port in use: status {got.returncode}"
-        how = {"user": 65534, "group": 65534, "extra_groups": []} if os.getuid() == 0 else {}
-        got = subprocess.run([PROGRAM, word], input=script_of([free, 1023]).encode(), capture_output=True, **how)
-        yield (got.returncode, got.stdout) == (6, b""), f"{word} at port 1023 as an ordinary user: status {got.returncode}"
+        yield (got.returncode, got.stdout) == (6, b""), f"{word} at a port in use: status {got.returncode}", *said
+        if not said:
+            got = as_ordinary(word, script_of([free, 1023]))
+            yield (got.returncode, got.stdout) == (6, b""), f"{word} at port 1023 as an ordinary user: status {got.returncode}"
+
+
+def least_port():
+    """The least port that an ordinary user may have."""
+    name = "/proc/sys/net/ipv4/ip_unprivileged_port_start"
+    if not os.path.exists(name):
+        return 1024
+    with open(name) as it:
+        return int(it.read())
+
+
+def as_ordinary(word, script):
+    """The run of a script as a user who isn't root: of a copy of the program, since that user may not see the folder that it stands in."""
+    how = {"user": 65534, "group": 65534, "extra_groups": []} if os.getuid() == 0 else {}
+    with tempfile.TemporaryDirectory() as folder:
+        os.chmod(folder, 0o711)
+        copy = shutil.copy(PROGRAM, folder)
+        os.chmod(copy, 0o755)
+        return subprocess.run([copy, word], input=script.encode(), capture_output=True, **how)
 
 
 def long_datagrams(faults, chosen):
@@ -92,7 +130,7 @@ def long_datagrams(faults, chosen):
     ports = free_ports(3)
     with socket.socket(socket.AF_INET, socket.SOCK_DGRAM) as other:
         other.bind((LOOPBACK, ports[2]))
-        live = Live(script_of(ports, calls_at(0, 1, 20), here=[0, 1], end=100))
+        live = Live(script_of(ports, calls_at(0, 1, 20), here=[0, 1], end=500))
         until(lambda: is_bound(ports[0]))
         for size in (1500, 1501, 65507):
             other.sendto(bytes(k % 251 for k in range(size)), (LOOPBACK, ports[0]))
@@ -106,39 +144,26 @@ def long_datagrams(faults, chosen):
 
 def many_hosts(faults, chosen):
     """32 local hosts, with settings for the length of their loop turn: no datagram comes later than `life`."""
+    made = [f"at {k} call {k % 32} {(k + 7) % 32} 2 *{1 + 50 * k}" for k in range(64)]
     for settings in ({"resend": 200, "life": 5000}, {"resend": 200, "life": 5000, "wire": 2}):
-        live = Live(script_of(free_ports(32), [f"at {k} call {k % 32} {(k + 7) % 32} 2 *{1 + 50 * k}" for k in range(64)], end=300, **settings))
+        live = Live(script_of(free_ports(32), made, end=600, **settings))
         status, lines = live.end(), live.lines()
         flow = Flow(lines, settings.get("wire", 1))
         calls, done = answers(lines)
         right = sum(bytes.fromhex(calls[id][2])[::-1].hex() == done[id] for id in done)
         yield status == 0 and lines[-1].startswith("ok ") and right == 64, f"32 hosts: status {status}, {right} of 64 calls done"
         oldest, turns = max((5001 if it is None else it for it in flow.ages), default=5001), int(lines[-1].split()[1])
-        yield oldest <= 5000, f"32 hosts: a datagram that came {oldest} ticks after it was sent", f"{300 / turns:.0f} ticks a loop turn, oldest datagram {oldest}"
-        verdict = subprocess.run([PROGRAM, "check"], input=live.told, capture_output=True).stdout
-        yield verdict == b"yes %d\n" % len(lines), f"32 hosts: {verdict.decode().strip()}"
+        yield oldest <= 5000, f"32 hosts: a datagram that came {oldest} ticks after it was sent", f"{600 / turns:.0f} ticks a loop turn, oldest datagram {oldest}"
+        verdict = live.verdict()
+        yield verdict == f"yes {len(lines)}", f"32 hosts: {verdict}"
 
 
 def stopped_nodes(faults, chosen):
-    """SIGSTOP for 100 ms and SIGCONT, five times: the clock jumps, and the run goes on. SIGTERM, input that is late or cut, and
-    output or input that can't be had."""
-    script = script_of(free_ports(2), calls_at(0, 1, 50), end=120)
-    live = Live(script)
-    for _ in range(5):
-        time.sleep(0.1)
-        live.process.send_signal(signal.SIGSTOP)
-        time.sleep(0.1)
-        live.process.send_signal(signal.SIGCONT)
-    status = live.end()
-    verdict = subprocess.run([PROGRAM, "check"], input=live.told, capture_output=True).stdout
-    yield status == 0 and echoed(live.lines(), 0, 50) == 50 and verdict.startswith(b"yes "), f"stopped and continued: status {status}, {verdict.decode().strip()}"
-    live = Live(script)
-    time.sleep(0.3)
-    live.process.send_signal(signal.SIGTERM)
-    status = live.end()
-    verdict = subprocess.run([PROGRAM, "check"], input=live.told, capture_output=True).stdout
-    yield status == -signal.SIGTERM and live.told.endswith(b"\n") and verdict.startswith(b"yes "), f"SIGTERM: status {status}, {verdict.decode().strip()}"
+    """A node that is stopped or ended by a signal, input that is late or cut, and output or input that can't be had."""
+    yield stopped()
+    yield ended()
     yield late_input(), "a script whose second call comes late"
+    script = script_of(free_ports(2), calls_at(0, 1, 50), end=120)
     got = subprocess.run([PROGRAM, "node"], input=script.rstrip().rpartition(" ")[0].encode(), capture_output=True)
     yield got.returncode == 2 and got.stdout.endswith(b"\nrefused 56 Missing\n"), f"a script that is cut in its last line: status {got.returncode}"
     for word in chosen.words:
@@ -156,25 +181,63 @@ def stopped_nodes(faults, chosen):
         yield (got.returncode, got.stdout) == (3, b""), f"{word} with a folder as input: status {got.returncode}"
 
 
+def stopped():
+    """SIGSTOP for 100 ms and SIGCONT, five times: the clock jumps, and the run goes on."""
+    live = Live(script_of(free_ports(2), calls_at(0, 1, 50), end=400, life=1000))
+    for _ in range(5):
+        time.sleep(0.1)
+        live.process.send_signal(signal.SIGSTOP)
+        time.sleep(0.1)
+        live.process.send_signal(signal.SIGCONT)
+    status, done, said = live.end(), echoed(live.lines(), 0, 50), live.verdict()
+    return status == 0 and done == 50 and said.startswith("yes "), f"stopped and continued: status {status}, {done} of 50 calls done, check says {said}"
+
+
+def ended():
+    """SIGTERM in the midst of a run: what was printed are whole lines, to which `check` says yes."""
+    live = Live(script_of(free_ports(2), calls_at(0, 1, 50), end=3000, life=1000))
+    is_running = until(lambda: b"\ndone " in live.told)
+    live.process.send_signal(signal.SIGTERM)
+    status, said = live.end(), live.verdict()
+    is_right = is_running and status == -signal.SIGTERM and live.told.endswith(b"\n") and said.startswith("yes ")
+    return is_right, f"SIGTERM: status {status}, check says {said}"
+
+
 def late_input():
     """A node waits for its next line, and goes on when that comes: the clock has jumped, and both calls are done."""
-    first, second = script_of(free_ports(2), ["at 0 call 0 1 0 6869", "at 1 call 0 1 0 6a6b"], end=80).rsplit("at ", 1)
+    first, second = script_of(free_ports(2), ["at 0 call 0 1 0 6869", "at 1 call 0 1 0 6a6b"], end=300).rsplit("at ", 1)
     it = subprocess.Popen([PROGRAM, "node"], stdin=subprocess.PIPE, stdout=subprocess.PIPE, text=True)
     it.stdin.write(first)
     it.stdin.flush()
-    time.sleep(0.5)
+    time.sleep(0.2)
     it.stdin.write(f"at {second}")
     it.stdin.close()
     lines = it.stdout.read().splitlines()
     return it.wait() == 0 and "done 0.1.0 6869" in lines and "done 0.1.1 6a6b" in lines
 
 
-class Flood(threading.Thread):
+class Sending(threading.Thread):
+    """A thread that sends datagrams while a block of code runs, however that ends."""
+
+    def __init__(self):
+        super().__init__(daemon=True)
+        self.sent, self.is_over = 0, False
+
+    def __enter__(self):
+        self.start()
+        return self
+
+    def __exit__(self, *_):
+        self.is_over = True
+        self.join()
+
+
+class Flood(Sending):
     """Sends datagrams to the local hosts of a node, from a host elsewhere and from a socket that no script names."""
 
     def __init__(self, ports, draw, a_second, changed):
         super().__init__()
-        self.ports, self.draw, self.a_second, self.changed, self.sent, self.is_over = ports, draw, a_second, changed, 0, False
+        self.ports, self.draw, self.a_second, self.changed = ports, draw, a_second, changed
 
     def datagram(self):
         """Random bytes, a changed packet, or one that speaks of a call under way."""
@@ -202,34 +265,37 @@ class Flood(threading.Thread):
         unknown.close()
 
 
-def trickle(port, to, a_second, is_over):
-    """Sends a byte to a port so often, from a port (0: any), until it is over."""
-    with socket.socket(socket.AF_INET, socket.SOCK_DGRAM) as it:
-        it.bind((LOOPBACK, port))
-        begun, sent = time.monotonic(), 0
-        while not is_over.is_set():
-            it.sendto(b"x", (LOOPBACK, to))
-            sent += 1
-            is_over.wait(max(0.0, begun + sent / a_second - time.monotonic()))
+class Trickle(Sending):
+    """Sends a byte to a port so many times a second, one by one, from a port (0: any)."""
+
+    def __init__(self, port, to, a_second):
+        super().__init__()
+        self.port, self.to, self.a_second = port, to, a_second
+
+    def run(self):
+        with socket.socket(socket.AF_INET, socket.SOCK_DGRAM) as it:
+            it.bind((LOOPBACK, self.port))
+            begun = time.monotonic()
+            while self.a_second and not self.is_over:
+                it.sendto(b"x", (LOOPBACK, self.to))
+                self.sent += 1
+                time.sleep(max(0.0, begun + self.sent / self.a_second - time.monotonic()))
 
 
 def trickles(faults, chosen):
-    """Datagrams that come one by one, 400 a second of a socket that no script names and 20 of a host elsewhere: loop turns stay short."""
+    """Datagrams that come one by one, 400 a second of a socket that no script names and 20 of a host elsewhere: loop turns stay short, of ten ticks in
+    the mean at most. The longest one is a figure alone, since the machine may stand still for as long."""
     for known, unknown in ((250, 0), (0, 250), (20, 400)):
-        ports, is_over = free_ports(3), threading.Event()
-        live = Live(script_of(ports, calls_at(0, 1, 60, every=10), here=[0, 1], end=700, resend=50, life=1000))
+        ports = free_ports(3)
+        live = Live(script_of(ports, calls_at(0, 1, 60, every=5), here=[0, 1], end=700, resend=50, life=1000))
         until(lambda: is_bound(ports[1]))
-        senders = [threading.Thread(target=trickle, args=(port, ports[0], often, is_over)) for port, often in ((ports[2], known), (0, unknown)) if often]
-        for it in senders:
-            it.start()
-        status = live.end()
-        is_over.set()
-        for it in senders:
-            it.join()
-        lines = live.lines()
-        longest, took = longest_turn(lines), waits(lines)
-        what = f"{known} a second of a host elsewhere, {unknown} of a stranger: status {status}, {echoed(lines, 0, 60)} of 60 calls done, a loop turn of {longest} ticks"
-        yield status == 0 and echoed(lines, 0, 60) == 60 and longest <= 50, what, f"{what}, calls took at most {took[-1] if took else '-'}"
+        with Trickle(ports[2], ports[0], known), Trickle(0, ports[0], unknown):
+            status = live.end()
+        lines, done = live.lines(), echoed(live.lines(), 0, 60)
+        turns, took = int(lines[-1].split()[1]) if status == 0 else 0, waits(lines)
+        what = (f"{known} a second of a host elsewhere, {unknown} of a stranger: status {status}, {done} of 60 calls done, {turns} loop turns, "
+                f"the longest of {longest_turn(lines)} ticks")
+        yield status == 0 and done == 60 and turns >= 70, what, f"{what}, calls took at most {took[-1] if took else '-'}"
 
 
 def longest_turn(lines):
@@ -258,10 +324,15 @@ class Flooded:
 
     def __init__(self, chosen, a_second, seconds, count):
         ports = free_ports(3)
-        live = Live(script_of(ports, calls_at(0, 1, count, every=5), here=[0, 1], end=int(seconds * 100) + 400, resend=50, life=1000))
-        until(lambda: is_bound(ports[1]))
-        flood = Flood(ports, random.Random(chosen.seed), a_second, chosen.changed)
-        flood.start()
+        script = script_of(ports, calls_at(0, 1, count, every=5), here=[0, 1], end=int(seconds * 100) + 400, resend=50, life=1000)
+        with Live(script) as live:
+            until(lambda: is_bound(ports[1]))
+            with Flood(ports, random.Random(chosen.seed), a_second, chosen.changed) as flood:
+                self.watch(live, ports[:2])
+                self.status = live.end()
+        self.sent, self.lines = flood.sent, live.lines()
+
+    def watch(self, live, ports):
         self.sizes, self.dropped = [], 0
         while live.process.poll() is None:
             time.sleep(0.2)
@@ -269,11 +340,7 @@ class Flooded:
                 self.sizes.append((memory(live.process, "VmData"), memory(live.process)))
             except (FileNotFoundError, StopIteration, ProcessLookupError):
                 break
-            self.dropped = max(self.dropped, dropped(ports[:2]))
-        self.status = live.end()
-        flood.is_over = True
-        flood.join()
-        self.sent, self.lines = flood.sent, live.lines()
+            self.dropped = max(self.dropped, dropped(ports))
 
     def figure(self, right, count):
         first, took = [line.split(" ")[0] for line in self.lines], waits(self.lines)

@@ -11,7 +11,6 @@ from hostile_inputs import homa
 from nodes import PROGRAM
 
 SMALLEST = b"go\ncall 0 1 0 6869\ndeliver 0\ndeliver 1\n"
-BIG = b"go\n" + b"call 0 1 0 *1000\ntick 1\n" * 200
 USAGE = b"usage: homa replay | make SEED CALLS | gen SEED CALLS | node | record | check | quiet N M\n"
 
 

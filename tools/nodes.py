@@ -9,8 +9,6 @@ from tracing import Sent
 TOP = os.path.dirname(os.path.dirname(os.path.abspath(__file__)))
 PROGRAM = os.environ.get("HOMA", os.path.join(TOP, "crates", "homa", "out", "homa"))
 LOOPBACK = "127.0.0.1"
-# How many milliseconds a tick of the real clock has.
-TICK = 10
 
 
 def knows(word, program=PROGRAM):
