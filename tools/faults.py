@@ -61,13 +61,18 @@ ssize_t write(int fd, const void *from, size_t n) {
 int socket(int domain, int type, int protocol) { REAL(socket); NET return real(domain, type, protocol); }
 int bind(int fd, const struct sockaddr *at, socklen_t size) { REAL(bind); NET return real(fd, at, size); }
 int setsockopt(int fd, int level, int name, const void *value, socklen_t size) { REAL(setsockopt); NET return real(fd, level, name, value, size); }
+/* with FULL a socket has no room to send while it doesn't wait */
+static char is_full[1024];
 int ioctl(int fd, unsigned long request, ...) {
     va_list more;
     va_start(more, request);
     void *what = va_arg(more, void *);
     va_end(more);
     REAL(ioctl);
-    if (request == FIONBIO) NET
+    if (request == FIONBIO) {
+        NET
+        is_full[fd % 1024] = number("FULL") && *(int *) what;
+    }
     return real(fd, request, what);
 }
 static int port(const struct sockaddr *at) { return ntohs(((const struct sockaddr_in *) at)->sin_port); }
@@ -108,6 +113,7 @@ ssize_t sendto(int fd, const void *from, size_t n, int flags, const struct socka
     REAL(sendto);
     static FILE *log;
     unsigned long lose = number("LOSE");
+    if (is_full[fd % 1024]) { errno = EAGAIN; return -1; }
     NET
     sends++;
     if (getenv("LOG")) {
@@ -136,7 +142,7 @@ class Faults:
 
     def environment(self, **faults):
         """The surroundings of a run with these faults; each name is that of one in the library: REFUSE, FAIL_READ, FAIL_WRITE, FAIL_NET
-        (the number of the call that fails), FROM (1: each later one fails, too), ERRNO, SHORT, LOSE, LOG, STEP."""
+        (the number of the call that fails), FROM (1: each later one fails, too), ERRNO, SHORT, LOSE, LOG, STEP, FULL."""
         return {**os.environ, "LD_PRELOAD": self.library, **{name: str(value) for name, value in faults.items()}}
 
     def run(self, words, given=b"", program=PROGRAM, **faults):

@@ -56,6 +56,20 @@ fn wait(socket: &UdpSocket, is_waiting: bool) -> Result<(), NetFailed> {
     socket.set_nonblocking(!is_waiting).map_err(|_| NetFailed)
 }
 
+// Sends bytes to an address. Where the socket doesn't wait and there is no room for them, it waits for room, this once.
+fn send(socket: &UdpSocket, bytes: &[u8], to: SocketAddr) -> Result<usize, NetFailed> {
+    match socket.send_to(bytes, to) {
+        Ok(sent) => Ok(sent),
+        Err(e) if e.kind() == ErrorKind::WouldBlock => {
+            wait(socket, true)?;
+            let sent = socket.send_to(bytes, to).map_err(|_| NetFailed)?;
+            wait(socket, false)?;
+            Ok(sent)
+        }
+        Err(_) => Err(NetFailed),
+    }
+}
+
 // What a send answers that took so many of its bytes: a part is a fault.
 fn answer_to_sent(sent: usize, len: usize) -> Result<(), NetFailed>
     ensures { IsOk result ↔ (sent ≡ len) }
@@ -160,15 +174,15 @@ impl Sockets {
         None
     }
 
-    /// Sends bytes from the socket of a host to the port of another one. A part that is sent is a fault.
+    /// Sends bytes from the socket of a host to the port of another one, as soon as the system has room for them. A part that is
+    /// sent is a fault.
     pub(crate) fn transmit(&self, from: HostId, to: HostId, bytes: &[u8]) -> Result<(), NetFailed>
         ensures from { OnOk result (IsSome (beside (sockets_of self.now) from)) }
         ensures to { OnOk result (IsSome (beside (ports_of self.now) to)) }
     {
         let socket = self.socket(from)?;
         let to = address(self.port(to)?);
-        let sent = socket.send_to(bytes, to).map_err(|_| NetFailed)?;
-        answer_to_sent(sent, bytes.len())
+        answer_to_sent(send(socket, bytes, to)?, bytes.len())
     }
 
     /// Receives a datagram for a host from another one that is known. Behind a datagram, whoever sent it, the host's receives
