@@ -1,8 +1,7 @@
--- Whether a message became whole in a step, by its marks, and what is shown where none did.
-use Rattle.std.proofs.Common.{◌≡◌, ℕ, zero, suc, ◌+◌, ◌||◌, Bool, true, false, Some, List, [], ◌∷◌, map, take, refl, sym, ap, ap₂, ◌∙◌, arith}
-use Rattle.std.specs.Prelude.{slice_get}
+-- What is shown of a step in which no message became whole.
+use Rattle.std.proofs.Common.{◌≡◌, ℕ, false, List, [], ◌∷◌, map, refl, sym, ap₂, ◌∙◌}
 use Rattle.std.specs.List.{AllByRecursion}
-use Rattle.plain_sets.proofs.MapMembers.{same_some}
+use Rattle.std.proofs.lemmas.Bool.{or_parts}
 use Rattle.homa_plain.specs.Steps.{Work}
 use Rattle.host_view.specs.declared.mark.Mark.{Mark}
 use Rattle.host_view.specs.declared.mark.Mark.TheVariants.{Called, Junk, Stale, Balanced, Ran, Done, Failed, Dropped, TooManyGaps, Entombed, Freed}
@@ -12,39 +11,6 @@ use Rattle.host_view.specs.Seen.{Seen}
 use Rattle.host_view.specs.Marks.{shown, IsAllowed}
 use Rattle.host_view.specs.Done.{IsDone}
 use Rattle.asking_host.specs.Asking.{is_whole, has_whole}
-
--- ---- marks read one after the other
-
-or_true : (b : Bool) → (b || true) ≡ true
-or_true true = refl
-or_true false = refl
-
-left_of : (a b : Bool) → (a || b) ≡ false → a ≡ false
-left_of true b e = e
-left_of false b e = refl
-
-right_of : (a b : Bool) → (a || b) ≡ false → b ≡ false
-right_of true b e = cc
-right_of false b e = e
-
-pub whole_at : (ms : List Mark) (i : ℕ) (m : Mark) → slice_get ms i ≡ Some m → is_whole m ≡ true → has_whole ms ≡ true
-whole_at [] i m at is = cc
-whole_at (x ∷ ms) zero m at is = ap (λ b. b || has_whole ms) (ap is_whole (same_some x m at) ∙ is)
-whole_at (x ∷ ms) (suc i) m at is = ap (λ b. is_whole x || b) (whole_at ms i m at is) ∙ or_true (is_whole x)
-
-not_whole : (ms : List Mark) (i : ℕ) (m : Mark) → slice_get ms i ≡ Some m → is_whole m ≡ false → has_whole (take i ms) ≡ false
-    → has_whole (take (suc i) ms) ≡ false
-not_whole [] i m at is before = cc
-not_whole (x ∷ ms) zero m at is before = ap (λ b. b || false) (ap is_whole (same_some x m at) ∙ is)
-not_whole (x ∷ ms) (suc i) m at is before =
-    ap (λ b. b || has_whole (take (suc i) ms)) (left_of (is_whole x) (has_whole (take i ms)) before)
-    ∙ not_whole ms i m at is (right_of (is_whole x) (has_whole (take i ms)) before)
-
-pub none_whole : (ms : List Mark) (i : ℕ) (m : Mark) → slice_get ms i ≡ Some m → is_whole m ≡ false → has_whole (take i ms) ≡ false
-    → has_whole (take (i + 1) ms) ≡ false
-none_whole ms i m at is before = ap (λ k. has_whole (take k ms)) {x = i + 1} {y = suc i} (omega arith) ∙ not_whole ms i m at is before
-
--- ---- where none became whole, nothing is shown of a message
 
 module _ (h : Seen) (frames : List SentFrame) (w v : List ℕ) where
   same_shown : (m : Mark) → is_whole m ≡ false → shown h frames w m ≡ shown h frames v m
@@ -66,7 +32,7 @@ module _ (h : Seen) (frames : List SentFrame) (w v : List ℕ) where
   same_entries : (ms : List Mark) → has_whole ms ≡ false → map (shown h frames w) ms ≡ map (shown h frames v) ms
   same_entries [] none = refl
   same_entries (m ∷ ms) none =
-      ap₂ (λ x xs. x ∷ xs) (same_shown m (left_of (is_whole m) (has_whole ms) none)) (same_entries ms (right_of (is_whole m) (has_whole ms) none))
+      ap₂ (λ x xs. x ∷ xs) (same_shown m (or_parts (is_whole m) (has_whole ms) none).0) (same_entries ms (or_parts (is_whole m) (has_whole ms) none).1)
 
   -- a step is shown with any message, where none became whole
   pub done_with : (old : Seen) (step : Work) → has_whole h.marks ≡ false → IsDone old step h frames w → IsDone old step h frames v
@@ -101,4 +67,4 @@ module _ (h : Seen) (allows : ℕ → List ℕ → List ℕ → ℕ → Type 0) 
       → AllByRecursion (IsAllowed h.host allows v) ms
   allowed_with [] none all = all
   allowed_with (m ∷ ms) none all =
-      (same_allowed m (left_of (is_whole m) (has_whole ms) none) all.0, allowed_with ms (right_of (is_whole m) (has_whole ms) none) all.1)
+      (same_allowed m (or_parts (is_whole m) (has_whole ms) none).0 all.0, allowed_with ms (or_parts (is_whole m) (has_whole ms) none).1 all.1)

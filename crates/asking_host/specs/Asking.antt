@@ -1,5 +1,6 @@
 -- A host whose requests its caller answers.
-use Rattle.std.specs.Prelude.{◌≡◌, ◌≢◌, ◌<◌, ◌≤◌, ◌*◌, ◌^◌, ◌||◌, ℕ, Bool, true, false, List, [], ◌∷◌}
+use Rattle.std.specs.Prelude.{◌≡◌, ◌≢◌, ◌<◌, ◌≤◌, ◌*◌, ◌^◌, ℕ, Bool, true, false, List, []}
+use Rattle.std.specs.List.{list_any}
 use Rattle.plain_sets.specs.Maps.{empty, len}
 use Rattle.homa_plain.specs.declared.id.HostId.{HostId}
 use Rattle.homa_plain.specs.declared.settings.Settings.{Settings}
@@ -44,8 +45,7 @@ is_whole mark = false
 
 -- a message became whole in a step with these marks
 abbrev pub has_whole : List Mark → Bool
-has_whole [] = false
-has_whole (mark ∷ marks) = is_whole mark || has_whole marks
+has_whole marks = list_any is_whole marks
 
 -- the answer that the caller has in hand, which is none where it has no bytes
 abbrev pub IsGiven : List ℕ → ℕ → List ℕ → List ℕ → ℕ → Type 0
