@@ -153,7 +153,8 @@ def many_hosts(faults, chosen):
         right = sum(bytes.fromhex(calls[id][2])[::-1].hex() == done[id] for id in done)
         yield status == 0 and lines[-1].startswith("ok ") and right == 64, f"32 hosts: status {status}, {right} of 64 calls done"
         oldest, turns = max((5001 if it is None else it for it in flow.ages), default=5001), int(lines[-1].split()[1])
-        yield oldest <= 5000, f"32 hosts: a datagram that came {oldest} ticks after it was sent", f"{600 / turns:.0f} ticks a loop turn, oldest datagram {oldest}"
+        figure = f"{600 / turns:.0f} ticks a loop turn, oldest datagram {oldest}"
+        yield oldest <= 5000, f"32 hosts: a datagram that came {oldest} ticks after it was sent", figure
         verdict = live.verdict()
         yield verdict == f"yes {len(lines)}", f"32 hosts: {verdict}"
 
@@ -318,29 +319,31 @@ def waits(lines):
     return sorted(took)
 
 
+def sizes_of(process, seconds):
+    """The memory of a process, five times a second, for so many seconds or until it ends: what it has asked for, and what is resident."""
+    last = time.monotonic() + seconds
+    while time.monotonic() < last:
+        time.sleep(0.2)
+        try:
+            yield memory(process, "VmData"), memory(process)
+        except (FileNotFoundError, StopIteration, ProcessLookupError):
+            return
+
+
 class Flooded:
-    """The run of a node with two hosts under so many foreign datagrams a second: its status, its lines, its memory as it went on (what it has asked for,
-    and what is resident), and how many datagrams the system dropped, as a socket's buffer was full."""
+    """The run of a node with two hosts, for so many seconds under foreign datagrams, and for ten more without them: its status, its lines, its memory
+    under them, and how many datagrams the system dropped, as a socket's buffer was full."""
 
     def __init__(self, chosen, a_second, seconds, count):
         ports = free_ports(3)
-        script = script_of(ports, calls_at(0, 1, count, every=5), here=[0, 1], end=int(seconds * 100) + 400, resend=50, life=1000)
+        script = script_of(ports, calls_at(0, 1, count, every=5), here=[0, 1], end=int(seconds * 100) + 1000, resend=50, life=1000)
         with Live(script) as live:
             until(lambda: is_bound(ports[1]))
             with Flood(ports, random.Random(chosen.seed), a_second, chosen.changed) as flood:
-                self.watch(live, ports[:2])
-                self.status = live.end()
+                self.sizes = list(sizes_of(live.process, seconds))
+            self.dropped = dropped(ports[:2])
+            self.status = live.end()
         self.sent, self.lines = flood.sent, live.lines()
-
-    def watch(self, live, ports):
-        self.sizes, self.dropped = [], 0
-        while live.process.poll() is None:
-            time.sleep(0.2)
-            try:
-                self.sizes.append((memory(live.process, "VmData"), memory(live.process)))
-            except (FileNotFoundError, StopIteration, ProcessLookupError):
-                break
-            self.dropped = max(self.dropped, dropped(ports))
 
     def figure(self, right, count):
         first, took = [line.split(" ")[0] for line in self.lines], waits(self.lines)
@@ -351,9 +354,9 @@ class Flooded:
 
 
 def foreign_datagrams(faults, chosen):
-    """A live node under foreign datagrams: each call runs once and is done with its own bytes, within its client's patience; one may fail where the
-    system dropped datagrams, since the node had too little of the processor. No memory is asked for behind the run's first quarter (what was asked for
-    at the opening is first written when it is used)."""
+    """A live node under foreign datagrams: each call runs once and is done with its own bytes, within its client's patience. Where the system dropped
+    datagrams, since the node had too little of the processor, one may fail, and take longer: a client that hears of its server is patient anew. No memory
+    is asked for behind the flood's first quarter (what was asked for at the opening is first written when it is used)."""
     seconds = min(60.0, max(4.0, chosen.minutes * 6))
     for a_second in (0, 200, 1000, 5000):
         count = int(seconds * 20)
@@ -369,5 +372,5 @@ def foreign_datagrams(faults, chosen):
         yield ran.status == 0, what, ran.figure(right, count)
         # A call asks once in each of six turns that come when its patience is over or later, so it lasts that much longer where turns are late.
         most = 300 + 6 * longest_turn(ran.lines)
-        yield took[-1] <= most, f"{a_second} a second: a call took {took[-1]} ticks, which is beyond a client's patience of {most}"
+        yield ran.dropped > 0 or took[-1] <= most, f"{a_second} a second: a call took {took[-1]} ticks, which is beyond a client's patience of {most}"
         yield sizes[-2][0] == sizes[len(sizes) // 4][0], f"{a_second} a second: memory went from {sizes[len(sizes) // 4]} to {sizes[-2]} KB"
