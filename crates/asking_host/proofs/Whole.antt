@@ -1,6 +1,5 @@
 -- What is shown of a step in which no message became whole.
 use Rattle.std.proofs.Common.{◌≡◌, ℕ, false, List, [], ◌∷◌, map, refl, sym, ap₂, ◌∙◌}
-use Rattle.std.specs.List.{AllByRecursion}
 use Rattle.std.proofs.lemmas.Bool.{or_parts}
 use Rattle.homa_plain.specs.Steps.{Work}
 use Rattle.host_view.specs.declared.mark.Mark.{Mark}
@@ -8,7 +7,7 @@ use Rattle.host_view.specs.declared.mark.Mark.TheVariants.{Called, Junk, Stale, 
 use Rattle.host_view.specs.declared.mark.Mark.TheVariants.{NoRow, NoPages, Sent}
 use Rattle.host_view.specs.declared.outbox.SentFrame.{SentFrame}
 use Rattle.host_view.specs.Seen.{Seen}
-use Rattle.host_view.specs.Marks.{shown, IsAllowed}
+use Rattle.host_view.specs.Marks.{shown}
 use Rattle.host_view.specs.Done.{IsDone}
 use Rattle.asking_host.specs.Asking.{is_whole, has_whole}
 
@@ -44,27 +43,3 @@ module _ (h : Seen) (frames : List SentFrame) (w v : List ℕ) where
     formed = done.formed;
     sent = done.sent;
   }
-
-module _ (h : Seen) (allows : ℕ → List ℕ → List ℕ → ℕ → Type 0) (w v : List ℕ) where
-  same_allowed : (m : Mark) → is_whole m ≡ false → IsAllowed h.host allows w m → IsAllowed h.host allows v m
-  same_allowed (Ran id service hold) none allowed = cc
-  same_allowed (Done id) none allowed = allowed
-  same_allowed (Called id server service) none allowed = allowed
-  same_allowed Junk none allowed = allowed
-  same_allowed (Stale at) none allowed = allowed
-  same_allowed (Balanced cutoffs) none allowed = allowed
-  same_allowed (Failed id why) none allowed = allowed
-  same_allowed (Dropped id) none allowed = allowed
-  same_allowed (TooManyGaps id) none allowed = allowed
-  same_allowed (Entombed id until) none allowed = allowed
-  same_allowed (Freed id) none allowed = allowed
-  same_allowed (NoRow id rows limit) none allowed = allowed
-  same_allowed (NoPages id need free) none allowed = allowed
-  same_allowed (Sent n) none allowed = allowed
-
-  -- what the service was allowed to answer, with any message, where none became whole
-  pub allowed_with : (ms : List Mark) → has_whole ms ≡ false → AllByRecursion (IsAllowed h.host allows w) ms
-      → AllByRecursion (IsAllowed h.host allows v) ms
-  allowed_with [] none all = all
-  allowed_with (m ∷ ms) none all =
-      (same_allowed m (or_parts (is_whole m) (has_whole ms) none).0 all.0, allowed_with ms (or_parts (is_whole m) (has_whole ms) none).1 all.1)

@@ -126,7 +126,8 @@ pub extern "C" fn homa_whole_len(host: &mut Handle) -> usize
 }
 
 /// The message that became whole in the last step: the request that is asked about or was answered, or the response of a call
-/// that is done; empty where none did. Its bytes go to the front of `room`. Refused where the handle isn't open, or the room is too small.
+/// that is done; empty where none did. Its bytes go to the front of `room`. Refused where the handle isn't open, or the room
+/// is too small.
 #[unsafe(no_mangle)]
 pub extern "C" fn homa_whole(host: &mut Handle, room: &mut [u8], len: &mut usize) -> u32
     ensures closed { host.old.is_open ≡ false → result ≡ 2 }
