@@ -219,7 +219,7 @@ without_return [] = []
 without_return (c ∷ []) = if c == 13 then [] else c ∷ []
 without_return (c ∷ d ∷ cs) = c ∷ without_return (d ∷ cs)
 
--- the most bytes of a line, its line feed apart, and of an input
+-- the most bytes of a line, its line feed apart
 abbrev pub longest_line : ℕ
 longest_line = 2100000
 

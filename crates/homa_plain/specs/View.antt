@@ -76,7 +76,7 @@ pub record View : Type 0 where
   pub calls : Map call_cmp Called  -- the `call` lines
   pub packets : List Sent  -- the packets that were sent, by their numbers
   pub runs : List Ran  -- the `run` lines, the latest first
-  pub here : Ends  -- the `run`, `done` and `fail` lines of the block
+  pub here : Ends  -- the `run` and `done` lines of the block, and its `fail` lines of calls that failed as forgotten
   pub now : Progress
   pub if_refused : Progress  -- the same, if the block's delivery is answered by `full` or `gaps`
   pub if_stale : Progress  -- the same, if it is answered by `stale`

@@ -297,7 +297,7 @@ impl Row {
         *count = 0;
     }
 
-    // A packet of a call whose response goes out: its timer begins anew.
+    // A packet of a call whose response goes out: its timer begins anew, but for an ACK's.
     fn replying_gets(&mut self, slot: u32, body: &Body, now: u64) -> ServerDid
         requires answering { is_answering self.old.state ≡ true }
         requires fits { IsAsking body.now }

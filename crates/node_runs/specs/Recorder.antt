@@ -38,7 +38,7 @@ no_notes = record { tick = 0; settings = None; datagrams = [] }
 
 -- ---- datagrams that come
 
--- what a datagram that comes is: the one with this number, which was sent; one that is no packet; or one that no host of the run sent
+-- what a datagram that comes is: the one with this number, which was sent; one that is no packet; or a packet that is none of the notes' datagrams to this host
 pub data Kind : Type 0 where
   Sent : (number : ℕ) → Kind
   Junk : Kind
