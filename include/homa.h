@@ -6,12 +6,17 @@
  * may end what is shown of the last step. docs/library.md shows the loops of a client and of a server.
  *
  * Ticks: `now` counts ticks of the host's own clock, 0 to 1,000,000,002,000. The program says how long a tick is. A host's clock
- * never falls; two steps may have one tick. Link with libhoma, as tools/install-library puts it, or with libhoma_c.a and liblibc_c.a of
- * the kit; memory comes from malloc, realloc and free.
+ * never falls; two steps may have one tick. No step may begin, and homa_call, homa_deliver and homa_turn are REFUSED, where `now` is
+ * below the tick of the last step, and for good past the last tick and once 2^56 steps were begun; a step that asks counts too.
+ *
+ * Link with libhoma, as tools/install-library puts it, or with libhoma_c.a and liblibc_c.a of the kit; memory comes from malloc,
+ * realloc and free.
  *
  * What is proved holds as long as the program keeps to this, which no call can see:
  * - no pointer is NULL (not even that of 0 bytes), each is valid for its length, and none overlaps another or the handle;
- * - a handle is HOMA_CLOSED at first, is written by these calls alone, and isn't copied;
+ * - a handle is HOMA_CLOSED at first, is written by these calls alone, and isn't copied. It may be moved (memcpy, realloc) where the old
+ *   place isn't used any more. After a fork() only one of the processes may go on with it: two would be one host in one incarnation,
+ *   and give two calls one id;
  * - one call at a time on a handle, always from one thread, and none from a signal handler;
  * - `from` is the host that sent the datagram, or no host at all did; and a datagram isn't delivered to another host.
  */
@@ -26,17 +31,17 @@
 enum {
     HOMA_OK = 0,
     HOMA_ASKS = 1,     /* only of homa_deliver: an answer is wanted */
-    HOMA_REFUSED = 2,  /* it can't be done; each call says when. A handle that isn't open refuses all but homa_open */
+    HOMA_REFUSED = 2,  /* it can't be done; each call says when, and of steps 'Ticks' above. A handle that isn't open refuses all but homa_open */
     HOMA_NO_MEMORY = 3 /* there is no memory; the same call may be tried again */
 };
 
 /* Kinds of entries. */
 enum {
     HOMA_OTHER = 0,    /* something that a program needn't know: a packet, a timer, a row */
-    HOMA_RAN = 1,      /* a request was answered */
+    HOMA_RAN = 1,      /* a request was answered: the answer that was given is its response */
     HOMA_DONE = 2,     /* a call is done: its response is whole */
-    HOMA_TIMEOUT = 3,  /* a call failed: its server was silent. The request was served at most once in each life of the server */
-    HOMA_FORGOTTEN = 4 /* a call failed: its server served it, and doesn't have the response any more */
+    HOMA_TIMEOUT = 3,  /* a call failed: its server was silent, or knew nothing of it. It was served at most once in each life of the server */
+    HOMA_FORGOTTEN = 4 /* a call failed: by its server's word it was served, and the response is gone */
 };
 
 /* A host. It owns all memory of the host while it is open. */
@@ -53,7 +58,7 @@ typedef struct {
     uint32_t window;     /* most bytes of a message that are granted and haven't come: 1 to 1,000,000 */
     uint32_t unsched;    /* bytes of a message that are sent without a grant: 1 to window */
     uint32_t overcommit; /* to how many messages a host grants at a time: 1 to 7 */
-    uint32_t rate;       /* payload bytes that a host sends a tick: seg to 1,000,000 */
+    uint32_t rate;       /* payload bytes that may be sent until the first turn of a tick (but 0) fills the credit up: seg to 1,000,000 */
     uint32_t resend;     /* after how many ticks of silence a timer acts: 1 to 1000 */
     uint32_t tries;      /* how many questions in a row may stay without an answer: 1 to 100 */
     uint32_t life;       /* for how many ticks a datagram may be delivered: 1 to 100,000. With wire 1 the program sees to it */
@@ -113,22 +118,25 @@ HOMA_POINTERS uint32_t homa_open(const homa_settings *settings, uint16_t id, uin
 HOMA_POINTERS uint32_t homa_close(homa_host *host);
 
 /* Calls service 0 to 255 of another host with a request of 1 to 1,000,000 bytes, which are copied. OK: `id` names the call; it ends
- * by an entry DONE, TIMEOUT or FORGOTTEN. REFUSED: the clock falls, there is no other host of that number, the request is empty or
- * too long, as many calls are live as `calls` says, or the numbers of this incarnation are used up. */
+ * by an entry DONE, TIMEOUT or FORGOTTEN. REFUSED: no step may begin (see 'Ticks'), there is no other host of that number, the request
+ * is empty or too long, as many calls are live as `calls` says, or the numbers of this incarnation are used up. */
 HOMA_POINTERS uint32_t homa_call(homa_host *host, uint16_t server, uint8_t service, const uint8_t *request, size_t len, uint64_t now,
                                  homa_call_id *id);
 
 /* A datagram came from the host `from`, with an answer in hand for the request that it may make whole, of 1 to 1,000,000 bytes, or
- * with none, of 0 bytes. Bytes that are no packet are taken, and do nothing.
- * OK: the step is done; if it made a request whole, exactly these bytes are the response.
+ * with none, of 0 bytes. Bytes that are no packet change no call, but are a step all the same, which may send what waits.
+ * OK: the step is done. That the answer was taken says an entry HOMA_RAN alone: it names the call, and exactly these bytes are its
+ *   response. Without one it wasn't taken (docs/library.md, 'An answer that isn't taken').
  * ASKS, only with no answer: it makes the request of the call `asked` whole, which homa_whole gives. Nothing happened: deliver the
- *   same datagram again with the answer, at once or within the patience (docs/library.md, 'An answer that isn't ready').
- * NO_MEMORY, only with an answer: the same, and there is no memory for the answer.
- * REFUSED: the clock falls, there is no other host of that number, the datagram has over 65,535 bytes or the answer over 1,000,000. */
+ *   same datagram again with the answer, at once and at the same tick, or later ('An answer that isn't ready').
+ * NO_MEMORY, only with an answer: the same, and there is no memory for the answer. Keep it by the call's id, and deliver it with the
+ *   next datagram that asks for that call.
+ * REFUSED: no step may begin (see 'Ticks'), there is no other host of that number, the datagram has over 65,535 bytes or the answer
+ *   over 1,000,000. */
 HOMA_POINTERS uint32_t homa_deliver(homa_host *host, uint16_t from, const uint8_t *frame, size_t len, uint64_t now, const uint8_t *answer,
                                     size_t answer_len, homa_asked *asked);
 
-/* A turn: what is due at this tick is done. REFUSED: the clock falls. */
+/* A turn: of the rows that are due at this tick 32 at most act, and what waits may be sent. REFUSED: no step may begin (see 'Ticks'). */
 HOMA_POINTERS uint32_t homa_turn(homa_host *host, uint64_t now);
 
 /* The tick before which no turn does anything: at each tick after the last step and before `at`, a turn would send no frame, have

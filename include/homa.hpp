@@ -45,7 +45,9 @@ public:
         return id;
     }
 
-    // A datagram comes. Where it makes a request whole, `serve` takes a homa_asked and the request, and gives 1 to 1,000,000 bytes.
+    // A datagram comes. Where it makes a request whole, `serve` takes a homa_asked and the request, and gives 1 to 1,000,000 bytes; it makes
+    // no step of this host. Where there is no memory for these bytes, std::bad_alloc is thrown, they are gone, and the call asks again: a
+    // `serve` that may not do its work twice keeps what it gives, by the call's id, until an entry HOMA_RAN names that call.
     template <class Serve> void deliver(std::uint16_t from, const bytes &datagram, std::uint64_t now, Serve serve) {
         homa_asked asked;
         std::uint32_t result = homa_deliver(&handle, from, start_of(datagram), datagram.size(), now, start_of({}), 0, &asked);
