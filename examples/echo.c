@@ -15,19 +15,22 @@
 #include <time.h>
 #include <unistd.h>
 
-enum { TICK_NS = 100000, MOST_MESSAGE = 1000000, MOST_FRAME = 1500, MOST_CALLS = 256 };
+enum { TICK_NS = 100000, MOST_MESSAGE = 1000000, MOST_FRAME = 1500, MOST_CALLS = 256, RESEND = 100, TRIES = 100, PATIENCE = RESEND * (TRIES + 1) };
 
 typedef struct {
     homa_host host;
     int socket;
     uint16_t peer;
     unsigned long done, failed;
+    homa_call_id answered; /* the call of the answer in hand, of which no entry has said yet that it was taken */
+    size_t answer_len;     /* 0 where none is in hand */
+    uint64_t asked_at;     /* the tick at which it was asked for last */
 } node;
 
 static pid_t server;
 static uint64_t start_ns;
 static size_t request_len;
-static uint8_t request[MOST_MESSAGE], reversed[MOST_MESSAGE], message[MOST_MESSAGE];
+static uint8_t request[MOST_MESSAGE], reversed[MOST_MESSAGE], message[MOST_MESSAGE], answer[MOST_MESSAGE];
 
 static void need(bool holds, const char *what) {
     if (holds) return;
@@ -66,6 +69,8 @@ static void send_frames(node *n) {
     }
 }
 
+static bool is_same(homa_call_id a, homa_call_id b) { return a.client == b.client && a.incarnation == b.incarnation && a.number == b.number; }
+
 /* Reads the entries of the last step. */
 static void read_entries(node *n) {
     homa_entry_info entry;
@@ -77,20 +82,30 @@ static void read_entries(node *n) {
             need(len == request_len && memcmp(message, reversed, len) == 0, "a response of other bytes");
             n->done++;
         }
+        if (entry.kind == HOMA_RAN && is_same(entry.id, n->answered)) n->answer_len = 0; /* the answer was taken */
         n->failed += entry.kind == HOMA_TIMEOUT || entry.kind == HOMA_FORGOTTEN;
     }
 }
 
 /* The answer to a request: its bytes in reverse. */
-static size_t answer_to(node *n) {
-    size_t len;
-    need(homa_whole(&n->host, message, sizeof message, &len) == HOMA_OK, "a request");
-    for (size_t i = 0; i < len / 2; i++) {
-        uint8_t byte = message[i];
-        message[i] = message[len - 1 - i];
-        message[len - 1 - i] = byte;
+static void answer_to(node *n) {
+    need(homa_whole(&n->host, answer, sizeof answer, &n->answer_len) == HOMA_OK, "a request");
+    for (size_t i = 0, len = n->answer_len; i < len / 2; i++) {
+        uint8_t byte = answer[i];
+        answer[i] = answer[len - 1 - i];
+        answer[len - 1 - i] = byte;
     }
-    return len;
+}
+
+/* Whether the answer to a call that asks is in hand. It is made once: one that wasn't taken, for want of memory, is kept until its call asks
+ * again, or hasn't asked for twice the patience. Meanwhile other calls wait; they ask again. */
+static bool has_answer(node *n, homa_call_id id, uint64_t now) {
+    bool is_made = n->answer_len > 0 && is_same(id, n->answered);
+    if (n->answer_len > 0 && !is_made && now - n->asked_at <= 2 * PATIENCE) return false;
+    if (!is_made) answer_to(n);
+    n->answered = id;
+    n->asked_at = now;
+    return true;
 }
 
 /* Takes the datagrams that have come, answers what is asked, and has the turn that is due. */
@@ -100,9 +115,10 @@ static void step(node *n) {
     uint64_t at;
     for (ssize_t len; (len = recv(n->socket, datagram, sizeof datagram, MSG_DONTWAIT)) >= 0;) {
         uint64_t now = tick();
-        uint32_t result = homa_deliver(&n->host, n->peer, datagram, (size_t)len, now, message, 0, &asked);
-        if (result == HOMA_ASKS) result = homa_deliver(&n->host, n->peer, datagram, (size_t)len, now, message, answer_to(n), &asked);
-        if (result != HOMA_OK) continue; /* no memory: the datagram is lost, and comes again */
+        uint32_t result = homa_deliver(&n->host, n->peer, datagram, (size_t)len, now, answer, 0, &asked);
+        if (result == HOMA_ASKS && has_answer(n, asked.id, now))
+            result = homa_deliver(&n->host, n->peer, datagram, (size_t)len, now, answer, n->answer_len, &asked);
+        if (result != HOMA_OK) continue; /* no answer, or no memory for it: the datagram is lost, and comes again */
         send_frames(n);
         read_entries(n);
     }
@@ -153,15 +169,15 @@ int main(int argc, char **argv) {
     settings.skew = 10;
     settings.window = 100000;
     settings.rate = 100000;
-    settings.resend = 100;
-    settings.tries = 100;
+    settings.resend = RESEND;
+    settings.tries = TRIES;
     settings.life = 1000;
     open_sockets(sockets);
     start_ns = nanoseconds();
     server = fork();
     need(server >= 0, "fork");
     uint16_t id = server == 0;
-    node n = { HOMA_CLOSED, sockets[id], 1 - id, 0, 0 };
+    node n = { .host = HOMA_CLOSED, .socket = sockets[id], .peer = 1 - id };
     need(homa_open(&settings, id, 1, 0, &n.host) == HOMA_OK, "open");
     while (id == 1) {
         wait_for(&n);

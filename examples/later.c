@@ -1,5 +1,6 @@
-/* A server that answers some ticks after it was asked: it keeps the datagram, and delivers it again with the answer. Two hosts in one
- * process, the usual settings but for `life`; ticks are counted by hand, and no datagram is lost. Prints a line for each delay. */
+/* A server that answers some ticks after it was asked: it keeps the datagram that asked last, and delivers it again with the answer. Where
+ * no entry says then that the answer was taken, it goes with the next datagram that asks. Two hosts in one process, the usual settings
+ * but for `life`; ticks are counted by hand, and no datagram is lost. Prints a line for each delay. */
 #include "homa.h"
 #include <stdio.h>
 #include <stdlib.h>
@@ -7,7 +8,7 @@
 
 enum { CLIENT = 0, SERVER = 1, MOST_FRAMES = 64, MOST_FRAME = 1500, LAST = 400 };
 
-/* The datagram that made the request whole, and when its answer is ready. */
+/* The datagram that asked last for the answer to the one call, when the answer is ready, and whether an entry says that it was taken. */
 typedef struct {
     uint8_t bytes[MOST_FRAME];
     size_t len;
@@ -42,6 +43,7 @@ static void after_step(world *w, uint16_t of) {
     need(frames != NULL, "memory");
     for (size_t i = 0; i < homa_entries(&w->hosts[of]); i++) {
         need(homa_entry(&w->hosts[of], i, &entry) == HOMA_OK, "an entry");
+        w->pending.is_answered |= entry.kind == HOMA_RAN; /* there is one call */
         w->done += entry.kind == HOMA_DONE;
         w->failed += entry.kind == HOMA_TIMEOUT || entry.kind == HOMA_FORGOTTEN;
     }
@@ -65,11 +67,11 @@ static void deliver(world *w, uint16_t to, const uint8_t *bytes, size_t len, siz
     need(result == HOMA_ASKS && to == SERVER && asked.service == 7 && asked.id.client == CLIENT && asked.id.number == 0, "who asks");
     need(homa_whole(&w->hosts[to], whole, sizeof whole, &whole_len) == HOMA_OK && memcmp(whole, request, whole_len) == 0, "the request");
     w->asked++;
-    if (w->pending.is_kept) return; /* the client repeats a call that is at work */
+    if (!w->pending.is_kept) w->pending.ready = w->now + w->delay; /* else the client repeats a call that is at work */
+    w->pending.is_kept = true;
     memcpy(w->pending.bytes, bytes, len);
     w->pending.len = len;
-    w->pending.ready = w->now + w->delay;
-    w->pending.is_kept = true;
+    if (w->pending.ready <= w->now) deliver(w, to, bytes, len, sizeof answer);
 }
 
 /* One call of so many bytes, whose answer is ready after so many ticks. */
@@ -86,10 +88,8 @@ static void one_call(size_t len, uint64_t delay) {
     need(homa_call(&w.hosts[CLIENT], SERVER, 7, request, len, 0, &id) == HOMA_OK, "a call");
     after_step(&w, CLIENT);
     for (; w.now < LAST; w.now++) {
-        if (w.pending.is_kept && !w.pending.is_answered && w.pending.ready <= w.now) {
-            w.pending.is_answered = true;
+        if (w.pending.is_kept && !w.pending.is_answered && w.pending.ready == w.now)
             deliver(&w, SERVER, w.pending.bytes, w.pending.len, sizeof answer);
-        }
         for (uint16_t i = 0; i < 2; i++) {
             need(homa_turn(&w.hosts[i], w.now) == HOMA_OK, "a turn");
             after_step(&w, i);
