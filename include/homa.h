@@ -140,7 +140,7 @@ HOMA_POINTERS uint32_t homa_deliver(homa_host *host, uint16_t from, const uint8_
 HOMA_POINTERS uint32_t homa_turn(homa_host *host, uint64_t now);
 
 /* The tick before which no turn does anything: at each tick after the last step and before `at`, a turn would send no frame, have
- * no entry, and change nothing but the host's clock and how many bytes it may send in that tick. `at` is the tick after that of the
+ * no entry, and change nothing but the host's clock and its credit, which it may fill up (`rate`). `at` is the tick after that of the
  * last step, where bytes of a message wait to be sent, or the deadline of a row, which may be past.
  * REFUSED: no turn does anything before the next call or datagram; `at` isn't written. */
 HOMA_POINTERS uint32_t homa_next_turn(homa_host *host, uint64_t *at);
