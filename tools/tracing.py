@@ -111,6 +111,28 @@ def stop(tool, why, status=2):
     sys.exit(status)
 
 
+def setting_from(tool, word, names):
+    """A setting and its number, from a word as overcommit=7; any other word ends the tool."""
+    name, _, number = word.partition("=")
+    if name not in names or not number.isdecimal():
+        stop(tool, f"`{word}` is no setting: {', '.join(names)}, as overcommit=7")
+    least, most = RANGES[name]
+    if not least <= int(number) <= most:
+        stop(tool, f"{name} is {least} to {most}")
+    return name, int(number)
+
+
+def settings_from(tool, words, settings, without=()):
+    """These settings with those that words give in their place; a word may name any but those that are left out."""
+    names = [name for name in SETTINGS if name not in without]
+    settings = {**settings, **dict(setting_from(tool, word, names) for word in words)}
+    whole = {**USUAL, **settings}
+    for low, high in (("unsched", "window"), ("seg", "rate")):
+        if whole[low] > whole[high]:
+            stop(tool, f"{low} {whole[low]} is above {high} {whole[high]}")
+    return settings
+
+
 def run(tool, main, faults=(NoTrace, OSError, ValueError, IndexError)):
     """Runs a tool, and ends with its status: with 2 for these faults, where what it was given is no trace or can't be read, and with 141, as other
     programs, where nobody reads any more what it prints."""
