@@ -4,7 +4,7 @@ import socket
 import subprocess
 import time
 
-from tracing import Sent
+from tracing import Sent, flight_in
 
 TOP = os.path.dirname(os.path.dirname(os.path.abspath(__file__)))
 PROGRAM = os.environ.get("HOMA", os.path.join(TOP, "crates", "homa", "out", "homa"))
@@ -77,12 +77,11 @@ class Flow:
             if words[0] == "clock":
                 tick = int(words[1])
             elif words[0] == "send":
-                it = Sent(words, tick)
-                datagram = (it.sender, it.receiver, it.datagram(wire, tick + skew))
+                datagram = Sent(words, tick).flight(wire, skew)
                 self.sent.append(datagram)
                 last_sent[datagram] = tick
             elif words[0] == "recv":
-                datagram = (int(words[2]), int(words[1]), bytes.fromhex(words[3]) if words[3] != "-" else b"")
+                datagram = flight_in(words)
                 self.came.append(datagram)
                 self.ages.append(tick - last_sent[datagram] if datagram in last_sent else None)
 

@@ -14,7 +14,8 @@ RANGES = dict(
     hosts=(2, 32), seg=(1, 1400), window=(1, 1000000), unsched=(1, 1000000), overcommit=(1, 7), rate=(1, 1000000), resend=(1, 1000), tries=(1, 100),
     life=(1, 100000), pages=(1, 4096), calls=(1, 1024), served=(1, 4096), rebalance=(0, 1024), skew=(0, 1000), wire=(1, 2),
 )
-# How many bytes each kind of packet has beside its header of 16 (an ACK: one, and eight for each call behind the first).
+HEADER = 16  # bytes that each packet has at least
+# How many bytes each kind of packet has beside its header (an ACK: one, and eight for each call behind the first).
 BODIES = {"DATA": 20, "GRANT": 5, "RESEND": 9, "BUSY": 0, "CUTOFFS": 34, "UNKNOWN": 1, "NEED_ACK": 0}
 # The kinds in the order of their numbers on the wire, from 1.
 KINDS = ("DATA", "GRANT", "RESEND", "BUSY", "CUTOFFS", "UNKNOWN", "NEED_ACK", "ACK")
@@ -53,7 +54,7 @@ class Sent:
     def frame(self, wire=1):
         """How many bytes its datagram has."""
         more = 8 if wire == 2 else 0
-        return 16 + more + BODIES.get(self.kind, 1 + 8 * (len(self.words) - 7)) + self.size
+        return HEADER + more + BODIES.get(self.kind, 1 + 8 * (len(self.words) - 7)) + self.size
 
     def fields(self):
         """What stands in its datagram between the header and the payload: pairs of a number and its width in bytes."""
@@ -74,9 +75,51 @@ class Sent:
         payload = bytes.fromhex(self.words[13]) if self.kind == "DATA" else b""
         return b"".join(int(it).to_bytes(width, "big") for it, width in numbers) + payload
 
+    def flight(self, wire=1, skew=0):
+        """Its sender, its receiver and its bytes, where a node sends it: the clock of a node's host is ahead by `skew`."""
+        return self.sender, self.receiver, self.datagram(wire, self.tick + skew)
+
     def message(self):
         """The message of which a DATA packet is a piece; of a response, that of this life of its server."""
         return (self.id, self.role, self.inc if self.role == "s" else "")
+
+
+def flight_in(words):
+    """The sender, the receiver and the bytes that a `recv` line tells of."""
+    return int(words[2]), int(words[1]), b"" if words[3] == "-" else bytes.fromhex(words[3])
+
+
+class Arrivals:
+    """Which packets come. A node's trace has `recv HOST FROM HEX` where that of a replay has `deliver N`: this brings the last packet with these bytes
+    that was sent to that host by that sender. Where a line of the trace sent none, as where the sender is in another process, it brings none of them."""
+
+    def __init__(self):
+        self.settings, self.tick, self.is_replay = USUAL, 0, False
+        self.sent, self.numbers = [], {}  # packets whose bytes weren't asked for yet; numbers by what flies
+
+    def told(self, words):
+        """The words of a line; in place of a `recv` that brings a packet of the trace, those of its `deliver`."""
+        if words[0] == "settings":
+            self.settings = settings_of(words)
+        elif words[0] == "clock":
+            self.tick = int(words[1])
+        elif words[0] == "send" and not self.is_replay:
+            self.sent.append(Sent(words, self.tick))
+        elif words[0] == "deliver":
+            # there is no `recv` in such a trace: its packets needn't be kept
+            self.is_replay, self.sent = True, []
+        elif words[0] == "recv" and size_of(words[3]) >= HEADER:
+            return self.received(words)
+        return words
+
+    def received(self, words):
+        if words[3].startswith("*"):
+            raise NoTrace("this is a node's trace, and thinned: only the whole one tells by its bytes which packets came")
+        for packet in self.sent:
+            self.numbers[packet.flight(self.settings["wire"], self.settings["skew"])] = packet.number
+        self.sent = []
+        number = self.numbers.get(flight_in(words))
+        return words if number is None else ["deliver", str(number)]
 
 
 def lines_of(source):
