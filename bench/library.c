@@ -16,6 +16,7 @@
 #include <stdio.h>
 #include <stdlib.h>
 #include <string.h>
+#include <sys/prctl.h>
 #include <sys/socket.h>
 #include <sys/wait.h>
 #include <time.h>
@@ -38,6 +39,16 @@ static void need(bool holds, const char *what) {
     fprintf(stderr, "library: %s\n", what);
     if (server > 0) kill(server, SIGKILL);
     exit(1);
+}
+
+/* The server is a process of its own, which ends with this one, also where that is killed. */
+static void fork_server(void) {
+    pid_t client = getpid();
+    server = fork();
+    need(server >= 0, "fork");
+    if (server > 0) return;
+    prctl(PR_SET_PDEATHSIG, SIGKILL);
+    if (getppid() != client) exit(1);
 }
 
 static uint64_t nanoseconds(void) {
@@ -199,8 +210,7 @@ static void open_node(node *n, uint16_t id, int socket, bool is_mixed) {
 static void homa_calls(const int sockets[2], size_t len, size_t calls, size_t at_a_time, size_t long_calls) {
     static node n;
     start_ns = nanoseconds();
-    server = fork();
-    need(server >= 0, "fork");
+    fork_server();
     open_node(&n, server == 0, sockets[server == 0], long_calls > 0);
     while (server == 0) step(&n);
     n.len = len;
@@ -278,7 +288,8 @@ static void udp_calls(const int sockets[2], size_t len, size_t calls, bool in_ru
     int is_on = in_runs;
     setsockopt(sockets[0], SOL_SOCKET, SO_RCVTIMEO, &limit, sizeof limit);
     for (int i = 0; i < 2; i++) setsockopt(sockets[i], IPPROTO_UDP, UDP_GRO, &is_on, sizeof is_on);
-    if ((server = fork()) == 0) udp_echo(sockets[1], in_runs);
+    fork_server();
+    if (server == 0) udp_echo(sockets[1], in_runs);
     uint64_t began = nanoseconds();
     for (size_t i = 0; i < calls; i++) {
         uint64_t since = nanoseconds();
@@ -329,7 +340,8 @@ static void tcp_calls(size_t len, size_t calls, bool is_mixed) {
     int listener = socket(AF_INET, SOCK_STREAM, 0), to = socket(AF_INET, SOCK_STREAM, 0), on = 1;
     need(bind(listener, (struct sockaddr *)&at, at_len) == 0 && listen(listener, 1) == 0, "listen");
     need(getsockname(listener, (struct sockaddr *)&at, &at_len) == 0, "a name");
-    if ((server = fork()) == 0) {
+    fork_server();
+    if (server == 0) {
         int from = accept(listener, NULL, NULL);
         setsockopt(from, IPPROTO_TCP, TCP_NODELAY, &on, sizeof on);
         tcp_echo(from);

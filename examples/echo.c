@@ -10,6 +10,7 @@
 #include <stdio.h>
 #include <stdlib.h>
 #include <string.h>
+#include <sys/prctl.h>
 #include <sys/socket.h>
 #include <sys/wait.h>
 #include <time.h>
@@ -157,6 +158,16 @@ static void open_sockets(int sockets[2]) {
     for (int i = 0; i < 2; i++) need(connect(sockets[i], (struct sockaddr *)&at[1 - i], sizeof at[i]) == 0, "connect");
 }
 
+/* The server is a process of its own, which ends with this one, also where that is killed. */
+static void fork_server(void) {
+    pid_t client = getpid();
+    server = fork();
+    need(server >= 0, "fork");
+    if (server > 0) return;
+    prctl(PR_SET_PDEATHSIG, SIGKILL);
+    if (getppid() != client) exit(1);
+}
+
 int main(int argc, char **argv) {
     size_t calls = argc > 1 ? strtoul(argv[1], NULL, 10) : 100, at_a_time = argc > 3 ? strtoul(argv[3], NULL, 10) : 1;
     homa_settings settings;
@@ -174,8 +185,7 @@ int main(int argc, char **argv) {
     settings.life = 1000;
     open_sockets(sockets);
     start_ns = nanoseconds();
-    server = fork();
-    need(server >= 0, "fork");
+    fork_server();
     uint16_t id = server == 0;
     node n = { .host = HOMA_CLOSED, .socket = sockets[id], .peer = 1 - id };
     need(homa_open(&settings, id, 1, 0, &n.host) == HOMA_OK, "open");
