@@ -1,7 +1,7 @@
 #!/usr/bin/env python3
 """One call between two hosts in one process, from Python, over the shared library.
 
-usage: call.py LIBRARY [TEXT]      prints what the server was asked and what the client got: the text in reverse
+usage: call.py LIBRARY [TEXT]      prints what the server was asked and what the client got: its bytes in reverse
 """
 import ctypes
 import sys
@@ -85,7 +85,7 @@ class Host:
 
 
 def answer(asked, request):
-    print(f"call {asked.id.client}.{asked.id.incarnation}.{asked.id.number} asks service {asked.service}: {request.decode()}")
+    print(f"call {asked.id.client}.{asked.id.incarnation}.{asked.id.number} asks service {asked.service}: {request.decode(errors='replace')}")
     return request[::-1]
 
 
@@ -95,7 +95,7 @@ def hand_over(hosts, source):
         hosts[to].deliver(source, frame, answer)
         for entry in hosts[to].entries():
             if entry.kind == DONE:
-                print(f"done: {hosts[to].whole().decode()}")
+                print(f"done: {hosts[to].whole().decode(errors='replace')}")
         hand_over(hosts, to)
 
 
