@@ -1,8 +1,10 @@
 #!/usr/bin/env bash
 # Counts what the program costs, by kind of run and by length: instructions an event, page faults and the most memory. None of it
 # depends on how busy the machine is, and none needs another program beside it, so a later change that costs is seen: run it
-# before and after. Instructions are those of a run less those of its opening; where a run prints no `ok N`, they are those of
-# the whole run. Flat means that the last column of a kind is near 1. It needs valgrind and GNU time (/usr/bin/time).
+# before and after. Instructions are those of a run less those of an opening of as many hosts (of a check, which opens none, those
+# of the whole run), divided by the events that the replay of the same run counts (`ok N`); of an opening and of quiet, where there
+# are none, those of the whole run. Flat means that the last column of a kind is near 1. It needs valgrind and GNU time
+# (/usr/bin/time).
 # From the top, with the program built (./homa): bench/all.sh [MOST [PROGRAM]]   (MOST: the most events and calls, 100000)
 set -eu
 cd "$(dirname "$0")/.."
