@@ -8,8 +8,8 @@ use Rattle.homa_plain.specs.declared.fault.StartFault.TheVariants.{Empty, TooLon
 use Rattle.homa_plain.specs.Calls.{is_host}
 use Rattle.homa_plain.specs.Steps.{start_fault}
 use Rattle.host_view.specs.Seen.{Seen}
-use Rattle.driven_host.specs.Driven.{IsOther}
-use Rattle.asking_host.specs.Asking.{MayBegin, MayCall}
+use Rattle.driven_host.specs.Driven.{IsOther, MayBegin}
+use Rattle.asking_host.specs.Asking.{MayCall}
 
 by_tests : (a b c d e : Bool) → (if a then Some Empty else if b then Some TooLong else if c then Some SelfCall else if d then Some CallsFull
     else if e then Some SeqSpent else None) ≡ None → (a ≡ false) × (b ≡ false) × (d ≡ false)

@@ -10,7 +10,7 @@ use Rattle.host_view.specs.declared.mark.Mark.TheVariants.{Ran, Done}
 use Rattle.host_view.specs.declared.outbox.SentFrame.{SentFrame}
 use Rattle.host_view.specs.Seen.{Seen}
 use Rattle.host_view.specs.Done.{HoldsSent}
-use Rattle.driven_host.specs.Driven.{Driven, IsOther}
+use Rattle.driven_host.specs.Driven.{Driven, IsOther, MayBegin}
 use Rattle.asking_host.specs.Turns.{IsAtRest}
 
 -- a host without calls, in this incarnation, whose own clock stood at this tick: it sent and told nothing yet
@@ -22,12 +22,6 @@ opened settings id inc last = record {
   out = [];
   whole = [];
 }
-
--- a host that began so many steps may begin one at this tick of its own clock
-pub record MayBegin (h : Seen) (steps now : ℕ) : Type 0 where
-  pub now_is : now ≤ 1000000002000
-  pub later : h.host.last ≤ now
-  pub few : steps < 2 ^ 56
 
 -- a call of another host with a request of so many bytes may start at this tick, unless the numbers of this incarnation are used up
 pub record MayCall (h : Seen) (steps : ℕ) (server : HostId) (bytes now : ℕ) : Type 0 where

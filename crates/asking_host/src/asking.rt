@@ -1,5 +1,5 @@
 // A host whose requests its caller answers.
-ghost use Rattle.std.specs.Prelude.{ℕ, ◌≡◌, ◌≢◌, ◌<◌, ◌≤◌, ◌+◌, ◌↔◌, IsTrue, IsSome, Some, None, true, false, [], length, slice_get, IfOk, IfSome, IfNone};
+ghost use Rattle.std.specs.Prelude.{ℕ, ◌≡◌, ◌≢◌, ◌<◌, ◌≤◌, ◌+◌, ◌↔◌, ◌⊎◌, IsTrue, IsSome, Some, None, true, false, [], length, slice_get, IfOk, IfSome, IfNone};
 ghost use Rattle.std.specs.List.{AllByRecursion};
 ghost use Rattle.std.specs.Option.{option_map};
 ghost use Rattle.plain_sets.specs.Ordered.{first_of};
@@ -11,12 +11,13 @@ ghost use Rattle.host_view.specs.Marks.{shown_entries, IsAllowed};
 ghost use Rattle.host_view.specs.Done.{arriving};
 ghost use Rattle.homa_host.specs.declared.asked.Asked.{Asked};
 ghost use Rattle.homa_host.specs.Asking.{HasAsked};
-ghost use Rattle.driven_host.specs.Driven.{IsStep, IsStill, IsOther};
+ghost use Rattle.driven_host.specs.Driven.{IsStep, IsStill, ShowsNothing, IsOther, MayBegin};
 ghost use Rattle.asking_host.specs.declared.asking.Came.TheVariants.{Taken, Asks, NoMemory, Refused};
-ghost use Rattle.asking_host.specs.Asking.{opened, MayBegin, MayCall, is_whole, has_whole, IsGiven};
+ghost use Rattle.asking_host.specs.Asking.{opened, MayCall, is_whole, has_whole, IsGiven};
 ghost use Rattle.asking_host.specs.Turns.{IsIdleTurn, MayAct};
 
 use crate::given::{Given, MOST_BYTES};
+use driven_host::{is_other, may_begin};
 use homa_host::{Asked, Host};
 use homa_plain::{CallId, Entry, HostId, Settings};
 use homa_timers::Timers;
@@ -25,12 +26,6 @@ use msg_pool::Scratch;
 use place_books::first;
 use std::alloc::{AllocError, Global};
 use std::marker::Model;
-
-/// The last tick of a host's own clock.
-const LAST_TICK: u64 = 1_000_000_002_000;
-
-/// The most steps that a host is driven.
-const MOST_STEPS: u64 = 1 << 56;
 
 /// What came of a datagram.
 #[derive(Clone, Copy, Debug, PartialEq, Eq)]
@@ -115,8 +110,9 @@ impl AskingHost {
             && self.host.live() < self.calls
     }
 
-    /// Calls a service of another host, at tick `now` of the host's own clock. None where the call can't start, where there
-    /// is no other host of this name, and where no step may begin; the request is dropped then.
+    /// Calls a service of another host, at tick `now` of the host's own clock, up to 1,000,000,002,000. None where the call
+    /// can't start, where there is no other host of this name, and where no step may begin: after 2^56 of them, none may ever
+    /// again. The request is dropped then, and the host stays as it was; either the last step is shown on, or nothing.
     pub fn call(&mut self, server: HostId, number: u8, request: Vec<u8>, now: u64) -> Option<CallId>
         ensures begins { MayBegin self.old.host self.old.steps now → IsOther self.old.host server
             → start_fault self.old.host.settings self.old.host.host server request.items ≡ None → IsSome result }
@@ -128,6 +124,7 @@ impl AskingHost {
         ensures whole { IfSome result (λ _. self.new.whole ≡ []) }
         ensures served { self.new.served ≡ self.old.served }
         ensures same { IfNone result (IsStill self.old self.new) }
+        ensures shows { IfNone result ((self.new ≡ self.old) ⊎ ShowsNothing self.new) }
         ensures steps { self.new.steps ≤ self.old.steps + 1 }
     {
         if !is_other(self.id, self.hosts, server) || !may_begin(&self.host, self.steps, now) {
@@ -143,7 +140,8 @@ impl AskingHost {
 
     /// A datagram comes from another host, at tick `now` of the host's own clock, with the answer to the request that it may
     /// make whole: of 1 to 1,000,000 bytes, or empty where none is in hand yet. Where it asks, the call, the service and the
-    /// request, in `whole`, are those that the step begins to serve, whatever the answer will be.
+    /// request, in `whole`, are those that the step begins to serve, whatever the answer will be. Where the host takes no step
+    /// it stays as it was: where it is refused the last step is shown on, and else nothing but `whole`.
     pub fn deliver(
         &mut self,
         alloc: Global,
@@ -169,6 +167,8 @@ impl AskingHost {
         ensures no_memory { result ≡ NoMemory → (a : Answer)
             → has_run (arrival_step self.old.host.settings self.old.host.host now (arriving self.old.host from frame.now) a).told ≡ true }
         ensures same { result ≢ Taken → IsStill self.old self.new }
+        ensures unbegun { result ≡ Refused → self.new ≡ self.old }
+        ensures shows { result ≢ Taken → result ≢ Refused → ShowsNothing self.new }
         ensures steps { self.new.steps ≤ self.old.steps + 1 }
     {
         if answer.len() > MOST_BYTES
@@ -204,14 +204,14 @@ impl AskingHost {
         }
     }
 
-    /// A turn at tick `now` of the host's own clock. None where no step may begin.
+    /// A turn at tick `now` of the host's own clock. None where no step may begin; then all stays as it was.
     pub fn turn(&mut self, now: u64) -> Option<()>
         ensures begins { MayBegin self.old.host self.old.steps now → IsSome result }
         ensures may_begin { IfSome result (λ _. MayBegin self.old.host self.old.steps now) }
         ensures step { IfSome result (λ _. IsStep (turn_step self.old.host.settings self.old.host.host now) self.old self.new) }
         ensures whole { IfSome result (λ _. self.new.whole ≡ []) }
         ensures served { self.new.served ≡ self.old.served }
-        ensures same { IfNone result (IsStill self.old self.new) }
+        ensures same { IfNone result (self.new ≡ self.old) }
         ensures steps { self.new.steps ≤ self.old.steps + 1 }
     {
         if !may_begin(&self.host, self.steps, now) {
@@ -267,20 +267,6 @@ impl AskingHost {
     {
         self.host.entry(i, &self.out, &self.scratch)
     }
-}
-
-// Whether there is another host of this name.
-fn is_other(id: HostId, hosts: u32, other: HostId) -> bool
-    ensures { IsTrue result ↔ ((other.0 < hosts) × (other ≢ id)) }
-{
-    u32::from(other.0) < hosts && other != id
-}
-
-// Whether a host that began so many steps may begin one at this tick of its own clock.
-fn may_begin(host: &Host, steps: u64, now: u64) -> bool
-    ensures { IsTrue result ↔ MayBegin host.now steps now }
-{
-    now <= LAST_TICK && host.last() <= now && steps < MOST_STEPS
 }
 
 // Whether a message became whole in a host's last step.

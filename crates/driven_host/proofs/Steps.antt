@@ -17,7 +17,7 @@ none_sent h out e n has = grind (arith, e, has)
 
 -- after a step
 pub stepped : (h g : Seen) (served served_then : ℕ) (out sent : List SentFrame) (id : HostId) (hosts steps : ℕ)
-    → IsKept h served out id hosts steps → steps < 2 ^ 32 → IsSameHost h g → served_then ≤ served + 1 → HoldsSent g sent
+    → IsKept h served out id hosts steps → steps < 2 ^ 56 → IsSameHost h g → served_then ≤ served + 1 → HoldsSent g sent
     → IsKept g served_then sent id hosts (steps + 1)
 stepped h g served served_then out sent id hosts steps kept few same more holds = record {
   name = same.id ∙ kept.name;

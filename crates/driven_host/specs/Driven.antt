@@ -1,5 +1,5 @@
 -- A host that is driven by hand.
-use Rattle.std.specs.Prelude.{◌≡◌, ◌≢◌, ◌<◌, ◌≤◌, ◌*◌, ◌^◌, ℕ, List}
+use Rattle.std.specs.Prelude.{◌≡◌, ◌≢◌, ◌<◌, ◌≤◌, ◌*◌, ◌^◌, ℕ, List, []}
 use Rattle.homa_plain.specs.declared.id.HostId.{HostId}
 use Rattle.homa_plain.specs.Steps.{Work}
 use Rattle.host_view.specs.declared.outbox.SentFrame.{SentFrame}
@@ -26,6 +26,11 @@ pub record IsStill (old new : Driven) : Type 0 where
   pub settings : new.host.settings ≡ old.host.settings
   pub served : new.served ≡ old.served
 
+-- no frame and no entry of a last step is shown
+pub record ShowsNothing (d : Driven) : Type 0 where
+  pub out : d.out ≡ []
+  pub marks : d.host.marks ≡ []
+
 -- there is another host of this name
 pub record IsOther (h : Seen) (id : HostId) : Type 0 where
   pub known : id.0 < h.settings.hosts
@@ -39,7 +44,7 @@ may_answer count number request response hold = record { bytes = response; hold 
 pub record MayBegin (h : Seen) (steps now : ℕ) : Type 0 where
   pub now_is : now ≤ 1000000002000
   pub later : h.host.last ≤ now
-  pub few : steps < 2 ^ 32
+  pub few : steps < 2 ^ 56
 
 -- what stands beside a host is the host's, and its numbers grow with its steps
 pub record IsKept (h : Seen) (served : ℕ) (out : List SentFrame) (id : HostId) (hosts steps : ℕ) : Type 0 where
@@ -47,5 +52,5 @@ pub record IsKept (h : Seen) (served : ℕ) (out : List SentFrame) (id : HostId)
   pub hosts_are : h.settings.hosts ≡ hosts
   pub order : h.host.order ≤ 64 * steps
   pub served_few : served ≤ steps
-  pub few : steps ≤ 2 ^ 32
+  pub few : steps ≤ 2 ^ 56
   pub sent : HoldsSent h out

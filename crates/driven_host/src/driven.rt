@@ -1,5 +1,6 @@
 // A host with what its steps are lent.
-ghost use Rattle.std.specs.Prelude.{◌≡◌, ◌≢◌, ◌<◌, ◌≤◌, ◌+◌, ◌↔◌, true, if◌then◌else◌, IsTrue, IsSome, Some, None, [], length, slice_get, IfOk, IfSome, IfNone};
+ghost use Rattle.std.specs.Prelude.{◌≡◌, ◌≢◌, ◌<◌, ◌≤◌, ◌+◌, ◌↔◌, ◌⊎◌};
+ghost use Rattle.std.specs.Prelude.{true, if◌then◌else◌, IsTrue, IsSome, Some, None, [], length, slice_get, IfOk, IfSome, IfNone};
 ghost use Rattle.std.specs.List.{AllByRecursion};
 ghost use Rattle.plain_sets.specs.Maps.{empty};
 ghost use Rattle.homa_plain.specs.Settings.{IsValid};
@@ -9,7 +10,7 @@ ghost use Rattle.homa_plain.specs.Rules.{Answer};
 ghost use Rattle.homa_plain.specs.Steps.{start_fault, next_id, call_step, arrival_step, turn_step, has_run};
 ghost use Rattle.host_view.specs.Marks.{shown_entries, has_ran, IsAllowed};
 ghost use Rattle.host_view.specs.Done.{arriving};
-ghost use Rattle.driven_host.specs.Driven.{IsStep, IsStill, IsOther, MayBegin, may_answer};
+ghost use Rattle.driven_host.specs.Driven.{IsStep, IsStill, ShowsNothing, IsOther, MayBegin, may_answer};
 
 use homa_host::Host;
 use homa_plain::{CallId, Entry, HostId, Settings};
@@ -23,7 +24,7 @@ use std::marker::Model;
 const LAST_TICK: u64 = 1_000_000_002_000;
 
 /// The most steps that a host is driven.
-const MOST_STEPS: u64 = 1 << 32;
+const MOST_STEPS: u64 = 1 << 56;
 
 /// A host with all that a step of it is lent: its services, and room for its frames and for a whole message.
 #[derive(Drop)]
@@ -89,8 +90,9 @@ impl DrivenHost {
         })
     }
 
-    /// Calls a service of another host, at tick `now` of the host's own clock. None where the call can't start, where there
-    /// is no other host of this name, and where no step may begin; the request is dropped then.
+    /// Calls a service of another host, at tick `now` of the host's own clock, up to 1,000,000,002,000. None where the call
+    /// can't start, where there is no other host of this name, and where no step may begin: after 2^56 of them, none may ever
+    /// again. The request is dropped then, and the host stays as it was; either the last step is shown on, or nothing.
     pub fn call(&mut self, server: HostId, number: u8, request: Vec<u8>, now: u64) -> Option<CallId>
         ensures begins { MayBegin self.old.host self.old.steps now → IsOther self.old.host server
             → start_fault self.old.host.settings self.old.host.host server request.items ≡ None → IsSome result }
@@ -101,6 +103,7 @@ impl DrivenHost {
         ensures step { IfSome result (λ _. IsStep (call_step self.old.host.settings self.old.host.host now server number request.items) self.old self.new) }
         ensures served { self.new.served ≡ self.old.served }
         ensures same { IfNone result (IsStill self.old self.new) }
+        ensures shows { IfNone result ((self.new ≡ self.old) ⊎ ShowsNothing self.new) }
         ensures steps { self.new.steps ≤ self.old.steps + 1 }
     {
         if !is_other(self.id, self.hosts, server) || !may_begin(&self.host, self.steps, now) {
@@ -114,7 +117,8 @@ impl DrivenHost {
     }
 
     /// A datagram comes from another host, at tick `now` of the host's own clock. None where its service finds no memory for
-    /// a request that the datagram makes whole, where there is no other host of this name, and where no step may begin.
+    /// a request that the datagram makes whole, where there is no other host of this name, and where no step may begin. The
+    /// host stays as it was then; either the last step is shown on, or nothing.
     pub fn deliver(&mut self, alloc: Global, from: HostId, frame: &[u8], now: u64) -> Option<()>
         ensures begins { MayBegin self.old.host self.old.steps now → IsOther self.old.host from → IfNone result ((a : Answer)
             → has_run (arrival_step self.old.host.settings self.old.host.host now (arriving self.old.host from frame.now) a).told ≡ true) }
@@ -125,6 +129,7 @@ impl DrivenHost {
         ensures allowed { IfSome result (λ _. AllByRecursion (IsAllowed self.new.host.host (may_answer self.old.served) self.new.whole) self.new.host.marks) }
         ensures served { IfSome result (λ _. self.new.served ≡ (if has_ran self.new.host.marks then self.old.served + 1 else self.old.served)) }
         ensures same { IfNone result (IsStill self.old self.new) }
+        ensures shows { IfNone result ((self.new ≡ self.old) ⊎ ShowsNothing self.new) }
         ensures steps { self.new.steps ≤ self.old.steps + 1 }
     {
         if !is_other(self.id, self.hosts, from) || !may_begin(&self.host, self.steps, now) {
@@ -145,13 +150,13 @@ impl DrivenHost {
         }
     }
 
-    /// A turn at tick `now` of the host's own clock. None where no step may begin.
+    /// A turn at tick `now` of the host's own clock. None where no step may begin; then all stays as it was.
     pub fn turn(&mut self, now: u64) -> Option<()>
         ensures begins { MayBegin self.old.host self.old.steps now → IsSome result }
         ensures may_begin { IfSome result (λ _. MayBegin self.old.host self.old.steps now) }
         ensures step { IfSome result (λ _. IsStep (turn_step self.old.host.settings self.old.host.host now) self.old self.new) }
         ensures served { self.new.served ≡ self.old.served }
-        ensures same { IfNone result (IsStill self.old self.new) }
+        ensures same { IfNone result (self.new ≡ self.old) }
         ensures steps { self.new.steps ≤ self.old.steps + 1 }
     {
         if !may_begin(&self.host, self.steps, now) {
@@ -185,15 +190,16 @@ impl DrivenHost {
     }
 }
 
-// Whether there is another host of this name.
-fn is_other(id: HostId, hosts: u32, other: HostId) -> bool
+/// Whether a host, one of so many, has another one of this name.
+pub fn is_other(id: HostId, hosts: u32, other: HostId) -> bool
     ensures { IsTrue result ↔ ((other.0 < hosts) × (other ≢ id)) }
 {
     u32::from(other.0) < hosts && other != id
 }
 
-// Whether a host that began so many steps may begin one at this tick of its own clock.
-fn may_begin(host: &Host, steps: u64, now: u64) -> bool
+/// Whether a host that began so many steps may begin one at this tick of its own clock: the clock doesn't fall and isn't past
+/// 1,000,000,002,000, and there were fewer than 2^56.
+pub fn may_begin(host: &Host, steps: u64, now: u64) -> bool
     ensures { IsTrue result ↔ MayBegin host.now steps now }
 {
     now <= LAST_TICK && host.last() <= now && steps < MOST_STEPS

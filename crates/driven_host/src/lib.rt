@@ -9,4 +9,4 @@
 
 mod driven;
 
-pub use driven::DrivenHost;
+pub use driven::{DrivenHost, is_other, may_begin};

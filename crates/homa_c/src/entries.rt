@@ -3,6 +3,7 @@ ghost use Rattle.std.specs.Prelude.{◌≡◌};
 ghost use Rattle.homa_c.specs.Shown.{shown_call, shown_asked, shown_why, shown_entry};
 ghost use Rattle.homa_plain.specs.Entries.{plain};
 
+use crate::results::{DONE, FORGOTTEN, OTHER, RAN, TIMEOUT};
 use homa_host::Asked;
 use homa_plain::{CallId, Entry, Why};
 
@@ -24,7 +25,7 @@ pub struct HomaAsked {
 }
 
 /// What an entry tells: 1 a request was answered (`len` bytes of it), 2 a call is done (`len` bytes of its response),
-/// 3 a call failed by silence, 4 a call failed since its server forgot it, 0 anything else.
+/// 3 a call timed out, 4 a call failed since its server forgot it, 0 anything else.
 #[repr(C)]
 #[derive(Drop)]
 pub struct HomaEntry {
@@ -66,13 +67,13 @@ pub(crate) fn entry_of(entry: &Entry<'_>) -> HomaEntry
             request,
             ..
         } => HomaEntry {
-            kind: 1,
+            kind: RAN,
             service: u32::from(*service),
             id: call_of(*id),
             len: request.len(),
         },
         Entry::Done { id, bytes } => HomaEntry {
-            kind: 2,
+            kind: DONE,
             service: 0,
             id: call_of(*id),
             len: bytes.len(),
@@ -84,7 +85,7 @@ pub(crate) fn entry_of(entry: &Entry<'_>) -> HomaEntry
             len: 0,
         },
         _ => HomaEntry {
-            kind: 0,
+            kind: OTHER,
             service: 0,
             id: HomaCall {
                 client: 0,
@@ -101,7 +102,7 @@ fn kind_of(why: Why) -> u32
     ensures { result ≡ shown_why why }
 {
     match why {
-        Why::Timeout => 3,
-        Why::Forgotten => 4,
+        Why::Timeout => TIMEOUT,
+        Why::Forgotten => FORGOTTEN,
     }
 }

@@ -7,8 +7,8 @@ ghost use Rattle.homa_plain.specs.Steps.{start_fault, next_id, has_run};
 ghost use Rattle.host_view.specs.Marks.{IsAllowed};
 ghost use Rattle.homa_host.specs.declared.asked.Asked.{Asked};
 ghost use Rattle.homa_host.specs.Asking.{HasAsked};
-ghost use Rattle.driven_host.specs.Driven.{IsStep, IsStill, IsOther};
-ghost use Rattle.asking_host.specs.Asking.{opened, MayBegin, MayCall, has_whole, IsGiven};
+ghost use Rattle.driven_host.specs.Driven.{IsStep, IsStill, ShowsNothing, IsOther, MayBegin};
+ghost use Rattle.asking_host.specs.Asking.{opened, MayCall, has_whole, IsGiven};
 ghost use Rattle.asking_host.specs.Turns.{IsIdleTurn, MayAct};
 ghost use Rattle.homa_c.specs.Shown.{shown_call, shown_asked, given_settings};
 ghost use Rattle.homa_c.specs.Begun.{calling, receiving, turning};
@@ -125,6 +125,7 @@ pub extern "C" fn homa_call(
     ensures step { result ≡ 0 → IsStep (calling host.old.slot.held now server number request.now) host.old.slot.held host.new.slot.held }
     ensures whole { result ≡ 0 → host.new.slot.held.whole ≡ [] }
     ensures same { result ≢ 0 → IsStill host.old.slot.held host.new.slot.held }
+    ensures shows { result ≢ 0 → (host.new.slot.held ≡ host.old.slot.held) ⊎ ShowsNothing host.new.slot.held }
     ensures unwritten { result ≢ 0 → id.new ≡ id.old }
     ensures open { host.new.is_open ≡ host.old.is_open }
 {
@@ -180,6 +181,8 @@ pub extern "C" fn homa_deliver(
     ensures answered { result ≡ 3 → answer.now ≢ [] }
     ensures no_memory { result ≡ 3 → (a : Answer) → has_run (receiving host.old.slot.held now from frame.now a).told ≡ true }
     ensures same { result ≢ 0 → IsStill host.old.slot.held host.new.slot.held }
+    ensures unbegun { result ≡ 2 → host.new.slot.held ≡ host.old.slot.held }
+    ensures shows { (result ≡ 1) ⊎ (result ≡ 3) → ShowsNothing host.new.slot.held }
     ensures unwritten { result ≢ 1 → asked.new ≡ asked.old }
     ensures open { host.new.is_open ≡ host.old.is_open }
 {
@@ -207,7 +210,7 @@ pub extern "C" fn homa_turn(host: &mut Handle, now: u64) -> u32
     ensures or_refused { result ≢ 0 → result ≡ 2 }
     ensures whole { result ≡ 0 → host.new.slot.held.whole ≡ [] }
     ensures step { result ≡ 0 → IsStep (turning host.old.slot.held now) host.old.slot.held host.new.slot.held }
-    ensures same { result ≢ 0 → IsStill host.old.slot.held host.new.slot.held }
+    ensures same { result ≢ 0 → host.new.slot.held ≡ host.old.slot.held }
     ensures open { host.new.is_open ≡ host.old.is_open }
 {
     if !host.is_open {

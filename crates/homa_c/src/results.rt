@@ -1,4 +1,4 @@
-// What the exports answer.
+// What the exports answer, and the kinds of entries.
 
 /// It was done.
 pub(crate) const OK: u32 = 0;
@@ -11,3 +11,18 @@ pub(crate) const REFUSED: u32 = 2;
 
 /// There is no memory, and nothing happened.
 pub(crate) const NO_MEMORY: u32 = 3;
+
+/// The kind of an entry that a program needn't know.
+pub(crate) const OTHER: u32 = 0;
+
+/// A request was answered.
+pub(crate) const RAN: u32 = 1;
+
+/// A call is done.
+pub(crate) const DONE: u32 = 2;
+
+/// A call timed out.
+pub(crate) const TIMEOUT: u32 = 3;
+
+/// A call failed, since its server forgot it.
+pub(crate) const FORGOTTEN: u32 = 4;

@@ -1,4 +1,4 @@
-// What C reads of a host's last step. Each call answers the same until the next step.
+// What C reads of a host's last step. Each call answers the same until the next call, delivery or turn.
 ghost use Rattle.std.specs.Prelude.{◌≡◌, ◌≢◌, ◌≤◌, ◌<◌, IfSome, true, false, length, take, slice_get};
 ghost use Rattle.host_view.specs.Marks.{shown_entries};
 ghost use Rattle.homa_c.specs.Shown.{shown_entry};

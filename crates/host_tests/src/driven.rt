@@ -195,7 +195,7 @@ fn opened(alloc: Global) -> Result<Lent, AllocError>
 
 // A datagram comes from the client at tick 0, after so many steps. Tells whether there was memory.
 fn comes(rt: &impl Abort, alloc: Global, it: &mut Lent, steps: u64, frame: &[u8]) -> bool
-    requires few { steps < 2 ^ 32 }
+    requires few { steps < 2 ^ 56 }
     requires kept { IsKept it.old.host it.old.service.then.served it.old.out it.old.host.host.id 2 steps }
     requires id { it.old.host.host.id.0 ≡ 1 }
     ensures kept { IsKept it.new.host it.new.service.then.served it.new.out it.new.host.host.id 2 (steps + 1) }
