@@ -215,7 +215,7 @@ parts_written whole first left old mid new before held last p some all none a b 
     parts_below whole first left old new before last p some all none (grows_on _ _ _ a b) out
     (subst (λ (o : Option (List ℕ)). AreParts whole first left (appended old before) o p some) (sym e) d)
 
--- all that was told needn't have been printed
+-- these lines needn't have been printed whole
 less : (whole : Whole) (first left old new : Option (List ℕ)) (p : List PlainEntry → Type 0) (all : Bool) → AreParts whole first left old new p all
     → AreParts whole first left old new p false
 less whole first left old new p all d = λ bytes h.

@@ -15,7 +15,7 @@ pub stop_of : {A : Type 0} (r : Result A Stop) (stop other : Stop) → IsErrAnd 
 stop_of (Ok x) stop other h e = h
 stop_of (Err y) stop other h e = h ∙ e
 
--- where all that was told is printed the sink didn't fail
+-- where whole lines were printed the sink didn't fail
 pub not_written : {A : Type 0} (r : Result A Stop) (stop : Stop) → r ≡ Err stop → prints_all stop ≡ true → IsErrOf r Write → ⊥
 not_written r Read e k h = let same = sym e ∙ h in absurd cc
 not_written r Write e k h = absurd cc

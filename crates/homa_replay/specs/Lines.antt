@@ -49,8 +49,8 @@ pub record AreRefused (s : Settings) (w : World) (es : List Happening) (old new 
   pub same : (events line : ℕ) (rest : List Happening) (steps : Steps) (later : List Answer)
       → goes_on s (answering (shown told ++ later) w) events line (es ++ rest) steps ≡ with_told told (refused_line line fault)
 
--- It stops in the midst of these events: what was told is a front of what they and what stands behind them tell, and a front of
--- that was printed; where `all` says so, all that was told.
+-- It stops in the midst of these events: these lines are a front of what they and what stands behind them tell, and a front of
+-- that was printed; where `all` says so, these lines, and no more.
 pub record AreCut (s : Settings) (w : World) (es : List Happening) (old new : Option (List ℕ)) (before : List PlainEntry → Type 0) (all : Bool) : Type 0 where
   pub told : List PlainEntry
   pub allowed : before told

@@ -3,7 +3,7 @@ use Rattle.std.specs.Prelude.{Bool, true, false}
 use Rattle.homa_replay.specs.declared.stop.Stop.{Stop}
 use Rattle.homa_replay.specs.declared.stop.Stop.TheVariants.{Read, Write, NoMemory}
 
--- it isn't the sink: all that was told until then was printed
+-- it isn't the sink: what was printed are whole lines
 abbrev pub prints_all : Stop → Bool
 prints_all Read = true
 prints_all Write = false

@@ -139,7 +139,7 @@ pub fn replay<B: Drop, P: Opens<B> + Drop, S: Source, K: Sink>(
     ensures behind { result ≡ Ok false → (bytes : List ℕ) → S.left source.old ≡ Some bytes
         → IsReadUpTo bytes (S.left source.new) (K.taken sink.old) (K.taken sink.new) }
 
-    // Otherwise it is a front of that; unless the sink failed, all that was told until then was printed.
+    // Otherwise it is a front of that; unless the sink failed, what was printed are whole lines.
     ensures part { IfErr result (λ stop. AreParts (replay_of (P.many boxes)) (S.left source.old) (S.left source.new) (K.taken sink.old)
         (K.taken sink.new) (P.are_allowed boxes) (prints_all stop)) }
 

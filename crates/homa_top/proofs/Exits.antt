@@ -5,7 +5,7 @@ use Rattle.homa_replay.specs.declared.stop.Stop.TheVariants.{Read, Write, NoMemo
 use Rattle.homa_replay.specs.Stops as stops
 use Rattle.homa_top.specs.Exits.{prints_all, status_of}
 
--- all that was told was printed, or not
+-- what was printed are whole lines, or not
 pub prints_same : (stop : Stop) → stops.prints_all stop ≡ prints_all (status_of stop)
 prints_same Read = refl
 prints_same Write = refl

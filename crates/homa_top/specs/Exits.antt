@@ -31,7 +31,7 @@ is_broken_off NoMemory = true
 is_broken_off NetFailed = true
 is_broken_off other = false
 
--- the sink didn't fail: all that was told until then was printed
+-- the sink didn't fail: what was printed are whole lines
 abbrev pub prints_all : ExitStatus → Bool
 prints_all WriteFailed = false
 prints_all other = true

@@ -92,7 +92,7 @@ pub fn run<V: Service, S: Source, K: Sink, N: Net, C: Clock>(
     ensures laws { said words.now ≡ Some command.Replay → (result ≡ status.Done) ⊎ (result ≡ status.Refused) → (bytes : List ℕ)
         → S.left source.old ≡ Some bytes → OpensWorld bytes → TookLawful (K.taken sink.old) (K.taken sink.new) }
 
-    // A fault or want of memory leaves a front of it; unless the sink failed, all that was told until then was printed.
+    // A fault or want of memory leaves a front of it; unless the sink failed, what was printed are whole lines.
     ensures front { said words.now ≡ Some command.Replay → is_broken_off result ≡ true
         → AreParts (replay_of (length services.items)) (S.left source.old) (S.left source.new) (K.taken sink.old) (K.taken sink.new)
         (AreAllowed V.served V.allows services.items) (prints_all result) }
