@@ -22,7 +22,7 @@ use Rattle.homa_plain.specs.View.{View, nothing_seen}
 use Rattle.step_laws.proofs.Places.{all-append}
 use Rattle.trace_induction.proofs.Hosts.{none_some}
 use Rattle.node_runs.specs.Script.{Setup, Calls, Opened, opening}
-use Rattle.node_runs.specs.Course.{AreTicks, Arrival, End, Ended, RefusedAt, StalledAt, Run, node_run}
+use Rattle.node_runs.specs.Course.{AreTicks, Receive, End, Ended, RefusedAt, StalledAt, Run, node_run}
 use Rattle.node_runs.specs.Recorder.{no_notes}
 use Rattle.node_runs.specs.Replayed.{IsAnswer}
 use Rattle.node_runs.specs.Texts.{entries, end_entry, node_text}
@@ -149,7 +149,7 @@ fewer (line ∷ es) = omega (arith, length-append (line_text line) (flat_map lin
 
 -- ---- the law
 
-module _ (bytes : List ℕ) (setup : Setup) (calls : Calls) (answers : List Answer) (ticks : List ℕ) (receives : List (Option Arrival))
+module _ (bytes : List ℕ) (setup : Setup) (calls : Calls) (answers : List Answer) (ticks : List ℕ) (receives : List Receive)
     (e : opening most_bytes bytes ≡ Opened setup calls) (fair : AllByRecursion IsAnswer answers) (rises : AreTicks 0 ticks)
     (up : AreSuch IsHandedUp receives) where
   abbrev run : Run

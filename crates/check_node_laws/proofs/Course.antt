@@ -23,7 +23,7 @@ use Rattle.trace_induction.proofs.Hosts.{within}
 use Rattle.trace_induction.specs.Stands.{stand}
 use Rattle.trace_lifetime.specs.Kept.{PacketFits}
 use Rattle.node_runs.specs.Script.{Setup, TimedCall, Calls, Opened, opening}
-use Rattle.node_runs.specs.Course.{AreTicks, Report, Tells, Turning, Arrival, packet_from, arrival_outcome, new_node, node_run}
+use Rattle.node_runs.specs.Course.{AreTicks, Report, Tells, Turning, Arrival, Receive, packet_from, arrival_outcome, new_node, node_run}
 use Rattle.node_runs.specs.Recorder.{Notes, no_notes}
 use Rattle.node_runs.specs.Texts.{entries}
 use Rattle.node_runs.specs.Replayed.{IsAnswer}
@@ -212,7 +212,7 @@ module _ (s : Settings) (valid : IsValid s) where
 -- ---- whole runs
 
 -- each line of a run whose datagrams are such, as long as the net is honest
-pub run_true : (bytes : List ℕ) (setup : Setup) (calls : Calls) (answers : List Answer) (ticks : List ℕ) (receives : List (Option Arrival))
+pub run_true : (bytes : List ℕ) (setup : Setup) (calls : Calls) (answers : List Answer) (ticks : List ℕ) (receives : List Receive)
     → opening most_bytes bytes ≡ Opened setup calls → AllByRecursion IsAnswer answers → AreTicks 0 ticks
     → AreSuch IsHandedUp receives → HoldsWhile IsTrue no_notes nothing_seen (entries (node_run bytes answers ticks receives).reports)
 run_true bytes setup calls answers ticks receives e fair rises up =

@@ -1,10 +1,10 @@
 -- The verdict on a node's text: the law, stated; it is proved in this crate.
-use Rattle.std.specs.Prelude.{◌≡◌, ◌≤◌, ◌<◌, ◌^◌, ℕ, Option, IfSome, List, length}
+use Rattle.std.specs.Prelude.{◌≡◌, ◌≤◌, ◌<◌, ◌^◌, ℕ, IfSome, List, length}
 use Rattle.std.specs.List.{AllByRecursion}
 use Rattle.homa_plain.specs.Rules.{Answer}
 use Rattle.homa_plain.specs.Script.{most_bytes}
 use Rattle.node_runs.specs.Script.{Setup, Calls, Opened, opening}
-use Rattle.node_runs.specs.Course.{AreTicks, Arrival, IsReceived, Run, node_run}
+use Rattle.node_runs.specs.Course.{AreTicks, Arrival, Receive, IsReceived, Run, node_run}
 use Rattle.node_runs.specs.Recorder.{no_notes}
 use Rattle.node_runs.specs.Replayed.{IsAnswer}
 use Rattle.node_runs.specs.Texts.{node_text}
@@ -18,8 +18,8 @@ pub record IsHandedUp (a : Arrival) : Type 0 where
   pub host : a.from.0 < 2 ^ 16
 
 -- so does each of these receives that gave something
-abbrev pub AreHandedUp : List (Option Arrival) → Type 0
-AreHandedUp receives = AllByRecursion (λ (given : Option Arrival). IfSome given IsHandedUp) receives
+abbrev pub AreHandedUp : List Receive → Type 0
+AreHandedUp receives = AllByRecursion (λ (r : Receive). IfSome r.got IsHandedUp) receives
 
 -- the text is a trace of so many lines as the run has, and the verdict on it is yes
 pub record IsTraceOf (run : Run) : Type 0 where
@@ -29,7 +29,7 @@ pub record IsTraceOf (run : Run) : Type 0 where
 -- where a node's net hands up such datagrams and is honest, its text is a trace, if it is no longer than an input may be
 abbrev pub NodeTextsAreTraces : Type 0
 NodeTextsAreTraces =
-    (bytes : List ℕ) (setup : Setup) (calls : Calls) (answers : List Answer) (ticks : List ℕ) (receives : List (Option Arrival))
+    (bytes : List ℕ) (setup : Setup) (calls : Calls) (answers : List Answer) (ticks : List ℕ) (receives : List Receive)
     → opening most_bytes bytes ≡ Opened setup calls → AllByRecursion IsAnswer answers → AreTicks 0 ticks → AreHandedUp receives
     → let run = node_run bytes answers ticks receives in
     AreHonest no_notes (lines run) → length (node_text run) ≤ longest_input → IsTraceOf run

@@ -15,7 +15,7 @@ use Rattle.homa_plain.specs.Steps.{call_step, start_fault}
 use Rattle.homa_plain.specs.World.{World, SentPacket, Outcome, Refused, Done, outcome, calls_from, started, host_at, own_clock, stamped}
 use Rattle.host_view.specs.declared.outbox.SentFrame.{SentFrame}
 use Rattle.node_runs.specs.Script.{TimedCall, Calls, Refusal}
-use Rattle.node_runs.specs.Course.{Report, Tells, Datagram, Arrival, Node, GoesOn, datagrams, goes, follows, starts}
+use Rattle.node_runs.specs.Course.{Report, Tells, Datagram, Receive, Node, GoesOn, datagrams, goes, follows, starts}
 use Rattle.homa_plain.specs.Answers.{shown, answering}
 use Rattle.node_turns.specs.Acting.{node_at, node_of, frame_datagram, IsStep, IsCut, Begins}
 use Rattle.node_turns.proofs.Lists.{listed_none, entries_tells}
@@ -79,7 +79,7 @@ module _ (s : Settings) where
 
   -- nothing is known of what a call did
   pub cut_uncalled : (held : Calls) (due : List TimedCall) (w : World) (b : List PlainEntry → Type 0) (tell : List Report → Type 0)
-      (take : List Datagram → Type 0) (g0 g1 : Option (List (Option Arrival)))
+      (take : List Datagram → Type 0) (g0 g1 : Option (List Receive))
       → tell [] → take [] → g1 ≡ g0 → b [] → IsCut (starting s held due) s w b tell take g0 g1
   cut_uncalled held due w b tell take g0 g1 tells took given none = record {
     reports = [];
@@ -104,7 +104,7 @@ module _ (s : Settings) where
   -- a call of whose step a front was sent and told
   pub cut_called : (held : Calls) (c : TimedCall) (w : World) (stands : World → Type 0) (told : List PlainEntry) (frames : List SentFrame)
       (b a : List PlainEntry → Type 0) (tell : List Report → Type 0)
-      (take : List Datagram → Type 0) (g0 g1 : Option (List (Option Arrival)))
+      (take : List Datagram → Type 0) (g0 g1 : Option (List Receive))
       → c.tick ≤ w.clock → IsStep (λ v. outcome s v (event.Call c.client c.server c.service) c.bytes) [] s w stands told frames b a → tell (map Tells told)
       → take (map frame_datagram frames) → g1 ≡ g0 → a []
       → IsCut (starting s held (c ∷ [])) s w b tell take g0 g1

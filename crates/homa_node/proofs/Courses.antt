@@ -8,7 +8,7 @@ use Rattle.homa_plain.specs.Rules.{Answer}
 use Rattle.homa_plain.specs.World.{World}
 use Rattle.homa_plain.specs.Answers.{answering}
 use Rattle.node_runs.specs.Script.{Setup, Calls}
-use Rattle.node_runs.specs.Course.{Report, Datagram, Arrival, Node, Course, GoesOn, Stops, ◌>>=◌, End, Ended, StalledAt, run_of, datagrams}
+use Rattle.node_runs.specs.Course.{Report, Datagram, Receive, Node, Course, GoesOn, Stops, ◌>>=◌, End, Ended, StalledAt, run_of, datagrams}
 use Rattle.node_runs.specs.Course.{clock_stands, starts, hosts_act, locals, ends, loop_turn, loop_turns}
 use Rattle.node_turns.specs.Acting.{node_at, Begins, clock_reports}
 use Rattle.node_turns.proofs.Grows.{grown_on, begins_self, begins_then, hosts_grow}
@@ -43,7 +43,7 @@ module _ (setup : Setup) where
 
   -- loop turn n begins, at this tick
   pub turn_begins : (held : Calls) (n now : ℕ) (on : List ℕ) (w : World) (reports : List Report) (calls : Calls) (later : List Answer)
-      (next : List (Option Arrival))
+      (next : List Receive)
       → run_of setup.settings (loop_turns setup n (now ∷ on) (node_at (answering later w) reports calls next))
       ≡ run_of setup.settings (starts_calls held n now on (node_at (answering later (record w { clock = now })) (reports ++ clock_reports n now w) calls next))
   unfolding loop_turns loop_turn
@@ -55,7 +55,7 @@ module _ (setup : Setup) where
 
   -- no call is due
   pub calls_wait : (held : Calls) (a : Ahead) (r : Standing) (more : List ℕ) (w : World) (reports : List Report) (later : List Answer)
-      (next held2 : List (Option Arrival)) → IsIdle a w.clock
+      (next held2 : List Receive) → IsIdle a w.clock
       → starting setup.settings held [] next (node_at (answering later w) reports (calls_ahead setup a r more) held2)
       ≡ GoesOn (node_at (answering later w) reports (calls_ahead setup a r more) next)
   calls_wait held Unread r more w reports later next held2 idle = absurd idle

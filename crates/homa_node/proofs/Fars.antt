@@ -9,7 +9,7 @@ use Rattle.homa_plain.specs.Rules.{Answer}
 use Rattle.homa_plain.specs.World.{last_tick}
 use Rattle.homa_plain.specs.Answers.{shown}
 use Rattle.node_io.specs.Clock.{next_tick, if_ticks}
-use Rattle.node_runs.specs.Course.{Report, Datagram, Arrival, AreReceived, AreTicks, End, Run}
+use Rattle.node_runs.specs.Course.{Report, Datagram, Receive, AreReceived, AreTicks, End, Run}
 use Rattle.node_runs.specs.Recorder.{Notes}
 use Rattle.node_runs.specs.Texts.{entries}
 use Rattle.node_turns.specs.Told.{listed, numbers_of, AreTold}
@@ -23,7 +23,7 @@ use Rattle.homa_node.proofs.Started.{read_cut}
 
 -- what is still to be answered, read and received
 abbrev pub Later : Type 0
-Later = List Answer → List ℕ → List (Option Arrival) → Run
+Later = List Answer → List ℕ → List Receive → Run
 
 -- what was read is also this of what was due
 read_as : {A : Type 0} (bytes : List ℕ) (left : Option (List ℕ)) (due now due2 now2 : List ℕ → A) → IsRead bytes left due now
@@ -98,7 +98,7 @@ module _ (whole : Whole) (told : Notes → Report → List ℕ) (kept : Notes �
       so_far more later on next = whole more (shown (entries reports) ++ later) (d.ticks ++ on) (d.gave ++ next)
 
       -- the run goes on so, in other words
-      pub far_to : (onward : Whole) → ((more : List ℕ) (later : List Answer) (on : List ℕ) (next : List (Option Arrival))
+      pub far_to : (onward : Whole) → ((more : List ℕ) (later : List Answer) (on : List ℕ) (next : List Receive)
           → rest more later on next ≡ onward more later on next)
           → IsFar whole told kept strange may_tell bytes left old new after least reports sent onward
       far_to onward e = record {
@@ -169,7 +169,7 @@ module _ (whole : Whole) (told : Notes → Report → List ℕ) (kept : Notes �
           ∙ append_assoc (shown (entries x)) (shown (entries y)) later
 
       -- what it was given with these further answers and receives
-      with_more : (r : List Report) (g : List (Option Arrival)) (more : List ℕ) (later : List Answer) (on : List ℕ) (next : List (Option Arrival))
+      with_more : (r : List Report) (g : List Receive) (more : List ℕ) (later : List Answer) (on : List ℕ) (next : List Receive)
           → whole more (shown (entries (reports ++ r)) ++ later) (d.ticks ++ on) ((d.gave ++ g) ++ next)
           ≡ so_far more (shown (entries r) ++ later) on (g ++ next)
       with_more r g more later on next =
@@ -177,12 +177,12 @@ module _ (whole : Whole) (told : Notes → Report → List ℕ) (kept : Notes �
           ∙ ap (whole more (shown (entries reports) ++ (shown (entries r) ++ later)) (d.ticks ++ on)) (append_assoc d.gave g next)
 
       -- the hosts did more
-      pub far_acted : (new2 : Outside) (after2 : List PlainEntry → Type 0) (r : List Report) (sent2 more_sent : List Datagram) (g : List (Option Arrival))
+      pub far_acted : (new2 : Outside) (after2 : List PlainEntry → Type 0) (r : List Report) (sent2 more_sent : List Datagram) (g : List Receive)
           (onward : Whole)
           → AreTold told kept strange new.taken new.notes new2.taken new2.notes r → new2.sent ≡ listed new.sent more_sent → new2.gave ≡ listed new.gave g
           → AreReceived g → new2.ticks ≡ new.ticks → sent2 ≡ sent ++ more_sent → length more_sent ≡ length (numbers_of r)
           → ((more : List PlainEntry) → after2 more → after (entries r ++ more))
-          → ((more : List ℕ) (later : List Answer) (on : List ℕ) (next : List (Option Arrival))
+          → ((more : List ℕ) (later : List Answer) (on : List ℕ) (next : List Receive)
           → rest more (shown (entries r) ++ later) on (g ++ next) ≡ onward more later on next)
           → IsFar whole told kept strange may_tell bytes left old new2 after2 least (reports ++ r) sent2 onward
       far_acted new2 after2 r sent2 more_sent g onward tells took given came held grown count allowed e = record {
@@ -206,10 +206,10 @@ module _ (whole : Whole) (told : Notes → Report → List ℕ) (kept : Notes �
       }
 
       by_end : (new2 : Outside) (tell : List Report → Type 0) (take : List Datagram → Type 0) (r : List Report)
-          (more_sent : List Datagram) (g : List (Option Arrival))
+          (more_sent : List Datagram) (g : List Receive)
           → tell (reports ++ r) → take (sent ++ more_sent) → length more_sent ≡ length (numbers_of r)
           → new2.gave ≡ listed new.gave g → AreReceived g → AreTicks least [] → after (entries r)
-          → ((more : List ℕ) (later : List Answer) (on : List ℕ) (next : List (Option Arrival))
+          → ((more : List ℕ) (later : List Answer) (on : List ℕ) (next : List Receive)
           → BeginsRun (rest more (shown (entries r) ++ later) on (g ++ next)) (reports ++ r) (sent ++ more_sent))
           → (t : Bool) → d.read.ended ≡ t → IsPart whole told kept strange may_tell bytes left old new2 tell take
       by_end new2 tell take r more_sent g tells took count given came none3 allowed begins t is = record {
@@ -233,22 +233,22 @@ module _ (whole : Whole) (told : Notes → Report → List ℕ) (kept : Notes �
         allowed = subst may_tell (sym (entries_parts reports r)) (d.allowed (entries r) allowed);
         front = by_flag t is;
       } where
-        path : (more : List ℕ) (later : List Answer) (on : List ℕ) (next : List (Option Arrival)) → (d.read.ended ≡ true → more ≡ [])
+        path : (more : List ℕ) (later : List Answer) (on : List ℕ) (next : List Receive) → (d.read.ended ≡ true → more ≡ [])
             → whole (d.read.came ++ more) (shown (entries (reports ++ r)) ++ later) (d.ticks ++ on) ((d.gave ++ g) ++ next)
             ≡ rest more (shown (entries r) ++ later) on (g ++ next)
         path more later on next k = with_more r g (d.read.came ++ more) later on next
             ∙ ap (λ (f : Later). f (shown (entries r) ++ later) on (g ++ next)) (d.read.same more k)
 
-        begun : (more : List ℕ) (later : List Answer) (on : List ℕ) (next : List (Option Arrival)) → (d.read.ended ≡ true → more ≡ [])
+        begun : (more : List ℕ) (later : List Answer) (on : List ℕ) (next : List Receive) → (d.read.ended ≡ true → more ≡ [])
             → BeginsRun (whole (d.read.came ++ more) (shown (entries (reports ++ r)) ++ later) (d.ticks ++ on) ((d.gave ++ g) ++ next)) (reports ++ r)
             (sent ++ more_sent)
         begun more later on next k = subst (λ x. BeginsRun x (reports ++ r) (sent ++ more_sent)) (sym (path more later on next k)) (begins more later on next)
 
         by_flag : (t : Bool) → d.read.ended ≡ t
-            → ((more : List ℕ) (later : List Answer) (on : List ℕ) (next : List (Option Arrival))
+            → ((more : List ℕ) (later : List Answer) (on : List ℕ) (next : List Receive)
             → BeginsRun (whole (d.read.came ++ more) (shown (entries (reports ++ r)) ++ later) (d.ticks ++ on) ((d.gave ++ g) ++ next)) (reports ++ r)
             (sent ++ more_sent))
-            ⊎ ((d.read.rest ≡ []) × ((later : List Answer) (on : List ℕ) (next : List (Option Arrival))
+            ⊎ ((d.read.rest ≡ []) × ((later : List Answer) (on : List ℕ) (next : List Receive)
             → BeginsRun (whole d.read.came (shown (entries (reports ++ r)) ++ later) (d.ticks ++ on) ((d.gave ++ g) ++ next)) (reports ++ r)
             (sent ++ more_sent)))
         by_flag true e = inr (
@@ -261,10 +261,10 @@ module _ (whole : Whole) (told : Notes → Report → List ℕ) (kept : Notes �
 
       -- the hosts stopped
       pub far_part : (new2 : Outside) (tell : List Report → Type 0) (take : List Datagram → Type 0) (r : List Report)
-          (more_sent : List Datagram) (g : List (Option Arrival))
+          (more_sent : List Datagram) (g : List Receive)
           → tell (reports ++ r) → take (sent ++ more_sent) → length more_sent ≡ length (numbers_of r)
           → new2.gave ≡ listed new.gave g → AreReceived g → after (entries r)
-          → ((more : List ℕ) (later : List Answer) (on : List ℕ) (next : List (Option Arrival))
+          → ((more : List ℕ) (later : List Answer) (on : List ℕ) (next : List Receive)
           → BeginsRun (rest more (shown (entries r) ++ later) on (g ++ next)) (reports ++ r) (sent ++ more_sent))
           → IsPart whole told kept strange may_tell bytes left old new2 tell take
       far_part new2 tell take r more_sent g tells took count given came allowed begins =
@@ -272,14 +272,15 @@ module _ (whole : Whole) (told : Notes → Report → List ℕ) (kept : Notes �
 
       -- the run is over
       pub far_end : (end : End) → after []
-          → ((more : List ℕ) (later : List Answer) (on : List ℕ) (next : List (Option Arrival))
-          → rest more later on next ≡ record { reports = reports; sent = sent; end = Some end })
+          → ((more : List ℕ) (later : List Answer) (on : List ℕ) (next : List Receive)
+          → rest more later on next ≡ record { reports = reports; sent = sent; left = next; end = Some end })
           → IsServed whole told kept strange may_tell bytes old new end
       far_end end none e = record {
         answers = shown (entries reports);
         ticks = d.ticks;
         gave = d.gave;
         ended = ap (λ (x : Run). x.end) run;
+        used = ap (λ (x : Run). x.left) run;
         told_all = subst (AreTold told kept strange old.taken old.notes new.taken new.notes) (sym (ap (λ (x : Run). x.reports) run)) d.told_all;
         took = d.took ∙ ap (listed old.sent) (sym (ap (λ (x : Run). x.sent) run));
         given = d.given;
@@ -289,7 +290,7 @@ module _ (whole : Whole) (told : Notes → Report → List ℕ) (kept : Notes �
         shows = ap (λ (x : Run). shown (entries x.reports)) run;
         allowed = subst may_tell (append-nil (entries reports) ∙ sym (ap (λ (x : Run). entries x.reports) run)) (d.allowed [] none);
       } where
-        run : whole bytes (shown (entries reports)) d.ticks d.gave ≡ record { reports = reports; sent = sent; end = Some end }
+        run : whole bytes (shown (entries reports)) d.ticks d.gave ≡ record { reports = reports; sent = sent; left = []; end = Some end }
         run =
             ap (λ xs. whole bytes xs d.ticks d.gave) (sym (append-nil (shown (entries reports))))
             ∙ ap (λ xs. whole bytes (shown (entries reports) ++ []) xs d.gave) (sym (append-nil d.ticks))

@@ -9,7 +9,7 @@ use Rattle.homa_plain.specs.Script.{most_bytes}
 use Rattle.homa_plain.specs.World.{World, new_world}
 use Rattle.homa_plain.specs.Answers.{answering}
 use Rattle.node_runs.specs.Script.{Setup, Calls, Opening, Opened, unopened, opening}
-use Rattle.node_runs.specs.Course.{Report, Tells, Datagram, Arrival, RefusedAt, run_of, run_opened, node_run, new_node, first_inc, datagrams, loop_turns}
+use Rattle.node_runs.specs.Course.{Report, Tells, Datagram, Receive, RefusedAt, run_of, run_opened, node_run, new_node, first_inc, datagrams, loop_turns}
 use Rattle.node_runs.specs.Recorder.{Notes}
 use Rattle.node_turns.specs.Told.{ListedFront, AreTold, AreFront}
 use Rattle.node_turns.specs.Acting.{node_at, Begins, OnStrange}
@@ -35,18 +35,18 @@ opening_never n line stop e = subst (λ x. OnStrange {A = Unit {0}} (Err x) ⊥)
   by_stop (why.Read failed) = tt
   by_stop (why.Fault fault) = tt
 
-by_opening : (more : List ℕ) (later : List Answer) (on : List ℕ) (next : List (Option Arrival))
+by_opening : (more : List ℕ) (later : List Answer) (on : List ℕ) (next : List Receive)
     → node_run more later on next ≡ run_opened (opening most_bytes more) later on next
 unfolding node_run
 by_opening more later on next = refl
 
 pub outside_same : (taken : Option (List ℕ)) (notes : Notes) (ticks : Option (List ℕ)) (sent sent2 : Option (List Datagram))
-    (gave gave2 : Option (List (Option Arrival))) → sent2 ≡ sent → gave2 ≡ gave
+    (gave gave2 : Option (List Receive)) → sent2 ≡ sent → gave2 ≡ gave
     → outside taken notes sent2 gave2 ticks ≡ outside taken notes sent gave ticks
 outside_same taken notes ticks sent sent2 gave gave2 e f = ap (λ x. outside taken notes x gave2 ticks) e ∙ ap (λ x. outside taken notes sent x ticks) f
 
 -- nothing is sent before the first loop turn
-none_sent : (setup : Setup) (calls : Calls) (later : List Answer) (next : List (Option Arrival))
+none_sent : (setup : Setup) (calls : Calls) (later : List Answer) (next : List Receive)
     → datagrams setup.settings (new_node setup calls later next).world ≡ []
 unfolding new_world
 none_sent setup calls later next = refl
@@ -130,7 +130,7 @@ module _ (told : Notes → Report → List ℕ) (kept : Notes → Report → Not
     open_untold = nothing_told left2 opened_run (opens left2 (λ more. Opened setup (calls more)) f)
 
     -- it begins with its settings
-    run_begins : (more : List ℕ) (later : List Answer) (on : List ℕ) (next : List (Option Arrival))
+    run_begins : (more : List ℕ) (later : List Answer) (on : List ℕ) (next : List Receive)
         → BeginsRun (opened_run more later on next) (Tells (PlainSettings setup.settings) ∷ []) []
     run_begins more later on next =
         let node = new_node setup (calls more) later next in

@@ -10,7 +10,7 @@ use Rattle.homa_plain.specs.Entries.{PlainEntry}
 use Rattle.homa_plain.specs.World.{World}
 use Rattle.homa_plain.specs.Answers.{answering}
 use Rattle.node_runs.specs.Script.{TimedCall, Calls, with_call}
-use Rattle.node_runs.specs.Course.{Report, Datagram, Arrival, End, RefusedAt, datagrams}
+use Rattle.node_runs.specs.Course.{Report, Datagram, Receive, End, RefusedAt, datagrams}
 use Rattle.node_turns.specs.Acting.{node_at, IsRefused, HasActed, IsCut}
 use Rattle.node_turns.specs.Told.{ListedFront}
 use Rattle.node_turns.proofs.Lists.{listed_none, front_none, front_listed}
@@ -43,7 +43,7 @@ read_cut bytes left left2 due now d f =
     )
 
 module _ (s : Settings) (stands : World → Type 0) (before : List PlainEntry → Type 0) (sent0 : Option (List Datagram))
-    (gave0 : Option (List (Option Arrival))) (left0 : Option (List ℕ)) (due : List ℕ → Calls) where
+    (gave0 : Option (List Receive)) (left0 : Option (List ℕ)) (due : List ℕ → Calls) where
   -- the next line was read
   pub started_none : (left1 : Option (List ℕ)) (tell : List Report → Type 0) (now : List ℕ → Calls) → tell []
       → ((bytes : List ℕ) → left0 ≡ Some bytes → IsRead bytes left1 due now)
@@ -54,7 +54,7 @@ module _ (s : Settings) (stands : World → Type 0) (before : List PlainEntry �
     read = read;
   }
 
-  module _ (sent1 : Option (List Datagram)) (gave1 : Option (List (Option Arrival))) (left1 : Option (List ℕ)) (next1 : World → Type 0)
+  module _ (sent1 : Option (List Datagram)) (gave1 : Option (List Receive)) (left1 : Option (List ℕ)) (next1 : World → Type 0)
       (after1 : List PlainEntry → Type 0) (tell1 : List Report → Type 0) where
     -- nothing was known of the calls, or was known in other words
     pub started_as : (a b : List ℕ → Calls) → ((more : List ℕ) → a more ≡ b more)
@@ -106,7 +106,7 @@ module _ (s : Settings) (stands : World → Type 0) (before : List PlainEntry �
 
       -- the next call was started
       pub started_call : (t : Settings) → t ≡ s
-          → (sent2 : Option (List Datagram)) (gave2 : Option (List (Option Arrival))) (next2 : World → Type 0) (after2 : List PlainEntry → Type 0)
+          → (sent2 : Option (List Datagram)) (gave2 : Option (List Receive)) (next2 : World → Type 0) (after2 : List PlainEntry → Type 0)
           (tell2 tell : List Report → Type 0)
           → ((w : World) → next1 w → (held : Calls)
           → HasActed (starting t held (c ∷ [])) (starting t held []) t w next2 after1 after2 tell2 sent1 sent2 gave1 gave2)
@@ -123,7 +123,7 @@ module _ (s : Settings) (stands : World → Type 0) (before : List PlainEntry �
       }
 
       -- the hosts stopped at it
-      pub call_cut : (t : Settings) → t ≡ s → (sent2 : Option (List Datagram)) (gave2 : Option (List (Option Arrival))) (tell2 tell : List Report → Type 0)
+      pub call_cut : (t : Settings) → t ≡ s → (sent2 : Option (List Datagram)) (gave2 : Option (List Receive)) (tell2 tell : List Report → Type 0)
           → ((w : World) → next1 w → (held : Calls) → IsCut (starting t held (c ∷ [])) t w after1 tell2 (ListedFront sent1 sent2) gave1 gave2)
           → ((x y : List Report) → tell1 x → tell2 y → tell (x ++ y)) → HasCut s stands before sent0 sent2 gave0 gave2 left0 left1 due tell
       call_cut t e sent2 gave2 tell2 tell f tells = record {
@@ -139,7 +139,7 @@ module _ (s : Settings) (stands : World → Type 0) (before : List PlainEntry �
 
       -- it can't start
       pub call_ended : (t : Settings) → t ≡ s
-          → (sent2 : Option (List Datagram)) (gave2 : Option (List (Option Arrival))) (tell2 tell : List Report → Type 0) (end : End)
+          → (sent2 : Option (List Datagram)) (gave2 : Option (List Receive)) (tell2 tell : List Report → Type 0) (end : End)
           → ((w : World) → next1 w → (held : Calls)
           → HasActed (starting t held (c ∷ [])) (stopping held end) t w (λ v. Unit {0}) after1 (λ told. told ≡ []) tell2 sent1 sent2 gave1 gave2)
           → ((x y : List Report) → tell1 x → tell2 y → tell (x ++ y)) → HasEnded s stands before sent0 sent2 gave0 gave2 left0 left1 due tell end
@@ -157,7 +157,7 @@ module _ (s : Settings) (stands : World → Type 0) (before : List PlainEntry �
 module _ (s : Settings) where
   -- a call can't start
   pub ended_one : (held : Calls) (c : TimedCall) (w : World) (b : List PlainEntry → Type 0) (tell : List Report → Type 0) (sent : Option (List Datagram))
-      (gave : Option (List (Option Arrival))) (fault : StartFault)
+      (gave : Option (List Receive)) (fault : StartFault)
       → c.tick ≤ w.clock → IsRefused s w (event.Call c.client c.server c.service) c.bytes (CantStart fault) → tell [] → b []
       → HasActed (starting s held (c ∷ [])) (stopping held (RefusedAt c.line (ByWorld (CantStart fault)))) s w (λ v. Unit {0}) b
       (λ told. told ≡ []) tell sent sent gave gave

@@ -10,7 +10,7 @@ use Rattle.homa_plain.specs.Entries.{PlainEntry}
 use Rattle.homa_plain.specs.World.{World, Outcome, Refused, Done, outcome}
 use Rattle.host_view.specs.declared.outbox.SentFrame.{SentFrame}
 use Rattle.node_runs.specs.Script.{TimedCall, Calls, Refusal}
-use Rattle.node_runs.specs.Course.{Report, Tells, Datagram, Arrival, Node, Course, GoesOn, Stops, ◌>>=◌, RefusedAt, run_of, datagrams, goes, starts}
+use Rattle.node_runs.specs.Course.{Report, Tells, Datagram, Receive, Node, Course, GoesOn, Stops, ◌>>=◌, RefusedAt, run_of, datagrams, goes, starts}
 use Rattle.node_runs.specs.Texts.{entries}
 use Rattle.homa_plain.specs.declared.fault.StartFault.{StartFault}
 use Rattle.homa_plain.specs.declared.fault.WorldFault.TheVariants.{Start as CantStart}
@@ -70,7 +70,7 @@ module _ (s : Settings) where
   -- a call was started
   pub acted_call : (held : Calls) (c : TimedCall) (w : World) (stands : World → Type 0) (told : List PlainEntry) (frames : List SentFrame)
       (b a : List PlainEntry → Type 0) (tell : List Report → Type 0)
-      (s0 s1 : Option (List Datagram)) (g0 g1 : Option (List (Option Arrival)))
+      (s0 s1 : Option (List Datagram)) (g0 g1 : Option (List Receive))
       → c.tick ≤ w.clock → IsStep (λ v. outcome s v (event.Call c.client c.server c.service) c.bytes) [] s w stands told frames b a → tell (map Tells told)
       → s1 ≡ listed s0 (map frame_datagram frames) → g1 ≡ g0
       → HasActed (starting s held (c ∷ [])) (starting s held []) s w stands b a tell s0 s1 g0 g1
@@ -97,7 +97,7 @@ module _ (s : Settings) where
   -- calls that were started, in front of others
   pub acted_front : (held : Calls) (front back : List TimedCall) (w : World) (st : World → Type 0) (b a : List PlainEntry → Type 0)
       (tell : List Report → Type 0)
-      (s0 s1 : Option (List Datagram)) (g0 g1 : Option (List (Option Arrival)))
+      (s0 s1 : Option (List Datagram)) (g0 g1 : Option (List Receive))
       → HasActed (starting s held front) (starting s held []) s w st b a tell s0 s1 g0 g1
       → HasActed (starting s held (front ++ back)) (starting s held back) s w st b a tell s0 s1 g0 g1
   acted_front held front back w st b a tell s0 s1 g0 g1 h = record {
@@ -121,7 +121,7 @@ module _ (s : Settings) where
 
   -- the next call isn't due
   pub acted_wait : (held : Calls) (c : TimedCall) (w : World) (stands : World → Type 0) (b : List PlainEntry → Type 0) (tell : List Report → Type 0)
-      (sent : Option (List Datagram)) (gave : Option (List (Option Arrival)))
+      (sent : Option (List Datagram)) (gave : Option (List Receive))
       → w.clock < c.tick → stands w → tell [] → HasActed (starting s held (c ∷ [])) (waiting c) s w stands b b tell sent sent gave gave
   acted_wait held c w stands b tell sent gave early stood none = record {
     next = w;

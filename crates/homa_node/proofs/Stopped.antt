@@ -1,5 +1,5 @@
 -- A run that stopped in the midst of what the hosts do.
-use Rattle.std.proofs.Common.{◌≡◌, ℕ, Bool, Option, Err, List, sym, ap, ◌∙◌}
+use Rattle.std.proofs.Common.{ℕ, Bool, Option, Err, List, sym, ap, ◌∙◌}
 use Rattle.homa_plain.specs.Entries.{PlainEntry}
 use Rattle.node_io.specs.declared.observer.SeenFault.TheVariants.{Write, Stranger, NoMemory as NoRoom}
 use Rattle.node_runs.specs.Course.{Report}

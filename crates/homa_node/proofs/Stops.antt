@@ -8,7 +8,7 @@ use Rattle.homa_plain.specs.World.{World}
 use Rattle.node_io.specs.declared.observer.SeenFault.TheVariants.{Write, Stranger, NoMemory as NoRoom}
 use Rattle.node_runs.specs.Script as script
 use Rattle.node_runs.specs.Script.{TimedCall, Calls, with_call}
-use Rattle.node_runs.specs.Course.{Report, Datagram, Arrival, RefusedAt}
+use Rattle.node_runs.specs.Course.{Report, Datagram, Receive, RefusedAt}
 use Rattle.node_runs.specs.Recorder.{Notes}
 use Rattle.node_turns.specs.Told.{ListedFront, AreTold, AreFront}
 use Rattle.node_turns.specs.Acting.{HasActed, IsCut, OnStrange}
@@ -23,9 +23,9 @@ use Rattle.homa_node.specs.Started.{stopping, HasStarted, HasStopped}
 use Rattle.homa_node.proofs.Started.{started_looked, started_cut, call_cut, call_ended}
 
 module _ (s : Settings) (stands : World → Type 0) (before : List PlainEntry → Type 0) (sent0 : Option (List Datagram))
-    (gave0 : Option (List (Option Arrival))) (left0 : Option (List ℕ)) (due : List ℕ → Calls)
+    (gave0 : Option (List Receive)) (left0 : Option (List ℕ)) (due : List ℕ → Calls)
     (told : Notes → Report → List ℕ) (kept : Notes → Report → Notes) (strange : Notes → Report → Bool) (taken0 : Option (List ℕ)) (notes0 : Notes)
-    (sent1 : Option (List Datagram)) (gave1 : Option (List (Option Arrival))) (left1 : Option (List ℕ)) (next1 : World → Type 0)
+    (sent1 : Option (List Datagram)) (gave1 : Option (List Receive)) (left1 : Option (List ℕ)) (next1 : World → Type 0)
     (after1 : List PlainEntry → Type 0) (taken1 : Option (List ℕ)) (notes1 : Notes) where
   -- the next line gave no call
   pub look_stopped : (setup : script.Setup) (a b : Ahead) (r t : Standing) (left2 : Option (List ℕ)) (stop : NodeStop)
@@ -53,7 +53,7 @@ module _ (s : Settings) (stands : World → Type 0) (before : List PlainEntry �
       (h : HasStarted s stands before sent0 sent1 gave0 gave1 left0 left1 due next1 after1 (AreTold told kept strange taken0 notes0 taken1 notes1)
       (λ more. with_call c (now more)))
       (t : Settings) (e : t ≡ s) (comes : (w : World) → next1 w → c.tick ≤ w.clock) (sent2 : Option (List Datagram))
-      (gave2 : Option (List (Option Arrival))) (taken2 : Option (List ℕ)) (notes2 : Notes) where
+      (gave2 : Option (List Receive)) (taken2 : Option (List ℕ)) (notes2 : Notes) where
     -- the hosts stopped at the next call
     call_front : ((w : World) → next1 w → c.tick ≤ w.clock → (held : Calls)
         → IsCut (starting t held (c ∷ [])) t w after1 (AreFront told kept strange taken1 notes1 taken2) (ListedFront sent1 sent2) gave1 gave2)
@@ -89,7 +89,7 @@ module _ (s : Settings) (stands : World → Type 0) (before : List PlainEntry �
     call_stopped next2 after2 (Stalled turns now) is cut ended = absurd is
 
 module _ (s : Settings) (stands : World → Type 0) (before : List PlainEntry → Type 0) (sent0 sent1 : Option (List Datagram))
-    (gave0 gave1 : Option (List (Option Arrival))) (left0 left1 : Option (List ℕ)) (due : List ℕ → Calls)
+    (gave0 gave1 : Option (List Receive)) (left0 left1 : Option (List ℕ)) (due : List ℕ → Calls)
     (told : Notes → Report → List ℕ) (kept : Notes → Report → Notes) (strange : Notes → Report → Bool) (next : World → Type 0)
     (after : List PlainEntry → Type 0) (taken0 : Option (List ℕ)) (notes0 : Notes) (taken1 : Option (List ℕ)) (notes1 : Notes) where
   -- nothing is strange while calls are started

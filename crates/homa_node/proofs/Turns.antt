@@ -52,7 +52,7 @@ clock_numbers now false = refl
 
 -- a run that is over
 abbrev ended_run : List Report → List Datagram → End → Whole
-ended_run reports sent end more later on next = record { reports = reports; sent = sent; end = Some end }
+ended_run reports sent end more later on next = record { reports = reports; sent = sent; left = next; end = Some end }
 
 -- the rest of the bytes is the one that is left
 one_rest : (P : List ℕ → Type 0) (left : Option (List ℕ)) (a : List ℕ) → left ≡ Some a → P a → (rest : List ℕ) → left ≡ Some rest → P rest

@@ -5,7 +5,7 @@ use Rattle.homa_plain.specs.Rules.{Answer}
 use Rattle.homa_plain.specs.World.{World}
 use Rattle.homa_plain.specs.Answers.{shown, answering}
 use Rattle.node_runs.specs.Script.{Setup, Calls}
-use Rattle.node_runs.specs.Course.{Report, Datagram, Arrival, AreReceived, AreTicks, Node, Course, GoesOn, Stops, ◌>>=◌, StalledAt, Run, run_of, datagrams}
+use Rattle.node_runs.specs.Course.{Report, Datagram, Receive, AreReceived, AreTicks, Node, Course, GoesOn, Stops, ◌>>=◌, StalledAt, Run, run_of, datagrams}
 use Rattle.node_runs.specs.Course.{hosts_act, locals, ends, loop_turns}
 use Rattle.node_runs.specs.Recorder.{Notes}
 use Rattle.node_runs.specs.Texts.{entries}
@@ -22,7 +22,7 @@ module _ (whole : Whole) (told : Notes → Report → List ℕ) (kept : Notes �
   pub record IsFar (bytes : List ℕ) (left : Option (List ℕ)) (old new : Outside) (after : List PlainEntry → Type 0) (least : ℕ) (reports : List Report)
       (sent : List Datagram) (rest : Whole) : Type 0 where
     pub ticks : List ℕ
-    pub gave : List (Option Arrival)
+    pub gave : List Receive
     pub told_all : AreTold told kept strange old.taken old.notes new.taken new.notes reports
     pub took : new.sent ≡ listed old.sent sent
     pub numbers : length sent ≡ length (numbers_of reports)
@@ -31,7 +31,7 @@ module _ (whole : Whole) (told : Notes → Report → List ℕ) (kept : Notes �
     pub ticked : (on : List ℕ) → AreGiven new.ticks on → AreGiven old.ticks (ticks ++ on)
     pub rises : (on : List ℕ) → AreTicks least on → AreTicks 0 (ticks ++ on)
     pub allowed : (more : List PlainEntry) → after more → may_tell (entries reports ++ more)
-    pub read : IsRead {A = List Answer → List ℕ → List (Option Arrival) → Run} bytes left
+    pub read : IsRead {A = List Answer → List ℕ → List Receive → Run} bytes left
         (λ more later on next. whole more (shown (entries reports) ++ later) (ticks ++ on) (gave ++ next)) rest
 
 -- the run goes on with what a node does, from this world and these reports on, with these calls still to be made

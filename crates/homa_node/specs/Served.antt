@@ -9,7 +9,7 @@ use Rattle.homa_plain.specs.World.{World, new_world}
 use Rattle.homa_plain.specs.Answers.{shown, answering}
 use Rattle.node_io.specs.declared.observer.SeenFault.TheVariants.{Stranger}
 use Rattle.node_io.specs.Clock.{next_tick, ticks_after}
-use Rattle.node_runs.specs.Course.{Report, Datagram, Arrival, AreReceived, AreTicks, End, Ended, RefusedAt, StalledAt, Run}
+use Rattle.node_runs.specs.Course.{Report, Datagram, Receive, AreReceived, AreTicks, End, Ended, RefusedAt, StalledAt, Run}
 use Rattle.node_runs.specs.Recorder.{Notes}
 use Rattle.node_runs.specs.Texts.{entries, sent_by}
 use Rattle.node_turns.specs.Told.{listed, Listed, ListedFront, numbers_of, AreTold, AreFront, AreStrange}
@@ -37,15 +37,15 @@ pub record Outside : Type 0 where
   pub taken : Option (List ℕ)
   pub notes : Notes
   pub sent : Option (List Datagram)
-  pub gave : Option (List (Option Arrival))
+  pub gave : Option (List Receive)
   pub ticks : Option (List ℕ)
 
-abbrev pub outside : Option (List ℕ) → Notes → Option (List Datagram) → Option (List (Option Arrival)) → Option (List ℕ) → Outside
+abbrev pub outside : Option (List ℕ) → Notes → Option (List Datagram) → Option (List Receive) → Option (List ℕ) → Outside
 outside taken notes sent gave ticks = record { taken = taken; notes = notes; sent = sent; gave = gave; ticks = ticks }
 
 -- a run, of the bytes of a script, what the services answer, the ticks of the clock, and what each receive gives
 abbrev pub Whole : Type 0
-Whole = List ℕ → List Answer → List ℕ → List (Option Arrival) → Run
+Whole = List ℕ → List Answer → List ℕ → List Receive → Run
 
 -- a run that begins so
 pub record BeginsRun (run : Run) (reports : List Report) (sent : List Datagram) : Type 0 where
@@ -57,13 +57,14 @@ pub record BeginsRun (run : Run) (reports : List Report) (sent : List Datagram) 
 module _ (whole : Whole) (told : Notes → Report → List ℕ) (kept : Notes → Report → Notes) (strange : Notes → Report → Bool)
     (may_tell : List PlainEntry → Type 0) where
   -- The run of these bytes came to this end. There are answers, ticks and receives of which it is the run: the answers are those that
-  -- its `run` lines show, which the boxes allow; the ticks and receives are those that were given, where that is told. All of it was told,
-  -- and nothing was strange.
+  -- its `run` lines show, which the boxes allow; the ticks and receives are those that were given, where that is told, and it leaves no receive.
+  -- All of it was told, and nothing was strange.
   pub record IsServed (bytes : List ℕ) (old new : Outside) (end : End) : Type 0 where
     pub answers : List Answer
     pub ticks : List ℕ
-    pub gave : List (Option Arrival)
+    pub gave : List Receive
     pub ended : (whole bytes answers ticks gave).end ≡ Some end
+    pub used : (whole bytes answers ticks gave).left ≡ []
     pub told_all : AreTold told kept strange old.taken old.notes new.taken new.notes (whole bytes answers ticks gave).reports
     pub took : new.sent ≡ listed old.sent (whole bytes answers ticks gave).sent
     pub given : new.gave ≡ listed old.gave gave
@@ -83,7 +84,7 @@ module _ (whole : Whole) (told : Notes → Report → List ℕ) (kept : Notes �
     pub has_left : left ≡ Some rest
     pub answers : List Answer
     pub ticks : List ℕ
-    pub gave : List (Option Arrival)
+    pub gave : List Receive
     pub reports : List Report
     pub sent : List Datagram
     pub told_part : tell reports
@@ -95,9 +96,9 @@ module _ (whole : Whole) (told : Notes → Report → List ℕ) (kept : Notes �
     pub rises : AreTicks 0 ticks
     pub shows : shown (entries reports) ≡ answers
     pub allowed : may_tell (entries reports)
-    pub front : ((more : List ℕ) (later : List Answer) (on : List ℕ) (next : List (Option Arrival))
+    pub front : ((more : List ℕ) (later : List Answer) (on : List ℕ) (next : List Receive)
         → BeginsRun (whole (came ++ more) (answers ++ later) (ticks ++ on) (gave ++ next)) reports sent)
-        ⊎ ((rest ≡ []) × ((later : List Answer) (on : List ℕ) (next : List (Option Arrival))
+        ⊎ ((rest ≡ []) × ((later : List Answer) (on : List ℕ) (next : List Receive)
         → BeginsRun (whole came (answers ++ later) (ticks ++ on) (gave ++ next)) reports sent))
 
   -- The run stopped at a datagram that is strange, which was told. Of each run that begins so the net took the datagrams up to it.

@@ -7,7 +7,7 @@ use Rattle.homa_plain.specs.Entries.{PlainEntry}
 use Rattle.homa_plain.specs.World.{World}
 use Rattle.node_io.specs.declared.observer.SeenFault.TheVariants.{Stranger}
 use Rattle.node_runs.specs.Script.{TimedCall, Calls}
-use Rattle.node_runs.specs.Course.{Report, Datagram, Arrival, End, Stops, RefusedAt}
+use Rattle.node_runs.specs.Course.{Report, Datagram, Receive, End, Stops, RefusedAt}
 use Rattle.node_runs.specs.Recorder.{Notes}
 use Rattle.node_turns.specs.Told.{ListedFront, AreTold, AreFront}
 use Rattle.node_turns.specs.Acting.{Part, HasActed, IsCut}
@@ -23,7 +23,7 @@ stopping held end left node = Stops (record node { receives = left; calls = held
 
 -- `due` are the calls that were to be made before, where these bytes still come
 module _ (s : Settings) (stands : World → Type 0) (before : List PlainEntry → Type 0) (sent0 sent1 : Option (List Datagram))
-    (gave0 gave1 : Option (List (Option Arrival)))
+    (gave0 gave1 : Option (List Receive))
     (left0 left1 : Option (List ℕ)) (due : List ℕ → Calls) where
   -- the first of them were started, and the others are still to be made
   pub record HasStarted (next : World → Type 0) (after : List PlainEntry → Type 0) (tell : List Report → Type 0) (now : List ℕ → Calls) : Type 0 where

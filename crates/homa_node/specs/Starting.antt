@@ -1,5 +1,5 @@
 -- The calls whose tick has come, as parts of the plain course, whatever calls stand behind them.
-use Rattle.std.specs.Prelude.{◌≡◌, ℕ, ◌++◌, Option, None, Some, Result, Ok, Err, List, [], ◌∷◌}
+use Rattle.std.specs.Prelude.{◌≡◌, ℕ, ◌++◌, None, Some, Result, Ok, Err, List, [], ◌∷◌}
 use Rattle.homa_plain.specs.declared.settings.Settings.{Settings}
 use Rattle.node_runs.specs.Script.{TimedCall, Calls, with_call}
 use Rattle.homa_plain.specs.declared.fault.StartFault.{StartFault}
@@ -7,7 +7,7 @@ use Rattle.homa_plain.specs.declared.fault.LineFault.TheVariants.{World as ByWor
 use Rattle.homa_plain.specs.declared.fault.WorldFault.TheVariants.{Start as CantStart}
 use Rattle.homa_plain.specs.Rules.{Answer}
 use Rattle.homa_plain.specs.World.{World}
-use Rattle.node_runs.specs.Course.{Report, Arrival, GoesOn, Stops, RefusedAt, starts}
+use Rattle.node_runs.specs.Course.{Report, Receive, GoesOn, Stops, RefusedAt, starts}
 use Rattle.homa_plain.specs.Answers.{answering}
 use Rattle.node_turns.specs.Acting.{Part, node_at, IsMidst}
 use Rattle.node_turns.specs.declared.stop.NodeStop.{NodeStop}
@@ -54,6 +54,6 @@ IsCallStop stop = IsMidst stop
 -- the course ends at this call, whatever is answered, received and called later
 abbrev pub StopsAt : Settings → Calls → TimedCall → World → ℕ → StartFault → Type 0
 StopsAt s held c w line fault =
-    (first : List Report) (later : List Answer) (calls : Calls) (left held2 : List (Option Arrival))
+    (first : List Report) (later : List Answer) (calls : Calls) (left held2 : List Receive)
     → starting s held (c ∷ []) left (node_at (answering later w) first calls held2)
     ≡ Stops (node_at (answering later w) first held left) (Some (RefusedAt line (ByWorld (CantStart fault))))

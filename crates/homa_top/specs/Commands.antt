@@ -8,7 +8,7 @@ use Rattle.homa_plain.specs.Judge.{Clause}
 use Rattle.homa_plain.specs.Quiet.{IsQuiet}
 use Rattle.homa_plain.specs.Answers.{shown}
 use Rattle.homa_plain.specs.Rules.{Answer}
-use Rattle.node_runs.specs.Course.{Arrival, AreTicks, AreReceived, Ended, RefusedAt, StalledAt, node_run}
+use Rattle.node_runs.specs.Course.{Receive, AreTicks, AreReceived, Ended, RefusedAt, StalledAt, node_run}
 use Rattle.node_runs.specs.Texts.{entries, node_text, recording_text}
 use Rattle.homa_node.specs.Served.{AreGiven}
 use Rattle.node_trace.specs.Traces.{Around, IsWhole, IsBrokenOff, IsEndCut}
@@ -101,7 +101,7 @@ module _ (may_tell : List PlainEntry → Type 0) where
 
   -- whatever the services may answer, the clock may give of its ticks and the net may give, no line of the script is refused
   abbrev pub IsNeverRefused : List ℕ → Option (List ℕ) → Type 0
-  IsNeverRefused bytes held = (answers : List Answer) (ticks : List ℕ) (gave : List (Option Arrival)) (line : ℕ) (fault : LineFault)
+  IsNeverRefused bytes held = (answers : List Answer) (ticks : List ℕ) (gave : List Receive) (line : ℕ) (fault : LineFault)
       → AreGiven held ticks → AreTicks 0 ticks → AreReceived gave → shown (entries (node_run bytes answers ticks gave).reports) ≡ answers
       → may_tell (entries (node_run bytes answers ticks gave).reports)
       → (node_run bytes answers ticks gave).end ≡ Some (RefusedAt line fault) → ⊥

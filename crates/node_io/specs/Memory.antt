@@ -1,11 +1,11 @@
 -- What a net in memory holds and has told.
 use Rattle.std.specs.Prelude.{ℕ, ◌-◌, Bool, if◌then◌else◌, Option, Some, List, [], ◌∷◌, ◌++◌, length, map}
 use Rattle.homa_plain.specs.declared.id.HostId.{HostId}
-use Rattle.node_runs.specs.Course.{Datagram, Arrival}
+use Rattle.node_runs.specs.Course.{Datagram, Receive}
 use Rattle.node_io.specs.declared.memory.MemNet.{MemNet}
 use Rattle.node_io.specs.Net.{datagram_of}
 use Rattle.node_io.specs.Hosts.{set_has}
-use Rattle.node_io.specs.Given.{given}
+use Rattle.node_io.specs.Given.{received}
 
 -- the hosts that were bound
 abbrev pub net_bound : MemNet → HostId → Bool
@@ -32,8 +32,8 @@ abbrev pub net_sent : MemNet → Option (List Datagram)
 net_sent net = Some (map datagram_of net.sent.items)
 
 -- what its receives gave
-abbrev pub net_gave : MemNet → Option (List (Option Arrival))
-net_gave net = Some (map given net.gave.items)
+abbrev pub net_gave : MemNet → Option (List Receive)
+net_gave net = Some (map received net.gave.items)
 
 -- how many faults it had
 abbrev pub net_faults : MemNet → ℕ

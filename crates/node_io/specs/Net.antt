@@ -2,7 +2,7 @@
 use Rattle.std.specs.Prelude.{ℕ, ◌&&◌, not, Bool, if◌then◌else◌, Option, None, Some, List, [], ◌∷◌, ◌++◌}
 use Rattle.homa_plain.specs.declared.id.HostId.{HostId}
 use Rattle.homa_plain.specs.Calls.{is_host}
-use Rattle.node_runs.specs.Course.{Datagram, Arrival}
+use Rattle.node_runs.specs.Course.{Datagram, Arrival, Receive}
 use Rattle.node_io.specs.declared.net.Got.{Got}
 use Rattle.node_io.specs.declared.net.Got.TheVariants as got
 
@@ -10,6 +10,10 @@ use Rattle.node_io.specs.declared.net.Got.TheVariants as got
 abbrev pub arrival_of : Got → List ℕ → Option Arrival
 arrival_of (got.Frame from) bytes = Some (record { from = from; bytes = bytes })
 arrival_of got.Nothing bytes = None
+
+-- a receive for a host, which gave this
+abbrev pub receive_of : HostId → Got → List ℕ → Receive
+receive_of host got bytes = record { host = host; got = arrival_of got bytes }
 
 -- a fact of the sender, where a datagram was given
 abbrev pub IfFrom : Got → (HostId → Type 0) → Type 0

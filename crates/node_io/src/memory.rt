@@ -5,8 +5,8 @@ ghost use Rattle.homa_io.specs.Outside.{HasRisen};
 ghost use Rattle.homa_plain.specs.declared.id.HostId.{HostId as Host};
 ghost use Rattle.homa_plain.specs.Calls.{is_host};
 ghost use Rattle.node_io.specs.Hosts.{set_has};
-ghost use Rattle.node_io.specs.Net.{arrival_of, IfFrom, is_welcome, next_arrival, left_queued, if_queued, added, datagram_of};
-ghost use Rattle.node_io.specs.Given.{given};
+ghost use Rattle.node_io.specs.Net.{arrival_of, receive_of, IfFrom, is_welcome, next_arrival, left_queued, if_queued, added, datagram_of};
+ghost use Rattle.node_io.specs.Given.{received};
 
 use crate::faults::Calls;
 use crate::hosts::HostSet;
@@ -84,13 +84,13 @@ fn take_next(
     Got::Nothing
 }
 
-// What a receive gave, to be kept.
-fn note_of(got: Got, frame: &Frame) -> Option<(HostId, Frame)>
-    ensures { given result ≡ arrival_of got frame.now }
+// For which host a receive was and what it gave, to be kept.
+fn note_of(host: HostId, got: Got, frame: &Frame) -> (HostId, Option<(HostId, Frame)>)
+    ensures { received result ≡ receive_of host got frame.now }
 {
     match got {
-        Got::Frame { from } => Some((from, frame_of(frame.bytes()))),
-        Got::Nothing => None,
+        Got::Frame { from } => (host, Some((from, frame_of(frame.bytes())))),
+        Got::Nothing => (host, None),
     }
 }
 
@@ -101,7 +101,7 @@ fn note_of(got: Got, frame: &Frame) -> Option<(HostId, Frame)>
 pub struct MemNet {
     queued: Vec<(HostId, HostId, Frame)>,
     sent: Vec<(HostId, HostId, Frame)>,
-    gave: Vec<Option<(HostId, Frame)>>,
+    gave: Vec<(HostId, Option<(HostId, Frame)>)>,
     bound: HostSet,
     known: HostSet,
     room: u32,
@@ -245,7 +245,7 @@ impl Net for MemNet {
         ensures oldest { IfOk result (λ got. IfSome (net_queued self.old) (λ queue.
             arrival_of got frame.new ≡ next_arrival (net_known self.old) host queue)) }
         ensures passed { OnOk result (net_queued self.new ≡ if_queued (net_known self.old) host (net_queued self.old)) }
-        ensures gave { IfOk result (λ got. net_gave self.new ≡ added (net_gave self.old) (arrival_of got frame.new)) }
+        ensures gave { IfOk result (λ got. net_gave self.new ≡ added (net_gave self.old) (receive_of host got frame.new)) }
         ensures err_queued { OnErr result (net_queued self.new ≡ net_queued self.old) }
         ensures err_gave { OnErr result (net_gave self.new ≡ net_gave self.old) }
         ensures known { net_known self.new ≡ net_known self.old }
@@ -267,7 +267,7 @@ impl Net for MemNet {
         self.calls.begin(has_room)?;
         let got = take_next(&mut self.queued, &self.known, host, frame);
         // The room was reserved, so no memory is taken here, and this can't fail.
-        self.gave.push(note_of(got, frame)).unwrap();
+        self.gave.push(note_of(host, got, frame)).unwrap();
         Ok(got)
     }
 }

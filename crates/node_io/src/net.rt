@@ -3,8 +3,8 @@ ghost use Rattle.std.specs.Prelude.{◌≡◌, ◌≤◌, ◌||◌, ℕ, Bool, t
 ghost use Rattle.homa_io.specs.Outside.{HasRisen};
 ghost use Rattle.homa_plain.specs.declared.id.HostId.{HostId as Host};
 ghost use Rattle.homa_plain.specs.Calls.{is_host};
-ghost use Rattle.node_runs.specs.Course.{Datagram, Arrival};
-ghost use Rattle.node_io.specs.Net.{arrival_of, IfFrom, is_welcome, next_arrival, if_queued, added};
+ghost use Rattle.node_runs.specs.Course.{Datagram, Receive};
+ghost use Rattle.node_io.specs.Net.{arrival_of, receive_of, IfFrom, is_welcome, next_arrival, if_queued, added};
 
 use homa_plain::{Frame, HostId};
 
@@ -32,8 +32,8 @@ pub trait Net {
     /// The datagrams that it took, in order, where it can tell.
     ghost sent: { Self → Option (List Datagram) };
 
-    /// What each receive gave that didn't fail, in order, where it can tell.
-    ghost gave: { Self → Option (List (Option Arrival)) };
+    /// For which host each receive was that didn't fail, and what it gave, in order, where it can tell.
+    ghost gave: { Self → Option (List Receive) };
 
     /// How many faults there were; the count stays at its last value, 2^64 - 1.
     ghost faults: { Self → ℕ };
@@ -79,7 +79,7 @@ pub trait Net {
         ensures oldest { IfOk result (λ got. IfSome (queued self.old) (λ queue.
             arrival_of got frame.new ≡ next_arrival (known self.old) host queue)) }
         ensures passed { OnOk result (queued self.new ≡ if_queued (known self.old) host (queued self.old)) }
-        ensures gave { IfOk result (λ got. gave self.new ≡ added (gave self.old) (arrival_of got frame.new)) }
+        ensures gave { IfOk result (λ got. gave self.new ≡ added (gave self.old) (receive_of host got frame.new)) }
         ensures err_queued { OnErr result (queued self.new ≡ queued self.old) }
         ensures err_gave { OnErr result (gave self.new ≡ gave self.old) }
         ensures known { known self.new ≡ known self.old }

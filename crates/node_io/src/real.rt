@@ -9,7 +9,7 @@ ghost use Rattle.homa_plain.specs.World.{last_tick};
 ghost use Rattle.node_io.specs.System.{tick_at};
 
 use crate::faults::FaultCount;
-use crate::sockets::{Sockets, address};
+use crate::sockets::{Sockets, address, wait};
 use crate::{Clock, Got, Net, NetFailed, NoMemory};
 use homa_plain::{Frame, HostId};
 use std::alloc::Global;
@@ -22,11 +22,12 @@ const READ_LIMIT: u64 = 1;
 /// The clock's last tick.
 const LAST_TICK: u64 = 1_000_000_000_000;
 
-// A socket at a port of this machine, whose reads have a limit.
+// A socket at a port of this machine, which doesn't wait, and whose reads have a limit where they do.
 fn socket_at<R: std::net::Net>(rt: &R, port: u16) -> Result<UdpSocket, NetFailed> {
     let socket = UdpSocket::bind(rt, address(port)).map_err(|_| NetFailed)?;
     let limit = Duration::from_millis(READ_LIMIT);
     socket.set_read_timeout(Some(limit)).map_err(|_| NetFailed)?;
+    wait(&socket, false)?;
     Ok(socket)
 }
 
@@ -45,8 +46,9 @@ fn counted<T>(faults: &mut FaultCount, answer: Result<T, NetFailed>) -> Result<T
 
 /// Sockets on 127.0.0.1 as a net, one for each host that is bound. It can't tell what is queued, sent or given. Each error
 /// of a socket is a fault, and so are a host beyond 32 that is bound or routed, and a host without a socket or a port. A
-/// receive waits up to 1 millisecond, or not at all behind a datagram, until one gives nothing; it gives nothing, too, after
-/// 64 datagrams of others, and where a signal broke it off.
+/// receive for the host that was bound last waits, by a limit of 1 millisecond, of which a system with 250 timer ticks a
+/// second makes 4 to 12, unless a datagram was given to some host since that one had none; no other receive waits. It gives
+/// nothing, too, after 64 datagrams of others, and where a signal broke it off.
 #[derive(Drop)]
 pub struct UdpNet<R: std::net::Net + Drop> {
     rt: R,

@@ -13,7 +13,7 @@ use crate::hosts::HostSet;
 use crate::{Got, NetFailed, NoMemory};
 use homa_plain::{Frame, HostId};
 use std::alloc::Global;
-use std::io::ErrorKind;
+use std::io::{self, ErrorKind};
 use std::net::{Ipv4Addr, SocketAddr, SocketAddrV4, UdpSocket};
 
 /// How many datagrams of others are passed over in one receive.
@@ -51,12 +51,12 @@ fn answer_to(kind: ErrorKind) -> Result<Got, NetFailed>
     }
 }
 
-// Makes a socket's receives wait where nothing is there, or not.
-fn wait(socket: &UdpSocket, is_waiting: bool) -> Result<(), NetFailed> {
+/// Makes a socket's calls wait, a receive for a datagram and a send for room, or not.
+pub(crate) fn wait(socket: &UdpSocket, is_waiting: bool) -> Result<(), NetFailed> {
     socket.set_nonblocking(!is_waiting).map_err(|_| NetFailed)
 }
 
-// Sends bytes to an address. Where the socket doesn't wait and there is no room for them, it waits for room, this once.
+// Sends bytes to an address. Where there is no room for them, it waits for room, this once.
 fn send(socket: &UdpSocket, bytes: &[u8], to: SocketAddr) -> Result<usize, NetFailed> {
     match socket.send_to(bytes, to) {
         Ok(sent) => Ok(sent),
@@ -70,6 +70,24 @@ fn send(socket: &UdpSocket, bytes: &[u8], to: SocketAddr) -> Result<usize, NetFa
     }
 }
 
+// What a socket's receive answers, which waits or doesn't.
+fn received(
+    socket: &UdpSocket,
+    bytes: &mut [u8],
+    is_waiting: bool,
+) -> Result<io::Result<(usize, SocketAddr)>, NetFailed>
+    ensures { IfOk result (λ answer. IfOk answer (λ r. r.0 ≤ length bytes.new)) }
+{
+    if is_waiting {
+        wait(socket, true)?;
+    }
+    let answer = socket.recv_from(bytes);
+    if is_waiting {
+        wait(socket, false)?;
+    }
+    Ok(answer)
+}
+
 // What a send answers that took so many of its bytes: a part is a fault.
 fn answer_to_sent(sent: usize, len: usize) -> Result<(), NetFailed>
     ensures { IsOk result ↔ (sent ≡ len) }
@@ -77,12 +95,14 @@ fn answer_to_sent(sent: usize, len: usize) -> Result<(), NetFailed>
     if sent == len { Ok(()) } else { Err(NetFailed) }
 }
 
-/// A socket of each host that has one here, and the ports of hosts, here and elsewhere.
+/// A socket of each host that has one here, and the ports of hosts, here and elsewhere. No socket waits, but as its calls say.
 #[derive(Drop)]
 pub(crate) struct Sockets {
     sockets: Vec<(HostId, UdpSocket)>,
     ports: Vec<(HostId, u16)>,
     known: HostSet,
+    // A datagram was given since the host that was bound last had none.
+    has_given: bool,
     ghost fewer: { length sockets.items ≤ length ports.items },
     ghost most: { length ports.items ≤ 32 },
     ghost sockets_reserved: { 32 ≤ vec_capacity sockets },
@@ -102,6 +122,7 @@ impl Sockets {
             sockets: Vec::with_capacity(alloc, MOST_HOSTS)?,
             ports: Vec::with_capacity(alloc, MOST_HOSTS)?,
             known: HostSet::new(),
+            has_given: false,
         })
     }
 
@@ -185,18 +206,16 @@ impl Sockets {
         answer_to_sent(send(socket, bytes, to)?, bytes.len())
     }
 
-    /// Receives a datagram for a host from another one that is known. Behind a datagram, whoever sent it, the host's receives
-    /// don't wait until one gives nothing: so whatever comes, a host waits once a loop turn.
-    pub(crate) fn receive(&self, host: HostId, frame: &mut Frame) -> Result<Got, NetFailed>
+    // Takes a datagram for a host from another one that is known. Where it waits, it waits for the first that comes alone.
+    fn take(&self, host: HostId, frame: &mut Frame, is_waiting: bool) -> Result<Got, NetFailed>
         ensures from { IfOk result (λ got. IfFrom got (λ from. is_welcome (are_known self.now) host from ≡ true)) }
         ensures socket { OnOk result (IsSome (beside (sockets_of self.now) host)) }
     {
         let socket = self.socket(host)?;
         let mut bytes = [0; 1500];
-        for _ in 0..MOST_PASSED {
-            match socket.recv_from(&mut bytes) {
+        for passed in 0..MOST_PASSED {
+            match received(socket, &mut bytes, is_waiting && passed == 0)? {
                 Ok((len, at)) => {
-                    wait(socket, false)?;
                     if let Some(from) = self.host(at)
                         && self.known.contains(from)
                         && from != host
@@ -205,12 +224,30 @@ impl Sockets {
                         return Ok(Got::Frame { from });
                     }
                 }
-                Err(e) => {
-                    wait(socket, true)?;
-                    return answer_to(e.kind());
-                }
+                Err(e) => return answer_to(e.kind()),
             }
         }
         Ok(Got::Nothing)
+    }
+
+    // Whether a host was bound last.
+    fn is_last(&self, host: HostId) -> bool {
+        self.sockets.last().is_some_and(|s| s.0 == host)
+    }
+
+    /// Receives a datagram for a host from another one that is known. It waits for one only for the host that was bound last,
+    /// and only where none was given to any host since that one had none: so whatever comes, a loop turn has one wait at most,
+    /// however many hosts it has.
+    pub(crate) fn receive(&mut self, host: HostId, frame: &mut Frame) -> Result<Got, NetFailed>
+        ensures from { IfOk result (λ got. IfFrom got (λ from. is_welcome (are_known self.old) host from ≡ true)) }
+        ensures socket { OnOk result (IsSome (beside (sockets_of self.old) host)) }
+        ensures known { are_known self.new ≡ are_known self.old }
+        ensures ports { ports_of self.new ≡ ports_of self.old }
+        ensures sockets { sockets_of self.new ≡ sockets_of self.old }
+    {
+        let is_last = self.is_last(host);
+        let got = self.take(host, frame, is_last && !self.has_given)?;
+        self.has_given = got != Got::Nothing || (self.has_given && !is_last);
+        Ok(got)
     }
 }

@@ -8,26 +8,29 @@ use Rattle.homa_plain.specs.declared.id.HostId.{HostId}
 use Rattle.homa_plain.specs.declared.settings.Settings.{Settings}
 use Rattle.homa_plain.specs.declared.event.Event.TheVariants as event
 use Rattle.homa_plain.specs.declared.fault.LineFault.TheVariants.{World as ByWorld}
+use Rattle.homa_plain.specs.Calls.{is_host}
 use Rattle.homa_plain.specs.Entries.{PlainClock}
 use Rattle.homa_plain.specs.World.{World, After, Outcome, Refused, Done, outcome, last_tick}
 use Rattle.node_runs.specs.Script.{Setup, TimedCall, Refusal}
-use Rattle.node_runs.specs.Course.{AreTicks, Report, Tells, Turning, Arrival, RefusedAt, Node, Course, GoesOn, Stops, ◌>>=◌, goes, follows, starts}
+use Rattle.node_runs.specs.Course.{AreTicks, Report, Tells, Turning, Arrival, Receive, RefusedAt, Node, Course, GoesOn, Stops, ◌>>=◌, goes, follows, starts}
 use Rattle.node_runs.specs.Course.{arrival_outcome, most_received, hears, has_turn, hosts_act, locals, clock_stands, ends, loop_turn, loop_turns}
 use Rattle.node_laws.proofs.OfNode.{node_of}
 use Rattle.node_laws.proofs.Opening.{IsCallGiven}
 
 -- each datagram that a receive gives is such a one
-abbrev pub AreSuch : (Arrival → Type 0) → List (Option Arrival) → Type 0
-AreSuch such receives = AllByRecursion (λ (given : Option Arrival). IfSome given such) receives
+abbrev pub AreSuch : (Arrival → Type 0) → List Receive → Type 0
+AreSuch such receives = AllByRecursion (λ (r : Receive). IfSome r.got such) receives
 
 -- datagrams of any kind
 abbrev pub AnyComes : Arrival → Type 0
 AnyComes a = Unit {0}
 
-pub any_comes : (receives : List (Option Arrival)) → AreSuch AnyComes receives
+pub any_comes : (receives : List Receive) → AreSuch AnyComes receives
 any_comes [] = tt
-any_comes (None ∷ receives) = (tt, any_comes receives)
-any_comes (Some a ∷ receives) = (tt, any_comes receives)
+any_comes (r ∷ receives) = (of_any r.got, any_comes receives) where
+  of_any : (o : Option Arrival) → IfSome o AnyComes
+  of_any None = tt
+  of_any (Some a) = tt
 
 -- what is so of a world and the reports so far is so behind each event of a node whose datagrams are such, and the clock stays
 pub record IsKeptInCourse (s : Settings) (such : Arrival → Type 0) (so : World → List Report → Type 0) : Type 0 where
@@ -85,12 +88,20 @@ module _ (s : Settings) (such : Arrival → Type 0) (so : World → List Report 
     by_outcome (Refused fault) e = h
     by_outcome (Done after) e = let k = keeps.recv node.world node.reports id a after fits h.1 e in (k.1 ∙ h.0, k.0, h.2, h.3)
 
-  hears_all : (now : ℕ) (id : HostId) (n : ℕ) (left : List (Option Arrival)) (node : Node) → AreSuch such left → Stands now node
+  hears_all : (now : ℕ) (id : HostId) (n : ℕ) (left : List Receive) (node : Node) → AreSuch such left → Stands now node
       → StandsAll now (hears s id n left node)
   hears_all now id zero left node fits h = (h.0, h.1, h.2, fits)
   hears_all now id (suc n) [] node fits h = h
-  hears_all now id (suc n) (None ∷ left) node fits h = (h.0, h.1, h.2, fits.1)
-  hears_all now id (suc n) (Some a ∷ left) node fits h = hears_all now id n left _ fits.1 (heard now id a node fits.0 h)
+  hears_all now id (suc n) (r ∷ left) node fits h = by_host (is_host r.host id) r.got fits.0 (λ m g. hears_all now id n left m fits.1 g) where
+    by_host : (b : Bool) (o : Option Arrival) → IfSome o such → ((m : Node) → Stands now m → StandsAll now (hears s id n left m))
+        → StandsAll now (if b then elim o [
+          | None ↦ GoesOn (record node { receives = left })
+          | Some a ↦ hears s id n left (follows [] (arrival_outcome s node.world id a) node)
+        ]
+        else Stops node None)
+    by_host false o fit next = h
+    by_host true None fit next = (h.0, h.1, h.2, fits.1)
+    by_host true (Some a) fit next = next _ (heard now id a node fit h)
 
   turned : (now : ℕ) (id : HostId) (node : Node) → Stands now node → Stands now (has_turn s id node)
   turned now id node h = by_outcome (outcome s node.world (event.Turn id) []) refl where

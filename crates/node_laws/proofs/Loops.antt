@@ -23,7 +23,7 @@ use Rattle.trace_lines.specs.Told.{HasOwnName}
 use Rattle.trace_induction.proofs.Always.{hosts_new}
 use Rattle.node_laws.proofs.Inner.{new_named}
 use Rattle.node_runs.specs.Script.{Place, Local, Remote, Setup, Calls, Opening, Opened, opening}
-use Rattle.node_runs.specs.Course.{AreTicks, Report, Tells, Turning, Arrival, IsReceived, Node, Course, GoesOn, Stops, packet_from, arrival_outcome}
+use Rattle.node_runs.specs.Course.{AreTicks, Report, Tells, Turning, Arrival, Receive, IsReceived, Node, Course, GoesOn, Stops, packet_from, arrival_outcome}
 use Rattle.node_runs.specs.Course.{loop_turns, first_inc, new_node, run_of, run_opened, node_run}
 use Rattle.node_runs.specs.Recorder.{Notes, no_notes, clocks, kept}
 use Rattle.node_runs.specs.Texts.{entries}
@@ -266,7 +266,7 @@ all_one (Local inc port ∷ places) here = (here.0, all_one places here.1)
 all_one (Remote port ∷ places) here = absurd here.0
 
 -- what is so at the end of a run whose datagrams are such
-module _ (such : Arrival → Type 0) (setup : Setup) (calls : Calls) (answers : List Answer) (ticks : List ℕ) (receives : List (Option Arrival)) (boxes : ℕ) where
+module _ (such : Arrival → Type 0) (setup : Setup) (calls : Calls) (answers : List Answer) (ticks : List ℕ) (receives : List Receive) (boxes : ℕ) where
   abbrev s : Settings
   s = setup.settings
 
@@ -288,7 +288,7 @@ module _ (such : Arrival → Type 0) (setup : Setup) (calls : Calls) (answers : 
       (clock_first s incs boxes answers, (λ u. first), given, fits) usual
 
 -- the replay of what a recorder tells of a run
-pub run_repeats : (setup : Setup) (calls : Calls) (answers : List Answer) (ticks : List ℕ) (receives : List (Option Arrival)) (boxes : ℕ) → IsHereAll setup
+pub run_repeats : (setup : Setup) (calls : Calls) (answers : List Answer) (ticks : List ℕ) (receives : List Receive) (boxes : ℕ) → IsHereAll setup
     → AllByRecursion IsCallGiven calls.calls → AllByRecursion IsAnswer answers → AreTicks 0 ticks
     → let s = setup.settings in
     let node = node_of (loop_turns setup 1 ticks (new_node setup calls answers receives)) in
@@ -307,7 +307,7 @@ pub reports_of : (s : Settings) (course : Course) → (run_of s course).reports 
 reports_of s (GoesOn node) = refl
 reports_of s (Stops node end) = refl
 
-pub run_is : (bytes : List ℕ) (setup : Setup) (calls : Calls) (answers : List Answer) (ticks : List ℕ) (receives : List (Option Arrival))
+pub run_is : (bytes : List ℕ) (setup : Setup) (calls : Calls) (answers : List Answer) (ticks : List ℕ) (receives : List Receive)
     → opening most_bytes bytes ≡ Opened setup calls
     → (node_run bytes answers ticks receives).reports ≡ (node_of (loop_turns setup 1 ticks (new_node setup calls answers receives))).reports
 unfolding node_run

@@ -6,13 +6,14 @@ use Rattle.homa_plain.specs.declared.id.HostId.{HostId}
 use Rattle.homa_plain.specs.declared.settings.Settings.{Settings}
 use Rattle.homa_plain.specs.declared.event.Event.TheVariants as event
 use Rattle.homa_plain.specs.declared.fault.LineFault.TheVariants.{World as ByWorld}
+use Rattle.homa_plain.specs.Calls.{is_host}
 use Rattle.homa_plain.specs.World.{Outcome, Refused, Done, outcome}
 use Rattle.homa_plain.specs.Script.{most_bytes}
 use Rattle.homa_plain.specs.Rules.{Answer}
 use Rattle.node_runs.specs.Script.{Setup, TimedCall, Refusal, Calls, Opening, Opened, opening}
-use Rattle.node_runs.specs.Course.{Arrival, End, Ended, RefusedAt, StalledAt, Node, Course, GoesOn, Stops, ◌>>=◌, goes, follows, starts, arrival_outcome}
+use Rattle.node_runs.specs.Course.{Receive, End, Ended, RefusedAt, StalledAt, Node, Course, GoesOn, Stops, ◌>>=◌, goes, follows, starts, arrival_outcome}
 use Rattle.node_runs.specs.Course.{most_received, hears, has_turn, hosts_act, locals, clock_stands, ends, loop_turn, loop_turns, new_node, run_of, run_opened}
-use Rattle.node_runs.specs.Course.{node_run}
+use Rattle.node_runs.specs.Course.{Arrival, node_run}
 use Rattle.node_runs.specs.Replayed.{TurnsFit}
 use Rattle.node_laws.proofs.Opening.{opening_is}
 
@@ -63,11 +64,18 @@ module _ (most : ℕ) (s : Settings) where
   starts_by None (c ∷ cs) node = start_one None c cs node (λ m. starts_by None cs m)
   starts_by (Some r) (c ∷ cs) node = start_one (Some r) c cs node (λ m. starts_by (Some r) cs m)
 
-  hears_by : (id : HostId) (n : ℕ) (left : List (Option Arrival)) (node : Node) → StopsBy most (hears s id n left node)
+  hears_by : (id : HostId) (n : ℕ) (left : List Receive) (node : Node) → StopsBy most (hears s id n left node)
   hears_by id zero left node = tt
   hears_by id (suc n) [] node = tt
-  hears_by id (suc n) (None ∷ left) node = tt
-  hears_by id (suc n) (Some a ∷ left) node = hears_by id n left (follows [] (arrival_outcome s node.world id a) node)
+  hears_by id (suc n) (r ∷ left) node = by_host (is_host r.host id) r.got (λ m. hears_by id n left m) where
+    by_host : (b : Bool) (o : Option Arrival) → ((m : Node) → StopsBy most (hears s id n left m)) → StopsBy most (if b then elim o [
+      | None ↦ GoesOn (record node { receives = left })
+      | Some a ↦ hears s id n left (follows [] (arrival_outcome s node.world id a) node)
+    ]
+        else Stops node None)
+    by_host false o next = tt
+    by_host true None next = tt
+    by_host true (Some a) next = next (follows [] (arrival_outcome s node.world id a) node)
 
   hosts_by : (ids : List HostId) (node : Node) → StopsBy most (hosts_act s ids node)
   hosts_by [] node = tt
@@ -114,7 +122,7 @@ run_ends_by most s (GoesOn node) k = tt
 run_ends_by most s (Stops node end) k = k
 
 -- the end of a run
-pub run_ends : (bytes : List ℕ) (setup : Setup) (calls : Calls) (answers : List Answer) (ticks : List ℕ) (receives : List (Option Arrival))
+pub run_ends : (bytes : List ℕ) (setup : Setup) (calls : Calls) (answers : List Answer) (ticks : List ℕ) (receives : List Receive)
     → opening most_bytes bytes ≡ Opened setup calls
     → EndsBy 1000000000 (node_run bytes answers ticks receives).end
 unfolding node_run

@@ -8,7 +8,7 @@ use Rattle.homa_plain.specs.Rules.{Answer}
 use Rattle.homa_plain.specs.Answers.{shown}
 use Rattle.homa_plain.specs.Script.{most_bytes}
 use Rattle.node_runs.specs.Script.{Setup, Calls, Opening, Opened, Unopened, opening}
-use Rattle.node_runs.specs.Course.{Arrival, End, node_run}
+use Rattle.node_runs.specs.Course.{Receive, End, node_run}
 use Rattle.node_runs.specs.Replayed.{IsAnswer}
 use Rattle.node_runs.specs.Texts.{entries, node_text}
 use Rattle.node_trace.specs.Traces.{Around, IsWhole, IsBrokenOff, IsEndCut, IsFrontOf}
@@ -63,12 +63,12 @@ module _ (may_tell : List PlainEntry → Type 0) (fair : (told : List PlainEntry
         subst (λ (xs : List ℕ). TookFront old.taken new.taken (node_text (node_run xs w.answers w.ticks w.gave))) e
         (subst (λ (xs : List Answer). TookFront old.taken new.taken (node_text (node_run b xs w.ticks w.gave))) (append-nil w.answers)
         (subst (λ (xs : List ℕ). TookFront old.taken new.taken (node_text (node_run b (w.answers ++ []) xs w.gave))) (append-nil w.ticks)
-        (subst (λ (xs : List (Option Arrival)). TookFront old.taken new.taken (node_text (node_run b (w.answers ++ []) (w.ticks ++ []) xs)))
+        (subst (λ (xs : List Receive). TookFront old.taken new.taken (node_text (node_run b (w.answers ++ []) (w.ticks ++ []) xs)))
         (append-nil w.gave) f.text)))
 
-    by_front : ((more : List ℕ) (later : List Answer) (on : List ℕ) (next : List (Option Arrival))
+    by_front : ((more : List ℕ) (later : List Answer) (on : List ℕ) (next : List Receive)
         → IsFrontOf node_text (node_run (w.came ++ more) (w.answers ++ later) (w.ticks ++ on) (w.gave ++ next)) w.reports old new)
-        ⊎ ((w.rest ≡ []) × ((later : List Answer) (on : List ℕ) (next : List (Option Arrival))
+        ⊎ ((w.rest ≡ []) × ((later : List Answer) (on : List ℕ) (next : List Receive)
         → IsFrontOf node_text (node_run w.came (w.answers ++ later) (w.ticks ++ on) (w.gave ++ next)) w.reports old new))
         → TookFront old.taken new.taken (node_text (node_run bytes w.answers w.ticks w.gave))
     by_front (inl f) = front_there (w.came ++ w.rest) (sym w.split) (f w.rest [] [] [])

@@ -6,7 +6,7 @@ use Rattle.homa_plain.specs.Rules.{Answer}
 use Rattle.homa_plain.specs.Answers.{shown}
 use Rattle.homa_plain.specs.Script.{most_bytes}
 use Rattle.node_runs.specs.Script.{Opening, Opened, Unopened, opening}
-use Rattle.node_runs.specs.Course.{Arrival, End, Run, node_run}
+use Rattle.node_runs.specs.Course.{Receive, End, Run, node_run}
 use Rattle.node_runs.specs.Replayed.{IsAnswer}
 use Rattle.node_runs.specs.Texts.{node_text}
 use Rattle.node_turns.specs.Told.{listed}
@@ -30,7 +30,7 @@ AreFair told = AllByRecursion IsAnswer (shown told)
 pub record OfRun (so : Run → Option (List ℕ) → Option (List ℕ) → Type 0) (bytes : List ℕ) (old new : Around) : Type 0 where
   pub answers : List Answer
   pub ticks : List ℕ
-  pub gave : List (Option Arrival)
+  pub gave : List Receive
   pub given : new.gave ≡ listed old.gave gave
   pub taken : so (node_run bytes answers ticks gave) old.taken new.taken
 

@@ -10,7 +10,7 @@ use Rattle.homa_plain.specs.Entries.{PlainEntry}
 use Rattle.homa_plain.specs.Rules.{Answer}
 use Rattle.homa_plain.specs.declared.fault.LineFault.TheVariants.{Script as ByWords, World as ByWorld}
 use Rattle.homa_plain.specs.declared.fault.WorldFault.TheVariants.{NoSuchHost, Start as CantStart}
-use Rattle.node_runs.specs.Course.{Report, Datagram, Arrival, End, Ended, RefusedAt, StalledAt, Run, node_run}
+use Rattle.node_runs.specs.Course.{Report, Datagram, Receive, End, Ended, RefusedAt, StalledAt, Run, node_run}
 use Rattle.node_runs.specs.Recorder.{Notes, no_notes, told, kept, strange}
 use Rattle.node_runs.specs.Observed.{Observed}
 use Rattle.node_runs.specs.Texts.{recorded, last_text, recorded_end, recording_text, end_status, node_status, recording_status, recorded_sent}
@@ -51,7 +51,7 @@ status_by : (run : Run) (b : Bool) → (recorded no_notes run.reports).is_cut �
 status_by run b e = ap (λ (c : Bool). if c then Some 8 else node_status run) e
 
 module _ (may_tell : List PlainEntry → Type 0) (bytes : List ℕ) (t0 t1 t2 : Option (List ℕ)) (n1 : Notes) (s0 s1 : Option (List Datagram))
-    (g0 g1 : Option (List (Option Arrival))) (k0 k1 : Option (List ℕ)) where
+    (g0 g1 : Option (List Receive)) (k0 k1 : Option (List ℕ)) where
   -- ---- a run that ended
 
   module _ (end : End) (is : IsServed node_run told kept strange may_tell bytes (outside t0 no_notes s0 g0 k0) (outside t1 n1 s1 g1 k1) end) where
@@ -75,6 +75,7 @@ module _ (may_tell : List PlainEntry → Type 0) (bytes : List ℕ) (t0 t1 t2 : 
       gave = is.gave;
       from = from_is;
       status_is = status_by run false usual ∙ ap (option_map end_status) is.ended;
+      used = is.used;
       text = two_put t0 t1 t2 (lines run) (recorded_end end) lines_printed last ∙ ap (appended t0) (text_ended run end usual is.ended);
       took = is.took;
     }
@@ -88,6 +89,7 @@ module _ (may_tell : List PlainEntry → Type 0) (bytes : List ℕ) (t0 t1 t2 : 
       end = end;
       from = from_is;
       ended = is.ended;
+      used = is.used;
       text = subst (TookFront t0 t2) (text_ended run end usual is.ended) (front_after t0 t1 t2 (lines run) (recorded_end end) lines_printed last);
       took = is.took;
     }
@@ -151,11 +153,11 @@ module _ (may_tell : List PlainEntry → Type 0) (bytes : List ℕ) (t0 t1 t2 : 
           subst (λ (xs : List ℕ). BeginsRun (node_run xs is.answers is.ticks is.gave) is.reports is.sent) e
           (subst (λ (xs : List Answer). BeginsRun (node_run b xs is.ticks is.gave) is.reports is.sent) (append-nil is.answers)
           (subst (λ (xs : List ℕ). BeginsRun (node_run b (is.answers ++ []) xs is.gave) is.reports is.sent) (append-nil is.ticks)
-          (subst (λ (xs : List (Option Arrival)). BeginsRun (node_run b (is.answers ++ []) (is.ticks ++ []) xs) is.reports is.sent) (append-nil is.gave) k)))
+          (subst (λ (xs : List Receive). BeginsRun (node_run b (is.answers ++ []) (is.ticks ++ []) xs) is.reports is.sent) (append-nil is.gave) k)))
 
-      by_front : ((more : List ℕ) (later : List Answer) (on : List ℕ) (next : List (Option Arrival))
+      by_front : ((more : List ℕ) (later : List Answer) (on : List ℕ) (next : List Receive)
           → BeginsRun (node_run (is.came ++ more) (is.answers ++ later) (is.ticks ++ on) (is.gave ++ next)) is.reports is.sent)
-          ⊎ ((is.rest ≡ []) × ((later : List Answer) (on : List ℕ) (next : List (Option Arrival))
+          ⊎ ((is.rest ≡ []) × ((later : List Answer) (on : List ℕ) (next : List Receive)
           → BeginsRun (node_run is.came (is.answers ++ later) (is.ticks ++ on) (is.gave ++ next)) is.reports is.sent))
           → BeginsRun (node_run bytes is.answers is.ticks is.gave) is.reports is.sent
       by_front (inl f) = same (is.came ++ is.rest) (sym is.split) (f is.rest [] [] [])
@@ -175,6 +177,10 @@ module _ (may_tell : List PlainEntry → Type 0) (bytes : List ℕ) (t0 t1 t2 : 
           reports = is.reports;
           more = begins_all.more;
           begins = begins_all.reports_are;
+          before = is.told_part.before;
+          last = is.told_part.last;
+          split = is.told_part.split;
+          usual = ap (λ (o : Observed ℕ). o.is_cut) (observed_whole told kept strange no_notes is.told_part.before is.told_part.usual);
           strange = subst (λ (rs : List Report). (recorded no_notes rs).is_cut ≡ true) (append-nil is.reports)
               (strange_observed told kept strange t0 t1 no_notes is.reports [] is.told_part).1;
           status_is = status_by run true cut;

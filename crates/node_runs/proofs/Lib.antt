@@ -1,4 +1,5 @@
 pub mod Observing
+pub mod WorkedReceives
 pub mod WorkedRuns
 pub mod WorkedTicks
 pub mod WorkedRefused

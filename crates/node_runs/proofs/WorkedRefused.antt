@@ -1,5 +1,5 @@
 -- Node scripts that are refused: what is printed of each.
-use Rattle.std.proofs.Common.{◌≡◌, [], ◌∷◌, ◌++◌, None, refl}
+use Rattle.std.proofs.Common.{◌≡◌, [], ◌∷◌, ◌++◌, refl}
 use Rattle.std.specs.Prelude.{codes}
 use Rattle.core.specs.Str.{is_utf8, chars}
 use Rattle.core.specs.Fmt.{digits}
@@ -25,6 +25,7 @@ use Rattle.node_runs.specs.Script.{words_in, calls_from, opening_from, opening}
 use Rattle.node_runs.specs.Course.{loop_turn, loop_turns, node_run}
 use Rattle.node_runs.specs.Recorder.{kind_of, told, kept}
 use Rattle.node_runs.specs.Observed.{observed}
+use Rattle.node_runs.proofs.WorkedReceives.{nothing_for}
 use Rattle.node_runs.specs.Texts.{node_text, recording_text}
 use Rattle.homa_plain.specs.declared.fault.LineFault.TheVariants.{Script as ByWords}
 use Rattle.homa_plain.specs.declared.fault.ScriptFault.TheVariants.{InputTooLong}
@@ -288,7 +289,7 @@ unfolding is_utf8 chars digits decode_pairs encode_with encode empty checked get
 half_a_byte = refl
 
 -- a tick before that of the line before, which is read when that one was started
-pub before_the_last : node_text (node_run (codes "local 0 1 4000\nlocal 1 1 4001\nend 9\nturns 9\ngo\nat 1 call 0 1 0 61\nat 0 call 0 1 0 61") ([]) (0 ∷ 1 ∷ []) (None ∷ None ∷ [])) ≡ codes "settings 2 1400 10000 10000 4 14000 4 5 20 1024 256 1024 0\nclock 0\nclock 1\ncall 0.1.0 1 0 61\nsend 0 0>1 1 DATA c 0.1.0 7 1 0 0 0 - 61\nrefused 7 BadNumber\n"
+pub before_the_last : node_text (node_run (codes "local 0 1 4000\nlocal 1 1 4001\nend 9\nturns 9\ngo\nat 1 call 0 1 0 61\nat 0 call 0 1 0 61") ([]) (0 ∷ 1 ∷ []) (nothing_for 0 ∷ nothing_for 1 ∷ [])) ≡ codes "settings 2 1400 10000 10000 4 14000 4 5 20 1024 256 1024 0\nclock 0\nclock 1\ncall 0.1.0 1 0 61\nsend 0 0>1 1 DATA c 0.1.0 7 1 0 0 0 - 61\nrefused 7 BadNumber\n"
 unfolding is_utf8 chars digits decode_pairs encode_with encode empty checked get insert retain remove len keys values key_set insert_all with_range
     without_range within ranges first_in missing ordered firsts due level_of noted least_from bounds number_at two_at times packet_in packet_at
     packet_of body_at tick_at data_at ack_at grant_at resend_at cutoffs_at unknown_at more_at calls_at line_text bytes_of_word tuned client_gets
@@ -353,7 +354,7 @@ unfolding is_utf8 chars digits decode_pairs encode_with encode empty checked get
 self_call = refl
 
 -- one live call too many, which is found when it is to start
-pub too_many_calls : node_text (node_run (codes "calls 1\nlocal 0 1 4000\nlocal 1 1 4001\nend 9\nturns 9\ngo\nat 0 call 0 1 0 61\nat 1 call 0 1 0 61") ([]) (0 ∷ 1 ∷ []) (None ∷ None ∷ [])) ≡ codes "settings 2 1400 10000 10000 4 14000 4 5 20 1024 1 1024 0\nclock 0\ncall 0.1.0 1 0 61\nsend 0 0>1 1 DATA c 0.1.0 7 1 0 0 0 - 61\nclock 1\nrefused 8 Start CallsFull\n"
+pub too_many_calls : node_text (node_run (codes "calls 1\nlocal 0 1 4000\nlocal 1 1 4001\nend 9\nturns 9\ngo\nat 0 call 0 1 0 61\nat 1 call 0 1 0 61") ([]) (0 ∷ 1 ∷ []) (nothing_for 0 ∷ nothing_for 1 ∷ [])) ≡ codes "settings 2 1400 10000 10000 4 14000 4 5 20 1024 1 1024 0\nclock 0\ncall 0.1.0 1 0 61\nsend 0 0>1 1 DATA c 0.1.0 7 1 0 0 0 - 61\nclock 1\nrefused 8 Start CallsFull\n"
 unfolding is_utf8 chars digits decode_pairs encode_with encode empty checked get insert retain remove len keys values key_set insert_all with_range
     without_range within ranges first_in missing ordered firsts due level_of noted least_from bounds number_at two_at times packet_in packet_at
     packet_of body_at tick_at data_at ack_at grant_at resend_at cutoffs_at unknown_at more_at calls_at line_text bytes_of_word tuned client_gets

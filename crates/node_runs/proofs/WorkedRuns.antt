@@ -1,5 +1,5 @@
 -- Runs of a node and their recordings, from the bytes of the script. They were worked out by hand.
-use Rattle.std.proofs.Common.{◌≡◌, [], ◌∷◌, None, Some, refl}
+use Rattle.std.proofs.Common.{◌≡◌, [], ◌∷◌, Some, refl}
 use Rattle.std.specs.Prelude.{codes}
 use Rattle.core.specs.Str.{is_utf8, chars}
 use Rattle.core.specs.Fmt.{digits}
@@ -25,22 +25,20 @@ use Rattle.node_runs.specs.Script.{words_in, calls_from, opening_from, opening}
 use Rattle.node_runs.specs.Course.{Run, loop_turn, loop_turns, node_run}
 use Rattle.node_runs.specs.Recorder.{kind_of, told, kept}
 use Rattle.node_runs.specs.Observed.{observed}
+use Rattle.node_runs.proofs.WorkedReceives.{nothing_for, comes_to}
 use Rattle.node_runs.specs.Texts.{node_text, recording_text, node_status, recording_status, sent_by, recorded_sent}
 
 -- one call between two hosts of the node; each of the three loop turns ends both hosts' receives with nothing
 abbrev pub one_call_run : Run
 one_call_run = node_run (codes "local 0 1 4000\nlocal 1 1 4001\nend 2\nturns 5\ngo\nat 0 call 0 1 0 6869")
     (record { bytes = 104 ∷ 105 ∷ []; hold = 0 } ∷ []) (0 ∷ 1 ∷ 2 ∷ [])
-    (None ∷ Some (record {
-      from = record { 0 = 0 };
-      bytes = 1 ∷ 1 ∷ 0 ∷ 7 ∷ 0 ∷ 0 ∷ 0 ∷ 1 ∷ 0 ∷ 0 ∷ 0 ∷ 1 ∷ 0 ∷ 0 ∷ 0 ∷ 0 ∷ 0 ∷ 0 ∷ 0 ∷ 2 ∷ 0 ∷ 0 ∷ 0 ∷ 0 ∷ 0 ∷ 0 ∷ 0 ∷ 0 ∷
-          0 ∷ 0 ∷ 0 ∷ 0 ∷ 0 ∷ 0 ∷ 0 ∷ 0 ∷ 104 ∷ 105 ∷ [];
-    }) ∷ None ∷ Some
-    (record {
-      from = record { 0 = 1 };
-      bytes = 1 ∷ 1 ∷ 1 ∷ 7 ∷ 0 ∷ 0 ∷ 0 ∷ 1 ∷ 0 ∷ 0 ∷ 0 ∷ 1 ∷ 0 ∷ 0 ∷ 0 ∷ 0 ∷ 0 ∷ 0 ∷ 0 ∷ 2 ∷ 0 ∷ 0 ∷ 0 ∷ 0 ∷ 0 ∷ 0 ∷
-          0 ∷ 0 ∷ 0 ∷ 0 ∷ 0 ∷ 0 ∷ 0 ∷ 0 ∷ 0 ∷ 0 ∷ 104 ∷ 105 ∷ [];
-    }) ∷ None ∷ None ∷ None ∷ None ∷ [])
+    (nothing_for 0 ∷
+    comes_to 1 0 (1 ∷ 1 ∷ 0 ∷ 7 ∷ 0 ∷ 0 ∷ 0 ∷ 1 ∷ 0 ∷ 0 ∷ 0 ∷ 1 ∷ 0 ∷ 0 ∷ 0 ∷ 0 ∷ 0 ∷ 0 ∷ 0 ∷ 2 ∷ 0 ∷ 0 ∷ 0 ∷ 0 ∷ 0 ∷ 0 ∷ 0 ∷ 0 ∷ 0 ∷ 0 ∷ 0 ∷ 0
+    ∷ 0 ∷ 0 ∷ 0 ∷ 0 ∷ 104 ∷ 105 ∷ []) ∷
+    nothing_for 1 ∷
+    comes_to 0 1 (1 ∷ 1 ∷ 1 ∷ 7 ∷ 0 ∷ 0 ∷ 0 ∷ 1 ∷ 0 ∷ 0 ∷ 0 ∷ 1 ∷ 0 ∷ 0 ∷ 0 ∷ 0 ∷ 0 ∷ 0 ∷ 0 ∷ 2 ∷ 0 ∷ 0 ∷ 0 ∷ 0 ∷ 0 ∷ 0 ∷ 0 ∷ 0 ∷ 0 ∷ 0 ∷ 0 ∷ 0
+    ∷ 0 ∷ 0 ∷ 0 ∷ 0 ∷ 104 ∷ 105 ∷ []) ∷
+    nothing_for 0 ∷ nothing_for 1 ∷ nothing_for 0 ∷ nothing_for 1 ∷ [])
 
 pub one_call : node_text one_call_run ≡ codes "settings 2 1400 10000 10000 4 14000 4 5 20 1024 256 1024 0\nclock 0\ncall 0.1.0 1 0 6869\nsend 0 0>1 1 DATA c 0.1.0 7 2 0 0 0 - 6869\nrecv 1 0 0101000700000001000000010000000000000002000000000000000000000000000000006869\nrun 1 0.1.0 0 6869 6869 0\nsend 1 1>0 1 DATA s 0.1.0 7 2 0 0 0 - 6869\nclock 1\nrecv 0 1 0101010700000001000000010000000000000002000000000000000000000000000000006869\ndone 0.1.0 6869\nclock 2\nok 3\n"
 unfolding is_utf8 chars digits decode_pairs encode_with encode empty checked get insert retain remove len keys values key_set insert_all with_range
@@ -106,17 +104,13 @@ one_call_recording_status = refl
 abbrev pub stranger_run : Run
 stranger_run = node_run (codes "local 0 1 4000\nlocal 1 1 4001\nend 2\nturns 5\ngo\nat 0 call 0 1 0 6869")
     (record { bytes = 104 ∷ 105 ∷ []; hold = 0 } ∷ []) (0 ∷ 1 ∷ 2 ∷ [])
-    (None ∷ Some (record { from = record { 0 = 0 }; bytes = 1 ∷ 4 ∷ 0 ∷ 7 ∷ 0 ∷ 0 ∷ 0 ∷ 1 ∷ 0 ∷ 0 ∷ 0 ∷ 1 ∷ 0 ∷ 0 ∷ 0 ∷ 0 ∷ [] }) ∷ Some
-    (record {
-      from = record { 0 = 0 };
-      bytes = 1 ∷ 1 ∷ 0 ∷ 7 ∷ 0 ∷ 0 ∷ 0 ∷ 1 ∷ 0 ∷ 0 ∷ 0 ∷ 1 ∷ 0 ∷ 0 ∷ 0 ∷ 0 ∷ 0 ∷ 0 ∷ 0 ∷ 2 ∷ 0 ∷ 0 ∷ 0 ∷ 0 ∷ 0 ∷ 0 ∷
-          0 ∷ 0 ∷ 0 ∷ 0 ∷ 0 ∷ 0 ∷ 0 ∷ 0 ∷ 0 ∷ 0 ∷ 104 ∷ 105 ∷ [];
-    }) ∷ None ∷ Some
-    (record {
-      from = record { 0 = 1 };
-      bytes = 1 ∷ 1 ∷ 1 ∷ 7 ∷ 0 ∷ 0 ∷ 0 ∷ 1 ∷ 0 ∷ 0 ∷ 0 ∷ 1 ∷ 0 ∷ 0 ∷ 0 ∷ 0 ∷ 0 ∷ 0 ∷ 0 ∷ 2 ∷ 0 ∷ 0 ∷ 0 ∷ 0 ∷ 0 ∷ 0 ∷
-          0 ∷ 0 ∷ 0 ∷ 0 ∷ 0 ∷ 0 ∷ 0 ∷ 0 ∷ 0 ∷ 0 ∷ 104 ∷ 105 ∷ [];
-    }) ∷ None ∷ None ∷ None ∷ None ∷ [])
+    (nothing_for 0 ∷ comes_to 1 0 (1 ∷ 4 ∷ 0 ∷ 7 ∷ 0 ∷ 0 ∷ 0 ∷ 1 ∷ 0 ∷ 0 ∷ 0 ∷ 1 ∷ 0 ∷ 0 ∷ 0 ∷ 0 ∷ []) ∷
+    comes_to 1 0 (1 ∷ 1 ∷ 0 ∷ 7 ∷ 0 ∷ 0 ∷ 0 ∷ 1 ∷ 0 ∷ 0 ∷ 0 ∷ 1 ∷ 0 ∷ 0 ∷ 0 ∷ 0 ∷ 0 ∷ 0 ∷ 0 ∷ 2 ∷ 0 ∷ 0 ∷ 0 ∷ 0 ∷ 0 ∷ 0 ∷ 0 ∷ 0 ∷ 0 ∷ 0 ∷ 0 ∷ 0
+    ∷ 0 ∷ 0 ∷ 0 ∷ 0 ∷ 104 ∷ 105 ∷ []) ∷
+    nothing_for 1 ∷
+    comes_to 0 1 (1 ∷ 1 ∷ 1 ∷ 7 ∷ 0 ∷ 0 ∷ 0 ∷ 1 ∷ 0 ∷ 0 ∷ 0 ∷ 1 ∷ 0 ∷ 0 ∷ 0 ∷ 0 ∷ 0 ∷ 0 ∷ 0 ∷ 2 ∷ 0 ∷ 0 ∷ 0 ∷ 0 ∷ 0 ∷ 0 ∷ 0 ∷ 0 ∷ 0 ∷ 0 ∷ 0 ∷ 0
+    ∷ 0 ∷ 0 ∷ 0 ∷ 0 ∷ 104 ∷ 105 ∷ []) ∷
+    nothing_for 0 ∷ nothing_for 1 ∷ nothing_for 0 ∷ nothing_for 1 ∷ [])
 
 pub stranger_recorded : recording_text stranger_run ≡ codes "hosts 2\nseg 1400\nwindow 10000\nunsched 10000\novercommit 4\nrate 14000\nresend 4\ntries 5\nlife 20\npages 1024\ncalls 256\nserved 1024\nrebalance 0\ngo\ncall 0 1 0 6869\nturn 0\nstranger 1 0 01040007000000010000000100000000\n"
 unfolding is_utf8 chars digits decode_pairs encode_with encode empty checked get insert retain remove len keys values key_set insert_all with_range
@@ -164,7 +158,8 @@ stranger_printed = refl
 
 -- the clock stands
 abbrev pub stalled_run : Run
-stalled_run = node_run (codes "local 0 1 4000\nlocal 1 1 4001\nend 5\nturns 3\ngo") ([]) (0 ∷ 0 ∷ 0 ∷ []) (None ∷ None ∷ None ∷ None ∷ None ∷ None ∷ [])
+stalled_run = node_run (codes "local 0 1 4000\nlocal 1 1 4001\nend 5\nturns 3\ngo") ([]) (0 ∷ 0 ∷ 0 ∷ [])
+    (nothing_for 0 ∷ nothing_for 1 ∷ nothing_for 0 ∷ nothing_for 1 ∷ nothing_for 0 ∷ nothing_for 1 ∷ [])
 
 pub stalled : node_text stalled_run ≡ codes "settings 2 1400 10000 10000 4 14000 4 5 20 1024 256 1024 0\nclock 0\nstalled 3 0\n"
 unfolding is_utf8 chars digits decode_pairs encode_with encode empty checked get insert retain remove len keys values key_set insert_all with_range
@@ -195,7 +190,7 @@ stalled_recorded = refl
 
 -- the server is a host elsewhere, and the client is in its incarnation 7
 abbrev pub elsewhere_run : Run
-elsewhere_run = node_run (codes "local 0 7 4000\nremote 1 4001\nend 1\nturns 2\ngo\nat 0 call 0 1 0 61") ([]) (5 ∷ []) (None ∷ [])
+elsewhere_run = node_run (codes "local 0 7 4000\nremote 1 4001\nend 1\nturns 2\ngo\nat 0 call 0 1 0 61") ([]) (5 ∷ []) (nothing_for 0 ∷ [])
 
 pub elsewhere : node_text elsewhere_run ≡ codes "settings 2 1400 10000 10000 4 14000 4 5 20 1024 256 1024 0\nclock 5\ncall 0.7.0 1 0 61\nsend 0 0>1 7 DATA c 0.7.0 7 1 0 0 0 - 61\nok 1\n"
 unfolding is_utf8 chars digits decode_pairs encode_with encode empty checked get insert retain remove len keys values key_set insert_all with_range
@@ -208,7 +203,7 @@ elsewhere = refl
 
 -- the clock gives one tick, and the receives of the first host alone are given
 abbrev pub no_tick_run : Run
-no_tick_run = node_run (codes "local 0 1 4000\nlocal 1 1 4001\nend 2\nturns 5\ngo") ([]) (0 ∷ []) (None ∷ [])
+no_tick_run = node_run (codes "local 0 1 4000\nlocal 1 1 4001\nend 2\nturns 5\ngo") ([]) (0 ∷ []) (nothing_for 0 ∷ [])
 
 -- the run stops without an end
 pub no_receive : node_text no_tick_run ≡ codes "settings 2 1400 10000 10000 4 14000 4 5 20 1024 256 1024 0\nclock 0\n"
@@ -229,10 +224,33 @@ unfolding is_utf8 chars digits decode_pairs encode_with encode empty checked get
     observed recording_text
 no_receive_recorded = refl
 
+-- in host 0's turn the receive that comes is one for host 1
+abbrev pub other_turn_run : Run
+other_turn_run = node_run (codes "local 0 1 4000\nlocal 1 1 4001\nend 2\nturns 5\ngo") ([]) (0 ∷ []) (nothing_for 1 ∷ [])
+
+-- the run stops without an end, and leaves it
+pub other_turn : node_text other_turn_run ≡ codes "settings 2 1400 10000 10000 4 14000 4 5 20 1024 256 1024 0\nclock 0\n"
+unfolding is_utf8 chars digits decode_pairs encode_with encode empty checked get insert retain remove len keys values key_set insert_all with_range
+    without_range within ranges first_in missing ordered firsts due level_of noted least_from bounds number_at two_at times packet_in packet_at
+    packet_of body_at tick_at data_at ack_at grant_at resend_at cutoffs_at unknown_at more_at calls_at line_text bytes_of_word tuned client_gets
+    server_gets server_acked client_deadline server_deadline asked served takes pumped_once pumps start_fault call_step arrival_step turn_step
+    new_world outcome event_text settings_text words_in calls_from opening_from opening loop_turn loop_turns node_run kind_of told kept node_text
+    observed recording_text
+other_turn = refl
+
+pub other_turn_left : other_turn_run.left ≡ nothing_for 1 ∷ []
+unfolding is_utf8 chars digits decode_pairs encode_with encode empty checked get insert retain remove len keys values key_set insert_all with_range
+    without_range within ranges first_in missing ordered firsts due level_of noted least_from bounds number_at two_at times packet_in packet_at
+    packet_of body_at tick_at data_at ack_at grant_at resend_at cutoffs_at unknown_at more_at calls_at line_text bytes_of_word tuned client_gets
+    server_gets server_acked client_deadline server_deadline asked served takes pumped_once pumps start_fault call_step arrival_step turn_step
+    new_world outcome event_text settings_text words_in calls_from opening_from opening loop_turn loop_turns node_run kind_of told kept node_text
+    observed recording_text
+other_turn_left = refl
+
 -- a datagram of no bytes is no packet
 abbrev pub junk_run : Run
 junk_run = node_run (codes "local 0 1 4000\nlocal 1 1 4001\nend 2\nturns 5\ngo") ([]) (7 ∷ [])
-    (Some (record { from = record { 0 = 1 }; bytes = [] }) ∷ None ∷ None ∷ [])
+    (comes_to 0 1 [] ∷ nothing_for 0 ∷ nothing_for 1 ∷ [])
 
 pub junk : node_text junk_run ≡ codes "settings 2 1400 10000 10000 4 14000 4 5 20 1024 256 1024 0\nclock 7\nrecv 0 1 -\njunk 0\nok 1\n"
 unfolding is_utf8 chars digits decode_pairs encode_with encode empty checked get insert retain remove len keys values key_set insert_all with_range

@@ -1,5 +1,5 @@
 -- Runs over several ticks, with losses and clocks that differ. They were worked out by hand.
-use Rattle.std.proofs.Common.{◌≡◌, [], ◌∷◌, ◌++◌, None, Some, refl}
+use Rattle.std.proofs.Common.{◌≡◌, [], ◌∷◌, ◌++◌, refl}
 use Rattle.std.specs.Prelude.{codes, length, replicate}
 use Rattle.core.specs.Str.{is_utf8, chars}
 use Rattle.core.specs.Fmt.{digits}
@@ -25,28 +25,22 @@ use Rattle.node_runs.specs.Script.{words_in, calls_from, opening_from, opening}
 use Rattle.node_runs.specs.Course.{Run, loop_turn, loop_turns, node_run}
 use Rattle.node_runs.specs.Recorder.{kind_of, told, kept}
 use Rattle.node_runs.specs.Observed.{observed}
+use Rattle.node_runs.proofs.WorkedReceives.{nothing_for, comes_to}
 use Rattle.node_runs.specs.Texts.{node_text, recording_text}
 
 -- the request is lost: after four ticks the client asks for the response, and the server knows nothing of the call
 abbrev pub lost_run : Run
 lost_run = node_run (codes "local 0 1 4000\nlocal 1 1 4001\nend 6\nturns 9\ngo\nat 0 call 0 1 0 6869")
     (record { bytes = 104 ∷ 105 ∷ []; hold = 0 } ∷ []) (0 ∷ 1 ∷ 2 ∷ 3 ∷ 4 ∷ 5 ∷ 6 ∷ [])
-    (None ∷ None ∷ None ∷ None ∷ None ∷ None ∷ None ∷ None ∷ None ∷ Some
-    (record {
-      from = record { 0 = 0 };
-      bytes = 1 ∷ 3 ∷ 0 ∷ 7 ∷ 0 ∷ 0 ∷ 0 ∷ 1 ∷ 0 ∷ 0 ∷ 0 ∷ 1 ∷ 0 ∷ 0 ∷ 0 ∷ 0 ∷ 0 ∷ 0 ∷ 0 ∷ 0 ∷ 0 ∷ 0 ∷ 39 ∷ 16 ∷ 3 ∷
-          [];
-    }) ∷ None ∷ Some (record { from = record { 0 = 1 }; bytes = 1 ∷ 6 ∷ 1 ∷ 7 ∷ 0 ∷ 0 ∷ 0 ∷ 1 ∷ 0 ∷ 0 ∷ 0 ∷ 1 ∷ 0 ∷ 0 ∷ 0 ∷ 0 ∷ 0 ∷ [] }) ∷ None ∷
-    Some (record {
-      from = record { 0 = 0 };
-      bytes = 1 ∷ 1 ∷ 0 ∷ 7 ∷ 0 ∷ 0 ∷ 0 ∷ 1 ∷ 0 ∷ 0 ∷ 0 ∷ 1 ∷ 0 ∷ 0 ∷ 0 ∷ 0 ∷ 0 ∷ 0 ∷ 0 ∷ 2 ∷ 0 ∷ 0 ∷ 0 ∷ 0 ∷ 0
-          ∷ 0 ∷ 0 ∷ 0 ∷ 0 ∷ 0 ∷ 0 ∷ 0 ∷ 0 ∷ 0 ∷ 0 ∷ 0 ∷ 104 ∷ 105 ∷ [];
-    }) ∷ None ∷ Some
-    (record {
-      from = record { 0 = 1 };
-      bytes = 1 ∷ 1 ∷ 1 ∷ 7 ∷ 0 ∷ 0 ∷ 0 ∷ 1 ∷ 0 ∷ 0 ∷ 0 ∷ 1 ∷ 0 ∷ 0 ∷ 0 ∷ 0 ∷ 0 ∷ 0 ∷ 0 ∷ 2 ∷ 0 ∷ 0 ∷ 0 ∷ 0 ∷ 0 ∷ 0 ∷
-          0 ∷ 0 ∷ 0 ∷ 0 ∷ 0 ∷ 0 ∷ 0 ∷ 0 ∷ 0 ∷ 0 ∷ 104 ∷ 105 ∷ [];
-    }) ∷ None ∷ None ∷ [])
+    (nothing_for 0 ∷ nothing_for 1 ∷ nothing_for 0 ∷ nothing_for 1 ∷ nothing_for 0 ∷ nothing_for 1 ∷ nothing_for 0 ∷ nothing_for 1 ∷ nothing_for 0 ∷
+    comes_to 1 0 (1 ∷ 3 ∷ 0 ∷ 7 ∷ 0 ∷ 0 ∷ 0 ∷ 1 ∷ 0 ∷ 0 ∷ 0 ∷ 1 ∷ 0 ∷ 0 ∷ 0 ∷ 0 ∷ 0 ∷ 0 ∷ 0 ∷ 0 ∷ 0 ∷ 0 ∷ 39 ∷ 16 ∷ 3 ∷ []) ∷ nothing_for 1 ∷
+    comes_to 0 1 (1 ∷ 6 ∷ 1 ∷ 7 ∷ 0 ∷ 0 ∷ 0 ∷ 1 ∷ 0 ∷ 0 ∷ 0 ∷ 1 ∷ 0 ∷ 0 ∷ 0 ∷ 0 ∷ 0 ∷ []) ∷ nothing_for 0 ∷
+    comes_to 1 0 (1 ∷ 1 ∷ 0 ∷ 7 ∷ 0 ∷ 0 ∷ 0 ∷ 1 ∷ 0 ∷ 0 ∷ 0 ∷ 1 ∷ 0 ∷ 0 ∷ 0 ∷ 0 ∷ 0 ∷ 0 ∷ 0 ∷ 2 ∷ 0 ∷ 0 ∷ 0 ∷ 0 ∷ 0 ∷ 0 ∷ 0 ∷ 0 ∷ 0 ∷ 0 ∷ 0 ∷ 0
+    ∷ 0 ∷ 0 ∷ 0 ∷ 0 ∷ 104 ∷ 105 ∷ []) ∷
+    nothing_for 1 ∷
+    comes_to 0 1 (1 ∷ 1 ∷ 1 ∷ 7 ∷ 0 ∷ 0 ∷ 0 ∷ 1 ∷ 0 ∷ 0 ∷ 0 ∷ 1 ∷ 0 ∷ 0 ∷ 0 ∷ 0 ∷ 0 ∷ 0 ∷ 0 ∷ 2 ∷ 0 ∷ 0 ∷ 0 ∷ 0 ∷ 0 ∷ 0 ∷ 0 ∷ 0 ∷ 0 ∷ 0 ∷ 0 ∷ 0
+    ∷ 0 ∷ 0 ∷ 0 ∷ 0 ∷ 104 ∷ 105 ∷ []) ∷
+    nothing_for 0 ∷ nothing_for 1 ∷ [])
 
 pub lost : node_text lost_run ≡ codes "settings 2 1400 10000 10000 4 14000 4 5 20 1024 256 1024 0\nclock 0\ncall 0.1.0 1 0 6869\nsend 0 0>1 1 DATA c 0.1.0 7 2 0 0 0 - 6869\nclock 1\nclock 2\nclock 3\nclock 4\nsend 1 0>1 1 RESEND c 0.1.0 0 10000 3\nrecv 1 0 01030007000000010000000100000000000000000000271003\nsend 2 1>0 1 UNKNOWN s 0.1.0 0\nclock 5\nrecv 0 1 0106010700000001000000010000000000\nsend 3 0>1 1 DATA c 0.1.0 7 2 0 0 0 - 6869\nrecv 1 0 0101000700000001000000010000000000000002000000000000000000000000000000006869\nrun 1 0.1.0 0 6869 6869 0\nsend 4 1>0 1 DATA s 0.1.0 7 2 0 0 0 - 6869\nclock 6\nrecv 0 1 0101010700000001000000010000000000000002000000000000000000000000000000006869\ndone 0.1.0 6869\nok 7\n"
 unfolding is_utf8 chars digits decode_pairs encode_with encode empty checked get insert retain remove len keys values key_set insert_all with_range
@@ -71,11 +65,10 @@ lost_recorded = refl
 abbrev pub skewed_run : Run
 skewed_run = node_run (codes "skew 1\nresend 2\ntries 1\nlife 10\nlocal 0 1 4000\nlocal 1 1 4001\nend 4\nturns 9\ngo\nat 0 call 0 1 0 61")
     (record { bytes = 97 ∷ []; hold = 0 } ∷ []) (0 ∷ 1 ∷ 2 ∷ 3 ∷ 4 ∷ [])
-    (None ∷ Some (record {
-      from = record { 0 = 0 };
-      bytes = 1 ∷ 1 ∷ 0 ∷ 7 ∷ 0 ∷ 0 ∷ 0 ∷ 1 ∷ 0 ∷ 0 ∷ 0 ∷ 1 ∷ 0 ∷ 0 ∷ 0 ∷ 0 ∷ 0 ∷ 0 ∷ 0 ∷ 1 ∷ 0 ∷ 0 ∷ 0 ∷ 0 ∷ 0 ∷ 0 ∷ 0 ∷ 0 ∷
-          0 ∷ 0 ∷ 0 ∷ 0 ∷ 0 ∷ 0 ∷ 0 ∷ 0 ∷ 97 ∷ [];
-    }) ∷ None ∷ None ∷ None ∷ None ∷ None ∷ None ∷ None ∷ None ∷ None ∷ [])
+    (nothing_for 0 ∷
+    comes_to 1 0 (1 ∷ 1 ∷ 0 ∷ 7 ∷ 0 ∷ 0 ∷ 0 ∷ 1 ∷ 0 ∷ 0 ∷ 0 ∷ 1 ∷ 0 ∷ 0 ∷ 0 ∷ 0 ∷ 0 ∷ 0 ∷ 0 ∷ 1 ∷ 0 ∷ 0 ∷ 0 ∷ 0 ∷ 0 ∷ 0 ∷ 0 ∷ 0 ∷ 0 ∷ 0 ∷ 0 ∷ 0
+    ∷ 0 ∷ 0 ∷ 0 ∷ 0 ∷ 97 ∷ []) ∷
+    nothing_for 1 ∷ nothing_for 0 ∷ nothing_for 1 ∷ nothing_for 0 ∷ nothing_for 1 ∷ nothing_for 0 ∷ nothing_for 1 ∷ nothing_for 0 ∷ nothing_for 1 ∷ [])
 
 pub skewed : node_text skewed_run ≡ codes "settings 2 1400 10000 10000 4 14000 2 1 10 1024 256 1024 0 1\nclock 0\ncall 0.1.0 1 0 61\nsend 0 0>1 1 DATA c 0.1.0 7 1 0 0 0 - 61\nrecv 1 0 01010007000000010000000100000000000000010000000000000000000000000000000061\nrun 1 0.1.0 0 61 61 0\nsend 1 1>0 1 DATA s 0.1.0 7 1 0 0 0 - 61\nclock 1\nclock 2\nsend 2 0>1 1 RESEND c 0.1.0 0 10000 3\nsend 3 1>0 1 NEED_ACK s 0.1.0\nclock 3\nclock 4\nfail 0.1.0 timeout\nbury 1 0.1.0 33\nok 5\n"
 unfolding is_utf8 chars digits decode_pairs encode_with encode empty checked get insert retain remove len keys values key_set insert_all with_range
@@ -90,17 +83,13 @@ skewed = refl
 abbrev pub second_version_run : Run
 second_version_run = node_run (codes "skew 1\nwire 2\nlife 1\nlocal 0 1 4000\nlocal 1 1 4001\nend 4\nturns 9\ngo\nat 0 call 0 1 0 61")
     (record { bytes = 97 ∷ []; hold = 0 } ∷ []) (0 ∷ 3 ∷ 4 ∷ [])
-    (None ∷ None ∷ None ∷ Some
-    (record {
-      from = record { 0 = 0 };
-      bytes = 2 ∷ 1 ∷ 0 ∷ 7 ∷ 0 ∷ 0 ∷ 0 ∷ 1 ∷ 0 ∷ 0 ∷ 0 ∷ 1 ∷ 0 ∷ 0 ∷ 0 ∷ 0 ∷ 0 ∷ 0 ∷ 0 ∷ 0 ∷ 0 ∷ 0 ∷ 0 ∷ 1 ∷ 0 ∷ 0 ∷
-          0 ∷ 1 ∷ 0 ∷ 0 ∷ 0 ∷ 0 ∷ 0 ∷ 0 ∷ 0 ∷ 0 ∷ 0 ∷ 0 ∷ 0 ∷ 0 ∷ 0 ∷ 0 ∷ 0 ∷ 0 ∷ 97 ∷ [];
-    }) ∷ None ∷ None ∷ Some
-    (record {
-      from = record { 0 = 0 };
-      bytes = 2 ∷ 1 ∷ 0 ∷ 7 ∷ 0 ∷ 0 ∷ 0 ∷ 1 ∷ 0 ∷ 0 ∷ 0 ∷ 1 ∷ 0 ∷ 0 ∷ 0 ∷ 0 ∷ 0 ∷ 0 ∷ 0 ∷ 0 ∷ 0 ∷ 0 ∷ 0 ∷ 1 ∷ 0 ∷ 0 ∷
-          0 ∷ 1 ∷ 0 ∷ 0 ∷ 0 ∷ 0 ∷ 0 ∷ 0 ∷ 0 ∷ 0 ∷ 0 ∷ 0 ∷ 0 ∷ 0 ∷ 0 ∷ 0 ∷ 0 ∷ 0 ∷ 97 ∷ [];
-    }) ∷ None ∷ [])
+    (nothing_for 0 ∷ nothing_for 1 ∷ nothing_for 0 ∷
+    comes_to 1 0 (2 ∷ 1 ∷ 0 ∷ 7 ∷ 0 ∷ 0 ∷ 0 ∷ 1 ∷ 0 ∷ 0 ∷ 0 ∷ 1 ∷ 0 ∷ 0 ∷ 0 ∷ 0 ∷ 0 ∷ 0 ∷ 0 ∷ 0 ∷ 0 ∷ 0 ∷ 0 ∷ 1 ∷ 0 ∷ 0 ∷ 0 ∷ 1 ∷ 0 ∷ 0 ∷ 0 ∷ 0
+    ∷ 0 ∷ 0 ∷ 0 ∷ 0 ∷ 0 ∷ 0 ∷ 0 ∷ 0 ∷ 0 ∷ 0 ∷ 0 ∷ 0 ∷ 97 ∷ []) ∷
+    nothing_for 1 ∷ nothing_for 0 ∷
+    comes_to 1 0 (2 ∷ 1 ∷ 0 ∷ 7 ∷ 0 ∷ 0 ∷ 0 ∷ 1 ∷ 0 ∷ 0 ∷ 0 ∷ 1 ∷ 0 ∷ 0 ∷ 0 ∷ 0 ∷ 0 ∷ 0 ∷ 0 ∷ 0 ∷ 0 ∷ 0 ∷ 0 ∷ 1 ∷ 0 ∷ 0 ∷ 0 ∷ 1 ∷ 0 ∷ 0 ∷ 0 ∷ 0
+    ∷ 0 ∷ 0 ∷ 0 ∷ 0 ∷ 0 ∷ 0 ∷ 0 ∷ 0 ∷ 0 ∷ 0 ∷ 0 ∷ 0 ∷ 97 ∷ []) ∷
+    nothing_for 1 ∷ [])
 
 pub second_version : node_text second_version_run ≡ codes "settings 2 1400 10000 10000 4 14000 4 5 1 1024 256 1024 0 1 2\nclock 0\ncall 0.1.0 1 0 61\nsend 0 0>1 1 DATA c 0.1.0 7 1 0 0 0 - 61\nclock 3\nrecv 1 0 020100070000000100000001000000000000000000000001000000010000000000000000000000000000000061\nrun 1 0.1.0 0 61 61 0\nsend 1 1>0 1 DATA s 0.1.0 7 1 0 0 0 - 61\nclock 4\nsend 2 0>1 1 RESEND c 0.1.0 0 10000 3\nrecv 1 0 020100070000000100000001000000000000000000000001000000010000000000000000000000000000000061\nstale 1 1 5\nok 3\n"
 unfolding is_utf8 chars digits decode_pairs encode_with encode empty checked get insert retain remove len keys values key_set insert_all with_range
@@ -125,12 +114,10 @@ second_version_recorded = refl
 abbrev pub in_life_run : Run
 in_life_run = node_run (codes "skew 1\nwire 2\nlife 1\nlocal 0 1 4000\nlocal 1 1 4001\nend 1\nturns 9\ngo\nat 0 call 0 1 0 61")
     (record { bytes = 97 ∷ []; hold = 0 } ∷ []) (0 ∷ 1 ∷ [])
-    (None ∷ None ∷ None ∷ Some
-    (record {
-      from = record { 0 = 0 };
-      bytes = 2 ∷ 1 ∷ 0 ∷ 7 ∷ 0 ∷ 0 ∷ 0 ∷ 1 ∷ 0 ∷ 0 ∷ 0 ∷ 1 ∷ 0 ∷ 0 ∷ 0 ∷ 0 ∷ 0 ∷ 0 ∷ 0 ∷ 0 ∷ 0 ∷ 0 ∷ 0 ∷ 1 ∷ 0 ∷ 0 ∷
-          0 ∷ 1 ∷ 0 ∷ 0 ∷ 0 ∷ 0 ∷ 0 ∷ 0 ∷ 0 ∷ 0 ∷ 0 ∷ 0 ∷ 0 ∷ 0 ∷ 0 ∷ 0 ∷ 0 ∷ 0 ∷ 97 ∷ [];
-    }) ∷ None ∷ [])
+    (nothing_for 0 ∷ nothing_for 1 ∷ nothing_for 0 ∷
+    comes_to 1 0 (2 ∷ 1 ∷ 0 ∷ 7 ∷ 0 ∷ 0 ∷ 0 ∷ 1 ∷ 0 ∷ 0 ∷ 0 ∷ 1 ∷ 0 ∷ 0 ∷ 0 ∷ 0 ∷ 0 ∷ 0 ∷ 0 ∷ 0 ∷ 0 ∷ 0 ∷ 0 ∷ 1 ∷ 0 ∷ 0 ∷ 0 ∷ 1 ∷ 0 ∷ 0 ∷ 0 ∷ 0
+    ∷ 0 ∷ 0 ∷ 0 ∷ 0 ∷ 0 ∷ 0 ∷ 0 ∷ 0 ∷ 0 ∷ 0 ∷ 0 ∷ 0 ∷ 97 ∷ []) ∷
+    nothing_for 1 ∷ [])
 
 pub in_life_recorded : recording_text in_life_run ≡ codes "hosts 2\nseg 1400\nwindow 10000\nunsched 10000\novercommit 4\nrate 14000\nresend 4\ntries 5\nlife 1\npages 1024\ncalls 256\nserved 1024\nrebalance 0\nskew 1\nwire 2\ngo\ncall 0 1 0 61\nturn 0\nturn 1\nclock\nturn 0\ndeliver 0\nturn 1\n# ok 2\n"
 unfolding is_utf8 chars digits decode_pairs encode_with encode empty checked get insert retain remove len keys values key_set insert_all with_range
@@ -144,12 +131,8 @@ in_life_recorded = refl
 -- two equal packets, of which the earlier one was sent at the last tick that counts
 abbrev pub equal_run : Run
 equal_run = node_run (codes "life 4\nlocal 0 1 4000\nlocal 1 1 4001\nend 8\nturns 9\ngo\nat 0 call 0 1 0 61") ([]) (0 ∷ 4 ∷ 8 ∷ [])
-    (None ∷ None ∷ None ∷ None ∷ None ∷ Some
-    (record {
-      from = record { 0 = 0 };
-      bytes = 1 ∷ 3 ∷ 0 ∷ 7 ∷ 0 ∷ 0 ∷ 0 ∷ 1 ∷ 0 ∷ 0 ∷ 0 ∷ 1 ∷ 0 ∷ 0 ∷ 0 ∷ 0 ∷ 0 ∷ 0 ∷ 0 ∷ 0 ∷ 0 ∷ 0 ∷ 39 ∷ 16 ∷ 3 ∷
-          [];
-    }) ∷ None ∷ [])
+    (nothing_for 0 ∷ nothing_for 1 ∷ nothing_for 0 ∷ nothing_for 1 ∷ nothing_for 0 ∷
+    comes_to 1 0 (1 ∷ 3 ∷ 0 ∷ 7 ∷ 0 ∷ 0 ∷ 0 ∷ 1 ∷ 0 ∷ 0 ∷ 0 ∷ 1 ∷ 0 ∷ 0 ∷ 0 ∷ 0 ∷ 0 ∷ 0 ∷ 0 ∷ 0 ∷ 0 ∷ 0 ∷ 39 ∷ 16 ∷ 3 ∷ []) ∷ nothing_for 1 ∷ [])
 
 -- the later one is delivered
 pub equal_recorded : recording_text equal_run ≡ codes "hosts 2\nseg 1400\nwindow 10000\nunsched 10000\novercommit 4\nrate 14000\nresend 4\ntries 5\nlife 4\npages 1024\ncalls 256\nserved 1024\nrebalance 0\ngo\ncall 0 1 0 61\nturn 0\nturn 1\nclock\nclock\nclock\nclock\nturn 0\nturn 1\nclock\nclock\nclock\nclock\nturn 0\ndeliver 2\nturn 1\n# ok 3\n"
@@ -164,12 +147,10 @@ equal_recorded = refl
 -- a packet that was sent a tick before those that count
 abbrev pub too_old_run : Run
 too_old_run = node_run (codes "life 4\nlocal 0 1 4000\nlocal 1 1 4001\nend 5\nturns 9\ngo\nat 0 call 0 1 0 61") ([]) (0 ∷ 5 ∷ [])
-    (None ∷ None ∷ None ∷ Some
-    (record {
-      from = record { 0 = 0 };
-      bytes = 1 ∷ 1 ∷ 0 ∷ 7 ∷ 0 ∷ 0 ∷ 0 ∷ 1 ∷ 0 ∷ 0 ∷ 0 ∷ 1 ∷ 0 ∷ 0 ∷ 0 ∷ 0 ∷ 0 ∷ 0 ∷ 0 ∷ 1 ∷ 0 ∷ 0 ∷ 0 ∷ 0 ∷ 0 ∷ 0 ∷
-          0 ∷ 0 ∷ 0 ∷ 0 ∷ 0 ∷ 0 ∷ 0 ∷ 0 ∷ 0 ∷ 0 ∷ 97 ∷ [];
-    }) ∷ None ∷ [])
+    (nothing_for 0 ∷ nothing_for 1 ∷ nothing_for 0 ∷
+    comes_to 1 0 (1 ∷ 1 ∷ 0 ∷ 7 ∷ 0 ∷ 0 ∷ 0 ∷ 1 ∷ 0 ∷ 0 ∷ 0 ∷ 1 ∷ 0 ∷ 0 ∷ 0 ∷ 0 ∷ 0 ∷ 0 ∷ 0 ∷ 1 ∷ 0 ∷ 0 ∷ 0 ∷ 0 ∷ 0 ∷ 0 ∷ 0 ∷ 0 ∷ 0 ∷ 0 ∷ 0 ∷ 0
+    ∷ 0 ∷ 0 ∷ 0 ∷ 0 ∷ 97 ∷ []) ∷
+    nothing_for 1 ∷ [])
 
 pub too_old_recorded : recording_text too_old_run ≡ codes "hosts 2\nseg 1400\nwindow 10000\nunsched 10000\novercommit 4\nrate 14000\nresend 4\ntries 5\nlife 4\npages 1024\ncalls 256\nserved 1024\nrebalance 0\ngo\ncall 0 1 0 61\nturn 0\nturn 1\nclock\nclock\nclock\nclock\nclock\nturn 0\nstranger 1 0 01010007000000010000000100000000000000010000000000000000000000000000000061\n"
 unfolding is_utf8 chars digits decode_pairs encode_with encode empty checked get insert retain remove len keys values key_set insert_all with_range
@@ -183,7 +164,7 @@ too_old_recorded = refl
 -- 65 datagrams of no bytes are there for host 0
 abbrev pub many_run : Run
 many_run = node_run (codes "life 4\nlocal 0 1 4000\nlocal 1 1 4001\nend 1\nturns 9\ngo") ([]) (1 ∷ [])
-    (replicate 64 (Some (record { from = record { 0 = 1 }; bytes = [] })) ++ None ∷ [])
+    (replicate 64 (comes_to 0 1 []) ++ nothing_for 1 ∷ [])
 
 -- the settings, the clock, 64 arrivals with two entries each, and the two turns
 pub many : length many_run.reports ≡ 132

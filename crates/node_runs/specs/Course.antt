@@ -10,6 +10,7 @@ use Rattle.homa_plain.specs.declared.fault.LineFault.{LineFault}
 use Rattle.homa_plain.specs.declared.fault.LineFault.TheVariants.{World as ByWorld}
 use Rattle.homa_plain.specs.Bytes.{IsBytes}
 use Rattle.homa_plain.specs.Wire.{packet_in}
+use Rattle.homa_plain.specs.Calls.{is_host}
 use Rattle.homa_plain.specs.Entries.{PlainEntry, PlainSettings, PlainClock, PlainRecv}
 use Rattle.homa_plain.specs.Packets.{Packet, packet_between, sender, receiver, datagram}
 use Rattle.homa_plain.specs.Rules.{Answer}
@@ -40,14 +41,19 @@ pub record Arrival : Type 0 where
   pub from : HostId
   pub bytes : List ℕ
 
+-- what a receive for a host gave: a datagram, or nothing
+pub record Receive : Type 0 where
+  pub host : HostId
+  pub got : Option Arrival
+
 -- a net hands up bytes, and at most 1,500 of them
 pub record IsReceived (a : Arrival) : Type 0 where
   pub bytes : IsBytes a.bytes
   pub few : length a.bytes ≤ 1500
 
 -- so does each of these receives that gave something
-abbrev pub AreReceived : List (Option Arrival) → Type 0
-AreReceived receives = AllByRecursion (λ (given : Option Arrival). IfSome given IsReceived) receives
+abbrev pub AreReceived : List Receive → Type 0
+AreReceived receives = AllByRecursion (λ (r : Receive). IfSome r.got IsReceived) receives
 
 -- how a run ends: at its last tick after so many loop turns, at a line that is refused, or after the most loop turns that it may take
 pub data End : Type 0 where
@@ -55,10 +61,11 @@ pub data End : Type 0 where
   RefusedAt : (line : ℕ) (fault : LineFault) → End
   StalledAt : (turns now : ℕ) → End
 
--- what a run gives; it has no end where a tick or a receive isn't given
+-- what a run gives, and the receives that it leaves; it has no end where a tick isn't given, nor a receive for the host whose turn it is
 pub record Run : Type 0 where
   pub reports : List Report
   pub sent : List Datagram
+  pub left : List Receive
   pub end : Option End
 
 -- ---- a node
@@ -69,7 +76,7 @@ pub record Node : Type 0 where
   pub world : World
   pub reports : List Report
   pub calls : Calls
-  pub receives : List (Option Arrival)
+  pub receives : List Receive
 
 -- how far a run has come
 pub data Course : Type 0 where
@@ -120,12 +127,16 @@ arrival_outcome s w id a =
 abbrev pub most_received : ℕ
 most_received = 64
 
--- a host receives up to so many datagrams, until there is none; each comes to it before the next is received
-abbrev pub hears : Settings → HostId → ℕ → List (Option Arrival) → Node → Course
+-- a host receives up to so many datagrams, until there is none; each comes to it before the next is received; what is received is for this host
+abbrev pub hears : Settings → HostId → ℕ → List Receive → Node → Course
 hears s id zero left node = GoesOn (record node { receives = left })
 hears s id (suc n) [] node = Stops node None
-hears s id (suc n) (None ∷ left) node = GoesOn (record node { receives = left })
-hears s id (suc n) (Some a ∷ left) node = hears s id n left (follows [] (arrival_outcome s node.world id a) node)
+hears s id (suc n) (r ∷ left) node =
+    if is_host r.host id then elim (r.got) [
+      | None ↦ GoesOn (record node { receives = left })
+      | Some a ↦ hears s id n left (follows [] (arrival_outcome s node.world id a) node)
+    ]
+    else Stops node None
 
 -- a turn of a host
 abbrev pub has_turn : Settings → HostId → Node → Node
@@ -181,7 +192,7 @@ first_inc (Local inc port) = inc
 first_inc (Remote port) = 1
 
 -- a node that has done nothing
-abbrev pub new_node : Setup → Calls → List Answer → List (Option Arrival) → Node
+abbrev pub new_node : Setup → Calls → List Answer → List Receive → Node
 new_node setup calls answers receives = record {
   world = new_world setup.settings (map first_inc setup.places) 0 0 answers;
   reports = Tells (PlainSettings setup.settings) ∷ [];
@@ -195,15 +206,15 @@ datagrams s w = map (λ (p : SentPacket). record { from = sender p.packet; to = 
 
 -- what a run gives when its course is over
 abbrev pub run_of : Settings → Course → Run
-run_of s (GoesOn node) = record { reports = node.reports; sent = datagrams s node.world; end = None }
-run_of s (Stops node end) = record { reports = node.reports; sent = datagrams s node.world; end = end }
+run_of s (GoesOn node) = record { reports = node.reports; sent = datagrams s node.world; left = node.receives; end = None }
+run_of s (Stops node end) = record { reports = node.reports; sent = datagrams s node.world; left = node.receives; end = end }
 
 -- the run of an opened script; one that isn't opened tells nothing but its end
-abbrev pub run_opened : Opening → List Answer → List ℕ → List (Option Arrival) → Run
-run_opened (Unopened refusal) answers ticks receives = record { reports = []; sent = []; end = Some (RefusedAt refusal.line refusal.fault) }
+abbrev pub run_opened : Opening → List Answer → List ℕ → List Receive → Run
+run_opened (Unopened refusal) answers ticks receives = record { reports = []; sent = []; left = receives; end = Some (RefusedAt refusal.line refusal.fault) }
 run_opened (Opened setup calls) answers ticks receives =
     run_of setup.settings (loop_turns setup 1 ticks (new_node setup calls answers receives))
 
 -- the run of a script, where the services answer so, the clock gives these ticks, and the receives give these datagrams or nothing
-unfoldable pub node_run : List ℕ → List Answer → List ℕ → List (Option Arrival) → Run
+unfoldable pub node_run : List ℕ → List Answer → List ℕ → List Receive → Run
 node_run bytes answers ticks receives = run_opened (opening most_bytes bytes) answers ticks receives

@@ -1,5 +1,5 @@
 -- What the replay of a recording gives: its law, stated; it is proved in node_laws.
-use Rattle.std.specs.Prelude.{◌≡◌, ◌≤◌, ◌<◌, ℕ, ◌*◌, Bool, true, false, Option, None, Some, List, [], ◌∷◌, filter, replicate, length}
+use Rattle.std.specs.Prelude.{◌≡◌, ◌≤◌, ◌<◌, ℕ, ◌*◌, Bool, true, false, None, Some, List, [], ◌∷◌, filter, replicate, length}
 use Rattle.std.specs.List.{AllByRecursion}
 use Rattle.homa_plain.specs.declared.event.Event.{Event}
 use Rattle.homa_plain.specs.declared.event.Event.TheVariants as event
@@ -12,7 +12,7 @@ use Rattle.homa_plain.specs.World.{new_world}
 use Rattle.homa_plain.specs.Replay.{Happening, Run, carried}
 use Rattle.homa_plain.specs.Script.{most_bytes}
 use Rattle.node_runs.specs.Script.{Place, Local, Remote, Setup, Calls, Opened, opening}
-use Rattle.node_runs.specs.Course.{Report, Tells, Arrival, AreTicks, AreReceived, Ended, node_run}
+use Rattle.node_runs.specs.Course.{Report, Tells, Receive, AreTicks, AreReceived, Ended, node_run}
 use Rattle.node_runs.specs.Recorder.{Notes, no_notes, events, kept}
 use Rattle.node_runs.specs.Observed.{observed, never}
 use Rattle.node_runs.specs.Texts.{entries, recorded}
@@ -89,7 +89,7 @@ RepeatsBy run s told = (run.fault ≡ None) × (of_hosts (PlainSettings s ∷ ru
 -- run's entries, the clock's and those of datagrams that come aside
 abbrev pub RecordingsRepeat : Type 0
 RecordingsRepeat =
-    (bytes : List ℕ) (setup : Setup) (calls : Calls) (answers : List Answer) (ticks : List ℕ) (receives : List (Option Arrival)) (boxes : ℕ)
+    (bytes : List ℕ) (setup : Setup) (calls : Calls) (answers : List Answer) (ticks : List ℕ) (receives : List Receive) (boxes : ℕ)
     → opening most_bytes bytes ≡ Opened setup calls → AllByRecursion IsHere setup.places
     → AllByRecursion IsAnswer answers → AreTicks 0 ticks
     → let s = setup.settings in
@@ -100,7 +100,7 @@ RecordingsRepeat =
 -- the reports of such a run tell the settings first, and only there
 abbrev pub SettingsFirst : Type 0
 SettingsFirst =
-    (bytes : List ℕ) (setup : Setup) (calls : Calls) (answers : List Answer) (ticks : List ℕ) (receives : List (Option Arrival))
+    (bytes : List ℕ) (setup : Setup) (calls : Calls) (answers : List Answer) (ticks : List ℕ) (receives : List Receive)
     → opening most_bytes bytes ≡ Opened setup calls → AllByRecursion IsHere setup.places
     → AllByRecursion IsAnswer answers → AreTicks 0 ticks
     → let reports = (node_run bytes answers ticks receives).reports in
@@ -109,7 +109,7 @@ SettingsFirst =
 -- each event that is recorded of such a run has its numbers in range: it sends at most 64 packets an event
 abbrev pub EventsFit : Type 0
 EventsFit =
-    (bytes : List ℕ) (setup : Setup) (calls : Calls) (answers : List Answer) (ticks : List ℕ) (receives : List (Option Arrival))
+    (bytes : List ℕ) (setup : Setup) (calls : Calls) (answers : List Answer) (ticks : List ℕ) (receives : List Receive)
     → opening most_bytes bytes ≡ Opened setup calls → AllByRecursion IsHere setup.places
     → AllByRecursion IsAnswer answers → AreTicks 0 ticks → AreReceived receives
     → let reports = (node_run bytes answers ticks receives).reports in
@@ -119,7 +119,7 @@ EventsFit =
 -- a run ends after the most loop turns that its script allows, or before
 abbrev pub TurnsFit : Type 0
 TurnsFit =
-    (bytes : List ℕ) (setup : Setup) (calls : Calls) (answers : List Answer) (ticks : List ℕ) (receives : List (Option Arrival)) (turns : ℕ)
+    (bytes : List ℕ) (setup : Setup) (calls : Calls) (answers : List Answer) (ticks : List ℕ) (receives : List Receive) (turns : ℕ)
     → opening most_bytes bytes ≡ Opened setup calls
     → (node_run bytes answers ticks receives).end ≡ Some (Ended turns)
     → turns ≤ 1000000000

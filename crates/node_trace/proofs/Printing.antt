@@ -7,7 +7,7 @@ use Rattle.homa_plain.specs.Text.{line_text}
 use Rattle.homa_plain.specs.declared.fault.LineFault.TheVariants.{Script as ByWords, World as ByWorld}
 use Rattle.homa_plain.specs.declared.fault.WorldFault.TheVariants.{NoSuchHost, Start as CantStart}
 use Rattle.homa_text.proofs.Putting.{front_more}
-use Rattle.node_runs.specs.Course.{Report, Datagram, Arrival, End, Run, node_run}
+use Rattle.node_runs.specs.Course.{Report, Datagram, Receive, End, Run, node_run}
 use Rattle.node_runs.specs.Recorder.{Notes, no_notes}
 use Rattle.node_runs.specs.Observed.{observed, never, same_notes}
 use Rattle.node_runs.specs.Texts.{end_entry, last_text, printed, node_text}
@@ -52,7 +52,7 @@ never_strange : (old new : Option (List ℕ)) (n : Notes) (reports : List Report
 never_strange old new n reports h = let no_such : false ≡ true = h.unusual in cc
 
 module _ (may_tell : List PlainEntry → Type 0) (bytes : List ℕ) (t0 t1 t2 : Option (List ℕ)) (n1 : Notes) (s0 s1 : Option (List Datagram))
-    (g0 g1 : Option (List (Option Arrival))) (k0 k1 : Option (List ℕ)) where
+    (g0 g1 : Option (List Receive)) (k0 k1 : Option (List ℕ)) where
   module _ (end : End) (is : IsServed node_run prints same_notes never may_tell bytes (outside t0 no_notes s0 g0 k0) (outside t1 n1 s1 g1 k1) end) where
     lines_printed : t1 ≡ appended t0 (lines (node_run bytes is.answers is.ticks is.gave))
     lines_printed = told_observed prints same_notes never t0 t1 no_notes n1 (node_run bytes is.answers is.ticks is.gave).reports is.told_all
@@ -71,6 +71,7 @@ module _ (may_tell : List PlainEntry → Type 0) (bytes : List ℕ) (t0 t1 t2 : 
           gave = is.gave;
           from = from_is;
           ended = is.ended;
+          used = is.used;
           text = two_put t0 mid t2 (lines run) (line_text (end_entry end)) (same ∙ lines_printed) last ∙ ap (appended t0) (text_ended run end is.ended);
           took = is.took;
         }
@@ -87,6 +88,7 @@ module _ (may_tell : List PlainEntry → Type 0) (bytes : List ℕ) (t0 t1 t2 : 
           end = end;
           from = from_is;
           ended = is.ended;
+          used = is.used;
           text = subst (TookFront t0 t2) (text_ended run end is.ended) (front_after t0 mid t2 (lines run) (line_text (end_entry end)) (same
               ∙ lines_printed) last);
           took = is.took;

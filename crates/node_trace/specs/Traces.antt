@@ -4,7 +4,7 @@ use Rattle.homa_io.specs.Outside.{appended, TookFront}
 use Rattle.homa_plain.specs.Answers.{shown}
 use Rattle.homa_plain.specs.Entries.{PlainEntry}
 use Rattle.homa_plain.specs.Rules.{Answer}
-use Rattle.node_runs.specs.Course.{Report, Datagram, Arrival, AreReceived, AreTicks, End, Run, node_run}
+use Rattle.node_runs.specs.Course.{Report, Datagram, Receive, AreReceived, AreTicks, End, Run, node_run}
 use Rattle.node_runs.specs.Texts.{entries, node_text}
 use Rattle.node_turns.specs.Told.{listed, ListedFront}
 use Rattle.homa_node.specs.Served.{AreGiven}
@@ -17,10 +17,10 @@ use Rattle.node_trace.specs.Ends.{end_seen}
 pub record Around : Type 0 where
   pub taken : Option (List ℕ)
   pub sent : Option (List Datagram)
-  pub gave : Option (List (Option Arrival))
+  pub gave : Option (List Receive)
   pub ticks : Option (List ℕ)
 
-abbrev pub around : Option (List ℕ) → Option (List Datagram) → Option (List (Option Arrival)) → Option (List ℕ) → Around
+abbrev pub around : Option (List ℕ) → Option (List Datagram) → Option (List Receive) → Option (List ℕ) → Around
 around taken sent gave ticks = record { taken = taken; sent = sent; gave = gave; ticks = ticks }
 
 -- the input was read to its end, where the run came to its last tick
@@ -31,7 +31,7 @@ IsReadOut (Stalled turns now) left = Unit {0}
 
 -- What these reports of a run were given: answers that their `run` lines show, which the boxes allow, and the ticks and receives that were given,
 -- where that is told. What was received are bytes, at most 1,500 at once.
-pub record IsGiven (may_tell : List PlainEntry → Type 0) (old new : Around) (answers : List Answer) (ticks : List ℕ) (gave : List (Option Arrival))
+pub record IsGiven (may_tell : List PlainEntry → Type 0) (old new : Around) (answers : List Answer) (ticks : List ℕ) (gave : List Receive)
     (reports : List Report) : Type 0 where
   pub given : new.gave ≡ listed old.gave gave
   pub received : AreReceived gave
@@ -49,14 +49,15 @@ pub record IsFrontOf (text_of : Run → List ℕ) (run : Run) (reports : List Re
 
 -- what is printed of a run, by `text_of`: the trace of a node, or its recording
 module _ (may_tell : List PlainEntry → Type 0) (text_of : Run → List ℕ) where
-  -- the run of these bytes came to this end, and its datagrams were taken; the sink took a front of the text
+  -- the run of these bytes came to this end with the last receive, and its datagrams were taken; the sink took a front of the text
   pub record IsEndCut (bytes : List ℕ) (old new : Around) : Type 0 where
     pub answers : List Answer
     pub ticks : List ℕ
-    pub gave : List (Option Arrival)
+    pub gave : List Receive
     pub end : End
     pub from : IsGiven may_tell old new answers ticks gave (node_run bytes answers ticks gave).reports
     pub ended : (node_run bytes answers ticks gave).end ≡ Some end
+    pub used : (node_run bytes answers ticks gave).left ≡ []
     pub text : TookFront old.taken new.taken (text_of (node_run bytes answers ticks gave))
     pub took : new.sent ≡ listed old.sent (node_run bytes answers ticks gave).sent
 
@@ -69,22 +70,23 @@ module _ (may_tell : List PlainEntry → Type 0) (text_of : Run → List ℕ) wh
     pub has_left : left ≡ Some rest
     pub answers : List Answer
     pub ticks : List ℕ
-    pub gave : List (Option Arrival)
+    pub gave : List Receive
     pub reports : List Report
     pub from : IsGiven may_tell old new answers ticks gave reports
-    pub front : ((more : List ℕ) (later : List Answer) (on : List ℕ) (next : List (Option Arrival))
+    pub front : ((more : List ℕ) (later : List Answer) (on : List ℕ) (next : List Receive)
         → IsFrontOf text_of (node_run (came ++ more) (answers ++ later) (ticks ++ on) (gave ++ next)) reports old new)
-        ⊎ ((rest ≡ []) × ((later : List Answer) (on : List ℕ) (next : List (Option Arrival))
+        ⊎ ((rest ≡ []) × ((later : List Answer) (on : List ℕ) (next : List Receive)
         → IsFrontOf text_of (node_run came (answers ++ later) (ticks ++ on) (gave ++ next)) reports old new))
 
 module _ (may_tell : List PlainEntry → Type 0) where
-  -- the run of these bytes came to this end; its whole text was printed, and the net took its datagrams
+  -- the run of these bytes came to this end with the last receive; its whole text was printed, and the net took its datagrams
   pub record IsWhole (bytes : List ℕ) (old new : Around) (end : End) : Type 0 where
     pub answers : List Answer
     pub ticks : List ℕ
-    pub gave : List (Option Arrival)
+    pub gave : List Receive
     pub from : IsGiven may_tell old new answers ticks gave (node_run bytes answers ticks gave).reports
     pub ended : (node_run bytes answers ticks gave).end ≡ Some end
+    pub used : (node_run bytes answers ticks gave).left ≡ []
     pub text : new.taken ≡ appended old.taken (node_text (node_run bytes answers ticks gave))
     pub took : new.sent ≡ listed old.sent (node_run bytes answers ticks gave).sent
 

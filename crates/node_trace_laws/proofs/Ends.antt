@@ -10,6 +10,7 @@ use Rattle.homa_plain.specs.declared.fault.StartFault.{StartFault}
 use Rattle.homa_plain.specs.declared.fault.LineFault.{LineFault}
 use Rattle.homa_plain.specs.declared.fault.WorldFault.TheVariants.{NoSuchHost, NoMemory}
 use Rattle.homa_plain.specs.declared.fault.LineFault.TheVariants.{Script as ByWords, World as ByWorld}
+use Rattle.homa_plain.specs.Calls.{is_host}
 use Rattle.homa_plain.specs.Host.{Host}
 use Rattle.homa_plain.specs.Shape.{IsCause}
 use Rattle.homa_plain.specs.Steps.{start_fault}
@@ -17,8 +18,9 @@ use Rattle.homa_plain.specs.World.{World, Outcome, Refused, Done, outcome, host_
 use Rattle.trace_laws.specs.Shaped.{HasCause}
 use Rattle.homa_plain.specs.Script.{most_bytes}
 use Rattle.node_runs.specs.Script.{Setup, TimedCall, Refusal, Calls}
-use Rattle.node_runs.specs.Course.{AreTicks, Report, Turning, Arrival, End, Ended, RefusedAt, StalledAt, Node, Course, GoesOn, Stops, ◌>>=◌, goes, follows}
-use Rattle.node_runs.specs.Course.{starts, arrival_outcome, most_received, hears, has_turn, hosts_act, locals, clock_stands, ends, loop_turn, loop_turns}
+use Rattle.node_runs.specs.Course.{AreTicks, Arrival, Report, Turning, Receive, End, Ended, RefusedAt, StalledAt, Node, Course, GoesOn, Stops, ◌>>=◌}
+use Rattle.node_runs.specs.Course.{goes, follows, starts, arrival_outcome, most_received, hears, has_turn, hosts_act, locals, clock_stands}
+use Rattle.node_runs.specs.Course.{ends, loop_turn, loop_turns}
 use Rattle.node_runs.specs.Texts.{end_entry}
 use Rattle.node_laws.proofs.Opening.{IsNodeCause, MayRefuse, AreNumbered}
 
@@ -92,11 +94,18 @@ module _ (s : Settings) where
   followed first (Refused fault) node h = h
   followed first (Done after) node h = h
 
-  hears_end : (id : HostId) (n : ℕ) (left : List (Option Arrival)) (node : Node) → MayGoOn node.calls → MayEnd (hears s id n left node)
+  hears_end : (id : HostId) (n : ℕ) (left : List Receive) (node : Node) → MayGoOn node.calls → MayEnd (hears s id n left node)
   hears_end id zero left node h = h
   hears_end id (suc n) [] node h = tt
-  hears_end id (suc n) (None ∷ left) node h = h
-  hears_end id (suc n) (Some a ∷ left) node h = hears_end id n left _ (followed [] (arrival_outcome s node.world id a) node h)
+  hears_end id (suc n) (r ∷ left) node h = by_host (is_host r.host id) r.got (λ m g. hears_end id n left m g) where
+    by_host : (b : Bool) (o : Option Arrival) → ((m : Node) → MayGoOn m.calls → MayEnd (hears s id n left m)) → MayEnd (if b then elim o [
+      | None ↦ GoesOn (record node { receives = left })
+      | Some a ↦ hears s id n left (follows [] (arrival_outcome s node.world id a) node)
+    ]
+        else Stops node None)
+    by_host false o next = tt
+    by_host true None next = h
+    by_host true (Some a) next = next _ (followed [] (arrival_outcome s node.world id a) node h)
 
   hosts_end : (ids : List HostId) (node : Node) → MayGoOn node.calls → MayEnd (hosts_act s ids node)
   hosts_end [] node h = h

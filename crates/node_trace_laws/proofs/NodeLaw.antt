@@ -34,8 +34,8 @@ use Rattle.trace_induction.proofs.Events.{after_step}
 use Rattle.trace_induction.proofs.Hosts.{within, some_is}
 use Rattle.trace_laws.specs.Shaped.{HasCause}
 use Rattle.node_runs.specs.Script.{Place, Local, Remote, Setup, TimedCall, Calls, Opening, Opened, opening}
-use Rattle.node_runs.specs.Course.{Run, AreTicks, Report, Tells, Turning, Arrival, End, Ended, RefusedAt, StalledAt, Node, Course, GoesOn, Stops, loop_turns}
-use Rattle.node_runs.specs.Course.{packet_from, arrival_outcome, first_inc, new_node, run_of, run_opened, node_run}
+use Rattle.node_runs.specs.Course.{Run, Report, Tells, Turning, Arrival, Receive, End, Ended, RefusedAt, StalledAt, Node, Course, GoesOn, Stops, loop_turns}
+use Rattle.node_runs.specs.Course.{AreTicks, packet_from, arrival_outcome, first_inc, new_node, run_of, run_opened, node_run}
 use Rattle.node_runs.specs.Recorder.{Notes, no_notes}
 use Rattle.node_runs.specs.Texts.{entries, end_entry}
 use Rattle.node_runs.specs.Replayed.{NoneStrange, IsAnswer}
@@ -354,7 +354,7 @@ end_of : (s : Settings) (course : Course) → (run_of s course).end ≡ (elim co
 end_of s (GoesOn node) = refl
 end_of s (Stops node end) = refl
 
-pub end_is : (bytes : List ℕ) (setup : Setup) (calls : Calls) (answers : List Answer) (ticks : List ℕ) (receives : List (Option Arrival)) (end : End)
+pub end_is : (bytes : List ℕ) (setup : Setup) (calls : Calls) (answers : List Answer) (ticks : List ℕ) (receives : List Receive) (end : End)
     → opening most_bytes bytes ≡ Opened setup calls → AreTicks 0 ticks
     → (node_run bytes answers ticks receives).end ≡ Some end → IsEnd end
 unfolding node_run
@@ -369,7 +369,7 @@ last_entry (Ended turns) = refl
 last_entry (RefusedAt line fault) = refl
 last_entry (StalledAt turns now) = refl
 
-module _ (bytes : List ℕ) (setup : Setup) (calls : Calls) (answers : List Answer) (ticks : List ℕ) (receives : List (Option Arrival))
+module _ (bytes : List ℕ) (setup : Setup) (calls : Calls) (answers : List Answer) (ticks : List ℕ) (receives : List Receive)
     (e : opening most_bytes bytes ≡ Opened setup calls) (fair : AllByRecursion IsAnswer answers) (rises : AreTicks 0 ticks) where
   abbrev run : Run
   run = node_run bytes answers ticks receives

@@ -1,5 +1,5 @@
 -- Runs of a node, judged: what its net may do, and what it may not. They were worked out by hand.
-use Rattle.std.proofs.Common.{◌≡◌, ℕ, zero, suc, Bool, true, false, Option, None, Some, List, [], ◌∷◌, ◌++◌, refl, ap, ◌∙◌}
+use Rattle.std.proofs.Common.{◌≡◌, ℕ, zero, suc, Bool, true, false, None, Some, List, [], ◌∷◌, ◌++◌, refl, ap, ◌∙◌}
 use Rattle.std.specs.Prelude.{if◌then◌else◌, codes}
 use Rattle.std.specs.List.{flat_map}
 use Rattle.core.specs.Str.{is_utf8, chars}
@@ -31,7 +31,8 @@ use Rattle.homa_plain.specs.Granting.{allowed}
 use Rattle.homa_plain.specs.Entries.{PlainEntry}
 use Rattle.homa_plain.specs.Rules.{Answer}
 use Rattle.homa_plain.specs.Judge.{Clause, ShapeClause, OnceClause, ReturnedClause, judged, first_broken}
-use Rattle.node_runs.specs.Course.{Arrival, Run, loop_turn, loop_turns, node_run}
+use Rattle.node_runs.proofs.WorkedReceives.{nothing_for, comes_to}
+use Rattle.node_runs.specs.Course.{Receive, Run, loop_turn, loop_turns, node_run}
 use Rattle.node_runs.specs.Recorder.{Notes, no_notes, kind_of, told, kept}
 use Rattle.node_trace_laws.specs.Honest.{noted as line_noted, is_honest, AreHonest, lines}
 
@@ -53,14 +54,10 @@ hi_at = 2 ∷ 1 ∷ 0 ∷ 7 ∷ four 1 ++ four 1 ++ four 0 ++ four 0 ++ four 0 +
 abbrev pub asks : List ℕ
 asks = 1 ∷ 3 ∷ 0 ∷ 7 ∷ four 1 ++ four 1 ++ four 0 ++ four 0 ++ 0 ∷ 0 ∷ 39 ∷ 16 ∷ 3 ∷ []
 
--- bytes come from a host
-abbrev pub comes : ℕ → List ℕ → Option Arrival
-comes host bytes = Some (record { from = record { 0 = host }; bytes = bytes })
-
--- so often nothing comes
-abbrev pub none : ℕ → List (Option Arrival)
+-- so often nothing comes to host 0, nor then to host 1
+abbrev pub none : ℕ → List Receive
 none zero = []
-none (suc n) = None ∷ none n
+none (suc n) = nothing_for 0 ∷ nothing_for 1 ∷ none n
 
 -- a service gives back `hi` at once
 abbrev pub answer : Answer
@@ -108,7 +105,8 @@ honest_all n (line ∷ ls) h =
 abbrev pub repeated_run : Run
 repeated_run = node_run (codes "local 0 1 4000\nlocal 1 1 4001\nend 9\nturns 9\ngo\nat 0 call 0 1 0 6869")
     (answer ∷ []) (7 ∷ 8 ∷ 9 ∷ [])
-    (None ∷ comes 0 (hi 0 1 1) ∷ comes 0 (hi 0 1 1) ∷ comes 5 (0 ∷ []) ∷ None ∷ comes 1 (hi 1 1 1) ∷ comes 1 (hi 1 1 1) ∷ none 4)
+    (nothing_for 0 ∷ comes_to 1 0 (hi 0 1 1) ∷ comes_to 1 0 (hi 0 1 1) ∷ comes_to 1 5 (0 ∷ []) ∷ nothing_for 1
+    ∷ comes_to 0 1 (hi 1 1 1) ∷ comes_to 0 1 (hi 1 1 1) ∷ none 2)
 
 abbrev pub repeated_printed : List (List ℕ)
 repeated_printed =
@@ -144,7 +142,7 @@ repeated = record { prints = refl; honest = are_honest no_notes (lines repeated_
 abbrev pub jumping_run : Run
 jumping_run = node_run (codes "local 0 1 4000\nlocal 1 1 4001\nend 900\nturns 20\ngo\nat 0 call 0 1 0 6869")
     ([]) (0 ∷ 100 ∷ 200 ∷ 300 ∷ 400 ∷ 500 ∷ 600 ∷ 700 ∷ 800 ∷ 900 ∷ [])
-    (none 20)
+    (none 10)
 
 abbrev pub jumping_printed : List (List ℕ)
 jumping_printed =
@@ -183,7 +181,7 @@ jumping = record { prints = refl; honest = are_honest no_notes (lines jumping_ru
 abbrev pub later_lives_run : Run
 later_lives_run = node_run (codes "local 0 7 4000\nlocal 1 11 4001\nend 5\nturns 9\ngo\nat 0 call 0 1 0 6869")
     (answer ∷ []) (3 ∷ 4 ∷ 5 ∷ [])
-    (None ∷ comes 0 (hi 0 7 7) ∷ None ∷ comes 1 (hi 1 11 7) ∷ none 4)
+    (nothing_for 0 ∷ comes_to 1 0 (hi 0 7 7) ∷ nothing_for 1 ∷ comes_to 0 1 (hi 1 11 7) ∷ none 2)
 
 abbrev pub later_lives_printed : List (List ℕ)
 later_lives_printed =
@@ -215,7 +213,7 @@ later_lives = record { prints = refl; honest = are_honest no_notes (lines later_
 abbrev pub late_run : Run
 late_run = node_run (codes "life 1\nresend 1\ntries 1\nlocal 0 1 4000\nlocal 1 1 4001\nend 9\nturns 20\ngo\nat 0 call 0 1 0 6869")
     (answer ∷ answer ∷ []) (0 ∷ 1 ∷ 2 ∷ 7 ∷ 8 ∷ 9 ∷ [])
-    (None ∷ comes 0 (hi 0 1 1) ∷ none 8 ++ comes 0 (hi 0 1 1) ∷ none 3)
+    (nothing_for 0 ∷ comes_to 1 0 (hi 0 1 1) ∷ nothing_for 1 ∷ none 3 ++ nothing_for 0 ∷ comes_to 1 0 (hi 0 1 1) ∷ nothing_for 1 ∷ none 1)
 
 abbrev pub late_printed : List (List ℕ)
 late_printed =
@@ -256,7 +254,7 @@ late = record { prints = refl; dishonest = λ h. false≢true (honest_all no_not
 abbrev pub stale_run : Run
 stale_run = node_run (codes "wire 2\nlife 1\nresend 1\ntries 1\nlocal 0 1 4000\nlocal 1 1 4001\nend 9\nturns 20\ngo\nat 0 call 0 1 0 6869")
     (answer ∷ answer ∷ []) (0 ∷ 1 ∷ 2 ∷ 7 ∷ 8 ∷ 9 ∷ [])
-    (None ∷ comes 0 hi_at ∷ none 8 ++ comes 0 hi_at ∷ none 3)
+    (nothing_for 0 ∷ comes_to 1 0 hi_at ∷ nothing_for 1 ∷ none 3 ++ nothing_for 0 ∷ comes_to 1 0 hi_at ∷ nothing_for 1 ∷ none 1)
 
 abbrev pub stale_printed : List (List ℕ)
 stale_printed =
@@ -295,7 +293,7 @@ stale = record { prints = refl; honest = are_honest no_notes (lines stale_run) r
 abbrev pub equal_run : Run
 equal_run = node_run (codes "life 4\nlocal 0 1 4000\nlocal 1 1 4001\nend 12\nturns 9\ngo\nat 0 call 0 1 0 6869")
     ([]) (0 ∷ 4 ∷ 8 ∷ 12 ∷ [])
-    (none 7 ++ comes 0 asks ∷ comes 0 asks ∷ none 1)
+    (none 3 ++ nothing_for 0 ∷ comes_to 1 0 asks ∷ comes_to 1 0 asks ∷ nothing_for 1 ∷ [])
 
 pub equal : AreHonest no_notes (lines equal_run) × (first_broken (lines equal_run) ≡ None)
 unfolding is_utf8 chars digits decode_pairs encode_with encode empty checked get insert retain remove len keys values key_set insert_all with_range
@@ -310,7 +308,7 @@ equal = (are_honest no_notes (lines equal_run) refl, refl)
 abbrev pub elsewhere_run : Run
 elsewhere_run = node_run (codes "remote 0 4000\nlocal 1 1 4001\nend 1\nturns 9\ngo")
     (answer ∷ []) (0 ∷ 1 ∷ [])
-    (comes 0 (hi 0 1 1) ∷ none 2)
+    (comes_to 1 0 (hi 0 1 1) ∷ nothing_for 1 ∷ nothing_for 1 ∷ [])
 
 abbrev pub elsewhere_printed : List (List ℕ)
 elsewhere_printed =
@@ -336,7 +334,7 @@ elsewhere = record { prints = refl; dishonest = λ h. false≢true (honest_all n
 abbrev pub made_up_run : Run
 made_up_run = node_run (codes "local 0 1 4000\nlocal 1 1 4001\nend 2\nturns 9\ngo\nat 0 call 0 1 0 6869")
     ([]) (0 ∷ 1 ∷ 2 ∷ [])
-    (None ∷ None ∷ comes 1 (hi 1 1 1) ∷ none 4)
+    (nothing_for 0 ∷ nothing_for 1 ∷ comes_to 0 1 (hi 1 1 1) ∷ none 2)
 
 abbrev pub made_up_printed : List (List ℕ)
 made_up_printed =

@@ -11,7 +11,7 @@ use Rattle.homa_plain.specs.View.{nothing_seen}
 use Rattle.homa_plain.specs.Laws.{Holds}
 use Rattle.homa_plain.specs.Judge.{Obeys, first_broken}
 use Rattle.node_runs.specs.Script.{Setup, Calls, Opened, opening}
-use Rattle.node_runs.specs.Course.{Arrival, AreTicks, End, Run, node_run}
+use Rattle.node_runs.specs.Course.{Receive, AreTicks, End, Run, node_run}
 use Rattle.node_runs.specs.Recorder.{Kept, Notes, no_notes, is_same, in_life, sent_packet, keeps}
 use Rattle.node_runs.specs.Texts.{entries, end_entry}
 use Rattle.node_runs.specs.Replayed.{NoneStrange, IsAnswer}
@@ -64,7 +64,7 @@ lines run = entries run.reports ++ last_line run.end
 -- it is so of each run of a node whose script is opened, whatever its services answer, its clock gives and its net hands up
 abbrev pub OfEveryRun : (Run → Type 0) → Type 0
 OfEveryRun so =
-    (bytes : List ℕ) (setup : Setup) (calls : Calls) (answers : List Answer) (ticks : List ℕ) (receives : List (Option Arrival))
+    (bytes : List ℕ) (setup : Setup) (calls : Calls) (answers : List Answer) (ticks : List ℕ) (receives : List Receive)
     → opening most_bytes bytes ≡ Opened setup calls → AllByRecursion IsAnswer answers → AreTicks 0 ticks
     → so (node_run bytes answers ticks receives)
 

@@ -9,7 +9,7 @@ use Rattle.homa_plain.specs.Entries.{PlainEntry}
 use Rattle.host_view.specs.declared.outbox.SentFrame.{SentFrame}
 use Rattle.homa_plain.specs.Rules.{Answer}
 use Rattle.homa_plain.specs.World.{World, outcome}
-use Rattle.node_runs.specs.Course.{Report, Tells, Turning, GoesOn, follows, has_turn, Datagram, Arrival, datagrams}
+use Rattle.node_runs.specs.Course.{Report, Tells, Turning, GoesOn, follows, has_turn, Datagram, Receive, datagrams}
 use Rattle.node_runs.specs.Texts.{entries}
 use Rattle.homa_plain.specs.Answers.{shown, answering}
 use Rattle.node_turns.specs.Told.{Listed}
@@ -19,7 +19,7 @@ use Rattle.node_turns.proofs.Lists.{listed_none, listed_more, received_more, num
 module _ (s : Settings) where
   -- the hosts stopped behind a part that was done
   pub cut_on : (act mid : Part) (w : World) (st : World → Type 0) (b m : List PlainEntry → Type 0) (tell1 tell2 tell : List Report → Type 0)
-      (take2 take : List Datagram → Type 0) (s0 s1 : Option (List Datagram)) (g0 g1 g2 : Option (List (Option Arrival)))
+      (take2 take : List Datagram → Type 0) (s0 s1 : Option (List Datagram)) (g0 g1 g2 : Option (List Receive))
       → HasActed act mid s w st b m tell1 s0 s1 g0 g1 → ((v : World) → st v → IsCut mid s v m tell2 take2 g1 g2)
       → ((x y : List Report) → tell1 x → tell2 y → tell (x ++ y))
       → ((x y : List Datagram) → Listed s0 s1 x → take2 y → take (x ++ y)) → IsCut act s w b tell take g0 g2
@@ -55,7 +55,7 @@ module _ (s : Settings) where
 
   -- a turn that was told, and of which no more is known than that it can be had
   pub cut_begun : (id : HostId) (w : World) (b : List PlainEntry → Type 0) (tell : List Report → Type 0) (take : List Datagram → Type 0)
-      (g0 g1 : Option (List (Option Arrival)))
+      (g0 g1 : Option (List Receive))
       → ((later : List Answer) → IsBegun (λ v. outcome s v (event.Turn id) []) [] s w later) → tell (Turning id ∷ []) → take [] → g1 ≡ g0 → b []
       → IsCut (with_left (λ n. GoesOn (has_turn s id n))) s w b tell take g0 g1
   cut_begun id w b tell take g0 g1 begun tells took given none = record {
@@ -82,7 +82,7 @@ module _ (s : Settings) where
   -- a turn that was had, of which a front was sent and told
   pub cut_turn : (id : HostId) (w : World) (stands : World → Type 0) (told : List PlainEntry) (frames : List SentFrame) (b a : List PlainEntry → Type 0)
       (tell : List Report → Type 0)
-      (take : List Datagram → Type 0) (g0 g1 : Option (List (Option Arrival)))
+      (take : List Datagram → Type 0) (g0 g1 : Option (List Receive))
       → IsStep (λ v. outcome s v (event.Turn id) []) [] s w stands told frames b a → tell (Turning id ∷ map Tells told)
       → take (map frame_datagram frames) → g1 ≡ g0 → a []
       → IsCut (with_left (λ n. GoesOn (has_turn s id n))) s w b tell take g0 g1

@@ -1,17 +1,18 @@
 -- Parts of a course only append reports and packets.
-use Rattle.std.proofs.Common.{◌≡◌, ℕ, zero, suc, Option, None, Some, List, [], ◌∷◌, ◌++◌, refl, sym, ap, ◌∙◌, append_assoc}
-use Rattle.std.specs.Prelude.{map}
+use Rattle.std.proofs.Common.{◌≡◌, ℕ, zero, suc, Bool, true, false, Option, None, Some, List, [], ◌∷◌, ◌++◌, refl, sym, ap, ◌∙◌, append_assoc}
+use Rattle.std.specs.Prelude.{if◌then◌else◌, map}
 use Rattle.std.proofs.lemmas.List.{append-nil, map-append}
 use Rattle.homa_plain.specs.declared.settings.Settings.{Settings}
 use Rattle.homa_plain.specs.declared.id.HostId.{HostId}
+use Rattle.homa_plain.specs.Calls.{is_host}
 use Rattle.homa_plain.specs.Entries.{PlainEntry, PlainRecv}
 use Rattle.homa_plain.specs.Host.{Host, packets_in}
 use Rattle.homa_plain.specs.Packets.{Packet, sender, receiver, datagram}
 use Rattle.homa_plain.specs.Steps.{arrival_step, turn_step}
 use Rattle.homa_plain.specs.World.{SentPacket, host_at, own_clock, next_answer, stamped, arrives_at, turns, outcome}
 use Rattle.homa_plain.specs.Wire.{packet_in}
-use Rattle.node_runs.specs.Course.{Report, Turning, Datagram, Arrival, Node, Course, GoesOn, Stops, ◌>>=◌, datagrams, follows, hears}
-use Rattle.node_runs.specs.Course.{has_turn, hosts_act, most_received, arrival_outcome, packet_from}
+use Rattle.node_runs.specs.Course.{Report, Turning, Datagram, Receive, Node, Course, GoesOn, Stops, ◌>>=◌, datagrams, follows, hears}
+use Rattle.node_runs.specs.Course.{Arrival, has_turn, hosts_act, most_received, arrival_outcome, packet_from}
 use Rattle.node_turns.specs.Acting.{node_of, Begins}
 
 module _ (s : Settings) where
@@ -51,15 +52,23 @@ module _ (s : Settings) where
       }
 
   -- what a host hears
-  pub hears_grows : (id : HostId) (n : ℕ) (left : List (Option Arrival)) (node : Node) → Begins s (hears s id n left node) node.reports (datagrams s node.world)
+  pub hears_grows : (id : HostId) (n : ℕ) (left : List Receive) (node : Node) → Begins s (hears s id n left node) node.reports (datagrams s node.world)
   hears_grows id zero left node = begins_self (hears s id zero left node)
   hears_grows id (suc n) [] node = begins_self (hears s id (suc n) [] node)
-  hears_grows id (suc n) (None ∷ left) node = begins_self (hears s id (suc n) (None ∷ left) node)
-  hears_grows id (suc n) (Some a ∷ left) node =
-      let m = follows [] (arrival_outcome s node.world id a) node in
-      grown_on node m (hears s id n left m)
-      (arrived id (PlainRecv id a.from a.bytes ∷ []) (packet_from a.from id (packet_in s.wire a.bytes)) node (host_at node.world id))
-      (hears_grows id n left m)
+  hears_grows id (suc n) (r ∷ left) node = by_host (is_host r.host id) r.got (λ m. hears_grows id n left m) where
+    by_host : (b : Bool) (o : Option Arrival) → ((m : Node) → Begins s (hears s id n left m) m.reports (datagrams s m.world))
+        → Begins s (if b then elim o [
+          | None ↦ GoesOn (record node { receives = left })
+          | Some a ↦ hears s id n left (follows [] (arrival_outcome s node.world id a) node)
+        ]
+        else Stops node None) node.reports (datagrams s node.world)
+    by_host false o next = begins_self (Stops node None)
+    by_host true None next = begins_self (GoesOn (record node { receives = left }))
+    by_host true (Some a) next =
+        let m = follows [] (arrival_outcome s node.world id a) node in
+        grown_on node m (hears s id n left m)
+        (arrived id (PlainRecv id a.from a.bytes ∷ []) (packet_from a.from id (packet_in s.wire a.bytes)) node (host_at node.world id))
+        (next m)
 
   turned : (id : HostId) (node : Node) (o : Option Host) → Grown node (follows (Turning id ∷ []) (turns s node.world id o) node)
   turned id node None = grown_none node

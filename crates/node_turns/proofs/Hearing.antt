@@ -1,5 +1,5 @@
 -- Datagrams that come, and hosts that act one after the other.
-use Rattle.std.proofs.Common.{◌≡◌, ◌≢◌, ◌<◌, ◌+◌, arith, length, drop, get_or, ℕ, zero, suc, Option, None, Some, List, [], ◌∷◌, ◌++◌, refl, sym, ap}
+use Rattle.std.proofs.Common.{◌≡◌, ◌≢◌, ◌<◌, ◌+◌, arith, length, drop, get_or, ℕ, zero, suc, Option, None, List, [], ◌∷◌, ◌++◌, refl, sym, ap}
 use Rattle.std.proofs.Common.{◌∙◌, subst, append_assoc}
 use Rattle.std.specs.Prelude.{map}
 use Rattle.homa_plain.specs.declared.settings.Settings.{Settings}
@@ -10,8 +10,8 @@ use Rattle.homa_plain.specs.World.{World}
 use Rattle.host_view.specs.declared.outbox.SentFrame.{SentFrame}
 use Rattle.node_io.specs.declared.net.Got.{Got}
 use Rattle.node_io.specs.declared.net.Got.TheVariants as got
-use Rattle.node_io.specs.Net.{arrival_of, added}
-use Rattle.node_runs.specs.Course.{Report, Tells, Datagram, Arrival, IsReceived, GoesOn, ◌>>=◌, datagrams, has_turn, hears, hosts_act, arrival_outcome}
+use Rattle.node_io.specs.Net.{receive_of, added}
+use Rattle.node_runs.specs.Course.{Report, Tells, Datagram, Receive, IsReceived, GoesOn, ◌>>=◌, datagrams, has_turn, hears, hosts_act, arrival_outcome}
 use Rattle.node_runs.specs.Texts.{entries}
 use Rattle.homa_plain.specs.Answers.{shown, answering}
 use Rattle.node_turns.specs.Told.{listed}
@@ -20,18 +20,19 @@ use Rattle.node_turns.proofs.Lists.{added_is, listed_more, received_more, number
 use Rattle.node_turns.proofs.Acted.{acted_heard, acted_nothing}
 
 -- what isn't a datagram is nothing
-pub nothing_of : (g : Got) (bytes : List ℕ) → ((from : HostId) → g ≢ got.Frame from) → arrival_of g bytes ≡ None
-nothing_of (got.Frame from) bytes never = absurd (never from refl)
-nothing_of got.Nothing bytes never = refl
+pub nothing_of : (id : HostId) (g : Got) (bytes : List ℕ) → ((from : HostId) → g ≢ got.Frame from)
+    → receive_of id g bytes ≡ record { host = id; got = None }
+nothing_of id (got.Frame from) bytes never = absurd (never from refl)
+nothing_of id got.Nothing bytes never = refl
 
 module _ (s : Settings) (id : HostId) where
   -- a datagram came, with what is known of it in other words
   pub heard_next : (k n : ℕ) → k ≡ suc n → (t : Settings) → t ≡ s → (from : HostId) (x y z : List ℕ) → x ≡ z → y ≡ z → (g : Got) → g ≡ got.Frame from
       → (w : World) (stands : World → Type 0) (told : List PlainEntry) (frames : List SentFrame) (b a : List PlainEntry → Type 0) (tell : List Report → Type 0)
-      (s0 s1 : Option (List Datagram)) (g0 g1 : Option (List (Option Arrival)))
+      (s0 s1 : Option (List Datagram)) (g0 g1 : Option (List Receive))
       → IsStep (λ v. arrival_outcome t v id (record { from = from; bytes = x })) (PlainRecv id from x ∷ []) t w stands told frames b a
       → tell (Tells (PlainRecv id from y) ∷ map Tells told)
-      → s1 ≡ listed s0 (map frame_datagram frames) → g1 ≡ added g0 (arrival_of g z) → IsReceived (record { from = from; bytes = z })
+      → s1 ≡ listed s0 (map frame_datagram frames) → g1 ≡ added g0 (receive_of id g z) → IsReceived (record { from = from; bytes = z })
       → HasActed (hears s id k) (hears s id n) s w stands b a tell s0 s1 g0 g1
   heard_next k n e t same from x y z ex ey g is w stands told frames b a tell s0 s1 g0 g1 step tells took given came =
       subst (λ m. HasActed (hears s id m) (hears s id n) s w stands b a tell s0 s1 g0 g1) (sym e)
@@ -39,21 +40,22 @@ module _ (s : Settings) (id : HostId) where
       (subst (λ q. IsStep (λ v. arrival_outcome s v id (record { from = from; bytes = q })) (PlainRecv id from q ∷ []) s w stands told frames b a) ex
       (subst (λ q. IsStep (λ v. arrival_outcome q v id (record { from = from; bytes = x })) (PlainRecv id from x ∷ []) q w stands told frames b a) same step))
       (subst (λ q. tell (Tells (PlainRecv id from q) ∷ map Tells told)) ey tells) took
-      (given ∙ ap (λ o. added g0 (arrival_of o z)) is ∙ added_is g0 (Some (record { from = from; bytes = z }))) came)
+      (given ∙ ap (λ o. added g0 (receive_of id o z)) is ∙ added_is g0 (receive_of id (got.Frame from) z)) came)
 
   -- nothing came
   pub heard_nothing : (k n : ℕ) → k ≡ suc n → (g : Got) (z : List ℕ) → ((from : HostId) → g ≢ got.Frame from)
       → (w : World) (stands : World → Type 0) (b : List PlainEntry → Type 0) (tell : List Report → Type 0)
-      (s0 s1 : Option (List Datagram)) (g0 g1 : Option (List (Option Arrival))) → stands w → tell [] → s1 ≡ s0 → g1 ≡ added g0 (arrival_of g z)
+      (s0 s1 : Option (List Datagram)) (g0 g1 : Option (List Receive)) → stands w → tell [] → s1 ≡ s0 → g1 ≡ added g0 (receive_of id g z)
       → HasActed (hears s id k) goes_on s w stands b b tell s0 s1 g0 g1
   heard_nothing k n e g z never w stands b tell s0 s1 g0 g1 stood none same given =
       subst (λ m. HasActed (hears s id m) goes_on s w stands b b tell s0 s1 g0 g1) (sym e)
       (subst (λ o. HasActed (hears s id (suc n)) goes_on s w stands b b tell s0 o g0 g1) (sym same)
-      (acted_nothing s id n w stands b tell s0 g0 g1 stood none (given ∙ ap (added g0) (nothing_of g z never) ∙ added_is g0 None)))
+      (acted_nothing s id n w stands b tell s0 g0 g1 stood none
+      (given ∙ ap (added g0) (nothing_of id g z never) ∙ added_is g0 (record { host = id; got = None }))))
 
   -- no more may come
   pub heard_all : (act : Part) (k : ℕ) → k ≡ zero → (w : World) (stands : World → Type 0) (b a : List PlainEntry → Type 0) (tell : List Report → Type 0)
-      (s0 s1 : Option (List Datagram)) (g0 g1 : Option (List (Option Arrival))) → HasActed act (hears s id k) s w stands b a tell s0 s1 g0 g1
+      (s0 s1 : Option (List Datagram)) (g0 g1 : Option (List Receive)) → HasActed act (hears s id k) s w stands b a tell s0 s1 g0 g1
       → HasActed act goes_on s w stands b a tell s0 s1 g0 g1
   heard_all act k e w stands b a tell s0 s1 g0 g1 h = ended (subst (λ m. HasActed act (hears s id m) s w stands b a tell s0 s1 g0 g1) e h) where
     ended : HasActed act (hears s id zero) s w stands b a tell s0 s1 g0 g1 → HasActed act goes_on s w stands b a tell s0 s1 g0 g1
@@ -75,7 +77,7 @@ module _ (s : Settings) (id : HostId) where
 
   -- a host receives, and has its turn
   pub acted_host : (ids : List HostId) (w : World) (st1 st2 : World → Type 0) (b m a : List PlainEntry → Type 0) (tell1 tell2 tell : List Report → Type 0)
-      (s0 s1 s2 : Option (List Datagram)) (g0 g1 g2 : Option (List (Option Arrival)))
+      (s0 s1 s2 : Option (List Datagram)) (g0 g1 g2 : Option (List Receive))
       → HasActed (hears s id 64) goes_on s w st1 b m tell1 s0 s1 g0 g1
       → ((v : World) → st1 v → HasActed (with_left (λ n. GoesOn (has_turn s id n))) goes_on s v st2 m a tell2 s1 s2 g1 g2)
       → ((x y : List Report) → tell1 x → tell2 y → tell (x ++ y))
@@ -115,7 +117,7 @@ module _ (s : Settings) (id : HostId) where
   -- the next of these hosts, with its settings in other words
   pub host_next : (locals : List HostId) (i : ℕ) → drop i locals ≡ id ∷ drop (i + 1) locals → (t u : Settings) → t ≡ s → u ≡ s
       → (w : World) (st1 st2 : World → Type 0) (b m a : List PlainEntry → Type 0) (tell1 tell2 tell : List Report → Type 0)
-      (s0 s1 s2 : Option (List Datagram)) (g0 g1 g2 : Option (List (Option Arrival)))
+      (s0 s1 s2 : Option (List Datagram)) (g0 g1 g2 : Option (List Receive))
       → HasActed (hears t id 64) goes_on t w st1 b m tell1 s0 s1 g0 g1
       → ((v : World) → st1 v → HasActed (with_left (λ n. GoesOn (has_turn u id n))) goes_on u v st2 m a tell2 s1 s2 g1 g2)
       → ((x y : List Report) → tell1 x → tell2 y → tell (x ++ y))

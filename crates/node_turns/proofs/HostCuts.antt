@@ -4,7 +4,7 @@ use Rattle.homa_plain.specs.declared.settings.Settings.{Settings}
 use Rattle.homa_plain.specs.declared.id.HostId.{HostId}
 use Rattle.homa_plain.specs.Entries.{PlainEntry}
 use Rattle.homa_plain.specs.World.{World}
-use Rattle.node_runs.specs.Course.{Report, Datagram, Arrival, Node, Course, GoesOn, ◌>>=◌, datagrams, has_turn, hears, hosts_act}
+use Rattle.node_runs.specs.Course.{Report, Datagram, Receive, Node, Course, GoesOn, ◌>>=◌, datagrams, has_turn, hears, hosts_act}
 use Rattle.node_runs.specs.Texts.{entries}
 use Rattle.homa_plain.specs.Answers.{shown, answering}
 use Rattle.node_turns.specs.Told.{Listed}
@@ -19,7 +19,7 @@ module _ (s : Settings) (id : HostId) (ids : List HostId) where
 
   -- it stopped while it received
   pub host_hears_cut : (w : World) (b : List PlainEntry → Type 0) (tell : List Report → Type 0) (take : List Datagram → Type 0)
-      (g0 g1 : Option (List (Option Arrival)))
+      (g0 g1 : Option (List Receive))
       → IsCut (hears s id 64) s w b tell take g0 g1 → IsCut (with_left (hosts_act s (id ∷ ids))) s w b tell take g0 g1
   host_hears_cut w b tell take g0 g1 k = record {
     reports = k.reports;
@@ -39,7 +39,7 @@ module _ (s : Settings) (id : HostId) (ids : List HostId) where
 
   -- it received
   host_heard : (w : World) (st : World → Type 0) (b m : List PlainEntry → Type 0) (tell : List Report → Type 0) (s0 s1 : Option (List Datagram))
-      (g0 g1 : Option (List (Option Arrival)))
+      (g0 g1 : Option (List Receive))
       → HasActed (hears s id 64) goes_on s w st b m tell s0 s1 g0 g1
       → HasActed (with_left (hosts_act s (id ∷ ids))) (with_left turns_on) s w st b m tell s0 s1 g0 g1
   host_heard w st b m tell s0 s1 g0 g1 h = record {
@@ -60,7 +60,7 @@ module _ (s : Settings) (id : HostId) (ids : List HostId) where
 
   -- it stopped in its turn
   turn_on_cut : (w : World) (b : List PlainEntry → Type 0) (tell : List Report → Type 0) (take : List Datagram → Type 0)
-      (g0 g1 : Option (List (Option Arrival)))
+      (g0 g1 : Option (List Receive))
       → IsCut (with_left (λ n. GoesOn (has_turn s id n))) s w b tell take g0 g1 → IsCut (with_left turns_on) s w b tell take g0 g1
   turn_on_cut w b tell take g0 g1 k = record {
     reports = k.reports;
@@ -79,7 +79,7 @@ module _ (s : Settings) (id : HostId) (ids : List HostId) where
   }
 
   pub host_turn_cut : (w : World) (st : World → Type 0) (b m : List PlainEntry → Type 0) (tell1 tell2 tell : List Report → Type 0)
-      (take2 take : List Datagram → Type 0) (s0 s1 : Option (List Datagram)) (g0 g1 g2 : Option (List (Option Arrival)))
+      (take2 take : List Datagram → Type 0) (s0 s1 : Option (List Datagram)) (g0 g1 g2 : Option (List Receive))
       → HasActed (hears s id 64) goes_on s w st b m tell1 s0 s1 g0 g1
       → ((v : World) → st v → IsCut (with_left (λ n. GoesOn (has_turn s id n))) s v m tell2 take2 g1 g2)
       → ((x y : List Report) → tell1 x → tell2 y → tell (x ++ y))
@@ -91,7 +91,7 @@ module _ (s : Settings) (id : HostId) (ids : List HostId) where
 module _ (s : Settings) (id : HostId) (locals : List HostId) (i : ℕ) (at : drop i locals ≡ id ∷ drop (i + 1) locals) where
   -- the same of the next of these hosts, with its settings in other words
   pub next_hears_cut : (t : Settings) → t ≡ s
-      → (w : World) (b : List PlainEntry → Type 0) (tell : List Report → Type 0) (take : List Datagram → Type 0) (g0 g1 : Option (List (Option Arrival)))
+      → (w : World) (b : List PlainEntry → Type 0) (tell : List Report → Type 0) (take : List Datagram → Type 0) (g0 g1 : Option (List Receive))
       → IsCut (hears t id 64) t w b tell take g0 g1 → IsCut (with_left (hosts_act s (drop i locals))) s w b tell take g0 g1
   next_hears_cut t e w b tell take g0 g1 k =
       subst (λ xs. IsCut (with_left (hosts_act s xs)) s w b tell take g0 g1) (sym at)
@@ -99,7 +99,7 @@ module _ (s : Settings) (id : HostId) (locals : List HostId) (i : ℕ) (at : dro
 
   pub next_turn_cut : (t u : Settings) → t ≡ s → u ≡ s
       → (w : World) (st : World → Type 0) (b m : List PlainEntry → Type 0) (tell1 tell2 tell : List Report → Type 0)
-      (take2 take : List Datagram → Type 0) (s0 s1 : Option (List Datagram)) (g0 g1 g2 : Option (List (Option Arrival)))
+      (take2 take : List Datagram → Type 0) (s0 s1 : Option (List Datagram)) (g0 g1 g2 : Option (List Receive))
       → HasActed (hears t id 64) goes_on t w st b m tell1 s0 s1 g0 g1
       → ((v : World) → st v → IsCut (with_left (λ n. GoesOn (has_turn u id n))) u v m tell2 take2 g1 g2)
       → ((x y : List Report) → tell1 x → tell2 y → tell (x ++ y))

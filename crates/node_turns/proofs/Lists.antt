@@ -7,7 +7,7 @@ use Rattle.homa_plain.specs.Answers.{shown}
 use Rattle.node_io.specs.Net.{added}
 use Rattle.homa_plain.specs.Bytes.{IsBytes}
 use Rattle.homa_plain.specs.declared.id.HostId.{HostId}
-use Rattle.node_runs.specs.Course.{Report, Tells, Turning, Datagram, Arrival, IsReceived, AreReceived}
+use Rattle.node_runs.specs.Course.{Report, Tells, Turning, Datagram, Receive, IsReceived, AreReceived}
 use Rattle.node_runs.specs.Texts.{entries, sent_number}
 use Rattle.node_turns.specs.Told.{listed, Listed, ListedFront, numbers_of}
 
@@ -93,9 +93,9 @@ pub whole_listed : {A : Type 0} (old new : Option (List A)) (xs : List A) → ne
 whole_listed old new xs e = record { front = xs; rest = []; split = append-nil xs; is = e }
 
 -- what was received, and then more
-pub received_more : (a b : List (Option Arrival)) → AreReceived a → AreReceived b → AreReceived (a ++ b)
+pub received_more : (a b : List Receive) → AreReceived a → AreReceived b → AreReceived (a ++ b)
 received_more [] b p q = q
-received_more (given ∷ a) b p q = (p.0, received_more a b p.1 q)
+received_more (r ∷ a) b p q = (p.0, received_more a b p.1 q)
 
 -- a datagram that came, with its bytes in other words
 pub received_one : (from : HostId) (y z : List ℕ) → y ≡ z → IsBytes y → length y ≤ 1500 → IsReceived (record { from = from; bytes = z })

@@ -4,7 +4,7 @@ use Rattle.std.proofs.lemmas.List.{append-nil}
 use Rattle.homa_io.specs.Outside.{appended, TookFront}
 use Rattle.homa_io.specs.Growing.{appended-nil}
 use Rattle.homa_io.proofs.Fronts.{two_put}
-use Rattle.std.specs.Prelude.{Result, Ok, Err}
+use Rattle.std.specs.Prelude.{Err}
 use Rattle.node_io.specs.declared.observer.SeenFault.{SeenFault}
 use Rattle.node_io.specs.declared.observer.SeenFault.TheVariants.{Write, Stranger, NoMemory}
 use Rattle.node_io.specs.Observer.{IsComing, OnStranger}

@@ -10,7 +10,7 @@ use Rattle.homa_plain.specs.Answers.{shown, answering}
 use Rattle.host_view.specs.declared.outbox.SentFrame.{SentFrame}
 use Rattle.node_io.specs.declared.observer.SeenFault.TheVariants.{Stranger}
 use Rattle.node_runs.specs.Script.{Calls}
-use Rattle.node_runs.specs.Course.{Report, Tells, Datagram, Arrival, AreReceived, Node, Course, GoesOn, Stops, ◌>>=◌, datagrams}
+use Rattle.node_runs.specs.Course.{Report, Tells, Datagram, Receive, AreReceived, Node, Course, GoesOn, Stops, ◌>>=◌, datagrams}
 use Rattle.node_runs.specs.Texts.{entries}
 use Rattle.node_turns.specs.declared.stop.NodeStop.{NodeStop}
 use Rattle.node_turns.specs.declared.stop.NodeStop.TheVariants.{Net, Seen, NoMemory}
@@ -21,7 +21,7 @@ abbrev pub frame_datagram : SentFrame → Datagram
 frame_datagram f = record { from = f.from; to = f.to; bytes = f.frame }
 
 -- a node in this world
-abbrev pub node_at : World → List Report → Calls → List (Option Arrival) → Node
+abbrev pub node_at : World → List Report → Calls → List Receive → Node
 node_at w reports calls receives = record { world = w; reports = reports; calls = calls; receives = receives }
 
 -- the node of a course
@@ -55,18 +55,18 @@ pub record IsBegun (act : World → Outcome) (first : List PlainEntry) (s : Sett
 
 -- A part of a course: what is still to be received, and the node, whose own field for that is out of date.
 abbrev pub Part : Type 0
-Part = List (Option Arrival) → Node → Course
+Part = List Receive → Node → Course
 
 -- The hosts came from `act` to `rest` of a course: `reports` were told, `sent` was sent, and `gave` was received, whatever was told
 -- before and whatever is answered, received and called later.
 pub record HasActed (act rest : Part) (s : Settings) (w : World) (stands : World → Type 0) (before after : List PlainEntry → Type 0)
     (tell : List Report → Type 0)
-    (sent0 sent1 : Option (List Datagram)) (gave0 gave1 : Option (List (Option Arrival))) : Type 0 where
+    (sent0 sent1 : Option (List Datagram)) (gave0 gave1 : Option (List Receive)) : Type 0 where
   pub next : World
   pub stood : stands next
   pub reports : List Report
   pub sent : List Datagram
-  pub gave : List (Option Arrival)
+  pub gave : List Receive
   pub told : tell reports
   pub took : sent1 ≡ listed sent0 sent
   pub given : gave1 ≡ listed gave0 gave
@@ -74,7 +74,7 @@ pub record HasActed (act rest : Part) (s : Settings) (w : World) (stands : World
   pub grown : datagrams s next ≡ datagrams s w ++ sent
   pub numbers : length sent ≡ length (numbers_of reports)
   pub allowed : (more : List PlainEntry) → after more → before (entries reports ++ more)
-  pub same : (first : List Report) (later : List Answer) (calls : Calls) (left held : List (Option Arrival))
+  pub same : (first : List Report) (later : List Answer) (calls : Calls) (left held : List Receive)
       → act (gave ++ left) (node_at (answering (shown (entries reports) ++ later) w) first calls held)
       ≡ rest left (node_at (answering later next) (first ++ reports) calls held)
 
@@ -88,17 +88,17 @@ pub record Begins (s : Settings) (c : Course) (reports : List Report) (sent : Li
 -- The hosts stopped in this part of a course. What it tells first is `reports`, and what it sends first is `sent`, one datagram for each
 -- packet that is told, whatever is answered, received and called later. `tell` says how much of the reports was told, and `take` how much was sent.
 pub record IsCut (act : Part) (s : Settings) (w : World) (before : List PlainEntry → Type 0) (tell : List Report → Type 0)
-    (take : List Datagram → Type 0) (gave0 gave1 : Option (List (Option Arrival))) : Type 0 where
+    (take : List Datagram → Type 0) (gave0 gave1 : Option (List Receive)) : Type 0 where
   pub reports : List Report
   pub sent : List Datagram
-  pub gave : List (Option Arrival)
+  pub gave : List Receive
   pub told : tell reports
   pub took : take sent
   pub numbers : length sent ≡ length (numbers_of reports)
   pub given : gave1 ≡ listed gave0 gave
   pub received : AreReceived gave
   pub allowed : before (entries reports)
-  pub same : (first : List Report) (later : List Answer) (calls : Calls) (left held : List (Option Arrival))
+  pub same : (first : List Report) (later : List Answer) (calls : Calls) (left held : List Receive)
       → Begins s (act (gave ++ left) (node_at (answering (shown (entries reports) ++ later) w) first calls held)) (first ++ reports) (datagrams s w ++ sent)
 
 -- a fact where a report was strange

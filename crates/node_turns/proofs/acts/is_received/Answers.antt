@@ -1,4 +1,4 @@
-use Rattle.std.proofs.Common.{◌<◌, arith}
+use Rattle.std.proofs.Common.{arith}
 use Rattle.node_turns.proofs.acts.is_received.Goals as goal
 
 pub returns : goal.returns
