@@ -124,7 +124,8 @@ static void read_wrongly(homa_host *client, homa_host *server) {
     size_t len;
     fill(&entry, sizeof entry), fill(&len, sizeof len), fill(room, 1500);
     check(homa_frames(client) == 1 && homa_frame(client, 0, frame, sizeof frame, &info) == HOMA_OK && info.to == 1, "a frame");
-    size_t had = info.len;
+    size_t had = info.len, told = homa_entries(client);
+    check(homa_turn(client, 9) == HOMA_REFUSED && homa_frames(client) == 1 && homa_entries(client) == told, "a refused turn shows the last step on");
     fill(&info, sizeof info);
     check(homa_frame(client, 1, room, 1500, &info) == HOMA_REFUSED, "a frame that isn't there");
     check(homa_frame(client, (size_t)-1, room, 1500, &info) == HOMA_REFUSED, "the last number of a frame");
@@ -137,6 +138,7 @@ static void read_wrongly(homa_host *client, homa_host *server) {
     check(homa_whole(server, room, 4, &len) == HOMA_REFUSED && is_filled(&len, sizeof len) && is_filled(room, 1500), "a room that is too small");
     check(homa_whole(server, room, 5, &len) == HOMA_OK && len == 5 && memcmp(room, bytes, 5) == 0 && is_filled(room + 5, 1495), "a room that is right");
     check(homa_deliver(server, 0, frame, had, 10, bytes, LONG, &asked) == HOMA_REFUSED, "an answer that is too long, where one is wanted");
+    check(homa_frames(server) == 0 && homa_entries(server) == 0 && homa_whole_len(server) == 5, "it still shows who asked");
     check(homa_deliver(server, 0, frame, had, 10, bytes, 0, &asked) == HOMA_ASKS, "it asks again");
     check(homa_deliver(server, 0, frame, had, 10, bytes, LONG - 1, &asked) == HOMA_OK && homa_whole_len(server) == 5, "the longest answer");
     check(homa_deliver(server, 0, frame, had, 10, bytes, 5, &asked) == HOMA_OK, "the same datagram once more");
@@ -147,6 +149,38 @@ static void read_wrongly(homa_host *client, homa_host *server) {
     check(homa_whole_len(server) == 0, "no message becomes whole in a turn");
 }
 
+/* The first frame of a call with a request of so many bytes comes to host 1, with an answer of so many. Whether the answer was taken. */
+static bool is_taken(homa_host *hosts, uint16_t client, size_t request, size_t answer) {
+    uint8_t frame[1500];
+    homa_call_id id;
+    homa_frame_info info;
+    homa_asked asked;
+    homa_entry_info entry;
+    bool is_ran = false;
+    check(homa_call(&hosts[client], 1, 0, bytes, request, 0, &id) == HOMA_OK, "a call");
+    check(homa_frame(&hosts[client], 0, frame, sizeof frame, &info) == HOMA_OK, "its first frame");
+    check(homa_deliver(&hosts[1], client, frame, info.len, 0, bytes, answer, &asked) == HOMA_OK, "it comes");
+    for (size_t i = 0; i < homa_entries(&hosts[1]); i++)
+        is_ran |= homa_entry(&hosts[1], i, &entry) == HOMA_OK && entry.kind == HOMA_RAN;
+    return is_ran;
+}
+
+/* OK doesn't say that an answer was taken: with room for one request, of which a piece is missing, there is none for another. */
+static void answer_without_room(void) {
+    homa_host hosts[3] = { HOMA_CLOSED, HOMA_CLOSED, HOMA_CLOSED };
+    homa_settings settings;
+    homa_usual(&settings);
+    settings.hosts = 3;
+    settings.served = 1;
+    for (uint16_t i = 0; i < 3; i++) check(homa_open(&settings, i, 1, 0, &hosts[i]) == HOMA_OK, "open");
+    check(!is_taken(hosts, 0, 3000, 0), "a request of which a piece is missing");
+    check(!is_taken(hosts, 2, 5, 5), "an answer for which the server has no room");
+    for (int i = 0; i < 3; i++) check(homa_close(&hosts[i]) == HOMA_OK, "close");
+    for (uint16_t i = 0; i < 3; i++) check(homa_open(&settings, i, 2, 0, &hosts[i]) == HOMA_OK, "open");
+    check(is_taken(hosts, 2, 5, 5), "and where it has room");
+    for (int i = 0; i < 3; i++) check(homa_close(&hosts[i]) == HOMA_OK, "close");
+}
+
 int main(void) {
     homa_host none = HOMA_CLOSED, hosts[2] = { HOMA_CLOSED, HOMA_CLOSED };
     homa_settings settings;
@@ -155,6 +189,7 @@ int main(void) {
     closed(&none, "a handle that was never open");
     open_with_settings();
     open_wrongly();
+    answer_without_room();
     homa_usual(&settings);
     for (uint16_t i = 0; i < 2; i++) check(homa_open(&settings, i, 7, 10, &hosts[i]) == HOMA_OK, "open");
     check(homa_call(&hosts[0], 1, 0, bytes, 5, 10, &id) == HOMA_OK && id.number == 0, "a call");
