@@ -60,7 +60,7 @@ impl Resends {
         }
     }
 
-    /// There were `tries`, and no answer to any for `gap` ticks.
+    /// There were `tries`, each `gap` ticks behind the one before, and now it is as long again.
     pub fn are_unanswered(self, tick: OwnTick, tries: u32, gap: u32) -> bool
         ensures { (ticks : List ℕ) → AreResends gap self ticks → result ≡ (length ticks == tries && are_spaced gap (own_value tick ∷ ticks)) }
     {

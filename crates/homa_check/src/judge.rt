@@ -230,7 +230,7 @@ fn resends(trace: &Trace, id: CallId) -> Resends
     }
 }
 
-// Since a call's last renewal there were `tries` RESENDs, and no answer to any for `resend` ticks.
+// Since a call's last renewal there were `tries` RESENDs, each `resend` ticks behind the one before, and now it is as long again.
 fn is_unanswered(trace: &Trace, id: CallId) -> bool
     ensures { (v : View) → Follows v trace.now → result ≡ tests.is_unanswered v id }
 {

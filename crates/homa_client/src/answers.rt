@@ -66,6 +66,6 @@ pub enum ClientDid {
 pub enum ClientAct {
     /// The bytes of the response from the first number up to the second, not with it, are asked for.
     Resend(u32, u32),
-    /// The server has been silent for too long. The row is gone.
+    /// For too long nothing came that renews the call. The row is gone.
     Timeout(CallId),
 }

@@ -127,7 +127,8 @@ impl Row {
         }
     }
 
-    // Whether the timer rests: new bytes of the request wait, or of the response all has come that may come so far.
+    // Whether the timer rests: the request's last byte was never sent and bytes of it wait, or of the response all has come that
+    // may come so far.
     fn is_at_rest(&self) -> bool
         ensures { (pool : Pool) → IsInPool pool self.now.part → result ≡ is_client_at_rest (seen_row pool self.now) }
     {

@@ -315,7 +315,7 @@ impl Host {
         self.parts.control.incarnation()
     }
 
-    /// The host's own clock at its last step, 0 before the first.
+    /// The host's own clock at its last step; before the first, what it was opened with, 0 by `open`.
     pub fn last(&self) -> u64
         ensures { result ≡ self.now.host.last }
     {

@@ -18,7 +18,7 @@ ready_key r = (r.left, r.order)
 -- a pacer
 pub record Pace : Type 0 where
   pub slots : ℕ  -- how many slots there are
-  pub rate : ℕ  -- how many bytes may be sent in a tick
+  pub rate : ℕ  -- to how many bytes the credit is filled up
   pub credit : ℕ  -- how many of them may still be sent
   pub refilled : ℕ  -- the tick in which the credit was refilled last
   pub ready : List Ready  -- the messages that may be sent, in order

@@ -1,7 +1,7 @@
-//! The messages of a host that may be sent: which goes first, and how many bytes may still go out in this tick.
+//! The messages of a host that may be sent: which goes first, and how many bytes may still go out.
 //!
 //! The model: a [`Pacer`] is the list of the messages that may be sent, in the order of the bytes that are left of
-//! them, ties by an order number, beside the bytes a tick and how many of them are left. A message is named by its
+//! them, ties by an order number, beside the credit and the rate to which it is filled up. A message is named by its
 //! slot, the place of its row. The promise: a call changes the entry of its own slot or the credit and nothing else,
 //! and `pick` answers the message with the fewest bytes left. Only `open` takes memory.
 #![tactic(auto)]
@@ -27,7 +27,7 @@ use std::marker::Model;
 #[derive(Drop)]
 pub struct Pacer {
     heap: PlaceHeap,
-    // How many bytes may be sent in a tick.
+    // To how many bytes the credit is filled up.
     rate: u32,
     // How many of them may still be sent.
     credit: u32,
@@ -116,7 +116,7 @@ impl Pacer {
         }
     }
 
-    /// How many bytes may still be sent in this tick.
+    /// How many bytes may still be sent until the credit is filled up.
     pub fn credit(&self) -> u32
         ensures { result ≡ self.now.credit }
     {

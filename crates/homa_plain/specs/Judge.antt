@@ -97,7 +97,7 @@ are_spaced gap [] = true
 are_spaced gap (t ∷ []) = true
 are_spaced gap (t ∷ u ∷ ticks) = nat_le (u + gap) t && are_spaced gap (u ∷ ticks)
 
--- since a call's last renewal there were `tries` RESENDs, and no answer to any for `resend` ticks of the client's clock
+-- since a call's last renewal there were `tries` RESENDs, each `resend` ticks of the client's clock behind the one before, and now it is as long again
 abbrev pub is_unanswered : View → CallId → Bool
 is_unanswered v id = let ticks = resends_of v.now id in length ticks == v.settings.tries && are_spaced v.settings.resend (own_tick v id.client ∷ ticks)
 

@@ -69,7 +69,7 @@ AreSpaced gap [] = Unit {0}
 AreSpaced gap (t ∷ []) = Unit {0}
 AreSpaced gap (t ∷ u ∷ ticks) = (u + gap ≤ t) × AreSpaced gap (u ∷ ticks)
 
--- since a call's last renewal there were `tries` RESENDs, and no answer to any for `resend` ticks of the client's clock
+-- since a call's last renewal there were `tries` RESENDs, each `resend` ticks of the client's clock behind the one before, and now it is as long again
 abbrev pub IsUnanswered : View → CallId → Type 0
 IsUnanswered v id = let ticks = resends_of v.now id in (length ticks ≡ v.settings.tries) × AreSpaced v.settings.resend (own_tick v id.client ∷ ticks)
 

@@ -16,7 +16,7 @@ pub record ClientRow : Type 0 where
   pub out : Outgoing  -- the request, as far as it was sent
   pub heard : ℕ  -- when the server was last heard of, or a new piece of the request was sent
   pub base : ℕ  -- from when on the timer counts
-  pub count : ℕ  -- how many RESENDs have had no answer
+  pub count : ℕ  -- how many RESENDs there were since something came that renews the call
   pub seen : ℕ  -- the greatest incarnation of the server that was seen, 0 before the first
   pub part : Option Incoming  -- the response, as far as it arrived
 

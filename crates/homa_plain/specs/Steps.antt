@@ -156,7 +156,7 @@ takes s p answer w = acked s (acks p) (comes_to_row s p answer p.role (hears_cut
 abbrev pub is_stale : Settings → ℕ → Packet → Bool
 is_stale s now p = s.wire == 2 && nat_lt (p.at + s.life + 2 * s.skew) now
 
--- a datagram comes: bytes that are no packet, and packets that are too old, do nothing
+-- a datagram comes: of bytes that are no packet, and of packets that are too old, a line tells, and no more
 abbrev pub comes : Settings → Option Packet → Answer → Work → Work
 comes s None answer w = tells (Says (PlainJunk w.host.id) ∷ []) w
 comes s (Some p) answer w =
@@ -164,7 +164,7 @@ comes s (Some p) answer w =
 
 -- ---- timers
 
--- once in each tick that a turn sees, the credit is filled up
+-- once in each tick but 0 that a turn sees, the credit is filled up
 abbrev pub refilled : Settings → Host → Host
 refilled s h = if nat_lt h.refilled h.last then record h { credit = s.rate; refilled = h.last } else h
 

@@ -27,7 +27,7 @@ abbrev pub is_response_at_rest : Option Incoming → Bool
 is_response_at_rest None = false
 is_response_at_rest (Some part) = has_no_gap part
 
--- new bytes of the request still wait to be sent, or all of the response has come that may come so far
+-- the request's last byte was never sent and bytes of it wait, or all of the response has come that may come so far
 abbrev pub is_client_at_rest : ClientRow → Bool
 is_client_at_rest r = nat_lt r.out.top r.out.length && has_waiting r.out || is_response_at_rest r.part
 
@@ -62,7 +62,7 @@ abbrev pub wanted : Settings → Option Incoming → Option Range
 wanted s None = Some (range 0 s.unsched)
 wanted s (Some part) = first_gap part
 
--- the client asks again, and after `tries` times without an answer the call fails
+-- the client asks again, and after `tries` times behind which nothing came that renews the call it fails
 abbrev pub client_acts : Settings → Moment → CallId → ClientRow → Did ClientRow
 client_acts s m id r =
     if nat_lt r.count s.tries
@@ -76,8 +76,8 @@ receiving_acts s m id row service part count =
     then says m (Some (with_state row (Receiving service part m.now (count + 1)))) (resend_of s (first_gap part))
     else says m None (Tells (PlainDrop m.host id) ∷ [])
 
--- The server asks whether the response has come, and buries the call after `tries` times without an answer. The client may
--- still be patient, and its request may be under way for a span after that; so the tombstone stays for both.
+-- The server asks whether the response has come, and buries the call after `tries` times without an answer. Its last packet may be under way for a
+-- span, the client may be patient after that, and then its request may be under way for a span; so the tombstone stays for all three.
 abbrev pub replying_acts : Settings → Moment → CallId → ServerRow → List ℕ → Outgoing → ℕ → ℕ → Did ServerRow
 replying_acts s m id row response out order count =
     if nat_lt count s.tries

@@ -4,7 +4,7 @@ use crate::{Body, CallId, Cutoffs, HostId, LineFault, Role, Settings};
 /// Why a call failed at its client.
 #[derive(Clone, Copy, Debug, PartialEq, Eq)]
 pub enum Why {
-    /// Its RESENDs stayed without an answer.
+    /// Behind its RESENDs nothing came that renews it.
     Timeout,
     /// Its server ran it and forgot it.
     Forgotten,

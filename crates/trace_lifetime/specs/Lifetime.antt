@@ -100,7 +100,7 @@ abbrev pub RequestFits : Times → HostId → Stand → ℕ → Body → List �
 RequestFits s h v t (body.Data size offset version service ack) payload = IsRequestPiece s h v t size offset service payload
 RequestFits s h v t other payload = Unit {0}
 
--- UNKNOWN has no effect that lasts; its reason says that the call never ran, or that it did. A server acknowledges nothing.
+-- The reason of an UNKNOWN is 0, there is no record of the call, or 1, it ran and its response is gone. A server acknowledges nothing.
 abbrev pub ReplyFits : Times → Stand → ℕ → Body → Type 0
 ReplyFits s v t (body.Unknown reason) = reason ≤ 1
 ReplyFits s v t (body.Ack more) = ⊥
