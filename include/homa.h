@@ -29,7 +29,7 @@
 
 /* What a call answers. Unless it is HOMA_OK, nothing happened to the host, and nothing was written but what the call says. What is shown
  * of the last step stays where a datagram or a turn is REFUSED; with ASKS or NO_MEMORY of homa_deliver no frame and no entry is shown;
- * and where homa_call isn't OK, it stays, or nothing is shown. */
+ * with NO_MEMORY of homa_call it stays, and where that is REFUSED, it stays, or nothing is shown. */
 enum {
     HOMA_OK = 0,
     HOMA_ASKS = 1,     /* only of homa_deliver: an answer is wanted */

@@ -125,6 +125,7 @@ pub extern "C" fn homa_call(
     ensures step { result ≡ 0 → IsStep (calling host.old.slot.held now server number request.now) host.old.slot.held host.new.slot.held }
     ensures whole { result ≡ 0 → host.new.slot.held.whole ≡ [] }
     ensures same { result ≢ 0 → IsStill host.old.slot.held host.new.slot.held }
+    ensures unbegun { result ≡ 3 → host.new.slot.held ≡ host.old.slot.held }
     ensures shows { result ≢ 0 → (host.new.slot.held ≡ host.old.slot.held) ⊎ ShowsNothing host.new.slot.held }
     ensures unwritten { result ≢ 0 → id.new ≡ id.old }
     ensures open { host.new.is_open ≡ host.old.is_open }

@@ -49,7 +49,7 @@ pub record IsFrontOf (text_of : Run → List ℕ) (run : Run) (reports : List Re
 
 -- what is printed of a run, by `text_of`: the trace of a node, or its recording
 module _ (may_tell : List PlainEntry → Type 0) (text_of : Run → List ℕ) where
-  -- the run of these bytes came to this end with the last receive, and its datagrams were taken; the sink took a front of the text
+  -- the run of these bytes came to this end and left no receive, and its datagrams were taken; the sink took a front of the text
   pub record IsEndCut (bytes : List ℕ) (old new : Around) : Type 0 where
     pub answers : List Answer
     pub ticks : List ℕ
@@ -79,7 +79,7 @@ module _ (may_tell : List PlainEntry → Type 0) (text_of : Run → List ℕ) wh
         → IsFrontOf text_of (node_run came (answers ++ later) (ticks ++ on) (gave ++ next)) reports old new))
 
 module _ (may_tell : List PlainEntry → Type 0) where
-  -- the run of these bytes came to this end with the last receive; its whole text was printed, and the net took its datagrams
+  -- the run of these bytes came to this end and left no receive; its whole text was printed, and the net took its datagrams
   pub record IsWhole (bytes : List ℕ) (old new : Around) (end : End) : Type 0 where
     pub answers : List Answer
     pub ticks : List ℕ
