@@ -3,7 +3,7 @@
  * A host calls services of other hosts and serves their calls. The program feeds it with datagrams, turns and calls; each is one
  * step of the host. After a step it sends the frames of that step (homa_frames, homa_frame) and reads its entries (homa_entries,
  * homa_entry, homa_whole), before it does anything else: the next homa_call, homa_deliver or homa_turn, also one that isn't done,
- * may end what is shown of the last step. docs/library.md shows the loops of a client and of a server.
+ * may end what is shown of the last step. docs/use/library.md shows the loops of a client and of a server.
  *
  * Ticks: `now` counts ticks of the host's own clock, 0 to 1,000,000,002,000. The program says how long a tick is. A host's clock
  * never falls; two steps may have one tick. No step may begin, and homa_call, homa_deliver and homa_turn are REFUSED, where `now` is
@@ -17,11 +17,14 @@
  * - a handle is HOMA_CLOSED at first, is written by these calls alone, and isn't copied. It may be moved (memcpy, realloc) where the old
  *   place isn't used any more. After a fork() only one of the processes may go on with it: two would be one host in one incarnation,
  *   and give two calls one id;
- * - one call at a time on a handle, always from one thread, and none from a signal handler;
+ * - one call at a time on a handle, and none from a signal handler. A handle may go from one thread to another where one has ended its
+ *   call before the other begins, as with a mutex; different handles know nothing of each other;
  * - `from` is the host that sent the datagram, or no host at all did; and a datagram isn't delivered to another host.
  */
 #ifndef HOMA_H
 #define HOMA_H
+
+#define HOMA_VERSION "0.1.0" /* of the project: the file VERSION */
 
 #include <stdbool.h>
 #include <stddef.h>
@@ -42,7 +45,8 @@ enum {
     HOMA_OTHER = 0,    /* something that a program needn't know: a packet, a timer, a row */
     HOMA_RAN = 1,      /* a request was answered: the answer that was given is its response */
     HOMA_DONE = 2,     /* a call is done: its response is whole */
-    HOMA_TIMEOUT = 3,  /* a call failed: its server was silent, or knew nothing of it. It was served at most once in each life of the server */
+    HOMA_TIMEOUT = 3,  /* a call failed: `tries` RESENDs in a row had no answer but UNKNOWN. It was served at most once in each life of the
+                        * server, and may still be served after this entry (docs/use/library.md, 'After a timeout') */
     HOMA_FORGOTTEN = 4 /* a call failed: by its server's word it was served, and the response is gone */
 };
 
@@ -53,7 +57,10 @@ typedef struct {
 } homa_host;
 #define HOMA_CLOSED { NULL, false }
 
-/* Settings. All hosts of a net have the same: what is proved of many hosts is proved of such a net. */
+/* For each pointer to 0 bytes, since none may be NULL: `homa_deliver(&host, from, frame, len, now, HOMA_NONE, 0, &asked)`. */
+#define HOMA_NONE ((const uint8_t *)"")
+
+/* Settings. All hosts of a net have the same: what is proved of many hosts speaks of such a net alone. */
 typedef struct {
     uint32_t hosts;      /* how many hosts there are: 2 to 32 */
     uint32_t seg;        /* most payload bytes of a packet: 1 to 1400. A frame has its header beside them: 1500 bytes at most */
@@ -64,7 +71,8 @@ typedef struct {
     uint32_t resend;     /* after how many ticks of silence a timer acts: 1 to 1000 */
     uint32_t tries;      /* how many questions in a row may stay without an answer: 1 to 100 */
     uint32_t life;       /* for how many ticks a datagram may be delivered: 1 to 100,000. With wire 1 the program sees to it */
-    uint32_t pages;      /* pages of 4096 bytes for messages that arrive: 1 to 4096 */
+    uint32_t pages;      /* pages of 4096 bytes for messages that arrive: 1 to 4096. A message takes one for each 4096 bytes until it is
+                          * whole; below 245 the longest can't arrive */
     uint32_t calls;      /* most live calls as a client: 1 to 1024 */
     uint32_t served;     /* most rows as a server: 1 to 4096 */
     uint32_t rebalance;  /* after how many messages levels are computed anew: 0 (never) to 1024 */
@@ -112,23 +120,26 @@ extern "C" {
 HOMA_POINTERS void homa_usual(homa_settings *settings);
 
 /* Opens a host without calls in a closed handle. `id` is its number, 0 to hosts - 1; `incarnation`, at least 1, is larger than in
- * each earlier life of this host; `last` is the tick of its last step then, 0 before the first. Memory: see docs/library.md.
+ * each earlier life of this host: in one that was used, a new call gets an old call's response as its own, and is DONE. `last` is the tick
+ * of its last step then, 0 before the first. Memory: see docs/use/library.md.
  * REFUSED: the handle is open, a setting isn't valid, `id` isn't below hosts, `incarnation` is 0, `last` is over the last tick. */
 HOMA_POINTERS uint32_t homa_open(const homa_settings *settings, uint16_t id, uint32_t incarnation, uint64_t last, homa_host *host);
 
 /* Closes a host and gives its memory back. REFUSED: it isn't open. */
 HOMA_POINTERS uint32_t homa_close(homa_host *host);
 
-/* Calls service 0 to 255 of another host with a request of 1 to 1,000,000 bytes, which are copied. OK: `id` names the call; it ends
- * by an entry DONE, TIMEOUT or FORGOTTEN. REFUSED: no step may begin (see 'Ticks'), there is no other host of that number, the request
+/* Calls service 0 to 255 of another host with a request of 1 to 1,000,000 bytes, which are copied. OK: `id` names the call. It
+ * ends by one entry DONE, TIMEOUT or FORGOTTEN, or has no end: docs/use/library.md, 'How a call ends', says when. It has no deadline and
+ * can't be taken back; until it ends it is one of `calls`. REFUSED: no step may begin (see 'Ticks'), there is no other host of that number, the request
  * is empty or too long, as many calls are live as `calls` says, or the numbers of this incarnation are used up. */
 HOMA_POINTERS uint32_t homa_call(homa_host *host, uint16_t server, uint8_t service, const uint8_t *request, size_t len, uint64_t now,
                                  homa_call_id *id);
 
 /* A datagram came from the host `from`, with an answer in hand for the request that it may make whole, of 1 to 1,000,000 bytes, or
- * with none, of 0 bytes. Bytes that are no packet change no call, but are a step all the same, which may send what waits.
+ * with none, of 0 bytes (an answer has at least one: a service whose answers may be empty puts a byte of its own in front). Bytes that are
+ * no packet change no call, but are a step all the same, which may send what waits.
  * OK: the step is done. That the answer was taken says an entry HOMA_RAN alone: it names the call, and exactly these bytes are its
- *   response. Without one it wasn't taken (docs/library.md, 'An answer that isn't taken').
+ *   response. Without one it wasn't taken (docs/use/library.md, 'An answer that isn't taken').
  * ASKS, only with no answer: it makes the request of the call `asked` whole, which homa_whole gives. Nothing happened: deliver the
  *   same datagram again with the answer, at once and at the same tick, or later ('An answer that isn't ready').
  * NO_MEMORY, only with an answer: the same, and there is no memory for the answer. Keep it by the call's id, and deliver it with the

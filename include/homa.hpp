@@ -1,20 +1,51 @@
-// A host as an object of C++17: open from its constructor to its destructor. homa.h says what each call does, and what a program owes.
+// A host as an object of C++17: open from its constructor to its destructor, moved but not copied, with no block of the heap for a frame.
+// homa.h says what each call does, and what a program owes.
 #ifndef HOMA_HPP
 #define HOMA_HPP
 
 #include "homa.h"
+#include <array>
+#include <map>
 #include <new>
 #include <optional>
 #include <stdexcept>
+#include <tuple>
+#include <utility>
 #include <vector>
 
 namespace homa {
 
 using bytes = std::vector<std::uint8_t>;
 
-// What a call that can't be done throws; want of memory is std::bad_alloc. Nothing happened to the host then.
-struct refused : std::runtime_error {
-    using std::runtime_error::runtime_error;
+// Bytes that are lent: of a vector, an array, a string.
+class view {
+    const std::uint8_t *at = HOMA_NONE;
+    std::size_t len = 0;
+
+public:
+    view() = default;
+    view(const void *it, std::size_t size) : at(it ? static_cast<const std::uint8_t *>(it) : HOMA_NONE), len(size) {}
+    template <class Of, class = decltype(std::declval<const Of &>().data())>
+    view(const Of &of) : view(of.data(), of.size() * sizeof *of.data()) {}
+    const std::uint8_t *data() const { return at; }
+    std::size_t size() const { return len; }
+    bool empty() const { return len == 0; }
+    bytes copied() const { return bytes(at, at + len); }
+};
+
+struct call_less {
+    bool operator()(const homa_call_id &a, const homa_call_id &b) const {
+        return std::tie(a.client, a.incarnation, a.number) < std::tie(b.client, b.incarnation, b.number);
+    }
+};
+
+// What a call throws that isn't done; want of memory is std::bad_alloc. Nothing happened to the host then.
+class refused : public std::runtime_error {
+    std::uint32_t result;
+
+public:
+    refused(const char *call, std::uint32_t code) : std::runtime_error(call), result(code) {}
+    std::uint32_t code() const { return result; }
 };
 
 class host {
@@ -22,13 +53,7 @@ class host {
 
     static void need(std::uint32_t result, const char *call) {
         if (result == HOMA_NO_MEMORY) throw std::bad_alloc();
-        if (result != HOMA_OK) throw refused(call);
-    }
-
-    // No pointer may be NULL, also not that of no bytes.
-    static const std::uint8_t *start_of(const bytes &it) {
-        static const std::uint8_t none = 0;
-        return it.empty() ? &none : it.data();
+        if (result != HOMA_OK) throw refused(call, result);
     }
 
 public:
@@ -36,63 +61,164 @@ public:
         need(homa_open(&settings, id, incarnation, last, &handle), "homa_open");
     }
     ~host() { homa_close(&handle); }
-    host(const host &) = delete;
-    host &operator=(const host &) = delete;
+    host(host &&other) noexcept : handle(std::exchange(other.handle, homa_host HOMA_CLOSED)) {}
+    host &operator=(host &&other) noexcept {
+        std::swap(handle, other.handle);
+        return *this;
+    }
 
-    homa_call_id call(std::uint16_t server, std::uint8_t service, const bytes &request, std::uint64_t now) {
+    [[nodiscard]] homa_call_id call(std::uint16_t server, std::uint8_t service, view request, std::uint64_t now) {
         homa_call_id id;
-        need(homa_call(&handle, server, service, start_of(request), request.size(), now, &id), "homa_call");
+        need(homa_call(&handle, server, service, request.data(), request.size(), now, &id), "homa_call");
         return id;
     }
 
-    // A datagram comes. Where it makes a request whole, `serve` takes a homa_asked and the request, and gives 1 to 1,000,000 bytes; it makes
-    // no step of this host. Where there is no memory for these bytes, std::bad_alloc is thrown, they are gone, and the call asks again: a
-    // `serve` that may not do its work twice keeps what it gives, by the call's id, until an entry HOMA_RAN names that call.
-    template <class Serve> void deliver(std::uint16_t from, const bytes &datagram, std::uint64_t now, Serve serve) {
+    // A datagram came, with an answer in hand or with none. The call that asks for one, if one does; nothing happened then.
+    [[nodiscard]] std::optional<homa_asked> deliver(std::uint16_t from, view datagram, std::uint64_t now, view answer = {}) {
         homa_asked asked;
-        std::uint32_t result = homa_deliver(&handle, from, start_of(datagram), datagram.size(), now, start_of({}), 0, &asked);
-        if (result == HOMA_ASKS) {
-            const bytes answer = serve(asked, whole());
-            result = homa_deliver(&handle, from, start_of(datagram), datagram.size(), now, start_of(answer), answer.size(), &asked);
-            if (result == HOMA_ASKS) throw refused("an answer of no bytes");
-        }
+        std::uint32_t result = homa_deliver(&handle, from, datagram.data(), datagram.size(), now, answer.data(), answer.size(), &asked);
+        if (result == HOMA_ASKS) return asked;
         need(result, "homa_deliver");
+        return std::nullopt;
     }
 
     void turn(std::uint64_t now) { need(homa_turn(&handle, now), "homa_turn"); }
 
-    // As homa_next_turn answers; none where that is REFUSED.
-    std::optional<std::uint64_t> next_turn() {
+    // The tick before which no turn does anything. None where none does before the next call or datagram.
+    [[nodiscard]] std::optional<std::uint64_t> next_turn() {
         std::uint64_t at;
         return homa_next_turn(&handle, &at) == HOMA_OK ? std::optional<std::uint64_t>(at) : std::nullopt;
     }
 
-    // The frames of the last step, each with the host that it goes to: send(std::uint16_t, bytes).
+    // The frames of the last step, each with the host that it goes to: send(std::uint16_t, view). The bytes are lent until `send` returns.
     template <class Send> void frames(Send send) {
+        std::array<std::uint8_t, 1500> room;
+        homa_frame_info info;
         for (std::size_t i = 0, count = homa_frames(&handle); i < count; i++) {
-            bytes frame(1500);
-            homa_frame_info info;
-            need(homa_frame(&handle, i, frame.data(), frame.size(), &info), "homa_frame");
-            frame.resize(info.len);
-            send(info.to, std::move(frame));
+            need(homa_frame(&handle, i, room.data(), room.size(), &info), "homa_frame");
+            send(info.to, view(room.data(), info.len));
         }
     }
 
-    // The entries of the last step.
-    std::vector<homa_entry_info> entries() {
-        std::vector<homa_entry_info> all(homa_entries(&handle));
-        for (std::size_t i = 0; i < all.size(); i++) need(homa_entry(&handle, i, &all[i]), "homa_entry");
-        return all;
+    // The entries of the last step: see(const homa_entry_info &).
+    template <class See> void entries(See see) {
+        homa_entry_info info;
+        for (std::size_t i = 0, count = homa_entries(&handle); i < count; i++) {
+            need(homa_entry(&handle, i, &info), "homa_entry");
+            see(info);
+        }
     }
 
-    // The message that became whole in the last step: the request that is asked about or was answered, or the response of a call.
+    // The message that became whole in the last step: the request that is asked about or was answered, or the response of a call. Into a
+    // vector whose room is kept, or into a new one.
+    void whole(bytes &to) {
+        std::size_t len = homa_whole_len(&handle);
+        to.resize(len + 1); // a byte more than it has, so that the room is never empty
+        need(homa_whole(&handle, to.data(), to.size(), &len), "homa_whole");
+        to.resize(len);
+    }
     bytes whole() {
-        bytes message(homa_whole_len(&handle) + 1); // a byte more than it has, so that the room is never empty
-        std::size_t len;
-        need(homa_whole(&handle, message.data(), message.size(), &len), "homa_whole");
-        message.resize(len);
+        bytes message;
+        whole(message);
         return message;
     }
+};
+
+// A host that keeps the datagrams that ask, so that each call is told once and its answer may come later.
+//
+// It keeps at most `most` calls. A kept datagram is delivered at most `ticks` ticks after it came: with version 1, that and the time that
+// it was under way are at most `life`; with version 2 the host itself looks, and `ticks` may be `life`. docs/use/library.md, 'An answer
+// that isn't ready', says how long a call waits.
+class late_host {
+    struct work {
+        std::uint16_t from;
+        std::uint64_t at;
+        bytes datagram;
+        std::optional<bytes> answer; // one that its step didn't take
+    };
+    host of;
+    std::map<homa_call_id, work, call_less> works;
+    std::size_t most;
+    std::uint64_t ticks;
+
+    bool is_fresh(const work &it, std::uint64_t now) const { return now <= it.at + ticks; }
+
+    void drop_what_ran() {
+        of.entries([this](const homa_entry_info &it) {
+            if (it.kind == HOMA_RAN) works.erase(it.id);
+        });
+    }
+
+    // Throws the oldest out that isn't fresh. Whether there was one.
+    bool makes_room(std::uint64_t now) {
+        auto oldest = works.end();
+        for (auto it = works.begin(); it != works.end(); ++it)
+            if (!is_fresh(it->second, now) && (oldest == works.end() || it->second.at < oldest->second.at)) oldest = it;
+        if (oldest == works.end()) return false;
+        works.erase(oldest);
+        return true;
+    }
+
+    // The step of a datagram with an answer. Whether it was done.
+    bool gives(const work &it, view answer, std::uint64_t now) {
+        if (of.deliver(it.from, it.datagram, now, answer)) return false;
+        drop_what_ran();
+        return true;
+    }
+
+public:
+    enum class came { step, asks, at_work, full };
+    enum class answered { step, later, gone };
+
+    late_host(host it, std::size_t most_calls, std::uint64_t most_ticks) : of(std::move(it)), most(most_calls), ticks(most_ticks) {}
+
+    // Calls, turns, frames and entries are the host's. Datagrams come here.
+    host &inner() { return of; }
+    std::size_t at_work() const { return works.size(); }
+
+    // A datagram came. `asks`: `asked` wants an answer, and is told once while it is kept; inner().whole() has the request. `at_work` and
+    // `full`: it asks again, or there is no room to keep it; nothing happened, and there is nothing to read.
+    [[nodiscard]] came deliver(std::uint16_t from, view datagram, std::uint64_t now, homa_asked &asked) {
+        std::optional<homa_asked> asks = of.deliver(from, datagram, now);
+        if (!asks) return came::step;
+        auto it = works.find(asks->id);
+        if (it == works.end()) {
+            if (works.size() >= most && !makes_room(now)) return came::full;
+            works.emplace(asks->id, work{ from, now, datagram.copied(), std::nullopt });
+            asked = *asks;
+            return came::asks;
+        }
+        work &kept = it->second;
+        kept.from = from;
+        kept.at = now;
+        kept.datagram.assign(datagram.data(), datagram.data() + datagram.size());
+        if (!kept.answer) return came::at_work;
+        try {
+            return gives(kept, *kept.answer, now) ? came::step : came::at_work;
+        } catch (const std::bad_alloc &) {
+            return came::at_work;
+        }
+    }
+
+    // The answer to a call that asked, of 1 to 1,000,000 bytes. `step`: it is done; an entry HOMA_RAN says that the answer was taken, and
+    // without one it is kept for the next datagram that asks. `later`: there was no step, and it is kept. `gone`: no such call waits.
+    [[nodiscard]] answered answer(const homa_call_id &id, bytes given, std::uint64_t now) {
+        auto it = works.find(id);
+        if (it == works.end() || it->second.answer) return answered::gone;
+        if (given.empty() || given.size() > 1000000) throw refused("answer", HOMA_REFUSED);
+        if (!is_fresh(it->second, now)) {
+            it->second.answer = std::move(given);
+            return answered::later;
+        }
+        homa_call_id kept = id;
+        gives(it->second, given, now);
+        it = works.find(kept);
+        if (it != works.end()) it->second.answer = std::move(given);
+        return answered::step;
+    }
+
+    // No answer will come: where the call asks again, it is told again. Whether it was kept.
+    bool decline(const homa_call_id &id) { return works.erase(id) > 0; }
 };
 
 } // namespace homa

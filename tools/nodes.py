@@ -2,18 +2,43 @@
 import os
 import socket
 import subprocess
+import sys
 import time
 
-from tracing import Sent, flight_in
+from homatrace import Packet
+from running import stop
 
 TOP = os.path.dirname(os.path.dirname(os.path.abspath(__file__)))
 PROGRAM = os.environ.get("HOMA", os.path.join(TOP, "crates", "homa", "out", "homa"))
 LOOPBACK = "127.0.0.1"
 
 
+def program():
+    """The program that runs here: the one that HOMA names, or the one that `./homa` runs, built first if there is none."""
+    if "HOMA" in os.environ:
+        return PROGRAM
+    it = subprocess.run([os.path.join(TOP, "homa"), "--which"], stdin=subprocess.DEVNULL, stdout=subprocess.PIPE, text=True)
+    return it.stdout.strip() if it.returncode == 0 else PROGRAM
+
+
+def name_program():
+    """Begins this process again with HOMA set to the program that runs here, for the modules that read it."""
+    if "HOMA" not in os.environ:
+        os.environ["HOMA"] = program()
+        os.execv(sys.executable, [sys.executable, *sys.argv])
+
+
 def knows(word, program=PROGRAM):
     """Whether the program is there and has this command; one that hasn't says its usage, with status 1."""
     return os.path.exists(program) and subprocess.run([program, word], input=b"", capture_output=True).returncode != 1
+
+
+def need(tool, word, program):
+    """Ends the tool if the program isn't there, or hasn't this command."""
+    if not os.path.exists(program):
+        stop(tool, f"{program}: there is no such program", 127)
+    if not knows(word, program):
+        stop(tool, f"{program}: it has no command `{word}`")
 
 
 def free_ports(count):
@@ -66,6 +91,11 @@ def memory(process, kind="VmRSS"):
         return int(next(line for line in it if line.startswith(f"{kind}:")).split()[1])
 
 
+def flight_in(words):
+    """The sender, the receiver and the bytes that a `recv` line has."""
+    return int(words[2]), int(words[1]), b"" if words[3] == "-" else bytes.fromhex(words[3])
+
+
 class Flow:
     """What a trace tells of datagrams: those that were sent, and of each that came how many ticks before it was sent."""
 
@@ -77,7 +107,7 @@ class Flow:
             if words[0] == "clock":
                 tick = int(words[1])
             elif words[0] == "send":
-                datagram = Sent(words, tick).flight(wire, skew)
+                datagram = Packet(words, tick).flight(wire, skew)
                 self.sent.append(datagram)
                 last_sent[datagram] = tick
             elif words[0] == "recv":

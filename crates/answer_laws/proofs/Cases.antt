@@ -32,8 +32,8 @@ use Rattle.step_laws.proofs.OneAnswer as one
 use Rattle.event_laws.specs.Named.{IsOwnStep, IsOfStep}
 use Rattle.event_laws.specs.Stepping.{stepped_world, step_told}
 use Rattle.event_laws.proofs.Names.{call_named, arrival_named, turn_named, new_named}
-use Rattle.trace_lines.specs.Told.{HasOwnName}
-use Rattle.trace_lines.proofs.Lines.{entries_from-append}
+use Rattle.step_moves.specs.Worlds.{HasOwnName}
+use Rattle.step_moves.proofs.Inner.{entries_from-append}
 use Rattle.box_laws.specs.Boxes.{Allows, MayAnswer, may_tell}
 use Rattle.answer_laws.proofs.OneWay.{AnswersOneWay}
 use Rattle.answer_laws.proofs.Alike.{Parts, Alike, arrival_alike}

@@ -4,5 +4,10 @@ mod Told
 mod Seats
 mod Cases
 mod Runs
+mod Answering
+mod SuiteAnswers
+mod Existing
+mod Drawing
+mod Repeated
 mod Rounds
 mod Worked

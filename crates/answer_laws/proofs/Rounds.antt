@@ -27,24 +27,24 @@ use Rattle.answer_laws.proofs.Cases.{Stands}
 use Rattle.answer_laws.proofs.Runs.{Rest, Goes, one_list, first_seats, first_spares, opened, first_world}
 
 -- the run whose services will answer so
-abbrev answered : List Answer → Generated → Generated
+abbrev pub answered : List Answer → Generated → Generated
 answered answers g = record g { world = answering answers g.world }
 
 -- the run behind a line that made this world and told this
-abbrev behind_line : Settings → Given → Generated → World → List PlainEntry → Generated
+abbrev pub behind_line : Settings → Given → Generated → World → List PlainEntry → Generated
 behind_line s line g w told =
     let before = length g.world.packets in
     record g { world = w; told = g.told ++ told; lines = g.lines ++ line ∷ []; fabric = all_sent s before (drop before w.packets) g.fabric }
 
 -- the run with the draws of a call, which counts
-abbrev drawn_call : Traffic × Lcg → Generated → Generated
+abbrev pub drawn_call : Traffic × Lcg → Generated → Generated
 drawn_call t g = record g { fabric = record g.fabric { random = t.1 }; made = g.made + 1; left = g.left - 1 }
 
 -- a change that no answer makes another, that tells nothing, and that leaves the world
-record IsBeside (change : Generated → Generated) : Type 0 where
-  told : (g : Generated) → (change g).told ≡ g.told
-  world : (g : Generated) → (change g).world ≡ g.world
-  same : (answers : List Answer) (g : Generated) → change (answered answers g) ≡ answered answers (change g)
+pub record IsBeside (change : Generated → Generated) : Type 0 where
+  pub told : (g : Generated) → (change g).told ≡ g.told
+  pub world : (g : Generated) → (change g).world ≡ g.world
+  pub same : (answers : List Answer) (g : Generated) → change (answered answers g) ≡ answered answers (change g)
 
 module _ {A : Type 0} (allows : Allows A) (one_way : AnswersOneWay allows) (s : Settings) (patient : 1 ≤ s.resend) where
   -- What goes on with a run tells more behind what was told; two lists of answers, each of which this shows and the boxes allow, are one.

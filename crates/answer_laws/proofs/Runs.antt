@@ -13,10 +13,10 @@ use Rattle.homa_plain.specs.Replay.{Happening, Run, carried, replay, replay_open
 use Rattle.homa_plain.specs.Answers.{answering, shown}
 use Rattle.generated_runs.proofs.Carried.{by_outcome, first_event, no_event}
 use Rattle.event_laws.proofs.Names.{new_named}
-use Rattle.trace_induction.proofs.Always.{length-new}
-use Rattle.replay_laws.specs.Replays.{events_in}
-use Rattle.replay_laws.proofs.Openings.{opening_valid}
-use Rattle.replay_laws.proofs.Obeyed.{replay_told}
+use Rattle.step_moves.proofs.Names.{length-new}
+use Rattle.trace_laws.specs.Replays.{events_in}
+use Rattle.trace_laws.proofs.Openings.{opening_valid}
+use Rattle.trace_laws.proofs.Obeyed.{replay_told}
 use Rattle.box_laws.specs.Boxes.{Allows, counted, all_counted, may_tell}
 use Rattle.box_laws.specs.First.{AreAllowed}
 use Rattle.answer_laws.specs.Answers.{MayAnswerSo}
@@ -35,14 +35,14 @@ with_rest rest run = run.told ++ rest run.world run.told
 
 module _ (rest : Rest) (s : Settings) (w : World) where
   -- behind the last event, where the first one is refused, and where it is carried out
-  told_none : with_rest rest (carried s w []) ≡ rest w []
+  pub told_none : with_rest rest (carried s w []) ≡ rest w []
   told_none = ap (with_rest rest) (no_event s w)
 
-  told_stop : (e : Happening) (es : List Happening) (f : WorldFault) → outcome s w e.event e.bytes ≡ Refused f
+  pub told_stop : (e : Happening) (es : List Happening) (f : WorldFault) → outcome s w e.event e.bytes ≡ Refused f
       → with_rest rest (carried s w (e ∷ es)) ≡ rest w []
   told_stop e es f is = ap (with_rest rest) (first_event s w e es ∙ ap (by_outcome s w es) is)
 
-  told_on : (e : Happening) (es : List Happening) (a : After) → outcome s w e.event e.bytes ≡ Done a
+  pub told_on : (e : Happening) (es : List Happening) (a : After) → outcome s w e.event e.bytes ≡ Done a
       → with_rest rest (carried s w (e ∷ es)) ≡ a.told ++ with_rest (λ v told. rest v (a.told ++ told)) (carried s a.world es)
   told_on e es a is =
       let run = carried s a.world es in

@@ -4,7 +4,7 @@ use Rattle.std.specs.Prelude.{map, slice_set, slice_get}
 use Rattle.std.specs.Option.{option_map}
 use Rattle.homa_plain.specs.Host.{Host}
 use Rattle.homa_service.specs.Table.{place_of, last_of}
-use Rattle.trace_lines.specs.Told.{HasOwnName}
+use Rattle.step_moves.specs.Worlds.{HasOwnName}
 
 -- the hosts from number n on have their own names
 abbrev pub AllNamed : ℕ → List Host → Type 0

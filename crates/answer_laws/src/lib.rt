@@ -12,6 +12,8 @@ ghost use Rattle.homa_plain.specs.Rules.{Answer};
 ghost use Rattle.homa_plain.specs.Replay.{replay_text};
 ghost use Rattle.generated_runs.specs.Generated.{generated, generated_settings, schedule_text, summary_text};
 ghost use Rattle.answer_laws.specs.Answers.{MayAnswerSo, MayAnswerGenerated, suite_allows, any_answer};
+ghost use Rattle.answer_laws.specs.Exactly.{SomeAnswers, SomeGenerated};
+ghost use Rattle.answer_laws.specs.Repeated.{SuitesRepeat};
 
 /// Two lists of answers of `Suite`s, each of which the replay of an input shows and its boxes may give, are one list, for 32
 /// boxes and more. So the text of a replay is a function of the input.
@@ -45,4 +47,21 @@ pub fn boxes_may_choose()
     ensures run { ((boxes : List ℕ) (seed calls : ℕ) (these those : List Answer) → 32 ≤ length boxes
         → MayAnswerGenerated (λ n. n) any_answer boxes seed calls these → MayAnswerGenerated (λ n. n) any_answer boxes seed calls those
         → these ≡ those) → ⊥ }
+{}
+
+/// `Suite`s answer each request: for 32 boxes and more there are answers which the replay of an input shows and its boxes may
+/// give. So, by `one_replay`, each input has exactly one text.
+pub fn some_replay()
+    ensures { (boxes bytes : List ℕ) → 32 ≤ length boxes → SomeAnswers (λ n. n) suite_allows boxes bytes }
+{}
+
+/// And so there are for the generated run of each seed and number of calls: it is exactly one, by `one_generated_run`.
+pub fn some_generated_run()
+    ensures { (boxes : List ℕ) (seed calls : ℕ) → 32 ≤ length boxes → SomeGenerated (λ n. n) suite_allows boxes seed calls }
+{}
+
+/// Where the services are `Suite`s, the replay of a node's recording with status 0 tells the run again, whatever answers it
+/// shows that its boxes may give: they are the run's own.
+pub fn suites_repeat()
+    ensures { SuitesRepeat }
 {}

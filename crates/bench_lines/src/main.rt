@@ -7,7 +7,7 @@
 #![tactic(auto)]
 
 ghost use Rattle.homa_plain.specs.Entries.{plain};
-ghost use Rattle.homa_text.specs.Told.{HasLine};
+ghost use Rattle.homa_plain.specs.Told.{HasLine};
 
 use homa_io::{HeldSink, MemSink, Room, Sink, StdSink, WriteFailed, write_all};
 use homa_plain::{Body, CallId, Entry, HostId, Role};

@@ -12,9 +12,9 @@ use Rattle.homa_plain.specs.declared.packet.Role.TheVariants.{Client, Server}
 use Rattle.homa_plain.specs.Wire.{is_client, is_server}
 use Rattle.homa_plain.specs.Calls.{is_host}
 use Rattle.homa_plain.proofs.CallOrder.{hosts_are}
-use Rattle.homa_plain.specs.Parts as plain
-use Rattle.homa_plain.specs.View.{Called, Sent, Ends, no_ends, View, is_server_of}
-use Rattle.homa_plain.specs.Seen as seen
+use Rattle.trace_rules.specs.Parts as plain
+use Rattle.trace_rules.specs.View.{Called, Sent, Ends, no_ends, View, is_server_of}
+use Rattle.trace_rules.specs.Seen as seen
 use Rattle.check_laws.specs.Spots as spots
 use Rattle.check_call.specs.declared.call.Delivered.{Delivered}
 use Rattle.check_call.specs.declared.call.Call.{Call}

@@ -9,8 +9,8 @@ use Rattle.plain_sets.proofs.NumberLaws.{with_range-nothing}
 use Rattle.plain_sets.proofs.MapLaws.{len-empty}
 use Rattle.homa_plain.specs.declared.id.HostId.{HostId}
 use Rattle.homa_plain.specs.Calls.{is_host}
-use Rattle.homa_plain.specs.Parts as plain
-use Rattle.homa_plain.specs.Judge.{is_within_at}
+use Rattle.trace_rules.specs.Parts as plain
+use Rattle.trace_rules.specs.Judge.{is_within_at}
 use Rattle.check_call.specs.declared.part.Part.{Part}
 use Rattle.check_call.specs.Kept.{arrived_of, part_of, IsCounted, IsPlain}
 

@@ -9,8 +9,8 @@ use Rattle.homa_plain.specs.declared.packet.Role.{Role}
 use Rattle.homa_plain.specs.declared.packet.Role.TheVariants.{Client, Server}
 use Rattle.homa_plain.specs.Wire.{is_server}
 use Rattle.homa_plain.specs.Calls.{is_host}
-use Rattle.homa_plain.specs.View.{Called, Sent, Ends, View, has_run}
-use Rattle.homa_plain.specs.Parts as plain
+use Rattle.trace_rules.specs.View.{Called, Sent, Ends, View, has_run}
+use Rattle.trace_rules.specs.Parts as plain
 use Rattle.check_laws.specs.Spots as spots
 use Rattle.check_call.specs.declared.call.Call.{Call}
 use Rattle.check_call.specs.declared.call.Lives.{Lives}

@@ -7,11 +7,11 @@ use Rattle.plain_sets.specs.Numbers.{Numbers, with_range}
 use Rattle.homa_plain.specs.declared.id.HostId.{HostId}
 use Rattle.homa_plain.specs.declared.packet.Body.{Body}
 use Rattle.homa_plain.specs.declared.packet.Body.TheVariants as body
-use Rattle.homa_plain.specs.Parts as plain
-use Rattle.homa_plain.specs.View.{Sent}
+use Rattle.trace_rules.specs.Parts as plain
+use Rattle.trace_rules.specs.View.{Sent}
 use Rattle.homa_plain.specs.declared.packet.Role.{Role}
 use Rattle.homa_plain.specs.Wire.{is_client}
-use Rattle.homa_plain.specs.Judge.{are_spaced, is_within_at}
+use Rattle.trace_rules.specs.Judge.{are_spaced, is_within_at}
 use Rattle.check_laws.specs.Spots as spots
 use Rattle.check_call.specs.declared.part.Part.{Part}
 use Rattle.check_call.specs.declared.resends.OwnTick.{OwnTick}

@@ -5,8 +5,8 @@ ghost use Rattle.check_call.specs.Calls.{more_of};
 ghost use Rattle.plain_sets.specs.Maps.{empty, len};
 ghost use Rattle.plain_sets.specs.Numbers.{Numbers, with_range};
 ghost use Rattle.homa_plain.specs.declared.id.HostId.{HostId};
-ghost use Rattle.homa_plain.specs.Parts as plain;
-ghost use Rattle.homa_plain.specs.Judge.{is_within_at};
+ghost use Rattle.trace_rules.specs.Parts as plain;
+ghost use Rattle.trace_rules.specs.Judge.{is_within_at};
 ghost use Rattle.check_call.specs.Kept.{part_of, IsCounted, IsPlain};
 
 use open_ranges::OpenRanges;

@@ -1,6 +1,6 @@
 // The RESENDs of a call since its last renewal.
 ghost use Rattle.std.specs.Prelude.{◌≡◌, ◌+◌, ◌==◌, ◌&&◌, nat_le, ℕ, List, ◌∷◌, length};
-ghost use Rattle.homa_plain.specs.Judge.{are_spaced};
+ghost use Rattle.trace_rules.specs.Judge.{are_spaced};
 ghost use Rattle.check_call.specs.Kept.{AreResends, own_value};
 
 /// A tick by a host's own clock: the clock's, and by how many ticks the host's is ahead of it.

@@ -3,9 +3,9 @@ ghost use Rattle.std.specs.Prelude.{◌≡◌, IfSome};
 ghost use Rattle.std.specs.Option.{option_map};
 ghost use Rattle.plain_sets.specs.Numbers.{Numbers};
 ghost use Rattle.homa_plain.specs.declared.id.HostId.{HostId};
-ghost use Rattle.homa_plain.specs.Parts as plain;
-ghost use Rattle.homa_plain.specs.View.{Sent};
-ghost use Rattle.homa_plain.specs.Seen as seen;
+ghost use Rattle.trace_rules.specs.Parts as plain;
+ghost use Rattle.trace_rules.specs.View.{Sent};
+ghost use Rattle.trace_rules.specs.Seen as seen;
 ghost use Rattle.check_laws.specs.Spots as spots;
 ghost use Rattle.check_call.specs.Kept.{part_of, IsCounted, IsPlain, Beside, StandsFor, IsApart, changed, within, is_within_spot, is_incoming};
 

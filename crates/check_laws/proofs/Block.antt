@@ -10,10 +10,10 @@ use Rattle.homa_plain.specs.declared.packet.Body.{Body}
 use Rattle.homa_plain.specs.declared.packet.Body.TheVariants as body
 use Rattle.homa_plain.specs.Wire.{is_client, is_server}
 use Rattle.homa_plain.specs.Calls.{is_host, is_call, call_cmp}
-use Rattle.homa_plain.specs.Parts.{Part, Parts, opened, made_whole}
-use Rattle.homa_plain.specs.View.{Called, Sent, Ends, no_ends, Progress, View, has_run, resends_of, counts}
-use Rattle.homa_plain.specs.Seen.{in_each, begun, is_unknown, is_forgotten, heard, counted, to_server, to_client, admitted, delivered, refused, stale}
-use Rattle.homa_plain.specs.Seen.{is_delivery_to}
+use Rattle.trace_rules.specs.Parts.{Part, Parts, opened, made_whole}
+use Rattle.trace_rules.specs.View.{Called, Sent, Ends, no_ends, Progress, View, has_run, resends_of, counts}
+use Rattle.trace_rules.specs.Seen.{in_each, begun, is_unknown, is_forgotten, heard, counted, to_server, to_client, admitted, delivered, refused, stale}
+use Rattle.trace_rules.specs.Seen.{is_delivery_to}
 use Rattle.homa_plain.proofs.CallOrder.{call_total, calls_are}
 use Rattle.check_laws.specs.Spots.{Spot, spot, IsEach, only, counts_at, heard_spot, counted_spot, part_with, request_spot, response_spot}
 use Rattle.check_laws.specs.Spots.{admitted_spot, delivered_spot, due_if_refused, due_request, due_response, due_with, due_spot, Undo, IsSame, IsBut}

@@ -10,9 +10,9 @@ use Rattle.homa_plain.specs.declared.packet.Body.{Body}
 use Rattle.homa_plain.specs.declared.packet.Body.TheVariants as body
 use Rattle.homa_plain.specs.Wire.{is_client, is_server}
 use Rattle.homa_plain.specs.Calls.{is_host, is_call, call_cmp}
-use Rattle.homa_plain.specs.Parts.{Part, Parts, raised, changed, changed_part}
-use Rattle.homa_plain.specs.View.{Sent, Progress, View, own_tick, is_server_of, sent_last, resends_of}
-use Rattle.homa_plain.specs.Seen.{renewed, started, finished, dropped, restarted, said}
+use Rattle.trace_rules.specs.Parts.{Part, Parts, raised, changed, changed_part}
+use Rattle.trace_rules.specs.View.{Sent, Progress, View, own_tick, is_server_of, sent_last, resends_of}
+use Rattle.trace_rules.specs.Seen.{renewed, started, finished, dropped, restarted, said}
 use Rattle.homa_plain.proofs.CallOrder.{call_total, call_same, calls_are}
 use Rattle.check_laws.specs.Spots.{Spot, spot, IsEach, only, renewed_spot, started_spot, finished_spot, dropped_spot, told_spot, raised_request}
 use Rattle.check_laws.specs.Spots.{raised_response, said_spot, restarted_spot}

@@ -12,9 +12,9 @@ use Rattle.homa_plain.specs.declared.packet.Body.{Body}
 use Rattle.homa_plain.specs.declared.packet.Body.TheVariants as body
 use Rattle.homa_plain.specs.Wire.{is_client, is_server}
 use Rattle.homa_plain.specs.Calls.{is_host, is_call}
-use Rattle.homa_plain.specs.View.{Called, Sent, Ran, Ends, View, life, is_server_of, incarnation, has_run, has_last, sent_last}
-use Rattle.homa_plain.specs.Laws.{is_run_in, answers}
-use Rattle.homa_plain.specs.Judge.{is_returned}
+use Rattle.trace_rules.specs.View.{Called, Sent, Ran, Ends, View, life, is_server_of, incarnation, has_run, has_last, sent_last}
+use Rattle.trace_rules.specs.Laws.{is_run_in, answers}
+use Rattle.trace_rules.specs.Judge.{is_returned}
 use Rattle.homa_plain.proofs.CallOrder.{calls_are}
 use Rattle.check_laws.specs.Spots.{Spot, counted_spot, admitted_spot, delivered_spot, request_spot, response_spot, due_spot, due_with, due_request}
 use Rattle.check_laws.specs.Spots.{due_response}

@@ -9,9 +9,9 @@ use Rattle.homa_plain.specs.Entries.{PlainEntry, PlainSettings, PlainCall, Plain
 use Rattle.homa_plain.specs.Entries.{PlainStale, PlainSend, PlainRun, PlainDone, PlainFail, PlainDrop, PlainGaps, PlainFullRows, PlainFullPages}
 use Rattle.homa_plain.specs.Entries.{PlainRecv}
 use Rattle.homa_plain.specs.Calls.{is_host, is_call}
-use Rattle.homa_plain.specs.View.{Sent, Progress, View}
-use Rattle.homa_plain.specs.Seen.{seen, with_line, seen_all, in_each, started, finished, restarted, said, begun, delivered, delivery, refused, stale}
-use Rattle.homa_plain.specs.Seen.{is_delivery_to}
+use Rattle.trace_rules.specs.View.{Sent, Progress, View}
+use Rattle.trace_rules.specs.Seen.{seen, with_line, seen_all, in_each, started, finished, restarted, said, begun, delivered, delivery, refused, stale}
+use Rattle.trace_rules.specs.Seen.{is_delivery_to}
 use Rattle.check_laws.specs.Spots.{Spot, spot, only, said_spot, finished_spot, started_spot, restarted_spot, Undo, IsSame, IsBut, IsUndo, undo_each}
 use Rattle.check_laws.specs.Steps.{unmoved, is_undone, delivered_at, taken_back, undone, refused_at, dropped_at, line_at, undo_of, undo_after}
 use Rattle.check_laws.proofs.Each.{each_started, each_finished, each_said, each_dropped, each_restarted}

@@ -10,10 +10,10 @@ use Rattle.homa_plain.specs.Entries.{PlainEntry, PlainSettings, PlainCall, Plain
 use Rattle.homa_plain.specs.Entries.{PlainStale, PlainSend, PlainRun, PlainDone, PlainFail, PlainDrop, PlainGaps, PlainFullRows, PlainFullPages}
 use Rattle.homa_plain.specs.Entries.{PlainRecv}
 use Rattle.homa_plain.specs.Calls.{is_host, is_call}
-use Rattle.homa_plain.specs.Parts.{Part}
-use Rattle.homa_plain.specs.View.{Sent, Progress, View, is_server_of}
-use Rattle.homa_plain.specs.Seen.{seen, begun, delivered, delivery, refused, is_delivery_to}
-use Rattle.homa_plain.specs.Granting.{IsWithinAt, IsWithin}
+use Rattle.trace_rules.specs.Parts.{Part}
+use Rattle.trace_rules.specs.View.{Sent, Progress, View, is_server_of}
+use Rattle.trace_rules.specs.Seen.{seen, begun, delivered, delivery, refused, is_delivery_to}
+use Rattle.trace_rules.specs.Granting.{IsWithinAt, IsWithin}
 use Rattle.homa_plain.proofs.CallOrder.{calls_are}
 use Rattle.check_laws.specs.Spots.{Spot, spot, only, started_spot, finished_spot, dropped_spot, said_spot, restarted_spot, delivered_spot, Undo, IsUndo}
 use Rattle.check_laws.specs.Steps.{unmoved, is_undone, delivered_at, taken_back, undone, refused_at, dropped_at, line_at}

@@ -6,8 +6,8 @@ use Rattle.homa_plain.specs.declared.id.HostId.{HostId}
 use Rattle.homa_plain.specs.Entries.{PlainEntry, PlainSettings, PlainCall, PlainDeliver, PlainClock, PlainRestart, PlainInject, PlainShift}
 use Rattle.homa_plain.specs.Entries.{PlainStale, PlainSend, PlainDone, PlainFail, PlainDrop, PlainGaps, PlainFullRows, PlainFullPages, PlainRecv}
 use Rattle.homa_plain.specs.Calls.{is_host, is_call}
-use Rattle.homa_plain.specs.View.{Sent, View, is_server_of}
-use Rattle.homa_plain.specs.Seen.{begun, delivery}
+use Rattle.trace_rules.specs.View.{Sent, View, is_server_of}
+use Rattle.trace_rules.specs.Seen.{begun, delivery}
 use Rattle.check_laws.specs.Spots.{Spot, spot, only, started_spot, finished_spot, dropped_spot, said_spot, restarted_spot, counted_spot}
 use Rattle.check_laws.specs.Spots.{delivered_spot, due_if_refused, Undo, undo_each}
 

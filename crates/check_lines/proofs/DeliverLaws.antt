@@ -9,9 +9,9 @@ use Rattle.homa_plain.specs.declared.packet.Body.{Body}
 use Rattle.homa_plain.specs.declared.packet.Body.TheVariants as body
 use Rattle.homa_plain.specs.Calls.{is_host, is_call}
 use Rattle.homa_plain.specs.Wire.{is_client, is_server}
-use Rattle.homa_plain.specs.View.{View, Sent, Ends, no_ends, is_server_of, Called}
-use Rattle.homa_plain.specs.Seen.{delivered, is_forgotten}
-use Rattle.homa_plain.specs.Parts.{opened, made_whole}
+use Rattle.trace_rules.specs.View.{View, Sent, Ends, no_ends, is_server_of, Called}
+use Rattle.trace_rules.specs.Seen.{delivered, is_forgotten}
+use Rattle.trace_rules.specs.Parts.{opened, made_whole}
 use Rattle.check_laws.specs.Spots as spots
 use Rattle.check_laws.specs.Spots.{spot, Undo, counts_at, counted_spot, delivered_spot, due_if_refused, due_spot}
 use Rattle.check_laws.specs.Steps.{undo_of}

@@ -13,9 +13,9 @@ use Rattle.homa_plain.specs.declared.id.CallId.{CallId}
 use Rattle.homa_plain.specs.declared.id.HostId.{HostId}
 use Rattle.homa_plain.specs.Calls.{is_host}
 use Rattle.homa_plain.specs.Entries.{PlainEntry, PlainCall, PlainInject, PlainDeliver, PlainClock, PlainRestart, PlainShift, PlainRecv}
-use Rattle.homa_plain.specs.Parts.{Part}
-use Rattle.homa_plain.specs.View.{Called, View, Sent, no_ends, life, restarts_of, is_server_of}
-use Rattle.homa_plain.specs.Seen.{seen, begun, delivered, delivery}
+use Rattle.trace_rules.specs.Parts.{Part}
+use Rattle.trace_rules.specs.View.{Called, View, Sent, no_ends, life, restarts_of, is_server_of}
+use Rattle.trace_rules.specs.Seen.{seen, begun, delivered, delivery}
 use Rattle.homa_plain.proofs.CallOrder.{hosts_are}
 use Rattle.check_laws.specs.Spots.{spot, Undo, restarted_spot}
 use Rattle.check_laws.specs.Steps.{undo_after, undo_of}

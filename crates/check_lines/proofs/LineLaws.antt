@@ -4,15 +4,15 @@ use Rattle.std.specs.Prelude.{if◌then◌else◌, ◌==◌, IfSome}
 use Rattle.std.specs.Option.{option_map, option_map_or}
 use Rattle.plain_sets.specs.Maps.{get, contains_key}
 use Rattle.std.specs.Str.{bytes_eq}
-use Rattle.homa_plain.specs.Judge.{is_called}
+use Rattle.trace_rules.specs.Judge.{is_called}
 use Rattle.homa_plain.specs.declared.id.CallId.{CallId}
 use Rattle.homa_plain.specs.declared.id.HostId.{HostId}
 use Rattle.homa_plain.specs.declared.entry.Why.{Why}
 use Rattle.homa_plain.specs.declared.entry.Why.TheVariants.{Timeout, Forgotten}
 use Rattle.homa_plain.specs.Entries.{PlainEntry, PlainRun, PlainDone, PlainFail, PlainDrop, PlainStale, PlainSend}
 use Rattle.homa_plain.specs.Calls.{is_host}
-use Rattle.homa_plain.specs.View.{Called, View, Sent, no_ends, life, is_server_of}
-use Rattle.homa_plain.specs.Seen.{seen, with_line, refused, sent, stale, is_delivery_to}
+use Rattle.trace_rules.specs.View.{Called, View, Sent, no_ends, life, is_server_of}
+use Rattle.trace_rules.specs.Seen.{seen, with_line, refused, sent, stale, is_delivery_to}
 use Rattle.check_laws.specs.Spots as spots
 use Rattle.check_laws.specs.Spots.{spot, Undo, only, undo_each, said_spot, finished_spot, dropped_spot}
 use Rattle.check_laws.specs.Steps.{undo_after, dropped_at}

@@ -4,7 +4,7 @@ use Rattle.std.specs.Option.{option_to_list}
 use Rattle.std.specs.List.{AllByRecursion, list_any, list_all}
 use Rattle.homa_plain.specs.declared.id.CallId.{CallId}
 use Rattle.homa_plain.specs.Calls.{is_call}
-use Rattle.homa_plain.specs.Judge.{has_call, are_same_calls}
+use Rattle.trace_rules.specs.Judge.{has_call, are_same_calls}
 use Rattle.homa_plain.proofs.CallOrder.{calls_are}
 
 none_has : (ids : List CallId) → 0 < length ids → list_all (has_call []) ids ≡ false

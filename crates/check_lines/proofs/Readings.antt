@@ -3,7 +3,7 @@ use Rattle.std.proofs.Common.{◌≡◌, Option, Some, None, List, [], ◌∷◌
 use Rattle.std.specs.Prelude.{is_some}
 use Rattle.plain_sets.specs.Maps.{contains_key}
 use Rattle.homa_plain.specs.declared.id.CallId.{CallId}
-use Rattle.homa_plain.specs.View.{Sent, View}
+use Rattle.trace_rules.specs.View.{Sent, View}
 use Rattle.check_call.specs.declared.call.Call.{Call}
 use Rattle.check_lines.specs.declared.trace.Trace.{Trace}
 use Rattle.check_call.specs.Kept.{packet_of}

@@ -10,9 +10,9 @@ use Rattle.plain_sets.specs.Maps.{get}
 use Rattle.homa_plain.specs.declared.id.CallId.{CallId}
 use Rattle.homa_plain.specs.declared.id.HostId.{HostId}
 use Rattle.homa_plain.specs.Calls.{is_host}
-use Rattle.homa_plain.specs.View.{Called, Ran, View, life, incarnation, is_server_of, has_run}
-use Rattle.homa_plain.specs.Laws.{answers}
-use Rattle.homa_plain.specs.Judge as tests
+use Rattle.trace_rules.specs.View.{Called, Ran, View, life, incarnation, is_server_of, has_run}
+use Rattle.trace_rules.specs.Laws.{answers}
+use Rattle.trace_rules.specs.Judge as tests
 use Rattle.check_laws.specs.Kept.{is_here, is_in}
 use Rattle.check_laws.proofs.Lean.{run_here, answers_of}
 use Rattle.check_call.specs.declared.call.Call.{Call}

@@ -17,10 +17,10 @@ use Rattle.homa_plain.specs.declared.packet.Body.{Body}
 use Rattle.homa_plain.specs.declared.packet.Body.TheVariants as body
 use Rattle.homa_plain.specs.Calls.{is_host, is_call}
 use Rattle.homa_plain.specs.Wire.{is_client, is_server}
-use Rattle.homa_plain.specs.Parts as plain
-use Rattle.homa_plain.specs.Parts.{Part}
-use Rattle.homa_plain.specs.View.{Called, View, Sent, life, sent_last, has_last, own_tick}
-use Rattle.homa_plain.specs.Seen.{with_first, in_each, said}
+use Rattle.trace_rules.specs.Parts as plain
+use Rattle.trace_rules.specs.Parts.{Part}
+use Rattle.trace_rules.specs.View.{Called, View, Sent, life, sent_last, has_last, own_tick}
+use Rattle.trace_rules.specs.Seen.{with_first, in_each, said}
 use Rattle.homa_plain.proofs.CallOrder.{hosts_are}
 use Rattle.check_laws.specs.Spots as spots
 use Rattle.check_laws.specs.Spots.{spot, said_spot, raised_request, raised_response}

@@ -11,9 +11,9 @@ use Rattle.homa_plain.specs.declared.id.CallId.{CallId}
 use Rattle.homa_plain.specs.declared.id.HostId.{HostId}
 use Rattle.homa_plain.specs.Calls.{is_host, is_call}
 use Rattle.homa_plain.specs.Entries.{PlainCall}
-use Rattle.homa_plain.specs.Judge.{is_new_call}
-use Rattle.homa_plain.specs.View.{Called, View, Sent, Ran, life, sent_last, has_last, is_server_of}
-use Rattle.homa_plain.specs.Seen.{seen, begun}
+use Rattle.trace_rules.specs.Judge.{is_new_call}
+use Rattle.trace_rules.specs.View.{Called, View, Sent, Ran, life, sent_last, has_last, is_server_of}
+use Rattle.trace_rules.specs.Seen.{seen, begun}
 use Rattle.homa_plain.specs.Wire.{is_between}
 use Rattle.homa_plain.proofs.CallOrder.{call_total, calls_are, hosts_are}
 use Rattle.check_laws.specs.Kept.{runs_of}

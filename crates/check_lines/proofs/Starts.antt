@@ -7,8 +7,8 @@ use Rattle.homa_plain.specs.declared.id.CallId.{CallId}
 use Rattle.homa_plain.specs.declared.id.HostId.{HostId}
 use Rattle.homa_plain.specs.Settings.{usual}
 use Rattle.homa_plain.specs.Calls.{call_cmp}
-use Rattle.homa_plain.specs.View.{no_ends, nothing_seen, no_progress}
-use Rattle.homa_plain.specs.Granting.{IsWithin, IsWithinAt}
+use Rattle.trace_rules.specs.View.{no_ends, nothing_seen, no_progress}
+use Rattle.trace_rules.specs.Granting.{IsWithin, IsWithinAt}
 use Rattle.check_laws.specs.Spots.{spot, IsSame}
 use Rattle.check_lines.specs.declared.trace.Trace.{Trace}
 use Rattle.check_lines.specs.declared.block.Named.TheVariants.{Nobody}

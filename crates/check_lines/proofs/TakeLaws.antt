@@ -6,8 +6,8 @@ use Rattle.homa_plain.specs.declared.id.CallId.{CallId}
 use Rattle.homa_plain.specs.declared.id.HostId.{HostId}
 use Rattle.homa_plain.specs.Calls.{is_host, is_call}
 use Rattle.homa_plain.proofs.CallOrder.{calls_are}
-use Rattle.homa_plain.specs.View.{View, Sent, life, sent_last}
-use Rattle.homa_plain.specs.Seen.{stale, refused, is_delivery_to}
+use Rattle.trace_rules.specs.View.{View, Sent, life, sent_last}
+use Rattle.trace_rules.specs.Seen.{stale, refused, is_delivery_to}
 use Rattle.check_laws.specs.Kept.{runs_of}
 use Rattle.check_laws.specs.Spots as spots
 use Rattle.check_laws.specs.Spots.{spot, Undo, only, undo_each}

@@ -8,12 +8,12 @@ use Rattle.homa_plain.specs.declared.settings.Settings.{Settings}
 use Rattle.homa_plain.specs.declared.settings.SettingFault.{SettingFault}
 use Rattle.homa_plain.specs.Calls.{call_cmp}
 use Rattle.homa_plain.specs.Entries.{PlainEntry, PlainSettings}
-use Rattle.homa_plain.specs.Judge.{has_shape}
-use Rattle.homa_plain.specs.Lines.{is_last}
+use Rattle.trace_rules.specs.Judge.{has_shape}
+use Rattle.trace_rules.specs.Lines.{is_last}
 use Rattle.homa_plain.specs.Settings.{verdict, IsValid}
 use Rattle.homa_plain.proofs.SettingsLemmas.{ok_is_valid}
-use Rattle.homa_plain.specs.View.{View, nothing_seen}
-use Rattle.homa_plain.specs.Seen.{seen}
+use Rattle.trace_rules.specs.View.{View, nothing_seen}
+use Rattle.trace_rules.specs.Seen.{seen}
 use Rattle.homa_plain.specs.Wire.{Between}
 use Rattle.check_laws.specs.Spots.{Undo, IsUndo}
 use Rattle.check_laws.specs.Steps.{undo_after}

@@ -5,9 +5,9 @@ use Rattle.homa_plain.specs.declared.id.CallId.{CallId}
 use Rattle.homa_plain.specs.declared.id.HostId.{HostId}
 use Rattle.homa_plain.specs.Calls.{is_host, is_call}
 use Rattle.homa_plain.specs.Entries.{PlainEntry}
-use Rattle.homa_plain.specs.View.{View, Sent}
-use Rattle.homa_plain.specs.Granting.{IsWithin}
-use Rattle.homa_plain.specs.Seen.{seen, delivered}
+use Rattle.trace_rules.specs.View.{View, Sent}
+use Rattle.trace_rules.specs.Granting.{IsWithin}
+use Rattle.trace_rules.specs.Seen.{seen, delivered}
 use Rattle.check_laws.specs.Spots as spots
 use Rattle.check_laws.specs.Steps.{undo_after, undo_of}
 use Rattle.check_call.specs.declared.call.Call.{Call}

@@ -8,7 +8,7 @@ use Rattle.homa_plain.specs.Calls.{is_host}
 use Rattle.homa_plain.specs.Entries.{PlainEntry, PlainDeliver, PlainRecv, PlainStale, PlainSend, PlainGaps, PlainFullRows, PlainFullPages}
 use Rattle.homa_plain.specs.Wire.{is_client, is_server}
 use Rattle.std.specs.Option.{option_map, option_map_or}
-use Rattle.homa_plain.specs.View.{View}
+use Rattle.trace_rules.specs.View.{View}
 use Rattle.check_laws.specs.Spots.{spot}
 use Rattle.check_call.specs.declared.call.Call.{Call}
 use Rattle.check_call.specs.declared.packet.Packet.{Packet}

@@ -12,10 +12,10 @@ use Rattle.homa_plain.specs.declared.packet.Role.{Role}
 use Rattle.homa_plain.specs.declared.packet.Role.TheVariants.{Client, Server}
 use Rattle.homa_plain.specs.Calls.{is_host, is_call, call_cmp}
 use Rattle.homa_plain.specs.Wire.{Between}
-use Rattle.homa_plain.specs.Parts.{Part, is_message}
-use Rattle.homa_plain.specs.View.{Ran, Ends, no_ends, View, nothing_seen, restarts_of, life, sent_last}
-use Rattle.homa_plain.specs.Granting.{IsWithin}
-use Rattle.homa_plain.specs.Judge as judge
+use Rattle.trace_rules.specs.Parts.{Part, is_message}
+use Rattle.trace_rules.specs.View.{Ran, Ends, no_ends, View, nothing_seen, restarts_of, life, sent_last}
+use Rattle.trace_rules.specs.Granting.{IsWithin}
+use Rattle.trace_rules.specs.Judge as judge
 use Rattle.check_laws.specs.Spots as spots
 use Rattle.check_laws.specs.Kept.{runs_of, AreMade}
 use Rattle.check_lines.specs.declared.block.Delivery.{Delivery}

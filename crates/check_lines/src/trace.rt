@@ -6,7 +6,7 @@ ghost use Rattle.check_lines.specs.Traces.{asked_of, awaited_of, incoming_of, ot
 ghost use Rattle.check_laws.specs.Spots as spots;
 ghost use Rattle.check_call.specs.Calls.{spot_in};
 ghost use Rattle.check_call.specs.Kept.{Beside, StandsFor, is_incoming};
-ghost use Rattle.homa_plain.specs.View.{nothing_seen, View};
+ghost use Rattle.trace_rules.specs.View.{nothing_seen, View};
 ghost use Rattle.homa_plain.specs.declared.id.CallId.{CallId as ACall};
 ghost use Rattle.homa_plain.specs.declared.id.HostId.{HostId as AHost};
 

@@ -12,15 +12,15 @@ use Rattle.homa_plain.specs.declared.fault.WorldFault.TheVariants.{NoSuchHost, S
 use Rattle.homa_plain.specs.Calls.{call_cmp}
 use Rattle.homa_plain.specs.Entries.{PlainEntry, PlainDeliver, PlainRestart, PlainInject, PlainShift, PlainFinished, PlainRefused, PlainStalled}
 use Rattle.homa_plain.specs.Input.{lines_of, without_feed, ends_in_feed}
-use Rattle.homa_plain.specs.Judge.{Obeys}
-use Rattle.homa_plain.specs.Laws.{Holds}
+use Rattle.trace_rules.specs.Judge.{Obeys}
+use Rattle.trace_rules.specs.Laws.{Holds}
 use Rattle.homa_plain.specs.Rules.{Answer}
 use Rattle.homa_plain.specs.Script.{most_bytes}
-use Rattle.homa_plain.specs.Seen.{seen}
+use Rattle.trace_rules.specs.Seen.{seen}
 use Rattle.homa_plain.specs.Text.{entry_words, line_text}
-use Rattle.homa_plain.specs.View.{View, nothing_seen}
+use Rattle.trace_rules.specs.View.{View, nothing_seen}
 use Rattle.step_laws.proofs.Places.{all-append}
-use Rattle.trace_induction.proofs.Hosts.{none_some}
+use Rattle.step_moves.proofs.Hosts.{none_some}
 use Rattle.node_runs.specs.Script.{Setup, Calls, Opened, opening}
 use Rattle.node_runs.specs.Course.{AreTicks, Receive, End, Ended, RefusedAt, StalledAt, Run, node_run}
 use Rattle.node_runs.specs.Recorder.{no_notes}

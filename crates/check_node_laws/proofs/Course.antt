@@ -8,20 +8,21 @@ use Rattle.homa_plain.specs.Settings.{IsValid}
 use Rattle.homa_plain.specs.Entries.{PlainEntry, PlainSettings, PlainCall, PlainClock, PlainRecv}
 use Rattle.homa_plain.specs.Packets.{Packet, send_line}
 use Rattle.homa_plain.specs.Host.{Host, Told, Says, Sends, packets_in, entries_from}
-use Rattle.homa_plain.specs.Laws.{Holds}
+use Rattle.trace_rules.specs.Laws.{Holds}
 use Rattle.homa_plain.specs.Rules.{Answer}
 use Rattle.homa_plain.specs.Script.{most_bytes}
 use Rattle.homa_plain.specs.Steps.{next_id, call_step, arrival_step, turn_step}
-use Rattle.homa_plain.specs.View.{View, nothing_seen}
-use Rattle.homa_plain.specs.Seen.{seen, seen_all}
+use Rattle.trace_rules.specs.View.{View, nothing_seen}
+use Rattle.trace_rules.specs.Seen.{seen, seen_all}
 use Rattle.homa_plain.specs.Wire.{packet_in}
 use Rattle.homa_plain.specs.World.{World, After, Done, outcome, host_at, own_clock, next_answer, arrives_at, stamped}
 use Rattle.homa_plain.specs.Replay.{bare}
-use Rattle.trace_lines.proofs.Lines.{IsSaid, AllInner, told_same}
-use Rattle.trace_induction.proofs.Events.{after_step, IsCalled, IsTurned, call_done, turn_done}
-use Rattle.trace_induction.proofs.Hosts.{within}
-use Rattle.trace_induction.specs.Stands.{stand}
-use Rattle.trace_lifetime.specs.Kept.{PacketFits}
+use Rattle.trace_steps.proofs.Lines.{told_same}
+use Rattle.step_moves.proofs.Inner.{AllInner, IsSaid}
+use Rattle.trace_steps.proofs.Events.{after_step, IsCalled, IsTurned, call_done, turn_done}
+use Rattle.step_moves.proofs.Hosts.{within}
+use Rattle.trace_steps.specs.Stands.{stand}
+use Rattle.trace_once.specs.Kept.{PacketFits}
 use Rattle.node_runs.specs.Script.{Setup, TimedCall, Calls, Opened, opening}
 use Rattle.node_runs.specs.Course.{AreTicks, Report, Tells, Turning, Arrival, Receive, packet_from, arrival_outcome, new_node, node_run}
 use Rattle.node_runs.specs.Recorder.{Notes, no_notes}

@@ -24,11 +24,11 @@ use Rattle.homa_plain.specs.Text.{settings_numbers}
 use Rattle.homa_plain.specs.Entries.{PlainEntry, PlainSettings, PlainCall, PlainClock, PlainJunk, PlainStale, PlainSend, PlainRun, PlainDone, PlainFail}
 use Rattle.homa_plain.specs.Entries.{PlainDrop, PlainGaps, PlainBury, PlainFree, PlainFullRows, PlainFullPages, PlainBalance, PlainRecv}
 use Rattle.homa_plain.specs.Packets.{sender_of, receiver_of}
-use Rattle.homa_plain.specs.View.{View, Called, Sent, Ran}
-use Rattle.homa_plain.specs.Seen.{seen, begun, delivered, delivery, refused, failed, is_delivery_to}
-use Rattle.homa_plain.specs.Laws.{IsReturned, answers, is_run_in}
-use Rattle.homa_plain.specs.Judge.{Obeys}
-use Rattle.homa_plain.specs.Shape.{IsMade}
+use Rattle.trace_rules.specs.View.{View, Called, Sent, Ran}
+use Rattle.trace_rules.specs.Seen.{seen, begun, delivered, delivery, refused, failed, is_delivery_to}
+use Rattle.trace_rules.specs.Laws.{IsReturned, answers, is_run_in}
+use Rattle.trace_rules.specs.Judge.{Obeys}
+use Rattle.trace_rules.specs.Shape.{IsMade}
 use Rattle.homa_plain.proofs.CallOrder.{call_total, calls_are}
 use Rattle.world_laws.specs.Sound.{IsMessage, AreCutoffs}
 use Rattle.check_reader.specs.Told.{FitsHost, FitsCall, FitsId, FitsBody, FitsCutoffs, Fits, IsUsual, IsBareButData}

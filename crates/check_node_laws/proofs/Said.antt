@@ -12,11 +12,12 @@ use Rattle.homa_plain.specs.Entries.{PlainRefused, PlainStalled, PlainJunk, Plai
 use Rattle.homa_plain.specs.Entries.{PlainBury, PlainFree, PlainFullRows, PlainFullPages, PlainBalance, PlainRecv}
 use Rattle.homa_plain.specs.Packets.{Packet, sender_of, receiver_of, send_line}
 use Rattle.homa_plain.specs.Host.{Told, Says, Sends, packets_in, entries_from}
-use Rattle.homa_plain.specs.Laws.{Holds}
-use Rattle.homa_plain.specs.View.{View, Called}
-use Rattle.homa_plain.specs.Seen.{seen}
+use Rattle.trace_rules.specs.Laws.{Holds}
+use Rattle.trace_rules.specs.View.{View, Called}
+use Rattle.trace_rules.specs.Seen.{seen}
 use Rattle.homa_plain.specs.World.{last_tick}
-use Rattle.trace_lines.proofs.Lines.{IsSaid, AllInner, inner_same, said_inner}
+use Rattle.trace_steps.proofs.Lines.{inner_same}
+use Rattle.step_moves.proofs.Inner.{said_inner, AllInner, IsSaid}
 use Rattle.world_laws.specs.Sound.{IsSent}
 use Rattle.node_laws.proofs.Told.{FitsEntry, AllTold}
 use Rattle.node_laws.proofs.Inner.{IsAt, AllAt}

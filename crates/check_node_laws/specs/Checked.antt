@@ -12,21 +12,21 @@ use Rattle.check_verdict.specs.Text.{IsTrace}
 use Rattle.check_verdict.specs.Verdict.{longest_input, verdict_of, Yes}
 use Rattle.node_trace_laws.specs.Honest.{AreHonest, lines}
 
--- a net hands up bytes, at most 1,500 of them, from a host whose number has 16 bits
+-- a net gives bytes, at most 1,500 of them, from a host whose number has 16 bits
 pub record IsHandedUp (a : Arrival) : Type 0 where
   pub is : IsReceived a
   pub host : a.from.0 < 2 ^ 16
 
--- so does each of these receives that gave something
+-- each of these receives that gave something gave such bytes, from such a host
 abbrev pub AreHandedUp : List Receive → Type 0
 AreHandedUp receives = AllByRecursion (λ (r : Receive). IfSome r.got IsHandedUp) receives
 
--- the text is a trace of so many lines as the run has, and the verdict on it is yes
+-- the text is a trace of as many lines as the run has, and the verdict on it is yes
 pub record IsTraceOf (run : Run) : Type 0 where
   pub trace : IsTrace (node_text run) (length (lines run))
   pub verdict : verdict_of (node_text run) ≡ Yes (length (lines run))
 
--- where a node's net hands up such datagrams and is honest, its text is a trace, if it is no longer than an input may be
+-- if a node's net gives such datagrams and is honest, its text is a trace, unless it is longer than an input may be
 abbrev pub NodeTextsAreTraces : Type 0
 NodeTextsAreTraces =
     (bytes : List ℕ) (setup : Setup) (calls : Calls) (answers : List Answer) (ticks : List ℕ) (receives : List Receive)

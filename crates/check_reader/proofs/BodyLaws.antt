@@ -8,10 +8,11 @@ use Rattle.homa_plain.specs.declared.packet.Body.{Body}
 use Rattle.homa_plain.specs.declared.packet.Body.TheVariants as body
 use Rattle.homa_plain.specs.declared.packet.Cutoffs.{Cutoffs}
 use Rattle.homa_plain.proofs.WireFields.{bind_some, some_is}
-use Rattle.check_reader.specs.declared.bodies.Kind.{Kind}
-use Rattle.check_reader.specs.declared.bodies.Kind.TheVariants.{Data, Grant, Resend, Busy, Cutoffs as CutoffsKind, Unknown, NeedAck, Ack}
+use Rattle.homa_plain.specs.declared.packet.Kind.{Kind}
+use Rattle.homa_plain.specs.declared.packet.Kind.TheVariants.{Data, Grant, Resend, Busy, Cutoffs as CutoffsKind, Unknown, NeedAck, Ack}
 use Rattle.check_words.specs.Fields.{◌⊗◌, number_below, number_at, ack_of, ack_at, hex_of, hex_at, cutoffs_at, call_of, times, ended}
-use Rattle.check_reader.specs.Bodies.{kind_name, kinds, kind_of, bare, calls_in, piece_at, data_in, grant_in, resend_in, body_in}
+use Rattle.homa_plain.specs.Kinds.{body_kind, kind_name, kinds}
+use Rattle.check_reader.specs.Bodies.{kind_of, bare, calls_in, piece_at, data_in, grant_in, resend_in, body_in}
 use Rattle.check_reader.specs.Told.{FitsCall, FitsCutoffs, FitsBody, IsBareButData}
 use Rattle.check_words.proofs.Readers.{ReadsWord, Reads, ArePlain, reads_word, reads_both, reads_value, reads_times, whole_takes, whole_again, one_of-takes}
 use Rattle.check_reader.proofs.WordLaws.{reads_number, reads_numbers, reads_call, reads_ack, FitsAck, Any, wide8, wide16, wide32}
@@ -226,16 +227,6 @@ body_takes Ack words told e =
 
 -- ---- what is told is read
 
-abbrev pub kind_of_body : Body → Kind
-kind_of_body (body.Data size offset version service ack) = Data
-kind_of_body (body.Grant offset prio) = Grant
-kind_of_body (body.Resend from to prio) = Resend
-kind_of_body body.Busy = Busy
-kind_of_body (body.Cutoffs cutoffs) = CutoffsKind
-kind_of_body (body.Unknown reason) = Unknown
-kind_of_body body.NeedAck = NeedAck
-kind_of_body (body.Ack more) = Ack
-
 -- level, body and payload, as the line tells them
 abbrev pub shown_body : ℕ → Body → List ℕ → ℕ × Body × List ℕ
 shown_body level (body.Data size offset version service ack) payload = (level, body.Data size offset version service ack, payload)
@@ -248,7 +239,7 @@ shown_body level body.NeedAck payload = bare body.NeedAck
 shown_body level (body.Ack more) payload = bare (body.Ack more)
 
 pub body_again : (level : ℕ) (what : Body) (payload : List ℕ) → level < 2 ^ 8 → FitsBody what → IsBytes payload
-    → body_in (kind_of_body what) (body_words level what payload) ≡ Some (shown_body level what payload)
+    → body_in (body_kind what) (body_words level what payload) ≡ Some (shown_body level what payload)
 unfolding body_in data_in grant_in resend_in
 body_again level (body.Data size offset version service ack) payload l fits bytes =
     whole_again (λ x. (x.0, x.1.0, x.1.1)) (number_at (2 ^ 8) ⊗ piece_at ⊗ hex_at) _ _ reads_data
@@ -306,7 +297,7 @@ kind_plain Ack any = (refl, tt)
 pub reads_kind : ReadsWord kind_of kind_name Any
 reads_kind = record { takes = kind_takes; again = kind_again; plain = λ kind any. (kind_plain kind any).0 }
 
-pub kind_name-body : (what : Body) → kind_name (kind_of_body what) ≡ kind_word what
+pub kind_name-body : (what : Body) → kind_name (body_kind what) ≡ kind_word what
 kind_name-body (body.Data size offset version service ack) = refl
 kind_name-body (body.Grant offset prio) = refl
 kind_name-body (body.Resend from to prio) = refl

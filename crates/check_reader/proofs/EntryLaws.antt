@@ -19,7 +19,7 @@ use Rattle.homa_plain.specs.declared.packet.Body.TheVariants as body
 use Rattle.homa_plain.specs.declared.packet.Role.{Role}
 use Rattle.homa_plain.specs.declared.fault.LineFault.{LineFault}
 use Rattle.homa_plain.proofs.WireFields.{bind_some, some_is}
-use Rattle.check_reader.specs.declared.bodies.Kind.{Kind}
+use Rattle.homa_plain.specs.declared.packet.Kind.{Kind}
 use Rattle.check_reader.specs.declared.entries.Form.{Form}
 use Rattle.check_reader.specs.declared.entries.Form.TheVariants.{Settings, Call, Deliver, Clock, Restart, Inject, Shift, Junk, Stale, Send, Run, Done}
 use Rattle.check_reader.specs.declared.entries.Form.TheVariants.{Fail, Drop, Gaps, Bury, Free, Full, Balance, Recv, Finished, Refused, Stalled}
@@ -27,19 +27,20 @@ use Rattle.check_reader.specs.declared.entries.Lack.{Lack}
 use Rattle.check_reader.specs.declared.entries.Lack.TheVariants.{Rows, Pages}
 use Rattle.check_words.specs.Fields.{◌⊗◌, number_at, host_at, id_of, id_at, route_of, route_at, role_of, role_at, why_of, why_at, hex_of, hex_at}
 use Rattle.check_words.specs.Fields.{cutoffs_at, word_at, parts, whole}
-use Rattle.check_reader.specs.Bodies.{kind_name, kind_of, body_in}
+use Rattle.homa_plain.specs.Kinds.{body_kind, kind_name}
+use Rattle.check_reader.specs.Bodies.{kind_of, body_in}
 use Rattle.check_reader.specs.Refusals.{fault_in}
 use Rattle.check_reader.specs.Forms.{form_name, forms, form_of, settings_in, call_in, deliver_in, clock_in, restart_in, inject_in, shift_in, junk_in}
 use Rattle.check_reader.specs.Forms.{stale_in, send_in, run_in, done_in, fail_in, drop_in, gaps_in, free_in, bury_in, lack_name, lack_of, lack_in}
 use Rattle.check_reader.specs.Forms.{full_entry, full_in, balance_in, recv_in, finished_in, refused_in, stalled_in, form_in, entry_in, entry_of}
 use Rattle.check_reader.specs.Told.{FitsHost, FitsId, FitsCutoffs, FitsFault, Fits, IsUsual}
-use Rattle.homa_text.proofs.Feeds.{ends_in_feed-feed}
+use Rattle.text_lines.proofs.Feeds.{ends_in_feed-feed}
 use Rattle.check_words.proofs.NumberWords.{HasNo, HasNoBlank, or_parts}
 use Rattle.check_words.proofs.Readers.{Reads, ArePlain, reads_word, reads_both, whole_takes, whole_again, one_of-takes, parts-joined, ArePlain-no}
 use Rattle.check_reader.proofs.WordLaws.{none-append, reads_numbers, reads_hosts, reads_id, reads_route, FitsRoute, route_text, reads_role, reads_why}
 use Rattle.check_reader.proofs.WordLaws.{Any, wide8, wide32, wide64}
 use Rattle.check_words.proofs.HexLaws.{reads_hex}
-use Rattle.check_reader.proofs.BodyLaws.{Tells, body_takes, body_again, body_plain, shown_body, kind_of_body, kind_name-body, reads_kind, reads_cutoffs}
+use Rattle.check_reader.proofs.BodyLaws.{Tells, body_takes, body_again, body_plain, shown_body, kind_name-body, reads_kind, reads_cutoffs}
 use Rattle.check_reader.proofs.FaultLaws.{fault_takes, fault_again, fault_plain}
 use Rattle.check_reader.proofs.SettingsLaws.{settings_takes, settings_again, settings_plain}
 
@@ -308,12 +309,12 @@ again_whole make read s P r x fits = (whole_again make read s P r x fits, r.plai
 
 send_again : (number : ℕ) (from to : HostId) (inc : ℕ) (role : Role) (id : CallId) (level : ℕ) (what : Body) (payload : List ℕ)
     → Fits (PlainSend number from to inc role id level what payload)
-    → (send_in (head_words (number, ((from, to), (inc, (kind_of_body what, (role, id))))) ++ body_words level what payload) ≡ Some
+    → (send_in (head_words (number, ((from, to), (inc, (body_kind what, (role, id))))) ++ body_words level what payload) ≡ Some
     (shown (PlainSend number from to inc role id level what payload)))
-    × ArePlain (head_words (number, ((from, to), (inc, (kind_of_body what, (role, id))))) ++ body_words level what payload)
+    × ArePlain (head_words (number, ((from, to), (inc, (body_kind what, (role, id))))) ++ body_words level what payload)
 unfolding send_in
 send_again number from to inc role id level what payload f =
-    let head : Head = (number, ((from, to), (inc, (kind_of_body what, (role, id))))) in
+    let head : Head = (number, ((from, to), (inc, (body_kind what, (role, id))))) in
     let fits : FitsHead head = (f.0, (f.1, (f.2, (tt, (tt, f.3))))) in
     let plain = reads_head.plain head fits in (
       rw (reads_head.again head (body_words level what payload) fits, body_again level what payload f.4 f.5 f.6) refl,

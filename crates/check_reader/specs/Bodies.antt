@@ -3,24 +3,10 @@ use Rattle.std.specs.Prelude.{ℕ, zero, suc, ◌^◌, Option, None, Some, List,
 use Rattle.homa_plain.specs.Bytes.{◌>>=◌}
 use Rattle.homa_plain.specs.declared.packet.Body.{Body}
 use Rattle.homa_plain.specs.declared.packet.Body.TheVariants as body
-use Rattle.check_reader.specs.declared.bodies.Kind.{Kind}
-use Rattle.check_reader.specs.declared.bodies.Kind.TheVariants.{Data, Grant, Resend, Busy, Cutoffs, Unknown, NeedAck, Ack}
+use Rattle.homa_plain.specs.declared.packet.Kind.{Kind}
+use Rattle.homa_plain.specs.declared.packet.Kind.TheVariants.{Data, Grant, Resend, Busy, Cutoffs, Unknown, NeedAck, Ack}
+use Rattle.homa_plain.specs.Kinds.{kind_name, kinds}
 use Rattle.check_words.specs.Fields.{◌⊗◌, number_at, ack_at, hex_at, cutoffs_at, call_of, one_of, with_value, whole, ended}
-
--- a packet's kind, as a word
-abbrev pub kind_name : Kind → List ℕ
-kind_name Data = codes "DATA"
-kind_name Grant = codes "GRANT"
-kind_name Resend = codes "RESEND"
-kind_name Busy = codes "BUSY"
-kind_name Cutoffs = codes "CUTOFFS"
-kind_name Unknown = codes "UNKNOWN"
-kind_name NeedAck = codes "NEED_ACK"
-kind_name Ack = codes "ACK"
-
--- all kinds of packets
-abbrev pub kinds : List Kind
-kinds = Data ∷ Grant ∷ Resend ∷ Busy ∷ Cutoffs ∷ Unknown ∷ NeedAck ∷ Ack ∷ []
 
 -- the kind whose word this is
 unfoldable pub kind_of : List ℕ → Option Kind

@@ -3,59 +3,17 @@ ghost use Rattle.std.specs.Prelude.{◌≡◌, ◌*◌, ◌^◌, ◌≤◌, leng
 ghost use Rattle.std.specs.Option.{option_map};
 ghost use Rattle.check_words.specs.Fields.{times, word_at, number_at, cutoffs_at, ended};
 ghost use Rattle.check_words.specs.FieldsLeft.{left, size};
-ghost use Rattle.check_reader.specs.Bodies.{bare, kind_name, kind_of, calls_in, piece_at, data_in, grant_in, resend_in, body_in};
+ghost use Rattle.check_reader.specs.Bodies.{bare, kind_of, calls_in, piece_at, data_in, grant_in, resend_in, body_in};
 
 use check_words::{Fields, call_from, read_ack, read_last_hex, read_u8, read_u16, read_u32};
-use homa_plain::{Body, Cutoffs, More};
-
-// A packet's kind.
-#[derive(Clone, Copy)]
-pub(crate) enum Kind {
-    Data,
-    Grant,
-    Resend,
-    Busy,
-    Cutoffs,
-    Unknown,
-    NeedAck,
-    Ack,
-}
-
-const KINDS: [Kind; 8] = [
-    Kind::Data,
-    Kind::Grant,
-    Kind::Resend,
-    Kind::Busy,
-    Kind::Cutoffs,
-    Kind::Unknown,
-    Kind::NeedAck,
-    Kind::Ack,
-];
-
-impl Kind {
-    // Its word.
-    fn name(self) -> &'static [u8]
-        ensures { result.now ≡ kind_name self }
-    {
-        match self {
-            Kind::Data => b"DATA",
-            Kind::Grant => b"GRANT",
-            Kind::Resend => b"RESEND",
-            Kind::Busy => b"BUSY",
-            Kind::Cutoffs => b"CUTOFFS",
-            Kind::Unknown => b"UNKNOWN",
-            Kind::NeedAck => b"NEED_ACK",
-            Kind::Ack => b"ACK",
-        }
-    }
-}
+use homa_plain::{Body, Cutoffs, Kind, More};
 
 // A packet's kind, as a word.
 #[tactic(auto, unfolding(crate::specs::Bodies::kind_of))]
 fn kind_from(word: &[u8]) -> Option<Kind>
     ensures { result ≡ kind_of word.now }
 {
-    KINDS.iter().copied().find(|kind| word == kind.name())
+    Kind::ALL.iter().copied().find(|kind| word == kind.word())
 }
 
 // A packet's kind.

@@ -6,7 +6,7 @@ ghost use Rattle.check_reader.specs.Refusals.{setting_in, two_in, world_in, long
 
 use check_words::{Fields, read_u32, read_u64};
 use homa_plain::{LineFault, Name, ScriptFault, SettingFault, StartFault, WorldFault};
-use homa_text::{read_name, start_bytes};
+use text_lines::{read_name, start_bytes};
 
 // The refusals that are one word.
 const PLAIN: [LineFault; 14] = [

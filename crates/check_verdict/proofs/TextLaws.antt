@@ -7,10 +7,10 @@ use Rattle.std.proofs.lemmas.Bool.Decides.{nat_tests}
 use Rattle.homa_plain.specs.Entries.{PlainEntry}
 use Rattle.homa_plain.specs.Input.{lines_of, without_feed}
 use Rattle.homa_plain.specs.Text.{line_text}
-use Rattle.homa_plain.specs.View.{View, nothing_seen}
-use Rattle.homa_plain.specs.Seen.{seen, seen_all}
-use Rattle.homa_plain.specs.Judge.{Clause, ShapeClause, judged, found_or, first_from, FailsFirst, IsFirstBroken}
-use Rattle.homa_plain.proofs.LawsJudged.{none_found, some_found}
+use Rattle.trace_rules.specs.View.{View, nothing_seen}
+use Rattle.trace_rules.specs.Seen.{seen, seen_all}
+use Rattle.trace_rules.specs.Judge.{Clause, ShapeClause, judged, found_or, first_from, FailsFirst, IsFirstBroken}
+use Rattle.trace_rules.proofs.LawsJudged.{none_found, some_found}
 use Rattle.check_reader.specs.Forms.{entry_of}
 use Rattle.check_reader.specs.Told.{Fits, IsUsual}
 use Rattle.check_reader.proofs.EntryLaws.{HasLine, entry_of-takes, entry_of-again, one_entry}

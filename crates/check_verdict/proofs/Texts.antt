@@ -10,9 +10,9 @@ use Rattle.plain_sets.specs.Ordered.{ordered, firsts}
 use Rattle.homa_plain.specs.Bytes.{number_at, two_at}
 use Rattle.homa_plain.specs.Wire.{packet_in, packet_at, packet_of, body_at, tick_at, data_at, ack_at, grant_at, resend_at, cutoffs_at, unknown_at}
 use Rattle.homa_plain.specs.Wire.{more_at, calls_at}
-use Rattle.homa_plain.specs.Seen.{seen}
-use Rattle.homa_plain.specs.Granting.{allowed}
-use Rattle.homa_plain.specs.Judge.{ShapeClause, OnceClause, ReturnedClause, HandedUpClause, FailsClause, GrantingClause, judged}
+use Rattle.trace_rules.specs.Seen.{seen}
+use Rattle.trace_rules.specs.Granting.{allowed}
+use Rattle.trace_rules.specs.Judge.{ShapeClause, OnceClause, ReturnedClause, HandedUpClause, FailsClause, GrantingClause, judged}
 use Rattle.check_words.specs.Fields.{host_of, id_of, route_of, hex_of, ack_of, call_of, role_of, why_of, times}
 use Rattle.check_reader.specs.Bodies.{kind_of, piece_at, data_in, grant_in, resend_in, calls_in, body_in}
 use Rattle.check_reader.specs.Forms.{entry_of, entry_in, form_of, form_in, last_two_in, settings_in, call_in, deliver_in, clock_in, restart_in}

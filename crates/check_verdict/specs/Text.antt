@@ -3,10 +3,10 @@ use Rattle.std.specs.Prelude.{◌≡◌, ◌⊎◌, ℕ, ◌+◌, ◌<◌, ◌�
 use Rattle.homa_plain.specs.Entries.{PlainEntry}
 use Rattle.homa_plain.specs.Input.{lines_of, without_feed}
 use Rattle.homa_plain.specs.Text.{line_text}
-use Rattle.homa_plain.specs.View.{View, nothing_seen}
-use Rattle.homa_plain.specs.Seen.{seen_all}
-use Rattle.homa_plain.specs.Laws.{Holds}
-use Rattle.homa_plain.specs.Judge.{Clause, ShapeClause, Obeys, FailsFirst}
+use Rattle.trace_rules.specs.View.{View, nothing_seen}
+use Rattle.trace_rules.specs.Seen.{seen_all}
+use Rattle.trace_rules.specs.Laws.{Holds}
+use Rattle.trace_rules.specs.Judge.{Clause, ShapeClause, Obeys, FailsFirst}
 use Rattle.check_reader.specs.Told.{Fits, IsUsual}
 use Rattle.check_verdict.specs.Verdict.{longest_line, longest_input}
 

@@ -2,9 +2,9 @@
 use Rattle.std.specs.Prelude.{ℕ, ◌+◌, ◌||◌, nat_lt, if◌then◌else◌, Option, None, Some, List, [], ◌∷◌, length}
 use Rattle.homa_plain.specs.Entries.{PlainEntry}
 use Rattle.homa_plain.specs.Input.{lines_of, without_feed}
-use Rattle.homa_plain.specs.View.{View, nothing_seen}
-use Rattle.homa_plain.specs.Seen.{seen}
-use Rattle.homa_plain.specs.Judge.{Clause, ShapeClause, judged}
+use Rattle.trace_rules.specs.View.{View, nothing_seen}
+use Rattle.trace_rules.specs.Seen.{seen}
+use Rattle.trace_rules.specs.Judge.{Clause, ShapeClause, judged}
 use Rattle.check_reader.specs.Forms.{entry_of}
 
 -- the most bytes of a line, its line feed not counted

@@ -8,7 +8,7 @@
 #![tactic(auto)]
 
 ghost use Rattle.std.specs.Prelude.{◌≡◌, ◌↔◌, ℕ, List};
-ghost use Rattle.homa_plain.specs.Judge.{Clause, ShapeClause, OnceClause, ReturnedClause, HandedUpClause, FailsClause, GrantingClause};
+ghost use Rattle.trace_rules.specs.Judge.{Clause, ShapeClause, OnceClause, ReturnedClause, HandedUpClause, FailsClause, GrantingClause};
 ghost use Rattle.check_verdict.specs.Verdict.{verdict_of, Yes, No};
 ghost use Rattle.check_verdict.specs.Rows.{nothing, one_call, no_settings, run_twice, another_answer, done_is_missing, grant_too_far, timeout_too_early};
 ghost use Rattle.check_verdict.specs.Rows.{late_packet, burial_to_its_end, server_restarts, server_is_full, node, stale_packet};

@@ -7,8 +7,8 @@ ghost use Rattle.check_words.specs.FieldsLeft.{byte_of, left, size, parts_left, 
 
 use crate::digits::read_pairs;
 use homa_plain::{CallId, HostId, Role, Why};
-use homa_text::read_number;
 use memchr::memchr;
+use text_lines::read_number;
 
 /// What stands between two words.
 #[derive(Clone, Copy)]

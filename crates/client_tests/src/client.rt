@@ -2,7 +2,7 @@ ghost use Rattle.std.specs.Prelude.{◌≡◌, ◌≤◌, ◌<◌, IfOk, IsSome}
 ghost use Rattle.host_places.specs.Placed.{spot_at};
 ghost use Rattle.homa_plain.specs.Settings.{IsValid};
 ghost use Rattle.homa_plain.specs.Wire.{FitsKind};
-ghost use Rattle.host_incoming.specs.Pooled.{AreIn};
+ghost use Rattle.homa_in.specs.Pooled.{AreIn};
 ghost use Rattle.homa_client.specs.AtTable.{part_at};
 
 use homa_client::*;

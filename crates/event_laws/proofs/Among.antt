@@ -32,15 +32,15 @@ use Rattle.homa_plain.proofs.CallOrder.{calls_are}
 use Rattle.step_laws.proofs.Others.{get-set_row, set_row-others}
 use Rattle.step_laws.proofs.Places.{all-append}
 use Rattle.step_laws.proofs.ToldBy.{packets_in-append}
-use Rattle.trace_lines.specs.Told.{HasOwnName}
-use Rattle.trace_moves.proofs.Own.{AllOwn, gets_own, acked_own, server_acts_own, gets_quiet, client_acts_quiet}
-use Rattle.trace_moves.proofs.Moves.{IsMove, reply_told, acknowledged_told, finishes_told, served_noted, served_told, served_packets, served-move}
-use Rattle.trace_moves.proofs.AskedMove.{asked_noted, asked_said, asked_told, asked_packets, asked-move}
-use Rattle.trace_moves.proofs.SendMoves.{server_granted-move, client_granted-move, response_leaves-move, request_leaves-move, says-move}
-use Rattle.trace_moves.proofs.SendMoves.{hears-move}
-use Rattle.trace_induction.proofs.Hosts.{none_some, some_is}
-use Rattle.trace_induction.proofs.Chosen.{IsTimerAt}
-use Rattle.trace_induction.proofs.Folds.{turn_kept, ended_kept, GrantKeeps, PieceKeeps}
+use Rattle.step_moves.specs.Worlds.{HasOwnName}
+use Rattle.step_laws.proofs.Own.{AllOwn, gets_own, acked_own, server_acts_own, gets_quiet, client_acts_quiet}
+use Rattle.step_moves.proofs.Moves.{IsMove, reply_told, acknowledged_told, finishes_told, served_noted, served_told, served_packets, served-move}
+use Rattle.step_moves.proofs.AskedMove.{asked_noted, asked_said, asked_told, asked_packets, asked-move}
+use Rattle.step_moves.proofs.SendMoves.{server_granted-move, client_granted-move, response_leaves-move, request_leaves-move, says-move}
+use Rattle.step_moves.proofs.SendMoves.{hears-move}
+use Rattle.step_moves.proofs.Hosts.{none_some, some_is}
+use Rattle.step_moves.proofs.Chosen.{IsTimerAt}
+use Rattle.step_moves.proofs.Folds.{turn_kept, ended_kept, GrantKeeps, PieceKeeps}
 use Rattle.event_laws.specs.Named.{IsOwnStep}
 use Rattle.event_laws.specs.Among.{IsAmong, IsAmongStep}
 use Rattle.event_laws.proofs.Names.{named_served, named_asked, grants_named, pieces_named, named_beside, begun_named, started_named}

@@ -23,16 +23,16 @@ use Rattle.homa_plain.specs.Steps.{Work, begun, now_of, moment, asked, served, h
 use Rattle.homa_plain.specs.Steps.{server_acted, acts_at, acts, ended, next_id, new_call, starts, refilled, call_step, arrival_step, turn_step}
 use Rattle.step_laws.proofs.ToldBy.{packets_in-append}
 use Rattle.step_laws.proofs.Places.{all-append}
-use Rattle.trace_lines.specs.Told.{HasOwnName}
-use Rattle.trace_lines.proofs.Lines.{IsSaid, AllInner}
-use Rattle.trace_moves.proofs.Own.{AllOwn, gets_own, acked_own, server_acts_own, gets_quiet, client_acts_quiet}
-use Rattle.trace_moves.proofs.Moves.{IsFrom, IsMove, served_told, served-move}
-use Rattle.trace_moves.proofs.AskedMove.{asked_told, asked-move}
-use Rattle.trace_moves.proofs.SendMoves.{server_granted-move, client_granted-move, response_leaves-move, request_leaves-move, says-move, hears-move}
-use Rattle.trace_induction.proofs.Hosts.{none_some}
-use Rattle.trace_induction.proofs.ToldMoves.{own_set}
-use Rattle.trace_induction.proofs.Chosen.{IsTimerAt}
-use Rattle.trace_induction.proofs.Folds.{acked_kept, turn_kept, ended_kept, GrantKeeps, PieceKeeps}
+use Rattle.step_moves.specs.Worlds.{HasOwnName}
+use Rattle.step_moves.proofs.Inner.{AllInner, IsSaid}
+use Rattle.step_laws.proofs.Own.{AllOwn, gets_own, acked_own, server_acts_own, gets_quiet, client_acts_quiet}
+use Rattle.step_moves.proofs.Moves.{IsFrom, IsMove, served_told, served-move}
+use Rattle.step_moves.proofs.AskedMove.{asked_told, asked-move}
+use Rattle.step_moves.proofs.SendMoves.{server_granted-move, client_granted-move, response_leaves-move, request_leaves-move, says-move, hears-move}
+use Rattle.step_moves.proofs.Hosts.{none_some}
+use Rattle.step_moves.proofs.Names.{own_set}
+use Rattle.step_moves.proofs.Chosen.{IsTimerAt}
+use Rattle.step_moves.proofs.Folds.{acked_kept, turn_kept, ended_kept, GrantKeeps, PieceKeeps}
 use Rattle.event_laws.specs.Named.{IsOfStep, IsOwnStep, numbered}
 
 -- ---- a move

@@ -6,7 +6,7 @@ use Rattle.homa_plain.specs.Entries.{PlainEntry, PlainRestart, PlainSend}
 use Rattle.homa_plain.specs.Packets.{Packet, sender}
 use Rattle.homa_plain.specs.Host.{Told, Says, packets_in}
 use Rattle.homa_plain.specs.Steps.{Work}
-use Rattle.trace_lines.specs.Told.{HasOwnName}
+use Rattle.step_moves.specs.Worlds.{HasOwnName}
 
 -- what a step tells: no `send` line but by a packet, and no restart
 abbrev pub IsOfStep : Told → Type 0

@@ -22,7 +22,7 @@ ghost use Rattle.homa_plain.specs.Host.{Host, Told, new_host, entries_from};
 ghost use Rattle.homa_plain.specs.Rules.{Answer};
 ghost use Rattle.homa_plain.specs.Steps.{call_step, arrival_step, turn_step, start_fault};
 ghost use Rattle.homa_plain.specs.World.{World, SentPacket, host_at, own_clock, is_late, last_tick};
-ghost use Rattle.trace_lines.specs.Told.{HasOwnName};
+ghost use Rattle.step_moves.specs.Worlds.{HasOwnName};
 ghost use Rattle.event_laws.specs.Apart.{IsApart, IsApartStep};
 ghost use Rattle.event_laws.specs.Among.{IsAmong, IsAmongStep, IsBelow};
 ghost use Rattle.event_laws.specs.Named.{IsOfStep, IsOwnStep, numbered};

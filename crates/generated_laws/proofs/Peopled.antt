@@ -11,8 +11,8 @@ use Rattle.homa_plain.specs.Rules.{Answer}
 use Rattle.homa_plain.specs.Steps.{Work}
 use Rattle.homa_plain.specs.World.{World, SentPacket, new_world, new_hosts, host_at, stamped, answers_left}
 use Rattle.step_laws.proofs.Places.{all-append}
-use Rattle.trace_lines.specs.Told.{HasOwnName}
-use Rattle.trace_induction.proofs.Hosts.{there, elsewhere, length-set, within, some_is, apart, number_of}
+use Rattle.step_moves.specs.Worlds.{HasOwnName}
+use Rattle.step_moves.proofs.Hosts.{there, elsewhere, length-set, within, some_is, apart, number_of}
 use Rattle.event_laws.specs.Among.{IsAmong, IsAmongStep, IsBelow}
 use Rattle.event_laws.specs.Named.{IsOwnStep}
 use Rattle.event_laws.proofs.Among.{new_among}

@@ -23,7 +23,7 @@ use Rattle.generated_runs.specs.Rounds.{round_begun, next_round}
 use Rattle.generated_runs.proofs.Going.{handed_to, after_handed, by_number, host_step, host_none, hosts_step, hosts_none}
 use Rattle.generated_runs.proofs.Going.{by_left, calls_step, calls_none, round_is}
 use Rattle.generated_runs.proofs.Counting.{length-counting}
-use Rattle.trace_induction.proofs.Hosts.{length-set, within}
+use Rattle.step_moves.proofs.Hosts.{length-set, within}
 use Rattle.generated_laws.specs.Unrefused.{IsRunLine}
 use Rattle.generated_laws.proofs.Listed.{set_at, set_here, map_at, there_is, get_front}
 use Rattle.generated_laws.proofs.Peopled.{calls_more}

@@ -9,7 +9,7 @@ use Rattle.homa_plain.specs.World.{SentPacket}
 use Rattle.generated_runs.specs.Fabric.{Queued, Destination, Fabric, idle, destination, with_destination, level_of, with_level, sent, most_queued, round_bytes}
 use Rattle.generated_runs.specs.Rounds.{all_sent}
 use Rattle.step_laws.proofs.Places.{all-append}
-use Rattle.trace_induction.proofs.Hosts.{length-set}
+use Rattle.step_moves.proofs.Hosts.{length-set}
 use Rattle.generated_laws.proofs.Listed.{set_at, replicated, get_front, get_seam}
 
 -- one of these packets, which has a byte at least

@@ -54,7 +54,7 @@ level_of d level = slice_index_or d.levels level []
 abbrev pub with_level : Destination → ℕ → List Queued → Destination
 with_level d level queue = record d { levels = slice_set d.levels level queue }
 
--- a packet that is sent goes to the end of its queue, or is lost where that is full
+-- a packet that is sent goes to the end of its queue, or is lost if the queue is full
 abbrev pub sent : Fabric → ℕ → ℕ → Queued → Fabric
 sent f to level p =
     let d = destination f to in
@@ -97,7 +97,7 @@ first_hop life now d g level (p ∷ ps) =
     else if nat_lt (p.tick + life) now then Loses rest g
     else drawn p (record rest { budget = d.budget - p.size }) (draw 64 g)
 
--- the first packet of this level is looked at; where no level has a packet, the host's round ends
+-- looks at the first packet of this level; if no level has a packet, the host's round ends
 abbrev pub level_hop : ℕ → ℕ → Destination → Lcg → Option ℕ → Hop
 level_hop life now d g None = Ends
 level_hop life now d g (Some level) = first_hop life now d g level (level_of d level)
@@ -111,7 +111,7 @@ again_hop life now d g None = level_hop life now d g (highest 0 d.levels)
 abbrev pub hop : ℕ → ℕ → Destination → Lcg → Hop
 hop life now d g = again_hop life now d g d.again
 
--- what a host is handed next, if its round hasn't ended
+-- what a host gets next, if its round hasn't ended
 pub record Handed : Type 0 where
   pub number : Option ℕ
   pub to : Destination

@@ -55,7 +55,7 @@ with_line s line g =
 
 -- ---- a round
 
--- a host is handed packets until its round ends. No packet has an empty frame, so there are at most twice as many as there are bytes.
+-- a host gets packets until its round ends. No frame is empty, so there are at most twice as many as there are bytes.
 abbrev pub most_handed : ℕ
 most_handed = 32000
 
@@ -80,7 +80,7 @@ abbrev pub live_at : Option Host → ℕ
 live_at None = 0
 live_at (Some h) = len h.clients
 
--- a call is drawn; where its client has as many live calls as the settings allow, it isn't made, but counts
+-- a call is drawn; if its client has as many live calls as the settings allow, it isn't made, but counts
 abbrev pub with_call : Settings → Traffic → Generated → Generated
 with_call s t g =
     let counted = record g { made = g.made + 1; left = g.left - 1 } in
@@ -104,7 +104,7 @@ calls_a_round = 20
 abbrev pub round_begun : Generated → Generated
 round_begun g = record g { fabric = record g.fabric { destinations = map refilled g.fabric.destinations } }
 
--- a round: a tick, then what each host is handed, in order, then up to 20 calls
+-- a round: a tick, then what each host gets, in order, then up to 20 calls
 unfoldable pub next_round : Settings → Generated → Generated
 next_round s g = calls_round calls_a_round s (hosts_round s 0 s.hosts (round_begun (with_line s (GivenTicks 1) g)))
 

@@ -1,5 +1,5 @@
-//! The program: hands the words of the command line, standard input, standard output, sockets on 127.0.0.1
-//! and the system's clock to `run`, and ends with the code of its status.
+//! The program: calls `run` with the words of the command line, standard input and output, sockets on 127.0.0.1 and the
+//! system's clock. It exits with the code of the status.
 #![tactic(auto)]
 
 use homa_io::{StdSink, StdSource};
@@ -9,7 +9,7 @@ use std::alloc::AllocError;
 use std::process::ExitCode;
 use std::{env, io};
 
-// The command line without the program's name; no words where one of them is no text.
+// Returns the command line without the program's name; no words if one of them isn't UTF-8.
 fn words(rt: &HostRuntime) -> Result<Vec<String>, AllocError> {
     let mut words = Vec::new(rt.alloc());
     let args = match env::args(rt) {
@@ -23,7 +23,7 @@ fn words(rt: &HostRuntime) -> Result<Vec<String>, AllocError> {
     Ok(words)
 }
 
-// Hands all to `run`.
+// Calls `run` with all of these.
 fn status(rt: &HostRuntime) -> Result<ExitStatus, AllocError> {
     let alloc = rt.alloc();
     let words = words(rt)?;

@@ -6,10 +6,10 @@ use Rattle.std_alloc.proofs.BoxSteps.Form.{Bx}
 use Rattle.std_heap.specs.contracts.Global as Heap
 use Rattle.std_heap.specs.contracts.GlobalAllocator.TheImpl.{ghosts, dict}
 use Rattle.std_heap.proofs.Global.TheLaws as heap
-use Rattle.asking_host.specs.contracts.asking.AskingHost as Held
+use Rattle.driven_host.specs.contracts.asking.AskingHost as Held
 use Rattle.homa_plain.specs.Settings.{usual}
-use Rattle.asking_host.specs.Asking.{opened}
-use Rattle.asking_host.proofs.asking.AskingHost.TheLaws as held
+use Rattle.driven_host.specs.Asking.{opened}
+use Rattle.driven_host.proofs.asking.AskingHost.TheLaws as held
 use Rattle.homa_c.specs.contracts.handle.slot.parts.Parts as Parts
 use Rattle.homa_c.specs.contracts.handle.slot.Slot as Slotted
 

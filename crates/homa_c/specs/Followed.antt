@@ -4,7 +4,7 @@ use denote.Follow.{follows}
 use Rattle.std.specs.Borrow.{MutBor}
 use Rattle.driven_host.specs.Driven.{Driven}
 use Rattle.homa_c.specs.declared.handle.slot.Slot.{Slot}
-use Rattle.asking_host.specs.contracts.asking.AskingHost as held
+use Rattle.driven_host.specs.contracts.asking.AskingHost as held
 use Rattle.homa_c.specs.contracts.handle.slot.Slot as slot
 
 -- the slot with this host

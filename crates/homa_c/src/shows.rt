@@ -1,5 +1,5 @@
 // What C reads of a host's last step. Each call answers the same until the next call, delivery or turn.
-ghost use Rattle.std.specs.Prelude.{◌≡◌, ◌≢◌, ◌≤◌, ◌<◌, IfSome, true, false, length, take, slice_get};
+ghost use Rattle.std.specs.Prelude.{◌≡◌, ◌≢◌, ◌≤◌, ◌<◌, IfSome, true, false, length, take, drop, slice_get};
 ghost use Rattle.host_view.specs.Marks.{shown_entries};
 ghost use Rattle.homa_c.specs.Shown.{shown_entry};
 
@@ -45,6 +45,7 @@ pub extern "C" fn homa_frame(
     ensures within { result ≡ 0 → i < length host.old.slot.held.out }
     ensures sent { result ≡ 0 → IfSome (slice_get host.old.slot.held.out i)
         (λ f. (info.new.from ≡ f.from.0) × (info.new.to ≡ f.to.0) × (take info.new.len room.new ≡ f.frame)) }
+    ensures behind { result ≡ 0 → drop info.new.len room.new ≡ drop info.new.len room.old }
     ensures begins { host.old.is_open ≡ true → i < length host.old.slot.held.out
         → IfSome (slice_get host.old.slot.held.out i) (λ f. length f.frame ≤ length room.old) → result ≡ 0 }
     ensures same { host.new.slot.held ≡ host.old.slot.held }
@@ -134,6 +135,7 @@ pub extern "C" fn homa_whole(host: &mut Handle, room: &mut [u8], len: &mut usize
     ensures or_refused { result ≢ 0 → result ≡ 2 }
     ensures len { result ≡ 0 → len.new ≡ length host.old.slot.held.whole }
     ensures bytes { result ≡ 0 → take len.new room.new ≡ host.old.slot.held.whole }
+    ensures behind { result ≡ 0 → drop len.new room.new ≡ drop len.new room.old }
     ensures begins { host.old.is_open ≡ true → length host.old.slot.held.whole ≤ length room.old → result ≡ 0 }
     ensures same { host.new.slot.held ≡ host.old.slot.held }
     ensures unwritten { result ≢ 0 → (room.new ≡ room.old) × (len.new ≡ len.old) }

@@ -22,11 +22,11 @@ use Rattle.homa_plain.specs.declared.id.HostId.{HostId}
 use Rattle.homa_plain.specs.declared.packet.Role.{Role}
 use Rattle.homa_plain.specs.Calls.{is_host, is_call, call_cmp}
 use Rattle.homa_plain.proofs.CallOrder.{call_total, call_same, calls_are}
-use Rattle.homa_plain.specs.Parts.{Part, Parts, is_message}
+use Rattle.trace_rules.specs.Parts.{Part, Parts, is_message}
 use Rattle.homa_plain.specs.Choice.{sender, choice_key, new_end, chosen, grants_from}
-use Rattle.homa_plain.specs.Granting.{Arriving, message, arriving, incoming, told, allowed}
-use Rattle.homa_plain.specs.Judge.{is_grant}
-use Rattle.homa_plain.specs.View.{View}
+use Rattle.trace_rules.specs.Granting.{Arriving, message, arriving, incoming, told, allowed}
+use Rattle.trace_rules.specs.Judge.{is_grant}
+use Rattle.trace_rules.specs.View.{View}
 use Rattle.check_call.specs.declared.choice.Message.{Message}
 use Rattle.check_call.specs.Choices.{sender_of, key_of}
 use Rattle.homa_check.specs.declared.grant.Grant.{Grant}

@@ -7,10 +7,10 @@ use Rattle.std.specs.Prelude.{◌==◌, if◌then◌else◌}
 use Rattle.homa_io.specs.Outside.{unread, IsAtEnd}
 use Rattle.homa_plain.specs.Entries.{PlainEntry}
 use Rattle.homa_plain.specs.Input.{lines_of, ends_in_feed, has_no_feed}
-use Rattle.homa_plain.specs.View.{View, nothing_seen}
-use Rattle.homa_plain.specs.Judge as judge
-use Rattle.homa_text.proofs.Taking.{unread-append, unread-nil}
-use Rattle.homa_text.specs.Lines.{Reading, TakesLine, IsLine, IsLong, IsOver, IsEnd}
+use Rattle.trace_rules.specs.View.{View, nothing_seen}
+use Rattle.trace_rules.specs.Judge as judge
+use Rattle.text_lines.proofs.Taking.{unread-append, unread-nil}
+use Rattle.text_lines.specs.Lines.{Reading, TakesLine, IsLine, IsLong, IsOver, IsEnd}
 use Rattle.check_reader.specs.Forms.{entry_of}
 use Rattle.script_lines.proofs.NextLine.{read_line, Got}
 use Rattle.script_lines.proofs.ReadParts.{some_left, at_end, none_left}

@@ -11,9 +11,9 @@ use Rattle.homa_plain.specs.declared.packet.Role.TheVariants.{Client, Server}
 use Rattle.homa_plain.specs.declared.packet.Role.{Role}
 use Rattle.plain_sets.specs.Numbers.{Numbers}
 use Rattle.homa_plain.specs.Calls.{call_cmp, is_call}
-use Rattle.homa_plain.specs.Parts.{Part}
-use Rattle.homa_plain.specs.Granting.{arriving, incoming}
-use Rattle.homa_plain.specs.View.{View}
+use Rattle.trace_rules.specs.Parts.{Part}
+use Rattle.trace_rules.specs.Granting.{arriving, incoming}
+use Rattle.trace_rules.specs.View.{View}
 use Rattle.check_call.specs.declared.call.Call.{Call}
 use Rattle.check_call.specs.declared.part.Part.{Part as KeptPart}
 use Rattle.check_call.specs.Kept.{part_of, IsCounted}

@@ -12,15 +12,15 @@ use Rattle.homa_plain.specs.declared.settings.Settings.{Settings}
 use Rattle.homa_plain.specs.Calls.{call_cmp}
 use Rattle.homa_plain.specs.Entries.{PlainEntry, PlainSettings, PlainDeliver, PlainStale, PlainSend, PlainGaps, PlainFullRows, PlainFullPages}
 use Rattle.homa_plain.specs.Entries.{PlainRecv, PlainJunk}
-use Rattle.homa_plain.specs.Granting.{IsWithin, IsWithinAt}
-use Rattle.homa_plain.specs.Judge as judge
-use Rattle.homa_plain.specs.Judge.{Clause, GrantingClause, has_shape, runs_once, returns_answer, hands_up, fails_in_time, grants_chosen, is_within}
-use Rattle.homa_plain.specs.Judge.{is_within_at, judged}
-use Rattle.homa_plain.specs.Parts.{Part, is_message}
+use Rattle.trace_rules.specs.Granting.{IsWithin, IsWithinAt}
+use Rattle.trace_rules.specs.Judge as judge
+use Rattle.trace_rules.specs.Judge.{Clause, GrantingClause, has_shape, runs_once, returns_answer, hands_up, fails_in_time, grants_chosen, is_within}
+use Rattle.trace_rules.specs.Judge.{is_within_at, judged}
+use Rattle.trace_rules.specs.Parts.{Part, is_message}
 use Rattle.homa_plain.specs.Settings.{verdict}
-use Rattle.homa_plain.proofs.LawTests.{granting_is}
-use Rattle.homa_plain.specs.View.{View, Sent, nothing_seen}
-use Rattle.homa_plain.specs.Seen.{seen, begun, delivery}
+use Rattle.trace_rules.proofs.LawTests.{granting_is}
+use Rattle.trace_rules.specs.View.{View, Sent, nothing_seen}
+use Rattle.trace_rules.specs.Seen.{seen, begun, delivery}
 use Rattle.check_laws.specs.Spots as spots
 use Rattle.check_laws.specs.Spots.{spot, Undo, IsUndo}
 use Rattle.check_laws.specs.Steps.{undo_after, undo_of}

@@ -1,5 +1,5 @@
 -- What a line breaks.
-use Rattle.homa_plain.specs.Judge as judge
+use Rattle.trace_rules.specs.Judge as judge
 use Rattle.homa_check.specs.declared.verdict.Clause.{Clause}
 use Rattle.homa_check.specs.declared.verdict.Clause.TheVariants.{Shape, Once, Returned, HandedUp, Fails, Granting}
 

@@ -4,9 +4,9 @@ use Rattle.std.specs.Option.{option_map}
 use Rattle.plain_sets.specs.Maps.{len}
 use Rattle.homa_plain.specs.declared.id.CallId.{CallId}
 use Rattle.homa_plain.specs.declared.packet.Role.TheVariants.{Client, Server}
-use Rattle.homa_plain.specs.Granting as plain
-use Rattle.homa_plain.specs.Granting.{Arriving}
-use Rattle.homa_plain.specs.Judge.{is_grant}
+use Rattle.trace_rules.specs.Granting as plain
+use Rattle.trace_rules.specs.Granting.{Arriving}
+use Rattle.trace_rules.specs.Judge.{is_grant}
 use Rattle.check_call.specs.declared.choice.Message.{Message}
 use Rattle.check_call.specs.Calls.{spot_in}
 use Rattle.homa_check.specs.declared.grant.Grant.{Grant}
@@ -25,7 +25,7 @@ message_of x = record {
   order = x.part.order;
 }
 
--- .. of a call's request, if a part of it is kept
+-- what the choice sees of a call's request, if a part of it is stored
 abbrev pub asked_message : Trace → CallId → Option Message
 asked_message t q =
     option_and_then (λ c. option_map (λ p. record {
@@ -38,7 +38,7 @@ asked_message t q =
       order = p.order;
     }) (spot_in c (lives_in t q c.server)).request) (call_at t q)
 
--- .. of its response
+-- what the choice sees of a call's response, if a part of it is stored
 abbrev pub awaited_message : Trace → CallId → Option Message
 awaited_message t q =
     option_and_then (λ c. option_map (λ p. record {
@@ -51,7 +51,7 @@ awaited_message t q =
       order = p.order;
     }) (spot_in c (lives_in t q c.server)).response) (call_at t q)
 
--- the end that is granted to a message where it is chosen
+-- the end that is granted to a message, if it is chosen
 abbrev pub new_end_of : ℕ → Message → ℕ
 new_end_of window m = min m.length (m.arrived + window)
 
@@ -59,15 +59,15 @@ new_end_of window m = min m.length (m.arrived + window)
 abbrev pub plain_grant : Grant → plain.Grant
 plain_grant g = record { to = g.to; role = g.role; id = g.id; offset = g.offset; prio = g.prio }
 
--- a GRANT tells of this message, up to this end, at this priority
+-- a GRANT is for this message, up to this end, at this priority
 abbrev pub is_told_to : ℕ → ℕ → Grant → Message → Bool
 is_told_to end prio g m = is_grant (plain_grant g) (record { to = m.peer; role = m.role; id = m.id; offset = end; prio = prio })
 
--- a GRANT is one to this message, which is chosen
+-- a GRANT is for this message, which is chosen
 abbrev pub is_grant_to : ℕ → ℕ → Grant → Message → Bool
 is_grant_to window prio g m = nat_lt m.granted (new_end_of window m) && is_told_to (new_end_of window m) prio g m
 
--- .. to one of these, of n, from rank r on
+-- a GRANT is for one of these messages; the first has rank r of n, and rank r gives the priority n - 1 - r
 abbrev pub is_grant_among : ℕ → ℕ → ℕ → Grant → List Message → Bool
 is_grant_among window n r g [] = false
 is_grant_among window n r g (m ∷ ms) = is_grant_to window (n - 1 - r) g m || is_grant_among window n (suc r) g ms

@@ -11,12 +11,12 @@ ghost use Rattle.check_call.specs.Calls.{ran_in};
 ghost use Rattle.check_call.specs.Kept.{AreResends, piece_is_data};
 ghost use Rattle.homa_plain.specs.Calls.{is_host, call_cmp};
 ghost use Rattle.homa_plain.specs.Entries.{plain};
-ghost use Rattle.homa_plain.specs.Granting.{incoming, allowed};
-ghost use Rattle.homa_plain.specs.Judge as tests;
-ghost use Rattle.homa_plain.specs.Judge.{are_same_calls, is_grant};
-ghost use Rattle.homa_plain.specs.Laws.{answers};
-ghost use Rattle.homa_plain.specs.Lines as lines;
-ghost use Rattle.homa_plain.specs.View.{View, resends_of};
+ghost use Rattle.trace_rules.specs.Granting.{incoming, allowed};
+ghost use Rattle.trace_rules.specs.Judge as tests;
+ghost use Rattle.trace_rules.specs.Judge.{are_same_calls, is_grant};
+ghost use Rattle.trace_rules.specs.Laws.{answers};
+ghost use Rattle.trace_rules.specs.Lines as lines;
+ghost use Rattle.trace_rules.specs.View.{View, resends_of};
 ghost use Rattle.homa_plain.specs.Wire.{is_server};
 
 use crate::grant::{Grant, is_granted};
@@ -26,14 +26,14 @@ use check_lines::{Due, Host, Trace, is_event, is_last, is_same_host};
 use homa_plain::{Body, CallId, Entry, HostId, LineFault, Role, Why, WorldFault};
 use std::alloc::{AllocError, Global};
 
-// A line closes the block before it.
+// Whether a line closes the block before it.
 fn closes(line: &Entry<'_>) -> bool
     ensures { result ≡ lines.closes (plain line.now) }
 {
     is_event(line) || is_last(line)
 }
 
-/// The call that a line names, other than a `call` line.
+/// Returns the call that a line names, other than a `call` line.
 pub(crate) fn named(line: &Entry<'_>) -> Option<CallId>
     ensures { result ≡ lines.named (plain line.now) }
 {
@@ -52,7 +52,7 @@ pub(crate) fn named(line: &Entry<'_>) -> Option<CallId>
     }
 }
 
-// A line may be refused for this.
+// Whether a line may be refused for this cause.
 fn is_cause(fault: &LineFault) -> bool
     ensures { result ≡ tests.is_cause fault.now }
 {
@@ -62,14 +62,14 @@ fn is_cause(fault: &LineFault) -> bool
     }
 }
 
-// A call was made to this service, with this request.
+// Whether a call was made to this service, with this request.
 fn is_called_with(call: &Call, service: u8, request: &[u8]) -> bool
     ensures { result ≡ (call.now.service == service && bytes_eq call.now.request.items request.now) }
 {
     call.service == service && call.request.as_slice() == request
 }
 
-// The packet is a piece of a response.
+// Whether a packet is a piece of a response.
 fn answers(packet: &Packet) -> bool
     ensures { result ≡ (is_server packet.now.role && piece_is_data packet.now.piece) }
 {
@@ -79,14 +79,14 @@ fn answers(packet: &Packet) -> bool
     }
 }
 
-// A line stands behind the first one, and behind no last one.
+// Whether a line comes after the first one, and not after a last one.
 fn is_behind(trace: &Trace) -> bool
     ensures { (v : View) → Follows v trace.now → result ≡ tests.is_behind v }
 {
     trace.place > 0 && !trace.ended
 }
 
-// The call that a line names, if it names one, was made before.
+// Whether the call that a line names, if it names one, was made before.
 fn is_made(trace: &Trace, id: Option<CallId>) -> bool
     ensures { (v : View) → Follows v trace.now → result ≡ tests.is_made v id }
 {
@@ -96,7 +96,7 @@ fn is_made(trace: &Trace, id: Option<CallId>) -> bool
     }
 }
 
-// A call is new, its request is a message, and its client and its server are two hosts of the run.
+// Whether a call is new, its request is a message, and its client and its server are two hosts of the run.
 fn is_new_call(trace: &Trace, id: CallId, server: HostId, len: usize) -> bool
     ensures { (v : View) (request : List ℕ) → Follows v trace.now → length request ≡ len → result ≡ tests.is_new_call v id server request }
 {
@@ -108,7 +108,7 @@ fn is_new_call(trace: &Trace, id: CallId, server: HostId, len: usize) -> bool
         && !is_same_host(id.client, server)
 }
 
-// The line may stand where it does.
+// Whether a line has the shape of one in its place.
 fn has_shape(trace: &Trace, line: &Entry<'_>) -> bool
     ensures { (v : View) → Follows v trace.now → result ≡ tests.has_shape v (plain line.now) }
 {
@@ -129,7 +129,7 @@ fn has_shape(trace: &Trace, line: &Entry<'_>) -> bool
     }
 }
 
-// A packet with this number was sent.
+// Whether a packet with this number was sent.
 #[tactic(auto, using(check_lines::proofs::Readings::sent_is))]
 fn has_packet(trace: &Trace, packet: u64) -> bool
     ensures { (v : View) → Follows v trace.now → result ≡ nat_lt packet (length v.packets) }
@@ -137,7 +137,7 @@ fn has_packet(trace: &Trace, packet: u64) -> bool
     packet < trace.packets.len() as u64
 }
 
-// It is the number of the next packet.
+// Whether this is the number of the next packet.
 #[tactic(auto, using(check_lines::proofs::Readings::sent_is))]
 fn is_next_packet(trace: &Trace, number: u64) -> bool
     ensures { (v : View) → Follows v trace.now → result ≡ (number == length v.packets) }
@@ -145,14 +145,14 @@ fn is_next_packet(trace: &Trace, number: u64) -> bool
     number == trace.packets.len() as u64
 }
 
-// A host is a call's server, and the call didn't run there in this life.
+// Whether a host is a call's server, and the call didn't run there in this incarnation.
 fn may_run(trace: &Trace, call: &Call, host: HostId) -> bool
     ensures { result ≡ (is_host call.now.server host && not (ran_in call.now (life_in trace.now host))) }
 {
     is_same_host(call.server, host) && !call.ran_in(trace.life(host))
 }
 
-// The call didn't run in this life of its server, and the line tells its server, its service and its request.
+// Whether the call didn't run in this incarnation of its server, and the line has its server, service and request.
 fn runs_once(trace: &Trace, line: &Entry<'_>) -> bool
     ensures { (v : View) → Follows v trace.now → result ≡ tests.runs_once v (plain line.now) }
 {
@@ -172,7 +172,7 @@ fn runs_once(trace: &Trace, line: &Entry<'_>) -> bool
     }
 }
 
-// A call has this answer, of a run in a life of this incarnation.
+// Whether a call has this answer, of a run in this incarnation.
 fn has_answer(trace: &Trace, id: CallId, inc: u32, bytes: &[u8]) -> bool
     ensures { (v : View) → Follows v trace.now → result ≡ list_any (bytes_eq bytes.now) (answers v id inc) }
 {
@@ -182,7 +182,7 @@ fn has_answer(trace: &Trace, id: CallId, inc: u32, bytes: &[u8]) -> bool
     }
 }
 
-// One of a call's runs was in a life of this incarnation, and its response is this.
+// Whether one of a call's runs was in this incarnation, and its response is this.
 fn is_any_answer(trace: &Trace, call: &Call, inc: u32, bytes: &[u8]) -> bool
     ensures { result ≡ list_any (is_answer_in trace.now call.now.server inc bytes.now) call.now.runs.items }
 {
@@ -191,21 +191,21 @@ fn is_any_answer(trace: &Trace, call: &Call, inc: u32, bytes: &[u8]) -> bool
         .any(|run| is_answer(trace, call.server, run, inc, bytes))
 }
 
-// A run of a call of this server was in a life of this incarnation, and its response is this.
+// Whether a run of a call of this server was in this incarnation, and its response is this.
 fn is_answer(trace: &Trace, server: HostId, run: &Run, inc: u32, bytes: &[u8]) -> bool
     ensures { result ≡ is_answer_in trace.now server inc bytes.now run.now }
 {
     incarnation(trace, server, run.life) == Some(inc) && bytes == run.response.as_slice()
 }
 
-// The incarnation of a life of a host, if the lines tell it.
+// Returns the incarnation of a host at its start of this number, if the lines have it.
 fn incarnation(trace: &Trace, host: HostId, life: usize) -> Option<u32>
     ensures { result ≡ incarnation_in trace.now host life }
 {
     trace.hosts.get(host.0 as usize)?.incarnation(life)
 }
 
-// The block began with the delivery of a piece of a response, and the call answered this in the life that sent it.
+// Whether the block began with a delivery of a piece of a response, and the call answered this in its sender's incarnation.
 fn returns_answer(trace: &Trace, line: &Entry<'_>) -> bool
     ensures { (v : View) → Follows v trace.now → result ≡ tests.returns_answer v (plain line.now) }
 {
@@ -230,7 +230,8 @@ fn resends(trace: &Trace, id: CallId) -> Resends
     }
 }
 
-// Since a call's last renewal there were `tries` RESENDs, each `resend` ticks behind the one before, and now it is as long again.
+// Whether since a call's last renewal there were `tries` RESENDs, each `resend` ticks after the one before, and now
+// `resend` more ticks have passed.
 fn is_unanswered(trace: &Trace, id: CallId) -> bool
     ensures { (v : View) → Follows v trace.now → result ≡ tests.is_unanswered v id }
 {
@@ -238,14 +239,14 @@ fn is_unanswered(trace: &Trace, id: CallId) -> bool
     resends(trace, id).are_unanswered(tick, trace.settings.tries, trace.settings.resend)
 }
 
-// A block that a line closes has the lines that are due of the message that its delivery made whole.
+// Whether a block that a line closes has the lines that are due for the message that its delivery made whole.
 fn hands_up(trace: &Trace, line: &Entry<'_>) -> bool
     ensures { (v : View) → Follows v trace.now → result ≡ tests.hands_up v (plain line.now) }
 {
     !closes(line) || has_ends(trace)
 }
 
-// The `run` and `done` lines of the block are those that are due.
+// Whether the `run` and `done` lines of the block are the ones that are due.
 fn has_ends(trace: &Trace) -> bool
     ensures { (v : View) → Follows v trace.now → result ≡ (are_same_calls v.here.runs v.now.due.runs && are_same_calls v.here.dones v.now.due.dones) }
 {
@@ -253,7 +254,7 @@ fn has_ends(trace: &Trace) -> bool
     trace.here.runs.is_exactly(due.run) && trace.here.dones.is_exactly(due.done)
 }
 
-// The `fail` lines of the block that tell of a forgotten call are those that are due.
+// Whether the `fail .. forgotten` lines of the block are the ones that are due.
 fn has_failed(trace: &Trace) -> bool
     ensures { (v : View) → Follows v trace.now → result ≡ are_same_calls v.here.forgotten v.now.due.forgotten }
 {
@@ -261,7 +262,7 @@ fn has_failed(trace: &Trace) -> bool
     trace.here.forgotten.is_exactly(due.forgotten)
 }
 
-// A timeout is of an unanswered call; in a block that a line closes the call that is forgotten fails, if any.
+// Whether a timeout is of an unanswered call, and the block that a line closes has the `fail` line of its forgotten call.
 fn fails_in_time(trace: &Trace, line: &Entry<'_>) -> bool
     ensures { (v : View) → Follows v trace.now → result ≡ tests.fails_in_time v (plain line.now) }
 {
@@ -274,7 +275,7 @@ fn fails_in_time(trace: &Trace, line: &Entry<'_>) -> bool
     }
 }
 
-// A call's request, as the choice sees it.
+// Returns a call's request, as the choice sees it.
 fn request_of(trace: &Trace, id: CallId) -> Option<Message>
     ensures { result ≡ asked_message trace.now id }
 {
@@ -291,7 +292,7 @@ fn request_of(trace: &Trace, id: CallId) -> Option<Message>
     })
 }
 
-// A call's response, as the choice sees it.
+// Returns a call's response, as the choice sees it.
 fn response_of(trace: &Trace, id: CallId) -> Option<Message>
     ensures { result ≡ awaited_message trace.now id }
 {
@@ -308,7 +309,7 @@ fn response_of(trace: &Trace, id: CallId) -> Option<Message>
     })
 }
 
-// The requests that are incoming messages of a host, in order of call.
+// Collects the requests that are incoming messages of a host, in order of call.
 fn requests_at(alloc: Global, trace: &Trace, host: &Host) -> Result<Vec<Message>, AllocError>
     ensures items { IfOk result (λ r. r.items ≡ filter_map (asked_message trace.now) host.now.asked.keys) }
     ensures ordered { IsStrictlySortedBy call_cmp host.now.asked.keys }
@@ -319,7 +320,7 @@ fn requests_at(alloc: Global, trace: &Trace, host: &Host) -> Result<Vec<Message>
         .collect(alloc)
 }
 
-// The responses that are.
+// Collects the responses that are incoming messages of a host, in order of call.
 fn responses_at(alloc: Global, trace: &Trace, host: &Host) -> Result<Vec<Message>, AllocError>
     ensures items { IfOk result (λ r. r.items ≡ filter_map (awaited_message trace.now) host.now.awaited.keys) }
     ensures ordered { IsStrictlySortedBy call_cmp host.now.awaited.keys }
@@ -330,7 +331,7 @@ fn responses_at(alloc: Global, trace: &Trace, host: &Host) -> Result<Vec<Message
         .collect(alloc)
 }
 
-// The requests and then the responses that are.
+// Collects the requests and then the responses that are incoming messages of a host.
 fn messages_of(alloc: Global, trace: &Trace, host: &Host) -> Result<Vec<Message>, AllocError>
     ensures items { IfOk result (λ r. r.items ≡ filter_map (asked_message trace.now) host.now.asked.keys
         ++ filter_map (awaited_message trace.now) host.now.awaited.keys) }
@@ -352,7 +353,7 @@ fn messages_at(alloc: Global, trace: &Trace, host: HostId) -> Result<Vec<Message
     }
 }
 
-// A GRANT is one of those that a host may send.
+// Whether a host may send this GRANT.
 fn has_grant(alloc: Global, trace: &Trace, host: HostId, grant: &Grant) -> Result<bool, AllocError>
     ensures { IfOk result (λ r. (v : View) → Follows v trace.now → r ≡ list_any (is_grant (plain_grant grant.now)) (allowed v host)) }
 {
@@ -361,7 +362,7 @@ fn has_grant(alloc: Global, trace: &Trace, host: HostId, grant: &Grant) -> Resul
     Ok(is_granted(&chosen, trace.settings.window, grant))
 }
 
-// A packet with this body, if it is a GRANT, is one of those that its host may send.
+// Whether a packet with this body is no GRANT, or one that its host may send.
 fn is_allowed_body(
     alloc: Global,
     trace: &Trace,
@@ -388,7 +389,7 @@ fn is_allowed_body(
     }
 }
 
-// A packet that is a GRANT is one of those that its host may send.
+// Whether a packet is no GRANT, or one that its host may send.
 fn is_allowed(alloc: Global, trace: &Trace, line: &Entry<'_>) -> Result<bool, AllocError>
     ensures { IfOk result (λ r. (v : View) → Follows v trace.now → r ≡ is_allowed_line v (plain line.now)) }
 {
@@ -405,7 +406,7 @@ fn is_allowed(alloc: Global, trace: &Trace, line: &Entry<'_>) -> Result<bool, Al
     }
 }
 
-/// The first clause that fails at a line, by the lines before it.
+/// Returns the first clause that fails at a line, by the lines before it.
 pub(crate) fn judge(
     alloc: Global,
     trace: &Trace,

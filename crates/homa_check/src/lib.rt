@@ -1,10 +1,10 @@
 //! A checker of one trace, from its bytes to its verdict.
 //!
-//! The model: what is kept of the lines before is a `Trace` of `check_lines`, which follows a `View` of `homa_plain`; a
-//! line is judged by what is kept (`judge`), taken, and then tested for windows (`step`).
-//! Main promise: `check` answers the verdict that `check_verdict` defines on the bytes that the source had: yes exactly
-//! where each line has its shape and obeys all laws, and else the first line that doesn't, with the first clause that
-//! fails there. A fault of the source, and nothing else, is answered as one; want of memory is free.
+//! Model: a `Trace` of `check_lines` stores what a `View` of `trace_rules` says of the lines so far. Each line is judged by
+//! it (`judge`), taken, and then tested for windows (`step`).
+//! Main promise: `check` returns the verdict that `check_verdict` defines on the source's bytes. It is yes exactly if each
+//! line has its shape and obeys all laws. Otherwise it names the first line that doesn't, and the first clause that fails.
+//! A fault of the source is returned exactly if there was one. `NoMemory` may come at any time.
 #![tactic(auto)]
 
 mod grant;

@@ -1,4 +1,4 @@
-// The line that tells a verdict.
+// The line of a verdict.
 ghost use Rattle.homa_check.specs.Checks.{plain_verdict, verdict_text};
 ghost use Rattle.homa_io.specs.Writing.{IsWritten};
 
@@ -6,8 +6,8 @@ use crate::verdict::Verdict;
 use homa_io::{Sink, WriteFailed};
 use homa_text::{Word, put_line};
 
-/// Writes the line that tells a verdict: `yes`, and how many lines there are; or `no`, the line's number, counted from 1,
-/// and the word of the clause. After an error the sink took a front of the line.
+/// Writes the line of a verdict: `yes` and how many lines there are; or `no`, the line's number from 1, and the word of the
+/// clause. After an error the sink took a prefix of the line.
 pub fn put_verdict<K: Sink>(sink: &mut K, verdict: Verdict) -> Result<(), WriteFailed>
     ensures { IsWritten K.taken K.faults K.is_same result sink.old sink.new (verdict_text (plain_verdict verdict)) }
 {

@@ -4,9 +4,9 @@ ghost use Rattle.std.specs.Option.{option_map};
 ghost use Rattle.homa_check.specs.Clauses.{clause_of};
 ghost use Rattle.homa_check.specs.Judging.{judged_before};
 ghost use Rattle.homa_plain.specs.Entries.{plain};
-ghost use Rattle.homa_plain.specs.Judge.{judged};
-ghost use Rattle.homa_plain.specs.Seen.{seen as seen_with};
-ghost use Rattle.homa_plain.specs.View.{View};
+ghost use Rattle.trace_rules.specs.Judge.{judged};
+ghost use Rattle.trace_rules.specs.Seen.{seen as seen_with};
+ghost use Rattle.trace_rules.specs.View.{View};
 ghost use Rattle.check_lines.specs.Sends.{keeps_window};
 ghost use Rattle.check_lines.specs.Traces.{Follows, Keeps};
 
@@ -16,14 +16,14 @@ use check_lines::Trace;
 use homa_plain::{CallId, Entry};
 use std::alloc::{AllocError, Global};
 
-// The messages of two calls are within their windows.
+// Whether the messages of two calls are within their windows.
 fn are_within(trace: &Trace, a: Option<CallId>, b: Option<CallId>) -> bool
     ensures { (v : View) → Keeps v trace.now → result ≡ (keeps_window v a && keeps_window v b) }
 {
     trace.is_within(a) && trace.is_within(b)
 }
 
-// A line at which no clause fails, windows aside, is taken.
+// Takes a line at which no clause fails, windows aside.
 fn take_judged(
     alloc: Global,
     trace: &mut Trace,
@@ -42,7 +42,7 @@ fn take_judged(
     Ok(Some(Clause::Granting))
 }
 
-/// Judges a line, and takes it where no clause fails.
+/// Judges a line, and takes it if no clause fails.
 pub(crate) fn step_entry(
     alloc: Global,
     trace: &mut Trace,

@@ -10,8 +10,8 @@ ghost use Rattle.homa_check.specs.declared.verdict.Verdict.TheVariants.{Yes, No}
 ghost use Rattle.homa_io.specs.Outside.{HasRisen, unread, IsAtEnd};
 ghost use Rattle.check_reader.specs.Forms.{entry_of};
 ghost use Rattle.homa_plain.specs.Input.{has_no_feed};
-ghost use Rattle.homa_plain.specs.View.{View, nothing_seen};
-ghost use Rattle.homa_text.specs.Lines.{reading};
+ghost use Rattle.trace_rules.specs.View.{View, nothing_seen};
+ghost use Rattle.text_lines.specs.Lines.{reading};
 ghost use Rattle.check_verdict.specs.Text.{IsTrace, IsNoTrace};
 ghost use Rattle.check_verdict.specs.Verdict.{verdict_of, judged_text, seen_text};
 
@@ -20,8 +20,8 @@ use crate::verdict::{CheckStop, Clause, Verdict};
 use check_lines::Trace;
 use check_reader::read_entry;
 use homa_io::Source;
-use homa_text::{LineGot, Lines};
 use std::alloc::{AllocError, Global};
+use text_lines::{LineGot, Lines};
 
 // The most bytes of an input.
 const LONGEST_INPUT: u64 = 68_719_476_736;
@@ -37,13 +37,13 @@ const ROOM: usize = 2_050_000;
 pub(crate) enum Next {
     /// It obeys all laws.
     Taken,
-    /// There is none.
+    /// There is no next line.
     End,
     /// This clause fails first.
     Fails(Clause),
 }
 
-// The first clause that fails at a line of text, which is taken where none does.
+// Returns the first clause that fails at a line of text, and takes the line if none does.
 fn step(
     alloc: Global,
     trace: &mut Trace,
@@ -99,7 +99,7 @@ fn judge_next<S: Source>(
     }
 }
 
-// The verdict where no line is left.
+// Returns the verdict after the last line.
 fn at_end(trace: &Trace) -> Verdict
     ensures { (v : View) → Follows v trace.now → verdict_at_end v ≡ plain_verdict result }
 {
@@ -113,13 +113,13 @@ fn at_end(trace: &Trace) -> Verdict
 }
 
 /// Judges a text line by line, up to the first line that isn't one of a trace, or breaks a law. A line of more than
-/// 4,100,000 bytes, its line feed not counted, is none, and so is one in which byte number 68,719,476,737 stands.
-/// Errors: `Read` where the source gave a fault, and `NoMemory`. The source is then read up to some place.
+/// 4,100,000 bytes without its line feed isn't one, nor is the line that holds byte number 68,719,476,737.
+/// Errors: `Read` if the source counted a fault, and `NoMemory`. The source is then read up to some place.
 pub fn check<S: Source>(alloc: Global, source: &mut S) -> Result<Verdict, CheckStop>
-    // It is the verdict of the definition, on all bytes that the source had.
+    // The verdict is the definition's, on all bytes that the source had.
     ensures verdict { IfOk result (λ verdict. (bytes : List ℕ) → S.left source.old ≡ Some bytes → verdict_of bytes ≡ plain_verdict verdict) }
 
-    // Yes: it has so many lines, each has its shape, and all of them obey all laws. It was read to its end.
+    // Yes: the text has so many lines, each has its shape, and all of them obey all laws. It was read to its end.
     ensures yes { IfOk result (λ verdict. (bytes : List ℕ) (n : ℕ) → S.left source.old ≡ Some bytes → verdict ≡ Yes n → IsTrace bytes n) }
     ensures end { IfOk result (λ verdict. is_yes verdict ≡ true → IsAtEnd (S.left source.new)) }
 
@@ -127,13 +127,13 @@ pub fn check<S: Source>(alloc: Global, source: &mut S) -> Result<Verdict, CheckS
     ensures no { IfOk result (λ verdict. (bytes : List ℕ) (line : ℕ) (clause : AClause) → S.left source.old ≡ Some bytes → verdict ≡ No line clause
         → IsNoTrace bytes line (clause_of clause)) }
 
-    // Where reading failed the lines that came whole obey all laws.
+    // If reading failed, the lines that arrived whole obey all laws.
     ensures cut { is_read result ≡ true → (bytes : List ℕ) → S.left source.old ≡ Some bytes → IsCutShort bytes (S.left source.new) }
 
-    // Whatever the answer, the source was read from its front up to some place.
+    // In each case the source was read from its beginning up to some place.
     ensures read_on { (came : List ℕ) × (S.left source.old ≡ unread came (S.left source.new)) }
 
-    // It says that reading failed exactly where the source's count of faults rose; want of memory is free.
+    // `Read` is returned exactly if the source's count of faults rose. `NoMemory` may come at any time.
     ensures risen { is_read result ≡ true → HasRisen (S.faults source.old) (S.faults source.new) }
     ensures quiet { is_read result ≡ false → S.faults source.new ≡ S.faults source.old }
     ensures never_falls { S.faults source.old ≤ S.faults source.new }
@@ -145,7 +145,7 @@ pub fn check<S: Source>(alloc: Global, source: &mut S) -> Result<Verdict, CheckS
     judge_all(alloc, &mut trace, &mut lines, source, &mut room)
 }
 
-// Judges the lines that are left. Behind the line of a no nothing is read.
+// Judges the lines that are left. After the line of a no, nothing is read.
 fn judge_all<S: Source>(
     alloc: Global,
     trace: &mut Trace,

@@ -1,4 +1,4 @@
-// What a check answers.
+// What a check returns.
 use homa_io::ReadFailed;
 use std::alloc::AllocError;
 
@@ -7,15 +7,15 @@ use std::alloc::AllocError;
 pub enum Clause {
     /// It isn't a line that may stand there.
     Shape,
-    /// A call runs at most once in each life of its server, on its request.
+    /// A call runs at most once in each incarnation of its server, on its request.
     Once,
     /// A call that is done returns the response of its run.
     Returned,
-    /// In the block that it closes exactly those calls run and are done whose message the delivery made whole.
+    /// In the block that the line closes, exactly the call whose message the delivery made whole runs or is done.
     HandedUp,
-    /// A call times out only when it is unanswered; in the block that it closes exactly the forgotten call fails.
+    /// A call times out only if it is unanswered; in the block that the line closes exactly the forgotten call fails.
     Fails,
-    /// A GRANT is one of those that its host may send, and no message is granted beyond its window.
+    /// A GRANT is one that its host may send, and no message is granted beyond its window.
     Granting,
 }
 
@@ -24,7 +24,7 @@ impl Clause {
     ghost use Rattle.homa_check.specs.Checks.{clause_word};
     ghost use Rattle.homa_check.specs.Clauses.{clause_of};
 
-    /// Its word.
+    /// Returns the word of this clause in a verdict's line.
     pub fn word(self) -> &'static [u8]
         ensures { result.now ≡ clause_word (clause_of self) }
     {
@@ -42,16 +42,16 @@ impl Clause {
 /// Whether a text is a trace that obeys all laws.
 #[derive(Clone, Copy, Debug, PartialEq, Eq)]
 pub enum Verdict {
-    /// All its lines do, and there are so many.
+    /// It is: the text has so many lines.
     Yes { lines: u64 },
-    /// This line, counted from 1, is the first that doesn't, and this clause is the first that it breaks.
+    /// It isn't: this line, counted from 1, is the first that breaks a law, and this clause is the first that it breaks.
     No { line: u64, clause: Clause },
 }
 
-/// Why a check stops without an answer.
+/// Why a check stops without a verdict.
 #[derive(Clone, Copy, Debug, PartialEq, Eq)]
 pub enum CheckStop {
-    /// The source gave a fault.
+    /// The source counted a fault.
     Read(ReadFailed),
     /// Memory ran out.
     NoMemory,

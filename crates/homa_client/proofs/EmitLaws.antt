@@ -9,7 +9,7 @@ use Rattle.homa_plain.specs.declared.row.Emitted.TheVariants.{Sent, Short, Rests
 use Rattle.homa_plain.specs.Outgoing.{next_range}
 use Rattle.homa_plain.specs.Rows.{ClientRow}
 use Rattle.homa_plain.specs.Sending.{may_send_request}
-use Rattle.host_incoming.specs.Sends.{emits}
+use Rattle.homa_in.specs.Sends.{emits}
 use Rattle.homa_client.specs.Gives.{row_emits}
 
 module _ (s : Settings) (now credit : ℕ) (r : ClientRow) where

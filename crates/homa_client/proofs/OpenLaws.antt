@@ -13,9 +13,9 @@ use Rattle.homa_plain.specs.AtServer.{piece_of}
 use Rattle.homa_plain.proofs.ArrivalLaws.{first_taken}
 use Rattle.msg_pool.specs.Pool.{Pool, free_pages}
 use Rattle.homa_in.specs.Part.{Part}
-use Rattle.host_incoming.specs.Pooled.{Moves, pages_of}
-use Rattle.host_incoming.specs.Putting.{IsWholeAtOnce, IsBegun}
-use Rattle.host_incoming.proofs.MoveLaws.{still}
+use Rattle.homa_in.specs.Pooled.{Moves, pages_of}
+use Rattle.homa_in.specs.Putting.{IsWholeAtOnce, IsBegun}
+use Rattle.homa_in.proofs.MoveLaws.{still}
 use Rattle.homa_client.specs.Held.{HeldRow, seen_row}
 use Rattle.homa_client.specs.Gives.{Gave, moment_of}
 use Rattle.homa_client.specs.declared.answers.RowDid.TheVariants.{Opened, Done}

@@ -12,8 +12,8 @@ use Rattle.homa_plain.specs.Rules.{Moment, Piece, Did, keeps}
 use Rattle.homa_plain.specs.AtClient.{piece_comes, response_piece, answered}
 use Rattle.msg_pool.specs.Pool.{Pool}
 use Rattle.homa_in.specs.Part.{Part}
-use Rattle.host_incoming.specs.Pooled.{Moves, seen_part}
-use Rattle.host_incoming.proofs.MoveLaws.{then}
+use Rattle.homa_in.specs.Pooled.{Moves, seen_part}
+use Rattle.homa_in.proofs.MoveLaws.{then}
 use Rattle.homa_client.specs.Held.{HeldRow, seen_row}
 use Rattle.homa_client.specs.Gives.{Gave, moment_of, did_of}
 use Rattle.homa_client.specs.declared.answers.RowDid.{RowDid}

@@ -17,9 +17,9 @@ use Rattle.msg_pool.specs.Pool.{Pool}
 use Rattle.homa_in.specs.Part.{Part}
 use Rattle.host_places.specs.Placed.{Placed, StandsAt, ArePlaced, set_at}
 use Rattle.host_places.proofs.PlacedLaws.{changed-none, get-remove_here}
-use Rattle.host_incoming.specs.Pooled.{Moves, AreIn}
-use Rattle.host_incoming.specs.Pieces.{piece_in}
-use Rattle.host_incoming.proofs.MoveLaws.{still}
+use Rattle.homa_in.specs.Pooled.{Moves, AreIn}
+use Rattle.homa_in.specs.Pieces.{piece_in}
+use Rattle.homa_in.proofs.MoveLaws.{still}
 use Rattle.homa_client.specs.Held.{HeldRow, seen_row}
 use Rattle.homa_client.specs.Gives.{Gave, HasNone, moment_of, did_of}
 use Rattle.homa_client.specs.AtTable.{Clients, row_at, part_at, Moved, Received, answer_of, slot_in, IfSaid, HasLeft, told_of, rows_left}

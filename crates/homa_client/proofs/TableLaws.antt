@@ -16,8 +16,8 @@ use Rattle.host_places.specs.Placed.{Placed, Table, StandsAt, ArePlaced, Changed
 use Rattle.host_places.proofs.PlacedLaws.{one_call, get-insert_here, get-insert_else, get-remove_here, get-remove_else, changed-put, set_at-insert}
 use Rattle.host_places.proofs.PlacedLaws.{get-spot, spot-stands}
 use Rattle.host_places.proofs.MappedLaws.{get-mapped, mapped-insert}
-use Rattle.host_incoming.specs.Pooled.{Moves, AreIn, IsInPool, seen_part}
-use Rattle.host_incoming.proofs.MoveLaws.{still_in, seen_others}
+use Rattle.homa_in.specs.Pooled.{Moves, AreIn, IsInPool, seen_part}
+use Rattle.homa_in.proofs.MoveLaws.{still_in, seen_others}
 use Rattle.homa_client.specs.Held.{HeldRow, seen_row, new_row}
 use Rattle.homa_client.specs.AtTable.{Clients, HeldRows, seen_rows, row_at, part_at, IsCallAt, IsTable, Moved}
 

@@ -27,8 +27,8 @@ use Rattle.msg_pool.specs.Pool.{Pool}
 use Rattle.homa_in.specs.Part.{Part}
 use Rattle.host_places.specs.Mapped.{mapped}
 use Rattle.host_places.specs.Placed.{Placed, Table, StandsAt, IsFree, Changed, spot_at, rows_code}
-use Rattle.host_incoming.specs.Pooled.{Moves}
-use Rattle.host_incoming.specs.Pieces.{piece_in, first_version, version_in, size_in, opening_if}
+use Rattle.homa_in.specs.Pooled.{Moves}
+use Rattle.homa_in.specs.Pieces.{piece_in, first_version, version_in, size_in, opening_if}
 use Rattle.homa_client.specs.Held.{HeldRow, row_code, seen_row}
 use Rattle.homa_client.specs.Gives.{moment_of}
 use Rattle.homa_client.specs.declared.answers.ClientDid.{ClientDid}

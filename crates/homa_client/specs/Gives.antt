@@ -1,9 +1,10 @@
 -- What the answers of a row say of the plain rules.
-use Rattle.std.specs.Prelude.{◌≡◌, ◌<◌, ◌≤◌, ℕ, ◌+◌, ◌-◌, true, if◌then◌else◌, Option, Some, None, List, [], ◌∷◌}
+use Rattle.std.specs.Prelude.{◌≡◌, ◌<◌, ◌≤◌, ℕ, ◌+◌, true, if◌then◌else◌, Option, Some, None, List, [], ◌∷◌}
 use Rattle.homa_plain.specs.declared.id.CallId.{CallId}
 use Rattle.homa_plain.specs.declared.id.HostId.{HostId}
 use Rattle.homa_plain.specs.declared.packet.Body.TheVariants as body
 use Rattle.homa_plain.specs.declared.settings.Settings.{Settings}
+use Rattle.homa_plain.specs.Settings.{asking_level}
 use Rattle.homa_plain.specs.declared.entry.Why.TheVariants.{Forgotten as WhyForgotten, Timeout as WhyTimeout}
 use Rattle.homa_plain.specs.declared.row.RowFacts.{RowFacts}
 use Rattle.homa_plain.specs.declared.row.Emitted.{Emitted}
@@ -15,9 +16,9 @@ use Rattle.homa_plain.specs.Rules.{Moment, Piece, Tells, Posts, Did, keeps, says
 use Rattle.homa_plain.specs.Sending.{may_send_request, client_sends}
 use Rattle.msg_pool.specs.Pool.{Pool, free_pages}
 use Rattle.homa_in.specs.Part.{Part}
-use Rattle.host_incoming.specs.Pooled.{Moves, pages_of}
-use Rattle.host_incoming.specs.Pieces.{first_version, version_in, size_in, opening_if, moment_with}
-use Rattle.host_incoming.specs.Sends.{emits, is_sent}
+use Rattle.homa_in.specs.Pooled.{Moves, pages_of}
+use Rattle.homa_in.specs.Pieces.{first_version, version_in, size_in, opening_if, moment_with}
+use Rattle.homa_in.specs.Sends.{emits, is_sent}
 use Rattle.homa_client.specs.Held.{HeldRow, seen_row}
 use Rattle.homa_client.specs.declared.answers.RowDid.{RowDid}
 use Rattle.homa_client.specs.declared.answers.RowDid.TheVariants.{Touched, Opened, Done, Full, Gaps, Busy, Forgotten}
@@ -75,7 +76,7 @@ row_sends s now r emitted = if is_sent emitted then client_sends s now r else r
 
 -- what the plain rule did where a row that was due answers this
 abbrev pub IsAct : Settings → Moment → CallId → Did ClientRow → ClientAct → Type 0
-IsAct s m id did (act.Resend from to) = did ≡ says m did.row (Posts (body.Resend from to (s.overcommit - 1)) ∷ [])
+IsAct s m id did (act.Resend from to) = did ≡ says m did.row (Posts (body.Resend from to (asking_level s)) ∷ [])
 IsAct s m id did (act.Timeout q) = (q ≡ id) × (did ≡ says m None (Tells (PlainFail id WhyTimeout) ∷ []))
 
 -- the row afterwards, if it stays

@@ -11,7 +11,7 @@ use Rattle.homa_plain.specs.PartCodes.{outgoing_code}
 use Rattle.homa_plain.specs.Rows.{ClientRow}
 use Rattle.msg_pool.specs.Pool.{Pool}
 use Rattle.homa_in.specs.Part.{Part, part_code}
-use Rattle.host_incoming.specs.Pooled.{seen_part}
+use Rattle.homa_in.specs.Pooled.{seen_part}
 
 -- a call at its client; its response is a part, whose bytes stand in the pool
 pub record HeldRow : Type 0 where

@@ -1,3 +1,4 @@
 pub mod Held
 pub mod Gives
 pub mod AtTable
+pub mod Lending

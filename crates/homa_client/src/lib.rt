@@ -7,11 +7,13 @@
 //! and leaves all other rows, their places, and the bytes of all other leases as they are. Only `open` takes memory.
 #![tactic(auto)]
 
-mod answering;
 mod answers;
+mod gets;
+mod lent;
 mod row;
-mod sending;
+mod sends;
 mod table;
+mod timers;
 
 pub use answers::{ClientAct, ClientDid};
 pub use table::ClientTable;

@@ -3,10 +3,7 @@ ghost use Rattle.std.specs.Prelude.{◌≡◌, ◌<◌, ◌≤◌, length, ◌&&
 ghost use Rattle.homa_plain.specs.declared.settings.Settings.{Settings};
 ghost use Rattle.homa_plain.specs.Calls.{is_host};
 ghost use Rattle.homa_plain.specs.Outgoing.{IsSound};
-ghost use Rattle.homa_plain.specs.Timers.{is_client_at_rest, client_deadline};
-ghost use Rattle.msg_pool.specs.Pool.{Pool};
-ghost use Rattle.host_incoming.specs.Pooled.{IsInPool};
-ghost use Rattle.homa_client.specs.Held.{HeldRow, seen_row, new_row, IsRow};
+ghost use Rattle.homa_client.specs.Held.{HeldRow, new_row, IsRow};
 ghost use Rattle.homa_client.specs.Gives.{facts};
 
 use homa_in::Incoming;
@@ -21,12 +18,19 @@ pub(crate) struct Row {
     pub(crate) server: HostId,
     pub(crate) service: u8,
     pub(crate) request: Vec<u8>,
+    // Rows that were opened earlier have lower numbers.
     pub(crate) order: u64,
+    // The request, as far as it was sent.
     pub(crate) out: Outgoing,
+    // When the server was last heard of, or a new piece of the request was sent.
     pub(crate) heard: u64,
+    // From when on the timer counts.
     pub(crate) base: u64,
+    // How many RESENDs there were since something came that renews the call.
     pub(crate) count: u32,
+    // The greatest incarnation of the server that was seen, 0 before the first.
     pub(crate) seen: u32,
+    // The response, as far as it arrived.
     pub(crate) part: Option<Incoming>,
 }
 
@@ -125,31 +129,6 @@ impl Row {
             order: self.order,
             out: Some(out),
         }
-    }
-
-    // Whether the timer rests: the request's last byte was never sent and bytes of it wait, or of the response all has come that
-    // may come so far.
-    fn is_at_rest(&self) -> bool
-        ensures { (pool : Pool) → IsInPool pool self.now.part → result ≡ is_client_at_rest (seen_row pool self.now) }
-    {
-        if self.out.top_sent() < self.out.len() && self.out.waiting() {
-            return true;
-        }
-        match &self.part {
-            None => false,
-            Some(part) => part.gap().is_none(),
-        }
-    }
-
-    /// When the timer is due, after `resend` ticks of silence; none where it rests.
-    pub(crate) fn deadline(&self, resend: u32) -> Option<u64>
-        ensures { (s : Settings) (pool : Pool) → s.resend ≡ resend → IsInPool pool self.now.part
-            → result ≡ client_deadline s (seen_row pool self.now) }
-    {
-        if self.is_at_rest() {
-            return None;
-        }
-        Some(self.base + u64::from(resend))
     }
 
     /// The part of the response, if there is one.

@@ -7,24 +7,26 @@ ghost use Rattle.homa_plain.specs.declared.packet.Role.TheVariants.{Server as Of
 ghost use Rattle.homa_plain.specs.Settings.{IsValid};
 ghost use Rattle.homa_plain.specs.Outgoing.{IsSound};
 ghost use Rattle.homa_plain.specs.Packets.{Packet as PlainPacket, packet_between};
-ghost use Rattle.homa_plain.specs.Rules.{Moment};
+ghost use Rattle.homa_plain.specs.Rules.{Moment as PlainMoment};
 ghost use Rattle.homa_plain.specs.AtClient.{unasked};
 ghost use Rattle.homa_plain.specs.Wire.{FitsKind};
 ghost use Rattle.homa_plain.specs.Timers.{client_deadline, client_acts};
 ghost use Rattle.homa_plain.specs.Sending.{client_granted};
 ghost use Rattle.msg_pool.specs.Pool.{Pool};
 ghost use Rattle.host_places.specs.Placed.{StandsAt, ArePlaced, spot_at};
-ghost use Rattle.host_incoming.specs.Pooled.{AreIn, IsInPool};
-ghost use Rattle.host_incoming.specs.Pieces.{moment_with};
-ghost use Rattle.host_incoming.specs.Sends.{IfSent, IsAffordable};
+ghost use Rattle.homa_in.specs.Pooled.{AreIn, IsInPool};
+ghost use Rattle.homa_in.specs.Pieces.{moment_with};
+ghost use Rattle.homa_in.specs.Sends.{IfSent, IsAffordable};
 ghost use Rattle.homa_client.specs.Held.{HeldRow, seen_row, IsRow};
 ghost use Rattle.homa_client.specs.Gives.{row_emits, row_sends, facts, IsAct, IsAsked};
 ghost use Rattle.homa_client.specs.AtTable.{Clients, part_at, place_at, IsOwnCall, IsCallAt, Received, Moved, Started, fault_of, slot_in, IfSaid};
+ghost use Rattle.homa_client.specs.Lending.{IsSame};
 ghost use Rattle.homa_client.specs.AtTable.{answer_of, told_of, rows_left, IsDueAt, HasActed, row_at, MayGrant};
 
 use crate::answers::{ClientAct, ClientDid, RowDid};
+use crate::lent::Lent;
 use crate::row::Row;
-use homa_in::Incoming;
+use homa_in::{Incoming, Moment};
 use homa_plain::{Body, CallId, Emitted, HostId, Packet, RowFacts, Settings, StartFault};
 use host_places::Rows;
 use msg_pool::{MsgPool, Scratch};
@@ -149,6 +151,28 @@ impl ClientTable {
             (packet_between from self.old.host packet.now payload.now) now order self.new pool.new scratch.new result }
         ensures pool { AreIn pool.new (part_at self.new.rows) }
     {
+        let mut lent = Lent { pool, scratch };
+        self.gets(Moment { now, order }, from, packet, payload, &mut lent)
+    }
+
+    // The same, with what is lent.
+    fn gets(
+        &mut self,
+        at: Moment,
+        from: HostId,
+        packet: &Packet,
+        payload: &[u8],
+        lent: &mut Lent<'_>,
+    ) -> ClientDid
+        requires role { packet.now.role ≡ OfServer }
+        requires fits { FitsKind packet.now.role packet.now.level packet.now.body payload.now }
+        requires now { at.now ≤ 1000000002000 }
+        requires pool { AreIn lent.old.pool.now (part_at self.old.rows) }
+        ensures received { Received self.old lent.old.pool.now (packet_between from self.old.host packet.now payload.now)
+            at.now at.order self.new lent.new.pool.now lent.new.scratch.now result }
+        ensures pool { AreIn lent.new.pool.now (part_at self.new.rows) }
+        ensures lent { IsSame lent.old lent.new }
+    {
         let id = CallId {
             client: self.host,
             inc: packet.inc,
@@ -161,17 +185,11 @@ impl ClientTable {
             return ClientDid::Nothing;
         }
         let unsched = self.settings.unsched;
-        let did = self.rows.row_mut(slot).receive(
-            id,
-            packet.sender,
-            &packet.body,
-            payload,
-            now,
-            order,
-            unsched,
-            pool,
-            scratch,
-        );
+        let inc = packet.sender;
+        let did = self
+            .rows
+            .row_mut(slot)
+            .gets(at, id, inc, &packet.body, payload, unsched, lent);
         self.finish(slot, id, did)
     }
 
@@ -337,7 +355,7 @@ impl ClientTable {
 
 // What is answered to a packet of a call that isn't live.
 fn not_live(body: &Body) -> ClientDid
-    ensures did { (m : Moment) (p : PlainPacket) (told : List ℕ) → unasked m body.now ≡ answer_of m p None told result }
+    ensures did { (m : PlainMoment) (p : PlainPacket) (told : List ℕ) → unasked m body.now ≡ answer_of m p None told result }
     ensures slot { slot_in result ≡ None }
     ensures said { IfSaid result (λ what. what ≡ Body.Busy) }
 {

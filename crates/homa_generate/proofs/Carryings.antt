@@ -5,12 +5,12 @@ use Rattle.homa_plain.specs.declared.settings.Settings.{Settings}
 use Rattle.homa_plain.specs.declared.fault.LineFault.{LineFault}
 use Rattle.homa_plain.specs.declared.fault.LineFault.TheVariants.{World as ByWorld}
 use Rattle.homa_plain.specs.declared.fault.WorldFault.{WorldFault}
-use Rattle.homa_plain.specs.Entries.{PlainEntry}
+use Rattle.homa_plain.specs.Entries.{PlainEntry, is_memory}
 use Rattle.homa_plain.specs.Rules.{Answer}
 use Rattle.homa_plain.specs.World.{World, Outcome, Refused, Done, outcome}
 use Rattle.homa_plain.specs.Replay.{Happening, Run, after_event, carried}
 use Rattle.homa_plain.specs.Answers.{shown, answering}
-use Rattle.homa_replay.specs.Playing.{IsApplied, IsNotApplied, is_memory}
+use Rattle.homa_replay.specs.ReplayWorld.{IsApplied, IsNotApplied}
 use Rattle.homa_replay.proofs.Streams.{shown_parts}
 use Rattle.generated_runs.proofs.Carried.{by_outcome, first_event, no_event, IsJoined, joined}
 use Rattle.homa_generate.specs.Counts.{counted}

@@ -10,7 +10,7 @@ use Rattle.generated_runs.specs.Fabric.{Fabric, sent}
 use Rattle.generated_runs.specs.Rounds.{all_sent}
 use Rattle.homa_world.specs.declared.shown.Passing.{Passing}
 use Rattle.homa_world.specs.Passing.{IsPassing, IsOf}
-use Rattle.homa_generate.specs.Generating.{AreNew}
+use Rattle.homa_generate.specs.GenerateWorld.{AreNew}
 
 drop_at : {X : Type 0} (xs : List X) (n : ℕ) (x : X) → slice_get xs n ≡ Some x → drop n xs ≡ x ∷ drop (suc n) xs
 drop_at {X} xs n x is = drop-cons xs n x (slice_get_within xs n x is) ∙ ap (λ (y : X). y ∷ drop (suc n) xs) (get_or_from_slice_get xs n x x is)

@@ -17,7 +17,7 @@ use Rattle.generated_runs.specs.Rounds.{Generated, all_sent, with_line}
 use Rattle.generated_runs.specs.Generated.{given_text}
 use Rattle.homa_generate.specs.Counts.{counted}
 use Rattle.homa_generate.specs.Carried.{IsCarried}
-use Rattle.homa_generate.specs.Generating.{AreNew}
+use Rattle.homa_generate.specs.GenerateWorld.{AreNew}
 use Rattle.homa_generate.specs.Going.{answered, Holds, IsAt, HasGone, IsFirstTold, HasStopped}
 use Rattle.homa_generate.proofs.CountLaws.{counted-append}
 use Rattle.homa_generate.proofs.Fresh.{IsSentNow, IsMadeLine, line_now}

@@ -8,7 +8,7 @@ use Rattle.homa_plain.specs.Rules.{Answer}
 use Rattle.homa_plain.specs.Script.{Given, settings_text}
 use Rattle.homa_plain.specs.World.{World}
 use Rattle.homa_plain.specs.Answers.{shown}
-use Rattle.homa_replay.specs.Opens.{IsFirst, IsOpened}
+use Rattle.homa_replay.specs.OpenWorld.{IsFirst, IsOpened}
 use Rattle.homa_replay.proofs.Fronts.{wrote_more, front_after, front_wide, front_none, front_same}
 use Rattle.generated_runs.specs.Draws.{seeded}
 use Rattle.generated_runs.specs.Fabric.{new_fabric}

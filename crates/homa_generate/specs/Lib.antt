@@ -1,5 +1,5 @@
 pub mod Counts
-pub mod Generating
+pub mod GenerateWorld
 pub mod Carried
 pub mod Going
 pub mod Lines

@@ -3,19 +3,19 @@ ghost use Rattle.std.specs.Prelude.{◌≡◌, ◌≤◌, ◌<◌, ◌+◌, ◌^
 ghost use Rattle.homa_plain.specs.World.{World};
 ghost use Rattle.homa_plain.specs.Replay.{turns_of, ticks};
 ghost use Rattle.generated_runs.specs.Rounds.{all_sent};
-ghost use Rattle.homa_replay.specs.Playing.{is_memory};
+ghost use Rattle.homa_plain.specs.Entries.{is_memory};
 ghost use Rattle.homa_generate.specs.Counts.{counted};
 ghost use Rattle.homa_generate.specs.Carried.{IsCarried};
-ghost use Rattle.homa_generate.specs.Generating.{AreNew};
+ghost use Rattle.homa_generate.specs.GenerateWorld.{AreNew};
 
-use crate::{Counts, Generating};
+use crate::{Counts, GenerateWorld};
 use homa_fabric::Fabric;
 use homa_plain::{Event, HostId, WorldFault};
-use homa_replay::Playing;
+use homa_replay::ReplayWorld;
 use std::alloc::{AllocError, Global};
 
 // Counts the entries of the last event.
-fn count_entries<P: Generating>(world: &P, counts: &mut Counts) -> Result<(), AllocError>
+fn count_entries<P: GenerateWorld>(world: &P, counts: &mut Counts) -> Result<(), AllocError>
     ensures { OnOk result (counts.new ≡ counted counts.old (P.told world.now)) }
 {
     let count = world.entries();
@@ -36,7 +36,7 @@ fn refused(fault: WorldFault) -> Result<bool, AllocError>
 }
 
 /// Does an event and counts its entries; whether the world did it. An event that the world refuses changes nothing.
-pub(crate) fn happen<P: Generating>(
+pub(crate) fn happen<P: GenerateWorld>(
     alloc: Global,
     world: &mut P,
     counts: &mut Counts,
@@ -59,7 +59,7 @@ pub(crate) fn happen<P: Generating>(
 }
 
 // A turn of each host, up to one that the world refuses; whether it refused none.
-fn turns<P: Generating>(
+fn turns<P: GenerateWorld>(
     alloc: Global,
     world: &mut P,
     counts: &mut Counts,
@@ -84,7 +84,7 @@ fn turns<P: Generating>(
 }
 
 /// The clock goes on, and then each host has a turn, up to one that the world refuses; whether it refused none.
-pub(crate) fn tick<P: Generating>(
+pub(crate) fn tick<P: GenerateWorld>(
     alloc: Global,
     world: &mut P,
     counts: &mut Counts,
@@ -104,7 +104,7 @@ pub(crate) fn tick<P: Generating>(
 }
 
 /// The packets with numbers from `first` on enter the fabric; one that the world doesn't show any more doesn't.
-pub(crate) fn enter<P: Generating>(world: &P, fabric: &mut Fabric, first: u64)
+pub(crate) fn enter<P: GenerateWorld>(world: &P, fabric: &mut Fabric, first: u64)
     ensures entered { (w : World) → P.stands world.now w → AreNew (P.settings world.now) w first
         → fabric.new.fabric ≡ all_sent (P.settings world.now) first (drop first w.packets) fabric.old.fabric }
     ensures life { fabric.new.life ≡ fabric.old.life }

@@ -16,4 +16,4 @@ mod worlds;
 
 pub use printing::{count, make};
 pub use tally::Counts;
-pub use worlds::Generating;
+pub use worlds::GenerateWorld;

@@ -13,12 +13,12 @@ ghost use Rattle.homa_generate.specs.Going.{IsAt, HasGone, HasStopped};
 
 use crate::events::{enter, happen, tick};
 use crate::setup::Setup;
-use crate::{Counts, Generating};
+use crate::{Counts, GenerateWorld};
 use arrayvec::ArrayVec;
 use homa_fabric::{Fabric, Traffic};
 use homa_io::{Sink, WriteFailed};
 use homa_plain::Event;
-use homa_replay::{Playing, Stop};
+use homa_replay::{ReplayWorld, Stop};
 use homa_script::put_event;
 use homa_text::Word::{Host, Number, Text};
 use homa_text::put_line;
@@ -92,7 +92,7 @@ fn show<K: Sink>(setup: &Setup, sink: &mut K, line: &Line) -> Result<(), WriteFa
 }
 
 // Carries out a line, up to an event that the world refuses; whether it refused none.
-fn carry<P: Generating>(
+fn carry<P: GenerateWorld>(
     setup: &Setup,
     world: &mut P,
     counts: &mut Counts,
@@ -125,7 +125,7 @@ fn carry<P: Generating>(
 }
 
 /// Prints a line, where the lines of this run are printed, and carries it out; the packets that it sends enter the fabric.
-pub(crate) fn play<P: Generating, K: Sink>(
+pub(crate) fn play<P: GenerateWorld, K: Sink>(
     setup: &Setup,
     world: &mut P,
     sink: &mut K,

@@ -1,5 +1,6 @@
 //! The schedule of a generated run, and its summary.
-ghost use Rattle.std.specs.Prelude.{◌≡◌, OnOk, OnErr, IfOk};
+ghost use Rattle.std.specs.Prelude.{◌≡◌, OnOk, OnErr, IfOk, IsErrOf};
+ghost use Rattle.homa_replay.specs.declared.stop.Stop.TheVariants.{NoMemory};
 ghost use Rattle.generated_runs.specs.Generated.{generated_settings, schedule_text, summary_text};
 ghost use Rattle.homa_generate.specs.Progress.{IsHeard, IsFaulted};
 ghost use Rattle.homa_generate.specs.Made.{run_of, HasRun, IsMade, IsPartMade};
@@ -7,11 +8,11 @@ ghost use Rattle.homa_generate.specs.Made.{run_of, HasRun, IsMade, IsPartMade};
 use crate::lines::Progress;
 use crate::rounds::play_rounds;
 use crate::setup::Setup;
-use crate::{Counts, Generating};
+use crate::{Counts, GenerateWorld};
 use homa_fabric::Fabric;
 use homa_io::{Sink, SureSink};
 use homa_plain::Settings;
-use homa_replay::{Opens, Stop};
+use homa_replay::{OpenWorld, Stop};
 use homa_script::put_settings;
 use std::alloc::Global;
 
@@ -25,7 +26,7 @@ fn generated_settings() -> Settings
 }
 
 // Prints the schedule of a run where `prints` says so, and answers the counts of its trace. Without, the sink is one that doesn't tell what it took.
-fn generate<B: Drop, P: Generating + Opens<B> + Drop, K: Sink>(
+fn generate<B: Drop, P: GenerateWorld + OpenWorld<B> + Drop, K: Sink>(
     alloc: Global,
     sink: &mut K,
     boxes: B,
@@ -54,7 +55,7 @@ fn generate<B: Drop, P: Generating + Opens<B> + Drop, K: Sink>(
 }
 
 /// Prints the schedule of the generated run of a seed with so many calls, in a world with these boxes.
-pub fn make<B: Drop, P: Generating + Opens<B> + Drop, K: Sink>(
+pub fn make<B: Drop, P: GenerateWorld + OpenWorld<B> + Drop, K: Sink>(
     alloc: Global,
     sink: &mut K,
     boxes: B,
@@ -74,7 +75,7 @@ pub fn make<B: Drop, P: Generating + Opens<B> + Drop, K: Sink>(
 }
 
 /// Prints the summary of the generated run of a seed with so many calls, in a world with these boxes.
-pub fn count<B: Drop, P: Generating + Opens<B> + Drop, K: Sink>(
+pub fn count<B: Drop, P: GenerateWorld + OpenWorld<B> + Drop, K: Sink>(
     alloc: Global,
     sink: &mut K,
     boxes: B,
@@ -86,6 +87,7 @@ pub fn count<B: Drop, P: Generating + Opens<B> + Drop, K: Sink>(
         (P.are_allowed boxes)) }
     ensures part { OnErr result (IsPartMade (run_of seed calls (P.many boxes)) (λ g. summary_text g.told) (K.taken sink.old) (K.taken sink.new)
         (P.are_allowed boxes)) }
+    ensures unsaid { IsErrOf result NoMemory → K.taken sink.new ≡ K.taken sink.old }
     ensures faulted { IsFaulted result (K.faults sink.old) (K.faults sink.new) }
     ensures same { K.is_same sink.old sink.new }
 {

@@ -10,13 +10,13 @@ ghost use Rattle.homa_world.specs.Kinds.{kind_of};
 ghost use Rattle.homa_world.specs.Passing.{IsOf};
 
 use homa_plain::HostId;
-use homa_replay::Playing;
+use homa_replay::ReplayWorld;
 use homa_service::Service;
 use homa_world::{Kind, Passing, World};
 
 /// A world in which traffic is generated: it also shows its clock, the packets that were sent, and which hosts have
 /// live calls.
-pub trait Generating: Playing {
+pub trait GenerateWorld: ReplayWorld {
     /// The clock's tick.
     fn clock(&self) -> u64
         ensures { (w : PlainWorld) → Self.stands self.now w → result ≡ w.clock };
@@ -44,7 +44,7 @@ pub trait Generating: Playing {
         ensures { (w : PlainWorld) → Self.stands self.now w → result ≡ list_all (λ (h : Host). len h.clients == 0) w.hosts };
 }
 
-impl<S: Service> Generating for World<S> {
+impl<S: Service> GenerateWorld for World<S> {
     fn clock(&self) -> u64 {
         self.now()
     }

@@ -9,7 +9,7 @@ use Rattle.std.proofs.Math.ListN.{get_or-map}
 use Rattle.place_heap.specs.declared.key.Key.{Key}
 use Rattle.place_heap.specs.Order.{Item, first_of as first_item}
 use Rattle.place_heap.specs.Held.{Held, list_of}
-use Rattle.place_books.proofs.Books.{keys-differ}
+use Rattle.host_heap.proofs.Books.{keys-differ}
 use Rattle.plain_sets.specs.Ordered.{firsts}
 use Rattle.plain_sets.proofs.OrderLaws.{all_weaker}
 use Rattle.plain_sets.proofs.OrderSame.{ordered-sorted}

@@ -8,7 +8,7 @@ use Rattle.std.proofs.lemmas.List.{get_or-set_same, get_or-set_other, get_or_rea
 use Rattle.place_heap.specs.declared.key.Key.{Key}
 use Rattle.place_heap.specs.Order.{key_in, first_of as first_item}
 use Rattle.place_heap.specs.Held.{Held, list_of}
-use Rattle.place_books.specs.Replaced.{replaced}
+use Rattle.host_heap.specs.Replaced.{replaced}
 use Rattle.plain_sets.proofs.OrderLaws.{all_weaker}
 use Rattle.homa_plain.specs.declared.id.HostId.{HostId}
 use Rattle.homa_grants.specs.Entries.{Entry, entry_of, IsOwnOrder}

@@ -9,7 +9,7 @@ use Rattle.std.proofs.lemmas.Bool.Decides.{nat_tests}
 use Rattle.std.proofs.lemmas.List.Sorted.{IsPermutation-refl, IsPermutation-sym, IsPermutation-cons, IsPermutation-trans, IsPermutation-middle}
 use Rattle.std.proofs.lemmas.List.Sorted.{IsPermutation-append_right}
 use Rattle.place_heap.specs.Held.{Held, list_of}
-use Rattle.place_books.proofs.Books.{keys-differ}
+use Rattle.host_heap.proofs.Books.{keys-differ}
 use Rattle.plain_sets.specs.Ordered.{ordered, IsInOrder, SendersDiffer}
 use Rattle.plain_sets.proofs.OrderLaws.{all_weaker}
 use Rattle.plain_sets.proofs.OrderSame.{everywhere, ordered-permuted, ordered-sorted}

@@ -10,7 +10,7 @@ ghost use Rattle.homa_grants.specs.Heaps.{slot_items, peer_items, message_at};
 
 use arrayvec::ArrayVec;
 use homa_plain::{HostId, Settings};
-use place_books::{first, first_k, key, replace};
+use host_heap::{first, first_k, key, replace};
 use place_heap::{Key, PlaceHeap};
 use std::alloc::{AllocError, Global};
 use std::marker::Model;
@@ -54,7 +54,7 @@ impl GrantBook {
         ensures empty { IfOk result (λ book. book.entries ≡ []) }
         ensures sound { IfOk result IsSound }
     {
-        let slots = settings.calls + settings.served;
+        let slots = settings.slots();
         let mut heaps = Vec::with_capacity(alloc, settings.hosts as usize)?;
         for _ in 0..settings.hosts {
             heaps.push(PlaceHeap::new(alloc, slots)?)?;

@@ -12,10 +12,10 @@ use Rattle.homa_plain.specs.Timers.{OfClient, client_acts}
 use Rattle.homa_plain.specs.Steps.{Work, moment, client_acted, asked}
 use Rattle.step_laws.proofs.OwnOrders.{Own, acts_at-own}
 use Rattle.msg_pool.specs.Pool.{Pool}
-use Rattle.host_incoming.specs.Pooled.{AreIn}
+use Rattle.homa_in.specs.Pooled.{AreIn}
 use Rattle.host_places.specs.Placed.{Placed, StandsAt}
 use Rattle.host_places.proofs.MappedLaws.{get-mapped}
-use Rattle.host_incoming.specs.Pieces.{moment_with}
+use Rattle.homa_in.specs.Pieces.{moment_with}
 use Rattle.homa_client.specs.Held.{HeldRow, seen_row}
 use Rattle.homa_client.specs.Gives.{IsAct}
 use Rattle.homa_client.specs.AtTable.{Clients, Moved, HasActed, seen_rows, row_at, part_at, place_at}
@@ -26,7 +26,7 @@ use Rattle.host_laws.proofs.Known.{client_acts-known}
 use Rattle.host_state.specs.Control.{Control, IsSound, IsAt}
 use Rattle.host_view.specs.declared.outbox.SentFrame.{SentFrame}
 use Rattle.host_books.specs.declared.books.Books.{Books}
-use Rattle.host_book_laws.specs.Duty.{client_duty_in, followed}
+use Rattle.host_books.specs.Duty.{client_duty_in, followed}
 use Rattle.homa_host.specs.Parts.{host_of, IsKept}
 use Rattle.homa_host.specs.Amid.{Amid}
 use Rattle.homa_host.specs.Outcomes.{client_act_change, FollowedClient}

@@ -15,7 +15,7 @@ use Rattle.host_view.specs.Marks.{mark_of}
 use Rattle.host_state.specs.Control.{Control, IsSound, IsAt}
 use Rattle.host_state.proofs.At.{at-told}
 use Rattle.homa_plain.specs.Timers.{Place, OfClient, OfServer}
-use Rattle.host_incoming.specs.Pooled.{IsInPool, HasNumber}
+use Rattle.homa_in.specs.Pooled.{IsInPool, HasNumber}
 use Rattle.host_places.specs.Placed.{ArePlaced}
 use Rattle.homa_client.specs.AtTable.{seen_rows}
 use Rattle.homa_server.specs.Table.{seen_servers}

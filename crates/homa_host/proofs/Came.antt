@@ -29,7 +29,7 @@ use Rattle.step_laws.specs.StepLaws.{run_count}
 use Rattle.step_laws.proofs.Places.{all-append}
 use Rattle.step_laws.proofs.ToldBy.{Calm, calm_none, calm_then, acked_one-calm, hears_cutoffs-calm, asked-carried, served-carried, Carried, said-runs}
 use Rattle.step_laws.proofs.ToldBy.{asks, run_count-append}
-use Rattle.trace_moves.proofs.Own.{AllOwn, runs_said, gets_own, gets_quiet}
+use Rattle.step_laws.proofs.Own.{AllOwn, runs_said, gets_own, gets_quiet}
 use Rattle.host_view.specs.declared.mark.Mark.{Mark}
 use Rattle.host_view.specs.declared.mark.Mark.TheVariants.{Ran}
 use Rattle.host_view.specs.declared.outbox.SentFrame.{SentFrame}

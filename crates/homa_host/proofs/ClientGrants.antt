@@ -14,13 +14,13 @@ use Rattle.step_laws.specs.StepLaws.{HasOwnOrders}
 use Rattle.step_laws.proofs.OwnOrders.{client_granted-own}
 use Rattle.msg_pool.specs.Pool.{Pool}
 use Rattle.homa_in.specs.Part.{Part}
-use Rattle.host_incoming.specs.Pooled.{IsInPool}
+use Rattle.homa_in.specs.Pooled.{IsInPool}
 use Rattle.host_places.specs.Placed.{StandsAt}
 use Rattle.homa_client.specs.Held.{HeldRow, seen_row}
 use Rattle.homa_client.specs.AtTable.{Clients, Moved, MayGrant}
 use Rattle.host_view.specs.Follow.{ChangesAt}
 use Rattle.host_books.specs.declared.books.Books.{Books}
-use Rattle.host_book_laws.specs.Duty.{client_duty, followed}
+use Rattle.host_books.specs.Duty.{client_duty, followed}
 use Rattle.host_laws.specs.Peers.{KnowsServer}
 use Rattle.host_laws.proofs.Known.{client_granted-known}
 use Rattle.homa_host.specs.declared.parts.HostParts.{HostParts}
@@ -31,7 +31,7 @@ use Rattle.homa_host.specs.declared.outcome.Change.TheVariants.{Stays}
 use Rattle.homa_host.proofs.SlotRows.{client_row, client_spot, arrives_at_client, arriving_client}
 use Rattle.homa_host.proofs.ClientKept.{own_like, host_after}
 use Rattle.homa_host.proofs.ClientStays.{beside_none, stood, knows, owned, inside, part_inside, message_at, changes_to, can_follow, followed_by, kept_stays}
-use Rattle.homa_host.proofs.Grants.{Arrives, some_of, one_row, raised_step}
+use Rattle.homa_host.proofs.RaisedLaws.{Arrives, some_of, one_row, raised_step}
 
 -- the message that arrives at a client's slot
 abbrev pub ClientArrives : HostParts → ℕ → Arriving → Type 0

@@ -15,8 +15,8 @@ use Rattle.step_laws.specs.StepLaws.{HasOwnOrders}
 use Rattle.step_laws.proofs.Places.{client_inject, server_inject, two_sides}
 use Rattle.msg_pool.specs.Pool.{Pool, leased_pages}
 use Rattle.homa_in.specs.Part.{Part, seen}
-use Rattle.host_incoming.specs.Pooled.{AreIn, seen_part, pages_of}
-use Rattle.host_incoming.proofs.MoveLaws.{still_in, seen_others}
+use Rattle.homa_in.specs.Pooled.{AreIn, seen_part, pages_of}
+use Rattle.homa_in.proofs.MoveLaws.{still_in, seen_others}
 use Rattle.host_places.specs.Mapped.{mapped}
 use Rattle.host_places.specs.Placed.{Placed, ArePlaced}
 use Rattle.host_places.proofs.PlacedLaws.{one_call}
@@ -29,12 +29,12 @@ use Rattle.host_state.specs.Control.{Control, IsSound}
 use Rattle.host_view.specs.Seen.{Seen}
 use Rattle.host_view.specs.Follow.{ChangesAt, HasSlots, has_row}
 use Rattle.host_books.specs.Duties.{AreBooked, AreOwn, HaveRoom}
-use Rattle.host_book_laws.specs.Duty.{client_duty_in, followed}
-use Rattle.host_book_laws.specs.Pages.{client_pages, row_pages}
-use Rattle.host_book_laws.proofs.Changing.{client_changes, books_stay}
-use Rattle.host_book_laws.proofs.PageSums.{pages_changed}
-use Rattle.host_book_laws.proofs.Tables.{has_places}
-use Rattle.host_book_laws.proofs.Rebooked.{rebooked, rebooked_own}
+use Rattle.host_books.specs.Duty.{client_duty_in, followed}
+use Rattle.host_books.specs.Pages.{client_pages, row_pages}
+use Rattle.host_books.proofs.Changing.{client_changes, books_stay}
+use Rattle.host_books.proofs.PageSums.{pages_changed}
+use Rattle.host_books.proofs.Tables.{has_places}
+use Rattle.host_books.proofs.Rebooked.{rebooked, rebooked_own}
 use Rattle.host_laws.specs.Peers.{KnowsPeers}
 use Rattle.homa_host.specs.Parts.{host_of, seen_of, part_in, IsKept}
 use Rattle.homa_host.specs.declared.parts.HostParts.{HostParts}

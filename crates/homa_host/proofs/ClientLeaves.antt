@@ -19,7 +19,7 @@ use Rattle.homa_plain.specs.Steps.{Work, pumped_once, leaves_from, client_leaves
 use Rattle.homa_plain.specs.Timers.{OfClient}
 use Rattle.step_laws.specs.StepLaws.{HasOwnOrders}
 use Rattle.step_laws.proofs.OwnOrders.{client_leaves-own}
-use Rattle.host_incoming.specs.Pooled.{IsInPool}
+use Rattle.homa_in.specs.Pooled.{IsInPool}
 use Rattle.host_places.specs.Placed.{StandsAt, spot_at}
 use Rattle.homa_client.specs.Held.{HeldRow, seen_row}
 use Rattle.homa_client.specs.AtTable.{Clients, Moved}
@@ -31,9 +31,9 @@ use Rattle.host_view.specs.Seen.{ready_of, waiting}
 use Rattle.homa_pacer.specs.Pace as pace
 use Rattle.host_books.specs.declared.books.Books.{Books}
 use Rattle.host_books.specs.Duties.{ready_in}
-use Rattle.host_book_laws.specs.Duty.{client_duty, followed}
-use Rattle.host_book_laws.proofs.PumpOnce.{picked, idle_ready, sends_next, client_departs, client_rests, client_waits, client_sends_next}
-use Rattle.host_book_laws.proofs.PumpOnce.{client_short, some_next, shorter, booked_length}
+use Rattle.host_books.specs.Duty.{client_duty, followed}
+use Rattle.host_books.proofs.PumpOnce.{picked, idle_ready, sends_next, client_departs, client_rests, client_waits, client_sends_next}
+use Rattle.host_books.proofs.PumpOnce.{client_short, some_next, shorter, booked_length}
 use Rattle.host_laws.specs.Peers.{KnowsServer}
 use Rattle.host_laws.proofs.Known.{client_sends-known}
 use Rattle.homa_host.specs.declared.parts.HostParts.{HostParts}

@@ -18,7 +18,7 @@ use Rattle.homa_plain.specs.Timers.{Place, OfClient, OfServer}
 use Rattle.step_laws.specs.StepLaws.{HasOwnOrders}
 use Rattle.homa_in.specs.Part as part
 use Rattle.homa_in.specs.Part.{Part, IsIn}
-use Rattle.host_incoming.specs.Pooled.{IsInPool, HasNumber, AreIn, seen_part}
+use Rattle.homa_in.specs.Pooled.{IsInPool, HasNumber, AreIn, seen_part}
 use Rattle.host_places.specs.Placed.{Placed, StandsAt, spot_at}
 use Rattle.host_places.specs.Mapped.{mapped}
 use Rattle.host_places.proofs.MappedLaws.{get-mapped}
@@ -32,13 +32,13 @@ use Rattle.host_view.specs.Follow.{ChangesAt, has_row, client_arrival}
 use Rattle.host_books.specs.declared.books.Arrival.{Arrival}
 use Rattle.host_books.specs.declared.books.Books.{Books}
 use Rattle.host_books.specs.Duties.{AreOwn, AreBooked, HaveRoom}
-use Rattle.host_book_laws.proofs.Changing.{books_stay}
-use Rattle.host_book_laws.specs.Duty.{client_duty, arrival_duty, followed}
-use Rattle.host_book_laws.specs.SameRows.{SameRows}
-use Rattle.host_book_laws.proofs.Splits.{is_set}
-use Rattle.host_book_laws.proofs.Tables.{made_of}
-use Rattle.host_book_laws.proofs.Things.{thing_at}
-use Rattle.host_book_laws.proofs.Books.{arrival_things}
+use Rattle.host_books.proofs.Changing.{books_stay}
+use Rattle.host_books.specs.Duty.{client_duty, arrival_duty, followed}
+use Rattle.host_books.specs.SameRows.{SameRows}
+use Rattle.host_books.proofs.Splits.{is_set}
+use Rattle.host_books.proofs.Tables.{made_of}
+use Rattle.host_books.proofs.Things.{thing_at}
+use Rattle.host_books.proofs.BookThings.{arrival_things}
 use Rattle.host_laws.specs.Peers.{KnowsServer, KnowsPeers}
 use Rattle.host_laws.proofs.Known.{known-client}
 use Rattle.homa_host.specs.declared.outcome.Change.TheVariants.{Stays}

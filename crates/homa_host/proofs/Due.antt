@@ -26,8 +26,8 @@ use Rattle.host_view.specs.declared.outbox.SentFrame.{SentFrame}
 use Rattle.host_view.specs.Seen.{slot_of, timer_of}
 use Rattle.host_view.specs.Follow.{client_timer, server_timer}
 use Rattle.host_view.proofs.ByBook.{first_due-book}
-use Rattle.host_book_laws.proofs.Things.{thing_at}
-use Rattle.host_book_laws.proofs.Books.{timer_things}
+use Rattle.host_books.proofs.Things.{thing_at}
+use Rattle.host_books.proofs.BookThings.{timer_things}
 use Rattle.homa_host.specs.Parts.{host_of, seen_of, IsKept}
 use Rattle.homa_host.specs.Amid.{Amid}
 use Rattle.homa_host.specs.declared.parts.HostParts.{HostParts}

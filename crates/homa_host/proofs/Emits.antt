@@ -11,13 +11,13 @@ use Rattle.homa_plain.specs.declared.id.CallId.{CallId}
 use Rattle.homa_plain.specs.declared.row.Emitted.{Emitted}
 use Rattle.homa_plain.specs.declared.row.Emitted.TheVariants.{Sent, Short, Rests}
 use Rattle.homa_plain.specs.Rows.{RowsOf}
-use Rattle.host_incoming.specs.Sends.{emits}
+use Rattle.homa_in.specs.Sends.{emits}
 use Rattle.host_places.specs.Placed.{Placed, StandsAt, spot_at}
 use Rattle.host_places.proofs.PlacedLaws.{get-spot}
 use Rattle.homa_pacer.specs.Pace as pace
 use Rattle.host_books.specs.declared.books.Waiting.{Waiting}
 use Rattle.host_books.specs.Duties.{ready_in}
-use Rattle.host_book_laws.proofs.Follows.{IsFew}
+use Rattle.host_books.proofs.Follows.{IsFew}
 
 -- what is so where this was emitted, of a message that may be sent or not, with these next bytes
 abbrev pub IsView : Bool → Option Range → ℕ → Emitted → Type 0

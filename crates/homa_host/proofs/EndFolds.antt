@@ -9,12 +9,12 @@ use Rattle.homa_plain.specs.Steps.{Work, first_leaves, pumped_once, pump}
 use Rattle.host_view.specs.declared.outbox.SentFrame.{SentFrame}
 use Rattle.host_view.specs.Frames.{frame_of}
 use Rattle.host_view.proofs.Pump as seen_pump
-use Rattle.host_book_laws.proofs.PumpOnce.{pump_goes, pump_ends, pump_full}
+use Rattle.host_books.proofs.PumpOnce.{pump_goes, pump_ends, pump_full}
 use Rattle.homa_host.specs.declared.parts.HostParts.{HostParts}
 use Rattle.homa_host.specs.Parts.{seen_of, IsKept}
 use Rattle.homa_host.specs.Amid.{Amid, WasSent, WasIdle, WasShort, IsPumped}
-use Rattle.homa_host.specs.declared.at_client.Pumped.{Pumped}
-use Rattle.homa_host.specs.declared.at_client.Pumped.TheVariants.{Sent, Idle, Short}
+use Rattle.homa_host.specs.declared.pump.Pumped.{Pumped}
+use Rattle.homa_host.specs.declared.pump.Pumped.TheVariants.{Sent, Idle, Short}
 
 -- there are as many frames as packets were sent
 pub frames_told : (w : Work) (c : HostParts) (out : List SentFrame) → Amid w c out → length out ≡ length (packets_in w.told)

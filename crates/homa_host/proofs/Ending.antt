@@ -16,7 +16,7 @@ use Rattle.homa_plain.specs.Timers.{Place, OfClient, OfServer}
 use Rattle.homa_plain.specs.Steps.{Work, begun, refilled, starts, comes, acts, ended, call_step, arrival_step, turn_step, Asked, asked_in}
 use Rattle.step_laws.specs.StepLaws.{IsBounded}
 use Rattle.step_laws.proofs.Bounds.{call-bounded, arrival-bounded, turn-bounded}
-use Rattle.host_incoming.specs.Pooled.{IsInPool, HasNumber}
+use Rattle.homa_in.specs.Pooled.{IsInPool, HasNumber}
 use Rattle.host_view.specs.declared.outbox.SentFrame.{SentFrame}
 use Rattle.host_view.specs.Seen.{Seen, AreReady}
 use Rattle.host_view.specs.Marks.{IsReply, IsWhole}

@@ -10,14 +10,14 @@ use Rattle.step_laws.specs.StepLaws.{HasOwnOrders}
 use Rattle.msg_pool.specs.Pool.{Pool}
 use Rattle.host_places.specs.Placed.{Placed, StandsAt, spot_at}
 use Rattle.host_places.proofs.PlacedLaws.{spot-stands}
-use Rattle.host_incoming.specs.Pooled.{AreIn}
+use Rattle.homa_in.specs.Pooled.{AreIn}
 use Rattle.homa_client.specs.Held.{HeldRow, seen_row}
 use Rattle.homa_client.specs.AtTable.{Clients, Moved, part_at, place_at}
 use Rattle.homa_client.proofs.TableLaws.{part_stands}
 use Rattle.host_books.specs.declared.books.Books.{Books}
 use Rattle.host_books.specs.declared.books.Arrival.{Arrival}
 use Rattle.host_books.specs.Duties.{AreOwn, HaveRoom}
-use Rattle.host_book_laws.specs.Duty.{client_duty, client_duty_in, arrival_duty, followed}
+use Rattle.host_books.specs.Duty.{client_duty, client_duty_in, arrival_duty, followed}
 use Rattle.host_laws.specs.Peers.{KnowsServer}
 use Rattle.homa_host.specs.Parts.{IsKept}
 use Rattle.homa_host.specs.Outcomes.{IfStays, IfChanged, MayStayClient, FollowedClient}

@@ -18,7 +18,7 @@ use Rattle.host_state.specs.Control.{Control, IsSound, IsAt}
 use Rattle.host_view.specs.declared.outbox.SentFrame.{SentFrame}
 use Rattle.host_books.specs.declared.books.Books.{Books}
 use Rattle.host_books.specs.Duties.{HaveRoom}
-use Rattle.host_book_laws.specs.Duty.{client_duty_in, followed}
+use Rattle.host_books.specs.Duty.{client_duty_in, followed}
 use Rattle.homa_host.specs.Parts.{host_of, IsKept}
 use Rattle.homa_host.specs.Amid.{Amid}
 use Rattle.homa_host.specs.Outcomes.{client_change, client_orders, IfStays, IfChanged, IfTouched, MayStayClient, FollowedClient}

@@ -18,8 +18,8 @@ use Rattle.homa_plain.specs.AtClient.{client_gets}
 use Rattle.homa_plain.specs.Steps.{Work, moment, asked}
 use Rattle.step_laws.proofs.OwnOrders.{Own, row-own}
 use Rattle.msg_pool.specs.Pool.{Pool, leased_pages, free_pages}
-use Rattle.host_incoming.specs.Pooled.{AreIn, pages_of}
-use Rattle.host_incoming.specs.Pieces.{moment_with}
+use Rattle.homa_in.specs.Pooled.{AreIn, pages_of}
+use Rattle.homa_in.specs.Pieces.{moment_with}
 use Rattle.host_places.specs.Placed.{Placed}
 use Rattle.host_places.proofs.MappedLaws.{get-mapped}
 use Rattle.homa_client.specs.Held.{HeldRow, seen_row}
@@ -27,8 +27,8 @@ use Rattle.homa_client.specs.AtTable.{Clients, Moved, Received, HasLeft, answer_
 use Rattle.homa_client.specs.declared.answers.ClientDid.{ClientDid}
 use Rattle.homa_client.specs.declared.answers.ClientDid.TheVariants as did
 use Rattle.homa_client.proofs.ReceivedLaws.{from_server, of_server}
-use Rattle.host_book_laws.specs.Pages.{client_pages, server_pages}
-use Rattle.host_book_laws.proofs.PageSums.{pages_free}
+use Rattle.host_books.specs.Pages.{client_pages, server_pages}
+use Rattle.host_books.proofs.PageSums.{pages_free}
 use Rattle.host_laws.specs.Peers.{KnowsServer}
 use Rattle.host_laws.proofs.Known.{client_gets-known}
 use Rattle.homa_host.specs.Parts.{host_of, IsKept}

@@ -14,11 +14,11 @@ use Rattle.homa_grants.specs.Entries as entry
 use Rattle.host_view.specs.Seen.{slot_of, entry_of}
 use Rattle.host_view.proofs.ByBook.{chosen-book}
 use Rattle.host_view.specs.Follow.{ChangesAt}
-use Rattle.host_book_laws.specs.Ends.{grant_to, granted_each}
-use Rattle.host_book_laws.proofs.Books.{arrival_things}
-use Rattle.host_book_laws.proofs.Things.{thing_stays, one_thing}
-use Rattle.host_book_laws.proofs.Slots.{slots_stay}
-use Rattle.host_book_laws.proofs.GrantsEach.{grants_each, chosen_arrive, chosen_differ}
+use Rattle.host_books.specs.Ends.{grant_to, granted_each}
+use Rattle.host_books.proofs.BookThings.{arrival_things}
+use Rattle.host_books.proofs.Things.{thing_stays, one_thing}
+use Rattle.host_books.proofs.Slots.{slots_stay}
+use Rattle.host_books.proofs.GrantsEach.{grants_each, chosen_arrive, chosen_differ}
 use Rattle.homa_host.specs.declared.parts.HostParts.{HostParts}
 use Rattle.homa_host.specs.Parts.{host_of, seen_of, IsKept}
 use Rattle.homa_host.specs.Amid.{Amid}

@@ -12,13 +12,13 @@ pub mod GrantFolds
 pub mod Opened
 pub mod Finished
 pub mod Begun
-pub mod Lent
+pub mod ShownBytes
 pub mod Starts
 pub mod ServerFollows
 pub mod RanLaws
 pub mod ServerActLaws
 pub mod ClientStays
-pub mod Grants
+pub mod RaisedLaws
 pub mod ClientGrants
 pub mod ServerAckLaws
 pub mod Emits

@@ -19,7 +19,7 @@ use Rattle.msg_pool.specs.Pool.{Pool, leased_pages}
 use Rattle.host_places.specs.Mapped.{mapped}
 use Rattle.host_places.specs.Placed.{Placed}
 use Rattle.host_places.proofs.MappedLaws.{list-mapped}
-use Rattle.host_incoming.specs.Pooled.{IsInPool, HasNumber}
+use Rattle.homa_in.specs.Pooled.{IsInPool, HasNumber}
 use Rattle.homa_client.specs.Held.{HeldRow, seen_row}
 use Rattle.homa_client.specs.AtTable.{Clients}
 use Rattle.homa_server.specs.Held.{HeldServer, seen_server, state_part}
@@ -31,7 +31,7 @@ use Rattle.host_books.specs.declared.books.Books.{Books}
 use Rattle.host_books.specs.Duties.{HaveRoom, AreBooked}
 use Rattle.homa_timers.specs.Armed.{timer_key}
 use Rattle.homa_grants.specs.Entries.{entry_key}
-use Rattle.host_book_laws.specs.Pages.{row_pages}
+use Rattle.host_books.specs.Pages.{row_pages}
 use Rattle.host_laws.specs.Peers.{KnowsPeers}
 use Rattle.host_view.specs.Seen.{Seen}
 use Rattle.homa_host.specs.Parts.{host_of, seen_of, part_in, IsKept}

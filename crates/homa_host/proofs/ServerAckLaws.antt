@@ -18,8 +18,8 @@ use Rattle.msg_pool.specs.Pool.{Pool, free_pages}
 use Rattle.host_places.specs.Placed.{Placed, StandsAt, ArePlaced, spot_at}
 use Rattle.host_places.proofs.MappedLaws.{get-mapped}
 use Rattle.host_places.proofs.PlacedLaws.{get-insert_else, get-remove_else}
-use Rattle.host_incoming.specs.Pieces.{moment_with}
-use Rattle.host_incoming.specs.Pooled.{AreIn, pages_of}
+use Rattle.homa_in.specs.Pieces.{moment_with}
+use Rattle.homa_in.specs.Pooled.{AreIn, pages_of}
 use Rattle.host_view.specs.Marks.{response_of, response_in}
 use Rattle.host_view.specs.declared.outbox.SentFrame.{SentFrame}
 use Rattle.host_state.specs.Control.{Control, IsSound, IsAt}
@@ -28,7 +28,7 @@ use Rattle.host_books.specs.Duties.{HaveRoom}
 use Rattle.homa_server.specs.Held.{HeldServer, seen_server}
 use Rattle.homa_server.specs.Answers.{acked_of}
 use Rattle.homa_server.specs.Table.{Servers, ServerMoved, seen_servers, server_at, slot_at, request_at, server_moment}
-use Rattle.host_book_laws.specs.Duty.{server_duty_in, followed}
+use Rattle.host_books.specs.Duty.{server_duty_in, followed}
 use Rattle.host_laws.specs.Peers.{KnowsClient, KnowsSender}
 use Rattle.host_laws.proofs.Known.{server_acked-known}
 use Rattle.homa_host.specs.Parts.{host_of, IsKept}

@@ -15,7 +15,7 @@ use Rattle.step_laws.proofs.OwnOrders.{Own, acts_at-own}
 use Rattle.msg_pool.specs.Pool.{Pool}
 use Rattle.host_places.specs.Placed.{Placed, StandsAt, ArePlaced}
 use Rattle.host_places.proofs.MappedLaws.{get-mapped}
-use Rattle.host_incoming.specs.Pieces.{moment_with}
+use Rattle.homa_in.specs.Pieces.{moment_with}
 use Rattle.homa_server.specs.Held.{HeldServer, seen_server}
 use Rattle.homa_server.specs.Answers.{acted_of, HasServerActed}
 use Rattle.homa_server.specs.Table.{Servers, ServerMoved, seen_servers, server_at}
@@ -26,8 +26,8 @@ use Rattle.host_laws.proofs.Known.{server_acts-known}
 use Rattle.host_state.specs.Control.{Control, IsSound, IsAt}
 use Rattle.host_view.specs.declared.outbox.SentFrame.{SentFrame}
 use Rattle.host_books.specs.declared.books.Books.{Books}
-use Rattle.host_book_laws.specs.Duty.{server_duty_in, followed}
-use Rattle.host_book_laws.specs.Stood.{Stood}
+use Rattle.host_books.specs.Duty.{server_duty_in, followed}
+use Rattle.host_books.specs.Stood.{Stood}
 use Rattle.homa_host.specs.Parts.{host_of, seen_of, IsKept}
 use Rattle.homa_host.specs.Amid.{Amid}
 use Rattle.homa_host.specs.ServerFollow.{server_act_change, server_act_orders, FollowedServer}

@@ -10,14 +10,14 @@ use Rattle.step_laws.specs.StepLaws.{HasOwnOrders}
 use Rattle.msg_pool.specs.Pool.{Pool}
 use Rattle.host_places.specs.Placed.{Placed, StandsAt, ArePlaced, spot_at}
 use Rattle.host_places.proofs.PlacedLaws.{spot-stands}
-use Rattle.host_incoming.specs.Pooled.{AreIn}
+use Rattle.homa_in.specs.Pooled.{AreIn}
 use Rattle.homa_server.specs.Held.{HeldServer, seen_server}
 use Rattle.homa_server.specs.Table.{Servers, ServerMoved, request_at}
 use Rattle.host_books.specs.declared.books.Books.{Books}
 use Rattle.host_books.specs.declared.books.Arrival.{Arrival}
 use Rattle.host_books.specs.Duties.{AreOwn, HaveRoom}
-use Rattle.host_book_laws.specs.Duty.{server_duty, server_duty_in, arrival_duty, arriving, followed}
-use Rattle.host_book_laws.specs.Stood.{Stood}
+use Rattle.host_books.specs.Duty.{server_duty, server_duty_in, arrival_duty, arriving, followed}
+use Rattle.host_books.specs.Stood.{Stood}
 use Rattle.host_laws.specs.Peers.{KnowsClient, KnowsSender}
 use Rattle.homa_host.specs.Parts.{seen_of, IsKept}
 use Rattle.homa_host.specs.Outcomes.{IfStays, IfChanged}

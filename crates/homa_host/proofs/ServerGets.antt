@@ -22,8 +22,8 @@ use Rattle.homa_plain.specs.Steps.{Work, moment, begun, is_newer, hears_cutoffs,
 use Rattle.step_laws.proofs.OwnOrders.{Own, row-own}
 use Rattle.step_laws.proofs.ToldBy.{served-carried, served-clients, served-servers}
 use Rattle.msg_pool.specs.Pool.{Pool, leased_pages, free_pages}
-use Rattle.host_incoming.specs.Pooled.{pages_of}
-use Rattle.host_incoming.specs.Pieces.{piece_in, moment_with}
+use Rattle.homa_in.specs.Pooled.{pages_of}
+use Rattle.homa_in.specs.Pieces.{piece_in, moment_with}
 use Rattle.host_places.specs.Placed.{Placed, StandsAt, ArePlaced, spot_at}
 use Rattle.host_places.proofs.MappedLaws.{get-mapped, len-mapped}
 use Rattle.host_view.specs.declared.outbox.SentFrame.{SentFrame}
@@ -37,10 +37,10 @@ use Rattle.homa_server.specs.declared.answers.ServerDid.TheVariants as did
 use Rattle.host_state.specs.Control.{Control, IsSound, IsAt}
 use Rattle.host_books.specs.declared.books.Books.{Books}
 use Rattle.host_books.specs.Duties.{HaveRoom}
-use Rattle.host_book_laws.specs.Pages.{client_pages, server_pages}
-use Rattle.host_book_laws.specs.Duty.{server_duty_in, followed}
-use Rattle.host_book_laws.specs.Stood.{Stood}
-use Rattle.host_book_laws.proofs.PageSums.{pages_free}
+use Rattle.host_books.specs.Pages.{client_pages, server_pages}
+use Rattle.host_books.specs.Duty.{server_duty_in, followed}
+use Rattle.host_books.specs.Stood.{Stood}
+use Rattle.host_books.proofs.PageSums.{pages_free}
 use Rattle.host_laws.specs.Peers.{KnowsClient, KnowsSender}
 use Rattle.host_laws.proofs.Known.{server_gets-known}
 use Rattle.homa_host.specs.Parts.{host_of, seen_of, IsKept}

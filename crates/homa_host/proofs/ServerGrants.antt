@@ -14,14 +14,14 @@ use Rattle.homa_plain.specs.Timers.{Place, OfServer}
 use Rattle.step_laws.specs.StepLaws.{HasOwnOrders}
 use Rattle.step_laws.proofs.OwnOrders.{server_granted-own}
 use Rattle.msg_pool.specs.Pool.{Pool}
-use Rattle.host_incoming.specs.Pooled.{AreIn}
+use Rattle.homa_in.specs.Pooled.{AreIn}
 use Rattle.host_places.specs.Placed.{StandsAt}
 use Rattle.homa_server.specs.Held.{HeldServer, HeldState, Arriving, Keeping, Answering, Gone, seen_server, state_part}
 use Rattle.homa_server.specs.Answers.{IsGrantable}
 use Rattle.homa_server.specs.Table.{Servers, ServerMoved, request_at}
 use Rattle.host_view.specs.Follow.{ChangesAt}
 use Rattle.host_books.specs.declared.books.Books.{Books}
-use Rattle.host_book_laws.specs.Duty.{server_duty, followed}
+use Rattle.host_books.specs.Duty.{server_duty, followed}
 use Rattle.host_laws.specs.Peers.{KnowsClient}
 use Rattle.host_laws.proofs.Known.{state_granted-known}
 use Rattle.homa_host.specs.declared.parts.HostParts.{HostParts}
@@ -33,7 +33,7 @@ use Rattle.homa_host.proofs.SlotRows.{server_row, server_spot, arrives_at_server
 use Rattle.homa_host.proofs.ClientKept.{own_like}
 use Rattle.homa_host.proofs.ClientStays.{beside_none}
 use Rattle.homa_host.proofs.ServerStays.{knows, all_inside, part_inside, message_at, host_put, changes_to, can_follow, followed_by, kept_stays}
-use Rattle.homa_host.proofs.Grants.{Arrives, some_of, one_row, raised_step}
+use Rattle.homa_host.proofs.RaisedLaws.{Arrives, some_of, one_row, raised_step}
 
 -- the message that arrives at the place of a server's row
 abbrev pub ServerArrives : HostParts → ℕ → sending.Arriving → Type 0

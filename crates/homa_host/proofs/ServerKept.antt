@@ -16,8 +16,8 @@ use Rattle.step_laws.proofs.ToldBy.{served-servers, served-clients, served-carri
 use Rattle.step_laws.proofs.Places.{server_inject, two_sides}
 use Rattle.msg_pool.specs.Pool.{Pool, leased_pages}
 use Rattle.homa_in.specs.Part.{Part}
-use Rattle.host_incoming.specs.Pooled.{AreIn, seen_part, pages_of}
-use Rattle.host_incoming.proofs.MoveLaws.{still_in, seen_others}
+use Rattle.homa_in.specs.Pooled.{AreIn, seen_part, pages_of}
+use Rattle.homa_in.proofs.MoveLaws.{still_in, seen_others}
 use Rattle.host_places.specs.Mapped.{mapped}
 use Rattle.host_places.specs.Placed.{Placed, ArePlaced}
 use Rattle.host_places.proofs.MappedLaws.{get-mapped}
@@ -28,22 +28,22 @@ use Rattle.homa_server.specs.Table.{Servers, ServerMoved, seen_servers, request_
 use Rattle.host_view.specs.Seen.{Seen}
 use Rattle.host_view.specs.Follow.{ChangesAt, HasSlots}
 use Rattle.host_books.specs.Duties.{AreBooked, AreOwn, HaveRoom}
-use Rattle.host_book_laws.specs.Duty.{followed}
-use Rattle.host_book_laws.specs.Pages.{server_pages, row_pages}
-use Rattle.host_book_laws.specs.Stood.{Stood}
-use Rattle.host_book_laws.proofs.Changing.{server_changes, books_stay}
+use Rattle.host_books.specs.Duty.{followed}
+use Rattle.host_books.specs.Pages.{server_pages, row_pages}
+use Rattle.host_books.specs.Stood.{Stood}
+use Rattle.host_books.proofs.Changing.{server_changes, books_stay}
 use Rattle.host_laws.specs.Peers.{KnowsClient}
 use Rattle.host_laws.proofs.Known.{known-server}
 use Rattle.host_state.specs.Control.{Control, IsSound}
-use Rattle.host_book_laws.proofs.PageSums.{pages_changed}
-use Rattle.host_book_laws.proofs.Tables.{has_places}
-use Rattle.host_book_laws.proofs.Rebooked.{rebooked, rebooked_own}
+use Rattle.host_books.proofs.PageSums.{pages_changed}
+use Rattle.host_books.proofs.Tables.{has_places}
+use Rattle.host_books.proofs.Rebooked.{rebooked, rebooked_own}
 use Rattle.homa_plain.specs.Rows.{RowsOf}
 use Rattle.step_laws.proofs.OwnOrders.{Own}
 use Rattle.host_places.proofs.PlacedLaws.{get-insert_else, get-remove_else}
 use Rattle.host_state.specs.Control.{IsAt}
 use Rattle.host_view.specs.declared.outbox.SentFrame.{SentFrame}
-use Rattle.host_book_laws.specs.Duty.{server_duty_in}
+use Rattle.host_books.specs.Duty.{server_duty_in}
 use Rattle.host_laws.specs.Peers.{KnowsPeers}
 use Rattle.homa_host.specs.Amid.{Amid}
 use Rattle.homa_host.proofs.ClientKept.{one_place, own_like}

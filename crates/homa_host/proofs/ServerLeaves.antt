@@ -22,8 +22,8 @@ use Rattle.homa_plain.specs.Timers.{OfServer}
 use Rattle.msg_pool.specs.Pool.{Pool}
 use Rattle.step_laws.specs.StepLaws.{HasOwnOrders}
 use Rattle.step_laws.proofs.OwnOrders.{server_leaves-own}
-use Rattle.host_incoming.specs.Sends.{emits}
-use Rattle.host_incoming.specs.Pooled.{AreIn}
+use Rattle.homa_in.specs.Sends.{emits}
+use Rattle.homa_in.specs.Pooled.{AreIn}
 use Rattle.host_places.specs.Placed.{Placed, StandsAt}
 use Rattle.homa_server.specs.Held as held
 use Rattle.homa_server.specs.Held.{HeldServer, HeldState, Arriving, Keeping, Answering, Gone, seen_server, seen_state, state_response}
@@ -35,9 +35,9 @@ use Rattle.host_view.specs.Seen.{ready_of, waiting}
 use Rattle.homa_pacer.specs.Pace as pace
 use Rattle.host_books.specs.declared.books.Books.{Books}
 use Rattle.host_books.specs.Duties.{ready_in}
-use Rattle.host_book_laws.specs.Duty.{server_duty, followed}
-use Rattle.host_book_laws.proofs.PumpOnce.{picked, idle_ready, sends_next, server_departs, server_waits, server_rests, RestsIn, server_sends_next}
-use Rattle.host_book_laws.proofs.PumpOnce.{server_short, some_next, shorter, booked_length}
+use Rattle.host_books.specs.Duty.{server_duty, followed}
+use Rattle.host_books.proofs.PumpOnce.{picked, idle_ready, sends_next, server_departs, server_waits, server_rests, RestsIn, server_sends_next}
+use Rattle.host_books.proofs.PumpOnce.{server_short, some_next, shorter, booked_length}
 use Rattle.host_laws.specs.Peers.{KnowsClient}
 use Rattle.host_laws.proofs.Known.{state_sends-known}
 use Rattle.homa_host.specs.declared.parts.HostParts.{HostParts}

@@ -19,7 +19,7 @@ use Rattle.step_laws.specs.StepLaws.{HasOwnOrders}
 use Rattle.step_laws.proofs.Others.{set_row-others}
 use Rattle.homa_in.specs.Part as part
 use Rattle.homa_in.specs.Part.{Part, IsIn}
-use Rattle.host_incoming.specs.Pooled.{IsInPool, AreIn}
+use Rattle.homa_in.specs.Pooled.{IsInPool, AreIn}
 use Rattle.host_places.specs.Placed.{Placed, ArePlaced, StandsAt, spot_at}
 use Rattle.host_places.specs.Mapped.{mapped}
 use Rattle.host_places.proofs.PlacedLaws.{spot-stands, one_call}
@@ -31,11 +31,11 @@ use Rattle.host_view.specs.Follow.{ChangesAt, has_row, server_arrival}
 use Rattle.host_books.specs.declared.books.Arrival.{Arrival}
 use Rattle.host_books.specs.declared.books.Books.{Books}
 use Rattle.host_books.specs.Duties.{AreOwn, AreBooked, HaveRoom}
-use Rattle.host_book_laws.specs.Duty.{server_duty, arrival_duty, arriving, followed}
-use Rattle.host_book_laws.proofs.Changing.{books_stay}
-use Rattle.host_book_laws.proofs.Tables.{made_of}
-use Rattle.host_book_laws.proofs.Things.{thing_at}
-use Rattle.host_book_laws.proofs.Books.{arrival_things}
+use Rattle.host_books.specs.Duty.{server_duty, arrival_duty, arriving, followed}
+use Rattle.host_books.proofs.Changing.{books_stay}
+use Rattle.host_books.proofs.Tables.{made_of}
+use Rattle.host_books.proofs.Things.{thing_at}
+use Rattle.host_books.proofs.BookThings.{arrival_things}
 use Rattle.host_laws.specs.Peers.{KnowsClient, KnowsSender, KnowsPeers}
 use Rattle.host_laws.proofs.Known.{known-server}
 use Rattle.homa_host.specs.declared.outcome.Change.TheVariants.{Stays}

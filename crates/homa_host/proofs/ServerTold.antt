@@ -14,7 +14,7 @@ use Rattle.homa_plain.specs.Rules.{Moment, Answer, Did, Piece, Say, Tells, Posts
 use Rattle.homa_plain.specs.Steps.{Work, moment, begun, comes_to_row, said, served, Asked, asked_in}
 use Rattle.homa_plain.specs.Packets.{Packet, packet_between}
 use Rattle.msg_pool.specs.Pool.{Pool}
-use Rattle.host_incoming.specs.Pieces.{piece_in}
+use Rattle.homa_in.specs.Pieces.{piece_in}
 use Rattle.host_view.specs.declared.mark.Mark.{Mark}
 use Rattle.host_view.specs.Marks.{marks_from, has_ran, response_of, IsReply as IsReplyMark, IsAllowed, IsWhole}
 use Rattle.homa_server.specs.Answers.{served_of, service_in, asked_said, IsReply, IfRan, has_run as did_run}

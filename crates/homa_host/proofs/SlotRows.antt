@@ -15,7 +15,7 @@ use Rattle.host_places.specs.Mapped.{mapped}
 use Rattle.host_places.specs.Placed.{Placed, StandsAt, spot_at}
 use Rattle.host_places.proofs.MappedLaws.{get-mapped}
 use Rattle.host_places.proofs.PlacedLaws.{spot-stands}
-use Rattle.host_incoming.specs.Pooled.{seen_part}
+use Rattle.homa_in.specs.Pooled.{seen_part}
 use Rattle.homa_in.specs.Part.{Part}
 use Rattle.homa_client.specs.Held.{HeldRow, seen_row}
 use Rattle.homa_server.specs.Held.{HeldServer, HeldState, Arriving, Keeping, Answering, Gone, seen_server, seen_state, state_part}
@@ -23,11 +23,11 @@ use Rattle.step_laws.specs.StepLaws.{client_order, reply_order}
 use Rattle.homa_pacer.specs.Pace as pace
 use Rattle.host_view.specs.Seen.{slot_of}
 use Rattle.host_view.specs.Follow.{HasSlots, has_row, client_arrival, server_arrival}
-use Rattle.host_book_laws.proofs.Splits.{all_of}
-use Rattle.host_book_laws.proofs.Slots.{row_of_number, numbers, IsNumbered}
-use Rattle.host_book_laws.proofs.Tables.{made_of, has_places}
-use Rattle.host_book_laws.proofs.Things.{thing_at}
-use Rattle.host_book_laws.proofs.Books.{waiting_things, arrival_things}
+use Rattle.host_books.proofs.Splits.{all_of}
+use Rattle.host_books.proofs.Slots.{row_of_number, numbers, IsNumbered}
+use Rattle.host_books.proofs.Tables.{made_of, has_places}
+use Rattle.host_books.proofs.Things.{thing_at}
+use Rattle.host_books.proofs.BookThings.{waiting_things, arrival_things}
 use Rattle.homa_host.specs.declared.parts.HostParts.{HostParts}
 use Rattle.homa_host.specs.Parts.{host_of, seen_of, IsKept}
 

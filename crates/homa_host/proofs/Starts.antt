@@ -21,7 +21,7 @@ use Rattle.host_books.specs.declared.books.Duties.{Duties}
 use Rattle.homa_host.proofs.Begun.{kept-control, sound-begun}
 use Rattle.msg_pool.specs.Pool.{leased_pages}
 use Rattle.homa_in.specs.Part.{Part}
-use Rattle.host_incoming.specs.Pooled.{AreIn, IsInPool, HasNumber}
+use Rattle.homa_in.specs.Pooled.{AreIn, IsInPool, HasNumber}
 use Rattle.host_places.specs.Mapped.{mapped}
 use Rattle.host_places.specs.Placed.{Placed, StandsAt, ArePlaced, spot_at}
 use Rattle.host_places.proofs.PlacedLaws.{one_call, some_placed, spot-stands}
@@ -34,12 +34,12 @@ use Rattle.host_view.specs.Seen.{Seen}
 use Rattle.host_view.specs.Follow.{ChangesAt, HasSlots}
 use Rattle.host_books.specs.declared.books.Books.{Books}
 use Rattle.host_books.specs.Duties.{AreBooked, AreOwn, HaveRoom}
-use Rattle.host_book_laws.specs.Duty.{client_duty, client_duty_in, followed}
-use Rattle.host_book_laws.specs.Pages.{client_pages, row_pages}
-use Rattle.host_book_laws.proofs.Changing.{client_changes, books_stay}
-use Rattle.host_book_laws.proofs.PageSums.{pages_changed}
-use Rattle.host_book_laws.proofs.Tables.{has_places}
-use Rattle.host_book_laws.proofs.Rebooked.{rebooked, rebooked_own}
+use Rattle.host_books.specs.Duty.{client_duty, client_duty_in, followed}
+use Rattle.host_books.specs.Pages.{client_pages, row_pages}
+use Rattle.host_books.proofs.Changing.{client_changes, books_stay}
+use Rattle.host_books.proofs.PageSums.{pages_changed}
+use Rattle.host_books.proofs.Tables.{has_places}
+use Rattle.host_books.proofs.Rebooked.{rebooked, rebooked_own}
 use Rattle.host_laws.specs.Peers.{KnowsPeers}
 use Rattle.host_laws.proofs.Known.{known-client}
 use Rattle.homa_host.specs.Parts.{host_of, seen_of, part_in, IsKept}

@@ -8,8 +8,8 @@ use Rattle.host_view.specs.Frames.{frames_of, IsFormed}
 use Rattle.host_view.specs.Marks.{marks_from}
 use Rattle.homa_host.specs.Parts.{host_of}
 use Rattle.homa_host.specs.declared.parts.HostParts.{HostParts}
-use Rattle.homa_host.specs.declared.at_client.Pumped.{Pumped}
-use Rattle.homa_host.specs.declared.at_client.Pumped.TheVariants.{Sent, Idle, Short}
+use Rattle.homa_host.specs.declared.pump.Pumped.{Pumped}
+use Rattle.homa_host.specs.declared.pump.Pumped.TheVariants.{Sent, Idle, Short}
 
 -- the plain host is this one, and this was told so far, in these frames
 pub record Amid (w : Work) (c : HostParts) (frames : List SentFrame) : Type 0 where

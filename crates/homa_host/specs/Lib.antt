@@ -5,3 +5,5 @@ pub mod Public
 pub mod ServerFollow
 pub mod Asking
 pub mod Granting
+pub mod Lending
+pub mod Places

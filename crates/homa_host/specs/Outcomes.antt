@@ -5,11 +5,11 @@ use Rattle.homa_plain.specs.declared.packet.Body.TheVariants as body
 use Rattle.host_books.specs.declared.books.Books.{Books}
 use Rattle.host_books.specs.declared.books.Arrival.{Arrival}
 use Rattle.host_books.specs.Duties.{AreOwn, HaveRoom}
-use Rattle.host_book_laws.specs.Duty.{no_duties, client_duty, followed}
+use Rattle.host_books.specs.Duty.{no_duties, client_duty, followed}
 use Rattle.homa_plain.specs.declared.id.CallId.{CallId}
 use Rattle.msg_pool.specs.Pool.{Pool}
 use Rattle.host_places.specs.Placed.{StandsAt, spot_at}
-use Rattle.host_incoming.specs.Pooled.{IsInPool}
+use Rattle.homa_in.specs.Pooled.{IsInPool}
 use Rattle.homa_client.specs.Held.{HeldRow, seen_row}
 use Rattle.homa_client.specs.AtTable.{Clients}
 use Rattle.homa_client.specs.declared.answers.ClientAct.{ClientAct}
@@ -20,22 +20,22 @@ use Rattle.homa_server.specs.declared.answers.ServerDid.{ServerDid}
 use Rattle.homa_server.specs.declared.answers.ServerDid.TheVariants as server
 use Rattle.homa_host.specs.declared.outcome.Change.{Change}
 use Rattle.homa_host.specs.declared.outcome.Change.TheVariants.{Nothing, Stays, Goes}
-use Rattle.homa_host.specs.declared.outcome.Head.{Head}
+use Rattle.homa_host.specs.declared.outcome.PieceHead.{PieceHead}
 
 -- ---- pieces
 
 -- what a packet's piece tells of its message: how long it is, and in a first piece the version of the cutoffs
-abbrev pub head_in : Body → Option Head
+abbrev pub head_in : Body → Option PieceHead
 head_in (body.Data size offset version service ack) = Some (record { length = size; version = if offset == 0 then Some version else None })
 head_in what = None
 
 -- how long the message of a piece is
-abbrev pub length_in : Option Head → ℕ
+abbrev pub length_in : Option PieceHead → ℕ
 length_in None = 0
 length_in (Some h) = h.length
 
 -- the version of the cutoffs in a first piece
-abbrev pub version_in : Option Head → Option ℕ
+abbrev pub version_in : Option PieceHead → Option ℕ
 version_in None = None
 version_in (Some h) = h.version
 

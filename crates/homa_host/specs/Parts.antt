@@ -7,7 +7,7 @@ use Rattle.homa_plain.specs.Timers.{Place, OfClient, OfServer}
 use Rattle.step_laws.specs.StepLaws.{HasOwnOrders}
 use Rattle.msg_pool.specs.Pool.{leased_pages}
 use Rattle.homa_in.specs.Part.{Part}
-use Rattle.host_incoming.specs.Pooled.{AreIn}
+use Rattle.homa_in.specs.Pooled.{AreIn}
 use Rattle.host_places.specs.Mapped.{mapped}
 use Rattle.host_places.specs.Placed.{Placed, ArePlaced}
 use Rattle.homa_client.specs.Held.{HeldRow}
@@ -15,7 +15,7 @@ use Rattle.homa_client.specs.AtTable.{seen_rows, part_at}
 use Rattle.homa_server.specs.Held.{HeldServer}
 use Rattle.homa_server.specs.Table.{seen_servers, request_at}
 use Rattle.host_state.specs.Control.{IsSound}
-use Rattle.host_book_laws.specs.Pages.{row_pages}
+use Rattle.host_books.specs.Pages.{row_pages}
 use Rattle.host_books.specs.Duties.{HaveRoom, AreBooked}
 use Rattle.host_view.specs.Seen.{Seen}
 use Rattle.host_laws.specs.Peers.{KnowsPeers}

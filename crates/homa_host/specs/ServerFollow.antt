@@ -2,14 +2,14 @@
 use Rattle.std.specs.Prelude.{◌≡◌, ◌+◌, ◌^◌, ◌<◌, ℕ, IfSome, IsSome, Option, Some, None}
 use Rattle.homa_plain.specs.declared.id.CallId.{CallId}
 use Rattle.msg_pool.specs.Pool.{Pool}
-use Rattle.host_incoming.specs.Pooled.{AreIn}
+use Rattle.homa_in.specs.Pooled.{AreIn}
 use Rattle.host_places.specs.Placed.{StandsAt, spot_at}
 use Rattle.homa_server.specs.Held.{HeldServer, seen_server}
 use Rattle.homa_server.specs.Table.{Servers, request_at}
 use Rattle.host_books.specs.declared.books.Books.{Books}
 use Rattle.host_books.specs.declared.books.Arrival.{Arrival}
 use Rattle.host_books.specs.Duties.{AreOwn, HaveRoom}
-use Rattle.host_book_laws.specs.Duty.{no_duties, server_duty, followed}
+use Rattle.host_books.specs.Duty.{no_duties, server_duty, followed}
 use Rattle.homa_server.specs.declared.answers.ServerAct.{ServerAct}
 use Rattle.homa_server.specs.declared.answers.ServerAct.TheVariants as act
 use Rattle.homa_host.specs.Outcomes.{IfStays, IfChanged}

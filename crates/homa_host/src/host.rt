@@ -16,9 +16,11 @@ ghost use Rattle.host_view.specs.Frames.{frame_line};
 ghost use Rattle.host_view.specs.Marks.{request_of, response_of, shown, shown_entries, has_ran, IsAnswer, IsAllowed};
 ghost use Rattle.host_view.specs.Done.{IsDone, HoldsSent, arriving};
 ghost use Rattle.homa_host.specs.Asking.{HasAsked};
+ghost use Rattle.homa_host.specs.Lending.{CanCome, IsSame, IsServed, IsRefused};
 ghost use Rattle.homa_host.specs.Public.{IsSameHost, IsHeld};
 
 use crate::Asked;
+use crate::lent::Lent;
 use crate::parts::HostParts;
 use homa_grants::GrantBook;
 use homa_pacer::Pacer;
@@ -137,7 +139,6 @@ impl Host {
     /// A datagram comes from a host, at tick `now` of this host's own clock. Where its service finds no memory for a
     /// request that the datagram makes whole, the answer is the call and the service, `scratch` holds the request, nothing
     /// is told or sent, and the host is as before.
-    #[tactic(none)]
     pub fn deliver<V: Service>(
         &mut self,
         alloc: Global,
@@ -172,12 +173,42 @@ impl Host {
         ensures last { OnOk result (self.new.host.last ≡ now) }
     {
         out.clear();
-        match self
-            .parts
-            .arrives(alloc, from, frame, now, service, out, scratch)
-        {
+        let mut lent = Lent {
+            service,
+            out,
+            scratch,
+        };
+        self.arrives(alloc, from, frame, now, &mut lent)
+    }
+
+    // The same, with what is lent, where nothing was sent yet.
+    #[tactic(none)]
+    fn arrives<V: Service>(
+        &mut self,
+        alloc: Global,
+        from: HostId,
+        frame: &[u8],
+        now: u64,
+        lent: &mut Lent<'_, V>,
+    ) -> Result<(), Asked>
+        requires { CanCome V.served self.old from now lent.old }
+        ensures step { OnOk result ((a : Answer) → IsAnswer self.new a
+            → IsDone self.old (arrival_step self.old.settings self.old.host now (arriving self.old from frame.now) a) self.new
+            lent.new.out.now lent.new.scratch.now) }
+        ensures served { OnOk result (IsServed V.served V.allows lent.old lent.new self.new.host self.new.marks) }
+        ensures asks { IfErr result (λ e. (a : Answer) → HasAsked e.id e.number lent.new.scratch.now
+            (arrival_step self.old.settings self.old.host now (arriving self.old from frame.now) a).told) }
+        ensures whole { OnErr result ((a : Answer)
+            → has_run (arrival_step self.old.settings self.old.host now (arriving self.old from frame.now) a).told ≡ true) }
+        ensures same { OnErr result (self.new ≡ record self.old { marks = [] }) }
+        ensures refused { OnErr result (IsRefused V.served lent.old lent.new) }
+        ensures steady { IsSameHost self.old self.new }
+        ensures last { OnOk result (self.new.host.last ≡ now) }
+        ensures lent { IsSame V.allows lent.old lent.new }
+    {
+        match self.parts.arrives(alloc, from, frame, now, lent) {
             Ok(()) => {
-                self.parts.end_step(out);
+                self.parts.end_step(lent.out);
                 Ok(())
             }
             Err(asked) => {
@@ -210,7 +241,8 @@ impl Host {
         ensures told { result ≡ length self.now.marks }
         ensures few { result ≤ 128 }
     {
-        let _settings = self.parts.control.settings();
+        // For the proof: a step tells at most 128 entries.
+        let _few = self.parts.control.settings();
         self.parts.control.marks().len()
     }
 

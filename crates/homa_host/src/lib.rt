@@ -6,13 +6,17 @@
 //! books' first entries; none reads all rows.
 #![tactic(auto)]
 
+mod acts;
+mod arrives;
 mod asked;
 mod at_client;
 mod at_server;
+mod grants;
 mod host;
+mod lent;
 mod outcome;
 mod parts;
-mod step_end;
+mod pump;
 
 pub use asked::Asked;
 pub use host::Host;

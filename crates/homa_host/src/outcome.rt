@@ -1,17 +1,16 @@
 // What the tables' answers have a host do.
-ghost use Rattle.std.specs.Prelude.{◌≡◌, ℕ, ◌+◌, ◌-◌, ◌<◌, ◌≤◌, Option, Some, None, List, IsSome, IfSome, option_copied, if◌then◌else◌};
+ghost use Rattle.std.specs.Prelude.{◌≡◌, ℕ, ◌+◌, ◌<◌, ◌≤◌, Option, Some, None, List, IsSome, IfSome, option_copied, if◌then◌else◌};
 ghost use Rattle.std.specs.Option.{option_and_then};
 ghost use Rattle.homa_plain.specs.declared.id.CallId.{CallId};
 ghost use Rattle.homa_plain.specs.declared.packet.Role.TheVariants.{Client as AsClient, Server as AsServer};
 ghost use Rattle.homa_plain.specs.declared.settings.Settings.{Settings};
-ghost use Rattle.homa_plain.specs.Choice.{new_end, seen as message_of};
+ghost use Rattle.homa_plain.specs.Settings.{asking_level};
 ghost use Rattle.homa_plain.specs.Packets.{Packet as PlainPacket};
 ghost use Rattle.homa_plain.specs.Rows.{ClientRow, ServerRow};
 ghost use Rattle.homa_plain.specs.Rules.{Moment, Answer, Did};
 ghost use Rattle.msg_pool.specs.Pool.{Pool};
-ghost use Rattle.homa_in.specs.Part.{IsIn, seen};
-ghost use Rattle.host_incoming.specs.Pooled.{IsInPool, AreIn, seen_part};
-ghost use Rattle.host_incoming.specs.Pieces.{piece_in};
+ghost use Rattle.homa_in.specs.Pooled.{IsInPool, AreIn, seen_part};
+ghost use Rattle.homa_in.specs.Pieces.{piece_in};
 ghost use Rattle.host_places.specs.Placed.{StandsAt, spot_at};
 ghost use Rattle.homa_client.specs.Held.{HeldRow, seen_row};
 ghost use Rattle.homa_client.specs.Gives.{IsAct, IsAsked};
@@ -20,7 +19,7 @@ ghost use Rattle.homa_server.specs.Held.{HeldServer, seen_server};
 ghost use Rattle.homa_server.specs.Answers.{version_there, service_in, served_of, acted_of, IfSaid as IfServerSaid, IsAnswerBody, IfResend};
 ghost use Rattle.homa_server.specs.Table.{request_at};
 ghost use Rattle.host_state.specs.Saying.{IsOutcome, FitsSaid, outcome_marks, outcome_frames, one_of};
-ghost use Rattle.host_book_laws.specs.Duty.{client_duty, server_duty, timer_duty, arrival_duty};
+ghost use Rattle.host_books.specs.Duty.{client_duty, server_duty, timer_duty, arrival_duty};
 ghost use Rattle.homa_host.specs.Outcomes.{IfServerTouched, head_in, length_in, version_in, client_change, server_change, client_orders};
 ghost use Rattle.homa_host.specs.Outcomes.{server_orders, client_act_change, IfTouched};
 
@@ -46,13 +45,13 @@ pub(crate) enum Change {
 /// What a piece tells of its message: how many bytes the message has, and the version of the cutoffs, if this is the
 /// first piece.
 #[derive(Clone, Copy)]
-pub(crate) struct Head {
+pub(crate) struct PieceHead {
     pub length: u32,
     pub version: Option<u16>,
 }
 
 /// What the packet's piece tells, if it brings one.
-pub(crate) fn head_of(body: &Body) -> Option<Head>
+pub(crate) fn head_of(body: &Body) -> Option<PieceHead>
     ensures { result ≡ head_in body.now }
 {
     match body {
@@ -61,7 +60,7 @@ pub(crate) fn head_of(body: &Body) -> Option<Head>
             offset,
             version,
             ..
-        } => Some(Head {
+        } => Some(PieceHead {
             length: *length,
             version: if *offset == 0 { Some(*version) } else { None },
         }),
@@ -70,7 +69,7 @@ pub(crate) fn head_of(body: &Body) -> Option<Head>
 }
 
 // What comes of a piece that was taken up; it may have opened its message.
-fn taken(opened: bool, head: Option<Head>, said: Said, finished: bool) -> Outcome
+fn taken(opened: bool, head: Option<PieceHead>, said: Said, finished: bool) -> Outcome
     ensures opened { result.opened ≡ (if opened then Some (length_in head) else None) }
     ensures version { result.version ≡ version_in head }
     ensures said { result.said ≡ said }
@@ -106,7 +105,11 @@ pub(crate) fn client_change(did: &ClientDid) -> Change
 }
 
 /// What comes of a packet at its client; `touched` is the version in a first piece of the message in the row.
-pub(crate) fn client_outcome(did: ClientDid, head: Option<Head>, touched: Option<u16>) -> Outcome
+pub(crate) fn client_outcome(
+    did: ClientDid,
+    head: Option<PieceHead>,
+    touched: Option<u16>,
+) -> Outcome
     ensures outcome { (m : Moment) (p : PlainPacket) (row : Option ClientRow) (told : List ℕ) → head ≡ head_in p.body
         → IfTouched did (λ _. touched ≡ version_at (piece_in p.body p.payload) row) → IsOutcome (answer_of m p row told did) result }
     ensures fits { IfSaid did (λ what. what ≡ Body.Busy) → FitsSaid AsClient result.said }
@@ -181,7 +184,7 @@ pub(crate) fn server_outcome(
     id: CallId,
     service: u8,
     limit: u32,
-    head: Option<Head>,
+    head: Option<PieceHead>,
     touched: Option<u16>,
 ) -> Outcome
     ensures outcome { (s : Settings) (m : Moment) (p : PlainPacket) (row : Option ServerRow) (told : List ℕ) (a : Answer) → head ≡ head_in p.body
@@ -227,18 +230,18 @@ pub(crate) fn server_orders(did: &ServerDid) -> u64
 }
 
 /// What became of a client's row at a place whose timer was due.
-pub(crate) fn client_act_change(act: ClientAct, slot: u32) -> Change
-    ensures { result ≡ client_act_change slot act }
+pub(crate) fn client_act_change(act: ClientAct, place: u32) -> Change
+    ensures { result ≡ client_act_change place act }
 {
     match act {
-        ClientAct::Resend(..) => Change::Stays(slot),
-        ClientAct::Timeout(_) => Change::Goes(slot),
+        ClientAct::Resend(..) => Change::Stays(place),
+        ClientAct::Timeout(_) => Change::Goes(place),
     }
 }
 
 /// What a client's row did whose timer was due.
 pub(crate) fn client_act_outcome(act: ClientAct, prio: u8) -> Outcome
-    ensures outcome { (s : Settings) (m : Moment) (id : CallId) (d : Did ClientRow) → prio ≡ s.overcommit - 1 → IsAct s m id d act
+    ensures outcome { (s : Settings) (m : Moment) (id : CallId) (d : Did ClientRow) → prio ≡ asking_level s → IsAct s m id d act
         → IsOutcome d result }
     ensures fits { prio ≤ 7 → IsAsked act → FitsSaid AsClient result.said }
     ensures marks { outcome_marks result ≤ 1 }
@@ -256,7 +259,7 @@ pub(crate) fn client_act_outcome(act: ClientAct, prio: u8) -> Outcome
 
 /// What a server's row did whose timer was due.
 pub(crate) fn server_act_outcome(act: ServerAct, prio: u8) -> Outcome
-    ensures outcome { (s : Settings) (m : Moment) (id : CallId) (row : Option ServerRow) → prio ≡ s.overcommit - 1
+    ensures outcome { (s : Settings) (m : Moment) (id : CallId) (row : Option ServerRow) → prio ≡ asking_level s
         → IsOutcome (acted_of s m id row act) result }
     ensures fits { prio ≤ 7 → IfResend act (λ from to. (from < to) × (to ≤ 1000000)) → FitsSaid AsServer result.said }
     ensures marks { outcome_marks result ≤ 1 }
@@ -286,16 +289,6 @@ fn arrival_of(part: Option<&Incoming>) -> Option<Arrival>
     })
 }
 
-/// How far a message that isn't whole is to be granted: `window` bytes beyond as many as have arrived.
-pub(crate) fn new_end_of(part: &Incoming, window: u32) -> u32
-    requires window { window ≤ 1000000 }
-    ensures end { (pool : Pool) → IsIn pool part.now → result ≡ new_end window (message_of (seen pool part.now)) }
-    ensures within { result ≤ part.now.length }
-    ensures small { result ≤ 1000000 }
-{
-    part.len().min(part.arrived() + window)
-}
-
 // The entry of a message of which bytes wait to be sent.
 fn waiting_of(facts: &RowFacts) -> Option<Waiting>
     ensures { result ≡ option_and_then (λ o. if o.waiting then Some (record { left = o.left; order = o.order }) else None) facts.now.out }
@@ -322,15 +315,15 @@ fn deadline_of(facts: &RowFacts, at: Option<u64>) -> Option<Deadline>
 }
 
 /// What the client's row at a place has in the books.
-pub(crate) fn client_duties(clients: &ClientTable, slot: u32) -> Duties
-    requires stands { IsSome (spot_at clients.now.rows slot) }
-    ensures { (id : CallId) (r : HeldRow) (pool : Pool) → StandsAt clients.now.rows id slot r → IsInPool pool r.part
+pub(crate) fn client_duties(clients: &ClientTable, place: u32) -> Duties
+    requires stands { IsSome (spot_at clients.now.rows place) }
+    ensures { (id : CallId) (r : HeldRow) (pool : Pool) → StandsAt clients.now.rows id place r → IsInPool pool r.part
         → result ≡ client_duty clients.now.settings (seen_row pool r) }
 {
-    let facts = clients.row(slot);
+    let facts = clients.row(place);
     Duties {
-        timer: deadline_of(&facts, clients.deadline(slot)),
-        arrival: arrival_of(clients.incoming(slot)),
+        timer: deadline_of(&facts, clients.deadline(place)),
+        arrival: arrival_of(clients.incoming(place)),
         waiting: waiting_of(&facts),
     }
 }

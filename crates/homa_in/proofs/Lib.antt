@@ -5,3 +5,6 @@ pub mod LeaseLaws
 pub mod TakenLaws
 pub mod AnswerLaws
 pub mod PlacedLaws
+pub mod MoveLaws
+pub mod PutLaws
+pub mod PieceLaws

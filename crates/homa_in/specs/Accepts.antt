@@ -1,4 +1,4 @@
--- What is answered to a piece of a message.
+-- What is returned for a piece of a message.
 use Rattle.std.specs.Prelude.{ℕ, Bool, ◌&&◌, ◌==◌, nat_lt, if◌then◌else◌, List}
 use Rattle.homa_plain.specs.Incoming.{Incoming, with_bytes, new_bytes, leaves_too_many_gaps, is_whole}
 use Rattle.homa_in.specs.declared.arriving.Accepted.{Accepted}
@@ -8,7 +8,7 @@ use Rattle.homa_in.specs.declared.arriving.Accepted.TheVariants.{Fresh, Whole, R
 abbrev pub completes : Incoming → ℕ → List ℕ → Bool
 completes p offset piece = nat_lt 0 (new_bytes p offset piece) && is_whole (with_bytes p offset piece)
 
--- what is answered to a piece
+-- what is returned for a piece
 abbrev pub answer : Incoming → ℕ → List ℕ → Accepted
 answer p offset piece =
     if leaves_too_many_gaps p offset piece

@@ -9,7 +9,7 @@ use Rattle.homa_plain.specs.contracts.id.HostId as host_id
 use Rattle.homa_plain.specs.Incoming.{Incoming}
 use Rattle.msg_pool.specs.Pool.{Pool, Held, held_code, bytes_of, IsLeaseOf}
 
--- an incoming message without the values of its bytes, which stand in a pool
+-- an incoming message without the values of its bytes, which are in a pool
 pub record Part : Type 0 where
   pub peer : HostId  -- its sender
   pub length : ℕ  -- how many bytes it has in all
@@ -18,7 +18,7 @@ pub record Part : Type 0 where
   pub missing : Numbers  -- the numbers of the bytes that haven't arrived
   pub lease : Held  -- the lease under which its bytes stand
 
--- a part is stored as the tuple of its fields
+-- the encoding of a part as the tuple of its fields
 abbrev pub part_code : Coded Part
 part_code =
     code_by (HostId × (ℕ × (ℕ × (ℕ × (Numbers × Held)))))
@@ -30,7 +30,7 @@ part_code =
 unfoldable pub known : List ℕ → Numbers → Map nat_cmp ℕ
 known bytes missing = retain (insert_all empty 0 bytes) (λ q. not (has missing q))
 
--- the plain incoming message that a part is with its pool: the bytes that have arrived are those of its lease
+-- the plain incoming message of a part and its pool: the bytes that arrived are those of the part's lease
 abbrev pub seen : Pool → Part → Incoming
 seen pool part =
     record { peer = part.peer; length = part.length; order = part.order; granted = part.granted; bytes = known (bytes_of pool part.lease) part.missing }
@@ -39,12 +39,13 @@ seen pool part =
 abbrev pub unarrived : HostId → ℕ → ℕ → ℕ → Held → Part
 unarrived peer n order granted lease = record { peer = peer; length = n; order = order; granted = granted; missing = set_of_range 0 n; lease = lease }
 
--- the part's bytes stand in this pool, under a lease of the part's length
+-- the part's bytes are in this pool, under a lease of the part's length
 pub record IsIn (pool : Pool) (part : Part) : Type 0 where
   pub lease : IsLeaseOf pool part.lease
   pub length : part.lease.len ≡ part.length
 
--- what holds of each part: it has as many bytes as its lease, the granted end and the missing bytes are within them, and there are at most 64 gaps
+-- what holds of each part: it has as many bytes as its lease, the granted end and the missing bytes are within them,
+-- and there are at most 64 gaps
 pub record IsPart (n end : ℕ) (missing : Numbers) (lease : Held) : Type 0 where
   pub leased : lease.len ≡ n
   pub small : n ≤ 1000000

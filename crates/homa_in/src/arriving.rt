@@ -18,7 +18,7 @@ use msg_pool::{Lease, MsgPool, Scratch};
 use range_set::{Changed, RangeSet};
 use std::marker::Model;
 
-/// An incoming message. Its bytes stand in a pool, under its lease.
+/// An incoming message. Its bytes are in a pool, under its lease.
 #[derive(Drop)]
 pub struct Incoming {
     peer: HostId,
@@ -55,7 +55,7 @@ pub enum Accepted {
     TooManyGaps,
 }
 
-/// What a piece with so many new bytes did, where these bytes are still missing.
+/// Returns what a piece with so many new bytes did, if these bytes are still missing.
 fn taken(count: u32, missing: &RangeSet) -> Accepted
     ensures { result ≡ (if count == 0 then Accepted.Repeat else (if len missing.now == 0 then Accepted.Whole else Accepted.Fresh count)) }
 {
@@ -188,7 +188,7 @@ impl Incoming {
         self.order
     }
 
-    /// Its sender.
+    /// The host that sends it.
     pub fn peer(&self) -> HostId
         ensures { result ≡ self.now.peer }
     {
@@ -222,7 +222,7 @@ impl Incoming {
         &self.lease
     }
 
-    /// Ends the message and gives its lease back.
+    /// Ends the message and gives its lease back to the pool.
     pub fn close(self) -> Lease
         ensures { result ≡ self.lease }
     {

@@ -15,10 +15,10 @@ sink_below held = held.sink
 abbrev pub held_bytes : {K : Type 0} → HeldSink K → List ℕ
 held_bytes held = drop held.sent held.bytes.items
 
--- how many more bytes fit behind those that are held
+-- how many more bytes fit after those that are held
 abbrev pub space_left : {K : Type 0} → HeldSink K → ℕ
 space_left held = 65536 - length held.bytes.items
 
--- how many lines still go out as they come
+-- how many lines are still passed on at once
 abbrev pub direct_lines : {K : Type 0} → HeldSink K → ℕ
 direct_lines held = held.direct

@@ -12,7 +12,7 @@ sure_source_left source = Some (input_left source.input)
 abbrev pub sure_source_faults : SureSource → ℕ
 sure_source_faults source = 0
 
--- the sink keeps no bytes, and so can't tell
+-- the sink keeps no bytes, and so isn't observable
 abbrev pub sure_sink_taken : SureSink → Option (List ℕ)
 sure_sink_taken sink = None
 

@@ -33,7 +33,7 @@ impl FaultPlan {
         FaultPlan { fails, next: 0 }
     }
 
-    /// Numbers a call, and answers whether it is to fail.
+    /// Numbers a call, and returns whether it is to fail.
     pub(crate) fn is_next_to_fail(&mut self) -> bool
         ensures planned { IsTrue result ↔ Contains self.old.fails.items self.old.next }
         ensures numbered { self.new.next ≡ min (self.old.next + 1) (2 ^ 64 - 1) }

@@ -8,7 +8,7 @@ use std::alloc::Global;
 // The most bytes that are held.
 const ROOM: usize = 65536;
 
-// How many lines go out as they come.
+// How many lines are passed on at once.
 const DIRECT: u32 = 64;
 
 /// Room for the lines that are held, which is taken before a sink is lent.
@@ -31,8 +31,8 @@ impl Room {
     }
 }
 
-/// A sink over another one. It hands the first 64 lines on as they come. What comes later it holds
-/// back, up to 65,536 bytes, until a line doesn't fit behind them or `flush` is called. It takes no
+/// A sink over another one. It passes the first 64 lines on at once. What comes later it holds
+/// back, up to 65,536 bytes, until a line doesn't fit after them or `flush` is called. It takes no
 /// memory. What is held when it is dropped is lost: the last of the bytes that were written, 65,536 at
 /// most, and none of the first 64 lines. So flush it on every way out.
 #[derive(Drop)]
@@ -41,7 +41,7 @@ pub struct HeldSink<K> {
     bytes: Vec<u8>,
     // How many of `bytes` went out already, before a fault.
     sent: usize,
-    // How many lines still go out as they come.
+    // How many lines are still passed on at once.
     direct: u32,
     ghost within: { sent ≤ length bytes.items },
     ghost most: { length bytes.items ≤ 65536 },
@@ -130,7 +130,7 @@ impl<K: Sink + Drop> HeldSink<K> {
         Ok(n)
     }
 
-    // Writes what is held, unless so many bytes fit behind it.
+    // Writes what is held, unless so many bytes fit after it.
     fn make_room(&mut self, n: usize) -> Result<(), WriteFailed>
         requires { n ≤ 65536 }
         ensures space { OnOk result (n ≤ space_left self.new) }
@@ -151,7 +151,7 @@ impl<K: Sink + Drop> HeldSink<K> {
         self.flush()
     }
 
-    // Holds bytes too.
+    // Holds these bytes too, which must fit.
     fn hold(&mut self, bytes: &[u8])
         requires { length bytes.now ≤ space_left self.old }
         ensures held { held_bytes self.new ≡ held_bytes self.old ++ bytes.now }
@@ -200,7 +200,7 @@ impl<K: Sink + Drop> Sink for HeldSink<K> {
         ensures same { K.is_same (sink_below self.old) (sink_below self.new)
             × Grows (K.taken (sink_below self.old)) (K.taken (sink_below self.new)) }
 
-        // The first lines go out as they come, and each that is taken whole is one of them.
+        // The first lines are passed on at once, and each that is taken whole is one of them.
         ensures first { OnOk result (0 < direct_lines self.old → held_bytes self.new ≡ []) }
         ensures counted { IfOk result (λ n. n ≡ length bytes.now →
             0 < direct_lines self.old → direct_lines self.new + 1 ≡ direct_lines self.old) }

@@ -1,4 +1,4 @@
-// Bytes in memory that are read from the front.
+// Bytes in memory that are read from the first on.
 ghost use Rattle.std.specs.Prelude.{◌≡◌, ◌≤◌, ◌++◌, length, take, min};
 
 /// Bytes, of which the first `read` were read.
@@ -19,7 +19,7 @@ impl Input {
         Input { bytes, read: 0 }
     }
 
-    /// Moves the next bytes to the front of `buf`, as many as there are and fit.
+    /// Moves the next bytes to the start of `buf`, as many as there are and fit.
     pub(crate) fn read_into(&mut self, buf: &mut [u8]) -> usize
         ensures count { result ≡ min (length (input_left self.old)) (length buf.old) }
         ensures read { input_left self.old ≡ take result buf.new ++ input_left self.new }

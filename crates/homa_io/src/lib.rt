@@ -3,8 +3,8 @@
 //! Model: a source has bytes left and a sink took bytes, each an optional list, since nothing is
 //! known of bytes outside of the process. Both count their faults.
 //! Promise: a call moves exactly the bytes that it answers for; a call that fails moves none, and it
-//! alone raises the count. After a fault in `write_all` the sink took a front of the bytes. A sink
-//! that holds lines back is seen as what the sink below it took with what is held behind it, and a
+//! alone raises the count. After a fault in `write_all` the sink took a prefix of the bytes. A sink
+//! that holds lines back is seen as what the sink below it took with what is held after it, and a
 //! fault loses nothing of that.
 #![tactic(auto)]
 

@@ -1,12 +1,12 @@
 // The readers and writers of std as a source and a sink. What they move outside is trusted: no
-// contract says it, and a read of theirs that answers 0 is taken for the end.
+// contract says it, and a read of theirs that returns 0 is taken for the end.
 ghost use Rattle.std.specs.Prelude.{◌≡◌, ◌≤◌, ◌<◌, ◌+◌, ◌-◌, ◌^◌, None, length, min, OnOk, OnErr, IfOk};
 
 use crate::faults::FaultCount;
 use crate::{ReadFailed, Sink, Source, WriteFailed};
 use std::io::{Read, Write};
 
-/// A reader as a source, which can't tell what is left. Each error of the reader is a fault, an
+/// A reader as a source, which isn't observable. Each error of the reader is a fault, an
 /// interrupted read too.
 #[derive(Drop)]
 pub struct StdSource<R: Read + Drop> {
@@ -59,7 +59,7 @@ impl<R: Read + Drop> Source for StdSource<R> {
     }
 }
 
-/// A writer as a sink, which can't tell what was taken. Each error of the writer is a fault, and so
+/// A writer as a sink, which isn't observable. Each error of the writer is a fault, and so
 /// is a write of bytes of which it took none. The writer is never flushed, so let it have no buffer.
 #[derive(Drop)]
 pub struct StdSink<W: Write + Drop> {

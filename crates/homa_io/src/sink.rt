@@ -9,7 +9,7 @@ pub struct WriteFailed;
 
 /// What bytes are written to, in order.
 pub trait Sink {
-    /// The bytes that were taken, where the sink can tell.
+    /// The bytes that were taken, if the sink is observable.
     ghost taken: { Self → Option (List ℕ) };
 
     /// How many faults there were; the count stays at its last value, 2^64 - 1.
@@ -18,7 +18,7 @@ pub trait Sink {
     /// It is the same sink, and a reference refers to the same one.
     ghost is_same: { Self → Self → Type 0 };
 
-    /// Takes a front of the bytes, and answers how many. It is 0 only where there are none. An
+    /// Takes a prefix of the bytes, and returns how many they are. It is 0 only if there are none. An
     /// error takes none of them, and only an error counts a fault.
     fn write(&mut self, bytes: &[u8]) -> Result<usize, WriteFailed>
         ensures fits { IfOk result (λ n. n ≤ length bytes.now) }
@@ -38,7 +38,7 @@ pub trait Sink {
 }
 
 /// Writes all of the bytes, in as many calls as the sink needs. After an error, which is the first
-/// that a call gave, it took a front of them.
+/// that a call gave, it took a prefix of them.
 pub fn write_all<K: Sink>(sink: &mut K, bytes: &[u8]) -> Result<(), WriteFailed>
     ensures { IsWritten K.taken K.faults K.is_same result sink.old sink.new bytes.now }
 {

@@ -8,7 +8,7 @@ pub struct ReadFailed;
 
 /// What bytes are read from, in order and each once.
 pub trait Source {
-    /// The bytes that are left, where the source can tell.
+    /// The bytes that are left, if the source is observable.
     ghost left: { Self → Option (List ℕ) };
 
     /// How many faults there were; the count stays at its last value, 2^64 - 1.
@@ -17,7 +17,7 @@ pub trait Source {
     /// It is the same source, and a reference refers to the same one.
     ghost is_same: { Self → Self → Type 0 };
 
-    /// Moves the next bytes to the front of `buf`, and answers how many they are. It is 0 only at
+    /// Moves the next bytes to the start of `buf`, and returns how many they are. It is 0 only at
     /// the end, or for an empty `buf`. After an error the same bytes are left as before. Only an error
     /// counts a fault.
     fn read(&mut self, buf: &mut [u8]) -> Result<usize, ReadFailed>

@@ -17,10 +17,14 @@ use Rattle.host_view.specs.declared.outbox.SentFrame.{SentFrame}
 use Rattle.node_runs.specs.Script.{TimedCall, Calls, Refusal}
 use Rattle.node_runs.specs.Course.{Report, Tells, Datagram, Receive, Node, GoesOn, datagrams, goes, follows, starts}
 use Rattle.homa_plain.specs.Answers.{shown, answering}
-use Rattle.node_turns.specs.Acting.{node_at, node_of, frame_datagram, IsStep, IsCut, Begins}
+use Rattle.node_turns.specs.Acting.{node_at, node_of, frame_datagram, IsStep, IsCut, IsMidst, Begins}
 use Rattle.node_turns.proofs.Lists.{listed_none, entries_tells}
 use Rattle.node_turns.proofs.Grows.{Grown, grown_on, grown_none, begins_self}
-use Rattle.homa_node.specs.Starting.{starting}
+use Rattle.std.specs.Prelude.{Err}
+use Rattle.node_io.specs.declared.observer.SeenFault.{SeenFault}
+use Rattle.node_io.specs.declared.observer.SeenFault.TheVariants as seen
+use Rattle.node_turns.specs.Seen.{seen_stop}
+use Rattle.homa_node.specs.Starting.{starting, OnCut, IsCallStop}
 use Rattle.homa_node.proofs.Starting.{call_then, starts_due, starts_later}
 
 module _ (s : Settings) where
@@ -132,3 +136,14 @@ module _ (s : Settings) where
           grown = ap (λ x. datagrams s (node_of x).world) path ∙ q.grown ∙ ap (λ ds. ds ++ q.later) step.sent;
         };
   }
+
+-- the observer stopped it
+pub seen_cut : (f : SeenFault) (X : Type 0) → X → OnCut (Err (seen_stop f)) X
+seen_cut (seen.Write failed) X x = x
+seen_cut seen.Stranger X x = x
+seen_cut seen.NoMemory X x = x
+
+pub seen_call : (f : SeenFault) → IsMidst (seen_stop f) → IsCallStop (seen_stop f)
+seen_call (seen.Write failed) m = m
+seen_call seen.Stranger m = m
+seen_call seen.NoMemory m = m

@@ -13,14 +13,14 @@ use Rattle.node_runs.specs.Course.{clock_stands, starts, hosts_act, locals, ends
 use Rattle.node_turns.specs.Acting.{node_at, Begins, clock_reports}
 use Rattle.node_turns.proofs.Grows.{grown_on, begins_self, begins_then, hosts_grow}
 use Rattle.node_script.specs.Standing.{Standing}
-use Rattle.homa_node.specs.declared.ahead.Ahead.{Ahead}
-use Rattle.homa_node.specs.declared.ahead.Ahead.TheVariants.{Unread, Call, Ended as NoCall}
+use Rattle.homa_node.specs.declared.ahead.NextCall.{NextCall}
+use Rattle.homa_node.specs.declared.ahead.NextCall.TheVariants.{Unread, Call, Ended as NoCall}
 use Rattle.homa_node.specs.Coming.{calls_ahead, IsIdle}
 use Rattle.node_script.specs.Setup.{call_seen}
 use Rattle.node_script.specs.Calls.{calls_left}
 use Rattle.homa_node.specs.Starting.{starting}
 use Rattle.homa_node.specs.Served.{BeginsRun}
-use Rattle.homa_node.specs.Far.{stalls, behind_turns, behind_calls}
+use Rattle.homa_node.specs.Progress.{stalls, behind_turns, behind_calls}
 use Rattle.homa_node.proofs.Starting.{starts_later, held_same}
 use Rattle.homa_node.proofs.CallCuts.{starts_grow}
 
@@ -54,7 +54,7 @@ module _ (setup : Setup) where
       ∙ held_same setup.settings (behind_calls setup n now on) calls.refused calls.calls at calls held
 
   -- no call is due
-  pub calls_wait : (held : Calls) (a : Ahead) (r : Standing) (more : List ℕ) (w : World) (reports : List Report) (later : List Answer)
+  pub calls_wait : (held : Calls) (a : NextCall) (r : Standing) (more : List ℕ) (w : World) (reports : List Report) (later : List Answer)
       (next held2 : List Receive) → IsIdle a w.clock
       → starting setup.settings held [] next (node_at (answering later w) reports (calls_ahead setup a r more) held2)
       ≡ GoesOn (node_at (answering later w) reports (calls_ahead setup a r more) next)

@@ -12,13 +12,13 @@ use Rattle.node_io.specs.Clock.{next_tick, if_ticks}
 use Rattle.node_runs.specs.Course.{Report, Datagram, Receive, AreReceived, AreTicks, End, Run}
 use Rattle.node_runs.specs.Recorder.{Notes}
 use Rattle.node_runs.specs.Texts.{entries}
-use Rattle.node_turns.specs.Told.{listed, numbers_of, AreTold}
+use Rattle.node_turns.specs.Told.{listed, numbers_of, Hears, AreDone}
 use Rattle.node_turns.proofs.Lists.{listed_none, listed_more, received_more, numbers_more, entries_parts, shown_parts}
-use Rattle.node_turns.proofs.Tellings.{told_none, told_more}
+use Rattle.node_turns.proofs.Done.{gone_none, gone_more}
 use Rattle.script_lines.specs.Read.{IsRead, IsCut}
 use Rattle.script_lines.proofs.ReadParts.{read_start, read_on, read_map, read_whole}
 use Rattle.homa_node.specs.Served.{Outside, Whole, AreGiven, BeginsRun, IsServed, IsPart}
-use Rattle.homa_node.specs.Far.{IsFar}
+use Rattle.homa_node.specs.Progress.{IsFar}
 use Rattle.homa_node.proofs.Started.{read_cut}
 
 -- what is still to be answered, read and received
@@ -58,7 +58,7 @@ module _ (whole : Whole) (told : Notes → Report → List ℕ) (kept : Notes �
   far_start bytes left o e = record {
     ticks = [];
     gave = [];
-    told_all = told_none told kept strange o.taken o.notes;
+    told_all = gone_none told kept strange o.taken o.notes o.acts (Hears 64);
     took = listed_none o.sent;
     numbers = refl;
     given = listed_none o.gave;
@@ -179,7 +179,8 @@ module _ (whole : Whole) (told : Notes → Report → List ℕ) (kept : Notes �
       -- the hosts did more
       pub far_acted : (new2 : Outside) (after2 : List PlainEntry → Type 0) (r : List Report) (sent2 more_sent : List Datagram) (g : List Receive)
           (onward : Whole)
-          → AreTold told kept strange new.taken new.notes new2.taken new2.notes r → new2.sent ≡ listed new.sent more_sent → new2.gave ≡ listed new.gave g
+          → AreDone told kept strange new.taken new.notes new2.taken new2.notes new.acts new2.acts (Hears 64) (Hears 64) r
+          → new2.sent ≡ listed new.sent more_sent → new2.gave ≡ listed new.gave g
           → AreReceived g → new2.ticks ≡ new.ticks → sent2 ≡ sent ++ more_sent → length more_sent ≡ length (numbers_of r)
           → ((more : List PlainEntry) → after2 more → after (entries r ++ more))
           → ((more : List ℕ) (later : List Answer) (on : List ℕ) (next : List Receive)
@@ -188,7 +189,8 @@ module _ (whole : Whole) (told : Notes → Report → List ℕ) (kept : Notes �
       far_acted new2 after2 r sent2 more_sent g onward tells took given came held grown count allowed e = record {
         ticks = d.ticks;
         gave = d.gave ++ g;
-        told_all = told_more told kept strange old.taken new.taken new2.taken old.notes new.notes new2.notes reports r d.told_all tells;
+        told_all = gone_more told kept strange old.taken new.taken new2.taken old.notes new.notes new2.notes old.acts new.acts new2.acts
+            (Hears 64) (Hears 64) (Hears 64) reports r d.told_all tells;
         took = listed_more old.sent new.sent new2.sent sent more_sent d.took took ∙ ap (listed old.sent) (sym grown);
         numbers = ap length grown ∙ numbers_more sent more_sent reports r d.numbers count;
         given = listed_more old.gave new.gave new2.gave d.gave g d.given given;
@@ -281,7 +283,8 @@ module _ (whole : Whole) (told : Notes → Report → List ℕ) (kept : Notes �
         gave = d.gave;
         ended = ap (λ (x : Run). x.end) run;
         used = ap (λ (x : Run). x.left) run;
-        told_all = subst (AreTold told kept strange old.taken old.notes new.taken new.notes) (sym (ap (λ (x : Run). x.reports) run)) d.told_all;
+        told_all = subst (AreDone told kept strange old.taken old.notes new.taken new.notes old.acts new.acts (Hears 64) (Hears 64))
+            (sym (ap (λ (x : Run). x.reports) run)) d.told_all;
         took = d.took ∙ ap (listed old.sent) (sym (ap (λ (x : Run). x.sent) run));
         given = d.given;
         received = d.received;

@@ -1,4 +1,5 @@
 pub mod Starting
+pub mod Connects
 pub mod Connecting
 pub mod CallCuts
 pub mod Coming
@@ -11,3 +12,4 @@ pub mod Turns
 pub mod Openings
 pub mod Stopped
 pub mod Observing
+pub mod Connected

@@ -10,20 +10,22 @@ use Rattle.homa_plain.specs.World.{World, new_world}
 use Rattle.homa_plain.specs.Answers.{answering}
 use Rattle.node_runs.specs.Script.{Setup, Calls, Opening, Opened, unopened, opening}
 use Rattle.node_runs.specs.Course.{Report, Tells, Datagram, Receive, RefusedAt, run_of, run_opened, node_run, new_node, first_inc, datagrams, loop_turns}
+use Rattle.node_runs.specs.Acts.{Act, connects, opened_acts}
 use Rattle.node_runs.specs.Recorder.{Notes}
-use Rattle.node_turns.specs.Told.{ListedFront, AreTold, AreFront}
+use Rattle.node_turns.specs.Told.{ListedFront, Hears, AreTold, AreDone, AreBroken}
 use Rattle.node_turns.specs.Acting.{node_at, Begins, OnStrange}
 use Rattle.node_turns.specs.declared.stop.NodeStop.{NodeStop}
 use Rattle.node_turns.specs.declared.stop.NodeStop.TheVariants.{Script, Start, Host, Read, Net, Seen, Stalled, NoMemory}
 use Rattle.node_turns.proofs.Lists.{listed_none, front_none}
-use Rattle.node_turns.proofs.Tellings.{front_rest, front_more}
+use Rattle.node_turns.proofs.Done.{gone_step, broken_more, broken_none}
+use Rattle.script_lines.proofs.ReadParts.{read_whole}
 use Rattle.script_lines.specs.Read.{IsRead, IsCut}
 use Rattle.script_lines.specs.Place.{Place}
 use Rattle.homa_node.specs.Served.{Outside, outside, Whole, BeginsRun, IsServed, IsPart, IsStopped, IsFirstIn}
 use Rattle.node_script.specs.declared.stop.SetupStop.{SetupStop}
 use Rattle.node_script.specs.declared.stop.SetupStop.TheVariants as why
 use Rattle.homa_node.specs.Opened.{HasOpened, opening_stop}
-use Rattle.homa_node.specs.Far.{IsFar, IsAt, going}
+use Rattle.homa_node.specs.Progress.{IsFar, IsAt, going}
 use Rattle.homa_node.proofs.Fars.{far_start, far_read, far_to, far_stop, far_acted, far_part, far_end}
 use Rattle.homa_node.proofs.Courses.{begins_run, turns_grow}
 
@@ -40,10 +42,11 @@ by_opening : (more : List ℕ) (later : List Answer) (on : List ℕ) (next : Lis
 unfolding node_run
 by_opening more later on next = refl
 
-pub outside_same : (taken : Option (List ℕ)) (notes : Notes) (ticks : Option (List ℕ)) (sent sent2 : Option (List Datagram))
-    (gave gave2 : Option (List Receive)) → sent2 ≡ sent → gave2 ≡ gave
-    → outside taken notes sent2 gave2 ticks ≡ outside taken notes sent gave ticks
-outside_same taken notes ticks sent sent2 gave gave2 e f = ap (λ x. outside taken notes x gave2 ticks) e ∙ ap (λ x. outside taken notes sent x ticks) f
+pub outside_same : (taken : Option (List ℕ)) (notes : Notes) (ticks : Option (List ℕ)) (acts acts2 : Option (List Act)) (sent sent2 : Option (List Datagram))
+    (gave gave2 : Option (List Receive)) → acts2 ≡ acts → sent2 ≡ sent → gave2 ≡ gave
+    → outside taken notes acts2 sent2 gave2 ticks ≡ outside taken notes acts sent gave ticks
+outside_same taken notes ticks acts acts2 sent sent2 gave gave2 d e f = ap (λ x. outside taken notes x sent2 gave2 ticks) d
+    ∙ ap (λ x. outside taken notes acts x gave2 ticks) e ∙ ap (λ x. outside taken notes acts sent x ticks) f
 
 -- nothing is sent before the first loop turn
 none_sent : (setup : Setup) (calls : Calls) (later : List Answer) (next : List Receive)
@@ -65,32 +68,34 @@ module _ (told : Notes → Report → List ℕ) (kept : Notes → Report → Not
 
   -- a run of which nothing was told
   nothing_told : (left2 : Option (List ℕ)) (rest : Whole) → IsFar node_run told kept strange may_tell bytes left2 old old may_tell 0 [] [] rest
-      → IsPart node_run told kept strange may_tell bytes left2 old old (AreFront told kept strange old.taken old.notes old.taken)
+      → IsPart node_run told kept strange may_tell bytes left2 old old (AreBroken told kept strange old.taken old.notes old.taken old.acts old.acts (Hears 64))
       (ListedFront old.sent old.sent)
   nothing_told left2 rest d =
       far_part node_run told kept strange may_tell bytes left2 old old may_tell 0 [] [] rest d old
-      (AreFront told kept strange old.taken old.notes old.taken) (ListedFront old.sent old.sent) [] [] []
-      (front_rest told kept strange old.taken old.notes []) (front_none old.sent old.sent refl) refl (listed_none old.gave) tt none
+      (AreBroken told kept strange old.taken old.notes old.taken old.acts old.acts (Hears 64)) (ListedFront old.sent old.sent) [] [] []
+      (broken_none told kept strange old.taken old.notes old.acts old.acts 64 refl) (front_none old.sent old.sent refl) refl (listed_none old.gave) tt none
       (λ more later on next. record { more = (rest more later on next).reports; later = (rest more later on next).sent; reports_are = refl; sent_is = refl })
 
   -- in the end, in other words
   pub part_as : (left2 : Option (List ℕ)) (new : Outside) → new ≡ old
-      → IsPart node_run told kept strange may_tell bytes left2 old old (AreFront told kept strange old.taken old.notes old.taken)
+      → IsPart node_run told kept strange may_tell bytes left2 old old (AreBroken told kept strange old.taken old.notes old.taken old.acts old.acts (Hears 64))
       (ListedFront old.sent old.sent)
-      → IsPart node_run told kept strange may_tell bytes left2 old new (AreFront told kept strange old.taken old.notes new.taken)
+      → IsPart node_run told kept strange may_tell bytes left2 old new (AreBroken told kept strange old.taken old.notes new.taken old.acts new.acts (Hears 64))
       (ListedFront old.sent new.sent)
   part_as left2 new same p = subst
-      (λ o. IsPart node_run told kept strange may_tell bytes left2 old o (AreFront told kept strange old.taken old.notes o.taken) (ListedFront old.sent o.sent))
+      (λ o. IsPart node_run told kept strange may_tell bytes left2 old o
+      (AreBroken told kept strange old.taken old.notes o.taken old.acts o.acts (Hears 64)) (ListedFront old.sent o.sent))
       (sym same) p
 
   -- nothing was done
-  pub open_none : IsPart node_run told kept strange may_tell bytes left old old (AreFront told kept strange old.taken old.notes old.taken)
+  pub open_none : IsPart node_run told kept strange may_tell bytes left old old
+      (AreBroken told kept strange old.taken old.notes old.taken old.acts old.acts (Hears 64))
       (ListedFront old.sent old.sent)
   open_none = nothing_told left node_run start
 
   -- reading stopped
   pub open_cut : (left2 : Option (List ℕ)) → ((rest : List ℕ) → left ≡ Some rest → IsCut rest left2)
-      → IsPart node_run told kept strange may_tell bytes left2 old old (AreFront told kept strange old.taken old.notes old.taken)
+      → IsPart node_run told kept strange may_tell bytes left2 old old (AreBroken told kept strange old.taken old.notes old.taken old.acts old.acts (Hears 64))
       (ListedFront old.sent old.sent)
   open_cut left2 f =
       let d = far_stop node_run told kept strange may_tell bytes left old old may_tell 0 [] [] node_run start left2 f in
@@ -124,8 +129,13 @@ module _ (told : Notes → Report → List ℕ) (kept : Notes → Report → Not
     abbrev opened_run : Whole
     opened_run more later on next = run_of setup.settings (loop_turns setup 1 on (new_node setup (calls more) later next))
 
+    -- the net learns where its hosts are
+    pub opened_connects : opened_acts (opening most_bytes bytes) ≡ connects setup.places
+    opened_connects = ap opened_acts (read_whole bytes left2 (opening most_bytes) (λ more. Opened setup (calls more)) (f bytes e))
+
     -- nothing of it was told
-    pub open_untold : IsPart node_run told kept strange may_tell bytes left2 old old (AreFront told kept strange old.taken old.notes old.taken)
+    pub open_untold : IsPart node_run told kept strange may_tell bytes left2 old old
+        (AreBroken told kept strange old.taken old.notes old.taken old.acts old.acts (Hears 64))
         (ListedFront old.sent old.sent)
     open_untold = nothing_told left2 opened_run (opens left2 (λ more. Opened setup (calls more)) f)
 
@@ -148,16 +158,24 @@ module _ (told : Notes → Report → List ℕ) (kept : Notes → Report → Not
         tells (front_none old.sent new.sent sent) refl (gave ∙ listed_none old.gave) tt may
         (λ more later on next. run_begins more later on next)
 
-    module _ (new : Outside) (tells : AreTold told kept strange old.taken old.notes new.taken new.notes (Tells (PlainSettings setup.settings) ∷ []))
+    module _ (new : Outside) (acts : new.acts ≡ old.acts)
+        (tells : AreTold told kept strange old.taken old.notes new.taken new.notes (Tells (PlainSettings setup.settings) ∷ []))
         (sent : new.sent ≡ old.sent) (gave : new.gave ≡ old.gave) (ticks : new.ticks ≡ old.ticks) where
+      settings_gone : AreDone told kept strange old.taken old.notes new.taken new.notes old.acts new.acts (Hears 64) (Hears 64)
+          (Tells (PlainSettings setup.settings) ∷ [])
+      settings_gone = gone_step told kept strange old.taken new.taken old.notes new.notes old.acts new.acts 64 (PlainSettings setup.settings ∷ []) [] (tt, tt)
+          refl (acts ∙ listed_none old.acts) tells
+
       -- they were told, and no more
       pub settings_told : may_tell (PlainSettings setup.settings ∷ [])
-          → IsPart node_run told kept strange may_tell bytes left2 old new (AreFront told kept strange old.taken old.notes new.taken)
+          → IsPart node_run told kept strange may_tell bytes left2 old new
+          (AreBroken told kept strange old.taken old.notes new.taken old.acts new.acts (Hears 64))
           (ListedFront old.sent new.sent)
       settings_told may =
-          settings_part new (AreFront told kept strange old.taken old.notes new.taken)
-          (front_more told kept strange old.taken new.taken new.taken old.notes new.notes (Tells (PlainSettings setup.settings) ∷ []) [] tells
-          (front_rest told kept strange new.taken new.notes [])) sent gave may
+          settings_part new (AreBroken told kept strange old.taken old.notes new.taken old.acts new.acts (Hears 64))
+          (broken_more told kept strange old.taken new.taken new.taken old.notes new.notes old.acts new.acts new.acts (Hears 64) (Hears 64)
+          (Tells (PlainSettings setup.settings) ∷ []) [] settings_gone
+          (broken_none told kept strange new.taken new.notes new.acts new.acts 64 refl)) sent gave may
 
       -- and the hosts were opened
       pub at_first : (stands : World → Type 0) (after : List PlainEntry → Type 0) (incs : List ℕ) → incs ≡ map first_inc setup.places
@@ -171,7 +189,7 @@ module _ (told : Notes → Report → List ℕ) (kept : Notes → Report → Not
         far = far_acted node_run told kept strange may_tell bytes left2 old old may_tell 0 [] [] opened_run (opens left2 (λ more. Opened setup (calls more)) f)
             new after (Tells (PlainSettings setup.settings) ∷ []) (datagrams setup.settings h.first) [] []
             (going setup h.first (Tells (PlainSettings setup.settings) ∷ []) calls (loop_turns setup 1))
-            tells (sent ∙ listed_none old.sent) (gave ∙ listed_none old.gave) tt ticks none_yet refl allowed
+            settings_gone (sent ∙ listed_none old.sent) (gave ∙ listed_none old.gave) tt ticks none_yet refl allowed
             (λ more later on next. ap (λ w.
             run_of setup.settings (loop_turns setup 1 on (node_at w (Tells (PlainSettings setup.settings) ∷ []) (calls more) next)))
             (sym (first_is later)));

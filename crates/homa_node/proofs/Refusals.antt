@@ -17,8 +17,8 @@ use Rattle.node_script.specs.declared.stop.CallStop.{CallStop}
 use Rattle.node_script.specs.declared.stop.CallStop.TheVariants.{Read, Fault}
 use Rattle.node_script.specs.Standing.{Standing}
 use Rattle.node_script.specs.Calls.{calls_left, refused_at, IsNext}
-use Rattle.homa_node.specs.declared.ahead.Ahead.{Ahead}
-use Rattle.homa_node.specs.declared.ahead.Ahead.TheVariants.{Unread}
+use Rattle.homa_node.specs.declared.ahead.NextCall.{NextCall}
+use Rattle.homa_node.specs.declared.ahead.NextCall.TheVariants.{Unread}
 use Rattle.homa_node.specs.Coming.{HasLooked, look_stop}
 
 -- by its words, or since a host isn't there
@@ -90,7 +90,7 @@ module _ (setup : Setup) where
       read_to bytes left (calls_left setup least r.place) (λ more. refused_at line (ByWorld fault)) (λ more. refused_at line (ByWorld NoSuchHost)) d
       (λ more. ap (λ f. refused_at line (ByWorld f)) is)
 
-  by_stop : (b : Ahead) (r t : Standing) (bytes : List ℕ) (left : Option (List ℕ)) (stop : CallStop)
+  by_stop : (b : NextCall) (r t : Standing) (bytes : List ℕ) (left : Option (List ℕ)) (stop : CallStop)
       → IsNext setup r.least r.place t.place t.operand bytes left (Err stop)
       → HasLooked setup Unread r b t bytes left (Err (look_stop t.place.number stop))
   by_stop b r t bytes left (Read failed) h = h
@@ -98,7 +98,7 @@ module _ (setup : Setup) where
   by_stop b r t bytes left (Fault (ByWorld fault)) h = names_none r.least r bytes left t.place.number fault h
 
   -- the next line gave no call
-  pub looked_err : (a b : Ahead) (r t : Standing) (bytes : List ℕ) (left : Option (List ℕ)) (stop : CallStop) (given : NodeStop) (line : ℕ) → a ≡ Unread
+  pub looked_err : (a b : NextCall) (r t : Standing) (bytes : List ℕ) (left : Option (List ℕ)) (stop : CallStop) (given : NodeStop) (line : ℕ) → a ≡ Unread
       → line ≡ t.place.number → given ≡ look_stop line stop
       → IsNext setup r.least r.place t.place t.operand bytes left (Err stop) → HasLooked setup a r b t bytes left (Err given)
   looked_err a b r t bytes left stop given line e number is h =

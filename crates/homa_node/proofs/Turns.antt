@@ -17,21 +17,21 @@ use Rattle.node_runs.specs.Course.{Report, Tells, Datagram, Node, Course, ◌>>=
 use Rattle.node_runs.specs.Course.{locals, ends, loop_turns}
 use Rattle.node_runs.specs.Recorder.{Notes}
 use Rattle.node_runs.specs.Texts.{entries}
-use Rattle.node_turns.specs.Told.{Listed, ListedFront, numbers_of, AreTold, AreFront}
+use Rattle.node_turns.specs.Told.{Listed, ListedFront, numbers_of, Hears, AreTold, AreDone, AreBroken}
 use Rattle.node_turns.specs.Acting.{node_at, HasActed, IsCut, Begins, with_left, goes_on, clock_reports}
 use Rattle.node_turns.specs.declared.stop.NodeStop.{NodeStop}
 use Rattle.node_turns.specs.declared.stop.NodeStop.TheVariants.{Script, Start, Host, Read, Net, Seen, Stalled, NoMemory}
 use Rattle.node_turns.proofs.Lists.{listed_none, front_none, front_listed}
-use Rattle.node_turns.proofs.Tellings.{front_more}
+use Rattle.node_turns.proofs.Done.{broken_more, gone_clock}
 use Rattle.script_lines.specs.Read.{IsRead}
 use Rattle.node_script.specs.Standing.{Standing}
 use Rattle.node_script.specs.Calls.{refused_at}
-use Rattle.homa_node.specs.declared.ahead.Ahead.{Ahead}
+use Rattle.homa_node.specs.declared.ahead.NextCall.{NextCall}
 use Rattle.homa_node.specs.Coming.{calls_ahead, IsIdle}
 use Rattle.homa_node.specs.Starting.{with_calls, starting}
 use Rattle.homa_node.specs.Started.{HasStarted, HasEnded, HasCut, HasStopped}
 use Rattle.homa_node.specs.Served.{Outside, Whole, BeginsRun, IsServed, IsPart, IsStopped}
-use Rattle.homa_node.specs.Far.{IsFar, IsAt, going, behind_turns, behind_calls}
+use Rattle.homa_node.specs.Progress.{IsFar, IsAt, going, behind_turns, behind_calls}
 use Rattle.homa_node.proofs.Fars.{far_read, far_to, far_tick, far_acted, far_part, far_end}
 use Rattle.homa_node.proofs.Courses.{starts_calls, turn_begins, calls_wait, end_comes, end_waits, turn_comes, turns_end, calls_begin, hosts_begin}
 use Rattle.homa_node.proofs.CallCuts.{starts_grow}
@@ -96,11 +96,11 @@ module _ (whole : Whole) (told : Notes → Report → List ℕ) (kept : Notes �
         -- the clock stands at it
         pub at_clock : (held : Calls) (new2 : Outside) (stands2 : World → Type 0) (after2 : List PlainEntry → Type 0)
             → ((w : World) → stands w → stands2 (record w { clock = now })
-            × AreTold told kept strange new.taken new.notes new2.taken new2.notes (clock_reports n now w))
+            × AreTold told kept strange new.taken new.notes new2.taken new2.notes (clock_reports n now w)) → new2.acts ≡ new.acts
             → ((more : List PlainEntry) → after2 more → after more) → ((more : List PlainEntry) → after more → after (PlainClock now ∷ more))
             → new2.sent ≡ new.sent → new2.gave ≡ new.gave → new2.ticks ≡ new.ticks
             → IsAt whole told kept strange may_tell bytes left old new2 setup stands2 after2 least calls (starts_calls setup held n now)
-        at_clock held new2 stands2 after2 tells allows clocks sent gave ticks =
+        at_clock held new2 stands2 after2 tells acts allows clocks sent gave ticks =
             let w = a.world in
             let t = tells w a.stood in
             let is_told = n == 1 || nat_lt w.clock now in
@@ -112,7 +112,8 @@ module _ (whole : Whole) (told : Notes → Report → List ℕ) (kept : Notes �
                   (going setup w a.reports calls (λ on. loop_turns setup n (now ∷ on))) a.far
                   new2 after2 (clock_reports n now w) (datagrams setup.settings w) [] []
                   (going setup (record w { clock = now }) (a.reports ++ clock_reports n now w) calls (starts_calls setup held n now))
-                  t.1 (sent ∙ listed_none new.sent) (gave ∙ listed_none new.gave) tt ticks (sym (append-nil (datagrams setup.settings w)))
+                  (gone_clock told kept strange new.taken new2.taken new.notes new2.notes new.acts new2.acts now is_told acts t.1)
+                  (sent ∙ listed_none new.sent) (gave ∙ listed_none new.gave) tt ticks (sym (append-nil (datagrams setup.settings w)))
                   (clock_numbers now is_told)
                   (λ more x. clock_allowed now after more is_told (allows more x) (clocks more (allows more x)))
                   (λ more later on next. ap (λ xs.
@@ -123,7 +124,8 @@ module _ (whole : Whole) (told : Notes → Report → List ℕ) (kept : Notes �
 
         -- that wasn't told whole
         pub clock_part : (new2 : Outside) (tell1 tell : List Report → Type 0) → ((w : World) → stands w → tell1 (clock_reports n now w))
-            → ((x y : List Report) → AreTold told kept strange old.taken old.notes new.taken new.notes x → tell1 y → tell (x ++ y))
+            → ((x y : List Report) → AreDone told kept strange old.taken old.notes new.taken new.notes old.acts new.acts (Hears 64) (Hears 64) x →
+            tell1 y → tell (x ++ y))
             → after [] → ((more : List PlainEntry) → after more → after (PlainClock now ∷ more)) → new2.sent ≡ new.sent → new2.gave ≡ new.gave
             → IsPart whole told kept strange may_tell bytes left old new2 tell (ListedFront old.sent new2.sent)
         clock_part new2 tell1 tell tells joins none clocks sent gave =
@@ -159,9 +161,9 @@ module _ (whole : Whole) (told : Notes → Report → List ℕ) (kept : Notes �
           left2 a.far read
 
       -- the calls that were due are started
-      pub at_calls : (next : World → Type 0) (after2 : List PlainEntry → Type 0) (ahead : Ahead) (r : Standing)
+      pub at_calls : (next : World → Type 0) (after2 : List PlainEntry → Type 0) (ahead : NextCall) (r : Standing)
           → HasStarted setup.settings stands after new.sent new2.sent new.gave new2.gave left left2 calls next after2
-          (AreTold told kept strange new.taken new.notes new2.taken new2.notes) (calls_ahead setup ahead r)
+          (AreDone told kept strange new.taken new.notes new2.taken new2.notes new.acts new2.acts (Hears 64) (Hears 64)) (calls_ahead setup ahead r)
           → ((w : World) → next w → IsIdle ahead w.clock)
           → IsAt whole told kept strange may_tell bytes left2 old new2 setup next after2 least (calls_ahead setup ahead r) (behind_calls setup n now)
       at_calls next after2 ahead r h idle =
@@ -184,7 +186,7 @@ module _ (whole : Whole) (told : Notes → Report → List ℕ) (kept : Notes �
       -- the next line is refused
       pub calls_refused : (next : World → Type 0) (after2 : List PlainEntry → Type 0) (line : ℕ) (fault : LineFault) → after2 []
           → HasStarted setup.settings stands after new.sent new2.sent new.gave new2.gave left left2 calls next after2
-          (AreTold told kept strange new.taken new.notes new2.taken new2.notes) (λ more. refused_at line fault)
+          (AreDone told kept strange new.taken new.notes new2.taken new2.notes new.acts new2.acts (Hears 64) (Hears 64)) (λ more. refused_at line fault)
           → IsServed whole told kept strange may_tell bytes old new2 (RefusedAt line fault)
       calls_refused next after2 line fault none h =
           let k = h.acted a.world a.stood held in
@@ -201,7 +203,7 @@ module _ (whole : Whole) (told : Notes → Report → List ℕ) (kept : Notes �
 
       -- a call can't start
       pub calls_ended : (end : End) → HasEnded setup.settings stands after new.sent new2.sent new.gave new2.gave left left2 calls
-          (AreTold told kept strange new.taken new.notes new2.taken new2.notes) end
+          (AreDone told kept strange new.taken new.notes new2.taken new2.notes new.acts new2.acts (Hears 64) (Hears 64)) end
           → IsServed whole told kept strange may_tell bytes old new2 end
       calls_ended end h =
           let k = h.acted a.world a.stood held in
@@ -219,7 +221,8 @@ module _ (whole : Whole) (told : Notes → Report → List ℕ) (kept : Notes �
 
       -- the hosts stopped while calls were started
       pub calls_part : (tell1 tell : List Report → Type 0) → HasCut setup.settings stands after new.sent new2.sent new.gave new2.gave left left2 calls tell1
-          → ((x y : List Report) → AreTold told kept strange old.taken old.notes new.taken new.notes x → tell1 y → tell (x ++ y))
+          → ((x y : List Report) → AreDone told kept strange old.taken old.notes new.taken new.notes old.acts new.acts (Hears 64) (Hears 64) x →
+          tell1 y → tell (x ++ y))
           → IsPart whole told kept strange may_tell bytes left2 old new2 tell (ListedFront old.sent new2.sent)
       calls_part tell1 tell h joins =
           let k = h.cut a.world a.stood held in
@@ -236,16 +239,19 @@ module _ (whole : Whole) (told : Notes → Report → List ℕ) (kept : Notes �
           (a.reports ++ k.reports) (datagrams setup.settings a.world ++ k.sent) (k.same a.reports later (b.0 more) left3 []))
 
       calls_front : HasCut setup.settings stands after new.sent new2.sent new.gave new2.gave left left2 calls
-          (AreFront told kept strange new.taken new.notes new2.taken)
-          → IsPart whole told kept strange may_tell bytes left2 old new2 (AreFront told kept strange old.taken old.notes new2.taken)
+          (AreBroken told kept strange new.taken new.notes new2.taken new.acts new2.acts (Hears 64))
+          → IsPart whole told kept strange may_tell bytes left2 old new2
+          (AreBroken told kept strange old.taken old.notes new2.taken old.acts new2.acts (Hears 64))
           (ListedFront old.sent new2.sent)
-      calls_front h = calls_part (AreFront told kept strange new.taken new.notes new2.taken) (AreFront told kept strange old.taken old.notes new2.taken) h
-          (λ x y p q. front_more told kept strange old.taken new.taken new2.taken old.notes new.notes x y p q)
+      calls_front h = calls_part (AreBroken told kept strange new.taken new.notes new2.taken new.acts new2.acts (Hears 64))
+          (AreBroken told kept strange old.taken old.notes new2.taken old.acts new2.acts (Hears 64)) h
+          (λ x y p q. broken_more told kept strange old.taken new.taken new2.taken old.notes new.notes old.acts new.acts new2.acts (Hears 64)
+          (Hears 64) x y p q)
 
       -- no further call was started
       pub calls_stopped : (next : World → Type 0) (after2 : List PlainEntry → Type 0) → after2 [] → (stop : NodeStop)
           → HasStopped setup.settings stands after new.sent new2.sent new.gave new2.gave left left2 calls told kept strange next after2 new.taken new.notes
-          new2.taken new2.notes stop
+          new2.taken new2.notes new.acts new2.acts stop
           → IsStopped whole told kept strange may_tell bytes left2 old new2 stop
       calls_stopped next after2 none (Script line fault) h = calls_refused next after2 line (ByWords fault) none h
       calls_stopped next after2 none (Host line) h = calls_refused next after2 line (ByWorld NoSuchHost) none h
@@ -253,7 +259,7 @@ module _ (whole : Whole) (told : Notes → Report → List ℕ) (kept : Notes �
       calls_stopped next after2 none (Stalled turns last) h = absurd h
       calls_stopped next after2 none (Seen Stranger) h = absurd h
       calls_stopped next after2 none (Seen (Write failed)) h = calls_front h
-      calls_stopped next after2 none (Seen NoRoom) h = calls_front h
+      calls_stopped next after2 none (Seen NoRoom) h = absurd h
       calls_stopped next after2 none Read h = calls_front h
       calls_stopped next after2 none Net h = calls_front h
       calls_stopped next after2 none NoMemory h = calls_front h
@@ -263,14 +269,16 @@ module _ (whole : Whole) (told : Notes → Report → List ℕ) (kept : Notes �
       -- the hosts acted
       pub at_hosts : (next : World → Type 0) (after2 : List PlainEntry → Type 0)
           → ((w : World) → stands w → HasActed (with_left (hosts_act t ids)) goes_on t w next after after2
-          (AreTold told kept strange new.taken new.notes new2.taken new2.notes) new.sent new2.sent new.gave new2.gave)
+          (AreDone told kept strange new.taken new.notes new2.taken new2.notes new.acts new2.acts (Hears 64) (Hears 64)) new.sent new2.sent new.gave new2.gave)
           → new2.ticks ≡ new.ticks → IsAt whole told kept strange may_tell bytes left old new2 setup next after2 least calls (behind_hosts setup n now)
       at_hosts next after2 acts same =
           let w = a.world in
           let k = subst (λ q. HasActed (with_left (hosts_act setup.settings q)) goes_on setup.settings w next after after2
-          (AreTold told kept strange new.taken new.notes new2.taken new2.notes) new.sent new2.sent new.gave new2.gave) f
+          (AreDone told kept strange new.taken new.notes new2.taken new2.notes new.acts new2.acts (Hears 64) (Hears 64)) new.sent new2.sent new.gave
+          new2.gave) f
           (subst (λ q. HasActed (with_left (hosts_act q ids)) goes_on q w next after after2
-          (AreTold told kept strange new.taken new.notes new2.taken new2.notes) new.sent new2.sent new.gave new2.gave) e (acts w a.stood)) in
+          (AreDone told kept strange new.taken new.notes new2.taken new2.notes new.acts new2.acts (Hears 64) (Hears 64)) new.sent new2.sent new.gave
+          new2.gave) e (acts w a.stood)) in
           record {
             world = k.next;
             stood = k.stood;
@@ -287,7 +295,8 @@ module _ (whole : Whole) (told : Notes → Report → List ℕ) (kept : Notes �
       -- they stopped
       pub hosts_part : (tell1 tell : List Report → Type 0) (take1 take : List Datagram → Type 0)
           → ((w : World) → stands w → IsCut (with_left (hosts_act t ids)) t w after tell1 take1 new.gave new2.gave)
-          → ((x y : List Report) → AreTold told kept strange old.taken old.notes new.taken new.notes x → tell1 y → tell (x ++ y))
+          → ((x y : List Report) → AreDone told kept strange old.taken old.notes new.taken new.notes old.acts new.acts (Hears 64) (Hears 64) x →
+          tell1 y → tell (x ++ y))
           → ((x y : List Datagram) → Listed old.sent new.sent x → take1 y → take (x ++ y))
           → IsPart whole told kept strange may_tell bytes left old new2 tell take
       hosts_part tell1 tell take1 take cut joins takes =

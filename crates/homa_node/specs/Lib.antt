@@ -1,6 +1,7 @@
+pub mod Printer
 pub mod Served
 pub mod Starting
 pub mod Coming
 pub mod Started
-pub mod Far
+pub mod Progress
 pub mod Opened

@@ -7,14 +7,17 @@ use Rattle.homa_plain.specs.Entries.{PlainEntry}
 use Rattle.homa_plain.specs.Rules.{Answer}
 use Rattle.homa_plain.specs.World.{World, new_world}
 use Rattle.homa_plain.specs.Answers.{shown, answering}
-use Rattle.node_io.specs.declared.observer.SeenFault.TheVariants.{Stranger}
+use Rattle.node_io.specs.declared.observer.SeenFault.TheVariants.{Stranger, NoMemory as NoRoom}
 use Rattle.node_io.specs.Clock.{next_tick, ticks_after}
-use Rattle.node_runs.specs.Course.{Report, Datagram, Receive, AreReceived, AreTicks, End, Ended, RefusedAt, StalledAt, Run}
+use Rattle.node_runs.specs.Course.{Report, Datagram, Receive, AreReceived, AreTicks, End, Ended, RefusedAt, StalledAt, Run, most_received}
+use Rattle.node_runs.specs.Acts.{Act, opened_acts}
+use Rattle.node_runs.specs.Script.{opening}
+use Rattle.homa_plain.specs.Script.{most_bytes}
 use Rattle.node_runs.specs.Recorder.{Notes}
 use Rattle.node_runs.specs.Texts.{entries, sent_by}
-use Rattle.node_turns.specs.Told.{listed, Listed, ListedFront, numbers_of, AreTold, AreFront, AreStrange}
+use Rattle.node_turns.specs.Told.{listed, Listed, ListedFront, numbers_of, Hears, AreDone, AreBroken, AreHalted}
 use Rattle.node_turns.specs.declared.stop.NodeStop.{NodeStop}
-use Rattle.node_turns.specs.declared.stop.NodeStop.TheVariants.{Script, Start, Host, Seen, Stalled}
+use Rattle.node_turns.specs.declared.stop.NodeStop.TheVariants.{Script, Start, Host, Read, Net, Seen, Stalled, NoMemory}
 
 -- the world with which a node begins, in these incarnations, whatever its services will answer
 pub record IsFirstIn (s : Settings) (incs : List ℕ) (stands : World → Type 0) : Type 0 where
@@ -32,16 +35,17 @@ abbrev pub AreGiven : Option (List ℕ) → List ℕ → Type 0
 AreGiven None ticks = Unit {0}
 AreGiven (Some held) ticks = ticks ≡ ticks_given (length ticks) held
 
--- what the observer's sink took, the observer's notes, what the net took and gave, and the ticks that the clock is to give, where they can tell
+-- what the observer's sink took, the observer's notes, what the net did, took and gave, and the ticks that the clock is to give, where they can tell
 pub record Outside : Type 0 where
   pub taken : Option (List ℕ)
   pub notes : Notes
+  pub acts : Option (List Act)
   pub sent : Option (List Datagram)
   pub gave : Option (List Receive)
   pub ticks : Option (List ℕ)
 
-abbrev pub outside : Option (List ℕ) → Notes → Option (List Datagram) → Option (List Receive) → Option (List ℕ) → Outside
-outside taken notes sent gave ticks = record { taken = taken; notes = notes; sent = sent; gave = gave; ticks = ticks }
+abbrev pub outside : Option (List ℕ) → Notes → Option (List Act) → Option (List Datagram) → Option (List Receive) → Option (List ℕ) → Outside
+outside taken notes acts sent gave ticks = record { taken = taken; notes = notes; acts = acts; sent = sent; gave = gave; ticks = ticks }
 
 -- a run, of the bytes of a script, what the services answer, the ticks of the clock, and what each receive gives
 abbrev pub Whole : Type 0
@@ -58,14 +62,15 @@ module _ (whole : Whole) (told : Notes → Report → List ℕ) (kept : Notes �
     (may_tell : List PlainEntry → Type 0) where
   -- The run of these bytes came to this end. There are answers, ticks and receives of which it is the run: the answers are those that
   -- its `run` lines show, which the boxes allow; the ticks and receives are those that were given, where that is told, and it leaves no receive.
-  -- All of it was told, and nothing was strange.
+  -- All of it was told, and nothing was strange; the net did what comes and goes by it, in order.
   pub record IsServed (bytes : List ℕ) (old new : Outside) (end : End) : Type 0 where
     pub answers : List Answer
     pub ticks : List ℕ
     pub gave : List Receive
     pub ended : (whole bytes answers ticks gave).end ≡ Some end
     pub used : (whole bytes answers ticks gave).left ≡ []
-    pub told_all : AreTold told kept strange old.taken old.notes new.taken new.notes (whole bytes answers ticks gave).reports
+    pub told_all : AreDone told kept strange old.taken old.notes new.taken new.notes old.acts new.acts (Hears most_received) (Hears most_received)
+        (whole bytes answers ticks gave).reports
     pub took : new.sent ≡ listed old.sent (whole bytes answers ticks gave).sent
     pub given : new.gave ≡ listed old.gave gave
     pub received : AreReceived gave
@@ -103,7 +108,8 @@ module _ (whole : Whole) (told : Notes → Report → List ℕ) (kept : Notes �
 
   -- The run stopped at a datagram that is strange, which was told. Of each run that begins so the net took the datagrams up to it.
   pub record IsStranger (bytes : List ℕ) (left : Option (List ℕ)) (old new : Outside) : Type 0 where
-    pub part : IsPart bytes left old new (AreStrange told kept strange old.taken old.notes new.taken) (Listed old.sent new.sent)
+    pub part : IsPart bytes left old new (AreHalted told kept strange old.taken old.notes new.taken old.acts new.acts (Hears most_received))
+        (Listed old.sent new.sent)
     pub took : (run : Run) → BeginsRun run part.reports part.sent → new.sent ≡ listed old.sent (sent_by kept strange old.notes run)
 
   -- how it stopped: at a line, after its last loop turn, at a datagram that is strange, or in its midst
@@ -113,9 +119,28 @@ module _ (whole : Whole) (told : Notes → Report → List ℕ) (kept : Notes �
   IsStopped bytes left old new (Host line) = IsServed bytes old new (RefusedAt line (ByWorld NoSuchHost))
   IsStopped bytes left old new (Stalled turns now) = IsServed bytes old new (StalledAt turns now)
   IsStopped bytes left old new (Seen Stranger) = IsStranger bytes left old new
-  IsStopped bytes left old new stop = IsPart bytes left old new (AreFront told kept strange old.taken old.notes new.taken) (ListedFront old.sent new.sent)
+  IsStopped bytes left old new (Seen NoRoom) = ⊥
+  IsStopped bytes left old new stop =
+      IsPart bytes left old new (AreBroken told kept strange old.taken old.notes new.taken old.acts new.acts (Hears most_received))
+      (ListedFront old.sent new.sent)
 
   -- what was served
   abbrev pub IsAnswered : List ℕ → Option (List ℕ) → Outside → Outside → Result ℕ NodeStop → Type 0
   IsAnswered bytes left old new (Ok n) = IsServed bytes old new (Ended n) × (left ≡ Some [])
   IsAnswered bytes left old new (Err stop) = IsStopped bytes left old new stop
+
+  -- it broke off: reading or the net failed, or there is no memory
+  abbrev pub IsBrokenOff : Result ℕ NodeStop → Type 0
+  IsBrokenOff (Err Read) = Unit {0}
+  IsBrokenOff (Err Net) = Unit {0}
+  IsBrokenOff (Err NoMemory) = Unit {0}
+  IsBrokenOff answer = ⊥
+
+  -- The net first binds and routes the hosts that the script names, in order, and then does what comes and goes in the run. Where it hasn't bound
+  -- and routed all of them the run broke off before anything was told.
+  pub record HasServed (bytes : List ℕ) (left : Option (List ℕ)) (old new : Outside) (answer : Result ℕ NodeStop) : Type 0 where
+    pub first : List Act
+    pub rest : List Act
+    pub connected : opened_acts (opening most_bytes bytes) ≡ first ++ rest
+    pub all_first : (rest ≡ []) ⊎ (IsBrokenOff answer × (new.taken ≡ old.taken))
+    pub answered : IsAnswered bytes left (record old { acts = listed old.acts first }) new answer

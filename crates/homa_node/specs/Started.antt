@@ -5,11 +5,12 @@ use Rattle.homa_plain.specs.declared.fault.LineFault.TheVariants.{Script as ByWo
 use Rattle.homa_plain.specs.declared.fault.WorldFault.TheVariants.{NoSuchHost, Start as CantStart}
 use Rattle.homa_plain.specs.Entries.{PlainEntry}
 use Rattle.homa_plain.specs.World.{World}
-use Rattle.node_io.specs.declared.observer.SeenFault.TheVariants.{Stranger}
+use Rattle.node_io.specs.declared.observer.SeenFault.TheVariants.{Stranger, NoMemory as NoRoom}
 use Rattle.node_runs.specs.Script.{TimedCall, Calls}
 use Rattle.node_runs.specs.Course.{Report, Datagram, Receive, End, Stops, RefusedAt}
+use Rattle.node_runs.specs.Acts.{Act}
 use Rattle.node_runs.specs.Recorder.{Notes}
-use Rattle.node_turns.specs.Told.{ListedFront, AreTold, AreFront}
+use Rattle.node_turns.specs.Told.{ListedFront, Hears, AreDone, AreBroken}
 use Rattle.node_turns.specs.Acting.{Part, HasActed, IsCut}
 use Rattle.node_turns.specs.declared.stop.NodeStop.{NodeStop}
 use Rattle.node_turns.specs.declared.stop.NodeStop.TheVariants.{Script, Start, Host, Seen, Stalled}
@@ -47,12 +48,17 @@ module _ (s : Settings) (stands : World → Type 0) (before : List PlainEntry �
 
   module _ (told : Notes → Report → List ℕ) (kept : Notes → Report → Notes) (strange : Notes → Report → Bool) (next : World → Type 0)
       (after : List PlainEntry → Type 0)
-      (taken0 : Option (List ℕ)) (notes0 : Notes) (taken1 : Option (List ℕ)) (notes1 : Notes) where
+      (taken0 : Option (List ℕ)) (notes0 : Notes) (taken1 : Option (List ℕ)) (notes1 : Notes) (acts0 acts1 : Option (List Act)) where
     -- why no further call is started: a line is refused, a call can't start, or something failed; nothing is strange
     abbrev pub HasStopped : NodeStop → Type 0
-    HasStopped (Script line fault) = HasStarted next after (AreTold told kept strange taken0 notes0 taken1 notes1) (λ more. refused_at line (ByWords fault))
-    HasStopped (Host line) = HasStarted next after (AreTold told kept strange taken0 notes0 taken1 notes1) (λ more. refused_at line (ByWorld NoSuchHost))
-    HasStopped (Start line fault) = HasEnded (AreTold told kept strange taken0 notes0 taken1 notes1) (RefusedAt line (ByWorld (CantStart fault)))
+    HasStopped (Script line fault) =
+        HasStarted next after (AreDone told kept strange taken0 notes0 taken1 notes1 acts0 acts1 (Hears 64) (Hears 64))
+        (λ more. refused_at line (ByWords fault))
+    HasStopped (Host line) = HasStarted next after (AreDone told kept strange taken0 notes0 taken1 notes1 acts0 acts1 (Hears 64) (Hears 64))
+        (λ more. refused_at line (ByWorld NoSuchHost))
+    HasStopped (Start line fault) =
+        HasEnded (AreDone told kept strange taken0 notes0 taken1 notes1 acts0 acts1 (Hears 64) (Hears 64)) (RefusedAt line (ByWorld (CantStart fault)))
     HasStopped (Stalled turns now) = ⊥
     HasStopped (Seen Stranger) = ⊥
-    HasStopped stop = HasCut (AreFront told kept strange taken0 notes0 taken1)
+    HasStopped (Seen NoRoom) = ⊥
+    HasStopped stop = HasCut (AreBroken told kept strange taken0 notes0 taken1 acts0 acts1 (Hears 64))

@@ -3,7 +3,7 @@ ghost use Rattle.std.specs.Prelude.{◌≡◌, ◌≤◌, ◌<◌, ℕ, List, So
 ghost use Rattle.node_turns.specs.Faults.{counts, AreFaults};
 ghost use Rattle.node_script.specs.Heads.{setup_seen};
 ghost use Rattle.homa_node.specs.Coming.{HasLooked, IsLooked, IsOpenAt, IsIdle, HasRoom, IsLookStop, lines_ahead, look_stop};
-ghost use Rattle.homa_node.specs.declared.ahead.Ahead.TheVariants.{Unread, Call};
+ghost use Rattle.homa_node.specs.declared.ahead.NextCall.TheVariants.{Unread, Call};
 
 use homa_io::Source;
 use homa_plain::LineFault;
@@ -12,7 +12,7 @@ use node_turns::NodeStop;
 
 /// What is known of the calls that are still to be made.
 #[derive(Clone, Copy)]
-pub enum Ahead {
+pub enum NextCall {
     /// The next line isn't read.
     Unread,
     /// This call is next.
@@ -36,7 +36,7 @@ fn stop_at(line: u64, stop: CallStop) -> NodeStop
 pub fn look<S: Source>(
     reader: &mut Reader,
     setup: &Setup,
-    ahead: &mut Ahead,
+    ahead: &mut NextCall,
     source: &mut S,
 ) -> Result<(), NodeStop>
     requires counted { IsOpenAt setup.now ahead.old reader.old }
@@ -55,16 +55,16 @@ pub fn look<S: Source>(
     ensures faults { AreFaults (counts (S.faults source.old) 0 0) (counts (S.faults source.new) 0 0) result }
     ensures same { S.is_same source.old source.new }
 {
-    let Ahead::Unread = *ahead else {
+    let NextCall::Unread = *ahead else {
         return Ok(());
     };
     match reader.next_call(setup, source) {
         Ok(Some(call)) => {
-            *ahead = Ahead::Call(call);
+            *ahead = NextCall::Call(call);
             Ok(())
         }
         Ok(None) => {
-            *ahead = Ahead::Ended;
+            *ahead = NextCall::Ended;
             Ok(())
         }
         Err(stop) => Err(stop_at(reader.line(), stop)),
@@ -72,7 +72,7 @@ pub fn look<S: Source>(
 }
 
 /// The next call, if its tick has come. Then the next line isn't read.
-pub fn take_due(ahead: &mut Ahead, now: u64) -> Option<TimedCall>
+pub fn take_due(ahead: &mut NextCall, now: u64) -> Option<TimedCall>
     requires { IsLooked ahead.old }
     ensures some { IfSome result (λ c. ahead.old ≡ Call c) }
     ensures due { IfSome result (λ c. c.tick ≤ now) }
@@ -80,12 +80,12 @@ pub fn take_due(ahead: &mut Ahead, now: u64) -> Option<TimedCall>
     ensures none { IfNone result (ahead.new ≡ ahead.old) }
     ensures idle { IfNone result (IsIdle ahead.new now) }
 {
-    let Ahead::Call(call) = *ahead else {
+    let NextCall::Call(call) = *ahead else {
         return None;
     };
     if now < call.tick {
         return None;
     }
-    *ahead = Ahead::Unread;
+    *ahead = NextCall::Unread;
     Some(call)
 }

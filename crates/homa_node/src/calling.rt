@@ -5,7 +5,7 @@ ghost use Rattle.homa_plain.specs.declared.fault.WorldFault.TheVariants.{Start a
 ghost use Rattle.homa_plain.specs.World.{World};
 ghost use Rattle.node_runs.specs.Course.{RefusedAt};
 ghost use Rattle.node_runs.specs.Script.{Calls};
-ghost use Rattle.node_turns.specs.Told.{ListedFront, AreTold, AreFront};
+ghost use Rattle.node_turns.specs.Told.{ListedFront, Hears, AreDone, AreBroken};
 ghost use Rattle.node_turns.specs.Faults.{counts, AreFaults};
 ghost use Rattle.node_turns.specs.Acting.{HasActed, IsCut};
 ghost use Rattle.node_script.specs.Heads.{IsSound, setup_seen};
@@ -13,15 +13,15 @@ ghost use Rattle.homa_node.specs.Starting.{starting, called, OnStart, OnCut, IsC
 ghost use Rattle.homa_node.specs.Coming.{calls_ahead, IsOpenAt, IsIdle, IsAllRead, HasRoom};
 ghost use Rattle.homa_node.specs.Started.{stopping, HasStarted, HasStopped};
 
-use crate::{Ahead, look, take_due};
+use crate::{NextCall, look, take_due};
 use homa_io::Source;
 use node_io::{Net, Observer};
 use node_script::{Reader, Setup, TimedCall};
-use node_turns::{Hosting, NodeStop, send_frames, tell_entries};
+use node_turns::{LoopHosts, NodeStop, send_frames, tell_entries};
 use std::alloc::Global;
 
 /// A call whose tick has come is started.
-pub fn start_call<H: Hosting, N: Net, O: Observer>(
+pub fn start_call<H: LoopHosts, N: Net, O: Observer>(
     alloc: Global,
     hosts: &mut H,
     call: &TimedCall,
@@ -35,17 +35,19 @@ pub fn start_call<H: Hosting, N: Net, O: Observer>(
     ensures acted { OnOk result ((w : World) → H.stands hosts.old w → call.now.tick ≤ w.clock → (held : Calls)
         → HasActed (starting (H.settings hosts.old) held (called call.now request.now ∷ [])) (starting (H.settings hosts.old) held [])
         (H.settings hosts.old) w (H.stands hosts.new) (H.allows hosts.old) (H.allows hosts.new)
-        (AreTold O.told O.kept O.strange (O.taken observer.old) (O.notes observer.old) (O.taken observer.new) (O.notes observer.new)) (N.sent net.old)
+        (AreDone O.told O.kept O.strange (O.taken observer.old) (O.notes observer.old) (O.taken observer.new) (O.notes observer.new)
+        (N.acts net.old) (N.acts net.new) (Hears 64) (Hears 64)) (N.sent net.old)
         (N.sent net.new) (N.gave net.old) (N.gave net.new)) }
     ensures cut { OnCut result ((w : World) → H.stands hosts.old w → call.now.tick ≤ w.clock → (held : Calls)
         → IsCut (starting (H.settings hosts.old) held (called call.now request.now ∷ [])) (H.settings hosts.old) w (H.allows hosts.old)
-        (AreFront O.told O.kept O.strange (O.taken observer.old) (O.notes observer.old) (O.taken observer.new))
+        (AreBroken O.told O.kept O.strange (O.taken observer.old) (O.notes observer.old) (O.taken observer.new) (N.acts net.old) (N.acts net.new) (Hears 64))
         (ListedFront (N.sent net.old) (N.sent net.new)) (N.gave net.old) (N.gave net.new)) }
     ensures refused { OnStart result
         (λ line fault. (w : World) → H.stands hosts.old w → call.now.tick ≤ w.clock → (held : Calls)
         → HasActed (starting (H.settings hosts.old) held (called call.now request.now ∷ [])) (stopping held (RefusedAt line (ByWorld (CantStart fault))))
         (H.settings hosts.old) w (λ v. Unit {0}) (H.allows hosts.old) (λ told. told ≡ [])
-        (AreTold O.told O.kept O.strange (O.taken observer.old) (O.notes observer.old) (O.taken observer.new) (O.notes observer.new)) (N.sent net.old)
+        (AreDone O.told O.kept O.strange (O.taken observer.old) (O.notes observer.old) (O.taken observer.new) (O.notes observer.new)
+        (N.acts net.old) (N.acts net.new) (Hears 64) (Hears 64)) (N.sent net.old)
         (N.sent net.new) (N.gave net.old) (N.gave net.new)) }
     ensures stops { IfErr result IsCallStop }
     ensures settings { H.settings hosts.new ≡ H.settings hosts.old }
@@ -68,11 +70,11 @@ pub fn start_call<H: Hosting, N: Net, O: Observer>(
 }
 
 /// The calls whose tick has come are started, in order. A line is read only where each call before it was started.
-pub fn starts<H: Hosting, S: Source, N: Net, O: Observer>(
+pub fn starts<H: LoopHosts, S: Source, N: Net, O: Observer>(
     alloc: Global,
     reader: &mut Reader,
     setup: &Setup,
-    ahead: &mut Ahead,
+    ahead: &mut NextCall,
     hosts: &mut H,
     source: &mut S,
     net: &mut N,
@@ -88,7 +90,8 @@ pub fn starts<H: Hosting, S: Source, N: Net, O: Observer>(
     ensures started { OnOk result (HasStarted (H.settings hosts.old) (H.stands hosts.old) (H.allows hosts.old) (N.sent net.old) (N.sent net.new)
         (N.gave net.old) (N.gave net.new) (S.left source.old) (S.left source.new) (calls_ahead (setup_seen setup.now) ahead.old reader.old)
         (H.stands hosts.new) (H.allows hosts.new)
-        (AreTold O.told O.kept O.strange (O.taken observer.old) (O.notes observer.old) (O.taken observer.new) (O.notes observer.new))
+        (AreDone O.told O.kept O.strange (O.taken observer.old) (O.notes observer.old) (O.taken observer.new) (O.notes observer.new)
+        (N.acts net.old) (N.acts net.new) (Hears 64) (Hears 64))
         (calls_ahead (setup_seen setup.now) ahead.new reader.new)) }
     ensures idle { OnOk result (IsIdle ahead.new (H.clock hosts.new)) }
     ensures waits { OnOk result ((w : World) → H.stands hosts.new w → IsIdle ahead.new w.clock) }
@@ -98,7 +101,7 @@ pub fn starts<H: Hosting, S: Source, N: Net, O: Observer>(
     ensures stopped { IfErr result (HasStopped (H.settings hosts.old) (H.stands hosts.old) (H.allows hosts.old) (N.sent net.old) (N.sent net.new)
         (N.gave net.old) (N.gave net.new) (S.left source.old) (S.left source.new) (calls_ahead (setup_seen setup.now) ahead.old reader.old)
         O.told O.kept O.strange (H.stands hosts.new) (H.allows hosts.new) (O.taken observer.old) (O.notes observer.old) (O.taken observer.new)
-        (O.notes observer.new)) }
+        (O.notes observer.new) (N.acts net.old) (N.acts net.new)) }
 
     ensures counted { OnOk result (IsOpenAt setup.now ahead.new reader.new) }
     ensures limit { reader.new.place.limit ≡ reader.old.place.limit }

@@ -12,13 +12,14 @@ mod calling;
 mod opening;
 mod opens;
 mod places;
+mod printer;
 mod serving;
 
-pub use ahead::{Ahead, look, take_due};
+pub use ahead::{NextCall, look, take_due};
 pub use calling::{start_call, starts};
-pub use node_io::Printer;
 pub use node_turns::NodeStop;
 pub use opening::{MOST_BYTES, Node, open_node, read_setup};
-pub use opens::OpensIn;
+pub use opens::OpenHosts;
 pub use places::{connect, first_incs, locals};
+pub use printer::Printer;
 pub use serving::serve;

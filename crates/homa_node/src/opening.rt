@@ -1,17 +1,21 @@
 // A node is opened: its script is read up to `go`, the net learns where the hosts are, and the settings are told.
-ghost use Rattle.std.specs.Prelude.{◌≡◌, ◌^◌, ℕ, Option, List, Some, false, nat_lt, length, IfOk, IfErr};
+ghost use Rattle.std.specs.Prelude.{◌≡◌, ◌^◌, ℕ, Option, List, Some, Err, false, nat_lt, length, IfOk, IfErr};
 ghost use Rattle.homa_plain.specs.declared.id.HostId.{HostId as Host};
 ghost use Rattle.node_runs.specs.Course.{locals as local_hosts, loop_turns, node_run};
+ghost use Rattle.node_runs.specs.Acts.{connects, opened_acts};
+ghost use Rattle.node_runs.specs.Script.{opening};
+ghost use Rattle.homa_plain.specs.Script.{most_bytes};
+ghost use Rattle.node_turns.specs.Told.{listed};
 ghost use Rattle.node_turns.specs.Acting.{OnStrange};
 ghost use Rattle.node_turns.specs.Faults.{counts, AreFaults};
 ghost use Rattle.script_lines.specs.Place.{first_place, IsCounted};
 ghost use Rattle.node_script.specs.Heads.{IsSound, setup_seen};
 ghost use Rattle.node_script.specs.Calls.{calls_left};
-ghost use Rattle.homa_node.specs.Served.{outside, IsStopped};
-ghost use Rattle.homa_node.specs.Far.{IsAt};
+ghost use Rattle.homa_node.specs.Served.{outside, HasServed};
+ghost use Rattle.homa_node.specs.Progress.{IsAt};
 ghost use Rattle.homa_node.specs.Opened.{HasOpened, opening_stop};
 
-use crate::OpensIn;
+use crate::OpenHosts;
 use crate::places::{connect, first_incs, locals};
 use homa_io::Source;
 use homa_plain::{Entry, HostId};
@@ -67,7 +71,7 @@ pub fn read_setup<S: Source>(
 }
 
 /// Opens a node.
-pub fn open_node<B: Drop, H: OpensIn<B> + Drop, S: Source, N: Net, O: Observer>(
+pub fn open_node<B: Drop, H: OpenHosts<B> + Drop, S: Source, N: Net, O: Observer>(
     alloc: Global,
     source: &mut S,
     net: &mut N,
@@ -80,14 +84,17 @@ pub fn open_node<B: Drop, H: OpensIn<B> + Drop, S: Source, N: Net, O: Observer>(
     // The run goes on with its first loop turn, or has stopped.
     ensures opened { IfOk result (λ node. (bytes : List ℕ) (ticks : Option (List ℕ)) → S.left source.old ≡ Some bytes
         → IsAt node_run O.told O.kept O.strange (H.are_allowed boxes) bytes (S.left source.new)
-        (outside (O.taken observer.old) (O.notes observer.old) (N.sent net.old) (N.gave net.old) ticks)
-        (outside (O.taken observer.new) (O.notes observer.new) (N.sent net.new) (N.gave net.new) ticks)
+        (outside (O.taken observer.old) (O.notes observer.old) (listed (N.acts net.old) (connects (setup_seen node.setup).places))
+        (N.sent net.old) (N.gave net.old) ticks)
+        (outside (O.taken observer.new) (O.notes observer.new) (N.acts net.new) (N.sent net.new) (N.gave net.new) ticks)
         (setup_seen node.setup) (H.stands node.hosts) (H.allows node.hosts) 0 (calls_left (setup_seen node.setup) node.reader.least node.reader.place)
         (loop_turns (setup_seen node.setup) 1)) }
     ensures stopped { IfErr result (λ stop. (bytes : List ℕ) (ticks : Option (List ℕ)) → S.left source.old ≡ Some bytes
-        → IsStopped node_run O.told O.kept O.strange (H.are_allowed boxes) bytes (S.left source.new)
-        (outside (O.taken observer.old) (O.notes observer.old) (N.sent net.old) (N.gave net.old) ticks)
-        (outside (O.taken observer.new) (O.notes observer.new) (N.sent net.new) (N.gave net.new) ticks) stop) }
+        → HasServed node_run O.told O.kept O.strange (H.are_allowed boxes) bytes (S.left source.new)
+        (outside (O.taken observer.old) (O.notes observer.old) (N.acts net.old) (N.sent net.old) (N.gave net.old) ticks)
+        (outside (O.taken observer.new) (O.notes observer.new) (N.acts net.new) (N.sent net.new) (N.gave net.new) ticks) (Err stop)) }
+    ensures opens { IfOk result (λ node. (bytes : List ℕ) → S.left source.old ≡ Some bytes
+        → opened_acts (opening most_bytes bytes) ≡ connects (setup_seen node.setup).places) }
 
     ensures never_strange { OnStrange result ⊥ }
     ensures sound { IfOk result (λ node. IsSound node.setup) }

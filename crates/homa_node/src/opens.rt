@@ -7,11 +7,11 @@ ghost use Rattle.homa_plain.specs.Answers.{shown};
 ghost use Rattle.homa_node.specs.Served.{IsFirstIn};
 
 use homa_plain::Settings;
-use node_turns::Hosting;
+use node_turns::LoopHosts;
 use std::alloc::{AllocError, Global};
 
 /// Hosts that are opened with boxes `B`, in which services answer.
-pub trait OpensIn<B>: Hosting {
+pub trait OpenHosts<B>: LoopHosts {
     /// There are enough of them, and none has answered yet.
     ghost are_ready: { B → Type 0 };
 

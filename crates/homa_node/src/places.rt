@@ -4,6 +4,8 @@ ghost use Rattle.std.specs.List.{All, AllByRecursion};
 ghost use Rattle.homa_io.specs.Outside.{HasRisen};
 ghost use Rattle.homa_plain.specs.declared.id.HostId.{HostId as Host};
 ghost use Rattle.node_runs.specs.Course.{first_inc, locals_from};
+ghost use Rattle.node_runs.specs.Acts.{connects};
+ghost use Rattle.node_turns.specs.Told.{listed, ListedFront};
 ghost use Rattle.node_script.specs.Setup.{place_seen};
 ghost use Rattle.node_script.specs.Heads.{IsPlaced};
 
@@ -17,6 +19,8 @@ pub fn connect<N: Net>(net: &mut N, places: &[Place]) -> Result<(), NetFailed>
     requires few { length places.now ≤ 32 }
     requires none_known { (h : Host) → N.known net.old h ≡ false }
     ensures known { OnOk result ((h : Host) → N.known net.new h ≡ nat_lt h.0 (length places.now)) }
+    ensures acts { OnOk result (N.acts net.new ≡ listed (N.acts net.old) (connects (map place_seen places.now))) }
+    ensures err_acts { OnErr result (ListedFront (N.acts net.old) (N.acts net.new) (connects (map place_seen places.now))) }
     ensures sent { N.sent net.new ≡ N.sent net.old }
     ensures gave { N.gave net.new ≡ N.gave net.old }
     ensures risen { OnErr result (HasRisen (N.faults net.old) (N.faults net.new)) }

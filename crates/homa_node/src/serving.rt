@@ -5,17 +5,17 @@ ghost use Rattle.node_runs.specs.Course.{node_run};
 ghost use Rattle.node_turns.specs.Told.{SomeStrange};
 ghost use Rattle.node_turns.specs.Acting.{OnStrange};
 ghost use Rattle.node_turns.specs.Faults.{counts, AreFaults};
-ghost use Rattle.homa_node.specs.Served.{outside, IsAnswered};
+ghost use Rattle.homa_node.specs.Served.{outside, HasServed};
 
 use crate::opening::{Node, open_node};
-use crate::{Ahead, OpensIn, starts};
+use crate::{NextCall, OpenHosts, starts};
 use homa_io::Source;
 use node_io::{Clock, Net, Observer};
 use node_turns::{NodeStop, clock_stands, hosts_act};
 use std::alloc::Global;
 
 /// Runs a node by its script, and answers how many loop turns it took. The input was then read to its end.
-pub fn serve<B: Drop, H: OpensIn<B> + Drop, S: Source, N: Net, C: Clock, O: Observer>(
+pub fn serve<B: Drop, H: OpenHosts<B> + Drop, S: Source, N: Net, C: Clock, O: Observer>(
     alloc: Global,
     source: &mut S,
     net: &mut N,
@@ -26,11 +26,12 @@ pub fn serve<B: Drop, H: OpensIn<B> + Drop, S: Source, N: Net, C: Clock, O: Obse
     requires ready { H.are_ready boxes }
     requires none_known { (h : Host) → N.known net.old h ≡ false }
 
-    // What was told, sent, read and received is that of the run of the script, up to its end or up to the stop.
+    // The net is told where the hosts are, before anything else; and what was told, sent, read and received is that of the run of the script, in
+    // order, up to its end or up to the stop.
     ensures answered { (bytes : List ℕ) → S.left source.old ≡ Some bytes
-        → IsAnswered node_run O.told O.kept O.strange (H.are_allowed boxes) bytes (S.left source.new)
-        (outside (O.taken observer.old) (O.notes observer.old) (N.sent net.old) (N.gave net.old) (C.ticks clock.old))
-        (outside (O.taken observer.new) (O.notes observer.new) (N.sent net.new) (N.gave net.new) (C.ticks clock.new)) result }
+        → HasServed node_run O.told O.kept O.strange (H.are_allowed boxes) bytes (S.left source.new)
+        (outside (O.taken observer.old) (O.notes observer.old) (N.acts net.old) (N.sent net.old) (N.gave net.old) (C.ticks clock.old))
+        (outside (O.taken observer.new) (O.notes observer.new) (N.acts net.new) (N.sent net.new) (N.gave net.new) (C.ticks clock.new)) result }
 
     // A report is strange only to an observer that finds some report strange: never to a printer.
     ensures some_strange { OnStrange result (SomeStrange O.strange) }
@@ -48,7 +49,7 @@ pub fn serve<B: Drop, H: OpensIn<B> + Drop, S: Source, N: Net, C: Clock, O: Obse
         mut hosts,
         locals,
     } = node;
-    let mut ahead = Ahead::Unread;
+    let mut ahead = NextCall::Unread;
     let mut now = 0;
     for done in 0..setup.turns {
         let n = done + 1;

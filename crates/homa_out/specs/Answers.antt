@@ -1,9 +1,9 @@
--- The answer to a RESEND as the code gives it.
+-- What the code returns for a RESEND.
 use Rattle.homa_plain.specs.Outgoing.{Answer, Busy, Queued}
 use Rattle.homa_out.specs.declared.Resent.{Resent}
 use Rattle.homa_out.specs.declared.Resent.TheVariants.{Queued as ToldQueued, Busy as ToldBusy}
 
--- each answer under its name
+-- the code's answer has the name of the definition's
 abbrev pub answered : Answer → Resent
 answered Busy = ToldBusy
 answered Queued = ToldQueued

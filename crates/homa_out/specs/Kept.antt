@@ -2,7 +2,7 @@
 use Rattle.std.specs.Prelude.{◌≤◌}
 use Rattle.homa_plain.specs.Outgoing.{Outgoing, IsSound}
 
--- it is sound, it isn't too long for a set of its bytes, and something of it needs no grant
+-- the message is sound, it isn't too long for a set of its bytes, and some of it needs no grant
 pub record IsKept (p : Outgoing) : Type 0 where
   pub sound : IsSound p
   pub small : p.length ≤ 1000000

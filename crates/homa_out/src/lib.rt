@@ -156,7 +156,7 @@ impl Outgoing {
         self.prio
     }
 
-    /// Whether bytes wait.
+    /// Whether bytes wait to be sent, now or again.
     pub fn waiting(&self) -> bool
         ensures { result ≡ has_waiting self.now }
     {

@@ -7,7 +7,7 @@ use Rattle.plain_sets.proofs.OrderSame.{ordered-sorted}
 use Rattle.homa_plain.specs.Choice.{least}
 use Rattle.place_heap.specs.Order as heap
 use Rattle.place_heap.specs.Order.{Item}
-use Rattle.place_books.proofs.Books.{keys-differ}
+use Rattle.host_heap.proofs.Books.{keys-differ}
 use Rattle.homa_pacer.specs.Pace.{ready_key, ready_of}
 
 -- the slot of the first item is that of the least message

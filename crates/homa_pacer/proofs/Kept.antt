@@ -7,7 +7,7 @@ use Rattle.plain_sets.proofs.OrderSame.{filter-all}
 use Rattle.place_heap.specs.Order as heap
 use Rattle.place_heap.specs.Order.{Item}
 use Rattle.place_heap.specs.Held.{Held, list_of}
-use Rattle.place_books.proofs.Books.{without-things, entered-things, filter-in_order, others-left, free-others, filter-differ, placed-differ}
+use Rattle.host_heap.proofs.Books.{without-things, entered-things, filter-in_order, others-left, free-others, filter-differ, placed-differ}
 use Rattle.homa_pacer.specs.Pace.{Ready, ready_key, ready_of, item_of, Pace, pace_by, without, IsOwnOrder, IsSound}
 
 -- the messages after one is idle

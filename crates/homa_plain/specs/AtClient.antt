@@ -15,11 +15,12 @@ use Rattle.homa_plain.specs.Rows.{ClientRow}
 use Rattle.homa_plain.specs.Host.{pages_for}
 use Rattle.homa_plain.specs.Rules.{Moment, Piece, Say, Tells, Posts, Did, leaves, keeps, says, opening, version_of}
 
--- a later life of the server sends: what an earlier one sent of the response is dropped
+-- drops what an earlier incarnation of the server sent of the response, if the packet is of a later one
+-- A rule of this project: the paper's servers don't restart under a live call.
 abbrev pub renewed : ℕ → ClientRow → ClientRow
 renewed inc r = if nat_lt r.seen inc then record r { seen = inc; part = None } else r
 
--- the server is heard of, but through UNKNOWN; NEED_ACK and CUTOFFS leave the timer's base
+-- notes that the server was heard of, except through UNKNOWN; NEED_ACK and CUTOFFS leave the timer's base
 abbrev pub refreshed : ℕ → Body → ClientRow → ClientRow
 refreshed now (body.Unknown reason) r = r
 refreshed now body.NeedAck r = record r { heard = now; count = 0 }
@@ -30,21 +31,22 @@ refreshed now body r = record r { heard = now; base = now; count = 0 }
 abbrev pub with_part : ClientRow → Incoming → ClientRow
 with_part r part = record r { part = Some part }
 
--- BUSY, where a RESEND has queued nothing
+-- BUSY, if a RESEND queued nothing
+-- Source: SIGCOMM 2018, "Lost packets" (from memory).
 abbrev pub busy_for : Answer → List Say
 busy_for Busy = Posts body.Busy ∷ []
 busy_for Queued = []
 
 -- ---- pieces of the response
 
--- the response with the piece: where it is whole, the call is done
+-- adds a piece to the response; if the response is whole, the call is done
 abbrev pub piece_added : CallId → ClientRow → Incoming → Did ClientRow → Did ClientRow
 piece_added id r part d =
     if is_whole part
     then record d { row = None; says = Tells (PlainDone id (message part)) ∷ []; finished = true }
     else record d { row = Some (with_part r part) }
 
--- a piece of the response, which may just have been opened; one of another length is not looked at
+-- adds a piece to a response, which may just have been opened; a piece of a message of another length is ignored
 abbrev pub piece_comes : CallId → ClientRow → Incoming → Piece → Did ClientRow → Did ClientRow
 piece_comes id r part piece d =
     if not (part.length == piece.size)
@@ -53,7 +55,8 @@ piece_comes id r part piece d =
     then record d { row = Some (with_part r part); version = version_of piece; says = Tells (PlainGaps id.client id) ∷ [] }
     else piece_added id r (with_bytes part piece.offset piece.payload) (record d { version = version_of piece })
 
--- the first piece opens the response, where there are pages for it
+-- opens the response with its first piece, if there are pages for it
+-- A rule of this project: a response takes its pages at its first piece, or it is refused (`full`).
 abbrev pub response_piece : Settings → Moment → CallId → ClientRow → Option Incoming → Piece → Did ClientRow
 response_piece s m id r None piece =
     if nat_lt m.free (pages_for piece.size)
@@ -67,12 +70,13 @@ response_piece s m id r (Some part) piece = piece_comes id r part piece (keeps m
 abbrev pub request_resent : Moment → ClientRow → Resent → Did ClientRow
 request_resent m r resent = says m (Some (record r { out = resent.part })) (busy_for resent.answer)
 
--- the server has no record of the call: where nothing of the response came, the request starts over
+-- starts the request over if the server has no record of the call and no byte of the response arrived
+-- A rule of this project. In SIGCOMM 2018, "Lost packets" (from memory), such a server asks for the request by RESEND.
 abbrev pub started_over : ClientRow → Option Incoming → ClientRow
 started_over r None = record r { out = restart r.out }
 started_over r (Some part) = r
 
--- a packet of the server's latest life
+-- a packet of the server's latest incarnation
 abbrev pub answered : Settings → Moment → CallId → Body → List ℕ → ClientRow → Did ClientRow
 answered s m id (body.Data size offset version service ack) payload r =
     response_piece s m id r r.part (record { size = size; offset = offset; version = version; service = service; payload = payload })
@@ -85,12 +89,14 @@ answered s m id (body.Unknown reason) payload r =
 answered s m id body.NeedAck payload r = says m (Some r) (Posts body.Busy ∷ [])
 answered s m id (body.Ack more) payload r = keeps m r
 
--- a packet of a call that isn't live: a server that asks whether it is over is told so
+-- answers NEED_ACK with an ACK if the call isn't live; other packets of such a call do nothing
+-- A rule of this project; the packets' names are those of the Linux module.
 abbrev pub unasked : Moment → Body → Did ClientRow
 unasked m body.NeedAck = says m None (Posts (body.Ack []) ∷ [])
 unasked m body = leaves m None
 
--- a packet of role s comes to the client; one of another host, or of an earlier life of the server, does nothing
+-- a packet of a server (role s) arrives at its client;
+-- one of another host, or of an earlier incarnation of the server, does nothing
 unfoldable pub client_gets : Settings → Moment → Packet → Option ClientRow → Did ClientRow
 client_gets s m p None = unasked m p.body
 client_gets s m p (Some r) =

@@ -20,20 +20,22 @@ use Rattle.homa_plain.specs.Rules.{Moment, Answer, Piece, Tells, Posts, Did, lea
 abbrev pub with_state : ServerRow → State → ServerRow
 with_state row state = record row { state = state }
 
--- the response goes out from now on, which takes an order number
+-- the response is sent from now on, which takes an order number
 abbrev pub replying : Settings → ℕ → List ℕ → ServerRow → Did ServerRow → Did ServerRow
 replying s now response row d = record d {
   row = Some (with_state row (Replying response (outgoing.opened (length response) s.unsched) d.order now 0));
   order = d.order + 1;
 }
 
--- the client hears no more of the call from the server but that it ran, up to a tick
+-- keeps of the call only that it ran, up to a tick: the tombstone
+-- A rule of this project, so that no call runs twice; in SIGCOMM 2018, "At-least-once semantics",
+-- some do (from memory).
 abbrev pub buried : Moment → CallId → ℕ → ServerRow → Did ServerRow
 buried m id until row = says m (Some (with_state row (Buried until))) (Tells (PlainBury m.host id until) ∷ [])
 
 -- ---- pieces of the request
 
--- the request is whole: the service runs
+-- the request is whole, and the service runs
 abbrev pub runs : Settings → Moment → CallId → ℕ → List ℕ → Answer → ServerRow → Did ServerRow → Did ServerRow
 runs s m id service request answer row d =
     let told = record d { says = Tells (PlainRun m.host id service request answer.bytes answer.hold) ∷ [] } in
@@ -48,7 +50,8 @@ piece_added s m id service answer row part d =
     then runs s m id service (message part) answer row d
     else record d { row = Some (with_state row (Receiving service part m.now 0)) }
 
--- a piece of the request, which may just have been opened; one of another length or for another service does nothing
+-- adds a piece to a request, which may just have been opened;
+-- a piece of another length, or for another service, does nothing
 abbrev pub piece_comes : Settings → Moment → CallId → ℕ → Incoming → ServerRow → Piece → Answer → Did ServerRow → Did ServerRow
 piece_comes s m id service part row piece answer d =
     if not (part.length == piece.size) || not (service == piece.service)
@@ -57,7 +60,8 @@ piece_comes s m id service part row piece answer d =
     then record d { row = Some (with_state row (Receiving service part m.now 0)); version = version_of piece; says = Tells (PlainGaps m.host id) ∷ [] }
     else piece_added s m id service answer row (with_bytes part piece.offset piece.payload) (record d { version = version_of piece })
 
--- the first piece opens the request, where there are a row and pages for it
+-- opens the request with its first piece, if there are a row and pages for it
+-- A rule of this project: without a row or pages the request is refused (`full`), and its client asks again.
 abbrev pub opens : Settings → Moment → CallId → Piece → Answer → Did ServerRow
 opens s m id piece answer =
     if nat_le s.served m.rows
@@ -74,13 +78,14 @@ opens s m id piece answer =
 abbrev pub piece_of : ℕ → ℕ → ℕ → ℕ → List ℕ → Piece
 piece_of size offset version service payload = record { size = size; offset = offset; version = version; service = service; payload = payload }
 
--- no row
+-- a packet without a row: DATA opens one, RESEND is answered with UNKNOWN 0, and all others do nothing
 abbrev pub unknown_gets : Settings → Moment → CallId → Body → List ℕ → Answer → Did ServerRow
 unknown_gets s m id (body.Data size offset version service ack) payload answer = opens s m id (piece_of size offset version service payload) answer
 unknown_gets s m id (body.Resend from to prio) payload answer = says m None (Posts (body.Unknown 0) ∷ [])
 unknown_gets s m id body payload answer = leaves m None
 
--- the request still arrives: DATA brings a piece, RESEND is answered with BUSY, and BUSY begins the timer anew
+-- the request still arrives: DATA brings a piece, RESEND is answered with BUSY, and BUSY starts the timer anew;
+-- RESEND and BUSY clear the count of tries
 abbrev pub receiving_gets : Settings → Moment → CallId → Body → List ℕ → Answer → ServerRow → ℕ → Incoming → ℕ → Did ServerRow
 receiving_gets s m id (body.Data size offset version service' ack) payload answer row service part base =
     piece_comes s m id service part row (piece_of size offset version service' payload) answer (leaves m None)
@@ -89,45 +94,49 @@ receiving_gets s m id (body.Resend from to prio) payload answer row service part
 receiving_gets s m id body.Busy payload answer row service part base = keeps m (with_state row (Receiving service part m.now 0))
 receiving_gets s m id body payload answer row service part base = keeps m row
 
--- the response is held back: RESEND is answered with BUSY, and nothing else does anything
+-- the response is held back: RESEND is answered with BUSY, and all other packets do nothing
+-- BUSY: SIGCOMM 2018, "Lost packets" (from memory). That a response may be held back is a rule of this project.
 abbrev pub held_gets : Moment → Body → ServerRow → Did ServerRow
 held_gets m (body.Resend from to prio) row = says m (Some row) (Posts body.Busy ∷ [])
 held_gets m body row = keeps m row
 
--- the row whose timer begins anew, with this outgoing part
+-- the row with its timer started anew and this outgoing message
 abbrev pub touched : Moment → ServerRow → List ℕ → Outgoing → ℕ → ServerRow
 touched m row response out order = with_state row (Replying response out order m.now 0)
 
--- a RESEND of bytes of the response: the timer begins anew, and BUSY is sent where nothing was queued
+-- a RESEND of bytes of the response: the timer starts anew, and BUSY is sent if nothing was queued
+-- Source: SIGCOMM 2018, "Lost packets" (from memory).
 abbrev pub response_resent : Moment → ServerRow → List ℕ → ℕ → Resent → Did ServerRow
 response_resent m row response order resent = says m (Some (touched m row response resent.part order)) (busy_for resent.answer)
 
--- the response goes out: GRANT and RESEND are for it, and every packet but ACK begins the timer anew
+-- the response is sent: GRANT and RESEND are for it, and every packet except ACK starts the timer anew
 abbrev pub replying_gets : Moment → Body → ServerRow → List ℕ → Outgoing → ℕ → Did ServerRow
 replying_gets m (body.Grant offset prio) row response out order = keeps m (touched m row response (grant out offset prio) order)
 replying_gets m (body.Resend from to prio) row response out order = response_resent m row response order (resend out from to prio)
 replying_gets m (body.Ack more) row response out order = keeps m row
 replying_gets m body row response out order = keeps m (touched m row response out order)
 
--- the call is buried: DATA and RESEND are answered with UNKNOWN, which says that the call ran
+-- the call is buried: DATA and RESEND are answered with UNKNOWN 1, which says that the call ran
+-- A rule of this project.
 abbrev pub buried_gets : Moment → Body → ServerRow → Did ServerRow
 buried_gets m (body.Data size offset version service ack) row = says m (Some row) (Posts (body.Unknown 1) ∷ [])
 buried_gets m (body.Resend from to prio) row = says m (Some row) (Posts (body.Unknown 1) ∷ [])
 buried_gets m body row = keeps m row
 
--- a packet comes to a row that is in this state
+-- a packet arrives for a row in this state
 abbrev pub row_gets : Settings → Moment → CallId → Body → List ℕ → Answer → ServerRow → State → Did ServerRow
 row_gets s m id body payload answer row (Receiving service part base count) = receiving_gets s m id body payload answer row service part base
 row_gets s m id body payload answer row (Held response release) = held_gets m body row
 row_gets s m id body payload answer row (Replying response out order base count) = replying_gets m body row response out order
 row_gets s m id body payload answer row (Buried until) = buried_gets m body row
 
--- a packet of role c comes to the server, but for the calls that it acknowledges
+-- a packet of a client (role c) arrives at its server, without the calls that it acknowledges
 unfoldable pub server_gets : Settings → Moment → Packet → Answer → Option ServerRow → Did ServerRow
 server_gets s m p answer None = unknown_gets s m p.id p.body p.payload answer
 server_gets s m p answer (Some row) = row_gets s m p.id p.body p.payload answer row row.state
 
--- the client has finished the call: one that ran, and isn't buried yet, is buried for a span
+-- the client has finished the call: if it ran and isn't buried, it is buried for a span
+-- A rule of this project: for a span a late packet of the call may still arrive.
 abbrev pub state_acked : Settings → Moment → CallId → ServerRow → State → Did ServerRow
 state_acked s m id row (Receiving service part base count) = keeps m row
 state_acked s m id row (Held response release) = buried m id (m.now + span s) row

@@ -1,4 +1,4 @@
--- Bytes of a datagram, and readers of them. A reader answers the value that the bytes begin with and the bytes behind it,
+-- Bytes of a datagram, and readers of them. A reader returns the value at the start of the bytes and what follows it,
 -- or None where they begin with no such value.
 use Rattle.std.specs.Prelude.{ℕ, zero, suc, ◌<◌, nat_lt, if◌then◌else◌, Option, None, Some, List, [], ◌∷◌, ◌++◌, length, get_or, take, drop}
 use Rattle.std.specs.Int.{Width, w32, byte_len, to_be_bytes, from_be_bytes}
@@ -34,7 +34,7 @@ two_at bytes = do
   second ← number_at w32 first.1
   Some ((first.0, second.0), second.1)
 
--- so many values, one behind the other
+-- so many values, one after the other
 unfoldable pub times : {A : Type 0} → (List ℕ → Option (A × List ℕ)) → ℕ → List ℕ → Option (List A × List ℕ)
 times one zero bytes = Some ([], bytes)
 times one (suc n) bytes = do

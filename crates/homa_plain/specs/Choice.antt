@@ -27,6 +27,7 @@ abbrev pub choice_key : Message → ℕ × ℕ
 choice_key m = (m.length - m.arrived, m.order)
 
 -- the end that is granted to a chosen message: `window` bytes beyond as many as have arrived, at most its length
+-- Source: SIGCOMM 2018, "Flow control" (from memory).
 abbrev pub new_end : ℕ → Message → ℕ
 new_end window m = min m.length (m.arrived + window)
 
@@ -43,10 +44,13 @@ chosen_by from key k xs = take k (firsts from (ordered key xs))
 -- things of which each stands for an incoming message
 module _ {X : Type 0} (message : X → Message) where
   -- the messages that are granted to: of all in the order of this key, the first k with different senders
+  -- Source: SIGCOMM 2018, "Overcommitment" (from memory). One message for each sender is a rule of this project.
   abbrev pub chosen : ℕ → List X → List X
   chosen k xs = chosen_by (λ x. sender (message x)) (λ x. choice_key (message x)) k xs
 
-  -- the GRANTs to the chosen messages from rank r on, of n: one where the new end exceeds the granted end
+  -- the GRANTs to n chosen messages, of which the first has rank r: one if its new end exceeds its granted end
+  -- Rank r gives priority n - 1 - r, so that the message with the fewest missing bytes has the highest.
+  -- Source: SIGCOMM 2018, "Packet priorities" (from memory).
   abbrev pub grants_from : ℕ → ℕ → ℕ → List X → List (Granted X)
   grants_from window n r [] = []
   grants_from window n r (x ∷ xs) =
@@ -58,7 +62,7 @@ module _ {X : Type 0} (message : X → Message) where
   abbrev pub grants : ℕ → ℕ → List X → List (Granted X)
   grants k window xs = let cs = chosen k xs in grants_from window (length cs) 0 cs
 
--- the thing that comes first by a key; of messages that may be sent the key is how many bytes are left, and then the order
+-- the thing that comes first by a key; for messages to be sent the key is the bytes left, and then the order
 abbrev pub least : {X : Type 0} → (X → ℕ × ℕ) → List X → Option X
 least key xs = first_of (ordered key xs)
 
@@ -71,6 +75,7 @@ abbrev pub most_acts : ℕ
 most_acts = 32
 
 -- the rows that act in a turn: the first 32 that are due; the key of a row is its deadline and its order
+-- A rule of this project: the bound keeps a step short.
 unfoldable pub due : {X : Type 0} → (X → ℕ × ℕ) → ℕ → List X → List X
 due key now xs = first_due key most_acts now xs
 
@@ -85,7 +90,7 @@ pub record HasAhead {X : Type 0} (from : X → ℕ) (key : X → ℕ × ℕ) (cs
   pub sender : from ahead ≡ from x
   pub before : IsBefore key ahead x
 
--- a GRANT is for one of the chosen messages, up to its new end, which exceeds its granted end; its priority is that of its rank
+-- a GRANT is for a chosen message, up to its new end, which exceeds its granted end; its rank gives its priority
 pub record IsGrant {X : Type 0} (message : X → Message) (window : ℕ) (cs : List X) (g : Granted X) : Type 0 where
   pub rank : ℕ
   pub chosen : slice_get cs rank ≡ Some g.to

@@ -22,10 +22,11 @@ level_under k zero upto n = k
 level_under k (suc i) upto n = if nat_le k i && nat_le n (slice_index upto i) then i else level_under k i upto n
 
 -- the level of a message of n bytes, of those from k to 7
+-- Source: SIGCOMM 2018, "Packet priorities" (from memory).
 unfoldable pub level_of : ℕ → Cutoffs → ℕ → ℕ
 level_of k c n = level_under k 8 c.upto n
 
--- how many lengths are remembered
+-- how many lengths are remembered, a rule of this project
 abbrev pub most_lengths : ℕ
 most_lengths = 256
 
@@ -45,7 +46,7 @@ total unsched lengths = sum_by (weight unsched) lengths
 abbrev pub weight_up_to : ℕ → List ℕ → ℕ → ℕ
 weight_up_to unsched lengths b = sum_by (weight unsched) (filter (λ n. nat_le n b) lengths)
 
--- whether the messages of at most b bytes have j + 1 of m parts of the weight of all
+-- whether the messages of at most b bytes have j + 1 of m parts of the weight of all messages
 abbrev pub has_share : ℕ → ℕ → List ℕ → ℕ → ℕ → Bool
 has_share m unsched lengths j b = nat_le ((j + 1) * total unsched lengths) (m * weight_up_to unsched lengths b)
 
@@ -68,7 +69,8 @@ abbrev pub bound_of_level : ℕ → ℕ → List ℕ → ℕ → ℕ
 bound_of_level k unsched lengths i =
     if nat_lt i k then 0 else if i == k then greatest_bound else bound (8 - k) unsched lengths (7 - i)
 
--- the bounds of all levels, by which the levels from k to 7 are to get equal parts of the weight
+-- the bounds of all levels, chosen so that the levels from k to 7 get equal parts of the weight
+-- Source: SIGCOMM 2018, "Packet priorities" (from memory). That the last 256 messages count is a rule of this project.
 unfoldable pub bounds : ℕ → ℕ → List ℕ → List ℕ
 bounds k unsched lengths = map (bound_of_level k unsched lengths) levels
 

@@ -1,5 +1,5 @@
 -- Entries whose bytes are lists: what the definitions of traces and their laws speak of.
-use Rattle.std.specs.Prelude.{ℕ, List}
+use Rattle.std.specs.Prelude.{ℕ, List, Bool, true, false}
 use Rattle.homa_plain.specs.declared.id.CallId.{CallId}
 use Rattle.homa_plain.specs.declared.id.HostId.{HostId}
 use Rattle.homa_plain.specs.declared.packet.Role.{Role}
@@ -7,11 +7,14 @@ use Rattle.homa_plain.specs.declared.packet.Body.{Body}
 use Rattle.homa_plain.specs.declared.packet.Cutoffs.{Cutoffs}
 use Rattle.homa_plain.specs.declared.settings.Settings.{Settings as TheSettings}
 use Rattle.homa_plain.specs.declared.fault.LineFault.{LineFault}
+use Rattle.homa_plain.specs.declared.fault.LineFault.TheVariants.{World}
+use Rattle.homa_plain.specs.declared.fault.WorldFault.{WorldFault}
+use Rattle.homa_plain.specs.declared.fault.WorldFault.TheVariants.{NoMemory}
 use Rattle.homa_plain.specs.declared.entry.Why.{Why}
 use Rattle.homa_plain.specs.declared.entry.Entry.{Entry}
 use Rattle.homa_plain.specs.declared.entry.Entry.TheVariants as entry
 
--- an entry of a trace: the settings, an event, something that comes of it, or the end
+-- an entry of a trace: the settings, an event, something that a step did, or the end
 pub data PlainEntry : Type 0 where
   PlainSettings : (settings : TheSettings) → PlainEntry
   PlainCall : (id : CallId) (server : HostId) (service : ℕ) (bytes : List ℕ) → PlainEntry
@@ -38,7 +41,7 @@ pub data PlainEntry : Type 0 where
   PlainRefused : (line : ℕ) (fault : LineFault) → PlainEntry
   PlainStalled : (turns now : ℕ) → PlainEntry
 
--- an entry of the code, with the bytes that it is lent
+-- an entry of the code, with the bytes that it borrows
 abbrev pub plain : Entry → PlainEntry
 plain (entry.Settings settings) = PlainSettings settings
 plain (entry.Call id server service bytes) = PlainCall id server service bytes.now
@@ -64,3 +67,13 @@ plain (entry.Recv host from bytes) = PlainRecv host from bytes.now
 plain (entry.Finished n) = PlainFinished n
 plain (entry.Refused line fault) = PlainRefused line fault
 plain (entry.Stalled turns now) = PlainStalled turns now
+
+-- out of memory refuses no line; each other cause may
+abbrev pub IsCause : LineFault → Type 0
+IsCause (World NoMemory) = ⊥
+IsCause fault = Unit {0}
+
+-- whether a fault is out of memory
+abbrev pub is_memory : WorldFault → Bool
+is_memory NoMemory = true
+is_memory other = false

@@ -1,4 +1,4 @@
--- What a host holds, and what its rules tell.
+-- What a host holds, and what its rules print and send.
 use Rattle.std.specs.Prelude.{ℕ, suc, ◌+◌, ◌-◌, ◌/◌, ◌%◌, ◌==◌, not, ◌&&◌, Bool, nat_lt, if◌then◌else◌, Option, None, Some, List, [], ◌∷◌, replicate}
 use Rattle.std.specs.Prelude.{slice_index_or, slice_set}
 use Rattle.std.specs.List.{sum_by}
@@ -60,17 +60,18 @@ new_host s id inc last = record {
 abbrev pub peer_cutoffs : Settings → Host → HostId → PeerCutoffs
 peer_cutoffs s h peer = slice_index_or h.peers peer.0 (record { inc = 0; cutoffs = first_cutoffs s.overcommit })
 
--- the calls that are done at a server and of which it wasn't told
+-- the finished calls of a server that the host hasn't acknowledged yet
 abbrev pub finished_at : Host → HostId → List (ℕ × ℕ)
 finished_at h peer = slice_index_or h.finished peer.0 []
 
--- the host with these calls done at a server and still to be told to it
+-- the host with these finished calls of a server, which it hasn't acknowledged yet
 abbrev pub with_finished : HostId → List (ℕ × ℕ) → Host → Host
 with_finished peer calls h = record h { finished = slice_set h.finished peer.0 calls }
 
 -- ---- pages
 
 -- how many pages of 4096 bytes a message takes while it arrives
+-- A rule of this project, as are pages themselves.
 abbrev pub pages_for : ℕ → ℕ
 pages_for n = (n + 4095) / 4096
 
@@ -93,9 +94,9 @@ free_beside s h id =
     - (sum_by (λ (r : ClientRow). part_pages r.part) (values (remove h.clients id))
     + sum_by (λ (r : ServerRow). state_pages r.state) (values (remove h.servers id)))
 
--- ---- what is told
+-- ---- what a step prints and sends
 
--- an entry of the trace, or a packet that is sent
+-- what a step did: an entry of the trace, or a packet that it sent
 pub data Told : Type 0 where
   Says : (entry : PlainEntry) → Told
   Sends : (packet : Packet) → Told
@@ -118,7 +119,8 @@ entries_from n (Sends packet ∷ told) = send_line n packet ∷ entries_from (su
 abbrev pub counted : Tuning → ℕ → Tuning
 counted t n = record t { lengths = noted t.lengths n; opened = t.opened + 1 }
 
--- whether the cutoffs are computed anew: after each `rebalance` messages, while there are versions left
+-- whether the cutoffs are computed anew: after each `rebalance` messages, while versions are left
+-- A rule of this project.
 abbrev pub is_balance_due : Settings → Tuning → Bool
 is_balance_due s t = not (s.rebalance == 0) && t.opened % s.rebalance == 0 && nat_lt t.own.version 65535
 
@@ -126,12 +128,12 @@ is_balance_due s t = not (s.rebalance == 0) && t.opened % s.rebalance == 0 && na
 abbrev pub rebalanced : Settings → Tuning → Tuning
 rebalanced s t = record t { own = balanced s.overcommit s.unsched (t.own.version + 1) t.lengths }
 
--- what a host knows when it has opened a message of n bytes, and what it tells of it
+-- what a host knows after it opened a message of n bytes, and what it prints of that
 pub record Tuned : Type 0 where
   pub tuning : Tuning
   pub told : List Told
 
--- a message of n bytes is opened: where the cutoffs are computed anew, a `balance` line tells them
+-- opens a message of n bytes; if the cutoffs are computed anew, a `balance` line says so
 unfoldable pub tuned : Settings → HostId → Tuning → ℕ → Tuned
 tuned s host t n =
     let u = counted t n in

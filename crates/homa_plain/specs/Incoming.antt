@@ -14,7 +14,8 @@ pub record Incoming : Type 0 where
   pub granted : ℕ  -- the granted end: the sender may send the bytes below this number
   pub bytes : Map nat_cmp ℕ  -- the bytes that have arrived, by their numbers
 
--- a message of n bytes of which nothing has arrived; the first `unsched` bytes need no grant
+-- a message of n bytes of which nothing has arrived; its first `unsched` bytes need no grant
+-- Source: SIGCOMM 2018, "Basic sender behavior" (from memory).
 abbrev pub opened : HostId → ℕ → ℕ → ℕ → Incoming
 opened peer n order unsched = record { peer = peer; length = n; order = order; granted = min n unsched; bytes = empty }
 
@@ -38,7 +39,7 @@ is_missing p q = nat_lt q p.length && not (has (arrived p) q)
 abbrev pub first_gap : Incoming → Option Range
 first_gap p = first_below (missing (arrived p) p.length) p.granted
 
--- the bytes of a list, whose first has number a; where a byte is known already, the known one
+-- the bytes of a list whose first has number a; a byte that is known already keeps its value
 abbrev pub first_known : Map nat_cmp ℕ → ℕ → List ℕ → List ℕ
 first_known known a [] = []
 first_known known a (x ∷ xs) = unwrap_or (get known a) x ∷ first_known known (suc a) xs
@@ -54,6 +55,7 @@ abbrev pub new_bytes : Incoming → ℕ → List ℕ → ℕ
 new_bytes p offset piece = length piece - len (within (arrived p) offset (offset + length piece))
 
 -- whether a piece would leave more than 64 gaps in the message
+-- A rule of this project, so that a message takes a bounded place.
 abbrev pub leaves_too_many_gaps : Incoming → ℕ → List ℕ → Bool
 leaves_too_many_gaps p offset piece = nat_lt 64 (length (missing_ranges (with_bytes p offset piece)))
 
@@ -69,7 +71,8 @@ message p = values p.bytes
 abbrev pub granted_to : Incoming → ℕ → Incoming
 granted_to p offset = record p { granted = offset }
 
--- what holds of each incoming message: the bytes that have arrived and the granted end are within its length, and it has at most 64 gaps
+-- what holds of each incoming message:
+-- the bytes that arrived and the granted end are within its length, and it has at most 64 gaps
 pub record IsSound (p : Incoming) : Type 0 where
   pub below : IsBelow (arrived p) p.length
   pub granted : p.granted ≤ p.length

@@ -2,7 +2,7 @@
 use Rattle.std.specs.Prelude.{ℕ, Bool, true, false, ◌==◌, not, if◌then◌else◌, List, [], ◌∷◌, filter, length}
 use Rattle.std.specs.List.{slice_split}
 
--- a byte in front of the first line
+-- a byte before the first line
 abbrev pub onto_first_line : ℕ → List (List ℕ) → List (List ℕ)
 onto_first_line b [] = (b ∷ []) ∷ []
 onto_first_line b (line ∷ lines) = (b ∷ line) ∷ lines
@@ -17,12 +17,12 @@ abbrev pub without_feed : List ℕ → List ℕ
 without_feed [] = []
 without_feed (b ∷ bytes) = if b == 10 then [] else b ∷ without_feed bytes
 
--- no line feed stands in it
+-- no line feed is in it
 abbrev pub has_no_feed : List ℕ → Bool
 has_no_feed [] = true
 has_no_feed (b ∷ bytes) = if b == 10 then false else has_no_feed bytes
 
--- one line feed stands in it, at its end
+-- one line feed is in it, at its end
 abbrev pub ends_in_feed : List ℕ → Bool
 ends_in_feed [] = false
 ends_in_feed (b ∷ []) = b == 10

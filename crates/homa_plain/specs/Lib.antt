@@ -5,6 +5,7 @@ pub mod Entries
 pub mod Text
 pub mod Script
 pub mod Bytes
+pub mod Kinds
 pub mod Wire
 pub mod Incoming
 pub mod Outgoing
@@ -25,11 +26,4 @@ pub mod World
 pub mod Answers
 pub mod Replay
 pub mod Quiet
-pub mod Lines
-pub mod Parts
-pub mod View
-pub mod Seen
-pub mod Shape
-pub mod Laws
-pub mod Granting
-pub mod Judge
+pub mod Told

@@ -2,7 +2,7 @@
 use Rattle.std.specs.Char.{is_ascii_digit}
 use Rattle.std.specs.Prelude.{ℕ, ◌+◌, ◌-◌, ◌*◌, ◌^◌, ◌==◌, nat_lt, if◌then◌else◌, Option, None, Some, List, [], ◌∷◌}
 
--- the value of digits that stand behind those of n
+-- the value of digits that follow those of n
 abbrev pub digits_value : ℕ → List ℕ → Option ℕ
 digits_value n [] = Some n
 digits_value n (c ∷ cs) = if is_ascii_digit c then digits_value (n * 10 + (c - 48)) cs else None

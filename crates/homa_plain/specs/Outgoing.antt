@@ -14,7 +14,8 @@ pub record Outgoing : Type 0 where
   pub prio : ℕ  -- the priority of its granted bytes
   pub unsched : ℕ  -- how many bytes need no grant
 
--- the bytes that need no grant wait, and nothing else
+-- the bytes that need no grant wait, and no others
+-- Source: SIGCOMM 2018, "Basic sender behavior" (from memory).
 abbrev pub restart : Outgoing → Outgoing
 restart p = let end = min p.length p.unsched in record p { waiting = set_of_range 0 end; granted = end }
 
@@ -22,7 +23,7 @@ restart p = let end = min p.length p.unsched in record p { waiting = set_of_rang
 abbrev pub opened : ℕ → ℕ → Outgoing
 opened n unsched = record { length = n; waiting = set_of_range 0 (min n unsched); granted = min n unsched; top = 0; prio = 0; unsched = unsched }
 
--- how many bytes lie above all that were sent
+-- how many bytes lie above all that were sent; which message goes first depends on it
 abbrev pub left : Outgoing → ℕ
 left p = p.length - p.top
 
@@ -33,7 +34,8 @@ grant_up_to p end prio =
     then record p { waiting = with_range p.waiting p.granted end; granted = end; prio = prio }
     else p
 
--- a grant comes: the bytes from the granted end up to the offset wait too; a grant of no more than before changes nothing
+-- a grant arrives: the bytes from the granted end to the offset wait too; a grant of no more changes nothing
+-- Source: SIGCOMM 2018, "Flow control" (from memory).
 abbrev pub grant : Outgoing → ℕ → ℕ → Outgoing
 grant p offset prio = grant_up_to p (min offset p.length) prio
 
@@ -47,7 +49,8 @@ pub record Resent : Type 0 where
   pub answer : Answer
   pub part : Outgoing
 
--- whether a RESEND of the bytes from a to b - 1 queues nothing: there are none, all of them wait, or more than 63 ranges would wait
+-- whether a RESEND of the bytes from a to b - 1 queues nothing:
+-- there are none, all of them wait, or more than 63 ranges would wait
 abbrev pub is_busy : Outgoing → ℕ → ℕ → Bool
 is_busy p a b = nat_le b a || len (within p.waiting a b) == b - a || nat_lt 63 (length (ranges (with_range p.waiting a b)))
 
@@ -58,7 +61,8 @@ resend_up_to p a b prio =
     then record { answer = Busy; part = p }
     else record { answer = Queued; part = record p { waiting = with_range p.waiting a b; granted = max p.granted b; prio = prio } }
 
--- a RESEND comes for the bytes from a to b - 1, of which only those of the message count
+-- a RESEND of the bytes from a to b - 1 arrives, of which only those of the message count
+-- Source: SIGCOMM 2018, "Lost packets" (from memory). The bound of 63 ranges is a rule of this project.
 abbrev pub resend : Outgoing → ℕ → ℕ → ℕ → Resent
 resend p a b prio = resend_up_to p a (min b p.length) prio
 
@@ -66,7 +70,7 @@ resend p a b prio = resend_up_to p a (min b p.length) prio
 abbrev pub has_waiting : Outgoing → Bool
 has_waiting p = nat_lt 0 (len p.waiting)
 
--- the front of the first of some ranges, at most seg bytes of it
+-- the first part of the first of some ranges, at most seg bytes of it
 abbrev pub front_of : List Range → ℕ → Option Range
 front_of [] seg = None
 front_of (r ∷ rs) seg = Some (range r.from (min r.to (r.from + seg)))
@@ -85,7 +89,7 @@ pub record Next : Type 0 where
   pub range : Option Range
   pub part : Outgoing
 
--- the next bytes are taken to be sent: the lowest ones that wait, at most seg in a row
+-- takes the next bytes to be sent: the lowest ones that wait, at most seg in a row
 abbrev pub next : Outgoing → ℕ → Next
 next p seg = record { range = next_range p seg; part = sent p (next_range p seg) }
 
@@ -108,7 +112,8 @@ abbrev pub changed_by : Outgoing → List Change → Outgoing
 changed_by p [] = p
 changed_by p (c ∷ cs) = changed_by (changed p c) cs
 
--- what holds of each outgoing message: nothing waits from the granted end on, and at most 64 ranges wait, also after any grant
+-- what holds of each outgoing message:
+-- nothing waits from the granted end on, and at most 64 ranges wait, also after any grant
 pub record IsSound (p : Outgoing) : Type 0 where
   pub below : IsBelow p.waiting p.granted
   pub within : p.granted ≤ p.length
@@ -116,7 +121,7 @@ pub record IsSound (p : Outgoing) : Type 0 where
   pub few : length (ranges p.waiting) ≤ 64
   pub room : (end : ℕ) → p.granted < end → length (ranges (with_range p.waiting p.granted end)) ≤ 64
 
--- r is the front of the first waiting range: at most seg bytes, and fewer only where the range ends
+-- r is the first part of the first waiting range: at most seg bytes, and fewer only if the range ends
 pub record IsFront (p : Outgoing) (seg : ℕ) (r : Range) : Type 0 where
   pub some : r.from < r.to
   pub few : r.to ≤ r.from + seg

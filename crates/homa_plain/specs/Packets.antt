@@ -45,7 +45,7 @@ receiver p = receiver_of p.role p.id p.server
 abbrev pub calls_of : HostId → List (ℕ × ℕ) → List CallId
 calls_of client calls = map (λ (c : ℕ × ℕ). record { client = client; inc = c.0; seq = c.1 }) calls
 
--- the calls that a packet acknowledges: those of an ACK, or the one that rides on a request's piece, unless it is the packet's own
+-- the calls that a packet acknowledges: those of an ACK, or the one in a request's piece, unless it is its own
 abbrev pub acks_in : CallId → Body → List CallId
 acks_in id (body.Data length offset version service (Some call)) = filter (λ q. not (is_call q id)) (calls_of id.client (call ∷ []))
 acks_in id (body.Ack more) = id ∷ calls_of id.client more
@@ -55,7 +55,7 @@ acks_in id body = []
 abbrev pub acks : Packet → List CallId
 acks p = acks_in p.id p.body
 
--- the packet as its fields stand in a datagram
+-- the packet with its fields as they are in a datagram
 abbrev pub wire_packet : Packet → WirePacket
 wire_packet p = record { role = p.role; level = p.level; sender = p.inc; inc = p.id.inc; seq = p.id.seq; at = p.at; body = p.body }
 
@@ -63,7 +63,7 @@ wire_packet p = record { role = p.role; level = p.level; sender = p.inc; inc = p
 abbrev pub datagram : Settings → Packet → List ℕ
 datagram s p = spelling s.wire (wire_packet p) p.payload
 
--- a datagram's packet where it comes from one host to another: its client is the sender of role c, and the receiver of role s
+-- a datagram's packet, as it goes from one host to another: its client is the sender of role c, the receiver of role s
 abbrev pub call_between : Role → HostId → HostId → ℕ → ℕ → CallId
 call_between Client from to inc seq = record { client = from; inc = inc; seq = seq }
 call_between Server from to inc seq = record { client = to; inc = inc; seq = seq }
@@ -73,7 +73,7 @@ abbrev pub server_between : Role → HostId → HostId → HostId
 server_between Client from to = to
 server_between Server from to = from
 
--- a datagram's packet as the rules see it, where it comes from one host to another
+-- a datagram's packet as the rules see it, as it goes from one host to another
 abbrev pub packet_between : HostId → HostId → WirePacket → List ℕ → Packet
 packet_between from to w payload = record {
   role = w.role;

@@ -18,7 +18,7 @@ pub record Round : Type 0 where
   pub delivered : ℕ
   pub done : Bool
 
--- whether a call was told to be done
+-- whether a call's `done` entry is among these
 abbrev pub has_done : List PlainEntry → Bool
 has_done [] = false
 has_done (PlainDone id bytes ∷ told) = true
@@ -28,7 +28,7 @@ has_done (entry ∷ told) = has_done told
 abbrev pub carried_round : ℕ → Run → Round
 carried_round delivered run = record { world = run.world; delivered = delivered; done = has_done run.told }
 
--- a round: the packets that were sent and not delivered when it begins are delivered, in order, and then is one tick
+-- one round: first the packets that were sent before it and not delivered are delivered, in order; then comes one tick
 abbrev pub next_round : Settings → Round → Round
 next_round s r =
     let sent = length r.world.packets in

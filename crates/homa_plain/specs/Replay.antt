@@ -36,14 +36,14 @@ abbrev pub events_of : ℕ → Given → List Happening
 events_of hosts (GivenEvent e bytes) = record { event = e; bytes = bytes } ∷ []
 events_of hosts (GivenTicks n) = ticks hosts n
 
--- what was told, how many events were carried out, the world after them, and why the next one was not
+-- what was printed, how many events were carried out, the world after them, and why the next one was refused
 pub record Run : Type 0 where
   pub world : World
   pub told : List PlainEntry
   pub count : ℕ
   pub fault : Option LineFault
 
--- what is told first, of one event more
+-- what one event more prints, before all that later ones print
 abbrev pub after_event : List PlainEntry → Run → Run
 after_event told run = record run { told = told ++ run.told; count = run.count + 1 }
 
@@ -61,21 +61,22 @@ pub data End : Type 0 where
   Finished : (events : ℕ) → End
   RefusedAt : (line : ℕ) (fault : LineFault) → End
 
--- what a replay tells, and how it ends
+-- what a replay prints, and how it ends
 pub record Replay : Type 0 where
   pub told : List PlainEntry
   pub end : End
 
--- a replay, with what was told before it
+-- a replay, after what was printed before it
 abbrev pub with_told : List PlainEntry → Replay → Replay
 with_told told rest = record rest { told = told ++ rest.told }
 
--- how a replay ends behind its last event: after so many events, or at the line that its words refuse
+-- how a replay ends after its last event: after so many events, or at the line that its words refuse
 abbrev pub end_after : ℕ → Option Refusal → End
 end_after events None = Finished events
 end_after events (Some refusal) = RefusedAt refusal.line (Script refusal.fault)
 
--- the lines behind `go` in a world in which so many events were carried out; at their end stands the line that the words refuse, if one does
+-- the lines after `go` in a world in which so many events were carried out;
+-- the last of them is the line that its words refuse, if one is refused
 unfoldable pub replayed : Settings → World → ℕ → List Step → Option Refusal → Replay
 replayed s w events [] refused = record { told = []; end = end_after events refused }
 replayed s w events (step ∷ steps) refused =
@@ -85,7 +86,7 @@ replayed s w events (step ∷ steps) refused =
       | None ↦ with_told run.told (replayed s run.world (events + run.count) steps refused)
     ]
 
--- the replay of an opened schedule; one that isn't opened tells nothing but its end
+-- the replay of an opened schedule; one that isn't opened prints nothing but its end
 abbrev pub replay_opened : Opening → List Answer → ℕ → Replay
 replay_opened (Unopened refusal) answers boxes = record { told = []; end = RefusedAt refusal.line (Script refusal.fault) }
 replay_opened (Opened s steps) answers boxes =

@@ -7,7 +7,7 @@ use Rattle.homa_plain.specs.Calls.{call_cmp}
 use Rattle.homa_plain.specs.Incoming.{Incoming}
 use Rattle.homa_plain.specs.Outgoing.{Outgoing}
 
--- a call at its client
+-- what a client remembers of a call
 pub record ClientRow : Type 0 where
   pub server : HostId
   pub service : ℕ
@@ -27,7 +27,7 @@ pub data State : Type 0 where
   Replying : (response : List ℕ) (out : Outgoing) (order base count : ℕ) → State
   Buried : (until : ℕ) → State
 
--- a call at its server
+-- what a server remembers of a call
 pub record ServerRow : Type 0 where
   pub order : ℕ
   pub state : State

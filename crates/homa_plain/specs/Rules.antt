@@ -25,7 +25,7 @@ pub record Piece : Type 0 where
   pub service : ℕ
   pub payload : List ℕ
 
--- an entry of the trace, or what a packet of the row's call says, which is sent at level 7
+-- an entry of the trace, or the body of a packet of the row's call, which is sent at level 7
 pub data Say : Type 0 where
   Tells : (entry : PlainEntry) → Say
   Posts : (body : Body) → Say
@@ -56,6 +56,6 @@ module _ {R : Type 0} (m : Moment) where
 abbrev pub opening : {R : Type 0} → ℕ → Did R → Did R
 opening n d = record d { order = d.order + 1; opened = Some n }
 
--- the version that is looked at: that of a first piece
+-- the version of the cutoffs in a first piece, which is compared with the receiver's
 abbrev pub version_of : Piece → Option ℕ
 version_of p = if p.offset == 0 then Some p.version else None

@@ -23,18 +23,18 @@ use Rattle.homa_plain.specs.Text.{name_word, line_of_words, host_word, hex_word,
 
 -- ---- operands
 
--- what comes next, where a value was read; else the fault
+-- the next reader, if a value was read; otherwise the fault
 infixl 10 ◌>>=◌
 abbrev pub ◌>>=◌ : {A B : Type 0} → Result A ScriptFault → (A → Result B ScriptFault) → Result B ScriptFault
 (Err fault) >>= f = Err fault
 (Ok x) >>= f = f x
 
--- a number that was read, where it is at most so much; else the fault
+-- a number that was read, if it is at most so much; otherwise the fault
 abbrev pub number_up_to : ℕ → Option ℕ → Result ℕ ScriptFault
 number_up_to most None = Err BadNumber
 number_up_to most (Some n) = if nat_le n most then Ok n else Err BadNumber
 
--- the first of the words, read by a reader of one word, and the words behind it
+-- the first of the words, read by a reader of one word, and the words after it
 abbrev pub first_word : {A : Type 0} → (List ℕ → Result A ScriptFault) → List (List ℕ) → Result (A × List (List ℕ)) ScriptFault
 first_word read [] = Err Missing
 first_word read (word ∷ words) = read word >>= λ x. Ok (x, words)
@@ -65,7 +65,7 @@ abbrev pub hex_bytes : Result (List ℕ) FromHexError → Result (List ℕ) Scri
 hex_bytes (Ok bytes) = Ok bytes
 hex_bytes (Err fault) = Err BadHex
 
--- the bytes of a word: none for `-`, so many counting bytes behind `*`, and otherwise hex digits of either case, in pairs
+-- the bytes of a word: none for `-`, so many counting bytes for `*` and a number, otherwise pairs of hex digits
 unfoldable pub bytes_of_word : List ℕ → Result (List ℕ) ScriptFault
 bytes_of_word [] = Ok []
 bytes_of_word (c ∷ cs) =
@@ -73,11 +73,11 @@ bytes_of_word (c ∷ cs) =
     else if bytes_eq (c ∷ cs) (codes "-") then Ok []
     else hex_bytes (decode_of (c ∷ cs))
 
--- the bytes that the first word stands for, and the words behind it
+-- the bytes that the first word spells, and the words after it
 abbrev pub bytes_operand : List (List ℕ) → Result (List ℕ × List (List ℕ)) ScriptFault
 bytes_operand words = first_word bytes_of_word words
 
--- a value behind which no word is left
+-- a value with no word after it
 abbrev pub alone : {A : Type 0} → A × List (List ℕ) → Result A ScriptFault
 alone (x, []) = Ok x
 alone (x, word ∷ words) = Err Extra
@@ -171,7 +171,7 @@ shift_given words = do
   n ← number_at_most (2 ^ 32 - 1) host.1
   alone (GivenEvent (Shift host.0 n.0) [], n.1)
 
--- what stands behind an event's word
+-- what follows an event's word
 abbrev pub event_given : EventWord → List (List ℕ) → Result Given ScriptFault
 event_given CallWord words = call_given words
 event_given DeliverWord words = deliver_given words
@@ -188,7 +188,7 @@ setting_given name words = do
   n ← number_at_most (2 ^ 32 - 1) words
   alone (SettingIs name n.0, n.1)
 
--- a line behind `go`
+-- a line after `go`
 abbrev pub phrase_after_go : Option EventWord → List (List ℕ) → Result Phrase ScriptFault
 phrase_after_go (Some word) words = event_given word words >>= λ given. Ok (Happens given)
 phrase_after_go None words = Err UnknownWord
@@ -205,7 +205,7 @@ abbrev pub is_comment : List ℕ → Bool
 is_comment [] = false
 is_comment (c ∷ cs) = c == 35
 
--- what words stand for, before `go` or behind it: none, or a comment's, stand for nothing
+-- what words stand for, before `go` or after it; no words, or those of a comment, stand for nothing
 abbrev pub phrase_of : Bool → List (List ℕ) → Result Phrase ScriptFault
 phrase_of gone [] = Ok Blank
 phrase_of gone (word ∷ words) =
@@ -219,7 +219,7 @@ without_return [] = []
 without_return (c ∷ []) = if c == 13 then [] else c ∷ []
 without_return (c ∷ d ∷ cs) = c ∷ without_return (d ∷ cs)
 
--- the most bytes of a line, its line feed apart
+-- the most bytes of a line, its line feed not counted
 abbrev pub longest_line : ℕ
 longest_line = 2100000
 
@@ -227,7 +227,7 @@ longest_line = 2100000
 abbrev pub most_bytes : ℕ
 most_bytes = 68719476736
 
--- what a line stands for, of an input of at most so many bytes, of which `read` stand before it
+-- what a line stands for in an input of at most so many bytes, of which `read` come before the line
 unfoldable pub phrase_in : ℕ → Bool → ℕ → List ℕ → Result Phrase ScriptFault
 phrase_in limit gone read line =
     if nat_lt limit (read + length line) then Err InputTooLong
@@ -265,12 +265,12 @@ pub record Step : Type 0 where
   pub line : ℕ
   pub given : Given
 
--- what an input says behind `go`, up to its end or to the first line that its words refuse
+-- what an input says after `go`, up to its end or to the first line that its words refuse
 pub record Steps : Type 0 where
   pub steps : List Step
   pub refused : Option Refusal
 
--- the lines from line n on, before which `read` bytes stand
+-- the lines from line n on, before which the input has `read` bytes
 unfoldable pub steps_from : ℕ → ℕ → ℕ → List (List ℕ) → Steps
 steps_from limit read n [] = record { steps = []; refused = None }
 steps_from limit read n (line ∷ lines) =
@@ -285,7 +285,7 @@ steps_from limit read n (line ∷ lines) =
       ]
     ]
 
--- the lines up to `go`: the settings that hold there, and what stands behind; or the first refusal
+-- the lines up to `go`: the settings that hold there, and what follows; or the first refusal
 pub data Opening : Type 0 where
   Opened : (settings : Settings) (steps : Steps) → Opening
   Unopened : (refusal : Refusal) → Opening
@@ -297,7 +297,7 @@ opened_by s n steps = elim (verdict s) [
   | Ok u ↦ Opened s steps
 ]
 
--- the lines from line n on, where these settings hold so far; without `go` the line behind the last one is refused
+-- the lines from line n on, if these settings hold so far; without `go` the line after the last one is refused
 unfoldable pub opening_from : ℕ → ℕ → ℕ → Settings → List (List ℕ) → Opening
 opening_from limit read n s [] = Unopened (record { line = n; fault = NoGo })
 opening_from limit read n s (line ∷ lines) =
@@ -311,7 +311,7 @@ opening_from limit read n s (line ∷ lines) =
       ]
     ]
 
--- a schedule of at most so many bytes, as far as no world is asked
+-- a schedule of at most so many bytes, without what a world would say to it
 unfoldable pub opening : ℕ → List ℕ → Opening
 opening limit bytes = opening_from limit 0 1 usual (lines_of bytes)
 
@@ -331,7 +331,7 @@ event_words (Shift host n) bytes = codes "shift" ∷ host_word host ∷ decimal 
 unfoldable pub event_text : Event → List ℕ → List ℕ
 event_text event bytes = line_of_words (event_words event bytes)
 
--- the most bytes that stand beside an event
+-- the most bytes of an event
 abbrev pub most_beside : Event → ℕ
 most_beside (Call client server number) = most_counted
 most_beside (Deliver packet) = 0

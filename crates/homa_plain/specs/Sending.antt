@@ -60,7 +60,9 @@ server_granted now offset row = record row { state = state_granted now offset ro
 
 -- ---- what may be sent
 
--- a request may be sent where bytes of it wait and it is new, that is, its last byte was never sent, or the server was heard of not long ago
+-- a request may be sent if bytes of it wait and it is new: its last byte was never sent, or the server was heard of
+-- within its patience
+-- A rule of this project: a client stops sending to a server from which nothing comes.
 abbrev pub may_send_request : Settings → ℕ → ClientRow → Bool
 may_send_request s now r = has_waiting r.out && (nat_lt r.out.top r.out.length || nat_le now (r.heard + patience s))
 
@@ -70,7 +72,9 @@ pub record Leaving : Type 0 where
   pub left : ℕ  -- how many bytes lie above all that were sent
   pub order : ℕ
 
--- the message with the fewest bytes left is sent first, and of these the oldest
+-- the message with the fewest bytes left is sent first, and the oldest of several with as many
+-- Source: SIGCOMM 2018, "Basic sender behavior" (from memory).
+-- That bytes which are sent again don't count is a rule of this project.
 abbrev pub leaving_key : Leaving → ℕ × ℕ
 leaving_key l = (l.left, l.order)
 
@@ -96,7 +100,8 @@ departures s now h =
 abbrev pub slice : List ℕ → Range → List ℕ
 slice bytes r = take (r.to - r.from) (drop r.from bytes)
 
--- the level of a piece: by the cutoffs of its receiver where it needs no grant, else the priority that the receiver gave
+-- the level of a piece: by the cutoffs of its receiver if it needs no grant, otherwise the last GRANT's or RESEND's
+-- Source: SIGCOMM 2018, "Packet priorities" (from memory).
 abbrev pub level_at : Settings → Cutoffs → Outgoing → ℕ → ℕ
 level_at s cutoffs out offset = if nat_lt offset s.unsched then level_of s.overcommit cutoffs out.length else out.prio
 
@@ -106,7 +111,7 @@ pub record Content : Type 0 where
   pub body : Body
   pub payload : List ℕ
 
--- a piece of the request; it tells the oldest finished call of this server
+-- a piece of the request; it acknowledges the oldest finished call of its server
 abbrev pub request_content : Settings → Cutoffs → Option (ℕ × ℕ) → ClientRow → Range → Content
 request_content s cutoffs ack r range = record {
   level = level_at s cutoffs r.out range.from;
@@ -122,7 +127,8 @@ response_content s cutoffs response out range = record {
   payload = slice response range;
 }
 
--- while a request is new, each piece that is sent sets its timer anew
+-- each piece of a new request starts its timer anew
+-- A rule of this project.
 abbrev pub while_new : ℕ → ClientRow → ClientRow
 while_new now r = if nat_lt r.out.top r.out.length then record r { heard = now; base = now; count = 0 } else r
 

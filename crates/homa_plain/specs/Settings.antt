@@ -1,5 +1,5 @@
 -- The settings of a run, and which are valid.
-use Rattle.std.specs.Prelude.{ℕ, ◌+◌, ◌*◌, ◌≤◌, ◌==◌, nat_lt, ◌||◌, if◌then◌else◌, Option, None, Some, Result, Ok, Err, List, [], ◌∷◌}
+use Rattle.std.specs.Prelude.{ℕ, ◌+◌, ◌-◌, ◌*◌, ◌≤◌, ◌==◌, nat_lt, Bool, ◌&&◌, ◌||◌, if◌then◌else◌, Option, None, Some, Result, Ok, Err, List, [], ◌∷◌}
 use Rattle.homa_plain.specs.declared.settings.Settings.{Settings}
 use Rattle.homa_plain.specs.declared.settings.Limits.{Limits}
 use Rattle.homa_plain.specs.declared.settings.Name.{Name}
@@ -56,6 +56,24 @@ verdict_by s None = if nat_lt s.window s.unsched then Err UnschedOverWindow else
 abbrev pub verdict : Settings → Result (Unit {0}) SettingFault
 verdict s = verdict_by s (first_outside (ranges s))
 
+-- the number of a setting
+abbrev pub setting : Settings → Name → ℕ
+setting s Hosts = s.hosts
+setting s Seg = s.seg
+setting s Window = s.window
+setting s Unsched = s.unsched
+setting s Overcommit = s.overcommit
+setting s Rate = s.rate
+setting s Resend = s.resend
+setting s Tries = s.tries
+setting s Life = s.life
+setting s Pages = s.pages
+setting s Calls = s.calls
+setting s Served = s.served
+setting s Rebalance = s.rebalance
+setting s Skew = s.skew
+setting s Wire = s.wire
+
 -- the settings that hold where none are given
 abbrev pub usual : Settings
 usual = record {
@@ -76,18 +94,31 @@ usual = record {
   wire = 1;
 }
 
--- the ticks after which nothing more can come of silence
+-- how many rows a host has: those of its own calls, and those that it serves
+abbrev pub slots : Settings → ℕ
+slots s = s.calls + s.served
+
+-- the level of a RESEND and of what it asks for: that of the first message that is granted to
+abbrev pub asking_level : Settings → ℕ
+asking_level s = s.overcommit - 1
+
+-- the patience: after so many silent ticks a row gives up
 abbrev pub patience : Settings → ℕ
 patience s = s.resend * (s.tries + 1)
 
--- for how many ticks a packet may be accepted: with version 2 the receiver itself refuses it afterwards
+-- the accepted life: for how many ticks a packet may be taken; with version 2 the receiver itself refuses it later
 abbrev pub accepted_life : Settings → ℕ
 accepted_life s = if s.wire == 1 then s.life else s.life + 4 * s.skew
 
--- by how many ticks two hosts' clocks may differ
+-- whether a packet that was sent at the first tick may not be delivered any more at the second: with version 1, after its life
+abbrev pub is_past_life : Settings → ℕ → ℕ → Bool
+is_past_life s sent now = s.wire == 1 && nat_lt (sent + s.life) now
+
+-- the band: by how many ticks two hosts' clocks may differ
 abbrev pub band : Settings → ℕ
 band s = 2 * s.skew
 
--- how long a packet may still have an effect
+-- the span: how long a packet may still have an effect
+-- A rule of this project.
 abbrev pub span : Settings → ℕ
 span s = accepted_life s + band s

@@ -28,7 +28,7 @@ use Rattle.homa_plain.specs.Timers.{Place, OfClient, OfServer, Timer, timer_key,
 use Rattle.homa_plain.specs.Sending.{Arriving, arrivals, client_granted, server_granted, Leaving, leaving_key, departures, Content, request_content}
 use Rattle.homa_plain.specs.Sending.{response_content, client_sends, state_sends}
 
--- a host in the midst of a step, and what was told so far
+-- a host in the midst of a step, and what it printed and sent so far
 pub record Work : Type 0 where
   pub host : Host
   pub told : List Told
@@ -41,13 +41,13 @@ now_of w = w.host.last
 abbrev pub begun : Host → ℕ → Work
 begun h now = record { host = record h { last = now }; told = [] }
 
--- this is told too, behind all that was told so far
+-- prints or sends this too, after all that came before
 abbrev pub tells : List Told → Work → Work
 tells told w = record w { told = w.told ++ told }
 
 -- ---- packets
 
--- a packet of a call; with version 1 it doesn't tell the sender's clock
+-- a packet of a call; with version 1 it doesn't carry the sender's clock
 abbrev pub packet_from : Settings → Host → Role → CallId → HostId → Content → Packet
 packet_from s h role id server content = record {
   role = role;
@@ -60,7 +60,7 @@ packet_from s h role id server content = record {
   payload = content.payload;
 }
 
--- all but pieces of messages go at level 7 and have no payload
+-- all packets but pieces of messages go at level 7 and have no payload
 abbrev pub bare : Body → Content
 bare what = record { level = 7; body = what; payload = [] }
 
@@ -68,13 +68,13 @@ bare what = record { level = 7; body = what; payload = [] }
 abbrev pub posts : Settings → Role → CallId → HostId → Body → Work → Work
 posts s role id server what w = tells (Sends (packet_from s w.host role id server (bare what)) ∷ []) w
 
--- what a rule says
+-- carries out what a rule says
 abbrev pub said : Settings → Host → Role → CallId → HostId → List Say → List Told
 said s h role id server [] = []
 said s h role id server (Tells entry ∷ says) = Says entry ∷ said s h role id server says
 said s h role id server (Posts what ∷ says) = Sends (packet_from s h role id server (bare what)) ∷ said s h role id server says
 
--- ---- what comes of a rule
+-- ---- what follows from a rule
 
 -- a message was opened: its length is noted, and the cutoffs may be computed anew
 abbrev pub notes : Settings → Option ℕ → Work → Work
@@ -83,13 +83,15 @@ notes s (Some n) w =
     let t = tuned s w.host.id w.host.tuning n in
     tells t.told (record w { host = record w.host { tuning = t.tuning } })
 
--- a first piece with another version of the cutoffs: its sender is told the present ones
+-- a first piece with another version of the cutoffs: its sender gets the present ones
+-- A rule of this project; the packet's name, CUTOFFS, is that of the Linux module.
 abbrev pub tells_cutoffs : Settings → Role → CallId → HostId → Option ℕ → Work → Work
 tells_cutoffs s role id server None w = w
 tells_cutoffs s role id server (Some version) w =
     if version == w.host.tuning.own.version then w else posts s role id server (body.Cutoffs w.host.tuning.own) w
 
 -- five finished calls are acknowledged together, in their order
+-- A rule of this project; the packet's name, ACK, is that of the Linux module.
 abbrev pub acknowledged : Settings → HostId → List (ℕ × ℕ) → Work → Work
 acknowledged s server [] w = w
 acknowledged s server (call ∷ calls) w =
@@ -102,14 +104,14 @@ abbrev pub finishes : Settings → CallId → HostId → Bool → Work → Work
 finishes s id server false w = w
 finishes s id server true w = acknowledged s server (finished_at w.host server ++ (id.inc, id.seq) ∷ []) w
 
--- a call's rule was carried out at its client
+-- a call's rule was carried out at its client: the row changes, and what follows is done
 unfoldable pub asked : Settings → CallId → HostId → Did ClientRow → Work → Work
 asked s id server did w =
     let put = record w { host = record w.host { order = did.order; clients = set_row w.host.clients id did.row } } in
     let reply = tells_cutoffs s Client id server did.version (notes s did.opened put) in
     finishes s id server did.finished (tells (said s w.host Client id server did.says) reply)
 
--- a call's rule was carried out at its server
+-- a call's rule was carried out at its server: the row changes, and what follows is done
 unfoldable pub served : Settings → CallId → Did ServerRow → Work → Work
 served s id did w =
     let put = record w { host = record w.host { order = did.order; servers = set_row w.host.servers id did.row } } in
@@ -120,9 +122,10 @@ served s id did w =
 abbrev pub moment : Settings → CallId → Work → Moment
 moment s id w = record { host = w.host.id; now = now_of w; order = w.host.order; free = free_beside s w.host id; rows = len w.host.servers }
 
--- ---- a packet comes
+-- ---- a packet arrives
 
--- whether cutoffs are newer than those that are held: of a later incarnation, or of a later version
+-- whether cutoffs are newer than those that the host has: of a later incarnation, or of a later version
+-- A rule of this project.
 abbrev pub is_newer : ℕ → Cutoffs → PeerCutoffs → Bool
 is_newer inc cutoffs held = nat_lt held.inc inc || (held.inc == inc && nat_lt held.cutoffs.version cutoffs.version)
 
@@ -130,7 +133,7 @@ is_newer inc cutoffs held = nat_lt held.inc inc || (held.inc == inc && nat_lt he
 abbrev pub with_peer : Settings → HostId → PeerCutoffs → Host → Host
 with_peer s peer cutoffs h = record h { peers = slice_set h.peers peer.0 cutoffs }
 
--- a peer tells its cutoffs
+-- a peer's cutoffs arrive
 abbrev pub hears_cutoffs : Settings → HostId → ℕ → Body → Work → Work
 hears_cutoffs s peer inc (body.Cutoffs cutoffs) w =
     if is_newer inc cutoffs (peer_cutoffs s w.host peer)
@@ -138,25 +141,27 @@ hears_cutoffs s peer inc (body.Cutoffs cutoffs) w =
     else w
 hears_cutoffs s peer inc what w = w
 
--- the row of its call
+-- the packet goes to the row of its call
 abbrev pub comes_to_row : Settings → Packet → Answer → Role → Work → Work
 comes_to_row s p answer Client w = served s p.id (server_gets s (moment s p.id w) p answer (get w.host.servers p.id)) w
 comes_to_row s p answer Server w = asked s p.id p.server (client_gets s (moment s p.id w) p (get w.host.clients p.id)) w
 
--- the calls that it acknowledges, one by one
+-- the packet acknowledges calls, one by one
 abbrev pub acked : Settings → List CallId → Work → Work
 acked s [] w = w
 acked s (id ∷ ids) w = acked s ids (served s id (server_acked s (moment s id w) id (get w.host.servers id)) w)
 
--- a packet is taken: its cutoffs, its call's row, the calls that it acknowledges
+-- takes a packet: its cutoffs, then its call's row, then the calls that it acknowledges
 unfoldable pub takes : Settings → Packet → Answer → Work → Work
 takes s p answer w = acked s (acks p) (comes_to_row s p answer p.role (hears_cutoffs s (sender p) p.inc p.body w))
 
--- whether a packet is too old, which only version 2 can tell: within its life it can't be, however the clocks differ
+-- whether a packet is too old by the receiver's clock, which only version 2 can say;
+-- a packet within its life never is, however the two clocks differ
+-- A rule of this project.
 abbrev pub is_stale : Settings → ℕ → Packet → Bool
 is_stale s now p = s.wire == 2 && nat_lt (p.at + s.life + 2 * s.skew) now
 
--- a datagram comes: of bytes that are no packet, and of packets that are too old, a line tells, and no more
+-- a datagram arrives; if it is no packet, or a packet that is too old, it only prints a line
 abbrev pub comes : Settings → Option Packet → Answer → Work → Work
 comes s None answer w = tells (Says (PlainJunk w.host.id) ∷ []) w
 comes s (Some p) answer w =
@@ -164,7 +169,8 @@ comes s (Some p) answer w =
 
 -- ---- timers
 
--- once in each tick but 0 that a turn sees, the credit is filled up
+-- fills the credit up to `rate` at the first turn of a tick of the host's own clock; a turn at tick 0 doesn't
+-- A rule of this project.
 abbrev pub refilled : Settings → Host → Host
 refilled s h = if nat_lt h.refilled h.last then record h { credit = s.rate; refilled = h.last } else h
 
@@ -188,7 +194,7 @@ abbrev pub all_act : Settings → List Timer → Work → Work
 all_act s [] w = w
 all_act s (t ∷ ts) w = all_act s ts (acts_at s t.place w)
 
--- the rows that are due act once each: the first 32, by deadline and then by order
+-- each due row acts once: the first 32, by deadline and then by order
 abbrev pub acts : Settings → Work → Work
 acts s w = all_act s (due timer_key (now_of w) (timers s w.host)) w
 
@@ -216,7 +222,8 @@ abbrev pub all_granted : Settings → List (Granted Arriving) → Work → Work
 all_granted s [] w = w
 all_granted s (g ∷ gs) w = all_granted s gs (grants_at s g.to.place g.offset g.prio w)
 
--- the chosen messages are granted to, in order of rank, where that is more than they are granted already
+-- the chosen messages get their GRANTs, in order of rank, if these raise their granted ends
+-- Sources: SIGCOMM 2018, "Flow control" and "Overcommitment" (from memory).
 abbrev pub gives_grants : Settings → Work → Work
 gives_grants s w = all_granted s (grants (λ (a : Arriving). a.message) s.overcommit s.window (arrivals w.host)) w
 
@@ -226,16 +233,16 @@ gives_grants s w = all_granted s (grants (λ (a : Arriving). a.message) s.overco
 abbrev pub most_packets : ℕ
 most_packets = 64
 
--- so many bytes of the credit are used
+-- uses so many bytes of the credit
 abbrev pub spent : ℕ → Work → Work
 spent n w = record w { host = record w.host { credit = w.host.credit - n } }
 
--- the oldest of the finished calls rides with a request's piece, and leaves the list
+-- the oldest of the finished calls, which a request's piece carries
 abbrev pub oldest : List (ℕ × ℕ) → Option (ℕ × ℕ)
 oldest [] = None
 oldest (call ∷ calls) = Some call
 
--- these bytes of a request are sent, and with them the oldest finished call of the server
+-- sends these bytes of a request, and with them the oldest finished call of the server
 abbrev pub request_leaves : Settings → CallId → ClientRow → Range → Work → Work
 request_leaves s id r range w =
     let finished = finished_at w.host r.server in
@@ -243,7 +250,7 @@ request_leaves s id r range w =
     let host = with_finished r.server (drop 1 finished) (record w.host { clients = insert w.host.clients id (client_sends s (now_of w) r) }) in
     tells (Sends (packet_from s w.host Client id r.server content) ∷ []) (spent (range.to - range.from) (record w { host = host }))
 
--- these bytes of a response are sent, in a packet with this content
+-- sends these bytes of a response, in a packet with this content
 abbrev pub response_leaves : Settings → CallId → ServerRow → Content → Range → Work → Work
 response_leaves s id row content range w =
     let host = record w.host { servers = insert w.host.servers id (record row { state = state_sends s (now_of w) row.state }) } in
@@ -276,16 +283,18 @@ abbrev pub leaves_from : Settings → Place → Work → Option Work
 leaves_from s (OfClient id) w = client_leaves s id (get w.host.clients id) w
 leaves_from s (OfServer id) w = server_leaves s id (get w.host.servers id) w
 
--- this message sends its next piece, if the credit is enough; where there is no message, nothing is sent
+-- this message sends its next piece, if the credit is enough; without a message nothing is sent
 abbrev pub first_leaves : Settings → Option Leaving → Work → Option Work
 first_leaves s None w = None
 first_leaves s (Some l) w = leaves_from s l.place w
 
--- the message that may be sent and comes first sends its next piece; none if there is no such message, or its piece costs more than the credit
+-- the first message that may be sent sends its next piece;
+-- none if there is no such message, or if the piece has more bytes than the credit
 unfoldable pub pumped_once : Settings → Work → Option Work
 pumped_once s w = first_leaves s (least leaving_key (departures s (now_of w) w.host)) w
 
--- the pump goes on until it ends by itself, or has sent so many packets
+-- the pump sends until it ends by itself, or until it has sent so many packets
+-- A rule of this project, in the place of the pacer of the Linux module.
 unfoldable pub pumps : Settings → ℕ → Work → Work
 pumps s zero w = w
 pumps s (suc n) w = elim (pumped_once s w) [ None ↦ w | Some after ↦ pumps s n after ]
@@ -329,7 +338,7 @@ new_call s now order server service request = record {
   part = None;
 }
 
--- a call starts: its row is opened under the next sequence number, and its `call` line is told
+-- a call starts: its row is opened under the next sequence number, and its `call` line is printed
 abbrev pub starts : Settings → HostId → ℕ → List ℕ → Work → Work
 starts s server service request w =
     let h = w.host in
@@ -341,7 +350,7 @@ starts s server service request w =
 unfoldable pub call_step : Settings → Host → ℕ → HostId → ℕ → List ℕ → Work
 call_step s h now server service request = ended s (starts s server service request (begun h now))
 
--- a datagram comes to a host, which is this packet or none; the answer is its service's, should it be asked
+-- a datagram arrives at a host: this packet, or none; the answer is what its service returns, if it runs
 unfoldable pub arrival_step : Settings → Host → ℕ → Option Packet → Answer → Work
 arrival_step s h now packet answer = ended s (comes s packet answer (begun h now))
 
@@ -367,7 +376,7 @@ asked_in [] = None
 asked_in (Says (PlainRun host id service request response hold) ∷ told) = Some (record { id = id; service = service; request = request })
 asked_in (t ∷ told) = asked_in told
 
--- the step of an arrival, where the service answers, or finds no memory; then nothing of the step happens
+-- the step of an arrival, if the service answers or is out of memory; in the second case nothing of the step happens
 abbrev pub arrival_or_none : Settings → Host → ℕ → Option Packet → Option Answer → Option Work
 arrival_or_none s h now packet (Some answer) = Some (arrival_step s h now packet answer)
 arrival_or_none s h now packet None =

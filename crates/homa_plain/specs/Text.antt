@@ -26,6 +26,7 @@ use Rattle.homa_plain.specs.declared.fault.LineFault.{LineFault}
 use Rattle.homa_plain.specs.declared.fault.LineFault.TheVariants.{Script, World}
 use Rattle.homa_plain.specs.declared.entry.Why.{Why}
 use Rattle.homa_plain.specs.declared.entry.Why.TheVariants.{Timeout, Forgotten}
+use Rattle.homa_plain.specs.Kinds.{body_kind, kind_name}
 use Rattle.homa_plain.specs.Entries.{PlainEntry, PlainSettings, PlainCall, PlainDeliver, PlainClock, PlainRestart, PlainInject, PlainShift, PlainJunk}
 use Rattle.homa_plain.specs.Entries.{PlainStale, PlainSend, PlainRun, PlainDone, PlainFail, PlainDrop, PlainGaps, PlainBury, PlainFree, PlainFullRows}
 use Rattle.homa_plain.specs.Entries.{PlainFullPages, PlainBalance, PlainRecv, PlainFinished, PlainRefused, PlainStalled}
@@ -67,14 +68,7 @@ ack_word (Some call) = call_word call
 
 -- the kind of a packet
 abbrev pub kind_word : Body → List ℕ
-kind_word (body.Data length offset version service ack) = codes "DATA"
-kind_word (body.Grant offset prio) = codes "GRANT"
-kind_word (body.Resend from to prio) = codes "RESEND"
-kind_word body.Busy = codes "BUSY"
-kind_word (body.Cutoffs cutoffs) = codes "CUTOFFS"
-kind_word (body.Unknown reason) = codes "UNKNOWN"
-kind_word body.NeedAck = codes "NEED_ACK"
-kind_word (body.Ack more) = codes "ACK"
+kind_word what = kind_name (body_kind what)
 
 -- a version and the bounds of the eight levels
 abbrev pub cutoffs_words : Cutoffs → List (List ℕ)
@@ -97,7 +91,7 @@ abbrev pub settings_numbers : Settings → List ℕ
 settings_numbers s = s.hosts ∷ s.seg ∷ s.window ∷ s.unsched ∷ s.overcommit ∷ s.rate ∷ s.resend ∷ s.tries ∷ s.life ∷ s.pages ∷ s.calls ∷ s.served ∷
     s.rebalance ∷ s.skew ∷ s.wire ∷ []
 
--- how many of them are told: from the end, `wire` is left out where it is 1, and then `skew` where it is 0
+-- how many of them are printed: from the end, `wire` is left out if it is 1, and then `skew` if it is 0
 abbrev pub told_numbers : Settings → ℕ
 told_numbers s = if s.wire == 1 then (if s.skew == 0 then 13 else 14) else 15
 

@@ -1,5 +1,5 @@
 -- When the timer of a row is due, and what the row does then.
-use Rattle.std.specs.Prelude.{ℕ, ◌+◌, ◌-◌, ◌*◌, ◌&&◌, ◌||◌, Bool, false, nat_lt, is_none, if◌then◌else◌, Option, None, Some, List, [], ◌∷◌, ◌++◌}
+use Rattle.std.specs.Prelude.{ℕ, ◌+◌, ◌*◌, ◌&&◌, ◌||◌, Bool, false, nat_lt, is_none, if◌then◌else◌, Option, None, Some, List, [], ◌∷◌, ◌++◌}
 use Rattle.std.specs.List.{flat_map}
 use Rattle.plain_sets.specs.Maps.{entries}
 use Rattle.plain_sets.specs.Ranges.{Range, range}
@@ -7,7 +7,7 @@ use Rattle.homa_plain.specs.declared.id.CallId.{CallId}
 use Rattle.homa_plain.specs.declared.packet.Body.TheVariants as body
 use Rattle.homa_plain.specs.declared.settings.Settings.{Settings}
 use Rattle.homa_plain.specs.declared.entry.Why.TheVariants.{Timeout}
-use Rattle.homa_plain.specs.Settings.{span, patience}
+use Rattle.homa_plain.specs.Settings.{asking_level, span, patience}
 use Rattle.homa_plain.specs.Incoming.{Incoming, first_gap}
 use Rattle.homa_plain.specs.Outgoing.{Outgoing, has_waiting}
 use Rattle.homa_plain.specs.Entries.{PlainFail, PlainDrop, PlainFree}
@@ -18,16 +18,16 @@ use Rattle.homa_plain.specs.AtServer.{with_state, replying, buried}
 
 -- ---- deadlines
 
--- nothing that may come already is missing
+-- no byte that may already come is missing
 abbrev pub has_no_gap : Incoming → Bool
 has_no_gap part = is_none (first_gap part)
 
--- the response was opened, and all of it has come that may come so far
+-- the response was opened, and every byte that may already come has arrived
 abbrev pub is_response_at_rest : Option Incoming → Bool
 is_response_at_rest None = false
 is_response_at_rest (Some part) = has_no_gap part
 
--- the request's last byte was never sent and bytes of it wait, or all of the response has come that may come so far
+-- bytes of the request wait and its last byte was never sent, or every byte of the response that may come has arrived
 abbrev pub is_client_at_rest : ClientRow → Bool
 is_client_at_rest r = nat_lt r.out.top r.out.length && has_waiting r.out || is_response_at_rest r.part
 
@@ -39,7 +39,7 @@ unless rests at = if rests then None else Some at
 unfoldable pub client_deadline : Settings → ClientRow → Option ℕ
 client_deadline s r = unless (is_client_at_rest r) (r.base + s.resend)
 
--- the deadline in this state: that of its timer, the end of a hold, or the tick behind the last of a buried call
+-- the deadline in this state: that of its timer, the end of a hold, or the tick after the last of a buried call
 abbrev pub state_deadline : Settings → State → Option ℕ
 state_deadline s (Receiving service part base count) = unless (has_no_gap part) (base + s.resend)
 state_deadline s (Held response release) = Some release
@@ -52,32 +52,36 @@ server_deadline s row = state_deadline s row.state
 
 -- ---- acts
 
--- a RESEND of the first gap
+-- a RESEND of the first gap, at the level of the last rank of all grants
+-- Source: SIGCOMM 2018, "Lost packets" (from memory). The level is a rule of this project.
 abbrev pub resend_of : Settings → Option Range → List Say
 resend_of s None = []
-resend_of s (Some r) = Posts (body.Resend r.from r.to (s.overcommit - 1)) ∷ []
+resend_of s (Some r) = Posts (body.Resend r.from r.to (asking_level s)) ∷ []
 
--- what a client asks for: the first gap of the response, or, before any of it has come, the bytes that need no grant
+-- what a client asks for: the first gap of the response or, before any of it arrived, the bytes that need no grant
 abbrev pub wanted : Settings → Option Incoming → Option Range
 wanted s None = Some (range 0 s.unsched)
 wanted s (Some part) = first_gap part
 
--- the client asks again, and after `tries` times behind which nothing came that renews the call it fails
+-- the client asks again; after `tries` RESENDs since the last renewal the call fails
+-- Source: SIGCOMM 2018, "Lost packets" (from memory).
 abbrev pub client_acts : Settings → Moment → CallId → ClientRow → Did ClientRow
 client_acts s m id r =
     if nat_lt r.count s.tries
     then says m (Some (record r { count = r.count + 1; base = m.now })) (resend_of s (wanted s r.part))
     else says m None (Tells (PlainFail id Timeout) ∷ [])
 
--- the server asks for what is missing of the request, and gives it up after `tries` times without an answer
+-- the server asks for missing bytes of the request, and drops it after `tries` RESENDs without an answer
+-- Source: SIGCOMM 2018, "Lost packets" (from memory). That the server drops it is a rule of this project.
 abbrev pub receiving_acts : Settings → Moment → CallId → ServerRow → ℕ → Incoming → ℕ → Did ServerRow
 receiving_acts s m id row service part count =
     if nat_lt count s.tries
     then says m (Some (with_state row (Receiving service part m.now (count + 1)))) (resend_of s (first_gap part))
     else says m None (Tells (PlainDrop m.host id) ∷ [])
 
--- The server asks whether the response has come, and buries the call after `tries` times without an answer. Its last packet may be under way for a
--- span, the client may be patient after that, and then its request may be under way for a span; so the tombstone stays for all three.
+-- The server asks whether the response has arrived; after `tries` NEED_ACKs without an answer it buries the call.
+-- A rule of this project: its last packet may be under way for a span, the client may be patient after that,
+-- and then its request may be under way for a span; so the tombstone stays for all three.
 abbrev pub replying_acts : Settings → Moment → CallId → ServerRow → List ℕ → Outgoing → ℕ → ℕ → Did ServerRow
 replying_acts s m id row response out order count =
     if nat_lt count s.tries

@@ -1,4 +1,5 @@
--- Packets as bytes, in versions 1 and 2: which packets are well formed, the one spelling of each, and the packet that bytes spell.
+-- Packets as bytes, in versions 1 and 2: which are well formed, the one spelling of each, the packet that bytes spell.
+-- The layouts are this project's own.
 use Rattle.std.specs.Prelude.{◌≡◌, ℕ, zero, suc, ◌+◌, ◌*◌, ◌^◌, ◌<◌, ◌≤◌, Bool, true, false, ◌&&◌, ◌==◌, nat_lt, nat_le, if◌then◌else◌, Option, None}
 use Rattle.std.specs.Prelude.{Some, IfSome, List, [], ◌∷◌, ◌++◌, length}
 use Rattle.std.specs.List.{AllByRecursion, flat_map, list_all}
@@ -9,6 +10,7 @@ use Rattle.homa_plain.specs.declared.packet.Body.{Body}
 use Rattle.homa_plain.specs.declared.packet.Body.TheVariants as body
 use Rattle.homa_plain.specs.declared.packet.Packet.{Packet}
 use Rattle.homa_plain.specs.Bytes.{IsBytes, ◌>>=◌, byte_at, number_at, two, two_at, times}
+use Rattle.homa_plain.specs.Kinds.{body_kind, kind_number}
 
 -- ---- which packets are well formed
 
@@ -62,23 +64,16 @@ pub record IsWellFormed (wire : ℕ) (p : Packet) (payload : List ℕ) : Type 0 
 
 -- ---- how they are spelled
 
--- the kinds' numbers
+-- the number of a packet's kind
 abbrev pub kind : Body → ℕ
-kind (body.Data size offset version service ack) = 1
-kind (body.Grant offset prio) = 2
-kind (body.Resend from to prio) = 3
-kind body.Busy = 4
-kind (body.Cutoffs c) = 5
-kind (body.Unknown reason) = 6
-kind body.NeedAck = 7
-kind (body.Ack more) = 8
+kind what = kind_number (body_kind what)
 
 -- sent by the call's client, or by its server
 abbrev pub role_byte : Role → ℕ
 role_byte Client = 0
 role_byte Server = 1
 
--- a flag and a call, which is 0 and 0 behind the flag 0
+-- a flag and a call; after the flag 0 the call is 0 and 0
 abbrev pub ack_bytes : Option (ℕ × ℕ) → List ℕ
 ack_bytes None = 0 ∷ two (0, 0)
 ack_bytes (Some call) = 1 ∷ two call
@@ -87,7 +82,7 @@ ack_bytes (Some call) = 1 ∷ two call
 abbrev pub tick_bytes : ℕ → ℕ → List ℕ
 tick_bytes wire at = if wire == 1 then [] else to_be_bytes w64 at
 
--- the fields of each kind, which stand behind the header
+-- the fields of each kind, which follow the header
 abbrev pub body_bytes : Body → List ℕ
 body_bytes (body.Data size offset version service ack) = two (size, offset) ++ to_be_bytes w16 version ++ service ∷ ack_bytes ack
 body_bytes (body.Grant offset prio) = to_be_bytes w32 offset ++ prio ∷ []
@@ -186,7 +181,7 @@ role_of zero = Some Client
 role_of (suc zero) = Some Server
 role_of (suc (suc n)) = None
 
--- the call behind a flag
+-- the call after a flag
 abbrev pub ack_of : ℕ → ℕ × ℕ → Option (Option (ℕ × ℕ))
 ack_of zero call = if call.0 == 0 && call.1 == 0 then Some None else None
 ack_of (suc zero) call = Some (Some call)
@@ -265,7 +260,7 @@ body_at number bytes =
     else if number == 8 then calls_at bytes
     else None
 
--- behind version, kind, role and level
+-- what follows version, kind, role and level
 unfoldable pub packet_of : ℕ → ℕ → ℕ → ℕ → List ℕ → Option (Packet × List ℕ)
 packet_of wire number role level bytes = do
   sent_by ← role_of role
@@ -275,7 +270,7 @@ packet_of wire number role level bytes = do
   what ← body_at number tick.1
   Some (record { role = sent_by; level = level; sender = sender.0; inc = call.0.0; seq = call.0.1; at = tick.0; body = what.0 }, what.1)
 
--- a packet that may not be well formed, and its payload
+-- a packet and its payload; it may not be well formed
 unfoldable pub packet_at : ℕ → List ℕ → Option (Packet × List ℕ)
 packet_at wire (version ∷ number ∷ role ∷ level ∷ bytes) = if version == wire then packet_of wire number role level bytes else None
 packet_at wire bytes = None

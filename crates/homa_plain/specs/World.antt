@@ -9,7 +9,7 @@ use Rattle.homa_plain.specs.declared.event.Event.TheVariants as event
 use Rattle.homa_plain.specs.declared.fault.StartFault.{StartFault}
 use Rattle.homa_plain.specs.declared.fault.WorldFault.{WorldFault}
 use Rattle.homa_plain.specs.declared.fault.WorldFault.TheVariants.{NoSuchHost, NoSuchPacket, Late, Start, NoSpare, ClockEnd, Decodes, OutOfBand, Back}
-use Rattle.homa_plain.specs.Settings.{band}
+use Rattle.homa_plain.specs.Settings.{band, is_past_life}
 use Rattle.homa_plain.specs.Wire.{packet_in}
 use Rattle.homa_plain.specs.Entries.{PlainEntry, PlainDeliver, PlainClock, PlainRestart, PlainInject, PlainShift}
 use Rattle.homa_plain.specs.Packets.{Packet, receiver}
@@ -31,7 +31,7 @@ pub record World : Type 0 where
   pub spares : ℕ  -- how many boxes are left for hosts that restart
   pub answers : List Answer  -- what the services answer, one after the other
 
--- the hosts from number n on, in their first life
+-- the hosts from number n on, in their first incarnation
 abbrev pub new_hosts : Settings → ℕ → List ℕ → List Host
 new_hosts s n [] = []
 new_hosts s n (inc ∷ incs) = new_host s (record { 0 = n }) inc 0 ∷ new_hosts s (suc n) incs
@@ -54,7 +54,7 @@ abbrev pub next_answer : List Answer → Answer
 next_answer [] = record { bytes = 0 ∷ []; hold = 0 }
 next_answer (answer ∷ answers) = answer
 
--- the answers that are left behind a step: it used one if it asked a service
+-- the answers that are left after a step: it used one if it asked a service
 abbrev pub answers_left : List Told → List Answer → List Answer
 answers_left told answers = if has_run told then drop 1 answers else answers
 
@@ -66,7 +66,7 @@ with_host w id h = record w { hosts = slice_set w.hosts id.0 h }
 abbrev pub stamped : ℕ → List Packet → List SentPacket
 stamped tick packets = map (λ (p : Packet). record { tick = tick; packet = p }) packets
 
--- the world after an event, and what is told of it
+-- the world after an event, and what the event prints
 pub record After : Type 0 where
   pub world : World
   pub told : List PlainEntry
@@ -76,7 +76,7 @@ pub data Outcome : Type 0 where
   Refused : (fault : WorldFault) → Outcome
   Done : (after : After) → Outcome
 
--- a host did a step: first the event's own entry is told, if it has one
+-- a host did a step: first the event's own entry is printed, if it has one
 abbrev pub stepped : World → HostId → List PlainEntry → Work → Outcome
 stepped w id first step = Done (record {
   world = record w {
@@ -104,14 +104,15 @@ abbrev pub call_outcome : Settings → World → HostId → HostId → ℕ → L
 call_outcome s w client server number request =
     if is_some (host_at w server) then calls_from s w client server number request (host_at w client) else Refused NoSuchHost
 
--- a datagram comes to a host, which must be there; it is this packet, or none
+-- a datagram arrives at a host, which must be there; it is this packet, or none
 abbrev pub arrives_at : Settings → World → HostId → List PlainEntry → Option Packet → Option Host → Outcome
 arrives_at s w id first packet None = Refused NoSuchHost
 arrives_at s w id first packet (Some h) = stepped w id first (arrival_step s h (own_clock w id) packet (next_answer w.answers))
 
 -- with version 1 a packet may not be delivered after its life; with version 2 its receiver refuses it
+-- A rule of this project.
 abbrev pub is_late : Settings → World → ℕ → Bool
-is_late s w tick = s.wire == 1 && nat_lt (tick + s.life) w.clock
+is_late s w tick = is_past_life s tick w.clock
 
 -- packet n is delivered: it must have been sent, and may not be late
 abbrev pub delivered : Settings → World → ℕ → Option SentPacket → Outcome
@@ -125,7 +126,7 @@ delivered s w n (Some sent) =
 abbrev pub last_tick : ℕ
 last_tick = 1000000000000
 
--- the clock goes on by a tick, unless it has come to its last
+-- the clock goes on by a tick, unless it is at its last
 abbrev pub clock_outcome : World → Outcome
 clock_outcome w =
     if w.clock == last_tick then Refused ClockEnd else Done (record { world = record w { clock = w.clock + 1 }; told = PlainClock (w.clock + 1) ∷ [] })
@@ -135,7 +136,8 @@ abbrev pub turns : Settings → World → HostId → Option Host → Outcome
 turns s w id None = Refused NoSuchHost
 turns s w id (Some h) = stepped w id [] (turn_step s h (own_clock w id))
 
--- a host restarts: it is a new host of the next incarnation, with a spare box; its lead and its last step's clock stay
+-- a host restarts: it is a new host of the next incarnation, with a spare service;
+-- its lead, and the clock of its last step, stay
 abbrev pub restarts : Settings → World → HostId → Option Host → ℕ → Outcome
 restarts s w id None spares = Refused NoSuchHost
 restarts s w id (Some h) zero = Refused NoSpare
@@ -144,7 +146,7 @@ restarts s w id (Some h) (suc spares) = Done (record {
   told = PlainRestart id (h.inc + 1) ∷ [];
 })
 
--- a datagram that no host sent comes from host 0, and at host 0 from host 1
+-- a datagram that no host sent arrives from host 0, and at host 0 from host 1
 abbrev pub stranger : HostId → HostId
 stranger id = if id.0 == 0 then record { 0 = 1 } else record { 0 = 0 }
 
@@ -162,7 +164,7 @@ shifted s w id n (Some h) =
     else if nat_lt (w.clock + n) h.last then Refused (Back h.last (w.clock + n))
     else Done (record { world = record w { leads = slice_set w.leads id.0 n }; told = PlainShift id n ∷ [] })
 
--- what becomes of an event with the bytes beside it
+-- what an event with these bytes does
 unfoldable pub outcome : Settings → World → Event → List ℕ → Outcome
 outcome s w (event.Call client server number) bytes = call_outcome s w client server number bytes
 outcome s w (event.Deliver packet) bytes = delivered s w packet (slice_get w.packets packet)

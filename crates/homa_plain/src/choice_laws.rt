@@ -7,8 +7,8 @@ ghost use Rattle.homa_plain.specs.declared.packet.Cutoffs.{Cutoffs};
 ghost use Rattle.homa_plain.specs.Choice.{Message, sender, choice_key, new_end, Granted, chosen_by, chosen, grants, due, IsBefore, HasAhead, IsGrant};
 ghost use Rattle.homa_plain.specs.Cutoffs.{noted, level_of, has_share, balanced, IsLeastNumber, IsLevel};
 
-/// Which messages are granted to: at most k of different senders. Whoever is left out has a chosen one of its
-/// sender before it, or k chosen ones.
+/// Which messages are granted to: at most k of different senders. For each message that is left out, either a chosen
+/// one of its sender is before it, or k chosen ones are.
 pub fn choices<X, Y>()
     ensures few { (message : X → Message) (k : ℕ) (xs : List X) → length (chosen message k xs) ≤ k }
     ensures differ { (message : X → Message) (k : ℕ) (xs : List X)
@@ -26,8 +26,8 @@ pub fn choices<X, Y>()
         → chosen_by from' key' k (map f xs) ≡ map f (chosen_by from key k xs) }
 {}
 
-/// Each GRANT of a step is to a chosen message, up to its new end; each chosen message gets one exactly where
-/// its new end exceeds its granted end.
+/// Each GRANT of a step is to a chosen message, up to its new end; each chosen message gets one exactly if its new end
+/// exceeds its granted end.
 pub fn grants_made<X>()
     ensures only { (message : X → Message) (k window : ℕ) (xs : List X) (g : Granted X)
         → Contains (grants message k window xs) g → IsGrant message window (chosen message k xs) g }
@@ -77,7 +77,7 @@ pub fn cutoff_bounds()
         ≤ slice_index (balanced k unsched version lengths).upto i }
 {}
 
-/// The level of a length is the greatest whose bound it doesn't exceed.
+/// The level of a length is the greatest level whose bound is at least the length.
 pub fn message_levels()
     ensures greatest { (k : ℕ) (c : Cutoffs) (n : ℕ) → k ≤ 7 → IsLevel k c.upto n (level_of k c n) }
     ensures only { (k : ℕ) (upto : List ℕ) (n i j : ℕ) → IsLevel k upto n i → IsLevel k upto n j → i ≡ j }

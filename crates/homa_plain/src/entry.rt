@@ -4,18 +4,18 @@ use crate::{Body, CallId, Cutoffs, HostId, LineFault, Role, Settings};
 /// Why a call failed at its client.
 #[derive(Clone, Copy, Debug, PartialEq, Eq)]
 pub enum Why {
-    /// Behind its RESENDs nothing came that renews it.
+    /// After its RESENDs nothing arrived that renews it.
     Timeout,
     /// Its server ran it and forgot it.
     Forgotten,
 }
 
-/// One line of a trace. Its bytes are lent; definitions see them as lists, through `plain`.
+/// One line of a trace. Its bytes are borrowed; definitions see them as lists, through `plain`.
 #[derive(Debug, PartialEq, Eq, Drop)]
 pub enum Entry<'a> {
     /// The settings of the run: the first line.
     Settings(Settings),
-    /// A call starts.
+    /// A client starts a call, with this request.
     Call {
         id: CallId,
         server: HostId,
@@ -91,12 +91,12 @@ pub enum Entry<'a> {
         host: HostId,
         id: CallId,
     },
-    /// A message would have been left with more gaps than are kept.
+    /// A piece that would have left more than 64 gaps in a message was refused.
     Gaps {
         host: HostId,
         id: CallId,
     },
-    /// A server keeps nothing of a call but that it ran, up to tick `until`.
+    /// A server keeps nothing of a call but that it ran, up to tick `until` of its own clock.
     Bury {
         host: HostId,
         id: CallId,

@@ -1,7 +1,7 @@
 // What may happen to a world.
 use crate::HostId;
 
-/// One event of a world. The bytes of a call or of an injection are handed beside it.
+/// One event of a world. The bytes of a call or of an injection are passed beside it.
 #[derive(Clone, Copy, Debug, PartialEq, Eq)]
 pub enum Event {
     /// `client` calls service `number` of `server`.

@@ -23,7 +23,7 @@ pub enum WorldFault {
     NoSuchHost,
     /// No packet with this number was sent.
     NoSuchPacket,
-    /// The packet was sent at tick `sent`, and may not be delivered at tick `now` any more.
+    /// The packet was sent at tick `sent`, and may no longer be delivered at tick `now`.
     Late { sent: u64, now: u64 },
     /// The call can't start.
     Start(StartFault),
@@ -33,7 +33,7 @@ pub enum WorldFault {
     ClockEnd,
     /// The datagram that is to be injected is a packet.
     Decodes,
-    /// There is no memory.
+    /// The program is out of memory.
     NoMemory,
     /// A lead of `n` ticks is above `most`.
     OutOfBand { n: u32, most: u32 },
@@ -54,19 +54,19 @@ pub enum ScriptFault {
     BadNumber,
     /// An operand doesn't spell bytes.
     BadHex,
-    /// There is a word too many.
+    /// A word follows the last operand.
     Extra,
-    /// There is an operand too few.
+    /// An operand is missing, or, at `go` of a node script, a part of the setup.
     Missing,
     /// The settings aren't valid.
     Setting(SettingFault),
-    /// `go` is missing.
+    /// `go` is missing, before this event or at the end of the input.
     NoGo,
     /// The input is longer than any may be.
     InputTooLong,
 }
 
-/// Why a line is refused: by what it says, or by the world. Want of memory refuses no line.
+/// Why a line is refused: by what it says, or by the world. No line is refused for want of memory.
 #[derive(Clone, Copy, Debug, PartialEq, Eq)]
 pub enum LineFault {
     Script(ScriptFault),

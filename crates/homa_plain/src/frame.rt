@@ -21,7 +21,7 @@ impl Model for Frame {
 }
 
 impl Frame {
-    /// A datagram of no bytes.
+    /// A datagram of no bytes. It takes no memory.
     pub fn empty() -> Frame
         ensures { result ≡ [] }
     {
@@ -39,7 +39,7 @@ impl Frame {
         self.bytes.try_extend_from_slice(bytes).unwrap();
     }
 
-    /// Adds bytes behind its own.
+    /// Adds bytes after its own.
     pub fn extend(&mut self, bytes: &[u8])
         requires { length self.old + length bytes.now ≤ 1500 }
         ensures { self.new ≡ self.old ++ bytes.now }

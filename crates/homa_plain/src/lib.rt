@@ -1,11 +1,11 @@
 //! The plain types of Homa's public surface, and the definitions that every contract above speaks of.
 //!
 //! The types hold no state and take no memory: ids, settings, packets, events, entries of a trace and
-//! the names of all refusals. `specs/` says what is a valid setting, what an entry's line is, what a
-//! schedule stands for and what every trace obeys, as definitions that compute.
+//! the names of all refusals. `specs/` says what is a valid setting, what an entry's line is and what a
+//! schedule stands for, as definitions that compute. What every trace obeys is in `trace_rules`.
 //!
-//! Main promise: `Settings::check` answers the first fault in the order of the settings, and none exactly
-//! where the settings are valid.
+//! Main promise: `Settings::check` returns the first fault in the order of the settings, and none exactly
+//! if the settings are valid.
 #![tactic(auto)]
 
 mod choice_laws;
@@ -15,11 +15,12 @@ mod fault;
 mod frame;
 mod id;
 mod incoming_laws;
-mod judging_laws;
+mod limits;
 mod outgoing_laws;
 mod packet;
 mod row;
 mod settings;
+mod spans;
 mod wire_laws;
 
 pub use choice_laws::{
@@ -31,9 +32,11 @@ pub use fault::{LineFault, ScriptFault, StartFault, WorldFault};
 pub use frame::Frame;
 pub use id::{CallId, HostId};
 pub use incoming_laws::{arrivals, incoming_messages, message_gaps, whole_messages};
-pub use judging_laws::judges;
+pub use limits::{
+    LAST_HOST_TICK, LAST_TICK, LONGEST_INPUT, LONGEST_MESSAGE, LONGEST_PIECE, MOST_SKEW,
+};
 pub use outgoing_laws::{grants_received, outgoing_messages, resends, sends};
-pub use packet::{Body, Cutoffs, More, Packet, Role};
+pub use packet::{Body, Cutoffs, Kind, More, Packet, Role};
 pub use row::{Emitted, OutFacts, RowFacts};
 pub use settings::{Name, SettingFault, Settings};
 pub use wire_laws::{no_packet, one_packet, one_spelling, payload_is_last, spelled_length};

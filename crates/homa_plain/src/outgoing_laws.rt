@@ -36,7 +36,7 @@ pub fn resends()
         ≡ record p { waiting = with_range p.waiting a end; granted = max p.granted end; prio = prio } }
 {}
 
-/// What is sent next: the front of the first waiting range, and nothing exactly where nothing waits.
+/// What is sent next: the first part of the first waiting range, and nothing exactly if nothing waits.
 pub fn sends()
     ensures front { (p : Outgoing) (seg : ℕ) → 0 < seg → IsSound p
         → MatchOption (next p seg).range (IsIdle p) (IsFront p seg) }

@@ -1,7 +1,9 @@
 // Packets.
 ghost use Rattle.std.specs.Prelude.{◌≡◌, ◌<◌, ◌≤◌, [], ◌∷◌, ◌++◌, length};
+ghost use Rattle.homa_plain.specs.Kinds.{body_kind, kind_number, kind_name};
 ghost use Rattle.homa_plain.specs.Wire.{is_client};
 
+use crate::id::{CallId, HostId};
 use arrayvec::ArrayVec;
 use std::marker::Model;
 
@@ -50,7 +52,7 @@ impl Model for More {
 }
 
 impl More {
-    /// No further call.
+    /// No further call, as in an ACK of one call.
     pub fn empty() -> More
         ensures { result ≡ [] }
     {
@@ -59,7 +61,7 @@ impl More {
         }
     }
 
-    /// Adds a call behind the others.
+    /// Adds a call after the others.
     pub fn push(&mut self, inc: u32, seq: u32)
         requires { length self.old < 4 }
         ensures { self.new ≡ self.old ++ (inc, seq) ∷ [] }
@@ -73,6 +75,76 @@ impl More {
         ensures few { length result.now ≤ 4 }
     {
         &self.calls
+    }
+
+    /// The same calls once more. It takes no memory.
+    pub fn copied(&self) -> More
+        ensures { result ≡ self.now }
+    {
+        let mut more = More::empty();
+        for (inc, seq) in self.calls() {
+            more.push(*inc, *seq);
+        }
+        more
+    }
+}
+
+/// The kind of a packet.
+#[derive(Clone, Copy, Debug, PartialEq, Eq)]
+pub enum Kind {
+    Data,
+    Grant,
+    Resend,
+    Busy,
+    Cutoffs,
+    Unknown,
+    NeedAck,
+    Ack,
+}
+
+impl Kind {
+    /// All kinds, by their numbers.
+    pub const ALL: [Kind; 8] = [
+        Kind::Data,
+        Kind::Grant,
+        Kind::Resend,
+        Kind::Busy,
+        Kind::Cutoffs,
+        Kind::Unknown,
+        Kind::NeedAck,
+        Kind::Ack,
+    ];
+
+    /// The kind's number in a datagram: 1 to 8.
+    pub fn number(self) -> u8
+        ensures { result ≡ kind_number self }
+    {
+        match self {
+            Kind::Data => 1,
+            Kind::Grant => 2,
+            Kind::Resend => 3,
+            Kind::Busy => 4,
+            Kind::Cutoffs => 5,
+            Kind::Unknown => 6,
+            Kind::NeedAck => 7,
+            Kind::Ack => 8,
+        }
+    }
+
+    /// The kind's word in a trace, as `NEED_ACK`.
+    pub fn word(self) -> &'static [u8]
+        ensures { result.now ≡ kind_name self }
+    {
+        match self {
+            Kind::Data => b"DATA",
+            Kind::Grant => b"GRANT",
+            Kind::Resend => b"RESEND",
+            Kind::Busy => b"BUSY",
+            Kind::Cutoffs => b"CUTOFFS",
+            Kind::Unknown => b"UNKNOWN",
+            Kind::NeedAck => b"NEED_ACK",
+            Kind::Ack => b"ACK",
+        }
     }
 }
 
@@ -99,9 +171,9 @@ pub enum Body {
         to: u32,
         prio: u8,
     },
-    /// The answer will take a while.
+    /// There is nothing to send now: be patient.
     Busy,
-    /// The sender's cutoffs.
+    /// The sender's cutoffs, with their version.
     Cutoffs(Cutoffs),
     /// The server has no record of the call (reason 0), or ran and forgot it (reason 1).
     Unknown {
@@ -113,6 +185,61 @@ pub enum Body {
     Ack {
         more: More,
     },
+}
+
+impl Body {
+    /// The packet's kind.
+    pub fn kind(&self) -> Kind
+        ensures { result ≡ body_kind self.now }
+    {
+        match self {
+            Body::Data { .. } => Kind::Data,
+            Body::Grant { .. } => Kind::Grant,
+            Body::Resend { .. } => Kind::Resend,
+            Body::Busy => Kind::Busy,
+            Body::Cutoffs(_) => Kind::Cutoffs,
+            Body::Unknown { .. } => Kind::Unknown,
+            Body::NeedAck => Kind::NeedAck,
+            Body::Ack { .. } => Kind::Ack,
+        }
+    }
+
+    /// The same once more. It takes no memory, so it can't fail as `Clone` may.
+    pub fn copied(&self) -> Body
+        ensures { result ≡ self.now }
+    {
+        match self {
+            Body::Data {
+                length,
+                offset,
+                version,
+                service,
+                ack,
+            } => Body::Data {
+                length: *length,
+                offset: *offset,
+                version: *version,
+                service: *service,
+                ack: *ack,
+            },
+            Body::Grant { offset, prio } => Body::Grant {
+                offset: *offset,
+                prio: *prio,
+            },
+            Body::Resend { from, to, prio } => Body::Resend {
+                from: *from,
+                to: *to,
+                prio: *prio,
+            },
+            Body::Busy => Body::Busy,
+            Body::Cutoffs(cutoffs) => Body::Cutoffs(*cutoffs),
+            Body::Unknown { reason } => Body::Unknown { reason: *reason },
+            Body::NeedAck => Body::NeedAck,
+            Body::Ack { more } => Body::Ack {
+                more: more.copied(),
+            },
+        }
+    }
 }
 
 /// A packet without its payload: who sent it (`role`, and the sender's incarnation, at least 1), its level
@@ -127,4 +254,17 @@ pub struct Packet {
     pub seq: u32,
     pub at: u64,
     pub body: Body,
+}
+
+impl Packet {
+    /// The packet's call, where its client is this host.
+    pub fn call(&self, client: HostId) -> CallId
+        ensures { result ≡ record { client = client; inc = self.now.inc; seq = self.now.seq } }
+    {
+        CallId {
+            client,
+            inc: self.inc,
+            seq: self.seq,
+        }
+    }
 }

@@ -1,4 +1,4 @@
-// What is told of a row in a host's tables.
+// What a host says of a row in its tables.
 use crate::{CallId, HostId};
 
 /// The facts of a row's outgoing message: its length in bytes, its service, the bytes above the greatest end
@@ -25,7 +25,7 @@ pub struct RowFacts {
 /// What became of a row that was to send.
 #[derive(Clone, Copy, Debug, PartialEq, Eq)]
 pub enum Emitted {
-    /// The bytes from the first number up to the second, not with it, were taken.
+    /// The bytes from the first number up to but without the second were taken.
     Sent(u32, u32),
     /// Its next packet has more payload than there is credit for.
     Short,

@@ -1,6 +1,7 @@
 // The settings of a run.
 ghost use Rattle.std.specs.Prelude.{◌≡◌, ◌↔◌, IsOk};
 ghost use Rattle.homa_plain.specs.Settings.{between, first_outside};
+ghost use Rattle.homa_plain.specs.Text.{name_word};
 
 /// The settings of a run. All are whole numbers; `Settings::check` says which are valid.
 #[derive(Clone, Copy, Debug, PartialEq, Eq)]
@@ -57,10 +58,54 @@ pub enum Name {
     Wire,
 }
 
+impl Name {
+    /// All names, in the order of the settings.
+    pub const ALL: [Name; 15] = [
+        Name::Hosts,
+        Name::Seg,
+        Name::Window,
+        Name::Unsched,
+        Name::Overcommit,
+        Name::Rate,
+        Name::Resend,
+        Name::Tries,
+        Name::Life,
+        Name::Pages,
+        Name::Calls,
+        Name::Served,
+        Name::Rebalance,
+        Name::Skew,
+        Name::Wire,
+    ];
+
+    /// The word that names the setting in a schedule, as `overcommit`.
+    pub fn word(self) -> &'static [u8]
+        ensures { result.now ≡ name_word self }
+    {
+        match self {
+            Name::Hosts => b"hosts",
+            Name::Seg => b"seg",
+            Name::Window => b"window",
+            Name::Unsched => b"unsched",
+            Name::Overcommit => b"overcommit",
+            Name::Rate => b"rate",
+            Name::Resend => b"resend",
+            Name::Tries => b"tries",
+            Name::Life => b"life",
+            Name::Pages => b"pages",
+            Name::Calls => b"calls",
+            Name::Served => b"served",
+            Name::Rebalance => b"rebalance",
+            Name::Skew => b"skew",
+            Name::Wire => b"wire",
+        }
+    }
+}
+
 /// Why settings aren't valid, in the order in which the causes are tested.
 #[derive(Clone, Copy, Debug, PartialEq, Eq)]
 pub enum SettingFault {
-    /// This setting is outside its numbers. Here `unsched` and `rate` may be 1 to 1,000,000.
+    /// This setting is outside its range. Here `unsched` and `rate` may be 1 to 1,000,000.
     OutOfRange(Name),
     /// `unsched` is above `window`.
     UnschedOverWindow,
@@ -68,7 +113,7 @@ pub enum SettingFault {
     RateUnderSeg,
 }
 
-// The numbers that a setting may be, both ends included, and the number that it is.
+// The range of a setting, both ends included, and the number that it has.
 #[derive(Clone, Copy)]
 struct Limits {
     name: Name,
@@ -89,7 +134,7 @@ fn between(name: Name, least: u32, most: u32, value: u32) -> Limits
     }
 }
 
-// The first setting that is outside its numbers.
+// The first setting that is outside its range.
 fn first_outside(ranges: &[Limits]) -> Option<Name>
     ensures { result ≡ first_outside ranges.now }
 {
@@ -102,7 +147,8 @@ fn first_outside(ranges: &[Limits]) -> Option<Name>
 }
 
 impl Settings {
-    ghost use Rattle.homa_plain.specs.Settings.{usual, IsValid, verdict, ranges};
+    ghost use Rattle.homa_plain.specs.Settings.{usual, IsValid, verdict, ranges, setting};
+    ghost use Rattle.homa_plain.specs.Script.{with_setting};
 
     /// The settings that hold where none are given.
     pub fn usual() -> Settings
@@ -128,7 +174,7 @@ impl Settings {
         }
     }
 
-    /// Tells whether the settings are valid, and if not, the first fault: the ranges in the order of the
+    /// Returns the first fault of the settings, or none if they are valid: the ranges in the order of the
     /// settings, then `unsched` against `window`, then `rate` against `seg`.
     #[tactic(auto, using(crate::proofs::SettingsLemmas::ok_is_valid))]
     pub fn check(&self) -> Result<(), SettingFault>
@@ -145,6 +191,52 @@ impl Settings {
             return Err(SettingFault::RateUnderSeg);
         }
         Ok(())
+    }
+
+    /// The number of a setting.
+    pub fn get(&self, name: Name) -> u32
+        ensures { result ≡ setting self.now name }
+    {
+        match name {
+            Name::Hosts => self.hosts,
+            Name::Seg => self.seg,
+            Name::Window => self.window,
+            Name::Unsched => self.unsched,
+            Name::Overcommit => self.overcommit,
+            Name::Rate => self.rate,
+            Name::Resend => self.resend,
+            Name::Tries => self.tries,
+            Name::Life => self.life,
+            Name::Pages => self.pages,
+            Name::Calls => self.calls,
+            Name::Served => self.served,
+            Name::Rebalance => self.rebalance,
+            Name::Skew => self.skew,
+            Name::Wire => self.wire,
+        }
+    }
+
+    /// Gives a setting this number, which needn't be one that it may have: `check` tells.
+    pub fn set(&mut self, name: Name, n: u32)
+        ensures { self.new ≡ with_setting self.old name n }
+    {
+        match name {
+            Name::Hosts => self.hosts = n,
+            Name::Seg => self.seg = n,
+            Name::Window => self.window = n,
+            Name::Unsched => self.unsched = n,
+            Name::Overcommit => self.overcommit = n,
+            Name::Rate => self.rate = n,
+            Name::Resend => self.resend = n,
+            Name::Tries => self.tries = n,
+            Name::Life => self.life = n,
+            Name::Pages => self.pages = n,
+            Name::Calls => self.calls = n,
+            Name::Served => self.served = n,
+            Name::Rebalance => self.rebalance = n,
+            Name::Skew => self.skew = n,
+            Name::Wire => self.wire = n,
+        }
     }
 
     // The settings in their order, each with its numbers.

@@ -32,7 +32,7 @@ pub fn spelled_length()
     ensures longest { (longest 1 ≡ 1436) × (longest 2 ≡ 1444) }
 {}
 
-/// A payload is the end of its datagram: what stands behind the header and the fields.
+/// A payload is the end of its datagram: what follows the header and the fields.
 pub fn payload_is_last()
     ensures { (wire : ℕ) (bytes : List ℕ) (p : Packet) (payload : List ℕ) → Spells wire bytes p payload
         → payload ≡ drop (header_len wire + body_len p.body) bytes }

@@ -7,7 +7,6 @@
 #![tactic(auto)]
 
 mod book;
-mod copy;
 mod recorder;
 mod store;
 

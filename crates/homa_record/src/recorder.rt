@@ -11,7 +11,6 @@ ghost use Rattle.homa_record.specs.Notes.{kind_seen};
 ghost use Rattle.homa_record.specs.Seen.{texts, kind_text, strange_answer, Sees};
 
 use crate::book::{Book, Kind};
-use crate::copy::copy_body;
 use homa_io::{Sink, WriteFailed};
 use homa_plain::{CallId, Entry, Event, HostId, Packet, Settings};
 use homa_script::{put_event, put_settings};
@@ -210,7 +209,7 @@ impl<K: Sink> Observer for Recorder<K> {
                     inc: id.inc,
                     seq: id.seq,
                     at: 0,
-                    body: copy_body(body),
+                    body: body.copied(),
                 };
                 match self.book.keep(*number, *from, *to, packet, payload) {
                     Err(_) => Err(SeenFault::NoMemory),

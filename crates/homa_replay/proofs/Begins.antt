@@ -16,7 +16,7 @@ use Rattle.script_lines.specs.Read.{IsRead, IsCut}
 use Rattle.homa_script.specs.Script.{IsOpening}
 use Rattle.script_lines.specs.declared.stop.ScriptStop.TheVariants.{Fault}
 use Rattle.homa_replay.specs.Stream.{ending}
-use Rattle.homa_replay.specs.Far.{replay_of, is_unasked, AreFar, ArePrinted, AreParts}
+use Rattle.homa_replay.specs.Progress.{replay_of, is_unasked, AreFar, ArePrinted, AreParts}
 use Rattle.homa_replay.proofs.Fronts.{front_same}
 use Rattle.homa_replay.proofs.Plays.{front_amid}
 use Rattle.homa_replay.proofs.Fars.{far_start, far_to, fars_read, fars_end, fars_part, fars_cut}

@@ -10,8 +10,8 @@ use Rattle.script_lines.specs.Place.{Place, first_place}
 use Rattle.script_lines.specs.Taking.{TakesLines}
 use Rattle.script_lines.proofs.ReadParts.{some_left}
 use Rattle.script_lines.proofs.Takings.{lines_on}
-use Rattle.homa_replay.specs.Far.{Whole, AreFar}
-use Rattle.homa_replay.specs.Behind.{RefusesLast, IsReadUpTo}
+use Rattle.homa_replay.specs.Progress.{Whole, AreFar}
+use Rattle.homa_replay.specs.RefusedReads.{RefusesLast, IsReadUpTo}
 use Rattle.homa_replay.proofs.Fronts.{nothing_appended, wrote_more}
 
 module _ (a b : Place) (left left2 old mid new : Option (List ℕ)) (line : ℕ) (fault : LineFault)

@@ -20,11 +20,11 @@ use Rattle.script_lines.specs.Read.{IsRead}
 use Rattle.script_lines.proofs.ReadParts.{none_left}
 use Rattle.homa_plain.specs.Answers.{shown}
 use Rattle.homa_replay.specs.Stream.{is_refusal}
-use Rattle.homa_replay.specs.Opens.{IsFirst}
+use Rattle.homa_replay.specs.OpenWorld.{IsFirst}
 use Rattle.homa_replay.specs.Lines.{text_of, IsFront}
 use Rattle.homa_replay.specs.Stops.{prints_all}
 use Rattle.homa_replay.specs.declared.stop.Stop.{Stop}
-use Rattle.homa_replay.specs.Far.{Whole, replay_of, left_at, ArePrinted, AreParts}
+use Rattle.homa_replay.specs.Progress.{Whole, replay_of, left_at, ArePrinted, AreParts}
 use Rattle.homa_replay.proofs.Fronts.{nothing_appended, wrote_more}
 use Rattle.homa_replay.proofs.Fars.{far_start, fars_part}
 use Rattle.homa_replay.proofs.Plays.{text-with_told, printed_more, front_of, front_begins, front_behind}

@@ -13,7 +13,7 @@ use Rattle.script_lines.proofs.ReadParts.{none_left, read_start, read_on, read_m
 use Rattle.homa_plain.specs.Answers.{shown}
 use Rattle.homa_replay.specs.Stream.{ending, is_refusal}
 use Rattle.homa_replay.specs.Lines.{text_of, IsFront}
-use Rattle.homa_replay.specs.Far.{Whole, IsFar, IsPrinted, IsStopped, AreFar, ArePrinted, AreParts}
+use Rattle.homa_replay.specs.Progress.{Whole, IsFar, IsPrinted, IsStopped, AreFar, ArePrinted, AreParts}
 use Rattle.homa_replay.proofs.Fronts.{nothing_appended, wrote_more}
 use Rattle.homa_replay.proofs.Streams.{shown-append, shown_parts, told_parts}
 use Rattle.homa_replay.proofs.Plays.{text-with_told, printed_more, allowed_more, front_of, front_begins, front_behind}

@@ -27,8 +27,8 @@ use Rattle.homa_script.specs.Script.{is_end as script_end}
 use Rattle.homa_plain.specs.Answers.{shown, answering}
 use Rattle.homa_replay.specs.Stream.{goes_on, ending, refused_line}
 use Rattle.homa_replay.specs.Lines.{ArePlayed, AreRefused, AreCut}
-use Rattle.homa_replay.specs.Came.{given_of, line_events, is_end}
-use Rattle.homa_replay.specs.Far.{Whole, left_at, AreFar, AreParts}
+use Rattle.homa_replay.specs.NextLine.{given_of, line_events, is_end}
+use Rattle.homa_replay.specs.Progress.{Whole, left_at, AreFar, AreParts}
 use Rattle.homa_replay.proofs.Streams.{line_begins, line_over}
 use Rattle.homa_replay.proofs.Ticks.{length-ticks}
 use Rattle.homa_replay.proofs.Fronts.{front_same}

@@ -15,7 +15,7 @@ use Rattle.homa_plain.specs.World.{World}
 use Rattle.homa_plain.specs.Replay.{Happening, Replay, with_told, last_entry}
 use Rattle.homa_plain.specs.Answers.{shown, answering}
 use Rattle.homa_replay.specs.Stream.{goes_on, refused_line, IsRefused}
-use Rattle.homa_replay.specs.Playing.{IsApplied}
+use Rattle.homa_replay.specs.ReplayWorld.{IsApplied}
 use Rattle.homa_replay.specs.Lines.{text_of, IsFront, ArePlayed, AreRefused, AreCut}
 use Rattle.homa_replay.proofs.Fronts.{nothing_appended, wrote_more, front_after, front_wide, front_none, front_same}
 use Rattle.homa_replay.proofs.Streams.{event_done, event_refused, shown_parts, told_parts}

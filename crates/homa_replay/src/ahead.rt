@@ -6,7 +6,7 @@ ghost use Rattle.homa_replay.specs.Faults.{AreFaults};
 ghost use Rattle.homa_replay.specs.Part.{answer_of};
 
 use crate::part::Part;
-use crate::{Holding, Stop};
+use crate::{FlushSink, Stop};
 use homa_io::{ReadFailed, Source};
 use homa_plain::ScriptFault;
 use homa_script::{Reader, ScriptStop};
@@ -21,7 +21,7 @@ pub(crate) struct Ahead<'a, S, K> {
     faults: u64,
 }
 
-impl<'a, S: Source, K: Holding> Ahead<'a, S, K> {
+impl<'a, S: Source, K: FlushSink> Ahead<'a, S, K> {
     // Writes what is held, and reads.
     fn fetch(&mut self, buf: &mut [u8]) -> Result<usize, Stop>
         ensures fits { IfOk result (λ n. n ≤ length buf.new) }
@@ -51,10 +51,10 @@ impl<'a, S: Source, K: Holding> Ahead<'a, S, K> {
     }
 }
 
-impl<'a, S: Source, K: Holding> Source for Ahead<'a, S, K> {
+impl<'a, S: Source, K: FlushSink> Source for Ahead<'a, S, K> {
     ghost use Rattle.homa_replay.specs.Ahead.{IsHeeded};
     ghost use Rattle.homa_replay.specs.Counting.{counts};
-    ghost use Rattle.homa_replay.specs.Heeding.{heeded_self, heeded_on};
+    ghost use Rattle.homa_replay.specs.FlushedReads.{heeded_self, heeded_on};
     ghost use Rattle.std.specs.Prelude.{refl};
     ghost use Rattle.std.proofs.Common.{◌∙◌};
 
@@ -105,7 +105,7 @@ impl<'a, S: Source, K: Holding> Source for Ahead<'a, S, K> {
 }
 
 /// Reads a part, or why its line is refused. Before the source is read what is held is written.
-pub(crate) fn read_ahead<T: Part, S: Source, K: Holding>(
+pub(crate) fn read_ahead<T: Part, S: Source, K: FlushSink>(
     reader: &mut Reader,
     source: &mut S,
     sink: &mut K,

@@ -7,17 +7,17 @@
 #![tactic(auto)]
 
 mod ahead;
-mod holding;
+mod carrying;
+mod flush_sink;
 mod lines;
-mod opens;
 mod part;
-mod playing;
 mod print;
-mod schedule;
+mod replay_world;
+mod replays;
 mod stop;
 
-pub use holding::Holding;
-pub use opens::{Opens, replay};
-pub use playing::Playing;
-pub use schedule::{MOST_BYTES, begin, carry_on};
+pub use carrying::{MOST_BYTES, begin, carry_on};
+pub use flush_sink::FlushSink;
+pub use replay_world::ReplayWorld;
+pub use replays::{OpenWorld, replay};
 pub use stop::Stop;

@@ -4,12 +4,12 @@ ghost use Rattle.homa_io.specs.Outside.{HasRisen};
 ghost use Rattle.homa_plain.specs.declared.event.Event.TheVariants as event;
 ghost use Rattle.homa_plain.specs.Replay.{turns_of, ticks};
 ghost use Rattle.homa_plain.specs.World.{World};
-ghost use Rattle.homa_replay.specs.Playing.{is_memory};
+ghost use Rattle.homa_plain.specs.Entries.{is_memory};
 ghost use Rattle.homa_replay.specs.Lines.{tick_of, ArePlayed, AreRefused, AreCut};
 ghost use Rattle.homa_replay.specs.Stops.{prints_all};
 
 use crate::print::put_entries;
-use crate::{Playing, Stop};
+use crate::{ReplayWorld, Stop};
 use homa_io::Sink;
 use homa_plain::{Event, HostId, WorldFault};
 use std::alloc::Global;
@@ -22,7 +22,7 @@ fn is_memory(fault: &WorldFault) -> bool
 }
 
 /// Does an event and prints its entries, or answers why it is refused.
-pub(crate) fn play<P: Playing, K: Sink>(
+pub(crate) fn play<P: ReplayWorld, K: Sink>(
     alloc: Global,
     world: &mut P,
     sink: &mut K,
@@ -59,7 +59,7 @@ pub(crate) fn play<P: Playing, K: Sink>(
 }
 
 // A turn of each host.
-fn play_turns<P: Playing, K: Sink>(
+fn play_turns<P: ReplayWorld, K: Sink>(
     alloc: Global,
     world: &mut P,
     sink: &mut K,
@@ -96,7 +96,7 @@ fn play_turns<P: Playing, K: Sink>(
 }
 
 // The clock goes on, and then each host has a turn.
-fn play_tick<P: Playing, K: Sink>(
+fn play_tick<P: ReplayWorld, K: Sink>(
     alloc: Global,
     world: &mut P,
     sink: &mut K,
@@ -129,7 +129,7 @@ fn play_tick<P: Playing, K: Sink>(
 }
 
 /// So many ticks.
-pub(crate) fn play_ticks<P: Playing, K: Sink>(
+pub(crate) fn play_ticks<P: ReplayWorld, K: Sink>(
     alloc: Global,
     world: &mut P,
     sink: &mut K,

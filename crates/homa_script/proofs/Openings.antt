@@ -9,7 +9,7 @@ use Rattle.homa_plain.specs.Input.{words_of}
 use Rattle.homa_plain.specs.Settings.{verdict, usual}
 use Rattle.homa_plain.specs.Script.{Blank, SettingIs, Go, Steps, steps_from, Opening, Opened, Unopened, opened_by, opening, opening_from}
 use Rattle.homa_plain.specs.Script.{with_setting, phrase_in, phrase_of}
-use Rattle.homa_text.specs.Lines.{Reading}
+use Rattle.text_lines.specs.Lines.{Reading}
 use Rattle.script_lines.specs.declared.stop.ScriptStop.{ScriptStop}
 use Rattle.script_lines.specs.declared.stop.ScriptStop.TheVariants.{Read, Fault}
 use Rattle.script_lines.specs.Place.{Place, place_of, lines_left}

@@ -10,7 +10,7 @@ use borrow.Author.Tests.{ne_eqb}
 use Rattle.homa_plain.specs.Input.{without_feed, words_of, has_bytes, has_no_feed, ends_in_feed}
 use Rattle.homa_plain.specs.Text.{line_of_words}
 use Rattle.homa_plain.specs.Script.{phrase_in, phrase_of, without_return}
-use Rattle.homa_text.proofs.Feeds.{without_feed-feed, ends_in_feed-feed}
+use Rattle.text_lines.proofs.Feeds.{without_feed-feed, ends_in_feed-feed}
 use Rattle.script_lines.proofs.WordsOf.{parts_of}
 use Rattle.script_lines.proofs.NextLine.{text_is}
 use Rattle.homa_script.proofs.Phrases.{phrase_text}

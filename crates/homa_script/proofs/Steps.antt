@@ -3,7 +3,7 @@ use Rattle.std.proofs.Common.{◌≡◌, ℕ, ◌+◌, suc, arith, Bool, true, f
 use Rattle.homa_plain.specs.declared.fault.ScriptFault.{ScriptFault}
 use Rattle.homa_plain.specs.Input.{words_of}
 use Rattle.homa_plain.specs.Script.{Given, Blank, Happens, Steps, steps_from, phrase_in, phrase_of}
-use Rattle.homa_text.specs.Lines.{Reading}
+use Rattle.text_lines.specs.Lines.{Reading}
 use Rattle.script_lines.specs.declared.stop.ScriptStop.{ScriptStop}
 use Rattle.script_lines.specs.declared.stop.ScriptStop.TheVariants.{Read, Fault}
 use Rattle.script_lines.specs.Place.{place_of, lines_left}

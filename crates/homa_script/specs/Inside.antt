@@ -1,6 +1,6 @@
 -- A reader's fields, as contracts see them.
 use Rattle.std.specs.Prelude.{◌≡◌, ◌≤◌, Bool, true, false, Option, None, Some, take, length, vec_capacity}
-use Rattle.homa_text.specs.Lines.{reading}
+use Rattle.text_lines.specs.Lines.{reading}
 use Rattle.script_lines.specs.declared.stop.ScriptStop.{ScriptStop}
 use Rattle.script_lines.specs.Place.{place_of, IsCounted}
 use Rattle.homa_script.specs.declared.reader.Stage.{Stage}

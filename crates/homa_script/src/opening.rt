@@ -6,8 +6,8 @@ ghost use Rattle.homa_script.specs.Given.{line_of};
 
 use crate::event::read_event_word;
 use homa_plain::{Name, ScriptFault};
-use homa_text::read_name;
 use script_lines::{Words, is_comment};
+use text_lines::read_name;
 
 /// What a line before `go`, or `go` itself, stands for.
 #[derive(Clone, Copy)]

@@ -1,12 +1,13 @@
 // Schedules that are printed.
 ghost use Rattle.std.specs.List.{flat_map};
 ghost use Rattle.homa_io.specs.Writing.{IsWritten};
-ghost use Rattle.homa_plain.specs.Script.{event_text, setting_text, settings_text};
+ghost use Rattle.homa_plain.specs.Script.{event_text, settings_text};
+ghost use Rattle.homa_script.specs.Named.{named_text};
 
 use homa_io::{Sink, WriteFailed};
 use homa_plain::{Event, Name, Settings};
 use homa_text::Word::{Hex, Host, Number, Text};
-use homa_text::{name_bytes, put_line, told_settings};
+use homa_text::{put_line, told_settings};
 
 /// Writes the line of an event, with these bytes where it is a call or an injection, as `put_line`
 /// of `homa_text` does. After an error the sink took a front of the line.
@@ -41,12 +42,13 @@ pub fn put_event<K: Sink>(sink: &mut K, event: &Event, bytes: &[u8]) -> Result<(
     }
 }
 
-// Writes the lines of settings with their numbers.
-fn put_numbers<K: Sink>(sink: &mut K, numbers: &[(Name, u32)]) -> Result<(), WriteFailed>
-    ensures { IsWritten K.taken K.faults K.is_same result sink.old sink.new (flat_map setting_text numbers.now) }
+// Writes the lines of the settings that have these names.
+fn put_named<K: Sink>(sink: &mut K, settings: &Settings, names: &[Name]) -> Result<(), WriteFailed>
+    ensures { IsWritten K.taken K.faults K.is_same result sink.old sink.new (flat_map (named_text settings.now) names.now) }
 {
-    for (name, n) in numbers {
-        put_line(sink, &[Text(name_bytes(*name)), Number(u64::from(*n))])?;
+    for name in names {
+        let number = settings.get(*name);
+        put_line(sink, &[Text(name.word()), Number(u64::from(number))])?;
     }
     Ok(())
 }
@@ -57,24 +59,6 @@ fn put_numbers<K: Sink>(sink: &mut K, numbers: &[(Name, u32)]) -> Result<(), Wri
 pub fn put_settings<K: Sink>(sink: &mut K, settings: &Settings) -> Result<(), WriteFailed>
     ensures { IsWritten K.taken K.faults K.is_same result sink.old sink.new (settings_text settings.now) }
 {
-    let s = settings;
-    let numbers = [
-        (Name::Hosts, s.hosts),
-        (Name::Seg, s.seg),
-        (Name::Window, s.window),
-        (Name::Unsched, s.unsched),
-        (Name::Overcommit, s.overcommit),
-        (Name::Rate, s.rate),
-        (Name::Resend, s.resend),
-        (Name::Tries, s.tries),
-        (Name::Life, s.life),
-        (Name::Pages, s.pages),
-        (Name::Calls, s.calls),
-        (Name::Served, s.served),
-        (Name::Rebalance, s.rebalance),
-        (Name::Skew, s.skew),
-        (Name::Wire, s.wire),
-    ];
-    put_numbers(sink, &numbers[..told_settings(s)])?;
+    put_named(sink, settings, &Name::ALL[..told_settings(settings)])?;
     put_line(sink, &[Text(b"go")])
 }

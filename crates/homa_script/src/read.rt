@@ -2,7 +2,7 @@
 ghost use Rattle.std.specs.Prelude.{◌≡◌, ◌≤◌, ℕ, List, Some, true, false, length, vec_capacity, IfOk, IfErr, IfSome};
 ghost use Rattle.homa_io.specs.Outside.{HasRisen};
 ghost use Rattle.homa_plain.specs.Settings.{IsValid};
-ghost use Rattle.homa_text.specs.Lines.{reading};
+ghost use Rattle.text_lines.specs.Lines.{reading};
 ghost use Rattle.script_lines.specs.Place.{place_of, IsCounted};
 ghost use Rattle.script_lines.specs.Stops.{is_read, has_failed_read};
 ghost use Rattle.script_lines.specs.Taking.{TakesLines};
@@ -14,8 +14,8 @@ use crate::event::{Given, read_event_line};
 use crate::opening::{OpeningLine, read_opening_line};
 use homa_io::Source;
 use homa_plain::{ScriptFault, Settings};
-use homa_text::Lines;
-use script_lines::{ScriptStop, last_line, next_line, set};
+use script_lines::{ScriptStop, last_line, next_line};
+use text_lines::Lines;
 
 /// Reads the lines up to `go`, and gives the settings that hold there.
 pub(crate) fn read_settings<S: Source>(
@@ -43,7 +43,7 @@ pub(crate) fn read_settings<S: Source>(
     'lines: while next_line(lines, source)? {
         match read_opening_line(last_line(lines))? {
             OpeningLine::Blank => {}
-            OpeningLine::Setting(name, n) => set(&mut settings, name, n),
+            OpeningLine::Setting(name, n) => settings.set(name, n),
             OpeningLine::Go => {
                 settings.check()?;
                 return Ok(settings);

@@ -9,10 +9,10 @@ use crate::next::Next;
 use crate::read::{next_given, read_settings};
 use homa_io::Source;
 use homa_plain::Settings;
-use homa_text::Lines;
 use script_lines::ScriptStop;
 use std::alloc::{AllocError, Global};
 use std::marker::Model;
+use text_lines::Lines;
 
 // The most bytes of a line, the line feed not counted.
 const LONGEST_LINE: u32 = 2_100_000;

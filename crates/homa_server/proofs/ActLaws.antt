@@ -11,7 +11,7 @@ use Rattle.homa_plain.specs.Timers.{server_deadline, server_acts}
 use Rattle.msg_pool.specs.Pool.{Pool}
 use Rattle.homa_in.specs.Part.{Part}
 use Rattle.host_places.specs.Placed.{StandsAt, ArePlaced, spot_at, set_at}
-use Rattle.host_incoming.specs.Pooled.{AreIn, Moves}
+use Rattle.homa_in.specs.Pooled.{AreIn, Moves}
 use Rattle.homa_server.specs.Held.{HeldServer, seen_server, state_part}
 use Rattle.homa_server.specs.Answers.{HasTimer, HasServerActed, acted_of, after_act, goes}
 use Rattle.homa_server.specs.Table.{ServerRows, ServerMoved, request_at, server_at}

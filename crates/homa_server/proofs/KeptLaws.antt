@@ -1,11 +1,7 @@
 -- What holds of each row stays so.
-use Rattle.std.proofs.Common.{◌≡◌, ◌<◌, ◌≤◌, ◌^◌, ℕ, List, length, ltb, Option, Some, None, refl, ap, subst, ◌∙◌, arith, min}
-use Rattle.std.specs.Option.{option_map, MatchOption}
+use Rattle.std.proofs.Common.{◌≡◌, ◌<◌, ◌≤◌, ◌^◌, ℕ, List, length, ltb, Option, Some, None, refl, ◌∙◌, arith, min}
 use Rattle.std.proofs.lemmas.Bool.{cond_both}
-use Rattle.plain_sets.specs.Ranges.{Range, NoneIn, IsFirstIn}
-use Rattle.plain_sets.specs.Numbers.{Numbers, has, first_below}
-use Rattle.plain_sets.proofs.CutLaws.{first-first_in}
-use Rattle.range_set.specs.Fits.{bounds}
+use Rattle.plain_sets.specs.Ranges.{Range}
 use Rattle.homa_plain.specs.Outgoing.{Outgoing, opened, grant, resend, next, next_range, sent, is_busy, Resent, IsSound}
 use Rattle.homa_plain.proofs.OutgoingLaws.{sound-opened, sound-grant, sound-resend, sound-next}
 use Rattle.homa_server.specs.Held.{IsReplied, IsResponse}
@@ -31,19 +27,6 @@ module _ (response : List ℕ) (out : Outgoing) (base now : ℕ) (is : IsReplied
   kept-resend from to prio low = with_out (resend out from to prio).part (sound-resend out from to prio is.sound)
       (cond_both (is_busy out from (min to out.length)) _ _ (λ (r : Resent). r.part.length ≡ out.length) (λ _. refl) (λ _. refl))
       (cond_both (is_busy out from (min to out.length)) _ _ (λ (r : Resent). r.part.prio ≤ 7) (λ _. is.prio) (λ _. low))
-
--- the first range of some numbers below a limit
-pub first_within : (s : Numbers) (limit from to : ℕ) → Some (from, to) ≡ option_map bounds (first_below s limit) → (from < to) × (to ≤ limit)
-first_within s limit from to e = at (first_below s limit) refl e where
-  at : (o : Option Range) → first_below s limit ≡ o → Some (from, to) ≡ option_map bounds o → (from < to) × (to ≤ limit)
-  at None is e = cc
-  at (Some r) is e =
-      let first : IsFirstIn (has s) 0 limit r =
-      subst (λ (o : Option Range). MatchOption o (NoneIn (has s) 0 limit) (IsFirstIn (has s) 0 limit)) is (first-first_in s 0 limit) in
-      let pair : (from, to) ≡ bounds r = cc in
-      let from_is : from ≡ r.from = ap (λ (p : ℕ × ℕ). p.0) pair in
-      let to_is : to ≡ r.to = ap (λ (p : ℕ × ℕ). p.1) pair in
-      (omega (arith, first.some), omega (arith, first.high))
 
 -- bytes of a response are sent
 pub kept-next : (response : List ℕ) (out : Outgoing) (base now seg : ℕ) → IsReplied response out base → now < 2 ^ 63

@@ -5,8 +5,8 @@ use Rattle.homa_plain.specs.declared.id.CallId.{CallId}
 use Rattle.msg_pool.specs.Pool.{Pool}
 use Rattle.homa_in.specs.Part.{Part}
 use Rattle.host_places.specs.Placed.{StandsAt, ArePlaced, spot_at}
-use Rattle.host_incoming.specs.Pooled.{Moves, AreIn}
-use Rattle.host_incoming.proofs.MoveLaws.{still}
+use Rattle.homa_in.specs.Pooled.{Moves, AreIn}
+use Rattle.homa_in.proofs.MoveLaws.{still}
 use Rattle.homa_server.specs.Held.{HeldServer, state_part}
 use Rattle.homa_server.specs.Table.{ServerRows, request_at, slot_at}
 use Rattle.homa_server.proofs.StandLaws.{stands-slot, spot-there, lent_row, in_pool}

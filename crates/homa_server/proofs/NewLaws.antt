@@ -20,8 +20,8 @@ use Rattle.msg_pool.specs.Pool.{Pool, free_pages}
 use Rattle.homa_in.specs.Part.{Part}
 use Rattle.host_places.specs.Placed.{Placed}
 use Rattle.host_places.proofs.PlacedLaws.{changed-new, changed-none, get-insert_here}
-use Rattle.host_incoming.specs.Pieces.{piece_in, moment_with}
-use Rattle.host_incoming.specs.Pooled.{Moves, AreIn, pages_of}
+use Rattle.homa_in.specs.Pieces.{piece_in, moment_with}
+use Rattle.homa_in.specs.Pooled.{Moves, AreIn, pages_of}
 use Rattle.homa_server.specs.Held.{HeldServer, seen_server, state_part, response_in}
 use Rattle.homa_server.specs.Answers.{IsAnswered, IsAnswerBody, IsReply, IsSlotOf, slot_in, IfRan, IfSaid, has_run, served_of, IsAsked, acked_of}
 use Rattle.homa_server.specs.Table.{Servers, ServerRows, Served, packet_of, request_at, response_at, server_at, server_moment}

@@ -16,9 +16,9 @@ use Rattle.homa_plain.specs.AtServer.{piece_of, piece_added, opens, replying, wi
 use Rattle.homa_plain.proofs.ArrivalLaws.{first_taken}
 use Rattle.msg_pool.specs.Pool.{Pool, free_pages}
 use Rattle.homa_in.specs.Part.{Part}
-use Rattle.host_incoming.specs.Putting.{IsWholeAtOnce, IsBegun}
+use Rattle.homa_in.specs.Putting.{IsWholeAtOnce, IsBegun}
 use Rattle.homa_server.specs.Held.{HeldServer, Arriving, Keeping, Answering, seen_server, response_in}
-use Rattle.host_incoming.specs.Pieces.{moment_with}
+use Rattle.homa_in.specs.Pieces.{moment_with}
 use Rattle.homa_server.specs.Answers.{IsAsked}
 
 pub on_err : {T E : Type 0} (r : Result T E) (P : Type 0) → P → OnErr r P

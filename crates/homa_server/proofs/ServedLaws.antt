@@ -16,19 +16,18 @@ use Rattle.homa_plain.proofs.CallOrder.{call_total, call_same}
 use Rattle.msg_pool.specs.Pool.{Pool}
 use Rattle.host_places.specs.Placed.{Placed, StandsAt, ArePlaced, set_at}
 use Rattle.host_places.proofs.PlacedLaws.{one_call, set_at-insert, get-insert_here, get-insert_else}
-use Rattle.host_incoming.specs.Pooled.{Moves, AreIn}
+use Rattle.homa_in.specs.Pooled.{Moves, AreIn}
 use Rattle.homa_server.specs.Held.{HeldServer, seen_state, seen_server, state_part, response_in}
-use Rattle.host_incoming.specs.Pieces.{piece_in, moment_with}
+use Rattle.homa_in.specs.Pieces.{piece_in, moment_with}
 use Rattle.homa_server.specs.Answers.{IsAnswered, IsAnswerBody, IsReply, IsSlotOf, slot_in, slot_if, is_for, IfRan, IfSaid, served_of, IsAsked}
 use Rattle.homa_server.specs.Table.{Servers, ServerRows, Served, packet_of, request_at, response_at, server_at, server_moment}
 use Rattle.homa_server.specs.declared.answers.ServerDid.{ServerDid}
 use Rattle.homa_server.proofs.StandLaws.{server_is, new_is, slot_new, server_new, moved_new}
 
 -- facts of a call that succeeds, put together
-pub if_ok_all : {T E : Type 0} (r : Result T E) (A B C D F G N Q : T → Type 0) → IfOk r A → IfOk r B → IfOk r C → IfOk r D → IfOk r F → IfOk r G
-    → IfOk r N → ((t : T) → A t → B t → C t → D t → F t → G t → N t → Q t) → IfOk r Q
-if_ok_all (Ok t) A B C D F G N Q a b c d f g n h = h t a b c d f g n
-if_ok_all (Err e) A B C D F G N Q a b c d f g n h = tt
+pub if_ok_all : {T E : Type 0} (r : Result T E) (A B C Q : T → Type 0) → IfOk r A → IfOk r B → IfOk r C → ((t : T) → A t → B t → C t → Q t) → IfOk r Q
+if_ok_all (Ok t) A B C Q a b c h = h t a b c
+if_ok_all (Err e) A B C Q a b c h = tt
 
 -- and of one that fails
 pub on_err_so : {T E : Type 0} (r : Result T E) (P Q : Type 0) → OnErr r P → (P → Q) → OnErr r Q

@@ -13,8 +13,8 @@ use Rattle.homa_in.specs.Part.{Part}
 use Rattle.host_places.specs.Placed.{Placed, StandsAt, ArePlaced, Changed, spot_at, set_at}
 use Rattle.host_places.proofs.PlacedLaws.{one_call, spot-stands, set_at-insert, changed-put, changed-none, get-spot, get-insert_here, get-insert_else}
 use Rattle.host_places.proofs.PlacedLaws.{get-remove_here, get-remove_else}
-use Rattle.host_incoming.specs.Pooled.{Moves, AreIn, IsInPool}
-use Rattle.host_incoming.proofs.MoveLaws.{still}
+use Rattle.homa_in.specs.Pooled.{Moves, AreIn, IsInPool}
+use Rattle.homa_in.proofs.MoveLaws.{still}
 use Rattle.homa_server.specs.Held.{HeldServer, state_part, seen_state, seen_server}
 use Rattle.homa_server.specs.Answers.{acked_of}
 use Rattle.homa_plain.specs.AtServer.{server_acked, state_acked}

@@ -12,8 +12,8 @@ use Rattle.homa_in.specs.Part.{Part}
 use Rattle.host_places.specs.Placed.{Placed, Changed}
 use Rattle.host_places.proofs.MappedLaws.{get-mapped}
 use Rattle.host_places.proofs.PlacedLaws.{one_call, get-insert_here, get-insert_else, get-remove_here, get-remove_else}
-use Rattle.host_incoming.specs.Pooled.{Moves, AreIn, IsInPool, HasNumber, seen_part}
-use Rattle.host_incoming.proofs.MoveLaws.{still_in, seen_others}
+use Rattle.homa_in.specs.Pooled.{Moves, AreIn, IsInPool, HasNumber, seen_part}
+use Rattle.homa_in.proofs.MoveLaws.{still_in, seen_others}
 use Rattle.homa_server.specs.Held.{HeldServer, HeldState, Arriving, Keeping, Answering, Gone, state_part, seen_state, seen_server}
 use Rattle.homa_server.specs.Answers.{IsGrantable}
 use Rattle.homa_server.specs.Table.{Servers, ServerRows, ServerMoved, seen_servers, server_at, request_at}

@@ -1,9 +1,11 @@
 -- What a server's answers say of the plain rules.
-use Rattle.std.specs.Prelude.{◌≡◌, ◌+◌, ◌-◌, ◌==◌, ◌&&◌, ◌||◌, ◌<◌, ◌≤◌, not, IsSome, if◌then◌else◌, ℕ, Bool, true, false, Option, Some, None, List, [], ◌∷◌}
+use Rattle.std.specs.Prelude.{◌≡◌, ◌+◌, ◌==◌, ◌&&◌, ◌||◌, ◌<◌, ◌≤◌, not, IsSome, if◌then◌else◌, ℕ, Bool, true, false, Option, Some, None, List}
+use Rattle.std.specs.Prelude.{[], ◌∷◌, length}
 use Rattle.homa_plain.specs.declared.id.CallId.{CallId}
 use Rattle.homa_plain.specs.declared.packet.Body.{Body}
 use Rattle.homa_plain.specs.declared.packet.Body.TheVariants as body
 use Rattle.homa_plain.specs.declared.settings.Settings.{Settings}
+use Rattle.homa_plain.specs.Settings.{asking_level}
 use Rattle.homa_plain.specs.declared.row.Emitted.{Emitted}
 use Rattle.homa_plain.specs.declared.row.Emitted.TheVariants.{Rests}
 use Rattle.homa_plain.specs.declared.row.OutFacts.{OutFacts}
@@ -16,11 +18,11 @@ use Rattle.homa_plain.specs.Steps.{Asked}
 use Rattle.homa_plain.specs.Timers.{state_deadline}
 use Rattle.homa_plain.specs.Sending.{state_sends}
 use Rattle.msg_pool.specs.Pool.{Pool}
-use Rattle.host_incoming.specs.Pooled.{IsInPool}
+use Rattle.homa_in.specs.Pooled.{IsInPool}
 use Rattle.homa_in.specs.Part.{Part}
 use Rattle.homa_server.specs.Held.{HeldState, HeldServer, Arriving, Keeping, Answering, Gone, state_part, seen_state, seen_server}
-use Rattle.host_incoming.specs.Pieces.{first_version, size_in, opening_if}
-use Rattle.host_incoming.specs.Sends.{emits, is_sent}
+use Rattle.homa_in.specs.Pieces.{first_version, size_in, opening_if}
+use Rattle.homa_in.specs.Sends.{emits, is_sent}
 use Rattle.homa_server.specs.declared.answers.ServerDid.{ServerDid}
 use Rattle.homa_server.specs.declared.answers.ServerDid.TheVariants as did
 use Rattle.homa_server.specs.declared.answers.ServerAct.{ServerAct}
@@ -156,6 +158,12 @@ IfSaid (did.FullPages need free) P = Unit {0}
 IfSaid (did.Gaps slot) P = Unit {0}
 IfSaid (did.Say slot what) P = P what
 
+-- a row can take this response with this hold
+pub record CanReply (response : List ℕ) (ticks : ℕ) : Type 0 where
+  pub some : 0 < length response
+  pub size : length response ≤ 1000000
+  pub hold : ticks ≤ 1000000
+
 -- a server answers BUSY, or that it doesn't know the call
 abbrev pub IsAnswerBody : Body → Type 0
 IsAnswerBody body.Busy = Unit {0}
@@ -185,7 +193,7 @@ acked_of m id row (Some until) = says m row (Tells (PlainBury m.host id until) �
 
 -- what the plain rule did where a row whose timer was due answers this
 abbrev pub acted_of : Settings → Moment → CallId → Option ServerRow → ServerAct → Did ServerRow
-acted_of s m id row (act.Resend from to) = says m row (Posts (body.Resend from to (s.overcommit - 1)) ∷ [])
+acted_of s m id row (act.Resend from to) = says m row (Posts (body.Resend from to (asking_level s)) ∷ [])
 acted_of s m id row (act.Drop q) = says m row (Tells (PlainDrop m.host q) ∷ [])
 acted_of s m id row act.Release = record (leaves m row) { order = m.order + 1 }
 acted_of s m id row act.NeedAck = says m row (Posts body.NeedAck ∷ [])

@@ -1,4 +1,5 @@
 pub mod Held
+pub mod Lending
 pub mod View
 pub mod Answers
 pub mod Firsts

@@ -17,11 +17,11 @@ use Rattle.homa_plain.specs.Rules.{Moment, Answer}
 use Rattle.homa_plain.specs.AtServer.{server_gets}
 use Rattle.msg_pool.specs.Pool.{Pool, free_pages}
 use Rattle.homa_in.specs.Part.{Part}
-use Rattle.host_incoming.specs.Pooled.{Moves, pages_of}
+use Rattle.homa_in.specs.Pooled.{Moves, pages_of}
 use Rattle.host_places.specs.Mapped.{mapped}
 use Rattle.host_places.specs.Placed.{Placed, Table, Changed, rows_code}
 use Rattle.homa_server.specs.Held.{HeldServer, server_code, seen_server, state_part, response_in}
-use Rattle.host_incoming.specs.Pieces.{piece_in, moment_with}
+use Rattle.homa_in.specs.Pieces.{piece_in, moment_with}
 use Rattle.homa_server.specs.Answers.{IsAnswered, IsAnswerBody, IsSlotOf, slot_in, slot_if, is_for, IfRan, IfSaid}
 use Rattle.homa_server.specs.declared.answers.ServerDid.{ServerDid}
 

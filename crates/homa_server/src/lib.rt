@@ -9,11 +9,14 @@
 #![tactic(auto)]
 
 mod answers;
-mod first;
+mod gets;
+mod lent;
+mod opens;
 mod row;
-mod spans;
+mod sends;
 mod state;
 mod table;
+mod timers;
 
 pub use answers::{ServerAct, ServerDid};
 pub use table::ServerTable;

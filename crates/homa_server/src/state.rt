@@ -1,6 +1,7 @@
 // How far a server is with a call.
 ghost use Rattle.std.specs.Prelude.{◌≡◌, ◌+◌, ◌==◌, ◌<◌, ◌≤◌, length, if◌then◌else◌};
 ghost use Rattle.homa_plain.specs.Outgoing as outgoing;
+ghost use Rattle.homa_server.specs.Answers.{CanReply};
 ghost use Rattle.homa_server.specs.Held.{Keeping, Answering, IsKept};
 ghost use Rattle.homa_server.specs.View.{held_state};
 
@@ -10,19 +11,20 @@ use homa_service::Reply;
 
 #[derive(Drop)]
 pub(crate) enum State {
-    // The request arrives.
+    // The request arrives. The timer counts from `base` on, and `count` RESENDs were sent since something came that renews
+    // the call.
     Receiving {
         service: u8,
         part: Incoming,
         base: u64,
         count: u32,
     },
-    // The response is held back up to a tick.
+    // The response is held back up to tick `release`.
     Held {
         response: Vec<u8>,
         release: u64,
     },
-    // The response goes out.
+    // The response goes out, as far as `out` says; the timer as before, with NEED_ACKs in place of RESENDs.
     Replying {
         response: Vec<u8>,
         out: Outgoing,
@@ -30,7 +32,7 @@ pub(crate) enum State {
         base: u64,
         count: u32,
     },
-    // A tombstone: the service ran for the call, and its response is gone.
+    // A tombstone: the service ran for the call, and its response is gone. It stays up to tick `until`.
     Buried {
         until: u64,
     },
@@ -56,9 +58,7 @@ pub(crate) fn replying(response: Vec<u8>, now: u64, order: u64, unsched: u32) ->
 
 // The service has answered.
 pub(crate) fn answered(reply: Reply, now: u64, order: u64, unsched: u32) -> State
-    requires some { 0 < length reply.bytes }
-    requires size { length reply.bytes ≤ 1000000 }
-    requires hold { reply.hold ≤ 1000000 }
+    requires fits { CanReply reply.bytes reply.hold }
     requires unsched { 1 ≤ unsched }
     requires now { now ≤ 1000000002000 }
     ensures state { held_state result ≡ (if reply.hold == 0

@@ -8,26 +8,27 @@ ghost use Rattle.homa_plain.specs.declared.packet.Role.TheVariants.{Client as Of
 ghost use Rattle.homa_plain.specs.Settings.{IsValid};
 ghost use Rattle.homa_plain.specs.Packets.{packet_between};
 ghost use Rattle.homa_plain.specs.declared.id.HostId.{HostId};
-ghost use Rattle.homa_plain.specs.declared.packet.Role.{Role};
 ghost use Rattle.homa_plain.specs.declared.settings.Settings.{Settings};
-ghost use Rattle.homa_plain.specs.Rules.{Moment, Answer};
+ghost use Rattle.homa_plain.specs.Rules.{Moment as PlainMoment, Answer};
 ghost use Rattle.homa_plain.specs.AtServer.{server_gets, server_acked, unknown_gets};
 ghost use Rattle.homa_plain.specs.Timers.{server_deadline, server_acts};
 ghost use Rattle.homa_plain.specs.Sending.{server_granted};
 ghost use Rattle.msg_pool.specs.Pool.{Pool};
-ghost use Rattle.host_incoming.specs.Pooled.{AreIn};
+ghost use Rattle.homa_in.specs.Pooled.{AreIn};
 ghost use Rattle.host_places.specs.Placed.{Placed, StandsAt, ArePlaced, spot_at};
 ghost use Rattle.homa_server.specs.Held.{HeldServer, IsKept, seen_server, state_part, state_response, response_in};
-ghost use Rattle.host_incoming.specs.Pieces.{piece_in, IsFit, moment_with};
-ghost use Rattle.host_incoming.specs.Sends.{IfSent, IsAffordable};
+ghost use Rattle.homa_in.specs.Pieces.{piece_in, IsFit, moment_with};
+ghost use Rattle.homa_in.specs.Sends.{IfSent, IsAffordable};
 ghost use Rattle.homa_server.specs.Answers.{IsAnswered, IsAnswerBody, IsSlotOf, IfSaid, is_data, has_run, service_in, IsAsked, acked_of, acted_of};
 ghost use Rattle.homa_server.specs.Answers.{IfResend, HasServerActed, IsGrantable, state_emits, server_sends, server_facts};
-ghost use Rattle.homa_server.specs.Table.{packet_of, Servers, Served, ServerMoved, server_at, request_at, slot_at, server_moment};
+ghost use Rattle.homa_server.specs.Lending.{HasAsked, HasTaken, IsSame, IsRefused};
+ghost use Rattle.homa_server.specs.Table.{Servers, Served, ServerMoved, server_at, request_at, slot_at, server_moment};
 
-use crate::first::{First, open_row};
+use crate::lent::Lent;
+use crate::opens::{FirstPiece, open_row};
 use crate::row::Row;
 use crate::{ServerAct, ServerDid};
-use homa_in::Incoming;
+use homa_in::{Incoming, Moment, Piece};
 use homa_plain::{Body, CallId, Emitted, HostId, Packet, RowFacts, Settings};
 use homa_service::Service;
 use host_places::Rows;
@@ -105,35 +106,61 @@ impl ServerTable {
         ensures not_served { OnErr result (V.served service.new ≡ V.served service.old) }
         ensures allows_before { (count n hold : ℕ) (q r : List ℕ) → V.allows service.new count n q r hold → V.allows service.old count n q r hold }
     {
+        let mut lent = Lent {
+            pool,
+            service,
+            scratch,
+        };
+        self.gets(
+            alloc,
+            Moment { now, order },
+            from,
+            packet,
+            payload,
+            &mut lent,
+        )
+    }
+
+    // The same, with what is lent.
+    fn gets<V: Service>(
+        &mut self,
+        alloc: Global,
+        at: Moment,
+        from: HostId,
+        packet: &Packet,
+        payload: &[u8],
+        lent: &mut Lent<'_, V>,
+    ) -> Result<ServerDid, AllocError>
+        requires role { packet.now.role ≡ OfClient }
+        requires fits { IsFit packet.now.body payload.now }
+        requires now { at.now ≤ 1000000002000 }
+        requires order { at.order < 2 ^ 63 }
+        requires served { V.served lent.old.service.now < 2 ^ 63 }
+        requires pool { AreIn lent.old.pool.now (request_at self.old.rows) }
+        ensures received { IfOk result (λ did. Served self.old lent.old.pool.now (packet_between from self.old.host packet.now payload.now) at.now at.order
+            self.new lent.new.pool.now lent.new.scratch.now
+            (λ request response hold. V.allows lent.old.service.now (V.served lent.old.service.now)
+            (service_in (piece_in packet.now.body payload.now)) request response hold) did) }
+        ensures served { IfOk result (λ did. V.served lent.new.service.now
+            ≡ (if has_run did then V.served lent.old.service.now + 1 else V.served lent.old.service.now)) }
+        ensures pool { AreIn lent.new.pool.now (request_at self.new.rows) }
+        ensures asks { OnErr result ((a : Answer) → let p = packet_between from self.old.host packet.now payload.now in
+            IsAsked (record { client = from; inc = packet.now.inc; seq = packet.now.seq })
+            (service_in (piece_in packet.now.body payload.now)) lent.new.scratch.now
+            (server_gets self.old.settings (server_moment self.old at.now at.order lent.old.pool.now p.id) p a
+            (server_at lent.old.pool.now self.old.rows p.id))) }
+        ensures same { OnErr result (self.new ≡ self.old) }
+        ensures refused { OnErr result (IsRefused V.served lent.old lent.new) }
+        ensures lent { IsSame V.allows lent.old lent.new }
+    {
         let id = CallId {
             client: from,
             inc: packet.inc,
             seq: packet.seq,
         };
         match self.rows.find(id) {
-            Some(slot) => self.known_gets(
-                alloc,
-                id,
-                slot,
-                &packet.body,
-                payload,
-                now,
-                order,
-                pool,
-                service,
-                scratch,
-            ),
-            None => self.unknown_gets(
-                alloc,
-                id,
-                &packet.body,
-                payload,
-                now,
-                order,
-                pool,
-                service,
-                scratch,
-            ),
+            Some(slot) => self.known_gets(alloc, at, id, slot, &packet.body, payload, lent),
+            None => self.unknown_gets(alloc, at, id, &packet.body, payload, lent),
         }
     }
 
@@ -141,79 +168,49 @@ impl ServerTable {
     fn known_gets<V: Service>(
         &mut self,
         alloc: Global,
+        at: Moment,
         id: CallId,
         slot: u32,
         body: &Body,
         payload: &[u8],
-        now: u64,
-        order: u64,
-        pool: &mut MsgPool,
-        service: &mut V,
-        scratch: &mut Scratch,
+        lent: &mut Lent<'_, V>,
     ) -> Result<ServerDid, AllocError>
+        requires served { V.served lent.old.service.now < 2 ^ 63 }
+        requires pool { AreIn lent.old.pool.now (request_at self.old.rows) }
         requires stands { Some slot ≡ slot_at self.old.rows id }
         requires placed { ArePlaced self.old.settings.served self.old.rows }
         requires fits { IsFit body.now payload.now }
-        requires now { now ≤ 1000000002000 }
-        requires served { V.served service.old < 2 ^ 63 }
-        requires pool { AreIn pool.old (request_at self.old.rows) }
-        ensures received { IfOk result (λ did. (role : Role) (server : HostId) (inc at level : ℕ)
-            → let p = packet_of id body.now payload.now role server inc at level in
-            Served self.old pool.old p now order self.new pool.new scratch.new
-            (λ request response hold. V.allows service.old (V.served service.old) (service_in (piece_in body.now payload.now)) request response hold) did) }
-        ensures served { IfOk result (λ did.
-            V.served service.new ≡ (if has_run did then V.served service.old + 1 else V.served service.old)) }
-        ensures pool { AreIn pool.new (request_at self.new.rows) }
-        ensures asks { OnErr result ((role : Role) (server : HostId) (inc at level : ℕ) (a : Answer)
-            → let p = packet_of id body.now payload.now role server inc at level in
-            IsAsked id (service_in (piece_in body.now payload.now)) scratch.new
-            (server_gets self.old.settings (server_moment self.old now order pool.old p.id) p a (server_at pool.old self.old.rows p.id))) }
-        ensures same { OnErr result (self.new ≡ self.old) }
-        ensures same_pool { OnErr result (pool.new ≡ pool.old) }
-        ensures not_served { OnErr result (V.served service.new ≡ V.served service.old) }
-        ensures allows_before { (count n hold : ℕ) (q r : List ℕ) → V.allows service.new count n q r hold → V.allows service.old count n q r hold }
+        requires now { at.now ≤ 1000000002000 }
+        ensures taken { IfOk result (HasTaken V.served V.allows self.old id body.now payload.now at.now at.order lent.old self.new lent.new) }
+        ensures asked { OnErr result (HasAsked V.served self.old id body.now payload.now at.now at.order lent.old self.new lent.new) }
+        ensures pool { AreIn lent.new.pool.now (request_at self.new.rows) }
+        ensures lent { IsSame V.allows lent.old lent.new }
     {
         let settings = self.settings;
         let row = self.rows.row_mut(slot);
-        row.receive(
-            alloc, slot, body, payload, now, order, &settings, pool, service, scratch,
-        )
+        row.gets(alloc, at, slot, body, payload, &settings, lent)
     }
 
     // A packet of a call that has no row.
     fn unknown_gets<V: Service>(
         &mut self,
         alloc: Global,
+        at: Moment,
         id: CallId,
         body: &Body,
         payload: &[u8],
-        now: u64,
-        order: u64,
-        pool: &mut MsgPool,
-        service: &mut V,
-        scratch: &mut Scratch,
+        lent: &mut Lent<'_, V>,
     ) -> Result<ServerDid, AllocError>
+        requires served { V.served lent.old.service.now < 2 ^ 63 }
+        requires pool { AreIn lent.old.pool.now (request_at self.old.rows) }
         requires absent { get self.old.rows id ≡ None }
         requires fits { IsFit body.now payload.now }
-        requires now { now ≤ 1000000002000 }
-        requires order { order < 2 ^ 63 }
-        requires served { V.served service.old < 2 ^ 63 }
-        requires pool { AreIn pool.old (request_at self.old.rows) }
-        ensures received { IfOk result (λ did. (role : Role) (server : HostId) (inc at level : ℕ)
-            → let p = packet_of id body.now payload.now role server inc at level in
-            Served self.old pool.old p now order self.new pool.new scratch.new
-            (λ request response hold. V.allows service.old (V.served service.old) (service_in (piece_in body.now payload.now)) request response hold) did) }
-        ensures served { IfOk result (λ did.
-            V.served service.new ≡ (if has_run did then V.served service.old + 1 else V.served service.old)) }
-        ensures pool { AreIn pool.new (request_at self.new.rows) }
-        ensures asks { OnErr result ((role : Role) (server : HostId) (inc at level : ℕ) (a : Answer)
-            → let p = packet_of id body.now payload.now role server inc at level in
-            IsAsked id (service_in (piece_in body.now payload.now)) scratch.new
-            (server_gets self.old.settings (server_moment self.old now order pool.old p.id) p a (server_at pool.old self.old.rows p.id))) }
-        ensures same { OnErr result (self.new ≡ self.old) }
-        ensures same_pool { OnErr result (pool.new ≡ pool.old) }
-        ensures not_served { OnErr result (V.served service.new ≡ V.served service.old) }
-        ensures allows_before { (count n hold : ℕ) (q r : List ℕ) → V.allows service.new count n q r hold → V.allows service.old count n q r hold }
+        requires now { at.now ≤ 1000000002000 }
+        requires order { at.order < 2 ^ 63 }
+        ensures taken { IfOk result (HasTaken V.served V.allows self.old id body.now payload.now at.now at.order lent.old self.new lent.new) }
+        ensures asked { OnErr result (HasAsked V.served self.old id body.now payload.now at.now at.order lent.old self.new lent.new) }
+        ensures pool { AreIn lent.new.pool.now (request_at self.new.rows) }
+        ensures lent { IsSame V.allows lent.old lent.new }
     {
         let Body::Data {
             length,
@@ -228,23 +225,16 @@ impl ServerTable {
         if rows >= self.settings.served {
             return Ok(ServerDid::FullRows { rows });
         }
-        match open_row(
-            alloc,
-            id.client,
-            *length,
-            *offset,
-            *number,
-            payload,
-            now,
-            order,
-            &self.settings,
-            pool,
-            service,
-            scratch,
-        )? {
-            First::FullPages { need, free } => Ok(ServerDid::FullPages { need, free }),
-            First::Begun(row) => Ok(ServerDid::Opened(self.rows.insert(id, row))),
-            First::Ran { row, hold } => Ok(ServerDid::Ran {
+        let piece = Piece {
+            size: *length,
+            offset: *offset,
+            service: *number,
+            bytes: payload,
+        };
+        match open_row(alloc, at, id.client, piece, &self.settings, lent)? {
+            FirstPiece::FullPages { need, free } => Ok(ServerDid::FullPages { need, free }),
+            FirstPiece::Begun(row) => Ok(ServerDid::Opened(self.rows.insert(id, row))),
+            FirstPiece::Ran { row, hold } => Ok(ServerDid::Ran {
                 slot: self.rows.insert(id, row),
                 opened: true,
                 hold,
@@ -417,7 +407,7 @@ impl ServerTable {
 // The answer to a packet, which is no piece, of a call that has no row.
 fn no_record(body: &Body) -> ServerDid
     requires { is_data body.now ≡ false }
-    ensures did { (s : Settings) (m : Moment) (id : CallId) (payload response told : List ℕ)
+    ensures did { (s : Settings) (m : PlainMoment) (id : CallId) (payload response told : List ℕ)
         → IsAnswered s m id (piece_in body.now payload) (λ a. unknown_gets s m id body.now payload a) None response told result }
     ensures slot { IsSlotOf None result }
     ensures says { IfSaid result IsAnswerBody }

@@ -10,14 +10,14 @@ places table = table.places.items
 abbrev pub spares : {S : Type 0} → ServiceTable S → List S
 spares table = table.spares.items
 
--- what is in the host's place, if there is such a place
+-- the service in the host's place, if there is such a place
 abbrev pub place_of : {A : Type 0} → List (Option A) → ℕ → Option A
 place_of all host = slice_index_or all host None
 
--- the last of these, if there is one
+-- the last of some services, if there is one
 abbrev pub last_of : {A : Type 0} → List A → Option A
 last_of xs = slice_get xs (length xs - 1)
 
--- all but the last
+-- all services but the last
 abbrev pub front_of : {A : Type 0} → List A → List A
 front_of xs = take (length xs - 1) xs

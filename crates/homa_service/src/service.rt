@@ -4,7 +4,7 @@ ghost use Rattle.std.specs.Prelude.{◌≡◌, ◌+◌, ◌<◌, ◌≤◌, ◌^
 use crate::Reply;
 use std::alloc::{AllocError, Global};
 
-/// A service of up to 256 numbers. It answers a request, or fails only by want of memory.
+/// A service of up to 256 numbers. It answers a request, or fails because it is out of memory.
 pub trait Service: Drop {
     /// The number of its Ok answers.
     ghost served: { Self → ℕ };

@@ -5,7 +5,7 @@ use crate::Service;
 use homa_plain::HostId;
 use std::alloc::{AllocError, Global};
 
-/// A place for each host, which is empty while the host's service is out of it, and the services that no host has yet.
+/// A place for each host, which is empty while the host's service is lent, and the services that no host has yet.
 /// Contracts see both as lists.
 #[derive(Drop)]
 pub struct ServiceTable<S> {
@@ -56,7 +56,7 @@ impl<S: Service> ServiceTable<S> {
         *place = Some(service);
     }
 
-    /// Drops the host's service, and puts the last spare in its place. Where no spare is left, nothing changes.
+    /// Drops the host's service, and puts the last spare in its place. If no spare is left, nothing changes.
     pub fn replace(&mut self, host: HostId) -> Result<(), NoSpare>
         requires { IsSome (place_of (places self.old) host.0) }
         ensures none { IsErr result ↔ (spares self.old ≡ []) }

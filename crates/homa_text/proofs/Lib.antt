@@ -1,12 +1,4 @@
-pub mod Spelled
-pub mod Digits
-pub mod Taking
-pub mod InLine
-pub mod Feeds
-pub mod BeforeFeed
-pub mod NextLine
 pub mod Putting
 pub mod Texts
 pub mod LineParts
 pub mod Parts
-pub mod Told

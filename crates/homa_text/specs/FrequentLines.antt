@@ -9,7 +9,7 @@ use Rattle.homa_plain.specs.Text.{id_word, role_word, route_word, ack_word}
 use Rattle.homa_text.specs.declared.frequent_lines.Head.{Head}
 use Rattle.homa_text.specs.declared.frequent_lines.Piece.{Piece}
 
--- the first words; the kind has a space before and behind it
+-- the first words; the kind has a space before it and after it
 abbrev pub head_text : Head → List ℕ → List ℕ
 head_text head kind =
     codes "send" ++ 32 ∷ decimal head.number ++ 32 ∷ route_word head.from head.to ++ 32 ∷ decimal head.inc ++ kind ++ role_word head.role
@@ -45,6 +45,6 @@ IsBare body.NeedAck = Unit {0}
 IsBare (body.Ack more) = Unit {0}
 IsBare other = ⊥
 
--- words, each behind a space
+-- words, each after a space
 abbrev pub spaced_text : List (List ℕ) → List ℕ
 spaced_text words = flat_map (λ (word : List ℕ). 32 ∷ word) words

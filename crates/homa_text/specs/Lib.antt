@@ -1,10 +1,4 @@
-pub mod Lines
-pub mod LineRoom
-pub mod Rest
-pub mod Input
-pub mod Scan
 pub mod Written
 pub mod Put
 pub mod FrequentLines
-pub mod Told
 pub mod Turns

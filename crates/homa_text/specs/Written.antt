@@ -15,6 +15,6 @@ word_text (Id id) = id_word id
 word_text (Route from to) = route_word from to
 word_text (Call inc seq) = call_word (inc, seq)
 
--- a word behind a space
+-- a word after a space
 abbrev pub spaced_word : Word → List ℕ
 spaced_word word = 32 ∷ word_text word

@@ -1,4 +1,4 @@
-// Bytes, numbers and digits that are put behind a text.
+// Bytes, numbers and digits that are added to a text.
 ghost use Rattle.std.specs.Prelude.{◌≡◌, ◌≤◌, ◌<◌, ◌+◌, ◌*◌, ◌++◌, length, map, slice_index, decimal};
 ghost use Rattle.hex.specs.Hex.{lower_digits, encode_lower};
 ghost use Rattle.homa_text.specs.Turns.{by_turns, high_digit, low_digit};
@@ -10,7 +10,7 @@ use itoa::Buffer;
 // How many bytes are made to digits at once.
 const CHUNK: usize = 64;
 
-// The digit of a number below 16.
+// The hex digit of a number below 16: `0` to `9` are 48 to 57, `a` to `f` are 97 to 102.
 #[inline(always)]
 fn digit(n: u8) -> u8
     requires { n < 16 }
@@ -94,7 +94,7 @@ pub(crate) fn write_digits(bytes: &[u8], out: &mut [u8])
     }
 }
 
-/// Adds bytes.
+/// Adds bytes to the end of the text.
 #[inline(always)]
 pub(crate) fn add<const N: usize>(text: &mut ArrayVec<u8, N>, bytes: &[u8])
     requires { array_vec_len text.old + length bytes.now ≤ N }
@@ -132,7 +132,7 @@ pub(crate) fn add_number<const N: usize>(text: &mut ArrayVec<u8, N>, n: u64)
         .unwrap();
 }
 
-// Adds a few bytes in hex.
+// Adds fewer bytes than a part has, in hex.
 fn add_chunk<const N: usize>(text: &mut ArrayVec<u8, N>, bytes: &[u8])
     requires few { length bytes.now ≤ 64 }
     requires room { array_vec_len text.old + 2 * length bytes.now ≤ N }

@@ -3,19 +3,19 @@ ghost use Rattle.std.specs.Prelude.{◌≡◌, ◌+◌, ◌≤◌, ◌++◌, [],
 ghost use Rattle.arrayvec.specs.ArrayVec.{array_vec_len};
 ghost use Rattle.homa_plain.specs.Entries.{plain};
 ghost use Rattle.homa_plain.specs.Text.{settings_words, cutoffs_words, call_word, host_word, id_word, hex_word, fault_words, ack_word, role_word};
-ghost use Rattle.homa_plain.specs.Text.{kind_word, body_words, why_word, entry_words};
+ghost use Rattle.homa_plain.specs.Text.{body_words, why_word, entry_words};
 ghost use Rattle.homa_text.specs.Written.{word_text};
 
 use crate::Word::{self, Call, Hex, Host, Id, Number, Route, Text};
 use crate::fault_words::push_fault;
-use crate::name::told_settings;
 use arrayvec::ArrayVec;
 use homa_plain::{Body, CallId, Cutoffs, Entry, HostId, LineFault, Role, Settings, Why};
+use text_lines::told_settings;
 
-// The words of a line. No entry has more than sixteen.
+// The words of a line; no entry has more than sixteen.
 pub(crate) type WordList<'a> = ArrayVec<Word<'a>, 16>;
 
-// Adds words.
+// Adds words to the end of the list.
 pub(crate) fn push_all<'a>(list: &mut WordList<'a>, words: &[Word<'a>])
     requires { array_vec_len list.old + length words.now ≤ 16 }
     ensures texts { map word_text list.new.items ≡ map word_text list.old.items ++ map word_text words.now }
@@ -24,7 +24,7 @@ pub(crate) fn push_all<'a>(list: &mut WordList<'a>, words: &[Word<'a>])
     list.try_extend_from_slice(words).unwrap();
 }
 
-// A name, and words behind it.
+// Makes a name, and words after it.
 fn list_of<'a>(name: &'a [u8], words: &[Word<'a>]) -> WordList<'a>
     requires { length words.now ≤ 15 }
     ensures texts { map word_text result.items ≡ name.now ∷ map word_text words.now }
@@ -36,7 +36,7 @@ fn list_of<'a>(name: &'a [u8], words: &[Word<'a>]) -> WordList<'a>
     list
 }
 
-// Adds numbers.
+// Adds numbers, each as one word.
 fn push_numbers(list: &mut WordList<'_>, numbers: &[u32])
     requires { array_vec_len list.old + length numbers.now ≤ 16 }
     ensures { map word_text list.new.items ≡ map word_text list.old.items ++ map decimal numbers.now }
@@ -46,7 +46,7 @@ fn push_numbers(list: &mut WordList<'_>, numbers: &[u32])
     }
 }
 
-// Adds calls.
+// Adds calls, each as one word.
 fn push_calls(list: &mut WordList<'_>, calls: &[(u32, u32)])
     requires { array_vec_len list.old + length calls.now ≤ 16 }
     ensures { map word_text list.new.items ≡ map word_text list.old.items ++ map call_word calls.now }
@@ -56,7 +56,7 @@ fn push_calls(list: &mut WordList<'_>, calls: &[(u32, u32)])
     }
 }
 
-// The settings.
+// The words of the settings' line: 13 to 15 numbers.
 fn words_of_settings<'a>(s: &Settings) -> WordList<'a>
     ensures { map word_text result.items ≡ settings_words s.now }
 {
@@ -82,7 +82,7 @@ fn words_of_settings<'a>(s: &Settings) -> WordList<'a>
     list
 }
 
-// Adds cutoffs.
+// Adds cutoffs: their version and eight bounds.
 fn push_cutoffs(list: &mut WordList<'_>, cutoffs: &Cutoffs)
     requires { array_vec_len list.old ≤ 7 }
     ensures { map word_text list.new.items ≡ map word_text list.old.items ++ cutoffs_words cutoffs.now }
@@ -98,22 +98,6 @@ fn role_text<'a>(role: Role) -> Word<'a>
     match role {
         Role::Client => Text(b"c"),
         Role::Server => Text(b"s"),
-    }
-}
-
-// A packet's kind.
-fn kind_text<'a>(body: &Body) -> Word<'a>
-    ensures { word_text result ≡ kind_word body.now }
-{
-    match body {
-        Body::Data { .. } => Text(b"DATA"),
-        Body::Grant { .. } => Text(b"GRANT"),
-        Body::Resend { .. } => Text(b"RESEND"),
-        Body::Busy => Text(b"BUSY"),
-        Body::Cutoffs(_) => Text(b"CUTOFFS"),
-        Body::Unknown { .. } => Text(b"UNKNOWN"),
-        Body::NeedAck => Text(b"NEED_ACK"),
-        Body::Ack { .. } => Text(b"ACK"),
     }
 }
 
@@ -291,7 +275,7 @@ pub(crate) fn words_of_entry<'a>(entry: &Entry<'a>) -> WordList<'a>
             payload,
         } => {
             let sender = [Number(number), Route(from, to), Number(u64::from(inc))];
-            let packet = [kind_text(body), role_text(role), Id(id)];
+            let packet = [Text(body.kind().word()), role_text(role), Id(id)];
             words_of_send(&sender, &packet, level, body, payload)
         }
         Entry::Run {

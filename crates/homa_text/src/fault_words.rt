@@ -6,14 +6,14 @@ ghost use Rattle.homa_text.specs.Written.{word_text};
 
 use crate::Word::{self, Number, Text};
 use crate::entry_words::{WordList, push_all};
-use crate::name::{name_bytes, start_bytes};
 use homa_plain::{LineFault, Name, ScriptFault, SettingFault, StartFault, WorldFault};
+use text_lines::start_bytes;
 
 // The name of a setting.
 fn name_text(name: Name) -> Word<'static>
     ensures { word_text result ≡ name_word name }
 {
-    Text(name_bytes(name))
+    Text(name.word())
 }
 
 // Why a call can't start.

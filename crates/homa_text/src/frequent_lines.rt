@@ -144,7 +144,7 @@ pub(crate) fn add_spaced<const N: usize>(text: &mut ArrayVec<u8, N>, n: u64)
     add_number(text, n);
 }
 
-// Adds the first words of a packet's line. The kind has a space before and behind it.
+// Adds the first words of a packet's line. The kind has a space before it and after it.
 #[inline(always)]
 fn add_head<const N: usize>(text: &mut ArrayVec<u8, N>, head: Head, kind: &[u8])
     requires { array_vec_len text.old + length kind.now + 156 ≤ N }
@@ -162,7 +162,7 @@ fn add_head<const N: usize>(text: &mut ArrayVec<u8, N>, head: Head, kind: &[u8])
     add_id(text, head.id);
 }
 
-/// A GRANT.
+/// Makes the line of a GRANT.
 pub(crate) fn grant_line(text: &mut ShortLine, head: Head, offset: u64, prio: u64)
     requires { text.old.items ≡ [] }
     ensures { (level : ℕ) (payload : List ℕ) → text.new.items ≡ line_text (grant_sent head level offset prio payload) }
@@ -173,7 +173,7 @@ pub(crate) fn grant_line(text: &mut ShortLine, head: Head, offset: u64, prio: u6
     add(text, b"\n");
 }
 
-// The kind of a packet, with a space before and behind it.
+// The kind of a packet, with a space before it and after it.
 #[inline(always)]
 fn spaced_kind(body: &Body) -> &'static [u8]
     ensures kind { result.now ≡ 32 ∷ (kind_word body.now ++ codes " ") }
@@ -191,7 +191,7 @@ fn spaced_kind(body: &Body) -> &'static [u8]
     }
 }
 
-// Adds calls, each behind a space.
+// Adds calls, each after a space.
 #[inline(always)]
 fn add_calls(text: &mut ShortLine, calls: &[(u32, u32)])
     requires { array_vec_len text.old + 22 * length calls.now + 20 ≤ 256 }
@@ -204,7 +204,7 @@ fn add_calls(text: &mut ShortLine, calls: &[(u32, u32)])
     }
 }
 
-// Adds what a packet says, each word behind a space.
+// Adds what a packet says, each word after a space.
 #[inline(always)]
 fn add_bare(text: &mut ShortLine, body: &Body)
     requires bare { IsBare body.now }
@@ -225,7 +225,7 @@ fn add_bare(text: &mut ShortLine, body: &Body)
     }
 }
 
-/// A RESEND, BUSY, UNKNOWN, NEED_ACK or ACK.
+/// Makes the line of a RESEND, BUSY, UNKNOWN, NEED_ACK or ACK.
 pub(crate) fn bare_line(text: &mut ShortLine, head: Head, body: &Body)
     requires empty { text.old.items ≡ [] }
     requires bare { IsBare body.now }
@@ -263,7 +263,7 @@ fn add_piece<const N: usize>(text: &mut ArrayVec<u8, N>, piece: Piece)
     add(text, b" ");
 }
 
-/// The numbers of a piece of a message, with a space behind them.
+/// Makes the numbers of a piece of a message, with a space after them.
 pub(crate) fn piece_numbers<const N: usize>(text: &mut ArrayVec<u8, N>, head: Head, piece: Piece)
     requires empty { text.old.items ≡ [] }
     requires room { 311 ≤ N }
@@ -273,7 +273,7 @@ pub(crate) fn piece_numbers<const N: usize>(text: &mut ArrayVec<u8, N>, head: He
     add_piece(text, piece);
 }
 
-/// A piece of a message.
+/// Makes the line of a piece of a message.
 pub(crate) fn piece_line<const N: usize>(
     text: &mut ArrayVec<u8, N>,
     head: Head,

@@ -7,7 +7,7 @@ ghost use Rattle.homa_plain.specs.Entries.{PlainCall, PlainInject, PlainRun, Pla
 ghost use Rattle.homa_plain.specs.Text.{line_of_words, line_text};
 ghost use Rattle.homa_text.specs.Put.{Puts};
 ghost use Rattle.homa_text.specs.FrequentLines.{grant_sent, piece_sent, packet_sent, IsBare};
-ghost use Rattle.homa_text.specs.Told.{HasLine};
+ghost use Rattle.homa_plain.specs.Told.{HasLine};
 ghost use Rattle.homa_text.specs.Written.{word_text, spaced_word};
 
 use crate::Word;
@@ -25,9 +25,10 @@ use arrayvec::ArrayVec;
 use homa_io::{Sink, WriteFailed, write_all};
 use homa_plain::{Body, CallId, Entry, HostId};
 
-// How many bytes of a line are held before a write: of a line of numbers, of few bytes, of a short line, and of any other.
+// How many bytes of a line of words are held before a write.
 const TINY: usize = 256;
 
+// Room for the line of an entry of few bytes.
 const SMALL: usize = 1024;
 
 // Room for the numbers of a piece.
@@ -78,7 +79,7 @@ fn append<K: Sink, const N: usize>(
     Ok(())
 }
 
-// Holds a few bytes in hex, or writes them behind what was held. Their digits are made in room that is lent.
+// Holds a few bytes in hex, or writes them after what was held. Their digits are made in room that is lent.
 fn put_digits<K: Sink, const N: usize>(
     sink: &mut K,
     held: &mut Held<N>,
@@ -117,7 +118,7 @@ fn put_hex<K: Sink, const N: usize>(
     Ok(())
 }
 
-// Holds a word.
+// Holds one word of a line.
 fn put_word<K: Sink, const N: usize>(
     sink: &mut K,
     held: &mut Held<N>,
@@ -137,7 +138,7 @@ fn put_word<K: Sink, const N: usize>(
     }
 }
 
-// Holds a word behind a space.
+// Holds a word after a space.
 fn put_spaced<K: Sink, const N: usize>(
     sink: &mut K,
     held: &mut Held<N>,
@@ -149,7 +150,7 @@ fn put_spaced<K: Sink, const N: usize>(
     put_word(sink, held, word)
 }
 
-// Holds words, each behind a space.
+// Holds words, each after a space.
 fn put_others<K: Sink, const N: usize>(
     sink: &mut K,
     held: &mut Held<N>,
@@ -163,7 +164,7 @@ fn put_others<K: Sink, const N: usize>(
     Ok(())
 }
 
-// Writes a word, words behind it and a line feed.
+// Writes a word, words after it and a line feed.
 fn put_words<K: Sink, const N: usize>(
     sink: &mut K,
     held: &mut Held<N>,
@@ -180,7 +181,7 @@ fn put_words<K: Sink, const N: usize>(
 }
 
 /// Writes words with one space between two, and a line feed. This is one `write`, unless a word of bytes in hex is
-/// longer than 128 digits, the words than 256 bytes, or the sink takes only a part. After an error it took a front of the line.
+/// longer than 128 digits, the words than 256 bytes, or the sink takes only a part. After an error it took a prefix.
 pub fn put_line<K: Sink>(sink: &mut K, words: &[Word<'_>]) -> Result<(), WriteFailed>
     ensures { IsWritten K.taken K.faults K.is_same result sink.old sink.new (line_of_words (map word_text words.now)) }
 {
@@ -399,7 +400,7 @@ fn put_other<K: Sink>(sink: &mut K, entry: &Entry<'_>) -> Result<(), WriteFailed
     }
 }
 
-// Writes the line of a packet, which is this entry.
+// Writes the line of this entry, which is a packet.
 fn put_packet<K: Sink>(
     sink: &mut K,
     entry: &Entry<'_>,
@@ -442,7 +443,7 @@ fn put_packet<K: Sink>(
     }
 }
 
-/// Writes the line of an entry, as `put_line` does. No line tells that memory is wanting, so no entry of
+/// Writes the line of an entry, as `put_line` does. Out of memory is the entry of no line, so no entry of
 /// that is handed in.
 pub fn put_entry<K: Sink>(sink: &mut K, entry: &Entry<'_>) -> Result<(), WriteFailed>
     requires { HasLine (plain entry.now) }

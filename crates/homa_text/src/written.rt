@@ -10,13 +10,13 @@ use homa_plain::{CallId, HostId};
 /// A word of a line.
 #[derive(Clone, Copy, Debug, PartialEq, Eq)]
 pub enum Word<'a> {
-    /// These bytes.
+    /// These bytes, as they are.
     Text(&'a [u8]),
     /// A number in decimal digits.
     Number(u64),
     /// Bytes in lower-case hex; a hyphen where there are none.
     Hex(&'a [u8]),
-    /// A host's number.
+    /// A host's number, as `3`.
     Host(HostId),
     /// A call: its client, the client's incarnation and the sequence number, with dots between them.
     Id(CallId),
@@ -41,7 +41,7 @@ impl Default for Word<'_> {
 // A text of numbers, which are three at most.
 pub(crate) type NumberText = ArrayVec<u8, 64>;
 
-// A number.
+// The decimal digits of a number.
 pub(crate) fn number_text(n: u64) -> NumberText
     ensures { result.items ≡ decimal n }
 {

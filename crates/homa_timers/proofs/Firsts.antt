@@ -13,7 +13,7 @@ use Rattle.plain_sets.proofs.OrderSame.{ordered-sorted, ordered-filter}
 use Rattle.homa_plain.specs.Choice.{due, most_acts}
 use Rattle.place_heap.specs.Order as heap
 use Rattle.place_heap.specs.Order.{Item}
-use Rattle.place_books.proofs.Books.{keys-differ}
+use Rattle.host_heap.proofs.Books.{keys-differ}
 use Rattle.homa_timers.specs.Armed.{Timer, timer_key, timer_of, NoneDue}
 
 -- the first of a front that isn't empty is the first of all

@@ -7,7 +7,7 @@ use Rattle.plain_sets.proofs.OrderSame.{filter-all}
 use Rattle.place_heap.specs.Order as heap
 use Rattle.place_heap.specs.Order.{Item}
 use Rattle.place_heap.specs.Held.{Held, list_of}
-use Rattle.place_books.proofs.Books.{without-things, entered-things, filter-in_order, others-left, free-others, filter-differ, placed-differ}
+use Rattle.host_heap.proofs.Books.{without-things, entered-things, filter-in_order, others-left, free-others, filter-differ, placed-differ}
 use Rattle.homa_timers.specs.Armed.{Timer, timer_key, timer_of, item_of, Armed, armed_by, without, IsOwnOrder, IsSound}
 
 -- the timers after one is gone

@@ -6,9 +6,6 @@
 //! memory.
 #![tactic(auto)]
 
-#[cfg(test)]
-mod tests;
-
 ghost use Rattle.std.specs.Prelude.{◌≡◌, ◌+◌, ◌<◌, ◌↔◌, [], length, map, IsNone, IfSome, IfOk};
 ghost use Rattle.std.specs.Option.{option_map};
 ghost use Rattle.place_heap.specs.Held.{list_of};
@@ -18,7 +15,7 @@ ghost use Rattle.homa_plain.specs.Settings.{IsValid};
 ghost use Rattle.homa_timers.specs.Armed.{timer_key, without, IsOwnOrder, NoneDue, IsSound, item_of};
 
 use homa_plain::Settings;
-use place_books::{first, replace};
+use host_heap::{first, replace};
 use place_heap::{Key, PlaceHeap};
 use std::alloc::{AllocError, Global};
 use std::marker::Model;
@@ -49,7 +46,7 @@ impl Timers {
         ensures sound { IfOk result IsSound }
     {
         Ok(Timers {
-            heap: PlaceHeap::new(alloc, settings.calls + settings.served)?,
+            heap: PlaceHeap::new(alloc, settings.slots())?,
         })
     }
 

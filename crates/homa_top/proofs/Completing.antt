@@ -1,7 +1,7 @@
 -- What keeps a node whose script is never refused from its end.
 use Rattle.std.proofs.Common.{◌≡◌, ◌≢◌, ◌⊎◌, inl, inr, ℕ, Option, List, refl}
 use Rattle.homa_plain.specs.Entries.{PlainEntry}
-use Rattle.node_trace.specs.Traces.{Around}
+use Rattle.node_output.specs.Traces.{Around}
 use Rattle.homa_top.specs.declared.exit.ExitStatus.{ExitStatus}
 use Rattle.homa_top.specs.declared.exit.ExitStatus.TheVariants.{Done, NoCommand, Refused, ReadFailed, WriteFailed, NoMemory, NetFailed, Stalled, Stranger}
 use Rattle.homa_top.specs.Commands.{HasRun, IsNeverRefused}

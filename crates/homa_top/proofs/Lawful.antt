@@ -2,11 +2,11 @@
 use Rattle.std.proofs.Common.{◌≡◌, ◌≤◌, ◌⊎◌, inl, inr, ℕ, Bool, Option, Some, List, arith}
 use Rattle.homa_plain.specs.Entries.{PlainEntry}
 use Rattle.homa_plain.specs.Replay.{replay, lines}
-use Rattle.trace_induction.specs.Always.{last_incarnation}
-use Rattle.homa_replay.specs.Far.{replay_of, ArePrinted}
-use Rattle.replay_laws.specs.Replays.{OpensWorld}
-use Rattle.replay_laws.proofs.Obeyed.{obeyed}
-use Rattle.node_trace.specs.Traces.{Around}
+use Rattle.trace_steps.specs.Always.{last_incarnation}
+use Rattle.homa_replay.specs.Progress.{replay_of, ArePrinted}
+use Rattle.trace_laws.specs.Replays.{OpensWorld}
+use Rattle.trace_laws.proofs.Obeyed.{obeyed}
+use Rattle.node_output.specs.Traces.{Around}
 use Rattle.node_print_laws.specs.Printed.{OpensNode, AreFair, TookAll}
 use Rattle.node_print_laws.proofs.Printed.{whole_obeys, part_obeys}
 use Rattle.homa_top.specs.declared.exit.ExitStatus.{ExitStatus}

@@ -1,14 +1,14 @@
 -- What a node's run printed and which count of faults rose, by the status.
-use Rattle.std.proofs.Common.{◌≡◌, ◌≢◌, ℕ, Option, Result, Ok, Err, List, refl, ap}
+use Rattle.std.proofs.Common.{◌≡◌, ◌≢◌, inl, ℕ, Option, Result, Ok, Err, List, refl, ap}
 use Rattle.homa_io.specs.Outside.{HasRisen}
 use Rattle.homa_plain.specs.Entries.{PlainEntry}
 use Rattle.node_turns.specs.Faults.{Counts}
-use Rattle.node_trace.specs.declared.end.NodeEnd.{NodeEnd}
-use Rattle.node_trace.specs.declared.end.NodeEnd.TheVariants as end
-use Rattle.node_trace.specs.declared.end.Broken.{Broken}
-use Rattle.node_trace.specs.declared.end.Broken.TheVariants as broken
-use Rattle.node_trace.specs.Ends.{HaveFaults}
-use Rattle.node_trace.specs.Traces.{Around, IsPrinted}
+use Rattle.node_output.specs.declared.trace_end.NodeEnd.{NodeEnd}
+use Rattle.node_output.specs.declared.trace_end.NodeEnd.TheVariants as end
+use Rattle.node_output.specs.declared.trace_end.Broken.{Broken}
+use Rattle.node_output.specs.declared.trace_end.Broken.TheVariants as broken
+use Rattle.node_output.specs.TraceEnds.{HaveFaults}
+use Rattle.node_output.specs.Traces.{Around, IsPrinted}
 use Rattle.homa_top.specs.declared.exit.ExitStatus.{ExitStatus}
 use Rattle.homa_top.specs.declared.exit.ExitStatus.TheVariants.{Done, NoCommand, Refused, ReadFailed, WriteFailed, NoMemory, NetFailed, Stalled, Stranger}
 use Rattle.homa_top.specs.Exits.{status_of_node}
@@ -23,23 +23,30 @@ module _ (may_tell : List PlainEntry → Type 0) (bytes : List ℕ) (left : Opti
     refused = λ e. absurd cc;
     stalled = λ e. absurd cc;
     front = λ e. absurd cc;
+    midst = λ e. absurd cc;
   }
   has_run (Ok (end.Refused line fault)) p = record {
     ended = λ e. absurd cc;
     refused = λ _. record { line = line; fault = fault; whole = p.0 };
     stalled = λ e. absurd cc;
     front = λ e. absurd cc;
+    midst = λ e. absurd cc;
   }
   has_run (Ok (end.Stalled turns now)) p = record {
     ended = λ e. absurd cc;
     refused = λ e. absurd cc;
     stalled = λ _. record { turns = turns; now = now; whole = p.0 };
     front = λ e. absurd cc;
+    midst = λ e. absurd cc;
   }
-  has_run (Err broken.Read) p = record { ended = λ e. absurd cc; refused = λ e. absurd cc; stalled = λ e. absurd cc; front = λ _. p }
-  has_run (Err broken.Write) p = record { ended = λ e. absurd cc; refused = λ e. absurd cc; stalled = λ e. absurd cc; front = λ _. p }
-  has_run (Err broken.Net) p = record { ended = λ e. absurd cc; refused = λ e. absurd cc; stalled = λ e. absurd cc; front = λ _. p }
-  has_run (Err broken.NoMemory) p = record { ended = λ e. absurd cc; refused = λ e. absurd cc; stalled = λ e. absurd cc; front = λ _. p }
+  has_run (Err broken.Read) p = record
+      { ended = λ e. absurd cc; refused = λ e. absurd cc; stalled = λ e. absurd cc; front = λ _. inl p; midst = λ _ _. p }
+  has_run (Err broken.Write) p = record
+      { ended = λ e. absurd cc; refused = λ e. absurd cc; stalled = λ e. absurd cc; front = λ _. p; midst = λ _ never. absurd (never refl) }
+  has_run (Err broken.Net) p = record
+      { ended = λ e. absurd cc; refused = λ e. absurd cc; stalled = λ e. absurd cc; front = λ _. inl p; midst = λ _ _. p }
+  has_run (Err broken.NoMemory) p = record
+      { ended = λ e. absurd cc; refused = λ e. absurd cc; stalled = λ e. absurd cc; front = λ _. inl p; midst = λ _ _. p }
 
 -- nothing is strange to a node
 pub is_usual : (answer : Result NodeEnd Broken) → status_of_node answer ≢ Stranger

@@ -5,13 +5,13 @@ use Rattle.std.specs.Option.{option_map}
 use Rattle.homa_plain.specs.Entries.{PlainEntry}
 use Rattle.homa_plain.specs.declared.fault.LineFault.{LineFault}
 use Rattle.node_runs.specs.Course.{End, Ended, RefusedAt, StalledAt}
-use Rattle.node_runs.specs.Texts.{end_status, recording_text}
+use Rattle.node_runs.specs.Texts.{end_status}
 use Rattle.node_turns.specs.Faults.{Counts}
-use Rattle.node_trace.specs.Traces.{Around, IsBrokenOff, IsEndCut}
-use Rattle.node_record.specs.declared.end.Recorded.{Recorded}
-use Rattle.node_record.specs.declared.end.Recorded.TheVariants as how
-use Rattle.node_record.specs.Ends.{HaveFaults}
-use Rattle.node_record.specs.Recorded as recording
+use Rattle.node_output.specs.Traces.{Around, IsBrokenOff, IsEndCut, recording_telling}
+use Rattle.node_output.specs.declared.recording_end.Recorded.{Recorded}
+use Rattle.node_output.specs.declared.recording_end.Recorded.TheVariants as how
+use Rattle.node_output.specs.RecordingEnds.{HaveFaults}
+use Rattle.node_output.specs.Recorded as recording
 use Rattle.homa_top.specs.declared.exit.ExitStatus.{ExitStatus}
 use Rattle.homa_top.specs.declared.exit.ExitStatus.TheVariants.{Done, NoCommand, Refused, ReadFailed, WriteFailed, NoMemory, NetFailed, Stalled, Stranger}
 use Rattle.homa_top.specs.Exits.{status_of_recorded}
@@ -22,13 +22,15 @@ use Rattle.homa_top.proofs.NodeEnds.{no_fault, read_failed, write_failed, net_fa
 -- the recording was printed, or a front of it
 module _ (may_tell : List PlainEntry → Type 0) (bytes : List ℕ) (left : Option (List ℕ)) (old new : Around) where
   broken_off : (status : ExitStatus) → status ≢ Done → status ≢ Refused → status ≢ Stalled → status ≢ Stranger
-      → IsBrokenOff may_tell recording_text bytes left old new ⊎ IsEndCut may_tell recording_text bytes old new → HasRecorded may_tell bytes left old new status
-  broken_off status done refused stalled stranger p = record {
+      → IsBrokenOff may_tell recording_telling bytes left old new ⊎ IsEndCut may_tell recording_telling bytes old new
+      → (status ≢ WriteFailed → IsBrokenOff may_tell recording_telling bytes left old new) → HasRecorded may_tell bytes left old new status
+  broken_off status done refused stalled stranger p q = record {
     ended = λ e. absurd (done e);
     refused = λ e. absurd (refused e);
     stalled = λ e. absurd (stalled e);
     stranger = λ e. absurd (stranger e);
     front = λ _. p;
+    midst = λ _ never. q never;
   }
 
   pub has_recorded : (answer : Recorded) → recording.HasRecorded may_tell bytes left old new answer
@@ -39,6 +41,7 @@ module _ (may_tell : List PlainEntry → Type 0) (bytes : List ℕ) (left : Opti
     stalled = λ e. absurd cc;
     stranger = λ e. absurd cc;
     front = λ e. absurd cc;
+    midst = λ e. absurd cc;
   }
   has_recorded how.Refused p = record {
     ended = λ e. absurd cc;
@@ -46,6 +49,7 @@ module _ (may_tell : List PlainEntry → Type 0) (bytes : List ℕ) (left : Opti
     stalled = λ e. absurd cc;
     stranger = λ e. absurd cc;
     front = λ e. absurd cc;
+    midst = λ e. absurd cc;
   }
   has_recorded how.Stalled p = record {
     ended = λ e. absurd cc;
@@ -53,6 +57,7 @@ module _ (may_tell : List PlainEntry → Type 0) (bytes : List ℕ) (left : Opti
     stalled = λ _. p;
     stranger = λ e. absurd cc;
     front = λ e. absurd cc;
+    midst = λ e. absurd cc;
   }
   has_recorded how.Stranger p = record {
     ended = λ e. absurd cc;
@@ -60,11 +65,12 @@ module _ (may_tell : List PlainEntry → Type 0) (bytes : List ℕ) (left : Opti
     stalled = λ e. absurd cc;
     stranger = λ _. p;
     front = λ e. absurd cc;
+    midst = λ e. absurd cc;
   }
-  has_recorded how.ReadFailed p = broken_off ReadFailed (λ e. cc) (λ e. cc) (λ e. cc) (λ e. cc) p
-  has_recorded how.WriteFailed p = broken_off WriteFailed (λ e. cc) (λ e. cc) (λ e. cc) (λ e. cc) p
-  has_recorded how.NetFailed p = broken_off NetFailed (λ e. cc) (λ e. cc) (λ e. cc) (λ e. cc) p
-  has_recorded how.NoMemory p = broken_off NoMemory (λ e. cc) (λ e. cc) (λ e. cc) (λ e. cc) p
+  has_recorded how.ReadFailed p = broken_off ReadFailed (λ e. cc) (λ e. cc) (λ e. cc) (λ e. cc) (inl p) (λ _. p)
+  has_recorded how.WriteFailed p = broken_off WriteFailed (λ e. cc) (λ e. cc) (λ e. cc) (λ e. cc) p (λ never. absurd (never refl))
+  has_recorded how.NetFailed p = broken_off NetFailed (λ e. cc) (λ e. cc) (λ e. cc) (λ e. cc) (inl p) (λ _. p)
+  has_recorded how.NoMemory p = broken_off NoMemory (λ e. cc) (λ e. cc) (λ e. cc) (λ e. cc) (inl p) (λ _. p)
 
 -- no recording has the status of words that are no command
 pub is_command : (answer : Recorded) → status_of_recorded answer ≢ NoCommand

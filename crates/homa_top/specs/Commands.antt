@@ -1,18 +1,18 @@
 -- What the commands beside `replay` print, by their status.
-use Rattle.std.specs.Prelude.{◌≡◌, ◌≤◌, ◌⊎◌, ℕ, true, Option, Some, List, []}
+use Rattle.std.specs.Prelude.{◌≡◌, ◌≢◌, ◌≤◌, ◌⊎◌, ℕ, true, Option, Some, List, []}
 use Rattle.homa_io.specs.Outside.{appended, TookFront, IsAtEnd}
 use Rattle.homa_plain.specs.declared.fault.LineFault.{LineFault}
 use Rattle.homa_plain.specs.Settings.{usual}
 use Rattle.homa_plain.specs.Entries.{PlainEntry}
-use Rattle.homa_plain.specs.Judge.{Clause}
+use Rattle.trace_rules.specs.Judge.{Clause}
 use Rattle.homa_plain.specs.Quiet.{IsQuiet}
 use Rattle.homa_plain.specs.Answers.{shown}
 use Rattle.homa_plain.specs.Rules.{Answer}
 use Rattle.node_runs.specs.Course.{Receive, AreTicks, AreReceived, Ended, RefusedAt, StalledAt, node_run}
-use Rattle.node_runs.specs.Texts.{entries, node_text, recording_text}
+use Rattle.node_runs.specs.Texts.{entries}
 use Rattle.homa_node.specs.Served.{AreGiven}
-use Rattle.node_trace.specs.Traces.{Around, IsWhole, IsBrokenOff, IsEndCut}
-use Rattle.node_record.specs.Recorded as recording
+use Rattle.node_output.specs.Traces.{Around, IsWhole, IsBrokenOff, IsEndCut, node_telling, recording_telling}
+use Rattle.node_output.specs.Recorded as recording
 use Rattle.check_verdict.specs.Text.{IsTrace, IsNoTrace}
 use Rattle.check_verdict.specs.Verdict as verdict
 use Rattle.check_verdict.specs.Verdict.{verdict_of}
@@ -24,11 +24,11 @@ use Rattle.homa_top.specs.declared.exit.ExitStatus.{ExitStatus}
 use Rattle.homa_top.specs.declared.exit.ExitStatus.TheVariants.{Done, Refused, ReadFailed, WriteFailed, NoMemory, Stalled, Stranger}
 use Rattle.homa_top.specs.Exits.{is_broken_off}
 
--- the end, a fault of the sink, or want of memory
+-- the status is that of the end, of a fault of the sink, or of missing memory
 abbrev pub IsWritten : ExitStatus → Type 0
 IsWritten status = (status ≡ Done) ⊎ (status ≡ WriteFailed) ⊎ (status ≡ NoMemory)
 
--- a text of a generated run was printed; with another status than `Done`, a front of it
+-- a text of a generated run was printed; with another status than `Done`, a prefix of it
 pub record HasMade (run : Run) (text : Generated → List ℕ) (old new : Option (List ℕ)) (allowed : List PlainEntry → Type 0) (status : ExitStatus) : Type 0 where
   pub written : IsWritten status
   pub whole : status ≡ Done → IsMade run text old new allowed
@@ -41,7 +41,7 @@ pub record IsCounted (n m : ℕ) (old new : Option (List ℕ)) : Type 0 where
   pub within : rounds ≤ bound n m
   pub printed : new ≡ appended old (quiet_text n m rounds)
 
--- the line of the quiet call was printed; with another status than `Done`, a front of it
+-- the line of the quiet call was printed; with another status than `Done`, a prefix of it
 pub record HasCounted (n m : ℕ) (old new : Option (List ℕ)) (status : ExitStatus) : Type 0 where
   pub written : IsWritten status
   pub whole : status ≡ Done → IsCounted n m old new
@@ -49,22 +49,22 @@ pub record HasCounted (n m : ℕ) (old new : Option (List ℕ)) (status : ExitSt
 
 -- ---- `check`
 
--- every line obeys all laws: that was printed, and the input was read to its end
+-- the verdict that every line obeys all laws was printed, and the input was read to its end
 pub record IsYes (bytes : List ℕ) (left old new : Option (List ℕ)) : Type 0 where
   pub lines : ℕ
   pub trace : IsTrace bytes lines
   pub printed : new ≡ appended old (verdict_text (verdict.Yes lines))
   pub to_end : IsAtEnd left
 
--- a line is the first that doesn't, and a clause the first that fails there: that was printed
+-- the verdict was printed that names the first line that breaks a law, and the first clause that fails there
 pub record IsNo (bytes : List ℕ) (old new : Option (List ℕ)) : Type 0 where
   pub line : ℕ
   pub clause : Clause
   pub fails : IsNoTrace bytes line clause
   pub printed : new ≡ appended old (verdict_text (verdict.No line clause))
 
--- the verdict on these bytes was printed; with the status of a fault or of want of memory, a front of it; where reading failed, perhaps in the
--- midst of a line, the lines that came whole obey all laws
+-- the verdict on these bytes was printed; with the status of a fault or of missing memory, a prefix of it.
+-- If reading failed, perhaps within a line, the whole lines that arrived obey all laws.
 pub record HasJudged (bytes : List ℕ) (left old new : Option (List ℕ)) (status : ExitStatus) : Type 0 where
   pub yes : status ≡ Done → IsYes bytes left old new
   pub no : status ≡ Refused → IsNo bytes old new
@@ -80,26 +80,28 @@ module _ (may_tell : List PlainEntry → Type 0) where
     pub whole : IsWhole may_tell bytes old new (Ended turns)
     pub to_end : left ≡ Some []
 
-  -- a line is the first that may not stand there: the text of the run up to there was printed
+  -- this is the first line that is refused: the text of the run up to it was printed
   pub record HasRefused (bytes : List ℕ) (old new : Around) : Type 0 where
     pub line : ℕ
     pub fault : LineFault
     pub whole : IsWhole may_tell bytes old new (RefusedAt line fault)
 
-  -- the run did its last loop turn before the clock came to the end: its text was printed
+  -- the run took its last loop turn before the clock reached the end: its text was printed
   pub record HasStalled (bytes : List ℕ) (old new : Around) : Type 0 where
     pub turns : ℕ
     pub now : ℕ
     pub whole : IsWhole may_tell bytes old new (StalledAt turns now)
 
-  -- the text of the node's run was printed; with the status of a fault or of want of memory, a front of it
+  -- the text of the node's run was printed; with the status of a fault or of missing memory, a prefix of it.
+  -- After the end only the sink can fail.
   pub record HasRun (bytes : List ℕ) (left : Option (List ℕ)) (old new : Around) (status : ExitStatus) : Type 0 where
     pub ended : status ≡ Done → HasEnded bytes left old new
     pub refused : status ≡ Refused → HasRefused bytes old new
     pub stalled : status ≡ Stalled → HasStalled bytes old new
-    pub front : is_broken_off status ≡ true → IsBrokenOff may_tell node_text bytes left old new ⊎ IsEndCut may_tell node_text bytes old new
+    pub front : is_broken_off status ≡ true → IsBrokenOff may_tell node_telling bytes left old new ⊎ IsEndCut may_tell node_telling bytes old new
+    pub midst : is_broken_off status ≡ true → status ≢ WriteFailed → IsBrokenOff may_tell node_telling bytes left old new
 
-  -- whatever the services may answer, the clock may give of its ticks and the net may give, no line of the script is refused
+  -- no line of the script is refused, whatever the services answer, and whatever ticks and datagrams clock and net give
   abbrev pub IsNeverRefused : List ℕ → Option (List ℕ) → Type 0
   IsNeverRefused bytes held = (answers : List Answer) (ticks : List ℕ) (gave : List Receive) (line : ℕ) (fault : LineFault)
       → AreGiven held ticks → AreTicks 0 ticks → AreReceived gave → shown (entries (node_run bytes answers ticks gave).reports) ≡ answers
@@ -109,11 +111,12 @@ module _ (may_tell : List PlainEntry → Type 0) where
 -- ---- `record`
 
 module _ (may_tell : List PlainEntry → Type 0) where
-  -- The recording of the node's run was printed, by the status, which is that of the run's end, with the script read to its end where it is `Done`.
-  -- Where a datagram was strange it is the recording up to there; with the status of a fault or of want of memory, a front of it.
+  -- The recording of the node's run was printed. The status is that of the run's end; with `Done` the script was read to its end.
+  -- With `Stranger` it is the recording up to the foreign datagram; with the status of a fault or of missing memory, a prefix of it.
   pub record HasRecorded (bytes : List ℕ) (left : Option (List ℕ)) (old new : Around) (status : ExitStatus) : Type 0 where
     pub ended : status ≡ Done → recording.IsWhole may_tell bytes old new 0 × (left ≡ Some [])
     pub refused : status ≡ Refused → recording.IsWhole may_tell bytes old new 2
     pub stalled : status ≡ Stalled → recording.IsWhole may_tell bytes old new 7
     pub stranger : status ≡ Stranger → recording.IsCutShort may_tell bytes old new
-    pub front : is_broken_off status ≡ true → IsBrokenOff may_tell recording_text bytes left old new ⊎ IsEndCut may_tell recording_text bytes old new
+    pub front : is_broken_off status ≡ true → IsBrokenOff may_tell recording_telling bytes left old new ⊎ IsEndCut may_tell recording_telling bytes old new
+    pub midst : is_broken_off status ≡ true → status ≢ WriteFailed → IsBrokenOff may_tell recording_telling bytes left old new

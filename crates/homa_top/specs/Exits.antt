@@ -2,12 +2,12 @@
 use Rattle.std.specs.Prelude.{ℕ, Bool, true, false, Result, Ok, Err}
 use Rattle.homa_replay.specs.declared.stop.Stop.{Stop}
 use Rattle.homa_replay.specs.declared.stop.Stop.TheVariants as stop
-use Rattle.node_trace.specs.declared.end.NodeEnd.{NodeEnd}
-use Rattle.node_trace.specs.declared.end.NodeEnd.TheVariants as end
-use Rattle.node_trace.specs.declared.end.Broken.{Broken}
-use Rattle.node_trace.specs.declared.end.Broken.TheVariants as broken
-use Rattle.node_record.specs.declared.end.Recorded.{Recorded}
-use Rattle.node_record.specs.declared.end.Recorded.TheVariants as how
+use Rattle.node_output.specs.declared.trace_end.NodeEnd.{NodeEnd}
+use Rattle.node_output.specs.declared.trace_end.NodeEnd.TheVariants as end
+use Rattle.node_output.specs.declared.trace_end.Broken.{Broken}
+use Rattle.node_output.specs.declared.trace_end.Broken.TheVariants as broken
+use Rattle.node_output.specs.declared.recording_end.Recorded.{Recorded}
+use Rattle.node_output.specs.declared.recording_end.Recorded.TheVariants as how
 use Rattle.homa_top.specs.declared.exit.ExitStatus.{ExitStatus}
 use Rattle.homa_top.specs.declared.exit.ExitStatus.TheVariants.{Done, NoCommand, Refused, ReadFailed, WriteFailed, NoMemory, NetFailed, Stalled, Stranger}
 
@@ -23,7 +23,7 @@ code NetFailed = 6
 code Stalled = 7
 code Stranger = 8
 
--- the command was broken off, by a fault or for want of memory
+-- the command was broken off, by a fault or because there was no memory
 abbrev pub is_broken_off : ExitStatus → Bool
 is_broken_off ReadFailed = true
 is_broken_off WriteFailed = true
@@ -31,7 +31,7 @@ is_broken_off NoMemory = true
 is_broken_off NetFailed = true
 is_broken_off other = false
 
--- the sink didn't fail: what was printed are whole lines
+-- the sink didn't fail, so the output is whole lines
 abbrev pub prints_all : ExitStatus → Bool
 prints_all WriteFailed = false
 prints_all other = true

@@ -50,6 +50,13 @@ said words = command_of (map (λ w. w.now) words)
 abbrev pub usage_line : List ℕ
 usage_line = codes "usage: homa replay | make SEED CALLS | gen SEED CALLS | node | record | check | quiet N M\n"
 
+-- a command that prints all that it prints at its end, behind all that can find no memory: `gen`, `check` and `quiet`
+abbrev pub prints_last : Option Command → Bool
+prints_last (Some (Gen seed calls)) = true
+prints_last (Some Check) = true
+prints_last (Some (Quiet n m)) = true
+prints_last other = false
+
 -- a command that reads the source
 abbrev pub reads : Option Command → Bool
 reads None = false

@@ -3,7 +3,7 @@ ghost use Rattle.std.specs.Prelude.{◌≡◌, ◌≢◌, ◌≤◌, ◌⊎◌, 
 ghost use Rattle.homa_io.specs.Outside.{HasRisen, appended, TookFront};
 ghost use Rattle.homa_plain.specs.declared.id.HostId.{HostId as Host};
 ghost use Rattle.node_turns.specs.Faults.{counts};
-ghost use Rattle.node_trace.specs.Traces.{around};
+ghost use Rattle.node_output.specs.Traces.{around};
 ghost use Rattle.generated_runs.specs.Generated.{generated_settings, schedule_text, summary_text};
 ghost use Rattle.homa_generate.specs.Made.{run_of};
 ghost use Rattle.box_laws.specs.First.{AreReady, AreAllowed};
@@ -24,8 +24,7 @@ use homa_service::Service;
 use homa_world::World;
 use node_hosts::{Fair, NodeHosts};
 use node_io::{Clock, Net};
-use node_record::{Recorded, print_recording};
-use node_trace::{Broken, NodeEnd, print_node};
+use node_output::{Broken, NodeEnd, Recorded, print_node, print_recording};
 use quiet_call::{put_quiet, quiet_rounds};
 use std::alloc::Global;
 
@@ -88,6 +87,7 @@ pub(crate) fn put_summary<V: Service, K: Sink>(
     requires { AreReady V.served services.items }
     ensures made { HasMade (run_of seed calls (length services.items)) (λ g. summary_text g.told) (K.taken sink.old) (K.taken sink.new)
         (AreAllowed V.served V.allows services.items) result }
+    ensures unsaid { result ≡ status.NoMemory → K.taken sink.new ≡ K.taken sink.old }
     ensures write { result ≡ status.WriteFailed → HasRisen (K.faults sink.old) (K.faults sink.new) }
     ensures quiet { result ≢ status.WriteFailed → K.faults sink.new ≡ K.faults sink.old }
 {
@@ -107,6 +107,7 @@ pub(crate) fn put_rounds<K: Sink>(
     requires request { (1 ≤ request) × (request ≤ 1000000) }
     requires response { (1 ≤ response) × (response ≤ 1000000) }
     ensures counted { HasCounted request response (K.taken sink.old) (K.taken sink.new) result }
+    ensures unsaid { result ≡ status.NoMemory → K.taken sink.new ≡ K.taken sink.old }
     ensures write { result ≡ status.WriteFailed → HasRisen (K.faults sink.old) (K.faults sink.new) }
     ensures quiet { result ≢ status.WriteFailed → K.faults sink.new ≡ K.faults sink.old }
 {
@@ -126,6 +127,7 @@ pub(crate) fn put_judgement<S: Source, K: Sink>(
     sink: &mut K,
 ) -> ExitStatus
     ensures judged { (bytes : List ℕ) → S.left source.old ≡ Some bytes → HasJudged bytes (S.left source.new) (K.taken sink.old) (K.taken sink.new) result }
+    ensures unsaid { (result ≡ status.NoMemory) ⊎ (result ≡ status.ReadFailed) → K.taken sink.new ≡ K.taken sink.old }
     ensures statuses { (result ≡ status.Done) ⊎ (result ≡ status.Refused) ⊎ (result ≡ status.ReadFailed) ⊎ (result ≡ status.WriteFailed)
         ⊎ (result ≡ status.NoMemory) }
     ensures read { result ≡ status.ReadFailed → HasRisen (S.faults source.old) (S.faults source.new) }
@@ -174,8 +176,8 @@ pub(crate) fn put_node<V: Service, S: Source, K: Sink, N: Net, C: Clock>(
     requires ready { AreReady V.served services.items }
     requires none_known { (h : Host) → N.known net.old h ≡ false }
     ensures run { (bytes : List ℕ) → S.left source.old ≡ Some bytes → HasRun (AreFairlyAllowed V.served V.allows services.items) bytes (S.left source.new)
-        (around (K.taken sink.old) (N.sent net.old) (N.gave net.old) (C.ticks clock.old))
-        (around (K.taken sink.new) (N.sent net.new) (N.gave net.new) (C.ticks clock.new)) result }
+        (around (K.taken sink.old) (N.acts net.old) (N.sent net.old) (N.gave net.old) (C.ticks clock.old))
+        (around (K.taken sink.new) (N.acts net.new) (N.sent net.new) (N.gave net.new) (C.ticks clock.new)) result }
     ensures command { result ≢ status.NoCommand }
     ensures usual { result ≢ status.Stranger }
     ensures faults { HaveStatus (counts (S.faults source.old) (N.faults net.old) (K.faults sink.old))
@@ -215,8 +217,8 @@ pub(crate) fn put_record<V: Service, S: Source, K: Sink, N: Net, C: Clock>(
     requires none_known { (h : Host) → N.known net.old h ≡ false }
     ensures recorded { (bytes : List ℕ) → S.left source.old ≡ Some bytes
         → HasRecorded (AreFairlyAllowed V.served V.allows services.items) bytes (S.left source.new)
-        (around (K.taken sink.old) (N.sent net.old) (N.gave net.old) (C.ticks clock.old))
-        (around (K.taken sink.new) (N.sent net.new) (N.gave net.new) (C.ticks clock.new)) result }
+        (around (K.taken sink.old) (N.acts net.old) (N.sent net.old) (N.gave net.old) (C.ticks clock.old))
+        (around (K.taken sink.new) (N.acts net.new) (N.sent net.new) (N.gave net.new) (C.ticks clock.new)) result }
     ensures command { result ≢ status.NoCommand }
     ensures faults { HaveStatus (counts (S.faults source.old) (N.faults net.old) (K.faults sink.old))
         (counts (S.faults source.new) (N.faults net.new) (K.faults sink.new)) result }

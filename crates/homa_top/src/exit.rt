@@ -2,26 +2,26 @@
 ghost use Rattle.std.specs.Prelude.{◌≡◌};
 ghost use Rattle.homa_top.specs.Exits.{code};
 
-/// How a command ended, with the code that the program then answers.
+/// How a command ended; the program exits with its code.
 #[derive(Clone, Copy, Debug, PartialEq, Eq)]
 pub enum ExitStatus {
-    /// 0: it came to its end. Where an input is read, it was read to its end.
+    /// 0: the command came to its end. If it reads an input, it read all of it.
     Done,
-    /// 1: the words are none of the commands.
+    /// 1: the words are no command.
     NoCommand,
     /// 2: a line is refused, or the verdict is no.
     Refused,
-    /// 3: the source gave a fault.
+    /// 3: the source counted a fault.
     ReadFailed,
-    /// 4: the sink gave a fault.
+    /// 4: the sink counted a fault.
     WriteFailed,
-    /// 5: there is no memory, of which no clause says when it comes.
+    /// 5: there is no memory. It may come at any time: no clause says when.
     NoMemory,
-    /// 6: the net gave a fault.
+    /// 6: the net counted a fault.
     NetFailed,
-    /// 7: a node did its last loop turn before the clock came to the end.
+    /// 7: a node took its last loop turn before the clock reached the end.
     Stalled,
-    /// 8: a datagram came to a node that is recorded which is a packet, and which no host of the run sent in its life.
+    /// 8: at a recorded node a packet arrived that its sender hadn't sent to this host in the last `life` ticks.
     Stranger,
 }
 

@@ -6,14 +6,14 @@ ghost use Rattle.homa_top.specs.Words.{number_within, seeded, sized, numbered, c
 
 use homa_text::read_number;
 
-/// A command, with the numbers that its words tell.
+/// A command, with the numbers of its words.
 #[derive(Clone, Copy, Debug, PartialEq, Eq)]
 pub enum Command {
     /// The replay of a schedule.
     Replay,
     /// The schedule of generated traffic: its seed, and how many calls, from 1 to 100,000.
     Make { seed: u64, calls: u32 },
-    /// The summary of generated traffic, the same.
+    /// The summary of generated traffic: its seed, and how many calls, from 1 to 100,000.
     Gen { seed: u64, calls: u32 },
     /// The run of a node.
     Node,
@@ -21,7 +21,7 @@ pub enum Command {
     Record,
     /// The verdict on a trace.
     Check,
-    /// The rounds of a quiet call: how many bytes it asks and how many it is answered, each from 1 to 1,000,000.
+    /// The rounds of a quiet call: the bytes of its request and of its response, each from 1 to 1,000,000.
     Quiet { request: u32, response: u32 },
 }
 
@@ -30,7 +30,7 @@ const MOST_CALLS: u32 = 100_000;
 
 const MOST_BYTES: u32 = 1_000_000;
 
-// The number that a word is, where it is one from 1 to `most`.
+// The number of a word, if it is one from 1 to `most`.
 fn number_within(word: &str, most: u32) -> Option<u32>
     ensures { result ≡ number_within most word.now }
 {
@@ -56,7 +56,7 @@ fn sized(request: &str, response: &str) -> Option<(u32, u32)>
     Some((request, response))
 }
 
-// The command of a word with two behind it.
+// The command of a word with two more after it.
 fn numbered(word: &str, first: &str, second: &str) -> Option<Command>
     ensures { result ≡ numbered word.now first.now second.now }
 {
@@ -90,7 +90,7 @@ fn single(word: &str) -> Option<Command>
     }
 }
 
-/// The command that these words are; None where they are none.
+/// Returns the command that these words spell, if they spell one.
 pub(crate) fn read_words(words: &[&str]) -> Option<Command>
     ensures { result ≡ said words.now }
 {

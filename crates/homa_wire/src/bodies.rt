@@ -1,4 +1,4 @@
-// Readers of what stands behind a packet's header, one for each kind.
+// Readers of what follows a packet's header, one for each kind.
 ghost use Rattle.std.specs.Prelude.{◌≡◌, ◌≤◌};
 ghost use Rattle.std.specs.Int.{w32};
 ghost use Rattle.std.specs.Option.{option_map};
@@ -88,7 +88,7 @@ fn read_calls(count: u8, bytes: &[u8]) -> Option<(More, &[u8])>
     Some((more, rest))
 }
 
-/// `count` is of all calls that the packet names, the header's with them.
+/// Reads the calls of an ACK but the header's; `count` counts that one too.
 #[tactic(auto, unfolding(homa_plain::specs::Wire::more_at))]
 fn read_more(count: u8, bytes: &[u8]) -> Option<(More, &[u8])>
     ensures { option_map (λ x. (x.0, x.1.now)) result ≡ more_at count bytes.now }
@@ -109,7 +109,7 @@ fn read_acks(bytes: &[u8]) -> Option<(Body, &[u8])>
     Some((Body::Ack { more }, rest))
 }
 
-/// The fields of the kind with this number.
+/// Reads the fields of the kind with this number.
 #[tactic(auto, unfolding(homa_plain::specs::Wire::body_at))]
 pub fn read_body(kind: u8, bytes: &[u8]) -> Option<(Body, &[u8])>
     ensures { option_map (λ x. (x.0, x.1.now)) result ≡ body_at kind bytes.now }

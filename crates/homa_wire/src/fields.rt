@@ -1,5 +1,5 @@
-// Readers of fields. Each answers the value that the bytes begin with and the bytes behind it, or None where
-// there are too few bytes or they are no such value.
+// Readers of fields. Each returns the value that the bytes begin with and the bytes after it, or None if
+// there are too few bytes or they spell no such value.
 ghost use Rattle.std.specs.Prelude.{◌≡◌};
 ghost use Rattle.std.specs.Int.{w16, w32, w64};
 ghost use Rattle.std.specs.Option.{option_map};
@@ -50,7 +50,7 @@ pub fn read_u64(bytes: &[u8]) -> Option<(u64, &[u8])>
     }
 }
 
-/// Two numbers: a call, or the ends of a range.
+/// Reads two numbers: a call, or the ends of a range.
 #[tactic(auto, unfolding(homa_plain::specs::Bytes::two_at))]
 pub fn read_two(bytes: &[u8]) -> Option<((u32, u32), &[u8])>
     ensures { option_map (λ x. (x.0, x.1.now)) result ≡ two_at bytes.now }
@@ -60,7 +60,7 @@ pub fn read_two(bytes: &[u8]) -> Option<((u32, u32), &[u8])>
     Some(((first, second), rest))
 }
 
-/// The acknowledgement of a call: a flag, and the call or two zeros.
+/// Reads the acknowledgement of a call: a flag, and the call or two zeros.
 #[tactic(auto, unfolding(homa_plain::specs::Wire::ack_at))]
 pub fn read_ack(bytes: &[u8]) -> Option<(Option<(u32, u32)>, &[u8])>
     ensures { option_map (λ x. (x.0, x.1.now)) result ≡ ack_at bytes.now }
@@ -80,7 +80,7 @@ pub fn read_ack(bytes: &[u8]) -> Option<(Option<(u32, u32)>, &[u8])>
     }
 }
 
-/// The sender's clock, which version 1 does not carry.
+/// Reads the sender's clock, which version 1 does not carry.
 #[tactic(auto, unfolding(homa_plain::specs::Wire::tick_at))]
 pub fn read_clock(wire: u32, bytes: &[u8]) -> Option<(u64, &[u8])>
     ensures { option_map (λ x. (x.0, x.1.now)) result ≡ tick_at wire bytes.now }

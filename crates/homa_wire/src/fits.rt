@@ -17,14 +17,14 @@ fn is_call(call: (u32, u32)) -> bool
     1 <= call.0
 }
 
-/// At level 7 and with no payload.
+/// Whether a packet has level 7 and no payload.
 fn is_bare(level: u8, payload: &[u8]) -> bool
     ensures { result ≡ is_bare level payload.now }
 {
     level == 7 && payload.is_empty()
 }
 
-/// What only a request's piece may have: a service other than 0, and an acknowledgement.
+/// Whether a piece fits its role: only a request's may have a service other than 0 or an acknowledgement.
 fn fits_role(role: Role, service: u8, ack: Option<(u32, u32)>) -> bool
     ensures { result ≡ is_of_role role service ack }
 {
@@ -47,7 +47,7 @@ fn fits_message(size: u32, offset: u32, payload: &[u8]) -> bool
         && offset as usize + payload.len() <= size as usize
 }
 
-/// A receiver's cutoffs: eight, none above the longest message.
+/// Whether these are a receiver's cutoffs: eight, none above the longest message.
 fn fits_bounds(upto: &[u32; 8]) -> bool
     ensures eight { length upto.now ≡ 8 }
     ensures all { result ≡ list_all (λ bound. nat_le bound 1000000) upto.now }
@@ -72,6 +72,7 @@ fn fits_kind(role: Role, level: u8, body: &Body, payload: &[u8]) -> bool
             service,
             ack,
         } => {
+            // For the proof: the version is below 2^16.
             let _version = *version;
             level <= 7 && fits_message(*length, *offset, payload) && fits_role(role, *service, *ack)
         }
@@ -83,6 +84,7 @@ fn fits_kind(role: Role, level: u8, body: &Body, payload: &[u8]) -> bool
         }
         Body::Busy => is_bare(level, payload),
         Body::Cutoffs(cutoffs) => {
+            // For the proof: the version is below 2^16.
             let _version = cutoffs.version;
             is_bare(level, payload) && fits_bounds(&cutoffs.upto)
         }
@@ -96,7 +98,7 @@ fn fits_kind(role: Role, level: u8, body: &Body, payload: &[u8]) -> bool
     }
 }
 
-/// The latest clock that a packet may carry.
+/// The latest clock that a packet may carry, in ticks.
 fn latest(wire: u32) -> u64
     ensures { result ≡ latest wire }
 {

@@ -17,7 +17,7 @@ pub struct Span {
     pub to: usize,
 }
 
-/// What stands behind version, kind, role and level.
+/// What follows version, kind, role and level.
 #[tactic(auto, unfolding(homa_plain::specs::Wire::packet_of))]
 fn read_fields(wire: u32, kind: u8, role: u8, level: u8, bytes: &[u8]) -> Option<(Packet, &[u8])>
     ensures { option_map (λ x. (x.0, x.1.now)) result ≡ packet_of wire kind role level bytes.now }
@@ -39,7 +39,7 @@ fn read_fields(wire: u32, kind: u8, role: u8, level: u8, bytes: &[u8]) -> Option
     Some((packet, rest))
 }
 
-/// A packet that may not be well formed, and its payload.
+/// Reads a packet that may not be well formed, and its payload.
 #[tactic(auto, unfolding(homa_plain::specs::Wire::packet_at))]
 fn read_packet(wire: u32, bytes: &[u8]) -> Option<(Packet, &[u8])>
     ensures { option_map (λ x. (x.0, x.1.now)) result ≡ packet_at wire bytes.now }
@@ -56,7 +56,7 @@ fn read_packet(wire: u32, bytes: &[u8]) -> Option<(Packet, &[u8])>
     }
 }
 
-/// The packet that the bytes spell, and its payload.
+/// Reads the packet that the bytes spell, and its payload.
 #[tactic(auto, unfolding(homa_plain::specs::Wire::packet_in))]
 fn read_whole(wire: u32, bytes: &[u8]) -> Option<(Packet, &[u8])>
     ensures { option_map (λ x. (x.0, x.1.now)) result ≡ packet_in wire bytes.now }
@@ -69,8 +69,8 @@ fn read_whole(wire: u32, bytes: &[u8]) -> Option<(Packet, &[u8])>
     }
 }
 
-/// Reads the bytes as a packet of version `wire`, 1 or 2, and answers it with the place of its payload, which
-/// ends where the bytes end. `None` exactly where the bytes spell no packet of this version.
+/// Reads the bytes as a packet of version `wire`, 1 or 2, and returns it with the place of its payload, which
+/// ends where the bytes end. `None` exactly if the bytes spell no packet of this version.
 pub fn decode(bytes: &[u8], wire: u32) -> Option<(Packet, Span)>
     requires { Between 1 2 wire }
     ensures read { option_map (λ r. (r.0, part bytes.now r.1)) result ≡ packet_in wire bytes.now }

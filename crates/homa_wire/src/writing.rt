@@ -3,26 +3,12 @@ ghost use Rattle.std.specs.Prelude.{◌≡◌, ◌+◌, ◌≤◌, ◌<◌, ◌+
 ghost use Rattle.std.specs.Int.{w32, to_be_bytes};
 ghost use Rattle.std.specs.List.{flat_map};
 ghost use Rattle.homa_plain.specs.Bytes.{two};
-ghost use Rattle.homa_plain.specs.Wire.{Between, IsWellFormed, spelling, header_bytes, body_bytes, body_len, ack_bytes, kind};
+ghost use Rattle.homa_plain.specs.Wire.{Between, IsWellFormed, spelling, header_bytes, body_bytes, body_len, ack_bytes};
 ghost use Rattle.homa_plain.specs.Wire.{role_byte};
 
 use homa_plain::{Body, Cutoffs, Frame, More, Packet, Role};
 
-fn kind_byte(body: &Body) -> u8
-    ensures { result ≡ kind body.now }
-{
-    match body {
-        Body::Data { .. } => 1,
-        Body::Grant { .. } => 2,
-        Body::Resend { .. } => 3,
-        Body::Busy => 4,
-        Body::Cutoffs(_) => 5,
-        Body::Unknown { .. } => 6,
-        Body::NeedAck => 7,
-        Body::Ack { .. } => 8,
-    }
-}
-
+// The role in a header: 0 for the client, 1 for the server.
 fn role_byte(role: Role) -> u8
     ensures { result ≡ role_byte role }
 {
@@ -32,6 +18,7 @@ fn role_byte(role: Role) -> u8
     }
 }
 
+// Adds two numbers of 4 bytes each: a call, or the ends of a range.
 fn write_two(first: u32, second: u32, frame: &mut Frame)
     requires { length frame.old ≤ 1000 }
     ensures { frame.new ≡ frame.old ++ two (first, second) }
@@ -40,6 +27,7 @@ fn write_two(first: u32, second: u32, frame: &mut Frame)
     frame.extend(&second.to_be_bytes());
 }
 
+// Adds the call that a piece acknowledges, in 9 bytes: a flag, and the call or two zeros.
 fn write_ack(ack: Option<(u32, u32)>, frame: &mut Frame)
     requires { length frame.old ≤ 500 }
     ensures { frame.new ≡ frame.old ++ ack_bytes ack }
@@ -56,6 +44,7 @@ fn write_ack(ack: Option<(u32, u32)>, frame: &mut Frame)
     }
 }
 
+// Adds the bounds of the eight levels, 32 bytes.
 fn write_bounds(upto: &[u32; 8], frame: &mut Frame)
     requires { length frame.old ≤ 100 }
     ensures { frame.new ≡ frame.old ++ flat_map (to_be_bytes w32) upto.now }
@@ -65,6 +54,7 @@ fn write_bounds(upto: &[u32; 8], frame: &mut Frame)
     }
 }
 
+// Adds the further calls of an ACK, 8 bytes each.
 fn write_calls(calls: &[(u32, u32)], frame: &mut Frame)
     requires room { length frame.old ≤ 100 }
     requires few { length calls.now ≤ 4 }
@@ -75,11 +65,12 @@ fn write_calls(calls: &[(u32, u32)], frame: &mut Frame)
     }
 }
 
+// Makes the frame the header, of 16 bytes in version 1 and 24 in version 2.
 fn write_header(wire: u32, packet: &Packet, frame: &mut Frame)
     requires { Between 1 2 wire }
     ensures { frame.new ≡ header_bytes wire packet.now }
 {
-    let kind = kind_byte(&packet.body);
+    let kind = packet.body.kind().number();
     let role = role_byte(packet.role);
     frame.set(&[wire as u8, kind, role, packet.level]);
     frame.extend(&packet.sender.to_be_bytes());
@@ -89,6 +80,7 @@ fn write_header(wire: u32, packet: &Packet, frame: &mut Frame)
     }
 }
 
+// Adds the fields of the packet's kind, at most 34 bytes more.
 fn write_body(body: &Body, frame: &mut Frame)
     requires room { length frame.old ≤ 24 }
     requires few { body_len body.now ≤ 34 }

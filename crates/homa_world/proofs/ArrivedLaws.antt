@@ -6,7 +6,7 @@ use Rattle.std.specs.List.{AllByRecursion}
 use Rattle.std.specs.Option.{option_map}
 use Rattle.std.proofs.lemmas.List.{length-map}
 use Rattle.std.proofs.lemmas.Bool.{eq-eqb}
-use Rattle.trace_induction.proofs.Hosts.{length-set, within}
+use Rattle.step_moves.proofs.Hosts.{length-set, within}
 use Rattle.homa_plain.specs.declared.id.HostId.{HostId}
 use Rattle.homa_plain.specs.declared.packet.Packet.{Packet as WirePacket}
 use Rattle.homa_plain.specs.declared.packet.Role.{Role}
@@ -29,7 +29,7 @@ use Rattle.world_packets.specs.Blocks.{Frame}
 use Rattle.world_packets.specs.Kept.{WholePacket, LatePacket, StalePacket}
 use Rattle.world_packets.specs.Olds.{TellsClock}
 use Rattle.world_packets.specs.All.{kept_all, settings_of}
-use Rattle.homa_replay.specs.Playing.{IsApplied, IsNotApplied}
+use Rattle.homa_replay.specs.ReplayWorld.{IsApplied, IsNotApplied}
 use Rattle.world_laws.proofs.Sent.{read, between}
 use Rattle.world_laws.proofs.Old as old_packets
 use Rattle.event_laws.proofs.Names.{arrival_named}

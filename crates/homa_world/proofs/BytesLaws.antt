@@ -7,7 +7,7 @@ use Rattle.homa_plain.specs.declared.fault.WorldFault.{WorldFault}
 use Rattle.homa_plain.specs.Entries.{PlainEntry}
 use Rattle.homa_plain.specs.World.{World as PlainWorld, outcome}
 use Rattle.homa_plain.specs.Answers.{shown, answering}
-use Rattle.homa_replay.specs.Playing.{IsApplied, IsNotApplied}
+use Rattle.homa_replay.specs.ReplayWorld.{IsApplied, IsNotApplied}
 use Rattle.homa_world.specs.declared.parts.WorldParts.{WorldParts}
 use Rattle.box_laws.specs.Boxes.{Allows}
 use Rattle.homa_world.specs.Standing.{StandsFor, Applies, Refuses, told_of, may_tell_of}

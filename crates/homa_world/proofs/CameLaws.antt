@@ -19,10 +19,10 @@ use Rattle.homa_service.specs.Table.{place_of}
 use Rattle.world_packets.specs.declared.packets.Packets.{Packets}
 use Rattle.world_packets.specs.All.{kept_all, settings_of}
 use Rattle.homa_plain.specs.Answers.{shown, answering}
-use Rattle.homa_replay.specs.Playing.{IsApplied}
+use Rattle.homa_replay.specs.ReplayWorld.{IsApplied}
 use Rattle.step_laws.specs.StepLaws.{run_count}
 use Rattle.step_laws.proofs.OneAnswer as one
-use Rattle.trace_induction.proofs.Hosts.{length-set}
+use Rattle.step_moves.proofs.Hosts.{length-set}
 use Rattle.event_laws.specs.Named.{IsOwnStep}
 use Rattle.event_laws.specs.Apart.{IsApartStep}
 use Rattle.event_laws.specs.Stepping.{stepped_world, step_told, IsStepWith}

@@ -21,8 +21,8 @@ use Rattle.host_view.specs.Seen.{Seen}
 use Rattle.homa_service.specs.Table.{place_of}
 use Rattle.world_packets.specs.All.{kept_all, settings_of, open_tick}
 use Rattle.world_packets.specs.declared.packets.Packets.{Packets}
-use Rattle.homa_replay.specs.Playing.{IsApplied}
-use Rattle.trace_induction.proofs.Timed.{resend_of}
+use Rattle.homa_replay.specs.ReplayWorld.{IsApplied}
+use Rattle.step_moves.proofs.Timed.{resend_of}
 use Rattle.step_laws.proofs.OneAnswer as one
 use Rattle.event_laws.proofs.Names.{call_named, turn_named}
 use Rattle.event_laws.proofs.Apart.{call_apart, turn_apart}

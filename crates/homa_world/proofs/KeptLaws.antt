@@ -7,7 +7,8 @@ use Rattle.homa_plain.specs.declared.settings.Settings.{Settings}
 use Rattle.homa_plain.specs.declared.event.Event.{Event}
 use Rattle.homa_plain.specs.declared.fault.WorldFault.{WorldFault}
 use Rattle.homa_plain.specs.declared.fault.WorldFault.TheVariants as fault
-use Rattle.homa_replay.specs.Playing.{IsNotApplied, is_memory, takes_memory}
+use Rattle.homa_replay.specs.ReplayWorld.{IsNotApplied, takes_memory}
+use Rattle.homa_plain.specs.Entries.{is_memory}
 use Rattle.event_laws.specs.Stepping.{IsRefusal}
 use Rattle.homa_plain.specs.World.{World as PlainWorld, last_tick}
 use Rattle.homa_service.specs.Table.{place_of}

@@ -10,7 +10,7 @@ use Rattle.host_view.specs.Seen.{Seen}
 use Rattle.world_packets.specs.declared.packets.Packets.{Packets}
 use Rattle.world_packets.specs.All.{kept_all, settings_of}
 use Rattle.homa_plain.specs.Answers.{shown, answering}
-use Rattle.homa_replay.specs.Playing.{IsApplied}
+use Rattle.homa_replay.specs.ReplayWorld.{IsApplied}
 use Rattle.event_laws.specs.Named.{IsOwnStep}
 use Rattle.event_laws.specs.Stepping.{stepped_world, step_told, IsStepBy}
 use Rattle.host_table.specs.declared.stage.Stage.{Stage}

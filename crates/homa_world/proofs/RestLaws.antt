@@ -13,10 +13,11 @@ use Rattle.homa_plain.specs.Settings.{band}
 use Rattle.homa_plain.specs.Calls.{is_host}
 use Rattle.homa_plain.specs.Host.{new_host}
 use Rattle.homa_plain.proofs.CallOrder.{hosts_are}
-use Rattle.trace_induction.proofs.Hosts.{there, elsewhere, length-set, within, apart as apart_of}
+use Rattle.step_moves.proofs.Hosts.{there, elsewhere, length-set, within, apart as apart_of}
 use Rattle.host_view.specs.Seen.{Seen}
 use Rattle.homa_service.specs.Table.{place_of, last_of, front_of}
-use Rattle.homa_replay.specs.Playing.{IsNotApplied, is_memory}
+use Rattle.homa_replay.specs.ReplayWorld.{IsNotApplied}
+use Rattle.homa_plain.specs.Entries.{is_memory}
 use Rattle.plain_sets.proofs.MapLaws.{get-empty}
 use Rattle.event_laws.specs.Stepping.{IsRefusal, restarted_world, shifted_world}
 use Rattle.event_laws.proofs.Events as events

@@ -18,10 +18,10 @@ use Rattle.homa_service.specs.Table.{place_of}
 use Rattle.world_packets.specs.declared.packets.Packets.{Packets}
 use Rattle.world_packets.specs.All.{kept_all, settings_of}
 use Rattle.step_laws.proofs.Places.{all-append}
-use Rattle.trace_induction.proofs.Hosts.{there, elsewhere, length-set, apart as apart_of}
+use Rattle.step_moves.proofs.Hosts.{there, elsewhere, length-set, apart as apart_of}
 use Rattle.homa_plain.proofs.CallOrder.{hosts_are}
 use Rattle.homa_plain.specs.Calls.{is_host}
-use Rattle.trace_lines.specs.Told.{HasOwnName}
+use Rattle.step_moves.specs.Worlds.{HasOwnName}
 use Rattle.event_laws.specs.Named.{IsOwnStep, IsOfStep, numbered}
 use Rattle.event_laws.specs.Apart.{IsApart, IsApartStep}
 use Rattle.event_laws.specs.Stepping.{stepped_world, step_told}

@@ -8,8 +8,8 @@ use Rattle.homa_plain.specs.Entries.{PlainEntry, PlainClock, PlainRestart, Plain
 use Rattle.homa_plain.specs.World.{World as PlainWorld, last_tick}
 use Rattle.homa_plain.specs.Replay.{Happening}
 use Rattle.homa_plain.specs.declared.fault.WorldFault.{WorldFault}
-use Rattle.homa_replay.specs.Playing.{IsApplied, IsNotApplied}
-use Rattle.trace_lines.specs.Told.{HasOwnName}
+use Rattle.homa_replay.specs.ReplayWorld.{IsApplied, IsNotApplied}
+use Rattle.step_moves.specs.Worlds.{HasOwnName}
 use Rattle.homa_service.specs.Table.{place_of}
 use Rattle.world_packets.specs.All.{kept_all, settings_of}
 use Rattle.event_laws.specs.Named.{numbered}

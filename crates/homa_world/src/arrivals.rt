@@ -1,5 +1,5 @@
 // Events that bring a datagram to a host.
-ghost use Rattle.std.specs.Prelude.{◌≡◌, ◌≤◌, ◌<◌, ◌+◌, ◌^◌, ◌==◌, ◌&&◌, nat_lt, ℕ, Some, IfOk, IfErr, OnOk, OnErr, [], ◌∷◌, slice_get};
+ghost use Rattle.std.specs.Prelude.{◌≡◌, ◌≤◌, ◌<◌, ◌+◌, ◌^◌, ◌==◌, ℕ, Some, IfOk, IfErr, OnOk, OnErr, [], ◌∷◌, slice_get};
 ghost use Rattle.homa_plain.specs.Entries.{PlainDeliver};
 ghost use Rattle.homa_plain.specs.World.{stranger as plain_stranger};
 ghost use Rattle.homa_plain.specs.declared.event.Event.TheVariants as event;
@@ -66,7 +66,7 @@ impl<S: Service> WorldParts<S> {
                     bytes,
                 },
             ) => {
-                if is_late(&self.settings, self.clock, tick) {
+                if self.settings.is_late(tick, self.clock) {
                     return Err(WorldFault::Late {
                         sent: tick,
                         now: self.clock,
@@ -163,14 +163,6 @@ impl<S: Service> WorldParts<S> {
         self.injected.clear();
         self.injected.extend_from_slice(bytes)
     }
-}
-
-// Whether a packet that was sent at this tick may not be delivered any more.
-fn is_late(settings: &Settings, clock: u64, tick: u64) -> bool
-    ensures { result ≡ (settings.now.wire == 1 && nat_lt (tick + settings.now.life) clock) }
-{
-    let life = u64::from(settings.life);
-    settings.wire == 1 && tick < clock.saturating_sub(life)
 }
 
 // Whom a datagram that no host sent seems to come from.

@@ -2,7 +2,7 @@
 ghost use Rattle.std.specs.Prelude.{◌≡◌, ◌≤◌, ◌<◌, ◌+◌, ◌^◌, ℕ, Some, List, length, slice_get};
 ghost use Rattle.std.specs.Option.{option_map};
 ghost use Rattle.homa_plain.specs.Entries.{plain};
-ghost use Rattle.homa_text.specs.Told.{HasLine};
+ghost use Rattle.homa_plain.specs.Told.{HasLine};
 ghost use Rattle.event_laws.specs.Named.{numbered as plain_numbered};
 ghost use Rattle.host_table.specs.Left.{IsFew};
 ghost use Rattle.homa_world.specs.Kinds.{kind_of};

@@ -11,7 +11,7 @@ use crate::parts::WorldParts;
 use crate::{Kind, Passing};
 use homa_host::Host;
 use homa_plain::{Entry, Event, HostId, Settings, WorldFault};
-use homa_replay::{Opens, Playing};
+use homa_replay::{OpenWorld, ReplayWorld};
 use homa_service::Service;
 use std::alloc::{AllocError, Global};
 use std::marker::Model;
@@ -120,7 +120,7 @@ impl<S: Service> World<S> {
     }
 }
 
-impl<S: Service> Playing for World<S> {
+impl<S: Service> ReplayWorld for World<S> {
     ghost use Rattle.homa_world.specs.Standing.{StandsFor, told_of, may_tell_of};
 
     ghost stands = { λ w. StandsFor w };
@@ -160,7 +160,7 @@ impl<S: Service> Playing for World<S> {
     ghost allows_none = { λ w. tt };
 }
 
-impl<S: Service> Opens<Vec<S>> for World<S> {
+impl<S: Service> OpenWorld<Vec<S>> for World<S> {
     ghost use Rattle.std.specs.Prelude.{length};
     ghost use Rattle.box_laws.specs.First.{AreAllowed, AreReady};
     ghost use Rattle.box_laws.specs.Unasked.{unasked_allowed};

@@ -42,7 +42,7 @@ pub record HaveRoom (s : Settings) (b : Books) : Type 0 where
   pub pacer : b.pacer.slots ≡ s.calls + s.served
   pub rate : b.pacer.rate ≡ s.rate
 
--- each book holds exactly what the host's rows say
+-- each book holds exactly what the host's rows need
 pub record AreBooked (h : Seen) (b : Books) : Type 0 where
   pub armed : AreArmed h b.timers.timers
   pub entered : AreEntered h b.grants.entries

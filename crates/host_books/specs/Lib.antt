@@ -1,1 +1,6 @@
+pub mod Stood
+pub mod Pages
+pub mod Duty
+pub mod Ends
+pub mod SameRows
 pub mod Duties

@@ -52,7 +52,7 @@ pub struct Duties {
 }
 
 impl Duties {
-    /// Nothing, as where no row stands.
+    /// The entries of a place without a row.
     pub fn none() -> Duties
         ensures { result ≡ record { timer = None; arrival = None; waiting = None } }
     {
@@ -83,7 +83,7 @@ impl Books {
         })
     }
 
-    /// A slot has these entries from now on, and no others.
+    /// Gives a slot these entries, and no others.
     pub fn follow(&mut self, slot: u32, duties: Duties)
         requires timers { slot < self.old.timers.slots }
         requires grants { slot < self.old.grants.slots }

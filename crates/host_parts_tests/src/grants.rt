@@ -5,7 +5,7 @@ ghost use Rattle.homa_plain.specs.Settings.{IsValid, usual};
 use arrayvec::ArrayVec;
 use homa_grants::GrantBook;
 use homa_plain::{HostId, Settings};
-use place_books::first_k;
+use host_heap::first_k;
 use place_heap::{Item, Key, PlaceHeap};
 use std::process::Abort;
 use std::test::Fail;

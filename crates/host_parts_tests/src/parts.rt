@@ -3,14 +3,27 @@ ghost use Rattle.std.specs.Prelude.{◌≡◌, ◌<◌};
 ghost use Rattle.plain_sets.specs.Maps.{len};
 ghost use Rattle.homa_in.specs.Part.{IsIn};
 
-use homa_in::Incoming;
+use homa_in::{Incoming, Opening, Piece, Put, close_part, open_part, put_piece};
 use homa_plain::HostId;
-use host_incoming::{Opening, Put, close_part, open_part, put_piece};
 use msg_pool::{MsgPool, Scratch};
 use std::process::Abort;
 use std::test::Fail;
 
 const PEER: HostId = HostId(1);
+
+// The first bytes of a message of `size` bytes.
+fn first_piece(size: u32, bytes: &[u8]) -> Piece<'_>
+    ensures size { result.size ≡ size }
+    ensures offset { result.offset ≡ 0 }
+    ensures bytes { result.bytes.now ≡ bytes.now }
+{
+    Piece {
+        size,
+        offset: 0,
+        service: 0,
+        bytes,
+    }
+}
 
 // Beside a message of one page, one that needs more pages than are left, and one that comes whole in a piece.
 fn open_others(rt: &impl Abort, short: &Incoming, pool: &mut MsgPool, scratch: &mut Scratch)
@@ -18,9 +31,9 @@ fn open_others(rt: &impl Abort, short: &Incoming, pool: &mut MsgPool, scratch: &
     ensures { IsIn pool.new short.now }
 {
     assert_eq!(rt; pool.free(), 2);
-    let full = open_part(PEER, 8193, 1, 10, 0, b"x", pool, scratch);
+    let full = open_part(PEER, first_piece(8193, b"x"), 1, 10, pool, scratch);
     assert!(rt; matches!(&full, Opening::Full { need: 3, free: 2 }));
-    let whole = open_part(PEER, 3, 1, 10, 0, b"xyz", pool, scratch);
+    let whole = open_part(PEER, first_piece(3, b"xyz"), 1, 10, pool, scratch);
     assert!(rt; matches!(&whole, Opening::Whole));
     assert!(rt; scratch.bytes() == b"xyz".as_slice());
     assert_eq!(rt; pool.free(), 2);
@@ -45,7 +58,8 @@ fn two_messages_in_three_pages(rt: HostRuntime) -> Result<(), Fail> {
     let mut scratch = Scratch::new(rt.alloc())?;
     let mut pool = MsgPool::new(rt.alloc(), 3)?;
     // One page; "cdef" are missing.
-    let Opening::Begun(short) = open_part(PEER, 6, 0, 10, 0, b"ab", &mut pool, &mut scratch) else {
+    let piece = first_piece(6, b"ab");
+    let Opening::Begun(short) = open_part(PEER, piece, 0, 10, &mut pool, &mut scratch) else {
         assert!(rt; false, "the first message wasn't opened");
         return Ok(());
     };

@@ -98,6 +98,7 @@ impl Places {
         ensures within { result ≤ self.now.room }
         ensures places { ArePlaces self.now.room self.now.at }
     {
+        // For the proof: no more calls have a place than there is room for, and no two have the same.
         let _fits = self.room;
         self.index.len() as u32
     }

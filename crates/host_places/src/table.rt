@@ -78,6 +78,7 @@ impl<R> Rows<R> {
         ensures absent { IfNone result (get self.now.rows id ≡ None) }
         ensures placed { ArePlaced self.now.room self.now.rows }
     {
+        // For the proof: the rows stand at different places, each below the room.
         let _spots = &self.spots;
         self.places.find(id)
     }
@@ -143,6 +144,7 @@ impl<R> Rows<R> {
         ensures within { result ≤ self.now.room }
         ensures placed { ArePlaced self.now.room self.now.rows }
     {
+        // For the proof: the rows stand at different places, each below the room.
         let _spots = &self.spots;
         self.places.len()
     }

@@ -17,7 +17,7 @@ use Rattle.host_view.specs.declared.outbox.SentFrame.{SentFrame}
 use Rattle.host_view.specs.Frames.{frames_of, IsFormed}
 use Rattle.host_view.specs.Marks.{marks_from}
 
--- a host without its rows: settings, name, incarnation, clock, cutoffs, finished calls, and what its step told so far
+-- a host without its rows: settings, name, incarnation, clock, cutoffs, finished calls, and the marks of its step
 pub record Control : Type 0 where
   pub settings : Settings
   pub id : HostId
@@ -28,7 +28,7 @@ pub record Control : Type 0 where
   pub finished : List (List (ℕ × ℕ))
   pub marks : List Mark
 
--- bounds that a packet may tell
+-- bounds that a packet may carry
 pub record AreFit (c : Cutoffs) : Type 0 where
   pub version : c.version < 2 ^ 16
   pub levels : length c.upto ≡ 8
@@ -48,7 +48,7 @@ pub record IsSound (c : Control) : Type 0 where
   pub calls : AllByRecursion (AllByRecursion IsCall) c.finished
   pub room : length c.marks ≤ 128
 
--- in the midst of a step: the plain host has this beside its rows, and this was told so far, in these frames
+-- in the midst of a step: the plain host has this beside its rows, and these entries and frames so far
 pub record IsAt (w : Work) (c : Control) (frames : List SentFrame) : Type 0 where
   pub id : w.host.id ≡ c.id
   pub inc : w.host.inc ≡ c.inc

@@ -11,7 +11,7 @@ use Rattle.host_state.specs.declared.saying.Said.{Said}
 use Rattle.host_state.specs.declared.saying.Said.TheVariants.{Nothing, Tell, Post}
 use Rattle.host_state.specs.declared.saying.Outcome.{Outcome}
 
--- what is said is this
+-- what is said is this entry, this packet, or nothing
 abbrev pub AreSays : Said → List Say → Type 0
 AreSays Nothing [] = Unit {0}
 AreSays (Tell mark) (Tells entry ∷ []) = mark ≡ mark_of entry
@@ -31,12 +31,12 @@ pub record IsOutcome {R : Type 0} (did : Did R) (o : Outcome) : Type 0 where
   pub says : AreSays o.said did.says
   pub finished : did.finished ≡ o.finished
 
--- cutoffs that are told have eight bounds, each at most 1,000,000
+-- cutoffs in a packet have eight bounds, each at most 1,000,000
 abbrev pub HasFitCutoffs : Body → Type 0
 HasFitCutoffs (body.Cutoffs cutoffs) = AreFit cutoffs
 HasFitCutoffs what = Unit {0}
 
--- how many entries are told of what is said: an entry itself, or the `send` of a packet
+-- how many entries come of what is said: the entry itself, or the `send` of a packet
 abbrev pub marks_said : Said → ℕ
 marks_said Nothing = 0
 marks_said (Tell mark) = 1
@@ -48,17 +48,17 @@ frames_said Nothing = 0
 frames_said (Tell mark) = 0
 frames_said (Post what) = 1
 
--- 1 where there is a number, else 0
+-- 1 if there is a number, otherwise 0
 abbrev pub one_of : Option ℕ → ℕ
 one_of None = 0
 one_of (Some n) = 1
 
--- 1 for true, else 0
+-- 1 for true, otherwise 0
 abbrev pub one_if : Bool → ℕ
 one_if false = 0
 one_if true = 1
 
--- how many entries a host tells at most for a rule's outcome
+-- how many entries a host prints at most for a rule's outcome
 abbrev pub outcome_marks : Outcome → ℕ
 outcome_marks o = one_of o.opened + one_of o.version + marks_said o.said + one_if o.finished
 

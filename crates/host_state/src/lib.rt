@@ -1,5 +1,5 @@
-//! What a host has beside its rows: its clock, its cutoffs and those of its peers, the calls that finished, and what its
-//! step tells.
+//! What a host has beside its rows: its clock, its cutoffs and those of its peers, the calls that finished, and the
+//! entries of its step.
 //!
 //! The model: a [`Control`] is a record of these parts of the plain host, with the marks of what was told. `IsAt` says
 //! that a control and an outbox are those of a plain host in the midst of a step.
@@ -8,8 +8,13 @@
 #![tactic(auto)]
 
 mod control;
+mod cutoffs;
+mod finished;
 mod marks;
 mod saying;
+mod sends;
 
-pub use control::{Control, Leaving, Peer};
+pub use control::Control;
+pub use cutoffs::Peer;
 pub use saying::{Outcome, Said};
+pub use sends::Leaving;

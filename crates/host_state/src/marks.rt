@@ -1,11 +1,11 @@
-// What a step told, in room that is taken at opening.
+// The marks of a step, in room that is taken at opening.
 ghost use Rattle.std.specs.Prelude.{◌≡◌, ◌<◌, ◌++◌, ◌∷◌, [], length, IfOk};
 
 use host_view::Mark;
 use std::alloc::{AllocError, Global};
 use std::marker::Model;
 
-/// How many entries and packets a step tells at most.
+/// How many entries and packets a step has at most.
 const MOST_MARKS: usize = 128;
 
 /// The marks of a step, at most 128. Contracts see a list.
@@ -26,7 +26,7 @@ impl Model for Marks {
 }
 
 impl Marks {
-    /// No mark. Only this takes memory.
+    /// A list without marks. Only this takes memory.
     pub(crate) fn new(alloc: Global) -> Result<Marks, AllocError>
         ensures { IfOk result (λ m. m ≡ []) }
     {
@@ -34,7 +34,7 @@ impl Marks {
         Ok(Marks { marks })
     }
 
-    /// One more mark behind the others.
+    /// Adds a mark after the others.
     pub(crate) fn push(&mut self, mark: Mark)
         requires { length self.old < 128 }
         ensures { self.new ≡ self.old ++ mark ∷ [] }
@@ -42,7 +42,7 @@ impl Marks {
         self.marks.push_reserved(mark);
     }
 
-    /// No mark any more.
+    /// Drops all marks.
     pub(crate) fn clear(&mut self)
         ensures { self.new ≡ [] }
     {

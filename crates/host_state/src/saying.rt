@@ -12,7 +12,7 @@ pub enum Said {
     Post(Body),
 }
 
-/// What comes of a rule beside the row.
+/// What follows from a rule beside the row.
 #[derive(Debug, PartialEq, Eq, Drop)]
 pub struct Outcome {
     /// How many bytes a message has that was opened.

@@ -11,7 +11,7 @@ use Rattle.host_view.specs.declared.outbox.SentFrame.{SentFrame}
 use Rattle.host_view.specs.Frames.{read_line, line_of, packet_of}
 use Rattle.host_view.specs.Marks.{shown}
 use Rattle.host_view.specs.Seen.{Seen}
-use Rattle.homa_text.specs.Told.{HasLine}
+use Rattle.homa_plain.specs.Told.{HasLine}
 use Rattle.host_table.specs.declared.stage.Stage.{Stage}
 use Rattle.host_table.specs.Left.{HasLeft}
 

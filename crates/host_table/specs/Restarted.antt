@@ -3,7 +3,7 @@ use Rattle.std.specs.Prelude.{◌≡◌, false, List, [], ◌∷◌, slice_set}
 use Rattle.homa_plain.specs.declared.id.HostId.{HostId}
 use Rattle.homa_plain.specs.declared.fault.WorldFault.{WorldFault}
 use Rattle.homa_plain.specs.declared.fault.WorldFault.TheVariants as fault
-use Rattle.homa_replay.specs.Playing.{is_memory}
+use Rattle.homa_plain.specs.Entries.{is_memory}
 use Rattle.homa_service.specs.Table.{last_of, front_of}
 use Rattle.host_table.specs.declared.stage.Stage.{Stage}
 use Rattle.host_table.specs.Staged.{Known, known_of, seats_of, spares_of}

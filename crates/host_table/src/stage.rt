@@ -9,7 +9,7 @@ ghost use Rattle.homa_plain.specs.Steps.{start_fault, call_step, arrival_step, t
 ghost use Rattle.host_view.specs.Done.{arriving};
 ghost use Rattle.homa_plain.specs.Entries.{plain};
 ghost use Rattle.homa_service.specs.Table.{place_of};
-ghost use Rattle.homa_text.specs.Told.{HasLine};
+ghost use Rattle.homa_plain.specs.Told.{HasLine};
 ghost use Rattle.homa_host.specs.Asking.{HasAsked};
 ghost use Rattle.host_table.specs.Left.{entries_of, HasLeft, IsFew};
 ghost use Rattle.host_table.specs.Staged.{hosts_of, frames_of, known, known_of, known_in, first_known, known_first, whole_of, seats_of, spares_of};

@@ -14,7 +14,7 @@ use Rattle.host_view.specs.Frames.{frames_of, IsFormed, packet_of}
 use Rattle.host_view.specs.Seen.{Seen}
 use Rattle.host_view.specs.Marks.{shown_entries}
 
--- each packet that the marks name stands in the outbox
+-- each packet that the marks name is in the outbox
 abbrev pub HoldsSent : Seen → List SentFrame → Type 0
 HoldsSent h frames = (n : ℕ) → Contains h.marks (Sent n) → IsSome (option_and_then (packet_of h.settings) (slice_get frames n))
 
@@ -27,6 +27,6 @@ pub record IsDone (old : Seen) (step : Work) (new : Seen) (frames : List SentFra
   pub formed : AllByRecursion (IsFormed old.settings) (packets_in step.told)
   pub sent : HoldsSent new frames
 
--- the packet that a datagram is, where it comes from a host
+-- the packet that arrives with this datagram from a host; none if the bytes are no packet
 abbrev pub arriving : Seen → HostId → List ℕ → Option Packet
 arriving h from bytes = option_map (λ (r : WirePacket × List ℕ). packet_between from h.host.id r.0 r.1) (packet_in h.settings.wire bytes)

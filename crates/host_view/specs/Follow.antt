@@ -14,22 +14,22 @@ use Rattle.homa_grants.specs.Entries as entry
 use Rattle.homa_pacer.specs.Pace as pace
 use Rattle.host_view.specs.Seen.{Seen, slot_of, timer_of, entry_of, ready_of, waiting_at_client, waiting_at_server}
 
--- each row stands at a place below the limit, and no two at one place
+-- each row has a place below the limit, and no two rows have the same place
 pub record HasPlaces {R : Type 0} (limit : ℕ) (rows : RowsOf R) (places : RowsOf ℕ) : Type 0 where
   pub stands : (id : CallId) (row : R) → get rows id ≡ Some row → (n : ℕ) × (get places id ≡ Some n) × (n < limit)
   pub apart : (p q : CallId) (n : ℕ) → get places p ≡ Some n → get places q ≡ Some n → p ≡ q
 
--- so do the rows of a host's calls, and those of the calls that it serves
+-- each row of a host's calls has such a place, and each row of the calls that it serves
 pub record HasSlots (h : Seen) : Type 0 where
   pub clients : HasPlaces h.settings.calls h.host.clients h.client_places
   pub servers : HasPlaces h.settings.served h.host.servers h.server_places
 
--- whether a row stands there
+-- whether a place has a row
 abbrev pub has_row : Seen → Place → Type 0
 has_row h (OfClient id) = (r : ClientRow) × (get h.host.clients id ≡ Some r)
 has_row h (OfServer id) = (r : ServerRow) × (get h.host.servers id ≡ Some r)
 
--- from one moment to a later one no row changes but that of a place, which has this slot before and after, where it stands
+-- between two moments only the row of one place changes; before and after, that row has this slot, if it is there
 pub record ChangesAt (place : Place) (n : ℕ) (old new : Seen) : Type 0 where
   pub settings : new.settings ≡ old.settings
   pub last : new.host.last ≡ old.host.last
@@ -44,12 +44,12 @@ pub record ChangesAt (place : Place) (n : ℕ) (old new : Seen) : Type 0 where
 
 -- ---- what the row of a place has in each book
 
--- the timer of a client's row, if one stands there and has a deadline
+-- the timer of a client's row, if there is a row and it has a deadline
 abbrev pub client_timer : Settings → CallId → Option ClientRow → List Timer
 client_timer s id None = []
 client_timer s id (Some r) = timer (OfClient id) r.order (client_deadline s r)
 
--- the same of a server's row
+-- the timer of a server's row, if there is a row and it has a deadline
 abbrev pub server_timer : Settings → CallId → Option ServerRow → List Timer
 server_timer s id None = []
 server_timer s id (Some r) = timer (OfServer id) r.order (server_deadline s r)
@@ -74,24 +74,24 @@ abbrev pub arrival_at : Seen → Place → List Arriving
 arrival_at h (OfClient id) = client_arrival id (get h.host.clients id)
 arrival_at h (OfServer id) = server_arrival id (get h.host.servers id)
 
--- the request of a client's row, where bytes of it wait to be sent
+-- the request of a client's row, if bytes of it wait to be sent
 abbrev pub client_waiting : CallId → Option ClientRow → List Leaving
 client_waiting id None = []
 client_waiting id (Some r) = waiting_at_client id r
 
--- the response of a server's row, where bytes of it wait to be sent
+-- the response of a server's row, if bytes of it wait to be sent
 abbrev pub server_waiting : CallId → Option ServerRow → List Leaving
 server_waiting id None = []
 server_waiting id (Some r) = waiting_at_server id r.state
 
--- the message of the row of a place, where bytes of it wait to be sent
+-- the message of the row of a place, if bytes of it wait to be sent
 abbrev pub waiting_at : Seen → Place → List Leaving
 waiting_at h (OfClient id) = client_waiting id (get h.host.clients id)
 waiting_at h (OfServer id) = server_waiting id (get h.host.servers id)
 
--- a book, where a slot has this thing, or none
+-- a book in which a slot has this thing, or none
 module _ {X : Type 0} (key : X → ℕ × ℕ) (slot : X → ℕ) (n : ℕ) where
-  -- the entry of this slot is taken out, and the thing is put in where its key stands
+  -- takes the entry of this slot out, and puts the thing in at the place of its key
   abbrev pub booked : List X → List X → List X
   booked [] book = filter (λ x. not (slot x == n)) book
   booked (x ∷ xs) book = placed key x (filter (λ x. not (slot x == n)) book)

@@ -15,7 +15,7 @@ frame_of s p = record { from = sender p; to = receiver p; frame = datagram s p }
 abbrev pub frames_of : Settings → List Packet → List SentFrame
 frames_of s ps = map (frame_of s) ps
 
--- the packet is well formed, so that its datagram is read back as it
+-- the packet is well formed, so that its datagram is read as this packet
 abbrev pub IsFormed : Settings → Packet → Type 0
 IsFormed s p = IsWellFormed s.wire (wire_packet p) p.payload
 

@@ -1,5 +1,5 @@
--- What a step told, without the bytes that stand elsewhere: a request and a response in their rows, a message that became whole in
--- the scratch, a packet in the outbox.
+-- The entries of a step as marks, without the bytes that are elsewhere: a request and a response are in their rows,
+-- a message that became whole is in the scratch, a packet is in the outbox.
 use Rattle.std.specs.Prelude.{◌≡◌, ℕ, suc, Bool, true, false, Option, unwrap_or, List, [], ◌∷◌, map}
 use Rattle.std.specs.List.{AllByRecursion}
 use Rattle.std.specs.Option.{option_map}
@@ -28,7 +28,7 @@ response_in (Held response release) = response
 response_in (Replying response out order base count) = response
 response_in (Buried until) = []
 
--- the same by the call; empty where it has no row
+-- the response of this call that the host serves; empty if it has no row
 abbrev pub response_of : Host → CallId → List ℕ
 response_of h id = unwrap_or (option_map (λ (r : ServerRow). response_in r.state) (get h.servers id)) []
 
@@ -61,7 +61,7 @@ has_ran [] = false
 has_ran (Ran id service hold ∷ marks) = true
 has_ran (mark ∷ marks) = has_ran marks
 
--- where a service was asked, this is what it answered
+-- if a service was asked, this is its answer
 abbrev pub IsReply : Host → Answer → Mark → Type 0
 IsReply h a (Ran id service hold) = a ≡ record { bytes = response_of h id; hold = hold }
 IsReply h a mark = Unit {0}
@@ -70,14 +70,14 @@ IsReply h a mark = Unit {0}
 abbrev pub IsAnswer : Seen → Answer → Type 0
 IsAnswer h a = AllByRecursion (IsReply h.host a) h.marks
 
--- where a service was asked, it was allowed to answer so
+-- if a service was asked, it was allowed to answer so
 abbrev pub IsAllowed : Host → (ℕ → List ℕ → List ℕ → ℕ → Type 0) → List ℕ → Mark → Type 0
 IsAllowed h allows whole (Ran id service hold) = allows service whole (response_of h id) hold
 IsAllowed h allows whole mark = Unit {0}
 
--- ---- marks of what was told
+-- ---- marks of entries
 
--- the mark of an entry; of entries that no mark shows it is that of junk
+-- the mark of an entry; an entry that no mark shows has the mark of junk
 abbrev pub mark_of : PlainEntry → Mark
 mark_of (PlainCall id server service bytes) = Called id server service
 mark_of (PlainStale host at now) = Stale at
@@ -105,7 +105,7 @@ IsWhole whole (Says (PlainRun host id service request response hold)) = request 
 IsWhole whole (Says (PlainDone id bytes)) = bytes ≡ whole
 IsWhole whole told = Unit {0}
 
--- the entry of what was told is that of its mark
+-- an entry that was printed is the entry of its mark, whatever the frames
 abbrev pub IsShown : Seen → List ℕ → Told → Type 0
 IsShown h whole (Says entry) = (frames : List SentFrame) → shown h frames whole (mark_of entry) ≡ entry
 IsShown h whole (Sends packet) = Unit {0}

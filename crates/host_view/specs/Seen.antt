@@ -1,4 +1,4 @@
--- What a host is seen as: the plain host, the places of its rows, what its last step told; and what its books hold.
+-- The model of a host: the plain host, the places of its rows, the entries of its last step; and what its books hold.
 use Rattle.std.specs.Prelude.{◌≡◌, ◌+◌, ◌-◌, ℕ, if◌then◌else◌, unwrap_or, List, [], ◌∷◌, ◌++◌, map, Contains}
 use Rattle.std.specs.List.{flat_map}
 use Rattle.plain_sets.specs.Maps.{get, entries}
@@ -15,7 +15,7 @@ use Rattle.homa_timers.specs.Armed as armed
 use Rattle.homa_grants.specs.Entries as entry
 use Rattle.homa_pacer.specs.Pace as pace
 
--- a host, its settings, where its rows stand, and what its last step told
+-- a host, its settings, the places of its rows, and the marks of its last step
 pub record Seen : Type 0 where
   pub settings : Settings
   pub host : Host
@@ -56,13 +56,13 @@ AreEntered h book = book ≡ ordered entry.entry_key (map (entry_of h) (arrivals
 abbrev pub waiting_at_client : CallId → ClientRow → List Leaving
 waiting_at_client id r = if has_waiting r.out then record { place = OfClient id; left = left r.out; order = r.order } ∷ [] else []
 
--- the same of a response
+-- a response of which bytes wait, whether or not they may be sent now
 abbrev pub waiting_at_server : CallId → State → List Leaving
 waiting_at_server id (Replying response out order base count) =
     if has_waiting out then record { place = OfServer id; left = left out; order = order } ∷ [] else []
 waiting_at_server id state = []
 
--- all of them: the requests, and then the responses
+-- all messages of which bytes wait: the requests, and then the responses
 abbrev pub waiting : Host → List Leaving
 waiting h =
     flat_map (λ (e : CallId × ClientRow). waiting_at_client e.0 e.1) (entries h.clients)

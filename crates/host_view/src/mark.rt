@@ -1,8 +1,8 @@
-// What a step told, without the bytes that stand elsewhere.
+// The entries of a step, without the bytes that are elsewhere.
 use homa_plain::{CallId, Cutoffs, HostId, Why};
 
-/// One entry of a step. The bytes of a call stand in its row, those of a response too, a message that became whole in
-/// the scratch, and a packet in the outbox.
+/// One entry of a step. The bytes of a call and of a response are in its row, those of a message that became whole in
+/// the scratch, and those of a packet in the outbox.
 #[derive(Clone, Copy, Debug, PartialEq, Eq)]
 pub enum Mark {
     /// A call to this service of a host started.
@@ -27,7 +27,7 @@ pub enum Mark {
         service: u8,
         hold: u32,
     },
-    /// A response is whole.
+    /// A response is whole at the client.
     Done {
         id: CallId,
     },
@@ -40,20 +40,20 @@ pub enum Mark {
     Dropped {
         id: CallId,
     },
-    /// A message would have been left with more gaps than are kept.
+    /// A piece that would have left more than 64 gaps in a message was refused.
     TooManyGaps {
         id: CallId,
     },
-    /// Of a call is kept that it ran, up to tick `until`.
+    /// A server keeps of a call only that it ran, up to tick `until`.
     Entombed {
         id: CallId,
         until: u64,
     },
-    /// That a call ran is forgotten.
+    /// A server forgets that a call ran.
     Freed {
         id: CallId,
     },
-    /// There are `rows` rows, and the limit is `limit`.
+    /// A server has `rows` rows, and the limit is `limit`.
     NoRow {
         id: CallId,
         rows: u32,
@@ -72,7 +72,7 @@ pub enum Mark {
 }
 
 impl Default for Mark {
-    /// That the bytes which came are no packet.
+    /// The mark that the bytes which arrived are no packet.
     fn default() -> Mark {
         Mark::Junk
     }

@@ -39,7 +39,7 @@ impl Model for Outbox {
 }
 
 impl Outbox {
-    /// No frame, with room for 64. Only this takes memory.
+    /// An outbox without frames, with room for 64. Only this takes memory.
     pub fn new(alloc: Global) -> Result<Outbox, AllocError>
         ensures { IfOk result (λ outbox. outbox ≡ []) }
     {
@@ -93,14 +93,14 @@ impl Outbox {
         self.room[i].to
     }
 
-    /// No frame any more.
+    /// Drops all frames.
     pub fn clear(&mut self)
         ensures { self.new ≡ [] }
     {
         self.len = 0;
     }
 
-    /// Puts the datagram of a packet, in version `wire`, behind the others. Its bytes are written once.
+    /// Puts the datagram of a packet, in version `wire`, after the others. Its bytes are written once.
     pub fn push(&mut self, from: HostId, to: HostId, packet: &Packet, wire: u32, payload: &[u8])
         requires room { length self.old < 64 }
         requires formed { IsWellFormed wire packet.now payload.now }

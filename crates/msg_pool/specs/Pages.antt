@@ -9,7 +9,7 @@ pages_for bytes = (bytes + 4095) / 4096
 abbrev pub byte_at : List ℕ → ℕ → ℕ → ℕ
 byte_at block page place = slice_index block (page * 4096 + place)
 
--- the page that comes so many steps behind the first one of a chain
+-- the page that is so many steps after the first one of a chain
 abbrev pub page_at : List ℕ → ℕ → ℕ → ℕ
 page_at next first zero = first
 page_at next first (suc steps) = slice_index next (page_at next first steps)

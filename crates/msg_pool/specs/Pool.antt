@@ -15,12 +15,12 @@ pub record Held : Type 0 where
   pub number : ℕ
   pub len : ℕ
 
--- a pool is stored as the pair of its fields
+-- the encoding of a pool as the pair of its fields
 abbrev pub pool_code : Coded Pool
 pool_code = code_by (ℕ × Map nat_cmp (List ℕ)) (coded× coded_ℕ (code coded_ℕ (coded_list coded_ℕ))) (λ p. (p.pages, p.leases))
     (λ p. record { pages = p.0; leases = p.1 }) (λ _. refl)
 
--- a lease is stored as the pair of its fields
+-- the encoding of a lease as the pair of its fields
 abbrev pub held_code : Coded Held
 held_code = code_by (ℕ × ℕ) (coded× coded_ℕ coded_ℕ) (λ h. (h.number, h.len)) (λ p. record { number = p.0; len = p.1 }) (λ _. refl)
 

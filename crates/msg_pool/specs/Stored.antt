@@ -1,7 +1,7 @@
 -- A block of pages of which the first ones are stored: the bytes of the others are zero.
 use Rattle.std.specs.Prelude.{◌≡◌, ℕ, ◌-◌, ◌*◌, ◌≤◌, List, ◌++◌, length, replicate}
 
--- bytes, and zeros behind them up to a length
+-- bytes, and zeros after them up to a length
 abbrev pub with_zeros : List ℕ → ℕ → List ℕ
 with_zeros stored len = stored ++ replicate (len - length stored) 0
 

@@ -13,7 +13,7 @@ pub(crate) const PAGE: u32 = 4096;
 /// stored only when it is first written, so that the system hands out no memory for them before.
 #[derive(Drop)]
 pub(crate) struct Block {
-    // The bytes of the first pages. Those behind them are zero.
+    // The bytes of the first pages. Those of all later pages are zero.
     stored: Vec<u8>,
     pages: u32,
 }

@@ -14,7 +14,7 @@ pub(crate) struct Chain {
     pub(crate) len: u32,
 }
 
-/// A page that was looked for: so many steps behind the first one of a chain.
+/// The page that was found last: so many steps after the first one of a chain.
 #[derive(Clone, Copy)]
 pub(crate) struct Near {
     pub(crate) first: u32,
@@ -35,7 +35,7 @@ pub(crate) fn linked(alloc: Global, pages: u32) -> Result<Vec<u32>, AllocError>
     Ok(next)
 }
 
-/// The page so many steps behind the first one of a chain.
+/// The page that is so many steps after the first one of a chain.
 pub(crate) fn nth_page(next: &[u32], first: u32, steps: u32) -> u32
     requires { IsChain next.now first steps }
     ensures { result ≡ page_at next.now first steps }
@@ -47,8 +47,8 @@ pub(crate) fn nth_page(next: &[u32], first: u32, steps: u32) -> u32
     page
 }
 
-/// The page so many steps behind the first one of a chain, from the last one that was looked for on where that comes
-/// before it. It is the last one that was looked for then.
+/// The page that is so many steps after the first one of a chain, from the last one that was found on, if that comes
+/// before it. Afterwards it is the last one that was found.
 fn near_page(next: &[u32], near: &mut Near, first: u32, steps: u32) -> u32
     requires chain { IsChain next.now first steps }
     requires near { IsNear next.now near.old }
@@ -64,7 +64,7 @@ fn near_page(next: &[u32], near: &mut Near, first: u32, steps: u32) -> u32
     page
 }
 
-/// Makes each byte of so many pages of a chain zero, and returns the page behind them.
+/// Makes each byte of so many pages of a chain zero, and returns the page after them.
 pub(crate) fn zero_chain(block: &mut Block, next: &[u32], first: u32, count: u32) -> u32
     requires block { length block.old ≡ length next.now * 4096 }
     requires chain { IsChain next.now first count }
@@ -81,7 +81,7 @@ pub(crate) fn zero_chain(block: &mut Block, next: &[u32], first: u32, count: u32
     page
 }
 
-/// Writes bytes over those of a chain of pages from `offset` on. The page of the first one is looked for.
+/// Writes bytes over those of a chain of pages from `offset` on, and finds the page where they begin.
 pub(crate) fn write_chain(
     block: &mut Block,
     next: &[u32],

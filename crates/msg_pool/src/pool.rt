@@ -29,7 +29,7 @@ pub struct MsgPool {
     near: Near,
 }
 
-// The first page, none steps behind itself.
+// The first page of a chain as the one that was found last.
 const FIRST: Near = Near {
     first: 0,
     steps: 0,

@@ -14,7 +14,7 @@ pub const MAX_MESSAGE: usize = 1_000_000;
 /// A list of at most 1,000,000 bytes, for which the room is taken at opening.
 #[derive(Drop)]
 pub struct Scratch {
-    // The bytes are the first of these; behind them are some of longer messages before.
+    // The bytes are the first of these; after them come bytes of longer messages before.
     room: Vec<u8>,
     len: usize,
 }
@@ -51,7 +51,7 @@ impl Scratch {
         self.len = len;
     }
 
-    /// Becomes these bytes.
+    /// Holds these bytes from now on, at most 1,000,000, and takes no memory.
     pub fn set(&mut self, bytes: &[u8])
         requires { length bytes.now ≤ 1000000 }
         ensures { self.new ≡ bytes.now }
@@ -77,7 +77,7 @@ impl Scratch {
         put_front(&mut self.room, self.len, offset as usize, bytes);
     }
 
-    /// The bytes.
+    /// The bytes that it holds, at most 1,000,000.
     pub fn bytes(&self) -> &[u8]
         ensures { result.now ≡ self.now }
     {
@@ -85,7 +85,7 @@ impl Scratch {
     }
 }
 
-// The first bytes of a list become these.
+// Makes these bytes the first ones of a list.
 fn copy_front(room: &mut [u8], bytes: &[u8])
     requires { length bytes.now ≤ length room.old }
     ensures len { length room.new ≡ length room.old }
@@ -94,7 +94,7 @@ fn copy_front(room: &mut [u8], bytes: &[u8])
     room[..bytes.len()].copy_from_slice(bytes);
 }
 
-// The first bytes of a list become those of a lease.
+// Makes the bytes of a lease the first ones of a list.
 fn fill_front(room: &mut [u8], pool: &MsgPool, lease: &Lease)
     requires lease { IsLeaseOf pool.now lease.now }
     requires fits { lease.now.len ≤ length room.old }

@@ -16,7 +16,7 @@ use Rattle.homa_plain.specs.Steps.{Work, has_run, turn_step, call_step, start_fa
 use Rattle.homa_plain.specs.World.{World, Done, outcome, own_clock}
 use Rattle.host_view.specs.Seen.{Seen}
 use Rattle.homa_service.specs.Table.{place_of}
-use Rattle.trace_induction.proofs.Timed.{resend_of}
+use Rattle.step_moves.proofs.Timed.{resend_of}
 use Rattle.step_laws.proofs.OneAnswer as one
 use Rattle.event_laws.proofs.Names.{call_named, turn_named}
 use Rattle.event_laws.proofs.Apart.{call_apart, turn_apart}

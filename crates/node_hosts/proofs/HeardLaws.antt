@@ -30,6 +30,7 @@ use Rattle.host_table.specs.declared.stage.Stage.{Stage}
 use Rattle.host_table.specs.Staged.{known_of, hosts_of, frames_of, seats_of, HasCome, HasNotCome}
 use Rattle.node_runs.specs.Course.{Arrival, arrival_outcome, packet_from}
 use Rattle.homa_plain.specs.Answers.{shown}
+use Rattle.node_turns.specs.Acting.{Asks}
 use Rattle.node_hosts.specs.declared.parts.Last.TheVariants as last
 use Rattle.node_hosts.specs.declared.parts.NodeParts.{NodeParts}
 use Rattle.box_laws.specs.Boxes.{Allows}
@@ -243,3 +244,39 @@ module _ {S : Type 0} (served : S → ℕ) (allows : Allows S) (old n new : Node
         subst (IsKept served) (sym done)
             (came_kept served allows n kept now to h (arriving h from bytes) st r.at come own apart frames few (omega (arith, clock)) l),
       )
+
+-- ---- where nothing came
+
+module _ {S : Type 0} (served : S → ℕ) (old n : NodeParts S) (kept : IsKept served n) (room : n ≡ record old { last = last.Nothing })
+    (now : ℕ) (to from : HostId) (other : from ≢ to) (bytes : List ℕ) (clock : now ≡ n.clock + n.settings.skew) (l : to.0 < n.settings.hosts) where
+  -- the datagram's outcome in a world
+  abbrev outcome_of : NodeParts S → World → Outcome
+  outcome_of m v = arrival_outcome m.settings v to (record { from = from; bytes = bytes })
+
+  -- whatever the service answers, the host asks it
+  abbrev AlwaysRuns : Seen → Type 0
+  AlwaysRuns h = (a : Answer) → has_run (arrival_step h.settings h.host now (arriving h from bytes) a).told ≡ true
+
+  asks_there : IfSome (slice_get (hosts_of n.stage) to.0) AlwaysRuns → (p : World) → StandsFor n p → (a : Answer) → Asks (outcome_of n) p a
+  asks_there runs p stands a =
+      let r = found (hosts_of n.stage) to.0 (within served n kept to l) in
+      let h : Seen = r.h in
+      let run : AlwaysRuns h = of_some AlwaysRuns (slice_get (hosts_of n.stage) to.0) r.h r.at runs in
+      let f = fits_there served n kept to r.h r.at in
+      let step : Work = arrival_step h.settings h.host now (arriving h from bytes) a in
+      let made : Makes a p to (outcome_of n) (PlainRecv to from bytes ∷ []) step =
+      subst (Makes a p to (outcome_of n) (PlainRecv to from bytes ∷ []))
+      (ap (λ m. arrival_step n.settings h.host m (packet_from from to (packet_in n.settings.wire bytes)) a) (clock_there n to p stands l now clock)
+      ∙ ap (λ q. arrival_step n.settings h.host now q a) (same_packet n.settings h from to bytes f.name.name f.settings)
+      ∙ ap (λ t. arrival_step t h.host now (arriving h from bytes) a) (sym f.settings))
+      (heard_done n.settings p to (record { from = from; bytes = bytes }) h.host a (host_there n to p stands h r.at)) in
+      record {
+        after = record { world = answering [] (stepped_world p to step); told = step_told p (PlainRecv to from bytes ∷ []) step };
+        is = ap (λ (b : Bool). outcome_of n (answering (cond b (a ∷ []) [] ++ []) p)) (sym (run a)) ∙ made [];
+        shows = one_shown (length p.packets) step.told a (one.asked_once h.settings h.host now (arriving h from bytes) a)
+            (all_show a step.told (one.answer_told h.settings h.host now (arriving h from bytes) a))
+            ∙ ap (λ (b : Bool). cond b (a ∷ []) []) (run a);
+      }
+
+  pub asks : IfSome (slice_get (hosts_of n.stage) to.0) AlwaysRuns → (p : World) → StandsFor old p → (a : Answer) → Asks (outcome_of old) p a
+  asks runs = subst (λ (m : NodeParts S). (p : World) → StandsFor m p → (a : Answer) → Asks (outcome_of m) p a) room (asks_there runs)

@@ -14,10 +14,10 @@ use Rattle.homa_plain.specs.World.{World, SentPacket, stamped, host_at, own_cloc
 use Rattle.host_view.specs.Seen.{Seen}
 use Rattle.host_view.specs.Frames.{frames_of}
 use Rattle.homa_service.specs.Table.{place_of}
-use Rattle.trace_induction.proofs.Hosts.{there, elsewhere, length-set, apart as apart_of}
+use Rattle.step_moves.proofs.Hosts.{there, elsewhere, length-set, apart as apart_of}
 use Rattle.homa_plain.proofs.CallOrder.{hosts_are}
 use Rattle.homa_plain.specs.Calls.{is_host}
-use Rattle.trace_lines.specs.Told.{HasOwnName}
+use Rattle.step_moves.specs.Worlds.{HasOwnName}
 use Rattle.event_laws.specs.Named.{IsOwnStep, IsOfStep, numbered}
 use Rattle.event_laws.specs.Apart.{IsApart, IsApartStep}
 use Rattle.event_laws.specs.Stepping.{stepped_world}
@@ -153,6 +153,14 @@ pub own_at : {S : Type 0} (n : NodeParts S) (host : HostId) (base i : ℕ) (e x 
 own_at n host base i e x is at same =
     subst IsOwn (sym same) (at_index IsOwn (told_by n (last.Stepped host base)) i (numbered base e) is.3
     (map_at (numbered base) (entries_of n.stage (slice_get (hosts_of n.stage) host.0)) i e at))
+
+-- nor does any other of them
+own_by : {S : Type 0} (n : NodeParts S) (l : Last) → IsLast n l → AllByRecursion IsOwn (told_by n l)
+own_by n last.Nothing is = tt
+own_by n (last.Stepped host base) is = is.3
+
+pub own_told : {S : Type 0} (served : S → ℕ) (n : NodeParts S) → IsKept served n → AllByRecursion IsOwn (told_of n)
+own_told served n kept = own_by n n.last kept.last
 
 -- ---- a step
 

@@ -6,7 +6,7 @@ use Rattle.homa_plain.specs.declared.settings.Settings.{Settings}
 use Rattle.homa_plain.specs.Settings.{IsValid}
 use Rattle.homa_plain.specs.Entries.{PlainEntry}
 use Rattle.homa_plain.specs.World.{World, Outcome, last_tick}
-use Rattle.trace_lines.specs.Told.{HasOwnName}
+use Rattle.step_moves.specs.Worlds.{HasOwnName}
 use Rattle.event_laws.specs.Named.{numbered}
 use Rattle.event_laws.specs.Apart.{IsApart}
 use Rattle.homa_service.specs.Table.{place_of}

@@ -3,7 +3,7 @@ ghost use Rattle.std.specs.Prelude.{◌≡◌, map, IfOk};
 ghost use Rattle.homa_plain.specs.Bytes.{IsBytes};
 
 use crate::NodeHosts;
-use homa_node::OpensIn;
+use homa_node::OpenHosts;
 use homa_plain::Settings;
 use homa_service::{Reply, Service};
 use std::alloc::{AllocError, Global};
@@ -32,6 +32,7 @@ impl<V: Service> Fair<V> {
 fn know_bytes(bytes: &[u8])
     ensures { IsBytes bytes.now }
 {
+    // For the proof: each byte is below 256.
     let _len = bytes.len();
 }
 
@@ -50,7 +51,7 @@ impl<V: Service> Service for Fair<V> {
     }
 }
 
-impl<V: Service> OpensIn<Vec<V>> for NodeHosts<Fair<V>> {
+impl<V: Service> OpenHosts<Vec<V>> for NodeHosts<Fair<V>> {
     ghost use Rattle.box_laws.specs.First.{AreReady};
     ghost use Rattle.node_hosts.specs.Fair.{AreFairlyAllowed};
     ghost use Rattle.node_hosts.specs.Fair.{unasked_fair};
@@ -66,7 +67,7 @@ impl<V: Service> OpensIn<Vec<V>> for NodeHosts<Fair<V>> {
         boxes: Vec<V>,
     ) -> Result<NodeHosts<Fair<V>>, AllocError> {
         let boxes = Fair::each(alloc, boxes)?;
-        <NodeHosts<Fair<V>> as OpensIn<Vec<Fair<V>>>>::open_in(alloc, s, incs, boxes)
+        <NodeHosts<Fair<V>> as OpenHosts<Vec<Fair<V>>>>::open_in(alloc, s, incs, boxes)
     }
 
     ghost unasked = { λ boxes told none. unasked_fair V.served V.allows boxes.items told none };

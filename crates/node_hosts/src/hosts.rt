@@ -1,10 +1,10 @@
 // The hosts of a node.
 use crate::NodeParts;
-use homa_node::OpensIn;
+use homa_node::OpenHosts;
 use homa_plain::{Entry, HostId, Settings, StartFault};
 use homa_service::Service;
 use host_view::Outbox;
-use node_turns::Hosting;
+use node_turns::LoopHosts;
 use std::alloc::{AllocError, Global};
 use std::marker::Model;
 
@@ -25,7 +25,7 @@ impl<S: Service> Model for NodeHosts<S> {
     ghost invariant = { λ n. IsKept S.served n.parts };
 }
 
-impl<S: Service> Hosting for NodeHosts<S> {
+impl<S: Service> LoopHosts for NodeHosts<S> {
     ghost use Rattle.host_table.specs.Staged.{frames_of};
     ghost use Rattle.node_hosts.specs.Standing.{StandsFor, told_of, may_tell_of};
     ghost use Rattle.node_hosts.specs.Comings.{comes, turns};
@@ -52,6 +52,7 @@ impl<S: Service> Hosting for NodeHosts<S> {
         self.parts.stand_at(now);
     }
 
+    #[tactic(auto, using(crate::proofs::StepLaws::own_told))]
     fn call(
         &mut self,
         alloc: Global,
@@ -63,6 +64,7 @@ impl<S: Service> Hosting for NodeHosts<S> {
         self.parts.call(alloc, client, server, number, request)
     }
 
+    #[tactic(auto, using(crate::proofs::StepLaws::own_told))]
     fn hear(
         &mut self,
         alloc: Global,
@@ -73,9 +75,9 @@ impl<S: Service> Hosting for NodeHosts<S> {
         self.parts.hear(alloc, host, from, bytes)
     }
 
-    fn turn(&mut self, _alloc: Global, host: HostId) -> Result<(), AllocError> {
+    #[tactic(auto, using(crate::proofs::StepLaws::own_told))]
+    fn turn(&mut self, host: HostId) {
         self.parts.turn(host);
-        Ok(())
     }
 
     fn entries(&self) -> usize {
@@ -101,7 +103,7 @@ impl<S: Service> Hosting for NodeHosts<S> {
     ghost turns = { λ n w stood host there later. turns n w stood host there later };
 }
 
-impl<S: Service> OpensIn<Vec<S>> for NodeHosts<S> {
+impl<S: Service> OpenHosts<Vec<S>> for NodeHosts<S> {
     ghost use Rattle.box_laws.specs.First.{AreAllowed, AreReady};
     ghost use Rattle.box_laws.specs.Unasked.{unasked_allowed};
 

@@ -1,5 +1,5 @@
 // The parts of a node's hosts, and what each step does with them.
-ghost use Rattle.std.specs.Prelude.{◌≡◌, ◌≢◌, ◌≤◌, ◌<◌, ◌+◌, ◌*◌, ◌^◌, IfOk, IfErr, OnOk, Ok, Some, [], ◌∷◌};
+ghost use Rattle.std.specs.Prelude.{◌≡◌, ◌≢◌, ◌≤◌, ◌<◌, ◌+◌, ◌*◌, ◌^◌, IfOk, IfErr, OnOk, OnErr, Ok, Some, [], ◌∷◌};
 ghost use Rattle.std.specs.Prelude.{length, map, take, drop, slice_get};
 ghost use Rattle.std.specs.List.{AllByRecursion};
 ghost use Rattle.homa_plain.specs.declared.event.Event.TheVariants as event;
@@ -7,13 +7,14 @@ ghost use Rattle.homa_plain.specs.declared.fault.WorldFault.TheVariants as fault
 ghost use Rattle.homa_plain.specs.Entries.{PlainRecv, plain};
 ghost use Rattle.homa_plain.specs.Settings.{IsValid};
 ghost use Rattle.homa_plain.specs.World.{World, outcome};
-ghost use Rattle.homa_text.specs.Told.{HasLine};
+ghost use Rattle.homa_plain.specs.Told.{HasLine};
 ghost use Rattle.node_io.specs.Observer.{IsSeen};
 ghost use Rattle.event_laws.specs.Named.{numbered as plain_numbered};
 ghost use Rattle.host_table.specs.Left.{IsFew};
 ghost use Rattle.host_table.specs.Staged.{frames_of, seats_of, spares_of};
 ghost use Rattle.node_runs.specs.Course.{arrival_outcome};
-ghost use Rattle.node_turns.specs.Acting.{IsRefused, IsOwn};
+ghost use Rattle.homa_plain.specs.Rules.{Answer};
+ghost use Rattle.node_turns.specs.Acting.{IsRefused, IsOwn, Asks};
 ghost use Rattle.homa_node.specs.Served.{IsFirstIn};
 ghost use Rattle.node_hosts.specs.declared.parts.Last.TheVariants as last;
 ghost use Rattle.node_hosts.specs.Standing.{IsKept, StandsFor, Steps, told_of};
@@ -147,7 +148,7 @@ impl<S: Service> NodeParts<S> {
         Ok(Ok(()))
     }
 
-    /// A datagram comes to a host from another one.
+    /// A datagram comes to a host from another one. Memory is wanted only where it asks the host's service.
     pub fn hear(
         &mut self,
         alloc: Global,
@@ -162,6 +163,8 @@ impl<S: Service> NodeParts<S> {
         requires few { self.old.steps < 2 ^ 57 }
         ensures done { OnOk result (Steps S.served S.allows self.old self.new
             (λ v. arrival_outcome self.old.settings v host (record { from = from; bytes = bytes.now })) (PlainRecv host from bytes.now ∷ [])) }
+        ensures asks { OnErr result ((w : World) → StandsFor self.old w → (a : Answer)
+            → Asks (λ v. arrival_outcome self.old.settings v host (record { from = from; bytes = bytes.now })) w a) }
         ensures kept { IsKept S.served self.new }
         ensures settings { self.new.settings ≡ self.old.settings }
         ensures clock { self.new.clock ≡ self.old.clock }

@@ -1,2 +1,3 @@
 pub mod Absent
+pub mod Doing
 pub mod Rising

@@ -9,4 +9,3 @@ pub mod Sure
 pub mod Sockets
 pub mod Real
 pub mod System
-pub mod Printer

@@ -1,11 +1,12 @@
 -- What a net in memory holds and has told.
-use Rattle.std.specs.Prelude.{ℕ, ◌-◌, Bool, if◌then◌else◌, Option, Some, List, [], ◌∷◌, ◌++◌, length, map}
+use Rattle.std.specs.Prelude.{ℕ, Bool, if◌then◌else◌, Option, Some, List, [], ◌∷◌, ◌++◌, map}
 use Rattle.homa_plain.specs.declared.id.HostId.{HostId}
 use Rattle.node_runs.specs.Course.{Datagram, Receive}
 use Rattle.node_io.specs.declared.memory.MemNet.{MemNet}
-use Rattle.node_io.specs.Net.{datagram_of}
+use Rattle.node_runs.specs.Acts.{Act}
+use Rattle.node_io.specs.Net.{datagram_of, sent_in, given_in}
 use Rattle.node_io.specs.Hosts.{set_has}
-use Rattle.node_io.specs.Given.{received}
+use Rattle.node_io.specs.Given.{act_of}
 
 -- the hosts that were bound
 abbrev pub net_bound : MemNet → HostId → Bool
@@ -27,13 +28,17 @@ net_queued net = Some (net_queue net)
 abbrev pub queue_with : MemNet → Datagram → List Datagram
 queue_with net d = if net_bound net d.to then net_queue net ++ d ∷ [] else net_queue net
 
+-- what it did
+abbrev pub net_acts : MemNet → Option (List Act)
+net_acts net = Some (map act_of net.acts.items)
+
 -- the datagrams that it took
 abbrev pub net_sent : MemNet → Option (List Datagram)
-net_sent net = Some (map datagram_of net.sent.items)
+net_sent net = sent_in (net_acts net)
 
 -- what its receives gave
 abbrev pub net_gave : MemNet → Option (List Receive)
-net_gave net = Some (map received net.gave.items)
+net_gave net = given_in (net_acts net)
 
 -- how many faults it had
 abbrev pub net_faults : MemNet → ℕ
@@ -49,8 +54,12 @@ net_calls net = net.calls.next
 
 -- for how many sends it still has room
 abbrev pub net_sends : MemNet → ℕ
-net_sends net = net.room - length net.sent.items
+net_sends net = net.sends
 
 -- for how many receives it still has room
 abbrev pub net_receives : MemNet → ℕ
-net_receives net = net.room - length net.gave.items
+net_receives net = net.receives
+
+-- and for how many hosts that are bound or routed
+abbrev pub net_places : MemNet → ℕ
+net_places net = net.places

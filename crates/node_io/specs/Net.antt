@@ -3,6 +3,7 @@ use Rattle.std.specs.Prelude.{ℕ, ◌&&◌, not, Bool, if◌then◌else◌, Opt
 use Rattle.homa_plain.specs.declared.id.HostId.{HostId}
 use Rattle.homa_plain.specs.Calls.{is_host}
 use Rattle.node_runs.specs.Course.{Datagram, Arrival, Receive}
+use Rattle.node_runs.specs.Acts.{Act, sents, gives}
 use Rattle.node_io.specs.declared.net.Got.{Got}
 use Rattle.node_io.specs.declared.net.Got.TheVariants as got
 
@@ -42,6 +43,16 @@ left_queued known host (d ∷ ds) =
 abbrev pub added : {A : Type 0} → Option (List A) → A → Option (List A)
 added None x = None
 added (Some xs) x = Some (xs ++ x ∷ [])
+
+-- the datagrams that were sent among the things that a net did, where it tells them
+abbrev pub sent_in : Option (List Act) → Option (List Datagram)
+sent_in None = None
+sent_in (Some acts) = Some (sents acts)
+
+-- what its receives gave
+abbrev pub given_in : Option (List Act) → Option (List Receive)
+given_in None = None
+given_in (Some acts) = Some (gives acts)
 
 -- what stays queued, where that is told
 abbrev pub if_queued : (HostId → Bool) → HostId → Option (List Datagram) → Option (List Datagram)

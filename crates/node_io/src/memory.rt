@@ -1,12 +1,13 @@
 // A net in memory, whose faults are planned.
 ghost use Rattle.std.specs.Prelude.{◌≡◌, ◌≤◌, ◌<◌, ◌+◌, ◌-◌, ◌^◌, ◌↔◌, ◌⊎◌, ◌||◌, false, true, Some, None, [], ◌∷◌, ◌++◌, length, map, min};
-ghost use Rattle.std.specs.Prelude.{vec_capacity, Contains, IsErr, OnOk, OnErr, IfOk, IfSome, if◌then◌else◌};
+ghost use Rattle.std.specs.Prelude.{vec_capacity, Contains, IsErr, OnOk, OnErr, IfOk, IfSome, if◌then◌else◌, refl};
 ghost use Rattle.homa_io.specs.Outside.{HasRisen};
 ghost use Rattle.homa_plain.specs.declared.id.HostId.{HostId as Host};
 ghost use Rattle.homa_plain.specs.Calls.{is_host};
 ghost use Rattle.node_io.specs.Hosts.{set_has};
 ghost use Rattle.node_io.specs.Net.{arrival_of, receive_of, IfFrom, is_welcome, next_arrival, left_queued, if_queued, added, datagram_of};
-ghost use Rattle.node_io.specs.Given.{received};
+ghost use Rattle.node_io.specs.Given.{received, act_of};
+ghost use Rattle.node_runs.specs.Acts.{Bound, Routed, Sent, Received};
 
 use crate::faults::Calls;
 use crate::hosts::HostSet;
@@ -84,37 +85,60 @@ fn take_next(
     Got::Nothing
 }
 
-// For which host a receive was and what it gave, to be kept.
-fn note_of(host: HostId, got: Got, frame: &Frame) -> (HostId, Option<(HostId, Frame)>)
-    ensures { received result ≡ receive_of host got frame.now }
+// What a receive gave, to be kept.
+fn given(got: Got, frame: &Frame) -> Option<(HostId, Frame)>
+    ensures { (host : Host) → received (host, result) ≡ receive_of host got frame.now }
 {
     match got {
-        Got::Frame { from } => (host, Some((from, frame_of(frame.bytes())))),
-        Got::Nothing => (host, None),
+        Got::Frame { from } => Some((from, frame_of(frame.bytes()))),
+        Got::Nothing => None,
     }
 }
 
-/// A net in memory, with room for so many sends and as many receives, of which chosen calls fail. A datagram that is sent
-/// to a host that was bound is queued for that host. A call fails where its number is among those that are to fail; a send
-/// also where there is no room, or where the datagram has more than 1,500 bytes, and a receive where there is no room.
+// A call that didn't fail, as it is kept.
+#[derive(Drop)]
+pub(crate) enum Kept {
+    Bound(HostId, u16),
+    Routed(HostId, u16),
+    Sent(HostId, HostId, Frame),
+    Received(HostId, Option<(HostId, Frame)>),
+}
+
+// Keeps a call behind others, for which room was reserved.
+fn keep(list: &mut Vec<Kept>, kept: Kept)
+    requires room { length list.old.items < vec_capacity list.old }
+    ensures items { map act_of list.new.items ≡ map act_of list.old.items ++ act_of kept ∷ [] }
+    ensures len { length list.new.items ≡ length list.old.items + 1 }
+    ensures capacity { vec_capacity list.old ≤ vec_capacity list.new }
+{
+    // No memory is taken here, and this can't fail.
+    list.push(kept).unwrap();
+}
+
+/// For how many hosts that are bound or routed there is room: twice the most that settings allow.
+const MOST_PLACES: u32 = 64;
+
+/// A net in memory, with room for so many sends and as many receives, and for 64 hosts that are bound or routed, of which chosen
+/// calls fail. A datagram that is sent to a host that was bound is queued for that host. A call fails where its number is among
+/// those that are to fail, or where there is no room for it; a send also where the datagram has more than 1,500 bytes.
 #[derive(Drop)]
 pub struct MemNet {
     queued: Vec<(HostId, HostId, Frame)>,
-    sent: Vec<(HostId, HostId, Frame)>,
-    gave: Vec<(HostId, Option<(HostId, Frame)>)>,
+    acts: Vec<Kept>,
     bound: HostSet,
     known: HostSet,
-    room: u32,
+    // for how many calls of each kind there is still room
+    places: u32,
+    sends: u32,
+    receives: u32,
     calls: Calls,
-    ghost sends: { length sent.items ≤ room },
-    ghost receives: { length gave.items ≤ room },
-    ghost sent_reserved: { room ≤ vec_capacity sent },
-    ghost gave_reserved: { room ≤ vec_capacity gave },
-    ghost queued_reserved: { length queued.items + (room - length sent.items) ≤ vec_capacity queued },
+    ghost acts_reserved: { length acts.items + (places + (sends + receives)) ≤ vec_capacity acts },
+    ghost queued_reserved: { length queued.items + sends ≤ vec_capacity queued },
 }
 
 impl MemNet {
-    ghost use Rattle.node_io.specs.Memory.{net_bound, net_known, net_queue, net_sent, net_gave, net_faults, net_fails, net_calls, net_sends, net_receives};
+    ghost use Rattle.node_io.specs.Memory.{net_bound, net_known, net_queue, net_sent, net_gave, net_acts};
+    ghost use Rattle.node_io.specs.Memory.{net_faults, net_fails, net_calls, net_sends, net_receives, net_places};
 
     /// A net that knows no host. `queued` has sender, receiver and datagram of what is queued, the oldest first. It has
     /// room for `room` sends and as many receives, whose memory is taken here. `fails` has the numbers, from 0, of the
@@ -128,6 +152,7 @@ impl MemNet {
         ensures known { IfOk result (λ net. (h : Host) → net_known net h ≡ false) }
         ensures bound { IfOk result (λ net. (h : Host) → net_bound net h ≡ false) }
         ensures queued { IfOk result (λ net. net_queue net ≡ map datagram_of queued.items) }
+        ensures acts { IfOk result (λ net. net_acts net ≡ Some []) }
         ensures sent { IfOk result (λ net. net_sent net ≡ Some []) }
         ensures gave { IfOk result (λ net. net_gave net ≡ Some []) }
         ensures faults { IfOk result (λ net. net_faults net ≡ 0) }
@@ -135,16 +160,21 @@ impl MemNet {
         ensures calls { IfOk result (λ net. net_calls net ≡ 0) }
         ensures sends { IfOk result (λ net. net_sends net ≡ room) }
         ensures receives { IfOk result (λ net. net_receives net ≡ room) }
+        ensures places { IfOk result (λ net. net_places net ≡ 64) }
     {
         let mut queued = queued;
         queued.reserve(room as usize)?;
         Ok(MemNet {
             queued,
-            sent: Vec::with_capacity(alloc, room as usize)?,
-            gave: Vec::with_capacity(alloc, room as usize)?,
+            acts: Vec::with_capacity(
+                alloc,
+                MOST_PLACES as usize + (room as usize + room as usize),
+            )?,
             bound: HostSet::new(),
             known: HostSet::new(),
-            room,
+            places: MOST_PLACES,
+            sends: room,
+            receives: room,
             calls: Calls::new(fails),
         })
     }
@@ -152,11 +182,13 @@ impl MemNet {
 
 impl Net for MemNet {
     ghost use Rattle.node_io.specs.Memory.{net_bound, net_known, net_queue, net_queued, queue_with, net_sent, net_gave, net_faults, net_fails};
-    ghost use Rattle.node_io.specs.Memory.{net_calls, net_sends, net_receives};
+    ghost use Rattle.node_io.specs.Memory.{net_calls, net_sends, net_receives, net_places, net_acts};
 
     ghost known = { net_known };
 
     ghost queued = { net_queued };
+
+    ghost acts = { net_acts };
 
     ghost sent = { net_sent };
 
@@ -164,9 +196,11 @@ impl Net for MemNet {
 
     ghost faults = { net_faults };
 
-    fn bind(&mut self, host: HostId, _port: u16) -> Result<(), NetFailed>
+    fn bind(&mut self, host: HostId, port: u16) -> Result<(), NetFailed>
         ensures known { OnOk result ((h : Host) → net_known self.new h ≡ (net_known self.old h || is_host h host)) }
         ensures err { OnErr result (net_known self.new ≡ net_known self.old) }
+        ensures acts { OnOk result (net_acts self.new ≡ added (net_acts self.old) (Bound host port)) }
+        ensures err_acts { OnErr result (net_acts self.new ≡ net_acts self.old) }
         ensures queued { net_queued self.new ≡ net_queued self.old }
         ensures sent { net_sent self.new ≡ net_sent self.old }
         ensures gave { net_gave self.new ≡ net_gave self.old }
@@ -174,23 +208,29 @@ impl Net for MemNet {
         ensures quiet { OnOk result (net_faults self.new ≡ net_faults self.old) }
         ensures never_falls { net_faults self.old ≤ net_faults self.new }
 
-        // It fails exactly where the plan has its number, and what is sent to the host is queued from now on.
+        // It fails exactly where the plan has its number or there is no room, and what is sent to the host is queued from now on.
         ensures bound { OnOk result ((h : Host) → net_bound self.new h ≡ (net_bound self.old h || is_host h host)) }
-        ensures planned { IsErr result ↔ Contains (net_fails self.old) (net_calls self.old) }
+        ensures planned { IsErr result ↔ (Contains (net_fails self.old) (net_calls self.old) ⊎ (net_places self.old ≡ 0)) }
         ensures numbered { net_calls self.new ≡ min (net_calls self.old + 1) (2 ^ 64 - 1) }
         ensures plan { net_fails self.new ≡ net_fails self.old }
         ensures sends { net_sends self.new ≡ net_sends self.old }
         ensures receives { net_receives self.new ≡ net_receives self.old }
+        ensures places { OnOk result (net_places self.new + 1 ≡ net_places self.old) }
+        ensures err_places { OnErr result (net_places self.new ≡ net_places self.old) }
     {
-        self.calls.begin(true)?;
+        self.calls.begin(self.places > 0)?;
+        self.places -= 1;
+        keep(&mut self.acts, Kept::Bound(host, port));
         self.bound.insert(host);
         self.known.insert(host);
         Ok(())
     }
 
-    fn route(&mut self, host: HostId, _port: u16) -> Result<(), NetFailed>
+    fn route(&mut self, host: HostId, port: u16) -> Result<(), NetFailed>
         ensures known { OnOk result ((h : Host) → net_known self.new h ≡ (net_known self.old h || is_host h host)) }
         ensures err { OnErr result (net_known self.new ≡ net_known self.old) }
+        ensures acts { OnOk result (net_acts self.new ≡ added (net_acts self.old) (Routed host port)) }
+        ensures err_acts { OnErr result (net_acts self.new ≡ net_acts self.old) }
         ensures queued { net_queued self.new ≡ net_queued self.old }
         ensures sent { net_sent self.new ≡ net_sent self.old }
         ensures gave { net_gave self.new ≡ net_gave self.old }
@@ -198,20 +238,26 @@ impl Net for MemNet {
         ensures quiet { OnOk result (net_faults self.new ≡ net_faults self.old) }
         ensures never_falls { net_faults self.old ≤ net_faults self.new }
 
-        // It fails exactly where the plan has its number.
+        // It fails exactly where the plan has its number or there is no room.
         ensures bound { net_bound self.new ≡ net_bound self.old }
-        ensures planned { IsErr result ↔ Contains (net_fails self.old) (net_calls self.old) }
+        ensures planned { IsErr result ↔ (Contains (net_fails self.old) (net_calls self.old) ⊎ (net_places self.old ≡ 0)) }
         ensures numbered { net_calls self.new ≡ min (net_calls self.old + 1) (2 ^ 64 - 1) }
         ensures plan { net_fails self.new ≡ net_fails self.old }
         ensures sends { net_sends self.new ≡ net_sends self.old }
         ensures receives { net_receives self.new ≡ net_receives self.old }
+        ensures places { OnOk result (net_places self.new + 1 ≡ net_places self.old) }
+        ensures err_places { OnErr result (net_places self.new ≡ net_places self.old) }
     {
-        self.calls.begin(true)?;
+        self.calls.begin(self.places > 0)?;
+        self.places -= 1;
+        keep(&mut self.acts, Kept::Routed(host, port));
         self.known.insert(host);
         Ok(())
     }
 
     fn send(&mut self, from: HostId, to: HostId, bytes: &[u8]) -> Result<(), NetFailed>
+        ensures acts { OnOk result (net_acts self.new ≡ added (net_acts self.old) (Sent (record { from = from; to = to; bytes = bytes.now }))) }
+        ensures err_acts { OnErr result (net_acts self.new ≡ net_acts self.old) }
         ensures sent { OnOk result (net_sent self.new ≡ added (net_sent self.old) (record { from = from; to = to; bytes = bytes.now })) }
         ensures err { OnErr result (net_sent self.new ≡ net_sent self.old) }
         ensures queued { OnErr result (net_queued self.new ≡ net_queued self.old) }
@@ -231,11 +277,13 @@ impl Net for MemNet {
         ensures sends { OnOk result (net_sends self.new + 1 ≡ net_sends self.old) }
         ensures err_sends { OnErr result (net_sends self.new ≡ net_sends self.old) }
         ensures receives { net_receives self.new ≡ net_receives self.old }
+        ensures places { net_places self.new ≡ net_places self.old }
     {
-        let has_room = self.sent.len() < self.room as usize && bytes.len() <= 1500;
+        let has_room = self.sends > 0 && bytes.len() <= 1500;
         self.calls.begin(has_room)?;
         let is_bound = self.bound.contains(to);
-        put(&mut self.sent, from, to, bytes);
+        self.sends -= 1;
+        keep(&mut self.acts, Kept::Sent(from, to, frame_of(bytes)));
         put_if(is_bound, &mut self.queued, from, to, bytes);
         Ok(())
     }
@@ -245,6 +293,8 @@ impl Net for MemNet {
         ensures oldest { IfOk result (λ got. IfSome (net_queued self.old) (λ queue.
             arrival_of got frame.new ≡ next_arrival (net_known self.old) host queue)) }
         ensures passed { OnOk result (net_queued self.new ≡ if_queued (net_known self.old) host (net_queued self.old)) }
+        ensures acts { IfOk result (λ got. net_acts self.new ≡ added (net_acts self.old) (Received (receive_of host got frame.new))) }
+        ensures err_acts { OnErr result (net_acts self.new ≡ net_acts self.old) }
         ensures gave { IfOk result (λ got. net_gave self.new ≡ added (net_gave self.old) (receive_of host got frame.new)) }
         ensures err_queued { OnErr result (net_queued self.new ≡ net_queued self.old) }
         ensures err_gave { OnErr result (net_gave self.new ≡ net_gave self.old) }
@@ -262,12 +312,16 @@ impl Net for MemNet {
         ensures sends { net_sends self.new ≡ net_sends self.old }
         ensures receives { OnOk result (net_receives self.new + 1 ≡ net_receives self.old) }
         ensures err_receives { OnErr result (net_receives self.new ≡ net_receives self.old) }
+        ensures places { net_places self.new ≡ net_places self.old }
     {
-        let has_room = self.gave.len() < self.room as usize;
-        self.calls.begin(has_room)?;
+        self.calls.begin(self.receives > 0)?;
         let got = take_next(&mut self.queued, &self.known, host, frame);
-        // The room was reserved, so no memory is taken here, and this can't fail.
-        self.gave.push(note_of(host, got, frame)).unwrap();
+        self.receives -= 1;
+        keep(&mut self.acts, Kept::Received(host, given(got, frame)));
         Ok(got)
     }
+
+    ghost sent_is = { λ _. refl };
+
+    ghost gave_is = { λ _. refl };
 }

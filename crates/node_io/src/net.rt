@@ -4,7 +4,8 @@ ghost use Rattle.homa_io.specs.Outside.{HasRisen};
 ghost use Rattle.homa_plain.specs.declared.id.HostId.{HostId as Host};
 ghost use Rattle.homa_plain.specs.Calls.{is_host};
 ghost use Rattle.node_runs.specs.Course.{Datagram, Receive};
-ghost use Rattle.node_io.specs.Net.{arrival_of, receive_of, IfFrom, is_welcome, next_arrival, if_queued, added};
+ghost use Rattle.node_runs.specs.Acts.{Act, Bound, Routed, Sent, Received};
+ghost use Rattle.node_io.specs.Net.{arrival_of, receive_of, IfFrom, is_welcome, next_arrival, if_queued, added, sent_in, given_in};
 
 use homa_plain::{Frame, HostId};
 
@@ -29,6 +30,9 @@ pub trait Net {
     /// The datagrams that are queued, the oldest first, where the net can tell.
     ghost queued: { Self → Option (List Datagram) };
 
+    /// What it did, in order, where it can tell: each call that didn't fail.
+    ghost acts: { Self → Option (List Act) };
+
     /// The datagrams that it took, in order, where it can tell.
     ghost sent: { Self → Option (List Datagram) };
 
@@ -42,6 +46,8 @@ pub trait Net {
     fn bind(&mut self, host: HostId, port: u16) -> Result<(), NetFailed>
         ensures known { OnOk result ((h : Host) → known self.new h ≡ (known self.old h || is_host h host)) }
         ensures err { OnErr result (known self.new ≡ known self.old) }
+        ensures acts { OnOk result (acts self.new ≡ added (acts self.old) (Bound host port)) }
+        ensures err_acts { OnErr result (acts self.new ≡ acts self.old) }
         ensures queued { queued self.new ≡ queued self.old }
         ensures sent { sent self.new ≡ sent self.old }
         ensures gave { gave self.new ≡ gave self.old }
@@ -53,6 +59,8 @@ pub trait Net {
     fn route(&mut self, host: HostId, port: u16) -> Result<(), NetFailed>
         ensures known { OnOk result ((h : Host) → known self.new h ≡ (known self.old h || is_host h host)) }
         ensures err { OnErr result (known self.new ≡ known self.old) }
+        ensures acts { OnOk result (acts self.new ≡ added (acts self.old) (Routed host port)) }
+        ensures err_acts { OnErr result (acts self.new ≡ acts self.old) }
         ensures queued { queued self.new ≡ queued self.old }
         ensures sent { sent self.new ≡ sent self.old }
         ensures gave { gave self.new ≡ gave self.old }
@@ -62,6 +70,8 @@ pub trait Net {
 
     /// Sends a datagram. Only an error counts a fault, and then nothing was taken.
     fn send(&mut self, from: HostId, to: HostId, bytes: &[u8]) -> Result<(), NetFailed>
+        ensures acts { OnOk result (acts self.new ≡ added (acts self.old) (Sent (record { from = from; to = to; bytes = bytes.now }))) }
+        ensures err_acts { OnErr result (acts self.new ≡ acts self.old) }
         ensures sent { OnOk result (sent self.new ≡ added (sent self.old) (record { from = from; to = to; bytes = bytes.now })) }
         ensures err { OnErr result (sent self.new ≡ sent self.old) }
         ensures queued { OnErr result (queued self.new ≡ queued self.old) }
@@ -79,6 +89,8 @@ pub trait Net {
         ensures oldest { IfOk result (λ got. IfSome (queued self.old) (λ queue.
             arrival_of got frame.new ≡ next_arrival (known self.old) host queue)) }
         ensures passed { OnOk result (queued self.new ≡ if_queued (known self.old) host (queued self.old)) }
+        ensures acts { IfOk result (λ got. acts self.new ≡ added (acts self.old) (Received (receive_of host got frame.new))) }
+        ensures err_acts { OnErr result (acts self.new ≡ acts self.old) }
         ensures gave { IfOk result (λ got. gave self.new ≡ added (gave self.old) (receive_of host got frame.new)) }
         ensures err_queued { OnErr result (queued self.new ≡ queued self.old) }
         ensures err_gave { OnErr result (gave self.new ≡ gave self.old) }
@@ -87,4 +99,10 @@ pub trait Net {
         ensures risen { OnErr result (HasRisen (faults self.old) (faults self.new)) }
         ensures quiet { OnOk result (faults self.new ≡ faults self.old) }
         ensures never_falls { faults self.old ≤ faults self.new };
+
+    /// What was sent is what it took among the things that it did.
+    ghost sent_is: { (net : Self) → sent net ≡ sent_in (acts net) };
+
+    /// And so is what it gave.
+    ghost gave_is: { (net : Self) → gave net ≡ given_in (acts net) };
 }

@@ -2,7 +2,7 @@
 ghost use Rattle.std.specs.Prelude.{◌≡◌, ◌≤◌, ℕ, Bool, true, false, Option, List, OnErr, OnOk};
 ghost use Rattle.homa_io.specs.Outside.{appended, HasRisen, TookFront};
 ghost use Rattle.homa_plain.specs.Entries.{plain};
-ghost use Rattle.homa_text.specs.Told.{HasLine};
+ghost use Rattle.homa_plain.specs.Told.{HasLine};
 ghost use Rattle.node_runs.specs.Course.{Report, Tells, Turning};
 ghost use Rattle.node_runs.specs.Recorder.{Notes};
 ghost use Rattle.node_io.specs.Observer.{IsSeen, IsComing, OnWrite, UnlessWrite, OnStranger};

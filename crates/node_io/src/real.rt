@@ -1,5 +1,5 @@
 // The system's sockets as a net, and its clock. What they carry and give is trusted: no contract says it.
-ghost use Rattle.std.specs.Prelude.{◌≡◌, ◌≤◌, ◌||◌, ◌++◌, ◌∷◌, ◌-◌, ◌/◌, ◌↔◌, [], length, min, false, None, Some};
+ghost use Rattle.std.specs.Prelude.{◌≡◌, ◌≤◌, ◌||◌, ◌++◌, ◌∷◌, ◌-◌, ◌/◌, ◌↔◌, [], length, min, false, None, Some, refl};
 ghost use Rattle.std.specs.Prelude.{OnOk, OnErr, OnSome, IfOk, IfSome, IsErr, IsSome};
 ghost use Rattle.std.specs.Time.{instant_nanos};
 ghost use Rattle.homa_io.specs.Outside.{HasRisen};
@@ -113,6 +113,8 @@ impl<R: std::net::Net + Drop> Net for UdpNet<R> {
 
     ghost queued = { λ _. None };
 
+    ghost acts = { λ _. None };
+
     ghost sent = { λ _. None };
 
     ghost gave = { λ _. None };
@@ -138,6 +140,10 @@ impl<R: std::net::Net + Drop> Net for UdpNet<R> {
         let answer = self.sockets.receive(host, frame);
         counted(&mut self.faults, answer)
     }
+
+    ghost sent_is = { λ _. refl };
+
+    ghost gave_is = { λ _. refl };
 }
 
 // The tick so many seconds and milliseconds after the start.

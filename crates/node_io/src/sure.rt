@@ -1,5 +1,5 @@
 // A net that never fails.
-ghost use Rattle.std.specs.Prelude.{◌≡◌, ◌||◌, ◌<◌, false, None, IsOk};
+ghost use Rattle.std.specs.Prelude.{◌≡◌, ◌||◌, ◌<◌, false, None, IsOk, refl};
 ghost use Rattle.homa_plain.specs.declared.id.HostId.{HostId as Host};
 ghost use Rattle.homa_plain.specs.Calls.{is_host};
 ghost use Rattle.node_io.specs.declared.net.Got.TheVariants.{Nothing};
@@ -34,6 +34,8 @@ impl Net for SureNet {
     ghost known = { sure_known };
 
     ghost queued = { λ _. None };
+
+    ghost acts = { λ _. None };
 
     ghost sent = { λ _. None };
 
@@ -70,4 +72,8 @@ impl Net for SureNet {
     {
         Ok(Got::Nothing)
     }
+
+    ghost sent_is = { λ _. refl };
+
+    ghost gave_is = { λ _. refl };
 }

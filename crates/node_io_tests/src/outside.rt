@@ -1,16 +1,8 @@
-// A net and a clock in memory, a net that never fails, and a printer.
-ghost use Rattle.homa_plain.specs.Entries.{plain};
-ghost use Rattle.homa_text.specs.Told.{HasLine};
-ghost use Rattle.node_io.specs.Observer.{IsSeen};
-
+// A net and a clock in memory, and a net that never fails.
 use crate::steps::{A, B, C, binds, holds, receives, routes, sends};
-use homa_io::{MemSink, WriteFailed};
-use homa_plain::{Entry, Frame, HostId};
-use node_io::{
-    Clock, Got, MemClock, MemNet, Net, NetFailed, Observer, Printer, SeenFault, SureNet,
-};
+use homa_plain::{Frame, HostId};
+use node_io::{Clock, Got, MemClock, MemNet, Net, NetFailed, SureNet};
 use std::alloc::Global;
-use std::process::Abort;
 use std::test::Fail;
 
 fn frame(bytes: &[u8]) -> Result<Frame, Fail> {
@@ -96,38 +88,4 @@ fn a_net_that_never_fails_gives_nothing(rt: HostRuntime) {
     routes(&rt, &mut net, B, 4001);
     sends(&rt, &mut net, A, B, b"lost", Ok(()));
     receives(&rt, &mut net, &mut Frame::empty(), A, Ok(Got::Nothing));
-}
-
-// A printer prints an entry, or fails.
-fn prints(
-    rt: &impl Abort,
-    printer: &mut Printer<&mut MemSink>,
-    entry: &Entry<'_>,
-    wanted: Result<(), SeenFault>,
-)
-    requires seen { IsSeen (plain entry.now) }
-    requires line { HasLine (plain entry.now) }
-{
-    assert_eq!(rt; printer.seen(entry), wanted);
-}
-
-#[test]
-fn entries_are_printed_and_turnings_are_not(rt: HostRuntime) -> Result<(), Fail> {
-    let fails = Vec::from_slice(rt.alloc(), &[2])?;
-    let mut sink = MemSink::new(rt.alloc(), 80, fails)?;
-    let mut printer = Printer::new(&mut sink);
-    let (host, from, bytes) = (B, A, b"hi");
-    let failed = Err(SeenFault::Write(WriteFailed));
-    prints(&rt, &mut printer, &Entry::Clock { tick: 7 }, Ok(()));
-    assert_eq!(rt; printer.turning(A), Ok(()));
-    prints(
-        &rt,
-        &mut printer,
-        &Entry::Recv { host, from, bytes },
-        Ok(()),
-    );
-    prints(&rt, &mut printer, &Entry::Junk { host }, failed);
-    let _sink = printer.into_sink();
-    assert_eq!(rt; sink.bytes(), b"clock 7\nrecv 1 0 6869\n".as_slice());
-    Ok(())
 }

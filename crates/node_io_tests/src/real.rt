@@ -1,5 +1,5 @@
 // The system's sockets and its clock: over loopback, with a socket that is lent, and with a made time.
-use crate::steps::{A, B, C, binds, hears, receives, routes, sends};
+use crate::steps::{A, B, C, binds, hears, holds, receives, routes, sends};
 use homa_plain::{Frame, HostId};
 use node_io::{Clock, Got, Net, NetFailed, TickClock, UdpNet};
 use std::cell::Cell;
@@ -32,6 +32,28 @@ fn exchange<N: Net>(rt: &impl Abort, net: &mut N, got: &mut Frame) {
     hears(rt, net, got, B, A, b"request");
     sends(rt, net, B, A, b"response", Ok(()));
     hears(rt, net, got, A, B, b"response");
+}
+
+// Of 64 datagrams of a stranger before one of a friend a receive sees none; of 63 it sees the friend's.
+fn passes_over_64<N: Net>(
+    rt: &impl Abort,
+    net: &mut N,
+    got: &mut Frame,
+    stranger: &UdpSocket,
+    port: u16,
+) -> Result<(), Fail> {
+    for (count, first) in [(64, Got::Nothing), (63, Got::Frame { from: A })] {
+        for _ in 0..count {
+            assert_eq!(rt; stranger.send_to(b"stranger", at(port))?, 8);
+        }
+        sends(rt, net, A, B, b"friend", Ok(()));
+        receives(rt, net, got, B, Ok(first));
+        if first == Got::Nothing {
+            hears(rt, net, got, B, A, b"friend");
+        }
+        holds(rt, got, b"friend");
+    }
+    Ok(())
 }
 
 // What a stranger sends is passed over, and a datagram that is too long is cut.
@@ -80,6 +102,7 @@ fn meet<N: Net>(rt: &impl Abort, net: &mut N, stranger: &UdpSocket) -> Result<()
     let port = bind_somewhere(net, B)?;
     exchange(rt, net, &mut got);
     passes_over(rt, net, &mut got, stranger, port)?;
+    passes_over_64(rt, net, &mut got, stranger, port)?;
     lacks(rt, net, &mut got, port);
     goes_elsewhere(rt, net, &mut got, stranger, port)
 }
@@ -126,19 +149,23 @@ impl std::net::Net for Lent<'_> {
     }
 }
 
-// A host's receive waits for a moment: the system rounds the limit up to its own ticks, of 10 milliseconds at most.
-fn has_limit<N: Net>(rt: &impl Abort, net: &mut N, socket: &UdpSocket) {
+// A host's receive waits for a millisecond: the system rounds the limit up to its own ticks, as that of any other socket.
+fn has_limit<N: Net>(rt: &impl Abort, net: &mut N, socket: &UdpSocket, wanted: Option<Duration>) {
     binds(rt, net, A, 1, Ok(()));
     let limit = socket.read_timeout().ok().flatten();
-    assert!(rt; limit.unwrap_or(Duration::MAX) <= Duration::from_millis(10));
+    assert!(rt; limit.is_some());
+    assert!(rt; limit == wanted);
     receives(rt, net, &mut Frame::empty(), A, Ok(Got::Nothing));
 }
 
 #[test]
 fn a_receive_has_a_limit(rt: HostRuntime) -> Result<(), Fail> {
     let socket = UdpSocket::bind(&rt, at(0))?;
+    let other = UdpSocket::bind(&rt, at(0))?;
+    other.set_read_timeout(Some(Duration::from_millis(1)))?;
+    let wanted = other.read_timeout()?;
     let mut net = UdpNet::new(rt.alloc(), Lent { socket: &socket })?;
-    has_limit(&rt, &mut net, &socket);
+    has_limit(&rt, &mut net, &socket, wanted);
     Ok(())
 }
 

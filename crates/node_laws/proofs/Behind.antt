@@ -20,7 +20,7 @@ use Rattle.homa_plain.specs.Settings.{IsValid}
 use Rattle.homa_plain.specs.Steps.{Work, has_run}
 use Rattle.homa_plain.specs.World.{World, After, Done, host_at, own_clock, next_answer, answers_left, stamped, stepped, last_tick}
 use Rattle.step_laws.proofs.Places.{all-append}
-use Rattle.trace_induction.proofs.Hosts.{there, elsewhere, within, some_is, number_of, apart}
+use Rattle.step_moves.proofs.Hosts.{there, elsewhere, within, some_is, number_of, apart}
 use Rattle.node_runs.specs.Course.{packet_from}
 use Rattle.node_runs.specs.Replayed.{IsAnswer}
 use Rattle.node_laws.proofs.OfNode.{IsOfNode}

@@ -37,9 +37,9 @@ use Rattle.homa_plain.specs.Steps.{Work, now_of, begun, is_newer, hears_cutoffs,
 use Rattle.homa_plain.specs.Steps.{server_acted, acts_at, acts, grants_at, gives_grants, client_is_granted, server_is_granted, ended, next_id, new_call}
 use Rattle.homa_plain.specs.Steps.{starts, start_fault, call_step, arrival_step, turn_step}
 use Rattle.homa_plain.proofs.ChoiceLaws.{grant-chosen, few-chosen}
-use Rattle.trace_induction.proofs.Hosts.{none_some}
-use Rattle.trace_induction.proofs.Chosen.{IsTimerAt, IsArrivingAt, IsGrantAt, grants_of, message_of}
-use Rattle.trace_induction.proofs.Folds.{turn_kept, grants_kept, pump_kept, PieceKeeps}
+use Rattle.step_moves.proofs.Hosts.{none_some}
+use Rattle.step_moves.proofs.Chosen.{IsTimerAt, IsArrivingAt, IsGrantAt, grants_of, message_of}
+use Rattle.step_moves.proofs.Folds.{turn_kept, grants_kept, pump_kept, PieceKeeps}
 use Rattle.world_laws.specs.Sound.{IsSent, IsId, IsMessage, IsClientRow}
 use Rattle.node_runs.specs.Replayed.{IsAnswer}
 use Rattle.node_laws.proofs.Told.{IsMoment, pages_small, served_small, dated_small, rows_gone, rows_more, rows_kept}

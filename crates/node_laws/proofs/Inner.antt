@@ -21,16 +21,16 @@ use Rattle.homa_plain.specs.Timers.{Place, OfClient, OfServer, client_acts, serv
 use Rattle.homa_plain.specs.Sending.{client_granted, client_sends}
 use Rattle.homa_plain.specs.Steps.{Work, begun, now_of, moment, said, asked, served, hears_cutoffs, comes_to_row, takes, is_stale, comes, client_acted}
 use Rattle.homa_plain.specs.Steps.{server_acted, acts_at, acts, ended, next_id, new_call, starts, refilled, call_step, arrival_step, turn_step}
-use Rattle.trace_lines.specs.Told.{HasOwnName}
-use Rattle.trace_lines.proofs.Lines.{AllInner, inner-append}
-use Rattle.trace_moves.proofs.Own.{IsOwn, AllOwn, gets_own, acked_own, server_acts_own, gets_quiet, client_acts_quiet}
-use Rattle.trace_moves.proofs.Moves.{IsMove, notes_told, reply_told, acknowledged_told, finishes_told, served_put, served_noted, served_told, served-move}
-use Rattle.trace_moves.proofs.AskedMove.{asked_put, asked_noted, asked_said, asked_told, asked-move}
-use Rattle.trace_moves.proofs.SendMoves.{server_granted-move, client_granted-move, response_leaves-move, request_leaves-move, says-move, hears-move}
-use Rattle.trace_induction.proofs.Hosts.{none_some}
-use Rattle.trace_induction.proofs.ToldMoves.{own_set}
-use Rattle.trace_induction.proofs.Chosen.{IsTimerAt}
-use Rattle.trace_induction.proofs.Folds.{acked_kept, turn_kept, ended_kept, GrantKeeps, PieceKeeps}
+use Rattle.step_moves.specs.Worlds.{HasOwnName}
+use Rattle.step_moves.proofs.Inner.{inner-append, AllInner}
+use Rattle.step_laws.proofs.Own.{IsOwn, AllOwn, gets_own, acked_own, server_acts_own, gets_quiet, client_acts_quiet}
+use Rattle.step_moves.proofs.Moves.{IsMove, notes_told, reply_told, acknowledged_told, finishes_told, served_put, served_noted, served_told, served-move}
+use Rattle.step_moves.proofs.AskedMove.{asked_put, asked_noted, asked_said, asked_told, asked-move}
+use Rattle.step_moves.proofs.SendMoves.{server_granted-move, client_granted-move, response_leaves-move, request_leaves-move, says-move, hears-move}
+use Rattle.step_moves.proofs.Hosts.{none_some}
+use Rattle.step_moves.proofs.Names.{own_set}
+use Rattle.step_moves.proofs.Chosen.{IsTimerAt}
+use Rattle.step_moves.proofs.Folds.{acked_kept, turn_kept, ended_kept, GrantKeeps, PieceKeeps}
 
 -- ---- lines of one host
 

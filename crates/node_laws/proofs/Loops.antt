@@ -19,8 +19,8 @@ use Rattle.homa_plain.specs.Steps.{Work, start_fault, call_step, arrival_step, t
 use Rattle.homa_plain.specs.World.{World, After, Refused, Done, outcome, host_at, own_clock, next_answer, stepped, started, calls_from, turns, arrives_at}
 use Rattle.homa_plain.specs.World.{new_world, last_tick, new_hosts}
 use Rattle.homa_plain.specs.Replay.{Happening, carried}
-use Rattle.trace_lines.specs.Told.{HasOwnName}
-use Rattle.trace_induction.proofs.Always.{hosts_new}
+use Rattle.step_moves.specs.Worlds.{HasOwnName}
+use Rattle.step_moves.proofs.Names.{hosts_new}
 use Rattle.node_laws.proofs.Inner.{new_named}
 use Rattle.node_runs.specs.Script.{Place, Local, Remote, Setup, Calls, Opening, Opened, opening}
 use Rattle.node_runs.specs.Course.{AreTicks, Report, Tells, Turning, Arrival, Receive, IsReceived, Node, Course, GoesOn, Stops, packet_from, arrival_outcome}
@@ -34,7 +34,7 @@ use Rattle.node_laws.proofs.Opening.{IsCallGiven, opening_is}
 use Rattle.node_laws.proofs.Courses.{AreSuch, AnyComes, any_comes, IsKeptInCourse, turns_all}
 use Rattle.node_laws.proofs.Good.{IsGoodHost}
 use Rattle.node_laws.proofs.GoodSteps.{new_good}
-use Rattle.trace_induction.proofs.Hosts.{within, some_is}
+use Rattle.step_moves.proofs.Hosts.{within, some_is}
 use Rattle.homa_plain.specs.Script.{most_bytes}
 use Rattle.node_laws.proofs.Carried.{respared, IsRun, run_none, run_clocks, clock_lines}
 use Rattle.node_laws.proofs.Noted.{kept_all, usual-append, events_first, events_none, usual_first, AreNotes, clock_notes}

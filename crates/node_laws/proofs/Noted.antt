@@ -19,7 +19,7 @@ use Rattle.homa_plain.specs.World.{SentPacket, stamped}
 use Rattle.homa_plain.specs.Replay.{Happening}
 use Rattle.homa_plain.proofs.CallOrder.{hosts_are}
 use Rattle.step_laws.proofs.Places.{all-append}
-use Rattle.trace_lines.proofs.Lines.{IsSaid, AllInner}
+use Rattle.step_moves.proofs.Inner.{AllInner, IsSaid}
 use Rattle.node_runs.specs.Course.{Report, Tells}
 use Rattle.node_runs.specs.Recorder.{Kept, Notes, Kind, Sent, Junk, Strange, is_same, greatest, kind_by, kind_of, kind_in, strange, events, in_life, still}
 use Rattle.node_runs.specs.Recorder.{sent_packet, keeps, told, kept}

@@ -22,15 +22,15 @@ use Rattle.homa_plain.specs.Steps.{Work, start_fault, next_id, call_step, arriva
 use Rattle.homa_plain.specs.World.{World, SentPacket, After, Refused, Done, outcome, host_at, own_clock, next_answer, answers_left, stamped, started}
 use Rattle.homa_plain.specs.World.{calls_from, turns, arrives_at}
 use Rattle.homa_plain.specs.Replay.{Happening, bare}
-use Rattle.trace_induction.proofs.Hosts.{there, within, some_is}
+use Rattle.step_moves.proofs.Hosts.{there, within, some_is}
 use Rattle.homa_plain.specs.Bytes.{IsBytes}
 use Rattle.homa_plain.specs.Settings.{IsValid}
 use Rattle.step_laws.proofs.Places.{all-append}
 use Rattle.world_laws.specs.Sound.{IsSent}
 use Rattle.node_laws.proofs.GoodSteps.{can_start, call_good, arrival_good, turn_good}
 use Rattle.step_laws.proofs.Bounds.{call-bounded, arrival-bounded, turn-bounded}
-use Rattle.trace_lines.specs.Told.{HasOwnName}
-use Rattle.trace_lines.proofs.Lines.{IsSaid, AllInner}
+use Rattle.step_moves.specs.Worlds.{HasOwnName}
+use Rattle.step_moves.proofs.Inner.{AllInner, IsSaid}
 use Rattle.world_laws.proofs.Sent.{read, between}
 use Rattle.node_runs.specs.Course.{Report, Tells, Turning, Arrival, IsReceived, packet_from, arrival_outcome}
 use Rattle.node_runs.specs.Recorder.{Notes, no_notes, Kind, Sent, Junk, Strange, kind_of, kind_in, kind_events, is_strange, strange, events, kept}

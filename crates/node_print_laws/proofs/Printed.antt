@@ -11,7 +11,7 @@ use Rattle.node_runs.specs.Script.{Setup, Calls, Opening, Opened, Unopened, open
 use Rattle.node_runs.specs.Course.{Receive, End, node_run}
 use Rattle.node_runs.specs.Replayed.{IsAnswer}
 use Rattle.node_runs.specs.Texts.{entries, node_text}
-use Rattle.node_trace.specs.Traces.{Around, IsWhole, IsBrokenOff, IsEndCut, IsFrontOf}
+use Rattle.node_output.specs.Traces.{Around, IsWhole, IsBrokenOff, IsEndCut, IsFrontOf, node_telling}
 use Rattle.node_trace_laws.proofs.Taken.{whole_texts, fronts}
 use Rattle.node_print_laws.specs.Printed.{is_opened, OpensNode, AreFair, TookAll, TookSome, WholePrintsObey, PartPrintsObey}
 
@@ -44,7 +44,7 @@ module _ (may_tell : List PlainEntry → Type 0) (fair : (told : List PlainEntry
         (answers_fair _ w.answers w.from.allowed w.from.shows) w.from.rises old.taken new.taken w.text;
   }
 
-  end_cut_obeys : IsEndCut may_tell node_text bytes old new → TookSome bytes old new
+  end_cut_obeys : IsEndCut may_tell node_telling bytes old new → TookSome bytes old new
   end_cut_obeys w = record {
     answers = w.answers;
     ticks = w.ticks;
@@ -54,10 +54,10 @@ module _ (may_tell : List PlainEntry → Type 0) (fair : (told : List PlainEntry
         (answers_fair _ w.answers w.from.allowed w.from.shows) w.from.rises old.taken new.taken w.text;
   }
 
-  module _ (left : Option (List ℕ)) (w : IsBrokenOff may_tell node_text bytes left old new) where
+  module _ (left : Option (List ℕ)) (w : IsBrokenOff may_tell node_telling bytes left old new) where
     -- the run of all bytes and of what was given is one that begins so
     front_there : (b : List ℕ) → b ≡ bytes
-        → IsFrontOf node_text (node_run b (w.answers ++ []) (w.ticks ++ []) (w.gave ++ [])) w.reports old new
+        → IsFrontOf node_text (λ r. r.sent) (node_run b (w.answers ++ []) (w.ticks ++ []) (w.gave ++ [])) w.reports old new
         → TookFront old.taken new.taken (node_text (node_run bytes w.answers w.ticks w.gave))
     front_there b e f =
         subst (λ (xs : List ℕ). TookFront old.taken new.taken (node_text (node_run xs w.answers w.ticks w.gave))) e
@@ -67,9 +67,9 @@ module _ (may_tell : List PlainEntry → Type 0) (fair : (told : List PlainEntry
         (append-nil w.gave) f.text)))
 
     by_front : ((more : List ℕ) (later : List Answer) (on : List ℕ) (next : List Receive)
-        → IsFrontOf node_text (node_run (w.came ++ more) (w.answers ++ later) (w.ticks ++ on) (w.gave ++ next)) w.reports old new)
+        → IsFrontOf node_text (λ r. r.sent) (node_run (w.came ++ more) (w.answers ++ later) (w.ticks ++ on) (w.gave ++ next)) w.reports old new)
         ⊎ ((w.rest ≡ []) × ((later : List Answer) (on : List ℕ) (next : List Receive)
-        → IsFrontOf node_text (node_run w.came (w.answers ++ later) (w.ticks ++ on) (w.gave ++ next)) w.reports old new))
+        → IsFrontOf node_text (λ r. r.sent) (node_run w.came (w.answers ++ later) (w.ticks ++ on) (w.gave ++ next)) w.reports old new))
         → TookFront old.taken new.taken (node_text (node_run bytes w.answers w.ticks w.gave))
     by_front (inl f) = front_there (w.came ++ w.rest) (sym w.split) (f w.rest [] [] [])
     by_front (inr f) = front_there w.came (sym (append-nil w.came) ∙ (ap (λ (xs : List ℕ). w.came ++ xs) (sym f.0) ∙ sym w.split)) (f.1 [] [] [])
@@ -84,7 +84,7 @@ module _ (may_tell : List PlainEntry → Type 0) (fair : (told : List PlainEntry
           (answers_fair (entries w.reports) w.answers w.from.allowed w.from.shows) w.from.rises old.taken new.taken (by_front w.front);
     }
 
-  pub part_obeys : (left : Option (List ℕ)) → IsBrokenOff may_tell node_text bytes left old new ⊎ IsEndCut may_tell node_text bytes old new
+  pub part_obeys : (left : Option (List ℕ)) → IsBrokenOff may_tell node_telling bytes left old new ⊎ IsEndCut may_tell node_telling bytes old new
       → TookSome bytes old new
   part_obeys left (inl w) = broken_obeys left w
   part_obeys left (inr w) = end_cut_obeys w

@@ -20,7 +20,7 @@ use Rattle.node_runs.specs.Script.{Place, Local, Remote, Setup, TimedCall, Refus
 
 -- ---- what a run is given, and what it gives
 
--- what is told of a run: an entry, or that a turn of a host begins
+-- a report of a run: an entry, or that a turn of a host begins
 pub data Report : Type 0 where
   Tells : (entry : PlainEntry) → Report
   Turning : (host : HostId) → Report
@@ -36,7 +36,7 @@ pub record Datagram : Type 0 where
   pub to : HostId
   pub bytes : List ℕ
 
--- a datagram that the net hands up
+-- a datagram that the net gives to a host
 pub record Arrival : Type 0 where
   pub from : HostId
   pub bytes : List ℕ
@@ -46,12 +46,12 @@ pub record Receive : Type 0 where
   pub host : HostId
   pub got : Option Arrival
 
--- a net hands up bytes, and at most 1,500 of them
+-- a net gives bytes, and at most 1,500 of them in one receive
 pub record IsReceived (a : Arrival) : Type 0 where
   pub bytes : IsBytes a.bytes
   pub few : length a.bytes ≤ 1500
 
--- so does each of these receives that gave something
+-- each of these receives that gave a datagram gave such bytes
 abbrev pub AreReceived : List Receive → Type 0
 AreReceived receives = AllByRecursion (λ (r : Receive). IfSome r.got IsReceived) receives
 
@@ -70,8 +70,8 @@ pub record Run : Type 0 where
 
 -- ---- a node
 
--- a node in its run: its hosts with the packets that they sent, what was told so far, the calls that are still to be made, and what the net's
--- receives are still to give
+-- a node in its run: its hosts with the packets that they sent, its reports so far, the calls that are still to be
+-- made, and what the net's receives are still to give
 pub record Node : Type 0 where
   pub world : World
   pub reports : List Report
@@ -89,7 +89,7 @@ abbrev pub ◌>>=◌ : Course → (Node → Course) → Course
 (GoesOn node) >>= f = f node
 (Stops node end) >>= f = Stops node end
 
--- what an event of the world told comes behind these reports
+-- these reports, and then what an event of the world prints
 abbrev pub goes : List Report → After → Node → Node
 goes first after node = record node { world = after.world; reports = node.reports ++ (first ++ map Tells after.told) }
 
@@ -111,14 +111,14 @@ starts s refused (c ∷ cs) node =
       | Done after ↦ starts s refused cs (goes [] after node)
     ]
 
--- ---- datagrams
+-- ---- datagrams that arrive
 
 -- what a datagram's bytes spell, as a packet between two hosts
 abbrev pub packet_from : HostId → HostId → Option (WirePacket × List ℕ) → Option Packet
 packet_from from to None = None
 packet_from from to (Some (w, payload)) = Some (packet_between from to w payload)
 
--- a datagram comes to a host: it is the packet that its bytes spell, or none
+-- a datagram arrives at a host: the packet that its bytes spell, or no packet
 abbrev pub arrival_outcome : Settings → World → HostId → Arrival → Outcome
 arrival_outcome s w id a =
     arrives_at s w id (PlainRecv id a.from a.bytes ∷ []) (packet_from a.from id (packet_in s.wire a.bytes)) (host_at w id)
@@ -127,7 +127,8 @@ arrival_outcome s w id a =
 abbrev pub most_received : ℕ
 most_received = 64
 
--- a host receives up to so many datagrams, until there is none; each comes to it before the next is received; what is received is for this host
+-- a host receives up to so many datagrams, until there is none; each is dealt with before the next is received;
+-- a receive is for this host
 abbrev pub hears : Settings → HostId → ℕ → List Receive → Node → Course
 hears s id zero left node = GoesOn (record node { receives = left })
 hears s id (suc n) [] node = Stops node None
@@ -159,7 +160,7 @@ locals_from n (Remote port ∷ places) = locals_from (suc n) places
 abbrev pub locals : Setup → List HostId
 locals setup = locals_from 0 setup.places
 
--- the clock stands at this tick: that is told in the first loop turn, and where it rose since the last one
+-- the clock is at this tick; that is reported in the first loop turn, and in each in which it rose
 abbrev pub clock_stands : ℕ → ℕ → Node → Node
 clock_stands n now node =
     let told = if n == 1 || nat_lt node.world.clock now then Tells (PlainClock now) ∷ [] else [] in
@@ -186,7 +187,7 @@ loop_turns setup n (now ∷ ticks) node = loop_turn setup n now node >>= loop_tu
 
 -- ---- runs
 
--- the first incarnation of a host; one that is elsewhere does nothing here
+-- the first incarnation of a host; one that is in another process does nothing here
 abbrev pub first_inc : Place → ℕ
 first_inc (Local inc port) = inc
 first_inc (Remote port) = 1
@@ -209,7 +210,7 @@ abbrev pub run_of : Settings → Course → Run
 run_of s (GoesOn node) = record { reports = node.reports; sent = datagrams s node.world; left = node.receives; end = None }
 run_of s (Stops node end) = record { reports = node.reports; sent = datagrams s node.world; left = node.receives; end = end }
 
--- the run of an opened script; one that isn't opened tells nothing but its end
+-- the run of an opened script; one that isn't opened reports nothing but its end
 abbrev pub run_opened : Opening → List Answer → List ℕ → List Receive → Run
 run_opened (Unopened refusal) answers ticks receives = record { reports = []; sent = []; left = receives; end = Some (RefusedAt refusal.line refusal.fault) }
 run_opened (Opened setup calls) answers ticks receives =

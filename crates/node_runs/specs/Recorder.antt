@@ -1,4 +1,4 @@
--- What a recorder prints of each report of a node, what it keeps of it, and what is strange to it.
+-- What a recorder prints of each report of a node, what it keeps of it, and which datagrams are foreign to it.
 use Rattle.std.specs.Prelude.{ℕ, zero, suc, ◌+◌, ◌-◌, ◌==◌, ◌&&◌, nat_le, Bool, true, false, is_some, if◌then◌else◌, max, Option, None, Some, List}
 use Rattle.std.specs.Prelude.{[], ◌∷◌, ◌++◌, map, filter, codes}
 use Rattle.std.specs.Str.{bytes_eq}
@@ -26,25 +26,26 @@ pub record Kept : Type 0 where
   pub tick : ℕ
   pub bytes : List ℕ
 
--- what a recorder keeps: the clock's tick, the settings once they were told, and the datagrams that may still be delivered
+-- what a recorder keeps: the clock's tick, the settings once they were reported, the datagrams that may still arrive
 pub record Notes : Type 0 where
   pub tick : ℕ
   pub settings : Option Settings
   pub datagrams : List Kept
 
--- the notes of a recorder that was told nothing
+-- the notes of a recorder before the first report
 abbrev pub no_notes : Notes
 no_notes = record { tick = 0; settings = None; datagrams = [] }
 
--- ---- datagrams that come
+-- ---- datagrams that arrive
 
--- what a datagram that comes is: the one with this number, which was sent; one that is no packet; or a packet that is none of the notes' datagrams to this host
+-- what a datagram that arrives is: the one with this number, which was sent; junk, which is no packet;
+-- or a packet that its sender, in this run, didn't send to this host in the last `life` ticks
 pub data Kind : Type 0 where
   Sent : (number : ℕ) → Kind
   Junk : Kind
   Strange : Kind
 
--- a datagram that was sent from one host to another with these bytes
+-- whether a datagram that was sent went from this host to that one with these bytes
 abbrev pub is_same : HostId → HostId → List ℕ → Kept → Bool
 is_same host from bytes d = is_host d.to host && is_host d.from from && bytes_eq d.bytes bytes
 
@@ -53,45 +54,46 @@ abbrev pub greatest : List ℕ → Option ℕ
 greatest [] = None
 greatest (n ∷ ns) = elim (greatest ns) [ None ↦ Some n | Some m ↦ Some (max n m) ]
 
--- by the number of the datagram that was sent, if there is one, and whether its bytes are a packet
+-- by the number of the equal datagram that was sent last, if there is one, and whether the bytes are a packet
 abbrev pub kind_by : Option ℕ → Bool → Kind
 kind_by (Some number) is_packet = Sent number
 kind_by None true = Strange
 kind_by None false = Junk
 
--- of several that are equal, the one that was sent last
+-- the kind of these bytes; of several equal datagrams it names the one that was sent last
 unfoldable pub kind_of : Settings → List Kept → HostId → HostId → List ℕ → Kind
 kind_of s kept host from bytes =
     kind_by (greatest (map (λ (d : Kept). d.number) (filter (is_same host from bytes) kept))) (is_some (packet_in s.wire bytes))
 
--- what a datagram is by the notes; nothing before the settings were told
+-- what a datagram is by the notes; nothing before the settings were reported
 abbrev pub kind_in : Notes → HostId → HostId → List ℕ → Option Kind
 kind_in notes host from bytes = elim (notes.settings) [ None ↦ None | Some s ↦ Some (kind_of s notes.datagrams host from bytes) ]
 
--- whether a datagram is strange
+-- whether a datagram is foreign
 abbrev pub is_strange : Option Kind → Bool
 is_strange (Some Strange) = true
 is_strange kind = false
 
--- what is strange to a recorder: a datagram that is a packet, and that was not sent in the last `life` ticks
+-- whether a report is of a foreign datagram: a packet that its sender, in this run, didn't send to this host in the
+-- last `life` ticks
 abbrev pub strange : Notes → Report → Bool
 strange notes (Tells (PlainRecv host from bytes)) = is_strange (kind_in notes host from bytes)
 strange notes report = false
 
 -- ---- what is printed
 
--- so many ticks of the clock
+-- so many events of the clock
 abbrev pub clocks : ℕ → List Happening
 clocks zero = []
 clocks (suc n) = bare event.Clock ∷ clocks n
 
--- the event that stands for a datagram that comes
+-- the event for a datagram that arrives
 abbrev pub kind_events : HostId → List ℕ → Option Kind → List Happening
 kind_events host bytes (Some (Sent number)) = bare (event.Deliver number) ∷ []
 kind_events host bytes (Some Junk) = record { event = event.Inject host; bytes = bytes } ∷ []
 kind_events host bytes kind = []
 
--- the events of a schedule that stand for a report
+-- the events of a schedule for a report
 abbrev pub events : Notes → Report → List Happening
 events notes (Turning host) = bare (event.Turn host) ∷ []
 events notes (Tells (PlainClock now)) = clocks (now - notes.tick)
@@ -99,11 +101,11 @@ events notes (Tells (PlainCall id server service bytes)) = record { event = even
 events notes (Tells (PlainRecv host from bytes)) = kind_events host bytes (kind_in notes host from bytes)
 events notes report = []
 
--- `stranger HOST FROM HEX`
+-- the line `stranger HOST FROM HEX`
 abbrev pub stranger_text : HostId → HostId → List ℕ → List ℕ
 stranger_text host from bytes = line_of_words (codes "stranger" ∷ host_word host ∷ host_word from ∷ hex_word bytes ∷ [])
 
--- lines that are no events: those of the settings, and that of a stranger
+-- lines that are no events: those of the settings, and that of a foreign datagram
 abbrev pub other_text : Notes → Report → List ℕ
 other_text notes (Tells (PlainSettings s)) = settings_text s
 other_text notes (Tells (PlainRecv host from bytes)) = if is_strange (kind_in notes host from bytes) then stranger_text host from bytes else []

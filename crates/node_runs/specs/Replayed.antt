@@ -19,15 +19,15 @@ use Rattle.node_runs.specs.Texts.{entries, recorded}
 
 -- ---- what is compared
 
--- the events that reports stand for
+-- the events for these reports
 abbrev pub recorded_events : Notes → List Report → List Happening
 recorded_events notes reports = (observed events kept never notes reports).told
 
--- none of the reports is strange
+-- no report is of a foreign datagram
 abbrev pub NoneStrange : Notes → List Report → Type 0
 NoneStrange notes reports = (recorded notes reports).is_cut ≡ false
 
--- an entry of a host: a recording has the clock's ticks one by one, and tells otherwise how a datagram comes
+-- an entry of a host: a recording has the clock's ticks one by one, and has other lines for the arrival of a datagram
 abbrev pub is_of_host : PlainEntry → Bool
 is_of_host (PlainClock tick) = false
 is_of_host (PlainDeliver packet) = false
@@ -39,24 +39,24 @@ is_of_host entry = true
 abbrev pub of_hosts : List PlainEntry → List PlainEntry
 of_hosts told = filter is_of_host told
 
--- a report that tells settings
+-- a report of settings
 abbrev pub is_settings : Report → Bool
 is_settings (Tells (PlainSettings s)) = true
 is_settings report = false
 
--- none of the reports tells settings
+-- no report is of settings
 abbrev pub NoSettings : List Report → Type 0
 NoSettings [] = Unit {0}
 NoSettings (report ∷ reports) = (is_settings report ≡ false) × NoSettings reports
 
--- the settings are told first, and only there
+-- the settings are reported first, and only there
 pub record BeginsWith (s : Settings) (reports : List Report) : Type 0 where
   pub later : List Report
   pub first : reports ≡ Tells (PlainSettings s) ∷ later
   pub only : NoSettings later
 
--- an event as a recorder tells it: its hosts are two of 32 at most, its packet is one of so many that were sent, and its bytes are those of a message
--- or of a datagram
+-- an event that a recorder may print: its hosts are two of 32 at most, its packet is one of so many that were sent,
+-- and its bytes are those of a message or of a datagram
 abbrev pub IsRecorded : ℕ → Event → List ℕ → Type 0
 IsRecorded packets (event.Call client server service) bytes = (client.0 < 32) × (server.0 < 32) × (service < 256) × IsBytes bytes × (length bytes ≤ 1000000)
 IsRecorded packets (event.Deliver number) bytes = (number < packets) × (bytes ≡ [])
@@ -66,7 +66,7 @@ IsRecorded packets (event.Inject host) bytes = (host.0 < 32) × IsBytes bytes ×
 IsRecorded packets (event.Restart host) bytes = ⊥
 IsRecorded packets (event.Shift host lead) bytes = ⊥
 
--- so are these
+-- each of these events is one that a recorder may print
 abbrev pub AreRecorded : ℕ → List Happening → Type 0
 AreRecorded packets es = AllByRecursion (λ (e : Happening). IsRecorded packets e.event e.bytes) es
 
@@ -77,7 +77,7 @@ abbrev pub IsHere : Place → Type 0
 IsHere (Local inc port) = inc ≡ 1
 IsHere (Remote port) = ⊥
 
--- what a service answers
+-- whether a service may answer so: 1 to 1,000,000 bytes, held back for at most 1,000,000 ticks
 abbrev pub IsAnswer : Answer → Type 0
 IsAnswer answer = Between 1 1000000 (length answer.bytes) × IsBytes answer.bytes × (answer.hold ≤ 1000000)
 
@@ -85,8 +85,8 @@ IsAnswer answer = Between 1 1000000 (length answer.bytes) × IsBytes answer.byte
 abbrev pub RepeatsBy : Run → Settings → List PlainEntry → Type 0
 RepeatsBy run s told = (run.fault ≡ None) × (of_hosts (PlainSettings s ∷ run.told) ≡ of_hosts told)
 
--- where all hosts of a node are local with incarnation 1, and nothing of its run is strange, the replay of what a recorder tells of the run gives the
--- run's entries, the clock's and those of datagrams that come aside
+-- If all hosts of a node are local with incarnation 1, and its run has no foreign datagram, the replay of its
+-- recording gives the entries of the run's hosts, except those of the clock and of datagrams that arrive.
 abbrev pub RecordingsRepeat : Type 0
 RecordingsRepeat =
     (bytes : List ℕ) (setup : Setup) (calls : Calls) (answers : List Answer) (ticks : List ℕ) (receives : List Receive) (boxes : ℕ)
@@ -97,7 +97,7 @@ RecordingsRepeat =
     NoneStrange no_notes reports
     → RepeatsBy (carried s (new_world s (replicate s.hosts 1) 0 boxes answers) (recorded_events no_notes reports)) s (entries reports)
 
--- the reports of such a run tell the settings first, and only there
+-- the reports of such a run have the settings first, and only there
 abbrev pub SettingsFirst : Type 0
 SettingsFirst =
     (bytes : List ℕ) (setup : Setup) (calls : Calls) (answers : List Answer) (ticks : List ℕ) (receives : List Receive)

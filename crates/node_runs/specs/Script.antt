@@ -15,7 +15,7 @@ use Rattle.homa_plain.specs.Input.{lines_of, without_feed, words_of}
 use Rattle.homa_plain.specs.Script.{◌>>=◌, first_word, number_at_most, host_operand, bytes_operand, alone, names, name_in, is_comment, without_return}
 use Rattle.homa_plain.specs.Script.{longest_line, with_setting}
 
--- where a host is: in this node, in this incarnation, or elsewhere; and the port where it is reached
+-- where a host is: in this node and in which incarnation, or in another process; and its port
 pub data Place : Type 0 where
   Local : (inc port : ℕ) → Place
   Remote : (port : ℕ) → Place
@@ -71,7 +71,7 @@ limit_given heading words = do
   n ← number_between 1 1000000000 words
   alone (heading n.0, n.1)
 
--- a line before `go` whose first word names no setting; the one word of an event is `at`
+-- a line before `go` whose first word names no setting; `at` is the one event word here
 abbrev pub word_given : List ℕ → List (List ℕ) → Result Heading ScriptFault
 word_given word words =
     if bytes_eq word (codes "local") then local_given words
@@ -95,7 +95,7 @@ abbrev pub spoken : List (List ℕ) → List (List ℕ)
 spoken [] = []
 spoken (word ∷ words) = if is_comment word then [] else word ∷ words
 
--- the words of a line of an input of at most so many bytes, of which `read` stand before it
+-- the words of a line of an input of at most so many bytes, of which `read` come before it
 unfoldable pub words_in : ℕ → ℕ → List ℕ → Result (List (List ℕ)) ScriptFault
 words_in limit read line =
     if nat_lt limit (read + length line) then Err InputTooLong
@@ -123,28 +123,28 @@ pub record Setup : Type 0 where
 abbrev pub given_to : ℕ → List Naming → List Place
 given_to n named = map (λ (m : Naming). m.place) (filter (λ (m : Naming). m.host.0 == n) named)
 
--- a list's one value, where it has exactly one
+-- a list's one value, if it has exactly one
 abbrev pub single : {A : Type 0} → List A → Option A
 single [] = None
 single (x ∷ []) = Some x
 single (x ∷ y ∷ xs) = None
 
--- a value onto others, where there are both
+-- a value before others, if there are both
 abbrev pub onto : {A : Type 0} → Option A → Option (List A) → Option (List A)
 onto None xs = None
 onto (Some x) None = None
 onto (Some x) (Some xs) = Some (x ∷ xs)
 
--- the places of so many hosts from number n on, where each was given exactly one
+-- the places of so many hosts from number n on, if each was given exactly one
 abbrev pub places_from : ℕ → ℕ → List Naming → Option (List Place)
 places_from n zero named = Some []
 places_from n (suc hosts) named = onto (single (given_to n named)) (places_from (suc n) hosts named)
 
--- the place of each host, where each was named once, and none besides
+-- the place of each host, if each was named once, and no other
 abbrev pub places_in : ℕ → List Naming → Option (List Place)
 places_in hosts named = if length named == hosts then places_from 0 hosts named else None
 
--- a setup, where no part of it is missing
+-- a setup, if no part of it is missing
 abbrev pub setup_by : Settings → Option (List Place) → Option ℕ → Option ℕ → Result Setup ScriptFault
 setup_by s (Some places) (Some end) (Some turns) = Ok (record { settings = s; places = places; end = end; turns = turns })
 setup_by s places end turns = Err Missing
@@ -156,9 +156,9 @@ setup_of head = elim (verdict head.settings) [
   | Ok u ↦ setup_by head.settings (places_in head.settings.hosts head.named) head.end head.turns
 ]
 
--- ---- what stands behind `go`
+-- ---- what follows `go`
 
--- a call that is to be made when the clock has come to a tick
+-- a call that is to be made when the clock is at a tick
 pub record TimedCall : Type 0 where
   pub line : ℕ
   pub tick : ℕ
@@ -178,7 +178,7 @@ is_local None = false
 is_local (Some (Local inc port)) = true
 is_local (Some (Remote port)) = false
 
--- a host's place, where it is one of the settings' hosts
+-- a host's place, if it is one of the settings' hosts
 abbrev pub place_of : Setup → HostId → Option Place
 place_of setup host = slice_get setup.places host.0
 
@@ -186,7 +186,8 @@ place_of setup host = slice_get setup.places host.0
 abbrev pub call_word : List ℕ → Result (Unit {0}) ScriptFault
 call_word word = if bytes_eq word (codes "call") then Ok tt else Err UnknownWord
 
--- in line n, behind `at`: `TICK call CLIENT SERVER SERVICE BYTES`, with a tick before the end, and not before that of the line before
+-- in line n, after `at`: `TICK call CLIENT SERVER SERVICE BYTES`, with a tick before the end,
+-- and not before that of the line before
 abbrev pub timed_given : Setup → ℕ → ℕ → List (List ℕ) → Result TimedCall ScriptFault
 timed_given setup least n words = do
   tick ← number_between least (setup.end - 1) words
@@ -202,23 +203,23 @@ abbrev pub between_hosts : Setup → Result TimedCall ScriptFault → Result (Op
 between_hosts setup (Err fault) = Err (ByWords fault)
 between_hosts setup (Ok c) = if is_local (place_of setup c.client) && is_some (place_of setup c.server) then Ok (Some c) else Err (ByWorld NoSuchHost)
 
--- what line n stands for behind `go`, by its words: a call, or nothing where it has none
+-- what line n says after `go`, by its words: a call, or nothing if it has no words
 abbrev pub timed_of : Setup → ℕ → ℕ → Result (List (List ℕ)) ScriptFault → Result (Option TimedCall) LineFault
 timed_of setup least n (Err fault) = Err (ByWords fault)
 timed_of setup least n (Ok []) = Ok None
 timed_of setup least n (Ok (word ∷ words)) =
     if bytes_eq word (codes "at") then between_hosts setup (timed_given setup least n words) else Err (ByWords UnknownWord)
 
--- the calls that are still to be made, in order, and the line that is refused behind them, if there is one
+-- the calls that are still to be made, in order, and the line that is refused after them, if there is one
 pub record Calls : Type 0 where
   pub calls : List TimedCall
   pub refused : Option Refusal
 
--- a call in front of what is still to be made
+-- a call before what is still to be made
 abbrev pub with_call : TimedCall → Calls → Calls
 with_call c rest = record rest { calls = c ∷ rest.calls }
 
--- the lines from line n on, before which `read` bytes stand, and whose ticks may not be below `least`
+-- the lines from line n on, before which the input has `read` bytes, and whose ticks may not be below `least`
 unfoldable pub calls_from : ℕ → Setup → ℕ → ℕ → ℕ → List (List ℕ) → Calls
 calls_from limit setup read n least [] = record { calls = []; refused = None }
 calls_from limit setup read n least (line ∷ lines) =
@@ -232,7 +233,7 @@ calls_from limit setup read n least (line ∷ lines) =
 
 -- ---- scripts
 
--- a script up to `go`: what is to be done, and the calls behind it; or the first refusal
+-- a script up to `go`: what is to be done, and the calls after it; or the first refusal
 pub data Opening : Type 0 where
   Opened : (setup : Setup) (calls : Calls) → Opening
   Unopened : (refusal : Refusal) → Opening
@@ -241,12 +242,12 @@ pub data Opening : Type 0 where
 abbrev pub unopened : ℕ → ScriptFault → Opening
 unopened n fault = Unopened (record { line = n; fault = ByWords fault })
 
--- at `go`, in line n, with `read` bytes up to its end, and these lines behind it
+-- at `go`, in line n, with `read` bytes up to its end, and these lines after it
 abbrev pub opened_by : ℕ → Result Setup ScriptFault → ℕ → ℕ → List (List ℕ) → Opening
 opened_by limit (Err fault) read n lines = unopened n fault
 opened_by limit (Ok setup) read n lines = Opened setup (calls_from limit setup read (suc n) 0 lines)
 
--- the lines from line n on, where the lines before them said so much; without `go` the line behind the last one is refused
+-- the lines from line n on, if the lines before said so much; without `go` the line after the last one is refused
 unfoldable pub opening_from : ℕ → ℕ → ℕ → Head → List (List ℕ) → Opening
 opening_from limit read n head [] = unopened n NoGo
 opening_from limit read n head (line ∷ lines) =

@@ -27,7 +27,7 @@ abbrev pub last_text : (End → List ℕ) → Option End → List ℕ
 last_text text None = []
 last_text text (Some end) = text end
 
--- what a node prints of a report: the line of an entry; a turning has none
+-- what a node prints of a report: the line of an entry; nothing for a turn that begins
 abbrev pub printed : Report → List ℕ
 printed (Tells entry) = line_text entry
 printed (Turning host) = []
@@ -40,11 +40,11 @@ node_text run =
 
 -- ---- a recording
 
--- what a recorder prints of reports, up to the first that is strange, which is printed too
+-- what a recorder prints of reports, up to the first of a foreign datagram, of which it prints a line too
 abbrev pub recorded : Notes → List Report → Observed ℕ
 recorded notes reports = observed told kept strange notes reports
 
--- the last line of a recording: a comment where the run ended, else as a node prints it
+-- the last line of a recording: a comment if the run ended, otherwise as a node prints it
 abbrev pub recorded_end : End → List ℕ
 recorded_end (Ended turns) = line_of_words (codes "#" ∷ codes "ok" ∷ decimal turns ∷ [])
 recorded_end end = line_text (end_entry end)
@@ -57,18 +57,19 @@ with_end recording end = if recording.is_cut then recording.told else recording.
 unfoldable pub recording_text : Run → List ℕ
 recording_text run = with_end (recorded no_notes run.reports) run.end
 
--- ---- what the net takes, and the status
+-- ---- what the net is given, and the status
 
--- the number of the packet that a report tells as sent
+-- the number of the packet that a report shows as sent
 abbrev pub sent_number : Report → List ℕ
 sent_number (Tells (PlainSend number from to inc role id level body payload)) = number ∷ []
 sent_number report = []
 
--- the datagrams that the net took when so many reports were told: all of the run, or those up to the first report that is strange
+-- the datagrams that the net got with so many reports:
+-- all of the run, or those up to the first report of a foreign datagram
 unfoldable pub sent_by : (Notes → Report → Notes) → (Notes → Report → Bool) → Notes → Run → List Datagram
 sent_by kept strange notes run = take (length (observed (λ (n : Notes) (report : Report). sent_number report) kept strange notes run.reports).told) run.sent
 
--- those of a run that is recorded
+-- the datagrams of a run that is recorded
 abbrev pub recorded_sent : Run → List Datagram
 recorded_sent run = sent_by kept strange no_notes run
 
@@ -78,10 +79,10 @@ end_status (Ended turns) = 0
 end_status (RefusedAt line fault) = 2
 end_status (StalledAt turns now) = 7
 
--- the status of a run, where it has an end
+-- the status of a run, if it has an end
 abbrev pub node_status : Run → Option ℕ
 node_status run = option_map end_status run.end
 
--- the status of a recording: 8 where a datagram was strange
+-- the status of a recording: 8 if a datagram was foreign
 abbrev pub recording_status : Run → Option ℕ
 recording_status run = if (recorded no_notes run.reports).is_cut then Some 8 else node_status run

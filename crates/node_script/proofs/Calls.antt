@@ -3,7 +3,7 @@ use Rattle.std.proofs.Common.{◌≡◌, ℕ, ◌+◌, suc, Bool, true, false, O
 use Rattle.homa_plain.specs.declared.fault.LineFault.{LineFault}
 use Rattle.homa_plain.specs.declared.fault.LineFault.TheVariants.{Script as ByWords}
 use Rattle.homa_plain.specs.Input.{words_of}
-use Rattle.homa_text.specs.Lines.{Reading}
+use Rattle.text_lines.specs.Lines.{Reading}
 use Rattle.node_runs.specs.Script as script
 use Rattle.node_runs.specs.Script.{Calls, calls_from, with_call, words_in, spoken, timed_of}
 use Rattle.script_lines.specs.declared.stop.ScriptStop.{ScriptStop}

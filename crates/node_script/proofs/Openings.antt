@@ -4,7 +4,7 @@ use Rattle.homa_plain.specs.declared.fault.ScriptFault.{ScriptFault}
 use Rattle.homa_plain.specs.declared.fault.ScriptFault.TheVariants.{NoGo}
 use Rattle.homa_plain.specs.Input.{words_of}
 use Rattle.homa_plain.specs.Script.{◌>>=◌}
-use Rattle.homa_text.specs.Lines.{Reading}
+use Rattle.text_lines.specs.Lines.{Reading}
 use Rattle.node_runs.specs.Script as script
 use Rattle.node_runs.specs.Script.{Opening, Opened, unopened, opening, opening_from, opened_by, setup_of, calls_from, words_in, heading_of, spoken}
 use Rattle.script_lines.specs.declared.stop.ScriptStop.{ScriptStop}

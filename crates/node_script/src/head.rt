@@ -12,7 +12,6 @@ use crate::place::{Naming, Place};
 use crate::setup::Setup;
 use crate::stop::SetupStop;
 use homa_plain::{ScriptFault, Settings};
-use script_lines::set;
 use std::alloc::{AllocError, Global};
 
 // One more host than there may be.
@@ -105,7 +104,7 @@ impl Head {
         match heading {
             Heading::Blank => Ok(false),
             Heading::Setting(name, n) => {
-                set(&mut self.settings, name, n);
+                self.settings.set(name, n);
                 Ok(false)
             }
             Heading::Names(naming) => {

@@ -9,8 +9,8 @@ ghost use Rattle.node_script.specs.Heads.{IsWithin};
 
 use crate::place::{Naming, Place};
 use homa_plain::{Name, ScriptFault};
-use homa_text::read_name;
 use script_lines::{Words, is_comment};
+use text_lines::read_name;
 
 /// What a line before `go`, or `go` itself, stands for.
 #[derive(Clone, Copy)]

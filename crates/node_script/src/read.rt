@@ -1,7 +1,7 @@
 // The lines up to `go`, and the next call behind it.
 ghost use Rattle.std.specs.Prelude.{◌≡◌, ◌≤◌, ◌<◌, ℕ, List, Some, true, false, length, vec_capacity, IfOk, IfErr, IfSome};
 ghost use Rattle.homa_io.specs.Outside.{HasRisen};
-ghost use Rattle.homa_text.specs.Lines.{reading};
+ghost use Rattle.text_lines.specs.Lines.{reading};
 ghost use Rattle.script_lines.specs.Place.{place_of, first_place, IsCounted};
 ghost use Rattle.node_script.specs.Heads.{IsSound, setup_seen};
 ghost use Rattle.node_script.specs.Calls.{IsOpening, IsNext, IsOn};
@@ -14,9 +14,9 @@ use crate::stop::{CallStop, SetupStop};
 use crate::timed::{Bounds, TimedCall, read_timed_line};
 use homa_io::Source;
 use homa_plain::ScriptFault;
-use homa_text::Lines;
 use script_lines::{last_line, next_line};
 use std::alloc::Global;
+use text_lines::Lines;
 
 /// Reads the lines up to `go`, and gives what is to be done.
 pub(crate) fn read_setup<S: Source>(

@@ -8,9 +8,9 @@ use crate::setup::Setup;
 use crate::stop::{CallStop, SetupStop};
 use crate::timed::TimedCall;
 use homa_io::Source;
-use homa_text::Lines;
 use std::alloc::{AllocError, Global};
 use std::marker::Model;
+use text_lines::Lines;
 
 // The most bytes of a line, the line feed not counted.
 const LONGEST_LINE: u32 = 2_100_000;

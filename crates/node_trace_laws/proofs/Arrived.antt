@@ -8,17 +8,17 @@ use Rattle.homa_plain.specs.declared.packet.Packet.{Packet as WirePacket}
 use Rattle.homa_plain.specs.declared.settings.Settings.{Settings}
 use Rattle.homa_plain.specs.declared.event.Event.TheVariants as event
 use Rattle.homa_plain.specs.Entries.{PlainEntry, PlainDeliver, PlainInject, PlainRecv}
-use Rattle.homa_plain.specs.Granting.{IsWithin}
+use Rattle.trace_rules.specs.Granting.{IsWithin}
 use Rattle.homa_plain.specs.Host.{Host}
-use Rattle.homa_plain.specs.Laws.{Holds}
+use Rattle.trace_rules.specs.Laws.{Holds}
 use Rattle.homa_plain.specs.Steps.{arrival_step}
-use Rattle.homa_plain.specs.View.{View, Sent}
-use Rattle.homa_plain.specs.Seen.{seen, seen_all, received}
+use Rattle.trace_rules.specs.View.{View, Sent}
+use Rattle.trace_rules.specs.Seen.{seen, seen_all, received}
 use Rattle.homa_plain.specs.Wire.{packet_in}
 use Rattle.homa_plain.specs.World.{World, SentPacket, After, outcome, host_at, own_clock, next_answer, arrives_at}
 use Rattle.homa_plain.specs.Replay.{Happening, bare}
-use Rattle.trace_lines.specs.Told.{sent_of}
-use Rattle.trace_induction.proofs.Events.{after_step}
+use Rattle.trace_steps.specs.Told.{sent_of}
+use Rattle.trace_steps.proofs.Events.{after_step}
 use Rattle.node_runs.specs.Course.{Arrival, packet_from}
 use Rattle.node_laws.proofs.Carried.{deliver_is, inject_is}
 use Rattle.node_trace_laws.proofs.Datagrams.{seen_packet, seen_junk, received_is, IsPacket, IsJunk}

@@ -11,12 +11,12 @@ use Rattle.homa_plain.specs.declared.packet.Role.TheVariants.{Client, Server}
 use Rattle.homa_plain.specs.declared.settings.Settings.{Settings}
 use Rattle.homa_plain.specs.Entries.{PlainDeliver, PlainInject, PlainRecv}
 use Rattle.homa_plain.specs.Packets.{receiver, packet_between}
-use Rattle.homa_plain.specs.View.{View, Sent}
-use Rattle.homa_plain.specs.Seen.{seen, begun, received, delivery, delivered}
+use Rattle.trace_rules.specs.View.{View, Sent}
+use Rattle.trace_rules.specs.Seen.{seen, begun, received, delivery, delivered}
 use Rattle.homa_plain.specs.Wire.{packet_in}
 use Rattle.homa_plain.specs.World.{World, SentPacket, is_late}
-use Rattle.trace_lines.specs.Told.{sent_of}
-use Rattle.trace_induction.proofs.Hosts.{some_is, none_some}
+use Rattle.trace_steps.specs.Told.{sent_of}
+use Rattle.step_moves.proofs.Hosts.{some_is, none_some}
 use Rattle.node_runs.specs.Course.{Arrival, packet_from}
 
 pub all_get : {A : Type 0} (P : A → Type 0) (xs : List A) (n : ℕ) (x : A) → AllByRecursion P xs → slice_get xs n ≡ Some x → P x

@@ -12,7 +12,7 @@ use Rattle.homa_plain.specs.declared.fault.WorldFault.TheVariants.{NoSuchHost, N
 use Rattle.homa_plain.specs.declared.fault.LineFault.TheVariants.{Script as ByWords, World as ByWorld}
 use Rattle.homa_plain.specs.Calls.{is_host}
 use Rattle.homa_plain.specs.Host.{Host}
-use Rattle.homa_plain.specs.Shape.{IsCause}
+use Rattle.homa_plain.specs.Entries.{IsCause}
 use Rattle.homa_plain.specs.Steps.{start_fault}
 use Rattle.homa_plain.specs.World.{World, Outcome, Refused, Done, outcome, host_at, started, calls_from, last_tick}
 use Rattle.trace_laws.specs.Shaped.{HasCause}

@@ -4,15 +4,15 @@ use Rattle.std.proofs.lemmas.Bool.{false≢true}
 use Rattle.homa_plain.specs.declared.settings.Settings.{Settings}
 use Rattle.homa_plain.specs.declared.entry.Why.TheVariants.{Timeout, Forgotten}
 use Rattle.homa_plain.specs.Entries.{PlainEntry, PlainSettings, PlainFail, PlainFinished, PlainRefused, PlainStalled}
-use Rattle.homa_plain.specs.Lines.{is_last}
-use Rattle.homa_plain.specs.View.{View, at_start}
-use Rattle.homa_plain.specs.Seen.{seen}
-use Rattle.homa_plain.specs.Shape.{IsBehind}
-use Rattle.homa_plain.specs.Laws.{Holds, Once, Returned, Fails}
-use Rattle.homa_plain.specs.Granting.{Granting}
-use Rattle.homa_plain.specs.Judge.{Obeys}
+use Rattle.trace_rules.specs.Lines.{is_last}
+use Rattle.trace_rules.specs.View.{View, at_start}
+use Rattle.trace_rules.specs.Seen.{seen}
+use Rattle.trace_rules.specs.Shape.{IsBehind}
+use Rattle.trace_rules.specs.Laws.{Holds, Once, Returned, Fails}
+use Rattle.trace_rules.specs.Granting.{Granting}
+use Rattle.trace_rules.specs.Judge.{Obeys}
 use Rattle.homa_plain.specs.World.{World}
-use Rattle.trace_induction.specs.Always.{IsOpening, IsSoAtFirst, KeptByEvent}
+use Rattle.trace_steps.specs.Always.{IsOpening, IsSoAtFirst, KeptByEvent}
 use Rattle.trace_once.proofs.Kept.{event_once}
 use Rattle.trace_fails.specs.Timeouts.{TimesOut, HasFairRows}
 use Rattle.trace_fails.proofs.FairLaw.{first_fair, event_times_out}

@@ -12,26 +12,26 @@ use Rattle.homa_plain.specs.declared.settings.Settings.{Settings}
 use Rattle.homa_plain.specs.declared.event.Event.TheVariants as event
 use Rattle.homa_plain.specs.Settings.{IsValid}
 use Rattle.homa_plain.specs.Entries.{PlainEntry, PlainSettings, PlainClock, PlainRecv, PlainRefused}
-use Rattle.homa_plain.specs.Lines.{is_last}
+use Rattle.trace_rules.specs.Lines.{is_last}
 use Rattle.homa_plain.specs.Host.{Host, new_host}
 use Rattle.homa_plain.specs.Packets.{Packet}
 use Rattle.homa_plain.specs.Rules.{Answer}
 use Rattle.homa_plain.specs.Script.{most_bytes}
 use Rattle.homa_plain.specs.Steps.{arrival_step}
-use Rattle.homa_plain.specs.View.{View, nothing_seen}
-use Rattle.homa_plain.specs.Seen.{seen, seen_all}
-use Rattle.homa_plain.specs.Laws.{Holds}
-use Rattle.homa_plain.specs.Judge.{Obeys}
-use Rattle.homa_plain.proofs.LawsJudged.{none_found}
+use Rattle.trace_rules.specs.View.{View, nothing_seen}
+use Rattle.trace_rules.specs.Seen.{seen, seen_all}
+use Rattle.trace_rules.specs.Laws.{Holds}
+use Rattle.trace_rules.specs.Judge.{Obeys}
+use Rattle.trace_rules.proofs.LawsJudged.{none_found}
 use Rattle.homa_plain.specs.Wire.{packet_in}
 use Rattle.homa_plain.specs.World.{World, After, Done, outcome, host_at, own_clock, next_answer, arrives_at, new_world, new_hosts, last_tick}
 use Rattle.homa_plain.specs.Replay.{bare}
-use Rattle.trace_lines.specs.Told.{HasOwnName}
-use Rattle.trace_lines.proofs.Lines.{seen_all-append}
+use Rattle.step_moves.specs.Worlds.{HasOwnName}
+use Rattle.trace_steps.proofs.Lines.{seen_all-append}
 use Rattle.world_laws.specs.Sound.{IsSent}
-use Rattle.trace_induction.specs.Always.{IsOpening}
-use Rattle.trace_induction.proofs.Events.{after_step}
-use Rattle.trace_induction.proofs.Hosts.{within, some_is}
+use Rattle.trace_steps.specs.Always.{IsOpening}
+use Rattle.trace_steps.proofs.Events.{after_step}
+use Rattle.step_moves.proofs.Hosts.{within, some_is}
 use Rattle.trace_laws.specs.Shaped.{HasCause}
 use Rattle.node_runs.specs.Script.{Place, Local, Remote, Setup, TimedCall, Calls, Opening, Opened, opening}
 use Rattle.node_runs.specs.Course.{Run, Report, Tells, Turning, Arrival, Receive, End, Ended, RefusedAt, StalledAt, Node, Course, GoesOn, Stops, loop_turns}

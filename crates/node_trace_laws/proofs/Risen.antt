@@ -5,22 +5,22 @@ use Rattle.homa_plain.specs.declared.id.CallId.{CallId}
 use Rattle.homa_plain.specs.declared.id.HostId.{HostId}
 use Rattle.homa_plain.specs.declared.settings.Settings.{Settings}
 use Rattle.homa_plain.specs.Entries.{PlainEntry, PlainClock}
-use Rattle.homa_plain.specs.View.{View}
-use Rattle.homa_plain.specs.Seen.{seen}
+use Rattle.trace_rules.specs.View.{View}
+use Rattle.trace_rules.specs.Seen.{seen}
 use Rattle.homa_plain.specs.World.{World}
-use Rattle.trace_lines.specs.Told.{IsTold}
-use Rattle.trace_lines.proofs.Runs.{ran_same, unrun_same}
-use Rattle.trace_induction.specs.Stands.{Stand, stand}
-use Rattle.trace_induction.proofs.Frame.{stand_is}
-use Rattle.trace_lifetime.specs.Lifetime.{times}
-use Rattle.trace_lifetime.specs.Kept.{IsKept}
-use Rattle.trace_lifetime.proofs.Later.{at, later_at, lifetime_at}
+use Rattle.trace_steps.specs.Told.{IsTold}
+use Rattle.trace_steps.proofs.Runs.{ran_same, unrun_same}
+use Rattle.trace_steps.specs.Stands.{Stand, stand}
+use Rattle.trace_steps.proofs.Frame.{stand_is}
+use Rattle.trace_once.specs.Lifetime.{times}
+use Rattle.trace_once.specs.Kept.{IsKept}
+use Rattle.trace_once.proofs.Later.{at, later_at, lifetime_at}
 use Rattle.trace_once.proofs.Goes.{Goes, AllGo}
 use Rattle.trace_once.proofs.Between.{kept_later}
 use Rattle.trace_once.proofs.Restarted.{clock_calls, still_stand}
 use Rattle.trace_fails.proofs.FairLaw.{ticked_fair}
 use Rattle.trace_returned.proofs.Beginning.{closed_line, clock_fresh, line_true}
-use Rattle.trace_grants.proofs.Window.{parts_within}
+use Rattle.trace_granting.proofs.Window.{parts_within}
 use Rattle.trace_granting.proofs.GrantLaw.{line_has, clock_parts, line_place, line_settings}
 use Rattle.trace_laws.proofs.ShapedLines.{line_behind}
 use Rattle.node_trace_laws.proofs.Lawful.{IsLawful, IsObeyed}

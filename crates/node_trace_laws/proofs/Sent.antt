@@ -19,7 +19,7 @@ use Rattle.homa_plain.specs.Host.{Told, Says, Sends, packets_in, entries_from}
 use Rattle.homa_plain.specs.World.{World, SentPacket, stamped}
 use Rattle.homa_plain.proofs.CallOrder.{hosts_are}
 use Rattle.step_laws.proofs.Places.{all-append}
-use Rattle.trace_lines.proofs.Lines.{IsSaid, AllInner}
+use Rattle.step_moves.proofs.Inner.{AllInner, IsSaid}
 use Rattle.world_laws.proofs.Sent.{read, between}
 use Rattle.node_runs.specs.Course.{Arrival, packet_from}
 use Rattle.node_runs.specs.Recorder.{Kept, Notes, is_same, sent_packet, keeps}

@@ -13,9 +13,9 @@ use Rattle.homa_plain.specs.Host.{Host, Told, packets_in, entries_from}
 use Rattle.homa_plain.specs.Steps.{Work, next_id, call_step, arrival_step, turn_step}
 use Rattle.homa_plain.specs.Wire.{packet_in}
 use Rattle.homa_plain.specs.World.{World, After, Refused, Done, outcome, host_at, own_clock, next_answer, stamped}
-use Rattle.trace_lines.specs.Told.{HasOwnName}
-use Rattle.trace_lines.proofs.Lines.{AllInner}
-use Rattle.trace_induction.proofs.Events.{after_step, call_done, turn_done}
+use Rattle.step_moves.specs.Worlds.{HasOwnName}
+use Rattle.step_moves.proofs.Inner.{AllInner}
+use Rattle.trace_steps.proofs.Events.{after_step, call_done, turn_done}
 use Rattle.world_laws.specs.Sound.{IsSent}
 use Rattle.node_runs.specs.Course.{Arrival, packet_from}
 use Rattle.node_runs.specs.Recorder.{Notes}

@@ -12,7 +12,7 @@ use Rattle.homa_plain.specs.Wire.{packet_in, spelling}
 use Rattle.homa_plain.specs.Entries.{PlainEntry, PlainSettings, PlainClock, PlainSend, PlainRecv}
 use Rattle.homa_plain.specs.Packets.{send_line}
 use Rattle.homa_plain.specs.Host.{Told, Says, Sends, entries_from}
-use Rattle.trace_lines.proofs.Lines.{IsSaid, AllInner}
+use Rattle.step_moves.proofs.Inner.{AllInner, IsSaid}
 use Rattle.node_runs.specs.Course.{Report, Tells, Turning}
 use Rattle.node_runs.specs.Recorder.{Kept, Notes, no_notes, is_same, greatest, kind_by, kind_of, is_strange, strange, in_life, still, sent_packet, keeps}
 use Rattle.node_runs.specs.Recorder.{told, kept}

@@ -26,11 +26,11 @@ use Rattle.homa_plain.specs.Script.{bytes_of_word, event_text, settings_text}
 use Rattle.std.proofs.lemmas.Bool.{false≢true}
 use Rattle.node_runs.specs.Observed.{observed}
 use Rattle.node_runs.specs.Texts.{node_text, recording_text}
-use Rattle.homa_plain.specs.Seen.{seen}
-use Rattle.homa_plain.specs.Granting.{allowed}
+use Rattle.trace_rules.specs.Seen.{seen}
+use Rattle.trace_rules.specs.Granting.{allowed}
 use Rattle.homa_plain.specs.Entries.{PlainEntry}
 use Rattle.homa_plain.specs.Rules.{Answer}
-use Rattle.homa_plain.specs.Judge.{Clause, ShapeClause, OnceClause, ReturnedClause, judged, first_broken}
+use Rattle.trace_rules.specs.Judge.{Clause, ShapeClause, OnceClause, ReturnedClause, judged, first_broken}
 use Rattle.node_runs.proofs.WorkedReceives.{nothing_for, comes_to}
 use Rattle.node_runs.specs.Course.{Receive, Run, loop_turn, loop_turns, node_run}
 use Rattle.node_runs.specs.Recorder.{Notes, no_notes, kind_of, told, kept}

@@ -7,9 +7,9 @@ use Rattle.homa_plain.specs.Wire.{packet_in, spelling}
 use Rattle.homa_plain.specs.Entries.{PlainEntry, PlainSettings, PlainClock, PlainSend, PlainRecv}
 use Rattle.homa_plain.specs.Rules.{Answer}
 use Rattle.homa_plain.specs.Script.{most_bytes}
-use Rattle.homa_plain.specs.View.{nothing_seen}
-use Rattle.homa_plain.specs.Laws.{Holds}
-use Rattle.homa_plain.specs.Judge.{Obeys, first_broken}
+use Rattle.trace_rules.specs.View.{nothing_seen}
+use Rattle.trace_rules.specs.Laws.{Holds}
+use Rattle.trace_rules.specs.Judge.{Obeys, first_broken}
 use Rattle.node_runs.specs.Script.{Setup, Calls, Opened, opening}
 use Rattle.node_runs.specs.Course.{Receive, AreTicks, End, Run, node_run}
 use Rattle.node_runs.specs.Recorder.{Kept, Notes, no_notes, is_same, in_life, sent_packet, keeps}

@@ -4,9 +4,9 @@ use Rattle.std.specs.List.{flat_map}
 use Rattle.homa_io.specs.Outside.{appended, TookFront}
 use Rattle.homa_plain.specs.Entries.{PlainEntry}
 use Rattle.homa_plain.specs.Text.{line_text}
-use Rattle.homa_plain.specs.View.{nothing_seen}
-use Rattle.homa_plain.specs.Laws.{Holds}
-use Rattle.homa_plain.specs.Judge.{Obeys}
+use Rattle.trace_rules.specs.View.{nothing_seen}
+use Rattle.trace_rules.specs.Laws.{Holds}
+use Rattle.trace_rules.specs.Judge.{Obeys}
 use Rattle.node_runs.specs.Course.{Run}
 use Rattle.node_runs.specs.Recorder.{no_notes}
 use Rattle.node_runs.specs.Texts.{node_text}

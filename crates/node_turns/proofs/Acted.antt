@@ -90,6 +90,26 @@ module _ (s : Settings) where
         answers x y later = ap (λ es. shown es ++ later) (entries_parts x y) ∙ ap (λ xs. xs ++ later) (shown_parts (entries x) (entries y))
             ∙ append_assoc (shown (entries x)) (shown (entries y)) later
 
+  -- what was told, in other words
+  pub acted_telling : (act rest : Part) (w : World) (stands : World → Type 0) (b a : List PlainEntry → Type 0) (tell1 tell : List Report → Type 0)
+      (s0 s1 : Option (List Datagram)) (g0 g1 : Option (List Receive)) → ((x : List Report) → tell1 x → tell x)
+      → HasActed act rest s w stands b a tell1 s0 s1 g0 g1 → HasActed act rest s w stands b a tell s0 s1 g0 g1
+  acted_telling act rest w stands b a tell1 tell s0 s1 g0 g1 tells h = record {
+    next = h.next;
+    stood = h.stood;
+    reports = h.reports;
+    sent = h.sent;
+    gave = h.gave;
+    told = tells h.reports h.told;
+    took = h.took;
+    given = h.given;
+    received = h.received;
+    grown = h.grown;
+    numbers = h.numbers;
+    allowed = h.allowed;
+    same = h.same;
+  }
+
   -- a part, and what stands behind it
   pub acted_then : (act rest : Part) (after : Node → Course) (w : World) (stands : World → Type 0) (b a : List PlainEntry → Type 0)
       (tell : List Report → Type 0)

@@ -1,5 +1,6 @@
 pub mod Lists
 pub mod Frames
+pub mod Done
 pub mod Tellings
 pub mod Acted
 pub mod Hearing

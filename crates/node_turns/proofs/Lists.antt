@@ -114,7 +114,7 @@ front_listed s0 s1 s2 x y e f = record {
   is = listed_more s0 s1 s2 x f.front e f.is;
 }
 
-numbers_parts : (a b : List Report) → numbers_of (a ++ b) ≡ numbers_of a ++ numbers_of b
+pub numbers_parts : (a b : List Report) → numbers_of (a ++ b) ≡ numbers_of a ++ numbers_of b
 numbers_parts [] b = refl
 numbers_parts (r ∷ a) b = ap (λ ns. sent_number r ++ ns) (numbers_parts a b) ∙ sym (append_assoc (sent_number r) (numbers_of a) (numbers_of b))
 

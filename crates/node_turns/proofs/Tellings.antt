@@ -15,6 +15,7 @@ use Rattle.node_runs.specs.Recorder.{Notes}
 use Rattle.node_turns.specs.declared.stop.NodeStop.{NodeStop}
 use Rattle.node_turns.specs.declared.stop.NodeStop.TheVariants as stop
 use Rattle.node_turns.specs.declared.stop.NodeStop.TheVariants.{Seen}
+use Rattle.node_turns.specs.Seen.{seen_stop}
 use Rattle.node_turns.specs.Acting.{OnStrange, IsMidst, IsHeardStop, IsOwn}
 use Rattle.node_turns.specs.Told.{text_by, notes_by, AreUsual, AreTold, BeginsNext, AreFront, AreStrange}
 
@@ -51,18 +52,18 @@ module _ (told : Notes → Report → List ℕ) (kept : Notes → Report → Not
   }
 
   -- a front of the first report
-  pub front_first : (old new : Option (List ℕ)) (n : Notes) (r : Report) (rs : List Report) → TookFront old new (told n r)
+  abbrev pub front_first : (old new : Option (List ℕ)) (n : Notes) (r : Report) (rs : List Report) → TookFront old new (told n r)
       → AreFront told kept strange old n new (r ∷ rs)
   front_first old new n r rs f = record
       { before = []; after = r ∷ rs; split = refl; usual = tt; next = subst (λ o. TookFront o new (told n r)) (sym (appended-nil old)) f }
 
   -- nothing was told
-  pub front_rest : (old : Option (List ℕ)) (n : Notes) (rs : List Report) → AreFront told kept strange old n old rs
+  abbrev pub front_rest : (old : Option (List ℕ)) (n : Notes) (rs : List Report) → AreFront told kept strange old n old rs
   front_rest old n [] = record { before = []; after = []; split = refl; usual = tt; next = sym (appended-nil old) }
   front_rest old n (r ∷ rs) = front_first old old n r rs ([], told n r, refl, sym (appended-nil old))
 
   -- a front of further reports
-  pub front_more : (old mid new : Option (List ℕ)) (n m : Notes) (a b : List Report) → AreTold told kept strange old n mid m a
+  abbrev pub front_more : (old mid new : Option (List ℕ)) (n m : Notes) (a b : List Report) → AreTold told kept strange old n mid m a
       → AreFront told kept strange mid m new b → AreFront told kept strange old n new (a ++ b)
   front_more old mid new n m a b s f = record {
     before = a ++ f.before;
@@ -98,18 +99,18 @@ module _ (told : Notes → Report → List ℕ) (kept : Notes → Report → Not
   }
 
 -- a stop that the observer made
-pub on_seen : (f : SeenFault) (A X : Type 0) → (A → X) → OnStranger (Err f) A → OnStrange {A = Unit {0}} (Err (Seen f)) X
+pub on_seen : (f : SeenFault) (A X : Type 0) → (A → X) → OnStranger (Err f) A → OnStrange {A = Unit {0}} (Err (seen_stop f)) X
 on_seen (Write failed) A X f a = tt
 on_seen Stranger A X f a = f a
 on_seen NoMemory A X f a = tt
 
-pub on_seen_both : (f : SeenFault) (A B X : Type 0) → (A → B → X) → OnStranger (Err f) A → OnStranger (Err f) B → OnStrange {A = Unit {0}} (Err (Seen f)) X
+pub on_seen_both : (f : SeenFault) (A B X : Type 0) → (A → B → X) → OnStranger (Err f) A → OnStranger (Err f) B → OnStrange {A = Unit {0}} (Err (seen_stop f)) X
 on_seen_both (Write failed) A B X f a b = tt
 on_seen_both Stranger A B X f a b = f a b
 on_seen_both NoMemory A B X f a b = tt
 
 -- no report of that kind is strange
-pub on_seen_never : (f : SeenFault) (X : Type 0) → OnStranger (Err f) ⊥ → OnStrange {A = Unit {0}} (Err (Seen f)) X
+pub on_seen_never : (f : SeenFault) (X : Type 0) → OnStranger (Err f) ⊥ → OnStrange {A = Unit {0}} (Err (seen_stop f)) X
 on_seen_never (Write failed) X a = tt
 on_seen_never Stranger X a = absurd a
 on_seen_never NoMemory X a = tt
@@ -148,17 +149,17 @@ pub turning_usual : (strange : Notes → Report → Bool) → ((n : Notes) (r : 
 turning_usual strange comes n host = by_turning strange n host (strange n (Turning host)) refl (comes n (Turning host))
 
 -- a stop that the observer made, where nothing was strange, and where something may be
-pub seen_midst : (f : SeenFault) → OnStranger (Err f) ⊥ → IsMidst (Seen f)
+pub seen_midst : (f : SeenFault) → OnStranger (Err f) ⊥ → IsMidst (seen_stop f)
 seen_midst (Write failed) a = tt
 seen_midst Stranger a = a
 seen_midst NoMemory a = tt
 
-pub seen_never : (R : Type 0) (f : SeenFault) → OnStranger (Err f) ⊥ → OnStrange {A = R} (Err (Seen f)) ⊥
+pub seen_never : (R : Type 0) (f : SeenFault) → OnStranger (Err f) ⊥ → OnStrange {A = R} (Err (seen_stop f)) ⊥
 seen_never R (Write failed) a = tt
 seen_never R Stranger a = a
 seen_never R NoMemory a = tt
 
-pub seen_heard : (f : SeenFault) → IsHeardStop (Seen f)
+pub seen_heard : (f : SeenFault) → IsHeardStop (seen_stop f)
 seen_heard (Write failed) = tt
 seen_heard Stranger = tt
 seen_heard NoMemory = tt

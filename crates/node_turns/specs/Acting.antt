@@ -5,12 +5,14 @@ use Rattle.homa_plain.specs.Entries.{PlainEntry, PlainClock, PlainRecv}
 use Rattle.homa_plain.specs.Rules.{Answer}
 use Rattle.homa_plain.specs.declared.event.Event.{Event}
 use Rattle.homa_plain.specs.declared.fault.WorldFault.{WorldFault}
-use Rattle.homa_plain.specs.World.{World, Outcome, Refused, Done, outcome}
+use Rattle.homa_plain.specs.World.{World, After, Outcome, Refused, Done, outcome}
 use Rattle.homa_plain.specs.Answers.{shown, answering}
 use Rattle.host_view.specs.declared.outbox.SentFrame.{SentFrame}
 use Rattle.node_io.specs.declared.observer.SeenFault.TheVariants.{Stranger}
+use Rattle.node_io.specs.declared.observer.SeenFault.TheVariants as seen
 use Rattle.node_runs.specs.Script.{Calls}
 use Rattle.node_runs.specs.Course.{Report, Tells, Datagram, Receive, AreReceived, Node, Course, GoesOn, Stops, ◌>>=◌, datagrams}
+use Rattle.node_runs.specs.Acts.{Act, Sent}
 use Rattle.node_runs.specs.Texts.{entries}
 use Rattle.node_turns.specs.declared.stop.NodeStop.{NodeStop}
 use Rattle.node_turns.specs.declared.stop.NodeStop.TheVariants.{Net, Seen, NoMemory}
@@ -19,6 +21,10 @@ use Rattle.node_turns.specs.Told.{listed, numbers_of}
 -- a frame as a datagram
 abbrev pub frame_datagram : SentFrame → Datagram
 frame_datagram f = record { from = f.from; to = f.to; bytes = f.frame }
+
+-- its going
+abbrev pub frame_act : SentFrame → Act
+frame_act f = Sent (frame_datagram f)
 
 -- a node in this world
 abbrev pub node_at : World → List Report → Calls → List Receive → Node
@@ -44,6 +50,12 @@ pub record IsStep (act : World → Outcome) (first : List PlainEntry) (s : Setti
   pub sent : datagrams s next ≡ datagrams s w ++ map frame_datagram frames
   pub numbers : length frames ≡ length (numbers_of (map Tells told))
   pub allowed : (more : List PlainEntry) → after more → before ((first ++ told) ++ more)
+
+-- an event in which a service is asked, with this answer
+pub record Asks (act : World → Outcome) (w : World) (a : Answer) : Type 0 where
+  pub after : After
+  pub is : act (answering (a ∷ []) w) ≡ Done after
+  pub shows : shown after.told ≡ a ∷ []
 
 -- what is told of the event itself, whatever is answered
 pub record IsBegun (act : World → Outcome) (first : List PlainEntry) (s : Settings) (w : World) (later : List Answer) : Type 0 where
@@ -110,6 +122,7 @@ OnStrange answer fact = Unit {0}
 abbrev pub IsMidst : NodeStop → Type 0
 IsMidst Net = Unit {0}
 IsMidst (Seen Stranger) = ⊥
+IsMidst (Seen seen.NoMemory) = ⊥
 IsMidst (Seen fault) = Unit {0}
 IsMidst NoMemory = Unit {0}
 IsMidst stop = ⊥

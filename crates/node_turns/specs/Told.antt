@@ -1,7 +1,11 @@
--- What an observer tells of reports, one after another.
-use Rattle.std.specs.Prelude.{◌≡◌, ℕ, Bool, true, false, Option, None, Some, List, [], ◌∷◌, ◌++◌}
+-- What an observer tells of reports, one after another, and what a net did meanwhile.
+use Rattle.std.specs.Prelude.{◌≡◌, ◌≤◌, ◌⊎◌, ℕ, Bool, true, false, Option, None, Some, List, [], ◌∷◌, ◌++◌, length, take}
+use Rattle.std.specs.List.{AllByRecursion}
+use Rattle.homa_plain.specs.declared.id.HostId.{HostId}
+use Rattle.homa_plain.specs.Entries.{PlainEntry, PlainRecv}
 use Rattle.homa_io.specs.Outside.{appended, TookFront}
-use Rattle.node_runs.specs.Course.{Report}
+use Rattle.node_runs.specs.Course.{Report, Tells, Turning, Datagram}
+use Rattle.node_runs.specs.Acts.{Act, sents, acts_by}
 use Rattle.node_runs.specs.Recorder.{Notes}
 use Rattle.node_runs.specs.Texts.{sent_number}
 
@@ -25,6 +29,63 @@ pub record ListedFront {A : Type 0} (old new : Option (List A)) (xs : List A) : 
 abbrev pub numbers_of : List Report → List ℕ
 numbers_of [] = []
 numbers_of (report ∷ reports) = sent_number report ++ numbers_of reports
+
+-- ---- what a net did
+
+-- where a node is with its receives: the host whose turn comes next may have so many more, or has its turn next
+pub data Stage : Type 0 where
+  Hears : (left : ℕ) → Stage
+  Turns : (host : HostId) → Stage
+
+abbrev pub left_of : Stage → ℕ
+left_of (Hears left) = left
+left_of (Turns host) = 0
+
+-- what may be told next: where a host has its turn next, that is told first
+abbrev pub IsNext : Stage → List Report → Type 0
+IsNext (Hears left) reports = Unit {0}
+IsNext (Turns host) [] = ⊥
+IsNext (Turns host) (Turning other ∷ reports) = host ≡ other
+IsNext (Turns host) (Tells entry ∷ reports) = ⊥
+
+-- A net did this while these reports were told, and nothing else: what comes and goes by the reports, in this order, whatever is told behind them.
+pub record HasDone (old new : Option (List Act)) (from to : Stage) (reports : List Report) : Type 0 where
+  pub acts : List Act
+  pub is : new ≡ listed old acts
+  pub numbers : length (sents acts) ≡ length (numbers_of reports)
+  pub next : (more : List Report) → IsNext to more → IsNext from (reports ++ more)
+  pub order : (more : List Report) (later : List Datagram) → IsNext to more
+      → acts_by (left_of from) (reports ++ more) (sents acts ++ later) ≡ acts ++ acts_by (left_of to) more later
+
+-- a list that begins with another one
+pub record BeginsWith {A : Type 0} (whole front : List A) : Type 0 where
+  pub rest : List A
+  pub split : whole ≡ front ++ rest
+
+-- a net did the first of it
+pub record HasDoneFront (old new : Option (List Act)) (from : Stage) (reports : List Report) : Type 0 where
+  pub acts : List Act
+  pub is : new ≡ listed old acts
+  pub next : (more : List Report) → IsNext from (reports ++ more)
+  pub order : (more : List Report) (later : List Datagram) → BeginsWith (acts_by (left_of from) (reports ++ more) (sents acts ++ later)) acts
+
+-- a report that stands within a step: neither that a datagram comes, nor that a turn begins
+abbrev pub IsWithin : Report → Type 0
+IsWithin (Tells (PlainRecv host from bytes)) = ⊥
+IsWithin (Tells entry) = Unit {0}
+IsWithin (Turning host) = ⊥
+
+-- these are of one step: it is begun by the first of them
+abbrev pub AreOfOneStep : List Report → Type 0
+AreOfOneStep [] = Unit {0}
+AreOfOneStep (report ∷ reports) = AllByRecursion IsWithin reports
+
+-- where what isn't told begins with a datagram that comes, nothing was sent behind what was told
+abbrev pub IsHeld : List Report → ℕ → ℕ → Type 0
+IsHeld (Tells (PlainRecv host from bytes) ∷ reports) told taken = taken ≡ told
+IsHeld reports told taken = Unit {0}
+
+-- ---- what was told
 
 -- some report is strange
 pub record SomeStrange (strange : Notes → Report → Bool) : Type 0 where
@@ -75,3 +136,27 @@ module _ (told : Notes → Report → List ℕ) (kept : Notes → Report → Not
     pub usual : AreUsual notes before
     pub unusual : strange (notes_by notes before) last ≡ true
     pub text : new ≡ appended old (text_by notes before ++ told (notes_by notes before) last)
+
+  -- these were told, none is strange, and the net did what comes and goes by them
+  pub record AreDone (old : Option (List ℕ)) (notes : Notes) (new : Option (List ℕ)) (later : Notes) (did0 did1 : Option (List Act)) (from to : Stage)
+      (reports : List Report) : Type 0 where
+    pub told_all : AreTold old notes new later reports
+    pub done : HasDone did0 did1 from to reports
+
+  -- The first of these were told, and a front of the next; the net did the first of what comes and goes by them. What wasn't told is of one step, so
+  -- that no other was begun behind it; and a packet is told as sent, even by a front of its line, only where its datagram was taken.
+  pub record AreBroken (old : Option (List ℕ)) (notes : Notes) (new : Option (List ℕ)) (did0 did1 : Option (List Act)) (from : Stage)
+      (reports : List Report) : Type 0 where
+    pub front : AreFront old notes new reports
+    pub done : HasDoneFront did0 did1 from reports
+    pub one : AreOfOneStep front.after
+    pub held : IsHeld front.after (length (numbers_of front.before)) (length (sents done.acts))
+    pub ahead : ((length (numbers_of (front.before ++ take 1 front.after)) ≤ length (sents done.acts)))
+        ⊎ ((length (numbers_of front.before) ≤ length (sents done.acts)) × (new ≡ appended old (text_by notes front.before)))
+
+  -- the last of these is strange, and no other; all were told, and the net did what comes and goes by them
+  pub record AreHalted (old : Option (List ℕ)) (notes : Notes) (new : Option (List ℕ)) (did0 did1 : Option (List Act)) (from : Stage)
+      (reports : List Report) : Type 0 where
+    pub strange_one : AreStrange old notes new reports
+    pub done : HasDoneFront did0 did1 from reports
+    pub numbers : length (sents done.acts) ≡ length (numbers_of reports)

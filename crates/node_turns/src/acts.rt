@@ -5,12 +5,12 @@ ghost use Rattle.std.specs.List.{AllByRecursion};
 ghost use Rattle.homa_plain.specs.World.{World};
 ghost use Rattle.homa_plain.specs.Entries.{PlainEntry};
 ghost use Rattle.node_runs.specs.Course.{GoesOn, IsReceived, has_turn, hears, hosts_act, most_received};
-ghost use Rattle.node_turns.specs.Told.{Listed, ListedFront, AreTold, AreFront, AreStrange, SomeStrange};
+ghost use Rattle.node_turns.specs.Told.{Listed, ListedFront, Hears, Turns, AreTold, AreFront, AreDone, AreBroken, AreHalted, SomeStrange};
 ghost use Rattle.node_turns.specs.Faults.{counts, AreFaults};
 ghost use Rattle.node_turns.specs.Acting.{HasActed, IsCut, IsMidst, IsHeardStop, OnStrange, with_left, goes_on, clock_reports};
 
 use crate::telling::{send_frames, tell_entries};
-use crate::{Hosting, NodeStop};
+use crate::{LoopHosts, NodeStop};
 use homa_plain::{Entry, Frame, HostId};
 use node_io::{Got, Net, Observer};
 use std::alloc::Global;
@@ -19,8 +19,7 @@ use std::alloc::Global;
 const MOST_RECEIVED: u32 = 64;
 
 /// A turn of a host.
-pub fn has_turn<H: Hosting, N: Net, O: Observer>(
-    alloc: Global,
+pub fn has_turn<H: LoopHosts, N: Net, O: Observer>(
     hosts: &mut H,
     host: HostId,
     net: &mut N,
@@ -31,11 +30,12 @@ pub fn has_turn<H: Hosting, N: Net, O: Observer>(
     ensures acted { OnOk result ((w : World) → H.stands hosts.old w
         → HasActed (with_left (λ n. GoesOn (has_turn (H.settings hosts.old) host n))) goes_on (H.settings hosts.old) w (H.stands hosts.new)
         (H.allows hosts.old) (H.allows hosts.new)
-        (AreTold O.told O.kept O.strange (O.taken observer.old) (O.notes observer.old) (O.taken observer.new) (O.notes observer.new)) (N.sent net.old)
+        (AreDone O.told O.kept O.strange (O.taken observer.old) (O.notes observer.old) (O.taken observer.new) (O.notes observer.new)
+        (N.acts net.old) (N.acts net.new) (Turns host) (Hears 64)) (N.sent net.old)
         (N.sent net.new) (N.gave net.old) (N.gave net.new)) }
     ensures cut { OnErr result ((w : World) → H.stands hosts.old w
         → IsCut (with_left (λ n. GoesOn (has_turn (H.settings hosts.old) host n))) (H.settings hosts.old) w (H.allows hosts.old)
-        (AreFront O.told O.kept O.strange (O.taken observer.old) (O.notes observer.old) (O.taken observer.new))
+        (AreBroken O.told O.kept O.strange (O.taken observer.old) (O.notes observer.old) (O.taken observer.new) (N.acts net.old) (N.acts net.new) (Turns host))
         (ListedFront (N.sent net.old) (N.sent net.new)) (N.gave net.old) (N.gave net.new)) }
     ensures midst { IfErr result IsMidst }
     ensures settings { H.settings hosts.new ≡ H.settings hosts.old }
@@ -46,7 +46,7 @@ pub fn has_turn<H: Hosting, N: Net, O: Observer>(
     ensures same { O.is_same observer.old observer.new }
 {
     observer.turning(host)?;
-    hosts.turn(alloc, host)?;
+    hosts.turn(host);
     send_frames(hosts, net)?;
     tell_entries(hosts, observer)?;
     Ok(())
@@ -59,7 +59,7 @@ fn is_received(bytes: &[u8])
 {}
 
 /// A host receives up to 64 datagrams, until there is none.
-pub fn hears<H: Hosting, N: Net, O: Observer>(
+pub fn hears<H: LoopHosts, N: Net, O: Observer>(
     alloc: Global,
     hosts: &mut H,
     host: HostId,
@@ -72,15 +72,16 @@ pub fn hears<H: Hosting, N: Net, O: Observer>(
     ensures acted { OnOk result ((w : World) → H.stands hosts.old w
         → HasActed (hears (H.settings hosts.old) host most_received) goes_on (H.settings hosts.old) w (H.stands hosts.new) (H.allows hosts.old)
         (H.allows hosts.new)
-        (AreTold O.told O.kept O.strange (O.taken observer.old) (O.notes observer.old) (O.taken observer.new) (O.notes observer.new)) (N.sent net.old)
+        (AreDone O.told O.kept O.strange (O.taken observer.old) (O.notes observer.old) (O.taken observer.new) (O.notes observer.new)
+        (N.acts net.old) (N.acts net.new) (Hears 64) (Turns host)) (N.sent net.old)
         (N.sent net.new) (N.gave net.old) (N.gave net.new)) }
     ensures cut { OnErr result ((w : World) → H.stands hosts.old w
         → IsCut (hears (H.settings hosts.old) host most_received) (H.settings hosts.old) w (H.allows hosts.old)
-        (AreFront O.told O.kept O.strange (O.taken observer.old) (O.notes observer.old) (O.taken observer.new))
+        (AreBroken O.told O.kept O.strange (O.taken observer.old) (O.notes observer.old) (O.taken observer.new) (N.acts net.old) (N.acts net.new) (Hears 64))
         (ListedFront (N.sent net.old) (N.sent net.new)) (N.gave net.old) (N.gave net.new)) }
     ensures strange { OnStrange result
         ((w : World) → H.stands hosts.old w → IsCut (hears (H.settings hosts.old) host most_received) (H.settings hosts.old) w (H.allows hosts.old)
-        (AreStrange O.told O.kept O.strange (O.taken observer.old) (O.notes observer.old) (O.taken observer.new))
+        (AreHalted O.told O.kept O.strange (O.taken observer.old) (O.notes observer.old) (O.taken observer.new) (N.acts net.old) (N.acts net.new) (Hears 64))
         (Listed (N.sent net.old) (N.sent net.new)) (N.gave net.old) (N.gave net.new)) }
     ensures some_strange { OnStrange result (SomeStrange O.strange) }
     ensures midst { IfErr result IsHeardStop }
@@ -107,7 +108,7 @@ pub fn hears<H: Hosting, N: Net, O: Observer>(
 }
 
 /// Each local host receives, and then has its turn.
-pub fn hosts_act<H: Hosting, N: Net, O: Observer>(
+pub fn hosts_act<H: LoopHosts, N: Net, O: Observer>(
     alloc: Global,
     hosts: &mut H,
     locals: &[HostId],
@@ -121,15 +122,16 @@ pub fn hosts_act<H: Hosting, N: Net, O: Observer>(
     ensures acted { OnOk result ((w : World) → H.stands hosts.old w
         → HasActed (with_left (hosts_act (H.settings hosts.old) locals.now)) goes_on (H.settings hosts.old) w (H.stands hosts.new) (H.allows hosts.old)
         (H.allows hosts.new)
-        (AreTold O.told O.kept O.strange (O.taken observer.old) (O.notes observer.old) (O.taken observer.new) (O.notes observer.new)) (N.sent net.old)
+        (AreDone O.told O.kept O.strange (O.taken observer.old) (O.notes observer.old) (O.taken observer.new) (O.notes observer.new)
+        (N.acts net.old) (N.acts net.new) (Hears 64) (Hears 64)) (N.sent net.old)
         (N.sent net.new) (N.gave net.old) (N.gave net.new)) }
     ensures cut { OnErr result ((w : World) → H.stands hosts.old w
         → IsCut (with_left (hosts_act (H.settings hosts.old) locals.now)) (H.settings hosts.old) w (H.allows hosts.old)
-        (AreFront O.told O.kept O.strange (O.taken observer.old) (O.notes observer.old) (O.taken observer.new))
+        (AreBroken O.told O.kept O.strange (O.taken observer.old) (O.notes observer.old) (O.taken observer.new) (N.acts net.old) (N.acts net.new) (Hears 64))
         (ListedFront (N.sent net.old) (N.sent net.new)) (N.gave net.old) (N.gave net.new)) }
     ensures strange { OnStrange result
         ((w : World) → H.stands hosts.old w → IsCut (with_left (hosts_act (H.settings hosts.old) locals.now)) (H.settings hosts.old) w (H.allows hosts.old)
-        (AreStrange O.told O.kept O.strange (O.taken observer.old) (O.notes observer.old) (O.taken observer.new))
+        (AreHalted O.told O.kept O.strange (O.taken observer.old) (O.notes observer.old) (O.taken observer.new) (N.acts net.old) (N.acts net.new) (Hears 64))
         (Listed (N.sent net.old) (N.sent net.new)) (N.gave net.old) (N.gave net.new)) }
     ensures some_strange { OnStrange result (SomeStrange O.strange) }
     ensures midst { IfErr result IsHeardStop }
@@ -143,20 +145,20 @@ pub fn hosts_act<H: Hosting, N: Net, O: Observer>(
     for i in 0..locals.len() {
         let host = locals[i];
         hears(alloc, hosts, host, net, observer)?;
-        has_turn(alloc, hosts, host, net, observer)?;
+        has_turn(hosts, host, net, observer)?;
     }
     Ok(())
 }
 
 // The clock is told in the first loop turn, and where it rose since the last one.
-fn is_news<H: Hosting>(hosts: &H, n: u64, now: u64) -> bool
+fn is_news<H: LoopHosts>(hosts: &H, n: u64, now: u64) -> bool
     ensures { (w : World) → H.stands hosts.now w → result ≡ (n == 1 || nat_lt w.clock now) }
 {
     n == 1 || hosts.now() < now
 }
 
 /// The clock stands at this tick: that is told in the first loop turn, and where it rose since the last one.
-pub fn clock_stands<H: Hosting, O: Observer>(
+pub fn clock_stands<H: LoopHosts, O: Observer>(
     hosts: &mut H,
     n: u64,
     now: u64,

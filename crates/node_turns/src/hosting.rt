@@ -1,5 +1,6 @@
 // Hosts that act at a clock that is read outside.
-ghost use Rattle.std.specs.Prelude.{◌≡◌, ◌≢◌, ◌≤◌, ◌<◌, ◌+◌, ◌^◌, ℕ, List, [], ◌∷◌, Some, length, slice_get, Ok, IfErr, OnOk, IfOk};
+ghost use Rattle.std.specs.Prelude.{◌≡◌, ◌≢◌, ◌≤◌, ◌<◌, ◌+◌, ◌^◌, ℕ, List, [], ◌∷◌, Some, length, slice_get, Ok, IfErr, OnOk, OnErr, IfOk};
+ghost use Rattle.std.specs.List.{AllByRecursion};
 ghost use Rattle.homa_plain.specs.declared.settings.Settings.{Settings};
 ghost use Rattle.homa_plain.specs.declared.id.HostId.{HostId as Host};
 ghost use Rattle.homa_plain.specs.declared.event.Event.TheVariants as event;
@@ -7,19 +8,19 @@ ghost use Rattle.homa_plain.specs.declared.fault.WorldFault.TheVariants as fault
 ghost use Rattle.homa_plain.specs.Entries.{PlainEntry, PlainClock, PlainRecv, plain};
 ghost use Rattle.homa_plain.specs.Rules.{Answer};
 ghost use Rattle.homa_plain.specs.World.{World, outcome};
-ghost use Rattle.homa_text.specs.Told.{HasLine};
+ghost use Rattle.homa_plain.specs.Told.{HasLine};
 ghost use Rattle.host_view.specs.declared.outbox.SentFrame.{SentFrame};
 ghost use Rattle.node_io.specs.Observer.{IsSeen};
 ghost use Rattle.node_runs.specs.Course.{arrival_outcome, Arrival};
 ghost use Rattle.node_turns.specs.Acting.{IsRefused};
-ghost use Rattle.node_turns.specs.Acting.{IsStep, IsBegun, IsOwn};
+ghost use Rattle.node_turns.specs.Acting.{IsStep, IsBegun, IsOwn, Asks};
 
 use homa_plain::{Entry, HostId, StartFault, WorldFault};
 use host_view::Outbox;
 use std::alloc::{AllocError, Global};
 
 /// The hosts of a node, with their boxes. Its clock is set from outside; its packets go outside, as frames.
-pub trait Hosting {
+pub trait LoopHosts {
     /// The plain worlds that they may be, whatever the services will answer.
     ghost stands: { Self → World → Type 0 };
 
@@ -73,11 +74,12 @@ pub trait Hosting {
         ensures fault { IfOk result (λ r.
             IfErr r (λ fault. (w : World) → stands self.old w
             → IsRefused (settings self.old) w (event.Call client server number) request.now (fault_word.Start fault))) }
+        ensures own { AllByRecursion IsOwn (told self.new) }
         ensures settings { settings self.new ≡ settings self.old }
         ensures clock { clock self.new ≡ clock self.old }
         ensures steps { steps self.new ≤ steps self.old + 1 };
 
-    /// A datagram comes to a host from another one.
+    /// A datagram comes to a host from another one. Memory is wanted only where it asks the host's service.
     fn hear(
         &mut self,
         alloc: Global,
@@ -92,17 +94,21 @@ pub trait Hosting {
         ensures done { OnOk result ((w : World) → stands self.old w
             → IsStep (λ v. arrival_outcome (settings self.old) v host (record { from = from; bytes = bytes.now })) (PlainRecv host from bytes.now ∷ [])
             (settings self.old) w (stands self.new) (told self.new) (frames self.new) (allows self.old) (allows self.new)) }
+        ensures asks { OnErr result ((w : World) → stands self.old w → (a : Answer)
+            → Asks (λ v. arrival_outcome (settings self.old) v host (record { from = from; bytes = bytes.now })) w a) }
+        ensures own { AllByRecursion IsOwn (told self.new) }
         ensures settings { settings self.new ≡ settings self.old }
         ensures clock { clock self.new ≡ clock self.old }
         ensures steps { steps self.new ≤ steps self.old + 1 };
 
-    /// A turn of a host.
-    fn turn(&mut self, alloc: Global, host: HostId) -> Result<(), AllocError>
+    /// A turn of a host. It takes no memory.
+    fn turn(&mut self, host: HostId)
         requires host { host.0 < (settings self.old).hosts }
         requires few { steps self.old < 2 ^ 57 }
-        ensures done { OnOk result ((w : World) → stands self.old w
+        ensures done { (w : World) → stands self.old w
             → IsStep (λ v. outcome (settings self.old) v (event.Turn host) []) [] (settings self.old) w (stands self.new) (told self.new) (frames self.new)
-            (allows self.old) (allows self.new)) }
+            (allows self.old) (allows self.new) }
+        ensures own { AllByRecursion IsOwn (told self.new) }
         ensures settings { settings self.new ≡ settings self.old }
         ensures clock { clock self.new ≡ clock self.old }
         ensures steps { steps self.new ≤ steps self.old + 1 };

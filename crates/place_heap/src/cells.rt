@@ -20,7 +20,7 @@ pub struct Cell {
     pub at: u32,
 }
 
-/// Where a block begins. It owns nothing.
+/// Where a block begins. A copy of it owns nothing.
 #[derive(Clone, Copy)]
 struct Base {
     ptr: *mut Cell,
@@ -54,7 +54,7 @@ fn allocate(alloc: &Global, len: usize) -> Result<(Base, Block), AllocError>
     }
 }
 
-/// Gives a block back.
+/// Gives a block back to the allocator.
 fn free(alloc: &Global, base: Base, len: usize, block: Block)
     requires { (block.at ≡ base.ptr) × (length block.slots ≡ len) × (len ≤ 8192) }
 {
@@ -77,7 +77,7 @@ impl Block {
         unsafe { base.ptr.add(index).write(cell) }
     }
 
-    /// The value of a cell that was written.
+    /// Returns the value of a cell that was written.
     fn read(&self, base: Base, index: usize) -> &Cell
         requires { (base.ptr ≡ self.now.at) × (length self.now.slots ≤ 8192) × ((x : Cell) × (slice_index_or self.now.slots index None ≡ Some x)) }
         ensures { slice_index_or self.now.slots index None ≡ Some result.now }

@@ -33,7 +33,7 @@ impl<L: Ledger> Steps<L> {
         Steps { book, share }
     }
 
-    /// Counts one step.
+    /// Counts one step, of one read or write of a cell.
     pub fn tick(&mut self)
         ensures { self.new ≡ self.old + 1 }
     {

@@ -1,4 +1,4 @@
--- Finite maps as lists of entries in the order of their keys. Their words compute, so that examples hold by `refl`.
+-- Finite maps as lists of entries in the order of their keys. All of it computes, so that examples hold by `refl`.
 use Rattle.std.specs.Prelude.{◌≡◌, ℕ, suc, ◌+◌, Bool, true, false, not, ◌&&◌, nat_lt, nat_le, Option, Some, None, is_some, List, [], ◌∷◌, ◌++◌, map}
 use Rattle.std.specs.Prelude.{filter, length, slice_get, refl}
 use Rattle.std.specs.Coded.{Coded, coded×, coded_list}
@@ -21,7 +21,7 @@ module _ {K X : Type 0} (R : K → K → Ordering) where
   rises [] = true
   rises (e ∷ es) = rises_above e.0 es
 
-  -- no key stands twice
+  -- each key occurs once
   abbrev pub AreDistinct : List (K × X) → Type 0
   AreDistinct [] = Unit {0}
   AreDistinct (e ∷ es) = (find R e.0 es ≡ None) × AreDistinct es
@@ -77,7 +77,7 @@ module _ {K X : Type 0} {R : K → K → Ordering} where
   unfoldable pub values : Map R X → List X
   values m = map (λ e. e.1) m.list
 
-  -- the map of any entries; a key that stands twice has its first value
+  -- the map of any entries; of several with one key, the first counts
   abbrev pub from_entries : List (K × X) → Map R X
   from_entries [] = empty
   from_entries (e ∷ es) = insert (from_entries es) e.0 e.1
@@ -88,7 +88,7 @@ module _ {K X : Type 0} {R : K → K → Ordering} where
       let pairs : ◌≡◌ {A = (es : List (K × X)) × T (rises R es)} (m.list, m.sorted) (n.list, n.sorted) = Σ_prop_path (λ es. T_prop _) e in
       λ i. record { list = (pairs i).0; sorted = (pairs i).1 }
 
-  -- how a map is stored, for a model whose value is one
+  -- the encoding of a map as its entries, for types whose model is a map
   abbrev pub code : Coded K → Coded X → Coded (Map R X)
   code k x = coded_via (coded_list (coded× k x)) entries same_list
 

@@ -11,7 +11,7 @@ use Rattle.plain_sets.specs.Ranges.{Range, is_between, outside, ranges_of, cut}
 abbrev pub Numbers : Type 0
 Numbers = Map nat_cmp (Unit {0})
 
--- how a set is stored, for a model whose value is one
+-- the encoding of a set as a map to units, for types whose model is a set
 abbrev pub numbers_code : Coded Numbers
 numbers_code = code coded_ℕ coded_unit
 
@@ -85,6 +85,6 @@ first_below s limit = first_in s 0 limit
 unfoldable pub missing : Numbers → ℕ → Numbers
 missing s length = retain (set_of_range 0 length) (outside (ranges s))
 
--- their ranges
+-- the maximal ranges of the numbers below a length that aren't members
 abbrev pub gaps : Numbers → ℕ → List Range
 gaps s length = ranges (missing s length)

@@ -12,7 +12,7 @@ pub record Range : Type 0 where
 abbrev pub range : ℕ → ℕ → Range
 range a b = record { from = a; to = b }
 
--- how a range is stored, for a model whose value is one
+-- the encoding of a range as its two ends, for types whose model is one
 abbrev pub range_code : Coded Range
 range_code = code_by (ℕ × ℕ) (coded× coded_ℕ coded_ℕ) (λ r. (r.from, r.to)) (λ p. range p.0 p.1) (λ _. refl)
 
@@ -29,7 +29,7 @@ in_ranges (r ∷ rs) x = is_between r.from r.to x || in_ranges rs x
 abbrev pub outside : List Range → ℕ → Bool
 outside rs x = not (in_ranges rs x)
 
--- no range is empty, and each begins above the end of the one before it; the first begins at low or above
+-- no range is empty, and each begins above the end of the one before it; the first begins at `low` or above
 abbrev pub AreApart : ℕ → List Range → Type 0
 AreApart low [] = Unit {0}
 AreApart low (r ∷ rs) = (low ≤ r.from) × (r.from < r.to) × AreApart (r.to + 1) rs
@@ -89,11 +89,11 @@ joined a b (r ∷ rs) =
     then r ∷ joined a b rs
     else absorbed a b (r ∷ rs)
 
--- a range in front of others, unless it is empty
+-- a range before others, unless it is empty
 abbrev pub led : ℕ → ℕ → List Range → List Range
 led a b rs = if nat_lt a b then range a b ∷ rs else rs
 
--- the ranges with the numbers from a to b - 1 taken away
+-- the ranges without the numbers from a to b - 1
 abbrev pub parted : ℕ → ℕ → List Range → List Range
 parted a b [] = []
 parted a b (r ∷ rs) = led r.from (min r.to a) (led (max r.from b) r.to (parted a b rs))

@@ -23,7 +23,7 @@ ghost use Rattle.plain_sets.specs.Numbers.{Numbers, has, with_number, without_nu
 ghost use Rattle.plain_sets.specs.Numbers.{union, IsSubset, is_subset, IsBelow, ranges, set_of_ranges, first_in, first_below, missing, gaps};
 ghost use Rattle.plain_sets.specs.Ordered.{placed, ordered, IsInOrder, IsLeast, KeysDiffer, first_of, firsts, has_sender, SendersDiffer};
 
-/// What a look-up answers, at keys of any order.
+/// What a look-up returns, at keys of any order.
 pub fn look_ups<K: Ord, X>()
     ensures none { (q : K) → get (empty {X = X} {R = K.cmp}) q ≡ None }
     ensures inserted { (m : Map K.cmp X) (k : K) (v : X) (q : K)
@@ -42,7 +42,7 @@ pub fn sizes<K: Ord, X>()
         → len (remove m k) ≡ (if contains_key m k then len m - 1 else len m) }
 {}
 
-/// The entries and the keys are those that a look-up finds, where only equal keys tie.
+/// The entries and the keys are those that a look-up finds, if only equal keys compare as equal.
 pub fn members<K: Ord, X>()
     ensures entry { IsAntisymmetric K.cmp → (m : Map K.cmp X) (k : K) (v : X)
         → Contains (entries m) (k, v) ↔ (get m k ≡ Some v) }
@@ -52,7 +52,7 @@ pub fn members<K: Ord, X>()
         → IsPermutation es (entries (from_entries {R = K.cmp} es)) }
 {}
 
-/// Two maps that answer alike at each key are one, where only equal keys tie.
+/// Two maps that return the same at each key are one, if only equal keys compare as equal.
 pub fn one_map<K: Ord, X>()
     ensures { IsAntisymmetric K.cmp → (m n : Map K.cmp X) → ((q : K) → get m q ≡ get n q) → m ≡ n }
 {}
@@ -72,7 +72,7 @@ pub fn changes<K: Ord, X>()
         → IsPermutation (v ∷ values m) (values (insert m k v)) }
 {}
 
-/// A map in which the numbers from one on have the values of a list, and the set of its keys.
+/// A map whose values at the numbers from one on are those of a list, and the set of its keys.
 pub fn spread<X>()
     ensures got { (m : Map nat_cmp X) (a : ℕ) (xs : List X) (q : ℕ)
         → get (insert_all m a xs) q ≡ (if is_between a (a + length xs) q then slice_get xs (q - a) else get m q) }
@@ -100,7 +100,7 @@ pub fn numbers()
     ensures same { (s t : Numbers) → ((q : ℕ) → has s q ≡ has t q) → s ≡ t }
 {}
 
-/// Sets and their maximal ranges stand for each other.
+/// A set determines its maximal ranges, and they determine it.
 pub fn maximal_ranges()
     ensures apart { (s : Numbers) → AreApart 0 (ranges s) }
     ensures members { (s : Numbers) (q : ℕ) → in_ranges (ranges s) q ≡ has s q }
@@ -157,7 +157,7 @@ pub fn in_order<X, Y>()
         → ordered key (filter p xs) ≡ filter p (ordered key xs) }
 {}
 
-/// The first of each sender: a thing is kept exactly where none before it is of its sender.
+/// The first of each sender: a thing is kept exactly if no thing before it is of its sender.
 pub fn first_of_each<X>()
     ensures none { (sender : X → ℕ) → firsts sender [] ≡ [] }
     ensures one_more { (sender : X → ℕ) (xs : List X) (x : X)

@@ -5,7 +5,7 @@ use Rattle.plain_sets.specs.Numbers.{Numbers, with_range, without_range, ranges}
 use Rattle.range_set.specs.declared.Changed.{Changed}
 use Rattle.range_set.specs.declared.Changed.TheVariants.{Count, TooMany}
 
--- a fact of the count, where there is one
+-- if there is a count, the fact holds of it
 abbrev pub IfCount : Changed → (ℕ → Type 0) → Type 0
 IfCount (Count n) P = P n
 IfCount TooMany P = Unit {0}

@@ -8,10 +8,10 @@ pub record FitsRangeSet (s : Numbers) : Type 0 where
   pub few : length (ranges s) ≤ 64
   pub below : IsBelow s 1000000
 
--- a range as an answer: its first number, and the number after its last
+-- a range as a call returns it: its first number, and the number after its last
 abbrev pub bounds : Range → ℕ × ℕ
 bounds r = (r.from, r.to)
 
--- the front of a range, of at most `most` numbers
+-- the first part of a range, of at most `most` numbers
 abbrev pub front : ℕ → Range → Range
 front most r = range r.from (min r.to (r.from + most))

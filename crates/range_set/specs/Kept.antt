@@ -9,7 +9,7 @@ abbrev pub plain : List Range → List PlainRange
 plain [] = []
 plain (r ∷ rs) = range r.from r.to ∷ plain rs
 
--- none ends above a million
+-- no range ends above a million
 abbrev pub AreSmall : List PlainRange → Type 0
 AreSmall rs = AllByRecursion (λ r. r.to ≤ 1000000) rs
 

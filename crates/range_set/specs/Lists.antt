@@ -7,7 +7,7 @@ use Rattle.plain_sets.specs.Ranges.{Range, led, joined, parted, width_of}
 abbrev pub is_covered : ℕ → ℕ → List Range → Bool
 is_covered a b rs = nat_le b a || list_any (λ r. nat_le r.from a && nat_le b r.to) rs
 
--- what is left where the front of the first range, of at most `most` numbers, is taken away
+-- what is left of the ranges without the first part of the first one, of at most `most` numbers
 abbrev pub rest_of : ℕ → List Range → List Range
 rest_of most [] = []
 rest_of most (r ∷ rs) = led (min r.to (r.from + most)) r.to rs

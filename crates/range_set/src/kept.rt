@@ -70,7 +70,7 @@ pub fn remove(kept: &mut ArrayVec<Range, 64>, a: u32, b: u32) -> Changed
     Changed::Count(before - width(kept.as_slice()))
 }
 
-/// Takes the front of the first range away, at most `max` numbers.
+/// Takes the first part of the first range away, at most `max` numbers.
 pub fn take_front(kept: &mut ArrayVec<Range, 64>, max: u32) -> Option<(u32, u32)>
     requires positive { 1 ≤ max }
     requires kept { AreKept kept.old.items }
@@ -150,7 +150,7 @@ fn join(kept: &[Range], a: u32, b: u32) -> ArrayVec<Range, 65>
     out
 }
 
-/// How many ranges, from the front on, end below `a`.
+/// How many ranges, from the first on, end below `a`.
 fn count_below(kept: &[Range], a: u32) -> usize
     ensures within { result ≤ length kept.now }
     ensures copied { (b : ℕ) → joined a b (plain kept.now) ≡ plain (take result kept.now) ++ absorbed a b (plain (drop result kept.now)) }
@@ -163,7 +163,7 @@ fn count_below(kept: &[Range], a: u32) -> usize
     kept.len()
 }
 
-/// The range from `a` to `b` - 1 with those, from the front on, that it touches, and how many these are.
+/// The range from `a` to `b` - 1 joined with the first ranges that it touches, and how many these are.
 fn absorb(kept: &[Range], a: u32, b: u32) -> (Range, usize)
     ensures within { result.1 ≤ length kept.now }
     ensures added { absorbed a b (plain kept.now) ≡ plain (result.0 ∷ drop result.1 kept.now) }

@@ -49,7 +49,7 @@ pub enum Changed {
 }
 
 impl RangeSet {
-    /// The empty set.
+    /// A set without members. It takes no memory.
     pub fn empty() -> RangeSet
         ensures { result ≡ empty }
     {
@@ -93,7 +93,7 @@ impl RangeSet {
         kept::remove(&mut self.kept, a, b)
     }
 
-    /// Takes the front of the first range away, at most `max` numbers: from the first to before the second number.
+    /// Takes the first part of the first range away, at most `max` numbers: from the first to before the second one.
     pub fn take_first(&mut self, max: u32) -> Option<(u32, u32)>
         requires { 1 ≤ max }
         ensures front { result ≡ option_map (λ r. bounds (front max r)) (first_of (ranges self.old)) }

@@ -1,7 +1,6 @@
 // Every form of line: printed, compared with the line worked out by hand, and read back; and lines of no entry.
-ghost use Rattle.homa_plain.specs.Entries.{plain};
-ghost use Rattle.homa_plain.specs.Shape.{IsCause};
-ghost use Rattle.homa_text.specs.Told.{HasLine};
+ghost use Rattle.homa_plain.specs.Entries.{plain, IsCause};
+ghost use Rattle.homa_plain.specs.Told.{HasLine};
 
 use check_reader::read_entry;
 use homa_io::MemSink;

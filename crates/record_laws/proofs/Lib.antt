@@ -2,4 +2,4 @@ mod Events
 mod Settings
 mod Whole
 mod Replays
-mod Recordings
+pub mod Recordings

@@ -1,11 +1,8 @@
 // Two local hosts over sockets on 127.0.0.1 and the system's clock.
-ghost use Rattle.std.specs.Prelude.{◌≡◌, false};
-ghost use Rattle.homa_plain.specs.declared.id.HostId.{HostId as Host};
-
-use homa_io::{MemSink, MemSource};
-use homa_top::{ExitStatus, run, suites};
-use node_io::{Clock, MemClock, Net, SureNet, TickClock, UdpNet};
-use std::alloc::Global;
+use crate::carried::{carry, carry_out};
+use homa_io::MemSink;
+use homa_top::ExitStatus;
+use node_io::{TickClock, UdpNet};
 use std::test::Fail;
 
 // The most bytes that a command prints.
@@ -14,24 +11,6 @@ const MOST_BYTES: u32 = 1_000_000;
 // How many nodes run at most until a call comes to its end, on a machine that may stand still for as long as a node runs.
 const MOST_NODES: u32 = 8;
 
-// Carries out a command, and answers its status and what its sink took.
-fn carry_out<N: Net, C: Clock>(
-    alloc: Global,
-    word: &str,
-    input: &[u8],
-    net: &mut N,
-    clock: &mut C,
-) -> Result<(ExitStatus, MemSink), Fail>
-    requires none_known { (h : Host) → N.known net.old h ≡ false }
-{
-    let bytes = Vec::from_slice(alloc, input)?;
-    let mut source = MemSource::new(bytes, Vec::new(alloc));
-    let mut sink = MemSink::new(alloc, MOST_BYTES, Vec::new(alloc))?;
-    let services = suites(alloc)?;
-    let status = run(alloc, &[word], &mut source, &mut sink, net, clock, services);
-    Ok((status, sink))
-}
-
 // Runs a node of two hosts at these ports, of which one calls the other. Whatever the machine does, no datagram is too old.
 fn run_at(rt: &HostRuntime, first: u16, second: u16) -> Result<(ExitStatus, MemSink), Fail> {
     let script = format!(in rt.alloc();
@@ -39,7 +18,14 @@ fn run_at(rt: &HostRuntime, first: u16, second: u16) -> Result<(ExitStatus, MemS
     )?;
     let mut net = UdpNet::new(rt.alloc(), rt)?;
     let mut clock = TickClock::new(rt);
-    carry_out(rt.alloc(), "node", script.as_bytes(), &mut net, &mut clock)
+    carry_out(
+        rt.alloc(),
+        &["node"],
+        script.as_bytes(),
+        MOST_BYTES,
+        &mut net,
+        &mut clock,
+    )
 }
 
 // The same, at the first two ports that are free.
@@ -53,13 +39,6 @@ fn run_somewhere(rt: &HostRuntime) -> Result<(ExitStatus, MemSink), Fail> {
     Err(Fail::from("no port is free"))
 }
 
-// Judges a trace.
-fn judge(alloc: Global, trace: &[u8]) -> Result<(ExitStatus, MemSink), Fail> {
-    let mut net = SureNet::new();
-    let mut clock = MemClock::new(vec![in alloc; 0]?);
-    carry_out(alloc, "check", trace, &mut net, &mut clock)
-}
-
 #[test]
 fn a_call_between_two_hosts_is_done(rt: HostRuntime) -> Result<(), Fail> {
     for _ in 0..MOST_NODES {
@@ -68,7 +47,7 @@ fn a_call_between_two_hosts_is_done(rt: HostRuntime) -> Result<(), Fail> {
         let last = text.lines().last().unwrap_or("");
         assert_eq!(rt; status, ExitStatus::Done);
         assert!(rt; last.starts_with("ok "));
-        let (status, verdict) = judge(rt.alloc(), trace.bytes())?;
+        let (status, verdict) = carry(rt.alloc(), &["check"], trace.bytes(), MOST_BYTES)?;
         assert_eq!(rt; status, ExitStatus::Done);
         assert!(rt; verdict.bytes().starts_with(b"yes "));
         if text.contains("\ndone 1.1.0 6869\n") {

@@ -10,7 +10,7 @@ use Rattle.homa_io.specs.Outside.{unread, IsAtEnd}
 use Rattle.homa_plain.specs.declared.fault.ScriptFault.TheVariants.{InputTooLong, LongLine, NotUtf8}
 use Rattle.homa_plain.specs.Input.{lines_of, without_feed, ends_in_feed, has_no_feed}
 use Rattle.homa_plain.specs.Script.{without_return, longest_line}
-use Rattle.homa_text.specs.Lines.{Reading, TakesLine, IsLine, IsLong, IsOver}
+use Rattle.text_lines.specs.Lines.{Reading, TakesLine, IsLine, IsLong, IsOver}
 use Rattle.script_lines.specs.Place.{place_of, lines_left}
 use Rattle.script_lines.specs.Read.{IsRead}
 use Rattle.script_lines.specs.Lines as line

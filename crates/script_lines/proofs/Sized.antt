@@ -3,7 +3,7 @@ use Rattle.std.proofs.Common.{◌≡◌, ◌≤◌, ℕ, ◌+◌, arith, List, [
 use Rattle.std.proofs.lemmas.Bool.{cond_both}
 use Rattle.std.specs.Prelude.{◌==◌}
 use Rattle.homa_plain.specs.Input.{without_feed}
-use Rattle.homa_text.specs.Lines.{Reading, IsLine}
+use Rattle.text_lines.specs.Lines.{Reading, IsLine}
 
 short_line : (xs : List ℕ) → length (without_feed xs) ≤ length xs
 short_line [] = omega arith

@@ -2,7 +2,7 @@
 use Rattle.std.proofs.Common.{◌≡◌, ◌<◌, ◌≤◌, ℕ, ◌+◌, arith, Bool, true, false, Option, Some, Result, Ok, Err, List, [], ◌∷◌, length, sym, ap, ◌∙◌}
 use Rattle.homa_plain.specs.declared.fault.ScriptFault.{ScriptFault}
 use Rattle.homa_plain.specs.Script.{without_return}
-use Rattle.homa_text.specs.Lines.{Reading}
+use Rattle.text_lines.specs.Lines.{Reading}
 use Rattle.script_lines.specs.declared.stop.ScriptStop.{ScriptStop}
 use Rattle.script_lines.specs.Place.{IsCounted, place_of, lines_left}
 use Rattle.script_lines.specs.Read.{IsRead}

@@ -4,9 +4,9 @@ use Rattle.std.specs.Prelude.{◌==◌, ◌-◌, ◌^◌, min, if◌then◌else�
 use Rattle.std.proofs.lemmas.List.{append-nil}
 use Rattle.homa_io.specs.Outside.{unread, IsAtEnd}
 use Rattle.homa_plain.specs.Input.{onto_first_line, lines_of, has_no_feed, ends_in_feed}
-use Rattle.homa_text.specs.Lines.{Reading, TakesLine, IsLine, IsLong, IsOver, IsEnd}
-use Rattle.homa_text.specs.Rest.{Takes}
-use Rattle.homa_text.proofs.Taking.{takes_none, takes_on}
+use Rattle.text_lines.specs.Lines.{Reading, TakesLine, IsLine, IsLong, IsOver, IsEnd}
+use Rattle.text_lines.specs.Rest.{Takes}
+use Rattle.text_lines.proofs.Taking.{takes_none, takes_on}
 use Rattle.script_lines.specs.Place.{Place, place_of, IsCounted}
 use Rattle.script_lines.specs.Taking.{feeds, TakesLines}
 use Rattle.script_lines.proofs.LinesOf.{lines_of-feed, lines_of-last}

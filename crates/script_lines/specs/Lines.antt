@@ -5,7 +5,7 @@ use Rattle.homa_plain.specs.declared.fault.ScriptFault.{ScriptFault}
 use Rattle.homa_plain.specs.declared.fault.ScriptFault.TheVariants.{InputTooLong, LongLine, NotUtf8}
 use Rattle.homa_plain.specs.Input.{without_feed}
 use Rattle.homa_plain.specs.Script.{without_return, longest_line}
-use Rattle.homa_text.specs.Lines.{Reading}
+use Rattle.text_lines.specs.Lines.{Reading}
 use Rattle.script_lines.specs.declared.stop.ScriptStop.{ScriptStop}
 use Rattle.script_lines.specs.declared.stop.ScriptStop.TheVariants.{Read, Fault}
 use Rattle.script_lines.specs.Place.{Place, place_of, lines_left}

@@ -1,7 +1,7 @@
 -- Which lines a reader took, and when it read.
 use Rattle.std.specs.Prelude.{◌≡◌, ◌⊎◌, ℕ, ◌+◌, ◌<◌, ◌≤◌, ◌==◌, suc, if◌then◌else◌, Option, List, [], ◌∷◌, length}
 use Rattle.homa_plain.specs.Input.{lines_of}
-use Rattle.homa_text.specs.Rest.{Takes}
+use Rattle.text_lines.specs.Rest.{Takes}
 use Rattle.script_lines.specs.Place.{Place}
 
 -- how many line feeds stand in it

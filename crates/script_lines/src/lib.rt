@@ -7,11 +7,9 @@
 #![tactic(auto)]
 
 mod line;
-mod name;
 mod stop;
 mod words;
 
 pub use line::{last_line, next_line};
-pub use name::set;
 pub use stop::ScriptStop;
 pub use words::{Words, is_comment, read_up_to};

@@ -2,7 +2,7 @@
 ghost use Rattle.std.specs.Prelude.{◌≡◌, ◌≤◌, ◌+◌, ℕ, List, Some, true, false, length, IfOk, IfErr};
 ghost use Rattle.homa_io.specs.Outside.{HasRisen};
 ghost use Rattle.homa_plain.specs.Script.{without_return};
-ghost use Rattle.homa_text.specs.Lines.{reading};
+ghost use Rattle.text_lines.specs.Lines.{reading};
 ghost use Rattle.script_lines.specs.Place.{place_of, IsCounted};
 ghost use Rattle.script_lines.specs.Stops.{is_read, has_failed_read};
 ghost use Rattle.script_lines.specs.Lines.{IsNextLine, IsNumbered};
@@ -11,8 +11,8 @@ ghost use Rattle.script_lines.specs.Taking.{TakesLines};
 use crate::ScriptStop;
 use homa_io::Source;
 use homa_plain::ScriptFault;
-use homa_text::{LineGot, Lines};
 use std::str::from_utf8;
+use text_lines::{LineGot, Lines};
 
 /// Reads the next line, and answers whether there is one. A line that isn't refused by what it is
 /// made of is then the last line of `lines`.

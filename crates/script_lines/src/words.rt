@@ -7,8 +7,8 @@ ghost use Rattle.homa_plain.specs.Script.{is_comment, number_up_to, number_at_mo
 ghost use Rattle.script_lines.specs.Operands.{with_words, taken, end_of};
 
 use homa_plain::{HostId, ScriptFault};
-use homa_text::{read_bytes, read_number};
 use std::marker::Model;
+use text_lines::{read_bytes, read_number};
 
 // How many bytes stand before the first space, or the end.
 fn word_len(line: &[u8]) -> usize

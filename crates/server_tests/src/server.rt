@@ -2,8 +2,8 @@ ghost use Rattle.std.specs.Prelude.{◌≡◌, ◌<◌, ◌≤◌, ◌^◌, ◌�
 ghost use Rattle.msg_pool.specs.Pool.{Pool};
 ghost use Rattle.host_places.specs.Placed.{spot_at};
 ghost use Rattle.homa_plain.specs.Settings.{IsValid};
-ghost use Rattle.host_incoming.specs.Pooled.{AreIn};
-ghost use Rattle.host_incoming.specs.Pieces.{IsFit};
+ghost use Rattle.homa_in.specs.Pooled.{AreIn};
+ghost use Rattle.homa_in.specs.Pieces.{IsFit};
 ghost use Rattle.homa_server.specs.Table.{request_at};
 
 use homa_plain::{Body, CallId, Emitted, HostId, Packet, Role, Settings};

@@ -4,6 +4,8 @@
 #[cfg(test)]
 mod heap;
 #[cfg(test)]
+mod joined_ranges;
+#[cfg(test)]
 mod pool;
 #[cfg(test)]
 mod ranges;

@@ -8,4 +8,4 @@ pub mod Places
 pub mod RowMaps
 pub mod StepEnd
 pub mod ToldBy
-pub mod FullPages
+pub mod Own

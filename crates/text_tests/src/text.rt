@@ -1,6 +1,6 @@
 // Each public function where it succeeds, the edges that no clause shows by itself, and faults.
 ghost use Rattle.homa_plain.specs.Entries.{plain};
-ghost use Rattle.homa_text.specs.Told.{HasLine};
+ghost use Rattle.homa_plain.specs.Told.{HasLine};
 
 use homa_io::{MemSink, MemSource, ReadFailed, WriteFailed};
 use homa_plain::{

@@ -17,8 +17,8 @@ use Rattle.homa_plain.specs.Host.{pages_for}
 use Rattle.homa_plain.specs.Rules.{Moment, Piece, Say, Tells, Posts, Did, keeps, opening}
 use Rattle.homa_plain.specs.AtClient.{busy_for, piece_comes, response_piece, answered, unasked, started_over}
 use Rattle.homa_plain.proofs.OutgoingLaws.{sound-grant, sound-resend, sound-restart}
-use Rattle.trace_induction.specs.Contents.{called_by}
-use Rattle.trace_induction.proofs.Hosts.{some_is, none_some}
+use Rattle.trace_steps.specs.Contents.{called_by}
+use Rattle.step_moves.proofs.Hosts.{some_is, none_some}
 use Rattle.trace_fails.proofs.FairRows.{SameTimer}
 
 -- neither a RESEND nor a piece of a message

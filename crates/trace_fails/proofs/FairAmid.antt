@@ -12,21 +12,23 @@ use Rattle.homa_plain.specs.Rows.{ClientRow, ServerRow, RowsOf, set_row}
 use Rattle.homa_plain.specs.Host.{Host, Told, packets_in, entries_from}
 use Rattle.homa_plain.specs.Rules.{Did}
 use Rattle.homa_plain.specs.Steps.{Work, asked, served}
-use Rattle.homa_plain.specs.View.{View, own_tick}
-use Rattle.homa_plain.specs.Seen.{seen_all}
-use Rattle.homa_plain.specs.Laws.{Holds}
+use Rattle.trace_rules.specs.View.{View, own_tick}
+use Rattle.trace_rules.specs.Seen.{seen_all}
+use Rattle.trace_rules.specs.Laws.{Holds}
 use Rattle.homa_plain.specs.World.{World, host_at}
 use Rattle.homa_plain.proofs.CallOrder.{calls_are}
 use Rattle.step_laws.proofs.Others.{get-set_row, set_row-others}
-use Rattle.trace_lines.proofs.Lines.{entries_from-append, holds-append, told_same, SameSetting}
-use Rattle.trace_moves.proofs.Own.{AllOwn, AllServed, served_own}
-use Rattle.trace_moves.proofs.Moves.{IsMove, served_told, served-move}
-use Rattle.trace_moves.proofs.AskedMove.{asked_told, asked-move}
-use Rattle.trace_lines.proofs.Progress.{IsLevel, AllUnstale, ends_told, told_level}
-use Rattle.trace_induction.specs.Stands.{put, said_so_far}
-use Rattle.trace_induction.proofs.Hosts.{apart, there}
-use Rattle.trace_induction.proofs.Frame.{next_number, move_said}
-use Rattle.trace_induction.proofs.ToldMoves.{each_set, own_set}
+use Rattle.trace_steps.proofs.Lines.{holds-append, told_same, SameSetting}
+use Rattle.step_moves.proofs.Inner.{entries_from-append}
+use Rattle.step_laws.proofs.Own.{AllOwn, AllServed, served_own}
+use Rattle.step_moves.proofs.Moves.{IsMove, served_told, served-move}
+use Rattle.step_moves.proofs.AskedMove.{asked_told, asked-move}
+use Rattle.trace_steps.proofs.Progress.{IsLevel, AllUnstale, ends_told, told_level}
+use Rattle.trace_steps.specs.Stands.{put, said_so_far}
+use Rattle.step_moves.proofs.Hosts.{apart, there}
+use Rattle.trace_steps.proofs.Frame.{next_number, move_said}
+use Rattle.trace_steps.proofs.ToldMoves.{each_set}
+use Rattle.step_moves.proofs.Names.{own_set}
 use Rattle.trace_fails.specs.Timeouts.{TimesOut, IsLiveRow}
 use Rattle.trace_fails.proofs.FairRows.{fair_same}
 use Rattle.trace_fails.proofs.ClientSays.{AllBare, NoTimeouts, ends_said, IsSameRow}

@@ -19,21 +19,22 @@ use Rattle.homa_plain.specs.Host.{Host, Says, entries_from}
 use Rattle.homa_plain.specs.Rules.{Answer}
 use Rattle.homa_plain.specs.Steps.{Work, begun, starts, next_id, new_call, comes, takes, is_stale, acts, refilled, ended, tells, call_step}
 use Rattle.homa_plain.specs.Steps.{arrival_step, turn_step}
-use Rattle.homa_plain.specs.View.{View, Called, Sent, Progress, own_tick, has_last, sent_last}
-use Rattle.homa_plain.specs.Seen.{seen, seen_all}
-use Rattle.homa_plain.specs.Laws.{Holds}
+use Rattle.trace_rules.specs.View.{View, Called, Sent, Progress, own_tick, has_last, sent_last}
+use Rattle.trace_rules.specs.Seen.{seen, seen_all}
+use Rattle.trace_rules.specs.Laws.{Holds}
 use Rattle.homa_plain.specs.World.{World, host_at, own_clock}
 use Rattle.homa_plain.proofs.CallOrder.{calls_are}
 use Rattle.homa_plain.proofs.OutgoingLaws.{sound-opened}
-use Rattle.trace_lines.specs.Told.{IsTold, sent_of}
-use Rattle.trace_lines.proofs.Lines.{SameSetting, told_same, said_packets}
-use Rattle.trace_lines.proofs.Progress.{get-set, IsLevel, inject_level, call_level}
-use Rattle.trace_lines.proofs.Deliveries.{deliver_level, stale_now, stale_level}
-use Rattle.trace_induction.proofs.Hosts.{within, some_is, apart}
-use Rattle.trace_induction.proofs.ToldMoves.{each_set, own_set}
-use Rattle.trace_induction.proofs.ToldSteps.{SameTold, call_same as call_told, deliver_same, inject_same, set_same}
-use Rattle.trace_induction.proofs.Timed.{resend_of, seg_of}
-use Rattle.trace_induction.proofs.Events.{after_step}
+use Rattle.trace_steps.specs.Told.{IsTold, sent_of}
+use Rattle.trace_steps.proofs.Lines.{SameSetting, told_same, said_packets}
+use Rattle.trace_steps.proofs.Progress.{get-set, IsLevel, inject_level, call_level}
+use Rattle.trace_steps.proofs.Deliveries.{deliver_level, stale_now, stale_level}
+use Rattle.step_moves.proofs.Hosts.{within, some_is, apart}
+use Rattle.trace_steps.proofs.ToldMoves.{each_set}
+use Rattle.step_moves.proofs.Names.{own_set}
+use Rattle.trace_steps.proofs.ToldSteps.{SameTold, call_same as call_told, deliver_same, inject_same, set_same}
+use Rattle.step_moves.proofs.Timed.{resend_of, seg_of}
+use Rattle.trace_steps.proofs.Events.{after_step}
 use Rattle.trace_once.proofs.Restarted.{deliver_calls}
 use Rattle.trace_fails.specs.Timeouts.{TimesOut, IsFairRow, IsLiveRow, HasFairRows}
 use Rattle.trace_fails.proofs.FairAmid.{none_renewed, AreLiveAs}

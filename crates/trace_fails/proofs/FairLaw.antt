@@ -16,26 +16,28 @@ use Rattle.homa_plain.specs.declared.event.Event.TheVariants as event
 use Rattle.homa_plain.specs.declared.entry.Why.TheVariants.{Timeout}
 use Rattle.homa_plain.specs.Calls.{is_host, is_call, call_cmp}
 use Rattle.homa_plain.specs.Entries.{PlainEntry, PlainSettings, PlainClock, PlainRestart, PlainShift, PlainFail}
-use Rattle.homa_plain.specs.Lines.{is_last}
+use Rattle.trace_rules.specs.Lines.{is_last}
 use Rattle.homa_plain.specs.Wire.{packet_in, is_client}
 use Rattle.homa_plain.specs.Packets.{receiver}
 use Rattle.homa_plain.specs.Host.{Host, new_host}
 use Rattle.homa_plain.specs.Steps.{start_fault, next_id}
-use Rattle.homa_plain.specs.View.{View, Sent, has_last, at_start}
-use Rattle.homa_plain.specs.Seen.{seen, seen_all}
-use Rattle.homa_plain.specs.Laws.{Holds}
+use Rattle.trace_rules.specs.View.{View, Sent, has_last, at_start}
+use Rattle.trace_rules.specs.Seen.{seen, seen_all}
+use Rattle.trace_rules.specs.Laws.{Holds}
 use Rattle.homa_plain.specs.World.{World, SentPacket, After, Done, outcome, host_at, next_answer, new_world}
 use Rattle.homa_plain.proofs.CallOrder.{call_total, call_same, calls_are}
-use Rattle.trace_lines.specs.Told.{IsTold, sent_of}
-use Rattle.trace_lines.proofs.Progress.{IsLevel}
-use Rattle.trace_induction.specs.Always.{HoldsAlways, IsSoAtFirst, KeptByEvent}
-use Rattle.trace_induction.specs.Stands.{is_old, at_host, stand}
-use Rattle.trace_induction.proofs.Hosts.{within, some_is, none_some}
-use Rattle.trace_induction.proofs.ToldMoves.{each_set}
-use Rattle.trace_induction.proofs.ToldSteps.{set_same}
-use Rattle.trace_induction.proofs.Events.{call_done, deliver_done, inject_done, turn_done, restart_done, shift_done, clock_done}
-use Rattle.trace_induction.proofs.Always.{always, told_first, IsNew, hosts_new}
-use Rattle.trace_lifetime.specs.Kept.{PacketFits, IsKept}
+use Rattle.trace_steps.specs.Told.{IsTold, sent_of}
+use Rattle.trace_steps.proofs.Progress.{IsLevel}
+use Rattle.trace_steps.specs.Always.{HoldsAlways, IsSoAtFirst, KeptByEvent}
+use Rattle.trace_steps.specs.Stands.{is_old, stand}
+use Rattle.step_moves.specs.Worlds.{at_host}
+use Rattle.step_moves.proofs.Hosts.{within, some_is, none_some}
+use Rattle.trace_steps.proofs.ToldMoves.{each_set}
+use Rattle.trace_steps.proofs.ToldSteps.{set_same}
+use Rattle.trace_steps.proofs.Events.{call_done, deliver_done, inject_done, turn_done, restart_done, shift_done, clock_done}
+use Rattle.trace_steps.proofs.Always.{always, told_first}
+use Rattle.step_moves.proofs.Names.{IsNew, hosts_new}
+use Rattle.trace_once.specs.Kept.{PacketFits, IsKept}
 use Rattle.trace_once.proofs.Called.{next_unused}
 use Rattle.trace_once.proofs.Kept.{IsSoFar, event_once}
 use Rattle.trace_once.proofs.Opened.{opened_kept}

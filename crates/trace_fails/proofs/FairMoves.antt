@@ -26,26 +26,26 @@ use Rattle.homa_plain.specs.Timers.{Place, OfClient, OfServer, resend_of, client
 use Rattle.homa_plain.specs.Sending.{client_granted, server_granted, client_sends, state_sends, slice, response_content}
 use Rattle.homa_plain.specs.Steps.{Work, now_of, moment, asked, bare, packet_from, client_acted, server_acted, acts_at, acts, client_is_granted}
 use Rattle.homa_plain.specs.Steps.{server_is_granted, request_leaves, response_leaves, oldest, ended}
-use Rattle.homa_plain.specs.View.{View, Called, own_tick, has_last, sent_last, resends_of}
-use Rattle.homa_plain.specs.Seen.{seen}
-use Rattle.homa_plain.specs.Laws.{AreSpaced, IsUnanswered}
+use Rattle.trace_rules.specs.View.{View, Called, own_tick, has_last, sent_last, resends_of}
+use Rattle.trace_rules.specs.Seen.{seen}
+use Rattle.trace_rules.specs.Laws.{AreSpaced, IsUnanswered}
 use Rattle.homa_plain.specs.World.{World}
 use Rattle.homa_plain.proofs.CallOrder.{calls_are}
 use Rattle.homa_plain.proofs.OutgoingLaws.{sound-next, front-next_range}
-use Rattle.trace_lines.specs.Told.{sent_of}
-use Rattle.trace_lines.proofs.Lines.{told_same}
-use Rattle.trace_moves.proofs.Own.{server_acts_served}
-use Rattle.trace_moves.proofs.AskedMove.{asked-move}
-use Rattle.trace_moves.proofs.SendMoves.{server_grant, server_granted-move, client_grant, client_granted-move, response_piece, response_leaves-move}
-use Rattle.trace_moves.proofs.SendMoves.{request_piece, request_leaves-move}
-use Rattle.trace_lines.proofs.Progress.{told_live}
-use Rattle.trace_lines.proofs.Ticks.{asks, any_last, told_sent_last, resend_ticks, piece_ticks}
-use Rattle.trace_induction.specs.Stands.{said_so_far}
-use Rattle.trace_induction.specs.Contents.{called_by}
-use Rattle.trace_induction.proofs.Hosts.{some_is, none_some}
-use Rattle.trace_induction.proofs.Frame.{next_number}
-use Rattle.trace_induction.proofs.Chosen.{IsTimerAt}
-use Rattle.trace_induction.proofs.Folds.{turn_kept, ended_kept, GrantKeeps, PieceKeeps}
+use Rattle.trace_steps.specs.Told.{sent_of}
+use Rattle.trace_steps.proofs.Lines.{told_same}
+use Rattle.step_laws.proofs.Own.{server_acts_served}
+use Rattle.step_moves.proofs.AskedMove.{asked-move}
+use Rattle.step_moves.proofs.SendMoves.{server_grant, server_granted-move, client_grant, client_granted-move, response_piece, response_leaves-move}
+use Rattle.step_moves.proofs.SendMoves.{request_piece, request_leaves-move}
+use Rattle.trace_steps.proofs.Progress.{told_live}
+use Rattle.trace_steps.proofs.Ticks.{asks, any_last, told_sent_last, resend_ticks, piece_ticks}
+use Rattle.trace_steps.specs.Stands.{said_so_far}
+use Rattle.trace_steps.specs.Contents.{called_by}
+use Rattle.step_moves.proofs.Hosts.{some_is, none_some}
+use Rattle.trace_steps.proofs.Frame.{next_number}
+use Rattle.step_moves.proofs.Chosen.{IsTimerAt}
+use Rattle.step_moves.proofs.Folds.{turn_kept, ended_kept, GrantKeeps, PieceKeeps}
 use Rattle.trace_fails.specs.Timeouts.{IsFairRow, IsLiveRow}
 use Rattle.trace_fails.proofs.FairRows.{fair_asks, fair_fails, fair_granted, asks_one}
 use Rattle.trace_fails.proofs.Silent.{IsSilent, silent_row}

@@ -9,11 +9,11 @@ use Rattle.homa_plain.specs.declared.settings.Settings.{Settings}
 use Rattle.homa_plain.specs.Incoming.{Incoming, first_gap}
 use Rattle.homa_plain.specs.Rows.{ClientRow}
 use Rattle.homa_plain.specs.AtClient.{renewed, refreshed}
-use Rattle.homa_plain.specs.Seen.{is_unknown}
+use Rattle.trace_rules.specs.Seen.{is_unknown}
 use Rattle.homa_plain.specs.Timers.{wanted, unless, is_client_at_rest, is_response_at_rest, client_deadline}
 use Rattle.homa_plain.specs.Sending.{client_granted}
-use Rattle.homa_plain.specs.Laws.{AreSpaced}
-use Rattle.trace_induction.proofs.Hosts.{none_some, some_is}
+use Rattle.trace_rules.specs.Laws.{AreSpaced}
+use Rattle.step_moves.proofs.Hosts.{none_some, some_is}
 use Rattle.trace_fails.specs.Timeouts.{IsFairRow}
 
 -- the same timer, and as much sent

@@ -23,21 +23,21 @@ use Rattle.homa_plain.specs.AtClient.{client_gets, answered, unasked, renewed, r
 use Rattle.homa_plain.specs.AtServer.{server_gets, server_acked}
 use Rattle.homa_plain.specs.Steps.{Work, moment, asked, hears_cutoffs, comes_to_row, acked, takes, comes}
 use Rattle.homa_plain.specs.Wire.{is_server}
-use Rattle.homa_plain.specs.Seen as lines
-use Rattle.homa_plain.specs.View.{View, has_last, Called, Sent, own_tick, sent_last, resends_of, is_server_of}
-use Rattle.homa_plain.specs.Seen.{seen, seen_all, is_unknown}
+use Rattle.trace_rules.specs.Seen as lines
+use Rattle.trace_rules.specs.View.{View, has_last, Called, Sent, own_tick, sent_last, resends_of, is_server_of}
+use Rattle.trace_rules.specs.Seen.{seen, seen_all, is_unknown}
 use Rattle.homa_plain.specs.World.{World, host_at}
 use Rattle.homa_plain.proofs.CallOrder.{calls_are, hosts_are}
-use Rattle.trace_lines.specs.Told.{sent_of}
-use Rattle.trace_moves.proofs.Own.{AllOwn, gets_served, acked_served, gets_quiet}
-use Rattle.trace_moves.proofs.SendMoves.{says-move, hears-move}
-use Rattle.trace_lines.proofs.Progress.{get-set, IsLevel}
-use Rattle.trace_lines.proofs.Deliveries.{deliver_live, deliver_resends, counts_now, uncounted, counted_live, counted_resends, deliver_aside}
-use Rattle.trace_induction.specs.Contents.{called_by}
-use Rattle.trace_induction.proofs.Hosts.{within, none_some}
-use Rattle.trace_induction.proofs.ToldMoves.{each_set}
-use Rattle.trace_induction.proofs.ToldSteps.{deliver_same, set_same}
-use Rattle.trace_induction.proofs.Folds.{acked_kept}
+use Rattle.trace_steps.specs.Told.{sent_of}
+use Rattle.step_laws.proofs.Own.{AllOwn, gets_served, acked_served, gets_quiet}
+use Rattle.step_moves.proofs.SendMoves.{says-move, hears-move}
+use Rattle.trace_steps.proofs.Progress.{get-set, IsLevel}
+use Rattle.trace_steps.proofs.Deliveries.{deliver_live, deliver_resends, counts_now, uncounted, counted_live, counted_resends, deliver_aside}
+use Rattle.trace_steps.specs.Contents.{called_by}
+use Rattle.step_moves.proofs.Hosts.{within, none_some}
+use Rattle.trace_steps.proofs.ToldMoves.{each_set}
+use Rattle.trace_steps.proofs.ToldSteps.{deliver_same, set_same}
+use Rattle.step_moves.proofs.Folds.{acked_kept}
 use Rattle.trace_fails.specs.Timeouts.{IsFairRow, IsLiveRow}
 use Rattle.trace_fails.proofs.FairRows.{fair_same, fair_heard}
 use Rattle.trace_fails.proofs.ClientSays.{IsSameRow, IsAnswered, answered_is, unasked_bare, kept_is}

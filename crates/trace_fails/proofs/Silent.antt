@@ -21,18 +21,19 @@ use Rattle.homa_plain.specs.Rows.{ClientRow, ServerRow}
 use Rattle.homa_plain.specs.Host.{Host, Told, Says, Sends, packets_in, entries_from, Tuned, tuned, is_balance_due, counted, finished_at}
 use Rattle.homa_plain.specs.Rules.{Say, Tells, Posts, Did}
 use Rattle.homa_plain.specs.Steps.{Work, said}
-use Rattle.homa_plain.specs.View.{View, Called, Sent, has_last, sent_last, resends_of}
-use Rattle.homa_plain.specs.Seen.{seen, seen_all}
-use Rattle.homa_plain.specs.Laws.{Holds}
+use Rattle.trace_rules.specs.View.{View, Called, Sent, has_last, sent_last, resends_of}
+use Rattle.trace_rules.specs.Seen.{seen, seen_all}
+use Rattle.trace_rules.specs.Laws.{Holds}
 use Rattle.homa_plain.proofs.CallOrder.{calls_are}
 use Rattle.step_laws.proofs.Places.{all-append}
-use Rattle.trace_lines.specs.Told.{sent_of}
-use Rattle.trace_lines.proofs.Lines.{AllInner, told_same}
-use Rattle.trace_moves.proofs.Own.{IsOwn, AllOwn, IsServed, AllServed}
-use Rattle.trace_moves.proofs.Moves.{IsFrom, notes_told, reply_told, acknowledged_told, finishes_told, served_put, served_noted, served_told, served_packets}
-use Rattle.trace_moves.proofs.AskedMove.{asked_put, asked_noted, asked_said, asked_told, asked_packets}
-use Rattle.trace_lines.proofs.Progress.{IsLevel, IsUnstale, AllUnstale, is_end, ends_told, ends-append, told_live}
-use Rattle.trace_lines.proofs.Ticks.{asks, is_asking, NoneAsks, told_ticks, any_last, told_sent_last}
+use Rattle.trace_steps.specs.Told.{sent_of}
+use Rattle.trace_steps.proofs.Lines.{told_same}
+use Rattle.step_moves.proofs.Inner.{AllInner}
+use Rattle.step_laws.proofs.Own.{IsOwn, AllOwn, IsServed, AllServed}
+use Rattle.step_moves.proofs.Moves.{IsFrom, notes_told, reply_told, acknowledged_told, finishes_told, served_put, served_noted, served_told, served_packets}
+use Rattle.step_moves.proofs.AskedMove.{asked_put, asked_noted, asked_said, asked_told, asked_packets}
+use Rattle.trace_steps.proofs.Progress.{IsLevel, IsUnstale, AllUnstale, is_end, ends_told, ends-append, told_live}
+use Rattle.trace_steps.proofs.Ticks.{asks, is_asking, NoneAsks, told_ticks, any_last, told_sent_last}
 use Rattle.trace_fails.specs.Timeouts.{TimesOut, IsFairRow, IsLiveRow}
 use Rattle.trace_fails.proofs.ClientSays.{IsBare, AllBare, NoTimeouts, ends_said}
 

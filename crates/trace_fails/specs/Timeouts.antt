@@ -10,10 +10,10 @@ use Rattle.homa_plain.specs.Outgoing as outgoing
 use Rattle.homa_plain.specs.Rows.{ClientRow}
 use Rattle.homa_plain.specs.Host.{Host}
 use Rattle.homa_plain.specs.World.{World, host_at}
-use Rattle.homa_plain.specs.View.{View, sent_last, resends_of}
-use Rattle.homa_plain.specs.Laws.{AreSpaced, IsUnanswered}
-use Rattle.trace_lines.specs.Level.{IsLevel}
-use Rattle.trace_induction.specs.Contents.{called_by}
+use Rattle.trace_rules.specs.View.{View, sent_last, resends_of}
+use Rattle.trace_rules.specs.Laws.{AreSpaced, IsUnanswered}
+use Rattle.trace_steps.specs.Level.{IsLevel}
+use Rattle.trace_steps.specs.Contents.{called_by}
 
 -- the first half of fails: a call times out only when it is unanswered
 abbrev pub TimesOut : View → PlainEntry → Type 0

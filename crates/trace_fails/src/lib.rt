@@ -6,7 +6,7 @@
 //! Main promise: `timeouts_are_unanswered`, the first half of fails.
 #![tactic(auto)]
 
-ghost use Rattle.trace_induction.specs.Always.{HoldsAlways};
+ghost use Rattle.trace_steps.specs.Always.{HoldsAlways};
 ghost use Rattle.trace_fails.specs.Timeouts.{TimesOut};
 
 /// A call times out only after `tries` RESENDs since its last renewal, each at least `resend` ticks after the one before,

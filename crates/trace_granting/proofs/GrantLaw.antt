@@ -14,35 +14,36 @@ use Rattle.homa_plain.specs.declared.settings.Settings.{Settings}
 use Rattle.homa_plain.specs.Calls.{is_host, call_cmp}
 use Rattle.homa_plain.specs.Entries.{PlainEntry, PlainSettings, PlainDeliver, PlainClock, PlainRestart, PlainInject, PlainShift, PlainFinished}
 use Rattle.homa_plain.specs.Entries.{PlainRefused, PlainStalled}
-use Rattle.homa_plain.specs.Lines.{is_last}
+use Rattle.trace_rules.specs.Lines.{is_last}
 use Rattle.homa_plain.specs.Packets.{receiver}
-use Rattle.homa_plain.specs.Parts.{Part}
+use Rattle.trace_rules.specs.Parts.{Part}
 use Rattle.homa_plain.specs.Rules.{Answer}
 use Rattle.homa_plain.specs.Host.{Host, new_host}
 use Rattle.homa_plain.specs.Timers.{Place, OfClient, OfServer}
 use Rattle.homa_plain.specs.Steps.{Work}
-use Rattle.homa_plain.specs.View.{View, at_start, is_server_of}
-use Rattle.homa_plain.specs.Seen.{seen, seen_all}
-use Rattle.homa_plain.specs.Laws.{Holds}
-use Rattle.homa_plain.specs.Granting.{IsWithin, Granting}
+use Rattle.trace_rules.specs.View.{View, at_start, is_server_of}
+use Rattle.trace_rules.specs.Seen.{seen, seen_all}
+use Rattle.trace_rules.specs.Laws.{Holds}
+use Rattle.trace_rules.specs.Granting.{IsWithin, Granting}
 use Rattle.homa_plain.specs.Wire.{packet_in}
 use Rattle.homa_plain.specs.World.{World, After, Done, outcome, host_at, next_answer, new_world}
 use Rattle.homa_plain.proofs.CallOrder.{hosts_are}
 use Rattle.step_laws.proofs.OwnOrders.{new-own}
 use Rattle.step_laws.specs.StepLaws.{HasOwnOrders, response_order, request_order}
-use Rattle.trace_induction.specs.Always.{KeptByEvent, HoldsAlways}
-use Rattle.trace_induction.proofs.Always.{always, hosts_new}
-use Rattle.trace_induction.proofs.Hosts.{some_is, none_some, within, there, elsewhere}
-use Rattle.trace_induction.proofs.Events.{after_step, call_done, deliver_done, inject_done, turn_done, restart_done, shift_done, clock_done}
-use Rattle.trace_induction.proofs.ToldSteps.{told_view, inject_same}
-use Rattle.trace_induction.specs.Stands.{said_so_far, stand}
+use Rattle.trace_steps.specs.Always.{KeptByEvent, HoldsAlways}
+use Rattle.trace_steps.proofs.Always.{always}
+use Rattle.step_moves.proofs.Names.{hosts_new}
+use Rattle.step_moves.proofs.Hosts.{some_is, none_some, within, there, elsewhere}
+use Rattle.trace_steps.proofs.Events.{after_step, call_done, deliver_done, inject_done, turn_done, restart_done, shift_done, clock_done}
+use Rattle.trace_steps.proofs.ToldSteps.{told_view, inject_same}
+use Rattle.trace_steps.specs.Stands.{said_so_far, stand}
 use Rattle.trace_once.proofs.Restarted.{inject_calls, inject_line, still_stand}
 use Rattle.trace_returned.proofs.Beginning.{AreServed, inject_fresh, line_true}
 use Rattle.trace_returned.proofs.Restart.{get-kept}
 use Rattle.trace_returned.proofs.Laws.{IsSoFar, event_says, so_later, opened_so, some_within}
-use Rattle.trace_grants.proofs.Messages.{part_in}
-use Rattle.trace_grants.proofs.Window.{PartsWithin, IsBoundedAt, parts_within, deliver_within, inject_within}
-use Rattle.trace_message_order.proofs.Ages.{number, IsInOrder}
+use Rattle.trace_granting.proofs.Messages.{part_in}
+use Rattle.trace_granting.proofs.Window.{PartsWithin, IsBoundedAt, parts_within, deliver_within, inject_within}
+use Rattle.trace_granting.proofs.Ages.{number, IsInOrder}
 use Rattle.trace_granting.proofs.GrantSteps.{HasGrants, StepGrants, call_grants, turn_grants, junk_grants, packet_grants}
 
 -- ---- hosts

@@ -13,42 +13,43 @@ use Rattle.homa_plain.specs.declared.packet.Role.TheVariants.{Client, Server}
 use Rattle.homa_plain.specs.declared.settings.Settings.{Settings}
 use Rattle.homa_plain.specs.Entries.{PlainCall, PlainDeliver, PlainJunk, PlainStale}
 use Rattle.homa_plain.specs.Packets.{Packet, sender, receiver, receiver_of, acks}
-use Rattle.homa_plain.specs.Parts.{Part}
+use Rattle.trace_rules.specs.Parts.{Part}
 use Rattle.homa_plain.specs.Host.{Host, Says}
 use Rattle.homa_plain.specs.Rules.{Answer}
 use Rattle.homa_plain.specs.Timers.{Place, OfClient, OfServer}
 use Rattle.homa_plain.specs.Steps.{Work, begun, now_of, tells, starts, next_id, new_call, comes, takes, is_stale, hears_cutoffs, comes_to_row, acts}
 use Rattle.homa_plain.specs.Steps.{refilled, ended, call_step, arrival_step, turn_step}
-use Rattle.homa_plain.specs.View.{View, Sent, Progress}
-use Rattle.homa_plain.specs.Seen.{seen}
+use Rattle.trace_rules.specs.View.{View, Sent, Progress}
+use Rattle.trace_rules.specs.Seen.{seen}
 use Rattle.homa_plain.specs.World.{World, SentPacket, host_at, own_clock, is_late}
-use Rattle.trace_lines.specs.Told.{IsTold, IsDated, sent_of}
-use Rattle.trace_lines.proofs.Deliveries.{stale_now}
-use Rattle.trace_moves.proofs.SendMoves.{says-move}
+use Rattle.trace_steps.specs.Told.{IsTold, sent_of}
+use Rattle.step_moves.specs.Worlds.{IsDated}
+use Rattle.trace_steps.proofs.Deliveries.{stale_now}
+use Rattle.step_moves.proofs.SendMoves.{says-move}
 use Rattle.step_laws.specs.StepLaws.{HasOwnOrders}
 use Rattle.step_laws.proofs.ToldBy.{hears_cutoffs-calm, hears_cutoffs-rows}
 use Rattle.step_laws.proofs.OwnOrders.{Own, own-beside, row-own, acked-own, acts_at-own, starts-own, begun-own, refilled-own, call-own, arrival-own, turn-own}
-use Rattle.trace_induction.specs.Stands.{stand, put, said_so_far, amid}
-use Rattle.trace_induction.proofs.Hosts.{some_is, none_some, within}
-use Rattle.trace_induction.proofs.Timed.{resend_of, timed, fresh}
-use Rattle.trace_induction.proofs.Folds.{turn_kept}
-use Rattle.trace_induction.proofs.ToldMoves.{own_set}
-use Rattle.trace_lifetime.specs.Lifetime.{IsMadeTo}
-use Rattle.trace_lifetime.specs.Kept.{PacketFits, IsKept}
+use Rattle.trace_steps.specs.Stands.{stand, put, said_so_far, amid}
+use Rattle.step_moves.proofs.Hosts.{some_is, none_some, within}
+use Rattle.step_moves.proofs.Timed.{resend_of, timed, fresh}
+use Rattle.step_moves.proofs.Folds.{turn_kept}
+use Rattle.step_moves.proofs.Names.{own_set}
+use Rattle.trace_once.specs.Lifetime.{IsMadeTo}
+use Rattle.trace_once.specs.Kept.{PacketFits, IsKept}
 use Rattle.trace_once.proofs.Begun.{Begins}
 use Rattle.trace_once.proofs.Kept.{all_get}
-use Rattle.trace_messages.specs.Tales.{IsTruthful, IsTrue}
+use Rattle.trace_returned.specs.Tales.{IsTruthful, IsTrue}
 use Rattle.trace_returned.proofs.Saying.{IsSaying}
 use Rattle.trace_returned.proofs.Stepping.{junk_saying, turn_saying, packet_saying}
 use Rattle.trace_returned.proofs.Beginning.{AreServed, begun_saying, begun_before, started_saying}
-use Rattle.trace_grants.proofs.Messages.{part_in}
-use Rattle.trace_grants.proofs.Window.{PartsWithin, AllWithin, NowWithin, deliver_within}
-use Rattle.trace_grants.proofs.StepLines.{early_lawful, early_comes, early_begun, early_started, late_begun, late_acts}
-use Rattle.trace_grants.proofs.GrantFold.{IsLawful}
-use Rattle.trace_message_order.proofs.Each.{numbers_same, set_client, call_each, place_grows, now_beside, now_acts}
-use Rattle.trace_message_order.proofs.Ages.{IsInOrder, number_none, part_none, part_raises}
-use Rattle.trace_message_order.proofs.Aged.{IsAged, IsSet, OldNumber, OldPart, IsOld, old_number, old_part, old_aged, Ends, step_ends}
-use Rattle.trace_message_order.proofs.Taken.{server_aged, client_aged}
+use Rattle.trace_granting.proofs.Messages.{part_in}
+use Rattle.trace_granting.proofs.Window.{PartsWithin, AllWithin, NowWithin, deliver_within}
+use Rattle.trace_granting.proofs.StepLines.{early_lawful, early_comes, early_begun, early_started, late_begun, late_acts}
+use Rattle.trace_granting.proofs.GrantFold.{IsLawful}
+use Rattle.trace_granting.proofs.Each.{numbers_same, set_client, call_each, place_grows, now_beside, now_acts}
+use Rattle.trace_granting.proofs.Ages.{IsInOrder, number_none, part_none, part_raises}
+use Rattle.trace_granting.proofs.Aged.{IsAged, IsSet, OldNumber, OldPart, IsOld, old_number, old_part, old_aged, Ends, step_ends}
+use Rattle.trace_granting.proofs.Taken.{server_aged, client_aged}
 
 -- what is so between two events: windows, and one order of the messages
 pub record HasGrants (s : Settings) (w : World) (v : View) : Type 0 where

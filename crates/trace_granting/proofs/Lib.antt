@@ -1,2 +1,17 @@
 pub mod GrantSteps
 pub mod GrantLaw
+pub mod Alike
+pub mod Messages
+pub mod Allowed
+pub mod Window
+pub mod GrantLines
+pub mod GrantFold
+pub mod RuleSays
+pub mod StepLines
+pub mod Ready
+pub mod Each
+pub mod Ages
+pub mod NewNumbers
+pub mod Delivered
+pub mod Aged
+pub mod Taken

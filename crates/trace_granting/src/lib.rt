@@ -7,8 +7,8 @@
 //! Main promise: `grants_are_allowed`.
 #![tactic(auto)]
 
-ghost use Rattle.trace_induction.specs.Always.{HoldsAlways};
-ghost use Rattle.homa_plain.specs.Granting.{Granting};
+ghost use Rattle.trace_steps.specs.Always.{HoldsAlways};
+ghost use Rattle.trace_rules.specs.Granting.{Granting};
 
 /// Each GRANT is to a chosen message, with its new end, which exceeds its granted end; and with each line no incoming
 /// message is granted more than a window beyond as many bytes as have arrived of it. It is so of every trace of the

@@ -2,13 +2,13 @@
 use Rattle.std.proofs.Common.{List, [], ◌∷◌, ◌++◌}
 use Rattle.homa_plain.specs.declared.entry.Why.TheVariants.{Timeout, Forgotten}
 use Rattle.homa_plain.specs.Entries.{PlainEntry, PlainFail}
-use Rattle.homa_plain.specs.View.{View, at_start}
-use Rattle.homa_plain.specs.Seen.{seen}
-use Rattle.homa_plain.specs.Shape.{Shape}
-use Rattle.homa_plain.specs.Laws.{Holds, Once, Returned, HandedUp, Fails}
-use Rattle.homa_plain.specs.Granting.{Granting}
-use Rattle.homa_plain.specs.Judge.{Obeys}
-use Rattle.trace_induction.specs.Always.{trace, HoldsAlways}
+use Rattle.trace_rules.specs.View.{View, at_start}
+use Rattle.trace_rules.specs.Seen.{seen}
+use Rattle.trace_rules.specs.Shape.{Shape}
+use Rattle.trace_rules.specs.Laws.{Holds, Once, Returned, HandedUp, Fails}
+use Rattle.trace_rules.specs.Granting.{Granting}
+use Rattle.trace_rules.specs.Judge.{Obeys}
+use Rattle.trace_steps.specs.Always.{trace, HoldsAlways}
 use Rattle.trace_fails.specs.Timeouts.{TimesOut}
 use Rattle.trace_fails.proofs.FairLaw.{timeouts_always}
 use Rattle.trace_granting.proofs.GrantLaw.{granting_always}

@@ -1,3 +1,8 @@
+pub mod Traces
+pub mod Causes
+pub mod Openings
+pub mod Obeyed
+pub mod Worked
 pub mod ShapedLines
 pub mod ShapedSteps
 pub mod ShapedLaw

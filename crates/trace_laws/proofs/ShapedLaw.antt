@@ -11,27 +11,29 @@ use Rattle.homa_plain.specs.declared.event.Event.TheVariants as event
 use Rattle.homa_plain.specs.declared.settings.Settings.{Settings}
 use Rattle.homa_plain.specs.Entries.{PlainEntry, PlainSettings, PlainCall, PlainDeliver, PlainClock, PlainRestart, PlainInject, PlainShift}
 use Rattle.homa_plain.specs.Entries.{PlainFinished, PlainRefused, PlainStalled}
-use Rattle.homa_plain.specs.Lines.{is_last}
+use Rattle.trace_rules.specs.Lines.{is_last}
 use Rattle.homa_plain.specs.Packets.{receiver}
 use Rattle.homa_plain.specs.Host.{Host, new_host, entries_from}
 use Rattle.homa_plain.specs.Rules.{Answer}
 use Rattle.homa_plain.specs.Steps.{Work, begun, starts, next_id, start_fault, comes, acts, refilled, ended, call_step, arrival_step, turn_step}
 use Rattle.homa_plain.specs.Wire.{packet_in}
-use Rattle.homa_plain.specs.View.{View, Called, at_start}
-use Rattle.homa_plain.specs.Seen.{seen, seen_all}
-use Rattle.homa_plain.specs.Shape.{IsBehind, IsNewCall, Shape}
-use Rattle.homa_plain.specs.Laws.{Holds}
+use Rattle.trace_rules.specs.View.{View, Called, at_start}
+use Rattle.trace_rules.specs.Seen.{seen, seen_all}
+use Rattle.trace_rules.specs.Shape.{IsBehind, IsNewCall, Shape}
+use Rattle.trace_rules.specs.Laws.{Holds}
 use Rattle.homa_plain.specs.World.{World, SentPacket, After, Done, outcome, host_at, own_clock, next_answer, is_late, new_world}
-use Rattle.trace_lines.specs.Told.{IsTold, IsDated, IsTimed}
-use Rattle.trace_induction.specs.Stands.{amid}
-use Rattle.trace_induction.specs.Always.{trace, KeptByEvent, HoldsAlways}
-use Rattle.trace_induction.proofs.Always.{always, told_first, length-new}
-use Rattle.trace_induction.proofs.Hosts.{within, length-set, apart}
-use Rattle.trace_induction.proofs.Timed.{seg_of, resend_of, timed, fresh}
-use Rattle.trace_induction.proofs.Events.{after_step, call_done, deliver_done, inject_done, turn_done, restart_done, shift_done, clock_done}
-use Rattle.trace_induction.proofs.ToldEvents as told_events
-use Rattle.trace_induction.proofs.ToldSteps.{told_view, inject_same, deliver_same}
-use Rattle.trace_lifetime.specs.Kept.{PacketFits, IsKept}
+use Rattle.trace_steps.specs.Told.{IsTold}
+use Rattle.step_moves.specs.Worlds.{IsTimed, IsDated}
+use Rattle.trace_steps.specs.Stands.{amid}
+use Rattle.trace_steps.specs.Always.{trace, KeptByEvent, HoldsAlways}
+use Rattle.trace_steps.proofs.Always.{always, told_first}
+use Rattle.step_moves.proofs.Names.{length-new}
+use Rattle.step_moves.proofs.Hosts.{within, length-set, apart}
+use Rattle.step_moves.proofs.Timed.{seg_of, resend_of, timed, fresh}
+use Rattle.trace_steps.proofs.Events.{after_step, call_done, deliver_done, inject_done, turn_done, restart_done, shift_done, clock_done}
+use Rattle.trace_steps.proofs.ToldEvents as told_events
+use Rattle.trace_steps.proofs.ToldSteps.{told_view, inject_same, deliver_same}
+use Rattle.trace_once.specs.Kept.{PacketFits, IsKept}
 use Rattle.trace_once.proofs.Begun.{Begins, begins_filled, begun_amid}
 use Rattle.trace_once.proofs.Called.{unused, started_amid}
 use Rattle.trace_once.proofs.Kept.{all_get, event_keeps}

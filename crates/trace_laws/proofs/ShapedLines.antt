@@ -15,20 +15,21 @@ use Rattle.homa_plain.specs.declared.settings.Settings.{Settings}
 use Rattle.homa_plain.specs.Calls.{is_host, call_cmp}
 use Rattle.homa_plain.specs.Entries.{PlainEntry, PlainSettings, PlainCall, PlainDeliver, PlainSend, PlainRefused, PlainFinished, PlainStalled}
 use Rattle.homa_plain.specs.Entries.{PlainRun, PlainDone, PlainFail, PlainDrop, PlainGaps, PlainBury, PlainFree, PlainFullRows, PlainFullPages}
-use Rattle.homa_plain.specs.Lines.{is_last, named}
+use Rattle.trace_rules.specs.Lines.{is_last, named}
 use Rattle.homa_plain.specs.Packets.{Packet, send_line}
 use Rattle.homa_plain.specs.Host.{Host, Told, Says, Sends, packets_in, entries_from, Tuned, tuned, is_balance_due, counted, finished_at}
 use Rattle.homa_plain.specs.Rules.{Say, Tells, Posts}
 use Rattle.homa_plain.specs.Steps.{Work, said, start_fault}
-use Rattle.homa_plain.specs.View.{View, Called}
-use Rattle.homa_plain.specs.Seen.{seen, seen_all}
-use Rattle.homa_plain.specs.Shape.{IsBehind, IsMade, Shape}
-use Rattle.homa_plain.specs.Laws.{Holds}
-use Rattle.trace_induction.proofs.Hosts.{none_some}
-use Rattle.trace_lines.specs.Told.{sent_of}
-use Rattle.trace_lines.proofs.Lines.{IsInner, IsSaid, said_inner, AllInner, inner_same, told_packets, said_packets}
-use Rattle.trace_moves.proofs.Own.{IsOwn, AllOwn}
-use Rattle.trace_moves.proofs.Moves.{notes_told, reply_told, acknowledged_told, finishes_told}
+use Rattle.trace_rules.specs.View.{View, Called}
+use Rattle.trace_rules.specs.Seen.{seen, seen_all}
+use Rattle.trace_rules.specs.Shape.{IsBehind, IsMade, Shape}
+use Rattle.trace_rules.specs.Laws.{Holds}
+use Rattle.step_moves.proofs.Hosts.{none_some}
+use Rattle.trace_steps.specs.Told.{sent_of}
+use Rattle.trace_steps.proofs.Lines.{inner_same, told_packets, said_packets}
+use Rattle.step_moves.proofs.Inner.{said_inner, AllInner, IsSaid, IsInner}
+use Rattle.step_laws.proofs.Own.{IsOwn, AllOwn}
+use Rattle.step_moves.proofs.Moves.{notes_told, reply_told, acknowledged_told, finishes_told}
 
 -- ---- behind a line
 

@@ -10,7 +10,7 @@ use Rattle.homa_plain.specs.declared.packet.Role.{Role}
 use Rattle.homa_plain.specs.declared.packet.Role.TheVariants.{Client, Server}
 use Rattle.homa_plain.specs.declared.settings.Settings.{Settings}
 use Rattle.homa_plain.specs.Entries.{PlainEntry, PlainJunk, PlainStale}
-use Rattle.homa_plain.specs.Lines.{named}
+use Rattle.trace_rules.specs.Lines.{named}
 use Rattle.homa_plain.specs.Packets.{Packet, sender, receiver, receiver_of, acks}
 use Rattle.homa_plain.specs.Rows.{ClientRow, ServerRow, RowsOf, set_row}
 use Rattle.homa_plain.specs.Host.{Told, Says, packets_in, entries_from, peer_cutoffs}
@@ -20,26 +20,27 @@ use Rattle.homa_plain.specs.Sending.{response_content}
 use Rattle.homa_plain.specs.Timers.{Place, OfClient, OfServer, server_deadline, state_deadline, client_acts, server_acts}
 use Rattle.homa_plain.specs.Steps.{Work, now_of, tells, moment, served, asked, said, hears_cutoffs, comes_to_row, acked, takes, is_stale, comes}
 use Rattle.homa_plain.specs.Steps.{client_acted, server_acted, acts_at, acts, ended}
-use Rattle.homa_plain.specs.View.{View}
-use Rattle.homa_plain.specs.Laws.{Holds}
-use Rattle.homa_plain.specs.Shape.{IsBehind, IsMade, Shape}
+use Rattle.trace_rules.specs.View.{View}
+use Rattle.trace_rules.specs.Laws.{Holds}
+use Rattle.trace_rules.specs.Shape.{IsBehind, IsMade, Shape}
 use Rattle.homa_plain.specs.World.{World, SentPacket, stamped}
-use Rattle.trace_lines.specs.Told.{IsTold, sent_of}
-use Rattle.trace_lines.proofs.Lines.{IsSaid, entries_from-append, holds-append}
-use Rattle.trace_lines.proofs.Runs.{runs_told}
-use Rattle.trace_moves.proofs.Own.{AllOwn, acked_own, gets_own, gets_quiet, server_acts_own, client_acts_quiet}
-use Rattle.trace_moves.proofs.Moves.{IsMove, notes_told, reply_told, finishes_told, served_put, served_noted, served_told, served-move}
-use Rattle.trace_moves.proofs.AskedMove.{asked_put, asked_noted, asked_said, asked_told, asked-move}
-use Rattle.trace_moves.proofs.SendMoves.{server_granted-move, client_granted-move, response_leaves-move, request_leaves-move, says-move, hears-move}
-use Rattle.trace_induction.specs.Stands.{state_of, put, said_so_far, amid}
-use Rattle.trace_induction.proofs.Chosen.{IsTimerAt}
-use Rattle.trace_induction.proofs.Folds.{turn_kept, ended_kept}
-use Rattle.trace_induction.proofs.Frame.{move_said, move_packets, move_called, server_there, client_there, last_there}
-use Rattle.trace_induction.proofs.ToldMoves.{told_move}
-use Rattle.trace_lifetime.specs.Lifetime.{times, IsMadeTo, IsOver, Fits}
-use Rattle.trace_lifetime.specs.Kept.{PacketFits}
-use Rattle.trace_lifetime.proofs.ServerTimers.{IsNow, server_acts_keeps, server_acked_keeps}
-use Rattle.trace_lifetime.proofs.ClientTimers.{client_made, client_acts_keeps}
+use Rattle.trace_steps.specs.Told.{IsTold, sent_of}
+use Rattle.trace_steps.proofs.Lines.{holds-append}
+use Rattle.step_moves.proofs.Inner.{IsSaid, entries_from-append}
+use Rattle.trace_steps.proofs.Runs.{runs_told}
+use Rattle.step_laws.proofs.Own.{AllOwn, acked_own, gets_own, gets_quiet, server_acts_own, client_acts_quiet}
+use Rattle.step_moves.proofs.Moves.{IsMove, notes_told, reply_told, finishes_told, served_put, served_noted, served_told, served-move}
+use Rattle.step_moves.proofs.AskedMove.{asked_put, asked_noted, asked_said, asked_told, asked-move}
+use Rattle.step_moves.proofs.SendMoves.{server_granted-move, client_granted-move, response_leaves-move, request_leaves-move, says-move, hears-move}
+use Rattle.trace_steps.specs.Stands.{state_of, put, said_so_far, amid}
+use Rattle.step_moves.proofs.Chosen.{IsTimerAt}
+use Rattle.step_moves.proofs.Folds.{turn_kept, ended_kept}
+use Rattle.trace_steps.proofs.Frame.{move_said, move_packets, move_called, server_there, client_there, last_there}
+use Rattle.trace_steps.proofs.ToldMoves.{told_move}
+use Rattle.trace_once.specs.Lifetime.{times, IsMadeTo, IsOver, Fits}
+use Rattle.trace_once.specs.Kept.{PacketFits}
+use Rattle.trace_once.proofs.ServerTimers.{IsNow, server_acts_keeps, server_acked_keeps}
+use Rattle.trace_once.proofs.ClientTimers.{client_made, client_acts_keeps}
 use Rattle.trace_once.proofs.Acks.{client_acts_done, no_acks}
 use Rattle.trace_once.proofs.Amid.{IsAmid, Came}
 use Rattle.trace_once.proofs.Goes.{calls_later, packet_later}

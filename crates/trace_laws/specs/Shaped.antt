@@ -1,14 +1,13 @@
 -- What it is for the shape to hold of every trace.
 use Rattle.std.specs.Prelude.{◌≡◌, ℕ, true, List, [], ◌∷◌, ◌++◌}
 use Rattle.homa_plain.specs.declared.settings.Settings.{Settings}
-use Rattle.homa_plain.specs.Entries.{PlainEntry, PlainRefused}
-use Rattle.homa_plain.specs.Lines.{is_last}
+use Rattle.homa_plain.specs.Entries.{PlainEntry, PlainRefused, IsCause}
+use Rattle.trace_rules.specs.Lines.{is_last}
 use Rattle.homa_plain.specs.Rules.{Answer}
 use Rattle.homa_plain.specs.Replay.{Happening}
-use Rattle.homa_plain.specs.View.{View, at_start}
-use Rattle.homa_plain.specs.Laws.{Holds}
-use Rattle.homa_plain.specs.Shape.{IsCause}
-use Rattle.trace_induction.specs.Always.{IsOpening, trace}
+use Rattle.trace_rules.specs.View.{View, at_start}
+use Rattle.trace_rules.specs.Laws.{Holds}
+use Rattle.trace_steps.specs.Always.{IsOpening, trace}
 
 -- where a line refuses one, it may be refused for this
 abbrev pub HasCause : PlainEntry → Type 0

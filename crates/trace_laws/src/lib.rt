@@ -1,16 +1,21 @@
-//! The laws of every trace of the plain world, joined, and its shape.
+//! The laws of every trace of the plain world, joined, with its shape, and of every replay.
 //!
 //! The model: each law holds of every trace by the crates below (`trace_once`, `trace_returned`, `trace_fails`,
 //! `trace_granting`); here they are put together. The shape is proved here: which lines stand where, how packets are
-//! numbered, and that a line names only calls that were made.
-//! Main promise: `laws_on_every_trace`.
+//! numbered, and that a line names only calls that were made. A schedule that opens a world tells the trace of that world
+//! for the events of its lines, one line behind the other, and ends with a last line.
+//! Main promises: `laws_on_every_trace`; `every_replay_obeys`.
 #![tactic(auto)]
 
-ghost use Rattle.homa_plain.specs.Laws.{Fails};
-ghost use Rattle.homa_plain.specs.Shape.{Shape};
-ghost use Rattle.homa_plain.specs.Judge.{Obeys};
-ghost use Rattle.trace_induction.specs.Always.{HoldsAlways};
+mod replays;
+
+ghost use Rattle.trace_rules.specs.Laws.{Fails};
+ghost use Rattle.trace_rules.specs.Shape.{Shape};
+ghost use Rattle.trace_rules.specs.Judge.{Obeys};
+ghost use Rattle.trace_steps.specs.Always.{HoldsAlways};
 ghost use Rattle.trace_laws.specs.Shaped.{HoldsWithCause};
+
+pub use replays::{every_replay_obeys, replays_are_traces};
 
 /// A call times out only when it is unanswered, and in a closed block exactly the call fails as forgotten of which an
 /// UNKNOWN that counts says so. It is so of every trace of the plain world: for all valid settings, first incarnations of

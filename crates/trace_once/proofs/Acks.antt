@@ -18,10 +18,10 @@ use Rattle.homa_plain.specs.Rules.{Moment, Piece, Did, keeps, opening}
 use Rattle.homa_plain.specs.AtClient.{piece_comes, response_piece, answered, unasked, client_gets, renewed, refreshed}
 use Rattle.homa_plain.specs.Timers.{client_acts}
 use Rattle.homa_plain.specs.Steps.{Work, acknowledged, finishes, asked, oldest}
-use Rattle.trace_induction.specs.Stands.{Stand}
-use Rattle.trace_moves.proofs.AskedMove.{asked_said, said-finished}
-use Rattle.trace_lifetime.specs.Lifetime.{Times, ReplyFits}
-use Rattle.trace_lifetime.specs.Kept.{call_of}
+use Rattle.trace_steps.specs.Stands.{Stand}
+use Rattle.step_moves.proofs.AskedMove.{asked_said, said-finished}
+use Rattle.trace_once.specs.Lifetime.{Times, ReplyFits}
+use Rattle.trace_once.specs.Kept.{call_of}
 
 -- ---- a call that is done has no row
 

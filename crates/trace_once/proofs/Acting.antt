@@ -9,16 +9,16 @@ use Rattle.homa_plain.specs.Rules.{Moment}
 use Rattle.homa_plain.specs.Timers.{Place, OfClient, OfServer, server_deadline, state_deadline, client_acts, server_acts}
 use Rattle.homa_plain.specs.Sending.{response_content}
 use Rattle.homa_plain.specs.Steps.{Work, now_of, moment, client_acted, server_acted, acts_at, acts, ended}
-use Rattle.homa_plain.specs.View.{View}
+use Rattle.trace_rules.specs.View.{View}
 use Rattle.homa_plain.specs.World.{World}
-use Rattle.trace_induction.specs.Stands.{state_of, amid}
-use Rattle.trace_moves.proofs.Own.{server_acts_own, client_acts_quiet}
-use Rattle.trace_induction.proofs.Frame.{server_there, client_there, last_there}
-use Rattle.trace_induction.proofs.Chosen.{IsTimerAt}
-use Rattle.trace_induction.proofs.Folds.{turn_kept, ended_kept}
-use Rattle.trace_lifetime.specs.Lifetime.{times}
-use Rattle.trace_lifetime.proofs.ServerTimers.{IsNow, server_acts_keeps}
-use Rattle.trace_lifetime.proofs.ClientTimers.{client_made, client_acts_keeps}
+use Rattle.trace_steps.specs.Stands.{state_of, amid}
+use Rattle.step_laws.proofs.Own.{server_acts_own, client_acts_quiet}
+use Rattle.trace_steps.proofs.Frame.{server_there, client_there, last_there}
+use Rattle.step_moves.proofs.Chosen.{IsTimerAt}
+use Rattle.step_moves.proofs.Folds.{turn_kept, ended_kept}
+use Rattle.trace_once.specs.Lifetime.{times}
+use Rattle.trace_once.proofs.ServerTimers.{IsNow, server_acts_keeps}
+use Rattle.trace_once.proofs.ClientTimers.{client_made, client_acts_keeps}
 use Rattle.trace_once.proofs.Acks.{client_acts_done}
 use Rattle.trace_once.proofs.Amid.{IsAmid}
 use Rattle.trace_once.proofs.ServedCame.{served_came}

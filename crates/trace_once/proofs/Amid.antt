@@ -10,17 +10,18 @@ use Rattle.homa_plain.specs.Calls.{is_host}
 use Rattle.homa_plain.specs.Rows.{ClientRow, ServerRow, RowsOf}
 use Rattle.homa_plain.specs.Host.{Host, Told, packets_in, entries_from, finished_at}
 use Rattle.homa_plain.specs.Steps.{Work}
-use Rattle.homa_plain.specs.View.{View}
-use Rattle.homa_plain.specs.Laws.{Holds, Once}
+use Rattle.trace_rules.specs.View.{View}
+use Rattle.trace_rules.specs.Laws.{Holds, Once}
 use Rattle.homa_plain.specs.World.{World, stamped}
 use Rattle.homa_plain.proofs.CallOrder.{hosts_are}
 use Rattle.step_laws.proofs.Places.{all-append}
-use Rattle.trace_induction.specs.Stands.{at_host, put, said_so_far, amid}
-use Rattle.trace_moves.proofs.Moves.{IsMove}
-use Rattle.trace_induction.proofs.Hosts.{there, elsewhere, apart}
-use Rattle.trace_induction.proofs.Frame.{next_number, move_packets}
-use Rattle.trace_lifetime.specs.Lifetime.{IsOver}
-use Rattle.trace_lifetime.specs.Kept.{PacketFits, call_of, IsKept}
+use Rattle.trace_steps.specs.Stands.{put, said_so_far, amid}
+use Rattle.step_moves.specs.Worlds.{at_host}
+use Rattle.step_moves.proofs.Moves.{IsMove}
+use Rattle.step_moves.proofs.Hosts.{there, elsewhere, apart}
+use Rattle.trace_steps.proofs.Frame.{next_number, move_packets}
+use Rattle.trace_once.specs.Lifetime.{IsOver}
+use Rattle.trace_once.specs.Kept.{PacketFits, call_of, IsKept}
 use Rattle.trace_once.proofs.OnceLines.{once_append}
 use Rattle.trace_once.proofs.Goes.{AllGo, packets_later, lists_later}
 

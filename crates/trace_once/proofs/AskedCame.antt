@@ -15,22 +15,22 @@ use Rattle.homa_plain.specs.Rows.{ClientRow, set_row}
 use Rattle.homa_plain.specs.Host.{Told, packets_in, finished_at}
 use Rattle.homa_plain.specs.Rules.{Say, Tells, Posts, Did}
 use Rattle.homa_plain.specs.Steps.{Work, said, asked}
-use Rattle.homa_plain.specs.View.{View}
+use Rattle.trace_rules.specs.View.{View}
 use Rattle.homa_plain.specs.World.{World, stamped}
 use Rattle.homa_plain.proofs.CallOrder.{calls_are}
 use Rattle.step_laws.proofs.Places.{all-append}
-use Rattle.trace_induction.specs.Stands.{Stand, with_client, said_so_far, amid}
-use Rattle.trace_moves.proofs.Own.{IsQuiet}
-use Rattle.trace_moves.proofs.Moves.{IsMove, reply_told, acknowledged_told, finishes_told}
-use Rattle.trace_moves.proofs.AskedMove.{asked_noted, asked_said, asked_told, asked_packets, asked-move, said-id, said-finished}
-use Rattle.trace_moves.proofs.OwnRuns.{asked-runs}
-use Rattle.trace_induction.proofs.Frame.{stamped-append, client_stand}
-use Rattle.trace_induction.proofs.ToldMoves.{own_set}
-use Rattle.trace_lifetime.specs.Lifetime.{times, IsMadeTo, IsOver}
-use Rattle.trace_lifetime.specs.Kept.{PacketFits, call_of}
-use Rattle.trace_lifetime.proofs.Later.{made_later}
-use Rattle.trace_lifetime.proofs.ServerRules.{SaysFit}
-use Rattle.trace_lifetime.proofs.ClientRules.{IsBare, AllBare, ClientKeeps, later_client, lifetime_client, says_bare}
+use Rattle.trace_steps.specs.Stands.{Stand, with_client, said_so_far, amid}
+use Rattle.step_laws.proofs.Own.{IsQuiet}
+use Rattle.step_moves.proofs.Moves.{IsMove, reply_told, acknowledged_told, finishes_told}
+use Rattle.step_moves.proofs.AskedMove.{asked_noted, asked_said, asked_told, asked_packets, asked-move, said-id, said-finished}
+use Rattle.trace_steps.proofs.OwnRuns.{asked-runs}
+use Rattle.trace_steps.proofs.Frame.{stamped-append, client_stand}
+use Rattle.step_moves.proofs.Names.{own_set}
+use Rattle.trace_once.specs.Lifetime.{times, IsMadeTo, IsOver}
+use Rattle.trace_once.specs.Kept.{PacketFits, call_of}
+use Rattle.trace_once.proofs.Later.{made_later}
+use Rattle.trace_once.proofs.ServerRules.{SaysFit}
+use Rattle.trace_once.proofs.ClientRules.{IsBare, AllBare, ClientKeeps, later_client, lifetime_client, says_bare}
 use Rattle.trace_once.proofs.Goes.{Goes, AllGo, goes_still, lists_later}
 use Rattle.trace_once.proofs.OnceLines.{quiet_once}
 use Rattle.trace_once.proofs.Acks.{GoesWhenDone, all_more, all_named, asked_finished}

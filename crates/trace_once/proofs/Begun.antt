@@ -10,13 +10,14 @@ use Rattle.homa_plain.specs.Rows.{ClientRow, RowsOf}
 use Rattle.homa_plain.specs.Host.{Host, finished_at}
 use Rattle.homa_plain.specs.Steps.{refilled}
 use Rattle.std.proofs.lemmas.Bool.{cond_both}
-use Rattle.homa_plain.specs.View.{View}
+use Rattle.trace_rules.specs.View.{View}
 use Rattle.homa_plain.specs.World.{World, host_at}
-use Rattle.trace_induction.specs.Stands.{Stand, state_of, is_old, at_host, stand, put, amid}
-use Rattle.trace_induction.proofs.Frame.{stand_is}
-use Rattle.trace_lifetime.specs.Lifetime.{times}
-use Rattle.trace_lifetime.specs.Kept.{IsKept}
-use Rattle.trace_lifetime.proofs.Later.{at, later_at, lifetime_at}
+use Rattle.trace_steps.specs.Stands.{Stand, state_of, is_old, stand, put, amid}
+use Rattle.step_moves.specs.Worlds.{at_host}
+use Rattle.trace_steps.proofs.Frame.{stand_is}
+use Rattle.trace_once.specs.Lifetime.{times}
+use Rattle.trace_once.specs.Kept.{IsKept}
+use Rattle.trace_once.proofs.Later.{at, later_at, lifetime_at}
 use Rattle.trace_once.proofs.Goes.{Goes, AllGo}
 use Rattle.trace_once.proofs.Between.{set_same, set_holds, last_rises, kept_later}
 use Rattle.trace_once.proofs.Amid.{AreOwn, IsAmid}

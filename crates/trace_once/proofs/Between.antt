@@ -5,12 +5,13 @@ use Rattle.std.specs.List.{AllByRecursion}
 use Rattle.homa_plain.specs.declared.id.HostId.{HostId}
 use Rattle.homa_plain.specs.declared.settings.Settings.{Settings}
 use Rattle.homa_plain.specs.Host.{Host, finished_at}
-use Rattle.homa_plain.specs.View.{View}
+use Rattle.trace_rules.specs.View.{View}
 use Rattle.homa_plain.specs.World.{World, host_at}
-use Rattle.trace_induction.specs.Stands.{at_host, stand}
-use Rattle.trace_induction.proofs.Hosts.{some_is}
-use Rattle.trace_lifetime.specs.Lifetime.{IsOver}
-use Rattle.trace_lifetime.specs.Kept.{PacketFits, call_of, IsKept}
+use Rattle.trace_steps.specs.Stands.{stand}
+use Rattle.step_moves.specs.Worlds.{at_host}
+use Rattle.step_moves.proofs.Hosts.{some_is}
+use Rattle.trace_once.specs.Lifetime.{IsOver}
+use Rattle.trace_once.specs.Kept.{PacketFits, call_of, IsKept}
 use Rattle.trace_once.proofs.Goes.{AllGo, packets_later, lists_later}
 
 -- ---- lists of hosts of which one is set

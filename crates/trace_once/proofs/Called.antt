@@ -13,19 +13,20 @@ use Rattle.homa_plain.specs.Entries.{PlainCall}
 use Rattle.homa_plain.specs.Rows.{ClientRow}
 use Rattle.homa_plain.specs.Host.{Host, finished_at}
 use Rattle.homa_plain.specs.Steps.{Work, begun, next_id, new_call, starts}
-use Rattle.homa_plain.specs.View.{View}
-use Rattle.homa_plain.specs.Seen.{seen}
+use Rattle.trace_rules.specs.View.{View}
+use Rattle.trace_rules.specs.Seen.{seen}
 use Rattle.homa_plain.specs.World.{World}
 use Rattle.homa_plain.proofs.CallOrder.{calls_are}
 use Rattle.step_laws.proofs.Others.{get-set_row, set_row-others}
-use Rattle.trace_induction.specs.Stands.{Stand, state_of, is_old, at_host, put, amid}
-use Rattle.trace_induction.proofs.Hosts.{both_set, there}
-use Rattle.trace_lines.proofs.Runs.{ran_same, unrun_same}
-use Rattle.trace_induction.proofs.Frame.{stand_is}
-use Rattle.trace_induction.proofs.ToldMoves.{own_set}
-use Rattle.trace_lifetime.specs.Lifetime.{times, called_by}
-use Rattle.trace_lifetime.proofs.Later.{at, later_at, lifetime_at}
-use Rattle.trace_lifetime.proofs.Events.{with_call, later_call, lifetime_call}
+use Rattle.trace_steps.specs.Stands.{Stand, state_of, is_old, put, amid}
+use Rattle.step_moves.specs.Worlds.{at_host}
+use Rattle.step_moves.proofs.Hosts.{both_set, there}
+use Rattle.trace_steps.proofs.Runs.{ran_same, unrun_same}
+use Rattle.trace_steps.proofs.Frame.{stand_is}
+use Rattle.step_moves.proofs.Names.{own_set}
+use Rattle.trace_once.specs.Lifetime.{times, called_by}
+use Rattle.trace_once.proofs.Later.{at, later_at, lifetime_at}
+use Rattle.trace_once.proofs.Events.{with_call, later_call, lifetime_call}
 use Rattle.trace_once.proofs.Goes.{Goes, AllGo}
 use Rattle.trace_once.proofs.Between.{kept_later}
 use Rattle.trace_once.proofs.Amid.{IsAmid}

@@ -6,10 +6,10 @@ use Rattle.homa_plain.specs.declared.id.HostId.{HostId}
 use Rattle.homa_plain.specs.declared.settings.Settings.{Settings}
 use Rattle.homa_plain.specs.Packets.{acks}
 use Rattle.homa_plain.specs.World.{SentPacket}
-use Rattle.trace_induction.specs.Stands.{Stand}
-use Rattle.trace_lifetime.specs.Lifetime.{Times, times, IsOver, Lifetime, Later}
-use Rattle.trace_lifetime.specs.Kept.{PacketFits, call_of}
-use Rattle.trace_lifetime.proofs.Later.{fits_later, over_later, same_later, later_then}
+use Rattle.trace_steps.specs.Stands.{Stand}
+use Rattle.trace_once.specs.Lifetime.{Times, times, IsOver, Lifetime, Later}
+use Rattle.trace_once.specs.Kept.{PacketFits, call_of}
+use Rattle.trace_once.proofs.Later.{fits_later, over_later, same_later, later_then}
 
 -- from one moment to a later one
 pub record Goes (s : Times) (n : HostId) (v u : Stand) : Type 0 where

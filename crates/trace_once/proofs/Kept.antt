@@ -10,7 +10,7 @@ use Rattle.homa_plain.specs.declared.event.Event.{Event}
 use Rattle.homa_plain.specs.declared.event.Event.TheVariants as event
 use Rattle.homa_plain.specs.declared.settings.Settings.{Settings}
 use Rattle.homa_plain.specs.Entries.{PlainEntry, PlainRun, PlainDeliver, PlainInject}
-use Rattle.homa_plain.specs.Lines.{is_last}
+use Rattle.trace_rules.specs.Lines.{is_last}
 use Rattle.homa_plain.specs.Rows.{ClientRow, RowsOf}
 use Rattle.homa_plain.specs.Packets.{receiver}
 use Rattle.homa_plain.specs.Host.{Host, entries_from}
@@ -18,18 +18,19 @@ use Rattle.homa_plain.specs.Rules.{Answer}
 use Rattle.homa_plain.specs.Steps.{Work, begun, starts, call_step, arrival_step, turn_step, refilled, acts, comes, ended}
 use Rattle.homa_plain.specs.Wire.{packet_in}
 use Rattle.homa_plain.specs.World.{World, SentPacket, After, Done, outcome, host_at, own_clock, next_answer, is_late}
-use Rattle.homa_plain.specs.View.{View}
-use Rattle.homa_plain.specs.Seen.{seen, seen_all}
-use Rattle.homa_plain.specs.Laws.{Holds, Once}
-use Rattle.trace_lines.specs.Told.{IsTold, IsDated, IsTimed}
-use Rattle.trace_induction.proofs.Hosts.{some_is, none_some, within}
-use Rattle.trace_induction.proofs.Timed.{seg_of, resend_of, timed, fresh}
-use Rattle.trace_induction.proofs.Events.{after_step, call_done, deliver_done, inject_done, turn_done, restart_done, shift_done, clock_done}
-use Rattle.trace_induction.proofs.ToldEvents.{told_event}
-use Rattle.trace_induction.proofs.Always.{always, told_first}
-use Rattle.trace_induction.specs.Always.{KeptByEvent, HoldsAlways}
-use Rattle.trace_induction.specs.Stands.{amid}
-use Rattle.trace_lifetime.specs.Kept.{PacketFits, IsKept}
+use Rattle.trace_rules.specs.View.{View}
+use Rattle.trace_rules.specs.Seen.{seen, seen_all}
+use Rattle.trace_rules.specs.Laws.{Holds, Once}
+use Rattle.trace_steps.specs.Told.{IsTold}
+use Rattle.step_moves.specs.Worlds.{IsTimed, IsDated}
+use Rattle.step_moves.proofs.Hosts.{some_is, none_some, within}
+use Rattle.step_moves.proofs.Timed.{seg_of, resend_of, timed, fresh}
+use Rattle.trace_steps.proofs.Events.{after_step, call_done, deliver_done, inject_done, turn_done, restart_done, shift_done, clock_done}
+use Rattle.trace_steps.proofs.ToldEvents.{told_event}
+use Rattle.trace_steps.proofs.Always.{always, told_first}
+use Rattle.trace_steps.specs.Always.{KeptByEvent, HoldsAlways}
+use Rattle.trace_steps.specs.Stands.{amid}
+use Rattle.trace_once.specs.Kept.{PacketFits, IsKept}
 use Rattle.trace_once.proofs.Amid.{IsAmid}
 use Rattle.trace_once.proofs.Begun.{Begins, begins_filled, begun_amid}
 use Rattle.trace_once.proofs.Called.{started_amid}

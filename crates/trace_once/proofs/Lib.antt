@@ -1,3 +1,12 @@
+pub mod Later
+pub mod ServerRules
+pub mod ServerTable
+pub mod ServerTimers
+pub mod ClientRules
+pub mod ClientTable
+pub mod ClientTimers
+pub mod Events
+pub mod TombstoneRows
 pub mod Goes
 pub mod OnceLines
 pub mod Amid

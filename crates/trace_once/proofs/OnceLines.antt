@@ -12,17 +12,18 @@ use Rattle.homa_plain.specs.Packets.{send_line}
 use Rattle.homa_plain.specs.Host.{Host, Told, Says, Sends, packets_in, entries_from}
 use Rattle.homa_plain.specs.Rules.{Say, Tells, Posts}
 use Rattle.homa_plain.specs.Steps.{said, packet_from, bare}
-use Rattle.homa_plain.specs.View.{View, Called, has_run}
-use Rattle.homa_plain.specs.Seen.{seen, seen_all}
-use Rattle.homa_plain.specs.Laws.{Holds, Once}
+use Rattle.trace_rules.specs.View.{View, Called, has_run}
+use Rattle.trace_rules.specs.Seen.{seen, seen_all}
+use Rattle.trace_rules.specs.Laws.{Holds, Once}
 use Rattle.homa_plain.proofs.CallOrder.{calls_are, hosts_are}
-use Rattle.trace_induction.specs.Stands.{Stand}
-use Rattle.trace_lines.proofs.Lines.{IsSaid, AllInner, entries_from-append, holds-append, told_same}
-use Rattle.trace_lines.proofs.Runs.{is_run, runs_told, told_runs}
-use Rattle.trace_moves.proofs.Own.{IsOwn, AllOwn, runs_said}
-use Rattle.trace_moves.proofs.OwnRuns.{says-runs}
-use Rattle.trace_lifetime.specs.Lifetime.{call_to}
-use Rattle.trace_lifetime.proofs.ServerRules.{RunsFit}
+use Rattle.trace_steps.specs.Stands.{Stand}
+use Rattle.trace_steps.proofs.Lines.{holds-append, told_same}
+use Rattle.step_moves.proofs.Inner.{AllInner, IsSaid, entries_from-append}
+use Rattle.trace_steps.proofs.Runs.{is_run, runs_told, told_runs}
+use Rattle.step_laws.proofs.Own.{IsOwn, AllOwn, runs_said}
+use Rattle.trace_steps.proofs.OwnRuns.{says-runs}
+use Rattle.trace_once.specs.Lifetime.{call_to}
+use Rattle.trace_once.proofs.ServerRules.{RunsFit}
 
 -- no call runs
 abbrev pub IsQuietTold : List Told → Type 0

@@ -11,13 +11,14 @@ use Rattle.homa_plain.specs.Calls.{call_cmp}
 use Rattle.homa_plain.specs.Entries.{PlainSettings}
 use Rattle.homa_plain.specs.Host.{Host, new_host, finished_at}
 use Rattle.homa_plain.specs.Rules.{Answer}
-use Rattle.homa_plain.specs.View.{View, at_start}
-use Rattle.homa_plain.specs.Seen.{seen}
+use Rattle.trace_rules.specs.View.{View, at_start}
+use Rattle.trace_rules.specs.Seen.{seen}
 use Rattle.homa_plain.specs.World.{World, new_hosts, new_world}
-use Rattle.trace_induction.specs.Stands.{Stand, state_of, at_host, stand}
-use Rattle.trace_lifetime.specs.Lifetime.{Times, times, took_part, IsOver, RowFits, Lifetime}
-use Rattle.trace_lifetime.specs.Kept.{call_of, IsKept}
-use Rattle.trace_induction.proofs.Hosts.{none_some}
+use Rattle.trace_steps.specs.Stands.{Stand, state_of, stand}
+use Rattle.step_moves.specs.Worlds.{at_host}
+use Rattle.trace_once.specs.Lifetime.{Times, times, took_part, IsOver, RowFits, Lifetime}
+use Rattle.trace_once.specs.Kept.{call_of, IsKept}
+use Rattle.step_moves.proofs.Hosts.{none_some}
 use Rattle.trace_once.proofs.Restarted.{none_finished}
 
 -- a call that wasn't made, at a host that has done nothing

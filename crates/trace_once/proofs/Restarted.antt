@@ -11,20 +11,21 @@ use Rattle.homa_plain.specs.declared.settings.Settings.{Settings}
 use Rattle.homa_plain.specs.Calls.{is_host, call_cmp}
 use Rattle.homa_plain.specs.Entries.{PlainEntry, PlainDeliver, PlainClock, PlainRestart, PlainInject, PlainShift}
 use Rattle.homa_plain.specs.Host.{Host, new_host, finished_at}
-use Rattle.homa_plain.specs.View.{View, Sent}
-use Rattle.homa_plain.specs.Seen.{seen, begun, delivered, delivery}
+use Rattle.trace_rules.specs.View.{View, Sent}
+use Rattle.trace_rules.specs.Seen.{seen, begun, delivered, delivery}
 use Rattle.homa_plain.specs.World.{World, host_at}
-use Rattle.trace_induction.specs.Stands.{Stand, with_client, with_server, state_of, is_old, at_host, stand}
-use Rattle.trace_lines.specs.Told.{AllLived}
-use Rattle.trace_induction.proofs.Hosts.{some_is, there, elsewhere, within, apart, number_of}
-use Rattle.trace_lines.proofs.Runs.{IsUnrun, ran_same, unrun_same}
-use Rattle.trace_lines.proofs.Restarts.{unrun_restarted, ran_elsewhere}
-use Rattle.trace_induction.proofs.Frame.{stand_is}
+use Rattle.trace_steps.specs.Stands.{Stand, with_client, with_server, state_of, is_old, stand}
+use Rattle.step_moves.specs.Worlds.{at_host}
+use Rattle.trace_steps.specs.Told.{AllLived}
+use Rattle.step_moves.proofs.Hosts.{some_is, there, elsewhere, within, apart, number_of}
+use Rattle.trace_steps.proofs.Runs.{IsUnrun, ran_same, unrun_same}
+use Rattle.trace_steps.proofs.Restarts.{unrun_restarted, ran_elsewhere}
+use Rattle.trace_steps.proofs.Frame.{stand_is}
 use Rattle.homa_plain.proofs.CallOrder.{hosts_are}
-use Rattle.trace_lifetime.specs.Lifetime.{times, Lifetime}
-use Rattle.trace_lifetime.specs.Kept.{IsKept}
-use Rattle.trace_lifetime.proofs.Later.{at, later_at, lifetime_at}
-use Rattle.trace_lifetime.proofs.Events.{later_forgotten, lifetime_forgotten, later_ended, lifetime_ended}
+use Rattle.trace_once.specs.Lifetime.{times, Lifetime}
+use Rattle.trace_once.specs.Kept.{IsKept}
+use Rattle.trace_once.proofs.Later.{at, later_at, lifetime_at}
+use Rattle.trace_once.proofs.Events.{later_forgotten, lifetime_forgotten, later_ended, lifetime_ended}
 use Rattle.trace_once.proofs.Goes.{Goes, AllGo, goes_still, goes_then}
 use Rattle.trace_once.proofs.Between.{set_same, ListsStay, kept_later}
 

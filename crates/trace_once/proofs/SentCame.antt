@@ -19,20 +19,20 @@ use Rattle.homa_plain.specs.Rows.{ClientRow, ServerRow, State, Receiving, Replyi
 use Rattle.homa_plain.specs.Host.{Sends, finished_at, peer_cutoffs}
 use Rattle.homa_plain.specs.Sending.{Content, client_granted, server_granted, state_granted, client_sends, state_sends, request_content, may_send_request}
 use Rattle.homa_plain.specs.Steps.{Work, now_of, bare, packet_from, client_is_granted, server_is_granted, request_leaves, response_leaves, oldest}
-use Rattle.homa_plain.specs.View.{View}
+use Rattle.trace_rules.specs.View.{View}
 use Rattle.homa_plain.specs.World.{World}
 use Rattle.homa_plain.proofs.CallOrder.{calls_are, hosts_are}
-use Rattle.trace_induction.specs.Stands.{Stand, state_of, with_client, with_server, amid}
-use Rattle.trace_moves.proofs.Moves.{IsMove}
-use Rattle.trace_moves.proofs.SendMoves.{server_granted-move, client_granted-move, response_leaves-move, request_leaves-move}
-use Rattle.trace_induction.proofs.Frame.{server_stand, client_stand, server_there, client_there}
-use Rattle.trace_induction.proofs.ToldMoves.{own_set}
-use Rattle.trace_lifetime.specs.Lifetime.{times, IsOver, Fits}
-use Rattle.trace_lifetime.specs.Kept.{call_of}
-use Rattle.trace_lifetime.proofs.ServerRules.{later_server, lifetime_server}
-use Rattle.trace_lifetime.proofs.ServerTimers.{ServerSends, server_granted_keeps, server_sends_keeps}
-use Rattle.trace_lifetime.proofs.ClientRules.{later_client, lifetime_client}
-use Rattle.trace_lifetime.proofs.ClientTimers.{ClientSends, client_granted_keeps, client_sends_keeps}
+use Rattle.trace_steps.specs.Stands.{Stand, state_of, with_client, with_server, amid}
+use Rattle.step_moves.proofs.Moves.{IsMove}
+use Rattle.step_moves.proofs.SendMoves.{server_granted-move, client_granted-move, response_leaves-move, request_leaves-move}
+use Rattle.trace_steps.proofs.Frame.{server_stand, client_stand, server_there, client_there}
+use Rattle.step_moves.proofs.Names.{own_set}
+use Rattle.trace_once.specs.Lifetime.{times, IsOver, Fits}
+use Rattle.trace_once.specs.Kept.{call_of}
+use Rattle.trace_once.proofs.ServerRules.{later_server, lifetime_server}
+use Rattle.trace_once.proofs.ServerTimers.{ServerSends, server_granted_keeps, server_sends_keeps}
+use Rattle.trace_once.proofs.ClientRules.{later_client, lifetime_client}
+use Rattle.trace_once.proofs.ClientTimers.{ClientSends, client_granted_keeps, client_sends_keeps}
 use Rattle.trace_once.proofs.Goes.{Goes, AllGo, goes_still, lists_later}
 use Rattle.trace_once.proofs.Acks.{all_set, all_but_first, riding, no_acks}
 use Rattle.trace_once.proofs.Amid.{IsAmid, Came, AreOver, own_lists, lists_still, moved}

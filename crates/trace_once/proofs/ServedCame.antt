@@ -14,22 +14,22 @@ use Rattle.homa_plain.specs.Rows.{ServerRow, set_row}
 use Rattle.homa_plain.specs.Host.{Told, Says, Sends, packets_in, entries_from}
 use Rattle.homa_plain.specs.Rules.{Say, Tells, Posts, Did}
 use Rattle.homa_plain.specs.Steps.{Work, said, served}
-use Rattle.homa_plain.specs.View.{View}
-use Rattle.homa_plain.specs.Seen.{seen_all}
-use Rattle.homa_plain.specs.Laws.{Holds, Once}
+use Rattle.trace_rules.specs.View.{View}
+use Rattle.trace_rules.specs.Seen.{seen_all}
+use Rattle.trace_rules.specs.Laws.{Holds, Once}
 use Rattle.homa_plain.specs.World.{World, stamped}
 use Rattle.homa_plain.proofs.CallOrder.{calls_are, hosts_are}
 use Rattle.step_laws.proofs.Places.{all-append}
-use Rattle.trace_induction.specs.Stands.{Stand, state_of, with_server, said_so_far, amid}
-use Rattle.trace_lines.proofs.Lines.{AllInner}
-use Rattle.trace_lines.proofs.Runs.{runs_told}
-use Rattle.trace_moves.proofs.Own.{AllOwn, runs_said}
-use Rattle.trace_moves.proofs.Moves.{IsMove, notes_told, reply_told, served_put, served_noted, served_told, served_packets, served-move, served-finished}
-use Rattle.trace_moves.proofs.OwnRuns.{notes-runs, reply-runs, served-runs}
-use Rattle.trace_induction.proofs.Frame.{stamped-append, server_stand}
-use Rattle.trace_lifetime.specs.Lifetime.{times, IsOver, Fits}
-use Rattle.trace_lifetime.specs.Kept.{PacketFits}
-use Rattle.trace_lifetime.proofs.ServerRules.{SaysFit, ServerKeeps, later_server, lifetime_server, fits_server, live_covers}
+use Rattle.trace_steps.specs.Stands.{Stand, state_of, with_server, said_so_far, amid}
+use Rattle.step_moves.proofs.Inner.{AllInner}
+use Rattle.trace_steps.proofs.Runs.{runs_told}
+use Rattle.step_laws.proofs.Own.{AllOwn, runs_said}
+use Rattle.step_moves.proofs.Moves.{IsMove, notes_told, reply_told, served_put, served_noted, served_told, served_packets, served-move, served-finished}
+use Rattle.trace_steps.proofs.OwnRuns.{notes-runs, reply-runs, served-runs}
+use Rattle.trace_steps.proofs.Frame.{stamped-append, server_stand}
+use Rattle.trace_once.specs.Lifetime.{times, IsOver, Fits}
+use Rattle.trace_once.specs.Kept.{PacketFits}
+use Rattle.trace_once.proofs.ServerRules.{SaysFit, ServerKeeps, later_server, lifetime_server, fits_server, live_covers}
 use Rattle.trace_once.proofs.Goes.{Goes, AllGo, goes_still}
 use Rattle.trace_once.proofs.Acks.{no_acks}
 use Rattle.trace_once.proofs.OnceLines.{quiet_once, once_append, stood_still, says_once}

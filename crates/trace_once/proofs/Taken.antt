@@ -16,20 +16,20 @@ use Rattle.homa_plain.specs.Rules.{Moment, Answer, Did}
 use Rattle.homa_plain.specs.AtClient.{client_gets}
 use Rattle.homa_plain.specs.AtServer.{server_gets, server_acked}
 use Rattle.homa_plain.specs.Steps.{Work, now_of, tells, served, asked, moment, hears_cutoffs, comes_to_row, acked, takes, is_stale, comes}
-use Rattle.homa_plain.specs.View.{View}
+use Rattle.trace_rules.specs.View.{View}
 use Rattle.homa_plain.specs.World.{World, stamped}
-use Rattle.trace_induction.specs.Stands.{said_so_far, amid}
-use Rattle.trace_lines.proofs.Lines.{IsSaid}
-use Rattle.trace_lines.proofs.Runs.{runs_told}
-use Rattle.trace_moves.proofs.Own.{acked_own, gets_own, gets_quiet}
-use Rattle.trace_moves.proofs.Moves.{IsMove}
-use Rattle.trace_moves.proofs.SendMoves.{says-move, hears-move, hears-finished}
-use Rattle.trace_induction.proofs.Frame.{still_stand, server_there, client_there}
-use Rattle.trace_lifetime.specs.Lifetime.{times, IsOver, Fits}
-use Rattle.trace_lifetime.specs.Kept.{PacketFits}
-use Rattle.trace_lifetime.proofs.ServerTable.{server_gets_keeps}
-use Rattle.trace_lifetime.proofs.ServerTimers.{server_acked_keeps}
-use Rattle.trace_lifetime.proofs.ClientTable.{client_gets_keeps}
+use Rattle.trace_steps.specs.Stands.{said_so_far, amid}
+use Rattle.step_moves.proofs.Inner.{IsSaid}
+use Rattle.trace_steps.proofs.Runs.{runs_told}
+use Rattle.step_laws.proofs.Own.{acked_own, gets_own, gets_quiet}
+use Rattle.step_moves.proofs.Moves.{IsMove}
+use Rattle.step_moves.proofs.SendMoves.{says-move, hears-move, hears-finished}
+use Rattle.trace_steps.proofs.Frame.{still_stand, server_there, client_there}
+use Rattle.trace_once.specs.Lifetime.{times, IsOver, Fits}
+use Rattle.trace_once.specs.Kept.{PacketFits}
+use Rattle.trace_once.proofs.ServerTable.{server_gets_keeps}
+use Rattle.trace_once.proofs.ServerTimers.{server_acked_keeps}
+use Rattle.trace_once.proofs.ClientTable.{client_gets_keeps}
 use Rattle.trace_once.proofs.Goes.{AllGo, goes_still, calls_later, packet_later}
 use Rattle.trace_once.proofs.OnceLines.{IsQuietTold, quiet_once}
 use Rattle.trace_once.proofs.Acks.{gets_done, no_acks}

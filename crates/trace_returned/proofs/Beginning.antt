@@ -16,31 +16,32 @@ use Rattle.homa_plain.specs.Rows.{ClientRow, State, RowsOf}
 use Rattle.homa_plain.specs.Host.{Host}
 use Rattle.homa_plain.specs.Rules.{Answer}
 use Rattle.homa_plain.specs.Steps.{Work, begun, starts, next_id, new_call}
-use Rattle.homa_plain.specs.View.{View, Progress, Called, no_ends, at_start}
-use Rattle.homa_plain.specs.Seen.{seen}
-use Rattle.homa_plain.specs.Laws.{Once, SameCalls}
+use Rattle.trace_rules.specs.View.{View, Progress, Called, no_ends, at_start}
+use Rattle.trace_rules.specs.Seen.{seen}
+use Rattle.trace_rules.specs.Laws.{Once, SameCalls}
 use Rattle.homa_plain.specs.World.{World, host_at, own_clock, new_world}
 use Rattle.homa_plain.proofs.CallOrder.{calls_are}
-use Rattle.trace_lines.specs.Told.{IsTold}
-use Rattle.trace_lines.proofs.Progress.{get-set, AreLevel, level_itself}
-use Rattle.trace_lines.proofs.Runs.{IsUnrun, unrun_same}
-use Rattle.trace_induction.specs.Stands.{Stand, state_of, at_host, stand, put, amid}
-use Rattle.trace_induction.specs.Contents.{replies, Replies}
-use Rattle.trace_induction.proofs.Hosts.{within, none_some, some_is}
-use Rattle.trace_induction.proofs.ToldEvents as told_events
-use Rattle.trace_induction.proofs.ToldSteps.{told_view, deliver_same}
-use Rattle.trace_lifetime.specs.Lifetime.{times, took_part, called_by}
-use Rattle.trace_lifetime.specs.Kept.{IsKept}
-use Rattle.trace_lifetime.proofs.Later.{at}
-use Rattle.trace_lifetime.proofs.Events.{with_call}
+use Rattle.trace_steps.specs.Told.{IsTold}
+use Rattle.trace_steps.proofs.Progress.{get-set, AreLevel, level_itself}
+use Rattle.trace_steps.proofs.Runs.{IsUnrun, unrun_same}
+use Rattle.trace_steps.specs.Stands.{Stand, state_of, stand, put, amid}
+use Rattle.step_moves.specs.Worlds.{at_host}
+use Rattle.trace_steps.specs.Contents.{replies, Replies}
+use Rattle.step_moves.proofs.Hosts.{within, none_some, some_is}
+use Rattle.trace_steps.proofs.ToldEvents as told_events
+use Rattle.trace_steps.proofs.ToldSteps.{told_view, deliver_same}
+use Rattle.trace_once.specs.Lifetime.{times, took_part, called_by}
+use Rattle.trace_once.specs.Kept.{IsKept}
+use Rattle.trace_once.proofs.Later.{at}
+use Rattle.trace_once.proofs.Events.{with_call}
 use Rattle.trace_once.proofs.Amid.{AreOwn}
 use Rattle.trace_once.proofs.Begun.{Begins, begun_stand, begun_amid}
 use Rattle.trace_once.proofs.Called.{stand_here, stand_other, unused, started_amid}
 use Rattle.trace_once.proofs.Opened.{new_at}
 use Rattle.trace_once.proofs.Restarted.{deliver_calls, still_stand, deliver_line}
-use Rattle.trace_messages.specs.Tales.{Tale, tale, IsTruthful, IsSameRequest, IsSameResponse, IsSame, IsClosed, IsTrue, receiving}
-use Rattle.trace_messages.proofs.Calm.{tale_is, same_replies}
-use Rattle.trace_messages.proofs.ReplyLines.{lines_truthful}
+use Rattle.trace_returned.specs.Tales.{Tale, tale, IsTruthful, IsSameRequest, IsSameResponse, IsSame, IsClosed, IsTrue, receiving}
+use Rattle.trace_returned.proofs.Calm.{tale_is, same_replies}
+use Rattle.trace_returned.proofs.ReplyLines.{lines_truthful}
 use Rattle.trace_returned.specs.Closing.{Closed}
 use Rattle.trace_returned.proofs.Saying.{IsSaying}
 use Rattle.trace_returned.proofs.ServerCame.{IsBefore, plain_closed}

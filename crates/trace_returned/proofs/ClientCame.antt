@@ -18,51 +18,51 @@ use Rattle.homa_plain.specs.Calls.{is_host, is_call}
 use Rattle.homa_plain.specs.Entries.{PlainEntry, PlainDone, PlainFail}
 use Rattle.homa_plain.specs.Incoming.{Incoming}
 use Rattle.homa_plain.specs.Packets.{Packet, sender, sender_of, receiver_of}
-use Rattle.homa_plain.specs.Parts.{Part, grown, made_whole}
-use Rattle.homa_plain.specs.Parts as parts
+use Rattle.trace_rules.specs.Parts.{Part, grown, made_whole}
+use Rattle.trace_rules.specs.Parts as parts
 use Rattle.homa_plain.specs.Rows.{ClientRow}
 use Rattle.homa_plain.specs.Host.{Told, packets_in, entries_from}
 use Rattle.homa_plain.specs.Rules.{Moment, Piece, Say, Tells, Did, keeps}
 use Rattle.homa_plain.specs.AtClient.{client_gets, answered, response_piece, refreshed, renewed}
 use Rattle.homa_plain.specs.AtServer.{piece_of}
 use Rattle.homa_plain.specs.Steps.{Work, said, moment, asked}
-use Rattle.homa_plain.specs.View.{View, Progress, Sent, Called, Ends, no_ends, counts, is_server_of}
+use Rattle.trace_rules.specs.View.{View, Progress, Sent, Called, Ends, no_ends, counts, is_server_of}
 use Rattle.homa_plain.specs.Wire.{is_server}
-use Rattle.homa_plain.specs.Seen.{seen, is_forgotten}
-use Rattle.homa_plain.specs.Laws.{Holds, Once, Returned, IsReturned, is_data}
+use Rattle.trace_rules.specs.Seen.{seen, is_forgotten}
+use Rattle.trace_rules.specs.Laws.{Holds, Once, Returned, IsReturned, is_data}
 use Rattle.homa_plain.specs.World.{World}
 use Rattle.homa_plain.proofs.CallOrder.{calls_are, hosts_are}
-use Rattle.trace_lines.specs.Told.{sent_of}
-use Rattle.trace_lines.proofs.Lines.{entries_from-append}
-use Rattle.trace_moves.proofs.Moves.{notes_told, reply_told, finishes_told}
-use Rattle.trace_moves.proofs.AskedMove.{asked_put, asked_noted, asked_said}
-use Rattle.trace_moves.proofs.Own.{IsQuiet, gets_quiet}
-use Rattle.trace_lines.proofs.Progress.{get-set, get-gone}
-use Rattle.trace_induction.specs.Stands.{Stand, with_client, put, said_so_far, amid}
-use Rattle.trace_induction.specs.Contents.{IsSlice}
-use Rattle.trace_induction.specs.Arrived.{IsSamePart}
-use Rattle.trace_induction.proofs.Hosts.{length-set}
-use Rattle.trace_induction.proofs.Frame.{client_there}
-use Rattle.trace_lifetime.specs.Lifetime.{times, called_by, Fits, ReplyFits}
-use Rattle.trace_lifetime.proofs.ClientRules.{ClientKeeps}
-use Rattle.trace_lifetime.proofs.ClientTable.{client_gets_keeps}
+use Rattle.trace_steps.specs.Told.{sent_of}
+use Rattle.step_moves.proofs.Inner.{entries_from-append}
+use Rattle.step_moves.proofs.Moves.{notes_told, reply_told, finishes_told}
+use Rattle.step_moves.proofs.AskedMove.{asked_put, asked_noted, asked_said}
+use Rattle.step_laws.proofs.Own.{IsQuiet, gets_quiet}
+use Rattle.trace_steps.proofs.Progress.{get-set, get-gone}
+use Rattle.trace_steps.specs.Stands.{Stand, with_client, put, said_so_far, amid}
+use Rattle.trace_steps.specs.Contents.{IsSlice}
+use Rattle.trace_steps.specs.Arrived.{IsSamePart}
+use Rattle.step_moves.proofs.Hosts.{length-set}
+use Rattle.trace_steps.proofs.Frame.{client_there}
+use Rattle.trace_once.specs.Lifetime.{times, called_by, Fits, ReplyFits}
+use Rattle.trace_once.proofs.ClientRules.{ClientKeeps}
+use Rattle.trace_once.proofs.ClientTable.{client_gets_keeps}
 use Rattle.trace_once.proofs.Acks.{GoesWhenDone, gets_done}
 use Rattle.trace_once.proofs.Amid.{IsAmid}
 use Rattle.trace_once.proofs.AskedCame.{asked_came}
 use Rattle.trace_once.proofs.Restarted.{deliver_calls}
-use Rattle.trace_messages.specs.Tales.{Tale, tale, receiving, IsSameRequest, IsReplyOf, RepliesTo, IsSamePiece, IsSameResponse, IsSame, IsClosed}
-use Rattle.trace_messages.proofs.ReplyLines.{lines_reply}
-use Rattle.trace_messages.proofs.StillRules.{IsOther, IsPlain, StillAsked, Forgets, Awaited, awaited, unasked_still, answered_still, unknown_answered}
-use Rattle.trace_messages.proofs.Pieces.{ResponseTaken, Gapped, Unpaged, Taken, Done, response_opens, response_grows}
-use Rattle.trace_messages.proofs.Calm.{tale_is, SameBlock}
-use Rattle.trace_messages.proofs.TrueMoves.{asked_still, asked_once, asked_before, before_asked}
-use Rattle.trace_messages.proofs.ActMoves.{asked_fails}
-use Rattle.trace_deliveries.proofs.Deliver.{came_only, Begins, server_uncounted, was_heard, server_other, new_response, response_admitted}
-use Rattle.trace_deliveries.proofs.Deliver.{server_piece, heard_others, heard_of, response_of}
-use Rattle.trace_deliveries.proofs.ResponseBlock.{Answers, response_comes}
+use Rattle.trace_returned.specs.Tales.{Tale, tale, receiving, IsSameRequest, IsReplyOf, RepliesTo, IsSamePiece, IsSameResponse, IsSame, IsClosed}
+use Rattle.trace_returned.proofs.ReplyLines.{lines_reply}
+use Rattle.trace_returned.proofs.StillRules.{IsOther, IsPlain, StillAsked, Forgets, Awaited, awaited, unasked_still, answered_still, unknown_answered}
+use Rattle.trace_returned.proofs.Pieces.{ResponseTaken, Gapped, Unpaged, Taken, Done, response_opens, response_grows}
+use Rattle.trace_returned.proofs.Calm.{tale_is, SameBlock}
+use Rattle.trace_returned.proofs.TrueMoves.{asked_still, asked_once, asked_before, before_asked}
+use Rattle.trace_returned.proofs.ActMoves.{asked_fails}
+use Rattle.trace_returned.proofs.Deliver.{came_only, Begins, server_uncounted, was_heard, server_other, new_response, response_admitted}
+use Rattle.trace_returned.proofs.Deliver.{server_piece, heard_others, heard_of, response_of}
+use Rattle.trace_returned.proofs.ResponseBlock.{Answers, response_comes}
 use Rattle.trace_returned.proofs.Saying.{AreUndone, calm_undone, undone_holds, said_undone, IsSaying, asked_saying, undone_saying}
 use Rattle.trace_returned.proofs.ServerCame.{line_view, IsBefore, plain_true, plain_closed}
-use Rattle.trace_deliveries.proofs.ClientRules.{gets_unasked, gets_elsewhere, gets_earlier, gets_answered, heard_row, one_reply, among_answers, host_there}
+use Rattle.trace_returned.proofs.ClientRules.{gets_unasked, gets_elsewhere, gets_earlier, gets_answered, heard_row, one_reply, among_answers, host_there}
 
 -- a call fails as forgotten where that is due
 forgotten_closed : (u x : View) (id : CallId) → SameBlock u x → u.here ≡ no_ends → u.now.due ≡ record no_ends { forgotten = id ∷ [] }

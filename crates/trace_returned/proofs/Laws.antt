@@ -12,32 +12,33 @@ use Rattle.homa_plain.specs.declared.event.Event.{Event}
 use Rattle.homa_plain.specs.declared.event.Event.TheVariants as event
 use Rattle.homa_plain.specs.declared.settings.Settings.{Settings}
 use Rattle.homa_plain.specs.Entries.{PlainEntry, PlainSettings, PlainDone, PlainDeliver, PlainClock, PlainRestart, PlainInject, PlainShift}
-use Rattle.homa_plain.specs.Lines.{is_last}
+use Rattle.trace_rules.specs.Lines.{is_last}
 use Rattle.homa_plain.specs.Packets.{receiver}
 use Rattle.homa_plain.specs.Host.{Host, new_host, entries_from}
 use Rattle.homa_plain.specs.Rules.{Answer}
 use Rattle.homa_plain.specs.Steps.{Work, begun, starts, comes, acts, refilled, ended, call_step, arrival_step, turn_step}
 use Rattle.homa_plain.specs.Wire.{packet_in}
-use Rattle.homa_plain.specs.View.{View, Sent, at_start}
-use Rattle.homa_plain.specs.Seen.{seen, seen_all}
-use Rattle.homa_plain.specs.Laws.{Holds, Returned, HandedUp}
+use Rattle.trace_rules.specs.View.{View, Sent, at_start}
+use Rattle.trace_rules.specs.Seen.{seen, seen_all}
+use Rattle.trace_rules.specs.Laws.{Holds, Returned, HandedUp}
 use Rattle.homa_plain.specs.World.{World, SentPacket, After, Done, outcome, host_at, own_clock, next_answer, is_late, new_world}
-use Rattle.trace_lines.specs.Told.{IsTold, IsDated, IsTimed, sent_of}
-use Rattle.trace_induction.specs.Stands.{Stand, stand, amid}
-use Rattle.trace_induction.specs.Always.{IsOpening, trace, KeptByEvent, HoldsAlways}
-use Rattle.trace_induction.proofs.Always.{always, told_first}
-use Rattle.trace_induction.proofs.Hosts.{within, length-set}
-use Rattle.trace_induction.proofs.Timed.{seg_of, resend_of, timed, fresh}
-use Rattle.trace_induction.proofs.Events.{after_step, call_done, deliver_done, inject_done, turn_done, restart_done, shift_done, clock_done}
-use Rattle.trace_induction.proofs.ToldEvents.{told_event}
-use Rattle.trace_induction.proofs.ToldSteps.{told_view, inject_same}
-use Rattle.trace_lifetime.specs.Kept.{PacketFits, IsKept}
-use Rattle.trace_lifetime.proofs.Later.{at}
+use Rattle.trace_steps.specs.Told.{IsTold, sent_of}
+use Rattle.step_moves.specs.Worlds.{IsTimed, IsDated}
+use Rattle.trace_steps.specs.Stands.{Stand, stand, amid}
+use Rattle.trace_steps.specs.Always.{IsOpening, trace, KeptByEvent, HoldsAlways}
+use Rattle.trace_steps.proofs.Always.{always, told_first}
+use Rattle.step_moves.proofs.Hosts.{within, length-set}
+use Rattle.step_moves.proofs.Timed.{seg_of, resend_of, timed, fresh}
+use Rattle.trace_steps.proofs.Events.{after_step, call_done, deliver_done, inject_done, turn_done, restart_done, shift_done, clock_done}
+use Rattle.trace_steps.proofs.ToldEvents.{told_event}
+use Rattle.trace_steps.proofs.ToldSteps.{told_view, inject_same}
+use Rattle.trace_once.specs.Kept.{PacketFits, IsKept}
+use Rattle.trace_once.proofs.Later.{at}
 use Rattle.trace_once.proofs.Begun.{Begins, begins_filled}
 use Rattle.trace_once.proofs.Kept.{all_get, event_keeps}
 use Rattle.trace_once.proofs.Opened.{opened_kept}
 use Rattle.trace_once.proofs.Restarted.{inject_calls, shift_calls, clock_calls, restart_calls, still_stand, inject_line}
-use Rattle.trace_messages.specs.Tales.{IsTruthful, IsTrue}
+use Rattle.trace_returned.specs.Tales.{IsTruthful, IsTrue}
 use Rattle.trace_returned.specs.Closing.{Forgotten, Closed}
 use Rattle.trace_returned.proofs.Saying.{IsSaying}
 use Rattle.trace_returned.proofs.Stepping.{junk_saying, turn_saying, ended_saying, packet_saying}

@@ -1,3 +1,15 @@
+pub mod Deliver
+pub mod ClientRules
+pub mod RequestBlock
+pub mod ResponseBlock
+pub mod ReplyLines
+pub mod Pieces
+pub mod StillRules
+pub mod Calm
+pub mod TrueMoves
+pub mod OwnMoves
+pub mod ActMoves
+pub mod SendTrue
 pub mod Saying
 pub mod ServerCame
 pub mod ClientCame

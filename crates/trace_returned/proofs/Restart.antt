@@ -12,22 +12,22 @@ use Rattle.homa_plain.specs.declared.settings.Settings.{Settings}
 use Rattle.homa_plain.specs.Calls.{is_host, is_call, call_cmp}
 use Rattle.homa_plain.specs.Entries.{PlainEntry, PlainRestart}
 use Rattle.homa_plain.specs.Host.{Host}
-use Rattle.homa_plain.specs.View.{View, Called, Ran, no_ends, life, is_server_of}
-use Rattle.homa_plain.specs.Seen.{seen}
+use Rattle.trace_rules.specs.View.{View, Called, Ran, no_ends, life, is_server_of}
+use Rattle.trace_rules.specs.Seen.{seen}
 use Rattle.homa_plain.specs.World.{World, host_at}
 use Rattle.homa_plain.proofs.CallOrder.{call_total, calls_are, hosts_are}
-use Rattle.trace_lines.specs.Told.{AllLived}
-use Rattle.trace_lines.proofs.Lives.{same_number, restarts_at}
-use Rattle.trace_lines.proofs.Progress.{AreLevel, level_itself}
-use Rattle.trace_induction.specs.Stands.{Stand, stand}
-use Rattle.trace_induction.specs.Contents.{replies, Replies}
-use Rattle.trace_induction.proofs.Hosts.{apart}
-use Rattle.trace_lifetime.specs.Kept.{IsKept}
+use Rattle.trace_steps.specs.Told.{AllLived}
+use Rattle.trace_steps.proofs.Lives.{same_number, restarts_at}
+use Rattle.trace_steps.proofs.Progress.{AreLevel, level_itself}
+use Rattle.trace_steps.specs.Stands.{Stand, stand}
+use Rattle.trace_steps.specs.Contents.{replies, Replies}
+use Rattle.step_moves.proofs.Hosts.{apart}
+use Rattle.trace_once.specs.Kept.{IsKept}
 use Rattle.trace_once.proofs.Restarted.{restarted_world, changed, now_stand}
-use Rattle.trace_messages.specs.Tales.{Tale, tale, IsSameRequest, IsSame, IsTrue, receiving}
-use Rattle.trace_messages.proofs.Calm.{tale_is}
-use Rattle.trace_messages.proofs.ReplyLines.{lines_truthful}
-use Rattle.trace_messages.proofs.TrueMoves.{response_later}
+use Rattle.trace_returned.specs.Tales.{Tale, tale, IsSameRequest, IsSame, IsTrue, receiving}
+use Rattle.trace_returned.proofs.Calm.{tale_is}
+use Rattle.trace_returned.proofs.ReplyLines.{lines_truthful}
+use Rattle.trace_returned.proofs.TrueMoves.{response_later}
 use Rattle.trace_returned.proofs.ServerCame.{plain_closed}
 
 -- a map from calls of which some are retained

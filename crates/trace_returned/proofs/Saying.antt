@@ -9,29 +9,30 @@ use Rattle.homa_plain.specs.declared.packet.Role.TheVariants.{Client, Server}
 use Rattle.homa_plain.specs.declared.settings.Settings.{Settings}
 use Rattle.homa_plain.specs.Entries.{PlainEntry, PlainDone, PlainBury, PlainFree, PlainSettings, PlainCall, PlainDeliver, PlainClock, PlainRestart}
 use Rattle.homa_plain.specs.Entries.{PlainInject, PlainShift, PlainRecv, PlainFinished, PlainRefused, PlainStalled}
-use Rattle.homa_plain.specs.Lines.{closes}
+use Rattle.trace_rules.specs.Lines.{closes}
 use Rattle.homa_plain.specs.Packets.{send_line}
 use Rattle.homa_plain.specs.Rows.{ClientRow, ServerRow, RowsOf, set_row}
 use Rattle.homa_plain.specs.Host.{Host, Told, Says, Sends, packets_in, entries_from}
 use Rattle.homa_plain.specs.Rules.{Say, Tells, Posts, Did}
 use Rattle.homa_plain.specs.Steps.{Work, said, served, asked}
-use Rattle.homa_plain.specs.View.{View, Called}
-use Rattle.homa_plain.specs.Seen.{seen, seen_all}
-use Rattle.homa_plain.specs.Laws.{Holds, Returned}
+use Rattle.trace_rules.specs.View.{View, Called}
+use Rattle.trace_rules.specs.Seen.{seen, seen_all}
+use Rattle.trace_rules.specs.Laws.{Holds, Returned}
 use Rattle.homa_plain.specs.World.{World}
-use Rattle.trace_lines.specs.Told.{IsTold}
-use Rattle.trace_lines.proofs.Lines.{IsInner, said_inner, AllInner, entries_from-append, holds-append}
-use Rattle.trace_moves.proofs.Own.{AllOwn}
-use Rattle.trace_moves.proofs.Moves.{IsMove, notes_told, reply_told, served_put, served_noted, served_told, served-move, finishes_told}
-use Rattle.trace_moves.proofs.AskedMove.{asked_put, asked_noted, asked_said, asked_told, asked-move}
-use Rattle.trace_induction.specs.Stands.{put, said_so_far}
-use Rattle.trace_induction.proofs.Frame.{move_called}
-use Rattle.trace_induction.proofs.ToldMoves.{told_move}
+use Rattle.trace_steps.specs.Told.{IsTold}
+use Rattle.trace_steps.proofs.Lines.{holds-append}
+use Rattle.step_moves.proofs.Inner.{said_inner, AllInner, IsInner, entries_from-append}
+use Rattle.step_laws.proofs.Own.{AllOwn}
+use Rattle.step_moves.proofs.Moves.{IsMove, notes_told, reply_told, served_put, served_noted, served_told, served-move, finishes_told}
+use Rattle.step_moves.proofs.AskedMove.{asked_put, asked_noted, asked_said, asked_told, asked-move}
+use Rattle.trace_steps.specs.Stands.{put, said_so_far}
+use Rattle.trace_steps.proofs.Frame.{move_called}
+use Rattle.trace_steps.proofs.ToldMoves.{told_move}
 use Rattle.trace_once.proofs.Amid.{IsAmid}
-use Rattle.trace_messages.specs.Tales.{IsTrue}
+use Rattle.trace_returned.specs.Tales.{IsTrue}
 use Rattle.trace_returned.specs.Closing.{Closed}
-use Rattle.trace_messages.proofs.StillRules.{AllCalm}
-use Rattle.trace_messages.proofs.Calm.{IsSteady, AllSteady, calm_notes, calm_reply, calm_finishes}
+use Rattle.trace_returned.proofs.StillRules.{AllCalm}
+use Rattle.trace_returned.proofs.Calm.{IsSteady, AllSteady, calm_notes, calm_reply, calm_finishes}
 
 -- ---- lines that say of no call that it is done
 

@@ -15,37 +15,37 @@ use Rattle.homa_plain.specs.declared.settings.Settings.{Settings}
 use Rattle.homa_plain.specs.Entries.{PlainDeliver}
 use Rattle.homa_plain.specs.Incoming.{Incoming}
 use Rattle.homa_plain.specs.Packets.{Packet, receiver_of}
-use Rattle.homa_plain.specs.Parts.{Part, grown}
-use Rattle.homa_plain.specs.Parts as parts
+use Rattle.trace_rules.specs.Parts.{Part, grown}
+use Rattle.trace_rules.specs.Parts as parts
 use Rattle.homa_plain.specs.Rows.{ServerRow, State, Receiving, Held, Replying, Buried}
 use Rattle.homa_plain.specs.Rules.{Moment, Answer, Did}
 use Rattle.homa_plain.specs.AtServer.{server_gets, row_gets, receiving_gets, unknown_gets, piece_of}
 use Rattle.homa_plain.specs.Steps.{Work, moment, served}
-use Rattle.homa_plain.specs.View.{View, Progress, Called, Ends, no_ends, has_run}
-use Rattle.homa_plain.specs.Seen.{seen}
+use Rattle.trace_rules.specs.View.{View, Progress, Called, Ends, no_ends, has_run}
+use Rattle.trace_rules.specs.Seen.{seen}
 use Rattle.homa_plain.specs.World.{World}
 use Rattle.homa_plain.proofs.CallOrder.{calls_are, hosts_are}
-use Rattle.trace_lines.specs.Told.{IsTold, sent_of}
-use Rattle.trace_moves.proofs.Own.{gets_own}
-use Rattle.trace_lines.proofs.Progress.{get-set}
-use Rattle.trace_lines.proofs.Runs.{ran_same, unrun_same}
-use Rattle.trace_induction.specs.Stands.{Stand, state_of, put, said_so_far, amid}
-use Rattle.trace_induction.specs.Contents.{IsSlice}
-use Rattle.trace_induction.specs.Arrived.{IsSamePart}
-use Rattle.trace_induction.proofs.Frame.{server_there}
-use Rattle.trace_lifetime.specs.Lifetime.{times, span, expiry, gone_since, call_to, IsRequestPiece, RequestFits, Fits, RowFits}
-use Rattle.trace_lifetime.proofs.ServerRules.{ServerKeeps, row_is}
-use Rattle.trace_lifetime.proofs.ServerTable.{server_gets_keeps}
+use Rattle.trace_steps.specs.Told.{IsTold, sent_of}
+use Rattle.step_laws.proofs.Own.{gets_own}
+use Rattle.trace_steps.proofs.Progress.{get-set}
+use Rattle.trace_steps.proofs.Runs.{ran_same, unrun_same}
+use Rattle.trace_steps.specs.Stands.{Stand, state_of, put, said_so_far, amid}
+use Rattle.trace_steps.specs.Contents.{IsSlice}
+use Rattle.trace_steps.specs.Arrived.{IsSamePart}
+use Rattle.trace_steps.proofs.Frame.{server_there}
+use Rattle.trace_once.specs.Lifetime.{times, span, expiry, gone_since, call_to, IsRequestPiece, RequestFits, Fits, RowFits}
+use Rattle.trace_once.proofs.ServerRules.{ServerKeeps, row_is}
+use Rattle.trace_once.proofs.ServerTable.{server_gets_keeps}
 use Rattle.trace_once.proofs.Amid.{IsAmid}
 use Rattle.trace_once.proofs.ServedCame.{served_came}
 use Rattle.trace_once.proofs.Restarted.{deliver_calls}
-use Rattle.trace_messages.specs.Tales.{tale, IsTruthful, IsSameRequest, IsSame, IsClosed, IsTrue, receiving}
-use Rattle.trace_messages.proofs.StillRules.{StillServed, IsOther, unknown_still, receiving_still, held_still, replying_still, buried_still}
-use Rattle.trace_messages.proofs.Pieces.{RequestTaken, Gapped, Unheld, Unpaged, Taken, Ran, piece_taken, opens_taken}
-use Rattle.trace_messages.proofs.Calm.{tale_is}
-use Rattle.trace_messages.proofs.TrueMoves.{served_still}
-use Rattle.trace_deliveries.proofs.Deliver.{came_only, Begins, client_other, client_ran, new_request, request_admitted, client_piece, plain_of, request_of}
-use Rattle.trace_deliveries.proofs.RequestBlock.{Comes, request_comes}
+use Rattle.trace_returned.specs.Tales.{tale, IsTruthful, IsSameRequest, IsSame, IsClosed, IsTrue, receiving}
+use Rattle.trace_returned.proofs.StillRules.{StillServed, IsOther, unknown_still, receiving_still, held_still, replying_still, buried_still}
+use Rattle.trace_returned.proofs.Pieces.{RequestTaken, Gapped, Unheld, Unpaged, Taken, Ran, piece_taken, opens_taken}
+use Rattle.trace_returned.proofs.Calm.{tale_is}
+use Rattle.trace_returned.proofs.TrueMoves.{served_still}
+use Rattle.trace_returned.proofs.Deliver.{came_only, Begins, client_other, client_ran, new_request, request_admitted, client_piece, plain_of, request_of}
+use Rattle.trace_returned.proofs.RequestBlock.{Comes, request_comes}
 use Rattle.trace_returned.proofs.Saying.{AreUndone, calm_undone, HasSaid, IsSaying, served_saying}
 
 -- ---- rules

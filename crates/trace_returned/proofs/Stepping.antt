@@ -20,27 +20,27 @@ use Rattle.homa_plain.specs.Sending.{response_content}
 use Rattle.homa_plain.specs.Timers.{Place, OfClient, OfServer, server_deadline, state_deadline, client_acts, server_acts}
 use Rattle.homa_plain.specs.Steps.{Work, now_of, tells, moment, served, hears_cutoffs, comes_to_row, acked, takes, is_stale, comes, client_acted}
 use Rattle.homa_plain.specs.Steps.{server_acted, acts_at, acts, ended}
-use Rattle.homa_plain.specs.View.{View, Progress, Sent, Called, no_ends}
-use Rattle.homa_plain.specs.Seen.{seen, seen_all, begun, delivery, delivered, stale}
-use Rattle.homa_plain.specs.Laws.{Holds, Once}
+use Rattle.trace_rules.specs.View.{View, Progress, Sent, Called, no_ends}
+use Rattle.trace_rules.specs.Seen.{seen, seen_all, begun, delivery, delivered, stale}
+use Rattle.trace_rules.specs.Laws.{Holds, Once}
 use Rattle.homa_plain.specs.World.{World}
 use Rattle.step_laws.proofs.Places.{all-append}
-use Rattle.trace_lines.specs.Told.{sent_of}
-use Rattle.trace_lines.proofs.Runs.{runs_told}
-use Rattle.trace_moves.proofs.Own.{acked_own, server_acts_own, client_acts_quiet}
-use Rattle.trace_moves.proofs.Moves.{IsMove}
-use Rattle.trace_lines.proofs.Progress.{AreLevel, level_itself}
-use Rattle.trace_moves.proofs.SendMoves.{server_granted-move, client_granted-move, response_leaves-move, request_leaves-move, says-move, hears-move}
-use Rattle.trace_induction.specs.Stands.{Stand, state_of, put, said_so_far, amid}
-use Rattle.trace_induction.specs.Contents.{replies, Replies}
-use Rattle.trace_induction.proofs.Chosen.{IsTimerAt}
-use Rattle.trace_induction.proofs.Folds.{turn_kept, ended_kept}
-use Rattle.trace_induction.proofs.Frame.{move_said, move_packets, still_stand, server_there, client_there, last_there}
-use Rattle.trace_induction.proofs.ToldMoves.{told_move}
-use Rattle.trace_lifetime.specs.Lifetime.{times, IsOver, Fits}
-use Rattle.trace_lifetime.specs.Kept.{PacketFits}
-use Rattle.trace_lifetime.proofs.ServerTimers.{IsNow, server_acts_keeps, server_acked_keeps}
-use Rattle.trace_lifetime.proofs.ClientTimers.{client_made, client_acts_keeps}
+use Rattle.trace_steps.specs.Told.{sent_of}
+use Rattle.trace_steps.proofs.Runs.{runs_told}
+use Rattle.step_laws.proofs.Own.{acked_own, server_acts_own, client_acts_quiet}
+use Rattle.step_moves.proofs.Moves.{IsMove}
+use Rattle.trace_steps.proofs.Progress.{AreLevel, level_itself}
+use Rattle.step_moves.proofs.SendMoves.{server_granted-move, client_granted-move, response_leaves-move, request_leaves-move, says-move, hears-move}
+use Rattle.trace_steps.specs.Stands.{Stand, state_of, put, said_so_far, amid}
+use Rattle.trace_steps.specs.Contents.{replies, Replies}
+use Rattle.step_moves.proofs.Chosen.{IsTimerAt}
+use Rattle.step_moves.proofs.Folds.{turn_kept, ended_kept}
+use Rattle.trace_steps.proofs.Frame.{move_said, move_packets, still_stand, server_there, client_there, last_there}
+use Rattle.trace_steps.proofs.ToldMoves.{told_move}
+use Rattle.trace_once.specs.Lifetime.{times, IsOver, Fits}
+use Rattle.trace_once.specs.Kept.{PacketFits}
+use Rattle.trace_once.proofs.ServerTimers.{IsNow, server_acts_keeps, server_acked_keeps}
+use Rattle.trace_once.proofs.ClientTimers.{client_made, client_acts_keeps}
 use Rattle.trace_once.proofs.Acks.{client_acts_done, no_acks}
 use Rattle.trace_once.proofs.Amid.{IsAmid, Came}
 use Rattle.trace_once.proofs.Goes.{calls_later, packet_later}
@@ -48,13 +48,13 @@ use Rattle.trace_once.proofs.ServedCame.{served_came}
 use Rattle.trace_once.proofs.AskedCame.{asked_came}
 use Rattle.trace_once.proofs.SentCame.{server_granted_came, client_granted_came, response_came, request_came}
 use Rattle.trace_once.proofs.Taken.{heard_came, at_server, at_client, said_came}
-use Rattle.trace_messages.specs.Tales.{Tale, tale, CarriesReply, IsTruthful, IsSame, IsTrue}
-use Rattle.trace_messages.proofs.StillRules.{StillServed, Drops, StillAsked, TimesOut, acked_still, server_acts_still, client_acts_still}
-use Rattle.trace_messages.proofs.Calm.{told_replies, IsCalmTold, calm_view, calm_truthful, unstale_inner, closed_same, block_then}
-use Rattle.trace_messages.proofs.OwnMoves.{timeout_block}
-use Rattle.trace_messages.proofs.TrueMoves.{response_later, same_stays, lines_of, once_of, true_move, served_still, asked_still}
-use Rattle.trace_messages.proofs.ActMoves.{served_drops, asked_fails}
-use Rattle.trace_messages.proofs.SendTrue.{server_granted_true, client_granted_true, request_true, response_true}
+use Rattle.trace_returned.specs.Tales.{Tale, tale, CarriesReply, IsTruthful, IsSame, IsTrue}
+use Rattle.trace_returned.proofs.StillRules.{StillServed, Drops, StillAsked, TimesOut, acked_still, server_acts_still, client_acts_still}
+use Rattle.trace_returned.proofs.Calm.{told_replies, IsCalmTold, calm_view, calm_truthful, unstale_inner, closed_same, block_then}
+use Rattle.trace_returned.proofs.OwnMoves.{timeout_block}
+use Rattle.trace_returned.proofs.TrueMoves.{response_later, same_stays, lines_of, once_of, true_move, served_still, asked_still}
+use Rattle.trace_returned.proofs.ActMoves.{served_drops, asked_fails}
+use Rattle.trace_returned.proofs.SendTrue.{server_granted_true, client_granted_true, request_true, response_true}
 use Rattle.trace_returned.proofs.Saying.{AreUndone, calm_undone, undone_holds, steady_undone, IsSaying, returned_move, moved_saying, served_saying}
 use Rattle.trace_returned.proofs.Saying.{undone_saying}
 use Rattle.trace_returned.proofs.ServerCame.{line_view, IsBefore, plain_closed, server_saying}

@@ -1,9 +1,9 @@
 -- What a closed block has is what is due in it.
 use Rattle.std.specs.Prelude.{◌≡◌, true}
 use Rattle.homa_plain.specs.Entries.{PlainEntry}
-use Rattle.homa_plain.specs.Lines.{closes}
-use Rattle.homa_plain.specs.View.{View}
-use Rattle.homa_plain.specs.Laws.{SameCalls}
+use Rattle.trace_rules.specs.Lines.{closes}
+use Rattle.trace_rules.specs.View.{View}
+use Rattle.trace_rules.specs.Laws.{SameCalls}
 
 -- Forgotten. In a closed block exactly the call fails as forgotten of which an UNKNOWN that counts says so: all of the law fails but what it says of timeouts.
 abbrev pub Forgotten : View → PlainEntry → Type 0

@@ -1,1 +1,2 @@
+pub mod Tales
 pub mod Closing

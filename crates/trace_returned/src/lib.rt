@@ -2,14 +2,14 @@
 //! run in the life that sent the packet; a closed block has exactly the runs, the done calls and the forgotten ones that
 //! its delivery makes due.
 //!
-//! The model: `trace_messages` says what the lines of a trace tell of a call's messages against the rows of its client and
-//! its server. It is carried through each delivery, each move of a host's step, each event and every list of events; the
-//! laws are judged at each line on the way.
+//! The model: `specs/Tales` says what the lines of a trace tell of a call's messages against the rows of its client and
+//! its server. It is carried through each delivery (`Deliver`, `RequestBlock`, `ResponseBlock`), each move of a host's
+//! step, each event and every list of events; the laws are judged at each line on the way.
 //! Main promises: `returned_on_every_trace`, `handed_up_on_every_trace`, `forgotten_on_every_trace`.
 #![tactic(auto)]
 
-ghost use Rattle.homa_plain.specs.Laws.{Returned, HandedUp};
-ghost use Rattle.trace_induction.specs.Always.{HoldsAlways};
+ghost use Rattle.trace_rules.specs.Laws.{Returned, HandedUp};
+ghost use Rattle.trace_steps.specs.Always.{HoldsAlways};
 ghost use Rattle.trace_returned.specs.Closing.{Forgotten};
 
 /// A call is done in the block of a response's delivery, with the response of its run in the life that sent the packet.

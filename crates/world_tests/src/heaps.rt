@@ -4,7 +4,7 @@ ghost use Rattle.std.specs.List.{AllByRecursion};
 
 use homa_host::Host;
 use homa_plain::{Event, HostId, Settings};
-use homa_replay::Playing;
+use homa_replay::ReplayWorld;
 use homa_service::Suite;
 use homa_world::*;
 use std::alloc::{AllocError, Global};

@@ -12,7 +12,7 @@ struct Blank {
     events: u64,
 }
 
-impl Playing for Blank {
+impl ReplayWorld for Blank {
     ghost use Rattle.std.specs.Prelude.{[], ◌∷◌, ◌≡◌, refl};
     ghost use Rattle.homa_plain.specs.Entries.{PlainClock};
 
@@ -42,7 +42,7 @@ impl Playing for Blank {
     }
 }
 
-impl Opens<u32> for Blank {
+impl OpenWorld<u32> for Blank {
     ghost use Rattle.std.specs.Prelude.{◌≡◌, refl};
 
     ghost many = { λ boxes. boxes };

@@ -3,7 +3,7 @@ ghost use Rattle.std.specs.Prelude.{◌≡◌, ◌≤◌, ◌+◌, ◌<◌, leng
 ghost use Rattle.std.specs.List.{AllByRecursion};
 
 use homa_plain::{Body, CallId, Entry, Event, HostId, Role, Settings, WorldFault};
-use homa_replay::Playing;
+use homa_replay::ReplayWorld;
 use homa_service::Suite;
 use homa_world::*;
 use std::alloc::{AllocError, Global};

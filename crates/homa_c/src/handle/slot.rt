@@ -7,7 +7,7 @@ ghost use Rattle.homa_c.specs.Owned.{held_coded, slot_owns};
 mod lend;
 mod parts;
 
-use asking_host::AskingHost;
+use driven_host::AskingHost;
 use parts::Parts;
 use std::alloc::Global;
 use std::marker::Model;

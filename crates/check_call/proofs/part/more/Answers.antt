@@ -1,5 +1,5 @@
 use Rattle.std.proofs.Common.{◌∙◌, ap, ◌+◌}
-use Rattle.homa_plain.specs.Parts as plain
+use Rattle.trace_rules.specs.Parts as plain
 use Rattle.check_call.proofs.part.more.Goals as goal
 
 pub returns-clause-part : goal.returns-clause-part

@@ -1,7 +1,7 @@
 use Rattle.std.proofs.Common.{◌∙◌, sym, ap}
 use Rattle.std.specs.Prelude.{unwrap_or}
 use Rattle.std.specs.Option.{option_map}
-use Rattle.homa_plain.specs.Parts as plain
+use Rattle.trace_rules.specs.Parts as plain
 use Rattle.check_call.specs.Kept.{part_of}
 use Rattle.check_call.proofs.part.part_or.Goals as goal
 

@@ -1,7 +1,7 @@
 use Rattle.std.proofs.Common.{◌≡◌, true, false, length, sym, subst}
 use Rattle.driven_host.specs.Driven.{Driven}
-use Rattle.asking_host.specs.Asking.{MayCall}
-use Rattle.asking_host.proofs.Starting.{may_call}
+use Rattle.driven_host.specs.Asking.{MayCall}
+use Rattle.driven_host.proofs.Starting.{may_call}
 use Rattle.homa_c.proofs.exports.homa_call.Goals as goal
 
 pub returns-then-not-may_call-clause-begins : goal.returns-then-not-may_call-clause-begins

@@ -4,7 +4,7 @@ ghost use types.Logic.{sem};
 ghost use Rattle.homa_c.specs.Followed.{slot_follows};
 
 use super::Slot;
-use asking_host::AskingHost;
+use driven_host::AskingHost;
 
 impl Slot {
     // The host that the slot holds; what is written to it is the slot's.

@@ -1,5 +1,5 @@
 use Rattle.std.proofs.Common.{◌∙◌, sym, ap}
-use Rattle.homa_plain.specs.Judge.{are_same_calls}
+use Rattle.trace_rules.specs.Judge.{are_same_calls}
 use Rattle.homa_check.proofs.judge.has_failed.Goals as goal
 
 pub returns : goal.returns

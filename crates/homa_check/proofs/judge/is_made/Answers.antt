@@ -1,5 +1,5 @@
 use Rattle.std.proofs.Common.{◌∙◌, sym, ap}
-use Rattle.homa_plain.specs.Judge as tests
+use Rattle.trace_rules.specs.Judge as tests
 use Rattle.check_lines.proofs.Readings.{made_is}
 use Rattle.homa_check.proofs.judge.is_made.Goals as goal
 

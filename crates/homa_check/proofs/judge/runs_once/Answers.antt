@@ -1,5 +1,5 @@
 use Rattle.std.proofs.Common.{◌∙◌, sym, ap}
-use Rattle.homa_plain.specs.Judge as tests
+use Rattle.trace_rules.specs.Judge as tests
 use Rattle.homa_plain.specs.Entries.{plain}
 use Rattle.check_lines.proofs.RunLaws.{once_is, and_then, and_else}
 use Rattle.homa_check.proofs.judge.runs_once.Goals as goal

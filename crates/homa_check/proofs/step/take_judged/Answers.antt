@@ -1,6 +1,6 @@
 use Rattle.std.proofs.Common.{◌∙◌, sym, ap}
 use Rattle.homa_plain.specs.Entries.{plain}
-use Rattle.homa_plain.specs.Seen.{seen}
+use Rattle.trace_rules.specs.Seen.{seen}
 use Rattle.check_lines.specs.Sends.{keeps_window}
 use Rattle.homa_check.proofs.StepLaws.{windows_kept, window_left, shape_and_once}
 use Rattle.check_lines.proofs.LineLaws.{both}

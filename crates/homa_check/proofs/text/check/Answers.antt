@@ -1,6 +1,6 @@
 use Rattle.std.proofs.Common.{◌∙◌, arith, refl, sym, ap, []}
 use Rattle.std.proofs.lemmas.Result.{IfOk-weaker, err_from_is_err_and}
-use Rattle.homa_text.proofs.Taking.{unread-nil}
+use Rattle.text_lines.proofs.Taking.{unread-nil}
 use Rattle.check_verdict.proofs.TextLaws.{yes_is, no_is}
 use Rattle.homa_check.specs.Checks.{plain_verdict}
 use Rattle.homa_check.specs.Clauses.{clause_of}

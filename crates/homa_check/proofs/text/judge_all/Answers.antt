@@ -1,8 +1,8 @@
 use Rattle.std.proofs.Common.{◌≡◌, ◌+◌, ◌∙◌, arith, refl, sym, ap, subst, ℕ}
 use Rattle.std.proofs.lemmas.Result.{err_from_is_err_and}
 use Rattle.homa_io.specs.Outside.{HasRisen}
-use Rattle.homa_plain.specs.View.{nothing_seen}
-use Rattle.homa_text.specs.Lines.{reading}
+use Rattle.trace_rules.specs.View.{nothing_seen}
+use Rattle.text_lines.specs.Lines.{reading}
 use Rattle.check_verdict.specs.Verdict as plain
 use Rattle.homa_check.specs.Clauses.{clause_of}
 use Rattle.homa_check.specs.Checks.{plain_verdict}

@@ -1,6 +1,6 @@
 use Rattle.std.proofs.Common.{◌≡◌, ◌-◌, ◌≤◌, ℕ, List, Some, length}
-use Rattle.homa_plain.specs.View.{View}
-use Rattle.homa_text.specs.Lines.{reading}
+use Rattle.trace_rules.specs.View.{View}
+use Rattle.text_lines.specs.Lines.{reading}
 use Rattle.check_verdict.specs.Verdict.{verdict_of}
 use Rattle.check_lines.specs.Traces.{Follows}
 use Rattle.homa_check.specs.Checks.{verdict_next, IsSoFar, HasTaken}

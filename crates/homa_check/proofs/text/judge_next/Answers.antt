@@ -1,6 +1,6 @@
 use Rattle.std.proofs.Common.{◌∙◌, arith, sym, ap, subst, List, ℕ}
 use Rattle.std.specs.Option.{option_map}
-use Rattle.homa_text.specs.Lines.{reading}
+use Rattle.text_lines.specs.Lines.{reading}
 use Rattle.check_reader.specs.Forms.{entry_of}
 use Rattle.check_verdict.specs.Verdict.{judged_text, seen_text}
 use Rattle.homa_check.specs.Clauses.{clause_of}

@@ -2,7 +2,7 @@ use Rattle.std.proofs.Common.{◌≡◌, ◌-◌, ◌^◌, ◌<◌, ◌∙◌, s
 use Rattle.std.specs.Prelude.{IfOk}
 use Rattle.std.specs.Option.{option_map}
 use Rattle.homa_plain.specs.Entries.{PlainEntry, plain}
-use Rattle.homa_plain.specs.View.{View}
+use Rattle.trace_rules.specs.View.{View}
 use Rattle.check_reader.specs.Forms.{entry_of}
 use Rattle.check_verdict.specs.Verdict.{judged_text, seen_text}
 use Rattle.check_verdict.proofs.TextLaws.{entry_read}

@@ -13,7 +13,7 @@ loop-number-init g c = record { entered = λ w h new. refl; life = refl; hosts =
 pub loop-number-preserved : goal.loop-number-preserved
 loop-number-preserved g c =
     let l = c.loop-number in
-    let s = g.P.Playing.settings c.args.world.now in
+    let s = g.P.ReplayWorld.settings c.args.world.now in
     elim c.match-packet.branch [
       | in-Some w ↦ rw w.fabric-is (record {
         entered = λ v h new.
@@ -36,5 +36,5 @@ pub returns-clause-entered : goal.returns-clause-entered
 returns-clause-entered g c = λ w h new.
     let l = c.loop-number in
     let past : length w.packets ≤ l.number = omega (arith, c.packets-end.ensures w h, c.loop-number-test.false) in
-    sym (l.invariant.entered w h new ∙ ap (λ (xs : List SentPacket). all_sent (g.P.Playing.settings c.args.world.now) l.number xs l.fabric.fabric)
+    sym (l.invariant.entered w h new ∙ ap (λ (xs : List SentPacket). all_sent (g.P.ReplayWorld.settings c.args.world.now) l.number xs l.fabric.fabric)
     (drop_all l.number w.packets past))

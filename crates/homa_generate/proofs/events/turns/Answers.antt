@@ -30,7 +30,7 @@ returns-then-not-branch-clause-carried g c = λ w h.
 
 pub returns-clause-carried : goal.returns-clause-carried
 returns-clause-carried g c = λ w h.
-    let p = g.P.Playing in
+    let p = g.P.ReplayWorld in
     let all : c.loop-host.host ≡ c.args.hosts = omega (arith, c.loop-host-test.false, c.loop-host.auto) in
     subst (λ (n : ℕ). IsCarried (p.settings c.args.world.now) w (turns_of 0 n) (p.stands c.loop-host.world) c.args.counts.now c.loop-host.counts
     (p.allows c.args.world.now) (p.allows c.loop-host.world) true) all (c.loop-host.invariant.carried w h)

@@ -7,7 +7,7 @@ use Rattle.homa_generate.proofs.events.turns.Given as goal
 
 abbrev pub invariant-loop-host : goal.invariant-loop-host
 invariant-loop-host g l =
-    let p = g.P.Playing in
+    let p = g.P.ReplayWorld in
     record {
       carried : (w : World) → p.stands l.fn.world w → IsCarried (p.settings l.fn.world) w (turns_of 0 l.host) (p.stands l.world) l.fn.counts l.counts
           (p.allows l.fn.world) (p.allows l.world) true;

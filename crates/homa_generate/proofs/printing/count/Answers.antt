@@ -9,7 +9,7 @@ use Rattle.homa_generate.proofs.printing.count.Goals as goal
 pub returns-in_err-counts-clause-part : goal.returns-in_err-counts-clause-part
 returns-in_err-counts-clause-part g c =
     MatchResult-from_err _ _ _ c.from_residual.ensures.0
-    (λ _. nothing_part _ (λ (g : Generated). summary_text g.told) _ _ (g.met.P.Opens.unasked c.args.boxes _ refl))
+    (λ _. nothing_part _ (λ (g : Generated). summary_text g.told) _ _ (g.met.P.OpenWorld.unasked c.args.boxes _ refl))
 
 pub returns-in_err-put-clause-part : goal.returns-in_err-put-clause-part
 returns-in_err-put-clause-part g c =

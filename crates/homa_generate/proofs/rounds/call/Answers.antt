@@ -11,7 +11,7 @@ use Rattle.homa_generate.proofs.rounds.call.Goals as goal
 
 pub returns-then-setup-live-clause-gone : goal.returns-then-setup-live-clause-gone
 returns-then-setup-live-clause-gone g c = λ r at.
-    let s = g.P.Playing.settings c.args.world.now in
+    let s = g.P.ReplayWorld.settings c.args.world.now in
     let t = c.traffic-traffic in
     let full : nat_le s.calls c.live.result ≡ true =
     ap (λ (o : Settings). nat_le o.calls c.live.result) (sym c.requires.ready.settings) ∙ le-leb _ _ c.if-setup-live.true in
@@ -20,7 +20,7 @@ returns-then-setup-live-clause-gone g c = λ r at.
 
 pub returns-in_err-play-clause-stopped : goal.returns-in_err-play-clause-stopped
 returns-in_err-play-clause-stopped g c =
-    let s = g.P.Playing.settings c.args.world.now in
+    let s = g.P.ReplayWorld.settings c.args.world.now in
     let t = c.traffic-traffic in
     let some : nat_le s.calls c.live.result ≡ false =
     ap (λ (o : Settings). nat_le o.calls c.live.result) (sym c.requires.ready.settings) ∙ lt-leb _ _ c.if-setup-live.false in
@@ -32,7 +32,7 @@ returns-in_err-play-clause-stopped g c =
 
 pub returns-clause-gone : goal.returns-clause-gone
 returns-clause-gone g c = λ r at.
-    let s = g.P.Playing.settings c.args.world.now in
+    let s = g.P.ReplayWorld.settings c.args.world.now in
     let t = c.traffic-traffic in
     let some : nat_le s.calls c.live.result ≡ false =
     ap (λ (o : Settings). nat_le o.calls c.live.result) (sym c.requires.ready.settings) ∙ lt-leb _ _ c.if-setup-live.false in

@@ -26,7 +26,7 @@ returns-then-progress-eq0-clause-gone g c = λ r at.
 
 pub returns-in_err-call-clause-stopped : goal.returns-in_err-call-clause-stopped
 returns-in_err-call-clause-stopped g c =
-    let s = g.P.Playing.settings c.args.world.now in
+    let s = g.P.ReplayWorld.settings c.args.world.now in
     let l = c.loop in
     let one : calls_a_round - l.counter ≡ suc (calls_a_round - (l.counter + 1)) = omega (arith, c.loop-test.true) in
     MatchResult-from_err _ _ _ c.from_residual.ensures.0
@@ -38,7 +38,7 @@ returns-in_err-call-clause-stopped g c =
 
 pub loop-preserved : goal.loop-preserved
 loop-preserved g c =
-    let s = g.P.Playing.settings c.args.world.now in
+    let s = g.P.ReplayWorld.settings c.args.world.now in
     let l = c.loop in
     let e = c.in_ok-call.ensures in
     let one : calls_a_round - l.counter ≡ suc (calls_a_round - (l.counter + 1)) = omega (arith, c.loop-test.true) in

@@ -18,7 +18,7 @@ loop-init g c = record {
 
 pub returns-in_default-clause-gone : goal.returns-in_default-clause-gone
 returns-in_default-clause-gone g c = λ r at.
-    let s = g.P.Playing.settings c.args.world.now in
+    let s = g.P.ReplayWorld.settings c.args.world.now in
     let l = c.loop in
     let one : most_handed - l.counter ≡ suc (most_handed - (l.counter + 1)) = omega (arith, c.loop-test.true) in
     let first = l.invariant.gone r at in
@@ -28,7 +28,7 @@ returns-in_default-clause-gone g c = λ r at.
 
 pub returns-in_err-play-clause-stopped : goal.returns-in_err-play-clause-stopped
 returns-in_err-play-clause-stopped g c =
-    let s = g.P.Playing.settings c.args.world.now in
+    let s = g.P.ReplayWorld.settings c.args.world.now in
     let l = c.loop in
     let one : most_handed - l.counter ≡ suc (most_handed - (l.counter + 1)) = omega (arith, c.loop-test.true) in
     MatchResult-from_err _ _ _ c.from_residual.ensures.0
@@ -43,7 +43,7 @@ returns-in_err-play-clause-stopped g c =
 
 pub loop-preserved : goal.loop-preserved
 loop-preserved g c =
-    let s = g.P.Playing.settings c.args.world.now in
+    let s = g.P.ReplayWorld.settings c.args.world.now in
     let l = c.loop in
     let e = c.in_ok-play.ensures in
     let one : most_handed - l.counter ≡ suc (most_handed - (l.counter + 1)) = omega (arith, c.loop-test.true) in

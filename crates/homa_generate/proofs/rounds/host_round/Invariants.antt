@@ -7,7 +7,7 @@ use Rattle.homa_generate.proofs.rounds.host_round.Given as goal
 
 abbrev pub invariant-loop : goal.invariant-loop
 invariant-loop g l =
-    let p = g.P.Playing in
+    let p = g.P.ReplayWorld in
     let k = g.K.Sink in
     let s = p.settings l.fn.world in
     record {

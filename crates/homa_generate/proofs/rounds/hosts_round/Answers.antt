@@ -19,7 +19,7 @@ loop-host-init g c = record {
 
 pub returns-in_err-host_round-clause-stopped : goal.returns-in_err-host_round-clause-stopped
 returns-in_err-host_round-clause-stopped g c =
-    let s = g.P.Playing.settings c.args.world.now in
+    let s = g.P.ReplayWorld.settings c.args.world.now in
     let l = c.loop-host in
     let many : c.args.setup.now.settings.hosts ≡ s.hosts = ap (λ (o : Settings). o.hosts) c.requires.ready.settings in
     let one : s.hosts - l.host ≡ suc (s.hosts - (l.host + 1)) = omega (arith, many, c.loop-host-test.true) in
@@ -31,7 +31,7 @@ returns-in_err-host_round-clause-stopped g c =
 
 pub loop-host-preserved : goal.loop-host-preserved
 loop-host-preserved g c =
-    let s = g.P.Playing.settings c.args.world.now in
+    let s = g.P.ReplayWorld.settings c.args.world.now in
     let l = c.loop-host in
     let e = c.in_ok-host_round.ensures in
     let many : c.args.setup.now.settings.hosts ≡ s.hosts = ap (λ (o : Settings). o.hosts) c.requires.ready.settings in
@@ -48,7 +48,7 @@ loop-host-preserved g c =
 
 pub returns-clause-gone : goal.returns-clause-gone
 returns-clause-gone g c = λ r at.
-    let s = g.P.Playing.settings c.args.world.now in
+    let s = g.P.ReplayWorld.settings c.args.world.now in
     let many : c.args.setup.now.settings.hosts ≡ s.hosts = ap (λ (o : Settings). o.hosts) c.requires.ready.settings in
     let none : s.hosts - c.loop-host.host ≡ 0 = omega (arith, many, c.loop-host-test.false) in
     no_host s _ r _ _ _ _ _ c.loop-host.host (s.hosts - c.loop-host.host) none (c.loop-host.invariant.gone r at)

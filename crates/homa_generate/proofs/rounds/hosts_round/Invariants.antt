@@ -7,7 +7,7 @@ use Rattle.homa_generate.proofs.rounds.hosts_round.Given as goal
 
 abbrev pub invariant-loop-host : goal.invariant-loop-host
 invariant-loop-host g l =
-    let p = g.P.Playing in
+    let p = g.P.ReplayWorld in
     let k = g.K.Sink in
     let s = p.settings l.fn.world in
     record {

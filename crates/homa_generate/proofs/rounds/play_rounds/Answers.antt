@@ -20,7 +20,7 @@ loop-init g c = record {
 
 pub returns-in_err-round-clause-stopped : goal.returns-in_err-round-clause-stopped
 returns-in_err-round-clause-stopped g c =
-    let s = g.P.Playing.settings c.args.world.now in
+    let s = g.P.ReplayWorld.settings c.args.world.now in
     let l = c.loop in
     let k = most_rounds - (l.counter + 1) in
     let one : most_rounds - l.counter ≡ suc k = omega (arith, c.loop-test.true) in
@@ -32,7 +32,7 @@ returns-in_err-round-clause-stopped g c =
 
 pub returns-then-is_over-clause-gone : goal.returns-then-is_over-clause-gone
 returns-then-is_over-clause-gone g c = λ r at.
-    let s = g.P.Playing.settings c.args.world.now in
+    let s = g.P.ReplayWorld.settings c.args.world.now in
     let l = c.loop in
     let k = most_rounds - (l.counter + 1) in
     let one : most_rounds - l.counter ≡ suc k = omega (arith, c.loop-test.true) in
@@ -42,7 +42,7 @@ returns-then-is_over-clause-gone g c = λ r at.
 
 pub loop-preserved : goal.loop-preserved
 loop-preserved g c =
-    let s = g.P.Playing.settings c.args.world.now in
+    let s = g.P.ReplayWorld.settings c.args.world.now in
     let l = c.loop in
     let e = c.in_ok-round.ensures in
     let k = most_rounds - (l.counter + 1) in

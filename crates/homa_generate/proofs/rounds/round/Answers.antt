@@ -11,14 +11,14 @@ use Rattle.homa_generate.proofs.rounds.round.Goals as goal
 
 pub returns-in_err-play-clause-stopped : goal.returns-in_err-play-clause-stopped
 returns-in_err-play-clause-stopped g c =
-    let s = g.P.Playing.settings c.args.world.now in
+    let s = g.P.ReplayWorld.settings c.args.world.now in
     MatchResult-from_err _ _ _ c.from_residual.ensures.0
     (λ _ r at. then_stopped s _ _ (after_tick s) (λ (o : Settings). with_line o (GivenTicks 1)) r _ _ _ _ _ _ refl (ticked_extends s)
     (λ x. line_extends s (GivenTicks 1) x) (round_opens s r _ _ _ at) c.in_err-play.ensures.stopped)
 
 pub returns-in_err-hosts_round-clause-stopped : goal.returns-in_err-hosts_round-clause-stopped
 returns-in_err-hosts_round-clause-stopped g c =
-    let s = g.P.Playing.settings c.args.world.now in
+    let s = g.P.ReplayWorld.settings c.args.world.now in
     let b = c.begin.ensures in
     MatchResult-from_err _ _ _ c.from_residual-in_err-hosts_round.ensures.0
     (λ _ r at.
@@ -28,7 +28,7 @@ returns-in_err-hosts_round-clause-stopped g c =
 
 pub returns-in_err-calls_round-clause-stopped : goal.returns-in_err-calls_round-clause-stopped
 returns-in_err-calls_round-clause-stopped g c =
-    let s = g.P.Playing.settings c.args.world.now in
+    let s = g.P.ReplayWorld.settings c.args.world.now in
     let b = c.begin.ensures in
     let stays = c.in_ok-play.ensures.steady.settings in
     MatchResult-from_err _ _ _ c.from_residual-in_err-calls_round.ensures.0
@@ -41,7 +41,7 @@ returns-in_err-calls_round-clause-stopped g c =
 
 pub returns-clause-gone : goal.returns-clause-gone
 returns-clause-gone g c = λ r at.
-    let s = g.P.Playing.settings c.args.world.now in
+    let s = g.P.ReplayWorld.settings c.args.world.now in
     let b = c.begin.ensures in
     let stays = c.in_ok-play.ensures.steady.settings in
     then_gone s _ _ (λ x. x) (calls_round calls_a_round) r _ _ _ _ _ _ _ _ (c.in_ok-hosts_round.ensures.steady.settings ∙ stays)

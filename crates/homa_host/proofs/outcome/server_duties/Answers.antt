@@ -4,11 +4,11 @@ use Rattle.homa_plain.specs.declared.row.OutFacts.{OutFacts}
 use Rattle.homa_plain.specs.declared.row.RowFacts.{RowFacts}
 use Rattle.msg_pool.specs.Pool.{Pool}
 use Rattle.homa_in.specs.Part.{Part}
-use Rattle.host_incoming.specs.Pooled.{IsInPool, seen_part}
+use Rattle.homa_in.specs.Pooled.{IsInPool, seen_part}
 use Rattle.homa_server.specs.Held.{HeldState, Arriving, Keeping, Answering, Gone, seen_state, state_part}
 use Rattle.homa_server.specs.Answers.{out_facts}
 use Rattle.homa_server.proofs.StandLaws.{in_pool}
-use Rattle.host_book_laws.specs.Duty.{timer_duty, arrival_duty, arriving, reply_duty}
+use Rattle.host_books.specs.Duty.{timer_duty, arrival_duty, arriving, reply_duty}
 use Rattle.homa_host.proofs.outcome.server_duties.Goals as goal
 
 arriving_part : (pool : Pool) (state : HeldState) → seen_part pool (state_part state) ≡ arriving (seen_state pool state)

@@ -1,8 +1,8 @@
 use Rattle.std.proofs.Common.{◌≡◌, ◌≤◌, List, Some, refl, sym, ap, ◌∙◌, subst, ℕ}
 use Rattle.std.proofs.lemmas.Result.{err_from_is_err_and}
 use Rattle.node_runs.specs.Script.{with_call}
-use Rattle.node_turns.specs.Told.{AreTold}
-use Rattle.node_turns.proofs.Tellings.{told_none, told_more}
+use Rattle.node_turns.specs.Told.{Hears, AreDone}
+use Rattle.node_turns.proofs.Done.{gone_none, gone_more}
 use Rattle.script_lines.specs.Read.{IsRead}
 use Rattle.script_lines.proofs.ReadParts.{read_start}
 use Rattle.node_script.specs.Heads.{setup_seen}
@@ -17,7 +17,7 @@ use Rattle.homa_node.proofs.calling.starts.Goals as goal
 pub returns-in_err-look-clause-stopped : goal.returns-in_err-look-clause-stopped
 returns-in_err-look-clause-stopped g c =
     let o = g.O.Observer in
-    let h = g.H.Hosting in
+    let h = g.H.LoopHosts in
     let n = g.N.Net in
     let s = g.S.Source in
     let hosts = c.args.hosts.now in
@@ -27,19 +27,20 @@ returns-in_err-look-clause-stopped g c =
     let notes = o.notes c.args.observer.now in
     let p = err_from_is_err_and c.from_residual.result c.from_residual.ensures.1 in
     rw (p.1, p.2) (look_stopped (h.settings hosts) (h.stands hosts) (h.allows hosts) (n.sent c.args.net.now) (n.gave c.args.net.now)
-    (s.left c.args.source.now) due o.told o.kept o.strange taken notes
+    (s.left c.args.source.now) due o.told o.kept o.strange taken notes (n.acts c.args.net.now)
     (n.sent c.args.net.now) (n.gave c.args.net.now) (s.left c.args.source.now) (h.stands hosts)
-    (h.allows hosts) taken notes setup c.args.ahead.now c.look.new.ahead c.args.reader.now c.look.new.reader _ c.in_err-look.field-0.0
+    (h.allows hosts) taken notes (n.acts c.args.net.now) setup c.args.ahead.now c.look.new.ahead c.args.reader.now c.look.new.reader _ c.in_err-look.field-0.0
     (started_none (h.settings hosts) (h.stands hosts) (h.allows hosts) (n.sent c.args.net.now) (n.gave c.args.net.now) (s.left c.args.source.now) due
     (s.left c.args.source.now)
-    (AreTold o.told o.kept o.strange taken notes taken notes) due (told_none o.told o.kept o.strange taken notes)
+    (AreDone o.told o.kept o.strange taken notes taken notes (n.acts c.args.net.now) (n.acts c.args.net.now) (Hears 64) (Hears 64)) due
+    (gone_none o.told o.kept o.strange taken notes (n.acts c.args.net.now) (Hears 64))
     (λ bytes k. read_start bytes (s.left c.args.source.now) due k))
-    c.in_err-look.ensures.stops c.in_err-look.ensures.looked (g.met.H.Hosting.allows_none hosts))
+    c.in_err-look.ensures.stops c.in_err-look.ensures.looked (g.met.H.LoopHosts.allows_none hosts))
 
 pub calls-init : goal.calls-init
 calls-init g c =
     let o = g.O.Observer in
-    let h = g.H.Hosting in
+    let h = g.H.LoopHosts in
     let n = g.N.Net in
     let s = g.S.Source in
     let hosts = c.args.hosts.now in
@@ -49,7 +50,8 @@ calls-init g c =
       started = started_none (h.settings hosts) (h.stands hosts) (h.allows hosts) (n.sent c.args.net.now) (n.gave c.args.net.now) (s.left c.args.source.now)
           (calls_ahead setup c.args.ahead.now c.args.reader.now) (s.left c.look.new.source)
           _ (calls_ahead setup c.look.new.ahead c.look.new.reader)
-          (told_none o.told o.kept o.strange (o.taken c.args.observer.now) (o.notes c.args.observer.now)) (λ bytes k. (e.looked bytes k).0);
+          (gone_none o.told o.kept o.strange (o.taken c.args.observer.now) (o.notes c.args.observer.now) (n.acts c.args.net.now) (Hears 64))
+          (λ bytes k. (e.looked bytes k).0);
       all = λ bytes k a. (e.looked bytes k).1 a;
       known = e.known;
       counted = e.counted;
@@ -68,7 +70,7 @@ calls-init g c =
 pub returns-in_err-start_call-clause-stopped : goal.returns-in_err-start_call-clause-stopped
 returns-in_err-start_call-clause-stopped g c =
     let o = g.O.Observer in
-    let h = g.H.Hosting in
+    let h = g.H.LoopHosts in
     let n = g.N.Net in
     let s = g.S.Source in
     let l = c.calls in
@@ -79,8 +81,8 @@ returns-in_err-start_call-clause-stopped g c =
     let p = err_from_is_err_and c.from_residual-in_err-start_call.result c.from_residual-in_err-start_call.ensures.1 in
     rw (p.1, p.2) (call_stopped (h.settings hosts) (h.stands hosts) (h.allows hosts) (n.sent c.args.net.now) (n.gave c.args.net.now)
     (s.left c.args.source.now) (calls_ahead setup c.args.ahead.now c.args.reader.now)
-    o.told o.kept o.strange (o.taken c.args.observer.now) (o.notes c.args.observer.now)
-    (n.sent l.net) (n.gave l.net) (s.left l.source) (h.stands l.hosts) (h.allows l.hosts) (o.taken l.observer) (o.notes l.observer) call left
+    o.told o.kept o.strange (o.taken c.args.observer.now) (o.notes c.args.observer.now) (n.acts c.args.net.now)
+    (n.sent l.net) (n.gave l.net) (s.left l.source) (h.stands l.hosts) (h.allows l.hosts) (o.taken l.observer) (o.notes l.observer) (n.acts l.net) call left
     (started_as (h.settings hosts) (h.stands hosts) (h.allows hosts) (n.sent c.args.net.now) (n.gave c.args.net.now) (s.left c.args.source.now)
     (calls_ahead setup c.args.ahead.now c.args.reader.now)
     (n.sent l.net) (n.gave l.net) (s.left l.source) (h.stands l.hosts) (h.allows l.hosts) _ (calls_ahead setup l.ahead l.reader)
@@ -89,13 +91,14 @@ returns-in_err-start_call-clause-stopped g c =
     ∙ ap (λ q. with_call (called c.in-Some.call q) (left more)) (sym c.request.ensures)) l.invariant.started)
     (h.settings l.hosts) l.invariant.settings (λ w st. subst (λ (x : ℕ). c.in-Some.call.tick ≤ x) (c.now.ensures.stands w st) c.in-Some.ensures.due)
     (n.sent c.start_call.new.net) (n.gave c.start_call.new.net) (o.taken c.start_call.new.observer) (o.notes c.start_call.new.observer)
+    (n.acts c.start_call.new.net)
     (h.stands c.start_call.new.hosts) (h.allows c.start_call.new.hosts) c.in_err-start_call.field-0.0
     c.in_err-start_call.ensures.stops c.in_err-start_call.ensures.cut c.in_err-start_call.ensures.refused)
 
 pub calls-preserved : goal.calls-preserved
 calls-preserved g c =
     let o = g.O.Observer in
-    let h = g.H.Hosting in
+    let h = g.H.LoopHosts in
     let n = g.N.Net in
     let s = g.S.Source in
     let l = c.calls in
@@ -117,7 +120,8 @@ calls-preserved g c =
           (started_call (h.settings hosts) (h.stands hosts) (h.allows hosts) (n.sent c.args.net.now) (n.gave c.args.net.now) (s.left c.args.source.now)
           (calls_ahead setup c.args.ahead.now c.args.reader.now)
           (n.sent l.net) (n.gave l.net) (s.left l.source) (h.stands l.hosts) (h.allows l.hosts)
-          (AreTold o.told o.kept o.strange (o.taken c.args.observer.now) (o.notes c.args.observer.now) (o.taken l.observer) (o.notes l.observer)) call
+          (AreDone o.told o.kept o.strange (o.taken c.args.observer.now) (o.notes c.args.observer.now) (o.taken l.observer) (o.notes l.observer)
+          (n.acts c.args.net.now) (n.acts l.net) (Hears 64) (Hears 64)) call
           left
           (started_as (h.settings hosts) (h.stands hosts) (h.allows hosts) (n.sent c.args.net.now) (n.gave c.args.net.now) (s.left c.args.source.now)
           (calls_ahead setup c.args.ahead.now c.args.reader.now)
@@ -127,7 +131,8 @@ calls-preserved g c =
           ∙ ap (λ q. with_call (called c.in-Some.call q) (left more)) (sym c.request.ensures)) l.invariant.started)
           (h.settings l.hosts) l.invariant.settings _ _ _ _ _ _
           (λ w st held. e.acted w st (subst (λ (x : ℕ). c.in-Some.call.tick ≤ x) (c.now.ensures.stands w st) c.in-Some.ensures.due) held)
-          (λ x y p q. told_more o.told o.kept o.strange _ (o.taken l.observer) _ _ (o.notes l.observer) _ x y p q))
+          (λ x y p q. gone_more o.told o.kept o.strange _ (o.taken l.observer) _ _ (o.notes l.observer) _ _ (n.acts l.net) _ (Hears 64) (Hears 64)
+          (Hears 64) x y p q))
           looked;
       all = λ bytes q a.
           let d = l.invariant.started.read bytes q in
@@ -151,7 +156,7 @@ calls-preserved g c =
 pub returns-in_err-look-2-clause-stopped : goal.returns-in_err-look-2-clause-stopped
 returns-in_err-look-2-clause-stopped g c =
     let o = g.O.Observer in
-    let h = g.H.Hosting in
+    let h = g.H.LoopHosts in
     let n = g.N.Net in
     let s = g.S.Source in
     let l = c.calls in
@@ -161,14 +166,14 @@ returns-in_err-look-2-clause-stopped g c =
     let left = calls_left setup l.reader.least l.reader.place in
     let e = c.in_ok-start_call.ensures in
     let p = err_from_is_err_and c.from_residual-in_err-look-2.result c.from_residual-in_err-look-2.ensures.1 in
-    let so_far = AreTold o.told o.kept o.strange (o.taken c.args.observer.now) (o.notes c.args.observer.now) (o.taken c.start_call.new.observer)
-    (o.notes c.start_call.new.observer) in
+    let so_far = AreDone o.told o.kept o.strange (o.taken c.args.observer.now) (o.notes c.args.observer.now) (o.taken c.start_call.new.observer)
+    (o.notes c.start_call.new.observer) (n.acts c.args.net.now) (n.acts c.start_call.new.net) (Hears 64) (Hears 64) in
     let due = calls_ahead setup c.args.ahead.now c.args.reader.now in
     rw (p.1, p.2) (look_stopped (h.settings hosts) (h.stands hosts) (h.allows hosts) (n.sent c.args.net.now) (n.gave c.args.net.now)
     (s.left c.args.source.now) due
-    o.told o.kept o.strange (o.taken c.args.observer.now) (o.notes c.args.observer.now)
+    o.told o.kept o.strange (o.taken c.args.observer.now) (o.notes c.args.observer.now) (n.acts c.args.net.now)
     (n.sent c.start_call.new.net) (n.gave c.start_call.new.net) (s.left l.source) (h.stands c.start_call.new.hosts) (h.allows c.start_call.new.hosts)
-    (o.taken c.start_call.new.observer) (o.notes c.start_call.new.observer)
+    (o.taken c.start_call.new.observer) (o.notes c.start_call.new.observer) (n.acts c.start_call.new.net)
     setup c.take_due.new.ahead c.look-in-Some.new.ahead l.reader c.look-in-Some.new.reader _ c.in_err-look-2.field-0.0
     (started_as (h.settings hosts) (h.stands hosts) (h.allows hosts) (n.sent c.args.net.now) (n.gave c.args.net.now) (s.left c.args.source.now) due
     (n.sent c.start_call.new.net) (n.gave c.start_call.new.net) (s.left l.source) (h.stands c.start_call.new.hosts)
@@ -176,7 +181,8 @@ returns-in_err-look-2-clause-stopped g c =
     (λ more. ap (λ a. calls_ahead setup a l.reader more) (sym c.in-Some.ensures.taken))
     (started_call (h.settings hosts) (h.stands hosts) (h.allows hosts) (n.sent c.args.net.now) (n.gave c.args.net.now) (s.left c.args.source.now) due
     (n.sent l.net) (n.gave l.net) (s.left l.source) (h.stands l.hosts) (h.allows l.hosts)
-    (AreTold o.told o.kept o.strange (o.taken c.args.observer.now) (o.notes c.args.observer.now) (o.taken l.observer) (o.notes l.observer)) call left
+    (AreDone o.told o.kept o.strange (o.taken c.args.observer.now) (o.notes c.args.observer.now) (o.taken l.observer) (o.notes l.observer)
+    (n.acts c.args.net.now) (n.acts l.net) (Hears 64) (Hears 64)) call left
     (started_as (h.settings hosts) (h.stands hosts) (h.allows hosts) (n.sent c.args.net.now) (n.gave c.args.net.now) (s.left c.args.source.now) due
     (n.sent l.net) (n.gave l.net) (s.left l.source) (h.stands l.hosts) (h.allows l.hosts) _ (calls_ahead setup l.ahead l.reader)
     (λ more. with_call call (left more))
@@ -184,14 +190,16 @@ returns-in_err-look-2-clause-stopped g c =
     ∙ ap (λ q. with_call (called c.in-Some.call q) (left more)) (sym c.request.ensures)) l.invariant.started)
     (h.settings l.hosts) l.invariant.settings (n.sent c.start_call.new.net) (n.gave c.start_call.new.net) (h.stands c.start_call.new.hosts)
     (h.allows c.start_call.new.hosts)
-    (AreTold o.told o.kept o.strange (o.taken l.observer) (o.notes l.observer) (o.taken c.start_call.new.observer) (o.notes c.start_call.new.observer)) so_far
+    (AreDone o.told o.kept o.strange (o.taken l.observer) (o.notes l.observer) (o.taken c.start_call.new.observer) (o.notes c.start_call.new.observer)
+    (n.acts l.net) (n.acts c.start_call.new.net) (Hears 64) (Hears 64)) so_far
     (λ w st held. e.acted w st (subst (λ (x : ℕ). c.in-Some.call.tick ≤ x) (c.now.ensures.stands w st) c.in-Some.ensures.due) held)
-    (λ x y p q. told_more o.told o.kept o.strange _ (o.taken l.observer) _ _ (o.notes l.observer) _ x y p q)))
-    c.in_err-look-2.ensures.stops c.in_err-look-2.ensures.looked (g.met.H.Hosting.allows_none c.start_call.new.hosts))
+    (λ x y p q. gone_more o.told o.kept o.strange _ (o.taken l.observer) _ _ (o.notes l.observer) _ _ (n.acts l.net) _ (Hears 64) (Hears 64)
+    (Hears 64) x y p q)))
+    c.in_err-look-2.ensures.stops c.in_err-look-2.ensures.looked (g.met.H.LoopHosts.allows_none c.start_call.new.hosts))
 
 pub returns-clause-started : goal.returns-clause-started
 returns-clause-started g c =
-    let h = g.H.Hosting in
+    let h = g.H.LoopHosts in
     let n = g.N.Net in
     let s = g.S.Source in
     let l = c.calls in

@@ -1,5 +1,5 @@
 use Rattle.std.proofs.Common.{◌≡◌, ℕ, Some, List}
-use Rattle.node_turns.specs.Told.{AreTold}
+use Rattle.node_turns.specs.Told.{Hears, AreDone}
 use Rattle.node_script.specs.Heads.{setup_seen}
 use Rattle.homa_node.specs.Coming.{calls_ahead, IsLooked, IsOpenAt, IsAllRead, HasRoom, lines_ahead}
 use Rattle.homa_node.specs.Started.{HasStarted}
@@ -10,13 +10,14 @@ abbrev pub invariant-calls : goal.invariant-calls
 invariant-calls g l =
     let o = g.O.Observer in
     let n = g.N.Net in
-    let h = g.H.Hosting in
+    let h = g.H.LoopHosts in
     let s = g.S.Source in
     record {
       started : HasStarted (h.settings l.fn.hosts) (h.stands l.fn.hosts) (h.allows l.fn.hosts) (n.sent l.fn.net) (n.sent l.net) (n.gave l.fn.net)
           (n.gave l.net) (s.left l.fn.source) (s.left l.source) (calls_ahead (setup_seen l.setup) l.fn.ahead l.fn.reader)
           (h.stands l.hosts) (h.allows l.hosts)
-          (AreTold o.told o.kept o.strange (o.taken l.fn.observer) (o.notes l.fn.observer) (o.taken l.observer) (o.notes l.observer))
+          (AreDone o.told o.kept o.strange (o.taken l.fn.observer) (o.notes l.fn.observer) (o.taken l.observer) (o.notes l.observer)
+          (n.acts l.fn.net) (n.acts l.net) (Hears 64) (Hears 64))
           (calls_ahead (setup_seen l.setup) l.ahead l.reader);
       all : (bytes : List ℕ) → s.left l.fn.source ≡ Some bytes → IsAllRead l.fn.ahead (Some bytes) → IsAllRead l.ahead (s.left l.source);
       known : IsLooked l.ahead;

@@ -3,9 +3,13 @@ use Rattle.std.specs.List.{AllByRecursion}
 use Rattle.std.proofs.lemmas.Result.{err_from_is_err_and}
 use Rattle.homa_plain.specs.declared.id.HostId.{HostId}
 use Rattle.node_runs.specs.Course.{StalledAt, node_run}
-use Rattle.node_turns.specs.Told.{Listed, ListedFront, AreTold, AreFront, AreStrange}
+use Rattle.node_turns.specs.Told.{listed, Listed, ListedFront, Hears, AreDone, AreBroken, AreHalted}
 use Rattle.node_turns.proofs.Lists.{listed_more, front_listed}
-use Rattle.node_turns.proofs.Tellings.{front_more, strange_more, on_stop, midst_never}
+use Rattle.node_turns.proofs.Tellings.{on_stop, midst_never}
+use Rattle.node_turns.proofs.Done.{broken_more, halted_more, broken_clock}
+use Rattle.node_runs.specs.Acts.{connects}
+use Rattle.homa_node.proofs.Connected.{all_served}
+use Rattle.std.specs.Prelude.{◌==◌, ◌||◌, nat_lt}
 use Rattle.node_script.specs.Heads.{setup_seen}
 use Rattle.node_script.specs.Calls.{no_calls}
 use Rattle.homa_node.specs.Coming.{calls_ahead, IsIdle, IsAllRead, HasRoom}
@@ -25,7 +29,7 @@ returns-in_err-node-clause-answered g c =
 pub loop-done-init : goal.loop-done-init
 loop-done-init g c =
     let o = g.O.Observer in
-    let h = g.H.Hosting in
+    let h = g.H.LoopHosts in
     let n = g.N.Net in
     let s = g.S.Source in
     let ticks = g.C.Clock.ticks c.args.clock.now in
@@ -33,12 +37,14 @@ loop-done-init g c =
     let e = c.in_ok-node.ensures in
     let setup = setup_seen node.setup in
     record {
-      far = λ bytes k. at_none node_run o.told o.kept o.strange (g.H.OpensIn.are_allowed c.args.boxes) bytes
-          (outside (o.taken c.args.observer.now) (o.notes c.args.observer.now) (n.sent c.args.net.now) (n.gave c.args.net.now) ticks) setup
+      far = λ bytes k. at_none node_run o.told o.kept o.strange (g.H.OpenHosts.are_allowed c.args.boxes) bytes
+          (outside (o.taken c.args.observer.now) (o.notes c.args.observer.now) (listed (n.acts c.args.net.now) (connects setup.places))
+          (n.sent c.args.net.now) (n.gave c.args.net.now) ticks) setup
           (s.left c.open_node.new.source)
-          (outside (o.taken c.open_node.new.observer) (o.notes c.open_node.new.observer) (n.sent c.open_node.new.net)
+          (outside (o.taken c.open_node.new.observer) (o.notes c.open_node.new.observer) (n.acts c.open_node.new.net) (n.sent c.open_node.new.net)
           (n.gave c.open_node.new.net) ticks)
           (h.stands node.hosts) (h.allows node.hosts) 0 _ 0 0 (e.opened bytes ticks k) (omega (arith, e.sound.turns));
+      opens = e.opens;
       all = λ bytes k. tt;
       open_at = e.counted;
       limit = omega (arith, e.limit);
@@ -57,20 +63,21 @@ loop-done-init g c =
 pub returns-in_err-clock_stands-clause-answered : goal.returns-in_err-clock_stands-clause-answered
 returns-in_err-clock_stands-clause-answered g c =
     let o = g.O.Observer in
-    let h = g.H.Hosting in
+    let h = g.H.LoopHosts in
     let n = g.N.Net in
     let s = g.S.Source in
     let t = g.C.Clock in
     let l = c.loop-done in
-    let may = g.H.OpensIn.are_allowed c.args.boxes in
+    let may = g.H.OpenHosts.are_allowed c.args.boxes in
     let setup = setup_seen c.in_ok-node.node.setup in
     let tick = c.now-now.result in
     let turn = l.done + 1 in
     let calls = calls_ahead setup l.ahead l.reader in
-    let old = outside (o.taken c.args.observer.now) (o.notes c.args.observer.now) (n.sent c.args.net.now) (n.gave c.args.net.now) (t.ticks c.args.clock.now) in
-    let first = outside (o.taken l.observer) (o.notes l.observer) (n.sent l.net) (n.gave l.net) (t.ticks l.clock) in
-    let ticked = outside (o.taken l.observer) (o.notes l.observer) (n.sent l.net) (n.gave l.net) (t.ticks c.now-now.new.self) in
-    let clocked = outside (o.taken c.clock_stands.new.observer) (o.notes c.clock_stands.new.observer) (n.sent l.net) (n.gave l.net)
+    let old = outside (o.taken c.args.observer.now) (o.notes c.args.observer.now) (listed (n.acts c.args.net.now) (connects setup.places))
+    (n.sent c.args.net.now) (n.gave c.args.net.now) (t.ticks c.args.clock.now) in
+    let first = outside (o.taken l.observer) (o.notes l.observer) (n.acts l.net) (n.sent l.net) (n.gave l.net) (t.ticks l.clock) in
+    let ticked = outside (o.taken l.observer) (o.notes l.observer) (n.acts l.net) (n.sent l.net) (n.gave l.net) (t.ticks c.now-now.new.self) in
+    let clocked = outside (o.taken c.clock_stands.new.observer) (o.notes c.clock_stands.new.observer) (n.acts l.net) (n.sent l.net) (n.gave l.net)
     (t.ticks c.now-now.new.self) in
     let at_tick = λ (bytes : List ℕ) (k : s.left c.args.source.now ≡ Some bytes).
     at_ticked node_run o.told o.kept o.strange may bytes old setup (s.left l.source) first (h.stands l.hosts)
@@ -80,31 +87,36 @@ returns-in_err-clock_stands-clause-answered g c =
     let e = c.in_err-clock_stands.ensures in
     let stop = c.in_err-clock_stands.field-0.0 in
     let p = err_from_is_err_and c.from_residual-in_err-clock_stands.result c.from_residual-in_err-clock_stands.ensures.1 in
-    rw (p.1, p.2) (λ bytes k.
+    rw (p.1, p.2) (λ bytes k. all_served node_run o.told o.kept o.strange (g.H.OpenHosts.are_allowed c.args.boxes) bytes _ _ _
+    (connects setup.places) _ (l.invariant.opens bytes k) (
     let part = clock_part node_run o.told o.kept o.strange may bytes old setup (s.left l.source) ticked (h.stands l.hosts)
     (h.allows l.hosts) tick calls turn tick (at_tick bytes k) clocked in
     midst_stopped node_run o.told o.kept o.strange may bytes (s.left l.source) old clocked stop e.midst
-    (part (AreFront o.told o.kept o.strange ticked.taken ticked.notes clocked.taken) (AreFront o.told o.kept o.strange old.taken old.notes clocked.taken) e.cut
-    (λ x y p q. front_more o.told o.kept o.strange old.taken ticked.taken clocked.taken old.notes ticked.notes x y p q)
-    (g.met.H.Hosting.allows_none l.hosts) (λ more a. g.met.H.Hosting.allows_clock l.hosts tick more a) refl refl))
+    (part (AreBroken o.told o.kept o.strange ticked.taken ticked.notes clocked.taken ticked.acts clocked.acts (Hears 64))
+    (AreBroken o.told o.kept o.strange old.taken old.notes clocked.taken old.acts clocked.acts (Hears 64))
+    (λ w st. broken_clock o.told o.kept o.strange _ _ _ _ _ tick (turn == 1 || nat_lt w.clock tick) refl (e.cut w st))
+    (λ x y p q. broken_more o.told o.kept o.strange old.taken ticked.taken clocked.taken old.notes ticked.notes old.acts ticked.acts clocked.acts
+    (Hears 64) (Hears 64) x y p q)
+    (g.met.H.LoopHosts.allows_none l.hosts) (λ more a. g.met.H.LoopHosts.allows_clock l.hosts tick more a) refl refl)))
 
 pub returns-in_err-starts-clause-answered : goal.returns-in_err-starts-clause-answered
 returns-in_err-starts-clause-answered g c =
     let o = g.O.Observer in
-    let h = g.H.Hosting in
+    let h = g.H.LoopHosts in
     let n = g.N.Net in
     let s = g.S.Source in
     let t = g.C.Clock in
     let l = c.loop-done in
-    let may = g.H.OpensIn.are_allowed c.args.boxes in
+    let may = g.H.OpenHosts.are_allowed c.args.boxes in
     let setup = setup_seen c.in_ok-node.node.setup in
     let tick = c.now-now.result in
     let turn = l.done + 1 in
     let calls = calls_ahead setup l.ahead l.reader in
-    let old = outside (o.taken c.args.observer.now) (o.notes c.args.observer.now) (n.sent c.args.net.now) (n.gave c.args.net.now) (t.ticks c.args.clock.now) in
-    let first = outside (o.taken l.observer) (o.notes l.observer) (n.sent l.net) (n.gave l.net) (t.ticks l.clock) in
-    let ticked = outside (o.taken l.observer) (o.notes l.observer) (n.sent l.net) (n.gave l.net) (t.ticks c.now-now.new.self) in
-    let clocked = outside (o.taken c.clock_stands.new.observer) (o.notes c.clock_stands.new.observer) (n.sent l.net) (n.gave l.net)
+    let old = outside (o.taken c.args.observer.now) (o.notes c.args.observer.now) (listed (n.acts c.args.net.now) (connects setup.places))
+    (n.sent c.args.net.now) (n.gave c.args.net.now) (t.ticks c.args.clock.now) in
+    let first = outside (o.taken l.observer) (o.notes l.observer) (n.acts l.net) (n.sent l.net) (n.gave l.net) (t.ticks l.clock) in
+    let ticked = outside (o.taken l.observer) (o.notes l.observer) (n.acts l.net) (n.sent l.net) (n.gave l.net) (t.ticks c.now-now.new.self) in
+    let clocked = outside (o.taken c.clock_stands.new.observer) (o.notes c.clock_stands.new.observer) (n.acts l.net) (n.sent l.net) (n.gave l.net)
     (t.ticks c.now-now.new.self) in
     let at_tick = λ (bytes : List ℕ) (k : s.left c.args.source.now ≡ Some bytes).
     at_ticked node_run o.told o.kept o.strange may bytes old setup (s.left l.source) first (h.stands l.hosts)
@@ -115,21 +127,25 @@ returns-in_err-starts-clause-answered g c =
     at_clock node_run o.told o.kept o.strange may bytes old setup (s.left l.source) ticked (h.stands l.hosts) (h.allows l.hosts) tick calls turn tick
     (at_tick bytes k)
     no_calls clocked (h.stands c.clock_stands.new.hosts)
-    (h.allows c.clock_stands.new.hosts) c.in_ok-clock_stands.ensures.told c.in_ok-clock_stands.ensures.allows
-    (λ more a. g.met.H.Hosting.allows_clock l.hosts tick more a) refl refl refl in
+    (h.allows c.clock_stands.new.hosts) c.in_ok-clock_stands.ensures.told refl c.in_ok-clock_stands.ensures.allows
+    (λ more a. g.met.H.LoopHosts.allows_clock l.hosts tick more a) refl refl refl in
     let one_clock = c.in_ok-clock_stands.ensures.settings ∙ l.invariant.settings in
-    let started = outside (o.taken c.starts.new.observer) (o.notes c.starts.new.observer) (n.sent c.starts.new.net) (n.gave c.starts.new.net)
+    let started =
+    outside (o.taken c.starts.new.observer) (o.notes c.starts.new.observer) (n.acts c.starts.new.net) (n.sent c.starts.new.net) (n.gave c.starts.new.net)
     (t.ticks c.now-now.new.self) in
     let stop = c.in_err-starts.field-0.0 in
     let p = err_from_is_err_and c.from_residual-in_err-starts.result c.from_residual-in_err-starts.ensures.1 in
-    rw (p.1, p.2) (λ bytes k.
+    rw (p.1, p.2) (λ bytes k. all_served node_run o.told o.kept o.strange (g.H.OpenHosts.are_allowed c.args.boxes) bytes _ _ _
+    (connects setup.places) _ (l.invariant.opens bytes k) (
     calls_stopped node_run o.told o.kept o.strange may bytes old setup (s.left l.source) clocked (h.stands c.clock_stands.new.hosts)
     (h.allows c.clock_stands.new.hosts) tick calls no_calls turn tick (at_stand bytes k)
-    (s.left c.starts.new.source) started refl (h.stands c.starts.new.hosts) (h.allows c.starts.new.hosts) (g.met.H.Hosting.allows_none c.starts.new.hosts) stop
+    (s.left c.starts.new.source) started refl (h.stands c.starts.new.hosts) (h.allows c.starts.new.hosts)
+    (g.met.H.LoopHosts.allows_none c.starts.new.hosts) stop
     (subst (λ q. HasStopped q (h.stands c.clock_stands.new.hosts) (h.allows c.clock_stands.new.hosts) (n.sent l.net) (n.sent c.starts.new.net)
     (n.gave l.net) (n.gave c.starts.new.net) (s.left l.source) (s.left c.starts.new.source) calls
-    o.told o.kept o.strange (h.stands c.starts.new.hosts) (h.allows c.starts.new.hosts) clocked.taken clocked.notes started.taken started.notes stop)
-    one_clock c.in_err-starts.ensures.stopped))
+    o.told o.kept o.strange (h.stands c.starts.new.hosts) (h.allows c.starts.new.hosts) clocked.taken clocked.notes started.taken started.notes
+    clocked.acts started.acts stop)
+    one_clock c.in_err-starts.ensures.stopped)))
 
 pub returns-in_err-starts-clause-same_source : goal.returns-in_err-starts-clause-same_source
 returns-in_err-starts-clause-same_source g c = g.met.S.Source.same_on _ _ _ c.loop-done.invariant.same_source c.in_err-starts.ensures.same_source
@@ -141,7 +157,7 @@ returns-in_err-starts-clause-same_observer g c =
 
 pub hosts_act-requires-clause-there : goal.hosts_act-requires-clause-there
 hosts_act-requires-clause-there g c =
-    let h = g.H.Hosting in
+    let h = g.H.LoopHosts in
     let node = c.in_ok-node.node in
     let e = ap (λ q. q.hosts) (c.in_ok-starts.ensures.settings ∙ c.in_ok-clock_stands.ensures.settings ∙ c.loop-done.invariant.settings) in
     subst (AllByRecursion (λ (host : HostId). host.0 < (h.settings c.starts.new.hosts).hosts)) (sym (c.deref.ensures.value ∙ c.in_ok-node.ensures.locals))
@@ -161,20 +177,21 @@ hosts_act-requires-clause-fit g c =
 pub returns-in_err-hosts_act-clause-answered : goal.returns-in_err-hosts_act-clause-answered
 returns-in_err-hosts_act-clause-answered g c =
     let o = g.O.Observer in
-    let h = g.H.Hosting in
+    let h = g.H.LoopHosts in
     let n = g.N.Net in
     let s = g.S.Source in
     let t = g.C.Clock in
     let l = c.loop-done in
-    let may = g.H.OpensIn.are_allowed c.args.boxes in
+    let may = g.H.OpenHosts.are_allowed c.args.boxes in
     let setup = setup_seen c.in_ok-node.node.setup in
     let tick = c.now-now.result in
     let turn = l.done + 1 in
     let calls = calls_ahead setup l.ahead l.reader in
-    let old = outside (o.taken c.args.observer.now) (o.notes c.args.observer.now) (n.sent c.args.net.now) (n.gave c.args.net.now) (t.ticks c.args.clock.now) in
-    let first = outside (o.taken l.observer) (o.notes l.observer) (n.sent l.net) (n.gave l.net) (t.ticks l.clock) in
-    let ticked = outside (o.taken l.observer) (o.notes l.observer) (n.sent l.net) (n.gave l.net) (t.ticks c.now-now.new.self) in
-    let clocked = outside (o.taken c.clock_stands.new.observer) (o.notes c.clock_stands.new.observer) (n.sent l.net) (n.gave l.net)
+    let old = outside (o.taken c.args.observer.now) (o.notes c.args.observer.now) (listed (n.acts c.args.net.now) (connects setup.places))
+    (n.sent c.args.net.now) (n.gave c.args.net.now) (t.ticks c.args.clock.now) in
+    let first = outside (o.taken l.observer) (o.notes l.observer) (n.acts l.net) (n.sent l.net) (n.gave l.net) (t.ticks l.clock) in
+    let ticked = outside (o.taken l.observer) (o.notes l.observer) (n.acts l.net) (n.sent l.net) (n.gave l.net) (t.ticks c.now-now.new.self) in
+    let clocked = outside (o.taken c.clock_stands.new.observer) (o.notes c.clock_stands.new.observer) (n.acts l.net) (n.sent l.net) (n.gave l.net)
     (t.ticks c.now-now.new.self) in
     let at_tick = λ (bytes : List ℕ) (k : s.left c.args.source.now ≡ Some bytes).
     at_ticked node_run o.told o.kept o.strange may bytes old setup (s.left l.source) first (h.stands l.hosts)
@@ -185,13 +202,14 @@ returns-in_err-hosts_act-clause-answered g c =
     at_clock node_run o.told o.kept o.strange may bytes old setup (s.left l.source) ticked (h.stands l.hosts) (h.allows l.hosts) tick calls turn tick
     (at_tick bytes k)
     no_calls clocked (h.stands c.clock_stands.new.hosts)
-    (h.allows c.clock_stands.new.hosts) c.in_ok-clock_stands.ensures.told c.in_ok-clock_stands.ensures.allows
-    (λ more a. g.met.H.Hosting.allows_clock l.hosts tick more a) refl refl refl in
+    (h.allows c.clock_stands.new.hosts) c.in_ok-clock_stands.ensures.told refl c.in_ok-clock_stands.ensures.allows
+    (λ more a. g.met.H.LoopHosts.allows_clock l.hosts tick more a) refl refl refl in
     let one_clock = c.in_ok-clock_stands.ensures.settings ∙ l.invariant.settings in
-    let started = outside (o.taken c.starts.new.observer) (o.notes c.starts.new.observer) (n.sent c.starts.new.net) (n.gave c.starts.new.net)
+    let started =
+    outside (o.taken c.starts.new.observer) (o.notes c.starts.new.observer) (n.acts c.starts.new.net) (n.sent c.starts.new.net) (n.gave c.starts.new.net)
     (t.ticks c.now-now.new.self) in
-    let so_far = AreTold o.told o.kept o.strange (o.taken c.clock_stands.new.observer) (o.notes c.clock_stands.new.observer) (o.taken c.starts.new.observer)
-    (o.notes c.starts.new.observer) in
+    let so_far = AreDone o.told o.kept o.strange (o.taken c.clock_stands.new.observer) (o.notes c.clock_stands.new.observer) (o.taken c.starts.new.observer)
+    (o.notes c.starts.new.observer) (n.acts l.net) (n.acts c.starts.new.net) (Hears 64) (Hears 64) in
     let left = calls_ahead setup c.starts.new.ahead c.starts.new.reader in
     let at_started = λ (bytes : List ℕ) (k : s.left c.args.source.now ≡ Some bytes).
     at_calls node_run o.told o.kept o.strange may bytes old setup (s.left l.source) clocked (h.stands c.clock_stands.new.hosts)
@@ -202,25 +220,31 @@ returns-in_err-hosts_act-clause-answered g c =
     (h.stands c.starts.new.hosts) (h.allows c.starts.new.hosts) so_far left) one_clock c.in_ok-starts.ensures.started)
     c.in_ok-starts.ensures.waits in
     let one_start = c.in_ok-starts.ensures.settings ∙ one_clock in
-    let acted = outside (o.taken c.hosts_act.new.observer) (o.notes c.hosts_act.new.observer) (n.sent c.hosts_act.new.net) (n.gave c.hosts_act.new.net)
+    let acted = outside (o.taken c.hosts_act.new.observer) (o.notes c.hosts_act.new.observer) (n.acts c.hosts_act.new.net)
+    (n.sent c.hosts_act.new.net) (n.gave c.hosts_act.new.net)
     (t.ticks c.now-now.new.self) in
     let e = c.in_err-hosts_act.ensures in
     let stop = c.in_err-hosts_act.field-0.0 in
     let p = err_from_is_err_and c.from_residual-in_err-hosts_act.result c.from_residual-in_err-hosts_act.ensures.1 in
-    rw (p.1, p.2) (λ bytes k.
+    rw (p.1, p.2) (λ bytes k. all_served node_run o.told o.kept o.strange (g.H.OpenHosts.are_allowed c.args.boxes) bytes _ _ _
+    (connects setup.places) _ (l.invariant.opens bytes k) (
     let part = hosts_part node_run o.told o.kept o.strange may bytes old setup (s.left c.starts.new.source) started (h.stands c.starts.new.hosts)
     (h.allows c.starts.new.hosts) tick left turn tick (at_started bytes k) acted
     (h.settings c.starts.new.hosts) one_start c.deref.result.now (c.deref.ensures.value ∙ c.in_ok-node.ensures.locals) in
     heard_stopped node_run o.told o.kept o.strange may bytes (s.left c.starts.new.source) old acted stop e.midst
-    (part (AreFront o.told o.kept o.strange started.taken started.notes acted.taken) (AreFront o.told o.kept o.strange old.taken old.notes acted.taken)
+    (part (AreBroken o.told o.kept o.strange started.taken started.notes acted.taken started.acts acted.acts (Hears 64))
+    (AreBroken o.told o.kept o.strange old.taken old.notes acted.taken old.acts acted.acts (Hears 64))
     (ListedFront started.sent acted.sent) (ListedFront old.sent acted.sent) e.cut
-    (λ x y p q. front_more o.told o.kept o.strange old.taken started.taken acted.taken old.notes started.notes x y p q)
+    (λ x y p q. broken_more o.told o.kept o.strange old.taken started.taken acted.taken old.notes started.notes old.acts started.acts acted.acts
+    (Hears 64) (Hears 64) x y p q)
     (λ x y p q. front_listed old.sent started.sent acted.sent x y p q))
     (on_stop (Unit {0}) (Unit {0}) stop _ _ (λ f.
-    part (AreStrange o.told o.kept o.strange started.taken started.notes acted.taken) (AreStrange o.told o.kept o.strange old.taken old.notes acted.taken)
+    part (AreHalted o.told o.kept o.strange started.taken started.notes acted.taken started.acts acted.acts (Hears 64))
+    (AreHalted o.told o.kept o.strange old.taken old.notes acted.taken old.acts acted.acts (Hears 64))
     (Listed started.sent acted.sent) (Listed old.sent acted.sent) f
-    (λ x y p q. strange_more o.told o.kept o.strange old.taken started.taken acted.taken old.notes started.notes x y p q)
-    (λ x y p q. listed_more old.sent started.sent acted.sent x y p q)) e.strange))
+    (λ x y p q. halted_more o.told o.kept o.strange old.taken started.taken acted.taken old.notes started.notes old.acts started.acts acted.acts
+    (Hears 64) (Hears 64) x y p q)
+    (λ x y p q. listed_more old.sent started.sent acted.sent x y p q)) e.strange)))
 
 pub returns-in_err-node-clause-some_strange : goal.returns-in_err-node-clause-some_strange
 returns-in_err-node-clause-some_strange g c =
@@ -235,7 +259,7 @@ returns-in_err-clock_stands-clause-some_strange g c =
 pub returns-in_err-starts-clause-some_strange : goal.returns-in_err-starts-clause-some_strange
 returns-in_err-starts-clause-some_strange g c =
     let p = err_from_is_err_and c.from_residual-in_err-starts.result c.from_residual-in_err-starts.ensures.1 in
-    rw (p.1, p.2) (stopped_never _ _ _ _ _ _ _ _ _ _ _ _ _ _ _ _ _ _ _ (Unit {0}) _ c.in_err-starts.field-0.0 c.in_err-starts.ensures.stopped)
+    rw (p.1, p.2) (stopped_never _ _ _ _ _ _ _ _ _ _ _ _ _ _ _ _ _ _ _ _ _ (Unit {0}) _ c.in_err-starts.field-0.0 c.in_err-starts.ensures.stopped)
 
 pub returns-in_err-hosts_act-clause-some_strange : goal.returns-in_err-hosts_act-clause-some_strange
 returns-in_err-hosts_act-clause-some_strange g c =
@@ -254,20 +278,21 @@ returns-in_err-hosts_act-clause-same_observer g c =
 pub returns-then-setup-now-clause-answered : goal.returns-then-setup-now-clause-answered
 returns-then-setup-now-clause-answered g c =
     let o = g.O.Observer in
-    let h = g.H.Hosting in
+    let h = g.H.LoopHosts in
     let n = g.N.Net in
     let s = g.S.Source in
     let t = g.C.Clock in
     let l = c.loop-done in
-    let may = g.H.OpensIn.are_allowed c.args.boxes in
+    let may = g.H.OpenHosts.are_allowed c.args.boxes in
     let setup = setup_seen c.in_ok-node.node.setup in
     let tick = c.now-now.result in
     let turn = l.done + 1 in
     let calls = calls_ahead setup l.ahead l.reader in
-    let old = outside (o.taken c.args.observer.now) (o.notes c.args.observer.now) (n.sent c.args.net.now) (n.gave c.args.net.now) (t.ticks c.args.clock.now) in
-    let first = outside (o.taken l.observer) (o.notes l.observer) (n.sent l.net) (n.gave l.net) (t.ticks l.clock) in
-    let ticked = outside (o.taken l.observer) (o.notes l.observer) (n.sent l.net) (n.gave l.net) (t.ticks c.now-now.new.self) in
-    let clocked = outside (o.taken c.clock_stands.new.observer) (o.notes c.clock_stands.new.observer) (n.sent l.net) (n.gave l.net)
+    let old = outside (o.taken c.args.observer.now) (o.notes c.args.observer.now) (listed (n.acts c.args.net.now) (connects setup.places))
+    (n.sent c.args.net.now) (n.gave c.args.net.now) (t.ticks c.args.clock.now) in
+    let first = outside (o.taken l.observer) (o.notes l.observer) (n.acts l.net) (n.sent l.net) (n.gave l.net) (t.ticks l.clock) in
+    let ticked = outside (o.taken l.observer) (o.notes l.observer) (n.acts l.net) (n.sent l.net) (n.gave l.net) (t.ticks c.now-now.new.self) in
+    let clocked = outside (o.taken c.clock_stands.new.observer) (o.notes c.clock_stands.new.observer) (n.acts l.net) (n.sent l.net) (n.gave l.net)
     (t.ticks c.now-now.new.self) in
     let at_tick = λ (bytes : List ℕ) (k : s.left c.args.source.now ≡ Some bytes).
     at_ticked node_run o.told o.kept o.strange may bytes old setup (s.left l.source) first (h.stands l.hosts)
@@ -278,13 +303,14 @@ returns-then-setup-now-clause-answered g c =
     at_clock node_run o.told o.kept o.strange may bytes old setup (s.left l.source) ticked (h.stands l.hosts) (h.allows l.hosts) tick calls turn tick
     (at_tick bytes k)
     no_calls clocked (h.stands c.clock_stands.new.hosts)
-    (h.allows c.clock_stands.new.hosts) c.in_ok-clock_stands.ensures.told c.in_ok-clock_stands.ensures.allows
-    (λ more a. g.met.H.Hosting.allows_clock l.hosts tick more a) refl refl refl in
+    (h.allows c.clock_stands.new.hosts) c.in_ok-clock_stands.ensures.told refl c.in_ok-clock_stands.ensures.allows
+    (λ more a. g.met.H.LoopHosts.allows_clock l.hosts tick more a) refl refl refl in
     let one_clock = c.in_ok-clock_stands.ensures.settings ∙ l.invariant.settings in
-    let started = outside (o.taken c.starts.new.observer) (o.notes c.starts.new.observer) (n.sent c.starts.new.net) (n.gave c.starts.new.net)
+    let started =
+    outside (o.taken c.starts.new.observer) (o.notes c.starts.new.observer) (n.acts c.starts.new.net) (n.sent c.starts.new.net) (n.gave c.starts.new.net)
     (t.ticks c.now-now.new.self) in
-    let so_far = AreTold o.told o.kept o.strange (o.taken c.clock_stands.new.observer) (o.notes c.clock_stands.new.observer) (o.taken c.starts.new.observer)
-    (o.notes c.starts.new.observer) in
+    let so_far = AreDone o.told o.kept o.strange (o.taken c.clock_stands.new.observer) (o.notes c.clock_stands.new.observer) (o.taken c.starts.new.observer)
+    (o.notes c.starts.new.observer) (n.acts l.net) (n.acts c.starts.new.net) (Hears 64) (Hears 64) in
     let left = calls_ahead setup c.starts.new.ahead c.starts.new.reader in
     let at_started = λ (bytes : List ℕ) (k : s.left c.args.source.now ≡ Some bytes).
     at_calls node_run o.told o.kept o.strange may bytes old setup (s.left l.source) clocked (h.stands c.clock_stands.new.hosts)
@@ -295,7 +321,8 @@ returns-then-setup-now-clause-answered g c =
     (h.stands c.starts.new.hosts) (h.allows c.starts.new.hosts) so_far left) one_clock c.in_ok-starts.ensures.started)
     c.in_ok-starts.ensures.waits in
     let one_start = c.in_ok-starts.ensures.settings ∙ one_clock in
-    let acted = outside (o.taken c.hosts_act.new.observer) (o.notes c.hosts_act.new.observer) (n.sent c.hosts_act.new.net) (n.gave c.hosts_act.new.net)
+    let acted = outside (o.taken c.hosts_act.new.observer) (o.notes c.hosts_act.new.observer) (n.acts c.hosts_act.new.net)
+    (n.sent c.hosts_act.new.net) (n.gave c.hosts_act.new.net)
     (t.ticks c.now-now.new.self) in
     let at_acted = λ (bytes : List ℕ) (k : s.left c.args.source.now ≡ Some bytes).
     at_hosts node_run o.told o.kept o.strange may bytes old setup (s.left c.starts.new.source) started (h.stands c.starts.new.hosts)
@@ -305,10 +332,11 @@ returns-then-setup-now-clause-answered g c =
     let all_read = λ (bytes : List ℕ) (k : s.left c.args.source.now ≡ Some bytes).
     let d = (l.invariant.far bytes k).far.read in
     c.in_ok-starts.ensures.all d.rest d.has_left (subst (IsAllRead l.ahead) d.has_left (l.invariant.all bytes k)) in
-    λ bytes k. (
+    λ bytes k. all_served node_run o.told o.kept o.strange (g.H.OpenHosts.are_allowed c.args.boxes) bytes _ _ _ (connects setup.places) _
+    (l.invariant.opens bytes k) (
       at_end node_run o.told o.kept o.strange may bytes old setup (s.left c.starts.new.source) acted (h.stands c.hosts_act.new.hosts)
           (h.allows c.hosts_act.new.hosts) tick left turn tick (at_acted bytes k) c.if-setup-now.true
-          (g.met.H.Hosting.allows_none c.hosts_act.new.hosts),
+          (g.met.H.LoopHosts.allows_none c.hosts_act.new.hosts),
       read_to_end c.in_ok-node.node.setup c.starts.new.ahead c.starts.new.reader tick (s.left c.starts.new.source) c.in_ok-starts.ensures.counted
           (subst (IsIdle c.starts.new.ahead) (c.in_ok-starts.ensures.clock ∙ c.in_ok-clock_stands.ensures.clock) c.in_ok-starts.ensures.idle)
           c.if-setup-now.true (all_read bytes k),
@@ -326,20 +354,21 @@ returns-then-setup-now-clause-same_observer g c =
 pub loop-done-preserved : goal.loop-done-preserved
 loop-done-preserved g c =
     let o = g.O.Observer in
-    let h = g.H.Hosting in
+    let h = g.H.LoopHosts in
     let n = g.N.Net in
     let s = g.S.Source in
     let t = g.C.Clock in
     let l = c.loop-done in
-    let may = g.H.OpensIn.are_allowed c.args.boxes in
+    let may = g.H.OpenHosts.are_allowed c.args.boxes in
     let setup = setup_seen c.in_ok-node.node.setup in
     let tick = c.now-now.result in
     let turn = l.done + 1 in
     let calls = calls_ahead setup l.ahead l.reader in
-    let old = outside (o.taken c.args.observer.now) (o.notes c.args.observer.now) (n.sent c.args.net.now) (n.gave c.args.net.now) (t.ticks c.args.clock.now) in
-    let first = outside (o.taken l.observer) (o.notes l.observer) (n.sent l.net) (n.gave l.net) (t.ticks l.clock) in
-    let ticked = outside (o.taken l.observer) (o.notes l.observer) (n.sent l.net) (n.gave l.net) (t.ticks c.now-now.new.self) in
-    let clocked = outside (o.taken c.clock_stands.new.observer) (o.notes c.clock_stands.new.observer) (n.sent l.net) (n.gave l.net)
+    let old = outside (o.taken c.args.observer.now) (o.notes c.args.observer.now) (listed (n.acts c.args.net.now) (connects setup.places))
+    (n.sent c.args.net.now) (n.gave c.args.net.now) (t.ticks c.args.clock.now) in
+    let first = outside (o.taken l.observer) (o.notes l.observer) (n.acts l.net) (n.sent l.net) (n.gave l.net) (t.ticks l.clock) in
+    let ticked = outside (o.taken l.observer) (o.notes l.observer) (n.acts l.net) (n.sent l.net) (n.gave l.net) (t.ticks c.now-now.new.self) in
+    let clocked = outside (o.taken c.clock_stands.new.observer) (o.notes c.clock_stands.new.observer) (n.acts l.net) (n.sent l.net) (n.gave l.net)
     (t.ticks c.now-now.new.self) in
     let at_tick = λ (bytes : List ℕ) (k : s.left c.args.source.now ≡ Some bytes).
     at_ticked node_run o.told o.kept o.strange may bytes old setup (s.left l.source) first (h.stands l.hosts)
@@ -350,13 +379,14 @@ loop-done-preserved g c =
     at_clock node_run o.told o.kept o.strange may bytes old setup (s.left l.source) ticked (h.stands l.hosts) (h.allows l.hosts) tick calls turn tick
     (at_tick bytes k)
     no_calls clocked (h.stands c.clock_stands.new.hosts)
-    (h.allows c.clock_stands.new.hosts) c.in_ok-clock_stands.ensures.told c.in_ok-clock_stands.ensures.allows
-    (λ more a. g.met.H.Hosting.allows_clock l.hosts tick more a) refl refl refl in
+    (h.allows c.clock_stands.new.hosts) c.in_ok-clock_stands.ensures.told refl c.in_ok-clock_stands.ensures.allows
+    (λ more a. g.met.H.LoopHosts.allows_clock l.hosts tick more a) refl refl refl in
     let one_clock = c.in_ok-clock_stands.ensures.settings ∙ l.invariant.settings in
-    let started = outside (o.taken c.starts.new.observer) (o.notes c.starts.new.observer) (n.sent c.starts.new.net) (n.gave c.starts.new.net)
+    let started =
+    outside (o.taken c.starts.new.observer) (o.notes c.starts.new.observer) (n.acts c.starts.new.net) (n.sent c.starts.new.net) (n.gave c.starts.new.net)
     (t.ticks c.now-now.new.self) in
-    let so_far = AreTold o.told o.kept o.strange (o.taken c.clock_stands.new.observer) (o.notes c.clock_stands.new.observer) (o.taken c.starts.new.observer)
-    (o.notes c.starts.new.observer) in
+    let so_far = AreDone o.told o.kept o.strange (o.taken c.clock_stands.new.observer) (o.notes c.clock_stands.new.observer) (o.taken c.starts.new.observer)
+    (o.notes c.starts.new.observer) (n.acts l.net) (n.acts c.starts.new.net) (Hears 64) (Hears 64) in
     let left = calls_ahead setup c.starts.new.ahead c.starts.new.reader in
     let at_started = λ (bytes : List ℕ) (k : s.left c.args.source.now ≡ Some bytes).
     at_calls node_run o.told o.kept o.strange may bytes old setup (s.left l.source) clocked (h.stands c.clock_stands.new.hosts)
@@ -367,7 +397,8 @@ loop-done-preserved g c =
     (h.stands c.starts.new.hosts) (h.allows c.starts.new.hosts) so_far left) one_clock c.in_ok-starts.ensures.started)
     c.in_ok-starts.ensures.waits in
     let one_start = c.in_ok-starts.ensures.settings ∙ one_clock in
-    let acted = outside (o.taken c.hosts_act.new.observer) (o.notes c.hosts_act.new.observer) (n.sent c.hosts_act.new.net) (n.gave c.hosts_act.new.net)
+    let acted = outside (o.taken c.hosts_act.new.observer) (o.notes c.hosts_act.new.observer) (n.acts c.hosts_act.new.net)
+    (n.sent c.hosts_act.new.net) (n.gave c.hosts_act.new.net)
     (t.ticks c.now-now.new.self) in
     let at_acted = λ (bytes : List ℕ) (k : s.left c.args.source.now ≡ Some bytes).
     at_hosts node_run o.told o.kept o.strange may bytes old setup (s.left c.starts.new.source) started (h.stands c.starts.new.hosts)
@@ -390,6 +421,7 @@ loop-done-preserved g c =
     record {
       far = λ bytes k. at_wait node_run o.told o.kept o.strange may bytes old setup (s.left c.starts.new.source) acted (h.stands c.hosts_act.new.hosts)
           (h.allows c.hosts_act.new.hosts) tick left turn tick (at_acted bytes k) c.if-setup-now.false;
+      opens = l.invariant.opens;
       all = all_read;
       open_at = c.in_ok-starts.ensures.counted;
       limit = omega (arith, c.in_ok-starts.ensures.limit, l.invariant.limit);
@@ -416,17 +448,19 @@ loop-done-preserved g c =
 pub returns-clause-answered : goal.returns-clause-answered
 returns-clause-answered g c =
     let o = g.O.Observer in
-    let h = g.H.Hosting in
+    let h = g.H.LoopHosts in
     let n = g.N.Net in
     let s = g.S.Source in
     let t = g.C.Clock in
     let l = c.loop-done in
-    let may = g.H.OpensIn.are_allowed c.args.boxes in
+    let may = g.H.OpenHosts.are_allowed c.args.boxes in
     let setup = setup_seen c.in_ok-node.node.setup in
-    let old = outside (o.taken c.args.observer.now) (o.notes c.args.observer.now) (n.sent c.args.net.now) (n.gave c.args.net.now) (t.ticks c.args.clock.now) in
-    let last = outside (o.taken l.observer) (o.notes l.observer) (n.sent l.net) (n.gave l.net) (t.ticks l.clock) in
+    let old = outside (o.taken c.args.observer.now) (o.notes c.args.observer.now) (listed (n.acts c.args.net.now) (connects setup.places))
+    (n.sent c.args.net.now) (n.gave c.args.net.now) (t.ticks c.args.clock.now) in
+    let last = outside (o.taken l.observer) (o.notes l.observer) (n.acts l.net) (n.sent l.net) (n.gave l.net) (t.ticks l.clock) in
     let whole : l.done ≡ c.in_ok-node.node.setup.turns = omega (arith, c.loop-done-test.false, l.auto.done-end) in
-    λ bytes k. subst (λ (m : ℕ). IsServed node_run o.told o.kept o.strange may bytes old last (StalledAt m l.now)) whole
+    λ bytes k. all_served node_run o.told o.kept o.strange (g.H.OpenHosts.are_allowed c.args.boxes) bytes _ _ _ (connects setup.places) _
+    (l.invariant.opens bytes k) (subst (λ (m : ℕ). IsServed node_run o.told o.kept o.strange may bytes old last (StalledAt m l.now)) whole
     (at_stall node_run o.told o.kept o.strange may bytes old setup (s.left l.source) last (h.stands l.hosts) (h.allows l.hosts) l.now
     (calls_ahead setup l.ahead l.reader) l.done l.now (l.invariant.far bytes k)
-    (omega (arith, c.loop-done-test.false)) (g.met.H.Hosting.allows_none l.hosts))
+    (omega (arith, c.loop-done-test.false)) (g.met.H.LoopHosts.allows_none l.hosts)))

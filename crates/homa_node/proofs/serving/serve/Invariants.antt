@@ -2,10 +2,14 @@ use Rattle.std.proofs.Common.{◌≡◌, ◌≤◌, ◌*◌, ℕ, Some, List, le
 use Rattle.std.specs.Prelude.{nat_lt}
 use Rattle.homa_plain.specs.declared.id.HostId.{HostId}
 use Rattle.node_runs.specs.Course.{node_run}
+use Rattle.homa_plain.specs.Script.{most_bytes}
+use Rattle.node_runs.specs.Script.{opening}
+use Rattle.node_runs.specs.Acts.{connects, opened_acts}
+use Rattle.node_turns.specs.Told.{listed}
 use Rattle.node_script.specs.Heads.{setup_seen}
 use Rattle.homa_node.specs.Coming.{calls_ahead, IsOpenAt, IsAllRead, HasRoom}
 use Rattle.homa_node.specs.Served.{outside}
-use Rattle.homa_node.specs.Far.{IsAt, behind_turns}
+use Rattle.homa_node.specs.Progress.{IsAt, behind_turns}
 use Rattle.homa_node.proofs.serving.serve.Given as goal
 
 -- so many loop turns were done
@@ -13,16 +17,18 @@ abbrev pub invariant-loop-done : goal.invariant-loop-done
 invariant-loop-done g l =
     let o = g.O.Observer in
     let n = g.N.Net in
-    let h = g.H.Hosting in
+    let h = g.H.LoopHosts in
     let s = g.S.Source in
     let c = g.C.Clock in
     let setup = setup_seen l.setup in
     record {
       far : (bytes : List ℕ) → s.left l.fn.source ≡ Some bytes
-          → IsAt node_run o.told o.kept o.strange (g.H.OpensIn.are_allowed l.fn.boxes) bytes (s.left l.source)
-          (outside (o.taken l.fn.observer) (o.notes l.fn.observer) (n.sent l.fn.net) (n.gave l.fn.net) (c.ticks l.fn.clock))
-          (outside (o.taken l.observer) (o.notes l.observer) (n.sent l.net) (n.gave l.net) (c.ticks l.clock)) setup (h.stands l.hosts)
+          → IsAt node_run o.told o.kept o.strange (g.H.OpenHosts.are_allowed l.fn.boxes) bytes (s.left l.source)
+          (outside (o.taken l.fn.observer) (o.notes l.fn.observer) (listed (n.acts l.fn.net) (connects setup.places)) (n.sent l.fn.net)
+          (n.gave l.fn.net) (c.ticks l.fn.clock))
+          (outside (o.taken l.observer) (o.notes l.observer) (n.acts l.net) (n.sent l.net) (n.gave l.net) (c.ticks l.clock)) setup (h.stands l.hosts)
           (h.allows l.hosts) l.now (calls_ahead setup l.ahead l.reader) (behind_turns setup l.done l.now);
+      opens : (bytes : List ℕ) → s.left l.fn.source ≡ Some bytes → opened_acts (opening most_bytes bytes) ≡ connects setup.places;
       all : (bytes : List ℕ) → s.left l.fn.source ≡ Some bytes → IsAllRead l.ahead (s.left l.source);
       open_at : IsOpenAt l.setup l.ahead l.reader;
       limit : l.reader.place.limit ≤ 68719476736;

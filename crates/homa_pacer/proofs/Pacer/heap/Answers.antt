@@ -1,6 +1,6 @@
 use Rattle.std.proofs.Common.{map, ap, refl, ◌∙◌}
 use Rattle.place_heap.specs.Held.{list_of}
-use Rattle.place_books.proofs.Books.{items-back}
+use Rattle.host_heap.proofs.Books.{items-back}
 use Rattle.homa_pacer.specs.Pace.{Pace, item_of, ready_of}
 use Rattle.homa_pacer.proofs.Pacer.heap.Goals as goal
 

@@ -13,8 +13,8 @@ returns-in-Some-clause-gives g c =
     let a = r.new.source in
     let gives : g.T.Part.gives c.args.reader.now r.new.reader (s.left c.args.source.now) (s.left a.source.now) (Err (Read (record {}))) =
     subst (λ answer. g.T.Part.gives c.args.reader.now r.new.reader (s.left c.args.source.now) (s.left a.source.now) answer)
-    (failed_read (counts None 0 (s.faults c.args.source.now) (k.faults c.args.sink.now) (g.K.Holding.held c.args.sink.now))
-    (counts a.stop a.faults (s.faults a.source.now) (k.faults a.sink.now) (g.K.Holding.held a.sink.now)) _ r.result r.ensures.same.5 c.in-Some.is refl
+    (failed_read (counts None 0 (s.faults c.args.source.now) (k.faults c.args.sink.now) (g.K.FlushSink.held c.args.sink.now))
+    (counts a.stop a.faults (s.faults a.source.now) (k.faults a.sink.now) (g.K.FlushSink.held a.sink.now)) _ r.result r.ensures.same.5 c.in-Some.is refl
     r.ensures.quiet)
     r.ensures.gives in
     search rules

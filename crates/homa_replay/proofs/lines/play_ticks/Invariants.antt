@@ -7,7 +7,7 @@ use Rattle.homa_replay.proofs.lines.play_ticks.Given as goal
 -- so many ticks passed
 abbrev pub invariant-loop-tick : goal.invariant-loop-tick
 invariant-loop-tick g l =
-    let p = g.P.Playing in
+    let p = g.P.ReplayWorld in
     let k = g.K.Sink in
     record {
       played : (w : World) → p.stands l.fn.world w → ArePlayed (p.settings l.fn.world) w (ticks l.hosts l.tick) (p.stands l.world) (k.taken l.fn.sink)

@@ -7,7 +7,7 @@ use Rattle.homa_replay.proofs.lines.play_turns.Given as goal
 -- the hosts below this one had their turns
 abbrev pub invariant-loop-host : goal.invariant-loop-host
 invariant-loop-host g l =
-    let p = g.P.Playing in
+    let p = g.P.ReplayWorld in
     let k = g.K.Sink in
     record {
       played : (w : World) → p.stands l.fn.world w → ArePlayed (p.settings l.fn.world) w (turns_of 0 l.host) (p.stands l.world) (k.taken l.fn.sink)

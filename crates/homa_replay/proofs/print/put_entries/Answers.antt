@@ -11,7 +11,7 @@ loop-i-init g c = record { so_far = none_written (g.met.K.Sink.same_self _) }
 
 pub returns-in_err-put_entry : goal.returns-in_err-put_entry
 returns-in_err-put_entry g c =
-    let told = g.P.Playing.told c.args.world.now in
+    let told = g.P.ReplayWorld.told c.args.world.now in
     let e = plain c.entry.result in
     let inside : c.loop-i.i < length told = omega (arith, c.entries-count.ensures, c.loop-i-test.true) in
     handed_on _ c.from_residual.ensures.0
@@ -22,7 +22,7 @@ returns-in_err-put_entry g c =
 
 pub loop-i-preserved : goal.loop-i-preserved
 loop-i-preserved g c =
-    let told = g.P.Playing.told c.args.world.now in
+    let told = g.P.ReplayWorld.told c.args.world.now in
     let e = plain c.entry.result in
     let inside : c.loop-i.i < length told = omega (arith, c.entries-count.ensures, c.loop-i-test.true) in
     record {

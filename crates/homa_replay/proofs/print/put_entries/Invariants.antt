@@ -12,5 +12,5 @@ invariant-loop-i g l =
     let sink = g.K.Sink in
     record {
       so_far : IsWritten {E = WriteFailed} sink.taken sink.faults sink.is_same (Ok (tt {0})) l.fn.sink l.sink
-          (flat_map line_text (take l.i (g.P.Playing.told l.world)));
+          (flat_map line_text (take l.i (g.P.ReplayWorld.told l.world)));
     }

@@ -1,6 +1,6 @@
 use Rattle.std.proofs.Common.{arith, refl, ◌∙◌}
 use Rattle.std.proofs.lemmas.Result.{err_from_is_err_and}
-use Rattle.homa_text.specs.Lines.{reading}
+use Rattle.text_lines.specs.Lines.{reading}
 use Rattle.homa_script.specs.Given.{given_seen}
 use Rattle.script_lines.proofs.Takings.{lines_none, lines_on}
 use Rattle.script_lines.proofs.Taken.{taken, counted_on}

@@ -1,5 +1,5 @@
 use Rattle.std.proofs.Common.{◌≡◌, ◌≤◌, ◌-◌, vec_capacity}
-use Rattle.homa_text.specs.Lines.{reading}
+use Rattle.text_lines.specs.Lines.{reading}
 use Rattle.script_lines.specs.Place.{place_of, IsCounted}
 use Rattle.script_lines.specs.Taking.{TakesLines}
 use Rattle.homa_script.proofs.Steps.{IsDue}

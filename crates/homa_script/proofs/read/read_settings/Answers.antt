@@ -1,6 +1,6 @@
 use Rattle.std.proofs.Common.{arith, refl, ◌∙◌}
 use Rattle.std.proofs.lemmas.Result.{err_from_is_err_and}
-use Rattle.homa_text.specs.Lines.{reading}
+use Rattle.text_lines.specs.Lines.{reading}
 use Rattle.script_lines.proofs.Takings.{lines_none, lines_on}
 use Rattle.script_lines.proofs.Taken.{taken, counted_on, end_number}
 use Rattle.homa_script.proofs.Openings.{open_start, open_blank, open_setting, open_go, open_not, open_fault, open_end, open_stop}
@@ -42,7 +42,7 @@ lines-preserved g c =
     let t = taken (reading l.lines)
     (reading c.next_line.new.lines) _ _ _ c.last_line.result.now c.if-branch.true e.line e.numbered e.limit c.last_line.ensures.value in
     record {
-      due = open_setting _ _ _ l.settings _ _ _ _ l.invariant.due t c.set.new.settings c.in-Setting.name c.in-Setting.n
+      due = open_setting _ _ _ l.settings _ _ _ _ l.invariant.due t c.set.new.self c.in-Setting.name c.in-Setting.n
           (rw c.in-Setting.is at c.in_ok-read_opening_line.ensures) c.set.ensures;
       took = lines_on _ _ _ _ _ _ l.invariant.took (e.took refl);
       counted = counted_on _ _ _ _ _ l.invariant.counted t;

@@ -1,6 +1,6 @@
 use Rattle.std.proofs.Common.{map, ap, refl, ◌∙◌}
 use Rattle.place_heap.specs.Held.{list_of}
-use Rattle.place_books.proofs.Books.{items-back}
+use Rattle.host_heap.proofs.Books.{items-back}
 use Rattle.homa_timers.specs.Armed.{Armed, item_of, timer_of}
 use Rattle.homa_timers.proofs.Timers.heap.Goals as goal
 

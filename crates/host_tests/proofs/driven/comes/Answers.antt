@@ -1,6 +1,6 @@
 use Rattle.std.proofs.Common.{refl}
 use Rattle.host_view.specs.Marks.{has_ran}
-use Rattle.driven_host.proofs.Steps.{stepped, delivered, asked_once}
+use Rattle.driven_host.proofs.DrivenSteps.{stepped, delivered, asked_once}
 use Rattle.host_tests.proofs.driven.comes.Goals as goal
 
 pub returns-clause-kept : goal.returns-clause-kept

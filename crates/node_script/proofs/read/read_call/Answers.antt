@@ -1,6 +1,6 @@
 use Rattle.std.proofs.Common.{arith, refl, sym, ap, ◌∙◌, map}
 use Rattle.std.proofs.lemmas.Result.{err_from_is_err_and}
-use Rattle.homa_text.specs.Lines.{reading}
+use Rattle.text_lines.specs.Lines.{reading}
 use Rattle.script_lines.proofs.Taken.{taken, counted_on}
 use Rattle.node_script.specs.Setup.{place_seen, call_seen}
 use Rattle.node_script.specs.Heads.{setup_seen}

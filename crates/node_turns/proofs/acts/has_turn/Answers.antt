@@ -1,12 +1,16 @@
-use Rattle.std.proofs.Common.{◌∷◌, []}
+use Rattle.std.proofs.Common.{◌∷◌, [], ◌∙◌, ap}
 use Rattle.std.specs.Prelude.{map}
+use Rattle.std.proofs.lemmas.List.{length-map}
 use Rattle.node_runs.specs.Course.{Tells, Turning}
-use Rattle.node_turns.proofs.Tellings.{told_one, told_more}
+use Rattle.node_turns.specs.Told.{listed, ListedFront}
+use Rattle.node_turns.specs.Acting.{frame_datagram}
+use Rattle.node_turns.proofs.Tellings.{told_one, turning_usual, seen_midst}
 use Rattle.node_turns.proofs.Acted.{acted_turn}
-use Rattle.std.proofs.Common.{refl}
+use Rattle.std.proofs.Common.{refl, subst}
 use Rattle.std.proofs.lemmas.Result.{MatchResult-from_err, err_from_is_err_and}
-use Rattle.node_turns.proofs.Tellings.{front_first, front_rest, front_more, turning_usual, seen_midst}
 use Rattle.node_turns.proofs.Lists.{whole_listed, front_none}
+use Rattle.node_turns.proofs.Frames.{acts_of}
+use Rattle.node_turns.proofs.Done.{gone_more, gone_turning, gone_step, broken_more, broken_turning, broken_unsent, broken_untold}
 use Rattle.node_turns.proofs.Cuts.{cut_begun, cut_turn}
 use Rattle.node_turns.proofs.acts.has_turn.Goals as goal
 
@@ -14,54 +18,60 @@ pub returns-clause-acted : goal.returns-clause-acted
 returns-clause-acted g c =
     let o = g.O.Observer in
     let t = c.in_ok-turning.ensures in
-    λ w h. acted_turn _ c.args.host w _ (g.H.Hosting.told c.turn.new.self) (g.H.Hosting.frames c.turn.new.self) _ _ _ _ _ _ _ (c.in_ok-turn.ensures.done w h)
-    (told_more o.told o.kept o.strange _ (o.taken c.turning.new.self) _ _ (o.notes c.turning.new.self) _ (Turning c.args.host ∷ [])
-    (map Tells (g.H.Hosting.told c.turn.new.self))
-    (told_one o.told o.kept o.strange _ _ _ _ (Turning c.args.host) t.told t.kept (turning_usual o.strange g.met.O.Observer.strange_comes _ c.args.host))
-    c.in_ok-tell_entries.ensures.ok)
+    let told = g.H.LoopHosts.told c.turn.new.self in
+    let frames = g.H.LoopHosts.frames c.turn.new.self in
+    λ w h. acted_turn _ c.args.host w _ told frames _ _ _ _ _ _ _ (c.turn.ensures.done w h)
+    (gone_more o.told o.kept o.strange _ (o.taken c.turning.new.self) _ _ (o.notes c.turning.new.self) _ _ (g.N.Net.acts c.args.net.now) _ _ _ _
+    (Turning c.args.host ∷ []) (map Tells told)
+    (gone_turning o.told o.kept o.strange _ _ _ _ _ c.args.host
+    (told_one o.told o.kept o.strange _ _ _ _ (Turning c.args.host) t.told t.kept (turning_usual o.strange g.met.O.Observer.strange_comes _ c.args.host)))
+    (gone_step o.told o.kept o.strange _ _ _ _ _ _ 64 told (map frame_datagram frames) c.turn.ensures.own
+    (length-map frames frame_datagram ∙ (c.turn.ensures.done w h).numbers)
+    (c.in_ok-send_frames.ensures.acts ∙ ap (listed (g.N.Net.acts c.args.net.now)) (acts_of frames)) c.in_ok-tell_entries.ensures.ok))
     c.in_ok-send_frames.ensures.ok c.in_ok-send_frames.ensures.gave
 
 pub returns-in_err-turning-clause-cut : goal.returns-in_err-turning-clause-cut
 returns-in_err-turning-clause-cut g c =
     let o = g.O.Observer in
     MatchResult-from_err _ _ _ c.from_residual.ensures.0
-    (λ _ w h. cut_begun _ c.args.host w _ _ _ _ _ (g.met.H.Hosting.turns c.args.hosts.now w h c.args.host c.requires.host)
-    (front_first o.told o.kept o.strange _ _ _ (Turning c.args.host) [] c.in_err-turning.ensures.err) (front_none _ _ refl) refl
-    (g.met.H.Hosting.allows_none c.args.hosts.now))
-
-pub returns-in_err-turn-clause-cut : goal.returns-in_err-turn-clause-cut
-returns-in_err-turn-clause-cut g c =
-    let o = g.O.Observer in
-    let t = c.in_ok-turning.ensures in
-    MatchResult-from_err _ _ _ c.from_residual-in_err-turn.ensures.0
-    (λ _ w h. cut_begun _ c.args.host w _ _ _ _ _ (g.met.H.Hosting.turns c.args.hosts.now w h c.args.host c.requires.host)
-    (front_more o.told o.kept o.strange _ (o.taken c.turning.new.self) _ _ (o.notes c.turning.new.self) (Turning c.args.host ∷ []) []
-    (told_one o.told o.kept o.strange _ _ _ _ (Turning c.args.host) t.told t.kept (turning_usual o.strange g.met.O.Observer.strange_comes _ c.args.host))
-    (front_rest o.told o.kept o.strange _ _ [])) (front_none _ _ refl) refl (g.met.H.Hosting.allows_none c.args.hosts.now))
+    (λ _ w h. cut_begun _ c.args.host w _ _ _ _ _ (g.met.H.LoopHosts.turns c.args.hosts.now w h c.args.host c.requires.host)
+    (broken_turning o.told o.kept o.strange _ _ _ _ c.args.host c.in_err-turning.ensures.err) (front_none _ _ refl) refl
+    (g.met.H.LoopHosts.allows_none c.args.hosts.now))
 
 pub returns-in_err-send_frames-clause-cut : goal.returns-in_err-send_frames-clause-cut
 returns-in_err-send_frames-clause-cut g c =
     let o = g.O.Observer in
     let t = c.in_ok-turning.ensures in
+    let told = g.H.LoopHosts.told c.turn.new.self in
+    let frames = g.H.LoopHosts.frames c.turn.new.self in
     MatchResult-from_err _ _ _ c.from_residual-in_err-send_frames.ensures.0
-    (λ _ w h. cut_turn _ c.args.host w _ (g.H.Hosting.told c.turn.new.self) (g.H.Hosting.frames c.turn.new.self) _ _ _ _ _ _ (c.in_ok-turn.ensures.done w h)
-    (front_more o.told o.kept o.strange _ (o.taken c.turning.new.self) _ _ (o.notes c.turning.new.self) (Turning c.args.host ∷ [])
-    (map Tells (g.H.Hosting.told c.turn.new.self))
-    (told_one o.told o.kept o.strange _ _ _ _ (Turning c.args.host) t.told t.kept (turning_usual o.strange g.met.O.Observer.strange_comes _ c.args.host))
-    (front_rest o.told o.kept o.strange _ _ _)) c.in_err-send_frames.ensures.err c.in_err-send_frames.ensures.gave
-    (g.met.H.Hosting.allows_none c.turn.new.self))
+    (λ _ w h. cut_turn _ c.args.host w _ told frames _ _ _ _ _ _ (c.turn.ensures.done w h)
+    (broken_more o.told o.kept o.strange _ (o.taken c.turning.new.self) _ _ (o.notes c.turning.new.self) _ (g.N.Net.acts c.args.net.now) _ _ _
+    (Turning c.args.host ∷ []) (map Tells told)
+    (gone_turning o.told o.kept o.strange _ _ _ _ _ c.args.host
+    (told_one o.told o.kept o.strange _ _ _ _ (Turning c.args.host) t.told t.kept (turning_usual o.strange g.met.O.Observer.strange_comes _ c.args.host)))
+    (broken_unsent o.told o.kept o.strange _ _ _ _ 64 told (map frame_datagram frames) c.turn.ensures.own
+    (length-map frames frame_datagram ∙ (c.turn.ensures.done w h).numbers)
+    (subst (ListedFront _ _) (acts_of frames) c.in_err-send_frames.ensures.err_acts)))
+    c.in_err-send_frames.ensures.err c.in_err-send_frames.ensures.gave
+    (g.met.H.LoopHosts.allows_none c.turn.new.self))
 
 pub returns-in_err-tell_entries-clause-cut : goal.returns-in_err-tell_entries-clause-cut
 returns-in_err-tell_entries-clause-cut g c =
     let o = g.O.Observer in
     let t = c.in_ok-turning.ensures in
+    let told = g.H.LoopHosts.told c.turn.new.self in
+    let frames = g.H.LoopHosts.frames c.turn.new.self in
     MatchResult-from_err _ _ _ c.from_residual-in_err-tell_entries.ensures.0
-    (λ _ w h. cut_turn _ c.args.host w _ (g.H.Hosting.told c.turn.new.self) (g.H.Hosting.frames c.turn.new.self) _ _ _ _ _ _ (c.in_ok-turn.ensures.done w h)
-    (front_more o.told o.kept o.strange _ (o.taken c.turning.new.self) _ _ (o.notes c.turning.new.self) (Turning c.args.host ∷ [])
-    (map Tells (g.H.Hosting.told c.turn.new.self))
-    (told_one o.told o.kept o.strange _ _ _ _ (Turning c.args.host) t.told t.kept (turning_usual o.strange g.met.O.Observer.strange_comes _ c.args.host))
-    c.in_err-tell_entries.ensures.err)
-    (whole_listed _ _ _ c.in_ok-send_frames.ensures.ok) c.in_ok-send_frames.ensures.gave (g.met.H.Hosting.allows_none c.turn.new.self))
+    (λ _ w h. cut_turn _ c.args.host w _ told frames _ _ _ _ _ _ (c.turn.ensures.done w h)
+    (broken_more o.told o.kept o.strange _ (o.taken c.turning.new.self) _ _ (o.notes c.turning.new.self) _ (g.N.Net.acts c.args.net.now) _ _ _
+    (Turning c.args.host ∷ []) (map Tells told)
+    (gone_turning o.told o.kept o.strange _ _ _ _ _ c.args.host
+    (told_one o.told o.kept o.strange _ _ _ _ (Turning c.args.host) t.told t.kept (turning_usual o.strange g.met.O.Observer.strange_comes _ c.args.host)))
+    (broken_untold o.told o.kept o.strange _ _ _ _ _ 64 told (map frame_datagram frames) c.turn.ensures.own
+    (length-map frames frame_datagram ∙ (c.turn.ensures.done w h).numbers)
+    (c.in_ok-send_frames.ensures.acts ∙ ap (listed (g.N.Net.acts c.args.net.now)) (acts_of frames)) c.in_err-tell_entries.ensures.err))
+    (whole_listed _ _ _ c.in_ok-send_frames.ensures.ok) c.in_ok-send_frames.ensures.gave (g.met.H.LoopHosts.allows_none c.turn.new.self))
 
 pub returns-in_err-turning-clause-midst : goal.returns-in_err-turning-clause-midst
 returns-in_err-turning-clause-midst g c =

@@ -2,14 +2,18 @@ use Rattle.std.proofs.Common.{◌≡◌, ◌<◌, ◌+◌, ◌-◌, zero, suc, r
 use Rattle.std.specs.Prelude.{map}
 use Rattle.homa_plain.specs.Entries.{PlainRecv}
 use Rattle.node_runs.specs.Course.{Tells, IsReceived, hears}
-use Rattle.node_turns.specs.Told.{listed, ListedFront}
+use Rattle.node_turns.specs.Told.{listed, ListedFront, Hears, Turns}
+use Rattle.std.proofs.lemmas.List.{length-map}
 use Rattle.node_turns.specs.Acting.{frame_datagram}
-use Rattle.node_turns.proofs.Tellings.{told_none, told_one, told_more}
-use Rattle.node_turns.proofs.Acted.{acted_none, acted_on}
+use Rattle.node_turns.proofs.Tellings.{told_one}
+use Rattle.node_turns.proofs.Frames.{acts_of}
+use Rattle.node_turns.proofs.Done.{gone_none, gone_more, gone_coming, gone_step, gone_nothing, gone_all, came_is, nothing_is}
+use Rattle.node_turns.proofs.Done.{broken_more, broken_none, broken_coming, broken_unsent, broken_untold, halted_more, halted_coming}
+use Rattle.node_turns.proofs.Acted.{acted_none, acted_on, acted_telling}
 use Rattle.node_turns.proofs.Hearing.{heard_next, heard_nothing, heard_all}
 use Rattle.std.proofs.lemmas.Result.{MatchResult-from_err, err_from_is_err_and}
 use Rattle.node_turns.proofs.Lists.{whole_listed, listed_none, listed_more, front_none, front_listed}
-use Rattle.node_turns.proofs.Tellings.{front_first, front_rest, front_more, strange_more, on_seen, on_seen_both, on_seen_never, seen_heard}
+use Rattle.node_turns.proofs.Tellings.{on_seen, on_seen_both, on_seen_never, seen_heard}
 use Rattle.node_turns.proofs.Cuts.{cut_on}
 use Rattle.node_turns.proofs.HeardCuts.{cut_before, recv_cut, heard_cut}
 use Rattle.node_turns.proofs.acts.hears.Goals as goal
@@ -18,8 +22,8 @@ pub loop-i-init : goal.loop-i-init
 loop-i-init g c =
     let o = g.O.Observer in
     record {
-      acted = λ w h. acted_none (g.H.Hosting.settings c.args.hosts.now) (hears (g.H.Hosting.settings c.args.hosts.now) c.args.host 64) w _ _ _ _ _ h
-          (told_none o.told o.kept o.strange _ _);
+      acted = λ w h. acted_none (g.H.LoopHosts.settings c.args.hosts.now) (hears (g.H.LoopHosts.settings c.args.hosts.now) c.args.host 64) w _ _ _ _ _ h
+          (gone_none o.told o.kept o.strange _ _ _ (Hears 64));
       settings = refl;
       clock = refl;
       steps = omega (arith);
@@ -32,28 +36,37 @@ loop-i-init g c =
 pub loop-i-preserved : goal.loop-i-preserved
 loop-i-preserved g c =
     let o = g.O.Observer in
-    let s = g.H.Hosting.settings c.args.hosts.now in
+    let s = g.H.LoopHosts.settings c.args.hosts.now in
     let i = c.loop-i.i in
     let l = c.loop-i in
     let r = c.in_ok-from.ensures in
     let n = c.in_ok-seen.ensures in
-    let told = g.H.Hosting.told c.hear.new.self in
+    let told = g.H.LoopHosts.told c.hear.new.self in
+    let frames = g.H.LoopHosts.frames c.hear.new.self in
     let next : 64 - i ≡ suc (64 - (i + 1)) = omega (arith, c.loop-i-test.true) in
     record {
       acted = λ w h. acted_on s (hears s c.args.host 64) (hears s c.args.host (64 - i)) (hears s c.args.host (64 - (i + 1))) w
-          (g.H.Hosting.stands l.hosts) _ _ (g.H.Hosting.allows l.hosts) _ _ _ _ _ (g.N.Net.sent l.net) _ _ (g.N.Net.gave l.net) _ (l.invariant.acted w h)
+          (g.H.LoopHosts.stands l.hosts) _ _ (g.H.LoopHosts.allows l.hosts) _ _ _ _ _ (g.N.Net.sent l.net) _ _ (g.N.Net.gave l.net) _ (l.invariant.acted w h)
           (λ v st. heard_next s c.args.host (64 - i) (64 - (i + 1)) next
-          (g.H.Hosting.settings l.hosts) l.invariant.settings c.in-Frame.from c.bytes-bytes.result.now c.bytes-bytes.result.now c.recv.new.frame
+          (g.H.LoopHosts.settings l.hosts) l.invariant.settings c.in-Frame.from c.bytes-bytes.result.now c.bytes-bytes.result.now c.recv.new.frame
           c.bytes-bytes.ensures.bytes c.bytes-bytes.ensures.bytes c.in_ok-from.field-0 c.in-Frame.is
-          v _ told (g.H.Hosting.frames c.hear.new.self) _ _ _ _ _ _ _ (c.in_ok-hear.ensures.done v st)
-          (told_more o.told o.kept o.strange (o.taken l.observer) (o.taken c.seen.new.self) _ (o.notes l.observer) (o.notes c.seen.new.self) _
+          v _ told (g.H.LoopHosts.frames c.hear.new.self) _ _ _ _ _ _ _ (c.in_ok-hear.ensures.done v st)
+          (gone_more o.told o.kept o.strange (o.taken l.observer) (o.taken c.seen.new.self) _ (o.notes l.observer) (o.notes c.seen.new.self) _
+          (g.N.Net.acts l.net) (g.N.Net.acts c.recv.new.self) _ (Hears (64 - i)) (Hears (64 - (i + 1))) (Hears (64 - (i + 1)))
           (Tells (PlainRecv c.args.host c.in-Frame.from c.bytes-bytes.result.now) ∷ []) (map Tells told)
-          (told_one o.told o.kept o.strange _ _ _ _ (Tells (PlainRecv c.args.host c.in-Frame.from c.bytes-bytes.result.now)) n.told n.kept n.usual)
-          c.in_ok-tell_entries.ensures.ok)
-          (c.in_ok-send_frames.ensures.ok ∙ ap (λ x. listed x (map frame_datagram (g.H.Hosting.frames c.hear.new.self))) r.sent)
+          (gone_coming o.told o.kept o.strange _ _ _ _ _ _ c.args.host (record { from = c.in-Frame.from; bytes = c.bytes-bytes.result.now }) (64 - i)
+          (64 - (i + 1)) next
+          (came_is _ _ c.args.host c.in-Frame.from c.in_ok-from.field-0 c.bytes-bytes.result.now c.recv.new.frame c.in-Frame.is
+          c.bytes-bytes.ensures.bytes r.acts)
+          (told_one o.told o.kept o.strange _ _ _ _ (Tells (PlainRecv c.args.host c.in-Frame.from c.bytes-bytes.result.now)) n.told n.kept n.usual))
+          (gone_step o.told o.kept o.strange _ _ _ _ _ _ (64 - (i + 1)) told (map frame_datagram frames) c.in_ok-hear.ensures.own
+          (length-map frames frame_datagram ∙ (c.in_ok-hear.ensures.done v st).numbers)
+          (c.in_ok-send_frames.ensures.acts ∙ ap (listed (g.N.Net.acts c.recv.new.self)) (acts_of frames)) c.in_ok-tell_entries.ensures.ok))
+          (c.in_ok-send_frames.ensures.ok ∙ ap (λ x. listed x (map frame_datagram (g.H.LoopHosts.frames c.hear.new.self))) r.sent)
           (c.in_ok-send_frames.ensures.gave ∙ r.gave)
           (subst (λ q. IsReceived (record { from = c.in-Frame.from; bytes = q })) c.bytes-bytes.ensures.bytes (c.is_received.ensures c.in-Frame.from)))
-          (λ x y p q. told_more o.told o.kept o.strange _ (o.taken l.observer) _ _ (o.notes l.observer) _ x y p q);
+          (λ x y p q. gone_more o.told o.kept o.strange _ (o.taken l.observer) _ _ (o.notes l.observer) _ _ (g.N.Net.acts l.net) _ (Hears 64)
+          (Hears (64 - i)) (Hears (64 - (i + 1))) x y p q);
       settings = c.in_ok-hear.ensures.settings ∙ l.invariant.settings;
       clock = c.in_ok-hear.ensures.clock ∙ l.invariant.clock;
       steps = omega (arith, c.in_ok-hear.ensures.steps, l.invariant.steps);
@@ -66,165 +79,200 @@ loop-i-preserved g c =
 pub returns-in_default-clause-acted : goal.returns-in_default-clause-acted
 returns-in_default-clause-acted g c =
     let o = g.O.Observer in
-    let s = g.H.Hosting.settings c.args.hosts.now in
+    let s = g.H.LoopHosts.settings c.args.hosts.now in
     let i = c.loop-i.i in
     let l = c.loop-i in
     let r = c.in_ok-from.ensures in
     let next : 64 - i ≡ suc (63 - i) = omega (arith, c.loop-i-test.true) in
-    λ w h. acted_on s _ (hears s c.args.host (64 - i)) _ w (g.H.Hosting.stands l.hosts) _ _ (g.H.Hosting.allows l.hosts) _ _ _ _ _ (g.N.Net.sent l.net) _ _
+    λ w h. acted_on s _ (hears s c.args.host (64 - i)) _ w (g.H.LoopHosts.stands l.hosts) _ _ (g.H.LoopHosts.allows l.hosts) _ _ _ _ _ (g.N.Net.sent l.net) _ _
     (g.N.Net.gave l.net) _ (l.invariant.acted w h)
     (λ v st. heard_nothing s c.args.host (64 - i) (63 - i) next c.in_ok-from.field-0 c.recv.new.frame c.in_default.not-Frame v _ _ _ _ _ _ _ st
-    (told_none o.told o.kept o.strange (o.taken l.observer) (o.notes l.observer)) r.sent r.gave)
-    (λ x y p q. told_more o.told o.kept o.strange _ (o.taken l.observer) _ _ (o.notes l.observer) _ x y p q)
+    (gone_nothing o.told o.kept o.strange (o.taken l.observer) (o.notes l.observer) (g.N.Net.acts l.net) _ c.args.host (64 - i) (63 - i) next
+    (nothing_is _ _ c.args.host c.in_ok-from.field-0 c.recv.new.frame c.in_default.not-Frame r.acts)) r.sent r.gave)
+    (λ x y p q. gone_more o.told o.kept o.strange _ (o.taken l.observer) _ _ (o.notes l.observer) _ _ (g.N.Net.acts l.net) _ (Hears 64) (Hears (64 - i))
+    (Turns c.args.host) x y p q)
 
 pub returns-clause-acted : goal.returns-clause-acted
 returns-clause-acted g c =
-    let s = g.H.Hosting.settings c.args.hosts.now in
+    let s = g.H.LoopHosts.settings c.args.hosts.now in
     let i = c.loop-i.i in
     let none : 64 - i ≡ zero = omega (arith, c.loop-i-test.false) in
-    λ w h. heard_all s c.args.host (hears s c.args.host 64) (64 - i) none w _ _ _ _ _ _ _ _ (c.loop-i.invariant.acted w h)
+    let o = g.O.Observer in
+    λ w h. acted_telling s (hears s c.args.host 64) _ w _ _ _ _ _ _ _ _ _
+    (λ x p. gone_all o.told o.kept o.strange _ _ _ _ _ _ (Hears 64) c.args.host (64 - i) x none p)
+    (heard_all s c.args.host (hears s c.args.host 64) (64 - i) none w _ _ _ _ _ _ _ _ (c.loop-i.invariant.acted w h))
 
 pub returns-in_err-from-clause-cut : goal.returns-in_err-from-clause-cut
 returns-in_err-from-clause-cut g c =
     let o = g.O.Observer in
-    let s = g.H.Hosting.settings c.args.hosts.now in
+    let s = g.H.LoopHosts.settings c.args.hosts.now in
     let i = c.loop-i.i in
     let l = c.loop-i in
     MatchResult-from_err _ _ _ c.from_residual.ensures.0
-    (λ _ w h. cut_on s (hears s c.args.host 64) (hears s c.args.host (64 - i)) w (g.H.Hosting.stands l.hosts) _ (g.H.Hosting.allows l.hosts) _ _ _ _ _ _
+    (λ _ w h. cut_on s (hears s c.args.host 64) (hears s c.args.host (64 - i)) w (g.H.LoopHosts.stands l.hosts) _ (g.H.LoopHosts.allows l.hosts) _ _ _ _ _ _
     (g.N.Net.sent l.net) _ (g.N.Net.gave l.net) _ (l.invariant.acted w h)
     (λ v st. cut_before s c.args.host (64 - i) v _ _ _ _ _
-    (front_rest o.told o.kept o.strange _ _ []) (front_none _ _ c.in_err-from.ensures.sent) c.in_err-from.ensures.err_gave
-    (g.met.H.Hosting.allows_none l.hosts))
-    (λ x y p q. front_more o.told o.kept o.strange _ (o.taken l.observer) _ _ (o.notes l.observer) x y p q)
+    (broken_none o.told o.kept o.strange _ _ _ _ (64 - i) c.in_err-from.ensures.err_acts) (front_none _ _ c.in_err-from.ensures.sent)
+    c.in_err-from.ensures.err_gave
+    (g.met.H.LoopHosts.allows_none l.hosts))
+    (λ x y p q. broken_more o.told o.kept o.strange _ (o.taken l.observer) _ _ (o.notes l.observer) _ (g.N.Net.acts l.net) _ (Hears 64)
+    (Hears (64 - i)) x y p q)
     (λ x y p q. front_listed _ (g.N.Net.sent l.net) _ x y p q))
 
 pub returns-in_err-seen-clause-cut : goal.returns-in_err-seen-clause-cut
 returns-in_err-seen-clause-cut g c =
     let o = g.O.Observer in
-    let s = g.H.Hosting.settings c.args.hosts.now in
+    let s = g.H.LoopHosts.settings c.args.hosts.now in
     let i = c.loop-i.i in
     let l = c.loop-i in
     let next : 64 - i ≡ suc (64 - (i + 1)) = omega (arith, c.loop-i-test.true) in
     let r = c.in_ok-from.ensures in
     MatchResult-from_err _ _ _ c.from_residual-in_err-seen.ensures.0
-    (λ _ w h. cut_on s (hears s c.args.host 64) (hears s c.args.host (64 - i)) w (g.H.Hosting.stands l.hosts) _ (g.H.Hosting.allows l.hosts) _ _ _ _ _ _
+    (λ _ w h. cut_on s (hears s c.args.host 64) (hears s c.args.host (64 - i)) w (g.H.LoopHosts.stands l.hosts) _ (g.H.LoopHosts.allows l.hosts) _ _ _ _ _ _
     (g.N.Net.sent l.net) _ (g.N.Net.gave l.net) _ (l.invariant.acted w h)
     (λ v st. recv_cut s c.args.host (64 - i) (64 - (i + 1)) next
-    (g.H.Hosting.settings l.hosts) l.invariant.settings c.in-Frame.from c.bytes-bytes.result.now c.recv.new.frame c.bytes-bytes.ensures.bytes
+    (g.H.LoopHosts.settings l.hosts) l.invariant.settings c.in-Frame.from c.bytes-bytes.result.now c.recv.new.frame c.bytes-bytes.ensures.bytes
     c.in_ok-from.field-0 c.in-Frame.is
-    v (g.H.Hosting.allows l.hosts) _ _ _ _
-    (g.met.H.Hosting.comes l.hosts v st c.args.host (record { from = c.in-Frame.from; bytes = c.recv.new.frame })
+    v (g.H.LoopHosts.allows l.hosts) _ _ _ _
+    (g.met.H.LoopHosts.comes l.hosts v st c.args.host (record { from = c.in-Frame.from; bytes = c.recv.new.frame })
     (subst (λ q. c.args.host.0 < q.hosts) (sym l.invariant.settings) c.requires.host))
-    (front_first o.told o.kept o.strange _ _ _ (Tells (PlainRecv c.args.host c.in-Frame.from c.bytes-bytes.result.now)) [] c.in_err-seen.ensures.err)
+    (broken_coming o.told o.kept o.strange _ _ _ _ _ c.args.host (record { from = c.in-Frame.from; bytes = c.bytes-bytes.result.now }) (64 - i)
+    (64 - (i + 1)) next
+    (came_is _ _ c.args.host c.in-Frame.from c.in_ok-from.field-0 c.bytes-bytes.result.now c.recv.new.frame c.in-Frame.is c.bytes-bytes.ensures.bytes
+    r.acts) c.in_err-seen.ensures.err)
     (front_none _ _ r.sent)
     r.gave
     (subst (λ q. IsReceived (record { from = c.in-Frame.from; bytes = q })) c.bytes-bytes.ensures.bytes (c.is_received.ensures c.in-Frame.from))
-    (g.met.H.Hosting.allows_recv l.hosts c.args.host c.in-Frame.from c.recv.new.frame))
-    (λ x y p q. front_more o.told o.kept o.strange _ (o.taken l.observer) _ _ (o.notes l.observer) x y p q)
+    (g.met.H.LoopHosts.allows_recv l.hosts c.args.host c.in-Frame.from c.recv.new.frame))
+    (λ x y p q. broken_more o.told o.kept o.strange _ (o.taken l.observer) _ _ (o.notes l.observer) _ (g.N.Net.acts l.net) _ (Hears 64)
+    (Hears (64 - i)) x y p q)
     (λ x y p q. front_listed _ (g.N.Net.sent l.net) _ x y p q))
 
 pub returns-in_err-hear-clause-cut : goal.returns-in_err-hear-clause-cut
 returns-in_err-hear-clause-cut g c =
     let o = g.O.Observer in
     let n = c.in_ok-seen.ensures in
-    let s = g.H.Hosting.settings c.args.hosts.now in
+    let s = g.H.LoopHosts.settings c.args.hosts.now in
     let i = c.loop-i.i in
     let l = c.loop-i in
     let next : 64 - i ≡ suc (64 - (i + 1)) = omega (arith, c.loop-i-test.true) in
     let r = c.in_ok-from.ensures in
     MatchResult-from_err _ _ _ c.from_residual-in_err-hear.ensures.0
-    (λ _ w h. cut_on s (hears s c.args.host 64) (hears s c.args.host (64 - i)) w (g.H.Hosting.stands l.hosts) _ (g.H.Hosting.allows l.hosts) _ _ _ _ _ _
+    (λ _ w h. cut_on s (hears s c.args.host 64) (hears s c.args.host (64 - i)) w (g.H.LoopHosts.stands l.hosts) _ (g.H.LoopHosts.allows l.hosts) _ _ _ _ _ _
     (g.N.Net.sent l.net) _ (g.N.Net.gave l.net) _ (l.invariant.acted w h)
     (λ v st. recv_cut s c.args.host (64 - i) (64 - (i + 1)) next
-    (g.H.Hosting.settings l.hosts) l.invariant.settings c.in-Frame.from c.bytes-bytes.result.now c.recv.new.frame c.bytes-bytes.ensures.bytes
+    (g.H.LoopHosts.settings l.hosts) l.invariant.settings c.in-Frame.from c.bytes-bytes.result.now c.recv.new.frame c.bytes-bytes.ensures.bytes
     c.in_ok-from.field-0 c.in-Frame.is
-    v (g.H.Hosting.allows l.hosts) _ _ _ _
-    (g.met.H.Hosting.comes l.hosts v st c.args.host (record { from = c.in-Frame.from; bytes = c.recv.new.frame })
+    v (g.H.LoopHosts.allows l.hosts) _ _ _ _
+    (g.met.H.LoopHosts.comes l.hosts v st c.args.host (record { from = c.in-Frame.from; bytes = c.recv.new.frame })
     (subst (λ q. c.args.host.0 < q.hosts) (sym l.invariant.settings) c.requires.host))
-    (front_more o.told o.kept o.strange _ (o.taken c.seen.new.self) _ _ (o.notes c.seen.new.self)
+    (broken_more o.told o.kept o.strange _ (o.taken c.seen.new.self) _ _ (o.notes c.seen.new.self) _ (g.N.Net.acts c.recv.new.self) _
+    (Hears (64 - i)) (Hears (64 - (i + 1)))
     (Tells (PlainRecv c.args.host c.in-Frame.from c.bytes-bytes.result.now) ∷ []) []
-    (told_one o.told o.kept o.strange _ _ _ _ (Tells (PlainRecv c.args.host c.in-Frame.from c.bytes-bytes.result.now)) n.told n.kept n.usual)
-    (front_rest o.told o.kept o.strange _ _ _)) (front_none _ _ r.sent) r.gave
+    (gone_coming o.told o.kept o.strange _ _ _ _ _ _ c.args.host (record { from = c.in-Frame.from; bytes = c.bytes-bytes.result.now }) (64 - i)
+    (64 - (i + 1)) next
+    (came_is _ _ c.args.host c.in-Frame.from c.in_ok-from.field-0 c.bytes-bytes.result.now c.recv.new.frame c.in-Frame.is c.bytes-bytes.ensures.bytes r.acts)
+    (told_one o.told o.kept o.strange _ _ _ _ (Tells (PlainRecv c.args.host c.in-Frame.from c.bytes-bytes.result.now)) n.told n.kept n.usual))
+    (broken_none o.told o.kept o.strange _ _ _ _ (64 - (i + 1)) refl)) (front_none _ _ r.sent) r.gave
     (subst (λ q. IsReceived (record { from = c.in-Frame.from; bytes = q })) c.bytes-bytes.ensures.bytes (c.is_received.ensures c.in-Frame.from))
-    (g.met.H.Hosting.allows_recv l.hosts c.args.host c.in-Frame.from c.recv.new.frame))
-    (λ x y p q. front_more o.told o.kept o.strange _ (o.taken l.observer) _ _ (o.notes l.observer) x y p q)
+    (g.met.H.LoopHosts.allows_recv l.hosts c.args.host c.in-Frame.from c.recv.new.frame))
+    (λ x y p q. broken_more o.told o.kept o.strange _ (o.taken l.observer) _ _ (o.notes l.observer) _ (g.N.Net.acts l.net) _ (Hears 64)
+    (Hears (64 - i)) x y p q)
     (λ x y p q. front_listed _ (g.N.Net.sent l.net) _ x y p q))
 
 pub returns-in_err-send_frames-clause-cut : goal.returns-in_err-send_frames-clause-cut
 returns-in_err-send_frames-clause-cut g c =
     let o = g.O.Observer in
-    let s = g.H.Hosting.settings c.args.hosts.now in
+    let s = g.H.LoopHosts.settings c.args.hosts.now in
     let i = c.loop-i.i in
     let l = c.loop-i in
     let next : 64 - i ≡ suc (64 - (i + 1)) = omega (arith, c.loop-i-test.true) in
     let r = c.in_ok-from.ensures in
     let n = c.in_ok-seen.ensures in
-    let told = g.H.Hosting.told c.hear.new.self in
+    let told = g.H.LoopHosts.told c.hear.new.self in
+    let frames = g.H.LoopHosts.frames c.hear.new.self in
     MatchResult-from_err _ _ _ c.from_residual-in_err-send_frames.ensures.0
-    (λ _ w h. cut_on s (hears s c.args.host 64) (hears s c.args.host (64 - i)) w (g.H.Hosting.stands l.hosts) _ (g.H.Hosting.allows l.hosts) _ _ _ _ _ _
+    (λ _ w h. cut_on s (hears s c.args.host 64) (hears s c.args.host (64 - i)) w (g.H.LoopHosts.stands l.hosts) _ (g.H.LoopHosts.allows l.hosts) _ _ _ _ _ _
     (g.N.Net.sent l.net) _ (g.N.Net.gave l.net) _ (l.invariant.acted w h)
     (λ v st. heard_cut s c.args.host (64 - i) (64 - (i + 1)) next
-    (g.H.Hosting.settings l.hosts) l.invariant.settings c.in-Frame.from c.bytes-bytes.result.now c.bytes-bytes.result.now c.recv.new.frame
+    (g.H.LoopHosts.settings l.hosts) l.invariant.settings c.in-Frame.from c.bytes-bytes.result.now c.bytes-bytes.result.now c.recv.new.frame
     c.bytes-bytes.ensures.bytes c.bytes-bytes.ensures.bytes c.in_ok-from.field-0 c.in-Frame.is
-    v _ told (g.H.Hosting.frames c.hear.new.self) (g.H.Hosting.allows l.hosts) _ _ _ _ _ (c.in_ok-hear.ensures.done v st)
-    (front_more o.told o.kept o.strange _ (o.taken c.seen.new.self) _ _ (o.notes c.seen.new.self)
+    v _ told (g.H.LoopHosts.frames c.hear.new.self) (g.H.LoopHosts.allows l.hosts) _ _ _ _ _ (c.in_ok-hear.ensures.done v st)
+    (broken_more o.told o.kept o.strange _ (o.taken c.seen.new.self) _ _ (o.notes c.seen.new.self) _ (g.N.Net.acts c.recv.new.self) _
+    (Hears (64 - i)) (Hears (64 - (i + 1)))
     (Tells (PlainRecv c.args.host c.in-Frame.from c.bytes-bytes.result.now) ∷ []) (map Tells told)
-    (told_one o.told o.kept o.strange _ _ _ _ (Tells (PlainRecv c.args.host c.in-Frame.from c.bytes-bytes.result.now)) n.told n.kept n.usual)
-    (front_rest o.told o.kept o.strange _ _ _))
-    (subst (λ x. ListedFront x (g.N.Net.sent c.send_frames.new.net) (map frame_datagram (g.H.Hosting.frames c.hear.new.self))) r.sent
+    (gone_coming o.told o.kept o.strange _ _ _ _ _ _ c.args.host (record { from = c.in-Frame.from; bytes = c.bytes-bytes.result.now }) (64 - i)
+    (64 - (i + 1)) next
+    (came_is _ _ c.args.host c.in-Frame.from c.in_ok-from.field-0 c.bytes-bytes.result.now c.recv.new.frame c.in-Frame.is c.bytes-bytes.ensures.bytes r.acts)
+    (told_one o.told o.kept o.strange _ _ _ _ (Tells (PlainRecv c.args.host c.in-Frame.from c.bytes-bytes.result.now)) n.told n.kept n.usual))
+    (broken_unsent o.told o.kept o.strange _ _ _ _ (64 - (i + 1)) told (map frame_datagram frames) c.in_ok-hear.ensures.own
+    (length-map frames frame_datagram ∙ (c.in_ok-hear.ensures.done v st).numbers)
+    (subst (ListedFront _ _) (acts_of frames) c.in_err-send_frames.ensures.err_acts)))
+    (subst (λ x. ListedFront x (g.N.Net.sent c.send_frames.new.net) (map frame_datagram (g.H.LoopHosts.frames c.hear.new.self))) r.sent
     c.in_err-send_frames.ensures.err) (c.in_err-send_frames.ensures.gave ∙ r.gave)
     (subst (λ q. IsReceived (record { from = c.in-Frame.from; bytes = q })) c.bytes-bytes.ensures.bytes (c.is_received.ensures c.in-Frame.from))
-    (g.met.H.Hosting.allows_none c.hear.new.self))
-    (λ x y p q. front_more o.told o.kept o.strange _ (o.taken l.observer) _ _ (o.notes l.observer) x y p q)
+    (g.met.H.LoopHosts.allows_none c.hear.new.self))
+    (λ x y p q. broken_more o.told o.kept o.strange _ (o.taken l.observer) _ _ (o.notes l.observer) _ (g.N.Net.acts l.net) _ (Hears 64)
+    (Hears (64 - i)) x y p q)
     (λ x y p q. front_listed _ (g.N.Net.sent l.net) _ x y p q))
 
 pub returns-in_err-tell_entries-clause-cut : goal.returns-in_err-tell_entries-clause-cut
 returns-in_err-tell_entries-clause-cut g c =
     let o = g.O.Observer in
-    let s = g.H.Hosting.settings c.args.hosts.now in
+    let s = g.H.LoopHosts.settings c.args.hosts.now in
     let i = c.loop-i.i in
     let l = c.loop-i in
     let next : 64 - i ≡ suc (64 - (i + 1)) = omega (arith, c.loop-i-test.true) in
     let r = c.in_ok-from.ensures in
     let n = c.in_ok-seen.ensures in
-    let told = g.H.Hosting.told c.hear.new.self in
+    let told = g.H.LoopHosts.told c.hear.new.self in
+    let frames = g.H.LoopHosts.frames c.hear.new.self in
     MatchResult-from_err _ _ _ c.from_residual-in_err-tell_entries.ensures.0
-    (λ _ w h. cut_on s (hears s c.args.host 64) (hears s c.args.host (64 - i)) w (g.H.Hosting.stands l.hosts) _ (g.H.Hosting.allows l.hosts) _ _ _ _ _ _
+    (λ _ w h. cut_on s (hears s c.args.host 64) (hears s c.args.host (64 - i)) w (g.H.LoopHosts.stands l.hosts) _ (g.H.LoopHosts.allows l.hosts) _ _ _ _ _ _
     (g.N.Net.sent l.net) _ (g.N.Net.gave l.net) _ (l.invariant.acted w h)
     (λ v st. heard_cut s c.args.host (64 - i) (64 - (i + 1)) next
-    (g.H.Hosting.settings l.hosts) l.invariant.settings c.in-Frame.from c.bytes-bytes.result.now c.bytes-bytes.result.now c.recv.new.frame
+    (g.H.LoopHosts.settings l.hosts) l.invariant.settings c.in-Frame.from c.bytes-bytes.result.now c.bytes-bytes.result.now c.recv.new.frame
     c.bytes-bytes.ensures.bytes c.bytes-bytes.ensures.bytes c.in_ok-from.field-0 c.in-Frame.is
-    v _ told (g.H.Hosting.frames c.hear.new.self) (g.H.Hosting.allows l.hosts) _ _ _ _ _ (c.in_ok-hear.ensures.done v st)
-    (front_more o.told o.kept o.strange _ (o.taken c.seen.new.self) _ _ (o.notes c.seen.new.self)
+    v _ told (g.H.LoopHosts.frames c.hear.new.self) (g.H.LoopHosts.allows l.hosts) _ _ _ _ _ (c.in_ok-hear.ensures.done v st)
+    (broken_more o.told o.kept o.strange _ (o.taken c.seen.new.self) _ _ (o.notes c.seen.new.self) _ (g.N.Net.acts c.recv.new.self) _
+    (Hears (64 - i)) (Hears (64 - (i + 1)))
     (Tells (PlainRecv c.args.host c.in-Frame.from c.bytes-bytes.result.now) ∷ []) (map Tells told)
-    (told_one o.told o.kept o.strange _ _ _ _ (Tells (PlainRecv c.args.host c.in-Frame.from c.bytes-bytes.result.now)) n.told n.kept n.usual)
-    c.in_err-tell_entries.ensures.err)
-    (whole_listed _ _ _ (c.in_ok-send_frames.ensures.ok ∙ ap (λ x. listed x (map frame_datagram (g.H.Hosting.frames c.hear.new.self))) r.sent))
+    (gone_coming o.told o.kept o.strange _ _ _ _ _ _ c.args.host (record { from = c.in-Frame.from; bytes = c.bytes-bytes.result.now }) (64 - i)
+    (64 - (i + 1)) next
+    (came_is _ _ c.args.host c.in-Frame.from c.in_ok-from.field-0 c.bytes-bytes.result.now c.recv.new.frame c.in-Frame.is c.bytes-bytes.ensures.bytes r.acts)
+    (told_one o.told o.kept o.strange _ _ _ _ (Tells (PlainRecv c.args.host c.in-Frame.from c.bytes-bytes.result.now)) n.told n.kept n.usual))
+    (broken_untold o.told o.kept o.strange _ _ _ _ _ (64 - (i + 1)) told (map frame_datagram frames) c.in_ok-hear.ensures.own
+    (length-map frames frame_datagram ∙ (c.in_ok-hear.ensures.done v st).numbers)
+    (c.in_ok-send_frames.ensures.acts ∙ ap (listed (g.N.Net.acts c.recv.new.self)) (acts_of frames)) c.in_err-tell_entries.ensures.err))
+    (whole_listed _ _ _ (c.in_ok-send_frames.ensures.ok ∙ ap (λ x. listed x (map frame_datagram (g.H.LoopHosts.frames c.hear.new.self))) r.sent))
     (c.in_ok-send_frames.ensures.gave ∙ r.gave)
     (subst (λ q. IsReceived (record { from = c.in-Frame.from; bytes = q })) c.bytes-bytes.ensures.bytes (c.is_received.ensures c.in-Frame.from))
-    (g.met.H.Hosting.allows_none c.hear.new.self))
-    (λ x y p q. front_more o.told o.kept o.strange _ (o.taken l.observer) _ _ (o.notes l.observer) x y p q)
+    (g.met.H.LoopHosts.allows_none c.hear.new.self))
+    (λ x y p q. broken_more o.told o.kept o.strange _ (o.taken l.observer) _ _ (o.notes l.observer) _ (g.N.Net.acts l.net) _ (Hears 64)
+    (Hears (64 - i)) x y p q)
     (λ x y p q. front_listed _ (g.N.Net.sent l.net) _ x y p q))
 
 pub returns-in_err-seen-clause-strange : goal.returns-in_err-seen-clause-strange
 returns-in_err-seen-clause-strange g c =
     let o = g.O.Observer in
-    let s = g.H.Hosting.settings c.args.hosts.now in
+    let s = g.H.LoopHosts.settings c.args.hosts.now in
     let i = c.loop-i.i in
     let l = c.loop-i in
     let next : 64 - i ≡ suc (64 - (i + 1)) = omega (arith, c.loop-i-test.true) in
     let r = c.in_ok-from.ensures in
     let p = err_from_is_err_and c.from_residual-in_err-seen.result c.from_residual-in_err-seen.ensures.1 in
     rw (p.1, p.2) (on_seen_both c.in_err-seen.field-0.0 _ _ _
-    (λ k m w h. cut_on s (hears s c.args.host 64) (hears s c.args.host (64 - i)) w (g.H.Hosting.stands l.hosts) _ (g.H.Hosting.allows l.hosts) _ _ _ _ _ _
+    (λ k m w h. cut_on s (hears s c.args.host 64) (hears s c.args.host (64 - i)) w (g.H.LoopHosts.stands l.hosts) _ (g.H.LoopHosts.allows l.hosts) _ _ _ _ _ _
     (g.N.Net.sent l.net) _ (g.N.Net.gave l.net) _ (l.invariant.acted w h)
     (λ v st. recv_cut s c.args.host (64 - i) (64 - (i + 1)) next
-    (g.H.Hosting.settings l.hosts) l.invariant.settings c.in-Frame.from c.bytes-bytes.result.now c.recv.new.frame c.bytes-bytes.ensures.bytes
+    (g.H.LoopHosts.settings l.hosts) l.invariant.settings c.in-Frame.from c.bytes-bytes.result.now c.recv.new.frame c.bytes-bytes.ensures.bytes
     c.in_ok-from.field-0 c.in-Frame.is
-    v (g.H.Hosting.allows l.hosts) _ _ _ _
-    (g.met.H.Hosting.comes l.hosts v st c.args.host (record { from = c.in-Frame.from; bytes = c.recv.new.frame })
+    v (g.H.LoopHosts.allows l.hosts) _ _ _ _
+    (g.met.H.LoopHosts.comes l.hosts v st c.args.host (record { from = c.in-Frame.from; bytes = c.recv.new.frame })
     (subst (λ q. c.args.host.0 < q.hosts) (sym l.invariant.settings) c.requires.host))
+    (halted_coming o.told o.kept o.strange _ _ _ _ _ c.args.host (record { from = c.in-Frame.from; bytes = c.bytes-bytes.result.now }) (64 - i)
+    (64 - (i + 1)) next
+    (came_is _ _ c.args.host c.in-Frame.from c.in_ok-from.field-0 c.bytes-bytes.result.now c.recv.new.frame c.in-Frame.is c.bytes-bytes.ensures.bytes r.acts)
     (record {
       before = [];
       last = Tells (PlainRecv c.args.host c.in-Frame.from c.bytes-bytes.result.now);
@@ -232,10 +280,11 @@ returns-in_err-seen-clause-strange g c =
       usual = tt;
       unusual = k;
       text = m;
-    }) (r.sent ∙ listed_none _) r.gave
+    })) (r.sent ∙ listed_none _) r.gave
     (subst (λ q. IsReceived (record { from = c.in-Frame.from; bytes = q })) c.bytes-bytes.ensures.bytes (c.is_received.ensures c.in-Frame.from))
-    (g.met.H.Hosting.allows_recv l.hosts c.args.host c.in-Frame.from c.recv.new.frame))
-    (λ x y p q. strange_more o.told o.kept o.strange _ (o.taken l.observer) _ _ (o.notes l.observer) x y p q)
+    (g.met.H.LoopHosts.allows_recv l.hosts c.args.host c.in-Frame.from c.recv.new.frame))
+    (λ x y p q. halted_more o.told o.kept o.strange _ (o.taken l.observer) _ _ (o.notes l.observer) _ (g.N.Net.acts l.net) _ (Hears 64)
+    (Hears (64 - i)) x y p q)
     (λ x y p q. listed_more _ (g.N.Net.sent l.net) _ x y p q)) c.in_err-seen.ensures.stranger
     c.in_err-seen.ensures.stranger_told)
 

@@ -1,7 +1,7 @@
 use Rattle.std.proofs.Common.{◌≡◌, ◌≤◌, ◌+◌, ◌-◌}
 use Rattle.homa_plain.specs.World.{World}
 use Rattle.node_runs.specs.Course.{hears}
-use Rattle.node_turns.specs.Told.{AreTold}
+use Rattle.node_turns.specs.Told.{Hears, AreDone}
 use Rattle.node_turns.specs.Acting.{HasActed}
 use Rattle.node_turns.proofs.acts.hears.Given as goal
 
@@ -10,12 +10,13 @@ abbrev pub invariant-loop-i : goal.invariant-loop-i
 invariant-loop-i g l =
     let o = g.O.Observer in
     let n = g.N.Net in
-    let h = g.H.Hosting in
+    let h = g.H.LoopHosts in
     record {
       acted : (w : World) → h.stands l.fn.hosts w
           → HasActed (hears (h.settings l.fn.hosts) l.host 64) (hears (h.settings l.fn.hosts) l.host (64 - l.i)) (h.settings l.fn.hosts) w
           (h.stands l.hosts) (h.allows l.fn.hosts) (h.allows l.hosts)
-          (AreTold o.told o.kept o.strange (o.taken l.fn.observer) (o.notes l.fn.observer) (o.taken l.observer) (o.notes l.observer)) (n.sent l.fn.net)
+          (AreDone o.told o.kept o.strange (o.taken l.fn.observer) (o.notes l.fn.observer) (o.taken l.observer) (o.notes l.observer)
+          (n.acts l.fn.net) (n.acts l.net) (Hears 64) (Hears (64 - l.i))) (n.sent l.fn.net)
           (n.sent l.net) (n.gave l.fn.net) (n.gave l.net);
       settings : h.settings l.hosts ≡ h.settings l.fn.hosts;
       clock : h.clock l.hosts ≡ h.clock l.fn.hosts;

@@ -1,11 +1,12 @@
 use Rattle.std.proofs.Common.{◌+◌, refl, drop, get_or, ◌∙◌, ap, arith}
 use Rattle.node_runs.specs.Course.{hosts_act}
 use Rattle.node_turns.specs.Acting.{with_left}
-use Rattle.node_turns.proofs.Tellings.{told_none, told_more}
+use Rattle.node_turns.specs.Told.{Hears, Turns}
+use Rattle.node_turns.proofs.Done.{gone_none, gone_more, broken_more, halted_more}
 use Rattle.node_turns.proofs.Acted.{acted_none, acted_on}
 use Rattle.node_turns.proofs.Hearing.{host_next, drop_at}
 use Rattle.std.proofs.lemmas.Result.{MatchResult-from_err, err_from_is_err_and}
-use Rattle.node_turns.proofs.Tellings.{front_more, strange_more, on_stop, midst_heard, midst_never}
+use Rattle.node_turns.proofs.Tellings.{on_stop, midst_heard, midst_never}
 use Rattle.node_turns.proofs.Lists.{listed_more, front_listed}
 use Rattle.node_turns.proofs.Cuts.{cut_on}
 use Rattle.node_turns.proofs.HostCuts.{next_hears_cut, next_turn_cut}
@@ -15,8 +16,9 @@ pub loop-i-init : goal.loop-i-init
 loop-i-init g c =
     let o = g.O.Observer in
     record {
-      acted = λ w h. acted_none (g.H.Hosting.settings c.args.hosts.now)
-          (with_left (hosts_act (g.H.Hosting.settings c.args.hosts.now) c.args.locals.now)) w _ _ _ _ _ h (told_none o.told o.kept o.strange _ _);
+      acted = λ w h. acted_none (g.H.LoopHosts.settings c.args.hosts.now)
+          (with_left (hosts_act (g.H.LoopHosts.settings c.args.hosts.now) c.args.locals.now)) w _ _ _ _ _ h
+          (gone_none o.told o.kept o.strange _ _ _ (Hears 64));
       settings = refl;
       clock = refl;
       steps = omega (arith);
@@ -30,20 +32,22 @@ pub loop-i-preserved : goal.loop-i-preserved
 loop-i-preserved g c =
     let o = g.O.Observer in
     let l = c.loop-i in
-    let s = g.H.Hosting.settings c.args.hosts.now in
+    let s = g.H.LoopHosts.settings c.args.hosts.now in
     let locals = c.args.locals.now in
     let i = l.i in
     let host = get_or locals i (record { 0 = 0 }) in
     record {
       acted = λ w h. acted_on s (with_left (hosts_act s locals)) (with_left (hosts_act s (drop i locals))) (with_left (hosts_act s (drop (i + 1) locals))) w
-          (g.H.Hosting.stands l.hosts) _ _ (g.H.Hosting.allows l.hosts) _ _ _ _ _ (g.N.Net.sent l.net) _ _ (g.N.Net.gave l.net) _ (l.invariant.acted w h)
+          (g.H.LoopHosts.stands l.hosts) _ _ (g.H.LoopHosts.allows l.hosts) _ _ _ _ _ (g.N.Net.sent l.net) _ _ (g.N.Net.gave l.net) _ (l.invariant.acted w h)
           (λ v st. host_next s host locals i (drop_at locals i (record { 0 = 0 }) (omega (arith, c.loop-i-test.true, l.auto.i-end)))
-          (g.H.Hosting.settings l.hosts) (g.H.Hosting.settings c.hears.new.hosts) l.invariant.settings
+          (g.H.LoopHosts.settings l.hosts) (g.H.LoopHosts.settings c.hears.new.hosts) l.invariant.settings
           (c.in_ok-hears.ensures.settings ∙ l.invariant.settings)
-          v (g.H.Hosting.stands c.hears.new.hosts) _ _ (g.H.Hosting.allows c.hears.new.hosts) _ _ _ _ _ (g.N.Net.sent c.hears.new.net) _ _
+          v (g.H.LoopHosts.stands c.hears.new.hosts) _ _ (g.H.LoopHosts.allows c.hears.new.hosts) _ _ _ _ _ (g.N.Net.sent c.hears.new.net) _ _
           (g.N.Net.gave c.hears.new.net) _ (c.in_ok-hears.ensures.acted v st) c.in_ok-has_turn.ensures.acted
-          (λ x y p q. told_more o.told o.kept o.strange _ (o.taken c.hears.new.observer) _ _ (o.notes c.hears.new.observer) _ x y p q))
-          (λ x y p q. told_more o.told o.kept o.strange _ (o.taken l.observer) _ _ (o.notes l.observer) _ x y p q);
+          (λ x y p q. gone_more o.told o.kept o.strange _ (o.taken c.hears.new.observer) _ _ (o.notes c.hears.new.observer) _ _ (g.N.Net.acts c.hears.new.net) _
+          (Hears 64) (Turns host) (Hears 64) x y p q))
+          (λ x y p q. gone_more o.told o.kept o.strange _ (o.taken l.observer) _ _ (o.notes l.observer) _ _ (g.N.Net.acts l.net) _ (Hears 64)
+          (Hears 64) (Hears 64) x y p q);
       settings = c.in_ok-has_turn.ensures.settings ∙ c.in_ok-hears.ensures.settings ∙ l.invariant.settings;
       clock = c.in_ok-has_turn.ensures.clock ∙ c.in_ok-hears.ensures.clock ∙ l.invariant.clock;
       steps = omega (arith, c.in_ok-has_turn.ensures.steps, c.in_ok-hears.ensures.steps, l.invariant.steps);
@@ -57,53 +61,54 @@ pub returns-in_err-hears-clause-cut : goal.returns-in_err-hears-clause-cut
 returns-in_err-hears-clause-cut g c =
     let o = g.O.Observer in
     let l = c.loop-i in
-    let s = g.H.Hosting.settings c.args.hosts.now in
+    let s = g.H.LoopHosts.settings c.args.hosts.now in
     let locals = c.args.locals.now in
     let i = l.i in
     let host = get_or locals i (record { 0 = 0 }) in
     MatchResult-from_err _ _ _ c.from_residual.ensures.0
-    (λ _ w h. cut_on s (with_left (hosts_act s locals)) (with_left (hosts_act s (drop i locals))) w (g.H.Hosting.stands l.hosts) _
-    (g.H.Hosting.allows l.hosts) _ _ _ _ _ _ (g.N.Net.sent l.net) _ (g.N.Net.gave l.net) _ (l.invariant.acted w h)
+    (λ _ w h. cut_on s (with_left (hosts_act s locals)) (with_left (hosts_act s (drop i locals))) w (g.H.LoopHosts.stands l.hosts) _
+    (g.H.LoopHosts.allows l.hosts) _ _ _ _ _ _ (g.N.Net.sent l.net) _ (g.N.Net.gave l.net) _ (l.invariant.acted w h)
     (λ v st. next_hears_cut s host locals i (drop_at locals i (record { 0 = 0 }) (omega (arith, c.loop-i-test.true, l.auto.i-end)))
-    (g.H.Hosting.settings l.hosts) l.invariant.settings v (g.H.Hosting.allows l.hosts) _ _ _ _ (c.in_err-hears.ensures.cut v st))
-    (λ x y p q. front_more o.told o.kept o.strange _ (o.taken l.observer) _ _ (o.notes l.observer) x y p q)
+    (g.H.LoopHosts.settings l.hosts) l.invariant.settings v (g.H.LoopHosts.allows l.hosts) _ _ _ _ (c.in_err-hears.ensures.cut v st))
+    (λ x y p q. broken_more o.told o.kept o.strange _ (o.taken l.observer) _ _ (o.notes l.observer) _ (g.N.Net.acts l.net) _ (Hears 64) (Hears 64) x y p q)
     (λ x y p q. front_listed _ (g.N.Net.sent l.net) _ x y p q))
 
 pub returns-in_err-has_turn-clause-cut : goal.returns-in_err-has_turn-clause-cut
 returns-in_err-has_turn-clause-cut g c =
     let o = g.O.Observer in
     let l = c.loop-i in
-    let s = g.H.Hosting.settings c.args.hosts.now in
+    let s = g.H.LoopHosts.settings c.args.hosts.now in
     let locals = c.args.locals.now in
     let i = l.i in
     let host = get_or locals i (record { 0 = 0 }) in
     MatchResult-from_err _ _ _ c.from_residual-in_err-has_turn.ensures.0
-    (λ _ w h. cut_on s (with_left (hosts_act s locals)) (with_left (hosts_act s (drop i locals))) w (g.H.Hosting.stands l.hosts) _
-    (g.H.Hosting.allows l.hosts) _ _ _ _ _ _ (g.N.Net.sent l.net) _ (g.N.Net.gave l.net) _ (l.invariant.acted w h)
+    (λ _ w h. cut_on s (with_left (hosts_act s locals)) (with_left (hosts_act s (drop i locals))) w (g.H.LoopHosts.stands l.hosts) _
+    (g.H.LoopHosts.allows l.hosts) _ _ _ _ _ _ (g.N.Net.sent l.net) _ (g.N.Net.gave l.net) _ (l.invariant.acted w h)
     (λ v st. next_turn_cut s host locals i (drop_at locals i (record { 0 = 0 }) (omega (arith, c.loop-i-test.true, l.auto.i-end)))
-    (g.H.Hosting.settings l.hosts) (g.H.Hosting.settings c.hears.new.hosts) l.invariant.settings (c.in_ok-hears.ensures.settings ∙ l.invariant.settings)
-    v (g.H.Hosting.stands c.hears.new.hosts) _ (g.H.Hosting.allows c.hears.new.hosts) _ _ _ _ _ _ (g.N.Net.sent c.hears.new.net) _
+    (g.H.LoopHosts.settings l.hosts) (g.H.LoopHosts.settings c.hears.new.hosts) l.invariant.settings (c.in_ok-hears.ensures.settings ∙ l.invariant.settings)
+    v (g.H.LoopHosts.stands c.hears.new.hosts) _ (g.H.LoopHosts.allows c.hears.new.hosts) _ _ _ _ _ _ (g.N.Net.sent c.hears.new.net) _
     (g.N.Net.gave c.hears.new.net) _ (c.in_ok-hears.ensures.acted v st) c.in_err-has_turn.ensures.cut
-    (λ x y p q. front_more o.told o.kept o.strange _ (o.taken c.hears.new.observer) _ _ (o.notes c.hears.new.observer) x y p q)
+    (λ x y p q. broken_more o.told o.kept o.strange _ (o.taken c.hears.new.observer) _ _ (o.notes c.hears.new.observer) _ (g.N.Net.acts c.hears.new.net) _
+    (Hears 64) (Turns host) x y p q)
     (λ x y p q. front_listed _ (g.N.Net.sent c.hears.new.net) _ x y p q))
-    (λ x y p q. front_more o.told o.kept o.strange _ (o.taken l.observer) _ _ (o.notes l.observer) x y p q)
+    (λ x y p q. broken_more o.told o.kept o.strange _ (o.taken l.observer) _ _ (o.notes l.observer) _ (g.N.Net.acts l.net) _ (Hears 64) (Hears 64) x y p q)
     (λ x y p q. front_listed _ (g.N.Net.sent l.net) _ x y p q))
 
 pub returns-in_err-hears-clause-strange : goal.returns-in_err-hears-clause-strange
 returns-in_err-hears-clause-strange g c =
     let o = g.O.Observer in
     let l = c.loop-i in
-    let s = g.H.Hosting.settings c.args.hosts.now in
+    let s = g.H.LoopHosts.settings c.args.hosts.now in
     let locals = c.args.locals.now in
     let i = l.i in
     let host = get_or locals i (record { 0 = 0 }) in
     let p = err_from_is_err_and c.from_residual.result c.from_residual.ensures.1 in
     rw (p.1, p.2) (on_stop (Unit {0}) (Unit {0}) c.in_err-hears.field-0.0 _ _
-    (λ k w h. cut_on s (with_left (hosts_act s locals)) (with_left (hosts_act s (drop i locals))) w (g.H.Hosting.stands l.hosts) _
-    (g.H.Hosting.allows l.hosts) _ _ _ _ _ _ (g.N.Net.sent l.net) _ (g.N.Net.gave l.net) _ (l.invariant.acted w h)
+    (λ k w h. cut_on s (with_left (hosts_act s locals)) (with_left (hosts_act s (drop i locals))) w (g.H.LoopHosts.stands l.hosts) _
+    (g.H.LoopHosts.allows l.hosts) _ _ _ _ _ _ (g.N.Net.sent l.net) _ (g.N.Net.gave l.net) _ (l.invariant.acted w h)
     (λ v st. next_hears_cut s host locals i (drop_at locals i (record { 0 = 0 }) (omega (arith, c.loop-i-test.true, l.auto.i-end)))
-    (g.H.Hosting.settings l.hosts) l.invariant.settings v (g.H.Hosting.allows l.hosts) _ _ _ _ (k v st))
-    (λ x y p q. strange_more o.told o.kept o.strange _ (o.taken l.observer) _ _ (o.notes l.observer) x y p q)
+    (g.H.LoopHosts.settings l.hosts) l.invariant.settings v (g.H.LoopHosts.allows l.hosts) _ _ _ _ (k v st))
+    (λ x y p q. halted_more o.told o.kept o.strange _ (o.taken l.observer) _ _ (o.notes l.observer) _ (g.N.Net.acts l.net) _ (Hears 64) (Hears 64) x y p q)
     (λ x y p q. listed_more _ (g.N.Net.sent l.net) _ x y p q)) c.in_err-hears.ensures.strange)
 
 pub returns-in_err-has_turn-clause-strange : goal.returns-in_err-has_turn-clause-strange

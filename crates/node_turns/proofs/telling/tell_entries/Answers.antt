@@ -11,7 +11,7 @@ use Rattle.node_turns.proofs.telling.tell_entries.Goals as goal
 pub returns-in_err-seen-clause-err : goal.returns-in_err-seen-clause-err
 returns-in_err-seen-clause-err g c =
     let o = g.O.Observer in
-    let told = g.H.Hosting.told c.args.hosts.now in
+    let told = g.H.LoopHosts.told c.args.hosts.now in
     let e = plain c.entry.result in
     let i = c.loop-i.i in
     MatchResult-from_err _ _ _ c.from_residual.ensures.0
@@ -24,7 +24,7 @@ returns-in_err-seen-clause-err g c =
 pub loop-i-preserved : goal.loop-i-preserved
 loop-i-preserved g c =
     let o = g.O.Observer in
-    let told = g.H.Hosting.told c.args.hosts.now in
+    let told = g.H.LoopHosts.told c.args.hosts.now in
     let e = plain c.entry.result in
     let i = c.loop-i.i in
     let n = c.in_ok-seen.ensures in

@@ -10,7 +10,7 @@ invariant-loop-i g l =
     let o = g.O.Observer in
     record {
       told : AreTold o.told o.kept o.strange (o.taken l.fn.observer) (o.notes l.fn.observer) (o.taken l.observer) (o.notes l.observer)
-          (map Tells (take l.i (g.H.Hosting.told l.hosts)));
+          (map Tells (take l.i (g.H.LoopHosts.told l.hosts)));
       quiet : o.faults l.observer ≡ o.faults l.fn.observer;
       same : o.is_same l.fn.observer l.observer;
     }

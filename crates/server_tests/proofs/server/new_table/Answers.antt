@@ -1,6 +1,6 @@
 use Rattle.std.proofs.Common.{subst, sym}
 use Rattle.msg_pool.specs.Pool.{Pool}
-use Rattle.host_incoming.specs.Pooled.{AreIn}
+use Rattle.homa_in.specs.Pooled.{AreIn}
 use Rattle.homa_server.specs.Table.{Servers, request_at}
 use Rattle.homa_server.proofs.ArrivingLaws.{if_ok}
 use Rattle.homa_server.proofs.TableLaws.{requests-empty}

@@ -4,7 +4,7 @@ use Rattle.std.specs.List.{AllByRecursion}
 use Rattle.std.proofs.lemmas.Bool.{true≢false}
 use Rattle.homa_plain.specs.declared.id.CallId.{CallId}
 use Rattle.homa_plain.specs.Calls.{is_call}
-use Rattle.homa_plain.specs.Judge.{are_same_calls}
+use Rattle.trace_rules.specs.Judge.{are_same_calls}
 use Rattle.homa_plain.proofs.CallOrder.{calls_are}
 use Rattle.check_lines.specs.Traces.{IsNamed}
 use Rattle.check_lines.specs.declared.block.Named.TheVariants.{Only, Several}

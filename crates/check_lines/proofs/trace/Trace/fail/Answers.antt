@@ -2,7 +2,7 @@ use Rattle.std.proofs.Common.{sym, subst}
 use Rattle.homa_plain.specs.declared.entry.Why.{Why}
 use Rattle.homa_plain.specs.declared.entry.Why.TheVariants.{Timeout, Forgotten}
 use Rattle.homa_plain.specs.Entries.{PlainFail}
-use Rattle.homa_plain.specs.Seen.{seen}
+use Rattle.trace_rules.specs.Seen.{seen}
 use Rattle.check_laws.specs.Spots.{finished_spot}
 use Rattle.check_lines.specs.Changes.{Takes}
 use Rattle.check_lines.specs.Traces.{IsHere}

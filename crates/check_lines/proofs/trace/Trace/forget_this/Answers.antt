@@ -1,6 +1,6 @@
 use Rattle.std.proofs.Common.{◌≡◌, refl, sym, ap, subst}
 use Rattle.homa_plain.specs.declared.id.CallId.{CallId}
-use Rattle.homa_plain.specs.Seen.{stale}
+use Rattle.trace_rules.specs.Seen.{stale}
 use Rattle.check_lines.specs.Traces.{StandsOr, beside_at}
 use Rattle.check_lines.proofs.TakeLaws.{keeps_delivery, stale_changes}
 use Rattle.check_lines.proofs.trace.Trace.forget_this.Goals as goal

@@ -1,7 +1,7 @@
 use Rattle.std.proofs.Common.{◌∙◌, refl, sym, ap, subst}
 use Rattle.std.specs.Option.{option_map}
 use Rattle.homa_plain.specs.declared.id.CallId.{CallId}
-use Rattle.homa_plain.specs.Seen.{in_each, said}
+use Rattle.trace_rules.specs.Seen.{in_each, said}
 use Rattle.check_laws.specs.Spots.{only, undo_each, said_spot}
 use Rattle.check_lines.specs.Traces.{IsDelivered}
 use Rattle.check_lines.specs.Changes.{Changes, IsMade}

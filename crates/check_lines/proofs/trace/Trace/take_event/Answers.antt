@@ -3,11 +3,11 @@ use Rattle.std.specs.Option.{option_map}
 use Rattle.homa_plain.specs.declared.entry.Entry.{Entry}
 use Rattle.homa_plain.specs.declared.entry.Entry.TheVariants as entry
 use Rattle.homa_plain.specs.Entries.{plain, PlainCall, PlainDeliver, PlainClock, PlainRestart, PlainShift, PlainRecv, PlainInject}
-use Rattle.homa_plain.specs.Judge.{has_shape, is_new_call, is_behind}
-use Rattle.homa_plain.specs.Lines.{is_event}
-use Rattle.homa_plain.specs.Seen as seen
-use Rattle.homa_plain.specs.Seen.{begun, delivery}
-use Rattle.homa_plain.specs.View.{View}
+use Rattle.trace_rules.specs.Judge.{has_shape, is_new_call, is_behind}
+use Rattle.trace_rules.specs.Lines.{is_event}
+use Rattle.trace_rules.specs.Seen as seen
+use Rattle.trace_rules.specs.Seen.{begun, delivery}
+use Rattle.trace_rules.specs.View.{View}
 use Rattle.homa_plain.specs.Wire.{Between, packet_in}
 use Rattle.check_laws.specs.Spots.{Undo}
 use Rattle.check_call.specs.Kept.{packet_of}

@@ -2,9 +2,9 @@ use Rattle.std.proofs.Common.{◌≡◌, refl, sym, subst, true, false, ◌&&◌
 use Rattle.homa_plain.specs.declared.entry.Entry.{Entry}
 use Rattle.homa_plain.specs.declared.entry.Entry.TheVariants as entry
 use Rattle.homa_plain.specs.Entries.{plain, PlainGaps, PlainFullRows, PlainFullPages}
-use Rattle.homa_plain.specs.Lines.{is_event}
-use Rattle.homa_plain.specs.Judge.{has_shape, runs_once, is_behind}
-use Rattle.homa_plain.specs.View.{View, Sent, has_run}
+use Rattle.trace_rules.specs.Lines.{is_event}
+use Rattle.trace_rules.specs.Judge.{has_shape, runs_once, is_behind}
+use Rattle.trace_rules.specs.View.{View, Sent, has_run}
 use Rattle.check_laws.specs.Spots.{Undo}
 use Rattle.check_laws.specs.Tested.{IsOther}
 use Rattle.check_call.specs.declared.packet.Packet.{Packet}

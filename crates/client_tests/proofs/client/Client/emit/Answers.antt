@@ -5,7 +5,7 @@ use Rattle.homa_plain.specs.Rows.{ClientRow}
 use Rattle.host_places.specs.Placed.{StandsAt, spot_at}
 use Rattle.host_places.proofs.PlacedLaws.{get-spot}
 use Rattle.msg_pool.specs.Pool.{Pool}
-use Rattle.host_incoming.specs.Pooled.{AreIn, IsInPool}
+use Rattle.homa_in.specs.Pooled.{AreIn, IsInPool}
 use Rattle.homa_client.specs.Held.{HeldRow}
 use Rattle.homa_client.specs.AtTable.{Clients, HeldRows, Moved, part_at}
 use Rattle.homa_client.proofs.TableLaws.{in_after, part_stands}

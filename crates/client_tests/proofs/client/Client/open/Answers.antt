@@ -7,7 +7,7 @@ use Rattle.std.specs.Option.{option_and_then}
 use Rattle.homa_in.specs.Part.{Part}
 use Rattle.host_places.specs.Placed.{Placed}
 use Rattle.msg_pool.specs.Pool.{Pool}
-use Rattle.host_incoming.specs.Pooled.{AreIn, IsInPool, HasNumber}
+use Rattle.homa_in.specs.Pooled.{AreIn, IsInPool, HasNumber}
 use Rattle.homa_client.specs.Held.{HeldRow}
 use Rattle.homa_client.specs.AtTable.{Clients, part_at}
 use Rattle.client_tests.proofs.client.Client.open.Goals as goal

@@ -7,8 +7,8 @@ use Rattle.std.specs.Option.{option_and_then}
 use Rattle.host_places.specs.Placed.{Placed}
 use Rattle.homa_in.specs.Part.{Part}
 use Rattle.msg_pool.specs.Pool.{Pool}
-use Rattle.host_incoming.specs.Pooled.{AreIn, Moves}
-use Rattle.host_incoming.proofs.MoveLaws.{still}
+use Rattle.homa_in.specs.Pooled.{AreIn, Moves}
+use Rattle.homa_in.proofs.MoveLaws.{still}
 use Rattle.homa_client.specs.Held.{HeldRow}
 use Rattle.homa_client.specs.AtTable.{Clients, Started, part_at}
 use Rattle.homa_client.proofs.TableLaws.{in_after}

@@ -1,6 +1,6 @@
 use Rattle.std.proofs.Common.{refl}
 use Rattle.host_view.specs.Marks.{has_ran}
-use Rattle.driven_host.proofs.Steps.{stepped, delivered, asked_once}
+use Rattle.driven_host.proofs.DrivenSteps.{stepped, delivered, asked_once}
 use Rattle.driven_host.proofs.driven.DrivenHost.deliver.Goals as goal
 
 pub invariant_of-self : goal.invariant_of-self

@@ -2,7 +2,7 @@ use Rattle.std.proofs.Common.{[], subst, arith, refl}
 use Rattle.homa_plain.specs.Steps.{turn_step}
 use Rattle.host_view.specs.Done.{IsDone}
 use Rattle.driven_host.specs.Driven.{Driven}
-use Rattle.driven_host.proofs.Steps.{stepped}
+use Rattle.driven_host.proofs.DrivenSteps.{stepped}
 use Rattle.driven_host.proofs.driven.DrivenHost.turn.Goals as goal
 
 pub invariant_of-self : goal.invariant_of-self

@@ -8,8 +8,8 @@ use Rattle.homa_plain.specs.Rows.{ClientRow}
 use Rattle.homa_plain.specs.Timers.{client_acts}
 use Rattle.host_places.specs.Placed.{Placed, StandsAt, ArePlaced, Table, spot_at, set_at}
 use Rattle.host_places.proofs.PlacedLaws.{get-remove_here}
-use Rattle.host_incoming.specs.Pooled.{Moves, AreIn}
-use Rattle.host_incoming.specs.Pieces.{moment_with}
+use Rattle.homa_in.specs.Pooled.{Moves, AreIn}
+use Rattle.homa_in.specs.Pieces.{moment_with}
 use Rattle.homa_client.specs.Held.{HeldRow, seen_row}
 use Rattle.homa_client.specs.AtTable.{Clients, IsTable, IsCallAt, IsDueAt, HasActed, part_at}
 use Rattle.homa_client.specs.Gives.{IsAct, IsLeft, row_left}

@@ -1,9 +1,9 @@
 -- The row at the place sends.
 use Rattle.std.proofs.Common.{◌≡◌, ◌∙◌, sym, ap, subst, Some, Option}
 use Rattle.homa_in.specs.Part.{Part}
-use Rattle.host_incoming.specs.Pooled.{Moves}
-use Rattle.host_incoming.specs.Sends.{IfSent, IsAffordable}
-use Rattle.host_incoming.proofs.MoveLaws.{still}
+use Rattle.homa_in.specs.Pooled.{Moves}
+use Rattle.homa_in.specs.Sends.{IfSent, IsAffordable}
+use Rattle.homa_in.proofs.MoveLaws.{still}
 use Rattle.homa_client.specs.Held.{HeldRow, seen_row}
 use Rattle.homa_client.specs.Gives.{row_emits, row_sends}
 use Rattle.homa_client.specs.contracts.table.ClientTable.{the_view}

@@ -1,7 +1,7 @@
 -- The response at the place is granted.
 use Rattle.std.proofs.Common.{◌≡◌, ◌∙◌, sym, ap, subst, Some}
 use Rattle.homa_plain.specs.Sending.{client_granted}
-use Rattle.host_incoming.specs.Pooled.{Moves, IsInPool}
+use Rattle.homa_in.specs.Pooled.{Moves, IsInPool}
 use Rattle.homa_client.specs.Held.{HeldRow, seen_row}
 use Rattle.homa_client.specs.AtTable.{Clients, MayGrant}
 use Rattle.homa_client.specs.contracts.table.ClientTable.{the_view}

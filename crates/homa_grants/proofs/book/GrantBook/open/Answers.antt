@@ -13,12 +13,15 @@ kept_now : (c : goal.In_ok-vec)
 kept_now c =
     let overcommit = c.requires.in_range.2.2.2.2 in
     let table = c.in_ok-vec.ensures.items_if_clones_equal (λ y clone. search rules) in
+    let kept =
     subst (λ t. AreKept c.loop.heaps.items c.in_ok-new-2.field-0 t
-    (empty_book (c.args.settings.now.calls + c.args.settings.now.served) c.args.settings.now.hosts c.args.settings.now.overcommit)) (sym table)
-    (kept_empty (c.args.settings.now.calls + c.args.settings.now.served) c.args.settings.now.hosts c.args.settings.now.overcommit c.loop.heaps.items
+    (empty_book c.slots-slots.result c.args.settings.now.hosts c.args.settings.now.overcommit)) (sym table)
+    (kept_empty c.slots-slots.result c.args.settings.now.hosts c.args.settings.now.overcommit c.loop.heaps.items
     c.in_ok-new-2.field-0 overcommit.0 overcommit.1
     (omega (arith, c.loop.invariant.0, c.loop-test.false, c.loop.auto)) c.loop.invariant.1
-    (record { cap = c.in_ok-new-2.ensures.cap; list = c.in_ok-new-2.ensures.empty }))
+    (record { cap = c.in_ok-new-2.ensures.cap; list = c.in_ok-new-2.ensures.empty })) in
+    subst (λ n. AreKept c.loop.heaps.items c.in_ok-new-2.field-0 c.in_ok-vec.field-0.items
+    (empty_book n c.args.settings.now.hosts c.args.settings.now.overcommit)) c.slots-slots.ensures kept
 
 pub invariant_of-result : goal.invariant_of-result
 invariant_of-result c = view_kept (kept_now c) c.args.settings.now.overcommit refl

@@ -3,7 +3,7 @@ use Rattle.std.proofs.Common.{◌≡◌, ap, ◌∙◌, get_or, set, length, rul
 use Rattle.std.specs.Option.{option_map}
 use Rattle.std.proofs.lemmas.List.{get_or_read}
 use Rattle.place_heap.specs.Held.{Held, list_of}
-use Rattle.place_books.specs.Replaced.{replaced}
+use Rattle.host_heap.specs.Replaced.{replaced}
 use Rattle.homa_grants.specs.Entries.{without, placed_if}
 use Rattle.homa_grants.specs.Heaps.{AreKept, message_at, no_heap}
 use Rattle.homa_grants.proofs.PutLaws.{all_mine, put_if}

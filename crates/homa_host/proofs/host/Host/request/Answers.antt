@@ -1,7 +1,7 @@
 use Rattle.std.proofs.Common.{sym, ap, ◌∙◌}
 use Rattle.host_view.specs.Seen.{Seen}
 use Rattle.host_view.specs.Marks.{request_of}
-use Rattle.homa_host.proofs.Lent.{request-there, request-none}
+use Rattle.homa_host.proofs.ShownBytes.{request-there, request-none}
 use Rattle.homa_host.proofs.host.Host.request.Goals as goal
 
 pub returns-in-Some : goal.returns-in-Some

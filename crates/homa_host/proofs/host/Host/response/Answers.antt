@@ -3,7 +3,7 @@ use Rattle.std.specs.Prelude.{option_copied, unwrap_or}
 use Rattle.host_view.specs.Seen.{Seen}
 use Rattle.host_view.specs.Marks.{response_of}
 use Rattle.homa_host.specs.Parts.{host_of}
-use Rattle.homa_host.proofs.Lent.{response-there}
+use Rattle.homa_host.proofs.ShownBytes.{response-there}
 use Rattle.homa_host.proofs.host.Host.response.Goals as goal
 
 pub returns-in-Some : goal.returns-in-Some

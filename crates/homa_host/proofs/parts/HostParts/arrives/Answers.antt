@@ -25,7 +25,7 @@ use Rattle.homa_host.proofs.parts.HostParts.arrives.Goals.{After-tell, In-Some}
 
 -- what is no packet is told
 junk : (g : given.Over) (c : After-tell g) → HasTold c.args.self.now c.args.now (PlainJunk c.args.self.now.control.id) c.tell.new.self
-junk g c = told_by c.args.self.now c.requires.kept c.args.now c.requires.now c.requires.later (PlainJunk c.args.self.now.control.id) refl
+junk g c = told_by c.args.self.now c.requires.kept c.args.now c.requires.begins.now c.requires.begins.later (PlainJunk c.args.self.now.control.id) refl
     c.begin.new.self c.tell.new.self c.begin.ensures c.tell.ensures
 
 -- what a datagram is read as, at its host
@@ -42,7 +42,7 @@ decode-requires g c =
     subst (λ (s : Settings). (1 ≤ s.wire) × (s.wire ≤ 2)) (sym c.settings.ensures.settings) (r.0, r.1)
 
 pub begin-requires : goal.begin-requires
-begin-requires g c = c.requires.now
+begin-requires g c = c.requires.begins.now
 
 pub tell-requires : goal.tell-requires
 tell-requires g c = let none = ap (λ (k : Control). length k.marks) c.begin.ensures in omega (arith, none)
@@ -59,29 +59,11 @@ slice_bounds-payload-end g c = search rules
 pub comes-requires-clause-kept : goal.comes-requires-clause-kept
 comes-requires-clause-kept g c = c.requires.kept
 
-pub comes-requires-clause-from : goal.comes-requires-clause-from
-comes-requires-clause-from g c = c.requires.from
-
-pub comes-requires-clause-other : goal.comes-requires-clause-other
-comes-requires-clause-other g c = c.requires.other
+pub comes-requires-clause-begins : goal.comes-requires-clause-begins
+comes-requires-clause-begins g c = c.requires.begins
 
 pub comes-requires-clause-formed : goal.comes-requires-clause-formed
 comes-requires-clause-formed g c = search (rules, c.settings.ensures.settings, c.in-Some.ensures.spelled.0)
-
-pub comes-requires-clause-now : goal.comes-requires-clause-now
-comes-requires-clause-now g c = c.requires.now
-
-pub comes-requires-clause-later : goal.comes-requires-clause-later
-comes-requires-clause-later g c = c.requires.later
-
-pub comes-requires-clause-order : goal.comes-requires-clause-order
-comes-requires-clause-order g c = c.requires.order
-
-pub comes-requires-clause-served : goal.comes-requires-clause-served
-comes-requires-clause-served g c = c.requires.served
-
-pub comes-requires-clause-out : goal.comes-requires-clause-out
-comes-requires-clause-out g c = c.requires.out
 
 pub returns-in-None-clause-step : goal.returns-in-None-clause-step
 returns-in-None-clause-step g c a replies =
@@ -91,41 +73,25 @@ returns-in-None-clause-step g c a replies =
     ap (option_map (λ (r : WirePacket × List ℕ). packet_between c.args.from o.control.id r.0 r.1)) read in
     let w = tells (Says (PlainJunk o.control.id) ∷ []) (begun (host_of o) c.args.now) in
     subst (λ (p : Option Packet). Amid (comes o.control.settings p a (begun (host_of o) c.args.now)) (record o { control = c.tell.new.self })
-    c.args.out.now × AllByRecursion (IsWhole c.args.scratch.now) (comes o.control.settings p a (begun (host_of o) c.args.now)).told) (sym is) (
-      subst (λ f. Amid w (record o { control = c.tell.new.self }) f) (sym c.requires.out)
+    c.args.lent.now.out.now × AllByRecursion (IsWhole c.args.lent.now.scratch.now) (comes o.control.settings p a (begun (host_of o) c.args.now)).told)
+    (sym is) (
+      subst (λ f. Amid w (record o { control = c.tell.new.self }) f) (sym c.requires.begins.out)
           (junk g (goal.at.returns-in-None-clause-step g c).After-tell).amid,
       (tt, tt),
     )
 
 pub returns-in-None-clause-steady : goal.returns-in-None-clause-steady
-returns-in-None-clause-steady g c = (junk g (goal.at.returns-in-None-clause-steady g c).After-tell).steady c.args.out.now c.requires.out
+returns-in-None-clause-steady g c = (junk g (goal.at.returns-in-None-clause-steady g c).After-tell).steady c.args.lent.now.out.now c.requires.begins.out
 
 pub returns-in-None-clause-kept : goal.returns-in-None-clause-kept
 returns-in-None-clause-kept g c = (junk g (goal.at.returns-in-None-clause-kept g c).After-tell).kept
-
-pub returns-in-None-clause-served : goal.returns-in-None-clause-served
-returns-in-None-clause-served g c =
-    served_none (g.V.Service.served c.args.service.now) c.tell.new.self.marks (junk g (goal.at.returns-in-None-clause-served g c).After-tell).quiet
-
-pub returns-in-None-clause-answered : goal.returns-in-None-clause-answered
-returns-in-None-clause-answered g c = answered_none (host_of (record c.args.self.now { control = c.tell.new.self })) c.tell.new.self.marks
-    (junk g (goal.at.returns-in-None-clause-answered g c).After-tell).quiet
-
-pub returns-in-None-clause-allowed : goal.returns-in-None-clause-allowed
-returns-in-None-clause-allowed g c =
-    let quiet = (junk g (goal.at.returns-in-None-clause-allowed g c).After-tell).quiet in
-    none_allowed (host_of (record c.args.self.now { control = c.tell.new.self }))
-    (g.V.Service.allows c.args.service.now (g.V.Service.served c.args.service.now)) c.args.scratch.now c.tell.new.self.marks quiet
-
-pub returns-in-None-clause-allows_before : goal.returns-in-None-clause-allows_before
-returns-in-None-clause-allows_before g c count number hold q r allows = allows
 
 pub returns-in-Some-clause-step : goal.returns-in-Some-clause-step
 returns-in-Some-clause-step g c =
     let o = c.args.self.now in
     subst (λ (p : Option Packet). OnOk c.comes.result ((a : Answer) → AllByRecursion (IsReply (host_of c.comes.new.self) a) c.comes.new.self.control.marks
-    → (Amid (comes o.control.settings p a (begun (host_of o) c.args.now)) c.comes.new.self c.comes.new.out)
-    × AllByRecursion (IsWhole c.comes.new.scratch) (comes o.control.settings p a (begun (host_of o) c.args.now)).told))
+    → (Amid (comes o.control.settings p a (begun (host_of o) c.args.now)) c.comes.new.self c.comes.new.lent.out.now)
+    × AllByRecursion (IsWhole c.comes.new.lent.scratch.now) (comes o.control.settings p a (begun (host_of o) c.args.now)).told))
     (came g (goal.at.returns-in-Some-clause-step g c).In-Some) c.comes.ensures.step
 
 pub returns-in-Some-clause-steady : goal.returns-in-Some-clause-steady
@@ -137,27 +103,32 @@ returns-in-Some-clause-kept g c = c.comes.ensures.kept
 pub returns-in-Some-clause-served : goal.returns-in-Some-clause-served
 returns-in-Some-clause-served g c = c.comes.ensures.served
 
-pub returns-in-Some-clause-answered : goal.returns-in-Some-clause-answered
-returns-in-Some-clause-answered g c = c.comes.ensures.answered
-
-pub returns-in-Some-clause-allowed : goal.returns-in-Some-clause-allowed
-returns-in-Some-clause-allowed g c = c.comes.ensures.allowed
-
 pub returns-in-Some-clause-asks : goal.returns-in-Some-clause-asks
 returns-in-Some-clause-asks g c =
     let o = c.args.self.now in
     subst (λ (p : Option Packet). IfErr c.comes.result
-    (λ e. (a : Answer) → HasAsked e.id e.number c.comes.new.scratch (comes o.control.settings p a (begun (host_of o) c.args.now)).told))
+    (λ e. (a : Answer) → HasAsked e.id e.number c.comes.new.lent.scratch.now (comes o.control.settings p a (begun (host_of o) c.args.now)).told))
     (came g (goal.at.returns-in-Some-clause-asks g c).In-Some) c.comes.ensures.asks
 
 pub returns-in-Some-clause-same : goal.returns-in-Some-clause-same
 returns-in-Some-clause-same g c = c.comes.ensures.same
 
-pub returns-in-Some-clause-none : goal.returns-in-Some-clause-none
-returns-in-Some-clause-none g c = c.comes.ensures.none
+pub returns-in-Some-clause-refused : goal.returns-in-Some-clause-refused
+returns-in-Some-clause-refused g c = c.comes.ensures.refused
 
-pub returns-in-Some-clause-not_served : goal.returns-in-Some-clause-not_served
-returns-in-Some-clause-not_served g c = c.comes.ensures.not_served
+pub returns-in-Some-clause-lent : goal.returns-in-Some-clause-lent
+returns-in-Some-clause-lent g c = c.comes.ensures.lent
 
-pub returns-in-Some-clause-allows_before : goal.returns-in-Some-clause-allows_before
-returns-in-Some-clause-allows_before g c = c.comes.ensures.allows_before
+pub returns-in-None-clause-served : goal.returns-in-None-clause-served
+returns-in-None-clause-served g c =
+    let quiet = (junk g (goal.at.returns-in-None-clause-served g c).After-tell).quiet in
+    let host = host_of (record c.args.self.now { control = c.tell.new.self }) in
+    record {
+      counted = served_none (g.V.Service.served c.args.lent.now.service.now) c.tell.new.self.marks quiet;
+      answered = answered_none host c.tell.new.self.marks quiet;
+      allowed = none_allowed host (g.V.Service.allows c.args.lent.now.service.now (g.V.Service.served c.args.lent.now.service.now))
+          c.args.lent.now.scratch.now c.tell.new.self.marks quiet;
+    }
+
+pub returns-in-None-clause-lent : goal.returns-in-None-clause-lent
+returns-in-None-clause-lent g c = record { service = refl; out = refl; scratch = refl; before = λ count number hold q r allows. allows }

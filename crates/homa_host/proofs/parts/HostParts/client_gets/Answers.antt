@@ -7,7 +7,7 @@ use Rattle.plain_sets.specs.Maps.{get}
 use Rattle.homa_plain.specs.declared.id.HostId.{HostId}
 use Rattle.homa_plain.specs.Rows.{ClientRow}
 use Rattle.homa_plain.specs.AtClient.{client_gets}
-use Rattle.host_incoming.specs.Pieces.{piece_in}
+use Rattle.homa_in.specs.Pieces.{piece_in}
 use Rattle.homa_client.specs.AtTable.{row_at}
 use Rattle.host_state.specs.Control.{IsAt}
 use Rattle.host_view.specs.Marks.{IsWhole}

@@ -10,7 +10,7 @@ use Rattle.homa_plain.specs.Sending.{Arriving}
 use Rattle.homa_plain.specs.Steps.{Work, posts, grants_at}
 use Rattle.host_state.specs.Control.{Control, IsAt}
 use Rattle.host_view.specs.declared.mark.Mark.{Mark}
-use Rattle.host_book_laws.specs.Ends.{grant_to}
+use Rattle.host_books.specs.Ends.{grant_to}
 use Rattle.homa_host.specs.declared.parts.HostParts.{HostParts}
 use Rattle.homa_host.specs.Parts.{IsKept}
 use Rattle.homa_host.specs.Amid.{Amid}

@@ -7,7 +7,7 @@ use Rattle.homa_plain.specs.declared.row.RowFacts.{RowFacts}
 use Rattle.homa_plain.specs.declared.row.Emitted.{Emitted}
 use Rattle.homa_plain.specs.declared.row.Emitted.TheVariants.{Sent, Short, Rests}
 use Rattle.homa_plain.specs.Steps.{Work, request_leaves}
-use Rattle.host_incoming.specs.Sends.{IfSent, IsAffordable}
+use Rattle.homa_in.specs.Sends.{IfSent, IsAffordable}
 use Rattle.homa_client.specs.Held.{seen_row}
 use Rattle.homa_client.specs.Gives.{facts}
 use Rattle.host_state.specs.Control.{IsAt}
@@ -23,20 +23,20 @@ use Rattle.homa_host.proofs.parts.HostParts.request_leaves.Goals.{After-emit}
 
 -- what is so once the table emitted something of the row at the place
 record HasLeft (c : After-emit) (e : Emitted) : Type 0 where
-  next : IsNext c.args.self.now c.args.slot
+  next : IsNext c.args.self.now c.args.place
   facts : c.row-facts.result ≡ facts next.id next.row
-  emitted : HasEmitted c.args.self.now c.args.slot next c.emit.new.self e
+  emitted : HasEmitted c.args.self.now c.args.place next c.emit.new.self e
   affordable : IfSent e (IsAffordable next.row.out.length c.args.self.now.clients.settings.seg c.credit-credit.result)
 
 left : (c : After-emit) (e : Emitted) → c.emit.result ≡ e → HasLeft c e
 left c e is =
     let h = c.args.self.now in
-    let a = at_spot h.clients.rows c.args.slot c.requires.stands in
-    let next : IsNext h c.args.slot = record { id = a.0; row = a.1; stands = a.2; sound = c.row-facts.ensures.out a.0 a.1 a.2; first = c.requires.picked } in
+    let a = at_spot h.clients.rows c.args.place c.requires.stands in
+    let next : IsNext h c.args.place = record { id = a.0; row = a.1; stands = a.2; sound = c.row-facts.ensures.out a.0 a.1 a.2; first = c.requires.picked } in
     record {
       next = next;
       facts = c.row-facts.ensures.facts a.0 a.1 a.2;
-      emitted = emitted_at h c.requires.kept c.args.slot next c.emit.new.self c.last.result c.credit-credit.result c.emit.result e c.last.ensures
+      emitted = emitted_at h c.requires.kept c.args.place next c.emit.new.self c.last.result c.credit-credit.result c.emit.result e c.last.ensures
           c.credit-credit.ensures is
           (c.emit.ensures.row a.0 a.1 h.pool a.2) (c.emit.ensures.emitted a.0 a.1 h.pool a.2);
       affordable = subst (λ e. IfSent e (IsAffordable a.1.out.length h.clients.settings.seg c.credit-credit.result)) is (c.emit.ensures.sent a.0 a.1 a.2);
@@ -45,34 +45,34 @@ left c e is =
 -- a piece is sent: the books can follow once it is paid for
 follows : (c : After-emit) {from to : ℕ} → c.emit.result ≡ Sent from to → (pacer : Pace)
     → pacer ≡ record c.args.self.now.books.pacer { credit = c.args.self.now.books.pacer.credit - (to - from) }
-    → CanFollowClient c.emit.new.self (record c.args.self.now.books { pacer = pacer }) (Stays c.args.slot)
+    → CanFollowClient c.emit.new.self (record c.args.self.now.books { pacer = pacer }) (Stays c.args.place)
 follows c {from} {to} is pacer spent =
     let x = left c (Sent from to) is in
-    sent_follows c.args.self.now c.requires.kept c.args.slot x.next from to c.emit.new.self x.emitted pacer spent
+    sent_follows c.args.self.now c.requires.kept c.args.place x.next from to c.emit.new.self x.emitted pacer spent
 
 pub idle-requires : goal.idle-requires
 idle-requires c =
     let kept = c.requires.kept in
-    let a = at_spot c.args.self.now.clients.rows c.args.slot c.requires.stands in
+    let a = at_spot c.args.self.now.clients.rows c.args.place c.requires.stands in
     omega (arith, kept.client_places.within a.0 _ a.2, kept.room.pacer)
 
 pub request-request-requires : goal.request-request-requires
 request-request-requires c =
     let x = left (goal.at.request-request-requires c).After-emit (Sent c.in-Sent.from c.in-Sent.to) c.in-Sent.is in
-    (request_there c.args.self.now c.requires.kept c.args.slot x.next c.in-Sent.from c.in-Sent.to c.emit.new.self x.emitted).0
+    (request_there c.args.self.now c.requires.kept c.args.place x.next c.in-Sent.from c.in-Sent.to c.emit.new.self x.emitted).0
 
 pub send_request-requires-clause-server : goal.send_request-requires-clause-server
 send_request-requires-clause-server c =
     let h = c.args.self.now in
     let x = left (goal.at.send_request-requires-clause-server c).After-emit _ c.in-Sent.is in
-    subst (λ (f : RowFacts). f.peer.0 < h.control.settings.hosts) (sym x.facts) (knows h c.requires.kept x.next.id c.args.slot x.next.row x.next.stands).server
+    subst (λ (f : RowFacts). f.peer.0 < h.control.settings.hosts) (sym x.facts) (knows h c.requires.kept x.next.id c.args.place x.next.row x.next.stands).server
 
 pub send_request-requires-clause-call : goal.send_request-requires-clause-call
 send_request-requires-clause-call c =
     let kept = c.requires.kept in
     let x = left (goal.at.send_request-requires-clause-call c).After-emit _ c.in-Sent.is in
     subst (λ (f : RowFacts). 1 ≤ f.id.inc) (sym x.facts)
-    (subst (λ n. 1 ≤ n) (sym (owned c.args.self.now kept x.next.id c.args.slot x.next.row x.next.stands).1) kept.control.inc)
+    (subst (λ n. 1 ≤ n) (sym (owned c.args.self.now kept x.next.id c.args.place x.next.row x.next.stands).1) kept.control.inc)
 
 pub send_request-requires-clause-piece : goal.send_request-requires-clause-piece
 send_request-requires-clause-piece c =
@@ -80,7 +80,7 @@ send_request-requires-clause-piece c =
     let kept = c.requires.kept in
     let x = left (goal.at.send_request-requires-clause-piece c).After-emit (Sent c.in-Sent.from c.in-Sent.to) c.in-Sent.is in
     let n = x.next in
-    let y = request_there h kept c.args.slot n c.in-Sent.from c.in-Sent.to c.emit.new.self x.emitted in
+    let y = request_there h kept c.args.place n c.in-Sent.from c.in-Sent.to c.emit.new.self x.emitted in
     let request : c.request-request.result.now ≡ n.row.request = c.request-request.ensures n.id y.1 y.2 ∙ y.3 in
     let message = same_some _ _ (sym c.in-Some.is ∙ ap (λ (f : RowFacts). f.out) x.facts) in
     let is = c.row-facts.ensures.row n.id n.row n.stands in
@@ -112,28 +112,28 @@ follow_client-requires c = follows (goal.at.follow_client-requires c).After-emit
 pub returns-in-Rests-clause-kept : goal.returns-in-Rests-clause-kept
 returns-in-Rests-clause-kept c =
     let x = left (goal.at.returns-in-Rests-clause-kept c).After-emit Rests c.in-Rests.is in
-    rests_kept c.args.self.now c.requires.kept c.args.slot x.next c.emit.new.self x.emitted c.idle.new.self c.idle.ensures.idle
+    rests_kept c.args.self.now c.requires.kept c.args.place x.next c.emit.new.self x.emitted c.idle.new.self c.idle.ensures.idle
 
 pub returns-in-Rests-clause-pumped : goal.returns-in-Rests-clause-pumped
 returns-in-Rests-clause-pumped c =
     let x = left (goal.at.returns-in-Rests-clause-pumped c).After-emit Rests c.in-Rests.is in
-    rests_idle c.args.self.now c.requires.kept c.args.slot x.next c.emit.new.self x.emitted c.idle.new.self c.idle.ensures.idle c.args.out.now
+    rests_idle c.args.self.now c.requires.kept c.args.place x.next c.emit.new.self x.emitted c.idle.new.self c.idle.ensures.idle c.args.out.now
 
 pub returns-in-Short-clause-kept : goal.returns-in-Short-clause-kept
 returns-in-Short-clause-kept c =
     let x = left (goal.at.returns-in-Short-clause-kept c).After-emit Short c.in-Short.is in
-    short_kept c.args.self.now c.requires.kept c.args.slot x.next c.emit.new.self x.emitted
+    short_kept c.args.self.now c.requires.kept c.args.place x.next c.emit.new.self x.emitted
 
 pub returns-in-Short-clause-pumped : goal.returns-in-Short-clause-pumped
 returns-in-Short-clause-pumped c =
     let x = left (goal.at.returns-in-Short-clause-pumped c).After-emit Short c.in-Short.is in
-    short_ends c.args.self.now c.requires.kept c.args.slot x.next c.emit.new.self x.emitted c.args.out.now
+    short_ends c.args.self.now c.requires.kept c.args.place x.next c.emit.new.self x.emitted c.args.out.now
 
 pub returns-in-Some-clause-kept : goal.returns-in-Some-clause-kept
 returns-in-Some-clause-kept c =
     let h = c.args.self.now in
     let x = left (goal.at.returns-in-Some-clause-kept c).After-emit (Sent c.in-Sent.from c.in-Sent.to) c.in-Sent.is in
-    sent_kept h c.requires.kept c.args.slot x.next c.in-Sent.from c.in-Sent.to c.emit.new.self x.emitted c.spend.new.self c.spend.ensures.spent
+    sent_kept h c.requires.kept c.args.place x.next c.in-Sent.from c.in-Sent.to c.emit.new.self x.emitted c.spend.new.self c.spend.ensures.spent
     c.follow_client.new.books c.follow_client.ensures
     c.send_request.new.self c.send_request.ensures.sound (beside_sent h.control c.send_request.new.self c.send_request.ensures.same)
 
@@ -143,7 +143,7 @@ returns-in-Some-clause-pumped c =
     let x = left (goal.at.returns-in-Some-clause-pumped c).After-emit (Sent c.in-Sent.from c.in-Sent.to) c.in-Sent.is in
     let n = x.next in
     let row = seen_row h.pool n.row in
-    let y = request_there h c.requires.kept c.args.slot n c.in-Sent.from c.in-Sent.to c.emit.new.self x.emitted in
+    let y = request_there h c.requires.kept c.args.place n c.in-Sent.from c.in-Sent.to c.emit.new.self x.emitted in
     let request : c.request-request.result.now ≡ n.row.request = c.request-request.ensures n.id y.1 y.2 ∙ y.3 in
     let message = same_some _ _ (sym c.in-Some.is ∙ ap (λ (f : RowFacts). f.out) x.facts) in
     let r = range c.in-Sent.from c.in-Sent.to in
@@ -154,7 +154,7 @@ returns-in-Some-clause-pumped c =
     (ap (λ (f : RowFacts). f.id) x.facts)
     (c.send_request.ensures.step w row at (sym (ap (λ (f : RowFacts). f.peer) x.facts)) (sym request) (sym (ap (λ m. m.length) message))
     (sym (ap (λ m. m.prio) message)) (sym (ap (λ m. m.service) message))) in
-    sent_step h c.requires.kept c.args.slot n c.in-Sent.from c.in-Sent.to c.emit.new.self x.emitted c.spend.new.self c.spend.ensures.spent
+    sent_step h c.requires.kept c.args.place n c.in-Sent.from c.in-Sent.to c.emit.new.self x.emitted c.spend.new.self c.spend.ensures.spent
     c.follow_client.new.books c.follow_client.ensures
     c.args.out.now c.send_request.new.self c.send_request.new.out posted c.send_request.ensures.frames c.send_request.ensures.marks
 

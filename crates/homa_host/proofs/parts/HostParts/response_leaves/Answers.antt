@@ -13,7 +13,7 @@ use Rattle.homa_plain.specs.declared.settings.Settings.{Settings}
 use Rattle.homa_plain.specs.Host.{peer_cutoffs}
 use Rattle.homa_plain.specs.Sending.{response_content}
 use Rattle.homa_plain.specs.Steps.{Work, response_leaves}
-use Rattle.host_incoming.specs.Sends.{IfSent, IsAffordable}
+use Rattle.homa_in.specs.Sends.{IfSent, IsAffordable}
 use Rattle.host_places.specs.Placed.{Placed}
 use Rattle.homa_server.specs.Held.{HeldServer, HeldState, Answering, seen_server, state_response, response_in, IsReplied}
 use Rattle.homa_server.specs.Held as held

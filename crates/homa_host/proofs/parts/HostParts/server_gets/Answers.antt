@@ -18,7 +18,7 @@ use Rattle.homa_plain.specs.AtServer.{server_gets}
 use Rattle.homa_plain.specs.Rows.{ServerRow}
 use Rattle.homa_plain.specs.Rules.{Did}
 use Rattle.homa_plain.specs.Steps.{moment}
-use Rattle.host_incoming.specs.Pieces.{piece_in}
+use Rattle.homa_in.specs.Pieces.{piece_in}
 use Rattle.homa_server.specs.Answers.{service_in, IsAsked}
 use Rattle.homa_host.specs.Amid.{Amid}
 use Rattle.homa_host.proofs.Begun.{at-amid}
@@ -30,14 +30,14 @@ use Rattle.homa_host.proofs.parts.HostParts.server_gets.Goals.{After-settings-se
 -- what is so once the host heard the packet, which its table had taken up
 taken : (g : given.Over) (c : After-settings-settings g)
     → HasTaken c.args.self.now c.args.from c.args.packet.now c.args.payload.now c.args.now c.hear.new.self c.receive.new.self c.receive.new.pool
-    c.receive.new.scratch (g.V.Service.allows c.args.service.now (g.V.Service.served c.args.service.now)) c.in_ok-did.did
+    c.receive.new.scratch (g.V.Service.allows c.args.lent.now.service.now (g.V.Service.served c.args.lent.now.service.now)) c.in_ok-did.did
 taken g c =
     let host = c.args.self.now in
-    let heard = heard_by host c.requires.kept c.args.from c.args.packet.now c.args.now c.requires.later c.begin.new.self c.hear.new.self
+    let heard = heard_by host c.requires.kept c.args.from c.args.packet.now c.args.now c.requires.begins.later c.begin.new.self c.hear.new.self
     c.begin.ensures c.hear.ensures.same c.settings-settings.ensures.sound c.hear.ensures.step in
     taken_by host c.args.from c.args.packet.now c.args.payload.now c.args.now c.hear.new.self c.receive.new.self c.receive.new.pool
-    c.receive.new.scratch (g.V.Service.allows c.args.service.now (g.V.Service.served c.args.service.now)) c.in_ok-did.did
-    heard c.requires.from c.requires.other c.requires.role c.requires.formed.call.0 (omega (arith, c.free-free.ensures.whole))
+    c.receive.new.scratch (g.V.Service.allows c.args.lent.now.service.now (g.V.Service.served c.args.lent.now.service.now)) c.in_ok-did.did
+    heard c.requires.begins.from c.requires.begins.other c.requires.role c.requires.formed.call.0 (omega (arith, c.free-free.ensures.whole))
     c.in_ok-did.ensures.received c.rows-rows.ensures.placed
 
 -- the books followed
@@ -49,7 +49,7 @@ followed g c = subst (λ (t : Change × ℕ). FollowedServer c.receive.new.self 
 -- what came of the packet
 settled : (g : given.Over) (c : After-settle_server g)
     → HasTaken c.args.self.now c.args.from c.args.packet.now c.args.payload.now c.args.now c.hear.new.self c.receive.new.self c.receive.new.pool
-    c.receive.new.scratch (g.V.Service.allows c.args.service.now (g.V.Service.served c.args.service.now)) c.in_ok-did.did
+    c.receive.new.scratch (g.V.Service.allows c.args.lent.now.service.now (g.V.Service.served c.args.lent.now.service.now)) c.in_ok-did.did
     → FollowedServer c.receive.new.self c.hear.new.self.settings.calls (server_change c.in_ok-did.did) c.args.self.now.books c.follow_server.new.books
     → HasSettled c.args.self.now c.args.from c.args.packet.now c.args.payload.now c.args.now
     (record {
@@ -60,7 +60,8 @@ settled : (g : given.Over) (c : After-settle_server g)
       books = c.follow_server.new.books;
       order = c.args.self.now.order + c.server_orders.result;
     })
-    c.settle_server.new.out c.receive.new.scratch (g.V.Service.allows c.args.service.now (g.V.Service.served c.args.service.now)) c.in_ok-did.did
+    c.settle_server.new.out c.receive.new.scratch (g.V.Service.allows c.args.lent.now.service.now (g.V.Service.served c.args.lent.now.service.now))
+    c.in_ok-did.did
 settled g c x follows =
     let host = c.args.self.now in
     let heard : HostParts = record host { control = c.hear.new.self } in
@@ -76,7 +77,7 @@ settled g c x follows =
     (subst (λ (d : Did ServerRow). IsOutcome d c.server_outcome-outcome.result) (sym (rule_is host x a reply))
     (c.server_outcome-outcome.ensures.outcome s (moment s packet.id w) packet row c.receive.new.scratch a c.head_of-head.ensures
     (sym (ap (λ (s : Settings). s.served) c.settings-settings.ensures.settings)) (c.service_of-number.ensures packet.payload) touched refl))
-    (at-amid w heard c.args.out.now (subst (λ frames. Amid w heard frames) (sym c.requires.out) x.heard.amid)))
+    (at-amid w heard c.args.lent.now.out.now (subst (λ frames. Amid w heard frames) (sym c.requires.begins.out) x.heard.amid)))
 
 err_any : {A E : Type 0} (r : Result A E) (P : Type 0) → P → OnErr r P
 err_any (Ok x) P h = tt
@@ -95,6 +96,23 @@ returns-in_err-did-clause-kept g c = subst (λ (p : HostParts). IsKept p) (λ i.
   order = c.args.self.now.order;
 }) c.requires.kept
 
+pub returns-in_err-did-clause-same : goal.returns-in_err-did-clause-same
+returns-in_err-did-clause-same g c = err_any c.from_residual.result _ (λ i. record {
+  control = c.args.self.now.control;
+  clients = c.args.self.now.clients;
+  servers = c.in_err-did.ensures.same i;
+  pool = c.in_err-did.ensures.same_pool i;
+  books = c.args.self.now.books;
+  order = c.args.self.now.order;
+})
+
+pub returns-in_err-did-clause-refused : goal.returns-in_err-did-clause-refused
+returns-in_err-did-clause-refused g c =
+    err_any c.from_residual.result _ (record { none = c.requires.begins.out; counted = c.in_err-did.ensures.not_served })
+
+pub returns-in_err-did-clause-lent : goal.returns-in_err-did-clause-lent
+returns-in_err-did-clause-lent g c = record { service = refl; out = refl; scratch = refl; before = c.receive.ensures.allows_before }
+
 pub returns-in_err-did-clause-asks : goal.returns-in_err-did-clause-asks
 returns-in_err-did-clause-asks g c =
     err_any c.from_residual.result _ (λ a.
@@ -107,7 +125,7 @@ returns-in_err-did-clause-asks g c =
     served_asks s q.id (server_gets s (moment s q.id w) q a (get w.host.servers q.id)) w (record { id = id; service = number; request = c.receive.new.scratch })
     (heard_count s c.args.from c.args.packet.now.sender c.args.packet.now.body (host_of host) c.args.now)
     (subst (IsAsked id number c.receive.new.scratch)
-    (gets_then host c.requires.kept c.args.from c.requires.other c.args.packet.now c.args.payload.now c.requires.role c.args.now
+    (gets_then host c.requires.kept c.args.from c.requires.begins.other c.args.packet.now c.args.payload.now c.requires.role c.args.now
     (omega (arith, c.free-free.ensures.whole)) a w w.host.peers
     (heard_host s c.args.from c.args.packet.now.sender c.args.packet.now.body host c.args.now)) (c.in_err-did.ensures.asks a)))
 
@@ -142,16 +160,7 @@ pub returns-clause-served : goal.returns-clause-served
 returns-clause-served g c =
     let at = goal.at.returns-clause-served g c in
     let x = settled g at.After-settle_server (taken g at.After-settings-settings) (followed g at.After-follow_server) in
-    rw x.ran c.in_ok-did.ensures.served
+    record { counted = rw x.ran c.in_ok-did.ensures.served; answered = x.answered; allowed = x.allowed }
 
-pub returns-clause-answered : goal.returns-clause-answered
-returns-clause-answered g c =
-    let at = goal.at.returns-clause-answered g c in
-    let x = settled g at.After-settle_server (taken g at.After-settings-settings) (followed g at.After-follow_server) in
-    x.answered
-
-pub returns-clause-allowed : goal.returns-clause-allowed
-returns-clause-allowed g c =
-    let at = goal.at.returns-clause-allowed g c in
-    let x = settled g at.After-settle_server (taken g at.After-settings-settings) (followed g at.After-follow_server) in
-    x.allowed
+pub returns-clause-lent : goal.returns-clause-lent
+returns-clause-lent g c = record { service = refl; out = refl; scratch = refl; before = c.receive.ensures.allows_before }

@@ -1,6 +1,6 @@
 use Rattle.std.proofs.Common.{◌≡◌, refl, sym, ap, subst, ◌∙◌, rules}
 use Rattle.host_books.specs.declared.books.Duties.{Duties}
-use Rattle.host_book_laws.specs.Duty.{followed}
+use Rattle.host_books.specs.Duty.{followed}
 use Rattle.homa_host.specs.Parts.{IsKept}
 use Rattle.homa_host.proofs.Starts.{fault-same, no-arrival, spot-there, stands-there, in-pool, duty-is, own-there, kept-there}
 use Rattle.homa_host.proofs.parts.HostParts.start.Goals as goal

@@ -1,5 +1,5 @@
 use Rattle.std.proofs.Common.{arith, ap}
-use Rattle.homa_text.specs.Lines.{Reading}
+use Rattle.text_lines.specs.Lines.{Reading}
 use Rattle.homa_script.proofs.reader.Reader.open.Goals as goal
 
 pub invariant_of-result : goal.invariant_of-result

@@ -2,9 +2,9 @@ use Rattle.std.proofs.Common.{◌≡◌, ℕ, Option, sym, ap, subst, ◌∙◌}
 use Rattle.homa_plain.specs.declared.id.CallId.{CallId}
 use Rattle.homa_plain.specs.Timers.{server_acts}
 use Rattle.homa_in.specs.Part.{Part}
-use Rattle.host_incoming.specs.Pieces.{moment_with}
-use Rattle.host_incoming.specs.Pooled.{AreIn, IsInPool, Moves}
-use Rattle.host_incoming.proofs.MoveLaws.{still}
+use Rattle.homa_in.specs.Pieces.{moment_with}
+use Rattle.homa_in.specs.Pooled.{AreIn, IsInPool, Moves}
+use Rattle.homa_in.proofs.MoveLaws.{still}
 use Rattle.host_places.specs.Placed.{Table, StandsAt, set_at}
 use Rattle.homa_server.specs.Held.{HeldServer, seen_server, state_part}
 use Rattle.homa_server.specs.Answers.{HasTimer, acted_of, HasServerActed}

@@ -1,6 +1,6 @@
 use Rattle.std.proofs.Common.{◌≡◌, sym, ap, subst, ◌∙◌}
 use Rattle.homa_plain.specs.Timers.{server_deadline, state_deadline}
-use Rattle.host_incoming.specs.Pooled.{IsInPool}
+use Rattle.homa_in.specs.Pooled.{IsInPool}
 use Rattle.homa_server.specs.Held.{HeldServer, state_part, seen_state}
 use Rattle.homa_server.specs.Table.{Servers}
 use Rattle.homa_server.proofs.StandLaws.{in_pool}

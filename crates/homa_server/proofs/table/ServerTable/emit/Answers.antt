@@ -3,11 +3,11 @@ use Rattle.homa_plain.specs.declared.id.CallId.{CallId}
 use Rattle.homa_plain.specs.Rows.{ServerRow}
 use Rattle.msg_pool.specs.Pool.{Pool}
 use Rattle.homa_in.specs.Part.{Part}
-use Rattle.host_incoming.specs.Pooled.{AreIn, Moves}
-use Rattle.host_incoming.proofs.MoveLaws.{still}
+use Rattle.homa_in.specs.Pooled.{AreIn, Moves}
+use Rattle.homa_in.proofs.MoveLaws.{still}
 use Rattle.host_places.specs.Placed.{StandsAt, set_at}
 use Rattle.homa_server.specs.Held.{HeldServer, response_in, seen_state, seen_server, state_part}
-use Rattle.host_incoming.specs.Sends.{IfSent, IsAffordable}
+use Rattle.homa_in.specs.Sends.{IfSent, IsAffordable}
 use Rattle.homa_server.specs.Answers.{state_emits, server_sends}
 use Rattle.homa_server.specs.Table.{Servers, ServerMoved, request_at}
 use Rattle.homa_server.proofs.StandLaws.{lent_row, in_pool, moved_at}

@@ -3,7 +3,7 @@ use Rattle.homa_plain.specs.declared.id.CallId.{CallId}
 use Rattle.homa_plain.specs.Rows.{ServerRow}
 use Rattle.homa_plain.specs.Sending.{server_granted}
 use Rattle.msg_pool.specs.Pool.{Pool}
-use Rattle.host_incoming.specs.Pooled.{AreIn, Moves, IsInPool}
+use Rattle.homa_in.specs.Pooled.{AreIn, Moves, IsInPool}
 use Rattle.host_places.specs.Placed.{StandsAt, set_at}
 use Rattle.homa_server.specs.Held.{HeldServer, seen_server, state_part}
 use Rattle.homa_server.specs.Answers.{IsGrantable}

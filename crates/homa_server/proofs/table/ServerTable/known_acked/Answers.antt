@@ -1,7 +1,7 @@
 use Rattle.std.proofs.Common.{◌≡◌, ℕ, Some, None, Option, IfNone, sym, subst, ap, ◌∙◌}
 use Rattle.homa_plain.specs.AtServer.{server_acked}
 use Rattle.msg_pool.specs.Pool.{Pool}
-use Rattle.host_incoming.specs.Pooled.{AreIn}
+use Rattle.homa_in.specs.Pooled.{AreIn}
 use Rattle.host_places.specs.Placed.{ArePlaced, set_at}
 use Rattle.homa_server.specs.Answers.{acked_of}
 use Rattle.homa_server.specs.Table.{Servers, ServerMoved, request_at, server_at, server_moment, slot_at}

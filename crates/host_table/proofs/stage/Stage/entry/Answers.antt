@@ -1,5 +1,5 @@
 use Rattle.host_view.specs.Marks.{shown_entries}
-use Rattle.homa_text.specs.Told.{HasLine}
+use Rattle.homa_plain.specs.Told.{HasLine}
 use Rattle.host_table.specs.Left.{IsFew}
 use Rattle.host_table.proofs.EntryLaws.{at_index, lines, left_read}
 use Rattle.host_table.proofs.stage.Stage.entry.Goals as goal

@@ -1,0 +1,14 @@
+"""Calls and services over Homa: an endpoint for asyncio, and the host below it for programs with a loop of their own.
+
+    async with homa.Endpoint(1, {0: ("10.0.0.1", 4000), 1: ("10.0.0.2", 4000)}) as endpoint:
+        print(await endpoint.call(0, 7, b"hello", timeout=1.0))
+
+It needs libhoma: the file that HOMA_LIBRARY names, or the one that the system finds."""
+from ._host import (Ask, CallId, Done, Event, Forgotten, Frame, Full, Host, NoLibrary, Ran, Refused, Settings, TimedOut)
+from ._late import LateHost
+from .endpoint import CallFailed, CallForgotten, CallTimeout, Endpoint, Handler
+
+__all__ = [
+    "Ask", "CallFailed", "CallForgotten", "CallId", "CallTimeout", "Done", "Endpoint", "Event", "Forgotten", "Frame", "Full", "Handler", "Host",
+    "LateHost", "NoLibrary", "Ran", "Refused", "Settings", "TimedOut",
+]

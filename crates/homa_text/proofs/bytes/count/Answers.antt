@@ -1,6 +1,0 @@
-use Rattle.std.proofs.Common.{arith}
-use Rattle.homa_text.proofs.Spelled.{count_step}
-use Rattle.homa_text.proofs.bytes.count.Goals as goal
-
-pub loop-i-preserved : goal.loop-i-preserved
-loop-i-preserved c = count_step c.loop-i.out c.loop-i.i (omega arith) c.loop-i.invariant

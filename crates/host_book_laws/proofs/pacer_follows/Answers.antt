@@ -1,8 +1,0 @@
-use Rattle.host_book_laws.proofs.Books.{ready_book, ready_order}
-use Rattle.host_book_laws.proofs.pacer_follows.Goals as goal
-
-pub returns : goal.returns
-returns c = record {
-  book = λ place n old new book change stood. ready_book place n old new change stood book;
-  order = λ place n old new book change stood. ready_order place n old new change stood book;
-}

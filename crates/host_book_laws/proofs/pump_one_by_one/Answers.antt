@@ -1,5 +1,0 @@
-use Rattle.host_book_laws.proofs.PumpOnce.{pump_goes, pump_ends, pump_full}
-use Rattle.host_book_laws.proofs.pump_one_by_one.Goals as goal
-
-pub returns : goal.returns
-returns c = record { goes = pump_goes; ends = pump_ends; full = pump_full }

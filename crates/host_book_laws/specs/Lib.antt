@@ -1,5 +1,0 @@
-pub mod Stood
-pub mod Pages
-pub mod Duty
-pub mod Ends
-pub mod SameRows

@@ -1,0 +1,11 @@
+pub mod Splits
+pub mod Slots
+pub mod Follows
+pub mod BookThings
+pub mod PageSums
+pub mod Tables
+pub mod Rebooked
+pub mod Things
+pub mod GrantsEach
+pub mod PumpOnce
+pub mod Changing

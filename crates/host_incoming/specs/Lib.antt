@@ -1,4 +1,0 @@
-pub mod Pooled
-pub mod Putting
-pub mod Pieces
-pub mod Sends

@@ -1,0 +1,4 @@
+pub mod Fronts
+pub mod Ending
+pub mod Counts
+pub mod Printing

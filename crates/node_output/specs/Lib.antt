@@ -1,0 +1,4 @@
+pub mod RecordingEnds
+pub mod Recorded
+pub mod TraceEnds
+pub mod Traces

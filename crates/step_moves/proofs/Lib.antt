@@ -1,0 +1,9 @@
+pub mod Hosts
+pub mod Chosen
+pub mod Folds
+pub mod Timed
+pub mod Moves
+pub mod AskedMove
+pub mod SendMoves
+pub mod Inner
+pub mod Names

@@ -1,0 +1,5 @@
+pub mod Lines
+pub mod LineRoom
+pub mod Rest
+pub mod Input
+pub mod Scan

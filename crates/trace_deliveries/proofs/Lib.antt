@@ -1,4 +1,0 @@
-pub mod Deliver
-pub mod ClientRules
-pub mod RequestBlock
-pub mod ResponseBlock

@@ -1,4 +1,0 @@
-pub mod Always
-pub mod Stands
-pub mod Contents
-pub mod Arrived

@@ -1,9 +1,0 @@
-pub mod Later
-pub mod ServerRules
-pub mod ServerTable
-pub mod ServerTimers
-pub mod ClientRules
-pub mod ClientTable
-pub mod ClientTimers
-pub mod Events
-pub mod TombstoneRows

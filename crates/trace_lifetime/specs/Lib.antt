@@ -1,2 +1,0 @@
-pub mod Lifetime
-pub mod Kept

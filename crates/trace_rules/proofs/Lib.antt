@@ -1,0 +1,12 @@
+pub mod RowsWorked
+pub mod RowsTimed
+pub mod RowsRefused
+pub mod LawTests
+pub mod LawsJudged
+pub mod LawsWorked
+pub mod LawsWorkedCalls
+pub mod LawsWorkedGrants
+pub mod LawsWorkedFails
+pub mod LawsWorkedTaken
+pub mod LawsWorkedLives
+pub mod RowsOnFullPages

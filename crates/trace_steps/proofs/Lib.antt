@@ -1,0 +1,15 @@
+pub mod Frame
+pub mod ToldMoves
+pub mod Events
+pub mod ToldSteps
+pub mod ToldEvents
+pub mod Always
+pub mod Lines
+pub mod Runs
+pub mod Lives
+pub mod Restarts
+pub mod Progress
+pub mod Ticks
+pub mod PartLines
+pub mod Deliveries
+pub mod OwnRuns

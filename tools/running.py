@@ -1,0 +1,193 @@
+"""What all tools share of how they end: their status, what they say of faults, and the ranges of their options.
+
+A tool ends with `run("NAME", main)`. Its status then is the one that `main` returns, or
+- 2 with the line `NAME: FILE: reason` if a file can't be read or written, or if `main` raises a `Refusal`;
+- 127 if a program that it starts isn't there;
+- 130 (by the signal itself) after Ctrl-C, 143 after SIGTERM, 129 after SIGHUP: first the programs that it started are
+  ended, and `with` blocks are left;
+- 141 if nobody reads its output any more.
+Any other exception is a defect of the tool, and keeps its traceback.
+"""
+import argparse
+import contextlib
+import errno
+import glob
+import math
+import os
+import signal
+import sys
+
+# A write that fails for one of these reasons, and names no file, was a write to standard output.
+FULL = (errno.ENOSPC, errno.EFBIG, errno.EDQUOT)
+STREAMS = {"stdin": "standard input", "stdout": "standard output", "stderr": "standard error"}
+
+# Ctrl-C during the imports ends the tool at once, without a traceback; `run` sets Python's own handler again.
+if signal.getsignal(signal.SIGINT) is signal.default_int_handler:
+    signal.signal(signal.SIGINT, signal.SIG_DFL)
+
+
+class Refusal(Exception):
+    """Why a tool can't do what it was asked for; `run` prints it and exits with status 2."""
+
+
+class ClosedStream:
+    """In place of a standard stream that was closed before the tool began: only its use is a fault."""
+
+    def __init__(self, name):
+        self.name = name
+
+    def refuse(self, *_, **__):
+        raise OSError(errno.EBADF, "it is closed", self.name)
+
+    read = readline = readlines = write = writelines = fileno = __iter__ = refuse
+
+    def flush(self):
+        pass
+
+    def isatty(self):
+        return False
+
+    @property
+    def buffer(self):
+        return self
+
+
+def stop(tool, why, status=2):
+    """Exits with a line on standard error."""
+    try:
+        print(f"{tool}: {why}", file=sys.stderr)
+    except OSError:
+        pass
+    sys.exit(status)
+
+
+def is_missing_program(fault):
+    """Whether a program that the tool starts isn't there: `subprocess` raised this."""
+    starter = sys.modules.get("subprocess")
+    if not isinstance(fault, FileNotFoundError) or not starter:
+        return False
+    at = fault.__traceback__
+    while at.tb_next:
+        at = at.tb_next
+    return at.tb_frame.f_code.co_filename == starter.__file__
+
+
+def reason(fault):
+    """An error of the system as `FILE: reason`."""
+    name, why = fault.filename, fault.strerror or str(fault)
+    if is_missing_program(fault):
+        why = "there is no such program"
+    elif name is None and fault.errno in FULL:
+        name = STREAMS["stdout"]
+    return why if name is None else f"{os.fsdecode(name) if isinstance(name, (str, bytes)) else name}: {why}"
+
+
+def discard_output():
+    """Python writes the rest of standard output as it exits: that goes nowhere."""
+    os.dup2(os.open(os.devnull, os.O_WRONLY), 1)
+
+
+def replace_closed_streams():
+    """Opens descriptors 0, 1 and 2 if they are closed, so that no file takes their numbers."""
+    taken = os.open(os.devnull, os.O_RDWR)
+    while taken < 3:
+        taken = os.dup(taken)
+    os.close(taken)
+    for name, text in STREAMS.items():
+        if getattr(sys, name) is None:
+            setattr(sys, name, ClosedStream(text))
+
+
+def exit_by_signal(number):
+    """Ends as the signal ends a program, so that a shell's loop ends too."""
+    signal.signal(number, signal.SIG_DFL)
+    os.kill(os.getpid(), number)
+
+
+def descendants(process):
+    """The processes that this one started, and those that they started."""
+    found = []
+    for path in glob.glob(f"/proc/{process}/task/*/children"):
+        with contextlib.suppress(OSError), open(path, encoding="ascii") as it:
+            found += map(int, it.read().split())
+    return [below for child in found for below in (child, *descendants(child))]
+
+
+def end(number, _):
+    """Ends the tool with the programs that it started. (Ctrl-C reaches those by itself.)"""
+    for process in descendants(os.getpid()):
+        with contextlib.suppress(OSError):
+            os.kill(process, signal.SIGTERM)
+    sys.exit(128 + number)
+
+
+def handle_signals():
+    if signal.getsignal(signal.SIGINT) is signal.SIG_DFL:
+        signal.signal(signal.SIGINT, signal.default_int_handler)
+    for number in (signal.SIGTERM, signal.SIGHUP):
+        if signal.getsignal(number) is signal.SIG_DFL:
+            signal.signal(number, end)
+
+
+def asks_for_help():
+    return sys.argv[1:2] in (["-h"], ["--help"])
+
+
+def status_of(main, doc):
+    try:
+        if doc and asks_for_help():
+            print(doc.strip())
+            return 0
+        return main()
+    finally:
+        sys.stdout.flush()
+
+
+def run(tool, main, faults=(), doc=None):
+    """Runs `main` and exits with its status. With `doc`, `--help` prints that text. `faults` are refusals too."""
+    replace_closed_streams()
+    handle_signals()
+    try:
+        status = status_of(main, doc)
+    except KeyboardInterrupt:
+        exit_by_signal(signal.SIGINT)
+    except BrokenPipeError:
+        discard_output()
+        status = 141
+    except UnicodeDecodeError as fault:
+        byte = fault.object[fault.start]
+        stop(tool, f"the input isn't text: byte {byte:#04x} isn't UTF-8")
+    except OSError as fault:
+        discard_output()
+        stop(tool, reason(fault), 127 if is_missing_program(fault) else 2)
+    except (Refusal, *faults) as fault:
+        stop(tool, fault)
+    finally:
+        # what Python does at its exit can't be left by an exception without a traceback
+        for number in (signal.SIGINT, signal.SIGTERM, signal.SIGHUP):
+            if signal.getsignal(number) is not signal.SIG_IGN:
+                signal.signal(number, signal.SIG_DFL)
+    sys.exit(status)
+
+
+def range_text(low, high, above):
+    """The range of a number in words."""
+    if above is not None:
+        return f"above {above}" if high == math.inf else f"above {above} and at most {high}"
+    return f"of at least {low}" if high == math.inf else f"from {low} to {high}"
+
+
+def number(low=-math.inf, high=math.inf, kind=int, above=None):
+    """An option's type: a number from `low` to `high`; with `above`, one above it."""
+
+    def read(text):
+        wanted = f"a {'whole ' if kind is int else ''}number {range_text(low, high, above)}"
+        try:
+            value = kind(text)
+        except ValueError:
+            raise argparse.ArgumentTypeError(f"`{text}` isn't {wanted}") from None
+        if not math.isfinite(value) or not low <= value <= high or (above is not None and value <= above):
+            raise argparse.ArgumentTypeError(f"`{text}` isn't {wanted}")
+        return value
+
+    return read
