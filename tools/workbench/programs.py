@@ -1,5 +1,6 @@
 """Runs of `homa` and `homa-simulate`, each with bounds on time, memory and output. Nothing else is run, but
 tools/explain on a line that was refused."""
+import contextlib
 import functools
 import os
 import re
@@ -140,8 +141,10 @@ class Run:
             if self.state == "running":
                 self.state, self.why = state, why
             for it in self.processes:
+                # `poll` says nothing while another thread waits for the process, which may be gone by now
                 if it.poll() is None:
-                    os.killpg(it.pid, signal.SIGKILL)
+                    with contextlib.suppress(ProcessLookupError):
+                        os.killpg(it.pid, signal.SIGKILL)
 
     def judge(self, said):
         """Sets what came of it, unless it was ended."""
