@@ -8,7 +8,8 @@ use Rattle.trace_rules.specs.Seen.{seen_all}
 use Rattle.trace_rules.specs.Laws.{Holds}
 use Rattle.trace_rules.specs.Judge.{Clause, ShapeClause, Obeys, FailsFirst}
 use Rattle.check_reader.specs.Told.{Fits, IsUsual}
-use Rattle.check_verdict.specs.Verdict.{longest_line, longest_input}
+use Rattle.check_verdict.specs.Verdict.{longest_line}
+use Rattle.homa_plain.specs.Limits.{longest_input}
 
 -- a line behind `read` bytes is the line of this entry, whose line feed the last line may lack, and is not too long
 pub record Tells (read : ℕ) (line : List ℕ) (e : PlainEntry) : Type 0 where

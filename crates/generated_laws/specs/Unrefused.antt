@@ -10,6 +10,7 @@ use Rattle.homa_plain.specs.Replay.{Finished, carried, events_of, replayed, repl
 use Rattle.homa_plain.specs.Entries.{PlainSettings}
 use Rattle.generated_runs.specs.Rounds.{Generated}
 use Rattle.generated_runs.specs.Generated.{generated_settings, schedule_text}
+use Rattle.homa_plain.specs.Limits.{longest_message}
 
 -- the world with which a run begins
 abbrev pub first_world : Settings → ℕ → List Answer → World
@@ -34,7 +35,7 @@ abbrev pub IsRunLine : ℕ → ℕ → Given → Type 0
 IsRunLine hosts packets (GivenTicks n) = n ≡ 1
 IsRunLine hosts packets (GivenEvent (event.Deliver number) bytes) = (number < packets) × (bytes ≡ [])
 IsRunLine hosts packets (GivenEvent (event.Call client server service) bytes) =
-    (client.0 < hosts) × (server.0 < hosts) × (service < 4) × (length bytes ≤ 1000000) × (bytes ≡ counting 0 (length bytes))
+    (client.0 < hosts) × (server.0 < hosts) × (service < 4) × (length bytes ≤ longest_message) × (bytes ≡ counting 0 (length bytes))
 IsRunLine hosts packets (GivenEvent other bytes) = ⊥
 
 -- The replay of the schedule that is printed tells what the run told, behind its settings, and comes to the schedule's end.

@@ -10,10 +10,10 @@
 mod answers;
 mod gets;
 mod lent;
+mod resends;
 mod row;
 mod sends;
 mod table;
-mod timers;
 
 pub use answers::{ClientAct, ClientDid};
 pub use table::ClientTable;

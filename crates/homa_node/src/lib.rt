@@ -18,7 +18,7 @@ mod serving;
 pub use ahead::{NextCall, look, take_due};
 pub use calling::{start_call, starts};
 pub use node_turns::NodeStop;
-pub use opening::{MOST_BYTES, Node, open_node, read_setup};
+pub use opening::{Node, open_node, read_setup};
 pub use opens::OpenHosts;
 pub use places::{connect, first_incs, locals};
 pub use printer::Printer;

@@ -6,13 +6,15 @@
 //! and `pick` answers the message with the fewest bytes left. Only `open` takes memory.
 #![tactic(auto)]
 
-ghost use Rattle.std.specs.Prelude.{◌≡◌, ◌+◌, ◌-◌, ◌<◌, ◌≤◌, ◌↔◌, [], length, map, IsNone, IfSome, IfOk};
+mod credit;
+
+ghost use Rattle.std.specs.Prelude.{◌≡◌, ◌+◌, ◌-◌, ◌<◌, ◌↔◌, [], length, map, IsNone, IfSome, IfOk};
 ghost use Rattle.std.specs.Option.{option_map};
 ghost use Rattle.place_heap.specs.Held.{list_of};
 ghost use Rattle.plain_sets.specs.Ordered.{placed};
 ghost use Rattle.homa_plain.specs.Choice.{least};
 ghost use Rattle.homa_plain.specs.Settings.{IsValid};
-ghost use Rattle.homa_pacer.specs.Pace.{ready_key, without, IsOwnOrder, IsSound, refill, item_of};
+ghost use Rattle.homa_pacer.specs.Pace.{ready_key, without, IsOwnOrder, IsSound, item_of};
 
 use homa_plain::Settings;
 use host_heap::{first, replace};
@@ -99,34 +101,6 @@ impl Pacer {
     {
         let (slot, _) = first(&self.heap)?;
         Some(slot)
-    }
-
-    /// Begins a tick: if `now` is later than the tick of the last refill, the credit is `rate` again, however much of
-    /// it was left.
-    pub fn refill(&mut self, now: u64)
-        ensures refilled { self.new ≡ refill now self.old }
-        ensures sound { IsSound self.new }
-    {
-        if self.refilled < now {
-            self.credit = self.rate;
-            self.refilled = now;
-        }
-    }
-
-    /// How many bytes may still be sent until the credit is filled up.
-    pub fn credit(&self) -> u32
-        ensures { result ≡ self.now.credit }
-    {
-        self.credit
-    }
-
-    /// So many bytes are sent, at most the credit.
-    pub fn spend(&mut self, bytes: u32)
-        requires { bytes ≤ self.old.credit }
-        ensures spent { self.new ≡ record self.old { credit = self.old.credit - bytes } }
-        ensures sound { IsSound self.new }
-    {
-        self.credit -= bytes;
     }
 
     /// The heap: the slots whose messages may be sent, with their keys.

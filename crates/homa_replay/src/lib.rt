@@ -16,7 +16,7 @@ mod replay_world;
 mod replays;
 mod stop;
 
-pub use carrying::{MOST_BYTES, begin, carry_on};
+pub use carrying::{begin, carry_on};
 pub use flush_sink::FlushSink;
 pub use replay_world::ReplayWorld;
 pub use replays::{OpenWorld, replay};

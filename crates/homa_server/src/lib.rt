@@ -9,14 +9,18 @@
 #![tactic(auto)]
 
 mod answers;
+mod busy;
 mod gets;
 mod lent;
 mod opens;
+mod resends;
 mod row;
 mod sends;
 mod state;
 mod table;
 mod timers;
+mod tombstones;
+mod unknown;
 
 pub use answers::{ServerAct, ServerDid};
 pub use table::ServerTable;

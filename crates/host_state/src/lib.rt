@@ -8,13 +8,13 @@
 #![tactic(auto)]
 
 mod control;
-mod cutoffs;
+mod cutoffs_packets;
 mod finished;
 mod marks;
 mod saying;
 mod sends;
 
 pub use control::Control;
-pub use cutoffs::Peer;
+pub use cutoffs_packets::Peer;
 pub use saying::{Outcome, Said};
 pub use sends::Leaving;

@@ -11,16 +11,13 @@ ghost use Rattle.node_io.specs.System.{tick_at};
 use crate::faults::FaultCount;
 use crate::sockets::{Sockets, address, wait};
 use crate::{Clock, Got, Net, NetFailed, NoMemory};
-use homa_plain::{Frame, HostId};
+use homa_plain::{Frame, HostId, LAST_TICK};
 use std::alloc::Global;
 use std::net::UdpSocket;
 use std::time::{Duration, Instant};
 
 /// For how many milliseconds a receive waits for a datagram.
 const READ_LIMIT: u64 = 1;
-
-/// The clock's last tick.
-const LAST_TICK: u64 = 1_000_000_000_000;
 
 // A socket at a port of this machine, which doesn't wait, and whose reads have a limit where they do.
 fn socket_at<R: std::net::Net>(rt: &R, port: u16) -> Result<UdpSocket, NetFailed> {
@@ -168,7 +165,7 @@ pub struct TickClock<R: std::rt::Clock + Drop> {
     rt: R,
     start: Option<Instant>,
     last: u64,
-    ghost most: { last ≤ 1000000000000 },
+    ghost most: { last ≤ LAST_TICK },
 }
 
 impl<R: std::rt::Clock + Drop> TickClock<R> {
@@ -184,7 +181,7 @@ impl<R: std::rt::Clock + Drop> TickClock<R> {
 
     // The tick of the system's clock, counted from its first reading, which is noted.
     fn read(&mut self) -> Option<u64>
-        ensures most { IfSome result (λ tick. tick ≤ 1000000000000) }
+        ensures most { IfSome result (λ tick. tick ≤ LAST_TICK) }
         ensures last { self.new.last ≡ self.old.last }
         ensures start { IfSome self.old.start (λ start. self.new.start ≡ Some start) }
         ensures noted { OnSome result (IsSome self.new.start) }
