@@ -1,4 +1,5 @@
 //! When a row acts by itself, and what it does then.
+//! Rules: RESEND after silence, which bytes it asks for, and a timeout after `tries` RESENDs without an answer.
 ghost use Rattle.std.specs.Prelude.{◌≡◌, ℕ, ◌<◌, ◌≤◌, IfSome, IsSomeAnd};
 ghost use Rattle.std.specs.Option.{option_map};
 ghost use Rattle.range_set.specs.Fits.{bounds};

@@ -1,4 +1,6 @@
 // The calls that a host serves, at their places.
+// Rules: a call without a row gets UNKNOWN to a RESEND, DATA opens a row if there is room, and an ACK leaves a
+// tombstone.
 ghost use Rattle.std.specs.Prelude.{◌≡◌, ℕ, ◌+◌, ◌<◌, ◌≤◌, ◌^◌, true, false, List, Some, None, IfOk, IfSome, IsSome, IsSomeAnd, OnErr, length};
 ghost use Rattle.std.specs.Prelude.{option_copied, if◌then◌else◌, IfNone};
 ghost use Rattle.std.specs.Option.{option_map, option_and_then};

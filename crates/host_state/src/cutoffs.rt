@@ -1,4 +1,5 @@
 // The cutoffs of a host, and those of its peers.
+// Rules: CUTOFFS go to a sender whose version is old, and a sender keeps those of the latest incarnation and version.
 ghost use Rattle.std.specs.Prelude.{◌≡◌, ◌+◌, ◌<◌, ◌≤◌, ◌^◌, ◌++◌, ◌∷◌, [], Some, IfSome, List, length};
 ghost use Rattle.homa_plain.specs.Host.{is_balance_due, rebalanced};
 ghost use Rattle.homa_plain.specs.Steps.{Work, notes, tells_cutoffs, is_newer, hears_cutoffs};
