@@ -39,8 +39,8 @@ pub record IsTrace (bytes : List ℕ) (n : ℕ) : Type 0 where
   pub count : n ≡ length entries
   pub some : 0 < n
 
--- at a line behind `read` bytes of lines that said v this is the first clause that fails: it is the line of no entry, and hasn't the shape, or it is
--- the line of an entry at which the clause fails first
+-- at a line behind `read` bytes of lines that said v this is the first clause that fails. The line is of no entry, and
+-- hasn't the shape; or it is of an entry at which the clause fails first.
 abbrev pub FailsAt : View → ℕ → List ℕ → Clause → Type 0
 FailsAt v read line clause =
     (((e : PlainEntry) → ¬ Tells read line e) × (clause ≡ ShapeClause))

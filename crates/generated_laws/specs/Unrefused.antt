@@ -21,8 +21,8 @@ abbrev pub steps_of : ℕ → List Given → List Step
 steps_of line [] = []
 steps_of line (given ∷ rest) = record { line = line; given = given } ∷ steps_of (suc line) rest
 
--- The events of its lines, one after the other from the world with which it began, make the world of the run and tell what it told, and the
--- replay of its lines tells just this and comes to their end.
+-- The events of its lines, one after the other from the world with which it began, make the world of the run and tell
+-- what it told. The replay of its lines tells just this and comes to their end.
 pub record IsUnrefused (s : Settings) (first : World) (g : Generated) : Type 0 where
   pub world : (carried s first (flat_map (events_of s.hosts) g.lines)).world ≡ g.world
   pub told : (carried s first (flat_map (events_of s.hosts) g.lines)).told ≡ g.told

@@ -1,4 +1,5 @@
 //! What a packet of its server does to a row.
+//! Rules: what DATA, GRANT, RESEND, BUSY, UNKNOWN, NEED_ACK and CUTOFFS do to a call at its client, and which renew it.
 ghost use Rattle.std.specs.Prelude.{◌≡◌, List, ℕ, ◌+◌, ◌<◌, ◌≤◌, length, Some, None, IsSome, IfSome};
 ghost use Rattle.homa_plain.specs.Outgoing.{grant, resend};
 ghost use Rattle.homa_plain.specs.AtClient.{renewed, refreshed, started_over, request_resent, answered, piece_comes, response_piece};

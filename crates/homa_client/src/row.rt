@@ -1,4 +1,5 @@
 //! A row of a client: what it remembers of a live call.
+//! Rules: a request begins with its unscheduled bytes, and a row takes packets of its own server alone.
 ghost use Rattle.std.specs.Prelude.{◌≡◌, ◌<◌, ◌≤◌, length, ◌&&◌, not, nat_lt, option_copied};
 ghost use Rattle.homa_plain.specs.declared.settings.Settings.{Settings};
 ghost use Rattle.homa_plain.specs.Calls.{is_host};

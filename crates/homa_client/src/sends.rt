@@ -1,4 +1,6 @@
 //! What a row sends, and up to where its response is granted.
+//! Rules: DATA of a request goes within the granted end and the credit. A request that was sent to its end isn't
+//! repeated to a server that is silent beyond the patience.
 ghost use Rattle.std.specs.Prelude.{◌≡◌, ◌≤◌, IsSomeAnd};
 ghost use Rattle.homa_plain.specs.declared.settings.Settings.{Settings};
 ghost use Rattle.homa_plain.specs.Settings.{IsValid};

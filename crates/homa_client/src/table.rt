@@ -1,4 +1,5 @@
 //! The table of a client's live calls.
+//! Rules: when a call may start, BUSY to NEED_ACK while a call is live, and an ACK to it when the call is over.
 ghost use Rattle.std.specs.Prelude.{◌≡◌, List, ℕ, ◌+◌, ◌<◌, ◌≤◌, Some, None, IfOk, IfErr, IfSome, OnErr, IsSome, length, option_copied};
 ghost use Rattle.plain_sets.specs.Maps.{empty, len};
 ghost use Rattle.homa_plain.specs.declared.id.CallId.{CallId};

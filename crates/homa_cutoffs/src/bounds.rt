@@ -1,4 +1,6 @@
 //! The bound of a level, worked out from the lengths themselves.
+//! Rule: the cutoffs of unscheduled bytes share the weight of the last messages among the levels; CUTOFFS carry
+//! them.
 ghost use Rattle.std.specs.Prelude.{◌≡◌, ◌+◌, ◌*◌, ◌^◌, ◌<◌, ◌≤◌, length};
 ghost use Rattle.std.specs.List.{AllByRecursion};
 ghost use Rattle.homa_plain.specs.Cutoffs.{weight_up_to, bound, bound_of_level};

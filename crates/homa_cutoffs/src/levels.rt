@@ -1,4 +1,5 @@
 //! The level of a message, by its receiver's cutoffs.
+//! Rule: unscheduled bytes go at the level that the receiver's CUTOFFS give their message's length.
 ghost use Rattle.std.specs.Prelude.{◌≡◌, ◌≤◌};
 ghost use Rattle.homa_plain.specs.declared.packet.Cutoffs.{Cutoffs};
 ghost use Rattle.homa_plain.specs.Cutoffs.{first_cutoffs, level_of};

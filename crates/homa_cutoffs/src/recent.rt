@@ -1,4 +1,5 @@
 //! The lengths of the last messages.
+//! Rule: a receiver computes its cutoffs, which CUTOFFS carry, from the lengths of the last 256 messages.
 ghost use Rattle.std.specs.Prelude.{◌≡◌, ◌<◌, ◌≤◌, [], length, IfOk};
 ghost use Rattle.std.specs.List.{AllByRecursion};
 ghost use Rattle.homa_plain.specs.Cutoffs.{noted, balanced};

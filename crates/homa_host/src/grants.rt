@@ -1,4 +1,6 @@
 // How far messages are granted, and the GRANTs that say so.
+// Rules: a GRANT to each chosen message (overcommitment), up to `window` bytes beyond those that arrived, with a
+// priority by SRPT.
 ghost use Rattle.std.specs.Prelude.{◌≡◌, ◌+◌, ◌≤◌, IsSomeAnd, option_copied};
 ghost use Rattle.homa_plain.specs.Choice.{new_end, seen as message_of};
 ghost use Rattle.homa_plain.specs.Sending.{Arriving};

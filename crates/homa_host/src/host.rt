@@ -1,4 +1,6 @@
 // One host.
+// Rules: which of Homa's rules a call, a packet and a turn carry out: timers, then GRANTs, then DATA in SRPT order
+// within the credit.
 ghost use Rattle.std.specs.Prelude.{◌≡◌, ◌≢◌, ℕ, ◌+◌, ◌<◌, ◌≤◌, ◌^◌, true, Some, None, [], List, length, IfOk, IfErr, OnOk, OnErr, IsSome, slice_get};
 ghost use Rattle.std.specs.Prelude.{if◌then◌else◌};
 ghost use Rattle.std.specs.List.{AllByRecursion};

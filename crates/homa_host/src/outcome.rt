@@ -1,4 +1,6 @@
 // What the tables' answers have a host do.
+// Rules: which BUSY, UNKNOWN, ACK, RESEND or NEED_ACK packet follows from a row's rule, and which timer, GRANTs and
+// SRPT place the row has.
 ghost use Rattle.std.specs.Prelude.{◌≡◌, ℕ, ◌+◌, ◌<◌, ◌≤◌, Option, Some, None, List, IsSome, IfSome, option_copied, if◌then◌else◌};
 ghost use Rattle.std.specs.Option.{option_and_then};
 ghost use Rattle.homa_plain.specs.declared.id.CallId.{CallId};

@@ -1,4 +1,6 @@
 // The parts of a host: how they are opened, how a call starts, how each step ends, and how the books follow a row.
+// Rules: a step ends with GRANTs and then DATA; each row has its timer, its place among granted messages, and its place
+// in SRPT order.
 ghost use Rattle.std.specs.Prelude.{◌≡◌, ◌+◌, ◌<◌, ◌≤◌, ◌^◌, Some, None, [], IfOk, IfErr, OnOk, OnErr};
 ghost use Rattle.plain_sets.specs.Maps.{empty};
 ghost use Rattle.homa_plain.specs.Settings.{IsValid};

@@ -1,9 +1,11 @@
 //! The messages of a host that may be sent: which goes first, and how many bytes may still go out.
+//! Rules: SRPT (the message with the fewest bytes left goes first), and the credit, which is filled up to `rate` once a
+//! tick.
 //!
 //! The model: a [`Pacer`] is the list of the messages that may be sent, in the order of the bytes that are left of
-//! them, ties by an order number, beside the credit and the rate to which it is filled up. A message is named by its
-//! slot, the place of its row. The promise: a call changes the entry of its own slot or the credit and nothing else,
-//! and `pick` answers the message with the fewest bytes left. Only `open` takes memory.
+//! them, ties by an order number. Beside it stand the credit and the rate to which it is filled up. A message is named
+//! by its slot, the place of its row. The promise: a call changes the entry of its own slot or the credit and nothing
+//! else, and `pick` answers the message with the fewest bytes left. Only `open` takes memory.
 #![tactic(auto)]
 
 mod credit;

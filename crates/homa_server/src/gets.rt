@@ -1,4 +1,6 @@
 // What a packet does to a row.
+// Rules: DATA and GRANT of a row, BUSY to a RESEND with nothing to send, UNKNOWN by a tombstone, and an ACK, which
+// leaves a tombstone.
 ghost use Rattle.std.specs.Prelude.{◌≡◌, ℕ, List, ◌+◌, ◌==◌, ◌&&◌, ◌||◌, not, ◌<◌, ◌≤◌, length, true, false, Some, None};
 ghost use Rattle.std.specs.Prelude.{IfOk, OnErr, if◌then◌else◌};
 ghost use Rattle.homa_plain.specs.declared.id.CallId.{CallId};

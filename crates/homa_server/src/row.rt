@@ -1,4 +1,5 @@
 // A call at its server.
+// Rules: a call at its server is receiving, held, replying, or a tombstone.
 ghost use Rattle.std.specs.Prelude.{◌≡◌, ◌+◌, ◌==◌, ◌<◌, ◌≤◌, length, Some, None};
 ghost use Rattle.std.specs.Prelude.{option_copied, if◌then◌else◌};
 ghost use Rattle.homa_plain.specs.Incoming as incoming;

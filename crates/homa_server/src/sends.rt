@@ -1,4 +1,5 @@
 // A row is granted to, and its response is sent.
+// Rules: a GRANT sent renews the row's RESEND timer, and DATA of a response goes within the granted end and the credit.
 ghost use Rattle.std.specs.Prelude.{◌≡◌, ◌<◌, ◌≤◌, length, Some};
 ghost use Rattle.homa_plain.specs.Settings.{IsValid};
 ghost use Rattle.homa_plain.specs.declared.settings.Settings.{Settings};

@@ -1,4 +1,6 @@
 // How far a server is with a call.
+// Rules: a call at its server is receiving, held, replying, or a tombstone; a response begins with its unscheduled
+// bytes.
 ghost use Rattle.std.specs.Prelude.{◌≡◌, ◌+◌, ◌==◌, ◌<◌, ◌≤◌, length, if◌then◌else◌};
 ghost use Rattle.homa_plain.specs.Outgoing as outgoing;
 ghost use Rattle.homa_server.specs.Answers.{CanReply};

@@ -1,4 +1,5 @@
 // The calls that a host serves, at their places.
+// Rules: DATA of a call without a row opens one if there is room, and an ACK leaves a tombstone.
 ghost use Rattle.std.specs.Prelude.{◌≡◌, ℕ, ◌+◌, ◌<◌, ◌≤◌, ◌^◌, true, List, Some, None, IfOk, IfSome, IsSome, IsSomeAnd, OnErr, length};
 ghost use Rattle.std.specs.Prelude.{option_copied, if◌then◌else◌, IfNone};
 ghost use Rattle.std.specs.Option.{option_map, option_and_then};

@@ -1,4 +1,6 @@
 // When a row acts by itself, and what it does then.
+// Rules: RESEND after silence up to `tries` times, the end of `hold`, NEED_ACK, and when a response and its tombstone
+// go.
 ghost use Rattle.std.specs.Prelude.{◌≡◌, ℕ, ◌+◌, ◌<◌, ◌≤◌, length, true, Some, None};
 ghost use Rattle.homa_plain.specs.declared.id.CallId.{CallId};
 ghost use Rattle.homa_plain.specs.declared.id.HostId.{HostId};

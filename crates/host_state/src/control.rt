@@ -1,4 +1,5 @@
 // A host's clock, cutoffs and finished calls, and what its step tells.
+// Rules: beside its row, a packet may make CUTOFFS, an ACK, BUSY, UNKNOWN or a RESEND go out.
 ghost use Rattle.std.specs.Prelude.{◌≡◌, ◌+◌, ◌<◌, ◌≤◌, ◌^◌, ◌++◌, ◌∷◌, [], IfOk, IfSome, List, length};
 ghost use Rattle.homa_plain.specs.Settings.{IsValid};
 ghost use Rattle.homa_plain.specs.Rows.{ClientRow, ServerRow};

@@ -1,5 +1,6 @@
 //! What a host has beside its rows: its clock, its cutoffs and those of its peers, the calls that finished, and the
 //! entries of its step.
+//! Rules: CUTOFFS to senders with old ones, ACKs for finished calls, and the level at which a packet is sent.
 //!
 //! The model: a [`Control`] is a record of these parts of the plain host, with the marks of what was told. `IsAt` says
 //! that a control and an outbox are those of a plain host in the midst of a step.

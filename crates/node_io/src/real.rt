@@ -41,11 +41,11 @@ fn counted<T>(faults: &mut FaultCount, answer: Result<T, NetFailed>) -> Result<T
     answer
 }
 
-/// Sockets on 127.0.0.1 as a net, one for each host that is bound. It can't tell what is queued, sent or given. Each error
-/// of a socket is a fault, and so are a host beyond 32 that is bound or routed, and a host without a socket or a port. A
-/// receive for the host that was bound last waits, by a limit of 1 millisecond, of which a system with 250 timer ticks a
-/// second makes 4 to 12, unless a datagram was given to some host since that one had none; no other receive waits. It gives
-/// nothing, too, after 64 datagrams of others, and where a signal broke it off.
+/// Sockets on 127.0.0.1 as a net, one for each host that is bound. It can't tell what is queued, sent or given. Each
+/// error of a socket is a fault, and so are a host beyond 32 that is bound or routed, and a host without a socket or a
+/// port. A receive for the host that was bound last waits, unless a datagram was given to some host since that one had
+/// none; no other receive waits. The limit of a wait is 1 millisecond, of which a system with 250 timer ticks a second
+/// makes 4 to 12. A receive gives nothing, too, after 64 datagrams of others, and where a signal broke it off.
 #[derive(Drop)]
 pub struct UdpNet<R: std::net::Net + Drop> {
     rt: R,
