@@ -19,5 +19,5 @@ mod stop;
 pub use carrying::{begin, carry_on};
 pub use flush_sink::FlushSink;
 pub use replay_world::ReplayWorld;
-pub use replays::{OpenWorld, replay};
+pub use replays::{OpenWorld, finish, replay};
 pub use stop::Stop;

@@ -73,8 +73,11 @@ fn replay_held<B: Drop, P: OpenWorld<B> + Drop, S: Source, K: FlushSink>(
     Ok(accepted)
 }
 
-// Writes what is held, unless reading or writing failed already: then nothing is held, or no more may be written.
-fn finish<K: Sink + Drop>(held: &mut HeldSink<K>, answer: &Result<bool, Stop>) -> Result<(), Stop>
+/// Writes what is held, unless reading or writing failed already: then nothing is held, or no more may be written.
+pub fn finish<A, K: Sink + Drop>(
+    held: &mut HeldSink<K>,
+    answer: &Result<A, Stop>,
+) -> Result<(), Stop>
     requires { IsErrOf answer.now Stop.Read → held_bytes held.old ≡ [] }
     ensures none { OnOk result ((IsErrOf answer.now Stop.Write → ⊥) → held_bytes held.new ≡ []) }
     ensures whole { appended (K.taken (sink_below held.new)) (held_bytes held.new) ≡ appended (K.taken (sink_below held.old)) (held_bytes held.old) }
