@@ -55,6 +55,26 @@ fn empty_block(alloc: Global, spare: &mut Option<Block>, size: usize) -> Result<
     Ok(block)
 }
 
+// Takes out the packets of a tick: many with the room in which they stand, few in as much room as they need.
+fn take_front(
+    alloc: Global,
+    front: &mut Block,
+    spare: &mut Option<Block>,
+) -> Result<Block, AllocError>
+    ensures taken { IfOk result (λ block. frames_of block ≡ frames_of front.old) }
+    ensures none { OnOk result (frames_of front.new ≡ []) }
+    ensures size { OnOk result (size_of front.new ≡ 0) }
+    ensures same { OnErr result (front.new ≡ front.old) }
+{
+    if !front.is_dense() {
+        let block = front.copy(alloc)?;
+        front.clear();
+        return Ok(block);
+    }
+    let next = empty_block(alloc, spare, front.size())?;
+    Ok(mem::replace(front, next))
+}
+
 // The first tick goes. Its room is kept if it is worth it.
 fn give_up(ticks: &mut VecDeque<Tick>, spare: &mut Option<Block>)
     ensures rest { ticks.new.items ≡ drop 1 ticks.old.items }
@@ -116,23 +136,6 @@ impl Packets {
         self.first + self.front.len() as u64
     }
 
-    // Takes out the packets of the last tick: many with the room in which they stand, few in as much room as they need.
-    fn take_front(&mut self, alloc: Global) -> Result<Block, AllocError>
-        ensures taken { IfOk result (λ block. frames_of block ≡ frames_of self.old.front) }
-        ensures none { OnOk result (frames_of self.new.front ≡ []) }
-        ensures size { OnOk result (size_of self.new.front ≡ 0) }
-        ensures same { OnErr result (self.new.front ≡ self.old.front) }
-        ensures rest { self.new ≡ record self.old { front = self.new.front; spare = self.new.spare } }
-    {
-        if !self.front.is_dense() {
-            let block = self.front.copy(alloc)?;
-            self.front.clear();
-            return Ok(block);
-        }
-        let next = empty_block(alloc, &mut self.spare, self.front.size())?;
-        Ok(mem::replace(&mut self.front, next))
-    }
-
     // The packets of the last tick, if there are any, become those of an earlier one.
     fn close(&mut self, alloc: Global) -> Result<(), AllocError>
         ensures kept { kept_all self.new ≡ kept_all self.old }
@@ -146,7 +149,7 @@ impl Packets {
             return Ok(());
         }
         self.ticks.reserve(1)?;
-        let block = self.take_front(alloc)?;
+        let block = take_front(alloc, &mut self.front, &mut self.spare)?;
         self.ticks.push_back(Tick {
             tick: self.tick,
             first: self.first,
