@@ -19,11 +19,11 @@ use homa_plain::{HostId, Role};
 use open_ranges::OpenRanges;
 use std::alloc::{AllocError, Global};
 
-/// A run of a call at its server: the life of the server in which it ran, and its response.
+/// A run of a call at its server: the life of the server in which it ran, and its response, unless that is the request.
 #[derive(Drop)]
 pub struct Run {
     pub life: usize,
-    pub response: Vec<u8>,
+    pub response: Option<Vec<u8>>,
 }
 
 /// In which lives a call's client and its server are.

@@ -20,7 +20,7 @@ use Rattle.check_call.specs.declared.call.Run.{Run}
 use Rattle.check_lines.specs.declared.host.Host.{Host}
 use Rattle.check_lines.specs.declared.trace.Trace.{Trace}
 use Rattle.check_call.specs.Calls.{ran_in}
-use Rattle.check_lines.specs.Traces.{Keeps, IsKept, IsCallAt, IsAbsent, call_at, host_at, run_of, first_of, restarts_in, life_in, incarnation_in, is_answer_in}
+use Rattle.check_lines.specs.Traces.{Keeps, IsKept, IsCallAt, IsAbsent, call_at, host_at, run_of, first_of, restarts_in, life_in, incarnation_in, is_answer_in, kept_or}
 
 -- what is kept of a call that was found
 pub kept_at : (v : View) (t : Trace) (q : CallId) (c : Call) → Keeps v t → call_at t q ≡ Some c → IsKept v q c
@@ -62,21 +62,21 @@ filter_step true r rs = refl
 filter_step false r rs = refl
 
 any_answers : (v : View) (t : Trace) (q : CallId) (c : Call) (inc : ℕ) (bytes : List ℕ) → Keeps v t → IsKept v q c → (rs : List Run)
-    → list_any (is_answer_in t c.server inc bytes) rs ≡ list_any (bytes_eq bytes)
-    (map (λ (x : Ran). x.response) (filter (is_in v q inc) (map (run_of q c.server) rs)))
+    → list_any (is_answer_in t c.server c.request.items inc bytes) rs ≡ list_any (bytes_eq bytes)
+    (map (λ (x : Ran). x.response) (filter (is_in v q inc) (map (run_of q c.server c.request.items) rs)))
 any_answers v t q c inc bytes f k [] = refl
 any_answers v t q c inc bytes f k (r ∷ rs) =
-    let here : option_map_or (λ i. i == inc) (incarnation_in t c.server r.life) false ≡ is_in v q inc (run_of q c.server r) =
+    let here : option_map_or (λ i. i == inc) (incarnation_in t c.server r.life) false ≡ is_in v q inc (run_of q c.server c.request.items r) =
     ap (λ (o : Option ℕ). option_map_or (λ i. i == inc) o false) (incarnation_is v t c.server r.life f)
     ∙ sym (ap (λ b. b && option_map_or (λ i. i == inc) (incarnation v c.server r.life) false) (server_is v q c k)) in
-    ap (λ b. (b && bytes_eq bytes r.response.items) || list_any (is_answer_in t c.server inc bytes) rs) here
-    ∙ (any_step (is_in v q inc (run_of q c.server r)) (bytes_eq bytes r.response.items) (list_any (is_answer_in t c.server inc bytes) rs) bytes
-    r.response.items (map (λ (x : Ran). x.response) (filter (is_in v q inc) (map (run_of q c.server) rs))) refl (any_answers v t q c inc bytes f k rs)
+    ap (λ b. (b && bytes_eq bytes (kept_or c.request.items r.response)) || list_any (is_answer_in t c.server c.request.items inc bytes) rs) here
+    ∙ (any_step (is_in v q inc (run_of q c.server c.request.items r)) (bytes_eq bytes (kept_or c.request.items r.response)) (list_any (is_answer_in t c.server c.request.items inc bytes) rs) bytes
+    (kept_or c.request.items r.response) (map (λ (x : Ran). x.response) (filter (is_in v q inc) (map (run_of q c.server c.request.items) rs))) refl (any_answers v t q c inc bytes f k rs)
     ∙ ap (list_any (bytes_eq bytes))
-    (sym (filter_step (is_in v q inc (run_of q c.server r)) (run_of q c.server r) (filter (is_in v q inc) (map (run_of q c.server) rs)))))
+    (sym (filter_step (is_in v q inc (run_of q c.server c.request.items r)) (run_of q c.server c.request.items r) (filter (is_in v q inc) (map (run_of q c.server c.request.items) rs)))))
 
 pub answers_is : (v : View) (t : Trace) (q : CallId) (c : Call) (inc : ℕ) (bytes : List ℕ) → Keeps v t → call_at t q ≡ Some c
-    → list_any (is_answer_in t c.server inc bytes) c.runs.items ≡ list_any (bytes_eq bytes) (answers v q inc)
+    → list_any (is_answer_in t c.server c.request.items inc bytes) c.runs.items ≡ list_any (bytes_eq bytes) (answers v q inc)
 answers_is v t q c inc bytes f e =
     let k = kept_at v t q c f e in
     any_answers v t q c inc bytes f k c.runs.items
@@ -90,19 +90,19 @@ no_answers v t q inc bytes f e =
 
 -- ---- runs in this life
 
-any_here : (q : CallId) (server host : HostId) (n : ℕ) (b : Bool) → is_host server host ≡ b → (rs : List Run)
-    → list_any (is_here host n) (map (run_of q server) rs) ≡ (b && list_any (λ r. r.life == n) rs)
-any_here q server host n true e [] = refl
-any_here q server host n false e [] = refl
-any_here q server host n true e (r ∷ rs) = ap (λ x. (x && (r.life == n)) || list_any (is_here host n) (map (run_of q server) rs)) e
-    ∙ ap (λ x. (r.life == n) || x) (any_here q server host n true e rs)
-any_here q server host n false e (r ∷ rs) =
-    ap (λ x. (x && (r.life == n)) || list_any (is_here host n) (map (run_of q server) rs)) e ∙ any_here q server host n false e rs
+any_here : (q : CallId) (server host : HostId) (request : List ℕ) (n : ℕ) (b : Bool) → is_host server host ≡ b → (rs : List Run)
+    → list_any (is_here host n) (map (run_of q server request) rs) ≡ (b && list_any (λ r. r.life == n) rs)
+any_here q server host request n true e [] = refl
+any_here q server host request n false e [] = refl
+any_here q server host request n true e (r ∷ rs) = ap (λ x. (x && (r.life == n)) || list_any (is_here host n) (map (run_of q server request) rs)) e
+    ∙ ap (λ x. (r.life == n) || x) (any_here q server host request n true e rs)
+any_here q server host request n false e (r ∷ rs) =
+    ap (λ x. (x && (r.life == n)) || list_any (is_here host n) (map (run_of q server request) rs)) e ∙ any_here q server host request n false e rs
 
 pub ran_is : (v : View) (t : Trace) (q : CallId) (c : Call) (host : HostId) → Keeps v t → IsKept v q c
     → has_run v host q ≡ (is_host c.server host && ran_in c (life_in t host))
 ran_is v t q c host f k =
-    run_here v host q ∙ (ap (list_any (is_here host (life v host))) k.runs ∙ (any_here q c.server host (life v host) (is_host c.server host) refl c.runs.items
+    run_here v host q ∙ (ap (list_any (is_here host (life v host))) k.runs ∙ (any_here q c.server host c.request.items (life v host) (is_host c.server host) refl c.runs.items
     ∙ ap (λ n. is_host c.server host && ran_in c n) (sym (life_is v t host f))))
 
 both_ways : (h r s b x : Bool) → x ≡ (h && r) → ((h && not r) && (s && b)) ≡ (not x && ((h && s) && b))

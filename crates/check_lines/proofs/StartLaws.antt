@@ -27,7 +27,7 @@ use Rattle.check_call.specs.declared.spot.Spot.{Spot as KeptSpot}
 use Rattle.check_call.specs.Kept.{StandsFor, no_spot}
 use Rattle.check_call.specs.Calls.{spot_in, beside, called_of}
 use Rattle.check_lines.specs.declared.trace.Trace.{Trace}
-use Rattle.check_lines.specs.Traces.{Keeps, IsCallAt, IsKept, IsAbsent, is_incoming_at, call_in, IsPlace, call_at, lives_in, life_in, run_of}
+use Rattle.check_lines.specs.Traces.{Keeps, IsCallAt, IsKept, IsAbsent, is_incoming_at, call_in, IsPlace, call_at, lives_in, life_in, run_of, kept_or}
 use Rattle.check_lines.specs.Changes.{SameSets}
 use Rattle.check_lines.proofs.Places.{call_added, call_replaced}
 use Rattle.check_lines.proofs.KeepLaws.{found_call, life_now, lives_now, spot_kept}
@@ -145,7 +145,7 @@ module _ (v : View) (t : Trace) (id : CallId) (server : HostId) (service : ℕ) 
     sent = is.sent ∙ sym
         ((λ i. option_map_or (λ c. list_any (λ p. has_last id (length c.request) p p.body) v.packets)
         ((got id ∙ ap (λ b. cond b (Some called) (get v.calls id)) tied) i) false) ∙ none_sent id (length request) v new.absent keeps.made);
-    runs = absent_id.runs ∙ ap (map (run_of id d.server)) (sym is.runs);
+    runs = absent_id.runs ∙ ap (map (run_of id d.server d.request.items)) (sym is.runs);
     client_life = omega (arith, ap (λ l. l.client) is.lives, life_now v t id.client keeps);
     server_life = omega (arith, ap (λ l. l.server) is.lives, life_now v t server keeps, ap (life v) is.server_is);
     now = subst (StandsFor (beside id.client v.settings.resend d) (spot_in d (record { client = life v id.client; server = life v d.server }))) (sym spot_id)
@@ -233,19 +233,21 @@ module _ (v : View) (t : Trace) (id : CallId) (host : HostId) (response : List �
   }
 
   pub run_here : (c d : Call) (r : Run) → call_at t id ≡ Some c → is_server_of v id host ≡ true → r.life ≡ life_in t host
-      → r.response.items ≡ response → d ≡ record c { runs = d.runs } → d.runs.items ≡ r ∷ c.runs.items → IsKept with_run id d
+      → kept_or c.request.items r.response ≡ response → d ≡ record c { runs = d.runs } → d.runs.items ≡ r ∷ c.runs.items → IsKept with_run id d
   run_here c d r here server l s e runs =
       let k = found_call v t id c keeps here in
       let is : c.server ≡ host =
       (hosts_are c.server host).0 (sym (ap (λ (o : Option Called). option_map_or (λ x. is_host x.server host) o false) k.called) ∙ server) in
-      let same : ran ≡ run_of id d.server r =
-      λ i. record { host = sym (ap (λ x. x.server) e ∙ is) i; life = sym (l ∙ life_now v t host keeps) i; id = id; response = sym s i } in
+      let said : kept_or d.request.items r.response ≡ response = ap (λ (x : Call). kept_or x.request.items r.response) e ∙ s in
+      let same : ran ≡ run_of id d.server d.request.items r =
+      λ i. record { host = sym (ap (λ x. x.server) e ∙ is) i; life = sym (l ∙ life_now v t host keeps) i; id = id; response = sym said i } in
       record {
         called = k.called ∙ ap (λ x. Some (called_of x)) (sym e);
         size = subst (λ (x : Call). x.size ≡ length x.request.items) (sym e) k.size;
         sent = subst (λ (x : Call). x.sent_last ≡ sent_last v id) (sym e) k.sent;
         runs = ap (λ b. cond b (ran ∷ runs_of v id) (runs_of v id)) ((calls_are id id).1 refl)
-            ∙ ((λ i. same i ∷ (k.runs ∙ ap (λ (x : Call). map (run_of id x.server) c.runs.items) (sym e)) i) ∙ ap (map (run_of id d.server)) (sym runs));
+            ∙ ((λ i. same i ∷ (k.runs ∙ ap (λ (x : Call). map (run_of id x.server x.request.items) c.runs.items) (sym e)) i)
+            ∙ ap (map (run_of id d.server d.request.items)) (sym runs));
         client_life = subst (λ (x : Call). x.lives.client ≤ life v id.client) (sym e) k.client_life;
         server_life = subst (λ (x : Call). x.lives.server ≤ life v x.server) (sym e) k.server_life;
         now = subst (λ (x : Call). StandsFor (beside id.client v.settings.resend x)

@@ -1,6 +1,6 @@
 -- What is kept of the lines of a trace, and that it is what they say.
 use Rattle.std.specs.Prelude.{◌≡◌, ℕ, zero, suc, ◌<◌, ◌≤◌, ◌==◌, ◌&&◌, Bool, true, false, if◌then◌else◌, Option, None, Some, option_and_then}
-use Rattle.std.specs.Prelude.{unwrap_or, List, [], ◌∷◌, length, map, slice_get}
+use Rattle.std.specs.Prelude.{unwrap_or, List, [], ◌∷◌, length, map, slice_get, Vec}
 use Rattle.std.specs.Str.{bytes_eq}
 use Rattle.std.specs.Option.{option_map, option_map_or}
 use Rattle.std.specs.List.{AllByRecursion, list_all}
@@ -95,9 +95,14 @@ incarnation_of h (suc n) = slice_get h.restarts.items n
 abbrev pub incarnation_in : Trace → HostId → ℕ → Option ℕ
 incarnation_in t h n = option_and_then (λ host. incarnation_of host n) (host_at t h)
 
--- a run was in a life of this incarnation, and its response is this
-abbrev pub is_answer_in : Trace → HostId → ℕ → List ℕ → Run → Bool
-is_answer_in t server inc bytes r = option_map_or (λ i. i == inc) (incarnation_in t server r.life) false && bytes_eq bytes r.response.items
+-- the bytes of a response to this request, of which none are kept if it is the request
+abbrev pub kept_or : {A : Type 0} → List ℕ → Option (Vec ℕ A) → List ℕ
+kept_or request own = option_map_or (λ v. v.items) own request
+
+-- a run of a call of this server with this request was in a life of this incarnation, and its response is this
+abbrev pub is_answer_in : Trace → HostId → List ℕ → ℕ → List ℕ → Run → Bool
+is_answer_in t server request inc bytes r =
+    option_map_or (λ i. i == inc) (incarnation_in t server r.life) false && bytes_eq bytes (kept_or request r.response)
 
 -- ---- hosts
 
@@ -139,15 +144,15 @@ pub record IsListed (v : View) (h : HostId) (o : Option Host) : Type 0 where
 -- ---- calls
 
 -- a run, as its line tells it
-abbrev pub run_of : CallId → HostId → Run → Ran
-run_of q server r = record { host = server; life = r.life; id = q; response = r.response.items }
+abbrev pub run_of : CallId → HostId → List ℕ → Run → Ran
+run_of q server request r = record { host = server; life = r.life; id = q; response = kept_or request r.response }
 
 -- a call that was made
 pub record IsKept (v : View) (q : CallId) (c : Call) : Type 0 where
   pub called : get v.calls q ≡ Some (called_of c)
   pub size : c.size ≡ length c.request.items
   pub sent : c.sent_last ≡ sent_last v q
-  pub runs : runs_of v q ≡ map (run_of q c.server) c.runs.items
+  pub runs : runs_of v q ≡ map (run_of q c.server c.request.items) c.runs.items
   pub client_life : c.lives.client ≤ life v q.client
   pub server_life : c.lives.server ≤ life v c.server
   pub now : StandsFor (beside q.client v.settings.resend c) (spot_in c (record { client = life v q.client; server = life v c.server })) (spots.spot v.now q)

@@ -1,12 +1,12 @@
 // A line that is taken.
 ghost use Rattle.std.specs.Prelude.{ℕ, List, Option, Some, None, [], ◌∷◌, ◌++◌, length, slice_get, ◌≡◌, ◌+◌, ◌-◌, ◌^◌, ◌<◌, ◌&&◌, ◌||◌, true, false};
-ghost use Rattle.std.specs.Prelude.{if◌then◌else◌, OnOk, IfSome};
+ghost use Rattle.std.specs.Prelude.{if◌then◌else◌, OnOk, IfOk, IfSome};
 ghost use Rattle.std.specs.Option.{option_map};
 ghost use Rattle.check_lines.specs.Changes.{SameLists, SameSets, SameCount, SameNumbers, SameRest, IsChange, IsMade, IsAfter, IsTaken, Changes};
 ghost use Rattle.check_lines.specs.Changes.{Ready, Takes, call_or};
 ghost use Rattle.check_lines.specs.Sends.{change_by, granted_by, first_after, sent_with, tested, keeps_window};
 ghost use Rattle.check_lines.specs.Traces.{Follows, Keeps, StandsOr, IsUndoOf, IsDelivered, beside_at, IsPlace, call_at, host_at, lives_in, lead_of};
-ghost use Rattle.check_lines.specs.Traces.{first_of, restarts_in, asked_of, awaited_of, due_of};
+ghost use Rattle.check_lines.specs.Traces.{first_of, restarts_in, asked_of, awaited_of, due_of, kept_or};
 ghost use Rattle.check_lines.specs.declared.block.Named.TheVariants.{Nobody};
 ghost use Rattle.check_laws.specs.Spots.{Spot as ASpot, Undo, IsUndo, spot, only, undo_each, said_spot, counted_spot, delivered_spot, due_spot, due_if_refused};
 ghost use Rattle.check_laws.specs.Tested.{IsOther};
@@ -66,6 +66,17 @@ fn version_of(wire: u32) -> u32
     ensures same { Between 1 2 wire → result ≡ wire }
 {
     if wire == 1 { 1 } else { 2 }
+}
+
+// The bytes of a response that are kept: none if it is the request.
+fn own_bytes(alloc: Global, request: &[u8], response: &[u8]) -> Result<Option<Vec<u8>>, AllocError>
+    ensures { IfOk result (λ own. kept_or request.now own ≡ response.now) }
+{
+    if request == response {
+        return Ok(None);
+    }
+    let own = Vec::from_slice(alloc, response)?;
+    Ok(Some(own))
 }
 
 // The packet that a datagram from one host to another is.
@@ -425,7 +436,7 @@ impl Trace {
         let life = self.life(host);
         match self.find(id) {
             Some(at) => {
-                let response = Vec::from_slice(alloc, response)?;
+                let response = own_bytes(alloc, &self.calls[at].request, response)?;
                 let runs = &mut self.calls[at].runs;
                 runs.reserve_exact(1)?;
                 runs.insert(0, Run { life, response })?;

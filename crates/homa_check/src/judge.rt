@@ -6,7 +6,7 @@ ghost use Rattle.std.specs.List.Sorted.{IsStrictlySortedBy};
 ghost use Rattle.homa_check.specs.Grants.{message_of, asked_message, awaited_message, plain_grant};
 ghost use Rattle.homa_check.specs.Judging.{is_allowed_line, judged_before};
 ghost use Rattle.homa_check.specs.Clauses.{clause_of};
-ghost use Rattle.check_lines.specs.Traces.{Follows, life_in, incarnation_in, is_answer_in};
+ghost use Rattle.check_lines.specs.Traces.{Follows, life_in, incarnation_in, is_answer_in, kept_or};
 ghost use Rattle.check_call.specs.Calls.{ran_in};
 ghost use Rattle.check_call.specs.Kept.{AreResends, piece_is_data};
 ghost use Rattle.homa_plain.specs.Calls.{is_host, call_cmp};
@@ -184,18 +184,28 @@ fn has_answer(trace: &Trace, id: CallId, inc: u32, bytes: &[u8]) -> bool
 
 // Whether one of a call's runs was in this incarnation, and its response is this.
 fn is_any_answer(trace: &Trace, call: &Call, inc: u32, bytes: &[u8]) -> bool
-    ensures { result ≡ list_any (is_answer_in trace.now call.now.server inc bytes.now) call.now.runs.items }
+    ensures { result ≡ list_any (is_answer_in trace.now call.now.server call.now.request.items inc bytes.now) call.now.runs.items }
 {
     call.runs
         .iter()
-        .any(|run| is_answer(trace, call.server, run, inc, bytes))
+        .any(|run| is_answer(trace, call, run, inc, bytes))
 }
 
-// Whether a run of a call of this server was in this incarnation, and its response is this.
-fn is_answer(trace: &Trace, server: HostId, run: &Run, inc: u32, bytes: &[u8]) -> bool
-    ensures { result ≡ is_answer_in trace.now server inc bytes.now run.now }
+// Whether a run of a call was in this incarnation, and its response is this.
+fn is_answer(trace: &Trace, call: &Call, run: &Run, inc: u32, bytes: &[u8]) -> bool
+    ensures { result ≡ is_answer_in trace.now call.now.server call.now.request.items inc bytes.now run.now }
 {
-    incarnation(trace, server, run.life) == Some(inc) && bytes == run.response.as_slice()
+    incarnation(trace, call.server, run.life) == Some(inc) && bytes == answer_of(call, run)
+}
+
+// The response of a run of a call.
+fn answer_of<'a>(call: &'a Call, run: &'a Run) -> &'a [u8]
+    ensures { result.now ≡ kept_or call.now.request.items run.now.response }
+{
+    match &run.response {
+        Some(own) => own.as_slice(),
+        None => call.request.as_slice(),
+    }
 }
 
 // Returns the incarnation of a host at its start of this number, if the lines have it.
