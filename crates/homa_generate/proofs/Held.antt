@@ -31,6 +31,11 @@ module _ (run : Run) (allowed : List PlainEntry → Type 0) where
   part_any (Ok counts) old new ran part = schedule_part old new counts ran
   part_any (Err stop) old new ran part = part
 
+  -- it came to its end where it answers counts
+  pub ran_to_end : {A : Type 0} (r : Result (List ℕ) A) (counts : List ℕ) (old new : Option (List ℕ)) → r ≡ Ok counts
+      → IfOk r (HasRun run old new allowed) → HasRun run old new allowed counts
+  ran_to_end r counts old new e ran = subst (λ s. IfOk s (HasRun run old new allowed)) e ran
+
   module _ (old mid new : Option (List ℕ)) (before held last : List ℕ) (none : before ≡ []) (whole : appended new last ≡ appended mid held) where
     -- what was put in went out whole
     pub held_made : last ≡ [] → (counts : List ℕ) → HasRun run (appended old before) (appended mid held) allowed counts → HasRun run old new allowed counts
