@@ -182,15 +182,29 @@ def all_functions(crate):
     return found
 
 
-def clause_problems():
-    """The functions and clauses that a table 'promise, function, clauses' of the page in words names, and that aren't there."""
-    known = {}
+def rows_of_clauses():
+    """The rows of the page in words that name clauses: line, cell with the functions and their crate, cell with the clauses. A row
+    has both cells, or the second alone, below a heading that ends with `clauses of FUNCTION`."""
+    above = ""
     for number, line in enumerate(read(WORDS).splitlines(), 1):
         cells = [it.strip() for it in line.split("|")[1:-1]]
-        match = re.fullmatch(r"((?:`[\w:]+`(?:, )?)+) \(`(\w+)`\)", cells[-2]) if len(cells) >= 3 else None
+        if len(cells) != 2:
+            above = ""
+        elif cells[1].startswith("clauses of "):
+            above = cells[1].removeprefix("clauses of ")
+        elif above and not set(line) <= set("|- "):
+            yield number, above, cells[1]
+        if len(cells) >= 3 and "`" in cells[-2]:
+            yield number, cells[-2], cells[-1]
+
+
+def clause_problems():
+    """The functions and clauses that a table of the page in words names, and that aren't there."""
+    known = {}
+    for number, function, clauses in rows_of_clauses():
+        match = re.fullmatch(r"((?:`[\w:]+`(?:, )?)+) \(`(\w+)`\)", function)
         if not match:
-            if len(cells) >= 3 and "`" in cells[-2] and not set(line) <= set("|- "):
-                yield f"{WORDS}:{number}: '{cells[-2]}' isn't a function with its crate"
+            yield f"{WORDS}:{number}: '{function}' isn't a function with its crate"
             continue
         crate = match[2]
         if crate not in known:
@@ -199,7 +213,6 @@ def clause_problems():
             if name not in known[crate]:
                 yield f"{WORDS}:{number}: {crate} has no public function {name}"
                 continue
-            wanted = re.findall(r"`\w+`", cells[-1]) or ["-"]
-            for clause in wanted:
+            for clause in re.findall(r"`\w+`", clauses) or ["-"]:
                 if clause not in known[crate][name]:
                     yield f"{WORDS}:{number}: {name} of {crate} has no clause {clause.strip('`')}"
