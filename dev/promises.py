@@ -183,17 +183,20 @@ def all_functions(crate):
 
 
 def rows_of_clauses():
-    """The rows of the page in words that name clauses: line, cell with the functions and their crate, cell with the clauses. A row
-    has both cells, or the second alone, below a heading that ends with `clauses of FUNCTION`."""
-    above = ""
-    for number, line in enumerate(read(WORDS).splitlines(), 1):
+    """What the page in words says of clauses: line, functions with their crate, clauses. A row of a table has both in its last two
+    cells. A point of a list ends with a colon and the clauses, if its section says above that it has clauses of a function."""
+    above, point, at = "", "", 0
+    for number, line in enumerate([*read(WORDS).splitlines(), ""], 1):
+        if point and not line.startswith("  "):
+            yield at, above, point.rpartition(": ")[2] if point.endswith("`.") else ""
+            point = ""
+        match = re.search(r"[Cc]lauses of (`\w+` \(`\w+`\))|^## ", line)
+        above = (match[1] or "") if match else above
+        if above and line.startswith("- "):
+            point, at = line, number
+        elif point:
+            point += line
         cells = [it.strip() for it in line.split("|")[1:-1]]
-        if len(cells) != 2:
-            above = ""
-        elif cells[1].startswith("clauses of "):
-            above = cells[1].removeprefix("clauses of ")
-        elif above and not set(line) <= set("|- "):
-            yield number, above, cells[1]
         if len(cells) >= 3 and "`" in cells[-2]:
             yield number, cells[-2], cells[-1]
 
