@@ -182,15 +182,32 @@ def all_functions(crate):
     return found
 
 
-def clause_problems():
-    """The functions and clauses that a table 'promise, function, clauses' of the page in words names, and that aren't there."""
-    known = {}
-    for number, line in enumerate(read(WORDS).splitlines(), 1):
+def rows_of_clauses():
+    """What the page in words says of clauses: line, functions with their crate, clauses. A row of a table has both in its last two
+    cells. A point of a list ends with a colon and the clauses, if its section says above that it has clauses of a function."""
+    above, point, at = "", "", 0
+    for number, line in enumerate([*read(WORDS).splitlines(), ""], 1):
+        if point and not line.startswith("  "):
+            yield at, above, point.rpartition(": ")[2] if point.endswith("`.") else ""
+            point = ""
+        match = re.search(r"[Cc]lauses of (`\w+` \(`\w+`\))|^## ", line)
+        above = (match[1] or "") if match else above
+        if above and line.startswith("- "):
+            point, at = line, number
+        elif point:
+            point += line
         cells = [it.strip() for it in line.split("|")[1:-1]]
-        match = re.fullmatch(r"((?:`[\w:]+`(?:, )?)+) \(`(\w+)`\)", cells[-2]) if len(cells) >= 3 else None
+        if len(cells) >= 3 and "`" in cells[-2]:
+            yield number, cells[-2], cells[-1]
+
+
+def clause_problems():
+    """The functions and clauses that a table of the page in words names, and that aren't there."""
+    known = {}
+    for number, function, clauses in rows_of_clauses():
+        match = re.fullmatch(r"((?:`[\w:]+`(?:, )?)+) \(`(\w+)`\)", function)
         if not match:
-            if len(cells) >= 3 and "`" in cells[-2] and not set(line) <= set("|- "):
-                yield f"{WORDS}:{number}: '{cells[-2]}' isn't a function with its crate"
+            yield f"{WORDS}:{number}: '{function}' isn't a function with its crate"
             continue
         crate = match[2]
         if crate not in known:
@@ -199,7 +216,6 @@ def clause_problems():
             if name not in known[crate]:
                 yield f"{WORDS}:{number}: {crate} has no public function {name}"
                 continue
-            wanted = re.findall(r"`\w+`", cells[-1]) or ["-"]
-            for clause in wanted:
+            for clause in re.findall(r"`\w+`", clauses) or ["-"]:
                 if clause not in known[crate][name]:
                     yield f"{WORDS}:{number}: {name} of {crate} has no clause {clause.strip('`')}"

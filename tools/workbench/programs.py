@@ -72,11 +72,16 @@ class Run:
         self.thread = threading.Thread(target=self.work, daemon=True)
         self.thread.start()
 
-    def limit(self):
-        """In the program's own process, before it begins."""
-        resource.setrlimit(resource.RLIMIT_CPU, (self.bounds.seconds, self.bounds.seconds))
-        resource.setrlimit(resource.RLIMIT_AS, (self.bounds.memory, self.bounds.memory))
-        resource.setrlimit(resource.RLIMIT_CORE, (0, 0))
+    def limit(self, process):
+        """Bounds a program that was just begun. (Between fork and exec Python would run signal handlers of its own.)"""
+        limits = {
+            resource.RLIMIT_CPU: self.bounds.seconds,
+            resource.RLIMIT_AS: self.bounds.memory,
+            resource.RLIMIT_CORE: 0,
+        }
+        with contextlib.suppress(ProcessLookupError):
+            for kind, most in limits.items():
+                resource.prlimit(process.pid, kind, (most, most))
 
     def work(self):
         with tempfile.TemporaryFile() as given:
@@ -114,10 +119,10 @@ class Run:
                         stdout=subprocess.PIPE,
                         stderr=self.said,
                         start_new_session=True,
-                        preexec_fn=self.limit,
                         cwd=TOP,
                     )
                 )
+                self.limit(self.processes[-1])
             if source is not given:
                 source.close()  # the next program has it
             source = self.processes[-1].stdout
