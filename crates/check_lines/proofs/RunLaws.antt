@@ -20,7 +20,8 @@ use Rattle.check_call.specs.declared.call.Run.{Run}
 use Rattle.check_lines.specs.declared.host.Host.{Host}
 use Rattle.check_lines.specs.declared.trace.Trace.{Trace}
 use Rattle.check_call.specs.Calls.{ran_in}
-use Rattle.check_lines.specs.Traces.{Keeps, IsKept, IsCallAt, IsAbsent, call_at, host_at, run_of, first_of, restarts_in, life_in, incarnation_in, is_answer_in, kept_or}
+use Rattle.check_lines.specs.Traces.{Keeps, IsKept, IsCallAt, IsAbsent, call_at, host_at, run_of, first_of, restarts_in, life_in, incarnation_in}
+use Rattle.check_lines.specs.Traces.{is_answer_in, kept_or}
 
 -- what is kept of a call that was found
 pub kept_at : (v : View) (t : Trace) (q : CallId) (c : Call) → Keeps v t → call_at t q ≡ Some c → IsKept v q c
@@ -70,10 +71,13 @@ any_answers v t q c inc bytes f k (r ∷ rs) =
     ap (λ (o : Option ℕ). option_map_or (λ i. i == inc) o false) (incarnation_is v t c.server r.life f)
     ∙ sym (ap (λ b. b && option_map_or (λ i. i == inc) (incarnation v c.server r.life) false) (server_is v q c k)) in
     ap (λ b. (b && bytes_eq bytes (kept_or c.request.items r.response)) || list_any (is_answer_in t c.server c.request.items inc bytes) rs) here
-    ∙ (any_step (is_in v q inc (run_of q c.server c.request.items r)) (bytes_eq bytes (kept_or c.request.items r.response)) (list_any (is_answer_in t c.server c.request.items inc bytes) rs) bytes
-    (kept_or c.request.items r.response) (map (λ (x : Ran). x.response) (filter (is_in v q inc) (map (run_of q c.server c.request.items) rs))) refl (any_answers v t q c inc bytes f k rs)
+    ∙ (any_step (is_in v q inc (run_of q c.server c.request.items r)) (bytes_eq bytes (kept_or c.request.items r.response))
+    (list_any (is_answer_in t c.server c.request.items inc bytes) rs) bytes
+    (kept_or c.request.items r.response) (map (λ (x : Ran). x.response) (filter (is_in v q inc) (map (run_of q c.server c.request.items) rs))) refl
+    (any_answers v t q c inc bytes f k rs)
     ∙ ap (list_any (bytes_eq bytes))
-    (sym (filter_step (is_in v q inc (run_of q c.server c.request.items r)) (run_of q c.server c.request.items r) (filter (is_in v q inc) (map (run_of q c.server c.request.items) rs)))))
+    (sym (filter_step (is_in v q inc (run_of q c.server c.request.items r)) (run_of q c.server c.request.items r)
+    (filter (is_in v q inc) (map (run_of q c.server c.request.items) rs)))))
 
 pub answers_is : (v : View) (t : Trace) (q : CallId) (c : Call) (inc : ℕ) (bytes : List ℕ) → Keeps v t → call_at t q ≡ Some c
     → list_any (is_answer_in t c.server c.request.items inc bytes) c.runs.items ≡ list_any (bytes_eq bytes) (answers v q inc)
@@ -102,7 +106,8 @@ any_here q server host request n false e (r ∷ rs) =
 pub ran_is : (v : View) (t : Trace) (q : CallId) (c : Call) (host : HostId) → Keeps v t → IsKept v q c
     → has_run v host q ≡ (is_host c.server host && ran_in c (life_in t host))
 ran_is v t q c host f k =
-    run_here v host q ∙ (ap (list_any (is_here host (life v host))) k.runs ∙ (any_here q c.server host c.request.items (life v host) (is_host c.server host) refl c.runs.items
+    run_here v host q
+    ∙ (ap (list_any (is_here host (life v host))) k.runs ∙ (any_here q c.server host c.request.items (life v host) (is_host c.server host) refl c.runs.items
     ∙ ap (λ n. is_host c.server host && ran_in c n) (sym (life_is v t host f))))
 
 both_ways : (h r s b x : Bool) → x ≡ (h && r) → ((h && not r) && (s && b)) ≡ (not x && ((h && s) && b))

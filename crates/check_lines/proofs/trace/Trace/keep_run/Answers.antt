@@ -24,8 +24,8 @@ returns-in_ok-insert-in-Some-clause-kept c v keeps server =
     let same : x ≡ y = ap (λ (o : Option Call). unwrap_or o x) (sym at_x ∙ at_y) in
     let own = c.in_ok-response-in-Some.response in
     let kept : kept_or x.request.items own ≡ c.args.response.now =
-        ap (λ (z : Call). kept_or z.request.items own) same
-        ∙ (ap (λ (l : List ℕ). kept_or l own) (sym c.deref.ensures.value) ∙ c.in_ok-response-in-Some.ensures) in
+    ap (λ (z : Call). kept_or z.request.items own) same
+    ∙ (ap (λ (l : List ℕ). kept_or l own) (sym c.deref.ensures.value) ∙ c.in_ok-response-in-Some.ensures) in
     let d : Call = record x { runs = c.insert.new.self } in
     let run : Run = record { life = c.life-life.result; response = c.in_ok-response-in-Some.response } in
     run_keeps v t id c.args.host c.args.response.now keeps _ at d place
