@@ -1,20 +1,23 @@
 -- A host that is driven by hand.
-use Rattle.std.specs.Prelude.{◌≡◌, ◌≢◌, ◌<◌, ◌≤◌, ◌*◌, ◌^◌, ℕ, List, []}
+use Rattle.std.specs.Prelude.{◌≡◌, ◌≢◌, ◌<◌, ◌≤◌, ◌*◌, ◌^◌, ℕ, Option, List, []}
 use Rattle.homa_plain.specs.declared.id.HostId.{HostId}
 use Rattle.homa_plain.specs.Steps.{Work}
 use Rattle.host_view.specs.declared.outbox.SentFrame.{SentFrame}
 use Rattle.host_view.specs.Seen.{Seen}
 use Rattle.host_view.specs.Done.{IsDone, HoldsSent}
 use Rattle.homa_service.specs.Suite.{suite_answer}
+use Rattle.driven_host.specs.declared.counts.Counts.{Counts}
 
--- a host, how many answers its service gave, how many steps were begun, and what its last step left: its frames, and the
--- message that became whole
+-- a host, how many answers its service gave, how many steps were begun, and what its last step left: its frames, the message
+-- that became whole, and who sent the datagram that came; and what was counted, where that is asked for
 pub record Driven : Type 0 where
   pub host : Seen
   pub served : ℕ
   pub steps : ℕ
   pub out : List SentFrame
   pub whole : List ℕ
+  pub from : Option HostId
+  pub counts : Counts
 
 -- the host, the entries and the frames are those of a plain step
 abbrev pub IsStep : Work → Driven → Driven → Type 0

@@ -1,5 +1,5 @@
 -- Turns that do nothing, and ticks at which a turn may do something.
-use Rattle.std.specs.Prelude.{◌≡◌, ◌≢◌, ◌⊎◌, ◌+◌, ◌≤◌, ℕ, List, [], Contains}
+use Rattle.std.specs.Prelude.{◌≡◌, ◌≢◌, ◌⊎◌, ◌+◌, ◌≤◌, ℕ, nat_le, if◌then◌else◌, Option, Some, None, List, [], Contains}
 use Rattle.homa_plain.specs.declared.settings.Settings.{Settings}
 use Rattle.homa_plain.specs.Choice.{Granted, grants}
 use Rattle.homa_plain.specs.Host.{Host}
@@ -19,6 +19,11 @@ IsNextWithBytes h at = (at ≡ h.host.last + 1) × (waiting h.host ≢ [])
 -- this is the deadline of a row
 abbrev pub IsDeadline : Seen → ℕ → Type 0
 IsDeadline h at = (t : Timer) × Contains (timers h.settings h.host) t × (t.at ≡ at)
+
+-- a tick, unless it is past the last one
+abbrev pub in_time : Option ℕ → Option ℕ
+in_time None = None
+in_time (Some at) = if nat_le at 1000000002000 then Some at else None
 
 -- why a turn at this tick may do something
 abbrev pub MayAct : Seen → ℕ → Type 0

@@ -10,6 +10,7 @@ ghost use Rattle.homa_plain.specs.Rules.{Answer};
 ghost use Rattle.homa_plain.specs.Steps.{start_fault, next_id, call_step, arrival_step, turn_step, has_run};
 ghost use Rattle.host_view.specs.Marks.{shown_entries, has_ran, IsAllowed};
 ghost use Rattle.host_view.specs.Done.{arriving};
+ghost use Rattle.driven_host.specs.Counts.{none_counted};
 ghost use Rattle.driven_host.specs.Driven.{IsStep, IsStill, ShowsNothing, IsOther, MayBegin, may_answer};
 
 use homa_host::Host;
@@ -21,10 +22,10 @@ use std::alloc::{AllocError, Global};
 use std::marker::Model;
 
 /// The last tick of a host's own clock.
-const LAST_TICK: u64 = 1_000_000_002_000;
+pub(crate) const LAST_TICK: u64 = 1_000_000_002_000;
 
 /// The most steps that a host is driven.
-const MOST_STEPS: u64 = 1 << 56;
+pub(crate) const MOST_STEPS: u64 = 1 << 56;
 
 /// A host with all that a step of it is lent: its services, and room for its frames and for a whole message.
 #[derive(Drop)]
@@ -41,11 +42,14 @@ pub struct DrivenHost {
 }
 
 impl Model for DrivenHost {
+    ghost use Rattle.std.specs.Prelude.{None};
+    ghost use Rattle.driven_host.specs.Counts.{none_counted};
     ghost use Rattle.driven_host.specs.Driven.{Driven, IsKept};
 
     ghost Value = { Driven };
 
-    ghost view = { λ d. record { host = d.host; served = d.suite; steps = d.steps; out = d.out; whole = d.scratch } };
+    // It keeps no sender, and counts nothing.
+    ghost view = { λ d. record { host = d.host; served = d.suite; steps = d.steps; out = d.out; whole = d.scratch; from = None; counts = none_counted } };
 
     ghost invariant = { λ d. IsKept d.host d.suite d.out d.id d.hosts d.steps };
 }
@@ -75,6 +79,8 @@ impl DrivenHost {
           steps = 0;
           out = [];
           whole = [];
+          from = None;
+          counts = none_counted;
         }) }
     {
         let out = Outbox::new(alloc)?;

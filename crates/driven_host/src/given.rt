@@ -1,11 +1,9 @@
 // A service that has one answer in hand, or none.
 ghost use Rattle.std.specs.Prelude.{◌+◌, ◌<◌};
 
+use crate::faults::MOST_BYTES;
 use homa_service::{Reply, Service};
 use std::alloc::{AllocError, Global};
-
-/// The most bytes of a message.
-pub(crate) const MOST_BYTES: usize = 1_000_000;
 
 // The answer to the request that becomes whole. None is in hand where it has no bytes; then the service finds no memory.
 #[derive(Drop)]
