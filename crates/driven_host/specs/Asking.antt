@@ -5,6 +5,7 @@ use Rattle.plain_sets.specs.Maps.{empty, len}
 use Rattle.homa_plain.specs.declared.id.HostId.{HostId}
 use Rattle.homa_plain.specs.declared.settings.Settings.{Settings}
 use Rattle.homa_plain.specs.Host.{new_host, pages_for}
+use Rattle.homa_plain.specs.Limits.{longest_message}
 use Rattle.host_view.specs.declared.mark.Mark.{Mark}
 use Rattle.host_view.specs.declared.mark.Mark.TheVariants.{Ran, Done}
 use Rattle.host_view.specs.declared.outbox.SentFrame.{SentFrame}
@@ -34,7 +35,7 @@ pub record MayCall (h : Seen) (steps : ℕ) (server : HostId) (bytes now : ℕ) 
   pub begins : MayBegin h steps now
   pub other : IsOther h server
   pub some : 1 ≤ bytes
-  pub most : bytes ≤ 1000000
+  pub most : bytes ≤ longest_message
   pub fits : pages_for bytes ≤ h.settings.pages
   pub room : len h.host.clients < h.settings.calls
 

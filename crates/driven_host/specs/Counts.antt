@@ -10,8 +10,24 @@ use Rattle.driven_host.specs.declared.counts.Counts.{Counts}
 -- before anything happened
 abbrev pub none_counted : Counts
 none_counted = record {
-  calls = 0; done = 0; timeouts = 0; forgotten = 0; asked = 0; ran = 0; sent = 0; sent_bytes = 0; received = 0; resends_sent = 0;
-  junk = 0; stale = 0; no_row = 0; no_pages = 0; gaps = 0; dropped = 0; buried = 0; freed = 0;
+  calls = 0;
+  done = 0;
+  timeouts = 0;
+  forgotten = 0;
+  asked = 0;
+  ran = 0;
+  sent = 0;
+  sent_bytes = 0;
+  received = 0;
+  resends_sent = 0;
+  junk = 0;
+  stale = 0;
+  no_row = 0;
+  no_pages = 0;
+  gaps = 0;
+  dropped = 0;
+  buried = 0;
+  freed = 0;
 }
 
 -- a count that rises by so much

@@ -1,6 +1,7 @@
 -- A host that is driven by hand.
 use Rattle.std.specs.Prelude.{◌≡◌, ◌≢◌, ◌<◌, ◌≤◌, ◌*◌, ◌^◌, ℕ, Option, List, []}
 use Rattle.homa_plain.specs.declared.id.HostId.{HostId}
+use Rattle.homa_plain.specs.Limits.{last_host_tick}
 use Rattle.homa_plain.specs.Steps.{Work}
 use Rattle.host_view.specs.declared.outbox.SentFrame.{SentFrame}
 use Rattle.host_view.specs.Seen.{Seen}
@@ -45,7 +46,7 @@ may_answer count number request response hold = record { bytes = response; hold 
 
 -- a host that began so many steps may begin one at this tick of its own clock
 pub record MayBegin (h : Seen) (steps now : ℕ) : Type 0 where
-  pub now_is : now ≤ 1000000002000
+  pub now_is : now ≤ last_host_tick
   pub later : h.host.last ≤ now
   pub few : steps < 2 ^ 56
 

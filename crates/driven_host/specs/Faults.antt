@@ -4,6 +4,7 @@ use Rattle.plain_sets.specs.Maps.{len}
 use Rattle.homa_plain.specs.declared.id.HostId.{HostId}
 use Rattle.homa_plain.specs.Calls.{is_host}
 use Rattle.homa_plain.specs.Host.{pages_for}
+use Rattle.homa_plain.specs.Limits.{last_host_tick, longest_message}
 use Rattle.host_view.specs.Seen.{Seen}
 use Rattle.driven_host.specs.declared.faults.StepFault.{StepFault}
 use Rattle.driven_host.specs.declared.faults.StepFault.TheVariants.{NoHost, Spent, Back, Empty, TooLong, TooManyPages, CallsFull}
@@ -16,7 +17,7 @@ first_cause None next = next
 -- why a host that began so many steps may begin none at this tick of its own clock
 abbrev pub begin_fault : Seen → ℕ → ℕ → Option StepFault
 begin_fault h steps now =
-    if nat_lt 1000000002000 now || nat_le (2 ^ 56) steps then Some Spent
+    if nat_lt last_host_tick now || nat_le (2 ^ 56) steps then Some Spent
     else if nat_lt now h.host.last then Some Back
     else None
 
@@ -29,7 +30,7 @@ peer_fault h steps peer now =
 -- why no host with so many pages takes a message of so many bytes
 abbrev pub length_fault : ℕ → ℕ → Option StepFault
 length_fault bytes pages =
-    if nat_lt 1000000 bytes then Some TooLong
+    if nat_lt longest_message bytes then Some TooLong
     else if nat_lt pages (pages_for bytes) then Some TooManyPages
     else None
 

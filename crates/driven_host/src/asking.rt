@@ -21,11 +21,11 @@ ghost use Rattle.driven_host.specs.Faults.{peer_fault, begin_fault, request_faul
 ghost use Rattle.driven_host.specs.Turns.{in_time, IsIdleTurn, MayAct};
 
 use crate::counts::Counts;
-use crate::driven::{LAST_TICK, is_other};
+use crate::driven::is_other;
 use crate::faults::{StepFault, begin_fault, length_fault};
 use crate::given::Given;
 use homa_host::{Asked, Host};
-use homa_plain::{CallId, Entry, HostId, Settings};
+use homa_plain::{CallId, Entry, HostId, LAST_HOST_TICK, LONGEST_MESSAGE, Settings};
 use homa_timers::Timers;
 use host_heap::first;
 use host_view::{Mark, Outbox};
@@ -91,7 +91,7 @@ impl AskingHost {
         requires valid { IsValid settings.now }
         requires id { id.0 < settings.now.hosts }
         requires inc { 1 ≤ inc }
-        requires last { last ≤ 1000000002000 }
+        requires last { last ≤ LAST_HOST_TICK }
         ensures { IfOk result (λ d. d ≡ opened settings.now id inc last) }
     {
         let out = Outbox::new(alloc)?;
@@ -257,7 +257,7 @@ impl AskingHost {
         ensures fault { result ≡ delivery_fault self.now.host self.now.steps from answer now }
         ensures begins { IfNone result (MayBegin self.now.host self.now.steps now) }
         ensures other { IfNone result (IsOther self.now.host from) }
-        ensures most { IfNone result (answer ≤ 1000000) }
+        ensures most { IfNone result (answer ≤ LONGEST_MESSAGE) }
     {
         if let Some(fault) = self.peer_fault(from, now) {
             return Some(fault);
@@ -295,9 +295,9 @@ impl AskingHost {
     pub fn next_turn(&self) -> Option<u64>
         ensures idle { IfSome result (λ at. (now : ℕ) → self.now.host.host.last < now → now < at → IsIdleTurn self.now.host now) }
         ensures may_act { IfSome result (MayAct self.now.host) }
-        ensures begins { IfSome result (λ at. at ≤ 1000000002000) }
-        ensures none { IfNone result ((now : ℕ) → self.now.host.host.last < now → now ≤ 1000000002000 → IsIdleTurn self.now.host now) }
-        ensures rest { IfNone result (self.now.host.host.last < 1000000002000 → IsIdleTurn self.now.host self.now.host.host.last) }
+        ensures begins { IfSome result (λ at. at ≤ LAST_HOST_TICK) }
+        ensures none { IfNone result ((now : ℕ) → self.now.host.host.last < now → now ≤ LAST_HOST_TICK → IsIdleTurn self.now.host now) }
+        ensures rest { IfNone result (self.now.host.host.last < LAST_HOST_TICK → IsIdleTurn self.now.host self.now.host.host.last) }
     {
         if self.host.pacer().pick().is_some() {
             return up_to_end(Some(self.host.last() + 1));
@@ -382,7 +382,7 @@ fn up_to_end(at: Option<u64>) -> Option<u64>
     ensures { result ≡ in_time at }
 {
     match at {
-        Some(tick) if tick <= LAST_TICK => at,
+        Some(tick) if tick <= LAST_HOST_TICK => at,
         _ => None,
     }
 }

@@ -111,7 +111,8 @@ impl Counts {
             Mark::Called { .. } => self.calls = self.calls.saturating_add(1),
             Mark::Done { .. } => self.done = self.done.saturating_add(1),
             Mark::Failed {
-                why: Why::Timeout, ..
+                why: Why::Timeout,
+                ..
             } => self.timeouts = self.timeouts.saturating_add(1),
             Mark::Failed {
                 why: Why::Forgotten,

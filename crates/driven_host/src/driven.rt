@@ -14,15 +14,12 @@ ghost use Rattle.driven_host.specs.Counts.{none_counted};
 ghost use Rattle.driven_host.specs.Driven.{IsStep, IsStill, ShowsNothing, IsOther, MayBegin, may_answer};
 
 use homa_host::Host;
-use homa_plain::{CallId, Entry, HostId, Settings};
+use homa_plain::{CallId, Entry, HostId, LAST_HOST_TICK, Settings};
 use homa_service::Suite;
 use host_view::Outbox;
 use msg_pool::Scratch;
 use std::alloc::{AllocError, Global};
 use std::marker::Model;
-
-/// The last tick of a host's own clock.
-pub(crate) const LAST_TICK: u64 = 1_000_000_002_000;
 
 /// The most steps that a host is driven.
 pub(crate) const MOST_STEPS: u64 = 1 << 56;
@@ -66,7 +63,7 @@ impl DrivenHost {
         requires valid { IsValid settings.now }
         requires id { id.0 < settings.now.hosts }
         requires inc { 1 ≤ inc }
-        requires last { last ≤ 1000000002000 }
+        requires last { last ≤ LAST_HOST_TICK }
         ensures { IfOk result (λ d. d ≡ record {
           host = record {
             settings = settings.now;
@@ -208,5 +205,5 @@ pub fn is_other(id: HostId, hosts: u32, other: HostId) -> bool
 pub fn may_begin(host: &Host, steps: u64, now: u64) -> bool
     ensures { IsTrue result ↔ MayBegin host.now steps now }
 {
-    now <= LAST_TICK && host.last() <= now && steps < MOST_STEPS
+    now <= LAST_HOST_TICK && host.last() <= now && steps < MOST_STEPS
 }

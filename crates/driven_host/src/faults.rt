@@ -4,11 +4,9 @@ ghost use Rattle.homa_plain.specs.Host.{pages_for};
 ghost use Rattle.driven_host.specs.Driven.{MayBegin};
 ghost use Rattle.driven_host.specs.Faults.{length_fault, begin_fault};
 
-use crate::driven::{LAST_TICK, MOST_STEPS};
+use crate::driven::MOST_STEPS;
 use homa_host::Host;
-
-/// The most bytes of a message.
-pub(crate) const MOST_BYTES: usize = 1_000_000;
+use homa_plain::{LAST_HOST_TICK, LONGEST_MESSAGE};
 
 /// How many bytes of a message a page holds.
 const PAGE: usize = 4096;
@@ -37,7 +35,7 @@ pub fn begin_fault(host: &Host, steps: u64, now: u64) -> Option<StepFault>
     ensures fault { result ≡ begin_fault host.now steps now }
     ensures begins { IfNone result (MayBegin host.now steps now) }
 {
-    if LAST_TICK < now || MOST_STEPS <= steps {
+    if LAST_HOST_TICK < now || MOST_STEPS <= steps {
         return Some(StepFault::Spent);
     }
     if now < host.last() {
@@ -49,10 +47,10 @@ pub fn begin_fault(host: &Host, steps: u64, now: u64) -> Option<StepFault>
 /// Says why no host with so many pages takes a message of so many bytes. None if one may.
 pub(crate) fn length_fault(bytes: usize, pages: u32) -> Option<StepFault>
     ensures fault { result ≡ length_fault bytes pages }
-    ensures most { IfNone result (bytes ≤ 1000000) }
+    ensures most { IfNone result (bytes ≤ LONGEST_MESSAGE) }
     ensures fits { IfNone result (pages_for bytes ≤ pages) }
 {
-    if MOST_BYTES < bytes {
+    if LONGEST_MESSAGE as usize < bytes {
         return Some(StepFault::TooLong);
     }
     if (pages as usize) < (bytes + PAGE - 1) / PAGE {

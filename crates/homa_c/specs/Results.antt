@@ -5,6 +5,7 @@ use Rattle.homa_plain.specs.declared.settings.SettingFault.TheVariants.{OutOfRan
 use Rattle.homa_plain.specs.declared.settings.Name.{Name}
 use Rattle.homa_plain.specs.declared.settings.Name.TheVariants.{Hosts, Seg, Window, Unsched, Overcommit, Rate, Resend, Tries, Life, Pages, Calls}
 use Rattle.homa_plain.specs.declared.settings.Name.TheVariants.{Served, Rebalance, Skew, Wire}
+use Rattle.homa_plain.specs.Limits.{last_host_tick}
 use Rattle.homa_plain.specs.Settings.{verdict}
 use Rattle.driven_host.specs.declared.faults.StepFault.{StepFault}
 use Rattle.driven_host.specs.declared.faults.StepFault.TheVariants.{NoHost, Spent, Back, Empty, TooLong, TooManyPages, CallsFull}
@@ -58,5 +59,5 @@ open_code is_open s id inc last =
     else if nat_lt 0 (setting_code (verdict (given_settings s))) then 18
     else if nat_le s.hosts id then 19
     else if inc == 0 then 20
-    else if nat_lt 1000000002000 last then 21
+    else if nat_lt last_host_tick last then 21
     else 0

@@ -3,8 +3,10 @@ ghost use Rattle.std.specs.Prelude.{◌≡◌};
 ghost use Rattle.homa_c.specs.Shown.{shown_call, shown_asked, shown_why, shown_peer, shown_entry, shown_more, no_call, of_call, of_none, of_service};
 ghost use Rattle.homa_plain.specs.Entries.{plain};
 
-use crate::results::{BALANCED, BURIED, CALLED, DONE, DROPPED, FORGOTTEN, FREED, GAPS};
-use crate::results::{JUNK, NO_PAGES, NO_PEER, NO_ROW, OTHER, RAN, SENT, STALE, TIMEOUT};
+use crate::results::{
+    BALANCED, BURIED, CALLED, DONE, DROPPED, FORGOTTEN, FREED, GAPS, JUNK, NO_PAGES, NO_PEER,
+    NO_ROW, OTHER, RAN, SENT, STALE, TIMEOUT,
+};
 use homa_host::Asked;
 use homa_plain::{CallId, Entry, HostId, Why};
 
@@ -133,7 +135,10 @@ pub(crate) fn entry_of(entry: &Entry<'_>) -> HomaEntry
         Entry::Bury { id, .. } => of_call(BURIED, *id, 0),
         Entry::Free { id, .. } => of_call(FREED, *id, 0),
         Entry::Call {
-            id, service, bytes, ..
+            id,
+            service,
+            bytes,
+            ..
         } => of_service(CALLED, *id, *service, bytes.len()),
         Entry::Send { id, payload, .. } => of_call(SENT, *id, payload.len()),
         Entry::Balance { cutoffs, .. } => of_none(BALANCED, cutoffs.version as usize),

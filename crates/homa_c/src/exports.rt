@@ -20,16 +20,15 @@ ghost use Rattle.homa_c.specs.Begun.{calling, receiving, turning};
 use crate::entries::{HomaAsked, HomaCall, asked_of, call_of};
 use crate::handle::Handle;
 use crate::handle::slot::Slot;
-use crate::results::{ASKS, BAD_HOST, BAD_INCARNATION, BAD_SETTING, BAD_TICK, IS_OPEN};
-use crate::results::{NEVER, NOT_OPEN, NO_MEMORY, OK, TOO_LONG, code_of};
+use crate::results::{
+    ASKS, BAD_HOST, BAD_INCARNATION, BAD_SETTING, BAD_TICK, IS_OPEN, NEVER, NO_MEMORY, NOT_OPEN,
+    OK, TOO_LONG, code_of,
+};
 use crate::settings::HomaSettings;
 use driven_host::{AskingHost, Came};
-use homa_plain::HostId;
+use homa_plain::{HostId, LAST_HOST_TICK};
 use std::alloc::Global;
 use std::mem::replace;
-
-/// The last tick of a host's own clock.
-const LAST_TICK: u64 = 1_000_000_002_000;
 
 /// The most bytes of a datagram of any net.
 const MOST_DATAGRAM: usize = 65_535;
@@ -65,7 +64,7 @@ pub extern "C" fn homa_open(
     if inc == 0 {
         return BAD_INCARNATION;
     }
-    if last > LAST_TICK {
+    if last > LAST_HOST_TICK {
         return BAD_TICK;
     }
     let Ok(opened) = AskingHost::open(alloc, HostId(id), inc, last, &given) else {
@@ -245,10 +244,10 @@ pub extern "C" fn homa_next_turn(host: &mut Handle, at: &mut u64) -> u32
     ensures codes { host.old.is_open ≡ true → (result ≡ 0) ⊎ (result ≡ 9) }
     ensures idle { result ≡ 0 → (now : ℕ) → host.old.slot.held.host.host.last < now → now < at.new → IsIdleTurn host.old.slot.held.host now }
     ensures may_act { result ≡ 0 → MayAct host.old.slot.held.host at.new }
-    ensures begins { result ≡ 0 → at.new ≤ 1000000002000 }
-    ensures none { result ≡ 9 → (now : ℕ) → host.old.slot.held.host.host.last < now → now ≤ 1000000002000
+    ensures begins { result ≡ 0 → at.new ≤ LAST_HOST_TICK }
+    ensures none { result ≡ 9 → (now : ℕ) → host.old.slot.held.host.host.last < now → now ≤ LAST_HOST_TICK
         → IsIdleTurn host.old.slot.held.host now }
-    ensures rest { result ≡ 9 → host.old.slot.held.host.host.last < 1000000002000
+    ensures rest { result ≡ 9 → host.old.slot.held.host.host.last < LAST_HOST_TICK
         → IsIdleTurn host.old.slot.held.host host.old.slot.held.host.host.last }
     ensures same { host.new.slot.held ≡ host.old.slot.held }
     ensures unwritten { result ≢ 0 → at.new ≡ at.old }

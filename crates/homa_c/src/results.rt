@@ -60,20 +60,35 @@ pub(crate) const NO_ROOM: u32 = 26;
 // Kinds of entries.
 
 pub(crate) const OTHER: u32 = 0;
+
 pub(crate) const RAN: u32 = 1;
+
 pub(crate) const DONE: u32 = 2;
+
 pub(crate) const TIMEOUT: u32 = 3;
+
 pub(crate) const FORGOTTEN: u32 = 4;
+
 pub(crate) const JUNK: u32 = 5;
+
 pub(crate) const STALE: u32 = 6;
+
 pub(crate) const NO_ROW: u32 = 7;
+
 pub(crate) const NO_PAGES: u32 = 8;
+
 pub(crate) const GAPS: u32 = 9;
+
 pub(crate) const DROPPED: u32 = 10;
+
 pub(crate) const BURIED: u32 = 11;
+
 pub(crate) const FREED: u32 = 12;
+
 pub(crate) const CALLED: u32 = 13;
+
 pub(crate) const SENT: u32 = 14;
+
 pub(crate) const BALANCED: u32 = 15;
 
 /// The peer of an entry that has none.
