@@ -5,10 +5,10 @@ use Rattle.host_view.specs.declared.mark.Mark.{Mark}
 use Rattle.host_view.specs.declared.mark.Mark.TheVariants.{Called, Junk, Stale, Balanced, Ran, Done, Failed, Dropped, TooManyGaps, Entombed, Freed}
 use Rattle.host_view.specs.declared.mark.Mark.TheVariants.{NoRow, NoPages, Sent}
 use Rattle.host_view.specs.declared.outbox.SentFrame.{SentFrame}
-use Rattle.driven_host.specs.declared.counts.Counts.{Counts}
+use Rattle.driven_host.specs.declared.counts.HostCounts.{HostCounts}
 
 -- before anything happened
-abbrev pub none_counted : Counts
+abbrev pub none_counted : HostCounts
 none_counted = record {
   calls = 0;
   done = 0;
@@ -35,7 +35,7 @@ abbrev pub risen : ℕ → ℕ → ℕ
 risen count more = min (count + more) (2 ^ 64 - 1)
 
 -- a mark
-abbrev pub with_mark : Counts → Mark → Counts
+abbrev pub with_mark : HostCounts → Mark → HostCounts
 with_mark c (Called id server service) = record c { calls = risen c.calls 1 }
 with_mark c (Done id) = record c { done = risen c.done 1 }
 with_mark c (Failed id Timeout) = record c { timeouts = risen c.timeouts 1 }
@@ -53,7 +53,7 @@ with_mark c (Balanced cutoffs) = c
 with_mark c (Sent number) = c
 
 -- the marks of a step
-abbrev pub with_marks : Counts → List Mark → Counts
+abbrev pub with_marks : HostCounts → List Mark → HostCounts
 with_marks c [] = c
 with_marks c (mark ∷ marks) = with_marks (with_mark c mark) marks
 
@@ -62,7 +62,7 @@ abbrev pub is_resend : List ℕ → Bool
 is_resend frame = unwrap_or (slice_get frame 1) 0 == 3
 
 -- a frame
-abbrev pub with_frame : Counts → List ℕ → Counts
+abbrev pub with_frame : HostCounts → List ℕ → HostCounts
 with_frame c frame = record c {
   sent = risen c.sent 1;
   sent_bytes = risen c.sent_bytes (length frame);
@@ -70,18 +70,18 @@ with_frame c frame = record c {
 }
 
 -- the frames of a step
-abbrev pub with_frames : Counts → List SentFrame → Counts
+abbrev pub with_frames : HostCounts → List SentFrame → HostCounts
 with_frames c [] = c
 with_frames c (f ∷ frames) = with_frames (with_frame c f.frame) frames
 
 -- what a step told and sent
-abbrev pub counted : Counts → List Mark → List SentFrame → Counts
+abbrev pub counted : HostCounts → List Mark → List SentFrame → HostCounts
 counted c marks frames = with_frames (with_marks c marks) frames
 
 -- a datagram that is a step
-abbrev pub with_received : Counts → Counts
+abbrev pub with_received : HostCounts → HostCounts
 with_received c = record c { received = risen c.received 1 }
 
 -- a datagram that asks
-abbrev pub with_asked : Counts → Counts
+abbrev pub with_asked : HostCounts → HostCounts
 with_asked c = record c { asked = risen c.asked 1 }

@@ -7,7 +7,7 @@ use Rattle.host_view.specs.declared.outbox.SentFrame.{SentFrame}
 use Rattle.host_view.specs.Seen.{Seen}
 use Rattle.host_view.specs.Done.{IsDone, HoldsSent}
 use Rattle.homa_service.specs.Suite.{suite_answer}
-use Rattle.driven_host.specs.declared.counts.Counts.{Counts}
+use Rattle.driven_host.specs.declared.counts.HostCounts.{HostCounts}
 
 -- a host, how many answers its service gave, how many steps were begun, and what its last step left: its frames, the message
 -- that became whole, and who sent the datagram that came; and what was counted, where that is asked for
@@ -18,7 +18,7 @@ pub record Driven : Type 0 where
   pub out : List SentFrame
   pub whole : List ℕ
   pub from : Option HostId
-  pub counts : Counts
+  pub counts : HostCounts
 
 -- the host, the entries and the frames are those of a plain step
 abbrev pub IsStep : Work → Driven → Driven → Type 0

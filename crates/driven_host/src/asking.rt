@@ -1,5 +1,5 @@
 // A host whose requests its caller answers.
-ghost use Rattle.std.specs.Prelude.{ℕ, ◌≡◌, ◌≢◌, ◌<◌, ◌≤◌, ◌+◌, ◌↔◌, ◌⊎◌, Some, None, true, false, [], length, slice_get, IfOk, IfErr, IfSome, IfNone};
+ghost use Rattle.std.specs.Prelude.{ℕ, ◌≡◌, ◌≢◌, ◌<◌, ◌≤◌, ◌+◌, ◌⊎◌, Some, None, true, false, [], length, slice_get, IfOk, IfErr, IfSome, IfNone};
 ghost use Rattle.std.specs.List.{AllByRecursion};
 ghost use Rattle.std.specs.Option.{option_map};
 ghost use Rattle.plain_sets.specs.Ordered.{first_of};
@@ -20,7 +20,7 @@ ghost use Rattle.driven_host.specs.Asking.{opened, refusal, MayCall, is_whole, h
 ghost use Rattle.driven_host.specs.Faults.{peer_fault, begin_fault, request_fault, call_fault, delivery_fault};
 ghost use Rattle.driven_host.specs.Turns.{in_time, IsIdleTurn, MayAct};
 
-use crate::counts::Counts;
+use crate::counts::HostCounts;
 use crate::driven::is_other;
 use crate::faults::{StepFault, begin_fault, length_fault};
 use crate::given::Given;
@@ -64,7 +64,7 @@ pub struct AskingHost {
     steps: u64,
     // Who sent the datagram of the last step. None behind a call or a turn.
     from: Option<HostId>,
-    counts: Counts,
+    counts: HostCounts,
 }
 
 impl Model for AskingHost {
@@ -107,7 +107,7 @@ impl AskingHost {
             pages: settings.pages,
             steps: 0,
             from: None,
-            counts: Counts::none(),
+            counts: HostCounts::none(),
         })
     }
 
@@ -327,7 +327,7 @@ impl AskingHost {
     }
 
     /// What it counted from its opening on.
-    pub fn counts(&self) -> &Counts
+    pub fn counts(&self) -> &HostCounts
         ensures { result.now ≡ self.now.counts }
     {
         &self.counts

@@ -11,7 +11,7 @@ const RESEND: u8 = 3;
 
 /// How often each thing happened. A count stands still at 2^64 - 1.
 #[derive(Clone, Copy, Debug, PartialEq, Eq)]
-pub struct Counts {
+pub struct HostCounts {
     /// Calls that began.
     pub calls: u64,
     /// Calls that are done.
@@ -50,12 +50,12 @@ pub struct Counts {
     pub freed: u64,
 }
 
-impl Counts {
+impl HostCounts {
     /// Nothing happened yet.
-    pub fn none() -> Counts
+    pub fn none() -> HostCounts
         ensures { result ≡ none_counted }
     {
-        Counts {
+        HostCounts {
             calls: 0,
             done: 0,
             timeouts: 0,

@@ -50,7 +50,7 @@ pub(crate) fn length_fault(bytes: usize, pages: u32) -> Option<StepFault>
     ensures most { IfNone result (bytes ≤ LONGEST_MESSAGE) }
     ensures fits { IfNone result (pages_for bytes ≤ pages) }
 {
-    if LONGEST_MESSAGE as usize < bytes {
+    if bytes > LONGEST_MESSAGE as usize {
         return Some(StepFault::TooLong);
     }
     if (pages as usize) < (bytes + PAGE - 1) / PAGE {

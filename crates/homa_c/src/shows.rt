@@ -1,5 +1,5 @@
 // What C reads of a host's last step. Each call answers the same until the next call, delivery or turn.
-ghost use Rattle.std.specs.Prelude.{◌≡◌, ◌≢◌, ◌≤◌, ◌<◌, IfSome, IfNone, Some, None, true, false, length, take, drop, slice_get};
+ghost use Rattle.std.specs.Prelude.{◌≡◌, ◌≢◌, ◌≤◌, ◌<◌, IfSome, true, false, length, take, drop, slice_get};
 ghost use Rattle.host_view.specs.Marks.{shown_entries};
 ghost use Rattle.homa_c.specs.Shown.{shown_entry, shown_more, shown_level};
 

@@ -22,13 +22,14 @@ pub struct Recent {
 impl Model for Recent {
     ghost use Rattle.std.specs.Prelude.{◌≡◌, ◌≤◌, ℕ, List, length};
     ghost use Rattle.std.specs.List.{AllByRecursion};
+    ghost use Rattle.homa_plain.specs.Limits.{longest_message};
 
     ghost Value = { List ℕ };
 
     ghost view = { λ r. r.lengths.items };
 
     ghost invariant = { λ r. (r.lengths.capacity ≡ 256) × (length r.lengths.items ≤ 256)
-        × AllByRecursion (λ n. n ≤ LONGEST_MESSAGE) r.lengths.items };
+        × AllByRecursion (λ n. n ≤ longest_message) r.lengths.items };
 }
 
 impl Recent {
