@@ -6,8 +6,10 @@ use crate::handle::Handle;
 use crate::handle::slot::Slot;
 use crate::knows::{homa_count, homa_last, homa_live, homa_version};
 use crate::settings::{HomaSettings, homa_service, homa_usual, homa_wrong_setting};
-use crate::shows::{HomaFrame, homa_entries, homa_entry, homa_entry_more, homa_frame};
-use crate::shows::{homa_frame_level, homa_frames, homa_whole, homa_whole_len};
+use crate::shows::{
+    HomaFrame, homa_entries, homa_entry, homa_entry_more, homa_frame, homa_frame_level,
+    homa_frames, homa_whole, homa_whole_len,
+};
 use std::alloc::Global;
 use std::process::Abort;
 use std::test::*;
@@ -75,7 +77,7 @@ struct Sent {
 }
 
 // The only frame of a host's last step.
-fn sent(rt: &impl Abort, host: &mut Handle, from: u16, to: u16) -> Sent {
+fn only_frame(rt: &impl Abort, host: &mut Handle, from: u16, to: u16) -> Sent {
     let mut room = [0; 1500];
     let mut info = HomaFrame {
         from: 9,
@@ -106,7 +108,13 @@ fn first(rt: &impl Abort, host: &mut Handle) -> (u32, u32, u32, usize, u16) {
     assert!(rt; homa_entry(host, 0, &mut entry) == 0);
     assert!(rt; homa_entry_more(host, 0, &mut more) == 0);
     assert!(rt; more.at == 0);
-    (entry.kind, entry.service, entry.id.seq, entry.len, more.peer)
+    (
+        entry.kind,
+        entry.service,
+        entry.id.seq,
+        entry.len,
+        more.peer,
+    )
 }
 
 // The client calls service 7 with "hello" at tick 6.
@@ -120,7 +128,7 @@ fn calls(rt: &impl Abort, alloc: Global, client: &mut Handle) -> Sent {
     assert!(rt; id.client == CLIENT && id.inc == 3 && id.seq == 0);
     assert!(rt; homa_live(client) == 1);
     assert!(rt; first(rt, client) == (13, 7, 0, 5, SERVER));
-    sent(rt, client, CLIENT, SERVER)
+    only_frame(rt, client, CLIENT, SERVER)
 }
 
 // It comes to the server, which answers "hi" at once.
@@ -136,7 +144,7 @@ fn answers(rt: &impl Abort, alloc: Global, server: &mut Handle, request: &Sent) 
     assert!(rt; homa_deliver(alloc, server, CLIENT, frame, 6, b"hi", &mut asked) == 0);
     assert!(rt; first(rt, server) == (1, 7, 0, 5, CLIENT));
     assert!(rt; homa_count(server, 4) == 1 && homa_count(server, 5) == 1);
-    sent(rt, server, SERVER, CLIENT)
+    only_frame(rt, server, SERVER, CLIENT)
 }
 
 // The response comes to the client.
