@@ -4,7 +4,8 @@ use Rattle.std.proofs.lemmas.Bool.{true≢false}
 use Rattle.homa_plain.specs.Limits.{last_host_tick}
 use Rattle.driven_host.specs.Driven.{Driven}
 use Rattle.driven_host.specs.Turns.{in_time, IsIdleTurn, MayAct}
-use Rattle.driven_host.proofs.Idle.{bytes_wait, before_deadline, no_deadline, deadline_acts, in_time_some, in_time_le, none_map, next_idle, next_none, next_rest}
+use Rattle.driven_host.proofs.Idle.{bytes_wait, before_deadline, no_deadline, deadline_acts, in_time_some, in_time_le, none_map, next_idle, next_none}
+use Rattle.driven_host.proofs.Idle.{next_rest}
 use Rattle.driven_host.proofs.asking.AskingHost.next_turn.Goals as goal
 
 pub returns-then-is_some-clause-may_act : goal.returns-then-is_some-clause-may_act
@@ -41,7 +42,8 @@ returns-then-is_some-clause-rest c =
     (sym (c.up_to_end.ensures ∙ ap (λ n. in_time (Some (n + 1))) c.last.ensures)) (next_rest d.host))
 
 pub returns-then-is_some-clause-begins : goal.returns-then-is_some-clause-begins
-returns-then-is_some-clause-begins c = subst (λ (o : Option ℕ). IfSome o (λ at. at ≤ last_host_tick)) (sym c.up_to_end.ensures) (in_time_le (Some (c.last.result + 1)))
+returns-then-is_some-clause-begins c =
+    subst (λ (o : Option ℕ). IfSome o (λ at. at ≤ last_host_tick)) (sym c.up_to_end.ensures) (in_time_le (Some (c.last.result + 1)))
 
 pub returns-clause-begins : goal.returns-clause-begins
 returns-clause-begins c = subst (λ (o : Option ℕ). IfSome o (λ at. at ≤ last_host_tick)) (sym c.up_to_end-2.ensures) (in_time_le c.first_deadline.result)
