@@ -8,6 +8,9 @@
 mod entries;
 mod exports;
 mod handle;
+mod knows;
 mod results;
 mod settings;
 mod shows;
+#[cfg(test)]
+mod tests;
