@@ -5,11 +5,10 @@
 # of the whole run), divided by the events that the replay of the same run counts (`ok N`); of an opening and of quiet, where there
 # are none, those of the whole run. Flat means that the last column of a kind is near 1. It needs valgrind and GNU time
 # (/usr/bin/time).
-# From the top, with the program built (./homa): bench/all.sh [MOST [PROGRAM]]   (MOST: the most events and calls, 100000)
+# From the top, with the program of ./homa, HOMA or PROGRAM: bench/all.sh [MOST [PROGRAM]]   (MOST: the most events and calls, 100000)
 set -eu
 cd "$(dirname "$0")/.."
-[ $# -ge 2 ] || ./homa replay < crates/homa/stdin > /dev/null
-python3 - "${1:-100000}" "${2:-crates/homa/out/homa}" <<'P'
+python3 - "${1:-100000}" "${2:-${HOMA:-$("$PWD/homa" --which)}}" <<'P'
 import os, re, subprocess, sys, tempfile
 most, homa = int(sys.argv[1]), sys.argv[2]
 room = tempfile.TemporaryDirectory()

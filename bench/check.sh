@@ -5,10 +5,10 @@
 # the program built (./homa): bench/check.sh [LINES]
 set -eu
 cd "$(dirname "$0")/.."
-./homa quiet 1 1 > /dev/null
+export HOMA="${HOMA:-$("$PWD/homa" --which)}"
 python3 - "${1:-1000000}" <<'P'
-import subprocess, sys
-most, homa = int(sys.argv[1]), "crates/homa/out/homa"
+import os, subprocess, sys
+most, homa = int(sys.argv[1]), os.environ["HOMA"]
 
 def calls(bytes, per):
     def schedule(lines):

@@ -4,10 +4,10 @@
 # run is. It needs GNU time (/usr/bin/time). From the top, with the program built (./homa): bench/generate.sh [SEED]
 set -eu
 cd "$(dirname "$0")/.."
-./homa gen 1 1 > /dev/null
+export HOMA="${HOMA:-$("$PWD/homa" --which)}"
 python3 - "${1:-7}" <<'P'
-import subprocess, sys
-seed, homa = sys.argv[1], "crates/homa/out/homa"
+import os, subprocess, sys
+seed, homa = sys.argv[1], os.environ["HOMA"]
 
 def run(*words, stdin=subprocess.DEVNULL):
     it = subprocess.run(["/usr/bin/time", "-f", "%U %S %M", homa, *words], stdin=stdin, stdout=subprocess.DEVNULL,

@@ -5,7 +5,7 @@
 # From the top, with the program built (./homa) or named by HOMA: bench/node.sh [CALLS]
 set -eu
 cd "$(dirname "$0")/.."
-[ -n "${HOMA-}" ] || ./homa quiet 1 1 > /dev/null
+export HOMA="${HOMA:-$("$PWD/homa" --which)}"
 PYTHONPATH=tools exec python3 - "${1:-1000}" <<'P'
 import os, re, struct, subprocess, sys, tempfile, time
 from nodes import PROGRAM, answers, free_ports, is_bound, script_of, until

@@ -5,7 +5,7 @@
 # bench/record.sh [CALLS]
 set -eu
 cd "$(dirname "$0")/.."
-[ -n "${HOMA-}" ] || ./homa quiet 1 1 > /dev/null
+export HOMA="${HOMA:-$("$PWD/homa" --which)}"
 PYTHONPATH=tools exec python3 - "${1:-100000}" <<'P'
 import os, subprocess, sys, tempfile, time
 from nodes import PROGRAM, free_ports, knows, memory, script_of

@@ -5,9 +5,9 @@
 # From the top, with the program built (./homa): bench/replay.sh [EVENTS]
 set -eu
 cd "$(dirname "$0")/.."
-./homa replay < crates/homa/stdin > /dev/null
+export HOMA="${HOMA:-$("$PWD/homa" --which)}"
 python3 - "${1:-1000000}" <<'P'
-import subprocess, sys
+import os, subprocess, sys
 most = int(sys.argv[1])
 head = {1: "", 2: "wire 2\n"}
 
@@ -27,7 +27,7 @@ kinds = {
 
 def run(schedule):
     with open("/dev/null", "wb") as nowhere, subprocess.Popen(
-            ["/usr/bin/time", "-f", "%U %S %M", "crates/homa/out/homa", "replay"],
+            ["/usr/bin/time", "-f", "%U %S %M", os.environ["HOMA"], "replay"],
             stdin=subprocess.PIPE, stdout=nowhere, stderr=subprocess.PIPE) as it:
         _, told = it.communicate(schedule)
     assert it.returncode == 0, told
