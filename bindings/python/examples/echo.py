@@ -9,10 +9,12 @@ import sys
 import homa
 
 AT = {0: ("127.0.0.1", 47010), 1: ("127.0.0.1", 47011)}
+# A call fails after 30 seconds of silence: a machine with other work may pause a program for seconds.
+SETTINGS = homa.Settings(rate=1_000_000, resend=300, tries=100, life=40_000)
 
 
 async def main(calls: int) -> None:
-    async with homa.Endpoint(0, AT) as server, homa.Endpoint(1, AT) as client:
+    async with homa.Endpoint(0, AT, settings=SETTINGS) as server, homa.Endpoint(1, AT, settings=SETTINGS) as client:
 
         @server.service(7)
         async def reverse(request: bytes) -> bytes:
@@ -20,7 +22,7 @@ async def main(calls: int) -> None:
             return request[::-1]
 
         requests = [f"request {i}".encode() for i in range(calls)]
-        answers = await asyncio.gather(*(client.call(0, 7, it, timeout=30) for it in requests))
+        answers = await asyncio.gather(*(client.call(0, 7, it, timeout=60) for it in requests))
         print(f"{sum(answer == it[::-1] for it, answer in zip(requests, answers))} of {calls} calls are done")
 
 
