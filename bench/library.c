@@ -127,7 +127,7 @@ static void after_step(node *n) {
     size_t len;
     keep_frames(n);
     for (size_t i = 0, count = n->live > 0 ? homa_entries(&n->host) : 0; i < count && n->live > 0; i++) { /* only calls of this host end */
-        need(homa_entry(&n->host, i, &entry) == HOMA_OK && entry.kind < HOMA_TIMEOUT, "a call failed");
+        need(homa_entry(&n->host, i, &entry) == HOMA_OK && entry.kind != HOMA_TIMEOUT && entry.kind != HOMA_FORGOTTEN, "a call failed");
         if (entry.kind != HOMA_DONE) continue;
         need(homa_whole(&n->host, got, MOST, &len) == HOMA_OK && memcmp(got, sent, len) == 0, "a response");
         n->over++;

@@ -24,7 +24,7 @@ FACT = "// For the proof:"
 # that nobody has cut yet.
 LONG = {
     "driven_host/src/asking.rt": ("deliver",),
-    "homa_c/src/exports.rt": ("homa_deliver",),
+    "homa_c/src/exports.rt": ("homa_call", "homa_deliver"),
     "homa_check/src/text.rt": ("judge_next",),
     "homa_host/src/host.rt": ("deliver",),
     "homa_in/src/arriving.rt": ("accept",),
@@ -46,6 +46,7 @@ LONG = {
 
 # Lines `let _name = ..` that only end a value.
 ENDS = {
+    "homa_generate/src/printing.rt": ("_sink",),
     "homa_replay/src/replays.rt": ("_sink",),
     "place_heap/src/cells.rt": ("_marks",),
 }

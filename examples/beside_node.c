@@ -65,8 +65,9 @@ static void read_entries(void) {
     size_t len;
     for (size_t i = 0, count = homa_entries(&host); i < count; i++) {
         need(homa_entry(&host, i, &entry) == HOMA_OK, "an entry");
-        if (entry.kind < HOMA_DONE) continue;
-        need(entry.kind == HOMA_DONE && entry.id.number == ended && homa_whole(&host, message, sizeof message, &len) == HOMA_OK, "a call failed");
+        need(entry.kind != HOMA_TIMEOUT && entry.kind != HOMA_FORGOTTEN, "a call failed");
+        if (entry.kind != HOMA_DONE) continue;
+        need(entry.id.number == ended && homa_whole(&host, message, sizeof message, &len) == HOMA_OK, "a response");
         show("done", calls[ended++].service, message, len);
     }
 }

@@ -31,7 +31,7 @@ def point(to):
 
 
 CALLS = {  # what each call answers, and what it takes
-    "homa_usual": (None, point(Settings)),
+    "homa_service": (None, point(Settings)),
     "homa_open": (U32, point(Settings), U16, U32, U64, point(Handle)),
     "homa_close": (U32, point(Handle)),
     "homa_call": (U32, point(Handle), U16, U8, ctypes.c_char_p, SIZE, U64, point(CallId)),
@@ -107,7 +107,7 @@ def main(words):
         getattr(library, name).restype = answers
         getattr(library, name).argtypes = takes
     settings = Settings()
-    library.homa_usual(settings)
+    library.homa_service(settings)
     hosts = [Host(library, settings, number) for number in (CLIENT, SERVER)]
     hosts[CLIENT].call(SERVER, SERVICE, (words[1] if len(words) == 2 else "hello").encode())
     hand_over(hosts, CLIENT)

@@ -12,6 +12,7 @@ mod homa {
     pub const OK: u32 = 0;
     pub const ASKS: u32 = 1;
     pub const DONE: u32 = 2;
+    pub const FORGOTTEN: u32 = 4;
 
     /// Its pointer keeps it in one thread. It is no `Copy`: a handle has one owner.
     #[repr(C)]
@@ -42,7 +43,7 @@ mod homa {
 
     #[link(name = "homa", kind = "static")]
     extern "C" {
-        pub fn homa_usual(settings: &mut Settings);
+        pub fn homa_service(settings: &mut Settings);
         pub fn homa_open(settings: &Settings, id: u16, incarnation: u32, last: u64, host: &mut Handle) -> u32;
         pub fn homa_close(host: &mut Handle) -> u32;
         pub fn homa_call(host: &mut Handle, server: u16, service: u8, request: *const u8, len: usize, now: u64, id: &mut CallId) -> u32;
@@ -71,9 +72,7 @@ impl Peer {
     fn open(number: u16, socket: UdpSocket, start: Instant) -> Peer {
         let mut settings = homa::Settings::default();
         let mut handle = homa::Handle { at: std::ptr::null_mut(), is_open: false };
-        unsafe { homa::homa_usual(&mut settings) };
-        settings.resend = 20;
-        settings.tries = 100;
+        unsafe { homa::homa_service(&mut settings) };
         assert_eq!(unsafe { homa::homa_open(&settings, number, 1, 0, &mut handle) }, homa::OK);
         Peer { handle, socket, other: 1 - number, start }
     }
@@ -109,7 +108,7 @@ impl Peer {
     /// The call that the last step ended, and its response, or none where it failed.
     fn ended(&mut self) -> Option<(homa::CallId, Option<Vec<u8>>)> {
         let (count, mut entry) = (unsafe { homa::homa_entries(&mut self.handle) }, homa::Entry::default());
-        let mut told = |i| unsafe { homa::homa_entry(&mut self.handle, i, &mut entry) } == homa::OK && entry.kind >= homa::DONE;
+        let mut told = |i| unsafe { homa::homa_entry(&mut self.handle, i, &mut entry) } == homa::OK && (homa::DONE..=homa::FORGOTTEN).contains(&entry.kind);
         let is_ended = (0..count).any(&mut told);
         is_ended.then(|| (entry.id, (entry.kind == homa::DONE).then(|| self.whole())))
     }

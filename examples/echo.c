@@ -175,14 +175,9 @@ int main(int argc, char **argv) {
     request_len = argc > 2 ? strtoul(argv[2], NULL, 10) : 100;
     need(calls > 0 && request_len > 0 && request_len <= MOST_MESSAGE && at_a_time > 0 && at_a_time <= MOST_CALLS, "usage: echo [CALLS [BYTES [AT_A_TIME]]]");
     for (size_t i = 0; i < request_len; i++) reversed[request_len - 1 - i] = request[i] = (uint8_t)(i * 7 + i / 251);
-    homa_usual(&settings);
-    settings.wire = 2; /* the host itself refuses datagrams that are too old */
-    settings.skew = 10;
+    homa_service(&settings);
     settings.window = 100000;
-    settings.rate = 100000;
-    settings.resend = RESEND;
-    settings.tries = TRIES;
-    settings.life = 1000;
+    settings.tries = TRIES; /* a machine that is busy may pause a program for seconds */
     open_sockets(sockets);
     start_ns = nanoseconds();
     fork_server();

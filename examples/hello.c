@@ -31,7 +31,7 @@ static void hand_over(uint16_t from) {
 int main(void) {
     homa_settings settings;
     homa_call_id id;
-    homa_usual(&settings);
+    homa_service(&settings);
     for (uint16_t i = 0; i < 2; i++)
         if (homa_open(&settings, i, 1, 0, &hosts[i]) != HOMA_OK) return 1;
     if (homa_call(&hosts[0], 1, 7, (const uint8_t *)"hello", 5, 0, &id) != HOMA_OK) return 1;

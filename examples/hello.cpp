@@ -30,15 +30,13 @@ static void hand_over(std::vector<homa::host> &hosts, std::uint16_t from) {
 }
 
 int main() {
-    homa_settings settings;
-    homa_usual(&settings);
     std::vector<homa::host> hosts; // they move as the vector grows
-    for (std::uint16_t i = 0; i < 2; i++) hosts.emplace_back(settings, i, 1);
+    for (std::uint16_t i = 0; i < 2; i++) hosts.emplace_back(homa::service_settings(), i, 1);
     const homa_call_id id = hosts[0].call(1, 7, std::string("hello"), 0);
     hand_over(hosts, 0);
     try {
         std::cout << hosts[0].call(id.client, 7, std::string("hello"), 0).number << '\n'; // a host doesn't call itself
     } catch (const homa::refused &it) {
-        std::cout << "refused: " << it.what() << '\n';
+        std::cout << "refused, " << it.what() << '\n';
     }
 }

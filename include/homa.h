@@ -6,8 +6,8 @@
  * may end what is shown of the last step. docs/use/library.md shows the loops of a client and of a server.
  *
  * Ticks: `now` counts ticks of the host's own clock, 0 to 1,000,000,002,000. The program says how long a tick is. A host's clock
- * never falls; two steps may have one tick. No step may begin, and homa_call, homa_deliver and homa_turn are REFUSED, where `now` is
- * below the tick of the last step, and for good past the last tick and once 2^56 steps were begun; a step that asks counts too.
+ * never falls; two steps may have one tick. No step begins if `now` is below the tick of the last step (BAD_TICK), past the last tick, or
+ * once 2^56 steps were begun (SPENT); a step that asks counts too.
  *
  * Link with libhoma, as tools/install-library puts it, or with libhoma_c.a and liblibc_c.a of the kit; memory comes from malloc,
  * realloc and free.
@@ -24,30 +24,62 @@
 #ifndef HOMA_H
 #define HOMA_H
 
-#define HOMA_VERSION "0.1.0" /* of the project: the file VERSION */
+/* The version of the project (the file VERSION), in words, and as 65,536 * MAJOR + 256 * MINOR + PATCH. */
+#define HOMA_VERSION "0.1.0"
+#define HOMA_VERSION_NUMBER 0x000100u
 
 #include <stdbool.h>
 #include <stddef.h>
 #include <stdint.h>
+#include <string.h>
 
-/* What a call answers. Unless it is HOMA_OK, nothing happened to the host, and nothing was written but what the call says. What is shown
- * of the last step stays where a datagram or a turn is REFUSED; with ASKS or NO_MEMORY of homa_deliver no frame and no entry is shown;
- * with NO_MEMORY of homa_call it stays, and where that is REFUSED, it stays, or nothing is shown. */
+/* What a call answers. A right program meets those below 16; from 16 on it made a mistake. homa_text_of has a word for each. Unless it is
+ * HOMA_OK, nothing happened to the host, and nothing was written but what the call says. What is shown of the last step stays, but where a
+ * datagram asks or finds no memory, and where a call is SPENT: then no frame and no entry is shown. If more than one cause holds, the first of
+ * this order is told. At opening: the handle, a setting, `id`, the incarnation, `last`. Else: the handle, the length of the datagram, the
+ * host, SPENT by the clock or the steps, BAD_TICK, the length of the message, its pages, FULL, SPENT by the numbers. */
 enum {
     HOMA_OK = 0,
-    HOMA_ASKS = 1,     /* only of homa_deliver: an answer is wanted */
-    HOMA_REFUSED = 2,  /* it can't be done; each call says when, and of steps 'Ticks' above. A handle that isn't open refuses all but homa_open */
-    HOMA_NO_MEMORY = 3 /* there is no memory; the same call may be tried again */
+    HOMA_ASKS = 1,             /* of homa_deliver: an answer is wanted */
+    HOMA_NO_MEMORY = 3,        /* there is no memory; the same call may be tried again */
+    HOMA_FULL = 4,             /* of homa_call, later: as many calls are live as `calls` says */
+    HOMA_SPENT = 5,            /* never in this incarnation: its numbers, its steps or its clock are at their end */
+    HOMA_NEVER = 9,            /* of homa_next_turn: no turn does anything before the next call or datagram */
+    HOMA_NOT_OPEN = 16,        /* the handle isn't open */
+    HOMA_IS_OPEN = 17,         /* of homa_open: it is */
+    HOMA_BAD_SETTING = 18,     /* of homa_open: homa_wrong_setting says which */
+    HOMA_BAD_HOST = 19,        /* `id` isn't below `hosts`; or there is no other host of that number */
+    HOMA_BAD_INCARNATION = 20, /* of homa_open: it is 0 */
+    HOMA_BAD_TICK = 21,        /* `last` is past the last tick; or `now` is below the tick of the last step */
+    HOMA_NO_BYTES = 22,        /* a request of 0 bytes */
+    HOMA_TOO_LONG = 23,        /* a message of over 1,000,000 bytes, or a datagram of over 65,535 */
+    HOMA_TOO_MANY_PAGES = 24,  /* the message takes more pages than `pages`: no host of this net could ever take it */
+    HOMA_NOT_THERE = 25,       /* there is no such frame or entry */
+    HOMA_NO_ROOM = 26          /* the room is too small */
 };
+#define HOMA_IS_MISTAKE(result) ((result) >= 16u)
 
-/* Kinds of entries. */
+/* Kinds of entries. Behind each: what it has beside its kind, in homa_entry_info; and in homa_entry_more the `peer` and `at`. A program
+ * passes over the kinds that it doesn't know. */
 enum {
-    HOMA_OTHER = 0,    /* something that a program needn't know: a packet, a timer, a row */
-    HOMA_RAN = 1,      /* a request was answered: the answer that was given is its response */
-    HOMA_DONE = 2,     /* a call is done: its response is whole */
-    HOMA_TIMEOUT = 3,  /* a call failed: `tries` RESENDs in a row had no answer but UNKNOWN. It was served at most once in each life of the
-                        * server, and may still be served after this entry (docs/use/library.md, 'After a timeout') */
-    HOMA_FORGOTTEN = 4 /* a call failed: by its server's word it was served, and the response is gone */
+    HOMA_OTHER = 0,
+    HOMA_RAN = 1,       /* a request was answered, and the answer that was given is its response. id, service, len: bytes of the request. peer:
+                         * the client */
+    HOMA_DONE = 2,      /* a call is done: its response is whole. id, len: bytes of the response. peer: who sent them */
+    HOMA_TIMEOUT = 3,   /* a call failed: `tries` RESENDs in a row had no answer but UNKNOWN. It was served at most once in each life of the
+                         * server, and may still be served after this entry (docs/use/library.md, 'After a timeout'). id */
+    HOMA_FORGOTTEN = 4, /* a call failed: by its server's word it was served, and the response is gone. id. peer: who said so */
+    HOMA_JUNK = 5,      /* the datagram is no packet of this version. peer: who sent it */
+    HOMA_STALE = 6,     /* the packet is too old. peer: who sent it. at: the tick of its clock at which it did */
+    HOMA_NO_ROW = 7,    /* a request wasn't taken: all rows are in use. id, len: how many there are. peer: the client. at: `served` */
+    HOMA_NO_PAGES = 8,  /* a message wasn't taken: too few pages are free. id, len: how many it takes. peer: who sent it. at: how many are free */
+    HOMA_GAPS = 9,      /* a piece wasn't taken: its message would have over 64 gaps. id. peer: who sent it */
+    HOMA_DROPPED = 10,  /* a request was given up before it was whole. id. peer: the client */
+    HOMA_BURIED = 11,   /* a call that was served is over, and is remembered for a time. id. peer: the client. at: up to which tick */
+    HOMA_FREED = 12,    /* and isn't remembered any more. id. peer: the client */
+    HOMA_CALLED = 13,   /* a call began. id, service, len: bytes of the request. peer: its server */
+    HOMA_SENT = 14,     /* a frame was sent. id, len: bytes of its payload. peer: to whom. at: the kind of packet (docs/understand/protocol.md) */
+    HOMA_BALANCED = 15  /* levels were computed anew. len: their version */
 };
 
 /* A host. It owns all memory of the host while it is open. */
@@ -72,7 +104,7 @@ typedef struct {
     uint32_t tries;      /* how many questions in a row may stay without an answer: 1 to 100 */
     uint32_t life;       /* for how many ticks a datagram may be delivered: 1 to 100,000. With wire 1 the program sees to it */
     uint32_t pages;      /* pages of 4096 bytes for messages that arrive: 1 to 4096. A message takes one for each 4096 bytes until it is
-                          * whole; below 245 the longest can't arrive */
+                          * whole; below 245 the longest can't arrive, and a call or an answer that could never fit is TOO_MANY_PAGES */
     uint32_t calls;      /* most live calls as a client: 1 to 1024 */
     uint32_t served;     /* most rows as a server: 1 to 4096 */
     uint32_t rebalance;  /* after how many messages levels are computed anew: 0 (never) to 1024 */
@@ -99,12 +131,37 @@ typedef struct {
     size_t len;
 } homa_frame_info;
 
-/* An entry: a kind, the call, and for HOMA_RAN the service and the bytes of the request, for HOMA_DONE those of the response. */
+/* An entry: its kind, and what that has of a call, a service and a number. What it hasn't is 0. */
 typedef struct {
     uint32_t kind, service;
     homa_call_id id;
     size_t len;
 } homa_entry_info;
+
+/* What more an entry tells: another host, or HOMA_NO_PEER, and a second number, or 0. */
+#define HOMA_NO_PEER 0xffffu
+typedef struct {
+    uint16_t peer;
+    uint64_t at;
+} homa_more_info;
+
+/* What a host counts from its opening on; the last is so now. A count that rises stands still at 2^64 - 1. */
+enum {
+    HOMA_COUNT_CALLS, HOMA_COUNT_DONE, HOMA_COUNT_TIMEOUTS, HOMA_COUNT_FORGOTTEN, /* calls that began, and how they ended */
+    HOMA_COUNT_ASKED, HOMA_COUNT_RAN,                                             /* answers of ASKS, and requests that were answered */
+    HOMA_COUNT_SENT, HOMA_COUNT_SENT_BYTES, HOMA_COUNT_RECEIVED,                  /* frames, their bytes, datagrams that were a step */
+    HOMA_COUNT_RESENDS_SENT,                                                      /* frames that ask for bytes again */
+    HOMA_COUNT_JUNK, HOMA_COUNT_STALE, HOMA_COUNT_NO_ROW, HOMA_COUNT_NO_PAGES, HOMA_COUNT_GAPS, /* entries of these kinds */
+    HOMA_COUNT_DROPPED, HOMA_COUNT_BURIED, HOMA_COUNT_FREED,
+    HOMA_COUNT_LIVE, /* calls that are live */
+    HOMA_COUNTS
+};
+
+/* All of them, in this order, as far as this header knows. */
+typedef struct {
+    uint64_t calls, done, timeouts, forgotten, asked, ran, sent, sent_bytes, received, resends_sent, junk, stale, no_row, no_pages, gaps, dropped,
+        buried, freed, live;
+} homa_counts;
 
 #ifdef __GNUC__
 #define HOMA_POINTERS __attribute__((nonnull))
@@ -116,22 +173,35 @@ typedef struct {
 extern "C" {
 #endif
 
-/* The usual settings: 2 hosts, packets of 1400 bytes, window and unsched 10,000, rate 14,000, patience of 24 ticks, life 20. */
+/* The version of the library that is linked, as HOMA_VERSION_NUMBER. */
+uint32_t homa_version(void);
+
+/* The usual settings, with small numbers: 2 hosts, packets of 1400 bytes and version 1, window and unsched 10,000, rate 14,000, patience of 24
+ * ticks, life 20. */
 HOMA_POINTERS void homa_usual(homa_settings *settings);
+
+/* Settings for a network of services, with ticks of 100 us to 10 ms: 32 hosts, packets of 1400 bytes and version 2, skew 10, window 60,000,
+ * unsched 10,000, rate 100,000, patience of 2,100 ticks, life 3,000, 4,096 pages and rows, 256 calls, rebalance 100. docs/use/library.md,
+ * 'Settings of a service', says what to change. */
+HOMA_POINTERS void homa_service(homa_settings *settings);
+
+/* What is wrong with settings: 0 nothing; 1 to 15 the first that is outside its range, by its place in homa_settings; 16 `unsched` is over
+ * `window`; 17 `rate` is under `seg`. homa_text_of_setting has a word for each. */
+HOMA_POINTERS uint32_t homa_wrong_setting(const homa_settings *settings);
 
 /* Opens a host without calls in a closed handle. `id` is its number, 0 to hosts - 1; `incarnation`, at least 1, is larger than in
  * each earlier life of this host: in one that was used, a new call gets an old call's response as its own, and is DONE. `last` is the tick
- * of its last step then, 0 before the first. Memory: see docs/use/library.md.
- * REFUSED: the handle is open, a setting isn't valid, `id` isn't below hosts, `incarnation` is 0, `last` is over the last tick. */
+ * of its last step then, 0 before the first. Memory: see docs/use/limits.md.
+ * IS_OPEN, BAD_SETTING, BAD_HOST, BAD_INCARNATION, BAD_TICK, NO_MEMORY: the handle stays as it was. */
 HOMA_POINTERS uint32_t homa_open(const homa_settings *settings, uint16_t id, uint32_t incarnation, uint64_t last, homa_host *host);
 
-/* Closes a host and gives its memory back. REFUSED: it isn't open. */
+/* Closes a host and gives its memory back. NOT_OPEN. */
 HOMA_POINTERS uint32_t homa_close(homa_host *host);
 
 /* Calls service 0 to 255 of another host with a request of 1 to 1,000,000 bytes, which are copied. OK: `id` names the call. It
  * ends by one entry DONE, TIMEOUT or FORGOTTEN, or has no end: docs/use/library.md, 'How a call ends', says when. It has no deadline and
- * can't be taken back; until it ends it is one of `calls`. REFUSED: no step may begin (see 'Ticks'), there is no other host of that number, the request
- * is empty or too long, as many calls are live as `calls` says, or the numbers of this incarnation are used up. */
+ * can't be taken back; until it ends it is one of `calls`.
+ * FULL: later. SPENT: never in this incarnation. NOT_OPEN, BAD_HOST, BAD_TICK, NO_BYTES, TOO_LONG, TOO_MANY_PAGES, NO_MEMORY. */
 HOMA_POINTERS uint32_t homa_call(homa_host *host, uint16_t server, uint8_t service, const uint8_t *request, size_t len, uint64_t now,
                                  homa_call_id *id);
 
@@ -144,41 +214,101 @@ HOMA_POINTERS uint32_t homa_call(homa_host *host, uint16_t server, uint8_t servi
  *   same datagram again with the answer, at once and at the same tick, or later ('An answer that isn't ready').
  * NO_MEMORY, only with an answer: the same, and there is no memory for the answer. Keep it by the call's id, and deliver it with the
  *   next datagram that asks for that call.
- * REFUSED: no step may begin (see 'Ticks'), there is no other host of that number, the datagram has over 65,535 bytes or the answer
- *   over 1,000,000. */
+ * SPENT, NOT_OPEN, BAD_HOST, BAD_TICK; TOO_LONG, of the datagram or the answer; TOO_MANY_PAGES, of the answer. */
 HOMA_POINTERS uint32_t homa_deliver(homa_host *host, uint16_t from, const uint8_t *frame, size_t len, uint64_t now, const uint8_t *answer,
                                     size_t answer_len, homa_asked *asked);
 
-/* A turn: of the rows that are due at this tick 32 at most act, and what waits may be sent. REFUSED: no step may begin (see 'Ticks'). */
+/* A turn: of the rows that are due at this tick 32 at most act, and what waits may be sent. SPENT, NOT_OPEN, BAD_TICK. */
 HOMA_POINTERS uint32_t homa_turn(homa_host *host, uint64_t now);
 
 /* The tick before which no turn does anything: at each tick after the last step and before `at`, a turn would send no frame, have
  * no entry, and change nothing but the host's clock and its credit, which it may fill up (`rate`). `at` is the tick after that of the
  * last step, where bytes of a message wait to be sent, or the deadline of a row, which may be past.
- * REFUSED: no turn does anything before the next call or datagram; `at` isn't written. */
+ * NEVER: no turn that may begin does anything before the next call or datagram; at the clock's end that is so too, but at the last tick
+ *   itself what waits may be sent. NOT_OPEN. `at` isn't written then. */
 HOMA_POINTERS uint32_t homa_next_turn(homa_host *host, uint64_t *at);
 
 /* How many frames the last step sent: 0 to 64. */
 HOMA_POINTERS size_t homa_frames(homa_host *host);
 
-/* Copies frame `i`, from 0, to the front of `room`; 1500 bytes are always enough. REFUSED: there is no such frame, or too little
- * room; nothing is written. */
+/* Copies frame `i`, from 0, to the front of `room`; 1500 bytes are always enough, and what is behind the frame stays. NOT_THERE, NO_ROOM,
+ * NOT_OPEN: nothing is written. */
 HOMA_POINTERS uint32_t homa_frame(homa_host *host, size_t i, uint8_t *room, size_t room_len, homa_frame_info *info);
+
+/* The level of frame `i`: 0 to 7, where 7 goes first. A program may give it a priority of its net, as DSCP. 0 if there is no such frame. */
+HOMA_POINTERS uint32_t homa_frame_level(homa_host *host, size_t i);
 
 /* How many entries the last step has: 0 to 128. */
 HOMA_POINTERS size_t homa_entries(homa_host *host);
 
-/* Entry `i`, from 0. REFUSED: there is no such entry; nothing is written. */
+/* Entry `i`, from 0. NOT_THERE, NOT_OPEN: nothing is written. */
 HOMA_POINTERS uint32_t homa_entry(homa_host *host, size_t i, homa_entry_info *info);
+
+/* What more entry `i` tells. NOT_THERE, NOT_OPEN: nothing is written. */
+HOMA_POINTERS uint32_t homa_entry_more(homa_host *host, size_t i, homa_more_info *more);
 
 /* How many bytes the message has that became whole in the last step: 1 to 1,000,000, or 0 where none did. It is the request that is
  * asked about or was answered (HOMA_RAN), or the response of a call that is done (HOMA_DONE). A step makes one message whole at most. */
 HOMA_POINTERS size_t homa_whole_len(homa_host *host);
 
-/* Copies that message to the front of `room`. REFUSED: too little room; nothing is written. */
+/* Copies that message to the front of `room`; what is behind it stays. NO_ROOM, NOT_OPEN: nothing is written. */
 HOMA_POINTERS uint32_t homa_whole(homa_host *host, uint8_t *room, size_t room_len, size_t *len);
+
+/* How many calls are live: 0 to `calls`. 0 if the handle isn't open. */
+HOMA_POINTERS uint32_t homa_live(homa_host *host);
+
+/* The tick of the last step, and before the first what the host was opened with. 0 if the handle isn't open. */
+HOMA_POINTERS uint64_t homa_last(homa_host *host);
+
+/* The count of this number, one of HOMA_COUNT_*. 0 if the handle isn't open, or there is no such count. */
+HOMA_POINTERS uint64_t homa_count(homa_host *host, uint32_t which);
 
 #ifdef __cplusplus
 }
 #endif
+
+/* A word for a result. */
+static inline const char *homa_text_of(uint32_t result) {
+    switch (result) {
+    case HOMA_OK: return "ok";
+    case HOMA_ASKS: return "asks";
+    case HOMA_NO_MEMORY: return "no memory";
+    case HOMA_FULL: return "full";
+    case HOMA_SPENT: return "spent";
+    case HOMA_NEVER: return "never";
+    case HOMA_NOT_OPEN: return "not open";
+    case HOMA_IS_OPEN: return "is open";
+    case HOMA_BAD_SETTING: return "bad setting";
+    case HOMA_BAD_HOST: return "bad host";
+    case HOMA_BAD_INCARNATION: return "bad incarnation";
+    case HOMA_BAD_TICK: return "bad tick";
+    case HOMA_NO_BYTES: return "no bytes";
+    case HOMA_TOO_LONG: return "too long";
+    case HOMA_TOO_MANY_PAGES: return "too many pages";
+    case HOMA_NOT_THERE: return "not there";
+    case HOMA_NO_ROOM: return "no room";
+    default: return "unknown";
+    }
+}
+
+/* A word for what homa_wrong_setting says. */
+static inline const char *homa_text_of_setting(uint32_t wrong) {
+    static const char *const words[] = { "nothing", "hosts", "seg", "window", "unsched", "overcommit", "rate", "resend", "tries", "life", "pages",
+                                         "calls", "served", "rebalance", "skew", "wire", "unsched over window", "rate under seg" };
+    return wrong < sizeof words / sizeof *words ? words[wrong] : "unknown";
+}
+
+/* A word for a kind of entries. */
+static inline const char *homa_text_of_entry(uint32_t kind) {
+    static const char *const words[] = { "other", "ran", "done", "timeout", "forgotten", "junk", "stale", "no row", "no pages", "gaps", "dropped",
+                                         "buried", "freed", "called", "sent", "balanced" };
+    return kind < sizeof words / sizeof *words ? words[kind] : "unknown";
+}
+
+/* All counts at once. */
+HOMA_POINTERS static inline void homa_counts_of(homa_host *host, homa_counts *counts) {
+    uint64_t all[HOMA_COUNTS];
+    for (uint32_t i = 0; i < HOMA_COUNTS; i++) all[i] = homa_count(host, i);
+    memcpy(counts, all, sizeof all);
+}
 #endif

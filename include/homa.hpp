@@ -9,7 +9,9 @@
 #include <new>
 #include <optional>
 #include <stdexcept>
+#include <string>
 #include <tuple>
+#include <type_traits>
 #include <utility>
 #include <vector>
 
@@ -39,14 +41,22 @@ struct call_less {
     }
 };
 
-// What a call throws that isn't done; want of memory is std::bad_alloc. Nothing happened to the host then.
+// What a call throws that isn't done, as "homa_call: full"; want of memory is std::bad_alloc. Nothing happened to the host then.
 class refused : public std::runtime_error {
     std::uint32_t result;
 
 public:
-    refused(const char *call, std::uint32_t code) : std::runtime_error(call), result(code) {}
+    refused(const char *call, std::uint32_t code) : std::runtime_error(std::string(call) + ": " + homa_text_of(code)), result(code) {}
     std::uint32_t code() const { return result; }
+    // The program made a mistake; else it is HOMA_FULL, for now, or HOMA_SPENT, for as long as this incarnation lasts.
+    bool is_mistake() const { return HOMA_IS_MISTAKE(result); }
 };
+
+inline homa_settings service_settings() {
+    homa_settings it;
+    homa_service(&it);
+    return it;
+}
 
 class host {
     homa_host handle = HOMA_CLOSED;
@@ -58,7 +68,8 @@ class host {
 
 public:
     host(const homa_settings &settings, std::uint16_t id, std::uint32_t incarnation, std::uint64_t last = 0) {
-        need(homa_open(&settings, id, incarnation, last, &handle), "homa_open");
+        std::uint32_t wrong = homa_wrong_setting(&settings);
+        need(homa_open(&settings, id, incarnation, last, &handle), wrong ? homa_text_of_setting(wrong) : "homa_open");
     }
     ~host() { homa_close(&handle); }
     host(host &&other) noexcept : handle(std::exchange(other.handle, homa_host HOMA_CLOSED)) {}
@@ -100,13 +111,28 @@ public:
         }
     }
 
-    // The entries of the last step: see(const homa_entry_info &).
+    // The level of frame i of the last step, 0 to 7, where 7 goes first.
+    std::uint32_t level(std::size_t i) { return homa_frame_level(&handle, i); }
+
+    // The entries of the last step: see(const homa_entry_info &), or see(const homa_entry_info &, const homa_more_info &).
     template <class See> void entries(See see) {
         homa_entry_info info;
+        homa_more_info more;
         for (std::size_t i = 0, count = homa_entries(&handle); i < count; i++) {
             need(homa_entry(&handle, i, &info), "homa_entry");
-            see(info);
+            need(homa_entry_more(&handle, i, &more), "homa_entry_more");
+            if constexpr (std::is_invocable_v<See, const homa_entry_info &, const homa_more_info &>) see(info, more);
+            else see(info);
         }
+    }
+
+    // How many calls are live, the tick of the last step, and what was counted from the opening on.
+    std::uint32_t live() { return homa_live(&handle); }
+    std::uint64_t last() { return homa_last(&handle); }
+    homa_counts counts() {
+        homa_counts it;
+        homa_counts_of(&handle, &it);
+        return it;
     }
 
     // The message that became whole in the last step: the request that is asked about or was answered, or the response of a call. Into a
@@ -205,7 +231,7 @@ public:
     [[nodiscard]] answered answer(const homa_call_id &id, bytes given, std::uint64_t now) {
         auto it = works.find(id);
         if (it == works.end() || it->second.answer) return answered::gone;
-        if (given.empty() || given.size() > 1000000) throw refused("answer", HOMA_REFUSED);
+        if (given.empty() || given.size() > 1000000) throw refused("answer", given.empty() ? HOMA_NO_BYTES : HOMA_TOO_LONG);
         if (!is_fresh(it->second, now)) {
             it->second.answer = std::move(given);
             return answered::later;

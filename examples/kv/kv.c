@@ -26,7 +26,6 @@ typedef struct {
     homa_host host;
     net net;
     identity identity;
-    unsigned long ran, done, failed; /* entries */
     int epoll, timer, signals;
     bool is_over;
 } node;
@@ -47,26 +46,8 @@ static void watch(int fd) {
     need(fd >= 0 && epoll_ctl(self.epoll, EPOLL_CTL_ADD, fd, &event) == 0, strerror(errno));
 }
 
-/* Settings for a network of services, with ticks of 100 us to 10 ms. */
-static homa_settings service_settings(void) {
-    homa_settings settings;
-    homa_usual(&settings);
-    settings.hosts = 32;
-    settings.window = 60000;
-    settings.rate = 100000;
-    settings.resend = 100;
-    settings.tries = 20;
-    settings.life = 3000;
-    settings.pages = 4096;
-    settings.served = 4096;
-    settings.rebalance = 100;
-    settings.skew = 10;
-    settings.wire = 2;
-    return settings;
-}
-
 static void open_node(const char *hosts, const char *folder, uint16_t id) {
-    homa_settings settings = service_settings();
+    homa_settings settings;
     sigset_t signals;
     char name[20];
     uint64_t last;
@@ -78,7 +59,9 @@ static void open_node(const char *hosts, const char *folder, uint16_t id) {
     need(next_life(&self.identity, folder, name, tick(), &last), "the file of the last life can't be read or written");
     for (int64_t left; (left = left_until(last)) > 0;) nanosleep(&(struct timespec){ left / 1000000000, left % 1000000000 }, NULL);
     self.host = (homa_host)HOMA_CLOSED;
-    need(homa_open(&settings, id, self.identity.incarnation, last, &self.host) == HOMA_OK, "homa_open");
+    homa_service(&settings);
+    uint32_t result = homa_open(&settings, id, self.identity.incarnation, last, &self.host);
+    need(result == HOMA_OK, homa_text_of(result));
     sigemptyset(&signals);
     sigaddset(&signals, SIGUSR1), sigaddset(&signals, SIGTERM), sigaddset(&signals, SIGINT);
     sigprocmask(SIG_BLOCK, &signals, NULL);
@@ -95,22 +78,15 @@ static uint64_t step_tick(void) {
     return now;
 }
 
-/* Behind each step. */
-static void send_and_count(void) {
-    homa_entry_info entry;
-    net_send(&self.net, &self.host);
-    for (size_t i = 0, count = homa_entries(&self.host); i < count; i++) {
-        if (homa_entry(&self.host, i, &entry) != HOMA_OK) continue;
-        self.ran += entry.kind == HOMA_RAN;
-        self.done += entry.kind == HOMA_DONE;
-        self.failed += entry.kind == HOMA_TIMEOUT || entry.kind == HOMA_FORGOTTEN;
-    }
-}
-
 static void print_counts(const char *more) {
+    homa_counts it;
+    homa_counts_of(&self.host, &it);
+    unsigned long failed = (unsigned long)(it.timeouts + it.forgotten);
     fprintf(stderr, "host %u, incarnation %u: ran %lu, done %lu, failed %lu, datagrams sent %lu, received %lu, of strangers %lu, not taken by the system %lu%s\n",
-            self.net.id, self.identity.incarnation, self.ran, self.done, self.failed, self.net.sent, self.net.received, self.net.foreign, self.net.lost,
-            more);
+            self.net.id, self.identity.incarnation, (unsigned long)it.ran, (unsigned long)it.done, failed, self.net.sent, self.net.received, self.net.foreign,
+            self.net.lost, more);
+    fprintf(stderr, "asked again %lu, too old %lu, no packets %lu, no row %lu, no pages %lu, given up %lu\n", (unsigned long)it.resends_sent,
+            (unsigned long)it.stale, (unsigned long)it.junk, (unsigned long)it.no_row, (unsigned long)it.no_pages, (unsigned long)it.dropped);
 }
 
 /* Waits for datagrams, for a signal, or until a tick. */
@@ -219,7 +195,7 @@ static size_t serve(uint32_t service, const uint8_t *request, size_t len) {
 
 static void give(homa_call_id id, uint32_t service, const uint8_t *request, size_t len) {
     size_t answer_len = serve(service, request, len);
-    if (late_answer(&works, id, answer, answer_len, step_tick()) == HOMA_OK) send_and_count();
+    if (late_answer(&works, id, answer, answer_len, step_tick()) == HOMA_OK) net_send(&self.net, &self.host);
 }
 
 /* A call asks, for the first time: it is answered at once, or put to work. */
@@ -258,7 +234,7 @@ static void server_takes(void *to, uint16_t from, const uint8_t *datagram, size_
     uint64_t now = step_tick();
     uint32_t result = late_deliver(&works, from, datagram, len, now, &asked);
     (void)to;
-    if (result == HOMA_OK) send_and_count();
+    if (result == HOMA_OK) net_send(&self.net, &self.host);
     if (result == HOMA_ASKS) ask(asked, now);
 }
 
@@ -270,14 +246,15 @@ static void tell_server(void) {
 }
 
 static int server(void) {
-    homa_settings settings = service_settings();
+    homa_settings settings;
+    homa_service(&settings);
     printf("up\n"); /* calls may come */
     fflush(stdout);
     need(late_open(&works, &self.host, &settings, AT_WORK, settings.life) == HOMA_OK, "no memory");
     for (uint64_t ready = UINT64_MAX; !self.is_over; ready = finish_jobs()) {
         wait_until(next_turn(ready), tell_server);
         net_receive(&self.net, server_takes, NULL);
-        if (turn()) send_and_count();
+        if (turn()) net_send(&self.net, &self.host);
     }
     tell_server();
     late_close(&works);
@@ -342,7 +319,7 @@ static void begin(key *it, size_t number) {
     it->is_live = true;
     it->began = tick();
     begun++;
-    send_and_count();
+    net_send(&self.net, &self.host);
 }
 
 static void end(key *it, const homa_entry_info *entry) {
@@ -365,7 +342,7 @@ static void end(key *it, const homa_entry_info *entry) {
 
 static void read_client(void) {
     homa_entry_info entry;
-    send_and_count();
+    net_send(&self.net, &self.host);
     for (size_t i = 0, count = homa_entries(&self.host); i < count; i++) {
         if (homa_entry(&self.host, i, &entry) != HOMA_OK) continue;
         if (entry.kind != HOMA_DONE && entry.kind != HOMA_TIMEOUT && entry.kind != HOMA_FORGOTTEN) continue;

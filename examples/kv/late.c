@@ -128,7 +128,9 @@ uint32_t late_answer(late *it, homa_call_id id, const uint8_t *answer, size_t le
         it->gone++;
         return LATE_GONE;
     }
-    if (len == 0 || len > 1000000 || (len + 4095) / 4096 > it->pages) return HOMA_REFUSED;
+    if (len == 0) return HOMA_NO_BYTES;
+    if (len > 1000000) return HOMA_TOO_LONG;
+    if ((len + 4095) / 4096 > it->pages) return HOMA_TOO_MANY_PAGES;
     uint32_t result = LATE_LATER;
     uint8_t *kept = malloc(len); /* before the step, so that want of memory leaves all as it was */
     if (!kept) return HOMA_NO_MEMORY;

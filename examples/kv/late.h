@@ -47,8 +47,7 @@ void late_close(late *it);
 uint32_t late_deliver(late *it, uint16_t from, const uint8_t *frame, size_t len, uint64_t now, homa_asked *asked);
 
 /* The answer to a call that asked, of 1 to 1,000,000 bytes. HOMA_OK: a step was done. It took the answer where an entry HOMA_RAN names the
- * call; else the answer is kept. HOMA_NO_MEMORY; HOMA_REFUSED, as homa_deliver or since the answer needs more pages than a host has: nothing
- * happened, and the call waits on. */
+ * call; else the answer is kept. HOMA_NO_MEMORY; HOMA_NO_BYTES; what homa_deliver answers else: nothing happened, and the call waits on. */
 uint32_t late_answer(late *it, homa_call_id id, const uint8_t *answer, size_t len, uint64_t now);
 
 /* No answer will come: where the call asks again, it is told again. HOMA_OK, LATE_GONE. */

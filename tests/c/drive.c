@@ -46,6 +46,7 @@ typedef struct {
     uint16_t id;
     uint32_t incarnation, live;
     uint64_t last, shown; /* the tick of the last step, and a sum of what is shown of it */
+    homa_counts counts;
 } node;
 
 /* A call that was made: what its request was, whether it ended, and what was answered in which life of the server. */
@@ -106,6 +107,30 @@ static call *call_of(homa_call_id id) {
     return NULL;
 }
 
+/* Whether an entry names the host that it should: `from` sent the datagram of the step, or there was none. */
+static bool has_its_peer(const node *n, const homa_entry_info *entry, const homa_more_info *more, uint16_t from) {
+    switch (entry->kind) {
+    case HOMA_RAN: case HOMA_NO_ROW: case HOMA_DROPPED: case HOMA_BURIED: case HOMA_FREED: return more->peer == entry->id.client && more->peer != n->id;
+    case HOMA_DONE: case HOMA_FORGOTTEN: return more->peer == from && entry->id.client == n->id;
+    case HOMA_JUNK: case HOMA_STALE: return more->peer == from && entry->id.incarnation == 0;
+    case HOMA_NO_PAGES: case HOMA_GAPS: return more->peer == from;
+    case HOMA_TIMEOUT: return more->peer == HOMA_NO_PEER && from == HOMA_NO_PEER;
+    case HOMA_CALLED: case HOMA_SENT: return more->peer < settings.hosts && more->peer != n->id;
+    default: return entry->kind == HOMA_BALANCED && more->peer == HOMA_NO_PEER;
+    }
+}
+
+static bool has_its_number(const homa_entry_info *entry, const homa_more_info *more) {
+    switch (entry->kind) {
+    case HOMA_STALE: return more->at <= LAST_TICK;
+    case HOMA_NO_ROW: return more->at == settings.served && entry->len == settings.served;
+    case HOMA_NO_PAGES: return entry->len > more->at && more->at <= settings.pages && entry->len <= 245;
+    case HOMA_BURIED: return more->at >= now;
+    case HOMA_SENT: return more->at >= 1 && more->at <= 8 && entry->len <= settings.seg && (more->at == 1) == (entry->len > 0);
+    default: return more->at == 0;
+    }
+}
+
 /* A sum of all that is shown of a host's last step. */
 static uint64_t shown(node *n) {
     size_t counts[] = { homa_frames(&n->host), homa_entries(&n->host), homa_whole_len(&n->host) }, len;
@@ -117,10 +142,11 @@ static uint64_t shown(node *n) {
         unwritten(room, FRAME + GUARD);
         CHECK(homa_frame(&n->host, i, room, FRAME, &frame) == HOMA_OK && frame.from == n->id && frame.to < settings.hosts && frame.to != n->id);
         CHECK(frame.len > 0 && frame.len <= FRAME && is_unwritten(room + frame.len, FRAME + GUARD - frame.len));
+        CHECK(homa_frame_level(&n->host, i) == room[3] && room[3] <= 7);
         sum = summed(summed(sum, room, frame.len), &frame.to, sizeof frame.to);
     }
     for (size_t i = 0; i < counts[1]; i++) {
-        CHECK(homa_entry(&n->host, i, &entry) == HOMA_OK && entry.kind <= HOMA_FORGOTTEN);
+        CHECK(homa_entry(&n->host, i, &entry) == HOMA_OK && entry.kind >= HOMA_RAN && entry.kind <= HOMA_BALANCED);
         sum = summed(summed(sum, &entry.kind, 4), &entry.id.number, 4);
     }
     if (counts[2] > 0 && counts[2] < 3000) {
@@ -132,11 +158,30 @@ static uint64_t shown(node *n) {
 
 /* ---- reading a step, as a program does */
 
+/* Each entry and each frame counts, by its kind. */
+static void count_entry(node *n, const homa_entry_info *entry) {
+    uint64_t *counts[] = { NULL, &n->counts.ran, &n->counts.done, &n->counts.timeouts, &n->counts.forgotten, &n->counts.junk, &n->counts.stale,
+                           &n->counts.no_row, &n->counts.no_pages, &n->counts.gaps, &n->counts.dropped, &n->counts.buried, &n->counts.freed,
+                           &n->counts.calls };
+    if (entry->kind < sizeof counts / sizeof *counts && counts[entry->kind]) ++*counts[entry->kind];
+}
+
+static void knows_itself(node *n) {
+    homa_counts counts;
+    homa_counts_of(&n->host, &counts);
+    n->counts.live = n->live;
+    CHECK(memcmp(&counts, &n->counts, sizeof counts) == 0 && homa_count(&n->host, HOMA_COUNTS + (uint32_t)any(1000)) == 0);
+    CHECK(homa_live(&n->host) == n->live && homa_last(&n->host) == n->last);
+}
+
 static void keep_frames(node *n) {
     homa_frame_info info;
     for (size_t i = 0, count = homa_frames(&n->host); i < count; i++) {
         size_t at = net_len < NET ? net_len++ : any(NET);
         CHECK(homa_frame(&n->host, i, net[at].bytes, FRAME, &info) == HOMA_OK);
+        n->counts.sent++;
+        n->counts.sent_bytes += info.len;
+        n->counts.resends_sent += net[at].bytes[1] == 3;
         net[at].from = info.from;
         net[at].to = info.to;
         net[at].len = info.len;
@@ -175,29 +220,33 @@ static void has_ended(node *n, const homa_entry_info *entry) {
     CHECK(homa_whole(&n->host, room, MOST, &got) == HOMA_OK && got == entry->len && got == it->answer_len && is_of(room, got, it->answer_seed));
 }
 
-/* A step was done, with an answer of so many bytes in hand. */
-static void read_step(node *n, uint64_t tick, uint32_t seed, size_t len) {
+/* A step was done, by a datagram from this host or by none, with an answer of so many bytes in hand. */
+static void read_step(node *n, uint64_t tick, uint16_t from, uint32_t seed, size_t len) {
     homa_entry_info entry;
+    homa_more_info more;
     size_t wholes = 0;
+    n->counts.received += from != HOMA_NO_PEER;
     n->last = tick;
     keep_frames(n);
     for (size_t i = 0, count = homa_entries(&n->host); i < count; i++) {
-        CHECK(homa_entry(&n->host, i, &entry) == HOMA_OK);
+        CHECK(homa_entry(&n->host, i, &entry) == HOMA_OK && homa_entry_more(&n->host, i, &more) == HOMA_OK);
+        CHECK(has_its_peer(n, &entry, &more, from) && has_its_number(&entry, &more));
+        count_entry(n, &entry);
         wholes += entry.kind == HOMA_RAN || entry.kind == HOMA_DONE;
         if (entry.kind == HOMA_RAN) has_ran(n, &entry, seed, len);
         if (entry.kind == HOMA_DONE || entry.kind == HOMA_TIMEOUT || entry.kind == HOMA_FORGOTTEN) has_ended(n, &entry);
     }
     CHECK(wholes == (homa_whole_len(&n->host) > 0));
     n->shown = shown(n);
+    knows_itself(n);
 }
 
-/* No step was done: what was shown stays; where a call is refused, it may be gone. */
-static void stays(node *n, bool may_go) {
+/* No step was done: what was shown stays. (Behind a call that finds the numbers spent it may be gone; that takes 2^32 calls.) */
+static void stays(node *n) {
     refused++;
     if (!n->is_open) return;
-    uint64_t is = shown(n);
-    CHECK(is == n->shown || (may_go && homa_frames(&n->host) == 0 && homa_entries(&n->host) == 0 && homa_whole_len(&n->host) == 0));
-    n->shown = is;
+    CHECK(shown(n) == n->shown);
+    knows_itself(n);
 }
 
 /* ---- what may be done */
@@ -212,20 +261,37 @@ static bool is_valid(const homa_settings *it) {
     return it->unsched <= it->window && it->seg <= it->rate;
 }
 
-static bool may_step(const node *n, uint64_t tick) { return n->is_open && n->last <= tick && tick <= LAST_TICK; }
-
 static bool is_other(const node *n, uint16_t host) { return host < settings.hosts && host != n->id; }
 
-static bool may_call(const node *n, uint16_t server, size_t len, uint64_t tick) {
-    return may_step(n, tick) && is_other(n, server) && len >= 1 && len <= MOST && n->live < settings.calls;
+/* What each call answers, by homa.h: the first cause in its order, or HOMA_OK. */
+static uint32_t turn_code(const node *n, uint64_t tick) {
+    return !n->is_open ? HOMA_NOT_OPEN : tick > LAST_TICK ? HOMA_SPENT : tick < n->last ? HOMA_BAD_TICK : HOMA_OK;
 }
 
-static bool may_deliver(const node *n, uint16_t from, size_t len, size_t answer, uint64_t tick) {
-    return may_step(n, tick) && is_other(n, from) && len <= 65535 && answer <= MOST;
+static uint32_t length_code(size_t len) {
+    return len > MOST ? HOMA_TOO_LONG : (len + 4095) / 4096 > settings.pages ? HOMA_TOO_MANY_PAGES : HOMA_OK;
 }
 
-static bool may_open(const node *n, const homa_settings *it, uint16_t id, uint32_t incarnation, uint64_t last) {
-    return !n->is_open && is_valid(it) && id < it->hosts && incarnation > 0 && last <= LAST_TICK;
+static uint32_t call_code(const node *n, uint16_t server, size_t len, uint64_t tick) {
+    if (!n->is_open) return HOMA_NOT_OPEN;
+    if (!is_other(n, server)) return HOMA_BAD_HOST;
+    if (turn_code(n, tick)) return turn_code(n, tick);
+    if (!len) return HOMA_NO_BYTES;
+    return length_code(len) ? length_code(len) : n->live >= settings.calls ? HOMA_FULL : HOMA_OK;
+}
+
+static uint32_t deliver_code(const node *n, uint16_t from, size_t len, size_t answer, uint64_t tick) {
+    if (!n->is_open) return HOMA_NOT_OPEN;
+    if (len > 65535) return HOMA_TOO_LONG;
+    if (!is_other(n, from)) return HOMA_BAD_HOST;
+    return turn_code(n, tick) ? turn_code(n, tick) : length_code(answer);
+}
+
+static uint32_t open_code(const node *n, const homa_settings *it, uint16_t id, uint32_t incarnation, uint64_t last) {
+    if (n->is_open) return HOMA_IS_OPEN;
+    if (!is_valid(it)) return HOMA_BAD_SETTING;
+    if (id >= it->hosts) return HOMA_BAD_HOST;
+    return !incarnation ? HOMA_BAD_INCARNATION : last > LAST_TICK ? HOMA_BAD_TICK : HOMA_OK;
 }
 
 /* ---- the steps */
@@ -253,27 +319,29 @@ static void try_open(uint16_t k) {
         if (which == 2) incarnation = 0;
         if (which == 3) last = LAST_TICK + any(3);
     }
-    bool may = may_open(n, &it, id, incarnation, last);
-    if (is_odd && may) return; /* it would be a host of another net */
+    uint32_t code = open_code(n, &it, id, incarnation, last);
+    CHECK(is_valid(&it) == (homa_wrong_setting(&it) == 0));
+    if (is_odd && code == HOMA_OK) return; /* it would be a host of another net */
     may_refuse = wants_memory;
     uint32_t result = homa_open(&it, id, incarnation, last, &n->host);
     may_refuse = false;
     if (result == HOMA_NO_MEMORY) {
         no_memory++;
-        CHECK(may && !n->host.is_open);
+        CHECK(code == HOMA_OK && !n->host.is_open);
         result = homa_open(&it, id, incarnation, last, &n->host);
     }
-    CHECK(result == (may ? HOMA_OK : HOMA_REFUSED));
-    if (result != HOMA_OK) return stays(n, false);
+    CHECK(result == code);
+    if (result != HOMA_OK) return stays(n);
     *n = (node){ .host = n->host, .is_open = true, .id = id, .incarnation = incarnation, .last = last };
     incarnations[k]++;
     CHECK(homa_frames(&n->host) == 0 && homa_entries(&n->host) == 0 && homa_whole_len(&n->host) == 0);
     n->shown = shown(n);
+    knows_itself(n);
 }
 
 static void try_close(node *n) {
     uint32_t result = homa_close(&n->host);
-    CHECK(result == (n->is_open ? HOMA_OK : HOMA_REFUSED) && !n->host.is_open);
+    CHECK(result == (n->is_open ? HOMA_OK : HOMA_NOT_OPEN) && !n->host.is_open);
     n->is_open = false;
 }
 
@@ -291,7 +359,7 @@ static void try_call(node *n) {
     size_t len = some_length();
     uint8_t service = (uint8_t)any(256);
     uint32_t seed = (uint32_t)any(1u << 30);
-    bool may = may_call(n, server, len, tick);
+    uint32_t code = call_code(n, server, len, tick);
     homa_call_id id;
     unwritten(&id, sizeof id);
     fill(text, len, seed);
@@ -300,24 +368,25 @@ static void try_call(node *n) {
     may_refuse = false;
     if (result == HOMA_NO_MEMORY) {
         no_memory++;
-        CHECK(may && is_unwritten(&id, sizeof id) && shown(n) == n->shown);
+        CHECK(code == HOMA_OK && is_unwritten(&id, sizeof id) && shown(n) == n->shown);
         result = homa_call(&n->host, server, service, text, len, tick, &id);
     }
-    CHECK(result == (may ? HOMA_OK : HOMA_REFUSED));
+    CHECK(result == code);
     if (result != HOMA_OK) {
         CHECK(is_unwritten(&id, sizeof id));
-        return stays(n, true);
+        return stays(n);
     }
     CHECK(id.client == n->id && id.incarnation == n->incarnation && !call_of(id));
     if (call_count == CALLS) call_count = 0;
     calls[call_count++] = (call){ .id = id, .server = server, .service = service, .len = len, .seed = seed };
     n->live++;
-    read_step(n, tick, 0, 0);
+    read_step(n, tick, HOMA_NO_PEER, 0, 0);
 }
 
 /* The same datagram once more, with the answer, at once; without memory first, now and then. */
 static void answer(node *n, uint16_t from, const uint8_t *datagram, size_t len, uint64_t tick) {
-    size_t answer_len = any(50) ? 1 + any(3000) : 1 + any(MOST);
+    size_t answer_len = any(50) ? 1 + any(3000) : 1 + any(MOST), most = settings.pages < 245 ? settings.pages * 4096 : MOST;
+    if (answer_len > most) answer_len = most;
     uint32_t seed = (uint32_t)any(1u << 30);
     unsigned long ran_before = ran;
     homa_asked asked;
@@ -332,7 +401,7 @@ static void answer(node *n, uint16_t from, const uint8_t *datagram, size_t len, 
         result = homa_deliver(&n->host, from, datagram, len, tick, text, answer_len, &asked);
     }
     CHECK(result == HOMA_OK && is_unwritten(&asked, sizeof asked));
-    if (result == HOMA_OK) read_step(n, tick, seed, answer_len);
+    if (result == HOMA_OK) read_step(n, tick, from, seed, answer_len);
     CHECK(ran == ran_before + 1);
 }
 
@@ -340,8 +409,10 @@ static void answer(node *n, uint16_t from, const uint8_t *datagram, size_t len, 
 static void asks(node *n, const homa_asked *asked) {
     size_t len;
     asked_for++;
+    n->counts.asked++;
     CHECK(homa_frames(&n->host) == 0 && homa_entries(&n->host) == 0 && homa_whole_len(&n->host) > 0 && asked->service < 256);
     n->shown = shown(n);
+    knows_itself(n);
     if (hostile) return;
     call *it = call_of(asked->id);
     CHECK(it && it->service == asked->service && it->server == n->id && (it->runs == 0 || it->ran_in != n->incarnation));
@@ -378,35 +449,35 @@ static void try_deliver(uint16_t k) {
     unwritten(&asked, sizeof asked);
     if (!some_datagram(k, &from, datagram, &len)) return;
     fill(text, answer_len, seed);
-    bool may = may_deliver(n, from, len, answer_len, tick);
+    uint32_t code = deliver_code(n, from, len, answer_len, tick);
     uint32_t result = homa_deliver(&n->host, from, datagram, len, tick, text, answer_len, &asked);
-    CHECK(result == (may ? HOMA_OK : HOMA_REFUSED) || (may && result == HOMA_ASKS && answer_len == 0));
-    if (result == HOMA_OK) return read_step(n, tick, seed, answer_len);
+    CHECK(result == code || (code == HOMA_OK && result == HOMA_ASKS && answer_len == 0));
+    if (result == HOMA_OK) return read_step(n, tick, from, seed, answer_len);
     if (result != HOMA_ASKS) {
         CHECK(is_unwritten(&asked, sizeof asked));
-        return stays(n, false);
+        return stays(n);
     }
     asks(n, &asked);
     if (any(10)) return answer(n, from, datagram, len, tick);
     homa_asked again;
     CHECK(homa_deliver(&n->host, from, datagram, len, tick, HOMA_NONE, 0, &again) == HOMA_ASKS && again.id.number == asked.id.number);
+    n->counts.asked++;
 }
 
 static void try_turn(node *n) {
     uint64_t tick = some_tick(n), at, before = n->last;
     unwritten(&at, sizeof at);
     uint32_t next = homa_next_turn(&n->host, &at);
-    bool may = may_step(n, tick);
-    CHECK(next == HOMA_OK || (next == HOMA_REFUSED && is_unwritten(&at, sizeof at)));
-    CHECK(n->is_open || next == HOMA_REFUSED);
+    CHECK(n->is_open ? next == HOMA_OK || next == HOMA_NEVER : next == HOMA_NOT_OPEN);
+    CHECK(next == HOMA_OK ? at <= LAST_TICK : is_unwritten(&at, sizeof at));
     uint32_t result = homa_turn(&n->host, tick);
-    CHECK(result == (may ? HOMA_OK : HOMA_REFUSED));
-    if (result != HOMA_OK) return stays(n, false);
+    CHECK(result == turn_code(n, tick));
+    if (result != HOMA_OK) return stays(n);
     if (tick > before && (next != HOMA_OK || tick < at)) {
         idle++;
         CHECK(homa_frames(&n->host) == 0 && homa_entries(&n->host) == 0);
     }
-    read_step(n, tick, 0, 0);
+    read_step(n, tick, HOMA_NO_PEER, 0, 0);
 }
 
 /* Frames, entries and rooms that aren't there, and a room of exactly the length. */
@@ -414,17 +485,22 @@ static void look(node *n) {
     size_t frames = homa_frames(&n->host), entries = homa_entries(&n->host), whole = homa_whole_len(&n->host), len;
     homa_frame_info frame;
     homa_entry_info entry;
+    homa_more_info more;
+    unwritten(&more, sizeof more);
     unwritten(&frame, sizeof frame), unwritten(&entry, sizeof entry), unwritten(&len, sizeof len), unwritten(room, FRAME);
     CHECK(n->is_open || (frames == 0 && entries == 0 && whole == 0));
     size_t beyond = any(2) ? any(4) : SIZE_MAX - 200 + any(72);
-    CHECK(homa_frame(&n->host, frames + beyond, room, FRAME, &frame) == HOMA_REFUSED && is_unwritten(room, FRAME));
-    CHECK(homa_entry(&n->host, entries + beyond, &entry) == HOMA_REFUSED && is_unwritten(&entry, sizeof entry));
+    uint32_t not_there = n->is_open ? HOMA_NOT_THERE : HOMA_NOT_OPEN;
+    CHECK(homa_frame(&n->host, frames + beyond, room, FRAME, &frame) == not_there && is_unwritten(room, FRAME));
+    CHECK(homa_frame_level(&n->host, frames + beyond) == 0);
+    CHECK(homa_entry(&n->host, entries + beyond, &entry) == not_there && is_unwritten(&entry, sizeof entry));
+    CHECK(homa_entry_more(&n->host, entries + beyond, &more) == not_there && is_unwritten(&more, sizeof more));
     if (frames) {
         size_t i = any(frames);
-        CHECK(homa_frame(&n->host, i, room, any(16), &frame) == HOMA_REFUSED && is_unwritten(room, FRAME) && is_unwritten(&frame, sizeof frame));
+        CHECK(homa_frame(&n->host, i, room, any(16), &frame) == HOMA_NO_ROOM && is_unwritten(room, FRAME) && is_unwritten(&frame, sizeof frame));
     }
-    if (!n->is_open) CHECK(homa_whole(&n->host, room, FRAME, &len) == HOMA_REFUSED && is_unwritten(&len, sizeof len));
-    if (whole) CHECK(homa_whole(&n->host, room, any(whole), &len) == HOMA_REFUSED && is_unwritten(&len, sizeof len) && is_unwritten(room, FRAME));
+    if (!n->is_open) CHECK(homa_whole(&n->host, room, FRAME, &len) == HOMA_NOT_OPEN && is_unwritten(&len, sizeof len));
+    if (whole) CHECK(homa_whole(&n->host, room, any(whole), &len) == HOMA_NO_ROOM && is_unwritten(&len, sizeof len) && is_unwritten(room, FRAME));
     if (n->is_open) CHECK(homa_whole(&n->host, room, whole, &len) == HOMA_OK && len == whole && shown(n) == n->shown);
 }
 

@@ -103,7 +103,7 @@ static void look(homa_host *host) {
     bool holds = frames <= 64 && entries <= 128 && homa_whole_len(host) <= sizeof message;
     for (size_t i = 0; i < frames; i++)
         holds = holds && homa_frame(host, i, frame, MOST_FRAME, &info) == HOMA_OK && info.len <= MOST_FRAME && info.from == TESTED && info.to != TESTED;
-    for (size_t i = 0; i < entries; i++) holds = holds && homa_entry(host, i, &entry) == HOMA_OK && entry.kind <= HOMA_FORGOTTEN;
+    for (size_t i = 0; i < entries; i++) holds = holds && homa_entry(host, i, &entry) == HOMA_OK && entry.kind > HOMA_OTHER && entry.kind <= HOMA_BALANCED;
     holds = holds && homa_whole(host, message, sizeof message, &len) == HOMA_OK && len == homa_whole_len(host);
     check(holds, "what a step shows");
 }

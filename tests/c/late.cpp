@@ -108,7 +108,7 @@ static void moves(const homa_settings &settings) {
         hosts[0].turn(5);
         check(false, "a host that was moved away");
     } catch (const homa::refused &it) {
-        check(it.code() == HOMA_REFUSED && std::string(it.what()) == "homa_turn", "a host that was moved away");
+        check(it.code() == HOMA_NOT_OPEN && std::string(it.what()) == "homa_turn: not open", "a host that was moved away");
     }
     hosts[0] = made(settings, 0);
     hosts[0].turn(5);
@@ -138,7 +138,7 @@ static void rooms(const homa_settings &settings) {
         (void)server.answer(asked.id, {}, 12);
         check(false, "an answer of no bytes");
     } catch (const homa::refused &it) {
-        check(it.code() == HOMA_REFUSED && server.at_work() == 1, "an answer of no bytes");
+        check(it.code() == HOMA_NO_BYTES && server.at_work() == 1, "an answer of no bytes");
     }
 }
 

@@ -289,7 +289,7 @@ static void try_deliver(void) {
 static size_t some_length(void) { return any(30) ? 1 + any(3000) : any(3) ? 1 + any(100000) : any(2) * (MOST + 1); }
 
 static bool is_bad(size_t len, uint32_t *result) {
-    *result = HOMA_REFUSED;
+    *result = len == 0 ? HOMA_NO_BYTES : len > MOST ? HOMA_TOO_LONG : HOMA_TOO_MANY_PAGES;
     return len == 0 || len > MOST || (len + 4095) / 4096 > settings.pages;
 }
 

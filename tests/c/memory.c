@@ -69,8 +69,8 @@ static bool hand_over(homa_host *hosts, uint16_t from, uint64_t now) {
 static bool is_refused_first(homa_host *host) {
     homa_call_id id;
     unsigned long before = asked_for;
-    bool refuses = homa_call(host, 9, 7, request, sizeof request, 0, &id) == HOMA_REFUSED && homa_call(host, 1, 7, request, 0, 0, &id) == HOMA_REFUSED
-        && homa_call(host, 1, 7, request, sizeof request, 0, &id) == HOMA_REFUSED;
+    bool refuses = homa_call(host, 9, 7, request, sizeof request, 0, &id) == HOMA_BAD_HOST && homa_call(host, 1, 7, request, 0, 0, &id) == HOMA_NO_BYTES
+        && homa_call(host, 1, 7, request, sizeof request, 0, &id) == HOMA_FULL;
     return refuses && asked_for == before;
 }
 

@@ -4,11 +4,11 @@
         print(await endpoint.call(0, 7, b"hello", timeout=1.0))
 
 It needs libhoma: the file that HOMA_LIBRARY names, or the one that the system finds."""
-from ._host import (Ask, CallId, Done, Event, Forgotten, Frame, Full, Host, NoLibrary, Ran, Refused, Settings, TimedOut)
+from ._host import (Ask, CallId, Counts, Done, Event, Forgotten, Frame, Full, Host, NoLibrary, Note, NotNow, Ran, Refused, Settings, Spent, TimedOut)
 from ._late import LateHost
 from .endpoint import CallFailed, CallForgotten, CallTimeout, Endpoint, Handler
 
 __all__ = [
-    "Ask", "CallFailed", "CallForgotten", "CallId", "CallTimeout", "Done", "Endpoint", "Event", "Forgotten", "Frame", "Full", "Handler", "Host",
-    "LateHost", "NoLibrary", "Ran", "Refused", "Settings", "TimedOut",
+    "Ask", "CallFailed", "CallForgotten", "CallId", "CallTimeout", "Counts", "Done", "Endpoint", "Event", "Forgotten", "Frame", "Full", "Handler",
+    "Host", "LateHost", "NoLibrary", "Note", "NotNow", "Ran", "Refused", "Settings", "Spent", "TimedOut",
 ]

@@ -8,8 +8,12 @@ import functools
 import os
 from typing import NamedTuple, Union
 
-OK, ASKS, NO_MEMORY = 0, 1, 3
+OK, ASKS, NO_MEMORY, FULL, SPENT, BAD_SETTING = 0, 1, 3, 4, 5, 18
+RESULTS = {FULL: "full", SPENT: "spent", 16: "not open", BAD_SETTING: "bad setting", 19: "bad host", 20: "bad incarnation", 21: "bad tick",
+           22: "no bytes", 23: "too long", 24: "too many pages"}
 RAN, DONE, TIMEOUT, FORGOTTEN = 1, 2, 3, 4
+NOTES = {5: "junk", 6: "stale", 7: "no row", 8: "no pages", 9: "gaps", 10: "dropped", 11: "buried", 12: "freed"}
+VERSION = 0x000100
 MOST_FRAME, MOST_MESSAGE = 1500, 1_000_000
 U8, U16, U32, U64, SIZE, BYTES = ctypes.c_uint8, ctypes.c_uint16, ctypes.c_uint32, ctypes.c_uint64, ctypes.c_size_t, ctypes.c_char_p
 NAMES = "hosts seg window unsched overcommit rate resend tries life pages calls served rebalance skew wire".split()
@@ -20,11 +24,19 @@ class NoLibrary(OSError):
 
 
 class Refused(ValueError):
-    """The library refused a call; homa.h says when it does. Nothing happened to the host."""
+    """The program made a mistake; `args` has the call, and a word that homa.h explains. Nothing happened to the host."""
 
 
-class Full(Refused):
-    """As many calls are live as the settings say."""
+class NotNow(Exception):
+    """A right program may meet it. Nothing happened to the host."""
+
+
+class Full(NotNow):
+    """As many calls are live as the settings say: later."""
+
+
+class Spent(NotNow):
+    """Never in this incarnation: its numbers, its steps or its clock are at their end."""
 
 
 class _Handle(ctypes.Structure):
@@ -51,6 +63,10 @@ class _Entry(ctypes.Structure):
     _fields_ = [("kind", U32), ("service", U32), ("id", _Call), ("len", SIZE)]
 
 
+class _More(ctypes.Structure):
+    _fields_ = [("peer", U16), ("at", U64)]
+
+
 @dataclasses.dataclass(frozen=True)
 class Settings:
     """The settings of a net: all its hosts have the same. As they are, they are for a network of services: a call fails after 2,100 ticks of
@@ -71,6 +87,39 @@ class Settings:
     rebalance: int = 100
     skew: int = 10
     wire: int = 2
+
+    @property
+    def fault(self) -> str | None:
+        """The first setting that is wrong, or two that don't go together."""
+        wrong: int = library().homa_wrong_setting(self._raw())
+        return [None, *NAMES, "unsched over window", "rate under seg"][wrong]
+
+    def _raw(self) -> _Settings:
+        return _Settings(*(_in(getattr(self, name), 0xFFFFFFFF, name) for name in NAMES))
+
+
+class Counts(NamedTuple):
+    """What a host counted from its opening on, and how many calls are live."""
+
+    calls: int
+    done: int
+    timeouts: int
+    forgotten: int
+    asked: int
+    ran: int
+    sent: int
+    sent_bytes: int
+    received: int
+    resends_sent: int
+    junk: int
+    stale: int
+    no_row: int
+    no_pages: int
+    gaps: int
+    dropped: int
+    buried: int
+    freed: int
+    live: int
 
 
 class CallId(NamedTuple):
@@ -124,12 +173,27 @@ class Forgotten(NamedTuple):
 Event = Union[Ran, Done, TimedOut, Forgotten]
 
 
+class Note(NamedTuple):
+    """What a step tells of the net and of the host itself: a word for it, the call if it names one, the other host, and two numbers
+    (include/homa.h, 'Kinds of entries')."""
+
+    what: str
+    id: CallId | None
+    peer: int | None
+    number: int
+    at: int
+
+
+
 def _to(it: type) -> type:
     return ctypes.POINTER(it)
 
 
 _SIGNATURES = {
+    "version": (U32,),
     "usual": (None, _to(_Settings)),
+    "service": (None, _to(_Settings)),
+    "wrong_setting": (U32, _to(_Settings)),
     "open": (U32, _to(_Settings), U16, U32, U64, _to(_Handle)),
     "close": (U32, _to(_Handle)),
     "call": (U32, _to(_Handle), U16, U8, BYTES, SIZE, U64, _to(_Call)),
@@ -138,10 +202,15 @@ _SIGNATURES = {
     "next_turn": (U32, _to(_Handle), _to(U64)),
     "frames": (SIZE, _to(_Handle)),
     "frame": (U32, _to(_Handle), SIZE, BYTES, SIZE, _to(_Frame)),
+    "frame_level": (U32, _to(_Handle), SIZE),
     "entries": (SIZE, _to(_Handle)),
     "entry": (U32, _to(_Handle), SIZE, _to(_Entry)),
+    "entry_more": (U32, _to(_Handle), SIZE, _to(_More)),
     "whole_len": (SIZE, _to(_Handle)),
     "whole": (U32, _to(_Handle), BYTES, SIZE, _to(SIZE)),
+    "live": (U32, _to(_Handle)),
+    "last": (U64, _to(_Handle)),
+    "count": (U64, _to(_Handle), U32),
 }
 
 
@@ -156,7 +225,18 @@ def library() -> ctypes.CDLL:
             call.restype, call.argtypes = result, words
     except (OSError, AttributeError) as why:
         raise NoLibrary(f"libhoma: {why}; HOMA_LIBRARY may name its file") from None
+    version: int = found.homa_version()
+    if version >> 8 != VERSION >> 8:  # while the major number is 0, the minor number breaks too
+        raise NoLibrary(f"libhoma: version {version >> 16}.{version >> 8 & 255}, and not {VERSION >> 16}.{VERSION >> 8 & 255}")
     return found
+
+
+def _need(code: int, call: str) -> None:
+    """Raises what a result says, unless it is OK."""
+    if code == NO_MEMORY:
+        raise MemoryError(call)
+    if code != OK:
+        raise {FULL: Full, SPENT: Spent}.get(code, Refused)(call, RESULTS.get(code, f"result {code}"))
 
 
 def _id(it: _Call) -> CallId:
@@ -175,15 +255,11 @@ class Host:
 
     def __init__(self, settings: Settings, number: int, incarnation: int, last: int = 0) -> None:
         self._library, self._handle = library(), _Handle()
-        raw = _Settings(*(_in(getattr(settings, name), 0xFFFFFFFF, name) for name in NAMES))
+        raw = settings._raw()
         code = self._library.homa_open(raw, _in(number, 0xFFFF, "host"), _in(incarnation, 0xFFFFFFFF, "incarnation"), _in(last, 2**64 - 1, "last"), self._handle)
-        if code == NO_MEMORY:
-            raise MemoryError("homa_open")
-        if code != OK:
-            raise Refused("homa_open: the settings, the host's number, the incarnation or `last`")
+        _need(code, f"homa_open: {settings.fault}" if code == BAD_SETTING else "homa_open")
         self.number, self.settings = number, settings
         self._frame, self._whole = ctypes.create_string_buffer(MOST_FRAME), ctypes.create_string_buffer(MOST_MESSAGE)
-        self._calls = 0
 
     def close(self) -> None:
         self._library.homa_close(self._handle)
@@ -201,16 +277,20 @@ class Host:
     @property
     def live(self) -> int:
         """How many calls are live."""
-        return self._calls
+        return int(self._library.homa_live(self._handle))
+
+    @property
+    def last(self) -> int:
+        """The tick of the last step."""
+        return int(self._library.homa_last(self._handle))
+
+    def counts(self) -> Counts:
+        """What was counted from the opening on."""
+        return Counts(*(self._library.homa_count(self._handle, which) for which in range(len(Counts._fields))))
 
     def call(self, server: int, service: int, request: bytes, now: int) -> CallId:
         it = _Call()
-        code = self._library.homa_call(self._handle, _in(server, 0xFFFF, "host"), _in(service, 0xFF, "service"), request, len(request), now, it)
-        if code == NO_MEMORY:
-            raise MemoryError("homa_call")
-        if code != OK:
-            raise (Full if self._calls >= self.settings.calls else Refused)("homa_call")
-        self._calls += 1
+        _need(self._library.homa_call(self._handle, _in(server, 0xFFFF, "host"), _in(service, 0xFF, "service"), request, len(request), now, it), "homa_call")
         return _id(it)
 
     def deliver(self, source: int, datagram: bytes, now: int, answer: bytes = b"") -> Ask | None:
@@ -219,15 +299,11 @@ class Host:
         code = self._library.homa_deliver(self._handle, source, datagram, len(datagram), now, answer, len(answer), asked)
         if code == ASKS:
             return Ask(_id(asked.id), asked.service, self._message())
-        if code == NO_MEMORY:
-            raise MemoryError("homa_deliver")
-        if code != OK:
-            raise Refused("homa_deliver")
+        _need(code, "homa_deliver")
         return None
 
     def turn(self, now: int) -> None:
-        if self._library.homa_turn(self._handle, now) != OK:
-            raise Refused("homa_turn")
+        _need(self._library.homa_turn(self._handle, now), "homa_turn")
 
     def next_turn(self) -> int | None:
         """The tick before which no turn does anything; None where none does before the next call or datagram."""
@@ -243,7 +319,7 @@ class Host:
         return all_of_them
 
     def events(self) -> list[Event]:
-        """What the last step told. Read it once for each step: it counts the calls that ended."""
+        """What the last step told of calls."""
         entry = _Entry()
         told: list[Event] = []
         for i in range(self._library.homa_entries(self._handle)):
@@ -256,7 +332,17 @@ class Host:
                 told.append(TimedOut(_id(entry.id)))
             elif entry.kind == FORGOTTEN:
                 told.append(Forgotten(_id(entry.id)))
-        self._calls -= sum(not isinstance(it, Ran) for it in told)
+        return told
+
+    def notes(self) -> list[Note]:
+        """What the last step told of the net and of the host itself."""
+        entry, more = _Entry(), _More()
+        told: list[Note] = []
+        for i in range(self._library.homa_entries(self._handle)):
+            self._library.homa_entry(self._handle, i, entry)
+            self._library.homa_entry_more(self._handle, i, more)
+            if entry.kind in NOTES:
+                told.append(Note(NOTES[entry.kind], _id(entry.id) if entry.id.incarnation else None, more.peer if more.peer != 0xFFFF else None, entry.len, more.at))
         return told
 
     def _message(self) -> bytes:

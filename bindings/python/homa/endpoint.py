@@ -161,7 +161,7 @@ class Endpoint(asyncio.DatagramProtocol):
         handler = self._handlers.get(service)
         try:
             answer = await handler(request) if handler else self._on_error
-            if not 1 <= len(answer) <= 1_000_000:
+            if not 1 <= len(answer) <= min(1_000_000, 4096 * self._settings.pages):
                 raise ValueError(f"an answer of {len(answer)} bytes")
         except Exception:
             log.exception("service %d of host %d", service, self.number)

@@ -1,20 +1,24 @@
 -- A host that is driven by hand.
-use Rattle.std.specs.Prelude.{◌≡◌, ◌≢◌, ◌<◌, ◌≤◌, ◌*◌, ◌^◌, ℕ, List, []}
+use Rattle.std.specs.Prelude.{◌≡◌, ◌≢◌, ◌<◌, ◌≤◌, ◌*◌, ◌^◌, ℕ, Option, List, []}
 use Rattle.homa_plain.specs.declared.id.HostId.{HostId}
+use Rattle.homa_plain.specs.Limits.{last_host_tick}
 use Rattle.homa_plain.specs.Steps.{Work}
 use Rattle.host_view.specs.declared.outbox.SentFrame.{SentFrame}
 use Rattle.host_view.specs.Seen.{Seen}
 use Rattle.host_view.specs.Done.{IsDone, HoldsSent}
 use Rattle.homa_service.specs.Suite.{suite_answer}
+use Rattle.driven_host.specs.declared.counts.HostCounts.{HostCounts}
 
--- a host, how many answers its service gave, how many steps were begun, and what its last step left: its frames, and the
--- message that became whole
+-- a host, how many answers its service gave, how many steps were begun, and what its last step left: its frames, the message
+-- that became whole, and who sent the datagram that came; and what was counted, where that is asked for
 pub record Driven : Type 0 where
   pub host : Seen
   pub served : ℕ
   pub steps : ℕ
   pub out : List SentFrame
   pub whole : List ℕ
+  pub from : Option HostId
+  pub counts : HostCounts
 
 -- the host, the entries and the frames are those of a plain step
 abbrev pub IsStep : Work → Driven → Driven → Type 0
@@ -42,7 +46,7 @@ may_answer count number request response hold = record { bytes = response; hold 
 
 -- a host that began so many steps may begin one at this tick of its own clock
 pub record MayBegin (h : Seen) (steps now : ℕ) : Type 0 where
-  pub now_is : now ≤ 1000000002000
+  pub now_is : now ≤ last_host_tick
   pub later : h.host.last ≤ now
   pub few : steps < 2 ^ 56
 

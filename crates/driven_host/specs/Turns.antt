@@ -1,8 +1,9 @@
 -- Turns that do nothing, and ticks at which a turn may do something.
-use Rattle.std.specs.Prelude.{◌≡◌, ◌≢◌, ◌⊎◌, ◌+◌, ◌≤◌, ℕ, List, [], Contains}
+use Rattle.std.specs.Prelude.{◌≡◌, ◌≢◌, ◌⊎◌, ◌+◌, ◌≤◌, ℕ, nat_le, if◌then◌else◌, Option, Some, None, List, [], Contains}
 use Rattle.homa_plain.specs.declared.settings.Settings.{Settings}
 use Rattle.homa_plain.specs.Choice.{Granted, grants}
 use Rattle.homa_plain.specs.Host.{Host}
+use Rattle.homa_plain.specs.Limits.{last_host_tick}
 use Rattle.homa_plain.specs.Timers.{Timer, timers}
 use Rattle.homa_plain.specs.Sending.{Arriving, arrivals}
 use Rattle.homa_plain.specs.Steps.{refilled, turn_step}
@@ -20,6 +21,11 @@ IsNextWithBytes h at = (at ≡ h.host.last + 1) × (waiting h.host ≢ [])
 abbrev pub IsDeadline : Seen → ℕ → Type 0
 IsDeadline h at = (t : Timer) × Contains (timers h.settings h.host) t × (t.at ≡ at)
 
+-- a tick, unless it is past the last one
+abbrev pub in_time : Option ℕ → Option ℕ
+in_time None = None
+in_time (Some at) = if nat_le at last_host_tick then Some at else None
+
 -- why a turn at this tick may do something
 abbrev pub MayAct : Seen → ℕ → Type 0
 MayAct h at = IsNextWithBytes h at ⊎ IsDeadline h at
@@ -30,5 +36,5 @@ due_grants s h = grants (λ (a : Arriving). a.message) s.overcommit s.window (ar
 
 -- no GRANT is due, and the host's own clock hasn't passed its last tick
 pub record IsAtRest (h : Seen) : Type 0 where
-  pub clock : h.host.last ≤ 1000000002000
+  pub clock : h.host.last ≤ last_host_tick
   pub granted : due_grants h.settings h.host ≡ []

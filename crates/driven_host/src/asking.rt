@@ -1,25 +1,31 @@
 // A host whose requests its caller answers.
-ghost use Rattle.std.specs.Prelude.{ℕ, ◌≡◌, ◌≢◌, ◌<◌, ◌≤◌, ◌+◌, ◌↔◌, ◌⊎◌, IsTrue, IsSome, Some, None, true, false, [], length, slice_get, IfOk, IfSome, IfNone};
+ghost use Rattle.std.specs.Prelude.{ℕ, ◌≡◌, ◌≢◌, ◌<◌, ◌≤◌, ◌+◌, ◌⊎◌, Some, None, true, false, [], length, slice_get, IfOk, IfErr, IfSome, IfNone};
 ghost use Rattle.std.specs.List.{AllByRecursion};
 ghost use Rattle.std.specs.Option.{option_map};
 ghost use Rattle.plain_sets.specs.Ordered.{first_of};
 ghost use Rattle.homa_plain.specs.Settings.{IsValid};
 ghost use Rattle.homa_plain.specs.Entries.{plain};
 ghost use Rattle.homa_plain.specs.Rules.{Answer};
-ghost use Rattle.homa_plain.specs.Steps.{start_fault, next_id, has_run, call_step, arrival_step, turn_step};
+ghost use Rattle.homa_plain.specs.Steps.{next_id, has_run, call_step, arrival_step, turn_step};
 ghost use Rattle.host_view.specs.Marks.{shown_entries, IsAllowed};
 ghost use Rattle.host_view.specs.Done.{arriving};
 ghost use Rattle.homa_host.specs.declared.asked.Asked.{Asked};
 ghost use Rattle.homa_host.specs.Asking.{HasAsked};
+ghost use Rattle.driven_host.specs.Counts.{counted, with_received, with_asked};
+ghost use Rattle.driven_host.specs.declared.faults.StepFault.{StepFault};
+ghost use Rattle.driven_host.specs.declared.faults.StepFault.TheVariants.{Spent};
 ghost use Rattle.driven_host.specs.Driven.{IsStep, IsStill, ShowsNothing, IsOther, MayBegin};
 ghost use Rattle.driven_host.specs.declared.asking.Came.TheVariants.{Taken, Asks, NoMemory, Refused};
-ghost use Rattle.driven_host.specs.Asking.{opened, MayCall, is_whole, has_whole, IsGiven};
-ghost use Rattle.driven_host.specs.Turns.{IsIdleTurn, MayAct};
+ghost use Rattle.driven_host.specs.Asking.{opened, refusal, MayCall, is_whole, has_whole, IsGiven};
+ghost use Rattle.driven_host.specs.Faults.{peer_fault, begin_fault, request_fault, call_fault, delivery_fault};
+ghost use Rattle.driven_host.specs.Turns.{in_time, IsIdleTurn, MayAct};
 
-use crate::given::{Given, MOST_BYTES};
-use crate::{is_other, may_begin};
+use crate::counts::HostCounts;
+use crate::driven::is_other;
+use crate::faults::{StepFault, begin_fault, length_fault};
+use crate::given::Given;
 use homa_host::{Asked, Host};
-use homa_plain::{CallId, Entry, HostId, Settings};
+use homa_plain::{CallId, Entry, HostId, LAST_HOST_TICK, LONGEST_MESSAGE, Settings};
 use homa_timers::Timers;
 use host_heap::first;
 use host_view::{Mark, Outbox};
@@ -36,8 +42,8 @@ pub enum Came {
     Asks(Asked),
     /// It makes a request whole, and there is no memory for the answer. Nothing happened.
     NoMemory,
-    /// No step may begin, there is no other host of this name, or the answer has over 1,000,000 bytes. Nothing happened.
-    Refused,
+    /// No step begins, for this cause. Nothing happened.
+    Refused(StepFault),
 }
 
 /// A host with all that a step of it is lent: room for its frames and for a whole message.
@@ -52,8 +58,13 @@ pub struct AskingHost {
     hosts: u32,
     // How many calls may be live.
     calls: u32,
+    // How many pages there are for messages that arrive.
+    pages: u32,
     // How many steps were begun.
     steps: u64,
+    // Who sent the datagram of the last step. None behind a call or a turn.
+    from: Option<HostId>,
+    counts: HostCounts,
 }
 
 impl Model for AskingHost {
@@ -62,9 +73,9 @@ impl Model for AskingHost {
 
     ghost Value = { Driven };
 
-    ghost view = { λ d. record { host = d.host; served = d.served; steps = d.steps; out = d.out; whole = d.scratch } };
+    ghost view = { λ d. record { host = d.host; served = d.served; steps = d.steps; out = d.out; whole = d.scratch; from = d.from; counts = d.counts } };
 
-    ghost invariant = { λ d. IsKept d.host d.served d.out d.id d.hosts d.calls d.steps };
+    ghost invariant = { λ d. IsKept d.host d.served d.out d.id d.hosts d.calls d.pages d.steps };
 }
 
 impl AskingHost {
@@ -80,7 +91,7 @@ impl AskingHost {
         requires valid { IsValid settings.now }
         requires id { id.0 < settings.now.hosts }
         requires inc { 1 ≤ inc }
-        requires last { last ≤ 1000000002000 }
+        requires last { last ≤ LAST_HOST_TICK }
         ensures { IfOk result (λ d. d ≡ opened settings.now id inc last) }
     {
         let out = Outbox::new(alloc)?;
@@ -93,49 +104,83 @@ impl AskingHost {
             id,
             hosts: settings.hosts,
             calls: settings.calls,
+            pages: settings.pages,
             steps: 0,
+            from: None,
+            counts: HostCounts::none(),
         })
     }
 
-    /// Whether a call of a service of this host, with a request of so many bytes, may start at tick `now` of the host's own
-    /// clock: a step may begin, there is another host of this name, the request has 1 to 1,000,000 bytes, and there is room
-    /// for one more live call. Then it can be made, unless the numbers of this incarnation are used up.
-    pub fn may_call(&self, server: HostId, bytes: usize, now: u64) -> bool
-        ensures { IsTrue result ↔ MayCall self.now.host self.now.steps server bytes now }
+    // Says why no step that has to do with this host begins at this tick. None if one may.
+    fn peer_fault(&self, peer: HostId, now: u64) -> Option<StepFault>
+        ensures fault { result ≡ peer_fault self.now.host self.now.steps peer now }
+        ensures begins { IfNone result (MayBegin self.now.host self.now.steps now) }
+        ensures other { IfNone result (IsOther self.now.host peer) }
     {
-        may_begin(&self.host, self.steps, now)
-            && is_other(self.id, self.hosts, server)
-            && 1 <= bytes
-            && bytes <= MOST_BYTES
-            && self.host.live() < self.calls
+        if !is_other(self.id, self.hosts, peer) {
+            return Some(StepFault::NoHost);
+        }
+        begin_fault(&self.host, self.steps, now)
     }
 
-    /// Calls a service of another host, at tick `now` of the host's own clock, up to 1,000,000,002,000. None where the call
-    /// can't start, where there is no other host of this name, and where no step may begin: after 2^56 of them, none may ever
-    /// again. The request is dropped then, and the host stays as it was; either the last step is shown on, or nothing.
-    pub fn call(&mut self, server: HostId, number: u8, request: Vec<u8>, now: u64) -> Option<CallId>
-        ensures begins { MayBegin self.old.host self.old.steps now → IsOther self.old.host server
-            → start_fault self.old.host.settings self.old.host.host server request.items ≡ None → IsSome result }
-        ensures may_begin { IfSome result (λ _. MayBegin self.old.host self.old.steps now) }
-        ensures other { IfSome result (λ _. IsOther self.old.host server) }
-        ensures no_fault { IfSome result (λ _. start_fault self.old.host.settings self.old.host.host server request.items ≡ None) }
-        ensures id { IfSome result (λ id. id ≡ next_id self.old.host.host) }
-        ensures step { IfSome result (λ _. IsStep (call_step self.old.host.settings self.old.host.host now server number request.items) self.old self.new) }
-        ensures whole { IfSome result (λ _. self.new.whole ≡ []) }
+    /// Says why a call of a service of this host, with a request of so many bytes, isn't even tried at tick `now` of the
+    /// host's own clock. If there is no cause, it can be made unless each number of this incarnation was used.
+    pub fn request_fault(&self, server: HostId, bytes: usize, now: u64) -> Option<StepFault>
+        ensures fault { result ≡ request_fault self.now.host self.now.steps server bytes now }
+        ensures may_call { IfNone result (MayCall self.now.host self.now.steps server bytes now) }
+    {
+        if let Some(fault) = self.peer_fault(server, now) {
+            return Some(fault);
+        }
+        if bytes == 0 {
+            return Some(StepFault::Empty);
+        }
+        if let Some(fault) = length_fault(bytes, self.pages) {
+            return Some(fault);
+        }
+        if self.calls <= self.host.live() {
+            return Some(StepFault::CallsFull);
+        }
+        None
+    }
+
+    /// Calls a service of another host, at tick `now` of the host's own clock, up to 1,000,000,002,000. If the call can't be
+    /// made, the answer says why: the request is dropped, and the host stays as it was; either the last step is shown on, or
+    /// nothing.
+    pub fn call(
+        &mut self,
+        server: HostId,
+        number: u8,
+        request: Vec<u8>,
+        now: u64,
+    ) -> Result<CallId, StepFault>
+        ensures fault { IfErr result (λ f. call_fault self.old.host self.old.steps server (length request.items) now ≡ Some f) }
+        ensures no_fault { IfOk result (λ _. call_fault self.old.host self.old.steps server (length request.items) now ≡ None) }
+        ensures id { IfOk result (λ id. id ≡ next_id self.old.host.host) }
+        ensures step { IfOk result (λ _. IsStep (call_step self.old.host.settings self.old.host.host now server number request.items) self.old self.new) }
+        ensures whole { IfOk result (λ _. self.new.whole ≡ []) }
+        ensures from { IfOk result (λ _. self.new.from ≡ None) }
+        ensures counts { IfOk result (λ _. self.new.counts ≡ counted self.old.counts self.new.host.marks self.new.out) }
+        ensures uncounted { IfErr result (λ _. self.new.counts ≡ self.old.counts) }
         ensures served { self.new.served ≡ self.old.served }
-        ensures same { IfNone result (IsStill self.old self.new) }
-        ensures shows { IfNone result ((self.new ≡ self.old) ⊎ ShowsNothing self.new) }
+        ensures same { IfErr result (λ _. IsStill self.old self.new) }
+        ensures unbegun { IfErr result (λ f. f ≢ Spent → self.new ≡ self.old) }
+        ensures shows { IfErr result (λ _. (self.new ≡ self.old) ⊎ ShowsNothing self.new) }
         ensures steps { self.new.steps ≤ self.old.steps + 1 }
     {
-        if !is_other(self.id, self.hosts, server) || !may_begin(&self.host, self.steps, now) {
-            return None;
+        if let Some(fault) = self.request_fault(server, request.len(), now) {
+            return Err(fault);
         }
         self.steps += 1;
+        self.from = None;
         self.scratch.set(&[]);
-        let Ok(id) = self.host.call(server, number, request, now, &mut self.out) else {
-            return None;
-        };
-        Some(id)
+        match self.host.call(server, number, request, now, &mut self.out) {
+            Ok(id) => {
+                self.counts.add_step(&self.host, &self.out);
+                Ok(id)
+            }
+            Err(_) => Err(StepFault::Spent),
+        }
     }
 
     /// A datagram comes from another host, at tick `now` of the host's own clock, with the answer to the request that it may
@@ -150,11 +195,7 @@ impl AskingHost {
         now: u64,
         answer: &[u8],
     ) -> Came
-        ensures begins { MayBegin self.old.host self.old.steps now → IsOther self.old.host from → length answer.now ≤ 1000000
-            → result ≢ Refused }
-        ensures may_begin { result ≢ Refused → MayBegin self.old.host self.old.steps now }
-        ensures other { result ≢ Refused → IsOther self.old.host from }
-        ensures most { result ≢ Refused → length answer.now ≤ 1000000 }
+        ensures fault { refusal result ≡ delivery_fault self.old.host self.old.steps from (length answer.now) now }
         ensures step { result ≡ Taken → (a : Answer)
             × IsStep (arrival_step self.old.host.settings self.old.host.host now (arriving self.old.host from frame.now) a) self.old self.new }
         ensures given { result ≡ Taken
@@ -166,18 +207,20 @@ impl AskingHost {
         ensures answered { result ≡ NoMemory → answer.now ≢ [] }
         ensures no_memory { result ≡ NoMemory → (a : Answer)
             → has_run (arrival_step self.old.host.settings self.old.host.host now (arriving self.old.host from frame.now) a).told ≡ true }
+        ensures from { refusal result ≡ None → self.new.from ≡ Some from }
+        ensures counts { result ≡ Taken → self.new.counts ≡ counted (with_received self.old.counts) self.new.host.marks self.new.out }
+        ensures asked { (e : Asked) → result ≡ Asks e → self.new.counts ≡ with_asked self.old.counts }
+        ensures uncounted { result ≡ NoMemory → self.new.counts ≡ self.old.counts }
         ensures same { result ≢ Taken → IsStill self.old self.new }
-        ensures unbegun { result ≡ Refused → self.new ≡ self.old }
-        ensures shows { result ≢ Taken → result ≢ Refused → ShowsNothing self.new }
+        ensures unbegun { (f : StepFault) → result ≡ Refused f → self.new ≡ self.old }
+        ensures shows { result ≢ Taken → refusal result ≡ None → ShowsNothing self.new }
         ensures steps { self.new.steps ≤ self.old.steps + 1 }
     {
-        if answer.len() > MOST_BYTES
-            || !is_other(self.id, self.hosts, from)
-            || !may_begin(&self.host, self.steps, now)
-        {
-            return Came::Refused;
+        if let Some(fault) = self.delivery_fault(from, answer.len(), now) {
+            return Came::Refused(fault);
         }
         self.steps += 1;
+        self.from = Some(from);
         let mut given = Given {
             answer,
             served: self.served,
@@ -197,45 +240,69 @@ impl AskingHost {
                 if !tells_whole(&self.host) {
                     self.scratch.set(&[]);
                 }
+                self.counts.received = self.counts.received.saturating_add(1);
+                self.counts.add_step(&self.host, &self.out);
                 Came::Taken
             }
-            Err(asked) if answer.is_empty() => Came::Asks(asked),
+            Err(asked) if answer.is_empty() => {
+                self.counts.asked = self.counts.asked.saturating_add(1);
+                Came::Asks(asked)
+            }
             Err(_) => Came::NoMemory,
         }
     }
 
-    /// A turn at tick `now` of the host's own clock. None where no step may begin; then all stays as it was.
-    pub fn turn(&mut self, now: u64) -> Option<()>
-        ensures begins { MayBegin self.old.host self.old.steps now → IsSome result }
-        ensures may_begin { IfSome result (λ _. MayBegin self.old.host self.old.steps now) }
-        ensures step { IfSome result (λ _. IsStep (turn_step self.old.host.settings self.old.host.host now) self.old self.new) }
-        ensures whole { IfSome result (λ _. self.new.whole ≡ []) }
+    // Says why a datagram isn't delivered with an answer of so many bytes. None if it may be.
+    fn delivery_fault(&self, from: HostId, answer: usize, now: u64) -> Option<StepFault>
+        ensures fault { result ≡ delivery_fault self.now.host self.now.steps from answer now }
+        ensures begins { IfNone result (MayBegin self.now.host self.now.steps now) }
+        ensures other { IfNone result (IsOther self.now.host from) }
+        ensures most { IfNone result (answer ≤ LONGEST_MESSAGE) }
+    {
+        if let Some(fault) = self.peer_fault(from, now) {
+            return Some(fault);
+        }
+        length_fault(answer, self.pages)
+    }
+
+    /// A turn at tick `now` of the host's own clock. If none may begin, the answer says why, and all stays as it was.
+    pub fn turn(&mut self, now: u64) -> Result<(), StepFault>
+        ensures fault { IfErr result (λ f. begin_fault self.old.host self.old.steps now ≡ Some f) }
+        ensures no_fault { IfOk result (λ _. begin_fault self.old.host self.old.steps now ≡ None) }
+        ensures step { IfOk result (λ _. IsStep (turn_step self.old.host.settings self.old.host.host now) self.old self.new) }
+        ensures whole { IfOk result (λ _. self.new.whole ≡ []) }
+        ensures from { IfOk result (λ _. self.new.from ≡ None) }
+        ensures counts { IfOk result (λ _. self.new.counts ≡ counted self.old.counts self.new.host.marks self.new.out) }
         ensures served { self.new.served ≡ self.old.served }
-        ensures same { IfNone result (self.new ≡ self.old) }
+        ensures same { IfErr result (λ _. self.new ≡ self.old) }
         ensures steps { self.new.steps ≤ self.old.steps + 1 }
     {
-        if !may_begin(&self.host, self.steps, now) {
-            return None;
+        if let Some(fault) = begin_fault(&self.host, self.steps, now) {
+            return Err(fault);
         }
         self.steps += 1;
+        self.from = None;
         self.scratch.set(&[]);
         self.host.turn(now, &mut self.out);
-        Some(())
+        self.counts.add_step(&self.host, &self.out);
+        Ok(())
     }
 
     /// The tick before which no turn does anything: at each earlier one, later than the last step, a turn tells and sends
     /// nothing and leaves the host as it is, but for its clock and its credit. Either it is the tick after that of the last
-    /// step, and bytes of a message wait to be sent, or the deadline of a row. None where no turn does anything before the next
-    /// call or datagram.
+    /// step, and bytes of a message wait to be sent, or the deadline of a row. None if no turn that may begin does anything
+    /// before the next call or datagram: none at the last tick either, and at that of the last step none unless it is the last.
     pub fn next_turn(&self) -> Option<u64>
         ensures idle { IfSome result (λ at. (now : ℕ) → self.now.host.host.last < now → now < at → IsIdleTurn self.now.host now) }
         ensures may_act { IfSome result (MayAct self.now.host) }
-        ensures none { IfNone result ((now : ℕ) → self.now.host.host.last ≤ now → IsIdleTurn self.now.host now) }
+        ensures begins { IfSome result (λ at. at ≤ LAST_HOST_TICK) }
+        ensures none { IfNone result ((now : ℕ) → self.now.host.host.last < now → now ≤ LAST_HOST_TICK → IsIdleTurn self.now.host now) }
+        ensures rest { IfNone result (self.now.host.host.last < LAST_HOST_TICK → IsIdleTurn self.now.host self.now.host.host.last) }
     {
         if self.host.pacer().pick().is_some() {
-            return Some(self.host.last() + 1);
+            return up_to_end(Some(self.host.last() + 1));
         }
-        first_deadline(self.host.timers())
+        up_to_end(first_deadline(self.host.timers()))
     }
 
     /// The host.
@@ -250,6 +317,20 @@ impl AskingHost {
         ensures { result.now ≡ self.now.out }
     {
         &self.out
+    }
+
+    /// Who sent the datagram of its last step. None behind a call or a turn, and before the first step.
+    pub fn from(&self) -> Option<HostId>
+        ensures { result ≡ self.now.from }
+    {
+        self.from
+    }
+
+    /// What it counted from its opening on.
+    pub fn counts(&self) -> &HostCounts
+        ensures { result.now ≡ self.now.counts }
+    {
+        &self.counts
     }
 
     /// The message that became whole in its last step: the request that is asked about, the one that was answered, or the
@@ -294,4 +375,14 @@ fn first_deadline(timers: &Timers) -> Option<u64>
 {
     let (_, key) = first(timers.heap())?;
     Some(key.first)
+}
+
+// A tick, unless it is past the last one.
+fn up_to_end(at: Option<u64>) -> Option<u64>
+    ensures { result ≡ in_time at }
+{
+    match at {
+        Some(tick) if tick <= LAST_HOST_TICK => at,
+        _ => None,
+    }
 }

@@ -10,21 +10,19 @@ ghost use Rattle.homa_plain.specs.Rules.{Answer};
 ghost use Rattle.homa_plain.specs.Steps.{start_fault, next_id, call_step, arrival_step, turn_step, has_run};
 ghost use Rattle.host_view.specs.Marks.{shown_entries, has_ran, IsAllowed};
 ghost use Rattle.host_view.specs.Done.{arriving};
+ghost use Rattle.driven_host.specs.Counts.{none_counted};
 ghost use Rattle.driven_host.specs.Driven.{IsStep, IsStill, ShowsNothing, IsOther, MayBegin, may_answer};
 
 use homa_host::Host;
-use homa_plain::{CallId, Entry, HostId, Settings};
+use homa_plain::{CallId, Entry, HostId, LAST_HOST_TICK, Settings};
 use homa_service::Suite;
 use host_view::Outbox;
 use msg_pool::Scratch;
 use std::alloc::{AllocError, Global};
 use std::marker::Model;
 
-/// The last tick of a host's own clock.
-const LAST_TICK: u64 = 1_000_000_002_000;
-
 /// The most steps that a host is driven.
-const MOST_STEPS: u64 = 1 << 56;
+pub(crate) const MOST_STEPS: u64 = 1 << 56;
 
 /// A host with all that a step of it is lent: its services, and room for its frames and for a whole message.
 #[derive(Drop)]
@@ -41,11 +39,14 @@ pub struct DrivenHost {
 }
 
 impl Model for DrivenHost {
+    ghost use Rattle.std.specs.Prelude.{None};
+    ghost use Rattle.driven_host.specs.Counts.{none_counted};
     ghost use Rattle.driven_host.specs.Driven.{Driven, IsKept};
 
     ghost Value = { Driven };
 
-    ghost view = { λ d. record { host = d.host; served = d.suite; steps = d.steps; out = d.out; whole = d.scratch } };
+    // It keeps no sender, and counts nothing.
+    ghost view = { λ d. record { host = d.host; served = d.suite; steps = d.steps; out = d.out; whole = d.scratch; from = None; counts = none_counted } };
 
     ghost invariant = { λ d. IsKept d.host d.suite d.out d.id d.hosts d.steps };
 }
@@ -62,7 +63,7 @@ impl DrivenHost {
         requires valid { IsValid settings.now }
         requires id { id.0 < settings.now.hosts }
         requires inc { 1 ≤ inc }
-        requires last { last ≤ 1000000002000 }
+        requires last { last ≤ LAST_HOST_TICK }
         ensures { IfOk result (λ d. d ≡ record {
           host = record {
             settings = settings.now;
@@ -75,6 +76,8 @@ impl DrivenHost {
           steps = 0;
           out = [];
           whole = [];
+          from = None;
+          counts = none_counted;
         }) }
     {
         let out = Outbox::new(alloc)?;
@@ -202,5 +205,5 @@ pub fn is_other(id: HostId, hosts: u32, other: HostId) -> bool
 pub fn may_begin(host: &Host, steps: u64, now: u64) -> bool
     ensures { IsTrue result ↔ MayBegin host.now steps now }
 {
-    now <= LAST_TICK && host.last() <= now && steps < MOST_STEPS
+    now <= LAST_HOST_TICK && host.last() <= now && steps < MOST_STEPS
 }

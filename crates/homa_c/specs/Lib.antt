@@ -1,4 +1,6 @@
 pub mod Followed
 pub mod Owned
 pub mod Shown
+pub mod Results
+pub mod Counted
 pub mod Begun

@@ -8,6 +8,7 @@
 mod entries;
 mod exports;
 mod handle;
+mod knows;
 mod results;
 mod settings;
 mod shows;

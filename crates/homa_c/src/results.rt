@@ -1,4 +1,8 @@
 // What the exports answer, and the kinds of entries.
+ghost use Rattle.std.specs.Prelude.{◌≡◌};
+ghost use Rattle.homa_c.specs.Results.{fault_code};
+
+use driven_host::StepFault;
 
 /// It was done.
 pub(crate) const OK: u32 = 0;
@@ -6,23 +10,101 @@ pub(crate) const OK: u32 = 0;
 /// An answer is wanted.
 pub(crate) const ASKS: u32 = 1;
 
-/// It can't be done, and nothing happened.
-pub(crate) const REFUSED: u32 = 2;
-
 /// There is no memory, and nothing happened.
 pub(crate) const NO_MEMORY: u32 = 3;
 
-/// The kind of an entry that a program needn't know.
+/// As many calls are live as the settings allow.
+pub(crate) const FULL: u32 = 4;
+
+/// Not in this life of the host: its numbers, its steps or its clock are at their end.
+pub(crate) const SPENT: u32 = 5;
+
+/// No turn that may begin does anything before the next call or datagram.
+pub(crate) const NEVER: u32 = 9;
+
+// From here on a program made a mistake.
+
+/// The handle isn't open.
+pub(crate) const NOT_OPEN: u32 = 16;
+
+/// The handle is open.
+pub(crate) const IS_OPEN: u32 = 17;
+
+/// A setting isn't valid.
+pub(crate) const BAD_SETTING: u32 = 18;
+
+/// There is no such host, or no other one of this number.
+pub(crate) const BAD_HOST: u32 = 19;
+
+/// The incarnation is 0.
+pub(crate) const BAD_INCARNATION: u32 = 20;
+
+/// The clock would begin past its last tick, or fall.
+pub(crate) const BAD_TICK: u32 = 21;
+
+/// The request has no bytes.
+pub(crate) const NO_BYTES: u32 = 22;
+
+/// The message or the datagram has too many bytes.
+pub(crate) const TOO_LONG: u32 = 23;
+
+/// The message takes more pages than a host has.
+pub(crate) const TOO_MANY_PAGES: u32 = 24;
+
+/// There is no such frame or entry.
+pub(crate) const NOT_THERE: u32 = 25;
+
+/// The room is too small.
+pub(crate) const NO_ROOM: u32 = 26;
+
+// Kinds of entries.
+
 pub(crate) const OTHER: u32 = 0;
 
-/// A request was answered.
 pub(crate) const RAN: u32 = 1;
 
-/// A call is done.
 pub(crate) const DONE: u32 = 2;
 
-/// A call timed out.
 pub(crate) const TIMEOUT: u32 = 3;
 
-/// A call failed, since its server forgot it.
 pub(crate) const FORGOTTEN: u32 = 4;
+
+pub(crate) const JUNK: u32 = 5;
+
+pub(crate) const STALE: u32 = 6;
+
+pub(crate) const NO_ROW: u32 = 7;
+
+pub(crate) const NO_PAGES: u32 = 8;
+
+pub(crate) const GAPS: u32 = 9;
+
+pub(crate) const DROPPED: u32 = 10;
+
+pub(crate) const BURIED: u32 = 11;
+
+pub(crate) const FREED: u32 = 12;
+
+pub(crate) const CALLED: u32 = 13;
+
+pub(crate) const SENT: u32 = 14;
+
+pub(crate) const BALANCED: u32 = 15;
+
+/// The peer of an entry that has none.
+pub(crate) const NO_PEER: u16 = 65_535;
+
+// What C is told where no step begins.
+pub(crate) fn code_of(fault: StepFault) -> u32
+    ensures { result ≡ fault_code fault }
+{
+    match fault {
+        StepFault::NoHost => BAD_HOST,
+        StepFault::Spent => SPENT,
+        StepFault::Back => BAD_TICK,
+        StepFault::Empty => NO_BYTES,
+        StepFault::TooLong => TOO_LONG,
+        StepFault::TooManyPages => TOO_MANY_PAGES,
+        StepFault::CallsFull => FULL,
+    }
+}

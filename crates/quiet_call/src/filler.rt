@@ -1,6 +1,7 @@
 // The service of the quiet call.
 ghost use Rattle.std.specs.Prelude.{◌≡◌, ◌≤◌};
 
+use homa_plain::LONGEST_MESSAGE;
 use homa_service::{Reply, Service};
 use homa_text::counting_bytes;
 use std::alloc::{AllocError, Global};
@@ -10,7 +11,7 @@ use std::alloc::{AllocError, Global};
 pub struct Filler {
     size: u32,
     served: u64,
-    ghost sized: { (1 ≤ size) × (size ≤ 1000000) },
+    ghost sized: { (1 ≤ size) × (size ≤ LONGEST_MESSAGE) },
 }
 
 impl Filler {
@@ -18,7 +19,7 @@ impl Filler {
 
     /// One that has answered nothing yet.
     pub fn new(size: u32) -> Filler
-        requires { (1 ≤ size) × (size ≤ 1000000) }
+        requires { (1 ≤ size) × (size ≤ LONGEST_MESSAGE) }
         ensures size { size_of result ≡ size }
         ensures served { served_by result ≡ 0 }
     {

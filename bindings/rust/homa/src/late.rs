@@ -1,5 +1,5 @@
 //! Late answers: a table of the calls at work, beside a host.
-use crate::{Ask, CallId, Came, Error, Event, Host, Settings, Step, MOST_MESSAGE};
+use crate::{Ask, CallId, Came, Error, Event, Host, Mistake, Settings, Step, MOST_MESSAGE};
 use std::collections::HashMap;
 
 struct Work {
@@ -88,7 +88,7 @@ impl LateHost {
     pub fn answer(&mut self, id: CallId, answer: &[u8], now: u64) -> Result<Answered<'_>, Error> {
         let Some(work) = self.work.get_mut(&id).filter(|it| it.answer.is_none()) else { return Ok(Answered::Gone) };
         if answer.is_empty() || answer.len() > MOST_MESSAGE {
-            return Err(Error::Refused);
+            return Err(Error::Mistake(if answer.is_empty() { Mistake::NoBytes } else { Mistake::TooLong }));
         }
         if now > work.at + self.keep {
             work.answer = Some(answer.to_vec());

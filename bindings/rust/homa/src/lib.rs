@@ -39,45 +39,136 @@ pub struct Settings(pub RawSettings);
 impl Default for Settings {
     /// Settings for a network of services, with ticks of 100 microseconds to 10 milliseconds.
     fn default() -> Settings {
-        let mut it = Settings::usual();
-        (it.0.hosts, it.0.window, it.0.rate, it.0.pages, it.0.served) = (32, 60_000, 100_000, 4096, 4096);
-        (it.0.resend, it.0.tries, it.0.life, it.0.rebalance, it.0.skew, it.0.wire) = (100, 20, 3000, 100, 10, 2);
-        it
+        Settings::filled(sys::homa_service)
     }
 }
 
 impl Settings {
-    /// Those that the program `homa` means by usual.
-    pub fn usual() -> Settings {
+    fn filled(fill: unsafe extern "C" fn(*mut RawSettings)) -> Settings {
         let mut raw = MaybeUninit::uninit();
         // SAFETY: the call writes all of the struct.
         unsafe {
-            sys::homa_usual(raw.as_mut_ptr());
+            fill(raw.as_mut_ptr());
             Settings(raw.assume_init())
         }
     }
+
+    /// Those that the program `homa` means by usual.
+    pub fn usual() -> Settings {
+        Settings::filled(sys::homa_usual)
+    }
+
+    /// The first setting that is wrong, or two that don't go together.
+    pub fn fault(&self) -> Option<&'static str> {
+        // SAFETY: the pointer is valid.
+        match unsafe { sys::homa_wrong_setting(&self.0) } {
+            0 => None,
+            n => Some(SETTINGS.get(n as usize - 1).copied().unwrap_or("a setting")),
+        }
+    }
 }
+
+const SETTINGS: [&str; 17] = [
+    "hosts", "seg", "window", "unsched", "overcommit", "rate", "resend", "tries", "life", "pages", "calls", "served", "rebalance", "skew", "wire",
+    "unsched over window", "rate under seg",
+];
 
 /// Why something wasn't done. Nothing happened to the host then.
 #[derive(Clone, Copy, Debug, PartialEq, Eq)]
 #[non_exhaustive]
 pub enum Error {
-    /// It can't be done: `homa.h` says of each call when.
-    Refused,
+    /// As many calls are live as `calls` says: later.
+    Full,
+    /// Never in this incarnation: its numbers, its steps or its clock are at their end.
+    Spent,
     /// There is no memory. The same may be tried again.
     NoMemory,
+    /// The program made a mistake.
+    Mistake(Mistake),
+}
+
+/// What a program did that it mustn't.
+#[derive(Clone, Copy, Debug, PartialEq, Eq)]
+#[non_exhaustive]
+pub enum Mistake {
+    /// The library that is linked is of another version.
+    Library,
+    /// [`Settings::fault`] says which setting.
+    Setting,
+    /// There is no such host, or no other one of that number.
+    Host,
+    /// The incarnation is 0.
+    Incarnation,
+    /// `last` is past the last tick, or `now` is below the tick of the last step.
+    Tick,
+    /// A request or an answer of no bytes.
+    NoBytes,
+    /// A message of over 1,000,000 bytes, or a datagram of over 65,535.
+    TooLong,
+    /// The message takes more pages than `pages`: no host of this net could ever take it.
+    TooManyPages,
+    /// A result that this crate doesn't know.
+    Other(u32),
+}
+
+impl Error {
+    fn of(code: u32) -> Error {
+        Error::Mistake(match code {
+            sys::HOMA_FULL => return Error::Full,
+            sys::HOMA_SPENT => return Error::Spent,
+            sys::HOMA_NO_MEMORY => return Error::NoMemory,
+            sys::HOMA_BAD_SETTING => Mistake::Setting,
+            sys::HOMA_BAD_HOST => Mistake::Host,
+            sys::HOMA_BAD_INCARNATION => Mistake::Incarnation,
+            sys::HOMA_BAD_TICK => Mistake::Tick,
+            sys::HOMA_NO_BYTES => Mistake::NoBytes,
+            sys::HOMA_TOO_LONG => Mistake::TooLong,
+            sys::HOMA_TOO_MANY_PAGES => Mistake::TooManyPages,
+            other => Mistake::Other(other),
+        })
+    }
 }
 
 impl fmt::Display for Error {
     fn fmt(&self, f: &mut fmt::Formatter<'_>) -> fmt::Result {
+        match self {
+            Error::Full => f.write_str("full"),
+            Error::Spent => f.write_str("spent"),
+            Error::NoMemory => f.write_str("no memory"),
+            Error::Mistake(it) => it.fmt(f),
+        }
+    }
+}
+
+impl fmt::Display for Mistake {
+    fn fmt(&self, f: &mut fmt::Formatter<'_>) -> fmt::Result {
         f.write_str(match self {
-            Error::Refused => "refused",
-            Error::NoMemory => "no memory",
+            Mistake::Library => "another version of the library",
+            Mistake::Setting => "bad setting",
+            Mistake::Host => "bad host",
+            Mistake::Incarnation => "bad incarnation",
+            Mistake::Tick => "bad tick",
+            Mistake::NoBytes => "no bytes",
+            Mistake::TooLong => "too long",
+            Mistake::TooManyPages => "too many pages",
+            Mistake::Other(code) => return write!(f, "result {code}"),
         })
     }
 }
 
 impl std::error::Error for Error {}
+
+/// The version of the library: 65,536 * MAJOR + 256 * MINOR + PATCH.
+pub fn version() -> u32 {
+    // SAFETY: it reads and writes nothing.
+    unsafe { sys::homa_version() }
+}
+
+/// A program runs with a library of its own major number; while that is 0, of its own minor number too.
+fn is_ours(version: u32) -> bool {
+    let shift = if sys::HOMA_VERSION_NUMBER >> 16 == 0 { 8 } else { 16 };
+    version >> shift == sys::HOMA_VERSION_NUMBER >> shift
+}
 
 /// A call whose request is whole.
 #[derive(Clone, Debug, PartialEq, Eq)]
@@ -109,6 +200,52 @@ pub enum Event {
     Forgotten { id: CallId },
 }
 
+/// What a step tells of the net and of the host itself, for logs and counters.
+#[derive(Clone, Copy, Debug, PartialEq, Eq)]
+#[non_exhaustive]
+pub enum Note {
+    /// A datagram of this host is no packet.
+    Junk { from: u16 },
+    /// A packet of this host is too old: it was sent at tick `at`.
+    Stale { from: u16, at: u64 },
+    /// A request wasn't taken, since all rows are in use.
+    NoRow { id: CallId, rows: usize },
+    /// A message wasn't taken, since too few pages are free.
+    NoPages { id: CallId, from: u16, need: usize, free: u64 },
+    /// A piece wasn't taken, since its message would have too many gaps.
+    Gaps { id: CallId, from: u16 },
+    /// A request was given up before it was whole.
+    Dropped { id: CallId },
+    /// A call that was served is over; it is remembered up to a tick.
+    Buried { id: CallId, until: u64 },
+    /// A call that was served isn't remembered any more.
+    Freed { id: CallId },
+}
+
+/// What a host counted from its opening on, and how many calls are live.
+#[derive(Clone, Copy, Debug, Default, PartialEq, Eq)]
+pub struct Counts {
+    pub calls: u64,
+    pub done: u64,
+    pub timeouts: u64,
+    pub forgotten: u64,
+    pub asked: u64,
+    pub ran: u64,
+    pub sent: u64,
+    pub sent_bytes: u64,
+    pub received: u64,
+    pub resends_sent: u64,
+    pub junk: u64,
+    pub stale: u64,
+    pub no_row: u64,
+    pub no_pages: u64,
+    pub gaps: u64,
+    pub dropped: u64,
+    pub buried: u64,
+    pub freed: u64,
+    pub live: u64,
+}
+
 /// A host. It gives its memory back when it is dropped.
 #[derive(Debug)]
 pub struct Host(sys::homa_host);
@@ -119,8 +256,7 @@ unsafe impl Send for Host {}
 fn result(code: u32) -> Result<(), Error> {
     match code {
         sys::HOMA_OK => Ok(()),
-        sys::HOMA_NO_MEMORY => Err(Error::NoMemory),
-        _ => Err(Error::Refused),
+        code => Err(Error::of(code)),
     }
 }
 
@@ -131,6 +267,9 @@ impl Host {
 
     /// Opens host `id` in an incarnation that is larger than each earlier one; `last` is the tick of its last step then.
     pub fn open(settings: &Settings, id: u16, incarnation: u32, last: u64) -> Result<Host, Error> {
+        if !is_ours(version()) {
+            return Err(Error::Mistake(Mistake::Library));
+        }
         let mut host = Host(sys::homa_host { at: ptr::null_mut(), is_open: false });
         // SAFETY: the handle is closed, and both pointers are valid.
         result(unsafe { sys::homa_open(&settings.0, id, incarnation, last, host.raw()) })?;
@@ -179,6 +318,46 @@ impl Host {
         let mut at = 0;
         // SAFETY: as for `turn`.
         (unsafe { sys::homa_next_turn(self.raw(), &mut at) } == sys::HOMA_OK).then_some(at)
+    }
+
+    /// How many calls are live.
+    pub fn live(&mut self) -> u32 {
+        // SAFETY: as for `turn`.
+        unsafe { sys::homa_live(self.raw()) }
+    }
+
+    /// The tick of the last step.
+    pub fn last(&mut self) -> u64 {
+        // SAFETY: as for `turn`.
+        unsafe { sys::homa_last(self.raw()) }
+    }
+
+    /// What was counted from the opening on.
+    pub fn counts(&mut self) -> Counts {
+        // SAFETY: as for `turn`.
+        let mut all = (0..sys::HOMA_COUNTS).map(|which| unsafe { sys::homa_count(self.raw(), which) });
+        let mut next = || all.next().unwrap_or_default();
+        Counts {
+            calls: next(),
+            done: next(),
+            timeouts: next(),
+            forgotten: next(),
+            asked: next(),
+            ran: next(),
+            sent: next(),
+            sent_bytes: next(),
+            received: next(),
+            resends_sent: next(),
+            junk: next(),
+            stale: next(),
+            no_row: next(),
+            no_pages: next(),
+            gaps: next(),
+            dropped: next(),
+            buried: next(),
+            freed: next(),
+            live: next(),
+        }
     }
 }
 
@@ -231,6 +410,21 @@ impl Step<'_> {
         }
     }
 
+    /// What the step tells of the net and of the host itself.
+    pub fn notes(&mut self) -> Vec<Note> {
+        let (mut entry, mut more) = (sys::homa_entry_info::default(), sys::homa_more_info::default());
+        let raw = self.host.raw();
+        let mut all = Vec::new();
+        // SAFETY: as for `send`.
+        for i in 0..unsafe { sys::homa_entries(raw) } {
+            let codes = unsafe { (sys::homa_entry(raw, i, &mut entry), sys::homa_entry_more(raw, i, &mut more)) };
+            if codes == (sys::HOMA_OK, sys::HOMA_OK) {
+                all.extend(note_of(&entry, &more));
+            }
+        }
+        all
+    }
+
     /// What the step tells a program.
     pub fn events(&mut self) -> Vec<Event> {
         let mut all = Vec::new();
@@ -251,4 +445,19 @@ impl Step<'_> {
         }
         all
     }
+}
+
+fn note_of(entry: &sys::homa_entry_info, more: &sys::homa_more_info) -> Option<Note> {
+    let (id, from) = (entry.id, more.peer);
+    Some(match entry.kind {
+        sys::HOMA_JUNK => Note::Junk { from },
+        sys::HOMA_STALE => Note::Stale { from, at: more.at },
+        sys::HOMA_NO_ROW => Note::NoRow { id, rows: entry.len },
+        sys::HOMA_NO_PAGES => Note::NoPages { id, from, need: entry.len, free: more.at },
+        sys::HOMA_GAPS => Note::Gaps { id, from },
+        sys::HOMA_DROPPED => Note::Dropped { id },
+        sys::HOMA_BURIED => Note::Buried { id, until: more.at },
+        sys::HOMA_FREED => Note::Freed { id },
+        _ => return None,
+    })
 }

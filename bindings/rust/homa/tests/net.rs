@@ -1,5 +1,5 @@
 //! Hosts in one process, ticks by hand.
-use homa::{Answered, CallId, Came, Error, Event, Heard, Host, LateHost, Settings};
+use homa::{Answered, CallId, Came, Error, Event, Heard, Host, LateHost, Mistake, Note, Settings};
 use std::collections::HashMap;
 
 type Net = Vec<(u16, u16, Vec<u8>)>;
@@ -21,24 +21,52 @@ fn layout() {
     assert_eq!((size_of::<homa_asked>(), offset_of!(homa_asked, service)), (16, 12));
     assert_eq!((size_of::<homa_frame_info>(), offset_of!(homa_frame_info, to), offset_of!(homa_frame_info, len)), (16, 2, 8));
     assert_eq!((size_of::<homa_entry_info>(), offset_of!(homa_entry_info, service), offset_of!(homa_entry_info, id), offset_of!(homa_entry_info, len)), (32, 4, 8, 24));
+    assert_eq!((size_of::<homa_more_info>(), offset_of!(homa_more_info, at)), (16, 8));
     assert_eq!((size_of::<homa_host>(), offset_of!(homa_host, is_open)), (16, 8));
 }
 
 #[test]
 fn what_is_refused() {
     let mut it = settings();
-    assert_eq!(Host::open(&it, 3, 1, 0).err(), Some(Error::Refused));
-    assert_eq!(Host::open(&it, 0, 0, 0).err(), Some(Error::Refused));
-    it.0.calls = 1;
+    let mistake = |it| Some(Error::Mistake(it));
+    assert_eq!(Host::open(&it, 3, 1, 0).err(), mistake(Mistake::Host));
+    assert_eq!(Host::open(&it, 0, 0, 0).err(), mistake(Mistake::Incarnation));
+    assert_eq!(Host::open(&it, 0, 1, u64::MAX).err(), mistake(Mistake::Tick));
+    (it.0.calls, it.0.pages) = (1, 3);
     let mut host = Host::open(&it, 0, 1, 5).unwrap();
-    assert_eq!(host.call(0, 7, b"x", 5).err(), Some(Error::Refused));
-    assert_eq!(host.call(1, 7, b"", 5).err(), Some(Error::Refused));
-    assert_eq!(host.call(1, 7, b"x", 4).err(), Some(Error::Refused));
-    assert!(host.call(1, 7, b"x", 5).is_ok());
-    assert_eq!(host.call(1, 7, b"x", 5).err(), Some(Error::Refused));
+    assert_eq!(host.call(0, 7, b"x", 5).err(), mistake(Mistake::Host));
+    assert_eq!(host.call(1, 7, b"", 5).err(), mistake(Mistake::NoBytes));
+    assert_eq!(host.call(1, 7, b"x", 4).err(), mistake(Mistake::Tick));
+    assert_eq!(host.call(1, 7, &[0; 12289], 5).err(), mistake(Mistake::TooManyPages));
+    assert_eq!(host.call(1, 7, &[0; 1_000_001], 5).err(), mistake(Mistake::TooLong));
+    assert_eq!(host.call(1, 7, b"x", 1_000_000_002_001).err(), Some(Error::Spent));
+    assert_eq!((host.live(), host.last(), host.counts().calls), (0, 5, 0));
+    assert!(host.call(1, 7, b"x", 6).is_ok());
+    assert_eq!(host.call(1, 7, b"x", 6).err(), Some(Error::Full));
+    assert_eq!((host.live(), host.last(), host.counts().calls), (1, 6, 1));
+    assert_eq!(host.turn(5).err().unwrap().to_string(), "bad tick");
     it.0.tries = 101;
-    assert_eq!(Host::open(&it, 0, 1, 0).err().unwrap().to_string(), "refused");
-    assert!(Host::open(&Settings::default(), 31, 1, 0).is_ok());
+    assert_eq!((Host::open(&it, 0, 1, 0).err(), it.fault()), (mistake(Mistake::Setting), Some("tries")));
+    assert!(Host::open(&Settings::default(), 31, 1, 0).is_ok() && Settings::default().fault().is_none());
+    assert_eq!(homa::version(), homa_sys::HOMA_VERSION_NUMBER);
+}
+
+#[test]
+fn notes() {
+    let mut it = settings();
+    (it.0.wire, it.0.life) = (2, 20);
+    let mut client = Host::open(&it, 2, 1, 0).unwrap();
+    let mut server = Host::open(&it, 1, 1, 0).unwrap();
+    let (_, step) = client.call(1, 7, b"hello", 3).unwrap();
+    let (_, packet) = step.frames().next().unwrap();
+    for (now, datagram, note) in [(0, &b"no packet"[..], Note::Junk { from: 2 }), (24, &packet, Note::Stale { from: 2, at: 3 })] {
+        match server.deliver(2, datagram, now).unwrap() {
+            Came::Step(mut step) => assert_eq!((step.notes(), step.events()), (vec![note], vec![])),
+            Came::Asks(_) => panic!("nobody asks"),
+        }
+    }
+    let counts = server.counts();
+    assert_eq!((counts.junk, counts.stale, counts.received, counts.asked), (1, 1, 2, 0));
 }
 
 #[test]
