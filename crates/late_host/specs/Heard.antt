@@ -1,11 +1,15 @@
 -- What comes of a datagram, and of an answer.
-use Rattle.std.specs.Prelude.{◌≡◌, ◌≢◌, ◌<◌, ◌≤◌, ◌+◌, ◌^◌, ◌⊎◌, ℕ, Some, None, List, [], length, All, IsSome, IfSome, IsSomeAnd}
+use Rattle.std.specs.Prelude.{◌≡◌, ◌≢◌, ◌<◌, ◌≤◌, ◌+◌, ◌^◌, ◌⊎◌, ◌==◌, ℕ, true, if◌then◌else◌, Option, Some, None, List, [], length, All, IsSome, IfSome, IsSomeAnd}
 use Rattle.homa_plain.specs.declared.id.CallId.{CallId}
 use Rattle.homa_plain.specs.declared.id.HostId.{HostId}
 use Rattle.homa_plain.specs.Rules.{Answer}
 use Rattle.homa_plain.specs.Steps.{has_run}
 use Rattle.homa_host.specs.declared.asked.Asked.{Asked}
 use Rattle.homa_host.specs.Asking.{HasAsked}
+use Rattle.driven_host.specs.declared.faults.StepFault.{StepFault}
+use Rattle.driven_host.specs.declared.faults.StepFault.TheVariants.{Empty}
+use Rattle.driven_host.specs.Faults.{delivery_fault}
+use Rattle.late_host.specs.declared.kept.KeptCall.{KeptCall}
 use Rattle.late_host.specs.declared.outcomes.Heard.{Heard}
 use Rattle.late_host.specs.declared.outcomes.Heard.TheVariants as heard
 use Rattle.late_host.specs.declared.outcomes.Answered.{Answered}
@@ -39,12 +43,13 @@ module _ (now : ℕ) (from : HostId) (frame : List ℕ) (old new : Late) where
     pub kept : IsKeptToo e.id from now frame old new
     pub leaves : LeavesHost old.driven new.driven
 
-  -- The datagram asks for a call that is kept, and waits for its answer. It takes the place of the one before. An answer that is
-  -- kept isn't given only where the host's steps end.
+  -- The datagram asks for a call that is kept, and takes the place of the one before. The call waits for its answer, or the
+  -- host can't take the step with it, since its steps came to their end.
   pub record IsAskedAgain (id : CallId) : Type 0 where
     pub asks : AsksFor id
     pub told : IsSome (call_of id old.calls)
-    pub waits : old.driven.steps + 1 < 2 ^ 56 → IfSome (call_of id old.calls) (λ call. length call.answer ≤ 1000000 → call.answer ≡ [])
+    pub waits : IfSome (call_of id old.calls)
+        (λ call. (call.answer ≡ []) ⊎ IsSome (delivery_fault new.driven.host new.driven.steps from (length call.answer) now))
     pub calls : new.calls ≡ changed id (asked_again from now frame) old.calls
     pub leaves : LeavesHost old.driven new.driven
 
@@ -71,18 +76,26 @@ module _ (now : ℕ) (from : HostId) (frame : List ℕ) (old new : Late) where
   IsHeard (heard.AtWork id) = IsAskedAgain id
   IsHeard (heard.Full id) = IsUnkept id
   IsHeard heard.NoMemory = IsUnstored
-  IsHeard heard.Refused = new ≡ old
+  IsHeard (heard.Refused fault) = new ≡ old
+
+-- why no step began
+abbrev pub heard_fault : Heard → Option StepFault
+heard_fault (heard.Refused fault) = Some fault
+heard_fault h = None
+
+-- why the answer to this call, of so many bytes, can't be given
+abbrev pub answer_fault : Late → KeptCall → ℕ → ℕ → Option StepFault
+answer_fault l call bytes now =
+    if bytes == 0 then Some Empty else delivery_fault l.driven.host l.driven.steps call.from bytes now
 
 module _ (id : CallId) (answer : List ℕ) (now : ℕ) (old new : Late) where
-  -- an answer may be given: the call waits for one, and it has 1 to 1,000,000 bytes
-  pub record IsAwaited : Type 0 where
-    pub waits : IsSomeAnd (call_of id old.calls) (λ call. call.answer ≡ [])
-    pub some : 1 ≤ length answer
-    pub most : length answer ≤ 1000000
+  -- the call waits for an answer, and this one can be given, or can't be for this cause
+  abbrev pub IsAwaited : Option StepFault → Type 0
+  IsAwaited fault = IsSomeAnd (call_of id old.calls) (λ call. (call.answer ≡ []) × (answer_fault old call (length answer) now ≡ fault))
 
   -- The host took the step of the datagram that asked last for the call, which is fresh. What ran was given this answer.
   pub record IsGivenStep : Type 0 where
-    pub awaited : IsAwaited
+    pub awaited : IsAwaited None
     pub fresh : IfSome (call_of id old.calls) (IsFresh old.keep now)
     pub step : IfSome (call_of id old.calls) (λ call. HasArrived now call.from call.frame old.driven new.driven)
     pub given : WasGiven answer new.driven
@@ -101,7 +114,7 @@ module _ (id : CallId) (answer : List ℕ) (now : ℕ) (old new : Late) where
 
   -- The datagram isn't fresh. No step was taken, and the answer is kept.
   pub record IsLater : Type 0 where
-    pub awaited : IsAwaited
+    pub awaited : IsAwaited None
     pub stale : IfSome (call_of id old.calls) (λ call. call.at + old.keep < now)
     pub calls : new.calls ≡ changed id (with_answer answer) old.calls
     pub driven : new.driven ≡ old.driven
@@ -113,9 +126,14 @@ module _ (id : CallId) (answer : List ℕ) (now : ℕ) (old new : Late) where
 
   -- There is no memory, and the call waits on.
   pub record IsUnanswered : Type 0 where
-    pub awaited : IsAwaited
+    pub awaited : IsAwaited None
     pub calls : new.calls ≡ old.calls
     pub leaves : (new.driven ≡ old.driven) ⊎ LeavesHost old.driven new.driven
+
+  -- The answer can't be given, for this cause, and the call waits on.
+  pub record IsRefused (fault : StepFault) : Type 0 where
+    pub awaited : IsAwaited (Some fault)
+    pub same : new ≡ old
 
   -- what came of the answer
   abbrev pub IsSettled : Answered → Type 0
@@ -124,4 +142,4 @@ module _ (id : CallId) (answer : List ℕ) (now : ℕ) (old new : Late) where
   IsSettled answered.Later = IsLater
   IsSettled answered.Gone = IsGone
   IsSettled answered.NoMemory = IsUnanswered
-  IsSettled answered.Refused = new ≡ old
+  IsSettled (answered.Refused fault) = IsRefused fault

@@ -1,21 +1,20 @@
 // A host that keeps what asks, so that answers may come later.
-ghost use Rattle.std.specs.Prelude.{◌≡◌, ◌≢◌, ◌<◌, ◌≤◌, ◌+◌, ◌↔◌, ◌⊎◌, ℕ, IsTrue, IsSome, IfSome, IfNone, IfOk, OnOk, OnErr, Ok, All, Some, None, true, false, [], length};
+ghost use Rattle.std.specs.Prelude.{◌≡◌, ◌≢◌, ◌<◌, ◌≤◌, ◌+◌, ◌↔◌, ◌⊎◌, IsTrue, IsSome, IfOk, IfErr, OnOk, OnErr, Ok, All, Some, None, true, false, [], length};
 ghost use Rattle.homa_plain.specs.Settings.{IsValid};
-ghost use Rattle.homa_plain.specs.Steps.{start_fault, next_id, call_step, turn_step};
-ghost use Rattle.driven_host.specs.Driven.{IsStep, IsStill, ShowsNothing, IsOther, MayBegin};
+ghost use Rattle.homa_plain.specs.Steps.{next_id, call_step, turn_step};
+ghost use Rattle.driven_host.specs.Driven.{IsStep, IsStill, ShowsNothing};
+ghost use Rattle.driven_host.specs.Faults.{begin_fault, call_fault, delivery_fault};
+ghost use Rattle.late_host.specs.Ran.{ran_in};
 ghost use Rattle.driven_host.specs.Asking.{opened};
 
 use crate::bytes::Bytes;
 use crate::kept::{KeptCall, KeptCalls, is_fresh};
 use crate::outcomes::{Answered, Heard};
 use crate::ran::has_run;
-use driven_host::{AskingHost, Came};
-use homa_plain::{CallId, HostId, Settings};
+use driven_host::{AskingHost, Came, StepFault};
+use homa_plain::{CallId, HostId, LAST_HOST_TICK, Settings};
 use std::alloc::{AllocError, Global};
 use std::marker::Model;
-
-/// The most bytes of an answer.
-const MOST_BYTES: usize = 1_000_000;
 
 /// A host with the calls that it keeps until they are answered.
 #[derive(Drop)]
@@ -36,8 +35,8 @@ impl Model for LateHost {
 
 impl LateHost {
     ghost use Rattle.late_host.specs.Kept.{call_of, without, changed, IsFresh};
-    ghost use Rattle.late_host.specs.Late.{IsKeptToo, asked_again};
-    ghost use Rattle.late_host.specs.Heard.{IsHeard, IsSettled};
+    ghost use Rattle.late_host.specs.Late.{IsKeptToo, asked_again, with_answer};
+    ghost use Rattle.late_host.specs.Heard.{IsHeard, heard_fault, IsSettled};
 
     /// Opens a host without calls, as [`AskingHost::open`] does, with room to keep so many. A kept datagram is delivered at most
     /// `keep` ticks after it came. With version 1 of the wire nothing else sees to its age: the time that a datagram is under
@@ -54,7 +53,7 @@ impl LateHost {
         requires valid { IsValid settings.now }
         requires id { id.0 < settings.now.hosts }
         requires inc { 1 ≤ inc }
-        requires last { last ≤ 1000000002000 }
+        requires last { last ≤ LAST_HOST_TICK }
         ensures { IfOk result (λ h. h ≡ record { driven = opened settings.now id inc last; calls = []; room = room; keep = keep }) }
     {
         let kept = KeptCalls::open(alloc, room)?;
@@ -69,9 +68,7 @@ impl LateHost {
     /// call is kept from now on, and its request is in `whole`. If it asks for a call whose answer is kept, the host takes the
     /// step with that answer.
     pub fn deliver(&mut self, alloc: Global, from: HostId, frame: &[u8], now: u64) -> Heard
-        ensures begins { MayBegin self.old.driven.host self.old.driven.steps now → IsOther self.old.driven.host from → result ≢ Heard.Refused }
-        ensures may_begin { result ≢ Heard.Refused → MayBegin self.old.driven.host self.old.driven.steps now }
-        ensures other { result ≢ Heard.Refused → IsOther self.old.driven.host from }
+        ensures fault { heard_fault result ≡ delivery_fault self.old.driven.host self.old.driven.steps from 0 now }
         ensures came { IsHeard now from frame.now self.old self.new result }
         ensures room { self.new.room ≡ self.old.room }
         ensures keep { self.new.keep ≡ self.old.keep }
@@ -80,7 +77,7 @@ impl LateHost {
         let asked = match self.asking.deliver(alloc, from, frame, now, &[]) {
             Came::Taken => return Heard::Taken,
             Came::NoMemory => return Heard::NoMemory,
-            Came::Refused => return Heard::Refused,
+            Came::Refused(fault) => return Heard::Refused(fault),
             Came::Asks(asked) => asked,
         };
         let Some(call) = self.kept.find(asked.id) else {
@@ -91,10 +88,7 @@ impl LateHost {
             };
         };
         if call.answer.is_empty() {
-            return match self.renews(alloc, asked.id, from, frame, now) {
-                Ok(()) => Heard::AtWork(asked.id),
-                Err(AllocError) => Heard::NoMemory,
-            };
+            return self.renews(alloc, asked.id, from, frame, now);
         }
         match self
             .asking
@@ -105,21 +99,14 @@ impl LateHost {
                 Heard::Ran(asked.id)
             }
             Came::NoMemory => Heard::NoMemory,
-            Came::Asks(_) | Came::Refused => match self.renews(alloc, asked.id, from, frame, now) {
-                Ok(()) => Heard::AtWork(asked.id),
-                Err(AllocError) => Heard::NoMemory,
-            },
+            Came::Asks(_) | Came::Refused(_) => self.renews(alloc, asked.id, from, frame, now),
         }
     }
 
-    /// The answer to a call that is kept, of 1 to 1,000,000 bytes, at tick `now` of the host's own clock: the step of the datagram
-    /// that asked last for the call, with this answer. If the step doesn't run the call, or the datagram is too old for a step,
-    /// the answer is kept, and given to the next datagram that asks for the call.
+    /// The answer to a call that is kept, at tick `now` of the host's own clock: the step of the datagram that asked last for the
+    /// call, with this answer. If the step doesn't run the call, or the datagram is too old for a step, the answer is kept, and
+    /// given to the next datagram that asks for the call.
     pub fn answer(&mut self, alloc: Global, id: CallId, answer: &[u8], now: u64) -> Answered
-        ensures begins { IfSome (call_of id self.old.calls) (λ call. IsOther self.old.driven.host call.from
-            → MayBegin self.old.driven.host self.old.driven.steps now → 1 ≤ length answer.now → length answer.now ≤ 1000000
-            → result ≢ Answered.Refused) }
-        ensures awaits { IfSome (call_of id self.old.calls) (λ call. call.answer ≡ [] → result ≢ Answered.Gone) }
         ensures settled { IsSettled id answer.now now self.old self.new result }
         ensures room { self.new.room ≡ self.old.room }
         ensures keep { self.new.keep ≡ self.old.keep }
@@ -131,8 +118,11 @@ impl LateHost {
         if !call.answer.is_empty() {
             return Answered::Gone;
         }
-        if answer.is_empty() || answer.len() > MOST_BYTES {
-            return Answered::Refused;
+        if answer.is_empty() {
+            return Answered::Refused(StepFault::Empty);
+        }
+        if let Some(fault) = self.asking.delivery_fault(call.from, answer.len(), now) {
+            return Answered::Refused(fault);
         }
         let Ok(held) = Bytes::copy(alloc, answer) else {
             return Answered::NoMemory;
@@ -145,16 +135,8 @@ impl LateHost {
             .asking
             .deliver(alloc, call.from, call.frame.as_slice(), now, answer)
         {
-            Came::Taken => {
-                if has_run(self.asking.host(), id) {
-                    self.kept.take_out(id);
-                    return Answered::Ran;
-                }
-                self.kept.hold(id, held);
-                Answered::Held
-            }
-            Came::NoMemory | Came::Asks(_) => Answered::NoMemory,
-            Came::Refused => Answered::Refused,
+            Came::Taken => self.settles(id, held),
+            Came::Asks(_) | Came::NoMemory | Came::Refused(_) => Answered::NoMemory,
         }
     }
 
@@ -170,20 +152,24 @@ impl LateHost {
     }
 
     /// Calls a service of another host, as [`AskingHost::call`] does.
-    pub fn call(&mut self, server: HostId, number: u8, request: Vec<u8>, now: u64) -> Option<CallId>
-        ensures begins { MayBegin self.old.driven.host self.old.driven.steps now → IsOther self.old.driven.host server
-            → start_fault self.old.driven.host.settings self.old.driven.host.host server request.items ≡ None → IsSome result }
-        ensures may_begin { IfSome result (λ _. MayBegin self.old.driven.host self.old.driven.steps now) }
-        ensures other { IfSome result (λ _. IsOther self.old.driven.host server) }
-        ensures no_fault { IfSome result
-            (λ _. start_fault self.old.driven.host.settings self.old.driven.host.host server request.items ≡ None) }
-        ensures id { IfSome result (λ id. id ≡ next_id self.old.driven.host.host) }
-        ensures step { IfSome result (λ _. IsStep
+    pub fn call(
+        &mut self,
+        server: HostId,
+        number: u8,
+        request: Vec<u8>,
+        now: u64,
+    ) -> Result<CallId, StepFault>
+        ensures fault { IfErr result
+            (λ f. call_fault self.old.driven.host self.old.driven.steps server (length request.items) now ≡ Some f) }
+        ensures no_fault { IfOk result
+            (λ _. call_fault self.old.driven.host self.old.driven.steps server (length request.items) now ≡ None) }
+        ensures id { IfOk result (λ id. id ≡ next_id self.old.driven.host.host) }
+        ensures step { IfOk result (λ _. IsStep
             (call_step self.old.driven.host.settings self.old.driven.host.host now server number request.items)
             self.old.driven self.new.driven) }
-        ensures whole { IfSome result (λ _. self.new.driven.whole ≡ []) }
-        ensures same { IfNone result (IsStill self.old.driven self.new.driven) }
-        ensures shows { IfNone result ((self.new.driven ≡ self.old.driven) ⊎ ShowsNothing self.new.driven) }
+        ensures whole { IfOk result (λ _. self.new.driven.whole ≡ []) }
+        ensures same { IfErr result (λ _. IsStill self.old.driven self.new.driven) }
+        ensures shows { IfErr result (λ _. (self.new.driven ≡ self.old.driven) ⊎ ShowsNothing self.new.driven) }
         ensures steps { self.new.driven.steps ≤ self.old.driven.steps + 1 }
         ensures kept { self.new ≡ record self.old { driven = self.new.driven } }
     {
@@ -191,13 +177,13 @@ impl LateHost {
     }
 
     /// A turn at tick `now` of the host's own clock, as [`AskingHost::turn`] takes it.
-    pub fn turn(&mut self, now: u64) -> Option<()>
-        ensures begins { MayBegin self.old.driven.host self.old.driven.steps now → IsSome result }
-        ensures may_begin { IfSome result (λ _. MayBegin self.old.driven.host self.old.driven.steps now) }
-        ensures step { IfSome result (λ _. IsStep
+    pub fn turn(&mut self, now: u64) -> Result<(), StepFault>
+        ensures fault { IfErr result (λ f. begin_fault self.old.driven.host self.old.driven.steps now ≡ Some f) }
+        ensures no_fault { IfOk result (λ _. begin_fault self.old.driven.host self.old.driven.steps now ≡ None) }
+        ensures step { IfOk result (λ _. IsStep
             (turn_step self.old.driven.host.settings self.old.driven.host.host now) self.old.driven self.new.driven) }
-        ensures whole { IfSome result (λ _. self.new.driven.whole ≡ []) }
-        ensures same { IfNone result (self.new ≡ self.old) }
+        ensures whole { IfOk result (λ _. self.new.driven.whole ≡ []) }
+        ensures same { IfErr result (λ _. self.new ≡ self.old) }
         ensures steps { self.new.driven.steps ≤ self.old.driven.steps + 1 }
         ensures kept { self.new ≡ record self.old { driven = self.new.driven } }
     {
@@ -217,6 +203,22 @@ impl LateHost {
         ensures within { result ≤ self.now.room }
     {
         self.kept.len()
+    }
+
+    // After the step of its datagram with this answer: the call goes if it ran, and else its answer is kept.
+    fn settles(&mut self, id: CallId, held: Bytes) -> Answered
+        ensures ran { result ≡ Answered.Ran → ran_in self.old.driven.host.marks ≡ Some id }
+        ensures out { result ≡ Answered.Ran → self.new ≡ record self.old { calls = without id self.old.calls } }
+        ensures unrun { result ≢ Answered.Ran → ran_in self.old.driven.host.marks ≢ Some id }
+        ensures held { result ≢ Answered.Ran → self.new ≡ record self.old { calls = changed id (with_answer held) self.old.calls } }
+        ensures or_held { (result ≡ Answered.Ran) ⊎ (result ≡ Answered.Held) }
+    {
+        if has_run(self.asking.host(), id) {
+            self.kept.take_out(id);
+            return Answered::Ran;
+        }
+        self.kept.hold(id, held);
+        Answered::Held
     }
 
     // Keeps a call that asks with this datagram. False where there is no room.
@@ -249,19 +251,16 @@ impl LateHost {
     }
 
     // Puts a newer datagram in place of the one that asked for a call.
-    fn renews(
-        &mut self,
-        alloc: Global,
-        id: CallId,
-        from: HostId,
-        frame: &[u8],
-        now: u64,
-    ) -> Result<(), AllocError>
-        ensures ok { OnOk result (self.new ≡ record self.old { calls = changed id (asked_again from now frame.now) self.old.calls }) }
-        ensures err { OnErr result (self.new ≡ self.old) }
+    fn renews(&mut self, alloc: Global, id: CallId, from: HostId, frame: &[u8], now: u64) -> Heard
+        ensures renewed { result ≡ Heard.AtWork id
+            → self.new ≡ record self.old { calls = changed id (asked_again from now frame.now) self.old.calls } }
+        ensures no_memory { result ≢ Heard.AtWork id → self.new ≡ self.old }
+        ensures or { (result ≡ Heard.AtWork id) ⊎ (result ≡ Heard.NoMemory) }
     {
-        let frame = Bytes::copy(alloc, frame)?;
+        let Ok(frame) = Bytes::copy(alloc, frame) else {
+            return Heard::NoMemory;
+        };
         self.kept.renew(id, from, now, frame);
-        Ok(())
+        Heard::AtWork(id)
     }
 }

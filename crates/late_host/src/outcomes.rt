@@ -1,4 +1,5 @@
 // What comes of a datagram, and of an answer.
+use driven_host::StepFault;
 use homa_host::Asked;
 use homa_plain::CallId;
 
@@ -19,8 +20,8 @@ pub enum Heard {
     Full(CallId),
     /// It asks for a call, and there is no memory. Nothing happened.
     NoMemory,
-    /// No step may begin, or there is no other host of this name. Nothing happened.
-    Refused,
+    /// No step begins, for this cause. Nothing happened.
+    Refused(StepFault),
 }
 
 /// What came of an answer.
@@ -36,6 +37,6 @@ pub enum Answered {
     Gone,
     /// There is no memory. Nothing happened, and the call waits on.
     NoMemory,
-    /// No step may begin, or the answer has no bytes or over 1,000,000. Nothing happened, and the call waits on.
-    Refused,
+    /// The answer can't be given, for this cause. Nothing happened, and the call waits on.
+    Refused(StepFault),
 }
