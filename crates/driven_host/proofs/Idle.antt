@@ -1,6 +1,6 @@
 -- A turn does nothing where no row is due, no message may be sent, and no GRANT is due.
 use Rattle.std.proofs.Common.{◌≡◌, ◌<◌, ◌≤◌, ℕ, Bool, true, false, cond, Option, Some, None, List, [], ◌∷◌, map, refl, sym, ap, subst, ◌∙◌, arith, inl, inr}
-use Rattle.std.specs.Prelude.{nat_lt, nat_le, IfSome, IfNone, take}
+use Rattle.std.specs.Prelude.{◌+◌, nat_lt, nat_le, if◌then◌else◌, IfSome, IfNone, take}
 use Rattle.std.specs.List.{AllByRecursion, Contains, filter}
 use Rattle.std.specs.Option.{option_map, MatchOption}
 use Rattle.std.proofs.lemmas.Bool.Decides.{nat_tests}
@@ -11,6 +11,7 @@ use Rattle.plain_sets.proofs.OrderFirst.{first-ordered}
 use Rattle.homa_plain.specs.declared.settings.Settings.{Settings}
 use Rattle.homa_plain.specs.Choice.{due, least, most_acts}
 use Rattle.homa_plain.specs.Host.{Host}
+use Rattle.homa_plain.specs.Limits.{last_host_tick}
 use Rattle.homa_plain.specs.Timers.{Timer, timer_key, timers}
 use Rattle.homa_plain.specs.Sending.{Leaving, leaving_key, departures}
 use Rattle.homa_plain.specs.Steps.{Work, begun, refilled, first_leaves, pumped_once, pump, all_act, acts, all_granted, ended, turn_step}
@@ -19,7 +20,7 @@ use Rattle.homa_pacer.specs.Pace as pace
 use Rattle.host_view.specs.Seen.{Seen, timer_of, waiting, AreArmed, AreReady}
 use Rattle.host_view.proofs.Pump.{none_ready, departures-before}
 use Rattle.host_books.proofs.PumpOnce.{pump_ends}
-use Rattle.driven_host.specs.Turns.{due_grants, IsIdleTurn, IsDeadline, MayAct}
+use Rattle.driven_host.specs.Turns.{due_grants, in_time, IsIdleTurn, IsDeadline, MayAct}
 
 -- a list that has nothing in it is empty
 pub nothing_in : {X : Type 0} (xs : List X) → ((x : X) → Contains xs x → ⊥) → xs ≡ []
@@ -122,6 +123,50 @@ module _ (h : Seen) where
   bytes_wait ready are some none = some (nothing_in ready (λ r c.
       let l = are.only r c in none_in l.0 (subst (λ (ls : List Leaving). Contains ls l.0) none l.1)))
 
+-- ---- a tick up to the clock's end
+
+-- what holds of a tick holds of it where it is in time
+pub in_time_some : (P : ℕ → Type 0) (o : Option ℕ) → IfSome o P → IfSome (in_time o) P
+in_time_some P None p = tt
+in_time_some P (Some at) p = by_test (nat_le at last_host_tick) where
+  by_test : (b : Bool) → IfSome (if b then Some at else None) P
+  by_test true = p
+  by_test false = tt
+
+pub in_time_le : (o : Option ℕ) → IfSome (in_time o) (λ at. at ≤ last_host_tick)
+in_time_le None = tt
+in_time_le (Some at) = by_test (nat_le at last_host_tick) refl where
+  by_test : (b : Bool) → nat_le at last_host_tick ≡ b → IfSome (if b then Some at else None) (λ n. n ≤ last_host_tick)
+  by_test true e = grind (arith, nat_tests, e)
+  by_test false e = tt
+
+-- where no tick is in time, there is none, or it is past the end
+pub past_end : (P : Type 0) (o : Option ℕ) → (o ≡ None → P) → ((at : ℕ) → o ≡ Some at → last_host_tick < at → P) → IfNone (in_time o) P
+past_end P None none some = none refl
+past_end P (Some at) none some = by_test (nat_le at last_host_tick) refl where
+  by_test : (b : Bool) → nat_le at last_host_tick ≡ b → IfNone (if b then Some at else None) P
+  by_test true e = tt
+  by_test false e = some at refl (grind (arith, nat_tests, e))
+
+-- ---- the tick after that of the last step, where bytes wait
+
+pub next_idle : (h : Seen) → IfSome (in_time (Some (h.host.last + 1))) (λ at. (now : ℕ) → h.host.last < now → now < at → IsIdleTurn h now)
+next_idle h =
+    in_time_some (λ at. (now : ℕ) → h.host.last < now → now < at → IsIdleTurn h now) (Some (h.host.last + 1))
+    (λ now less more. absurd (omega (arith, less, more)))
+
+pub next_none : (h : Seen) → IfNone (in_time (Some (h.host.last + 1))) ((now : ℕ) → h.host.last < now → now ≤ last_host_tick → IsIdleTurn h now)
+next_none h = past_end ((now : ℕ) → h.host.last < now → now ≤ last_host_tick → IsIdleTurn h now) (Some (h.host.last + 1)) (λ e. absurd cc)
+    (λ at e past now less le. absurd (by_at at e past now less le)) where
+      by_at : (at : ℕ) → ◌≡◌ {A = Option ℕ} (Some (h.host.last + 1)) (Some at) → last_host_tick < at → (now : ℕ) → h.host.last < now → now ≤ last_host_tick → ⊥
+      by_at at e past now less le = let is : h.host.last + 1 ≡ at = cc in omega (arith, is, past, less, le)
+
+pub next_rest : (h : Seen) → IfNone (in_time (Some (h.host.last + 1))) (h.host.last < last_host_tick → IsIdleTurn h h.host.last)
+next_rest h = past_end (h.host.last < last_host_tick → IsIdleTurn h h.host.last) (Some (h.host.last + 1)) (λ e. absurd cc)
+    (λ at e past less. absurd (by_at at e past less)) where
+      by_at : (at : ℕ) → ◌≡◌ {A = Option ℕ} (Some (h.host.last + 1)) (Some at) → last_host_tick < at → h.host.last < last_host_tick → ⊥
+      by_at at e past less = let is : h.host.last + 1 ≡ at = cc in omega (arith, is, past, less)
+
 -- ---- the first deadline as an answer
 
 module _ (h : Seen) (book : List armed.Timer) (ready : List pace.Ready) (granted : due_grants h.settings h.host ≡ []) (timed : AreArmed h book)
@@ -132,9 +177,13 @@ module _ (h : Seen) (book : List armed.Timer) (ready : List pace.Ready) (granted
       λ now later before. idle_before h book ready now granted timed are none (omega (arith, later))
       (subst (λ (p : Option ℕ). IfSome p (λ n. now < n)) e before)
 
-  pub no_deadline : (o : Option ℕ) → o ≡ first_at book → IfNone o ((now : ℕ) → h.host.last ≤ now → IsIdleTurn h now)
-  no_deadline None e = λ now le. idle_before h book ready now granted timed are none le (subst (λ (p : Option ℕ). IfSome p (λ n. now < n)) e tt)
-  no_deadline (Some at) e = tt
+  -- none that a turn can reach
+  pub no_deadline : (o : Option ℕ) → o ≡ first_at book
+      → IfNone (in_time o) ((now : ℕ) → h.host.last ≤ now → now ≤ last_host_tick → IsIdleTurn h now)
+  no_deadline o e = past_end ((now : ℕ) → h.host.last ≤ now → now ≤ last_host_tick → IsIdleTurn h now) o
+      (λ is now le end. idle_before h book ready now granted timed are none le (subst (λ (p : Option ℕ). IfSome p (λ n. now < n)) (sym is ∙ e) tt))
+      (λ at is past now le end. idle_before h book ready now granted timed are none le
+      (subst (λ (p : Option ℕ). IfSome p (λ n. now < n)) (sym is ∙ e) (omega (arith, past, end))))
 
   pub deadline_acts : (o : Option ℕ) → o ≡ first_at book → IfSome o (MayAct h)
   deadline_acts None e = tt

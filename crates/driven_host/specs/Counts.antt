@@ -1,5 +1,6 @@
 -- What a host counts from its opening on. A count that stands at 2^64 - 1 stays there.
-use Rattle.std.specs.Prelude.{◌+◌, ◌-◌, ◌^◌, ◌==◌, ℕ, min, Bool, if◌then◌else◌, unwrap_or, List, [], ◌∷◌, length, slice_get}
+use Rattle.std.specs.Prelude.{◌+◌, ◌-◌, ◌^◌, ◌==◌, ℕ, min, Bool, if◌then◌else◌, unwrap_or, List, length, slice_get}
+use Rattle.std.specs.List.{fold}
 use Rattle.homa_plain.specs.declared.entry.Why.TheVariants.{Timeout, Forgotten}
 use Rattle.host_view.specs.declared.mark.Mark.{Mark}
 use Rattle.host_view.specs.declared.mark.Mark.TheVariants.{Called, Junk, Stale, Balanced, Ran, Done, Failed, Dropped, TooManyGaps, Entombed, Freed}
@@ -54,25 +55,23 @@ with_mark c (Sent number) = c
 
 -- the marks of a step
 abbrev pub with_marks : HostCounts → List Mark → HostCounts
-with_marks c [] = c
-with_marks c (mark ∷ marks) = with_marks (with_mark c mark) marks
+with_marks c marks = fold with_mark c marks
 
 -- a frame is a RESEND: its second byte is the number of that kind
 abbrev pub is_resend : List ℕ → Bool
 is_resend frame = unwrap_or (slice_get frame 1) 0 == 3
 
 -- a frame
-abbrev pub with_frame : HostCounts → List ℕ → HostCounts
-with_frame c frame = record c {
+abbrev pub with_frame : HostCounts → SentFrame → HostCounts
+with_frame c f = record c {
   sent = risen c.sent 1;
-  sent_bytes = risen c.sent_bytes (length frame);
-  resends_sent = if is_resend frame then risen c.resends_sent 1 else c.resends_sent;
+  sent_bytes = risen c.sent_bytes (length f.frame);
+  resends_sent = if is_resend f.frame then risen c.resends_sent 1 else c.resends_sent;
 }
 
 -- the frames of a step
 abbrev pub with_frames : HostCounts → List SentFrame → HostCounts
-with_frames c [] = c
-with_frames c (f ∷ frames) = with_frames (with_frame c f.frame) frames
+with_frames c frames = fold with_frame c frames
 
 -- what a step told and sent
 abbrev pub counted : HostCounts → List Mark → List SentFrame → HostCounts

@@ -252,7 +252,7 @@ impl AskingHost {
         }
     }
 
-    /// Says why a datagram isn't delivered with an answer of so many bytes. None if it may be.
+    /// Says why a datagram from this host isn't delivered with an answer of so many bytes. None if it may be.
     pub fn delivery_fault(&self, from: HostId, answer: usize, now: u64) -> Option<StepFault>
         ensures fault { result ≡ delivery_fault self.now.host self.now.steps from answer now }
         ensures begins { IfNone result (MayBegin self.now.host self.now.steps now) }

@@ -1,5 +1,6 @@
 // What a host counts from its opening on.
 ghost use Rattle.std.specs.Prelude.{◌≡◌};
+ghost use Rattle.host_view.specs.declared.outbox.SentFrame.{SentFrame};
 ghost use Rattle.driven_host.specs.Counts.{none_counted, with_mark, with_frame, with_marks, with_frames, counted};
 
 use homa_host::Host;
@@ -133,7 +134,7 @@ impl HostCounts {
 
     // Counts a frame.
     fn add_frame(&mut self, bytes: &[u8])
-        ensures { self.new ≡ with_frame self.old bytes.now }
+        ensures { (f : SentFrame) → f.frame ≡ bytes.now → self.new ≡ with_frame self.old f }
     {
         self.sent = self.sent.saturating_add(1);
         self.sent_bytes = self.sent_bytes.saturating_add(bytes.len() as u64);

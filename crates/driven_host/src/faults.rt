@@ -53,7 +53,7 @@ pub(crate) fn length_fault(bytes: usize, pages: u32) -> Option<StepFault>
     if bytes > LONGEST_MESSAGE as usize {
         return Some(StepFault::TooLong);
     }
-    if (pages as usize) < (bytes + PAGE - 1) / PAGE {
+    if (pages as usize) < (bytes + (PAGE - 1)) / PAGE {
         return Some(StepFault::TooManyPages);
     }
     None

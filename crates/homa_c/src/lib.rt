@@ -12,3 +12,5 @@ mod knows;
 mod results;
 mod settings;
 mod shows;
+#[cfg(test)]
+mod tests;

@@ -165,7 +165,7 @@ pub struct TickClock<R: std::rt::Clock + Drop> {
     rt: R,
     start: Option<Instant>,
     last: u64,
-    ghost most: { last ≤ LAST_TICK },
+    ghost most: { last ≤ last_tick },
 }
 
 impl<R: std::rt::Clock + Drop> TickClock<R> {

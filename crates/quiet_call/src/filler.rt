@@ -1,5 +1,6 @@
 // The service of the quiet call.
 ghost use Rattle.std.specs.Prelude.{◌≡◌, ◌≤◌};
+ghost use Rattle.homa_plain.specs.Limits.{longest_message};
 
 use homa_plain::LONGEST_MESSAGE;
 use homa_service::{Reply, Service};
@@ -11,7 +12,7 @@ use std::alloc::{AllocError, Global};
 pub struct Filler {
     size: u32,
     served: u64,
-    ghost sized: { (1 ≤ size) × (size ≤ LONGEST_MESSAGE) },
+    ghost sized: { (1 ≤ size) × (size ≤ longest_message) },
 }
 
 impl Filler {
