@@ -14,7 +14,7 @@ use Rattle.late_host.specs.declared.outcomes.Heard.{Heard}
 use Rattle.late_host.specs.declared.outcomes.Heard.TheVariants as heard
 use Rattle.late_host.specs.declared.outcomes.Answered.{Answered}
 use Rattle.late_host.specs.declared.outcomes.Answered.TheVariants as answered
-use Rattle.late_host.specs.Kept.{call_of, without, changed, IsFresh}
+use Rattle.late_host.specs.Kept.{call_of, without, changed, IsFresh, IsInLife}
 use Rattle.late_host.specs.Late.{Late, arrives, HasArrived, WasGiven, LeavesHost, IsKeptToo, asked_again, with_answer}
 use Rattle.late_host.specs.Ran.{ran_in, served_in}
 
@@ -97,6 +97,7 @@ module _ (id : CallId) (answer : List ℕ) (now : ℕ) (old new : Late) where
   pub record IsGivenStep : Type 0 where
     pub awaited : IsAwaited None
     pub fresh : IfSome (call_of id old.calls) (IsFresh old.keep now)
+    pub in_life : IfSome (call_of id old.calls) (IsInLife old.driven.host.settings.life old.keep now)
     pub step : IfSome (call_of id old.calls) (λ call. HasArrived now call.from call.frame old.driven new.driven)
     pub given : WasGiven answer new.driven
 

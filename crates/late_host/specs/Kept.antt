@@ -30,6 +30,11 @@ changed id change (call ∷ calls) = if is_of id call then change call ∷ calls
 abbrev pub IsFresh : ℕ → ℕ → KeptCall → Type 0
 IsFresh keep now call = now ≤ call.at + keep
 
+-- If the time that the call's datagram was under way and the time that one may be kept fit `life` together, it isn't older than that
+-- at this tick.
+abbrev pub IsInLife : ℕ → ℕ → ℕ → KeptCall → Type 0
+IsInLife life keep now call = (sent : ℕ) → call.at + keep ≤ sent + life → now ≤ sent + life
+
 -- this call went, since its datagram was the oldest, and may not be delivered any more
 pub record Goes (keep now : ℕ) (old new : List KeptCall) (call : KeptCall) : Type 0 where
   pub kept : Contains old call

@@ -99,7 +99,8 @@ impl LateHost {
                 Heard::Ran(asked.id)
             }
             Came::NoMemory => Heard::NoMemory,
-            Came::Asks(_) | Came::Refused(_) => self.renews(alloc, asked.id, from, frame, now),
+            Came::Asks(_) => self.renews(alloc, asked.id, from, frame, now),
+            Came::Refused(_) => self.renews(alloc, asked.id, from, frame, now),
         }
     }
 

@@ -169,7 +169,7 @@ impl Mirror {
                 assert!(rt; self.told.iter().all(|told| !Mirror::is_stale(*told, now)));
                 count(&mut self.counts.full);
             }
-            Heard::NoMemory | Heard::Refused => assert!(rt; false),
+            Heard::NoMemory | Heard::Refused(_) => assert!(rt; false),
         }
         Ok(())
     }

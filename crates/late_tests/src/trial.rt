@@ -5,7 +5,7 @@ use crate::mirror::{Counts, KEEP, Mirror, ROOM, answer_len, answer_to};
 use driven_host::{AskingHost, Came};
 use homa_plain::{CallId, Entry, HostId, Settings};
 use host_view::Outbox;
-use late_host::LateHost;
+use late_host::{Answered, LateHost};
 use std::alloc::{AllocError, Global};
 use std::process::Abort;
 use std::test::*;
@@ -89,7 +89,7 @@ impl Trial {
     fn calls(&mut self, rt: &impl Abort, alloc: Global) -> Result<(), AllocError> {
         let len = 1 + self.below(3000);
         let request = vec![in alloc; 7u8; len as usize]?;
-        if self.client.call(SERVER, 0, request, self.now).is_some() {
+        if self.client.call(SERVER, 0, request, self.now).is_ok() {
             self.client_did(rt, alloc)?;
         }
         Ok(())
@@ -142,9 +142,9 @@ impl Trial {
 
     fn turns(&mut self, rt: &impl Abort, alloc: Global) -> Result<(), AllocError> {
         self.now = self.now.wrapping_add(1);
-        assert!(rt; self.client.turn(self.now).is_some());
+        assert!(rt; self.client.turn(self.now).is_ok());
         self.client_did(rt, alloc)?;
-        assert!(rt; self.server.turn(self.now).is_some());
+        assert!(rt; self.server.turn(self.now).is_ok());
         Trial::sends(&mut self.flying, alloc, self.server.asking().out())
     }
 
@@ -173,7 +173,10 @@ impl Trial {
         let answered = self.server.answer(alloc, id, bytes, self.now);
         self.mirror.settles(rt, id, answered, self.server.asking(), self.now);
         assert!(rt; self.server.kept() == self.mirror.told.len());
-        Trial::sends(&mut self.flying, alloc, self.server.asking().out())
+        if answered == Answered::Ran || answered == Answered::Held {
+            return Trial::sends(&mut self.flying, alloc, self.server.asking().out());
+        }
+        Ok(())
     }
 
     fn declines(&mut self, rt: &impl Abort) {
