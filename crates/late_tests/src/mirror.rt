@@ -6,14 +6,14 @@ use std::alloc::AllocError;
 use std::process::Abort;
 
 /// How many calls are kept.
-pub const ROOM: usize = 3;
+pub(crate) const ROOM: usize = 3;
 
 /// For how many ticks a kept datagram may be delivered.
-pub const KEEP: u64 = 6;
+pub(crate) const KEEP: u64 = 6;
 
 /// A call that is kept: whether it waits for its answer, and when it asked last.
 #[derive(Clone, Copy)]
-pub struct Told {
+pub(crate) struct MirrorCall {
     pub id: CallId,
     pub waits: bool,
     pub at: u64,
@@ -21,7 +21,7 @@ pub struct Told {
 
 /// How often each thing happened.
 #[derive(Clone, Copy)]
-pub struct Counts {
+pub(crate) struct MirrorCounts {
     pub told: u64,
     pub again: u64,
     pub full: u64,
@@ -35,9 +35,9 @@ pub struct Counts {
     pub done: u64,
 }
 
-impl Counts {
-    pub fn none() -> Counts {
-        Counts {
+impl MirrorCounts {
+    pub(crate) fn none() -> MirrorCounts {
+        MirrorCounts {
             told: 0,
             again: 0,
             full: 0,
@@ -55,9 +55,9 @@ impl Counts {
 
 /// The calls that are kept.
 #[derive(Drop)]
-pub struct Mirror {
-    pub told: Vec<Told>,
-    pub counts: Counts,
+pub(crate) struct Mirror {
+    pub told: Vec<MirrorCall>,
+    pub counts: MirrorCounts,
 }
 
 // Adds one.
@@ -66,18 +66,18 @@ fn count(n: &mut u64) {
 }
 
 /// The answer to a call: 1 to 5 bytes, which its number gives.
-pub fn answer_to(id: CallId) -> [u8; 5] {
+pub(crate) fn answer_to(id: CallId) -> [u8; 5] {
     let low = (id.seq & 255) as u8;
     [low, 1, 2, 3, 4]
 }
 
 /// How many of those bytes are given.
-pub fn answer_len(id: CallId) -> usize {
+pub(crate) fn answer_len(id: CallId) -> usize {
     1 + (id.seq % 5) as usize
 }
 
 /// Whether these bytes are the answer to this call.
-pub fn is_answer(id: CallId, bytes: &[u8]) -> bool {
+pub(crate) fn is_answer(id: CallId, bytes: &[u8]) -> bool {
     let whole = answer_to(id);
     match whole.get(..answer_len(id)) {
         Some(answer) => bytes == answer,
@@ -86,7 +86,7 @@ pub fn is_answer(id: CallId, bytes: &[u8]) -> bool {
 }
 
 /// The call that ran in the last step, which was given its own answer.
-pub fn ran(rt: &impl Abort, asking: &AskingHost) -> Option<CallId> {
+pub(crate) fn ran(rt: &impl Abort, asking: &AskingHost) -> Option<CallId> {
     let mut ran = None;
     for i in 0..asking.host().entries() {
         if let Entry::Run { id, response, .. } = asking.entry(i) {
@@ -99,18 +99,22 @@ pub fn ran(rt: &impl Abort, asking: &AskingHost) -> Option<CallId> {
 }
 
 impl Mirror {
-    pub fn place(&self, id: CallId) -> Option<usize> {
+    pub(crate) fn place(&self, id: CallId) -> Option<usize> {
         self.told.iter().position(|told| told.id == id)
     }
 
     // The call of this id, which is kept.
-    fn at(&self, rt: &impl Abort, id: CallId) -> (usize, Told) {
+    fn at(&self, rt: &impl Abort, id: CallId) -> (usize, MirrorCall) {
         let place = self.place(id).expect(rt, "no such call is kept");
-        let told = self.told.get(place).copied().expect(rt, "no such call is kept");
+        let told = self
+            .told
+            .get(place)
+            .copied()
+            .expect(rt, "no such call is kept");
         (place, told)
     }
 
-    fn set(&mut self, place: usize, told: Told) {
+    fn set(&mut self, place: usize, told: MirrorCall) {
         if place < self.told.len() {
             self.told[place] = told;
         }
@@ -135,12 +139,12 @@ impl Mirror {
         oldest
     }
 
-    fn is_stale(told: Told, now: u64) -> bool {
+    fn is_stale(told: MirrorCall, now: u64) -> bool {
         told.at.wrapping_add(KEEP) < now
     }
 
     /// What came of a datagram is what the rules say.
-    pub fn hears(
+    pub(crate) fn hears(
         &mut self,
         rt: &impl Abort,
         heard: Heard,
@@ -160,7 +164,7 @@ impl Mirror {
             Heard::AtWork(id) => {
                 let (place, told) = self.at(rt, id);
                 assert!(rt; told.waits);
-                self.set(place, Told { at: now, ..told });
+                self.set(place, MirrorCall { at: now, ..told });
                 count(&mut self.counts.again);
             }
             Heard::Full(id) => {
@@ -184,7 +188,7 @@ impl Mirror {
             self.remove(oldest);
             count(&mut self.counts.thrown_out);
         }
-        self.told.push(Told {
+        self.told.push(MirrorCall {
             id,
             waits: true,
             at: now,
@@ -194,13 +198,24 @@ impl Mirror {
     }
 
     /// What came of an answer is what the rules say.
-    pub fn settles(&mut self, rt: &impl Abort, id: CallId, answered: Answered, asking: &AskingHost, now: u64) {
+    pub(crate) fn settles(
+        &mut self,
+        rt: &impl Abort,
+        id: CallId,
+        answered: Answered,
+        asking: &AskingHost,
+        now: u64,
+    ) {
         let Some(place) = self.place(id) else {
             assert!(rt; answered == Answered::Gone);
             count(&mut self.counts.gone);
             return;
         };
-        let told = self.told.get(place).copied().expect(rt, "no such call is kept");
+        let told = self
+            .told
+            .get(place)
+            .copied()
+            .expect(rt, "no such call is kept");
         if !told.waits {
             assert!(rt; answered == Answered::Gone);
             count(&mut self.counts.gone);
@@ -208,7 +223,13 @@ impl Mirror {
         }
         if Mirror::is_stale(told, now) {
             assert!(rt; answered == Answered::Later);
-            self.set(place, Told { waits: false, ..told });
+            self.set(
+                place,
+                MirrorCall {
+                    waits: false,
+                    ..told
+                },
+            );
             count(&mut self.counts.later);
             return;
         }
@@ -216,7 +237,14 @@ impl Mirror {
     }
 
     // A step was taken with the answer, and this call ran in it, or none.
-    fn steps(&mut self, rt: &impl Abort, place: usize, told: Told, answered: Answered, ran: Option<CallId>) {
+    fn steps(
+        &mut self,
+        rt: &impl Abort,
+        place: usize,
+        told: MirrorCall,
+        answered: Answered,
+        ran: Option<CallId>,
+    ) {
         if ran == Some(told.id) {
             assert!(rt; answered == Answered::Ran);
             self.remove(place);
@@ -224,13 +252,19 @@ impl Mirror {
         } else {
             assert!(rt; answered == Answered::Held);
             assert!(rt; ran.is_none());
-            self.set(place, Told { waits: false, ..told });
+            self.set(
+                place,
+                MirrorCall {
+                    waits: false,
+                    ..told
+                },
+            );
             count(&mut self.counts.held);
         }
     }
 
     /// A call is declined.
-    pub fn declines(&mut self, rt: &impl Abort, id: CallId, was_kept: bool) {
+    pub(crate) fn declines(&mut self, rt: &impl Abort, id: CallId, was_kept: bool) {
         match self.place(id) {
             Some(place) => {
                 assert!(rt; was_kept);
@@ -242,7 +276,7 @@ impl Mirror {
     }
 
     /// A call is done at its client, with its own answer.
-    pub fn ends(&mut self, rt: &impl Abort, id: CallId, bytes: &[u8]) {
+    pub(crate) fn ends(&mut self, rt: &impl Abort, id: CallId, bytes: &[u8]) {
         assert!(rt; is_answer(id, bytes));
         count(&mut self.counts.done);
     }

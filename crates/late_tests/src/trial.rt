@@ -1,7 +1,7 @@
 // Random steps of a client and a late host, whose datagrams are lost, repeated and reordered.
 ghost use Rattle.std.specs.Prelude.{◌<◌, ◌≤◌, IfSome, vec_len};
 
-use crate::mirror::{Counts, KEEP, Mirror, ROOM, answer_len, answer_to};
+use crate::mirror::{KEEP, Mirror, MirrorCounts, ROOM, answer_len, answer_to};
 use driven_host::{AskingHost, Came};
 use homa_plain::{CallId, Entry, HostId, Settings};
 use host_view::Outbox;
@@ -44,7 +44,7 @@ impl Trial {
             flying: Vec::new(alloc),
             mirror: Mirror {
                 told: Vec::new(alloc),
-                counts: Counts::none(),
+                counts: MirrorCounts::none(),
             },
             now: 0,
             random,
@@ -112,8 +112,11 @@ impl Trial {
         }
         let datagram = self.flying.remove(place);
         if datagram.from == CLIENT {
-            let heard = self.server.deliver(alloc, CLIENT, datagram.bytes.as_slice(), self.now);
-            self.mirror.hears(rt, heard, self.server.asking(), self.now)?;
+            let heard = self
+                .server
+                .deliver(alloc, CLIENT, datagram.bytes.as_slice(), self.now);
+            self.mirror
+                .hears(rt, heard, self.server.asking(), self.now)?;
             assert!(rt; self.server.kept() == self.mirror.told.len());
             return Trial::sends(&mut self.flying, alloc, self.server.asking().out());
         }
@@ -169,9 +172,12 @@ impl Trial {
     fn answers(&mut self, rt: &impl Abort, alloc: Global) -> Result<(), AllocError> {
         let id = self.some_call();
         let whole = answer_to(id);
-        let bytes = whole.get(..answer_len(id)).expect(rt, "an answer has 1 to 5 bytes");
+        let bytes = whole
+            .get(..answer_len(id))
+            .expect(rt, "an answer has 1 to 5 bytes");
         let answered = self.server.answer(alloc, id, bytes, self.now);
-        self.mirror.settles(rt, id, answered, self.server.asking(), self.now);
+        self.mirror
+            .settles(rt, id, answered, self.server.asking(), self.now);
         assert!(rt; self.server.kept() == self.mirror.told.len());
         if answered == Answered::Ran || answered == Answered::Held {
             return Trial::sends(&mut self.flying, alloc, self.server.asking().out());
