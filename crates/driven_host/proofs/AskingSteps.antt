@@ -17,13 +17,14 @@ pub none_sent : (h : Seen) (out : List SentFrame) → h.marks ≡ [] → HoldsSe
 none_sent h out e n has = grind (arith, e, has)
 
 -- after a step
-pub stepped : (h g : Seen) (served served_then : ℕ) (out sent : List SentFrame) (id : HostId) (hosts calls steps : ℕ)
-    → IsKept h served out id hosts calls steps → steps < 2 ^ 56 → IsSameHost h g → served_then ≤ served + 1 → HoldsSent g sent → IsAtRest g
-    → IsKept g served_then sent id hosts calls (steps + 1)
-stepped h g served served_then out sent id hosts calls steps kept few same more holds rest = record {
+pub stepped : (h g : Seen) (served served_then : ℕ) (out sent : List SentFrame) (id : HostId) (hosts calls pages steps : ℕ)
+    → IsKept h served out id hosts calls pages steps → steps < 2 ^ 56 → IsSameHost h g → served_then ≤ served + 1 → HoldsSent g sent → IsAtRest g
+    → IsKept g served_then sent id hosts calls pages (steps + 1)
+stepped h g served served_then out sent id hosts calls pages steps kept few same more holds rest = record {
   name = same.id ∙ kept.name;
   hosts_are = ap (λ s. s.hosts) same.settings ∙ kept.hosts_are;
   calls_are = ap (λ s. s.calls) same.settings ∙ kept.calls_are;
+  pages_are = ap (λ s. s.pages) same.settings ∙ kept.pages_are;
   order = omega (arith, same.order, kept.order);
   served_few = omega (arith, more, kept.served_few);
   few = omega (arith, few);

@@ -148,6 +148,11 @@ past_end P (Some at) none some = by_test (nat_le at last_host_tick) refl where
   by_test true e = tt
   by_test false e = some at refl (grind (arith, nat_tests, e))
 
+-- what follows of what holds where there is none
+pub none_map : {P Q : Type 0} (o : Option ℕ) → (P → Q) → IfNone o P → IfNone o Q
+none_map None f p = f p
+none_map (Some at) f p = tt
+
 -- ---- the tick after that of the last step, where bytes wait
 
 pub next_idle : (h : Seen) → IfSome (in_time (Some (h.host.last + 1))) (λ at. (now : ℕ) → h.host.last < now → now < at → IsIdleTurn h now)

@@ -48,17 +48,18 @@ by_tests false false false false false false false false false none = (λ e. ref
 
 module _ (h : Seen) (steps : ℕ) (server : HostId) (request : List ℕ) (now : ℕ)
     (none : request_fault h steps server (length request) now ≡ None) where
+  tests : (start_fault h.settings h.host server request ≡ None → nat_le 4294967295 h.host.seq ≡ false)
+      × ((fault : StartFault) → start_fault h.settings h.host server request ≡ Some fault → nat_le 4294967295 h.host.seq ≡ true)
+  unfolding start_fault
   tests = by_tests (nat_le h.settings.hosts server.0) (is_host server h.host.id) (nat_lt last_host_tick now || nat_le (2 ^ 56) steps)
       (nat_lt now h.host.last) (length request == 0) (nat_lt longest_message (length request)) (nat_lt h.settings.pages (pages_for (length request)))
       (nat_le h.settings.calls (len h.host.clients)) (nat_le 4294967295 h.host.seq) none
 
   -- a call that starts had no cause
   pub no_cause : start_fault h.settings h.host server request ≡ None → call_fault h steps server (length request) now ≡ None
-  unfolding start_fault
   no_cause starts = rw none (rw (tests.0 starts) refl)
 
   -- one that doesn't has the numbers as its cause
   pub spent : (fault : StartFault) → start_fault h.settings h.host server request ≡ Some fault
       → call_fault h steps server (length request) now ≡ Some Spent
-  unfolding start_fault
   spent fault e = rw none (rw (tests.1 fault e) refl)

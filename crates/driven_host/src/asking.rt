@@ -174,13 +174,11 @@ impl AskingHost {
         self.steps += 1;
         self.from = None;
         self.scratch.set(&[]);
-        match self.host.call(server, number, request, now, &mut self.out) {
-            Ok(id) => {
-                self.counts.add_step(&self.host, &self.out);
-                Ok(id)
-            }
-            Err(_) => Err(StepFault::Spent),
-        }
+        let Ok(id) = self.host.call(server, number, request, now, &mut self.out) else {
+            return Err(StepFault::Spent);
+        };
+        self.counts.add_step(&self.host, &self.out);
+        Ok(id)
     }
 
     /// A datagram comes from another host, at tick `now` of the host's own clock, with the answer to the request that it may
@@ -237,15 +235,14 @@ impl AskingHost {
         self.served = given.served;
         match came {
             Ok(()) => {
+                self.counts.add_delivery(&self.host, &self.out);
                 if !tells_whole(&self.host) {
                     self.scratch.set(&[]);
                 }
-                self.counts.received = self.counts.received.saturating_add(1);
-                self.counts.add_step(&self.host, &self.out);
                 Came::Taken
             }
             Err(asked) if answer.is_empty() => {
-                self.counts.asked = self.counts.asked.saturating_add(1);
+                self.counts.add_asking();
                 Came::Asks(asked)
             }
             Err(_) => Came::NoMemory,

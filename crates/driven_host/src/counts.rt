@@ -1,7 +1,7 @@
 // What a host counts from its opening on.
 ghost use Rattle.std.specs.Prelude.{◌≡◌};
 ghost use Rattle.host_view.specs.declared.outbox.SentFrame.{SentFrame};
-ghost use Rattle.driven_host.specs.Counts.{none_counted, with_mark, with_frame, with_marks, with_frames, counted};
+ghost use Rattle.driven_host.specs.Counts.{none_counted, with_received, with_asked, with_mark, with_frame, with_marks, with_frames, counted};
 
 use homa_host::Host;
 use homa_plain::Why;
@@ -84,6 +84,21 @@ impl HostCounts {
     {
         self.add_marks(host);
         self.add_frames(out);
+    }
+
+    /// Counts a delivery that was a step, and what that told and sent.
+    pub(crate) fn add_delivery(&mut self, host: &Host, out: &Outbox)
+        ensures { self.new ≡ counted (with_received self.old) host.now.marks out.now }
+    {
+        self.received = self.received.saturating_add(1);
+        self.add_step(host, out);
+    }
+
+    /// Counts a delivery that asked for an answer.
+    pub(crate) fn add_asking(&mut self)
+        ensures { self.new ≡ with_asked self.old }
+    {
+        self.asked = self.asked.saturating_add(1);
     }
 
     // Counts the marks of a host's last step.

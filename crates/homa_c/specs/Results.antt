@@ -1,5 +1,5 @@
 -- What C is answered.
-use Rattle.std.specs.Prelude.{ℕ, nat_le, nat_lt, ◌==◌, Bool, if◌then◌else◌, Option, Some, None, Result, Ok, Err}
+use Rattle.std.specs.Prelude.{ℕ, nat_le, nat_lt, ◌==◌, Bool, if◌then◌else◌, Option, Some, None, Result, Ok, Err, is_err}
 use Rattle.homa_plain.specs.declared.settings.SettingFault.{SettingFault}
 use Rattle.homa_plain.specs.declared.settings.SettingFault.TheVariants.{OutOfRange, UnschedOverWindow, RateUnderSeg}
 use Rattle.homa_plain.specs.declared.settings.Name.{Name}
@@ -56,7 +56,7 @@ setting_code (Err RateUnderSeg) = 17
 abbrev pub open_code : Bool → HomaSettings → ℕ → ℕ → ℕ → ℕ
 open_code is_open s id inc last =
     if is_open then 17
-    else if nat_lt 0 (setting_code (verdict (given_settings s))) then 18
+    else if is_err (verdict (given_settings s)) then 18
     else if nat_le s.hosts id then 19
     else if inc == 0 then 20
     else if nat_lt last_host_tick last then 21

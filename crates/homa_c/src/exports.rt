@@ -48,7 +48,7 @@ pub extern "C" fn homa_open(
     ensures is_open { result ≡ 0 → host.new.is_open ≡ true }
     ensures code { result ≢ 3 → result ≡ open_code host.old.is_open settings.now id inc last }
     ensures no_memory { result ≡ 3 → open_code host.old.is_open settings.now id inc last ≡ 0 }
-    ensures valid { open_code host.old.is_open settings.now id inc last ≡ 0 → IsValid (given_settings settings.now) }
+    ensures valid { result ≡ 0 → IsValid (given_settings settings.now) }
     ensures same { result ≢ 0 → host.new ≡ host.old }
 {
     if host.is_open {

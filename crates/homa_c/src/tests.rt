@@ -71,13 +71,13 @@ fn opened(rt: &impl Abort, alloc: Global, id: u16) -> Handle {
 
 // A datagram of which the first `len` bytes of this room are.
 #[derive(Drop)]
-struct Sent {
+struct Datagram {
     room: [u8; 1500],
     len: usize,
 }
 
 // The only frame of a host's last step.
-fn only_frame(rt: &impl Abort, host: &mut Handle, from: u16, to: u16) -> Sent {
+fn only_frame(rt: &impl Abort, host: &mut Handle, from: u16, to: u16) -> Datagram {
     let mut room = [0; 1500];
     let mut info = HomaFrame {
         from: 9,
@@ -89,7 +89,7 @@ fn only_frame(rt: &impl Abort, host: &mut Handle, from: u16, to: u16) -> Sent {
     assert!(rt; info.from == from && info.to == to);
     assert!(rt; homa_frame(host, 1, &mut room, &mut info) == 25);
     assert!(rt; homa_frame_level(host, 0) == u32::from(room[3]));
-    Sent {
+    Datagram {
         room,
         len: info.len,
     }
@@ -118,7 +118,7 @@ fn first(rt: &impl Abort, host: &mut Handle) -> (u32, u32, u32, usize, u16) {
 }
 
 // The client calls service 7 with "hello" at tick 6.
-fn calls(rt: &impl Abort, alloc: Global, client: &mut Handle) -> Sent {
+fn calls(rt: &impl Abort, alloc: Global, client: &mut Handle) -> Datagram {
     let mut id = no_call();
     assert!(rt; homa_call(alloc, client, CLIENT, 7, b"hello", 6, &mut id) == 19);
     assert!(rt; homa_call(alloc, client, SERVER, 7, b"hello", 4, &mut id) == 21);
@@ -132,7 +132,7 @@ fn calls(rt: &impl Abort, alloc: Global, client: &mut Handle) -> Sent {
 }
 
 // It comes to the server, which answers "hi" at once.
-fn answers(rt: &impl Abort, alloc: Global, server: &mut Handle, request: &Sent) -> Sent {
+fn answers(rt: &impl Abort, alloc: Global, server: &mut Handle, request: &Datagram) -> Datagram {
     let (mut asked, mut room, mut len) = (nobody(), [0; 8], 0);
     let frame = &request.room[..request.len.min(1500)];
     assert!(rt; homa_deliver(alloc, server, CLIENT, frame, 6, &[], &mut asked) == 1);
@@ -148,7 +148,7 @@ fn answers(rt: &impl Abort, alloc: Global, server: &mut Handle, request: &Sent) 
 }
 
 // The response comes to the client.
-fn ends(rt: &impl Abort, alloc: Global, client: &mut Handle, response: &Sent) {
+fn ends(rt: &impl Abort, alloc: Global, client: &mut Handle, response: &Datagram) {
     let (mut asked, mut room, mut len) = (nobody(), [0; 2], 0);
     let frame = &response.room[..response.len.min(1500)];
     assert!(rt; homa_deliver(alloc, client, SERVER, frame, 7, &[], &mut asked) == 0);
@@ -177,7 +177,8 @@ fn one_call(rt: HostRuntime) {
 fn a_call_that_times_out(rt: HostRuntime) {
     let alloc = rt.alloc();
     let (mut client, mut at) = (opened(&rt, alloc, CLIENT), 0);
-    let _request = calls(&rt, alloc, &mut client);
+    let request = calls(&rt, alloc, &mut client);
+    assert!(rt; request.len == 41);
     for now in 7..30 {
         assert!(rt; homa_next_turn(&mut client, &mut at) == 0);
         assert!(rt; at == (now + 1) / 4 * 4 + 2);

@@ -1,8 +1,8 @@
-use Rattle.std.proofs.Common.{refl, sym, subst}
+use Rattle.std.proofs.Common.{sym, subst}
 use Rattle.homa_plain.specs.Steps.{arrival_step}
 use Rattle.host_view.specs.Marks.{has_ran}
 use Rattle.host_view.specs.Done.{IsDone, arriving}
-use Rattle.driven_host.specs.Driven.{Driven}
+use Rattle.driven_host.specs.Driven.{Driven, MayBegin}
 use Rattle.driven_host.proofs.AskingSteps.{stepped, delivered, asked_once}
 use Rattle.driven_host.proofs.Rest.{arrival_rests, after_delivery}
 use Rattle.driven_host.proofs.Whole.{done_with}
@@ -14,8 +14,8 @@ invariant_of-self c =
     let a = c.args in
     let then = c.deliver-came.new in
     let e = c.deliver-came.ensures in
-    let begins = c.if-not-may_begin.ensures.0 refl in
-    stepped d.host then.self d.served then.service.served d.out then.out d.id d.hosts d.calls d.steps
+    let begins = subst (λ (y : Driven). MayBegin y.host y.steps a.now) (sym c.self.view_is) c.in_default.ensures.begins in
+    stepped d.host then.self d.served then.service.served d.out then.out d.id d.hosts d.calls d.pages d.steps
     c.self.invariant begins.few e.steady
     (asked_once c.deliver-came.result (has_ran then.self.marks) d.served then.service.served e.served e.not_served)
     (delivered c.deliver-came.result d.host then.self _ then.out then.scratch e.answered e.step e.same)
@@ -28,8 +28,8 @@ invariant_of-self-else-not-tells_whole c =
     let a = c.args in
     let then = c.deliver-came.new in
     let e = c.deliver-came.ensures in
-    let begins = c.if-not-may_begin.ensures.0 refl in
-    stepped d.host then.self d.served then.service.served d.out then.out d.id d.hosts d.calls d.steps
+    let begins = subst (λ (y : Driven). MayBegin y.host y.steps a.now) (sym c.self.view_is) c.in_default.ensures.begins in
+    stepped d.host then.self d.served then.service.served d.out then.out d.id d.hosts d.calls d.pages d.steps
     c.self.invariant begins.few e.steady
     (asked_once c.deliver-came.result (has_ran then.self.marks) d.served then.service.served e.served e.not_served)
     (delivered c.deliver-came.result d.host then.self _ then.out then.scratch e.answered e.step e.same)

@@ -12,6 +12,7 @@ invariant_of-result c =
       name = ap (λ (g : Seen). g.host.id) is;
       hosts_are = ap (λ (g : Seen). g.settings.hosts) is;
       calls_are = ap (λ (g : Seen). g.settings.calls) is;
+      pages_are = ap (λ (g : Seen). g.settings.pages) is;
       order = omega (arith, ap (λ (g : Seen). g.host.order) is);
       served_few = omega arith;
       few = omega arith;

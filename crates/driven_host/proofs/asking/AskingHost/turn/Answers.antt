@@ -1,4 +1,4 @@
-use Rattle.std.proofs.Common.{[], subst, arith, refl}
+use Rattle.std.proofs.Common.{[], subst, arith}
 use Rattle.homa_plain.specs.Steps.{turn_step}
 use Rattle.host_view.specs.Done.{IsDone}
 use Rattle.driven_host.specs.Driven.{Driven}
@@ -10,9 +10,9 @@ pub invariant_of-self : goal.invariant_of-self
 invariant_of-self c =
     let d = c.self.inside in
     let e = c.turn.ensures in
-    let begins = c.if-not-may_begin.ensures.0 refl in
+    let begins = c.in_default.ensures.begins in
     let done = e.step [] in
-    stepped d.host c.turn.new.self d.served d.served d.out c.turn.new.out d.id d.hosts d.calls d.steps
+    stepped d.host c.turn.new.self d.served d.served d.out c.turn.new.out d.id d.hosts d.calls d.pages d.steps
     c.self.invariant begins.few e.steady (omega arith) done.sent
     (after d.host c.turn.new.self c.turn.new.out c.args.now begins.now_is _ [] (turn_rests d.host.settings d.host.host c.args.now) done e.last)
 
