@@ -70,8 +70,8 @@ module _ (id : CallId) (answer : List ℕ) (now : ℕ) (old : Late) (call : Kept
     fresh = subst (λ o. IfSome o (IsFresh old.keep now)) at fresh;
     in_life = subst (λ o. IfSome o (IsInLife old.driven.host.settings.life old.keep now)) at (λ sent fits. omega (arith, fresh, fits));
     step =
-      subst (λ (d : Driven). IfSome (call_of id old.calls) (λ (c : KeptCall). HasArrived now c.from c.frame old.driven d)) (sym same)
-      (subst (λ o. IfSome o (λ (c : KeptCall). HasArrived now c.from c.frame old.driven mid)) at step);
+        subst (λ (d : Driven). IfSome (call_of id old.calls) (λ (c : KeptCall). HasArrived now c.from c.frame old.driven d)) (sym same)
+        (subst (λ o. IfSome o (λ (c : KeptCall). HasArrived now c.from c.frame old.driven mid)) at step);
     given = subst (λ (d : Driven). WasGiven answer d) (sym same) given;
   }
 

@@ -1,19 +1,16 @@
 -- A host that keeps what asks.
-use Rattle.std.specs.Prelude.{◌≡◌, ◌≢◌, ◌<◌, ◌≤◌, ◌+◌, ◌^◌, ◌⊎◌, ℕ, Option, Some, None, List, [], ◌∷◌, ◌++◌, length, All, IsSome, IfSome, IsSomeAnd}
+use Rattle.std.specs.Prelude.{◌≡◌, ◌+◌, ℕ, List, [], ◌∷◌, ◌++◌}
 use Rattle.std.specs.List.{AllByRecursion}
 use Rattle.homa_plain.specs.declared.id.CallId.{CallId}
 use Rattle.homa_plain.specs.declared.id.HostId.{HostId}
 use Rattle.homa_plain.specs.Rules.{Answer}
-use Rattle.homa_plain.specs.Steps.{Work, arrival_step, has_run}
+use Rattle.homa_plain.specs.Steps.{Work, arrival_step}
 use Rattle.host_view.specs.Done.{arriving}
 use Rattle.host_view.specs.Marks.{IsAllowed}
-use Rattle.homa_host.specs.declared.asked.Asked.{Asked}
-use Rattle.homa_host.specs.Asking.{HasAsked}
 use Rattle.driven_host.specs.Driven.{Driven, IsStep, IsStill, ShowsNothing}
 use Rattle.driven_host.specs.Asking.{IsGiven}
 use Rattle.late_host.specs.declared.kept.KeptCall.{KeptCall}
-use Rattle.late_host.specs.Kept.{call_of, without, changed, IsFresh, HasRoomMade}
-use Rattle.late_host.specs.Ran.{ran_in, served_in}
+use Rattle.late_host.specs.Kept.{HasRoomMade}
 
 -- a host that its caller answers, the calls that are kept, how many may be, and for how many ticks their datagrams may be delivered
 pub record Late : Type 0 where

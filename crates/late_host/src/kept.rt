@@ -1,5 +1,6 @@
 // The calls that are kept at work.
-ghost use Rattle.std.specs.Prelude.{◌≡◌, ◌<◌, ◌≤◌, ◌+◌, ◌++◌, ◌∷◌, ◌↔◌, ◌⊎◌, IsTrue, IfOk, IfSome, IfNone, Contains, All, Some, None, [], false, length, option_copied, position};
+ghost use Rattle.std.specs.Prelude.{◌≡◌, ◌<◌, ◌≤◌, ◌+◌, ◌++◌, ◌∷◌, ◌↔◌, IsTrue, IfOk, IfSome, IfNone, false, [], length};
+ghost use Rattle.std.specs.Prelude.{Contains, All, option_copied, position};
 
 use crate::bytes::Bytes;
 use homa_plain::{CallId, HostId};

@@ -1,5 +1,5 @@
 // A host that keeps what asks, so that answers may come later.
-ghost use Rattle.std.specs.Prelude.{◌≡◌, ◌≢◌, ◌<◌, ◌≤◌, ◌+◌, ◌↔◌, ◌⊎◌, IsTrue, IsSome, IfOk, IfErr, OnOk, OnErr, Ok, All, Some, None, true, false, [], length};
+ghost use Rattle.std.specs.Prelude.{◌≡◌, ◌≢◌, ◌<◌, ◌≤◌, ◌+◌, ◌↔◌, ◌⊎◌, IsTrue, IsSome, IfOk, IfErr, Ok, All, Some, None, true, false, [], length};
 ghost use Rattle.homa_plain.specs.Settings.{IsValid};
 ghost use Rattle.homa_plain.specs.Steps.{next_id, call_step, turn_step};
 ghost use Rattle.driven_host.specs.Driven.{IsStep, IsStill, ShowsNothing};

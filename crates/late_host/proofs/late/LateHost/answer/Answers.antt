@@ -19,13 +19,13 @@ returns-in-Taken-clause-settled c =
     let s = c.settles.ensures in
     let before : Late = record { driven = d; calls = c.self.inside.kept.calls; room = c.self.inside.kept.room; keep = c.self.inside.keep } in
     let sound =
-        ap (λ (b : Bool). if b then Some Empty else delivery_fault d.host d.steps call.from (length answer) c.args.now) (sym c.if-is_empty.ensures)
-        ∙ sym c.in_default-delivery_fault.ensures.fault in
+    ap (λ (b : Bool). if b then Some Empty else delivery_fault d.host d.steps call.from (length answer) c.args.now) (sym c.if-is_empty.ensures)
+    ∙ sym c.in_default-delivery_fault.ensures.fault in
     let step = subst (λ (frame : List ℕ). HasArrived c.args.now call.from frame d mid) c.as_slice.ensures (e.step refl) in
     let held =
-        subst (λ (bytes : List ℕ). c.settles.result ≢ answered.Ran
-          → new ≡ record before { driven = mid; calls = changed c.args.id (with_answer bytes) before.calls }) c.in-Ok.ensures s.held in
+    subst (λ (bytes : List ℕ). c.settles.result ≢ answered.Ran
+    → new ≡ record before { driven = mid; calls = changed c.args.id (with_answer bytes) before.calls }) c.in-Ok.ensures s.held in
     rw (← c.self.view_is)
     (settled c.args.id answer c.args.now before call mid new c.settles.result
     (λ same. given_step c.args.id answer c.args.now before call mid new c.in-Some.ensures (no_bytes call.answer c.if-not-is_empty.ensures) sound
-      (c.if-not-is_fresh.ensures.0 refl) step (e.given refl) same) s.ran s.out s.unrun held s.or_held)
+    (c.if-not-is_fresh.ensures.0 refl) step (e.given refl) same) s.ran s.out s.unrun held s.or_held)

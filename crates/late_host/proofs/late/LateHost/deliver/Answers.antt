@@ -53,7 +53,8 @@ returns-in-Taken-deliver-clause-came c =
     let given = subst (λ (bytes : List ℕ). WasGiven bytes new) c.as_slice.ensures (then.given refl) in
     rw (← c.self.view_is) (record {
       step = arrived;
-      ran = ran_as_told old.host work new.host new.out new.whole arrived.1 ∙ asked_serves asked.id asked.number mid.whole work.told (e.asks asked refl arrived.0);
+      ran =
+          ran_as_told old.host work new.host new.out new.whole arrived.1 ∙ asked_serves asked.id asked.number mid.whole work.told (e.asks asked refl arrived.0);
       given = subst (λ (o : Option KeptCall). IsSomeAnd o (λ (call : KeptCall). WasGiven call.answer new)) c.in-Some.ensures given;
       calls = ap (λ (k : Keeping). k.calls) c.take_out.ensures;
     })
@@ -92,9 +93,9 @@ returns-in-Refused-deliver-clause-came c =
     } in
     let refused = subst (λ (o : Option StepFault). IsSome o) then.fault refl in
     let cannot : CannotGive c.args.from c.args.now new call =
-        inr (subst (λ (d : Driven). IsSome (delivery_fault d.host d.steps c.args.from (length call.answer) c.args.now)) (sym same)
-        (subst (λ (bytes : List ℕ). IsSome (delivery_fault mid.host mid.steps c.args.from (length bytes) c.args.now)) c.as_slice.ensures refused))
-        in
+    inr (subst (λ (d : Driven). IsSome (delivery_fault d.host d.steps c.args.from (length call.answer) c.args.now)) (sym same)
+    (subst (λ (bytes : List ℕ). IsSome (delivery_fault mid.host mid.steps c.args.from (length bytes) c.args.now)) c.as_slice.ensures refused))
+    in
     rw (← c.self.view_is)
     (renewed c.args.now c.args.from c.args.frame.now _ new c.renews-in-Refused-deliver.new.self asked mid.whole c.renews-in-Refused-deliver.result
     (e.asks asked refl) leaves (subst (λ (o : Option KeptCall). IsSome o) c.in-Some.ensures refl)
