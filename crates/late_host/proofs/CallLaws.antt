@@ -1,12 +1,11 @@
 -- Laws of the calls that are kept.
-use Rattle.std.proofs.Common.{◌≡◌, ℕ, zero, suc, ◌+◌, ◌<◌, ◌≤◌, Bool, true, false, cond, not, Option, Some, None, List, [], ◌∷◌, length, get_or, set}
+use Rattle.std.proofs.Common.{◌≡◌, ℕ, zero, suc, ◌+◌, ◌<◌, ◌≤◌, Bool, true, false, cond, not, Some, None, List, [], ◌∷◌, length, get_or, set}
 use Rattle.std.proofs.Common.{refl, sym, ap, subst, ◌∙◌, arith}
-use Rattle.std.specs.Prelude.{nat_lt, position, Contains, All, filter}
+use Rattle.std.specs.Prelude.{nat_lt, position}
 use Rattle.std.specs.List.{position_or_len}
 use Rattle.std.proofs.lemmas.Bool.{ltb-true, ltb-false}
 use Rattle.std.proofs.lemmas.List.Filters.{length-filter_both}
 use Rattle.homa_plain.specs.declared.id.CallId.{CallId}
-use Rattle.homa_plain.specs.Calls.{is_call}
 use Rattle.homa_plain.proofs.CallOrder.{calls_are}
 use Rattle.late_host.specs.declared.kept.KeptCall.{KeptCall}
 use Rattle.late_host.specs.Kept.{is_of, without, changed}

@@ -1,14 +1,12 @@
 -- What comes of a datagram and of an answer, from what the parts of the step say.
-use Rattle.std.proofs.Common.{◌≡◌, ◌≢◌, ℕ, ◌+◌, ◌≤◌, Bool, true, false, Option, Some, None, List, [], ◌∷◌, length, refl, sym, ap, subst, ◌∙◌, arith, inl, inr}
-use Rattle.std.specs.Prelude.{◌⊎◌, ◌==◌, if◌then◌else◌, IsSome, IfSome, IsSomeAnd}
+use Rattle.std.proofs.Common.{◌≡◌, ◌≢◌, ℕ, true, Some, None, List, [], ◌∷◌, length, refl, sym, ap, subst, ◌∙◌, arith, inl, inr}
+use Rattle.std.specs.Prelude.{◌⊎◌, ◌==◌, IsSome, IfSome, IsSomeAnd}
 use Rattle.std.proofs.lemmas.Bool.{eqb-true}
 use Rattle.homa_plain.specs.declared.id.CallId.{CallId}
 use Rattle.homa_plain.specs.declared.id.HostId.{HostId}
 use Rattle.homa_plain.specs.Rules.{Answer}
 use Rattle.homa_host.specs.declared.asked.Asked.{Asked}
 use Rattle.homa_host.specs.Asking.{HasAsked}
-use Rattle.driven_host.specs.declared.faults.StepFault.{StepFault}
-use Rattle.driven_host.specs.declared.faults.StepFault.TheVariants.{Empty}
 use Rattle.driven_host.specs.Driven.{Driven}
 use Rattle.driven_host.specs.Faults.{delivery_fault}
 use Rattle.late_host.specs.declared.kept.KeptCall.{KeptCall}

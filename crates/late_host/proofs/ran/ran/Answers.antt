@@ -1,7 +1,7 @@
-use Rattle.std.proofs.Common.{◌≡◌, ◌+◌, None, Some, drop, sym, ap, ◌∙◌, arith}
+use Rattle.std.proofs.Common.{◌+◌, drop, sym, ap, ◌∙◌, arith}
 use Rattle.std.specs.Option.{option_or}
 use Rattle.std.proofs.lemmas.List.{at_drop_all}
-use Rattle.late_host.specs.Ran.{ran_by, ran_in}
+use Rattle.late_host.specs.Ran.{ran_in}
 use Rattle.late_host.proofs.RanLaws.{next_mark}
 use Rattle.late_host.proofs.ran.ran.Goals as goal
 

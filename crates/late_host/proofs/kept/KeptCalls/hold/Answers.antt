@@ -1,4 +1,4 @@
-use Rattle.std.proofs.Common.{◌≡◌, ap, sym, List}
+use Rattle.std.proofs.Common.{ap, sym, List}
 use Rattle.late_host.specs.declared.kept.KeptCall.{KeptCall}
 use Rattle.late_host.specs.Kept.{Keeping}
 use Rattle.late_host.proofs.CallLaws.{changed_at, unchanged}

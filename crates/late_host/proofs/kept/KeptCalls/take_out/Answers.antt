@@ -1,4 +1,4 @@
-use Rattle.std.proofs.Common.{◌≡◌, not, ap, List, rules}
+use Rattle.std.proofs.Common.{not, ap, List, rules}
 use Rattle.std.proofs.lemmas.Fn.{filter_same}
 use Rattle.late_host.specs.declared.kept.KeptCall.{KeptCall}
 use Rattle.late_host.specs.Kept.{Keeping, is_of}

@@ -1,4 +1,4 @@
-use Rattle.std.proofs.Common.{◌≡◌, ◌≢◌, Bool, Some, None, List, ℕ, length, sym, ap, subst, ◌∙◌, refl}
+use Rattle.std.proofs.Common.{◌≡◌, ◌≢◌, Bool, Some, List, ℕ, length, sym, ap, subst, ◌∙◌, refl}
 use Rattle.std.specs.Prelude.{if◌then◌else◌}
 use Rattle.driven_host.specs.declared.faults.StepFault.TheVariants.{Empty}
 use Rattle.driven_host.specs.Faults.{delivery_fault}
