@@ -1,5 +1,5 @@
 // Random steps of a client and a late host, whose datagrams are lost, repeated and reordered.
-ghost use Rattle.std.specs.Prelude.{◌<◌, ◌≤◌, IfSome, vec_len};
+ghost use Rattle.std.specs.Prelude.{◌≡◌, ◌<◌, ◌≤◌, IfSome, vec_len};
 
 use crate::mirror::{KEEP, Mirror, MirrorCounts, ROOM, answer_len, answer_to};
 use driven_host::{AskingHost, Came};
@@ -54,7 +54,8 @@ impl Trial {
     // A number below n.
     fn below(&mut self, n: u64) -> u64
         requires { 1 ≤ n }
-        ensures { result < n }
+        ensures below { result < n }
+        ensures same { self.new ≡ record self.old { random = self.new.random } }
     {
         self.random = self
             .random
@@ -78,9 +79,11 @@ impl Trial {
 
     fn client_did(&mut self, rt: &impl Abort, alloc: Global) -> Result<(), AllocError> {
         Trial::sends(&mut self.flying, alloc, self.client.out())?;
-        for i in 0..self.client.host().entries() {
-            if let Entry::Done { id, bytes } = self.client.entry(i) {
-                self.mirror.ends(rt, id, bytes);
+        let client = &self.client;
+        let mirror = &mut self.mirror;
+        for i in 0..client.host().entries() {
+            if let Entry::Done { id, bytes } = client.entry(i) {
+                mirror.ends(rt, id, bytes);
             }
         }
         Ok(())
