@@ -1,0 +1,4 @@
+pub mod CallLaws
+pub mod HeardLaws
+pub mod RanLaws
+pub mod SameSteps

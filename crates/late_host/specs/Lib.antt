@@ -1,0 +1,4 @@
+pub mod Kept
+pub mod Ran
+pub mod Late
+pub mod Heard
