@@ -19,7 +19,7 @@ const MOST_FLYING: usize = 40;
 
 // A datagram that is under way.
 #[derive(Drop)]
-struct Datagram {
+struct FlyingDatagram {
     from: HostId,
     bytes: Vec<u8>,
 }
@@ -29,7 +29,7 @@ struct Datagram {
 struct Trial {
     client: AskingHost,
     server: LateHost,
-    flying: Vec<Datagram>,
+    flying: Vec<FlyingDatagram>,
     mirror: Mirror,
     now: u64,
     random: u64,
@@ -65,10 +65,14 @@ impl Trial {
     }
 
     // The frames of a host's last step are under way.
-    fn sends(flying: &mut Vec<Datagram>, alloc: Global, out: &Outbox) -> Result<(), AllocError> {
+    fn sends(
+        flying: &mut Vec<FlyingDatagram>,
+        alloc: Global,
+        out: &Outbox,
+    ) -> Result<(), AllocError> {
         for i in 0..out.len() {
             if flying.len() < MOST_FLYING {
-                flying.push(Datagram {
+                flying.push(FlyingDatagram {
                     from: out.sender(i),
                     bytes: Vec::from_slice(alloc, out.bytes(i))?,
                 })?;
@@ -104,7 +108,7 @@ impl Trial {
             return Ok(());
         };
         if self.below(8) == 0 && self.flying.len() < MOST_FLYING {
-            let again = Datagram {
+            let again = FlyingDatagram {
                 from: self.flying[place].from,
                 bytes: self.flying[place].bytes.clone()?,
             };
