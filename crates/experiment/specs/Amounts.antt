@@ -1,0 +1,116 @@
+-- The amounts that lines may say: their words, their ranges, and what they are of a network and a load.
+use Rattle.std.specs.Prelude.{ℕ, List, Bool, true, false, ◌/◌, codes}
+use Rattle.experiment.specs.declared.amounts.Amount.{Amount}
+use Rattle.experiment.specs.declared.amounts.Amount.TheVariants.{Link, Delay, Switch, HostDelay, ServiceTime, Overhead, Buffer, CardLimit, Tick, Spread}
+use Rattle.experiment.specs.declared.amounts.Amount.TheVariants.{Loss, Repeat, Jitter, Load, Exact, Service, Incast, Burst, Warm, Measure, Seed, Seeds, Parts}
+use Rattle.experiment.specs.declared.network.Network.{Network}
+use Rattle.experiment.specs.declared.load.Load.{Load as TheLoad}
+
+-- the word of an amount
+abbrev pub amount_word : Amount → List ℕ
+amount_word Link = codes "link"
+amount_word Delay = codes "delay"
+amount_word Switch = codes "switch"
+amount_word HostDelay = codes "host-delay"
+amount_word ServiceTime = codes "service-time"
+amount_word Overhead = codes "overhead"
+amount_word Buffer = codes "buffer"
+amount_word CardLimit = codes "card-limit"
+amount_word Tick = codes "tick"
+amount_word Spread = codes "spread"
+amount_word Loss = codes "loss"
+amount_word Repeat = codes "repeat"
+amount_word Jitter = codes "jitter"
+amount_word Load = codes "load"
+amount_word Exact = codes "exact"
+amount_word Service = codes "service"
+amount_word Incast = codes "incast"
+amount_word Burst = codes "burst"
+amount_word Warm = codes "warm"
+amount_word Measure = codes "measure"
+amount_word Seed = codes "seed"
+amount_word Seeds = codes "seeds"
+amount_word Parts = codes "parts"
+
+-- the least number of an amount
+abbrev pub least : Amount → ℕ
+least Link = 1
+least Delay = 0
+least Switch = 0
+least HostDelay = 0
+least ServiceTime = 0
+least Overhead = 0
+least Buffer = 0
+least CardLimit = 0
+least Tick = 1
+least Spread = 0
+least Loss = 0
+least Repeat = 0
+least Jitter = 0
+least Load = 1
+least Exact = 0
+least Service = 0
+least Incast = 0
+least Burst = 1
+least Warm = 0
+least Measure = 1
+least Seed = 0
+least Seeds = 1
+least Parts = 1
+
+-- the greatest number of an amount
+abbrev pub most : Amount → ℕ
+most Link = 8000000
+most Delay = 1000000000
+most Switch = 1000000000
+most HostDelay = 1000000000
+most ServiceTime = 1000000000
+most Overhead = 10000
+most Buffer = 4000000000
+most CardLimit = 4000000000
+most Tick = 1000000000
+most Spread = 1
+most Loss = 1000000
+most Repeat = 1000000
+most Jitter = 1000000000
+most Load = 100000
+most Exact = 1
+most Service = 3
+most Incast = 31
+most Burst = 1000
+most Warm = 100000000
+most Measure = 100000000
+most Seed = 1000000000000000000
+most Seeds = 10000
+most Parts = 1000
+
+-- 1 for yes, 0 for no
+abbrev pub bit : Bool → ℕ
+bit true = 1
+bit false = 0
+
+-- what an amount is of a network and a load: spans are nanoseconds, and a link's rate is in Mbit/s
+abbrev pub value : Network → TheLoad → Amount → ℕ
+value network load Link = 8000000 / network.byte
+value network load Delay = network.delay / 1000
+value network load Switch = network.switch / 1000
+value network load HostDelay = network.host_delay / 1000
+value network load ServiceTime = network.service_time / 1000
+value network load Overhead = network.overhead
+value network load Buffer = network.buffer
+value network load CardLimit = network.card_limit
+value network load Tick = network.tick / 1000
+value network load Spread = bit network.is_spread
+value network load Loss = network.loss
+value network load Repeat = network.repeat
+value network load Jitter = network.jitter / 1000
+value network load Load = load.load
+value network load Exact = bit load.is_exact
+value network load Service = load.service
+value network load Incast = load.incast
+value network load Burst = load.burst
+value network load Warm = load.warm
+value network load Measure = load.calls
+value network load Seed = load.seed
+value network load Seeds = load.seeds
+value network load Parts = load.parts

@@ -1,0 +1,79 @@
+// Why a text is no experiment.
+use crate::amounts::Amount;
+use homa_plain::{Name, ScriptFault};
+use script_lines::ScriptStop;
+use std::alloc::AllocError;
+
+/// What is wrong with a line or a word.
+#[derive(Clone, Copy, Debug, PartialEq, Eq)]
+pub enum Wrong {
+    /// The line can't be read: it is too long, isn't UTF-8, or the text is too long.
+    Unreadable(ScriptFault),
+    /// The first word names nothing.
+    UnknownName,
+    /// A word is missing here.
+    Missing,
+    /// A word stands behind the last one.
+    Extra,
+    /// The word isn't a number from the first of these to the second.
+    Outside(u64, u64),
+    /// The setting of the hosts can't have this number.
+    Setting(Name),
+    /// The number may not stand with what other lines say of this amount.
+    Against(Amount),
+    /// `unsched` is above `window`.
+    UnschedOverWindow,
+    /// `rate` is below `seg`.
+    RateUnderSeg,
+    /// A byte takes no whole number of picoseconds at this rate: 8,000,000 isn't a multiple of it.
+    Uneven,
+    /// The card is `fifo`, `levels` or `srpt`.
+    Card,
+    /// The number must be above that of the line before.
+    NotAbove,
+    /// The moment is before that of the line before.
+    Before,
+    /// The host's number isn't below `hosts`.
+    Host,
+    /// There are more steps than 4,000.
+    Steps,
+    /// No line says anything.
+    Nothing,
+    /// A host doesn't call itself.
+    SelfCall,
+    /// There are more restarts than 64.
+    Restarts,
+    /// More calls are listed than 100,000,000.
+    Calls,
+}
+
+/// Why a text is no experiment.
+#[derive(Clone, Copy, Debug, PartialEq, Eq)]
+pub enum ExperimentFault {
+    /// The source can't be read.
+    Read,
+    /// There is no memory.
+    NoMemory,
+    /// What is wrong, and where: the line, and the word in it, both counted from 1.
+    Said { line: u64, word: u32, wrong: Wrong },
+}
+
+impl From<AllocError> for ExperimentFault {
+    fn from(_error: AllocError) -> ExperimentFault {
+        ExperimentFault::NoMemory
+    }
+}
+
+impl ExperimentFault {
+    /// Why no further line came.
+    pub(crate) fn of_stop(line: u64, stop: ScriptStop) -> ExperimentFault {
+        match stop {
+            ScriptStop::Read(_) => ExperimentFault::Read,
+            ScriptStop::Fault(fault) => ExperimentFault::Said {
+                line,
+                word: 1,
+                wrong: Wrong::Unreadable(fault),
+            },
+        }
+    }
+}
