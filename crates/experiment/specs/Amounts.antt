@@ -2,7 +2,7 @@
 use Rattle.std.specs.Prelude.{ℕ, List, Bool, true, false, ◌/◌, codes}
 use Rattle.experiment.specs.declared.amounts.Amount.{Amount}
 use Rattle.experiment.specs.declared.amounts.Amount.TheVariants.{Link, Delay, Switch, HostDelay, ServiceTime, Overhead, Buffer, CardLimit, Tick, Spread}
-use Rattle.experiment.specs.declared.amounts.Amount.TheVariants.{Loss, Repeat, Jitter, Load, Exact, Service, Incast, Burst, Warm, Measure, Seed, Seeds, Parts}
+use Rattle.experiment.specs.declared.amounts.Amount.TheVariants.{Loss, Repeat, Jitter, Load, Exact, Service, Incast, Burst, Warm, Measure, Seed, Seeds, Parts, Events}
 use Rattle.experiment.specs.declared.network.Network.{Network}
 use Rattle.experiment.specs.declared.load.Load.{Load as TheLoad}
 
@@ -31,6 +31,7 @@ amount_word Measure = codes "measure"
 amount_word Seed = codes "seed"
 amount_word Seeds = codes "seeds"
 amount_word Parts = codes "parts"
+amount_word Events = codes "events"
 
 -- the least number of an amount
 abbrev pub least : Amount → ℕ
@@ -57,6 +58,7 @@ least Measure = 1
 least Seed = 0
 least Seeds = 1
 least Parts = 1
+least Events = 0
 
 -- the greatest number of an amount
 abbrev pub most : Amount → ℕ
@@ -83,6 +85,7 @@ most Measure = 100000000
 most Seed = 1000000000000000000
 most Seeds = 10000
 most Parts = 1000
+most Events = 1125899906842624
 
 -- 1 for yes, 0 for no
 abbrev pub bit : Bool → ℕ
@@ -114,3 +117,4 @@ value network load Measure = load.calls
 value network load Seed = load.seed
 value network load Seeds = load.seeds
 value network load Parts = load.parts
+value network load Events = load.events

@@ -31,6 +31,7 @@ pub enum Amount {
     Seed,
     Seeds,
     Parts,
+    Events,
 }
 
 // The picoseconds of a nanosecond.
@@ -44,7 +45,7 @@ const SECOND: u64 = 1_000_000_000;
 
 impl Amount {
     /// All amounts, in the order in which they are printed.
-    pub const ALL: [Amount; 23] = [
+    pub const ALL: [Amount; 24] = [
         Amount::Link,
         Amount::Delay,
         Amount::Switch,
@@ -68,6 +69,7 @@ impl Amount {
         Amount::Seed,
         Amount::Seeds,
         Amount::Parts,
+        Amount::Events,
     ];
 
     /// The word that names it.
@@ -98,6 +100,7 @@ impl Amount {
             Amount::Seed => "seed",
             Amount::Seeds => "seeds",
             Amount::Parts => "parts",
+            Amount::Events => "events",
         }
     }
 
@@ -126,6 +129,7 @@ impl Amount {
             Amount::Measure => (1, 100_000_000),
             Amount::Seed => (0, 1_000_000_000_000_000_000),
             Amount::Seeds => (1, 10_000),
+            Amount::Events => (0, 1 << 50),
         }
     }
 
@@ -164,6 +168,7 @@ impl Amount {
             Amount::Seed => load.seed,
             Amount::Seeds => u64::from(load.seeds),
             Amount::Parts => u64::from(load.parts),
+            Amount::Events => load.events,
             _ => 0,
         }
     }
@@ -207,6 +212,7 @@ impl Amount {
             Amount::Seed => load.seed = n,
             Amount::Seeds => load.seeds = n as u32,
             Amount::Parts => load.parts = n as u32,
+            Amount::Events => load.events = n,
             _ => {}
         }
     }

@@ -41,10 +41,8 @@ pub enum Wrong {
     Nothing,
     /// A host doesn't call itself.
     SelfCall,
-    /// There are more restarts than 64.
-    Restarts,
-    /// More calls are listed than 100,000,000.
-    Calls,
+    /// There are more such lines than so many.
+    TooMany(u64),
 }
 
 /// Why a text is no experiment.

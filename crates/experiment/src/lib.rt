@@ -28,5 +28,5 @@ pub use gaps::{ARRIVALS, LENGTHS, gap_of, wire_of_call};
 pub use load::{Hot, Load};
 pub use network::{Card, Network};
 pub use reading::read;
-pub use trial::{Experiment, ListedCall, Restarting};
+pub use trial::{Experiment, Injection, ListedCall, Restarting, Shifting};
 pub use workload::{Step, Workload};

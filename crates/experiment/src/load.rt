@@ -1,5 +1,5 @@
 // What is asked of a network.
-ghost use Rattle.std.specs.Prelude.{◌≤◌};
+ghost use Rattle.std.specs.Prelude.{◌≤◌, ◌^◌};
 
 use homa_plain::HostId;
 
@@ -34,6 +34,8 @@ pub struct Load {
     pub seeds: u32,
     /// For how many parts of the lengths slowdowns are told.
     pub parts: u32,
+    /// A run stops after so many events, if this isn't 0.
+    pub events: u64,
     ghost some_load: { 1 ≤ load },
     ghost load_most: { load ≤ 100000 },
     ghost service_most: { service ≤ 3 },
@@ -48,4 +50,5 @@ pub struct Load {
     ghost seeds_most: { seeds ≤ 10000 },
     ghost some_parts: { 1 ≤ parts },
     ghost parts_most: { parts ≤ 1000 },
+    ghost events_most: { events ≤ 2 ^ 50 },
 }

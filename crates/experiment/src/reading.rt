@@ -6,7 +6,7 @@ use crate::fault::{ExperimentFault, Wrong};
 use crate::load::Hot;
 use crate::network::Card;
 use crate::said::Said;
-use crate::trial::{Experiment, ListedCall, Restarting};
+use crate::trial::{Experiment, Injection, ListedCall, Restarting, Shifting};
 use crate::workload::{Step, Workload};
 use homa_io::Source;
 use homa_plain::{HostId, Name};
@@ -24,6 +24,15 @@ const MOST_RESTARTS: usize = 64;
 
 // The most calls of a list.
 const MOST_LISTED: usize = 100_000_000;
+
+// The most datagrams that are injected, and clocks that are shifted.
+const MOST_OTHERS: usize = 100_000;
+
+// The most bytes of a datagram that is injected.
+const MOST_INJECTED: u64 = 1500;
+
+// The most ticks by which a clock is shifted.
+const MOST_SHIFT: u64 = 1000;
 
 // The most bytes of a message.
 const MOST_LENGTH: u64 = 1_000_000;
@@ -262,7 +271,7 @@ impl Said {
         let at = line.number(0, DAY)? * NANO;
         line.end()?;
         if self.restarts.len() >= MOST_RESTARTS {
-            return Err(line.wrong(Wrong::Restarts));
+            return Err(line.wrong(Wrong::TooMany(MOST_RESTARTS as u64)));
         }
         let restarting = Restarting {
             host,
@@ -296,7 +305,7 @@ impl Said {
         }
         line.end()?;
         if self.listed.len() >= MOST_LISTED {
-            return Err(line.wrong(Wrong::Calls));
+            return Err(line.wrong(Wrong::TooMany(MOST_LISTED as u64)));
         }
         let call = ListedCall {
             client,
@@ -306,6 +315,42 @@ impl Said {
             line: line.line,
         };
         Ok(self.listed.push(call).map_err(AllocError::from)?)
+    }
+
+    // `inject HOST BYTES NANOSECONDS`.
+    fn add_injection(&mut self, line: &mut LineWords<'_>) -> Result<(), ExperimentFault> {
+        let host = line.host()?;
+        let bytes = line.number(0, MOST_INJECTED)? as u32;
+        let at = line.number(0, DAY)? * NANO;
+        line.end()?;
+        if self.injections.len() >= MOST_OTHERS {
+            return Err(line.wrong(Wrong::TooMany(MOST_OTHERS as u64)));
+        }
+        let injection = Injection {
+            host,
+            bytes,
+            at,
+            line: line.line,
+        };
+        Ok(self.injections.push(injection).map_err(AllocError::from)?)
+    }
+
+    // `shift HOST TICKS NANOSECONDS`.
+    fn add_shift(&mut self, line: &mut LineWords<'_>) -> Result<(), ExperimentFault> {
+        let host = line.host()?;
+        let ticks = line.number(0, MOST_SHIFT)? as u32;
+        let at = line.number(0, DAY)? * NANO;
+        line.end()?;
+        if self.shifts.len() >= MOST_OTHERS {
+            return Err(line.wrong(Wrong::TooMany(MOST_OTHERS as u64)));
+        }
+        let shifting = Shifting {
+            host,
+            ticks,
+            at,
+            line: line.line,
+        };
+        Ok(self.shifts.push(shifting).map_err(AllocError::from)?)
     }
 
     // A line whose first word is no setting and no amount.
@@ -324,6 +369,8 @@ impl Said {
             b"restart" => self.add_restart(line),
             b"hot" => self.set_hot(line),
             b"call" => self.add_call(line),
+            b"inject" => self.add_injection(line),
+            b"shift" => self.add_shift(line),
             _ => Err(line.wrong(Wrong::UnknownName)),
         }
     }

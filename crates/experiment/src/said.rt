@@ -5,7 +5,7 @@ use crate::amounts::Amount;
 use crate::fault::{ExperimentFault, Wrong};
 use crate::load::Load;
 use crate::network::{Card, Network};
-use crate::trial::{Experiment, ListedCall, Restarting};
+use crate::trial::{Experiment, Injection, ListedCall, Restarting, Shifting};
 use crate::workload::{Step, Workload};
 use homa_plain::{SettingFault, Settings};
 use std::alloc::Global;
@@ -19,6 +19,8 @@ pub(crate) struct Said {
     pub(crate) workload: Workload,
     pub(crate) restarts: Vec<Restarting>,
     pub(crate) listed: Vec<ListedCall>,
+    pub(crate) injections: Vec<Injection>,
+    pub(crate) shifts: Vec<Shifting>,
     pub(crate) numbered: Option<u32>,
     // The sum of the shares of `cumulative` lines.
     pub(crate) summed: u32,
@@ -75,6 +77,7 @@ fn usual_load() -> Load {
         seed: 1,
         seeds: 1,
         parts: 10,
+        events: 0,
     }
 }
 
@@ -102,6 +105,8 @@ impl Said {
             workload,
             restarts: Vec::new(alloc),
             listed: Vec::new(alloc),
+            injections: Vec::new(alloc),
+            shifts: Vec::new(alloc),
             numbered: Some(2),
             summed: 0,
             setting_line: 0,
@@ -144,6 +149,21 @@ impl Said {
         Ok(())
     }
 
+    // That the hosts of injected datagrams and of shifted clocks are hosts.
+    fn are_others_fit(&self) -> Result<(), ExperimentFault> {
+        for injection in &self.injections {
+            if u32::from(injection.host.0) >= self.settings.hosts {
+                return Err(wrong_at(injection.line, 2, Wrong::Host));
+            }
+        }
+        for shift in &self.shifts {
+            if u32::from(shift.host.0) >= self.settings.hosts {
+                return Err(wrong_at(shift.line, 2, Wrong::Host));
+            }
+        }
+        Ok(())
+    }
+
     // That the hosts that the load names are hosts.
     fn is_load_fit(&self) -> Result<(), ExperimentFault> {
         if self.load.incast >= self.settings.hosts {
@@ -163,6 +183,7 @@ impl Said {
         self.are_settings_valid()?;
         self.are_restarts_fit()?;
         self.are_listed_fit()?;
+        self.are_others_fit()?;
         self.is_load_fit()?;
         let Said {
             settings,
@@ -171,6 +192,8 @@ impl Said {
             workload,
             restarts,
             listed,
+            injections,
+            shifts,
             numbered,
             ..
         } = self;
@@ -185,6 +208,8 @@ impl Said {
             workload,
             restarts,
             listed,
+            injections,
+            shifts,
             numbered,
         })
     }
