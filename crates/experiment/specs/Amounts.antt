@@ -1,5 +1,6 @@
 -- The amounts that lines may say: their words, their ranges, and what they are of a network and a load.
-use Rattle.std.specs.Prelude.{ℕ, List, Bool, true, false, ◌/◌, codes}
+use Rattle.std.specs.Prelude.{◌≡◌, ℕ, ◌≤◌, ◌<◌, List, [], ◌∷◌, map, length, slice_index, Option, None, Some, nat_lt, Bool, true, false, if◌then◌else◌, ◌/◌, codes}
+use Rattle.std.specs.Str.{bytes_eq}
 use Rattle.experiment.specs.declared.amounts.Amount.{Amount}
 use Rattle.experiment.specs.declared.amounts.Amount.TheVariants.{Link, Delay, Switch, HostDelay, ServiceTime, Overhead, Buffer, CardLimit, Tick, Spread}
 use Rattle.experiment.specs.declared.amounts.Amount.TheVariants.{Loss, Repeat, Jitter, Load, Exact, Service, Incast, Burst, Warm, Measure, Seed, Seeds, Parts, Events}
@@ -32,6 +33,44 @@ amount_word Seed = codes "seed"
 amount_word Seeds = codes "seeds"
 amount_word Parts = codes "parts"
 amount_word Events = codes "events"
+
+-- all amounts
+abbrev pub amounts : List Amount
+amounts =
+    Link ∷ Delay ∷ Switch ∷ HostDelay ∷ ServiceTime ∷ Overhead ∷ Buffer ∷ CardLimit ∷ Tick ∷ Spread ∷ Loss ∷ Repeat ∷ Jitter ∷ Load ∷ Exact ∷ Service
+    ∷ Incast ∷ Burst ∷ Warm ∷ Measure ∷ Seed ∷ Seeds ∷ Parts ∷ Events ∷ []
+
+-- the place of an amount among all
+abbrev pub index : Amount → ℕ
+index Link = 0
+index Delay = 1
+index Switch = 2
+index HostDelay = 3
+index ServiceTime = 4
+index Overhead = 5
+index Buffer = 6
+index CardLimit = 7
+index Tick = 8
+index Spread = 9
+index Loss = 10
+index Repeat = 11
+index Jitter = 12
+index Load = 13
+index Exact = 14
+index Service = 15
+index Incast = 16
+index Burst = 17
+index Warm = 18
+index Measure = 19
+index Seed = 20
+index Seeds = 21
+index Parts = 22
+index Events = 23
+
+-- the amount that a word names
+abbrev pub amount_in : List Amount → List ℕ → Option Amount
+amount_in [] word = None
+amount_in (amount ∷ rest) word = if bytes_eq word (amount_word amount) then Some amount else amount_in rest word
 
 -- the least number of an amount
 abbrev pub least : Amount → ℕ
@@ -92,6 +131,33 @@ abbrev pub bit : Bool → ℕ
 bit true = 1
 bit false = 0
 
+-- what an amount is of a load, and 0 for one of the network
+abbrev pub load_value : TheLoad → Amount → ℕ
+load_value load Link = 0
+load_value load Delay = 0
+load_value load Switch = 0
+load_value load HostDelay = 0
+load_value load ServiceTime = 0
+load_value load Overhead = 0
+load_value load Buffer = 0
+load_value load CardLimit = 0
+load_value load Tick = 0
+load_value load Spread = 0
+load_value load Loss = 0
+load_value load Repeat = 0
+load_value load Jitter = 0
+load_value load Load = load.load
+load_value load Exact = bit load.is_exact
+load_value load Service = load.service
+load_value load Incast = load.incast
+load_value load Burst = load.burst
+load_value load Warm = load.warm
+load_value load Measure = load.calls
+load_value load Seed = load.seed
+load_value load Seeds = load.seeds
+load_value load Parts = load.parts
+load_value load Events = load.events
+
 -- what an amount is of a network and a load: spans are nanoseconds, and a link's rate is in Mbit/s
 abbrev pub value : Network → TheLoad → Amount → ℕ
 value network load Link = 8000000 / network.byte
@@ -118,3 +184,16 @@ value network load Seed = load.seed
 value network load Seeds = load.seeds
 value network load Parts = load.parts
 value network load Events = load.events
+
+-- each of all amounts has a number within its range
+pub record AreWithin (numbers : List ℕ) : Type 0 where
+  pub least : (k : ℕ) → k < 24 → slice_index (map least amounts) k ≤ slice_index numbers k
+  pub most : (k : ℕ) → k < 24 → slice_index numbers k ≤ slice_index (map most amounts) k
+
+-- the number of an amount
+abbrev pub number_of : List ℕ → Amount → ℕ
+number_of numbers amount = slice_index numbers (index amount)
+
+-- 1 is yes
+abbrev pub is_yes : ℕ → Bool
+is_yes n = nat_lt 0 n

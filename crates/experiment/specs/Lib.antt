@@ -1,2 +1,4 @@
-pub mod Amounts
+pub mod Draws
+pub mod Wires
 pub mod Tables
+pub mod Amounts

@@ -1,6 +1,7 @@
 // The amounts of network and load, by the names that lines give them.
 ghost use Rattle.std.specs.Prelude.{◌≡◌, ◌≤◌};
-ghost use Rattle.experiment.specs.Amounts.{amount_word, least, most, value};
+ghost use Rattle.std.specs.Str.{bytes_eq};
+ghost use Rattle.experiment.specs.Amounts.{amount_word, index, least, most, value, load_value, amounts, amount_in};
 
 use crate::load::Load;
 use crate::network::Network;
@@ -71,6 +72,13 @@ impl Amount {
         Amount::Parts,
         Amount::Events,
     ];
+
+    /// Its place among all amounts.
+    pub(crate) fn index(self) -> usize
+        ensures { result ≡ index self }
+    {
+        self as usize
+    }
 
     /// The word that names it.
     pub fn word(self) -> &'static str
@@ -156,7 +164,9 @@ impl Amount {
     }
 
     // Its number, if it is one of the load.
-    fn load_value(self, load: &Load) -> u64 {
+    fn load_value(self, load: &Load) -> u64
+        ensures { result ≡ load_value load.now self }
+    {
         match self {
             Amount::Load => u64::from(load.load),
             Amount::Exact => u64::from(load.is_exact),
@@ -172,56 +182,21 @@ impl Amount {
             _ => 0,
         }
     }
+}
 
-    /// Gives it a number within its range. Of a link's rate 8,000,000 is to be a multiple.
-    pub(crate) fn set(self, network: &mut Network, load: &mut Load, n: u64)
-        requires least { least self ≤ n }
-        requires most { n ≤ most self }
-    {
-        match self {
-            Amount::Link => network.byte = BYTE_AT_ONE / n,
-            Amount::Delay => network.delay = n * NANO,
-            Amount::Switch => network.switch = n * NANO,
-            Amount::HostDelay => network.host_delay = n * NANO,
-            Amount::ServiceTime => network.service_time = n * NANO,
-            Amount::Overhead => network.overhead = n as u32,
-            Amount::Buffer => network.buffer = n as u32,
-            Amount::CardLimit => network.card_limit = n as u32,
-            Amount::Tick => network.tick = n * NANO,
-            Amount::Spread => network.is_spread = n != 0,
-            Amount::Loss => network.loss = n as u32,
-            Amount::Repeat => network.repeat = n as u32,
-            Amount::Jitter => network.jitter = n * NANO,
-            _ => self.set_load(load, n),
-        }
-    }
-
-    // Gives it a number, if it is one of the load.
-    fn set_load(self, load: &mut Load, n: u64)
-        requires least { least self ≤ n }
-        requires most { n ≤ most self }
-    {
-        match self {
-            Amount::Load => load.load = n as u32,
-            Amount::Exact => load.is_exact = n != 0,
-            Amount::Service => load.service = n as u32,
-            Amount::Incast => load.incast = n as u32,
-            Amount::Burst => load.burst = n as u32,
-            Amount::Warm => load.warm = n as u32,
-            Amount::Measure => load.calls = n as u32,
-            Amount::Seed => load.seed = n,
-            Amount::Seeds => load.seeds = n as u32,
-            Amount::Parts => load.parts = n as u32,
-            Amount::Events => load.events = n,
-            _ => {}
-        }
-    }
+// Whether a word names this amount.
+fn is_named(word: &[u8], amount: Amount) -> bool
+    ensures { result ≡ bytes_eq word.now (amount_word amount) }
+{
+    word == amount.word().as_bytes()
 }
 
 /// The amount that a word names.
-pub(crate) fn read_amount(word: &[u8]) -> Option<Amount> {
+pub(crate) fn read_amount(word: &[u8]) -> Option<Amount>
+    ensures { result ≡ amount_in amounts word.now }
+{
     Amount::ALL
         .iter()
         .copied()
-        .find(|amount| word == amount.word().as_bytes())
+        .find(|amount| is_named(word, *amount))
 }

@@ -1,7 +1,6 @@
 // Why a text is no experiment.
 use crate::amounts::Amount;
 use homa_plain::{Name, ScriptFault};
-use script_lines::ScriptStop;
 use std::alloc::AllocError;
 
 /// What is wrong with a line or a word.
@@ -21,6 +20,8 @@ pub enum Wrong {
     Setting(Name),
     /// The number may not stand with what other lines say of this amount.
     Against(Amount),
+    /// The number may not stand with what other lines say of this setting of the hosts.
+    AgainstSetting(Name),
     /// `unsched` is above `window`.
     UnschedOverWindow,
     /// `rate` is below `seg`.
@@ -45,6 +46,13 @@ pub enum Wrong {
     TooMany(u64),
 }
 
+/// What is wrong in a line, and in which of its words, counted from 1.
+#[derive(Clone, Copy, Debug, PartialEq, Eq)]
+pub(crate) struct Refusal {
+    pub(crate) word: u32,
+    pub(crate) wrong: Wrong,
+}
+
 /// Why a text is no experiment.
 #[derive(Clone, Copy, Debug, PartialEq, Eq)]
 pub enum ExperimentFault {
@@ -57,21 +65,28 @@ pub enum ExperimentFault {
 }
 
 impl From<AllocError> for ExperimentFault {
-    fn from(_error: AllocError) -> ExperimentFault {
+    ghost use Rattle.std.specs.Prelude.{◌≡◌};
+    ghost use Rattle.experiment.specs.declared.fault.ExperimentFault.TheVariants.{NoMemory};
+
+    ghost from_gives = { λ _ fault. fault ≡ NoMemory };
+
+    fn from(_: AllocError) -> Self {
         ExperimentFault::NoMemory
     }
 }
 
-impl ExperimentFault {
-    /// Why no further line came.
-    pub(crate) fn of_stop(line: u64, stop: ScriptStop) -> ExperimentFault {
-        match stop {
-            ScriptStop::Read(_) => ExperimentFault::Read,
-            ScriptStop::Fault(fault) => ExperimentFault::Said {
-                line,
-                word: 1,
-                wrong: Wrong::Unreadable(fault),
-            },
+impl Refusal {
+    ghost use Rattle.std.specs.Prelude.{◌≡◌};
+    ghost use Rattle.experiment.specs.declared.fault.ExperimentFault.TheVariants.{Said};
+
+    /// The fault, in a line of this number.
+    pub(crate) fn at(self, line: u64) -> ExperimentFault
+        ensures { result ≡ Said line self.word self.wrong }
+    {
+        ExperimentFault::Said {
+            line,
+            word: self.word,
+            wrong: self.wrong,
         }
     }
 }

@@ -7,26 +7,18 @@
 
 mod amounts;
 mod draws;
-mod fault;
 mod framing;
-mod gaps;
 mod load;
 mod network;
-mod reading;
-mod said;
+mod numbers;
+mod steps;
 mod tables;
-#[cfg(test)]
-mod tests;
-mod trial;
 mod workload;
 
 pub use amounts::Amount;
 pub use draws::{Draws, PacketName};
-pub use fault::{ExperimentFault, Wrong};
 pub use framing::Framing;
-pub use gaps::{ARRIVALS, LENGTHS, gap_of, wire_of_call};
 pub use load::{Hot, Load};
 pub use network::{Card, Network};
-pub use reading::read;
-pub use trial::{Experiment, Injection, ListedCall, Restarting, Shifting};
-pub use workload::{Step, Workload};
+pub use steps::Step;
+pub use workload::Workload;

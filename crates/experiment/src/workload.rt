@@ -1,19 +1,13 @@
 // Lengths of requests.
-ghost use Rattle.std.specs.Prelude.{◌≡◌, ◌≤◌, ◌<◌, ◌++◌, ◌∷◌, [], length, true, false, Ok, OnErr, IfOk, IfSome};
+ghost use Rattle.std.specs.Prelude.{◌≡◌, ◌≤◌, ◌<◌, ◌++◌, ◌∷◌, [], length, true, false, Ok, OnErr, IfOk};
+ghost use Rattle.experiment.specs.Tables.{rows_of};
 
 use crate::draws::Draws;
 use crate::framing::Framing;
+use crate::steps::{Step, bound, longest, shares, step_at, steps_of, wires};
 use crate::tables::{W1, W2, W3, W4, W5};
 use std::alloc::{AllocError, Global};
 use std::marker::Model;
-
-/// Of the shares of all steps so many requests have more than `above` and at most `upto` bytes, each length as likely as any other.
-#[derive(Clone, Copy, Debug, PartialEq, Eq)]
-pub struct Step {
-    pub above: u32,
-    pub upto: u32,
-    pub share: u32,
-}
 
 // The most steps of a table.
 const MOST_STEPS: usize = 4000;
@@ -25,23 +19,37 @@ pub struct Workload {
 }
 
 impl Model for Workload {
-    ghost use Rattle.std.specs.Prelude.{List, ◌≤◌, length};
-    ghost use Rattle.experiment.specs.declared.workload.Step.{Step};
-    ghost use Rattle.experiment.specs.Tables.{IsTable};
+    ghost use Rattle.std.specs.Prelude.{List, ◌≡◌, true};
+    ghost use Rattle.experiment.specs.declared.steps.Step.{Step};
+    ghost use Rattle.experiment.specs.Tables.{is_table};
 
     ghost Value = { List Step };
 
     ghost view = { λ w. w.steps.items };
 
-    ghost invariant = { λ w. IsTable w.steps.items };
+    ghost invariant = { λ w. is_table w.steps.items ≡ true };
+}
+
+// The rows of one of the five workloads.
+fn rows(number: u32) -> &'static [(u32, u32)]
+    ensures { result.now ≡ rows_of number }
+{
+    match number {
+        1 => &W1,
+        2 => &W2,
+        3 => &W3,
+        4 => &W4,
+        _ => &W5,
+    }
 }
 
 impl Workload {
-    ghost use Rattle.experiment.specs.Tables.{IsStep, IsIn, last_upto};
+    ghost use Rattle.experiment.specs.Wires.{cut_of};
+    ghost use Rattle.experiment.specs.Tables.{is_table, is_step, last_upto, steps_of, rows_of, length_drawn, mean_wire, bound_of};
 
     /// A table of one step.
     pub fn of(alloc: Global, step: Step) -> Result<Workload, AllocError>
-        requires { IsStep 0 step }
+        requires { is_step 0 step ≡ true }
         ensures { IfOk result (λ w. w ≡ step ∷ []) }
     {
         let mut steps = Vec::with_capacity(alloc, 1)?;
@@ -49,24 +57,23 @@ impl Workload {
         Ok(Workload { steps })
     }
 
-    /// One of the five, by its number.
-    pub(crate) fn numbered(alloc: Global, number: u32) -> Result<Option<Workload>, AllocError> {
-        let table: &[(u32, u32)] = match number {
-            1 => &W1,
-            2 => &W2,
-            3 => &W3,
-            4 => &W4,
-            5 => &W5,
-            _ => return Ok(None),
-        };
-        let mut steps = Vec::with_capacity(alloc, table.len())?;
-        let mut above = 0;
-        for (upto, share) in table {
-            let (upto, share) = (*upto, *share);
-            steps.push(Step { above, upto, share })?;
-            above = upto;
-        }
-        Ok(Some(Workload { steps }))
+    /// Workload 1 to 5.
+    pub fn numbered(alloc: Global, number: u32) -> Result<Workload, AllocError>
+        requires least { 1 ≤ number }
+        requires most { number ≤ 5 }
+        ensures { IfOk result (λ w. w ≡ steps_of 0 (rows_of number)) }
+    {
+        Ok(Workload {
+            steps: steps_of(alloc, rows(number))?,
+        })
+    }
+
+    /// Its steps.
+    pub fn steps(&self) -> &[Step]
+        ensures steps { result.now ≡ self.now }
+        ensures table { is_table result.now ≡ true }
+    {
+        &self.steps
     }
 
     /// The greatest length.
@@ -75,12 +82,12 @@ impl Workload {
         ensures some { 1 ≤ result }
         ensures most { result ≤ 1000000 }
     {
-        self.steps[self.steps.len() - 1].upto
+        longest(&self.steps)
     }
 
     /// Adds a step above all others; false where there are as many as there may be. Then, and where memory runs out, nothing changes.
     pub(crate) fn push(&mut self, step: Step) -> Result<bool, AllocError>
-        requires { IsStep (last_upto self.old) step }
+        requires { is_step (last_upto self.old) step ≡ true }
         ensures added { result ≡ Ok true → self.new ≡ self.old ++ step ∷ [] }
         ensures full { result ≡ Ok false → 4000 ≤ length self.old }
         ensures kept { result ≡ Ok false → self.new ≡ self.old }
@@ -93,43 +100,23 @@ impl Workload {
         Ok(true)
     }
 
-    // The sum of all shares.
-    fn shares(&self) -> u32
-        ensures { 1 ≤ result }
-    {
-        let mut sum = 0;
-        for step in &self.steps {
-            sum += step.share;
-        }
-        sum
-    }
-
     /// A length of the table.
     pub fn draw(&self, draws: &mut Draws) -> u32
-        ensures inside { IsIn self.now result }
+        ensures drawn { (result, draws.new) ≡ length_drawn self.now draws.old }
         ensures some { 1 ≤ result }
         ensures most { result ≤ 1000000 }
     {
-        let mut at = draws.below(self.shares());
-        for step in &self.steps {
-            if at < step.share {
-                return step.above + 1 + draws.below(step.upto - step.above);
-            }
-            at -= step.share;
-        }
-        self.longest()
+        let at = draws.below(shares(&self.steps));
+        let step = step_at(&self.steps, at);
+        step.above + 1 + draws.below(step.upto - step.above)
     }
 
     /// The mean of the bytes on the wire of a request, in 1000ths.
     pub fn mean_wire(&self, framing: &Framing) -> u64
-        ensures { result < 2 ^ 64 }
+        ensures mean { result ≡ mean_wire (cut_of framing.now) self.now }
+        ensures most { result ≤ 17179869184000 }
     {
-        let mut sum: u128 = 0;
-        for step in &self.steps {
-            let lengths = u128::from(step.upto - step.above);
-            sum += framing.sum(step.above, step.upto) * u128::from(step.share) * 1000 / lengths;
-        }
-        (sum / u128::from(self.shares())) as u64
+        (wires(&self.steps, framing) / u128::from(shares(&self.steps))) as u64
     }
 
     /// The length up to which so many of so many parts of the requests are.
@@ -137,19 +124,11 @@ impl Workload {
         requires some { 1 ≤ part }
         requires within { part ≤ parts }
         requires most { parts ≤ 1000 }
+        ensures bound { result ≡ bound_of part parts self.now }
         ensures some { 1 ≤ result }
         ensures most { result ≤ last_upto self.now }
         ensures last { part ≡ parts → result ≡ last_upto self.now }
     {
-        let mut left = u64::from(self.shares()) * u64::from(part);
-        for step in &self.steps {
-            let share = u64::from(step.share) * u64::from(parts);
-            if left <= share {
-                let lengths = u64::from(step.upto - step.above);
-                return step.above + ((lengths * left).div_ceil(share)) as u32;
-            }
-            left -= share;
-        }
-        self.longest()
+        bound(&self.steps, part, parts)
     }
 }

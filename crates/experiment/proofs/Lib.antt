@@ -1,0 +1,5 @@
+mod WordLaws
+mod WireLaws
+mod StepLaws
+mod DrawLaws
+mod RangeLaws
