@@ -46,6 +46,7 @@ LONG = {
 
 # Lines `let _name = ..` that only end a value.
 ENDS = {
+    "homa_generate/src/printing.rt": ("_sink",),
     "homa_replay/src/replays.rt": ("_sink",),
     "place_heap/src/cells.rt": ("_marks",),
 }

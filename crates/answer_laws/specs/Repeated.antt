@@ -13,8 +13,9 @@ use Rattle.record_laws.specs.Recordings.{IsReplayOf}
 use Rattle.box_laws.specs.First.{AreAllowed}
 use Rattle.answer_laws.specs.Answers.{MayAnswerSo, suite_allows}
 
--- Where all hosts of a node are local with incarnation 1, its services are `Suite`s, and its recording has status 0: whatever answers the replay of the
--- recording's text shows, which the same boxes may give, it tells the run again.
+-- Premises: all hosts of a node are local with incarnation 1, its services are `Suite`s, and its recording has status
+-- 0. Then the replay of the recording's text tells the run again, whatever answers it shows that the same boxes may
+-- give.
 abbrev pub SuitesRepeat : Type 0
 SuitesRepeat =
     (bytes : List ℕ) (setup : Setup) (calls : Calls) (boxes : List ℕ) (answers : List Answer) (ticks : List ℕ) (receives : List Receive)

@@ -1,9 +1,9 @@
 //! What a checker of a trace keeps of one call, and how a delivery changes it; the choice of messages for GRANTs.
 //!
 //! The model: a kept spot stands for a `Spot` of `check_laws` beside the sets of bytes that are kept of its call
-//! (`StandsFor` of `specs/Kept.antt`): a part has its bytes as a set and the range that came last, and of RESENDs there
-//! are how many, the latest, and whether they were spaced.
-//! Main promise: each change of a kept spot stands for the change of the spot that a line makes, and `Call::delivered`
+//! (`StandsFor` of `specs/Kept.antt`). A part has its bytes as a set and the range that came last. Of RESENDs it has
+//! how many there are, the latest, and whether they were spaced.
+//! Main promise: each change of a kept spot stands for the change of the spot that a line makes. `Call::delivered`
 //! leaves exactly what the delivery of a packet does to its call, refused or not, and what is due because of it.
 //! `choose` is the choice of the definitions: of all messages in their order, the first k with different senders.
 #![tactic(auto)]

@@ -32,7 +32,8 @@ use Rattle.node_laws.proofs.Turns.{EndsBy, run_ends}
 use Rattle.script_lines.proofs.LinesOf.{lines_of-feed}
 use Rattle.check_reader.specs.Told.{FitsFault, Fits, IsUsual}
 use Rattle.check_reader.proofs.EntryLaws.{one_line}
-use Rattle.check_verdict.specs.Verdict.{longest_line, longest_input}
+use Rattle.check_verdict.specs.Verdict.{longest_line}
+use Rattle.homa_plain.specs.Limits.{longest_input}
 use Rattle.check_verdict.specs.Text.{AreTold, IsTrace}
 use Rattle.check_verdict.proofs.TextLaws.{yes_is}
 use Rattle.node_trace_laws.specs.Honest.{AreHonest, last_line, lines}

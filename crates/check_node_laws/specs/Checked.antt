@@ -9,7 +9,8 @@ use Rattle.node_runs.specs.Recorder.{no_notes}
 use Rattle.node_runs.specs.Replayed.{IsAnswer}
 use Rattle.node_runs.specs.Texts.{node_text}
 use Rattle.check_verdict.specs.Text.{IsTrace}
-use Rattle.check_verdict.specs.Verdict.{longest_input, verdict_of, Yes}
+use Rattle.check_verdict.specs.Verdict.{verdict_of, Yes}
+use Rattle.homa_plain.specs.Limits.{longest_input}
 use Rattle.node_trace_laws.specs.Honest.{AreHonest, lines}
 
 -- a net gives bytes, at most 1,500 of them, from a host whose number has 16 bits

@@ -14,7 +14,8 @@ use Rattle.trace_rules.proofs.LawsJudged.{none_found, some_found}
 use Rattle.check_reader.specs.Forms.{entry_of}
 use Rattle.check_reader.specs.Told.{Fits, IsUsual}
 use Rattle.check_reader.proofs.EntryLaws.{HasLine, entry_of-takes, entry_of-again, one_entry}
-use Rattle.check_verdict.specs.Verdict.{longest_line, longest_input, stands_for, judged_text, seen_text, Yes, No, no_or, verdict_from, verdict_on, verdict_of}
+use Rattle.check_verdict.specs.Verdict.{longest_line, stands_for, judged_text, seen_text, Yes, No, no_or, verdict_from, verdict_on, verdict_of}
+use Rattle.homa_plain.specs.Limits.{longest_input}
 use Rattle.check_verdict.specs.Text.{Tells, AreTold, bytes_in, IsTrace, FailsAt, IsFirstFailing, IsNoTrace}
 
 -- ---- one line

@@ -8,7 +8,8 @@ use Rattle.trace_rules.specs.Seen.{seen_all}
 use Rattle.trace_rules.specs.Laws.{Holds}
 use Rattle.trace_rules.specs.Judge.{Clause, ShapeClause, Obeys, FailsFirst}
 use Rattle.check_reader.specs.Told.{Fits, IsUsual}
-use Rattle.check_verdict.specs.Verdict.{longest_line, longest_input}
+use Rattle.check_verdict.specs.Verdict.{longest_line}
+use Rattle.homa_plain.specs.Limits.{longest_input}
 
 -- a line behind `read` bytes is the line of this entry, whose line feed the last line may lack, and is not too long
 pub record Tells (read : ℕ) (line : List ℕ) (e : PlainEntry) : Type 0 where
@@ -38,8 +39,8 @@ pub record IsTrace (bytes : List ℕ) (n : ℕ) : Type 0 where
   pub count : n ≡ length entries
   pub some : 0 < n
 
--- at a line behind `read` bytes of lines that said v this is the first clause that fails: it is the line of no entry, and hasn't the shape, or it is
--- the line of an entry at which the clause fails first
+-- at a line behind `read` bytes of lines that said v this is the first clause that fails. The line is of no entry, and
+-- hasn't the shape; or it is of an entry at which the clause fails first.
 abbrev pub FailsAt : View → ℕ → List ℕ → Clause → Type 0
 FailsAt v read line clause =
     (((e : PlainEntry) → ¬ Tells read line e) × (clause ≡ ShapeClause))

@@ -6,14 +6,11 @@ use Rattle.trace_rules.specs.View.{View, nothing_seen}
 use Rattle.trace_rules.specs.Seen.{seen}
 use Rattle.trace_rules.specs.Judge.{Clause, ShapeClause, judged}
 use Rattle.check_reader.specs.Forms.{entry_of}
+use Rattle.homa_plain.specs.Limits.{longest_input}
 
 -- the most bytes of a line, its line feed not counted
 abbrev pub longest_line : ℕ
 longest_line = 4100000
-
--- the most bytes of an input
-abbrev pub longest_input : ℕ
-longest_input = 68719476736
 
 -- what a line behind `read` bytes stands for: the entry whose line it is, unless it is too long, or the input is up to its end
 unfoldable pub stands_for : ℕ → List ℕ → Option PlainEntry

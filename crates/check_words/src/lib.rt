@@ -2,7 +2,7 @@
 //!
 //! Model: the words that are left are a list of byte strings (`left` of `specs/FieldsLeft`).
 //! Promise: each reader answers the value that the words begin with and the words behind it, exactly where they begin
-//! with one (`specs/Fields`); what is left is never longer, or where bytes were read, than twice the room that is left.
+//! with one (`specs/Fields`). What is left is never longer, or where bytes were read, than twice the room that is left.
 #![tactic(auto)]
 
 mod digits;

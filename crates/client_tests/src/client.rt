@@ -7,7 +7,8 @@ ghost use Rattle.homa_client.specs.AtTable.{part_at};
 
 use homa_client::*;
 use homa_plain::{
-    Body, CallId, Emitted, HostId, OutFacts, Packet, Role, RowFacts, Settings, StartFault,
+    Body, CallId, Emitted, HostId, LAST_HOST_TICK, OutFacts, Packet, Role, RowFacts, Settings,
+    StartFault,
 };
 use msg_pool::{MsgPool, Scratch};
 use std::alloc::{AllocError, Global};
@@ -112,7 +113,7 @@ impl Client {
         request: Vec<u8>,
         now: u64,
     ) -> Result<(u32, CallId), (StartFault, Vec<u8>)>
-        requires now { now ≤ 1000000002000 }
+        requires now { now ≤ LAST_HOST_TICK }
         requires pool { AreIn self.old.pool (part_at self.old.table.rows) }
         ensures pool { AreIn self.new.pool (part_at self.new.table.rows) }
     {
@@ -122,7 +123,7 @@ impl Client {
     // A packet of the first call comes from its server.
     fn get(&mut self, sender: u32, body: Body, payload: &[u8], now: u64) -> ClientDid
         requires fits { FitsKind Role.Server 7 body payload.now }
-        requires now { now ≤ 1000000002000 }
+        requires now { now ≤ LAST_HOST_TICK }
         requires pool { AreIn self.old.pool (part_at self.old.table.rows) }
         ensures pool { AreIn self.new.pool (part_at self.new.table.rows) }
     {
@@ -141,7 +142,7 @@ impl Client {
     // The row acts, if it is due.
     fn act_if_due(&mut self, slot: u32, now: u64) -> Option<ClientAct>
         requires stands { IsSome (spot_at self.old.table.rows slot) }
-        requires now { now ≤ 1000000002000 }
+        requires now { now ≤ LAST_HOST_TICK }
         requires pool { AreIn self.old.pool (part_at self.old.table.rows) }
         ensures { AreIn self.new.pool (part_at self.new.table.rows) }
     {
@@ -155,7 +156,7 @@ impl Client {
     // The next bytes of the request go out, if they may.
     fn emit(&mut self, slot: u32, now: u64, credit: u32) -> Emitted
         requires stands { IsSome (spot_at self.old.table.rows slot) }
-        requires now { now ≤ 1000000002000 }
+        requires now { now ≤ LAST_HOST_TICK }
         requires pool { AreIn self.old.pool (part_at self.old.table.rows) }
         ensures { AreIn self.new.pool (part_at self.new.table.rows) }
     {
@@ -165,7 +166,7 @@ impl Client {
     // The response is granted, if it may be.
     fn grant_if_more(&mut self, slot: u32, offset: u32, now: u64) -> bool
         requires stands { IsSome (spot_at self.old.table.rows slot) }
-        requires now { now ≤ 1000000002000 }
+        requires now { now ≤ LAST_HOST_TICK }
     {
         let Some(part) = self.table.incoming(slot) else {
             return false;
@@ -208,7 +209,7 @@ fn gets(
     wanted: ClientDid,
 ) -> u32
     requires fits { FitsKind Role.Server 7 body payload.now }
-    requires now { now ≤ 1000000002000 }
+    requires now { now ≤ LAST_HOST_TICK }
     requires pool { AreIn client.old.pool (part_at client.old.table.rows) }
     ensures { AreIn client.new.pool (part_at client.new.table.rows) }
 {
@@ -219,7 +220,7 @@ fn gets(
 
 // The first call's row acts at a tick, if it is due, and does this.
 fn acts(rt: &impl Abort, client: &mut Client, now: u64, wanted: Option<ClientAct>)
-    requires now { now ≤ 1000000002000 }
+    requires now { now ≤ LAST_HOST_TICK }
     requires pool { AreIn client.old.pool (part_at client.old.table.rows) }
     ensures { AreIn client.new.pool (part_at client.new.table.rows) }
 {
@@ -230,7 +231,7 @@ fn acts(rt: &impl Abort, client: &mut Client, now: u64, wanted: Option<ClientAct
 
 // The next bytes of the first call's request go out at a tick, if they may.
 fn emits(rt: &impl Abort, client: &mut Client, now: u64, credit: u32, wanted: Emitted)
-    requires now { now ≤ 1000000002000 }
+    requires now { now ≤ LAST_HOST_TICK }
     requires pool { AreIn client.old.pool (part_at client.old.table.rows) }
     ensures { AreIn client.new.pool (part_at client.new.table.rows) }
 {

@@ -3,7 +3,7 @@
 //! The model: the plain world of `homa_plain`, with answers that its services are still to give. No code stands here, only
 //! laws; each is the contract of a function that does nothing.
 //! Main promise: an event is the step of one host with that host's answer, if its service was asked, and whatever is
-//! answered later stays for later; or it is refused for the cause that its words say, whatever is answered.
+//! answered later stays for later. Or it is refused for the cause that its words say, whatever is answered.
 #![tactic(auto)]
 
 ghost use Rattle.std.specs.Prelude.{◌≡◌, ◌≢◌, ◌<◌, ◌≤◌, ◌+◌, ℕ, suc, true, false, is_some, Option, Some, None, List, [], ◌∷◌, map, slice_get};
@@ -98,8 +98,8 @@ pub fn steps_keep_names()
         → entries_from n told ≡ map (numbered n) (entries_from 0 told) }
 {}
 
-/// No host sends to itself: where no row of a host is of a call to itself, and the packet that comes is of another host, the
-/// packets of its step go to other hosts, and no row is of such a call behind it.
+/// No host sends to itself. Let no row of a host be of a call to itself, and let the packet that comes be of another
+/// host. Then the packets of its step go to other hosts, and after the step no row is of such a call.
 pub fn steps_stay_apart()
     ensures call { (s : Settings) (id : HostId) (h : Host) (now : ℕ) (server : HostId) (service : ℕ) (request : List ℕ)
         → HasOwnName id h → IsApart id h → server ≢ id → IsApartStep id (call_step s h now server service request) }
@@ -110,9 +110,9 @@ pub fn steps_stay_apart()
     ensures new { (s : Settings) (id : HostId) (inc last : ℕ) → IsApart id (new_host s id inc last) }
 {}
 
-/// Where the servers of a host's calls, the clients of those that it serves, and the sender of the packet that comes are
-/// among so many hosts, so are those to whom the packets of its step go, and those of its rows behind it. A call is one more
-/// that the host made, and no other step is.
+/// Let the servers of a host's calls, the clients of those that it serves, and the sender of the packet that comes be
+/// among so many hosts. Then so are those to whom the packets of its step go, and those of its rows after it. A call is
+/// one more that the host made, and no other step is.
 pub fn steps_stay_among()
     ensures call { (s : Settings) (id : HostId) (hosts : ℕ) (h : Host) (now : ℕ) (server : HostId) (service : ℕ) (request : List ℕ)
         → HasOwnName id h → IsAmong (IsBelow hosts) h → server.0 < hosts

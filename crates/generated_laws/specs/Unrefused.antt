@@ -10,6 +10,7 @@ use Rattle.homa_plain.specs.Replay.{Finished, carried, events_of, replayed, repl
 use Rattle.homa_plain.specs.Entries.{PlainSettings}
 use Rattle.generated_runs.specs.Rounds.{Generated}
 use Rattle.generated_runs.specs.Generated.{generated_settings, schedule_text}
+use Rattle.homa_plain.specs.Limits.{longest_message}
 
 -- the world with which a run begins
 abbrev pub first_world : Settings → ℕ → List Answer → World
@@ -20,8 +21,8 @@ abbrev pub steps_of : ℕ → List Given → List Step
 steps_of line [] = []
 steps_of line (given ∷ rest) = record { line = line; given = given } ∷ steps_of (suc line) rest
 
--- The events of its lines, one after the other from the world with which it began, make the world of the run and tell what it told, and the
--- replay of its lines tells just this and comes to their end.
+-- The events of its lines, one after the other from the world with which it began, make the world of the run and tell
+-- what it told. The replay of its lines tells just this and comes to their end.
 pub record IsUnrefused (s : Settings) (first : World) (g : Generated) : Type 0 where
   pub world : (carried s first (flat_map (events_of s.hosts) g.lines)).world ≡ g.world
   pub told : (carried s first (flat_map (events_of s.hosts) g.lines)).told ≡ g.told
@@ -34,7 +35,7 @@ abbrev pub IsRunLine : ℕ → ℕ → Given → Type 0
 IsRunLine hosts packets (GivenTicks n) = n ≡ 1
 IsRunLine hosts packets (GivenEvent (event.Deliver number) bytes) = (number < packets) × (bytes ≡ [])
 IsRunLine hosts packets (GivenEvent (event.Call client server service) bytes) =
-    (client.0 < hosts) × (server.0 < hosts) × (service < 4) × (length bytes ≤ 1000000) × (bytes ≡ counting 0 (length bytes))
+    (client.0 < hosts) × (server.0 < hosts) × (service < 4) × (length bytes ≤ longest_message) × (bytes ≡ counting 0 (length bytes))
 IsRunLine hosts packets (GivenEvent other bytes) = ⊥
 
 -- The replay of the schedule that is printed tells what the run told, behind its settings, and comes to the schedule's end.

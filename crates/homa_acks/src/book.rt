@@ -1,4 +1,5 @@
 // The finished calls of each peer.
+// Rules: an ACK of five finished calls together, and of one that rides on a request.
 ghost use Rattle.std.specs.Prelude.{◌≡◌, ◌+◌, ◌<◌, ◌↔◌, ◌++◌, [], ◌∷◌, length, drop, replicate, slice_get, slice_set, IfOk, IsNone, IfNone, IfSome, OnSome};
 ghost use Rattle.homa_acks.specs.Book.{calls_of, IsBelowFive};
 

@@ -1,4 +1,5 @@
 // The finished calls of one peer.
+// Rules: the fifth finished call makes an ACK of all five, and the oldest rides on a request.
 ghost use Rattle.std.specs.Prelude.{◌≡◌, ◌+◌, ◌<◌, ◌↔◌, ◌++◌, [], ◌∷◌, length, drop, slice_get, IsNone, IfNone, IfSome, OnSome};
 
 use arrayvec::ArrayVec;

@@ -23,7 +23,7 @@ use crate::grant::{Grant, is_granted};
 use crate::verdict::Clause;
 use check_call::{Call, Message, Packet, Resends, Run, choose};
 use check_lines::{Due, Host, Trace, is_event, is_last, is_same_host};
-use homa_plain::{Body, CallId, Entry, HostId, LineFault, Role, Why, WorldFault};
+use homa_plain::{Body, CallId, Entry, HostId, LONGEST_MESSAGE, LineFault, Role, Why, WorldFault};
 use std::alloc::{AllocError, Global};
 
 // Whether a line closes the block before it.
@@ -102,7 +102,7 @@ fn is_new_call(trace: &Trace, id: CallId, server: HostId, len: usize) -> bool
 {
     trace.find(id).is_none()
         && 1 <= len
-        && len <= 1_000_000
+        && len <= LONGEST_MESSAGE as usize
         && u32::from(id.client.0) < trace.settings.hosts
         && u32::from(server.0) < trace.settings.hosts
         && !is_same_host(id.client, server)

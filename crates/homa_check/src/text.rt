@@ -20,11 +20,9 @@ use crate::verdict::{CheckStop, Clause, Verdict};
 use check_lines::Trace;
 use check_reader::read_entry;
 use homa_io::Source;
+use homa_plain::LONGEST_INPUT;
 use std::alloc::{AllocError, Global};
 use text_lines::{LineGot, Lines};
-
-// The most bytes of an input.
-const LONGEST_INPUT: u64 = 68_719_476_736;
 
 // The most bytes of a line, its line feed not counted.
 const LONGEST_LINE: u32 = 4_100_000;
@@ -69,12 +67,12 @@ fn judge_next<S: Source>(
     room: &mut [u8],
 ) -> Result<Next, CheckStop>
     requires longest { (reading lines.old).longest ≡ 4100000 }
-    requires limit { (reading lines.old).limit ≡ 68719476736 }
-    requires within { (reading lines.old).read ≤ 68719476736 }
+    requires limit { (reading lines.old).limit ≡ LONGEST_INPUT }
+    requires within { (reading lines.old).read ≤ LONGEST_INPUT }
     requires room { 2050000 ≤ length room.old }
-    ensures next { IfOk result (λ next. (v : View) → Follows v trace.old → v.place ≤ 68719476736
+    ensures next { IfOk result (λ next. (v : View) → Follows v trace.old → v.place ≤ LONGEST_INPUT
         → IsNext v (reading lines.old) (reading lines.new) (S.left source.old) (S.left source.new) trace.new next) }
-    ensures read { IfOk result (λ next. next ≡ Taken → ((reading lines.old).read < (reading lines.new).read) × ((reading lines.new).read ≤ 68719476736)) }
+    ensures read { IfOk result (λ next. next ≡ Taken → ((reading lines.old).read < (reading lines.new).read) × ((reading lines.new).read ≤ LONGEST_INPUT)) }
     ensures took { IfOk result (λ next. TookLine (S.left source.old) (S.left source.new) (reading lines.old) (reading lines.new) (next ≢ Taken)) }
     ensures unended { is_read result ≡ true → (came : List ℕ) × (S.left source.old ≡ unread came (S.left source.new))
         × (has_no_feed ((reading lines.old).pending ++ came) ≡ true) }
@@ -154,7 +152,7 @@ fn judge_all<S: Source>(
     room: &mut [u8],
 ) -> Result<Verdict, CheckStop>
     requires follows { Follows nothing_seen trace.old }
-    requires lines { reading lines.old ≡ record { pending = []; line = []; read = 0; number = 0; limit = 68719476736; longest = 4100000 } }
+    requires lines { reading lines.old ≡ record { pending = []; line = []; read = 0; number = 0; limit = LONGEST_INPUT; longest = 4100000 } }
     requires room { 2050000 ≤ length room.old }
     ensures verdict { IfOk result (λ verdict. (bytes : List ℕ) → S.left source.old ≡ Some bytes → verdict_of bytes ≡ plain_verdict verdict) }
     ensures end { IfOk result (λ verdict. is_yes verdict ≡ true → IsAtEnd (S.left source.new)) }

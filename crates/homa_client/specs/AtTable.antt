@@ -37,6 +37,7 @@ use Rattle.homa_client.specs.declared.answers.ClientAct.{ClientAct}
 use Rattle.homa_client.specs.declared.answers.ClientAct.TheVariants as act
 use Rattle.homa_client.specs.declared.answers.RowDid.{RowDid}
 use Rattle.homa_client.specs.declared.answers.RowDid.TheVariants as row
+use Rattle.homa_plain.specs.Limits.{longest_message}
 
 -- the rows of a client at their places, by their calls
 abbrev pub HeldRows : Type 0
@@ -182,7 +183,7 @@ next_call t = record { client = t.host; inc = t.inc; seq = t.seq }
 abbrev pub fault_of : Clients → HostId → List ℕ → Option StartFault
 fault_of t server request =
     if length request == 0 then Some Empty
-    else if nat_lt 1000000 (length request) then Some TooLong
+    else if nat_lt longest_message (length request) then Some TooLong
     else if is_host server t.host then Some SelfCall
     else if nat_le t.settings.calls (len t.rows) then Some CallsFull
     else if nat_le 4294967295 t.seq then Some SeqSpent

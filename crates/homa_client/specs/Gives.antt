@@ -24,6 +24,7 @@ use Rattle.homa_client.specs.declared.answers.RowDid.{RowDid}
 use Rattle.homa_client.specs.declared.answers.RowDid.TheVariants.{Touched, Opened, Done, Full, Gaps, Busy, Forgotten}
 use Rattle.homa_client.specs.declared.answers.ClientAct.{ClientAct}
 use Rattle.homa_client.specs.declared.answers.ClientAct.TheVariants as act
+use Rattle.homa_plain.specs.Limits.{longest_message}
 
 -- what a rule for a row is given, where its part stands in the pool: what is free, and the pages of the part itself
 abbrev pub moment_of : HostId → ℕ → ℕ → Pool → Option Part → ℕ → Moment
@@ -91,7 +92,7 @@ IsLeft (act.Timeout q) part = part ≡ None
 
 -- some bytes of a message are asked for
 abbrev pub IsAsked : ClientAct → Type 0
-IsAsked (act.Resend from to) = (from < to) × (to ≤ 1000000)
+IsAsked (act.Resend from to) = (from < to) × (to ≤ longest_message)
 IsAsked (act.Timeout q) = Unit {0}
 
 -- ---- facts

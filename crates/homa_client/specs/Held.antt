@@ -12,6 +12,7 @@ use Rattle.homa_plain.specs.Rows.{ClientRow}
 use Rattle.msg_pool.specs.Pool.{Pool}
 use Rattle.homa_in.specs.Part.{Part, part_code}
 use Rattle.homa_in.specs.Pooled.{seen_part}
+use Rattle.homa_plain.specs.Limits.{last_host_tick}
 
 -- a call at its client; its response is a part, whose bytes stand in the pool
 pub record HeldRow : Type 0 where
@@ -65,8 +66,8 @@ pub record IsRow (r : HeldRow) : Type 0 where
   pub some : 0 < length r.request
   pub long : r.out.length ≡ length r.request
   pub prio : r.out.prio ≤ 7
-  pub heard : r.heard ≤ 1000000002000
-  pub base : r.base ≤ 1000000002000
+  pub heard : r.heard ≤ last_host_tick
+  pub base : r.base ≤ last_host_tick
   pub short : IsShort r.part
 
 -- a row is stored as the tuple of its fields

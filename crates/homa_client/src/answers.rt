@@ -1,4 +1,5 @@
 //! What the calls of the table answer.
+//! Rules: the answers that stand for BUSY, an ACK, RESEND, an UNKNOWN and a timeout.
 use homa_plain::{Body, CallId};
 
 /// What a packet of a row's call did to the row.

@@ -1,4 +1,5 @@
 //! What a packet of its server does to a row.
+//! Rules: what DATA, GRANT, RESEND, BUSY, UNKNOWN, NEED_ACK and CUTOFFS do to a call at its client, and which renew it.
 ghost use Rattle.std.specs.Prelude.{◌≡◌, List, ℕ, ◌+◌, ◌<◌, ◌≤◌, length, Some, None, IsSome, IfSome};
 ghost use Rattle.homa_plain.specs.Outgoing.{grant, resend};
 ghost use Rattle.homa_plain.specs.AtClient.{renewed, refreshed, started_over, request_resent, answered, piece_comes, response_piece};
@@ -19,7 +20,7 @@ use crate::lent::Lent;
 use crate::row::Row;
 use homa_in::{Moment, Opening, Piece, Put, close_part, open_part, put_piece};
 use homa_out::Resent;
-use homa_plain::{Body, CallId};
+use homa_plain::{Body, CallId, LAST_HOST_TICK, LONGEST_MESSAGE};
 use msg_pool::MsgPool;
 
 impl Row {
@@ -37,7 +38,7 @@ impl Row {
     ) -> RowDid
         requires pool { IsInPool lent.old.pool.now self.old.part }
         requires fits { IsFit body.now payload.now }
-        requires now { at.now ≤ 1000000002000 }
+        requires now { at.now ≤ LAST_HOST_TICK }
         ensures gave { (s : Settings) (host : HostId) (rows : ℕ) → s.unsched ≡ unsched
             → let r = seen_row lent.old.pool.now self.old in
             let m = moment_of host at.now at.order lent.old.pool.now self.old.part rows in
@@ -64,7 +65,7 @@ impl Row {
 
     // The server is heard of, but through UNKNOWN; NEED_ACK and CUTOFFS leave the timer's base.
     fn refresh(&mut self, now: u64, body: &Body)
-        requires { now ≤ 1000000002000 }
+        requires { now ≤ LAST_HOST_TICK }
         ensures row { (pool : Pool) → seen_row pool self.new ≡ refreshed now body.now (seen_row pool self.old) }
         ensures part { self.new.part ≡ self.old.part }
     {
@@ -179,7 +180,7 @@ impl Row {
         requires none { self.old.part ≡ None }
         requires some { 0 < length piece.bytes.now }
         requires fits { piece.offset + length piece.bytes.now ≤ piece.size }
-        requires small { piece.size ≤ 1000000 }
+        requires small { piece.size ≤ LONGEST_MESSAGE }
         ensures gave { (s : Settings) (id : CallId) (host : HostId) (now rows version : ℕ) → s.unsched ≡ unsched
             → let r = seen_row lent.old.pool.now self.old in
             let m = moment_of host now order lent.old.pool.now self.old.part rows in

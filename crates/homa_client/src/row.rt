@@ -1,4 +1,5 @@
 //! A row of a client: what it remembers of a live call.
+//! Rules: a request begins with its unscheduled bytes, and a row takes packets of its own server alone.
 ghost use Rattle.std.specs.Prelude.{◌≡◌, ◌<◌, ◌≤◌, length, ◌&&◌, not, nat_lt, option_copied};
 ghost use Rattle.homa_plain.specs.declared.settings.Settings.{Settings};
 ghost use Rattle.homa_plain.specs.Calls.{is_host};
@@ -8,7 +9,7 @@ ghost use Rattle.homa_client.specs.Gives.{facts};
 
 use homa_in::Incoming;
 use homa_out::Outgoing;
-use homa_plain::{CallId, HostId, OutFacts, RowFacts, Settings};
+use homa_plain::{CallId, HostId, LAST_HOST_TICK, LONGEST_MESSAGE, OutFacts, RowFacts, Settings};
 use std::marker::Model;
 
 /// A call at its client: its server, service and request, how far the request was sent, how far the response has
@@ -80,8 +81,8 @@ impl Row {
         unsched: u32,
     ) -> Row
         requires some { 0 < length request.items }
-        requires small { length request.items ≤ 1000000 }
-        requires now { now ≤ 1000000002000 }
+        requires small { length request.items ≤ LONGEST_MESSAGE }
+        requires now { now ≤ LAST_HOST_TICK }
         requires unsched { 1 ≤ unsched }
         ensures { (s : Settings) → s.unsched ≡ unsched → result ≡ new_row s now order server service request.items }
     {
@@ -113,7 +114,7 @@ impl Row {
         ensures facts { result ≡ facts id self.now }
         ensures row { IsRow self.now }
         ensures out { IsSound self.now.out }
-        ensures small { self.now.out.length ≤ 1000000 }
+        ensures small { self.now.out.length ≤ LONGEST_MESSAGE }
     {
         let out = OutFacts {
             length: self.out.len(),

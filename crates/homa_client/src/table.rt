@@ -1,4 +1,5 @@
 //! The table of a client's live calls.
+//! Rules: when a call may start, BUSY to NEED_ACK while a call is live, and an ACK to it when the call is over.
 ghost use Rattle.std.specs.Prelude.{◌≡◌, List, ℕ, ◌+◌, ◌<◌, ◌≤◌, Some, None, IfOk, IfErr, IfSome, OnErr, IsSome, length, option_copied};
 ghost use Rattle.plain_sets.specs.Maps.{empty, len};
 ghost use Rattle.homa_plain.specs.declared.id.CallId.{CallId};
@@ -27,7 +28,10 @@ use crate::answers::{ClientAct, ClientDid, RowDid};
 use crate::lent::Lent;
 use crate::row::Row;
 use homa_in::{Incoming, Moment};
-use homa_plain::{Body, CallId, Emitted, HostId, Packet, RowFacts, Settings, StartFault};
+use homa_plain::{
+    Body, CallId, Emitted, HostId, LAST_HOST_TICK, LONGEST_MESSAGE, Packet, RowFacts, Settings,
+    StartFault,
+};
 use host_places::Rows;
 use msg_pool::{MsgPool, Scratch};
 use std::alloc::{AllocError, Global};
@@ -88,7 +92,7 @@ impl ClientTable {
         now: u64,
         order: u64,
     ) -> Result<(u32, CallId), (StartFault, Vec<u8>)>
-        requires { now ≤ 1000000002000 }
+        requires { now ≤ LAST_HOST_TICK }
         ensures fault { IfErr result (λ e. fault_of self.old server request.items ≡ Some e.0) }
         ensures back { IfErr result (λ e. e.1 ≡ request) }
         ensures same { OnErr result (self.new ≡ self.old) }
@@ -116,7 +120,7 @@ impl ClientTable {
         if request.is_empty() {
             return Some(StartFault::Empty);
         }
-        if request.len() > 1_000_000 {
+        if request.len() > LONGEST_MESSAGE as usize {
             return Some(StartFault::TooLong);
         }
         if server == self.host {
@@ -145,7 +149,7 @@ impl ClientTable {
     ) -> ClientDid
         requires role { packet.now.role ≡ OfServer }
         requires fits { FitsKind packet.now.role packet.now.level packet.now.body payload.now }
-        requires now { now ≤ 1000000002000 }
+        requires now { now ≤ LAST_HOST_TICK }
         requires pool { AreIn pool.old (part_at self.old.rows) }
         ensures received { Received self.old pool.old
             (packet_between from self.old.host packet.now payload.now) now order self.new pool.new scratch.new result }
@@ -166,7 +170,7 @@ impl ClientTable {
     ) -> ClientDid
         requires role { packet.now.role ≡ OfServer }
         requires fits { FitsKind packet.now.role packet.now.level packet.now.body payload.now }
-        requires now { at.now ≤ 1000000002000 }
+        requires now { at.now ≤ LAST_HOST_TICK }
         requires pool { AreIn lent.old.pool.now (part_at self.old.rows) }
         ensures received { Received self.old lent.old.pool.now (packet_between from self.old.host packet.now payload.now)
             at.now at.order self.new lent.new.pool.now lent.new.scratch.now result }
@@ -262,7 +266,7 @@ impl ClientTable {
         ensures facts { (id : CallId) (r : HeldRow) → StandsAt self.now.rows id slot r → result ≡ facts id r }
         ensures row { (id : CallId) (r : HeldRow) → StandsAt self.now.rows id slot r → IsRow r }
         ensures out { (id : CallId) (r : HeldRow) → StandsAt self.now.rows id slot r → IsSound r.out }
-        ensures small { (id : CallId) (r : HeldRow) → StandsAt self.now.rows id slot r → length r.request ≤ 1000000 }
+        ensures small { (id : CallId) (r : HeldRow) → StandsAt self.now.rows id slot r → length r.request ≤ LONGEST_MESSAGE }
         ensures own { (id : CallId) (r : HeldRow) → StandsAt self.now.rows id slot r → IsOwnCall self.now.host self.now.inc self.now.seq id }
     {
         let id = self.call_at(slot);
@@ -273,7 +277,7 @@ impl ClientTable {
     /// is enough for them.
     pub fn emit(&mut self, slot: u32, now: u64, credit: u32) -> Emitted
         requires stands { IsSome (spot_at self.old.rows slot) }
-        requires now { now ≤ 1000000002000 }
+        requires now { now ≤ LAST_HOST_TICK }
         ensures emitted { (id : CallId) (r : HeldRow) (pool : Pool) → StandsAt self.old.rows id slot r
             → result ≡ row_emits self.old.settings now credit (seen_row pool r) }
         ensures sent { (id : CallId) (r : HeldRow) → StandsAt self.old.rows id slot r
@@ -288,7 +292,7 @@ impl ClientTable {
     /// The row, which is due, acts, `now` by the client's clock.
     pub fn act(&mut self, slot: u32, now: u64, pool: &mut MsgPool) -> ClientAct
         requires stands { IsSome (spot_at self.old.rows slot) }
-        requires now { now ≤ 1000000002000 }
+        requires now { now ≤ LAST_HOST_TICK }
         requires due { IsDueAt self.old.settings now pool.old self.old.rows slot }
         requires pool { AreIn pool.old (part_at self.old.rows) }
         ensures acted { (id : CallId) (r : HeldRow) (host : HostId) (order free rows : ℕ) → StandsAt self.old.rows id slot r
@@ -311,7 +315,7 @@ impl ClientTable {
     /// The response in the row is granted up to `offset`, `now` by the client's clock.
     pub fn granted(&mut self, slot: u32, offset: u32, now: u64)
         requires stands { IsSome (spot_at self.old.rows slot) }
-        requires now { now ≤ 1000000002000 }
+        requires now { now ≤ LAST_HOST_TICK }
         requires part { MayGrant self.old.rows slot offset }
         ensures { (id : CallId) (r : HeldRow) (pool : Pool) → StandsAt self.old.rows id slot r → IsInPool pool r.part
             → Moved id self.old pool self.new pool (Some (client_granted now offset (seen_row pool r))) }

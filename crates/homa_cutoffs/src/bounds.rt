@@ -1,12 +1,12 @@
 //! The bound of a level, worked out from the lengths themselves.
+//! Rule: the cutoffs of unscheduled bytes share the weight of the last messages among the levels; CUTOFFS carry
+//! them.
 ghost use Rattle.std.specs.Prelude.{◌≡◌, ◌+◌, ◌*◌, ◌^◌, ◌<◌, ◌≤◌, length};
 ghost use Rattle.std.specs.List.{AllByRecursion};
 ghost use Rattle.homa_plain.specs.Cutoffs.{weight_up_to, bound, bound_of_level};
 
 use circular_buffer::HeapCircularBuffer;
-
-/// The bound that no message exceeds, in bytes.
-pub(crate) const GREATEST: u32 = 1_000_000;
+use homa_plain::LONGEST_MESSAGE;
 
 /// The weight of the messages of at most `most` bytes.
 fn weight_within(lengths: &HeapCircularBuffer<u32>, unsched: u32, most: u32) -> u64
@@ -26,16 +26,16 @@ fn weight_within(lengths: &HeapCircularBuffer<u32>, unsched: u32, most: u32) -> 
 /// The least bound with `j + 1` of `m` parts of the weight. It is 0 or one of the lengths.
 fn least_bound(lengths: &HeapCircularBuffer<u32>, m: u32, unsched: u32, j: u32) -> u32
     requires few { length lengths.now.items ≤ 256 }
-    requires within { AllByRecursion (λ n. n ≤ 1000000) lengths.now.items }
+    requires within { AllByRecursion (λ n. n ≤ LONGEST_MESSAGE) lengths.now.items }
     requires part { j < m }
     requires parts { m ≤ 7 }
     ensures { result ≡ bound m unsched lengths.now.items j }
 {
-    let share = u64::from(j + 1) * weight_within(lengths, unsched, GREATEST);
+    let share = u64::from(j + 1) * weight_within(lengths, unsched, LONGEST_MESSAGE);
     if share <= u64::from(m) * weight_within(lengths, unsched, 0) {
         return 0;
     }
-    let mut least = GREATEST;
+    let mut least = LONGEST_MESSAGE;
     for n in lengths.iter() {
         if *n < least && share <= u64::from(m) * weight_within(lengths, unsched, *n) {
             least = *n;
@@ -52,7 +52,7 @@ pub(crate) fn level_bound(
     level: u32,
 ) -> u32
     requires few { length lengths.now.items ≤ 256 }
-    requires within { AllByRecursion (λ n. n ≤ 1000000) lengths.now.items }
+    requires within { AllByRecursion (λ n. n ≤ LONGEST_MESSAGE) lengths.now.items }
     requires from { 1 ≤ k }
     requires to { k ≤ 7 }
     requires in_range { level ≤ 7 }
@@ -61,7 +61,7 @@ pub(crate) fn level_bound(
     if level < k {
         0
     } else if level == k {
-        GREATEST
+        LONGEST_MESSAGE
     } else {
         least_bound(lengths, 8 - k, unsched, 7 - level)
     }

@@ -1,10 +1,10 @@
 //! The level of a message, by its receiver's cutoffs.
+//! Rule: unscheduled bytes go at the level that the receiver's CUTOFFS give their message's length.
 ghost use Rattle.std.specs.Prelude.{◌≡◌, ◌≤◌};
 ghost use Rattle.homa_plain.specs.declared.packet.Cutoffs.{Cutoffs};
 ghost use Rattle.homa_plain.specs.Cutoffs.{first_cutoffs, level_of};
 
-use crate::bounds::GREATEST;
-use homa_plain::Cutoffs;
+use homa_plain::{Cutoffs, LONGEST_MESSAGE};
 
 /// What gives messages their levels: of those from `k` to 7, where `k` (1 to 7) is one above the levels that
 /// scheduled packets have.
@@ -36,7 +36,11 @@ impl Levels for Cutoffs {
     {
         let mut upto = [0; 8];
         for (level, bound) in upto.iter_mut().enumerate() {
-            *bound = if (level as u32) < k { 0 } else { GREATEST };
+            *bound = if (level as u32) < k {
+                0
+            } else {
+                LONGEST_MESSAGE
+            };
         }
         Cutoffs { version: 0, upto }
     }

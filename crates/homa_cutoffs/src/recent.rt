@@ -1,11 +1,12 @@
 //! The lengths of the last messages.
+//! Rule: a receiver computes its cutoffs, which CUTOFFS carry, from the lengths of the last 256 messages.
 ghost use Rattle.std.specs.Prelude.{◌≡◌, ◌<◌, ◌≤◌, [], length, IfOk};
 ghost use Rattle.std.specs.List.{AllByRecursion};
 ghost use Rattle.homa_plain.specs.Cutoffs.{noted, balanced};
 
 use crate::bounds::level_bound;
 use circular_buffer::HeapCircularBuffer;
-use homa_plain::Cutoffs;
+use homa_plain::{Cutoffs, LONGEST_MESSAGE};
 use std::alloc::{AllocError, Global};
 use std::marker::Model;
 
@@ -21,13 +22,14 @@ pub struct Recent {
 impl Model for Recent {
     ghost use Rattle.std.specs.Prelude.{◌≡◌, ◌≤◌, ℕ, List, length};
     ghost use Rattle.std.specs.List.{AllByRecursion};
+    ghost use Rattle.homa_plain.specs.Limits.{longest_message};
 
     ghost Value = { List ℕ };
 
     ghost view = { λ r. r.lengths.items };
 
     ghost invariant = { λ r. (r.lengths.capacity ≡ 256) × (length r.lengths.items ≤ 256)
-        × AllByRecursion (λ n. n ≤ 1000000) r.lengths.items };
+        × AllByRecursion (λ n. n ≤ longest_message) r.lengths.items };
 }
 
 impl Recent {
@@ -41,7 +43,7 @@ impl Recent {
 
     /// Notes a message of `len` bytes (1 to 1,000,000), and forgets the oldest of 256.
     pub fn note(&mut self, len: u32)
-        requires { len ≤ 1000000 }
+        requires { len ≤ LONGEST_MESSAGE }
         ensures noted { self.new ≡ noted self.old len }
         ensures counted { 0 < length self.new }
     {
@@ -55,7 +57,7 @@ impl Recent {
         requires to { k ≤ 7 }
         requires counted { 0 < length self.now }
         ensures cutoffs { result ≡ balanced k unsched version self.now }
-        ensures in_range { AllByRecursion (λ bound. bound ≤ 1000000) result.upto }
+        ensures in_range { AllByRecursion (λ bound. bound ≤ LONGEST_MESSAGE) result.upto }
     {
         let mut upto = [0; 8];
         for (level, bound) in upto.iter_mut().enumerate() {

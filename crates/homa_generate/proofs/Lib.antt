@@ -10,3 +10,4 @@ mod HostRounds
 mod MoreRounds
 mod Summaries
 mod Making
+mod Held

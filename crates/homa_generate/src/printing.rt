@@ -1,5 +1,6 @@
 //! The schedule of a generated run, and its summary.
-ghost use Rattle.std.specs.Prelude.{◌≡◌, OnOk, OnErr, IfOk, IsErrOf};
+ghost use Rattle.std.specs.Prelude.{◌≡◌, [], OnOk, OnErr, IfOk, IsErrOf};
+ghost use Rattle.homa_io.specs.Held.{sink_below, held_bytes};
 ghost use Rattle.homa_replay.specs.declared.stop.Stop.TheVariants.{NoMemory};
 ghost use Rattle.generated_runs.specs.Generated.{generated_settings, schedule_text, summary_text};
 ghost use Rattle.homa_generate.specs.Progress.{IsHeard, IsFaulted};
@@ -10,9 +11,9 @@ use crate::rounds::play_rounds;
 use crate::setup::Setup;
 use crate::{Counts, GenerateWorld};
 use homa_fabric::Fabric;
-use homa_io::{Sink, SureSink};
+use homa_io::{HeldSink, Room, Sink, SureSink};
 use homa_plain::Settings;
-use homa_replay::{OpenWorld, Stop};
+use homa_replay::{OpenWorld, Stop, finish};
 use homa_script::put_settings;
 use std::alloc::Global;
 
@@ -54,6 +55,29 @@ fn generate<B: Drop, P: GenerateWorld + OpenWorld<B> + Drop, K: Sink>(
     Ok(progress.counts)
 }
 
+// Prints the schedule of a run through a sink that holds lines back, and writes them all.
+fn make_through<B: Drop, P: GenerateWorld + OpenWorld<B> + Drop, K: Sink + Drop>(
+    alloc: Global,
+    held: &mut HeldSink<K>,
+    boxes: B,
+    seed: u64,
+    calls: u32,
+) -> Result<(), Stop>
+    requires ready { P.are_ready boxes }
+    requires none { held_bytes held.old ≡ [] }
+    ensures made { OnOk result (IsMade (run_of seed calls (P.many boxes)) (schedule_text generated_settings) (K.taken (sink_below held.old))
+        (K.taken (sink_below held.new)) (P.are_allowed boxes)) }
+    ensures part { OnErr result (IsPartMade (run_of seed calls (P.many boxes)) (schedule_text generated_settings) (K.taken (sink_below held.old))
+        (K.taken (sink_below held.new)) (P.are_allowed boxes)) }
+    ensures faulted { IsFaulted result (K.faults (sink_below held.old)) (K.faults (sink_below held.new)) }
+    ensures same { K.is_same (sink_below held.old) (sink_below held.new) }
+{
+    let made = generate::<B, P, HeldSink<K>>(alloc, held, boxes, seed, calls, true);
+    finish(held, &made)?;
+    made?;
+    Ok(())
+}
+
 /// Prints the schedule of the generated run of a seed with so many calls, in a world with these boxes.
 pub fn make<B: Drop, P: GenerateWorld + OpenWorld<B> + Drop, K: Sink>(
     alloc: Global,
@@ -70,7 +94,11 @@ pub fn make<B: Drop, P: GenerateWorld + OpenWorld<B> + Drop, K: Sink>(
     ensures faulted { IsFaulted result (K.faults sink.old) (K.faults sink.new) }
     ensures same { K.is_same sink.old sink.new }
 {
-    generate::<B, P, K>(alloc, sink, boxes, seed, calls, true)?;
+    let room = Room::new(alloc)?;
+    let mut held = HeldSink::over(sink, room);
+    let made = make_through::<B, P, &mut K>(alloc, &mut held, boxes, seed, calls);
+    let _sink = held.into_sink();
+    made?;
     Ok(())
 }
 

@@ -8,12 +8,13 @@ use Rattle.host_view.specs.declared.mark.Mark.{Mark}
 use Rattle.host_view.specs.Marks.{has_ran, IsReply, IsAllowed}
 use Rattle.host_view.specs.Seen.{Seen}
 use Rattle.homa_host.specs.declared.lent.Lent.{Lent}
+use Rattle.homa_plain.specs.Limits.{last_host_tick}
 
 -- a datagram may come to the host from this peer at this tick, and nothing was sent yet
 pub record CanCome {S : Type 0} (count : S → ℕ) (h : Seen) (peer : HostId) (tick : ℕ) (lent : Lent S) : Type 0 where
   pub from : peer.0 < h.settings.hosts
   pub other : peer ≢ h.host.id
-  pub now : tick ≤ 1000000002000
+  pub now : tick ≤ last_host_tick
   pub later : h.host.last ≤ tick
   pub order : h.host.order < 2 ^ 63
   pub served : count lent.service.now < 2 ^ 63

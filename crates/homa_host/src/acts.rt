@@ -1,4 +1,6 @@
 // What rows do by themselves, when their timers are due.
+// Rules: a RESEND after silence, a timeout after `tries` of them, NEED_ACK, and when a held response, a response or a
+// tombstone goes.
 ghost use Rattle.std.specs.Prelude.{◌≡◌, ◌+◌, ◌<◌, ◌≤◌, ◌^◌, Some, [], IsSome, IsSomeAnd};
 ghost use Rattle.std.specs.Option.{option_map};
 ghost use Rattle.plain_sets.specs.Ordered.{first_of};

@@ -1,4 +1,6 @@
 // What a datagram does that comes to a host.
+// Rules: a stale packet (version 2) does nothing, CUTOFFS are heard, an ACK makes tombstones, and each other packet
+// goes to its call.
 ghost use Rattle.std.specs.Prelude.{◌≡◌, ℕ, ◌+◌, ◌<◌, ◌≤◌, ◌^◌, List, length, IfErr, OnOk, OnErr};
 ghost use Rattle.std.specs.List.{AllByRecursion};
 ghost use Rattle.homa_plain.specs.declared.id.CallId.{CallId};

@@ -1,4 +1,5 @@
 // What packets of servers do to the calls that a host has made.
+// Rules: DATA of a response, GRANT and RESEND of a request, BUSY, UNKNOWN, and NEED_ACK, which an ACK or BUSY answers.
 ghost use Rattle.std.specs.Prelude.{◌≡◌, ◌+◌, ◌<◌, ◌^◌, Some, [], IsSome};
 ghost use Rattle.std.specs.List.{AllByRecursion};
 ghost use Rattle.homa_plain.specs.declared.id.CallId.{CallId};

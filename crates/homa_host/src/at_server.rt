@@ -1,4 +1,5 @@
 // What packets of clients do to the calls that a host serves.
+// Rules: DATA of a request, GRANT and RESEND of a response, BUSY, UNKNOWN, and an ACK, which leaves a tombstone.
 ghost use Rattle.std.specs.Prelude.{◌≡◌, ℕ, Option, None, ◌+◌, ◌<◌, ◌≤◌, ◌^◌, Some, List, OnOk, OnErr, IsSome};
 ghost use Rattle.std.specs.List.{AllByRecursion};
 ghost use Rattle.std.specs.Option.{option_map};

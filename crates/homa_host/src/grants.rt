@@ -1,4 +1,6 @@
 // How far messages are granted, and the GRANTs that say so.
+// Rules: a GRANT to each chosen message (overcommitment), up to `window` bytes beyond those that arrived, with a
+// priority by SRPT.
 ghost use Rattle.std.specs.Prelude.{◌≡◌, ◌+◌, ◌≤◌, IsSomeAnd, option_copied};
 ghost use Rattle.homa_plain.specs.Choice.{new_end, seen as message_of};
 ghost use Rattle.homa_plain.specs.Sending.{Arriving};
@@ -15,7 +17,7 @@ use crate::outcome::Change;
 use crate::parts::{HostParts, Place, follow_client, follow_server};
 use arrayvec::ArrayVec;
 use homa_in::Incoming;
-use homa_plain::{Body, CallId, HostId, Role};
+use homa_plain::{Body, CallId, HostId, LONGEST_MESSAGE, Role};
 use host_view::Outbox;
 
 impl HostParts {
@@ -105,10 +107,10 @@ impl HostParts {
 
 // How far a message that isn't whole is to be granted: `window` bytes beyond as many as have arrived.
 fn new_end_of(part: &Incoming, window: u32) -> u32
-    requires window { window ≤ 1000000 }
+    requires window { window ≤ LONGEST_MESSAGE }
     ensures end { (pool : Pool) → IsIn pool part.now → result ≡ new_end window (message_of (seen pool part.now)) }
     ensures within { result ≤ part.now.length }
-    ensures small { result ≤ 1000000 }
+    ensures small { result ≤ LONGEST_MESSAGE }
 {
     part.len().min(part.arrived() + window)
 }

@@ -1,4 +1,6 @@
 // One host.
+// Rules: which of Homa's rules a call, a packet and a turn carry out: timers, then GRANTs, then DATA in SRPT order
+// within the credit.
 ghost use Rattle.std.specs.Prelude.{◌≡◌, ◌≢◌, ℕ, ◌+◌, ◌<◌, ◌≤◌, ◌^◌, true, Some, None, [], List, length, IfOk, IfErr, OnOk, OnErr, IsSome, slice_get};
 ghost use Rattle.std.specs.Prelude.{if◌then◌else◌};
 ghost use Rattle.std.specs.List.{AllByRecursion};
@@ -24,7 +26,7 @@ use crate::lent::Lent;
 use crate::parts::HostParts;
 use homa_grants::GrantBook;
 use homa_pacer::Pacer;
-use homa_plain::{CallId, Entry, HostId, Role, Settings, StartFault};
+use homa_plain::{CallId, Entry, HostId, LAST_HOST_TICK, Role, Settings, StartFault};
 use homa_service::Service;
 use homa_timers::Timers;
 use homa_wire::decode;
@@ -83,7 +85,7 @@ impl Host {
         requires valid { IsValid settings.now }
         requires id { id.0 < settings.now.hosts }
         requires inc { 1 ≤ inc }
-        requires last { last ≤ 1000000002000 }
+        requires last { last ≤ LAST_HOST_TICK }
         ensures { IfOk result (λ h. h ≡ record {
           settings = settings.now;
           host = new_host settings.now id inc last;
@@ -109,7 +111,7 @@ impl Host {
         out: &mut Outbox,
     ) -> Result<CallId, (StartFault, Vec<u8>)>
         requires server { server.0 < self.old.settings.hosts }
-        requires now { now ≤ 1000000002000 }
+        requires now { now ≤ LAST_HOST_TICK }
         requires later { self.old.host.last ≤ now }
         requires order { self.old.host.order < 2 ^ 63 }
         ensures step { OnOk result ((whole : List ℕ)
@@ -151,7 +153,7 @@ impl Host {
     ) -> Result<(), Asked>
         requires from { from.0 < self.old.settings.hosts }
         requires other { from ≢ self.old.host.id }
-        requires now { now ≤ 1000000002000 }
+        requires now { now ≤ LAST_HOST_TICK }
         requires later { self.old.host.last ≤ now }
         requires order { self.old.host.order < 2 ^ 63 }
         requires served { V.served service.old < 2 ^ 63 }
@@ -222,7 +224,7 @@ impl Host {
     /// act, messages are granted to, and packets go out.
     #[tactic(none)]
     pub fn turn(&mut self, now: u64, out: &mut Outbox)
-        requires now { now ≤ 1000000002000 }
+        requires now { now ≤ LAST_HOST_TICK }
         requires later { self.old.host.last ≤ now }
         requires order { self.old.host.order < 2 ^ 63 }
         ensures step { (whole : List ℕ) → IsDone self.old (turn_step self.old.settings self.old.host now) self.new out.new whole }

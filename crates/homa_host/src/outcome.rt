@@ -1,4 +1,6 @@
 // What the tables' answers have a host do.
+// Rules: which BUSY, UNKNOWN, ACK, RESEND or NEED_ACK packet follows from a row's rule, and which timer, GRANTs and
+// SRPT place the row has.
 ghost use Rattle.std.specs.Prelude.{◌≡◌, ℕ, ◌+◌, ◌<◌, ◌≤◌, Option, Some, None, List, IsSome, IfSome, option_copied, if◌then◌else◌};
 ghost use Rattle.std.specs.Option.{option_and_then};
 ghost use Rattle.homa_plain.specs.declared.id.CallId.{CallId};
@@ -25,7 +27,7 @@ ghost use Rattle.homa_host.specs.Outcomes.{server_orders, client_act_change, IfT
 
 use homa_client::{ClientAct, ClientDid, ClientTable};
 use homa_in::Incoming;
-use homa_plain::{Body, CallId, More, RowFacts, Why};
+use homa_plain::{Body, CallId, LONGEST_MESSAGE, More, RowFacts, Why};
 use homa_server::{ServerAct, ServerDid, ServerTable};
 use host_books::{Arrival, Deadline, Duties, Waiting};
 use host_state::{Outcome, Said};
@@ -113,7 +115,7 @@ pub(crate) fn client_outcome(
     ensures outcome { (m : Moment) (p : PlainPacket) (row : Option ClientRow) (told : List ℕ) → head ≡ head_in p.body
         → IfTouched did (λ _. touched ≡ version_at (piece_in p.body p.payload) row) → IsOutcome (answer_of m p row told did) result }
     ensures fits { IfSaid did (λ what. what ≡ Body.Busy) → FitsSaid AsClient result.said }
-    ensures len { length_in head ≤ 1000000 → IfSome result.opened (λ len. len ≤ 1000000) }
+    ensures len { length_in head ≤ LONGEST_MESSAGE → IfSome result.opened (λ len. len ≤ LONGEST_MESSAGE) }
     ensures marks { outcome_marks result ≤ 4 }
     ensures frames { outcome_frames result ≤ 3 }
     ensures opened { one_of result.opened ≤ client_orders did }
@@ -192,7 +194,7 @@ pub(crate) fn server_outcome(
         → IfServerTouched did (λ _. touched ≡ version_there (piece_in p.body p.payload) row) → p.id ≡ id
         → IsOutcome (served_of s m id (piece_in p.body p.payload) row told a did) result }
     ensures fits { IfServerSaid did IsAnswerBody → FitsSaid AsServer result.said }
-    ensures len { length_in head ≤ 1000000 → IfSome result.opened (λ len. len ≤ 1000000) }
+    ensures len { length_in head ≤ LONGEST_MESSAGE → IfSome result.opened (λ len. len ≤ LONGEST_MESSAGE) }
     ensures marks { outcome_marks result ≤ 3 }
     ensures frames { outcome_frames result ≤ 2 }
     ensures opened { one_of result.opened ≤ server_orders did }
@@ -261,7 +263,7 @@ pub(crate) fn client_act_outcome(act: ClientAct, prio: u8) -> Outcome
 pub(crate) fn server_act_outcome(act: ServerAct, prio: u8) -> Outcome
     ensures outcome { (s : Settings) (m : Moment) (id : CallId) (row : Option ServerRow) → prio ≡ asking_level s
         → IsOutcome (acted_of s m id row act) result }
-    ensures fits { prio ≤ 7 → IfResend act (λ from to. (from < to) × (to ≤ 1000000)) → FitsSaid AsServer result.said }
+    ensures fits { prio ≤ 7 → IfResend act (λ from to. (from < to) × (to ≤ LONGEST_MESSAGE)) → FitsSaid AsServer result.said }
     ensures marks { outcome_marks result ≤ 1 }
     ensures frames { outcome_frames result ≤ 1 }
     ensures opened { result.opened ≡ None }

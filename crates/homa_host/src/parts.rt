@@ -1,4 +1,6 @@
 // The parts of a host: how they are opened, how a call starts, how each step ends, and how the books follow a row.
+// Rules: a step ends with GRANTs and then DATA; each row has its timer, its place among granted messages, and its place
+// in SRPT order.
 ghost use Rattle.std.specs.Prelude.{◌≡◌, ◌+◌, ◌<◌, ◌≤◌, ◌^◌, Some, None, [], IfOk, IfErr, OnOk, OnErr};
 ghost use Rattle.plain_sets.specs.Maps.{empty};
 ghost use Rattle.homa_plain.specs.Settings.{IsValid};
@@ -12,7 +14,7 @@ ghost use Rattle.homa_host.specs.Outcomes.{CanFollowClient, FollowedClient};
 
 use crate::outcome::{Change, client_duties, server_duties};
 use homa_client::ClientTable;
-use homa_plain::{CallId, HostId, Settings, StartFault};
+use homa_plain::{CallId, HostId, LAST_HOST_TICK, Settings, StartFault};
 use homa_server::ServerTable;
 use host_books::{Books, Duties};
 use host_state::Control;
@@ -51,7 +53,7 @@ impl HostParts {
         requires valid { IsValid settings.now }
         requires id { id.0 < settings.now.hosts }
         requires inc { 1 ≤ inc }
-        requires last { last ≤ 1000000002000 }
+        requires last { last ≤ LAST_HOST_TICK }
         ensures kept { IfOk result IsKept }
         ensures seen { IfOk result (λ p. seen_of p ≡ record {
           settings = settings.now;
@@ -91,7 +93,7 @@ impl HostParts {
     ) -> Result<CallId, (StartFault, Vec<u8>)>
         requires kept { IsKept self.old }
         requires server { server.0 < self.old.control.settings.hosts }
-        requires now { now ≤ 1000000002000 }
+        requires now { now ≤ LAST_HOST_TICK }
         requires later { self.old.control.last ≤ now }
         requires order { self.old.order < 2 ^ 63 }
         ensures fault { IfErr result (λ e. start_fault self.old.control.settings (host_of self.old) server request.items ≡ Some e.0) }

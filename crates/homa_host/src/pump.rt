@@ -1,4 +1,5 @@
 // Which packets of messages go out, and how many.
+// Rules: SRPT (the message with the fewest bytes left goes first), credit, and at most 64 packets a step.
 ghost use Rattle.std.specs.Prelude.{◌≡◌, ◌+◌, Some, IsSome};
 ghost use Rattle.std.specs.Option.{option_map};
 ghost use Rattle.homa_plain.specs.Choice.{least};

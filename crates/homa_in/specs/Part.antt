@@ -8,6 +8,7 @@ use Rattle.homa_plain.specs.declared.id.HostId.{HostId}
 use Rattle.homa_plain.specs.contracts.id.HostId as host_id
 use Rattle.homa_plain.specs.Incoming.{Incoming}
 use Rattle.msg_pool.specs.Pool.{Pool, Held, held_code, bytes_of, IsLeaseOf}
+use Rattle.homa_plain.specs.Limits.{longest_message}
 
 -- an incoming message without the values of its bytes, which are in a pool
 pub record Part : Type 0 where
@@ -48,7 +49,7 @@ pub record IsIn (pool : Pool) (part : Part) : Type 0 where
 -- and there are at most 64 gaps
 pub record IsPart (n end : ℕ) (missing : Numbers) (lease : Held) : Type 0 where
   pub leased : lease.len ≡ n
-  pub small : n ≤ 1000000
+  pub small : n ≤ longest_message
   pub granted : end ≤ n
   pub below : IsBelow missing n
   pub few : length (ranges missing) ≤ 64

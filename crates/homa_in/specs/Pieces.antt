@@ -5,6 +5,7 @@ use Rattle.homa_plain.specs.declared.packet.Body.{Body}
 use Rattle.homa_plain.specs.declared.packet.Body.TheVariants as body
 use Rattle.homa_plain.specs.Incoming.{Incoming}
 use Rattle.homa_plain.specs.Rules.{Moment, Piece, Did, opening, version_of}
+use Rattle.homa_plain.specs.Limits.{longest_message}
 
 -- the piece of a message that a packet brings, if it brings one
 abbrev pub piece_in : Body → List ℕ → Option Piece
@@ -40,7 +41,7 @@ moment_with host now order free rows = record { host = host; now = now; order = 
 -- what a table requires of a well-formed packet: a piece has some bytes, all of them its message's,
 -- and no level is above 7
 abbrev pub IsFit : Body → List ℕ → Type 0
-IsFit (body.Data size offset version service ack) payload = (0 < length payload) × (offset + length payload ≤ size) × (size ≤ 1000000)
+IsFit (body.Data size offset version service ack) payload = (0 < length payload) × (offset + length payload ≤ size) × (size ≤ longest_message)
 IsFit (body.Grant offset prio) payload = prio ≤ 7
 IsFit (body.Resend from to prio) payload = (from < to) × (prio ≤ 7)
 IsFit body.Busy payload = Unit {0}

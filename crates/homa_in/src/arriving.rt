@@ -13,7 +13,7 @@ ghost use Rattle.homa_in.specs.Part.{seen, unarrived, IsIn};
 ghost use Rattle.homa_in.specs.Accepts.{completes, answer};
 
 use crate::pieces::{has_the_last, place, put_missing};
-use homa_plain::HostId;
+use homa_plain::{HostId, LONGEST_MESSAGE};
 use msg_pool::{Lease, MsgPool, Scratch};
 use range_set::{Changed, RangeSet};
 use std::marker::Model;
@@ -151,7 +151,7 @@ impl Incoming {
     pub fn gap(&self) -> Option<(u32, u32)>
         ensures value { result ≡ option_map bounds (first_below self.now.missing self.now.granted) }
         ensures seen { (pool : Pool) → IsIn pool self.now → result ≡ option_map bounds (first_gap (seen pool self.now)) }
-        ensures within { IfSome result (λ r. (r.0 < r.1) × (r.1 ≤ 1000000)) }
+        ensures within { IfSome result (λ r. (r.0 < r.1) × (r.1 ≤ LONGEST_MESSAGE)) }
     {
         self.missing.first_below(self.granted)
     }
@@ -198,7 +198,7 @@ impl Incoming {
     /// How many bytes it has in all: at most 1,000,000.
     pub fn len(&self) -> u32
         ensures value { result ≡ self.now.length }
-        ensures small { result ≤ 1000000 }
+        ensures small { result ≤ LONGEST_MESSAGE }
         ensures lease { result ≡ self.now.lease.len }
         ensures missing { len self.now.missing ≤ result }
     {

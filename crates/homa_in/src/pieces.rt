@@ -8,6 +8,7 @@ ghost use Rattle.range_set.specs.Fits.{FitsRangeSet};
 ghost use Rattle.msg_pool.specs.Pool.{bytes_of, IsLeaseOf, with_bytes};
 ghost use Rattle.homa_in.specs.Filled.{IsFilled};
 
+use homa_plain::LONGEST_MESSAGE;
 use msg_pool::{Lease, MsgPool, Scratch};
 use range_set::{Changed, RangeSet};
 
@@ -15,7 +16,7 @@ use range_set::{Changed, RangeSet};
 fn write_missing(missing: &RangeSet, lease: &Lease, offset: u32, bytes: &[u8], pool: &mut MsgPool)
     requires lease { IsLeaseOf pool.old lease.now }
     requires fits { offset + length bytes.now ≤ lease.now.len }
-    requires small { offset + length bytes.now ≤ 1000000 }
+    requires small { offset + length bytes.now ≤ LONGEST_MESSAGE }
     ensures pool { pool.new ≡ with_bytes pool.old lease.now (bytes_of pool.new lease.now) }
     ensures bytes { IsFilled missing.now offset (offset + length bytes.now) bytes.now (bytes_of pool.old lease.now) (bytes_of pool.new lease.now) }
 {
@@ -34,7 +35,7 @@ fn write_missing(missing: &RangeSet, lease: &Lease, offset: u32, bytes: &[u8], p
 /// Writes those bytes of a piece that are missing to a list.
 pub(crate) fn put_missing(missing: &RangeSet, offset: u32, bytes: &[u8], scratch: &mut Scratch)
     requires fits { offset + length bytes.now ≤ length scratch.old }
-    requires small { offset + length bytes.now ≤ 1000000 }
+    requires small { offset + length bytes.now ≤ LONGEST_MESSAGE }
     ensures { IsFilled missing.now offset (offset + length bytes.now) bytes.now scratch.old scratch.new }
 {
     let end = offset + bytes.len() as u32;
@@ -61,7 +62,7 @@ pub(crate) fn place(
     requires lease { IsLeaseOf pool.old lease.now }
     requires some { 0 < length bytes.now }
     requires fits { offset + length bytes.now ≤ lease.now.len }
-    requires small { offset + length bytes.now ≤ 1000000 }
+    requires small { offset + length bytes.now ≤ LONGEST_MESSAGE }
     requires few { length (ranges missing.old) ≤ 64 }
     ensures too_many { (result ≡ Changed.TooMany) ↔ (64 < length (ranges (without_range missing.old offset (offset + length bytes.now)))) }
     ensures unchanged { result ≡ Changed.TooMany → missing.new ≡ missing.old }

@@ -6,7 +6,7 @@ ghost use Rattle.homa_in.specs.Pooled.{Moves};
 ghost use Rattle.homa_in.specs.Putting.{WasPut, WasOpened};
 
 use crate::{Accepted, Incoming, Piece};
-use homa_plain::HostId;
+use homa_plain::{HostId, LONGEST_MESSAGE};
 use msg_pool::{MsgPool, PoolFull, Scratch};
 
 /// What a piece did to a part.
@@ -67,7 +67,7 @@ pub fn open_part(
 ) -> Opening
     requires some { 0 < length piece.bytes.now }
     requires fits { piece.offset + length piece.bytes.now ≤ piece.size }
-    requires small { piece.size ≤ 1000000 }
+    requires small { piece.size ≤ LONGEST_MESSAGE }
     ensures { WasOpened pool.old peer piece.entry.size order unsched piece.entry.offset piece.entry.bytes.now pool.new scratch.new result }
 {
     if piece.bytes.len() == piece.size as usize {
@@ -89,7 +89,7 @@ fn no_pages(full: PoolFull) -> Opening
 // Opens a message of which these are all the bytes. No part is made of it; a lease only tells whether there are pages for it.
 fn open_whole(bytes: &[u8], pool: &mut MsgPool, scratch: &mut Scratch) -> Opening
     requires some { 0 < length bytes.now }
-    requires small { length bytes.now ≤ 1000000 }
+    requires small { length bytes.now ≤ LONGEST_MESSAGE }
     ensures { (peer : HostId) (order unsched : ℕ)
         → WasOpened pool.old peer (length bytes.now) order unsched 0 bytes.now pool.new scratch.new result }
 {
@@ -114,7 +114,7 @@ fn open_by_piece(
 ) -> Opening
     requires some { 0 < length piece.bytes.now }
     requires fits { piece.offset + length piece.bytes.now ≤ piece.size }
-    requires small { piece.size ≤ 1000000 }
+    requires small { piece.size ≤ LONGEST_MESSAGE }
     ensures { WasOpened pool.old peer piece.entry.size order unsched piece.entry.offset piece.entry.bytes.now pool.new scratch.new result }
 {
     let lease = match pool.take(piece.size) {

@@ -57,11 +57,12 @@ impl<K: Sink> Sink for &mut K {
     ghost use Rattle.std.specs.Prelude.{refl};
     ghost use Rattle.std.proofs.Common.{◌∙◌};
 
-    ghost is_same = { λ a b. a.ghost_name ≡ b.ghost_name };
+    // It refers to the same sink, which is the same as before.
+    ghost is_same = { λ a b. (a.ghost_name ≡ b.ghost_name) × K.is_same a.now b.now };
 
-    ghost same_self = { λ a. refl };
+    ghost same_self = { λ a. (refl, K.same_self a.now) };
 
-    ghost same_on = { λ a b c p q. p ∙ q };
+    ghost same_on = { λ a b c p q. (p.0 ∙ q.0, K.same_on a.now b.now c.now p.1 q.1) };
 
     fn write(&mut self, bytes: &[u8]) -> Result<usize, WriteFailed> {
         (**self).write(bytes)

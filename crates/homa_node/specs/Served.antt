@@ -60,9 +60,10 @@ pub record BeginsRun (run : Run) (reports : List Report) (sent : List Datagram) 
 
 module _ (whole : Whole) (told : Notes → Report → List ℕ) (kept : Notes → Report → Notes) (strange : Notes → Report → Bool)
     (may_tell : List PlainEntry → Type 0) where
-  -- The run of these bytes came to this end. There are answers, ticks and receives of which it is the run: the answers are those that
-  -- its `run` lines show, which the boxes allow; the ticks and receives are those that were given, where that is told, and it leaves no receive.
-  -- All of it was told, and nothing was strange; the net did what comes and goes by it, in order.
+  -- The run of these bytes came to this end. There are answers, ticks and receives of which it is the run. The answers
+  -- are those that its `run` lines show, which the boxes allow. The ticks and receives are those that were given, where
+  -- that is told, and it leaves no receive. All of it was told, and nothing was strange; the net did what comes and
+  -- goes by it, in order.
   pub record IsServed (bytes : List ℕ) (old new : Outside) (end : End) : Type 0 where
     pub answers : List Answer
     pub ticks : List ℕ
@@ -79,9 +80,10 @@ module _ (whole : Whole) (told : Notes → Report → List ℕ) (kept : Notes �
     pub shows : shown (entries (whole bytes answers ticks gave).reports) ≡ answers
     pub allowed : may_tell (entries (whole bytes answers ticks gave).reports)
 
-  -- The run stopped. Some of the bytes came. The run begins with `reports` and `sent`, one datagram for each packet that is told: that of every
-  -- input that begins with the bytes that came, and whatever is answered, read and received later; or nothing more is left, and it is the run of
-  -- what came. `tell` says how much of the reports was told, and `take` how much was sent.
+  -- The run stopped. Some of the bytes came. The run begins with `reports` and `sent`, one datagram for each packet
+  -- that is told. So does the run of every input that begins with the bytes that came, whatever is answered, read and
+  -- received later. Or nothing more is left, and it is the run of what came. `tell` says how much of the reports was
+  -- told, and `take` how much was sent.
   pub record IsPart (bytes : List ℕ) (left : Option (List ℕ)) (old new : Outside) (tell : List Report → Type 0) (take : List Datagram → Type 0) : Type 0 where
     pub came : List ℕ
     pub rest : List ℕ

@@ -18,14 +18,11 @@ ghost use Rattle.homa_node.specs.Opened.{HasOpened, opening_stop};
 use crate::OpenHosts;
 use crate::places::{connect, first_incs, locals};
 use homa_io::Source;
-use homa_plain::{Entry, HostId};
+use homa_plain::{Entry, HostId, LONGEST_INPUT};
 use node_io::{Net, Observer};
 use node_script::{Reader, Setup, SetupStop};
 use node_turns::NodeStop;
 use std::alloc::Global;
-
-/// The most bytes of a script.
-pub const MOST_BYTES: u64 = 68_719_476_736;
 
 /// A node that was opened: what it is to do, the reader of its calls, its hosts, and which of them are its own.
 #[derive(Drop)]
@@ -110,7 +107,7 @@ pub fn open_node<B: Drop, H: OpenHosts<B> + Drop, S: Source, N: Net, O: Observer
     ensures same_source { S.is_same source.old source.new }
     ensures same_observer { O.is_same observer.old observer.new }
 {
-    let mut reader = Reader::open(alloc, MOST_BYTES)?;
+    let mut reader = Reader::open(alloc, LONGEST_INPUT)?;
     let setup = read_setup(alloc, &mut reader, source)?;
     connect(net, &setup.places)?;
     observer.seen(&Entry::Settings(setup.settings))?;

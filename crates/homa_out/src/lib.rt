@@ -13,6 +13,7 @@ ghost use Rattle.range_set.specs.Fits.{bounds};
 ghost use Rattle.homa_plain.specs.Outgoing.{opened, grant, resend, restart, next, left, has_waiting, IsSound};
 ghost use Rattle.homa_out.specs.Answers.{answered};
 
+use homa_plain::LONGEST_MESSAGE;
 use range_set::{Changed, RangeSet};
 use std::marker::Model;
 
@@ -54,7 +55,7 @@ impl Outgoing {
     /// A message of `len` bytes, 1 to 1000000, of which the first `unsched` need no grant, and none was sent.
     pub fn open(len: u32, unsched: u32) -> Outgoing
         requires some { 1 ≤ len }
-        requires small { len ≤ 1000000 }
+        requires small { len ≤ LONGEST_MESSAGE }
         requires unsched { 1 ≤ unsched }
         ensures { result ≡ opened len unsched }
     {
@@ -166,7 +167,7 @@ impl Outgoing {
     /// How many bytes the message has: at most 1000000.
     pub fn len(&self) -> u32
         ensures value { result ≡ self.now.length }
-        ensures small { result ≤ 1000000 }
+        ensures small { result ≤ LONGEST_MESSAGE }
         ensures sound { IsSound self.now }
     {
         self.len
@@ -183,7 +184,7 @@ impl Outgoing {
 /// Adds the bytes from `a` to `b` - 1, which make at most 64 ranges with the others.
 fn add(waiting: &mut RangeSet, a: u32, b: u32)
     requires rising { a < b }
-    requires small { b ≤ 1000000 }
+    requires small { b ≤ LONGEST_MESSAGE }
     requires few { length (ranges (with_range waiting.old a b)) ≤ 64 }
     ensures { waiting.new ≡ with_range waiting.old a b }
 {

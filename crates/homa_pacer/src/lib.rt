@@ -1,18 +1,22 @@
 //! The messages of a host that may be sent: which goes first, and how many bytes may still go out.
+//! Rules: SRPT (the message with the fewest bytes left goes first), and the credit, which is filled up to `rate` once a
+//! tick.
 //!
 //! The model: a [`Pacer`] is the list of the messages that may be sent, in the order of the bytes that are left of
-//! them, ties by an order number, beside the credit and the rate to which it is filled up. A message is named by its
-//! slot, the place of its row. The promise: a call changes the entry of its own slot or the credit and nothing else,
-//! and `pick` answers the message with the fewest bytes left. Only `open` takes memory.
+//! them, ties by an order number. Beside it stand the credit and the rate to which it is filled up. A message is named
+//! by its slot, the place of its row. The promise: a call changes the entry of its own slot or the credit and nothing
+//! else, and `pick` answers the message with the fewest bytes left. Only `open` takes memory.
 #![tactic(auto)]
 
-ghost use Rattle.std.specs.Prelude.{◌≡◌, ◌+◌, ◌-◌, ◌<◌, ◌≤◌, ◌↔◌, [], length, map, IsNone, IfSome, IfOk};
+mod credit;
+
+ghost use Rattle.std.specs.Prelude.{◌≡◌, ◌+◌, ◌-◌, ◌<◌, ◌↔◌, [], length, map, IsNone, IfSome, IfOk};
 ghost use Rattle.std.specs.Option.{option_map};
 ghost use Rattle.place_heap.specs.Held.{list_of};
 ghost use Rattle.plain_sets.specs.Ordered.{placed};
 ghost use Rattle.homa_plain.specs.Choice.{least};
 ghost use Rattle.homa_plain.specs.Settings.{IsValid};
-ghost use Rattle.homa_pacer.specs.Pace.{ready_key, without, IsOwnOrder, IsSound, refill, item_of};
+ghost use Rattle.homa_pacer.specs.Pace.{ready_key, without, IsOwnOrder, IsSound, item_of};
 
 use homa_plain::Settings;
 use host_heap::{first, replace};
@@ -99,34 +103,6 @@ impl Pacer {
     {
         let (slot, _) = first(&self.heap)?;
         Some(slot)
-    }
-
-    /// Begins a tick: if `now` is later than the tick of the last refill, the credit is `rate` again, however much of
-    /// it was left.
-    pub fn refill(&mut self, now: u64)
-        ensures refilled { self.new ≡ refill now self.old }
-        ensures sound { IsSound self.new }
-    {
-        if self.refilled < now {
-            self.credit = self.rate;
-            self.refilled = now;
-        }
-    }
-
-    /// How many bytes may still be sent until the credit is filled up.
-    pub fn credit(&self) -> u32
-        ensures { result ≡ self.now.credit }
-    {
-        self.credit
-    }
-
-    /// So many bytes are sent, at most the credit.
-    pub fn spend(&mut self, bytes: u32)
-        requires { bytes ≤ self.old.credit }
-        ensures spent { self.new ≡ record self.old { credit = self.old.credit - bytes } }
-        ensures sound { IsSound self.new }
-    {
-        self.credit -= bytes;
     }
 
     /// The heap: the slots whose messages may be sent, with their keys.

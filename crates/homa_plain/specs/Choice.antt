@@ -48,7 +48,7 @@ module _ {X : Type 0} (message : X → Message) where
   abbrev pub chosen : ℕ → List X → List X
   chosen k xs = chosen_by (λ x. sender (message x)) (λ x. choice_key (message x)) k xs
 
-  -- the GRANTs to n chosen messages, of which the first has rank r: one if its new end exceeds its granted end
+  -- the GRANTs to n chosen messages, of which the first has rank r: one if its new end exceeds its granted end.
   -- Rank r gives priority n - 1 - r, so that the message with the fewest missing bytes has the highest.
   -- Source: SIGCOMM 2018, "Packet priorities" (from memory).
   abbrev pub grants_from : ℕ → ℕ → ℕ → List X → List (Granted X)

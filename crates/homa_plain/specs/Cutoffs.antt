@@ -3,10 +3,7 @@ use Rattle.std.specs.Prelude.{◌≡◌, ◌⊎◌, ◌≤◌, ℕ, zero, suc, �
 use Rattle.std.specs.Prelude.{List, [], ◌∷◌, ◌++◌, length, map, filter, drop, slice_index}
 use Rattle.std.specs.List.{sum_by}
 use Rattle.homa_plain.specs.declared.packet.Cutoffs.{Cutoffs}
-
--- the bound that no message exceeds
-abbrev pub greatest_bound : ℕ
-greatest_bound = 1000000
+use Rattle.homa_plain.specs.Limits.{longest_message}
 
 -- the levels of priority, the lowest first
 abbrev pub levels : List ℕ
@@ -14,7 +11,7 @@ levels = 0 ∷ 1 ∷ 2 ∷ 3 ∷ 4 ∷ 5 ∷ 6 ∷ 7 ∷ []
 
 -- the cutoffs of a host that has counted no message: each length goes at level 7
 abbrev pub first_cutoffs : ℕ → Cutoffs
-first_cutoffs k = record { version = 0; upto = map (λ i. if nat_lt i k then 0 else greatest_bound) levels }
+first_cutoffs k = record { version = 0; upto = map (λ i. if nat_lt i k then 0 else longest_message) levels }
 
 -- the greatest level from k to n - 1 whose bound a length doesn't exceed; k if there is none
 abbrev pub level_under : ℕ → ℕ → List ℕ → ℕ → ℕ
@@ -67,7 +64,7 @@ bound m unsched lengths j = least_from (has_share m unsched lengths j) 0 (longes
 -- the bound of level i
 abbrev pub bound_of_level : ℕ → ℕ → List ℕ → ℕ → ℕ
 bound_of_level k unsched lengths i =
-    if nat_lt i k then 0 else if i == k then greatest_bound else bound (8 - k) unsched lengths (7 - i)
+    if nat_lt i k then 0 else if i == k then longest_message else bound (8 - k) unsched lengths (7 - i)
 
 -- the bounds of all levels, chosen so that the levels from k to 7 get equal parts of the weight
 -- Source: SIGCOMM 2018, "Packet priorities" (from memory). That the last 256 messages count is a rule of this project.

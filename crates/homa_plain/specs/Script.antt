@@ -20,6 +20,7 @@ use Rattle.homa_plain.specs.Settings.{verdict, usual}
 use Rattle.homa_plain.specs.Numbers.{number_of}
 use Rattle.homa_plain.specs.Input.{lines_of, without_feed, words_of}
 use Rattle.homa_plain.specs.Text.{name_word, line_of_words, host_word, hex_word, settings_numbers, told_numbers}
+use Rattle.homa_plain.specs.Limits.{longest_input}
 
 -- ---- operands
 
@@ -225,7 +226,7 @@ longest_line = 2100000
 
 -- the most bytes of an input
 abbrev pub most_bytes : ℕ
-most_bytes = 68719476736
+most_bytes = longest_input
 
 -- what a line stands for in an input of at most so many bytes, of which `read` come before the line
 unfoldable pub phrase_in : ℕ → Bool → ℕ → List ℕ → Result Phrase ScriptFault

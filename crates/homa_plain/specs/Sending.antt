@@ -61,7 +61,7 @@ server_granted now offset row = record row { state = state_granted now offset ro
 -- ---- what may be sent
 
 -- a request may be sent if bytes of it wait and it is new: its last byte was never sent, or the server was heard of
--- within its patience
+-- within its patience.
 -- A rule of this project: a client stops sending to a server from which nothing comes.
 abbrev pub may_send_request : Settings → ℕ → ClientRow → Bool
 may_send_request s now r = has_waiting r.out && (nat_lt r.out.top r.out.length || nat_le now (r.heard + patience s))

@@ -7,6 +7,7 @@ use Rattle.homa_plain.specs.declared.settings.Name.TheVariants.{Hosts, Seg, Wind
 use Rattle.homa_plain.specs.declared.settings.Name.TheVariants.{Served, Rebalance, Skew, Wire}
 use Rattle.homa_plain.specs.declared.settings.SettingFault.{SettingFault}
 use Rattle.homa_plain.specs.declared.settings.SettingFault.TheVariants.{OutOfRange, UnschedOverWindow, RateUnderSeg}
+use Rattle.homa_plain.specs.Limits.{longest_message}
 
 -- a setting, the least and the most that it may be, and what it is
 abbrev pub between : Name → ℕ → ℕ → ℕ → Limits
@@ -17,10 +18,10 @@ abbrev pub ranges : Settings → List Limits
 ranges s =
     between Hosts 2 32 s.hosts ∷
     between Seg 1 1400 s.seg ∷
-    between Window 1 1000000 s.window ∷
-    between Unsched 1 1000000 s.unsched ∷
+    between Window 1 longest_message s.window ∷
+    between Unsched 1 longest_message s.unsched ∷
     between Overcommit 1 7 s.overcommit ∷
-    between Rate 1 1000000 s.rate ∷
+    between Rate 1 longest_message s.rate ∷
     between Resend 1 1000 s.resend ∷
     between Tries 1 100 s.tries ∷
     between Life 1 100000 s.life ∷

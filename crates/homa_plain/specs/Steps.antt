@@ -27,6 +27,7 @@ use Rattle.homa_plain.specs.AtServer.{server_gets, server_acked}
 use Rattle.homa_plain.specs.Timers.{Place, OfClient, OfServer, Timer, timer_key, timers, client_acts, server_acts}
 use Rattle.homa_plain.specs.Sending.{Arriving, arrivals, client_granted, server_granted, Leaving, leaving_key, departures, Content, request_content}
 use Rattle.homa_plain.specs.Sending.{response_content, client_sends, state_sends}
+use Rattle.homa_plain.specs.Limits.{longest_message}
 
 -- a host in the midst of a step, and what it printed and sent so far
 pub record Work : Type 0 where
@@ -317,7 +318,7 @@ next_id h = record { client = h.id; inc = h.inc; seq = h.seq }
 unfoldable pub start_fault : Settings → Host → HostId → List ℕ → Option StartFault
 start_fault s h server request =
     if length request == 0 then Some Empty
-    else if nat_lt 1000000 (length request) then Some TooLong
+    else if nat_lt longest_message (length request) then Some TooLong
     else if is_host server h.id then Some SelfCall
     else if nat_le s.calls (len h.clients) then Some CallsFull
     else if nat_le 4294967295 h.seq then Some SeqSpent

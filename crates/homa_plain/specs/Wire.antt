@@ -11,6 +11,7 @@ use Rattle.homa_plain.specs.declared.packet.Body.TheVariants as body
 use Rattle.homa_plain.specs.declared.packet.Packet.{Packet}
 use Rattle.homa_plain.specs.Bytes.{IsBytes, ◌>>=◌, byte_at, number_at, two, two_at, times}
 use Rattle.homa_plain.specs.Kinds.{body_kind, kind_number}
+use Rattle.homa_plain.specs.Limits.{last_host_tick, longest_message}
 
 -- ---- which packets are well formed
 
@@ -24,12 +25,12 @@ IsCall call = (1 ≤ call.0) × (call.0 < 2 ^ 32) × (call.1 < 2 ^ 32)
 
 -- the latest clock of a sender at its sending: version 1 has none
 abbrev pub latest : ℕ → ℕ
-latest wire = if wire == 1 then 0 else 1000000002000
+latest wire = if wire == 1 then 0 else last_host_tick
 
 -- A piece of a message of at most 1,000,000 bytes. Only a request has a service other than 0, and an acknowledgement.
 pub record IsPiece (role : Role) (level size offset version service : ℕ) (ack : Option (ℕ × ℕ)) (payload : List ℕ) : Type 0 where
   pub level_in_range : level ≤ 7
-  pub size_in_range : Between 1 1000000 size
+  pub size_in_range : Between 1 longest_message size
   pub payload_in_range : Between 1 1400 (length payload)
   pub inside : offset + length payload ≤ size
   pub version_in_range : version < 2 ^ 16
@@ -44,11 +45,11 @@ IsBare level payload = (level ≡ 7) × (payload ≡ [])
 -- which roles, levels, fields and payloads each kind has
 abbrev pub FitsKind : Role → ℕ → Body → List ℕ → Type 0
 FitsKind role level (body.Data size offset version service ack) payload = IsPiece role level size offset version service ack payload
-FitsKind role level (body.Grant offset prio) payload = IsBare level payload × Between 1 1000000 offset × (prio ≤ 7)
-FitsKind role level (body.Resend from to prio) payload = IsBare level payload × (from < to) × (to ≤ 1000000) × (prio ≤ 7)
+FitsKind role level (body.Grant offset prio) payload = IsBare level payload × Between 1 longest_message offset × (prio ≤ 7)
+FitsKind role level (body.Resend from to prio) payload = IsBare level payload × (from < to) × (to ≤ longest_message) × (prio ≤ 7)
 FitsKind role level body.Busy payload = IsBare level payload
 FitsKind role level (body.Cutoffs c) payload =
-    IsBare level payload × (c.version < 2 ^ 16) × (length c.upto ≡ 8) × AllByRecursion (λ bound. bound ≤ 1000000) c.upto
+    IsBare level payload × (c.version < 2 ^ 16) × (length c.upto ≡ 8) × AllByRecursion (λ bound. bound ≤ longest_message) c.upto
 FitsKind role level (body.Unknown reason) payload = IsBare level payload × (role ≡ Server) × (reason ≤ 1)
 FitsKind role level body.NeedAck payload = IsBare level payload × (role ≡ Server)
 FitsKind role level (body.Ack more) payload = IsBare level payload × (role ≡ Client) × (length more ≤ 4) × AllByRecursion IsCall more
@@ -158,13 +159,13 @@ is_of_role Server service (Some call) = false
 -- which roles, levels, fields and payloads each kind has
 abbrev pub fits_kind : Role → ℕ → Body → List ℕ → Bool
 fits_kind role level (body.Data size offset version service ack) payload =
-    nat_le level 7 && is_between 1 1000000 size && is_between 1 1400 (length payload) && nat_le (offset + length payload) size
+    nat_le level 7 && is_between 1 longest_message size && is_between 1 1400 (length payload) && nat_le (offset + length payload) size
     && nat_lt version (2 ^ 16) && nat_lt service 256 && is_of_role role service ack
-fits_kind role level (body.Grant offset prio) payload = is_bare level payload && is_between 1 1000000 offset && nat_le prio 7
-fits_kind role level (body.Resend from to prio) payload = is_bare level payload && nat_lt from to && nat_le to 1000000 && nat_le prio 7
+fits_kind role level (body.Grant offset prio) payload = is_bare level payload && is_between 1 longest_message offset && nat_le prio 7
+fits_kind role level (body.Resend from to prio) payload = is_bare level payload && nat_lt from to && nat_le to longest_message && nat_le prio 7
 fits_kind role level body.Busy payload = is_bare level payload
 fits_kind role level (body.Cutoffs c) payload =
-    is_bare level payload && nat_lt c.version (2 ^ 16) && length c.upto == 8 && list_all (λ bound. nat_le bound 1000000) c.upto
+    is_bare level payload && nat_lt c.version (2 ^ 16) && length c.upto == 8 && list_all (λ bound. nat_le bound longest_message) c.upto
 fits_kind role level (body.Unknown reason) payload = is_bare level payload && is_server role && nat_le reason 1
 fits_kind role level body.NeedAck payload = is_bare level payload && is_server role
 fits_kind role level (body.Ack more) payload = is_bare level payload && is_client role && nat_le (length more) 4 && list_all is_call more

@@ -7,6 +7,8 @@ ghost use Rattle.homa_plain.specs.declared.packet.Cutoffs.{Cutoffs};
 ghost use Rattle.homa_plain.specs.Choice.{Message, sender, choice_key, new_end, Granted, chosen_by, chosen, grants, due, IsBefore, HasAhead, IsGrant};
 ghost use Rattle.homa_plain.specs.Cutoffs.{noted, level_of, has_share, balanced, IsLeastNumber, IsLevel};
 
+use crate::limits::LONGEST_MESSAGE;
+
 /// Which messages are granted to: at most k of different senders. For each message that is left out, either a chosen
 /// one of its sender is before it, or k chosen ones are.
 pub fn choices<X, Y>()
@@ -65,14 +67,14 @@ pub fn cutoff_bounds()
         (b ≡ 0) ⊎ (list_any (λ n. b == n) lengths ≡ true) }
     ensures only { (test : ℕ → Bool) (a b : ℕ) → IsLeastNumber test a → IsLeastNumber test b → a ≡ b }
     ensures top { (k unsched version : ℕ) (lengths : List ℕ) → k ≤ 7
-        → slice_index (balanced k unsched version lengths).upto k ≡ 1000000 }
+        → slice_index (balanced k unsched version lengths).upto k ≡ LONGEST_MESSAGE }
     ensures low { (k unsched version : ℕ) (lengths : List ℕ) (i : ℕ) → i < k → k ≤ 7
         → slice_index (balanced k unsched version lengths).upto i ≡ 0 }
     ensures eight { (k unsched version : ℕ) (lengths : List ℕ)
         → length (balanced k unsched version lengths).upto ≡ 8 }
-    ensures high { (k unsched version : ℕ) (lengths : List ℕ) → AllByRecursion (λ n. n ≤ 1000000) lengths
-        → (i : ℕ) → i ≤ 7 → slice_index (balanced k unsched version lengths).upto i ≤ 1000000 }
-    ensures falling { (k unsched version : ℕ) (lengths : List ℕ) → AllByRecursion (λ n. n ≤ 1000000) lengths
+    ensures high { (k unsched version : ℕ) (lengths : List ℕ) → AllByRecursion (λ n. n ≤ LONGEST_MESSAGE) lengths
+        → (i : ℕ) → i ≤ 7 → slice_index (balanced k unsched version lengths).upto i ≤ LONGEST_MESSAGE }
+    ensures falling { (k unsched version : ℕ) (lengths : List ℕ) → AllByRecursion (λ n. n ≤ LONGEST_MESSAGE) lengths
         → (i : ℕ) → k ≤ i → i < 7 → slice_index (balanced k unsched version lengths).upto (i + 1)
         ≤ slice_index (balanced k unsched version lengths).upto i }
 {}

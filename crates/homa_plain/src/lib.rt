@@ -33,7 +33,8 @@ pub use frame::Frame;
 pub use id::{CallId, HostId};
 pub use incoming_laws::{arrivals, incoming_messages, message_gaps, whole_messages};
 pub use limits::{
-    LAST_HOST_TICK, LAST_TICK, LONGEST_INPUT, LONGEST_MESSAGE, LONGEST_PIECE, MOST_SKEW,
+    LAST_HOST_TICK, LAST_TICK, LONGEST_HOLD, LONGEST_INPUT, LONGEST_MESSAGE, LONGEST_PIECE,
+    MOST_SERVICES, MOST_SKEW,
 };
 pub use outgoing_laws::{grants_received, outgoing_messages, resends, sends};
 pub use packet::{Body, Cutoffs, Kind, More, Packet, Role};

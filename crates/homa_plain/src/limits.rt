@@ -12,6 +12,12 @@ pub const LAST_HOST_TICK: u64 = 1_000_000_002_000;
 /// The longest message, in bytes.
 pub const LONGEST_MESSAGE: u32 = 1_000_000;
 
+/// The longest that a service may hold a response back, in ticks.
+pub const LONGEST_HOLD: u64 = 1_000_000;
+
+/// The most services of a world.
+pub const MOST_SERVICES: usize = 1_000_000;
+
 /// The longest piece of a message, in bytes: the most payload of a packet.
 pub const LONGEST_PIECE: u32 = 1400;
 

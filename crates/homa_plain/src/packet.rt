@@ -242,9 +242,9 @@ impl Body {
     }
 }
 
-/// A packet without its payload: who sent it (`role`, and the sender's incarnation, at least 1), its level
-/// (0 to 7; 7 but for DATA), its call (`inc` at least 1 and `seq`), and the sender's own clock at the sending
-/// (`at`; 0 in version 1).
+/// A packet without its payload. It says who sent it (`role`, and the sender's incarnation, at least 1), at which level
+/// (0 to 7; 7 but for DATA) and of which call (`inc` at least 1 and `seq`). `at` is the sender's own clock at the
+/// sending, and 0 in version 1.
 #[derive(Debug, PartialEq, Eq, Drop)]
 pub struct Packet {
     pub role: Role,

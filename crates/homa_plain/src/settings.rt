@@ -3,6 +3,8 @@ ghost use Rattle.std.specs.Prelude.{◌≡◌, ◌↔◌, IsOk};
 ghost use Rattle.homa_plain.specs.Settings.{between, first_outside};
 ghost use Rattle.homa_plain.specs.Text.{name_word};
 
+use crate::limits::LONGEST_MESSAGE;
+
 /// The settings of a run. All are whole numbers; `Settings::check` says which are valid.
 #[derive(Clone, Copy, Debug, PartialEq, Eq)]
 pub struct Settings {
@@ -246,10 +248,10 @@ impl Settings {
         [
             between(Name::Hosts, 2, 32, self.hosts),
             between(Name::Seg, 1, 1400, self.seg),
-            between(Name::Window, 1, 1_000_000, self.window),
-            between(Name::Unsched, 1, 1_000_000, self.unsched),
+            between(Name::Window, 1, LONGEST_MESSAGE, self.window),
+            between(Name::Unsched, 1, LONGEST_MESSAGE, self.unsched),
             between(Name::Overcommit, 1, 7, self.overcommit),
-            between(Name::Rate, 1, 1_000_000, self.rate),
+            between(Name::Rate, 1, LONGEST_MESSAGE, self.rate),
             between(Name::Resend, 1, 1000, self.resend),
             between(Name::Tries, 1, 100, self.tries),
             between(Name::Life, 1, 100_000, self.life),

@@ -18,8 +18,8 @@ pub record IsOpened (s : Settings) (boxes : ℕ) (stands : World → Type 0) : T
   pub is_first : IsFirst s boxes first
 
 -- neither reading nor writing failed
-abbrev pub may_write : Result Bool Stop → Bool
-may_write (Ok accepted) = true
+abbrev pub may_write : {A : Type 0} → Result A Stop → Bool
+may_write (Ok answer) = true
 may_write (Err Read) = false
 may_write (Err Write) = false
 may_write (Err NoMemory) = true

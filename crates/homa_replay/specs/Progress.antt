@@ -47,9 +47,10 @@ pub record IsPrinted (whole : Whole) (bytes : List ℕ) (old new : Option (List 
   pub allowed : before (whole bytes answers).told
   pub verdict : is_refusal (whole bytes answers).end ≡ not accepted
 
--- These lines were told, which the boxes allow. They are a front of what the replay tells, and a front of its text was printed: of every input
--- that begins with the bytes that came, where the services answered as they show, and whatever these answer later; or nothing more
--- is left, and it is the replay of what came. Where `all` says so, these lines were printed, and no more.
+-- These lines were told, which the boxes allow. They are a prefix of what the replay tells, and a prefix of its text
+-- was printed. That is so of every input that begins with the bytes that came, where the services answered as they
+-- show, and whatever these answer later. Or nothing more is left, and it is the replay of what came. Where `all` says
+-- so, these lines were printed, and no more.
 pub record IsPart (whole : Whole) (came rest : List ℕ) (old new : Option (List ℕ)) (before : List PlainEntry → Type 0) (all : Bool) : Type 0 where
   pub told : List PlainEntry
   pub allowed : before told

@@ -23,13 +23,10 @@ use crate::ahead::read_ahead;
 use crate::lines::{play, play_ticks};
 use crate::{FlushSink, ReplayWorld, Stop};
 use homa_io::{Sink, Source};
-use homa_plain::{Entry, LineFault, Settings, WorldFault};
+use homa_plain::{Entry, LONGEST_INPUT, LineFault, Settings, WorldFault};
 use homa_script::{Next, Reader};
 use homa_text::put_entry;
 use std::alloc::Global;
-
-/// The most bytes of a schedule.
-pub const MOST_BYTES: u64 = 68_719_476_736;
 
 // Carries out a line behind `go`, and answers why the world refuses it, if it does.
 fn play_line<P: ReplayWorld, K: Sink>(
@@ -111,9 +108,9 @@ pub fn begin<S: Source, K: FlushSink>(
     source: &mut S,
     sink: &mut K,
 ) -> Result<Option<Settings>, Stop>
-    requires { reader.old ≡ opened MOST_BYTES }
+    requires { reader.old ≡ opened LONGEST_INPUT }
     ensures opened { IfOk result (λ r. IfSome r (λ s. (bytes : List ℕ) → S.left source.old ≡ Some bytes
-        → IsRead bytes (S.left source.new) (opening MOST_BYTES) (λ more. Opened s (steps_left reader.new.place more)))) }
+        → IsRead bytes (S.left source.new) (opening LONGEST_INPUT) (λ more. Opened s (steps_left reader.new.place more)))) }
     ensures line { IfOk result (λ r. IfSome r (λ s. K.taken sink.new ≡ appended (K.taken sink.old) (line_text (PlainSettings s)))) }
     ensures valid { IfOk result (λ r. IfSome r IsValid) }
     ensures refused { result ≡ Ok None → (boxes : ℕ) → ArePrinted (replay_of boxes) (S.left source.old) (K.taken sink.old) (K.taken sink.new) is_unasked false }
@@ -129,7 +126,7 @@ pub fn begin<S: Source, K: FlushSink>(
     ensures not_ended { reader.new.ended ≡ false }
     ensures running { IfOk result (λ r. IfSome r (λ s. reader.new.stopped ≡ None)) }
     ensures counted { IfOk result (λ r. IfSome r (λ s. IsCounted reader.new.place)) }
-    ensures limit { reader.new.place.limit ≡ MOST_BYTES }
+    ensures limit { reader.new.place.limit ≡ LONGEST_INPUT }
 
     ensures faults { AreFaults (S.faults source.old) (S.faults source.new) (K.faults sink.old) (K.faults sink.new) result }
     ensures read_none { IsErrOf result Stop.Read → K.held sink.new ≡ [] }
@@ -163,7 +160,7 @@ pub fn carry_on<P: ReplayWorld, S: Source, K: FlushSink>(
     requires not_ended { reader.old.ended ≡ false }
     requires running { reader.old.stopped ≡ None }
     requires counted { IsCounted reader.old.place }
-    requires limit { reader.old.place.limit ≡ MOST_BYTES }
+    requires limit { reader.old.place.limit ≡ LONGEST_INPUT }
     requires first { P.events world.old ≡ 0 }
     requires hosts { hosts ≡ (P.settings world.old).hosts }
     requires few { hosts ≤ 32 }

@@ -2,8 +2,8 @@
 //!
 //! Model: a world that is played is seen as the plain world without answers, since nobody knows at a line what a service
 //! will answer at a later one. What is due of a replay is a function of the bytes and of the answers that are to come.
-//! Main promise: where `carry_on` is done, the sink took the text of the replay of the bytes that the source had, with the
-//! answers that its own `run` lines show; where it stops early, the sink took a front of that.
+//! Main promise: where `carry_on` is done, the sink took the text of the replay of the bytes that the source had, with
+//! the answers that its own `run` lines show. Where it stops early, the sink took a prefix of that.
 #![tactic(auto)]
 
 mod ahead;
@@ -16,8 +16,8 @@ mod replay_world;
 mod replays;
 mod stop;
 
-pub use carrying::{MOST_BYTES, begin, carry_on};
+pub use carrying::{begin, carry_on};
 pub use flush_sink::FlushSink;
 pub use replay_world::ReplayWorld;
-pub use replays::{OpenWorld, replay};
+pub use replays::{OpenWorld, finish, replay};
 pub use stop::Stop;

@@ -11,9 +11,9 @@ ghost use Rattle.homa_replay.specs.Stops.{prints_all};
 ghost use Rattle.homa_replay.specs.Faults.{AreFaults};
 ghost use Rattle.homa_replay.specs.Progress.{replay_of, ArePrinted, AreParts};
 
-use crate::{FlushSink, MOST_BYTES, ReplayWorld, Stop, begin, carry_on};
+use crate::{FlushSink, ReplayWorld, Stop, begin, carry_on};
 use homa_io::{HeldSink, Room, Sink, Source};
-use homa_plain::Settings;
+use homa_plain::{LONGEST_INPUT, Settings};
 use homa_script::Reader;
 use std::alloc::{AllocError, Global};
 
@@ -64,7 +64,7 @@ fn replay_held<B: Drop, P: OpenWorld<B> + Drop, S: Source, K: FlushSink>(
     ensures same_source { S.is_same source.old source.new }
     ensures same_sink { K.is_same sink.old sink.new }
 {
-    let mut reader = Reader::open(alloc, MOST_BYTES)?;
+    let mut reader = Reader::open(alloc, LONGEST_INPUT)?;
     let Some(settings) = begin(&mut reader, source, sink)? else {
         return Ok(false);
     };
@@ -73,8 +73,11 @@ fn replay_held<B: Drop, P: OpenWorld<B> + Drop, S: Source, K: FlushSink>(
     Ok(accepted)
 }
 
-// Writes what is held, unless reading or writing failed already: then nothing is held, or no more may be written.
-fn finish<K: Sink + Drop>(held: &mut HeldSink<K>, answer: &Result<bool, Stop>) -> Result<(), Stop>
+/// Writes what is held, unless reading or writing failed already: then nothing is held, or no more may be written.
+pub fn finish<A, K: Sink + Drop>(
+    held: &mut HeldSink<K>,
+    answer: &Result<A, Stop>,
+) -> Result<(), Stop>
     requires { IsErrOf answer.now Stop.Read → held_bytes held.old ≡ [] }
     ensures none { OnOk result ((IsErrOf answer.now Stop.Write → ⊥) → held_bytes held.new ≡ []) }
     ensures whole { appended (K.taken (sink_below held.new)) (held_bytes held.new) ≡ appended (K.taken (sink_below held.old)) (held_bytes held.old) }

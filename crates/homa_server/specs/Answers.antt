@@ -27,6 +27,7 @@ use Rattle.homa_server.specs.declared.answers.ServerDid.{ServerDid}
 use Rattle.homa_server.specs.declared.answers.ServerDid.TheVariants as did
 use Rattle.homa_server.specs.declared.answers.ServerAct.{ServerAct}
 use Rattle.homa_server.specs.declared.answers.ServerAct.TheVariants as act
+use Rattle.homa_plain.specs.Limits.{longest_hold, longest_message}
 
 -- ---- packets
 
@@ -161,8 +162,8 @@ IfSaid (did.Say slot what) P = P what
 -- a row can take this response with this hold
 pub record CanReply (response : List ℕ) (ticks : ℕ) : Type 0 where
   pub some : 0 < length response
-  pub size : length response ≤ 1000000
-  pub hold : ticks ≤ 1000000
+  pub size : length response ≤ longest_message
+  pub hold : ticks ≤ longest_hold
 
 -- a server answers BUSY, or that it doesn't know the call
 abbrev pub IsAnswerBody : Body → Type 0

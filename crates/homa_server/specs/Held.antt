@@ -8,6 +8,7 @@ use Rattle.homa_plain.specs.PartCodes.{outgoing_code}
 use Rattle.homa_plain.specs.Rows.{ServerRow, State, Receiving, Held, Replying, Buried}
 use Rattle.msg_pool.specs.Pool.{Pool}
 use Rattle.homa_in.specs.Part.{Part, part_code, seen}
+use Rattle.homa_plain.specs.Limits.{longest_message}
 
 -- how far a server is with a call; of a request stands here what its part says, and in a pool its bytes
 pub data HeldState : Type 0 where
@@ -100,14 +101,14 @@ is_answering (Gone until) = false
 -- bytes of a message's request are missing
 pub record IsRequest (part : Part) (base : ℕ) : Type 0 where
   pub some : 0 < part.length
-  pub small : part.length ≤ 1000000
+  pub small : part.length ≤ longest_message
   pub short : 0 < len part.missing
   pub early : base < 2 ^ 63
 
 -- a response has a message's length
 pub record IsResponse (response : List ℕ) : Type 0 where
   pub some : 0 < length response
-  pub small : length response ≤ 1000000
+  pub small : length response ≤ longest_message
 
 -- and what goes out is the response
 pub record IsReplied (response : List ℕ) (out : Outgoing) (base : ℕ) : Type 0 where

@@ -1,4 +1,5 @@
 // What the calls of a server answer.
+// Rules: the answers that stand for BUSY, UNKNOWN, RESEND, NEED_ACK and a tombstone.
 use homa_plain::{Body, CallId};
 
 /// What a packet did.

@@ -1,16 +1,16 @@
 // What a packet does to a row.
+// Rules: DATA and GRANT of a row, BUSY to a RESEND with nothing to send, UNKNOWN by a tombstone, and an ACK, which
+// leaves a tombstone.
 ghost use Rattle.std.specs.Prelude.{◌≡◌, ℕ, List, ◌+◌, ◌==◌, ◌&&◌, ◌||◌, not, ◌<◌, ◌≤◌, length, true, false, Some, None};
-ghost use Rattle.std.specs.Prelude.{IfOk, OnErr, if◌then◌else◌, IfNone};
+ghost use Rattle.std.specs.Prelude.{IfOk, OnErr, if◌then◌else◌};
 ghost use Rattle.homa_plain.specs.declared.id.CallId.{CallId};
 ghost use Rattle.homa_plain.specs.declared.id.HostId.{HostId};
 ghost use Rattle.homa_plain.specs.Settings.{IsValid};
 ghost use Rattle.homa_plain.specs.declared.settings.Settings.{Settings};
 ghost use Rattle.homa_plain.specs.declared.packet.Body.{Body};
-ghost use Rattle.homa_plain.specs.Rows.{ServerRow};
-ghost use Rattle.homa_plain.specs.Incoming as incoming;
 ghost use Rattle.homa_plain.specs.Outgoing as outgoing;
 ghost use Rattle.homa_plain.specs.Rules.{Moment as PlainMoment, Answer, leaves};
-ghost use Rattle.homa_plain.specs.AtServer.{piece_of, piece_comes, receiving_gets, held_gets, replying_gets, buried_gets, row_gets, state_acked};
+ghost use Rattle.homa_plain.specs.AtServer.{piece_of, piece_comes, receiving_gets, held_gets, replying_gets, buried_gets, row_gets};
 ghost use Rattle.msg_pool.specs.Pool.{Pool};
 ghost use Rattle.homa_in.specs.Part.{seen};
 ghost use Rattle.homa_in.specs.Pooled.{Moves, IsInPool};
@@ -18,17 +18,19 @@ ghost use Rattle.homa_server.specs.Held.{Arriving, Keeping, Answering, IfArrivin
 ghost use Rattle.homa_server.specs.Held.{is_answering, state_part, response_in, seen_state, seen_server};
 ghost use Rattle.homa_in.specs.Pieces.{piece_in, IsFit, moment_with};
 ghost use Rattle.homa_server.specs.Answers.{IsAnswered, has_run, IsSlotOf, slot_in, slot_if, is_for};
-ghost use Rattle.homa_server.specs.Answers.{is_data, is_resend, is_ack, service_in, IsAsked, acked_of, IfSaid, IsAnswerBody};
+ghost use Rattle.homa_server.specs.Answers.{is_ack, service_in, IsAsked, IfSaid, IsAnswerBody};
 ghost use Rattle.homa_server.specs.Lending.{CanServe, IsLeft, IsSame, IsServed, IsRefused};
 ghost use Rattle.homa_server.specs.Answers.{CanReply, IsAsking};
 
 use crate::ServerDid;
+use crate::busy::{busy, held_gets};
 use crate::lent::Lent;
 use crate::row::Row;
 use crate::state::{State, answered};
+use crate::unknown::buried_gets;
 use homa_in::{Moment, Piece, Put, close_part, put_piece};
 use homa_out::Resent;
-use homa_plain::{Body, CallId, Settings};
+use homa_plain::{Body, LAST_HOST_TICK, Settings};
 use homa_service::{Reply, Service};
 use msg_pool::MsgPool;
 use std::alloc::{AllocError, Global};
@@ -39,7 +41,7 @@ impl Row {
     fn answer(&mut self, reply: Reply, now: u64, order: u64, unsched: u32, pool: &mut MsgPool)
         requires fits { CanReply reply.bytes reply.hold }
         requires unsched { 1 ≤ unsched }
-        requires now { now ≤ 1000000002000 }
+        requires now { now ≤ LAST_HOST_TICK }
         requires pool { IsInPool pool.old (state_part self.old.state) }
         ensures row { self.new ≡ record self.old {
           state = (if reply.hold == 0
@@ -67,7 +69,7 @@ impl Row {
         requires valid { IsValid settings.now }
         requires some { 0 < length piece.bytes.now }
         requires fits { piece.offset + length piece.bytes.now ≤ piece.size }
-        requires now { at.now ≤ 1000000002000 }
+        requires now { at.now ≤ LAST_HOST_TICK }
         requires lent { CanServe V.served lent.old (state_part self.old.state) }
         ensures did { IfOk result (λ did. IfArriving self.old.state (λ wanted part base count.
             (id : CallId) (host : HostId) (free rows version : ℕ)
@@ -140,7 +142,7 @@ impl Row {
         requires arriving { is_arriving self.old.state ≡ true }
         requires valid { IsValid settings.now }
         requires fits { IsFit body.now payload.now }
-        requires now { at.now ≤ 1000000002000 }
+        requires now { at.now ≤ LAST_HOST_TICK }
         requires lent { CanServe V.served lent.old (state_part self.old.state) }
         ensures did { IfOk result (λ did. IfArriving self.old.state (λ wanted part base count. (id : CallId) (host : HostId) (free rows : ℕ)
             → let m = moment_with host at.now at.order free rows in
@@ -186,7 +188,7 @@ impl Row {
     // The request's timer begins anew.
     fn touch(&mut self, now: u64)
         requires arriving { is_arriving self.old.state ≡ true }
-        requires now { now ≤ 1000000002000 }
+        requires now { now ≤ LAST_HOST_TICK }
         ensures { IfArriving self.old.state (λ wanted part base count. self.new ≡ record self.old { state = Arriving wanted part now 0 }) }
     {
         let State::Receiving { base, count, .. } = &mut self.state else {
@@ -211,7 +213,7 @@ impl Row {
     fn replying_gets(&mut self, slot: u32, body: &Body, now: u64) -> ServerDid
         requires answering { is_answering self.old.state ≡ true }
         requires fits { IsAsking body.now }
-        requires now { now ≤ 1000000002000 }
+        requires now { now ≤ LAST_HOST_TICK }
         ensures did { IfAnswering self.old.state
             (λ response out sent base count. (s : Settings) (id : CallId) (host : HostId) (order free rows : ℕ) (payload told : List ℕ) (pool : Pool)
             → let m = moment_with host now order free rows in
@@ -266,7 +268,7 @@ impl Row {
     ) -> Result<ServerDid, AllocError>
         requires valid { IsValid settings.now }
         requires fits { IsFit body.now payload.now }
-        requires now { at.now ≤ 1000000002000 }
+        requires now { at.now ≤ LAST_HOST_TICK }
         requires lent { CanServe V.served lent.old (state_part self.old.state) }
         ensures did { IfOk result (λ did. (id : CallId) (host : HostId) (free rows : ℕ)
             → let m = moment_with host at.now at.order free rows in
@@ -290,70 +292,5 @@ impl Row {
             State::Replying { .. } => Ok(self.replying_gets(slot, body, at.now)),
             State::Buried { .. } => Ok(buried_gets(slot, body)),
         }
-    }
-
-    /// The client has finished the call: a tombstone stays for as long as packets of it may come. Answers up to which
-    /// tick; none where the row is neither held nor replied to, which then stays.
-    pub fn bury_at_ack(&mut self, now: u64, settings: &Settings) -> Option<u64>
-        requires valid { IsValid settings.now }
-        requires now { now ≤ 1000000002000 }
-        ensures did { (id : CallId) (host : HostId) (order free rows : ℕ) (pool : Pool)
-            → let m = moment_with host now order free rows in
-            state_acked settings.now m id (seen_server pool self.old) (seen_state pool self.old.state)
-            ≡ acked_of m id (Some (seen_server pool self.new)) result }
-        ensures same { IfNone result (self.new ≡ self.old) }
-        ensures part { state_part self.new.state ≡ state_part self.old.state }
-    {
-        match &self.state {
-            State::Held { .. } | State::Replying { .. } => {
-                let until = now + settings.span();
-                self.state = State::Buried { until };
-                Some(until)
-            }
-            _ => None,
-        }
-    }
-}
-
-// The answer to a client that is to wait.
-fn busy(slot: u32) -> ServerDid
-    ensures { result ≡ ServerDid.Say (Some slot) Body.Busy }
-{
-    ServerDid::Say {
-        slot: Some(slot),
-        body: Body::Busy,
-    }
-}
-
-// A packet of a call whose response is held back.
-fn held_gets(slot: u32, body: &Body) -> ServerDid
-    ensures did { (s : Settings) (id : CallId) (m : PlainMoment) (row : ServerRow) (response payload told : List ℕ)
-        → IsAnswered s m id (piece_in body.now payload) (λ a. held_gets m body.now row) (Some row) response told result }
-    ensures slot { IsSlotOf (Some slot) result }
-    ensures named { slot_in result ≡ slot_if (is_resend body.now) slot }
-    ensures says { IfSaid result IsAnswerBody }
-    ensures not_run { has_run result ≡ false }
-{
-    match body {
-        Body::Resend { .. } => busy(slot),
-        _ => ServerDid::Nothing,
-    }
-}
-
-// A packet of a call that the server ran and has forgotten.
-fn buried_gets(slot: u32, body: &Body) -> ServerDid
-    ensures did { (s : Settings) (id : CallId) (m : PlainMoment) (row : ServerRow) (response payload told : List ℕ)
-        → IsAnswered s m id (piece_in body.now payload) (λ a. buried_gets m body.now row) (Some row) response told result }
-    ensures slot { IsSlotOf (Some slot) result }
-    ensures named { slot_in result ≡ slot_if (is_data body.now || is_resend body.now) slot }
-    ensures says { IfSaid result IsAnswerBody }
-    ensures not_run { has_run result ≡ false }
-{
-    match body {
-        Body::Data { .. } | Body::Resend { .. } => ServerDid::Say {
-            slot: Some(slot),
-            body: Body::Unknown { reason: 1 },
-        },
-        _ => ServerDid::Nothing,
     }
 }

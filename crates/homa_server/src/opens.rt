@@ -1,4 +1,5 @@
 // What the first piece of a request opens.
+// Rules: the first DATA of a request opens a row if its pages are free, and runs the service if it is whole.
 ghost use Rattle.std.specs.Prelude.{◌≡◌, ℕ, ◌+◌, ◌<◌, ◌≤◌, ◌^◌, length, None, Some, IfOk, OnErr};
 ghost use Rattle.homa_plain.specs.declared.id.CallId.{CallId};
 ghost use Rattle.homa_plain.specs.declared.id.HostId.{HostId};
@@ -15,7 +16,7 @@ ghost use Rattle.homa_server.specs.Firsts.{first_did, first_row, first_part, fir
 use crate::lent::Lent;
 use crate::row::Row;
 use homa_in::{Moment, Opening, Piece, open_part};
-use homa_plain::{HostId, Settings};
+use homa_plain::{HostId, LAST_HOST_TICK, LONGEST_MESSAGE, Settings};
 use homa_service::Service;
 use std::alloc::{AllocError, Global};
 
@@ -43,8 +44,8 @@ pub fn open_row<V: Service>(
     requires valid { IsValid settings.now }
     requires some { 0 < length piece.bytes.now }
     requires fits { piece.offset + length piece.bytes.now ≤ piece.size }
-    requires small { piece.size ≤ 1000000 }
-    requires now { at.now ≤ 1000000002000 }
+    requires small { piece.size ≤ LONGEST_MESSAGE }
+    requires now { at.now ≤ LAST_HOST_TICK }
     requires order { at.order < 2 ^ 63 }
     requires served { V.served lent.old.service.now < 2 ^ 63 }
     ensures did { IfOk result (λ first. (id : CallId) (host : HostId) (rows version slot : ℕ)

@@ -1,4 +1,5 @@
 // A call at its server.
+// Rules: a call at its server is receiving, held, replying, or a tombstone.
 ghost use Rattle.std.specs.Prelude.{◌≡◌, ◌+◌, ◌==◌, ◌<◌, ◌≤◌, length, Some, None};
 ghost use Rattle.std.specs.Prelude.{option_copied, if◌then◌else◌};
 ghost use Rattle.homa_plain.specs.Incoming as incoming;
@@ -11,7 +12,7 @@ ghost use Rattle.homa_server.specs.Answers.{CanReply, out_facts};
 
 use crate::state::{State, answered};
 use homa_in::{Incoming, close_part};
-use homa_plain::OutFacts;
+use homa_plain::{LAST_HOST_TICK, LONGEST_MESSAGE, OutFacts};
 use homa_service::Reply;
 use msg_pool::MsgPool;
 use std::marker::Model;
@@ -40,9 +41,9 @@ impl Row {
     /// The row of a request that arrives.
     pub(crate) fn receiving(order: u64, service: u8, part: Incoming, now: u64) -> Row
         requires some { 0 < part.length }
-        requires small { part.length ≤ 1000000 }
+        requires small { part.length ≤ LONGEST_MESSAGE }
         requires short { 0 < len part.missing }
-        requires now { now ≤ 1000000002000 }
+        requires now { now ≤ LAST_HOST_TICK }
         ensures { result ≡ record { order = order; state = Arriving service part now 0 } }
     {
         Row {
@@ -60,7 +61,7 @@ impl Row {
     pub(crate) fn replied(order: u64, reply: Reply, now: u64, out_order: u64, unsched: u32) -> Row
         requires fits { CanReply reply.bytes reply.hold }
         requires unsched { 1 ≤ unsched }
-        requires now { now ≤ 1000000002000 }
+        requires now { now ≤ LAST_HOST_TICK }
         ensures { result ≡ record {
           order = order;
           state = (if reply.hold == 0

@@ -1,4 +1,5 @@
 // A row is granted to, and its response is sent.
+// Rules: a GRANT sent renews the row's RESEND timer, and DATA of a response goes within the granted end and the credit.
 ghost use Rattle.std.specs.Prelude.{◌≡◌, ◌<◌, ◌≤◌, length, Some};
 ghost use Rattle.homa_plain.specs.Settings.{IsValid};
 ghost use Rattle.homa_plain.specs.declared.settings.Settings.{Settings};
@@ -14,12 +15,12 @@ ghost use Rattle.homa_server.specs.Answers.{state_emits, server_sends};
 
 use crate::row::Row;
 use crate::state::State;
-use homa_plain::{Emitted, Settings};
+use homa_plain::{Emitted, LAST_HOST_TICK, Settings};
 
 impl Row {
     /// The request is granted up to `offset`: the row's timer begins anew.
     pub fn granted(&mut self, offset: u32, now: u64)
-        requires now { now ≤ 1000000002000 }
+        requires now { now ≤ LAST_HOST_TICK }
         requires up { IsGrantable self.old.state offset }
         ensures row { (pool : Pool) → seen_server pool self.new ≡ server_granted now offset (seen_server pool self.old) }
         ensures part { (pool : Pool) → IsInPool pool (state_part self.old.state) → Moves pool (state_part self.old.state) pool (state_part self.new.state) }
@@ -34,7 +35,7 @@ impl Row {
     /// Takes the response's next bytes to be sent, at most `seg`, where some wait and the credit is enough.
     pub fn emit(&mut self, now: u64, credit: u32, settings: &Settings) -> Emitted
         requires valid { IsValid settings.now }
-        requires now { now ≤ 1000000002000 }
+        requires now { now ≤ LAST_HOST_TICK }
         ensures emitted { (pool : Pool) → result ≡ state_emits settings.now credit (seen_state pool self.old.state) }
         ensures row { (pool : Pool) → seen_server pool self.new ≡ server_sends settings.now now (seen_server pool self.old) result }
         ensures part { state_part self.new.state ≡ state_part self.old.state }

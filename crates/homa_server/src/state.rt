@@ -1,4 +1,6 @@
 // How far a server is with a call.
+// Rules: a call at its server is receiving, held, replying, or a tombstone; a response begins with its unscheduled
+// bytes.
 ghost use Rattle.std.specs.Prelude.{◌≡◌, ◌+◌, ◌==◌, ◌<◌, ◌≤◌, length, if◌then◌else◌};
 ghost use Rattle.homa_plain.specs.Outgoing as outgoing;
 ghost use Rattle.homa_server.specs.Answers.{CanReply};
@@ -7,6 +9,7 @@ ghost use Rattle.homa_server.specs.View.{held_state};
 
 use homa_in::Incoming;
 use homa_out::Outgoing;
+use homa_plain::{LAST_HOST_TICK, LONGEST_MESSAGE};
 use homa_service::Reply;
 
 #[derive(Drop)]
@@ -41,9 +44,9 @@ pub(crate) enum State {
 // The response goes out from now on.
 pub(crate) fn replying(response: Vec<u8>, now: u64, order: u64, unsched: u32) -> State
     requires some { 0 < length response.items }
-    requires size { length response.items ≤ 1000000 }
+    requires size { length response.items ≤ LONGEST_MESSAGE }
     requires unsched { 1 ≤ unsched }
-    requires now { now ≤ 1000000002000 }
+    requires now { now ≤ LAST_HOST_TICK }
     ensures state { held_state result ≡ Answering response.items (outgoing.opened (length response.items) unsched) order now 0 }
     ensures kept { IsKept (held_state result) }
 {
@@ -60,7 +63,7 @@ pub(crate) fn replying(response: Vec<u8>, now: u64, order: u64, unsched: u32) ->
 pub(crate) fn answered(reply: Reply, now: u64, order: u64, unsched: u32) -> State
     requires fits { CanReply reply.bytes reply.hold }
     requires unsched { 1 ≤ unsched }
-    requires now { now ≤ 1000000002000 }
+    requires now { now ≤ LAST_HOST_TICK }
     ensures state { held_state result ≡ (if reply.hold == 0
         then Answering reply.bytes (outgoing.opened (length reply.bytes) unsched) order now 0
         else Keeping reply.bytes (now + reply.hold)) }

@@ -1,5 +1,6 @@
 // The calls that a host serves, at their places.
-ghost use Rattle.std.specs.Prelude.{◌≡◌, ℕ, ◌+◌, ◌<◌, ◌≤◌, ◌^◌, true, false, List, Some, None, IfOk, IfSome, IsSome, IsSomeAnd, OnErr, length};
+// Rules: DATA of a call without a row opens one if there is room, and an ACK leaves a tombstone.
+ghost use Rattle.std.specs.Prelude.{◌≡◌, ℕ, ◌+◌, ◌<◌, ◌≤◌, ◌^◌, true, List, Some, None, IfOk, IfSome, IsSome, IsSomeAnd, OnErr, length};
 ghost use Rattle.std.specs.Prelude.{option_copied, if◌then◌else◌, IfNone};
 ghost use Rattle.std.specs.Option.{option_map, option_and_then};
 ghost use Rattle.plain_sets.specs.Maps.{empty, get, len};
@@ -9,7 +10,7 @@ ghost use Rattle.homa_plain.specs.Settings.{IsValid};
 ghost use Rattle.homa_plain.specs.Packets.{packet_between};
 ghost use Rattle.homa_plain.specs.declared.id.HostId.{HostId};
 ghost use Rattle.homa_plain.specs.declared.settings.Settings.{Settings};
-ghost use Rattle.homa_plain.specs.Rules.{Moment as PlainMoment, Answer};
+ghost use Rattle.homa_plain.specs.Rules.{Answer};
 ghost use Rattle.homa_plain.specs.AtServer.{server_gets, server_acked, unknown_gets};
 ghost use Rattle.homa_plain.specs.Timers.{server_deadline, server_acts};
 ghost use Rattle.homa_plain.specs.Sending.{server_granted};
@@ -19,7 +20,7 @@ ghost use Rattle.host_places.specs.Placed.{Placed, StandsAt, ArePlaced, spot_at}
 ghost use Rattle.homa_server.specs.Held.{HeldServer, IsKept, seen_server, state_part, state_response, response_in};
 ghost use Rattle.homa_in.specs.Pieces.{piece_in, IsFit, moment_with};
 ghost use Rattle.homa_in.specs.Sends.{IfSent, IsAffordable};
-ghost use Rattle.homa_server.specs.Answers.{IsAnswered, IsAnswerBody, IsSlotOf, IfSaid, is_data, has_run, service_in, IsAsked, acked_of, acted_of};
+ghost use Rattle.homa_server.specs.Answers.{has_run, service_in, IsAsked, acked_of, acted_of};
 ghost use Rattle.homa_server.specs.Answers.{IfResend, HasServerActed, IsGrantable, state_emits, server_sends, server_facts};
 ghost use Rattle.homa_server.specs.Lending.{HasAsked, HasTaken, IsSame, IsRefused};
 ghost use Rattle.homa_server.specs.Table.{Servers, Served, ServerMoved, server_at, request_at, slot_at, server_moment};
@@ -27,9 +28,12 @@ ghost use Rattle.homa_server.specs.Table.{Servers, Served, ServerMoved, server_a
 use crate::lent::Lent;
 use crate::opens::{FirstPiece, open_row};
 use crate::row::Row;
+use crate::unknown::no_record;
 use crate::{ServerAct, ServerDid};
 use homa_in::{Incoming, Moment, Piece};
-use homa_plain::{Body, CallId, Emitted, HostId, Packet, RowFacts, Settings};
+use homa_plain::{
+    Body, CallId, Emitted, HostId, LAST_HOST_TICK, LONGEST_MESSAGE, Packet, RowFacts, Settings,
+};
 use homa_service::Service;
 use host_places::Rows;
 use msg_pool::{MsgPool, Scratch};
@@ -87,7 +91,7 @@ impl ServerTable {
     ) -> Result<ServerDid, AllocError>
         requires role { packet.now.role ≡ OfClient }
         requires fits { IsFit packet.now.body payload.now }
-        requires now { now ≤ 1000000002000 }
+        requires now { now ≤ LAST_HOST_TICK }
         requires order { order < 2 ^ 63 }
         requires served { V.served service.old < 2 ^ 63 }
         requires pool { AreIn pool.old (request_at self.old.rows) }
@@ -133,7 +137,7 @@ impl ServerTable {
     ) -> Result<ServerDid, AllocError>
         requires role { packet.now.role ≡ OfClient }
         requires fits { IsFit packet.now.body payload.now }
-        requires now { at.now ≤ 1000000002000 }
+        requires now { at.now ≤ LAST_HOST_TICK }
         requires order { at.order < 2 ^ 63 }
         requires served { V.served lent.old.service.now < 2 ^ 63 }
         requires pool { AreIn lent.old.pool.now (request_at self.old.rows) }
@@ -180,7 +184,7 @@ impl ServerTable {
         requires stands { Some slot ≡ slot_at self.old.rows id }
         requires placed { ArePlaced self.old.settings.served self.old.rows }
         requires fits { IsFit body.now payload.now }
-        requires now { at.now ≤ 1000000002000 }
+        requires now { at.now ≤ LAST_HOST_TICK }
         ensures taken { IfOk result (HasTaken V.served V.allows self.old id body.now payload.now at.now at.order lent.old self.new lent.new) }
         ensures asked { OnErr result (HasAsked V.served self.old id body.now payload.now at.now at.order lent.old self.new lent.new) }
         ensures pool { AreIn lent.new.pool.now (request_at self.new.rows) }
@@ -205,7 +209,7 @@ impl ServerTable {
         requires pool { AreIn lent.old.pool.now (request_at self.old.rows) }
         requires absent { get self.old.rows id ≡ None }
         requires fits { IsFit body.now payload.now }
-        requires now { at.now ≤ 1000000002000 }
+        requires now { at.now ≤ LAST_HOST_TICK }
         requires order { at.order < 2 ^ 63 }
         ensures taken { IfOk result (HasTaken V.served V.allows self.old id body.now payload.now at.now at.order lent.old self.new lent.new) }
         ensures asked { OnErr result (HasAsked V.served self.old id body.now payload.now at.now at.order lent.old self.new lent.new) }
@@ -245,7 +249,7 @@ impl ServerTable {
     /// The client has finished a call: a tombstone takes the row's place. Answers the call's slot and the tombstone's last
     /// tick; none where the call is neither held back nor replied to, and then nothing changes.
     pub fn ack(&mut self, id: CallId, now: u64) -> Option<(u32, u64)>
-        requires now { now ≤ 1000000002000 }
+        requires now { now ≤ LAST_HOST_TICK }
         ensures acked { (pool : Pool) (order : ℕ) → AreIn pool (request_at self.old.rows)
             → let m = server_moment self.old now order pool id in
             server_acked self.old.settings m id (server_at pool self.old.rows id)
@@ -264,7 +268,7 @@ impl ServerTable {
     fn known_acked(&mut self, id: CallId, slot: u32, now: u64) -> Option<u64>
         requires stands { Some slot ≡ slot_at self.old.rows id }
         requires placed { ArePlaced self.old.settings.served self.old.rows }
-        requires now { now ≤ 1000000002000 }
+        requires now { now ≤ LAST_HOST_TICK }
         ensures acked { (pool : Pool) (order : ℕ) → AreIn pool (request_at self.old.rows)
             → let m = server_moment self.old now order pool id in
             server_acked self.old.settings m id (server_at pool self.old.rows id) ≡ acked_of m id (server_at pool self.new.rows id) result }
@@ -280,7 +284,7 @@ impl ServerTable {
     /// Takes the next bytes of the row's response to be sent, where some wait and the credit is enough.
     pub fn emit(&mut self, slot: u32, now: u64, credit: u32) -> Emitted
         requires stands { IsSome (spot_at self.old.rows slot) }
-        requires now { now ≤ 1000000002000 }
+        requires now { now ≤ LAST_HOST_TICK }
         ensures emitted { (id : CallId) (r : HeldServer) (pool : Pool) → StandsAt self.old.rows id slot r
             → result ≡ state_emits self.old.settings credit (seen_server pool r).state }
         ensures bytes { (id : CallId) (r : HeldServer) → StandsAt self.old.rows id slot r
@@ -295,7 +299,7 @@ impl ServerTable {
     /// The row, whose timer is due, acts; `order` is the number that a release takes.
     pub fn act(&mut self, slot: u32, now: u64, order: u64, pool: &mut MsgPool) -> ServerAct
         requires stands { IsSome (spot_at self.old.rows slot) }
-        requires now { now ≤ 1000000002000 }
+        requires now { now ≤ LAST_HOST_TICK }
         requires pool { AreIn pool.old (request_at self.old.rows) }
         requires due { (id : CallId) (r : HeldServer) → StandsAt self.old.rows id slot r
             → IsSomeAnd (server_deadline self.old.settings (seen_server pool.old r)) (λ at. at ≤ now) }
@@ -303,7 +307,7 @@ impl ServerTable {
             → let m = moment_with self.old.host now order free rows in
             server_acts self.old.settings m id (seen_server pool.old r) ≡ acted_of self.old.settings m id (server_at pool.new self.new.rows id) result }
         ensures left { (id : CallId) (r : HeldServer) → StandsAt self.old.rows id slot r → HasServerActed result (server_at pool.new self.new.rows id) }
-        ensures asks { IfResend result (λ from to. (from < to) × (to ≤ 1000000)) }
+        ensures asks { IfResend result (λ from to. (from < to) × (to ≤ LONGEST_MESSAGE)) }
         ensures moved { (id : CallId) (r : HeldServer) → StandsAt self.old.rows id slot r
             → ServerMoved id self.old pool.old self.new pool.new (server_at pool.new self.new.rows id) }
         ensures pool { AreIn pool.new (request_at self.new.rows) }
@@ -323,7 +327,7 @@ impl ServerTable {
     /// The request in the row, which arrives, is granted up to `offset`.
     pub fn granted(&mut self, slot: u32, offset: u32, now: u64)
         requires stands { IsSome (spot_at self.old.rows slot) }
-        requires now { now ≤ 1000000002000 }
+        requires now { now ≤ LAST_HOST_TICK }
         requires up { (id : CallId) (r : HeldServer) → StandsAt self.old.rows id slot r → IsGrantable r.state offset }
         ensures { (id : CallId) (r : HeldServer) (pool : Pool) → StandsAt self.old.rows id slot r → AreIn pool (request_at self.old.rows)
             → ServerMoved id self.old pool self.new pool (Some (server_granted now offset (seen_server pool r))) }
@@ -401,23 +405,5 @@ impl ServerTable {
         ensures placed { ArePlaced self.now.settings.served self.now.rows }
     {
         self.rows.len()
-    }
-}
-
-// The answer to a packet, which is no piece, of a call that has no row.
-fn no_record(body: &Body) -> ServerDid
-    requires { is_data body.now ≡ false }
-    ensures did { (s : Settings) (m : PlainMoment) (id : CallId) (payload response told : List ℕ)
-        → IsAnswered s m id (piece_in body.now payload) (λ a. unknown_gets s m id body.now payload a) None response told result }
-    ensures slot { IsSlotOf None result }
-    ensures says { IfSaid result IsAnswerBody }
-    ensures not_run { has_run result ≡ false }
-{
-    match body {
-        Body::Resend { .. } => ServerDid::Say {
-            slot: None,
-            body: Body::Unknown { reason: 0 },
-        },
-        _ => ServerDid::Nothing,
     }
 }

@@ -2,6 +2,7 @@
 use Rattle.std.specs.Prelude.{ℕ, ◌+◌, ◌==◌, ◌&&◌, nat_lt, nat_le, if◌then◌else◌, List, [], ◌∷◌, length, reverse}
 use Rattle.std.specs.Int.{w64, to_be_bytes}
 use Rattle.homa_service.specs.Answer.{Answer}
+use Rattle.homa_plain.specs.Limits.{longest_message}
 
 -- a response that isn't held back
 abbrev pub at_once : List ℕ → Answer
@@ -19,5 +20,5 @@ message_answer count number request =
 -- the answer to any bytes: those that aren't 1 to 1,000,000 are no message
 abbrev pub suite_answer : ℕ → ℕ → List ℕ → Answer
 suite_answer count number request =
-    if nat_lt 0 (length request) && nat_le (length request) 1000000 then message_answer count number request
+    if nat_lt 0 (length request) && nat_le (length request) longest_message then message_answer count number request
     else at_once (0 ∷ [])

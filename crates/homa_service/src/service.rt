@@ -2,6 +2,7 @@
 ghost use Rattle.std.specs.Prelude.{◌≡◌, ◌+◌, ◌<◌, ◌≤◌, ◌^◌, ℕ, List, length, IfOk, OnOk, OnErr};
 
 use crate::Reply;
+use homa_plain::{LONGEST_HOLD, LONGEST_MESSAGE};
 use std::alloc::{AllocError, Global};
 
 /// A service of up to 256 numbers. It answers a request, or fails because it is out of memory.
@@ -20,8 +21,8 @@ pub trait Service: Drop {
         ensures allowed { IfOk result (λ reply.
             allows self.old (served self.old) number request.now reply.bytes reply.hold) }
         ensures some { IfOk result (λ reply. 0 < length reply.bytes) }
-        ensures size { IfOk result (λ reply. length reply.bytes ≤ 1000000) }
-        ensures hold { IfOk result (λ reply. reply.hold ≤ 1000000) }
+        ensures size { IfOk result (λ reply. length reply.bytes ≤ LONGEST_MESSAGE) }
+        ensures hold { IfOk result (λ reply. reply.hold ≤ LONGEST_HOLD) }
         ensures err { OnErr result (served self.new ≡ served self.old) }
 
         // No call changes what is allowed.

@@ -3,6 +3,7 @@ ghost use Rattle.std.specs.Prelude.{◌≡◌, ◌+◌, ◌<◌, ◌^◌, length
 ghost use Rattle.homa_service.specs.Suite.{suite_answer};
 
 use crate::{Reply, Service};
+use homa_plain::LONGEST_MESSAGE;
 use std::alloc::{AllocError, Global};
 use std::marker::Model;
 
@@ -25,9 +26,6 @@ impl Model for Suite {
 
     ghost inverse = { λ n. record { served = n } };
 }
-
-/// The most bytes of a message.
-const MOST_BYTES: usize = 1_000_000;
 
 /// The ticks for which number 3 holds its answer back.
 const HOLD: u32 = 10;
@@ -55,7 +53,7 @@ impl Suite {
         requires { self.now < 2 ^ 63 }
         ensures { IfOk result (λ reply. reply ≡ suite_answer self.now number request.now) }
     {
-        if request.is_empty() || request.len() > MOST_BYTES {
+        if request.is_empty() || request.len() > LONGEST_MESSAGE as usize {
             return Ok(Reply::new(vec![in alloc; 0]?, 0));
         }
         match number {

@@ -2,7 +2,7 @@
 ghost use Rattle.std.specs.Prelude.{◌≡◌, ◌<◌, ◌≤◌, ◌↔◌, [], None, Some, length, map, take, drop, slice_set, IfOk, OnOk, OnErr, IsErr, IsSome, IsNone};
 
 use crate::Service;
-use homa_plain::HostId;
+use homa_plain::{HostId, MOST_SERVICES};
 use std::alloc::{AllocError, Global};
 
 /// A place for each host, which is empty while the host's service is lent, and the services that no host has yet.
@@ -23,7 +23,7 @@ impl<S: Service> ServiceTable<S> {
     /// Box h serves host h, and the boxes from `hosts` on are the spares, in their order. Only this takes memory.
     pub fn open(alloc: Global, mut boxes: Vec<S>, hosts: u32) -> Result<ServiceTable<S>, AllocError>
         requires enough { hosts ≤ length boxes.items }
-        requires at_most { length boxes.items ≤ 1000000 }
+        requires at_most { length boxes.items ≤ MOST_SERVICES }
         ensures places { IfOk result (λ table. places table ≡ map Some (take hosts boxes.items)) }
         ensures spares { IfOk result (λ table. spares table ≡ drop hosts boxes.items) }
     {

@@ -1,4 +1,6 @@
 //! The timers of a host's rows: when each is to act, and which is due first.
+//! Rules: the timers of RESEND after silence, of timeouts, of held responses, of NEED_ACK and of tombstones; the first
+//! due acts first.
 //!
 //! The model: a [`Timers`] is how many slots there are, and the list of the timers that are armed, in the order of
 //! their deadlines, ties by an order number. A slot is a row's place. The promise: a call changes the timer of its

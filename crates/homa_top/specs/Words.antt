@@ -6,6 +6,7 @@ use Rattle.homa_plain.specs.Bytes.{◌>>=◌}
 use Rattle.homa_plain.specs.Numbers.{number_of}
 use Rattle.homa_top.specs.declared.words.Command.{Command}
 use Rattle.homa_top.specs.declared.words.Command.TheVariants.{Replay, Make, Gen, Node, Record, Check, Quiet}
+use Rattle.homa_plain.specs.Limits.{longest_message}
 
 -- a number of at least 1 and at most so much
 abbrev pub within : ℕ → ℕ → Option ℕ
@@ -21,7 +22,7 @@ seeded make first second = number_of first >>= λ seed. number_within 100000 sec
 
 -- two words are the lengths of a request and of a response
 abbrev pub sized : (ℕ → ℕ → Command) → List ℕ → List ℕ → Option Command
-sized make first second = number_within 1000000 first >>= λ n. number_within 1000000 second >>= λ m. Some (make n m)
+sized make first second = number_within longest_message first >>= λ n. number_within longest_message second >>= λ m. Some (make n m)
 
 -- a word with two behind it
 abbrev pub numbered : List ℕ → List ℕ → List ℕ → Option Command

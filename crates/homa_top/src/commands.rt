@@ -18,7 +18,7 @@ use crate::exit::ExitStatus;
 use homa_check::{CheckStop, Verdict, check, put_verdict};
 use homa_generate::{count, make};
 use homa_io::{Sink, Source, write_all};
-use homa_plain::Settings;
+use homa_plain::{LONGEST_MESSAGE, Settings};
 use homa_replay::Stop;
 use homa_service::Service;
 use homa_world::World;
@@ -104,8 +104,8 @@ pub(crate) fn put_rounds<K: Sink>(
     request: u32,
     response: u32,
 ) -> ExitStatus
-    requires request { (1 ≤ request) × (request ≤ 1000000) }
-    requires response { (1 ≤ response) × (response ≤ 1000000) }
+    requires request { (1 ≤ request) × (request ≤ LONGEST_MESSAGE) }
+    requires response { (1 ≤ response) × (response ≤ LONGEST_MESSAGE) }
     ensures counted { HasCounted request response (K.taken sink.old) (K.taken sink.new) result }
     ensures unsaid { result ≡ status.NoMemory → K.taken sink.new ≡ K.taken sink.old }
     ensures write { result ≡ status.WriteFailed → HasRisen (K.faults sink.old) (K.faults sink.new) }

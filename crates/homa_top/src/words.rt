@@ -4,6 +4,7 @@ ghost use Rattle.std.specs.Option.{option_map};
 ghost use Rattle.homa_top.specs.declared.words.Command.{Command};
 ghost use Rattle.homa_top.specs.Words.{number_within, seeded, sized, numbered, command_of, said};
 
+use homa_plain::LONGEST_MESSAGE;
 use homa_text::read_number;
 
 /// A command, with the numbers of its words.
@@ -28,8 +29,6 @@ pub enum Command {
 // The most calls of generated traffic, and the most bytes of a quiet call's messages.
 const MOST_CALLS: u32 = 100_000;
 
-const MOST_BYTES: u32 = 1_000_000;
-
 // The number of a word, if it is one from 1 to `most`.
 fn number_within(word: &str, most: u32) -> Option<u32>
     ensures { result ≡ number_within most word.now }
@@ -51,8 +50,8 @@ fn seeded(seed: &str, calls: &str) -> Option<(u64, u32)>
 fn sized(request: &str, response: &str) -> Option<(u32, u32)>
     ensures { (make : ℕ → ℕ → Command) → sized make request.now response.now ≡ option_map (λ x. make x.0 x.1) result }
 {
-    let request = number_within(request, MOST_BYTES)?;
-    let response = number_within(response, MOST_BYTES)?;
+    let request = number_within(request, LONGEST_MESSAGE)?;
+    let response = number_within(response, LONGEST_MESSAGE)?;
     Some((request, response))
 }
 

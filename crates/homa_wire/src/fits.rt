@@ -3,13 +3,7 @@ ghost use Rattle.std.specs.Prelude.{◌≡◌, ◌&&◌, nat_le, length, ◌+◌
 ghost use Rattle.std.specs.List.{list_all};
 ghost use Rattle.homa_plain.specs.Wire.{is_call, is_bare, is_between, is_of_role, fits_kind, is_well_formed, latest};
 
-use homa_plain::{Body, Packet, Role};
-
-const LONGEST_MESSAGE: u32 = 1_000_000;
-
-const LONGEST_PAYLOAD: usize = 1400;
-
-const LATEST_CLOCK: u64 = 1_000_000_002_000;
+use homa_plain::{Body, LAST_HOST_TICK, LONGEST_MESSAGE, LONGEST_PIECE, Packet, Role};
 
 fn is_call(call: (u32, u32)) -> bool
     ensures { result ≡ is_call call }
@@ -37,20 +31,20 @@ fn fits_role(role: Role, service: u8, ack: Option<(u32, u32)>) -> bool
 }
 
 fn fits_message(size: u32, offset: u32, payload: &[u8]) -> bool
-    ensures { result ≡ (is_between 1 1000000 size && is_between 1 1400 (length payload.now)
+    ensures { result ≡ (is_between 1 LONGEST_MESSAGE size && is_between 1 1400 (length payload.now)
         && nat_le (offset + length payload.now) size) }
 {
     1 <= size
         && size <= LONGEST_MESSAGE
         && 1 <= payload.len()
-        && payload.len() <= LONGEST_PAYLOAD
+        && payload.len() <= LONGEST_PIECE as usize
         && offset as usize + payload.len() <= size as usize
 }
 
 /// Whether these are a receiver's cutoffs: eight, none above the longest message.
 fn fits_bounds(upto: &[u32; 8]) -> bool
     ensures eight { length upto.now ≡ 8 }
-    ensures all { result ≡ list_all (λ bound. nat_le bound 1000000) upto.now }
+    ensures all { result ≡ list_all (λ bound. nat_le bound LONGEST_MESSAGE) upto.now }
 {
     upto.iter().all(|bound| *bound <= LONGEST_MESSAGE)
 }
@@ -102,7 +96,7 @@ fn fits_kind(role: Role, level: u8, body: &Body, payload: &[u8]) -> bool
 fn latest(wire: u32) -> u64
     ensures { result ≡ latest wire }
 {
-    if wire == 1 { 0 } else { LATEST_CLOCK }
+    if wire == 1 { 0 } else { LAST_HOST_TICK }
 }
 
 pub fn is_well_formed(wire: u32, packet: &Packet, payload: &[u8]) -> bool

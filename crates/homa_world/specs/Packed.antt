@@ -6,6 +6,7 @@ use Rattle.homa_plain.specs.World.{SentPacket}
 use Rattle.host_view.specs.Frames.{IsFormed}
 use Rattle.host_view.specs.declared.outbox.SentFrame.{SentFrame}
 use Rattle.world_packets.specs.Kept.{KeptPacket, WholePacket, LatePacket, StalePacket}
+use Rattle.homa_plain.specs.Limits.{last_host_tick}
 
 -- what is kept of a packet, at a tick: its datagram; or that it is late for good, or certainly stale
 abbrev pub IsShownBy : Settings → ℕ → SentPacket → KeptPacket → Type 0
@@ -25,7 +26,7 @@ AreShownBy s now (p ∷ ps) (k ∷ ks) = IsShownBy s now p k × AreShownBy s now
 abbrev pub IsFromHost : ℕ → KeptPacket → Type 0
 IsFromHost hosts (WholePacket tick f) = (f.from.0 < hosts) × (f.from ≢ f.to)
 IsFromHost hosts (LatePacket tick) = Unit {0}
-IsFromHost hosts (StalePacket to at) = at ≤ 1000000002000
+IsFromHost hosts (StalePacket to at) = at ≤ last_host_tick
 
 -- a frame that is sent at a tick
 abbrev pub frame_kept : ℕ → SentFrame → KeptPacket

@@ -11,7 +11,7 @@ ghost use Rattle.homa_world.specs.Arrived.{HasArrived};
 ghost use Rattle.homa_world.specs.Standing.{IsKept, Applies, Refuses, StillStands, AllowsNoMore};
 
 use crate::parts::{First, WorldParts, clock_of};
-use homa_plain::{Body, Frame, HostId, Packet, Role, Settings, WorldFault};
+use homa_plain::{Body, Frame, HostId, LAST_HOST_TICK, Packet, Role, Settings, WorldFault};
 use homa_service::Service;
 use homa_wire::{decode, encode};
 use std::alloc::{AllocError, Global};
@@ -92,7 +92,7 @@ impl<S: Service> WorldParts<S> {
         requires kept { IsKept S.served self.old }
         requires few { self.old.applied < 2 ^ 57 }
         requires none { self.old.last ≡ last.Nothing }
-        requires at { at ≤ 1000000002000 }
+        requires at { at ≤ LAST_HOST_TICK }
         ensures came { OnOk result ((n : ℕ) → slice_get (kept_all self.old.packets) n ≡ Some (StalePacket to at)
             → HasArrived S.served S.allows (event.Deliver n) [] (PlainDeliver n ∷ []) to self.old self.new.stage) }
         ensures fault { IfErr result (λ fault. (n : ℕ) → slice_get (kept_all self.old.packets) n ≡ Some (StalePacket to at)
@@ -174,7 +174,7 @@ fn stranger(host: HostId) -> HostId
 
 // A datagram of version 2 that tells this clock of its sender, and no more.
 fn stale_frame(at: u64) -> Frame
-    requires { at ≤ 1000000002000 }
+    requires { at ≤ LAST_HOST_TICK }
     ensures { TellsClock result at }
 {
     let packet = Packet {

@@ -7,7 +7,7 @@ ghost use Rattle.homa_world.specs.First.{IsFirstAt};
 ghost use Rattle.homa_world.specs.Standing.{StandsFor, IsKept};
 
 use crate::parts::{Last, WorldParts};
-use homa_plain::Settings;
+use homa_plain::{LAST_TICK, MOST_SERVICES, Settings};
 use homa_service::Service;
 use host_table::Stage;
 use std::alloc::{AllocError, Global};
@@ -24,9 +24,9 @@ impl<S: Service> WorldParts<S> {
     ) -> Result<WorldParts<S>, AllocError>
         requires valid { IsValid settings.now }
         requires enough { settings.now.hosts ≤ length services.items }
-        requires at_most { length services.items ≤ 1000000 }
+        requires at_most { length services.items ≤ MOST_SERVICES }
         requires none { AllByRecursion (λ service. S.served service ≡ 0) services.items }
-        requires start { start ≤ 1000000000000 }
+        requires start { start ≤ LAST_TICK }
         ensures first { IfOk result (λ w. IsFirstAt settings.now start (length services.items) (StandsFor w)) }
         ensures kept { IfOk result (IsKept S.served) }
         ensures settings { IfOk result (λ w. w.settings ≡ settings.now) }

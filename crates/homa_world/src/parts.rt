@@ -8,15 +8,12 @@ ghost use Rattle.host_table.specs.Staged.{frames_of};
 ghost use Rattle.homa_world.specs.Packed.{frame_kept, IsShort};
 ghost use Rattle.homa_world.specs.Standing.{IsKept, Applies, Refuses, StillStands, AllowsNoMore};
 
-use homa_plain::{HostId, Settings, WorldFault};
+use homa_plain::{HostId, LAST_TICK, Settings, WorldFault};
 use homa_service::Service;
 use host_table::Stage;
 use host_view::Outbox;
 use std::alloc::{AllocError, Global};
 use world_packets::Packets;
-
-/// The last tick of the clock.
-const LAST_TICK: u64 = 1_000_000_000_000;
 
 /// What the last event was, as far as its entries need it.
 #[derive(Clone, Copy)]
@@ -73,7 +70,7 @@ pub struct WorldParts<S> {
 impl<S: Service> WorldParts<S> {
     // A host's own clock.
     pub(crate) fn own_clock(&self, host: HostId) -> u64
-        requires clock { self.now.clock ≤ 1000000000000 }
+        requires clock { self.now.clock ≤ LAST_TICK }
         requires lead { host.0 < length self.now.leads.items }
         ensures { result ≡ self.now.clock + slice_index_or self.now.leads.items host.0 0 }
     {
@@ -202,7 +199,7 @@ impl<S: Service> WorldParts<S> {
 
 // A host's own clock.
 pub(crate) fn clock_of(clock: u64, leads: &[u32], host: HostId) -> u64
-    requires clock { clock ≤ 1000000000000 }
+    requires clock { clock ≤ LAST_TICK }
     requires lead { host.0 < length leads.now }
     ensures { result ≡ clock + slice_index_or leads.now host.0 0 }
 {

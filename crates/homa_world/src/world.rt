@@ -10,7 +10,7 @@ ghost use Rattle.homa_world.specs.Passing.{IsOf};
 use crate::parts::WorldParts;
 use crate::{Kind, Passing};
 use homa_host::Host;
-use homa_plain::{Entry, Event, HostId, Settings, WorldFault};
+use homa_plain::{Entry, Event, HostId, LAST_TICK, MOST_SERVICES, Settings, WorldFault};
 use homa_replay::{OpenWorld, ReplayWorld};
 use homa_service::Service;
 use std::alloc::{AllocError, Global};
@@ -52,9 +52,9 @@ impl<S: Service> World<S> {
     ) -> Result<World<S>, AllocError>
         requires valid { IsValid settings.now }
         requires enough { settings.now.hosts ≤ length services.items }
-        requires at_most { length services.items ≤ 1000000 }
+        requires at_most { length services.items ≤ MOST_SERVICES }
         requires none { AllByRecursion (λ service. S.served service ≡ 0) services.items }
-        requires start { start ≤ 1000000000000 }
+        requires start { start ≤ LAST_TICK }
         ensures first { IfOk result (λ w. IsFirstAt settings.now start (length services.items) (StandsFor w)) }
         ensures settings { IfOk result (λ w. w.settings ≡ settings.now) }
         ensures applied { IfOk result (λ w. w.applied ≡ 0) }

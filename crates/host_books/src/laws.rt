@@ -1,9 +1,9 @@
 //! What the books of a host are after the row of one place changed.
 //!
-//! A book holds a thing of each row: its timer, its message that arrives, its message that is sent. The laws say: where
-//! a row is made, changed or removed, the books are those of all rows again as soon as the slot of that row is booked
-//! anew, and the order number with which that is done is no other row's. No function here does anything: each states
-//! laws, and its body is empty.
+//! A book holds a thing of each row: its timer, its message that arrives, its message that is sent. The laws are about
+//! a row that is made, changed or removed. The books are those of all rows again as soon as the slot of that row is
+//! booked anew, and the order number with which that is done is no other row's. No function here does anything: each
+//! states laws, and its body is empty.
 
 ghost use Rattle.std.specs.Prelude.{◌≡◌, ◌<◌, ◌≤◌, ◌+◌, ◌-◌, ℕ, Some, None, List, ◌∷◌, length, Contains};
 ghost use Rattle.std.specs.List.{AllByRecursion};

@@ -39,9 +39,9 @@ pub fn rows_keep_bytes()
     ensures { (s : Settings) (w : Work) → KeepsBytes w.host (ended s w).host }
 {}
 
-/// The entries of a whole step are those of its marks, once the host is as after the step: those of a call and of a turn
-/// whatever stands in the scratch, those of an arrival where the service answered what the marks say, and the message
-/// that became whole stands in the scratch.
+/// The entries of a whole step are those of its marks, once the host is as after the step. Those of a call and of a
+/// turn are so whatever stands in the scratch. Those of an arrival are so where the service answered what the marks
+/// say, and the message that became whole stands in the scratch.
 pub fn entries_are_marks()
     ensures call { (s : Settings) (h : Host) (now : ℕ) (server : HostId) (service : ℕ) (request : List ℕ) (new : Seen) (whole : List ℕ)
         → new.host ≡ (call_step s h now server service request).host

@@ -13,7 +13,7 @@ use Rattle.homa_plain.specs.Host.{PeerCutoffs}
 use Rattle.host_view.specs.declared.mark.Mark.{Mark}
 use Rattle.host_state.specs.Control.{IsSound, AreFit}
 use Rattle.host_state.specs.Fields.{control_by, new_control, peer_of}
-use Rattle.host_state.specs.declared.cutoffs.Peer.{Peer}
+use Rattle.host_state.specs.declared.cutoffs_packets.Peer.{Peer}
 
 replicated : {X : Type 0} (P : X → Type 0) (n : ℕ) (x : X) → P x → AllByRecursion P (replicate n x)
 replicated P zero x p = tt

@@ -29,7 +29,7 @@ use Rattle.host_view.specs.Frames.{frame_of, IsFormed}
 use Rattle.host_state.specs.Control.{Control, IsAt, IsSound, AreFit, sent_by}
 use Rattle.host_state.specs.Fields.{peer_of}
 use Rattle.host_state.specs.Saying.{AreSays, IsOutcome, IsPieceOf}
-use Rattle.host_state.specs.declared.cutoffs.Peer.{Peer}
+use Rattle.host_state.specs.declared.cutoffs_packets.Peer.{Peer}
 use Rattle.host_state.specs.declared.saying.Said.{Said}
 use Rattle.host_state.specs.declared.saying.Said.TheVariants.{Tell}
 use Rattle.host_state.specs.declared.saying.Outcome.{Outcome}

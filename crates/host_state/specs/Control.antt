@@ -16,6 +16,7 @@ use Rattle.host_view.specs.declared.mark.Mark.{Mark}
 use Rattle.host_view.specs.declared.outbox.SentFrame.{SentFrame}
 use Rattle.host_view.specs.Frames.{frames_of, IsFormed}
 use Rattle.host_view.specs.Marks.{marks_from}
+use Rattle.homa_plain.specs.Limits.{last_host_tick, longest_message}
 
 -- a host without its rows: settings, name, incarnation, clock, cutoffs, finished calls, and the marks of its step
 pub record Control : Type 0 where
@@ -32,14 +33,14 @@ pub record Control : Type 0 where
 pub record AreFit (c : Cutoffs) : Type 0 where
   pub version : c.version < 2 ^ 16
   pub levels : length c.upto ≡ 8
-  pub bounds : AllByRecursion (λ bound. bound ≤ 1000000) c.upto
+  pub bounds : AllByRecursion (λ bound. bound ≤ longest_message) c.upto
 
 -- what holds between its calls
 pub record IsSound (c : Control) : Type 0 where
   pub valid : IsValid c.settings
   pub host : c.id.0 < c.settings.hosts
   pub inc : 1 ≤ c.inc
-  pub last : c.last ≤ 1000000002000
+  pub last : c.last ≤ last_host_tick
   pub own : AreFit c.tuning.own
   pub peers : length c.peers ≡ c.settings.hosts
   pub peer_cutoffs : AllByRecursion (λ p. AreFit p.cutoffs) c.peers

@@ -7,7 +7,7 @@ use Rattle.homa_plain.specs.Cutoffs.{first_cutoffs}
 use Rattle.homa_plain.specs.Host.{PeerCutoffs}
 use Rattle.host_view.specs.declared.mark.Mark.{Mark}
 use Rattle.host_state.specs.Control.{Control}
-use Rattle.host_state.specs.declared.cutoffs.Peer.{Peer}
+use Rattle.host_state.specs.declared.cutoffs_packets.Peer.{Peer}
 
 -- what a host remembers of a peer: its cutoffs, and its incarnation when it sent them
 abbrev pub peer_of : Peer → PeerCutoffs

@@ -10,6 +10,7 @@ use Rattle.host_state.specs.Control.{AreFit}
 use Rattle.host_state.specs.declared.saying.Said.{Said}
 use Rattle.host_state.specs.declared.saying.Said.TheVariants.{Nothing, Tell, Post}
 use Rattle.host_state.specs.declared.saying.Outcome.{Outcome}
+use Rattle.homa_plain.specs.Limits.{longest_message}
 
 -- what is said is this entry, this packet, or nothing
 abbrev pub AreSays : Said → List Say → Type 0
@@ -71,6 +72,6 @@ pub record IsPieceOf (length from to prio size : ℕ) : Type 0 where
   pub some : from < to
   pub inside : to ≤ length
   pub long : length ≡ size
-  pub most : length ≤ 1000000
+  pub most : length ≤ longest_message
   pub short : to - from ≤ 1400
   pub level : prio ≤ 7

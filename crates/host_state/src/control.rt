@@ -1,4 +1,5 @@
 // A host's clock, cutoffs and finished calls, and what its step tells.
+// Rules: beside its row, a packet may make CUTOFFS, an ACK, BUSY, UNKNOWN or a RESEND go out.
 ghost use Rattle.std.specs.Prelude.{◌≡◌, ◌+◌, ◌<◌, ◌≤◌, ◌^◌, ◌++◌, ◌∷◌, [], IfOk, IfSome, List, length};
 ghost use Rattle.homa_plain.specs.Settings.{IsValid};
 ghost use Rattle.homa_plain.specs.Rows.{ClientRow, ServerRow};
@@ -10,12 +11,12 @@ ghost use Rattle.host_state.specs.Fields.{new_control, peer_of};
 ghost use Rattle.host_state.specs.Saying.{AreSays, FitsSaid, IsOutcome, marks_said, frames_said, one_of, outcome_marks};
 ghost use Rattle.host_state.specs.Saying.{outcome_frames};
 
-use crate::cutoffs::Peer;
+use crate::cutoffs_packets::Peer;
 use crate::marks::Marks;
 use crate::saying::{Outcome, Said};
 use homa_acks::AckBook;
 use homa_cutoffs::{Levels, Recent};
-use homa_plain::{CallId, Cutoffs, HostId, Role, Settings};
+use homa_plain::{CallId, Cutoffs, HostId, LAST_HOST_TICK, LONGEST_MESSAGE, Role, Settings};
 use host_view::{Mark, Outbox};
 use std::alloc::{AllocError, Global};
 use std::marker::Model;
@@ -59,7 +60,7 @@ impl Control {
         requires valid { IsValid settings.now }
         requires id { id.0 < settings.now.hosts }
         requires inc { 1 ≤ inc }
-        requires last { last ≤ 1000000002000 }
+        requires last { last ≤ LAST_HOST_TICK }
         ensures { IfOk result (λ c. c ≡ new_control settings.now id inc last) }
     {
         let first = Cutoffs::first(settings.overcommit);
@@ -122,7 +123,7 @@ impl Control {
 
     /// Begins a step: no entry is there yet.
     pub fn begin(&mut self, now: u64)
-        requires { now ≤ 1000000002000 }
+        requires { now ≤ LAST_HOST_TICK }
         ensures { self.new ≡ record self.old { last = now; marks = [] } }
     {
         self.last = now;
@@ -168,7 +169,7 @@ impl Control {
     pub fn settle_client(&mut self, id: CallId, server: HostId, outcome: Outcome, out: &mut Outbox)
         requires server { server.0 < self.old.settings.hosts }
         requires call { 1 ≤ id.inc }
-        requires len { IfSome outcome.opened (λ len. len ≤ 1000000) }
+        requires len { IfSome outcome.opened (λ len. len ≤ LONGEST_MESSAGE) }
         requires opened { self.old.tuning.opened + 1 < 2 ^ 64 }
         requires fits { FitsSaid Role.Client outcome.said }
         requires room { length self.old.marks + outcome_marks outcome ≤ 128 }
@@ -196,7 +197,7 @@ impl Control {
     /// What follows from a rule that was carried out at a call's server, beside the row.
     pub fn settle_server(&mut self, id: CallId, outcome: Outcome, out: &mut Outbox)
         requires call { 1 ≤ id.inc }
-        requires len { IfSome outcome.opened (λ len. len ≤ 1000000) }
+        requires len { IfSome outcome.opened (λ len. len ≤ LONGEST_MESSAGE) }
         requires opened { self.old.tuning.opened + 1 < 2 ^ 64 }
         requires fits { FitsSaid Role.Server outcome.said }
         requires room { length self.old.marks + outcome_marks outcome ≤ 128 }

@@ -1,4 +1,6 @@
 // What packets a host sends, but for what decides when.
+// Rules: DATA goes at its GRANT's or its CUTOFFS' level and other packets at 7; a request's DATA carries the ACK of a
+// finished call.
 ghost use Rattle.std.specs.Prelude.{◌≡◌, ◌+◌, ◌==◌, ◌<◌, ◌≤◌, ◌++◌, ◌∷◌, [], length, if◌then◌else◌};
 ghost use Rattle.plain_sets.specs.Ranges.{range};
 ghost use Rattle.homa_plain.specs.Wire.{FitsKind, latest};

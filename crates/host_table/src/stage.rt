@@ -17,7 +17,7 @@ ghost use Rattle.host_table.specs.Staged.{MayStep, HasStepped, HasCome, HasNotCo
 ghost use Rattle.host_table.specs.Restarted.{HasRestarted, HasNoSpare};
 
 use homa_host::{Asked, Host};
-use homa_plain::{Entry, HostId, Settings, StartFault, WorldFault};
+use homa_plain::{Entry, HostId, LAST_HOST_TICK, MOST_SERVICES, Settings, StartFault, WorldFault};
 use homa_service::{Service, ServiceTable};
 use host_view::{Mark, Outbox};
 use msg_pool::Scratch;
@@ -41,7 +41,7 @@ impl<S: Service> Stage<S> {
     ) -> Result<Stage<S>, AllocError>
         requires valid { IsValid settings.now }
         requires enough { settings.now.hosts ≤ length services.items }
-        requires at_most { length services.items ≤ 1000000 }
+        requires at_most { length services.items ≤ MOST_SERVICES }
         ensures known { IfOk result (λ stage. known_of stage ≡ first_known settings.now settings.now.hosts) }
         ensures seats { IfOk result (λ stage. seats_of stage ≡ map Some (take settings.now.hosts services.items)) }
         ensures spares { IfOk result (λ stage. spares_of stage ≡ drop settings.now.hosts services.items) }
@@ -61,7 +61,7 @@ impl<S: Service> Stage<S> {
         requires incs { length incs.now ≡ settings.now.hosts }
         requires lives { AllByRecursion (λ inc. 1 ≤ inc) incs.now }
         requires enough { settings.now.hosts ≤ length services.items }
-        requires at_most { length services.items ≤ 1000000 }
+        requires at_most { length services.items ≤ MOST_SERVICES }
         ensures known { IfOk result (λ stage. known_of stage ≡ known_first settings.now incs.now) }
         ensures seats { IfOk result (λ stage. seats_of stage ≡ map Some (take settings.now.hosts services.items)) }
         ensures spares { IfOk result (λ stage. spares_of stage ≡ drop settings.now.hosts services.items) }
@@ -109,7 +109,7 @@ impl<S: Service> Stage<S> {
         requires client { client.0 < length (hosts_of self.old) }
         requires server { IfSome (slice_get (hosts_of self.old) client.0) (λ h. server.0 < h.settings.hosts) }
         requires may { IfSome (slice_get (hosts_of self.old) client.0) (MayStep now) }
-        requires now { now ≤ 1000000002000 }
+        requires now { now ≤ LAST_HOST_TICK }
         ensures step { OnOk result (IfSome (slice_get (hosts_of self.old) client.0)
             (λ h. HasStepped now client h (call_step h.settings h.host now server number request.items) self.old self.new)) }
         ensures no_fault { OnOk result (IfSome (slice_get (hosts_of self.old) client.0) (λ h. start_fault h.settings h.host server request.items ≡ None)) }
@@ -139,7 +139,7 @@ impl<S: Service> Stage<S> {
         requires from { IfSome (slice_get (hosts_of self.old) to.0) (λ h. from.0 < h.settings.hosts) }
         requires other { IfSome (slice_get (hosts_of self.old) to.0) (λ h. from ≢ h.host.id) }
         requires may { IfSome (slice_get (hosts_of self.old) to.0) (MayStep now) }
-        requires now { now ≤ 1000000002000 }
+        requires now { now ≤ LAST_HOST_TICK }
         requires seat { IsSome (place_of (seats_of self.old) to.0) }
         requires served { IfSome (place_of (seats_of self.old) to.0) (λ service. S.served service < 2 ^ 63) }
         ensures step { OnOk result (IfSome (slice_get (hosts_of self.old) to.0) (λ h.
@@ -168,7 +168,7 @@ impl<S: Service> Stage<S> {
     pub fn turn(&mut self, host: HostId, now: u64)
         requires host { host.0 < length (hosts_of self.old) }
         requires may { IfSome (slice_get (hosts_of self.old) host.0) (MayStep now) }
-        requires now { now ≤ 1000000002000 }
+        requires now { now ≤ LAST_HOST_TICK }
         ensures step { IfSome (slice_get (hosts_of self.old) host.0) (λ h. HasStepped now host h (turn_step h.settings h.host now) self.old self.new) }
         ensures seats { seats_of self.new ≡ seats_of self.old }
         ensures spares { spares_of self.new ≡ spares_of self.old }
@@ -190,7 +190,7 @@ impl<S: Service> Stage<S> {
         requires inside { host.0 < settings.now.hosts }
         requires valid { IsValid settings.now }
         requires inc { 1 ≤ inc }
-        requires last { last ≤ 1000000002000 }
+        requires last { last ≤ LAST_HOST_TICK }
         requires seat { IsSome (place_of (seats_of self.old) host.0) }
         ensures done { OnOk result (HasRestarted host (known_in settings.now (new_host settings.now host inc last)) self.old self.new) }
         ensures fault { IfErr result (HasNoSpare self.old) }

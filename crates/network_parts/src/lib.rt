@@ -2,9 +2,9 @@
 //!
 //! Moments and spans are picoseconds: at 10, 25, 40 and 100 Gbit/s a byte takes a whole number of them, so that nothing is rounded.
 //!
-//! Main promise: of what is due the earliest comes first, and of what is due at one moment what was entered first; a link has one
-//! packet at a time, and holds it for exactly as long as its bytes take; a port gives the first packet of its highest level, and
-//! each packet that came to it was refused, was given, or still waits.
+//! Main promise: of what is due the earliest comes first, and of what is due at one moment what was entered first. A
+//! link has one packet at a time, and holds it for exactly as long as its bytes take. A port gives the first packet of
+//! its highest level. Each packet that came to a port was refused, was given, or still waits.
 #![tactic(auto)]
 
 mod agenda;

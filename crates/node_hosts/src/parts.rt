@@ -19,7 +19,7 @@ ghost use Rattle.homa_node.specs.Served.{IsFirstIn};
 ghost use Rattle.node_hosts.specs.declared.parts.Last.TheVariants as last;
 ghost use Rattle.node_hosts.specs.Standing.{IsKept, StandsFor, Steps, told_of};
 
-use homa_plain::{Entry, HostId, Settings, StartFault};
+use homa_plain::{Entry, HostId, LAST_TICK, MOST_SERVICES, Settings, StartFault};
 use homa_service::Service;
 use host_table::Stage;
 use std::alloc::{AllocError, Global};
@@ -56,7 +56,7 @@ impl<S: Service> NodeParts<S> {
         requires incs { length incs.now ≡ settings.now.hosts }
         requires lives { AllByRecursion (λ inc. 1 ≤ inc) incs.now }
         requires enough { settings.now.hosts ≤ length services.items }
-        requires at_most { length services.items ≤ 1000000 }
+        requires at_most { length services.items ≤ MOST_SERVICES }
         requires none { AllByRecursion (λ service. S.served service ≡ 0) services.items }
         ensures first { IfOk result (λ n. IsFirstIn settings.now incs.now (StandsFor n)) }
         ensures kept { IfOk result (IsKept S.served) }
@@ -80,7 +80,7 @@ impl<S: Service> NodeParts<S> {
     pub fn stand_at(&mut self, now: u64)
         requires kept { IsKept S.served self.old }
         requires rises { self.old.clock ≤ now }
-        requires most { now ≤ 1000000000000 }
+        requires most { now ≤ LAST_TICK }
         ensures stands { (w : World) → StandsFor self.old w → StandsFor self.new (record w { clock = now }) }
         ensures kept { IsKept S.served self.new }
         ensures same { self.new ≡ record self.old { clock = now } }

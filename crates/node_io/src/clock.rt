@@ -3,6 +3,8 @@ ghost use Rattle.std.specs.Prelude.{◌≡◌, ◌≤◌, ◌<◌, ℕ, Option, 
 ghost use Rattle.node_runs.specs.Course.{AreTicks};
 ghost use Rattle.node_io.specs.Clock.{Rises, next_tick, if_ticks};
 
+use homa_plain::LAST_TICK;
+
 /// A clock. It has no faults.
 pub trait Clock {
     /// The ticks that it is still to give, where it can tell; the last of them it gives for ever.
@@ -14,7 +16,7 @@ pub trait Clock {
     /// The present tick: at least the one before, and at most 1,000,000,000,000.
     fn now(&mut self) -> u64
         ensures never_falls { last self.old ≤ result }
-        ensures most { result ≤ 1000000000000 }
+        ensures most { result ≤ LAST_TICK }
         ensures last { last self.new ≡ result }
         ensures given { IfSome (ticks self.old) (λ ticks. result ≡ next_tick ticks) }
         ensures left { ticks self.new ≡ if_ticks (ticks self.old) };

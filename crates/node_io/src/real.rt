@@ -11,16 +11,13 @@ ghost use Rattle.node_io.specs.System.{tick_at};
 use crate::faults::FaultCount;
 use crate::sockets::{Sockets, address, wait};
 use crate::{Clock, Got, Net, NetFailed, NoMemory};
-use homa_plain::{Frame, HostId};
+use homa_plain::{Frame, HostId, LAST_TICK};
 use std::alloc::Global;
 use std::net::UdpSocket;
 use std::time::{Duration, Instant};
 
 /// For how many milliseconds a receive waits for a datagram.
 const READ_LIMIT: u64 = 1;
-
-/// The clock's last tick.
-const LAST_TICK: u64 = 1_000_000_000_000;
 
 // A socket at a port of this machine, which doesn't wait, and whose reads have a limit where they do.
 fn socket_at<R: std::net::Net>(rt: &R, port: u16) -> Result<UdpSocket, NetFailed> {
@@ -44,11 +41,11 @@ fn counted<T>(faults: &mut FaultCount, answer: Result<T, NetFailed>) -> Result<T
     answer
 }
 
-/// Sockets on 127.0.0.1 as a net, one for each host that is bound. It can't tell what is queued, sent or given. Each error
-/// of a socket is a fault, and so are a host beyond 32 that is bound or routed, and a host without a socket or a port. A
-/// receive for the host that was bound last waits, by a limit of 1 millisecond, of which a system with 250 timer ticks a
-/// second makes 4 to 12, unless a datagram was given to some host since that one had none; no other receive waits. It gives
-/// nothing, too, after 64 datagrams of others, and where a signal broke it off.
+/// Sockets on 127.0.0.1 as a net, one for each host that is bound. It can't tell what is queued, sent or given. Each
+/// error of a socket is a fault, and so are a host beyond 32 that is bound or routed, and a host without a socket or a
+/// port. A receive for the host that was bound last waits, unless a datagram was given to some host since that one had
+/// none; no other receive waits. The limit of a wait is 1 millisecond, of which a system with 250 timer ticks a second
+/// makes 4 to 12. A receive gives nothing, too, after 64 datagrams of others, and where a signal broke it off.
 #[derive(Drop)]
 pub struct UdpNet<R: std::net::Net + Drop> {
     rt: R,
@@ -168,7 +165,7 @@ pub struct TickClock<R: std::rt::Clock + Drop> {
     rt: R,
     start: Option<Instant>,
     last: u64,
-    ghost most: { last ≤ 1000000000000 },
+    ghost most: { last ≤ last_tick },
 }
 
 impl<R: std::rt::Clock + Drop> TickClock<R> {
@@ -184,7 +181,7 @@ impl<R: std::rt::Clock + Drop> TickClock<R> {
 
     // The tick of the system's clock, counted from its first reading, which is noted.
     fn read(&mut self) -> Option<u64>
-        ensures most { IfSome result (λ tick. tick ≤ 1000000000000) }
+        ensures most { IfSome result (λ tick. tick ≤ LAST_TICK) }
         ensures last { self.new.last ≡ self.old.last }
         ensures start { IfSome self.old.start (λ start. self.new.start ≡ Some start) }
         ensures noted { OnSome result (IsSome self.new.start) }

@@ -235,9 +235,9 @@ impl Sockets {
         self.sockets.last().is_some_and(|s| s.0 == host)
     }
 
-    /// Receives a datagram for a host from another one that is known. It waits for one only for the host that was bound last,
-    /// and only where none was given to any host since that one had none: so whatever comes, a loop turn has one wait at most,
-    /// however many hosts it has.
+    /// Receives a datagram for a host from another one that is known. It waits for one only for the host that was bound
+    /// last, and only where none was given to any host since that one had none. So whatever comes, a loop turn has one
+    /// wait at most, however many hosts it has.
     pub(crate) fn receive(&mut self, host: HostId, frame: &mut Frame) -> Result<Got, NetFailed>
         ensures from { IfOk result (λ got. IfFrom got (λ from. is_welcome (are_known self.old) host from ≡ true)) }
         ensures socket { OnOk result (IsSome (beside (sockets_of self.old) host)) }

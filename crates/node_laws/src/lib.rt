@@ -9,8 +9,8 @@
 
 ghost use Rattle.node_runs.specs.Replayed.{RecordingsRepeat, SettingsFirst, EventsFit, TurnsFit};
 
-/// Where all hosts of a node are local with incarnation 1, and nothing of its run is strange, the replay of what a
-/// recorder tells of the run gives the run's entries, those of the clock and of datagrams that come aside.
+/// Let all hosts of a node be local with incarnation 1, and nothing of its run be strange. Then the replay of what a
+/// recorder tells of the run gives the run's entries, but for those of the clock and of datagrams that come.
 pub fn recordings_repeat()
     ensures { RecordingsRepeat }
 {}

@@ -2,14 +2,11 @@
 ghost use Rattle.std.specs.Prelude.{◌≡◌, ◌<◌, true, length, IfSome};
 ghost use Rattle.node_runs.specs.Course.{AreTicks};
 
-use homa_plain::{Frame, HostId};
+use homa_plain::{Frame, HostId, LAST_TICK};
 use std::alloc::Global;
 
 // The most bytes of a datagram.
 const MOST_BYTES: usize = 1500;
-
-// The clock's last tick.
-const LAST_TICK: u64 = 1_000_000_000_000;
 
 // For how many sends, and as many receives, a net has room where no line says it.
 const USUAL_ROOM: u32 = 2000;

@@ -16,6 +16,7 @@ use Rattle.node_runs.specs.Course.{Report, Tells, Receive, AreTicks, AreReceived
 use Rattle.node_runs.specs.Recorder.{Notes, no_notes, events, kept}
 use Rattle.node_runs.specs.Observed.{observed, never}
 use Rattle.node_runs.specs.Texts.{entries, recorded}
+use Rattle.homa_plain.specs.Limits.{longest_hold, longest_message}
 
 -- ---- what is compared
 
@@ -58,7 +59,8 @@ pub record BeginsWith (s : Settings) (reports : List Report) : Type 0 where
 -- an event that a recorder may print: its hosts are two of 32 at most, its packet is one of so many that were sent,
 -- and its bytes are those of a message or of a datagram
 abbrev pub IsRecorded : ℕ → Event → List ℕ → Type 0
-IsRecorded packets (event.Call client server service) bytes = (client.0 < 32) × (server.0 < 32) × (service < 256) × IsBytes bytes × (length bytes ≤ 1000000)
+IsRecorded packets (event.Call client server service) bytes =
+    (client.0 < 32) × (server.0 < 32) × (service < 256) × IsBytes bytes × (length bytes ≤ longest_message)
 IsRecorded packets (event.Deliver number) bytes = (number < packets) × (bytes ≡ [])
 IsRecorded packets event.Clock bytes = bytes ≡ []
 IsRecorded packets (event.Turn host) bytes = (host.0 < 32) × (bytes ≡ [])
@@ -79,7 +81,7 @@ IsHere (Remote port) = ⊥
 
 -- whether a service may answer so: 1 to 1,000,000 bytes, held back for at most 1,000,000 ticks
 abbrev pub IsAnswer : Answer → Type 0
-IsAnswer answer = Between 1 1000000 (length answer.bytes) × IsBytes answer.bytes × (answer.hold ≤ 1000000)
+IsAnswer answer = Between 1 longest_message (length answer.bytes) × IsBytes answer.bytes × (answer.hold ≤ longest_hold)
 
 -- the replay of these events, with this trace, has these entries of hosts, and nothing was refused
 abbrev pub RepeatsBy : Run → Settings → List PlainEntry → Type 0

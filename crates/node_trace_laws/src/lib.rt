@@ -10,24 +10,25 @@
 ghost use Rattle.node_trace_laws.specs.Honest.{NodeTracesObey, NoneIsBroken, UsualIsHonest};
 ghost use Rattle.node_trace_laws.specs.Taken.{WholeTextsObey, FrontsObey};
 
-/// Of each run of a node, whatever its services answer: where each datagram in the first n lines of its trace is no packet,
-/// or one that was sent before in this run to this host by this sender, with version 1 in the last `life` ticks, these
-/// lines have the shape and obey all five laws, the last line too, however the run goes on or breaks off. Where that is so
-/// of all lines, a judge finds none that breaks a law.
+/// The traces of a node obey the laws, whatever its services answer and however its run goes on or breaks off. Let each
+/// datagram in the first n lines be no packet, or one that was sent before in this run to this host by this sender,
+/// with version 1 in the last `life` ticks. Then these lines have the shape and obey all five laws, the last line too.
+/// Where that is so of all lines, a judge finds none that breaks a law.
 pub fn node_traces_obey()
     ensures obeys { NodeTracesObey }
     ensures judged { NoneIsBroken }
 {}
 
-/// Where nothing of a node's run is strange to a recorder, its net was honest: each datagram that came is no packet, or one
-/// that was sent before in this run to this host by this sender, in the last `life` ticks. So the laws hold of all its lines.
+/// Where nothing of a node's run is strange to a recorder, its net was honest. Each datagram that came is no packet, or
+/// one that was sent before in this run to this host by this sender, in the last `life` ticks. So the laws hold of all
+/// its lines.
 pub fn usual_nets_are_honest()
     ensures { UsualIsHonest }
 {}
 
-/// Where a sink took all of a node's text, it took the run's lines, and where it took a front of it, as in a run that is
-/// broken off, it took the first lines whole, with their line feeds, and maybe a part of the next one. Where the net was
-/// honest in the lines that were taken whole, these have the shape and obey all five laws.
+/// Where a sink took all of a node's text, it took the run's lines. Where it took a prefix of it, as in a run that is
+/// broken off, it took the first lines whole, with their line feeds, and maybe a part of the next one. Where the net
+/// was honest in the lines that were taken whole, these have the shape and obey all five laws.
 pub fn what_is_taken_obeys()
     ensures whole { WholeTextsObey }
     ensures fronts { FrontsObey }

@@ -11,7 +11,7 @@ ghost use Rattle.node_turns.specs.Acting.{HasActed, IsCut, IsMidst, IsHeardStop,
 
 use crate::telling::{send_frames, tell_entries};
 use crate::{LoopHosts, NodeStop};
-use homa_plain::{Entry, Frame, HostId};
+use homa_plain::{Entry, Frame, HostId, LAST_TICK};
 use node_io::{Got, Net, Observer};
 use std::alloc::Global;
 
@@ -165,7 +165,7 @@ pub fn clock_stands<H: LoopHosts, O: Observer>(
     observer: &mut O,
 ) -> Result<(), NodeStop>
     requires rises { H.clock hosts.old ≤ now }
-    requires most { now ≤ 1000000000000 }
+    requires most { now ≤ LAST_TICK }
     ensures told { OnOk result ((w : World) → H.stands hosts.old w → H.stands hosts.new (record w { clock = now }) ×
         AreTold O.told O.kept O.strange (O.taken observer.old) (O.notes observer.old) (O.taken observer.new) (O.notes observer.new) (clock_reports n now w)) }
     ensures cut { OnErr result ((w : World) → H.stands hosts.old w

@@ -15,7 +15,7 @@ ghost use Rattle.node_runs.specs.Course.{arrival_outcome, Arrival};
 ghost use Rattle.node_turns.specs.Acting.{IsRefused};
 ghost use Rattle.node_turns.specs.Acting.{IsStep, IsBegun, IsOwn, Asks};
 
-use homa_plain::{Entry, HostId, StartFault, WorldFault};
+use homa_plain::{Entry, HostId, LAST_TICK, StartFault, WorldFault};
 use host_view::Outbox;
 use std::alloc::{AllocError, Global};
 
@@ -49,7 +49,7 @@ pub trait LoopHosts {
     /// The clock stands at this tick.
     fn stand_at(&mut self, now: u64)
         requires rises { clock self.old ≤ now }
-        requires most { now ≤ 1000000000000 }
+        requires most { now ≤ LAST_TICK }
         ensures stands { (w : World) → stands self.old w → stands self.new (record w { clock = now }) }
         ensures clock { clock self.new ≡ now }
         ensures settings { settings self.new ≡ settings self.old }

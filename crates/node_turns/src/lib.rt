@@ -2,8 +2,9 @@
 //!
 //! Model: hosts stand for plain worlds, whatever their services will answer (`LoopHosts`). What they do is a part of the
 //! definition's course, whatever was told before and is answered, received and called later (`HasActed`).
-//! Promise: `hears`, `has_turn` and `hosts_act` do that part of the course, tell its reports, send its datagrams and take
-//! what it receives, in order; where they stop, a front of its reports was told and a front of its datagrams was sent.
+//! Promise: `hears`, `has_turn` and `hosts_act` do that part of the course, tell its reports, send its datagrams and
+//! take what it receives, in order. Where they stop, a prefix of its reports was told and a prefix of its datagrams was
+//! sent.
 #![tactic(auto)]
 
 mod acts;

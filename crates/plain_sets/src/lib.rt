@@ -1,9 +1,9 @@
 //! Finite maps, sets of numbers, ranges and lists in order, as plain values for contracts.
 //!
-//! The definitions are in `specs/`: `Maps` (a map is its entries in order of key, and has a code, so
-//! that it can be a model's value), `Numbers` (sets of numbers, what is missing of them below a length),
-//! `Ranges` (their maximal ranges) and `Ordered` (things in order of two numbers, the first of each
-//! sender). All of them compute, so that an example holds by `refl`.
+//! The definitions are in `specs/`. `Maps`: a map is its entries in order of key, and has a code, so that it can be a
+//! model's value. `Numbers`: sets of numbers, and what is missing of them below a length. `Ranges`: their maximal
+//! ranges. `Ordered`: things in order of two numbers, and the first of each sender. All of them compute, so that an
+//! example holds by `refl`.
 //!
 //! There is no code here that does anything: each function below states laws of the definitions, of
 //! all maps, sets and lists, and its body is empty. `worked` states examples that were worked out by

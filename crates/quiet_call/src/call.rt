@@ -15,7 +15,7 @@ ghost use Rattle.quiet_laws.specs.Hosts.{client_id, server_id};
 use crate::filler::Filler;
 use crate::frames::{KeptFrame, keep};
 use homa_host::Host;
-use homa_plain::{Entry, HostId, Settings};
+use homa_plain::{Entry, HostId, LAST_HOST_TICK, Settings};
 use homa_text::counting_bytes;
 use host_view::Outbox;
 use msg_pool::Scratch;
@@ -147,7 +147,7 @@ impl QuietCall {
 
     // A frame comes to its receiver. Whether the step told that the call was done.
     fn deliver(&mut self, alloc: Global, frame: &KeptFrame) -> Result<bool, AllocError>
-        requires clock { own_clock self.old ≤ 1000000002000 }
+        requires clock { own_clock self.old ≤ LAST_HOST_TICK }
         requires to { frame.now.to.0 < length (hosts_of self.old) }
         requires may { IfSome (slice_get (hosts_of self.old) frame.now.to.0) (MayStep (own_clock self.old)) }
         requires from { IfSome (slice_get (hosts_of self.old) frame.now.to.0) (λ h. frame.now.from.0 < h.settings.hosts) }
@@ -175,7 +175,7 @@ impl QuietCall {
 
     // A host has its turn. Whether the step told that the call was done.
     fn turn(&mut self, alloc: Global, host: HostId) -> Result<bool, AllocError>
-        requires clock { own_clock self.old ≤ 1000000002000 }
+        requires clock { own_clock self.old ≤ LAST_HOST_TICK }
         requires host { host.0 < length (hosts_of self.old) }
         requires may { IfSome (slice_get (hosts_of self.old) host.0) (MayStep (own_clock self.old)) }
         ensures turned { IfOk result (λ done. HasStepped (own_clock self.old) host (λ h. turn_step h.settings h.host (own_clock self.old)) done
@@ -205,7 +205,7 @@ impl QuietCall {
 
     // The own clock of each host.
     fn own_clock(&self) -> u64
-        requires { own_clock self.now ≤ 1000000002000 }
+        requires { own_clock self.now ≤ LAST_HOST_TICK }
         ensures { result ≡ own_clock self.now }
     {
         self.clock + u64::from(self.settings.skew)

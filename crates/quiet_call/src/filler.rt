@@ -1,6 +1,8 @@
 // The service of the quiet call.
 ghost use Rattle.std.specs.Prelude.{◌≡◌, ◌≤◌};
+ghost use Rattle.homa_plain.specs.Limits.{longest_message};
 
+use homa_plain::LONGEST_MESSAGE;
 use homa_service::{Reply, Service};
 use homa_text::counting_bytes;
 use std::alloc::{AllocError, Global};
@@ -10,7 +12,7 @@ use std::alloc::{AllocError, Global};
 pub struct Filler {
     size: u32,
     served: u64,
-    ghost sized: { (1 ≤ size) × (size ≤ 1000000) },
+    ghost sized: { (1 ≤ size) × (size ≤ longest_message) },
 }
 
 impl Filler {
@@ -18,7 +20,7 @@ impl Filler {
 
     /// One that has answered nothing yet.
     pub fn new(size: u32) -> Filler
-        requires { (1 ≤ size) × (size ≤ 1000000) }
+        requires { (1 ≤ size) × (size ≤ LONGEST_MESSAGE) }
         ensures size { size_of result ≡ size }
         ensures served { served_by result ≡ 0 }
     {

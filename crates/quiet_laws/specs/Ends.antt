@@ -8,14 +8,15 @@ use Rattle.homa_plain.specs.Script.{counting}
 use Rattle.homa_plain.specs.World.{new_world}
 use Rattle.homa_plain.specs.Replay.{Happening, Run, carried, ticks}
 use Rattle.homa_plain.specs.Quiet.{Round, deliveries, round, IsQuiet}
+use Rattle.homa_plain.specs.Limits.{longest_message}
 
 -- settings and lengths of which the promise speaks: two hosts, patience of a few ticks, and pages for both messages
 pub record IsCalm (s : Settings) (n m : ℕ) : Type 0 where
   pub valid : IsValid s
   pub hosts : s.hosts ≡ 2
   pub resend : 4 ≤ s.resend
-  pub request : (1 ≤ n) × (n ≤ 1000000) × (pages_for n ≤ s.pages)
-  pub response : (1 ≤ m) × (m ≤ 1000000) × (pages_for m ≤ s.pages)
+  pub request : (1 ≤ n) × (n ≤ longest_message) × (pages_for n ≤ s.pages)
+  pub response : (1 ≤ m) × (m ≤ longest_message) × (pages_for m ≤ s.pages)
 
 -- the call as an event, in the world that was opened for it
 abbrev pub first_run : Settings → ℕ → ℕ → Run

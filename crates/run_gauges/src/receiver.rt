@@ -8,8 +8,9 @@ use crate::spans::{Spans, Use};
 /// Of how many senders a receiver tells the messages apart.
 pub const SENDERS: usize = 32;
 
-/// What is known of one receiver: of how many of its messages bytes aren't granted; of each sender how many of its messages are
-/// incomplete, and of how many senders any is; how many packets are under way to it; and whether its link is taken.
+/// What is known of one receiver: of how many of its messages bytes aren't granted; how many packets are under way to
+/// it; and whether its link is taken. Of each sender it is known how many of its messages are incomplete, and of how
+/// many senders any is.
 #[derive(Clone, Copy, Debug)]
 pub struct Receiver {
     /// To how many senders it grants at a time.

@@ -4,13 +4,11 @@ ghost use Rattle.std.specs.Prelude.{◌≡◌, ◌<◌, ◌-◌, ◌^◌, true, 
 ghost use Rattle.homa_script.specs.Script.{opened, is_end};
 
 use homa_io::{MemSink, MemSource, ReadFailed, WriteFailed};
-use homa_plain::{Event, HostId, ScriptFault, Settings};
+use homa_plain::{Event, HostId, LONGEST_INPUT, ScriptFault, Settings};
 use homa_script::{Next, Reader, ScriptStop, put_event, put_settings};
 use std::alloc::{AllocError, Global};
 use std::process::Abort;
 use std::test::Fail;
-
-const MOST_BYTES: u64 = 68_719_476_736;
 
 fn source_of(alloc: Global, text: &[u8]) -> Result<MemSource, AllocError> {
     let bytes = Vec::from_slice(alloc, text)?;
@@ -90,7 +88,7 @@ fn count_events(reader: &mut Reader, source: &mut MemSource) -> Result<u32, (u64
 
 fn read_all(alloc: Global, text: &[u8]) -> Result<Result<u32, (u64, ScriptStop)>, AllocError> {
     let mut source = source_of(alloc, text)?;
-    let mut reader = Reader::open(alloc, MOST_BYTES)?;
+    let mut reader = Reader::open(alloc, LONGEST_INPUT)?;
     Ok(count_events(&mut reader, &mut source))
 }
 
@@ -131,7 +129,7 @@ fn stands_for(
 ) -> Result<(), AllocError> {
     let text = behind_go(alloc, line)?;
     let mut source = source_of(alloc, &text)?;
-    let mut reader = Reader::open(alloc, MOST_BYTES)?;
+    let mut reader = Reader::open(alloc, LONGEST_INPUT)?;
     gives(rt, &mut reader, &mut source, next, bytes);
     Ok(())
 }
@@ -203,7 +201,7 @@ fn lines_behind_go(rt: HostRuntime) -> Result<(), Fail> {
 fn a_whole_schedule(rt: HostRuntime) -> Result<(), Fail> {
     let text = b"# two\nhosts 5\nhosts 3\n\nwire 2\ngo\ncall 0 1 0 6869\ndeliver 0\ntick 5";
     let mut source = source_of(rt.alloc(), text)?;
-    let mut reader = Reader::open(rt.alloc(), MOST_BYTES)?;
+    let mut reader = Reader::open(rt.alloc(), LONGEST_INPUT)?;
     reads_three(&rt, &mut reader, &mut source);
     Ok(())
 }
@@ -366,7 +364,7 @@ fn the_first_stop_stays(rt: HostRuntime) -> Result<(), Fail> {
     // The first read gives it all, and a second one would fail.
     let bytes = Vec::from_slice(rt.alloc(), b"go\nclock x\nclock\n")?;
     let mut source = failing(rt.alloc(), bytes, 1)?;
-    let mut reader = Reader::open(rt.alloc(), MOST_BYTES)?;
+    let mut reader = Reader::open(rt.alloc(), LONGEST_INPUT)?;
     stops_behind_go(&rt, &mut reader, &mut source, ScriptFault::Extra);
     Ok(())
 }
@@ -374,7 +372,7 @@ fn the_first_stop_stays(rt: HostRuntime) -> Result<(), Fail> {
 #[test]
 fn a_first_stop_before_go_stays(rt: HostRuntime) -> Result<(), Fail> {
     let mut source = source_of(rt.alloc(), b"hosts\ngo\nclock")?;
-    let mut reader = Reader::open(rt.alloc(), MOST_BYTES)?;
+    let mut reader = Reader::open(rt.alloc(), LONGEST_INPUT)?;
     let stop = ScriptStop::Fault(ScriptFault::Missing);
     refuses(&rt, &mut reader, &mut source, stop, 1);
     Ok(())
@@ -384,7 +382,7 @@ fn a_first_stop_before_go_stays(rt: HostRuntime) -> Result<(), Fail> {
 fn a_first_read_that_fails(rt: HostRuntime) -> Result<(), Fail> {
     let bytes = Vec::from_slice(rt.alloc(), b"go\nclock\n")?;
     let mut source = failing(rt.alloc(), bytes, 0)?;
-    let mut reader = Reader::open(rt.alloc(), MOST_BYTES)?;
+    let mut reader = Reader::open(rt.alloc(), LONGEST_INPUT)?;
     let stop = ScriptStop::Read(ReadFailed);
     refuses(&rt, &mut reader, &mut source, stop, 0);
     Ok(())
@@ -405,7 +403,7 @@ fn a_read_that_fails_in_an_event(rt: HostRuntime) -> Result<(), Fail> {
     // The first read gives 65,536 bytes.
     let bytes = more_than_a_read(rt.alloc())?;
     let mut source = failing(rt.alloc(), bytes, 1)?;
-    let mut reader = Reader::open(rt.alloc(), MOST_BYTES)?;
+    let mut reader = Reader::open(rt.alloc(), LONGEST_INPUT)?;
     reads_a_clock_and_fails(&rt, &mut reader, &mut source);
     Ok(())
 }
@@ -513,7 +511,7 @@ fn reads_back(
     text: &[u8],
 ) -> Result<(), AllocError> {
     let mut source = source_of(alloc, text)?;
-    let mut reader = Reader::open(alloc, MOST_BYTES)?;
+    let mut reader = Reader::open(alloc, LONGEST_INPUT)?;
     begins(rt, &mut reader, &mut source, settings);
     Ok(())
 }

@@ -6,7 +6,7 @@ ghost use Rattle.homa_in.specs.Pooled.{AreIn};
 ghost use Rattle.homa_in.specs.Pieces.{IsFit};
 ghost use Rattle.homa_server.specs.Table.{request_at};
 
-use homa_plain::{Body, CallId, Emitted, HostId, Packet, Role, Settings};
+use homa_plain::{Body, CallId, Emitted, HostId, LAST_HOST_TICK, Packet, Role, Settings};
 use homa_server::*;
 use homa_service::{Reply, Service, Suite};
 use msg_pool::{MsgPool, Scratch};
@@ -80,7 +80,7 @@ fn act_if_due(
     pool: &mut MsgPool,
 ) -> Option<ServerAct>
     requires stands { IsSome (spot_at table.old.rows slot) }
-    requires now { now ≤ 1000000002000 }
+    requires now { now ≤ LAST_HOST_TICK }
     requires pool { AreIn pool.old (request_at table.old.rows) }
     ensures { AreIn pool.new (request_at table.new.rows) }
 {
@@ -94,7 +94,7 @@ fn act_if_due(
 // The request is granted, if it may be.
 fn grant_if_more(table: &mut ServerTable, slot: u32, offset: u32, now: u64) -> bool
     requires stands { IsSome (spot_at table.old.rows slot) }
-    requires now { now ≤ 1000000002000 }
+    requires now { now ≤ LAST_HOST_TICK }
 {
     let Some(part) = table.incoming(slot) else {
         return false;
@@ -143,7 +143,7 @@ impl Server {
     ) -> Result<ServerDid, AllocError>
         requires role { packet.now.role ≡ Role.Client }
         requires fits { IsFit packet.now.body payload.now }
-        requires now { now ≤ 1000000002000 }
+        requires now { now ≤ LAST_HOST_TICK }
         requires order { order < 2 ^ 63 }
         requires pool { AreIn self.old.pool (request_at self.old.table.rows) }
         ensures { AreIn self.new.pool (request_at self.new.table.rows) }
@@ -191,7 +191,7 @@ fn slot(rt: &impl Abort, table: &ServerTable) -> u32
 fn opens(rt: &impl Abort, alloc: Global, server: &mut Server, packet: Packet, now: u64, order: u64)
     requires role { packet.role ≡ Role.Client }
     requires fits { IsFit packet.body (97 ∷ 98 ∷ []) }
-    requires now { now ≤ 1000000002000 }
+    requires now { now ≤ LAST_HOST_TICK }
     requires order { order < 2 ^ 63 }
     requires pool { AreIn server.old.pool (request_at server.old.table.rows) }
     ensures { AreIn server.new.pool (request_at server.new.table.rows) }
@@ -203,7 +203,7 @@ fn opens(rt: &impl Abort, alloc: Global, server: &mut Server, packet: Packet, no
 
 // The call's row acts at a tick, if it is due, and does this.
 fn acts(rt: &impl Abort, server: &mut Server, now: u64, wanted: Option<ServerAct>)
-    requires now { now ≤ 1000000002000 }
+    requires now { now ≤ LAST_HOST_TICK }
     requires pool { AreIn server.old.pool (request_at server.old.table.rows) }
     ensures { AreIn server.new.pool (request_at server.new.table.rows) }
 {

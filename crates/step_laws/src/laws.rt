@@ -24,9 +24,9 @@ pub fn turn_by_picking()
     ensures { (s : Settings) (w : Work) → 1 ≤ s.resend → acts s w ≡ picked_anew s most_acts w }
 {}
 
-/// A step asks a service at most once, and asks one exactly where it tells a RUN: where there is none the step is
-/// the same for every answer, and where there is one its response and its hold are the answer's. A call and a turn
-/// ask no service.
+/// A step asks a service at most once, and asks one exactly where it tells a RUN. Where there is none, the step is the
+/// same for every answer. Where there is one, its response and its hold are the answer's. A call and a turn ask no
+/// service.
 pub fn one_answer_a_step()
     ensures once { (s : Settings) (h : Host) (now : ℕ) (p : Option Packet) (a : Answer)
         → run_count (arrival_step s h now p a).told ≤ 1 }

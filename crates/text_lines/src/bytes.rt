@@ -99,11 +99,11 @@ fn read_hex(word: &[u8], out: &mut Vec<u8>) -> Result<usize, ScriptFault>
     decode_front(word, out)
 }
 
-/// Reads the bytes that a word of a schedule spells into the start of `out`, and returns how many they
-/// are: none for `-`, at most 1,000,001 counting ones (each is its place modulo 256) for `*` and their
-/// number, and otherwise those of hex digits of either case. `BadNumber` for another number after `*`,
-/// `BadHex` for what is no pairs of hex digits; `out` then holds anything. It has room for 1,050,000
-/// bytes, and grows within it to as many as a word needs.
+/// Reads the bytes that a word of a schedule spells into the start of `out`, and returns how many they are. `-` spells
+/// none. `*` and a number spell that many counting ones, at most 1,000,001; each is its place modulo 256. Any other
+/// word spells those of its hex digits, of either case. `BadNumber` for another number after `*`, `BadHex` for what is
+/// no pairs of hex digits; `out` then holds anything. It has room for 1,050,000 bytes, and grows within it to as many
+/// as a word needs.
 pub fn read_bytes(word: &[u8], out: &mut Vec<u8>) -> Result<usize, ScriptFault>
     requires short { length word.now ≤ 2100000 }
     requires room { 1050000 ≤ vec_capacity out.old }

@@ -18,18 +18,18 @@ ghost use Rattle.trace_laws.specs.Shaped.{HoldsWithCause};
 pub use replays::{every_replay_obeys, replays_are_traces};
 
 /// A call times out only when it is unanswered, and in a closed block exactly the call fails as forgotten of which an
-/// UNKNOWN that counts says so. It is so of every trace of the plain world: for all valid settings, first incarnations of
-/// at least 1 that stay at most 4,294,967,295 with the number of spares added, first ticks up to 1,000,000,000,000,
-/// numbers of boxes and answers, and lists of events of any length; at each line of the trace, also with a last line
-/// behind it.
+/// UNKNOWN that counts says so. It is so of every trace of the plain world, at each line, also with a last line behind
+/// it. The settings are valid, first ticks go up to 1,000,000,000,000, and first incarnations are at least 1 and stay
+/// at most 4,294,967,295 with the number of spares added. Boxes and answers may be of any number, and lists of events
+/// of any length.
 pub fn fails_on_every_trace()
     ensures { HoldsAlways Fails }
 {}
 
-/// The first line of a trace and no other is that of the settings, which are valid; packets are numbered from 0, and none is
-/// delivered before it was sent; a call is new, of a message between two hosts of the run; and a line names only a call
-/// that was made. It is so of every trace, as `fails_on_every_trace` says; of the last lines that refuse one, with those
-/// that have a cause that may refuse one.
+/// The first line of a trace and no other is that of the settings, which are valid. Packets are numbered from 0, and
+/// none is delivered before it was sent. A call is new, of a message between two hosts of the run; and a line names
+/// only a call that was made. It is so of every trace, as `fails_on_every_trace` says; of the last lines that refuse
+/// one, with those that have a cause that may refuse one.
 pub fn shape_on_every_trace()
     ensures { HoldsWithCause Shape }
 {}

@@ -29,10 +29,11 @@ pub fn replays_are_traces()
     ensures finished { (bytes : List ℕ) (answers : List Answer) (boxes n : ℕ) → (replay bytes answers boxes).end ≡ Finished n → OpensWorld bytes }
 {}
 
-/// Each line of the replay of a schedule that opens a world has the shape and obeys all five laws, whatever the bytes are and
-/// whatever the services answer; the last line too, be it that of the end or that of a refusal. So does each of the first n
-/// lines, as where a replay stops halfway, and a judge of the lines finds none that breaks a law. With no world opened,
-/// nothing is told before the refusal; so what is told before the last line obeys the laws for all bytes.
+/// Each line of the replay of a schedule that opens a world has the shape and obeys all five laws, whatever the bytes
+/// are and whatever the services answer. That holds of the last line too, be it that of the end or that of a refusal.
+/// It holds of each of the first n lines, as where a replay stops halfway, and a judge of the lines finds none that
+/// breaks a law. With no world opened, nothing is told before the refusal; so what is told before the last line obeys
+/// the laws for all bytes.
 pub fn every_replay_obeys()
     ensures obeys { OfEveryReplay (Holds Obeys nothing_seen) }
     ensures fronts { OfEveryReplay (λ lines. (n : ℕ) → Holds Obeys nothing_seen (take n lines)) }

@@ -1,6 +1,6 @@
-//! Returned, handed up and forgotten calls, of every trace of the plain world: a call is done with the response of its
-//! run in the life that sent the packet; a closed block has exactly the runs, the done calls and the forgotten ones that
-//! its delivery makes due.
+//! Returned, handed up and forgotten calls, of every trace of the plain world. A call is done with the response of its
+//! run in the life that sent the packet. A closed block has exactly the runs, the done calls and the forgotten ones
+//! that its delivery makes due.
 //!
 //! The model: `specs/Tales` says what the lines of a trace tell of a call's messages against the rows of its client and
 //! its server. It is carried through each delivery (`Deliver`, `RequestBlock`, `ResponseBlock`), each move of a host's
@@ -13,9 +13,9 @@ ghost use Rattle.trace_steps.specs.Always.{HoldsAlways};
 ghost use Rattle.trace_returned.specs.Closing.{Forgotten};
 
 /// A call is done in the block of a response's delivery, with the response of its run in the life that sent the packet.
-/// It is so of every trace of the plain world: for all valid settings, first incarnations of at least 1 that stay at most
-/// 4,294,967,295 with the number of spares added, first ticks up to 1,000,000,000,000, numbers of boxes and answers,
-/// and lists of events of any length; at each line of the trace, also with a last line behind it.
+/// It is so of every trace of the plain world, at each line, also with a last line behind it. The settings are valid,
+/// first ticks go up to 1,000,000,000,000, and first incarnations are at least 1 and stay at most 4,294,967,295 with
+/// the number of spares added. Boxes and answers may be of any number, and lists of events of any length.
 pub fn returned_on_every_trace()
     ensures { HoldsAlways Returned }
 {}

@@ -26,6 +26,7 @@ use Rattle.trace_rules.specs.Seen.{seen, seen_all}
 use Rattle.trace_rules.specs.Shape.{Shape}
 use Rattle.trace_rules.specs.Laws.{Holds, Once, Returned, HandedUp, Fails, answers, is_data}
 use Rattle.trace_rules.specs.Granting.{Grant, allowed, Granting}
+use Rattle.homa_plain.specs.Limits.{longest_message}
 
 -- ---- the test of the shape
 
@@ -36,7 +37,7 @@ is_behind v = nat_lt 0 v.place && not v.ended
 -- a call is new, its request is a message, and its client and its server are two hosts of the run
 abbrev pub is_new_call : View → CallId → HostId → List ℕ → Bool
 is_new_call v id server request =
-    not (contains_key v.calls id) && is_between 1 1000000 (length request)
+    not (contains_key v.calls id) && is_between 1 longest_message (length request)
     && nat_lt id.client.0 v.settings.hosts && nat_lt server.0 v.settings.hosts && not (is_host id.client server)
 
 -- the call that a line names, if it names one, was made before

@@ -8,6 +8,7 @@ use Rattle.homa_plain.specs.Settings.{IsValid}
 use Rattle.homa_plain.specs.Wire.{Between}
 use Rattle.trace_rules.specs.Lines.{named}
 use Rattle.trace_rules.specs.View.{View}
+use Rattle.homa_plain.specs.Limits.{longest_message}
 
 -- a line comes after the first one, and after no last one
 pub record IsBehind (v : View) : Type 0 where
@@ -17,7 +18,7 @@ pub record IsBehind (v : View) : Type 0 where
 -- a call is new, its request is a message, and its client and its server are two hosts of the run
 pub record IsNewCall (v : View) (id : CallId) (server : HostId) (request : List ℕ) : Type 0 where
   pub new_id : contains_key v.calls id ≡ false
-  pub message : Between 1 1000000 (length request)
+  pub message : Between 1 longest_message (length request)
   pub from_host : id.client.0 < v.settings.hosts
   pub to_host : server.0 < v.settings.hosts
   pub differ : id.client.0 ≢ server.0

@@ -15,6 +15,7 @@ use Rattle.homa_plain.specs.Packets.{Packet, wire_packet}
 use Rattle.homa_plain.specs.Host.{Host, Told, Says, Sends}
 use Rattle.homa_plain.specs.Rows.{ClientRow, State, Receiving, Held, Replying, Buried}
 use Rattle.homa_plain.specs.Rules.{Say, Tells, Posts}
+use Rattle.homa_plain.specs.Limits.{last_host_tick, longest_message}
 
 -- a packet that its bytes give back
 abbrev pub IsSent : Settings → Packet → Type 0
@@ -24,7 +25,7 @@ IsSent s p = IsWellFormed s.wire (wire_packet p) p.payload
 pub record HasNumbers (h : Host) : Type 0 where
   pub inc : 1 ≤ h.inc
   pub inc_fits : h.inc < 2 ^ 32
-  pub clock : h.last ≤ 1000000002000
+  pub clock : h.last ≤ last_host_tick
 
 -- a call's incarnation and sequence number can stand in a packet
 abbrev pub IsId : CallId → Type 0
@@ -50,7 +51,7 @@ FitTold s told = AllByRecursion (FitsTold s) told
 
 -- a message of 1 to 1,000,000 bytes
 abbrev pub IsMessage : List ℕ → Type 0
-IsMessage bytes = Between 1 1000000 (length bytes) × IsBytes bytes
+IsMessage bytes = Between 1 longest_message (length bytes) × IsBytes bytes
 
 -- an outgoing part of a message
 pub record IsPart (bytes : List ℕ) (out : Outgoing) : Type 0 where
@@ -61,7 +62,7 @@ pub record IsPart (bytes : List ℕ) (out : Outgoing) : Type 0 where
 -- an incoming part
 pub record IsArriving (part : Incoming) : Type 0 where
   pub sound : incoming.IsSound part
-  pub size : part.length ≤ 1000000
+  pub size : part.length ≤ longest_message
 
 -- a client's row: its request is a message, its service is a byte, and both its parts are sound
 pub record IsClientRow (r : ClientRow) : Type 0 where
@@ -81,4 +82,4 @@ IsState (Buried until) = Unit {0}
 pub record AreCutoffs (c : Cutoffs) : Type 0 where
   pub version : c.version < 2 ^ 16
   pub eight : length c.upto ≡ 8
-  pub within : AllByRecursion (λ bound. bound ≤ 1000000) c.upto
+  pub within : AllByRecursion (λ bound. bound ≤ longest_message) c.upto

@@ -1,5 +1,5 @@
 // One block: packets that were sent in one tick, as datagrams behind one another.
-ghost use Rattle.std.specs.Prelude.{◌≡◌, true, ◌≤◌, ◌<◌, ◌+◌, ◌*◌, ◌^◌, ◌++◌, ◌∷◌, [], Some, length, slice_get, IfOk, OnOk};
+ghost use Rattle.std.specs.Prelude.{◌≡◌, true, ◌≤◌, ◌<◌, ◌+◌, ◌*◌, ◌^◌, ◌++◌, ◌∷◌, [], Some, length, slice_get, nat_le, IfOk, OnOk};
 ghost use Rattle.world_packets.specs.Ends.{ends_at};
 
 use homa_plain::HostId;
@@ -15,6 +15,12 @@ pub(crate) struct Rec {
 
 /// The most bytes of a datagram.
 pub(crate) const LONGEST: usize = 1444;
+
+// What a short datagram has, in bytes: so many packets a tick of full room has at most, unless there are shorter ones.
+const SHORT: usize = 128;
+
+// From how many bytes on a block's room is worth keeping.
+const DENSE: usize = 16384;
 
 /// Packets of a tick.
 #[derive(Drop)]
@@ -40,6 +46,17 @@ impl Block {
         }
     }
 
+    /// No packet, with room for as many as a tick of so many bytes has, and for those of a step.
+    pub(crate) fn with_room(alloc: Global, size: usize) -> Result<Block, AllocError>
+        requires { size < 2 ^ 32 }
+        ensures frames { IfOk result (λ block. frames_of block ≡ []) }
+        ensures size { IfOk result (λ block. size_of block ≡ 0) }
+    {
+        let recs = Vec::with_capacity(alloc, size / SHORT)?;
+        let bytes = Vec::with_capacity(alloc, size + size / 4 + 64 * LONGEST)?;
+        Ok(Block { recs, bytes })
+    }
+
     /// How many packets there are.
     pub(crate) fn len(&self) -> usize
         ensures { result ≡ length (frames_of self.now) }
@@ -53,6 +70,13 @@ impl Block {
         ensures few { result < 2 ^ 32 }
     {
         self.bytes.len()
+    }
+
+    /// Whether its room is worth keeping: it has 16,384 bytes or more.
+    pub(crate) fn is_dense(&self) -> bool
+        ensures { result ≡ nat_le 16384 (size_of self.now) }
+    {
+        DENSE <= self.bytes.len()
     }
 
     /// Room for 64 more packets: until they are there `push` takes no memory.
@@ -94,13 +118,11 @@ impl Block {
         ensures room { (n : ℕ) → HasRoom self.old (n + 1) → HasRoom self.new n }
     {
         self.bytes.extend_from_slice(bytes).unwrap();
-        self.recs
-            .push(Rec {
-                end: self.bytes.len() as u32,
-                from,
-                to,
-            })
-            .unwrap();
+        self.recs.push_reserved(Rec {
+            end: self.bytes.len() as u32,
+            from,
+            to,
+        });
     }
 
     // Where a packet's datagram begins and ends.

@@ -1,6 +1,6 @@
 // All packets of a world, by their numbers.
 ghost use Rattle.std.specs.Prelude.{◌≡◌, ◌≤◌, ◌<◌, ◌+◌, ◌*◌, ◌^◌, ◌++◌, ◌∷◌, [], ℕ, true, Some, None, length, slice_get, nat_le, nat_lt};
-ghost use Rattle.std.specs.Prelude.{OnOk, MatchOption};
+ghost use Rattle.std.specs.Prelude.{OnOk, OnErr, IfOk, MatchOption, drop};
 ghost use Rattle.std.specs.List.{list_all, flat_map};
 ghost use Rattle.homa_plain.specs.declared.settings.Settings.{Settings};
 ghost use Rattle.homa_plain.specs.Settings.{IsValid};
@@ -16,6 +16,7 @@ use crate::tick::Tick;
 use homa_plain::{HostId, Settings};
 use std::alloc::{AllocError, Global};
 use std::collections::VecDeque;
+use std::mem;
 
 /// What is kept of a packet.
 #[derive(Clone, Copy, Debug, PartialEq, Eq)]
@@ -41,6 +42,51 @@ pub enum Kept<'a> {
 /// The most bytes of a block, beside those of a step.
 const MOST_SIZE: usize = 1 << 30;
 
+// An empty block: the room of a tick that was given up, or as much as a tick of so many bytes needs.
+fn empty_block(alloc: Global, spare: &mut Option<Block>, size: usize) -> Result<Block, AllocError>
+    requires { size < 2 ^ 32 }
+    ensures frames { IfOk result (λ block. frames_of block ≡ []) }
+    ensures size { IfOk result (λ block. size_of block ≡ 0) }
+{
+    let Some(mut block) = spare.take() else {
+        return Block::with_room(alloc, size);
+    };
+    block.clear();
+    Ok(block)
+}
+
+// Takes out the packets of a tick: many with the room in which they stand, few in as much room as they need.
+fn take_front(
+    alloc: Global,
+    front: &mut Block,
+    spare: &mut Option<Block>,
+) -> Result<Block, AllocError>
+    ensures taken { IfOk result (λ block. frames_of block ≡ frames_of front.old) }
+    ensures none { OnOk result (frames_of front.new ≡ []) }
+    ensures size { OnOk result (size_of front.new ≡ 0) }
+    ensures same { OnErr result (front.new ≡ front.old) }
+{
+    if !front.is_dense() {
+        let block = front.copy(alloc)?;
+        front.clear();
+        return Ok(block);
+    }
+    let next = empty_block(alloc, spare, front.size())?;
+    Ok(mem::replace(front, next))
+}
+
+// The first tick goes. Its room is kept if it is worth it.
+fn give_up(ticks: &mut VecDeque<Tick>, spare: &mut Option<Block>)
+    ensures rest { ticks.new.items ≡ drop 1 ticks.old.items }
+{
+    let Some(Tick { block, .. }) = ticks.pop_front() else {
+        return;
+    };
+    if block.is_dense() {
+        *spare = Some(block);
+    }
+}
+
 /// Every packet that was sent, by its number, counted from 0.
 #[derive(Drop)]
 pub struct Packets {
@@ -48,6 +94,8 @@ pub struct Packets {
     // The first packets, which are too old, and behind them those of earlier ticks.
     past: Past,
     ticks: VecDeque<Tick>,
+    // The room of a tick that was given up, for a tick to come.
+    spare: Option<Block>,
     // The packets of the last tick, from number `first` on.
     front: Block,
     tick: u64,
@@ -74,6 +122,7 @@ impl Packets {
             settings: *settings,
             past: Past::open(alloc, settings.wire),
             ticks: VecDeque::new(alloc),
+            spare: None,
             front: Block::open(alloc),
             tick: 0,
             first: 0,
@@ -87,7 +136,7 @@ impl Packets {
         self.first + self.front.len() as u64
     }
 
-    // The packets of the last tick, if there are any, get room of their own, as much as they need.
+    // The packets of the last tick, if there are any, become those of an earlier one.
     fn close(&mut self, alloc: Global) -> Result<(), AllocError>
         ensures kept { kept_all self.new ≡ kept_all self.old }
         ensures closed { OnOk result (frames_of self.new.front ≡ []) }
@@ -99,13 +148,13 @@ impl Packets {
             self.front.clear();
             return Ok(());
         }
-        let block = self.front.copy(alloc)?;
+        self.ticks.reserve(1)?;
+        let block = take_front(alloc, &mut self.front, &mut self.spare)?;
         self.ticks.push_back(Tick {
             tick: self.tick,
             first: self.first,
             block,
         })?;
-        self.front.clear();
         self.first += count;
         Ok(())
     }
@@ -138,7 +187,7 @@ impl Packets {
             if !self.past.take(&self.settings, &self.ticks[0], now)? {
                 break;
             }
-            self.ticks.pop_front();
+            give_up(&mut self.ticks, &mut self.spare);
         }
         Ok(())
     }

@@ -13,5 +13,5 @@ pub returns-clause-frames : goal.returns-clause-frames
 returns-clause-frames c =
     let old = c.args.self.now in
     let all = c.extend_from_slice.new.self.items in
-    pushed old.recs.items c.push.new.self.items old.bytes.items c.args.bytes.now all (record { end = length all; from = c.args.from; to = c.args.to })
+    pushed old.recs.items c.push_reserved.new.self.items old.bytes.items c.args.bytes.now all (record { end = length all; from = c.args.from; to = c.args.to })
     old.ends (search rules) (search rules) refl

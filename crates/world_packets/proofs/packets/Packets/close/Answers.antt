@@ -17,8 +17,8 @@ invariant_of-self-2 c =
     let items : c.push_back.new.self.items ≡ p.ticks.items ++ t ∷ [] = search rules in
     let later = p.first + c.len-count.result in
     let long = length-map (frames_of c.in_ok-block.block) (WholePacket p.tick) in
-    let same = ap length c.in_ok-block.ensures in
-    let none = ap length c.clear-2.ensures.frames in
+    let same = ap length c.in_ok-block.ensures.taken in
+    let none = ap length c.in_ok-block.ensures.none in
     record {
       valid = p.valid;
       firsts = subst (λ (ts : List Tick). firsts_at (λ (u : Tick). u.first) kept_of (length (past_kept p.past)) ts later ≡ true) (sym items)

@@ -30,8 +30,8 @@ pub invariant_of-self-in-loop-self : goal.invariant_of-self-in-loop-self
 invariant_of-self-in-loop-self c =
     let p = c.loop-self.self in
     let t = c.index.result.now in
-    let rest = c.pop_front.new.self.items in
-    let ts = front_tick p.ticks.items rest t (omega (arith, not_none (deque_len p.ticks) c.loop-self-test.ensures)) c.index.ensures c.pop_front.ensures.rest in
+    let rest = c.give_up.new.ticks.items in
+    let ts = front_tick p.ticks.items rest t (omega (arith, not_none (deque_len p.ticks) c.loop-self-test.ensures)) c.index.ensures c.give_up.ensures.rest in
     let aged = rw c.if-not-branch.false at c.in_ok-take.ensures.aged in
     record {
       valid = p.valid;
@@ -42,14 +42,14 @@ invariant_of-self-in-loop-self c =
       filled = holds_rest t rest (subst EachHolds ts p.filled);
     }
 
-pub loop-self-preserved-else-not-branch : goal.loop-self-preserved-else-not-branch
-loop-self-preserved-else-not-branch c =
+pub loop-self-preserved : goal.loop-self-preserved
+loop-self-preserved c =
     let p = c.loop-self.self in
     let l = c.loop-self.invariant in
     let s = c.args.self.now.settings in
     let t = c.index.result.now in
-    let rest = c.pop_front.new.self.items in
-    let ts = front_tick p.ticks.items rest t (omega (arith, not_none (deque_len p.ticks) c.loop-self-test.ensures)) c.index.ensures c.pop_front.ensures.rest in
+    let rest = c.give_up.new.ticks.items in
+    let ts = front_tick p.ticks.items rest t (omega (arith, not_none (deque_len p.ticks) c.loop-self-test.ensures)) c.index.ensures c.give_up.ensures.rest in
     let aged = rw c.if-not-branch.false at c.in_ok-take.ensures.aged in
     let front = map (WholePacket p.tick) (frames_of p.front) in
     let past = past_kept p.past in

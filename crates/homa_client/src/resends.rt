@@ -1,4 +1,4 @@
-//! When a row acts by itself, and what it does then.
+//! RESEND after silence: when a call asks for bytes again, for which, and when it times out.
 ghost use Rattle.std.specs.Prelude.{◌≡◌, ℕ, ◌<◌, ◌≤◌, IfSome, IsSomeAnd};
 ghost use Rattle.std.specs.Option.{option_map};
 ghost use Rattle.range_set.specs.Fits.{bounds};
@@ -14,7 +14,7 @@ ghost use Rattle.homa_client.specs.Gives.{row_left, IsAct, IsLeft, IsAsked};
 
 use crate::answers::ClientAct;
 use crate::row::Row;
-use homa_plain::{CallId, Settings};
+use homa_plain::{CallId, LAST_HOST_TICK, LONGEST_MESSAGE, Settings};
 use msg_pool::MsgPool;
 
 impl Row {
@@ -47,7 +47,7 @@ impl Row {
     fn wanted(&self, unsched: u32) -> Option<(u32, u32)>
         ensures range { (s : Settings) (pool : Pool) → s.unsched ≡ unsched → IsInPool pool self.now.part
             → result ≡ option_map bounds (wanted s (seen_part pool self.now.part)) }
-        ensures some { 1 ≤ unsched → unsched ≤ 1000000 → IfSome result (λ r. (r.0 < r.1) × (r.1 ≤ 1000000)) }
+        ensures some { 1 ≤ unsched → unsched ≤ LONGEST_MESSAGE → IfSome result (λ r. (r.0 < r.1) × (r.1 ≤ LONGEST_MESSAGE)) }
     {
         match &self.part {
             None => Some((0, unsched)),
@@ -64,7 +64,7 @@ impl Row {
         pool: &mut MsgPool,
     ) -> ClientAct
         requires valid { IsValid settings.now }
-        requires now { now ≤ 1000000002000 }
+        requires now { now ≤ LAST_HOST_TICK }
         requires pool { IsInPool pool.old self.old.part }
         requires due { IsSomeAnd (client_deadline settings.now (seen_row pool.old self.old)) (λ at. at ≤ now) }
         ensures did { (host : HostId) (order free rows : ℕ) → let m = moment_with host now order free rows in

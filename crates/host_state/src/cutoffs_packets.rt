@@ -1,4 +1,4 @@
-// The cutoffs of a host, and those of its peers.
+//! CUTOFFS packets: who is told the cutoffs of this host, and which cutoffs of a peer it keeps.
 ghost use Rattle.std.specs.Prelude.{◌≡◌, ◌+◌, ◌<◌, ◌≤◌, ◌^◌, ◌++◌, ◌∷◌, [], Some, IfSome, List, length};
 ghost use Rattle.homa_plain.specs.Host.{is_balance_due, rebalanced};
 ghost use Rattle.homa_plain.specs.Steps.{Work, notes, tells_cutoffs, is_newer, hears_cutoffs};
@@ -9,7 +9,7 @@ ghost use Rattle.host_state.specs.Fields.{peer_of};
 ghost use Rattle.host_state.specs.Saying.{HasFitCutoffs, one_of};
 
 use crate::control::Control;
-use homa_plain::{Body, CallId, Cutoffs, HostId, Role};
+use homa_plain::{Body, CallId, Cutoffs, HostId, LONGEST_MESSAGE, Role};
 use host_view::{Mark, Outbox};
 
 /// The cutoffs of a peer, and its incarnation when it sent them.
@@ -40,7 +40,7 @@ impl Control {
 
     /// A message of `len` bytes was opened: its length is noted, and the cutoffs may be computed anew.
     pub fn note(&mut self, len: u32)
-        requires len { len ≤ 1000000 }
+        requires len { len ≤ LONGEST_MESSAGE }
         requires opened { self.old.tuning.opened + 1 < 2 ^ 64 }
         requires room { length self.old.marks < 128 }
         ensures step { (w : Work) (frames : List SentFrame) → IsAt w self.old frames
@@ -122,7 +122,7 @@ impl Control {
 
     // A message was opened, or none.
     pub(crate) fn note_if(&mut self, opened: Option<u32>)
-        requires len { IfSome opened (λ len. len ≤ 1000000) }
+        requires len { IfSome opened (λ len. len ≤ LONGEST_MESSAGE) }
         requires opened { self.old.tuning.opened + 1 < 2 ^ 64 }
         requires room { length self.old.marks + one_of opened ≤ 128 }
         ensures step { (w : Work) (frames : List SentFrame) → IsAt w self.old frames
