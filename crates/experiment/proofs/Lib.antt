@@ -3,3 +3,8 @@ mod WireLaws
 mod StepLaws
 mod DrawLaws
 mod RangeLaws
+mod LengthLaws
+mod MarkLaws
+mod FitLaws
+mod DraftLaws
+mod TextLaws

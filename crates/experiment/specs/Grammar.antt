@@ -11,12 +11,15 @@ use Rattle.experiment.specs.declared.fault.Refusal.{Refusal}
 use Rattle.experiment.specs.declared.fault.Wrong.{Wrong}
 use Rattle.experiment.specs.declared.fault.Wrong.TheVariants.{UnknownName, Missing, Extra, Outside, Uneven, SelfCall}
 use Rattle.experiment.specs.declared.fault.Wrong.TheVariants as wrong
-use Rattle.experiment.specs.declared.line.Line.{Line}
-use Rattle.experiment.specs.declared.line.Line.TheVariants.{Blank, Setting, Workload, Size, Length, Cumulative, Hot, Restart, Call, Inject, Shift}
-use Rattle.experiment.specs.declared.line.Line.TheVariants as line
+use Rattle.experiment.specs.declared.statement.Statement.{Statement}
+use Rattle.experiment.specs.declared.statement.Statement.TheVariants.{Blank, Setting, Workload, Size, Length, Cumulative, Hot, Restart, Call, Inject, Shift}
+use Rattle.experiment.specs.declared.statement.Statement.TheVariants as line
 use Rattle.experiment.specs.declared.network.Card.{Card}
 use Rattle.experiment.specs.declared.network.Card.TheVariants.{Fifo, Levels, Srpt}
+use Rattle.experiment.specs.declared.verbs.Verb.{Verb}
+use Rattle.experiment.specs.declared.verbs.Verb.TheVariants as verb
 use Rattle.experiment.specs.Amounts.{least, most, amounts, amount_in}
+use Rattle.experiment.specs.Verbs.{verbs, verb_in}
 
 -- ---- words
 
@@ -62,15 +65,10 @@ host_given word words = number_between word 0 31 words >>= λ n. Ok (record { 0 
 abbrev pub moment_given : ℕ → List (List ℕ) → Result (ℕ × List (List ℕ)) Refusal
 moment_given word words = number_between word 0 86400000000000 words >>= λ n. Ok (n.0 * 1000, n.1)
 
--- a share, which is 1 if no word is left
-abbrev pub share_given : List (List ℕ) → Result (ℕ × List (List ℕ)) Refusal
-share_given [] = Ok (1, [])
-share_given (text ∷ words) = with_words (in_range 3 1 1000000 (number_of text)) words
-
 -- ---- lines
 
 -- a setting's number
-abbrev pub setting_given : Name → List (List ℕ) → Result Line Refusal
+abbrev pub setting_given : Name → List (List ℕ) → Result Statement Refusal
 setting_given name words = do
   n ← number_between 2 0 4294967295 words
   alone 3 (Setting name n.0, n.1)
@@ -103,33 +101,37 @@ is_even amount.Parts n = true
 is_even amount.Events n = true
 
 -- an amount's number
-abbrev pub amount_given : Amount → List (List ℕ) → Result Line Refusal
+abbrev pub amount_given : Amount → List (List ℕ) → Result Statement Refusal
 amount_given amount words = do
   n ← number_between 2 (least amount) (most amount) words
   if is_even amount n.0 then alone 3 (line.Amount amount n.0, n.1) else refused 2 Uneven
 
 -- `workload NUMBER`
-abbrev pub workload_given : List (List ℕ) → Result Line Refusal
+abbrev pub workload_given : List (List ℕ) → Result Statement Refusal
 workload_given words = do
   n ← number_between 2 1 5 words
   alone 3 (Workload n.0, n.1)
 
 -- `size UPTO SHARE`
-abbrev pub size_given : List (List ℕ) → Result Line Refusal
+abbrev pub size_given : List (List ℕ) → Result Statement Refusal
 size_given words = do
   upto ← number_between 2 1 1000000 words
   share ← number_between 3 1 1000000 upto.1
   alone 4 (Size upto.0 share.0, share.1)
 
+-- a length with its share, which is 1 if no word is left
+abbrev pub length_with : ℕ → List (List ℕ) → Result Statement Refusal
+length_with upto [] = Ok (Length upto 1)
+length_with upto (text ∷ words) = in_range 3 1 1000000 (number_of text) >>= λ share. alone 4 (Length upto share, words)
+
 -- `length BYTES` and `length BYTES SHARE`
-abbrev pub length_given : List (List ℕ) → Result Line Refusal
+abbrev pub length_given : List (List ℕ) → Result Statement Refusal
 length_given words = do
   upto ← number_between 2 1 1000000 words
-  share ← share_given upto.1
-  alone 4 (Length upto.0 share.0, share.1)
+  length_with upto.0 upto.1
 
 -- `cumulative UPTO MILLIONTHS`
-abbrev pub cumulative_given : List (List ℕ) → Result Line Refusal
+abbrev pub cumulative_given : List (List ℕ) → Result Statement Refusal
 cumulative_given words = do
   upto ← number_between 2 1 1000000 words
   sum ← number_between 3 1 1000000 upto.1
@@ -144,42 +146,45 @@ card_of word =
     else None
 
 -- a card that was named, with no word behind it
-abbrev pub card_by : Option Card → List (List ℕ) → Result Line Refusal
+abbrev pub card_by : Option Card → List (List ℕ) → Result Statement Refusal
 card_by None words = refused 2 wrong.Card
 card_by (Some card) words = alone 3 (line.Card card, words)
 
 -- `card fifo`, `card levels` or `card srpt`
-abbrev pub card_given : List (List ℕ) → Result Line Refusal
+abbrev pub card_given : List (List ℕ) → Result Statement Refusal
 card_given [] = refused 2 Missing
 card_given (text ∷ words) = card_by (card_of text) words
 
 -- `hot HOST SHARE`
-abbrev pub hot_given : List (List ℕ) → Result Line Refusal
+abbrev pub hot_given : List (List ℕ) → Result Statement Refusal
 hot_given words = do
   host ← host_given 2 words
   share ← number_between 3 0 1000 host.1
   alone 4 (Hot (record { host = host.0; share = share.0 }), share.1)
 
 -- `restart HOST NANOSECONDS`
-abbrev pub restart_given : ℕ → List (List ℕ) → Result Line Refusal
+abbrev pub restart_given : ℕ → List (List ℕ) → Result Statement Refusal
 restart_given n words = do
   host ← host_given 2 words
   at ← moment_given 3 host.1
   alone 4 (Restart (record { host = host.0; at = at.0; line = n }), at.1)
 
+-- the bytes and the moment of a call between these hosts
+abbrev pub call_between : ℕ → HostId → HostId → List (List ℕ) → Result Statement Refusal
+call_between n client server words = do
+  bytes ← number_between 4 1 1000000 words
+  at ← moment_given 5 bytes.1
+  alone 6 (Call (record { client = client; server = server; bytes = bytes.0; at = at.0; line = n }), at.1)
+
 -- `call CLIENT SERVER BYTES NANOSECONDS`
-abbrev pub call_given : ℕ → List (List ℕ) → Result Line Refusal
+abbrev pub call_given : ℕ → List (List ℕ) → Result Statement Refusal
 call_given n words = do
   client ← host_given 2 words
   server ← host_given 3 client.1
-  if client.0.0 == server.0.0 then refused 3 SelfCall
-  else do
-    bytes ← number_between 4 1 1000000 server.1
-    at ← moment_given 5 bytes.1
-    alone 6 (Call (record { client = client.0; server = server.0; bytes = bytes.0; at = at.0; line = n }), at.1)
+  if client.0.0 == server.0.0 then refused 3 SelfCall else call_between n client.0 server.0 server.1
 
 -- `inject HOST BYTES NANOSECONDS`
-abbrev pub inject_given : ℕ → List (List ℕ) → Result Line Refusal
+abbrev pub inject_given : ℕ → List (List ℕ) → Result Statement Refusal
 inject_given n words = do
   host ← host_given 2 words
   bytes ← number_between 3 0 1500 host.1
@@ -187,39 +192,42 @@ inject_given n words = do
   alone 5 (Inject (record { host = host.0; bytes = bytes.0; at = at.0; line = n }), at.1)
 
 -- `shift HOST TICKS NANOSECONDS`
-abbrev pub shift_given : ℕ → List (List ℕ) → Result Line Refusal
+abbrev pub shift_given : ℕ → List (List ℕ) → Result Statement Refusal
 shift_given n words = do
   host ← host_given 2 words
   ticks ← number_between 3 0 1000 host.1
   at ← moment_given 4 ticks.1
   alone 5 (Shift (record { host = host.0; ticks = ticks.0; at = at.0; line = n }), at.1)
 
--- a line whose first word names no setting and no amount
-abbrev pub other_given : ℕ → List ℕ → List (List ℕ) → Result Line Refusal
-other_given n word words =
-    if bytes_eq word (codes "workload") then workload_given words
-    else if bytes_eq word (codes "size") then size_given words
-    else if bytes_eq word (codes "length") then length_given words
-    else if bytes_eq word (codes "cumulative") then cumulative_given words
-    else if bytes_eq word (codes "card") then card_given words
-    else if bytes_eq word (codes "hot") then hot_given words
-    else if bytes_eq word (codes "restart") then restart_given n words
-    else if bytes_eq word (codes "call") then call_given n words
-    else if bytes_eq word (codes "inject") then inject_given n words
-    else if bytes_eq word (codes "shift") then shift_given n words
-    else refused 1 UnknownName
+-- a line that says this
+abbrev pub verb_given : ℕ → Verb → List (List ℕ) → Result Statement Refusal
+verb_given n verb.Workload words = workload_given words
+verb_given n verb.Size words = size_given words
+verb_given n verb.Length words = length_given words
+verb_given n verb.Cumulative words = cumulative_given words
+verb_given n verb.Card words = card_given words
+verb_given n verb.Hot words = hot_given words
+verb_given n verb.Restart words = restart_given n words
+verb_given n verb.Call words = call_given n words
+verb_given n verb.Inject words = inject_given n words
+verb_given n verb.Shift words = shift_given n words
+
+-- a line whose first word says this, or nothing
+abbrev pub other_given : ℕ → Option Verb → List (List ℕ) → Result Statement Refusal
+other_given n (Some verb) words = verb_given n verb words
+other_given n None words = refused 1 UnknownName
 
 -- a line whose first word names this amount, or none
-abbrev pub amount_or_other : ℕ → Option Amount → List ℕ → List (List ℕ) → Result Line Refusal
+abbrev pub amount_or_other : ℕ → Option Amount → List ℕ → List (List ℕ) → Result Statement Refusal
 amount_or_other n (Some amount) word words = amount_given amount words
-amount_or_other n None word words = other_given n word words
+amount_or_other n None word words = other_given n (verb_in verbs word) words
 
 -- a line whose first word names this setting, or none
-abbrev pub setting_or_other : ℕ → Option Name → List ℕ → List (List ℕ) → Result Line Refusal
+abbrev pub setting_or_other : ℕ → Option Name → List ℕ → List (List ℕ) → Result Statement Refusal
 setting_or_other n (Some name) word words = setting_given name words
 setting_or_other n None word words = amount_or_other n (amount_in amounts word) word words
 
 -- what the words of line n stand for; no words, or those of a comment, stand for nothing
-abbrev pub line_of : ℕ → List (List ℕ) → Result Line Refusal
+abbrev pub line_of : ℕ → List (List ℕ) → Result Statement Refusal
 line_of n [] = Ok Blank
 line_of n (word ∷ words) = if is_comment word then Ok Blank else setting_or_other n (name_in names word) word words

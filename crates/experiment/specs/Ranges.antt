@@ -1,29 +1,12 @@
 -- The ranges of what lines say.
-use Rattle.std.specs.Prelude.{◌≡◌, ◌≤◌, ⊥, ◌<◌}
-use Rattle.experiment.specs.declared.line.Line.{Line}
-use Rattle.experiment.specs.declared.line.Line.TheVariants as line
-use Rattle.experiment.specs.declared.trial.Restarting.{Restarting}
-use Rattle.experiment.specs.declared.trial.ListedCall.{ListedCall}
-use Rattle.experiment.specs.declared.trial.Injection.{Injection}
-use Rattle.experiment.specs.declared.trial.Shifting.{Shifting}
+use Rattle.std.specs.Prelude.{◌≤◌}
+use Rattle.experiment.specs.declared.statement.Statement.{Statement}
+use Rattle.experiment.specs.declared.statement.Statement.TheVariants as line
 use Rattle.experiment.specs.Amounts.{least, most}
-
--- a moment is at most a day
-abbrev pub IsRestart : Restarting → Type 0
-IsRestart r = (r.host.0 ≤ 31) × (r.at ≤ 86400000000000000)
-
--- a message has 1 to 1,000,000 bytes
-abbrev pub IsCall : ListedCall → Type 0
-IsCall c = (c.client.0 ≤ 31) × (c.server.0 ≤ 31) × (1 ≤ c.bytes) × (c.bytes ≤ 1000000) × (c.at ≤ 86400000000000000)
-
-abbrev pub IsInjection : Injection → Type 0
-IsInjection i = (i.host.0 ≤ 31) × (i.bytes ≤ 1500) × (i.at ≤ 86400000000000000)
-
-abbrev pub IsShift : Shifting → Type 0
-IsShift s = (s.host.0 ≤ 31) × (s.ticks ≤ 1000) × (s.at ≤ 86400000000000000)
+use Rattle.experiment.specs.Marks.{IsRestart, IsCall, IsInjection, IsShift}
 
 -- each number of a line is in its range
-abbrev pub IsWithin : Line → Type 0
+abbrev pub IsWithin : Statement → Type 0
 IsWithin line.Blank = Unit {0}
 IsWithin (line.Setting name n) = Unit {0}
 IsWithin (line.Amount amount n) = (least amount ≤ n) × (n ≤ most amount)

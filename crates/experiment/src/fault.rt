@@ -1,4 +1,7 @@
 // Why a text is no experiment.
+ghost use Rattle.std.specs.Prelude.{◌≡◌, Err};
+ghost use Rattle.experiment.specs.declared.fault.LineStop.TheVariants.{Refused};
+
 use crate::amounts::Amount;
 use homa_plain::{Name, ScriptFault};
 use std::alloc::AllocError;
@@ -89,4 +92,31 @@ impl Refusal {
             wrong: self.wrong,
         }
     }
+}
+
+/// Why a line isn't taken.
+#[derive(Clone, Copy, Debug, PartialEq, Eq)]
+pub(crate) enum LineStop {
+    /// There is no memory.
+    NoMemory,
+    /// The line may not stand where it stands.
+    Refused(Refusal),
+}
+
+impl From<AllocError> for LineStop {
+    ghost use Rattle.std.specs.Prelude.{◌≡◌};
+    ghost use Rattle.experiment.specs.declared.fault.LineStop.TheVariants.{NoMemory};
+
+    ghost from_gives = { λ _ stop. stop ≡ NoMemory };
+
+    fn from(_: AllocError) -> Self {
+        LineStop::NoMemory
+    }
+}
+
+/// This word of its line is wrong.
+pub(crate) fn refused<T>(word: u32, wrong: Wrong) -> Result<T, LineStop>
+    ensures { result ≡ Err (Refused (record { word = word; wrong = wrong })) }
+{
+    Err(LineStop::Refused(Refusal { word, wrong }))
 }

@@ -1,17 +1,20 @@
 // What a line says, by its words.
 ghost use Rattle.std.specs.Prelude.{◌≡◌, ◌≤◌, length, IfOk};
 ghost use Rattle.homa_plain.specs.Input.{words_of};
-ghost use Rattle.experiment.specs.Grammar.{with_words, number_between, last, host_given, moment_given, share_given};
+ghost use Rattle.experiment.specs.Grammar.{in_range, with_words, number_between, last, host_given, moment_given, length_with};
 ghost use Rattle.experiment.specs.Grammar.{setting_given, amount_given, workload_given, size_given, length_given, cumulative_given, card_of, card_given};
-ghost use Rattle.experiment.specs.Grammar.{hot_given, restart_given, call_given, inject_given, shift_given, other_given, line_of};
+ghost use Rattle.experiment.specs.Grammar.{hot_given, restart_given, call_given, inject_given, shift_given, verb_given, other_given, line_of};
 ghost use Rattle.experiment.specs.Ranges.{IsWithin};
+ghost use Rattle.experiment.specs.Verbs.{verbs, verb_in};
+ghost use Rattle.homa_plain.specs.Numbers.{number_of};
 
 use crate::amounts::{Amount, BYTE_AT_ONE, NANO, read_amount};
 use crate::fault::{Refusal, Wrong};
-use crate::line::Line;
+use crate::statement::Statement;
 use crate::load::Hot;
 use crate::network::Card;
-use crate::trial::{Injection, ListedCall, Restarting, Shifting};
+use crate::marks::{Injection, ListedCall, Restarting, Shifting};
+use crate::verbs::{Verb, read_verb};
 use homa_plain::{HostId, Name};
 use script_lines::{Words, is_comment};
 use text_lines::{read_name, read_number};
@@ -38,18 +41,27 @@ fn refused(word: u32, wrong: Wrong) -> Refusal
     Refusal { word, wrong }
 }
 
-// The next word, which is this one of its line, as a number of a range.
+// A word, which is this one of its line, as a number of a range.
+fn ranged(text: &[u8], word: u32, least: u64, most: u64) -> Result<u64, Refusal>
+    ensures given { result ≡ in_range word least most (number_of text.now) }
+    ensures least { IfOk result (λ n. least ≤ n) }
+    ensures most { IfOk result (λ n. n ≤ most) }
+{
+    match read_number(text) {
+        Some(n) if least <= n && n <= most => Ok(n),
+        _ => Err(refused(word, Wrong::Outside(least, most))),
+    }
+}
+
+// The next word as such a number.
 fn number(words: &mut Words<'_>, word: u32, least: u64, most: u64) -> Result<u64, Refusal>
     ensures given { number_between word least most words.old ≡ with_words result words.new }
     ensures least { IfOk result (λ n. least ≤ n) }
     ensures most { IfOk result (λ n. n ≤ most) }
 {
-    let Some(text) = words.next() else {
-        return Err(refused(word, Wrong::Missing));
-    };
-    match read_number(text) {
-        Some(n) if least <= n && n <= most => Ok(n),
-        _ => Err(refused(word, Wrong::Outside(least, most))),
+    match words.next() {
+        None => Err(refused(word, Wrong::Missing)),
+        Some(text) => ranged(text, word, least, most),
     }
 }
 
@@ -80,17 +92,17 @@ fn moment(words: &mut Words<'_>, word: u32) -> Result<u64, Refusal>
 }
 
 // A setting's number.
-fn setting(name: Name, words: &mut Words<'_>) -> Result<Line, Refusal>
+fn setting(name: Name, words: &mut Words<'_>) -> Result<Statement, Refusal>
     ensures given { setting_given name words.old ≡ result }
     ensures within { IfOk result IsWithin }
 {
     let n = number(words, 2, 0, u64::from(u32::MAX))? as u32;
     end(words, 3)?;
-    Ok(Line::Setting(name, n))
+    Ok(Statement::Setting(name, n))
 }
 
 // An amount's number.
-fn amount(amount: Amount, words: &mut Words<'_>) -> Result<Line, Refusal>
+fn amount(amount: Amount, words: &mut Words<'_>) -> Result<Statement, Refusal>
     ensures given { amount_given amount words.old ≡ result }
     ensures within { IfOk result IsWithin }
 {
@@ -100,65 +112,65 @@ fn amount(amount: Amount, words: &mut Words<'_>) -> Result<Line, Refusal>
         return Err(refused(2, Wrong::Uneven));
     }
     end(words, 3)?;
-    Ok(Line::Amount(amount, n))
+    Ok(Statement::Amount(amount, n))
 }
 
 // `workload NUMBER`.
-fn workload(words: &mut Words<'_>) -> Result<Line, Refusal>
+fn workload(words: &mut Words<'_>) -> Result<Statement, Refusal>
     ensures given { workload_given words.old ≡ result }
     ensures within { IfOk result IsWithin }
 {
     let n = number(words, 2, 1, 5)? as u32;
     end(words, 3)?;
-    Ok(Line::Workload(n))
+    Ok(Statement::Workload(n))
 }
 
 // `size UPTO SHARE`.
-fn size(words: &mut Words<'_>) -> Result<Line, Refusal>
+fn size(words: &mut Words<'_>) -> Result<Statement, Refusal>
     ensures given { size_given words.old ≡ result }
     ensures within { IfOk result IsWithin }
 {
     let upto = number(words, 2, 1, MOST_LENGTH)? as u32;
     let share = number(words, 3, 1, MOST_SHARE)? as u32;
     end(words, 4)?;
-    Ok(Line::Size { upto, share })
+    Ok(Statement::Size { upto, share })
 }
 
-// A share, which is 1 if no word is left.
-fn share(words: &mut Words<'_>) -> Result<u32, Refusal>
-    ensures given { share_given words.old ≡ with_words result words.new }
-    ensures least { IfOk result (λ n. 1 ≤ n) }
-    ensures most { IfOk result (λ n. n ≤ 1000000) }
+// A length with its share, which is 1 if no word is left.
+fn length_with(upto: u32, words: &mut Words<'_>) -> Result<Statement, Refusal>
+    requires some { 1 ≤ upto }
+    requires most { upto ≤ 1000000 }
+    ensures given { length_with upto words.old ≡ result }
+    ensures within { IfOk result IsWithin }
 {
-    let Some(text) = words.next() else {
-        return Ok(1);
-    };
-    match read_number(text) {
-        Some(n) if 1 <= n && n <= MOST_SHARE => Ok(n as u32),
-        _ => Err(refused(3, Wrong::Outside(1, MOST_SHARE))),
+    match words.next() {
+        None => Ok(Statement::Length { upto, share: 1 }),
+        Some(text) => {
+            let share = ranged(text, 3, 1, MOST_SHARE)? as u32;
+            end(words, 4)?;
+            Ok(Statement::Length { upto, share })
+        }
     }
 }
 
 // `length BYTES` and `length BYTES SHARE`.
-fn one_length(words: &mut Words<'_>) -> Result<Line, Refusal>
+fn one_length(words: &mut Words<'_>) -> Result<Statement, Refusal>
     ensures given { length_given words.old ≡ result }
     ensures within { IfOk result IsWithin }
 {
     let upto = number(words, 2, 1, MOST_LENGTH)? as u32;
-    let share = share(words)?;
-    end(words, 4)?;
-    Ok(Line::Length { upto, share })
+    length_with(upto, words)
 }
 
 // `cumulative UPTO MILLIONTHS`.
-fn cumulative(words: &mut Words<'_>) -> Result<Line, Refusal>
+fn cumulative(words: &mut Words<'_>) -> Result<Statement, Refusal>
     ensures given { cumulative_given words.old ≡ result }
     ensures within { IfOk result IsWithin }
 {
     let upto = number(words, 2, 1, MOST_LENGTH)? as u32;
     let sum = number(words, 3, 1, MOST_SHARE)? as u32;
     end(words, 4)?;
-    Ok(Line::Cumulative { upto, sum })
+    Ok(Statement::Cumulative { upto, sum })
 }
 
 // The card that a word names.
@@ -174,7 +186,7 @@ fn named_card(word: &[u8]) -> Option<Card>
 }
 
 // `card fifo`, `card levels` or `card srpt`.
-fn card(words: &mut Words<'_>) -> Result<Line, Refusal>
+fn card(words: &mut Words<'_>) -> Result<Statement, Refusal>
     ensures given { card_given words.old ≡ result }
     ensures within { IfOk result IsWithin }
 {
@@ -185,33 +197,33 @@ fn card(words: &mut Words<'_>) -> Result<Line, Refusal>
         return Err(refused(2, Wrong::Card));
     };
     end(words, 3)?;
-    Ok(Line::Card(card))
+    Ok(Statement::Card(card))
 }
 
 // `hot HOST SHARE`.
-fn hot(words: &mut Words<'_>) -> Result<Line, Refusal>
+fn hot(words: &mut Words<'_>) -> Result<Statement, Refusal>
     ensures given { hot_given words.old ≡ result }
     ensures within { IfOk result IsWithin }
 {
     let host = host(words, 2)?;
     let share = number(words, 3, 0, 1000)? as u32;
     end(words, 4)?;
-    Ok(Line::Hot(Hot { host, share }))
+    Ok(Statement::Hot(Hot { host, share }))
 }
 
 // `restart HOST NANOSECONDS`.
-fn restart(line: u64, words: &mut Words<'_>) -> Result<Line, Refusal>
+fn restart(line: u64, words: &mut Words<'_>) -> Result<Statement, Refusal>
     ensures given { restart_given line words.old ≡ result }
     ensures within { IfOk result IsWithin }
 {
     let host = host(words, 2)?;
     let at = moment(words, 3)?;
     end(words, 4)?;
-    Ok(Line::Restart(Restarting { host, at, line }))
+    Ok(Statement::Restart(Restarting { host, at, line }))
 }
 
 // `call CLIENT SERVER BYTES NANOSECONDS`.
-fn call(line: u64, words: &mut Words<'_>) -> Result<Line, Refusal>
+fn call(line: u64, words: &mut Words<'_>) -> Result<Statement, Refusal>
     ensures given { call_given line words.old ≡ result }
     ensures within { IfOk result IsWithin }
 {
@@ -223,7 +235,7 @@ fn call(line: u64, words: &mut Words<'_>) -> Result<Line, Refusal>
     let bytes = number(words, 4, 1, MOST_LENGTH)? as u32;
     let at = moment(words, 5)?;
     end(words, 6)?;
-    Ok(Line::Call(ListedCall {
+    Ok(Statement::Call(ListedCall {
         client,
         server,
         bytes,
@@ -233,7 +245,7 @@ fn call(line: u64, words: &mut Words<'_>) -> Result<Line, Refusal>
 }
 
 // `inject HOST BYTES NANOSECONDS`.
-fn inject(line: u64, words: &mut Words<'_>) -> Result<Line, Refusal>
+fn inject(line: u64, words: &mut Words<'_>) -> Result<Statement, Refusal>
     ensures given { inject_given line words.old ≡ result }
     ensures within { IfOk result IsWithin }
 {
@@ -241,7 +253,7 @@ fn inject(line: u64, words: &mut Words<'_>) -> Result<Line, Refusal>
     let bytes = number(words, 3, 0, MOST_INJECTED)? as u32;
     let at = moment(words, 4)?;
     end(words, 5)?;
-    Ok(Line::Inject(Injection {
+    Ok(Statement::Inject(Injection {
         host,
         bytes,
         at,
@@ -250,7 +262,7 @@ fn inject(line: u64, words: &mut Words<'_>) -> Result<Line, Refusal>
 }
 
 // `shift HOST TICKS NANOSECONDS`.
-fn shift(line: u64, words: &mut Words<'_>) -> Result<Line, Refusal>
+fn shift(line: u64, words: &mut Words<'_>) -> Result<Statement, Refusal>
     ensures given { shift_given line words.old ≡ result }
     ensures within { IfOk result IsWithin }
 {
@@ -258,7 +270,7 @@ fn shift(line: u64, words: &mut Words<'_>) -> Result<Line, Refusal>
     let ticks = number(words, 3, 0, MOST_SHIFT)? as u32;
     let at = moment(words, 4)?;
     end(words, 5)?;
-    Ok(Line::Shift(Shifting {
+    Ok(Statement::Shift(Shifting {
         host,
         ticks,
         at,
@@ -266,38 +278,48 @@ fn shift(line: u64, words: &mut Words<'_>) -> Result<Line, Refusal>
     }))
 }
 
-// A line whose first word names no setting and no amount.
-fn other(line: u64, word: &[u8], words: &mut Words<'_>) -> Result<Line, Refusal>
-    ensures given { other_given line word.now words.old ≡ result }
+// A line that says this.
+fn verb(line: u64, verb: Verb, words: &mut Words<'_>) -> Result<Statement, Refusal>
+    ensures given { verb_given line verb words.old ≡ result }
     ensures within { IfOk result IsWithin }
 {
-    match word {
-        b"workload" => workload(words),
-        b"size" => size(words),
-        b"length" => one_length(words),
-        b"cumulative" => cumulative(words),
-        b"card" => card(words),
-        b"hot" => hot(words),
-        b"restart" => restart(line, words),
-        b"call" => call(line, words),
-        b"inject" => inject(line, words),
-        b"shift" => shift(line, words),
-        _ => Err(refused(1, Wrong::UnknownName)),
+    match verb {
+        Verb::Workload => workload(words),
+        Verb::Size => size(words),
+        Verb::Length => one_length(words),
+        Verb::Cumulative => cumulative(words),
+        Verb::Card => card(words),
+        Verb::Hot => hot(words),
+        Verb::Restart => restart(line, words),
+        Verb::Call => call(line, words),
+        Verb::Inject => inject(line, words),
+        Verb::Shift => shift(line, words),
+    }
+}
+
+// A line whose first word names no setting and no amount.
+fn other(line: u64, word: &[u8], words: &mut Words<'_>) -> Result<Statement, Refusal>
+    ensures given { other_given line (verb_in verbs word.now) words.old ≡ result }
+    ensures within { IfOk result IsWithin }
+{
+    match read_verb(word) {
+        Some(said) => verb(line, said, words),
+        None => Err(refused(1, Wrong::UnknownName)),
     }
 }
 
 /// What a line of this number stands for.
-pub(crate) fn read_line(line: u64, text: &[u8]) -> Result<Line, Refusal>
+pub(crate) fn read_line(line: u64, text: &[u8]) -> Result<Statement, Refusal>
     requires { length text.now ≤ 2100000 }
     ensures given { line_of line (words_of text.now) ≡ result }
     ensures within { IfOk result IsWithin }
 {
     let mut words = Words::new(text);
     let Some(word) = words.next() else {
-        return Ok(Line::Blank);
+        return Ok(Statement::Blank);
     };
     if is_comment(word) {
-        return Ok(Line::Blank);
+        return Ok(Statement::Blank);
     }
     if let Some(name) = read_name(word) {
         return setting(name, &mut words);

@@ -1,18 +1,18 @@
 // The numbers of all amounts.
-ghost use Rattle.std.specs.Prelude.{◌≡◌, ◌≤◌, ◌*◌, ◌/◌, slice_set, None};
+ghost use Rattle.std.specs.Prelude.{◌≡◌, ◌≤◌, ◌==◌, slice_set, if◌then◌else◌};
 
 use crate::amounts::{Amount, BYTE_AT_ONE, NANO};
-use crate::load::Load;
+use crate::load::{Hot, Load};
 use crate::network::{Card, Network};
 use std::marker::Model;
 
 /// The number of each amount, within its range. Contracts see their list, in the order of `Amount::ALL`.
 #[derive(Clone, Copy)]
-pub(crate) struct Numbers {
+pub(crate) struct AmountNumbers {
     numbers: [u64; 24],
 }
 
-impl Model for Numbers {
+impl Model for AmountNumbers {
     ghost use Rattle.std.specs.Prelude.{List, ℕ};
     ghost use Rattle.experiment.specs.Amounts.{AreWithin};
 
@@ -31,16 +31,16 @@ const USUAL: [u64; 24] = [
     10_000, 1, 1, 10, 0,
 ];
 
-impl Numbers {
-    ghost use Rattle.experiment.specs.declared.amounts.Amount.TheVariants.{Link, Delay, Switch, HostDelay, ServiceTime, Overhead, Buffer, CardLimit, Tick, Spread};
-    ghost use Rattle.experiment.specs.declared.amounts.Amount.TheVariants.{Loss, Repeat, Jitter, Load as Filled, Exact, Service, Incast, Burst, Warm, Measure, Seed, Seeds, Parts, Events};
-    ghost use Rattle.experiment.specs.Amounts.{index, least, most, number_of, is_yes};
+impl AmountNumbers {
+    ghost use Rattle.experiment.specs.declared.amounts.Amount.TheVariants.{Warm, Measure};
+    ghost use Rattle.experiment.specs.Amounts.{index, least, most, number_of};
+    ghost use Rattle.experiment.specs.Made.{IsNetwork, IsLoad};
 
     /// Those where no line says them.
-    pub(crate) fn usual() -> Numbers
+    pub(crate) fn usual() -> AmountNumbers
         ensures { result ≡ USUAL }
     {
-        Numbers { numbers: USUAL }
+        AmountNumbers { numbers: USUAL }
     }
 
     /// That of an amount.
@@ -63,20 +63,7 @@ impl Numbers {
 
     /// The network of these numbers, with this card.
     pub(crate) fn network(&self, card: Card) -> Network
-        ensures byte { result.byte ≡ 8000000 / number_of self.now Link }
-        ensures delay { result.delay ≡ number_of self.now Delay * 1000 }
-        ensures switch { result.switch ≡ number_of self.now Switch * 1000 }
-        ensures host_delay { result.host_delay ≡ number_of self.now HostDelay * 1000 }
-        ensures service_time { result.service_time ≡ number_of self.now ServiceTime * 1000 }
-        ensures overhead { result.overhead ≡ number_of self.now Overhead }
-        ensures buffer { result.buffer ≡ number_of self.now Buffer }
-        ensures card { result.card ≡ card }
-        ensures card_limit { result.card_limit ≡ number_of self.now CardLimit }
-        ensures tick { result.tick ≡ number_of self.now Tick * 1000 }
-        ensures is_spread { result.is_spread ≡ is_yes (number_of self.now Spread) }
-        ensures loss { result.loss ≡ number_of self.now Loss }
-        ensures repeat { result.repeat ≡ number_of self.now Repeat }
-        ensures jitter { result.jitter ≡ number_of self.now Jitter * 1000 }
+        ensures { IsNetwork self.now card result }
     {
         Network {
             byte: BYTE_AT_ONE / self.get(Amount::Link),
@@ -96,20 +83,36 @@ impl Numbers {
         }
     }
 
-    /// The load of these numbers, with no server to which more calls go.
-    pub(crate) fn load(&self) -> Load
-        ensures load { result.load ≡ number_of self.now Filled }
-        ensures is_exact { result.is_exact ≡ is_yes (number_of self.now Exact) }
-        ensures service { result.service ≡ number_of self.now Service }
-        ensures incast { result.incast ≡ number_of self.now Incast }
-        ensures burst { result.burst ≡ number_of self.now Burst }
-        ensures hot { result.hot ≡ None }
-        ensures warm { result.warm ≡ number_of self.now Warm }
-        ensures calls { result.calls ≡ number_of self.now Measure }
-        ensures seed { result.seed ≡ number_of self.now Seed }
-        ensures seeds { result.seeds ≡ number_of self.now Seeds }
-        ensures parts { result.parts ≡ number_of self.now Parts }
-        ensures events { result.events ≡ number_of self.now Events }
+    // How many calls are made before those that are measured: none if so many are listed.
+    fn warm(&self, listed: u32) -> u32
+        ensures value { result ≡ (if listed == 0 then number_of self.now Warm else 0) }
+        ensures most { result ≤ 100000000 }
+    {
+        if listed == 0 {
+            self.get(Amount::Warm) as u32
+        } else {
+            0
+        }
+    }
+
+    // How many calls are measured: all, if so many are listed.
+    fn measured(&self, listed: u32) -> u32
+        requires { listed ≤ 100000000 }
+        ensures value { result ≡ (if listed == 0 then number_of self.now Measure else listed) }
+        ensures least { 1 ≤ result }
+        ensures most { result ≤ 100000000 }
+    {
+        if listed == 0 {
+            self.get(Amount::Measure) as u32
+        } else {
+            listed
+        }
+    }
+
+    /// The load of these numbers, with this server to which more calls go, where so many calls are listed.
+    pub(crate) fn load(&self, hot: Option<Hot>, listed: u32) -> Load
+        requires { listed ≤ 100000000 }
+        ensures { IsLoad self.now hot listed result }
     {
         Load {
             load: self.get(Amount::Load) as u32,
@@ -117,9 +120,9 @@ impl Numbers {
             service: self.get(Amount::Service) as u32,
             incast: self.get(Amount::Incast) as u32,
             burst: self.get(Amount::Burst) as u32,
-            hot: None,
-            warm: self.get(Amount::Warm) as u32,
-            calls: self.get(Amount::Measure) as u32,
+            hot,
+            warm: self.warm(listed),
+            calls: self.measured(listed),
             seed: self.get(Amount::Seed),
             seeds: self.get(Amount::Seeds) as u32,
             parts: self.get(Amount::Parts) as u32,

@@ -1,47 +1,14 @@
 // An experiment.
-ghost use Rattle.std.specs.Prelude.{◌≤◌, ◌<◌, length, All};
+ghost use Rattle.std.specs.Prelude.{◌≡◌, ◌≤◌, ◌<◌, Some, length, All};
 ghost use Rattle.homa_plain.specs.Settings.{IsValid};
+ghost use Rattle.experiment.specs.declared.load.Hot.{Hot};
+ghost use Rattle.experiment.specs.Marks.{IsRestart, IsCall, IsInjection, IsShift};
 
 use crate::load::Load;
+use crate::marks::{Injection, ListedCall, Restarting, Shifting};
 use crate::network::Network;
 use crate::workload::Workload;
-use homa_plain::{HostId, Settings};
-
-/// A host that restarts at a moment, and the line that says so.
-#[derive(Clone, Copy, Debug, PartialEq, Eq)]
-pub struct Restarting {
-    pub host: HostId,
-    pub at: u64,
-    pub line: u64,
-}
-
-/// A call of a list: who calls whom with how many bytes, when, and the line that says so.
-#[derive(Clone, Copy, Debug, PartialEq, Eq)]
-pub struct ListedCall {
-    pub client: HostId,
-    pub server: HostId,
-    pub bytes: u32,
-    pub at: u64,
-    pub line: u64,
-}
-
-/// A datagram of so many counting bytes that comes to a host at a moment, and the line that says so.
-#[derive(Clone, Copy, Debug, PartialEq, Eq)]
-pub struct Injection {
-    pub host: HostId,
-    pub bytes: u32,
-    pub at: u64,
-    pub line: u64,
-}
-
-/// A host's clock goes apart by so many ticks at a moment, and the line that says so.
-#[derive(Clone, Copy, Debug, PartialEq, Eq)]
-pub struct Shifting {
-    pub host: HostId,
-    pub ticks: u32,
-    pub at: u64,
-    pub line: u64,
-}
+use homa_plain::Settings;
 
 /// An experiment. If calls are listed, these are made and none is drawn.
 #[derive(Drop)]
@@ -57,11 +24,21 @@ pub struct Experiment {
     /// The number of the workload, if it is one of the five, which are from memory.
     pub numbered: Option<u32>,
     ghost valid: { IsValid settings },
+    ghost hosts_least: { 2 ≤ settings.hosts },
+    ghost hosts_most: { settings.hosts ≤ 32 },
+    ghost seg_least: { 1 ≤ settings.seg },
+    ghost seg_most: { settings.seg ≤ 1400 },
     ghost restarting: { All (λ r. r.host.0 < settings.hosts) restarts.items },
     ghost restarts_most: { length restarts.items ≤ 64 },
     ghost clients: { All (λ c. c.client.0 < settings.hosts) listed.items },
     ghost servers: { All (λ c. c.server.0 < settings.hosts) listed.items },
     ghost injected: { All (λ i. i.host.0 < settings.hosts) injections.items },
     ghost shifted: { All (λ s. s.host.0 < settings.hosts) shifts.items },
+    ghost within_skew: { All (λ s. s.ticks ≤ settings.skew) shifts.items },
+    ghost restarts_within: { All IsRestart restarts.items },
+    ghost calls_within: { All IsCall listed.items },
+    ghost injections_within: { All IsInjection injections.items },
+    ghost shifts_within: { All IsShift shifts.items },
     ghost incast: { load.incast < settings.hosts },
+    ghost hot: { (h : Hot) → load.hot ≡ Some h → h.host.0 < settings.hosts },
 }

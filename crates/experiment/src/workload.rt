@@ -89,6 +89,7 @@ impl Workload {
     pub(crate) fn push(&mut self, step: Step) -> Result<bool, AllocError>
         requires { is_step (last_upto self.old) step ≡ true }
         ensures added { result ≡ Ok true → self.new ≡ self.old ++ step ∷ [] }
+        ensures room { result ≡ Ok true → length self.old < 4000 }
         ensures full { result ≡ Ok false → 4000 ≤ length self.old }
         ensures kept { result ≡ Ok false → self.new ≡ self.old }
         ensures err { OnErr result (self.new ≡ self.old) }

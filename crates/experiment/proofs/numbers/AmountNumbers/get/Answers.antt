@@ -1,7 +1,7 @@
 -- The number is within the range of its place.
 use Rattle.experiment.specs.Amounts.{index}
 use Rattle.experiment.proofs.RangeLaws.{index_below, most_at}
-use Rattle.experiment.proofs.numbers.Numbers.get.Goals as goal
+use Rattle.experiment.proofs.numbers.AmountNumbers.get.Goals as goal
 
 pub returns-clause-most : goal.returns-clause-most
 returns-clause-most c =

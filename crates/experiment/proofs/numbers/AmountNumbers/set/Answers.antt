@@ -1,7 +1,7 @@
 -- The number is within the range of its place.
 use Rattle.std.proofs.Common.{rules}
 use Rattle.experiment.proofs.RangeLaws.{within_set}
-use Rattle.experiment.proofs.numbers.Numbers.set.Goals as goal
+use Rattle.experiment.proofs.numbers.AmountNumbers.set.Goals as goal
 
 pub invariant_of-self : goal.invariant_of-self
 invariant_of-self c =

@@ -3,7 +3,7 @@ use Rattle.std.proofs.Common.{refl, map}
 use Rattle.experiment.specs.Amounts.{least, most, amounts}
 use Rattle.experiment.specs.declared.numbers.TheConstants.{USUAL}
 use Rattle.experiment.proofs.RangeLaws.{most_each}
-use Rattle.experiment.proofs.numbers.Numbers.usual.Goals as goal
+use Rattle.experiment.proofs.numbers.AmountNumbers.usual.Goals as goal
 
 pub invariant_of-result : goal.invariant_of-result
 invariant_of-result c = record {

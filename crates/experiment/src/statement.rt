@@ -2,12 +2,12 @@
 use crate::amounts::Amount;
 use crate::load::Hot;
 use crate::network::Card;
-use crate::trial::{Injection, ListedCall, Restarting, Shifting};
+use crate::marks::{Injection, ListedCall, Restarting, Shifting};
 use homa_plain::Name;
 
 /// What a line stands for.
 #[derive(Clone, Copy)]
-pub(crate) enum Line {
+pub(crate) enum Statement {
     /// Nothing: it has no words, or is a comment.
     Blank,
     /// A setting of the hosts has this number.
