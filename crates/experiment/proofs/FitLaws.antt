@@ -55,8 +55,7 @@ calls_all hosts [] e = (All-nil (λ (c : ListedCall). c.client.0 < hosts), All-n
 calls_all hosts (c ∷ cs) e =
     let p = kept (ltb c.client.0 hosts) (cond (ltb c.server.0 hosts) (calls_fit hosts cs) (Err (Said c.line 3 wrong.Host))) (Said c.line 2 wrong.Host) e in
     let q = kept (ltb c.server.0 hosts) (calls_fit hosts cs) (Said c.line 3 wrong.Host) p.1 in
-    let rest = calls_all hosts cs q.1 in
-    (
+    let rest = calls_all hosts cs q.1 in (
       All-cons (λ (c : ListedCall). c.client.0 < hosts) c cs (ltb-true c.client.0 hosts p.0) rest.0,
       All-cons (λ (c : ListedCall). c.server.0 < hosts) c cs (ltb-true c.server.0 hosts q.0) rest.1,
     )
@@ -74,8 +73,7 @@ shifts_all hosts skew (s ∷ ss) e =
     let p = kept (ltb s.host.0 hosts) (cond (leb s.ticks skew) (shifts_fit hosts skew ss) (Err (Said s.line 3 (wrong.AgainstSetting Skew))))
     (Said s.line 2 wrong.Host) e in
     let q = kept (leb s.ticks skew) (shifts_fit hosts skew ss) (Said s.line 3 (wrong.AgainstSetting Skew)) p.1 in
-    let rest = shifts_all hosts skew ss q.1 in
-    (
+    let rest = shifts_all hosts skew ss q.1 in (
       All-cons (λ (s : Shifting). s.host.0 < hosts) s ss (ltb-true s.host.0 hosts p.0) rest.0,
       All-cons (λ (s : Shifting). s.ticks ≤ skew) s ss (leb-true s.ticks skew q.0) rest.1,
     )
@@ -107,7 +105,7 @@ are_fit d e =
     let calls = calls_all d.settings.hosts d.happenings.listed c.0 in
     let shifts = shifts_all d.settings.hosts d.settings.skew d.happenings.shifts s.0 in
     record {
-      valid = (ok_is_valid d.settings (Ok tt) (sym (verdict_is d.setting_line (verdict d.settings) a.0))).0 tt;
+      valid = (ok_is_valid d.settings (Ok tt) (sym (verdict_is d.setting_line (verdict d.settings) a.0))).0 refl;
       restarts = restarts_all d.settings.hosts d.happenings.restarts b.0;
       clients = calls.0;
       servers = calls.1;

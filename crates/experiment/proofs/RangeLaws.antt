@@ -1,10 +1,12 @@
 -- The ranges of amounts, by their places.
-use Rattle.std.proofs.Common.{◌≡◌, ◌≢◌, refl, sym, subst, ℕ, zero, suc, ◌<◌, ◌≤◌, ltb, leb, Bool, true, false, ◌&&◌, List, [], ◌∷◌, map, length, get_or, set, inl, inr, arith}
+use Rattle.std.proofs.Common.{◌≡◌, ◌≢◌, refl, sym, subst, ℕ, zero, suc, ◌<◌, ◌≤◌, ltb, leb, Bool, true, false, ◌&&◌, List, [], ◌∷◌, map, length}
+use Rattle.std.proofs.Common.{get_or, set, inl, inr, arith}
 use Rattle.std.proofs.Common.{get_or-set_other, get_or-set_same}
 use Rattle.std.proofs.lemmas.Bool.{cases_eq, and_parts, leb-true, ltb-true}
 use Rattle.experiment.specs.declared.amounts.Amount.{Amount}
 use Rattle.experiment.specs.declared.amounts.Amount.TheVariants.{Link, Delay, Switch, HostDelay, ServiceTime, Overhead, Buffer, CardLimit, Tick, Spread}
-use Rattle.experiment.specs.declared.amounts.Amount.TheVariants.{Loss, Repeat, Jitter, Load, Exact, Service, Incast, Burst, Warm, Measure, Seed, Seeds, Parts, Events}
+use Rattle.experiment.specs.declared.amounts.Amount.TheVariants.{Loss, Repeat, Jitter, Load, Exact, Service, Incast, Burst, Warm, Measure, Seed}
+use Rattle.experiment.specs.declared.amounts.Amount.TheVariants.{Seeds, Parts, Events}
 use Rattle.experiment.specs.Amounts.{index, least, most, amounts, AreWithin}
 
 below : (a : Amount) → ltb (index a) 24 ≡ true

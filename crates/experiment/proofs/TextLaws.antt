@@ -1,5 +1,6 @@
 -- The lines of a text, one after the other.
-use Rattle.std.proofs.Common.{◌≡◌, ◌∙◌, refl, sym, ap, ℕ, suc, ◌+◌, Bool, true, false, ◌||◌, Option, Some, Result, Ok, Err, IfOk, IfErr, List, [], ◌∷◌, length, arith}
+use Rattle.std.proofs.Common.{◌≡◌, ◌∙◌, refl, sym, ap, ℕ, suc, ◌+◌, Bool, true, false, ◌||◌, Option, Some, Result, Ok, Err, IfOk, IfErr, List, []}
+use Rattle.std.proofs.Common.{◌∷◌, length, arith}
 use Rattle.homa_plain.specs.declared.fault.ScriptFault.{ScriptFault}
 use Rattle.homa_plain.specs.Input.{words_of}
 use Rattle.text_lines.specs.Lines.{Reading}
@@ -73,7 +74,7 @@ module _ (old new : Reading) (any : Bool) (d : Drafting) (left0 left left2 : Opt
   pub open_says : (a : Drafting × Bool) → line_after d new.number (line_of new.number (words_of text)) ≡ Ok a → IsOpen new (any || a.1) a.0 left0 left2
   open_says a p =
       let p' : line_after d (old.number + 1) (line_of (old.number + 1) (words_of text)) ≡ Ok a
-          = ap (λ (n : ℕ). line_after d n (line_of n (words_of text))) (sym t.number) ∙ p in
+      = ap (λ (n : ℕ). line_after d n (line_of n (words_of text))) (sym t.number) ∙ p in
       on_line said_by (said_of old any d) old left0 left left2 due new text
       (λ more. said_of new (any || a.1) a.0 (lines_left (place_of new) more)) t
       (λ line read is more. said-line old.limit old.read (old.number + 1) any d line (lines_left (place_of new) more) a
@@ -85,7 +86,7 @@ module _ (old new : Reading) (any : Bool) (d : Drafting) (left0 left left2 : Opt
       → said_by bytes ≡ Err (fault_at new.number r)
   open_fault r p bytes k =
       let p' : line_after d (old.number + 1) (line_of (old.number + 1) (words_of text)) ≡ Err r
-          = ap (λ (n : ℕ). line_after d n (line_of n (words_of text))) (sym t.number) ∙ p in
+      = ap (λ (n : ℕ). line_after d n (line_of n (words_of text))) (sym t.number) ∙ p in
       read_whole bytes left2 said_by (λ more. Err (fault_at new.number r))
       (on_line said_by (said_of old any d) old left0 left left2 due new text (λ more. Err (fault_at new.number r)) t
       (λ line read is more. said-refused old.limit old.read (old.number + 1) any d line (lines_left (place_of new) more) (fault_at (old.number + 1) r)
@@ -140,12 +141,12 @@ open_refused old new any d e left0 left left2 text (Said n word what) due t p by
 -- all lines were taken, and what they say is checked
 pub open_made : (bytes : List ℕ) (n : ℕ) (any : Bool) (d : Drafting) (r : Result Experiment ExperimentFault) → said_by bytes ≡ at_end n any d → any ≡ true
     → IfErr r (λ fault. checked d ≡ Err fault) → IfOk r (λ e. checked d ≡ Ok tt) → IfOk r (λ e. IsMade d e) → IsExperimentOf bytes r
-open_made bytes n any d (Ok e) said yes fault fits made = (d, ap fit (said ∙ ap (λ a. at_end n a d) yes) ∙ ap (fit_by d) fits, made)
-open_made bytes n any d (Err Read) said yes fault fits made = tt
-open_made bytes n any d (Err NoMemory) said yes fault fits made = tt
-open_made bytes n any d (Err (Said l word what)) said yes fault fits made = ap fit (said ∙ ap (λ a. at_end n a d) yes) ∙ ap (fit_by d) fault
+open_made bytes n any d (Ok e) said any_said fault fits made = (d, ap fit (said ∙ ap (λ a. at_end n a d) any_said) ∙ ap (fit_by d) fits, made)
+open_made bytes n any d (Err Read) said any_said fault fits made = tt
+open_made bytes n any d (Err NoMemory) said any_said fault fits made = tt
+open_made bytes n any d (Err (Said l word what)) said any_said fault fits made = ap fit (said ∙ ap (λ a. at_end n a d) any_said) ∙ ap (fit_by d) fault
 
 -- no line says anything
 pub open_nothing : (bytes : List ℕ) (n : ℕ) (any : Bool) (d : Drafting) → said_by bytes ≡ at_end n any d → any ≡ false
     → IsExperimentOf bytes (Err (Said n 1 Nothing))
-open_nothing bytes n any d said no = ap fit (said ∙ ap (λ a. at_end n a d) no)
+open_nothing bytes n any d said none = ap fit (said ∙ ap (λ a. at_end n a d) none)

@@ -100,7 +100,7 @@ fits p n frame some small frame_small =
     let b : n % p * (n / p + 1) ≤ 2 ^ 32 * 2 ^ 32 = mul-le (n % p) (n / p + 1) (2 ^ 32) (2 ^ 32) (omega arith) (omega arith) in
     let c : n * (n + 1) ≤ 2 ^ 32 * 2 ^ 32 = mul-le n (n + 1) (2 ^ 32) (2 ^ 32) (omega arith) (omega arith) in
     let d : (p * (n / p) * (n / p + 1) / 2 + n % p * (n / p + 1)) * frame ≤ 2 ^ 65 * 2 ^ 32
-        = mul-le (p * (n / p) * (n / p + 1) / 2 + n % p * (n / p + 1)) frame (2 ^ 65) (2 ^ 32) (omega arith) (omega arith) in
+    = mul-le (p * (n / p) * (n / p + 1) / 2 + n % p * (n / p + 1)) frame (2 ^ 65) (2 ^ 32) (omega arith) (omega arith) in
     omega arith
 
 -- ---- bounds

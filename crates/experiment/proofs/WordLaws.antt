@@ -13,8 +13,7 @@ normal word some small =
     let e : top.0 + z ≡ 31 = omega (arith, top.1) in
     let e' : suc top.0 + z ≡ 32 = omega (arith, top.1) in
     let whole : 2 ^ top.0 * 2 ^ z ≡ 2 ^ 31 = sym (pow-add 2 top.0 z) ∙ ap (λ n. 2 ^ n) e in
-    let more : 2 ^ suc top.0 * 2 ^ z ≡ 2 ^ 32 = sym (pow-add 2 (suc top.0) z) ∙ ap (λ n. 2 ^ n) e' in
-    (
+    let more : 2 ^ suc top.0 * 2 ^ z ≡ 2 ^ 32 = sym (pow-add 2 (suc top.0) z) ∙ ap (λ n. 2 ^ n) e' in (
       subst (λ n. n ≤ word * 2 ^ z) whole (mul-le-mul_right (2 ^ z) top.2),
       subst (λ n. word * 2 ^ z < n) more (mul-lt-mul_of_pos_right top.3 (pow_pos z)),
     )

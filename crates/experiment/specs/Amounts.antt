@@ -1,9 +1,11 @@
 -- The amounts that lines may say: their words, their ranges, and what they are of a network and a load.
-use Rattle.std.specs.Prelude.{◌≡◌, ℕ, ◌≤◌, ◌<◌, List, [], ◌∷◌, map, length, slice_index, Option, None, Some, nat_lt, Bool, true, false, if◌then◌else◌, ◌/◌, codes}
+use Rattle.std.specs.Prelude.{◌≡◌, ℕ, ◌≤◌, ◌<◌, List, [], ◌∷◌, map, length, slice_index, Option, None, Some, nat_lt, Bool, true, false, if◌then◌else◌}
+use Rattle.std.specs.Prelude.{◌/◌, codes}
 use Rattle.std.specs.Str.{bytes_eq}
 use Rattle.experiment.specs.declared.amounts.Amount.{Amount}
 use Rattle.experiment.specs.declared.amounts.Amount.TheVariants.{Link, Delay, Switch, HostDelay, ServiceTime, Overhead, Buffer, CardLimit, Tick, Spread}
-use Rattle.experiment.specs.declared.amounts.Amount.TheVariants.{Loss, Repeat, Jitter, Load, Exact, Service, Incast, Burst, Warm, Measure, Seed, Seeds, Parts, Events}
+use Rattle.experiment.specs.declared.amounts.Amount.TheVariants.{Loss, Repeat, Jitter, Load, Exact, Service, Incast, Burst, Warm, Measure, Seed}
+use Rattle.experiment.specs.declared.amounts.Amount.TheVariants.{Seeds, Parts, Events}
 use Rattle.experiment.specs.declared.network.Network.{Network}
 use Rattle.experiment.specs.declared.load.Load.{Load as TheLoad}
 

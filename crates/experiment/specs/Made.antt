@@ -3,7 +3,8 @@ use Rattle.std.specs.Prelude.{◌≡◌, ℕ, ◌*◌, ◌/◌, ◌==◌, if◌t
 use Rattle.homa_plain.specs.declared.settings.Settings.{Settings}
 use Rattle.homa_plain.specs.Settings.{usual, verdict}
 use Rattle.experiment.specs.declared.amounts.Amount.TheVariants.{Link, Delay, Switch, HostDelay, ServiceTime, Overhead, Buffer, CardLimit, Tick, Spread}
-use Rattle.experiment.specs.declared.amounts.Amount.TheVariants.{Loss, Repeat, Jitter, Load as Filled, Exact, Service, Incast, Burst, Warm, Measure, Seed, Seeds, Parts, Events}
+use Rattle.experiment.specs.declared.amounts.Amount.TheVariants.{Loss, Repeat, Jitter, Load as Filled, Exact, Service, Incast, Burst, Warm, Measure}
+use Rattle.experiment.specs.declared.amounts.Amount.TheVariants.{Seed, Seeds, Parts, Events}
 use Rattle.experiment.specs.declared.fault.ExperimentFault.{ExperimentFault}
 use Rattle.experiment.specs.declared.load.Hot.{Hot}
 use Rattle.experiment.specs.declared.load.Load.{Load}

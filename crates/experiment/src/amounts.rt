@@ -1,5 +1,5 @@
 // The amounts of network and load, by the names that lines give them.
-ghost use Rattle.std.specs.Prelude.{◌≡◌, ◌≤◌};
+ghost use Rattle.std.specs.Prelude.{◌≡◌};
 ghost use Rattle.std.specs.Str.{bytes_eq};
 ghost use Rattle.experiment.specs.Amounts.{amount_word, index, least, most, value, load_value, amounts, amount_in};
 

@@ -13,11 +13,11 @@ use crate::fits::{
     check_shifts,
 };
 use crate::happenings::Happenings;
-use crate::statement::Statement;
 use crate::load::Hot;
 use crate::network::Card;
 use crate::numbers::AmountNumbers;
 use crate::sizes::Sizes;
+use crate::statement::Statement;
 use crate::trial::Experiment;
 use homa_plain::{Name, SettingFault, Settings};
 use std::alloc::{AllocError, Global};
@@ -97,7 +97,12 @@ impl Draft {
     }
 
     /// What line `number` says.
-    pub(crate) fn take(&mut self, alloc: Global, number: u64, line: Statement) -> Result<(), LineStop>
+    pub(crate) fn take(
+        &mut self,
+        alloc: Global,
+        number: u64,
+        line: Statement,
+    ) -> Result<(), LineStop>
         requires { IsWithin line }
         ensures { IsAfter (after (drafting self.old) number line) result (drafting self.new) }
     {
@@ -162,7 +167,9 @@ impl Draft {
             ..
         } = self;
         let Sizes {
-            workload, numbered, ..
+            workload,
+            numbered,
+            ..
         } = sizes;
         let Happenings {
             restarts,

@@ -68,7 +68,11 @@ pub(crate) fn check_injections(injections: &[Injection], hosts: u32) -> Result<(
 }
 
 /// That the hosts of shifted clocks are hosts, and that no clock goes further apart than `skew`.
-pub(crate) fn check_shifts(shifts: &[Shifting], hosts: u32, skew: u32) -> Result<(), ExperimentFault>
+pub(crate) fn check_shifts(
+    shifts: &[Shifting],
+    hosts: u32,
+    skew: u32,
+) -> Result<(), ExperimentFault>
     ensures { result ≡ shifts_fit hosts skew shifts.now }
 {
     for shift in shifts {

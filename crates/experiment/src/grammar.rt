@@ -10,10 +10,10 @@ ghost use Rattle.homa_plain.specs.Numbers.{number_of};
 
 use crate::amounts::{Amount, BYTE_AT_ONE, NANO, read_amount};
 use crate::fault::{Refusal, Wrong};
-use crate::statement::Statement;
 use crate::load::Hot;
-use crate::network::Card;
 use crate::marks::{Injection, ListedCall, Restarting, Shifting};
+use crate::network::Card;
+use crate::statement::Statement;
 use crate::verbs::{Verb, read_verb};
 use homa_plain::{HostId, Name};
 use script_lines::{Words, is_comment};

@@ -1,5 +1,5 @@
 // The network of an experiment.
-ghost use Rattle.std.specs.Prelude.{◌≤◌, ◌<◌};
+ghost use Rattle.std.specs.Prelude.{◌≤◌};
 
 /// In which order a host's network card sends what waits there.
 #[derive(Clone, Copy, Debug, PartialEq, Eq)]

@@ -7,7 +7,6 @@ ghost use Rattle.text_lines.specs.Lines.{reading};
 ghost use Rattle.script_lines.specs.Place.{place_of, IsCounted};
 ghost use Rattle.experiment.specs.Texts.{fault_at, line_after, IsLineTaken, IsNextText, IsTextNumbered, IsExperimentOf};
 
-
 use crate::draft::Draft;
 use crate::fault::{ExperimentFault, LineStop, Refusal, Wrong};
 use crate::grammar::read_line;
@@ -58,12 +57,7 @@ fn next<S: Source>(lines: &mut Lines, source: &mut S) -> Result<bool, Experiment
 }
 
 // Takes a line of this number, and answers whether it says something.
-fn take(
-    draft: &mut Draft,
-    alloc: Global,
-    number: u64,
-    text: &[u8],
-) -> Result<bool, ExperimentFault>
+fn take(draft: &mut Draft, alloc: Global, number: u64, text: &[u8]) -> Result<bool, ExperimentFault>
     requires { length text.now ≤ 2100000 }
     ensures { IsLineTaken (line_after (drafting draft.old) number (line_of number (words_of text.now))) number result (drafting draft.new) }
 {

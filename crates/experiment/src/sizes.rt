@@ -1,5 +1,5 @@
 // The table of lengths that lines say.
-ghost use Rattle.std.specs.Prelude.{◌≡◌, ◌≤◌, true, OnOk, IfOk};
+ghost use Rattle.std.specs.Prelude.{◌≡◌, ◌≤◌, true, IfOk};
 ghost use Rattle.experiment.specs.Tables.{is_step};
 ghost use Rattle.experiment.specs.Sizes.{IsAfter, sizing, numbered, above, stepped, sized, lengthened, cumulated};
 
@@ -78,7 +78,12 @@ impl Sizes {
     }
 
     /// One length.
-    pub(crate) fn add_length(&mut self, alloc: Global, upto: u32, share: u32) -> Result<(), LineStop>
+    pub(crate) fn add_length(
+        &mut self,
+        alloc: Global,
+        upto: u32,
+        share: u32,
+    ) -> Result<(), LineStop>
         requires upto { upto ≤ 1000000 }
         requires least { 1 ≤ share }
         requires most { share ≤ 1000000 }
@@ -93,7 +98,12 @@ impl Sizes {
     }
 
     /// Of a million requests `sum` are at most so long.
-    pub(crate) fn add_cumulative(&mut self, alloc: Global, upto: u32, sum: u32) -> Result<(), LineStop>
+    pub(crate) fn add_cumulative(
+        &mut self,
+        alloc: Global,
+        upto: u32,
+        sum: u32,
+    ) -> Result<(), LineStop>
         requires upto { upto ≤ 1000000 }
         requires sum { sum ≤ 1000000 }
         ensures { IsAfter (cumulated (sizing self.old) upto sum) result (sizing self.new) }

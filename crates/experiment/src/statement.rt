@@ -1,8 +1,8 @@
 // What a line stands for.
 use crate::amounts::Amount;
 use crate::load::Hot;
-use crate::network::Card;
 use crate::marks::{Injection, ListedCall, Restarting, Shifting};
+use crate::network::Card;
 use homa_plain::Name;
 
 /// What a line stands for.

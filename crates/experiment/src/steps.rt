@@ -3,7 +3,7 @@ ghost use Rattle.std.specs.Prelude.{◌≡◌, ◌≤◌, ◌<◌, ◌+◌, ◌-
 ghost use Rattle.std.specs.Int.{div_ceil};
 ghost use Rattle.std.specs.List.{sum_by};
 ghost use Rattle.experiment.specs.Wires.{cut_of};
-ghost use Rattle.experiment.specs.Tables.{is_table, steps_of, last_upto, shares, step_at, step_wire, length_at, bound_of};
+ghost use Rattle.experiment.specs.Tables.{is_table, steps_of, last_upto, shares, step_at, step_wire, bound_of};
 
 use crate::framing::Framing;
 use std::alloc::{AllocError, Global};

@@ -1,6 +1,10 @@
-// Each public function once.
-use crate::{Draws, Experiment, ExperimentFault, PacketName, Wrong, gap_of, read, wire_of_call};
+// Each public function once, with values worked out by hand.
+use crate::{
+    Amount, Draws, Experiment, ExperimentFault, Framing, PacketName, Step, Workload, Wrong, gap_of,
+    read, wire_of_call,
+};
 use homa_io::MemSource;
+use homa_plain::Settings;
 use std::alloc::Global;
 use std::process::Abort;
 
@@ -14,10 +18,18 @@ fn read_text(alloc: Global, text: &str) -> Result<Experiment, ExperimentFault> {
 fn a_text_is_read(rt: HostRuntime) {
     let text =
         "# usual but for these\nhosts 4\nlength 1000\nload 800\nlink 10000\ncard srpt\nrestart 3 5\n";
-    let experiment = read_text(rt.alloc(), text).unwrap();
+    let Ok(experiment) = read_text(rt.alloc(), text) else {
+        assert!(&rt; false);
+        return;
+    };
     assert_eq!(&rt; experiment.settings.hosts, 4);
     assert_eq!(&rt; wire_of_call(&experiment, 1000), 1102 + 110);
     assert_eq!(&rt; gap_of(&experiment, 1), 1212 * 1000);
+    let (network, load) = (&experiment.network, &experiment.load);
+    assert_eq!(&rt; Amount::Link.value(network, load), 10_000);
+    assert_eq!(&rt; Amount::Load.value(network, load), 800);
+    assert_eq!(&rt; Amount::Delay.word(), "delay");
+    assert_eq!(&rt; Amount::Burst.range(), (1, 1000));
 }
 
 // The fault of a text.
@@ -40,6 +52,25 @@ fn faults_have_their_places(rt: HostRuntime) {
     is_refused(&rt, alloc, "hosts 4\nrestart 4 1\n", (2, 2, Wrong::Host));
     is_refused(&rt, alloc, "size 5 1\nsize 5 1\n", (2, 2, Wrong::NotAbove));
     is_refused(&rt, alloc, "load 5 5\n", (1, 3, Wrong::Extra));
+}
+
+#[test]
+fn a_table_of_ten_lengths(rt: HostRuntime) {
+    let step = Step {
+        above: 0,
+        upto: 10,
+        share: 1,
+    };
+    let Ok(table) = Workload::of(rt.alloc(), step) else {
+        assert!(&rt; false);
+        return;
+    };
+    let framing = Framing::new(&Settings::usual(), 66);
+    assert_eq!(&rt; framing.wire(1401), 1401 + 2 * 102);
+    assert_eq!(&rt; table.mean_wire(&framing), 107_500);
+    assert_eq!(&rt; (table.longest(), table.bound(1, 2)), (10, 5));
+    assert_eq!(&rt; table.steps().len(), 1);
+    assert!(&rt; table.draw(&mut Draws::new(1, 1)) <= 10);
 }
 
 #[test]

@@ -15,5 +15,6 @@ lengths-preserved c =
 
 pub returns-clause-sum : goal.returns-clause-sum
 returns-clause-sum c =
-    let none = wires-none (cut_of c.args.framing.now) (c.args.n - c.lengths.counter) c.args.workload.now c.lengths.draws (omega (arith, c.lengths-test.false)) in
+    let none =
+    wires-none (cut_of c.args.framing.now) (c.args.n - c.lengths.counter) c.args.workload.now c.lengths.draws (omega (arith, c.lengths-test.false)) in
     omega (arith, none, c.lengths.invariant.sum)

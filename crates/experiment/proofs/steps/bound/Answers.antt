@@ -29,7 +29,7 @@ returns-then-left-share-clause-last c = λ whole.
     let steps = c.args.steps.now in
     let i = c.loop-step.step-index in
     let product : c.from-in-loop-step.result * c.from-in-loop-step-2.result ≡ (get_or steps i no_step).share * c.args.parts
-        = rw (c.from-in-loop-step.ensures, c.from-in-loop-step-2.ensures) refl in
+    = rw (c.from-in-loop-step.ensures, c.from-in-loop-step-2.ensures) refl in
     let left = c.loop-step.invariant.last whole in
     let last = is_last steps i c.args.parts c.requires.table c.loop-step-test.true (omega arith) (omega (arith, left, product, c.if-left-share.true)) in
     let all : shares (drop i steps) * c.args.parts ≡ (get_or steps i no_step).share * c.args.parts = ap (λ n. n * c.args.parts) last.1 in
@@ -40,10 +40,10 @@ loop-step-preserved c =
     let steps = c.args.steps.now in
     let i = c.loop-step.step-index in
     let product : c.from-in-loop-step.result * c.from-in-loop-step-2.result ≡ (get_or steps i no_step).share * c.args.parts
-        = rw (c.from-in-loop-step.ensures, c.from-in-loop-step-2.ensures) refl in
+    = rw (c.from-in-loop-step.ensures, c.from-in-loop-step-2.ensures) refl in
     let past : (get_or steps i no_step).share * c.args.parts < c.loop-step.left = omega (arith, product, c.if-left-share.false) in
     let split : shares (drop i steps) * c.args.parts ≡ ((get_or steps i no_step).share + shares (drop (i + 1) steps)) * c.args.parts
-        = ap (λ n. n * c.args.parts) (sum_by-drop_more (λ (s : Step). s.share) steps i no_step c.loop-step-test.true) in
+    = ap (λ n. n * c.args.parts) (sum_by-drop_more (λ (s : Step). s.share) steps i no_step c.loop-step-test.true) in
     record {
       same = rw product (sym (reached_on steps c.args.parts c.loop-step.left i c.loop-step-test.true past) ∙ c.loop-step.invariant.same);
       some = omega (arith, past, product);
