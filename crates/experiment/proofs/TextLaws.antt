@@ -1,5 +1,5 @@
 -- The lines of a text, one after the other.
-use Rattle.std.proofs.Common.{◌≡◌, ◌∙◌, refl, sym, ap, ℕ, suc, ◌+◌, Bool, true, false, ◌||◌, Option, Some, Result, Ok, Err, IfOk, IfErr, List, []}
+use Rattle.std.proofs.Common.{◌≡◌, ◌∙◌, refl, sym, ap, subst, ℕ, suc, ◌+◌, Bool, true, false, ◌||◌, Option, Some, Result, Ok, Err, IfOk, IfErr, List, []}
 use Rattle.std.proofs.Common.{◌∷◌, length, arith}
 use Rattle.homa_plain.specs.declared.fault.ScriptFault.{ScriptFault}
 use Rattle.homa_plain.specs.Input.{words_of}
@@ -128,15 +128,17 @@ open_stop old new any d left0 left left2 (Said n word what) due f number bytes k
     ap fit (stop_by old new any d left0 left left2 n word what due f number bytes k)
 
 -- a line of the text isn't taken
-pub open_refused : (old new : Reading) (any : Bool) (d e : Drafting) (left0 left left2 : Option (List ℕ)) (text : List ℕ) (fault : ExperimentFault)
-    → IsOpen old any d left0 left → IsTaken old new left left2 text
-    → IsLineTaken (line_after d new.number (line_of new.number (words_of text))) new.number (Err fault) e
-    → (bytes : List ℕ) → left0 ≡ Some bytes → IsExperimentOf bytes (Err fault)
-open_refused old new any d e left0 left left2 text Read due t p bytes k = absurd p
-open_refused old new any d e left0 left left2 text NoMemory due t p bytes k = tt
-open_refused old new any d e left0 left left2 text (Said n word what) due t p bytes k =
-    ap fit (open_fault old new any d left0 left left2 text due t (record { word = word; wrong = what }) p.1 bytes k
-    ∙ ap (λ (i : ℕ). Err (Said i word what)) (sym p.0))
+pub open_refused : (old new : Reading) (any : Bool) (d e : Drafting) (left0 left left2 : Option (List ℕ)) (text : List ℕ) (n : ℕ) (fault : ExperimentFault)
+    → IsOpen old any d left0 left → IsTaken old new left left2 text → n ≡ new.number
+    → IsLineTaken (line_after d n (line_of n (words_of text))) n (Err fault) e → (bytes : List ℕ) → left0 ≡ Some bytes
+    → IsExperimentOf bytes (Err fault)
+open_refused old new any d e left0 left left2 text n Read due t is p bytes k = absurd p
+open_refused old new any d e left0 left left2 text n NoMemory due t is p bytes k = tt
+open_refused old new any d e left0 left left2 text n (Said l word what) due t is p bytes k =
+    let refusal : Refusal = record { word = word; wrong = what } in
+    let q : line_after d new.number (line_of new.number (words_of text)) ≡ Err refusal
+    = subst (λ (i : ℕ). line_after d i (line_of i (words_of text)) ≡ Err refusal) is p.1 in
+    ap fit (open_fault old new any d left0 left left2 text due t refusal q bytes k ∙ ap (λ (i : ℕ). Err (Said i word what)) (sym (p.0 ∙ is)))
 
 -- all lines were taken, and what they say is checked
 pub open_made : (bytes : List ℕ) (n : ℕ) (any : Bool) (d : Drafting) (r : Result Experiment ExperimentFault) → said_by bytes ≡ at_end n any d → any ≡ true

@@ -11,12 +11,13 @@ use Rattle.experiment.proofs.reading.read.Goals as goal
 pub lines-init : goal.lines-init
 lines-init g c =
     let e = c.in_ok-lines.ensures in
+    let left = g.S.Source.left c.args.source.now in
     let limit = ap (λ (r : Reading). r.limit) e in
     let read = ap (λ (r : Reading). r.read) e in
     let number = ap (λ (r : Reading). r.number) e in
     record {
-      due = subst (λ (d : Drafting). IsOpen (reading c.in_ok-lines.lines) false d _ _) (sym c.in_ok-draft.ensures)
-          (open_start (reading c.in_ok-lines.lines) _ (ap (λ (r : Reading). r.pending) e) read number limit);
+      due = subst (λ (d : Drafting). IsOpen (reading c.in_ok-lines.lines) false d left left) (sym c.in_ok-draft.ensures)
+          (open_start (reading c.in_ok-lines.lines) left (ap (λ (r : Reading). r.pending) e) read number limit);
       counted = record { counted = omega (arith, number); within = omega (arith, read); countable = omega (arith, limit) };
       longest = ap (λ (r : Reading). r.longest) e;
       never_falls = omega arith;
@@ -56,7 +57,7 @@ returns-in_err-any-clause-text g c = λ bytes k.
     let r = c.from_residual-in_err-any in
     let p = err_from_is_err_and r.result r.ensures.1 in
     rw (p.1, p.2) (open_refused (reading l.lines) (reading c.next.new.lines) l.says (drafting l.draft) (drafting c.take.new.draft) _ _ _ _
-    c.in_err-any.field-0.0 l.invariant.due t (rw c.number-number.ensures at c.in_err-any.ensures) bytes k)
+    c.number-number.result c.in_err-any.field-0.0 l.invariant.due t c.number-number.ensures c.in_err-any.ensures bytes k)
 
 pub returns-then-not-says-clause-text : goal.returns-then-not-says-clause-text
 returns-then-not-says-clause-text g c = λ bytes k.
