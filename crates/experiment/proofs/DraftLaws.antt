@@ -1,5 +1,5 @@
 -- What a part of what was said became.
-use Rattle.std.proofs.Common.{◌≡◌, ap, Result, Ok, Err}
+use Rattle.std.proofs.Common.{ap, Result, Ok, Err}
 use Rattle.experiment.specs.declared.fault.Refusal.{Refusal}
 use Rattle.experiment.specs.declared.fault.LineStop.{LineStop}
 use Rattle.experiment.specs.declared.fault.LineStop.TheVariants.{NoMemory, Refused}

@@ -1,12 +1,12 @@
 -- Draws from a table, and the length at which a part is reached.
-use Rattle.std.proofs.Common.{◌≡◌, ◌∙◌, refl, ℕ, ◌+◌, ◌-◌, ◌*◌, ◌<◌, ◌≤◌, nat_lt, nat_le, Option, Some, List, [], ◌∷◌, length, get_or, drop}
+use Rattle.std.proofs.Common.{◌≡◌, ◌∙◌, refl, ℕ, ◌+◌, ◌-◌, ◌*◌, ◌<◌, ◌≤◌, nat_lt, nat_le, Some, List, length, get_or, drop}
 use Rattle.std.specs.Int.{div_ceil}
 use Rattle.std.proofs.lemmas.Bool.{le-ltb, lt-ltb, le-leb, lt-leb, cond-true, cond-false}
 use Rattle.std.proofs.lemmas.List.{at_drop_more}
 use Rattle.rand_pcg.specs.Lcg.{Lcg}
 use Rattle.experiment.specs.declared.steps.Step.{Step}
 use Rattle.experiment.specs.Draws.{below}
-use Rattle.experiment.specs.Tables.{shares, step_at, length_of, length_drawn, length_at}
+use Rattle.experiment.specs.Tables.{shares, step_at, length_drawn, length_at}
 use Rattle.experiment.proofs.StepLaws.{no_step}
 
 module _ (steps : List Step) (at i : ℕ) (inside : i < length steps) where

@@ -1,5 +1,5 @@
 -- The last call of a list.
-use Rattle.std.proofs.Common.{◌≡◌, refl, ℕ, suc, ◌-◌, ◌<◌, List, [], ◌∷◌, length, get_or, arith}
+use Rattle.std.proofs.Common.{◌≡◌, refl, suc, ◌-◌, ◌<◌, List, [], ◌∷◌, length, get_or, arith}
 use Rattle.experiment.specs.declared.marks.ListedCall.{ListedCall}
 use Rattle.experiment.specs.Marks.{last_at}
 

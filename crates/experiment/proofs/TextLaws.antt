@@ -1,11 +1,9 @@
 -- The lines of a text, one after the other.
 use Rattle.std.proofs.Common.{◌≡◌, ◌∙◌, refl, sym, ap, subst, ℕ, suc, ◌+◌, Bool, true, false, ◌||◌, Option, Some, Result, Ok, Err, IfOk, IfErr, List, []}
 use Rattle.std.proofs.Common.{◌∷◌, length, arith}
-use Rattle.homa_plain.specs.declared.fault.ScriptFault.{ScriptFault}
 use Rattle.homa_plain.specs.Input.{words_of}
 use Rattle.text_lines.specs.Lines.{Reading}
-use Rattle.script_lines.specs.Place.{Place, place_of, first_place, lines_left}
-use Rattle.script_lines.specs.Read.{IsRead}
+use Rattle.script_lines.specs.Place.{place_of, lines_left}
 use Rattle.script_lines.specs.Lines.{text_in}
 use Rattle.script_lines.proofs.ReadParts.{read_start, read_to, read_whole}
 use Rattle.script_lines.proofs.Taken.{AreDue, IsComing, IsTaken, on_line, on_refused, on_none}

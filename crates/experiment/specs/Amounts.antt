@@ -1,5 +1,5 @@
 -- The amounts that lines may say: their words, their ranges, and what they are of a network and a load.
-use Rattle.std.specs.Prelude.{◌≡◌, ℕ, ◌≤◌, ◌<◌, List, [], ◌∷◌, map, length, slice_index, Option, None, Some, nat_lt, Bool, true, false, if◌then◌else◌}
+use Rattle.std.specs.Prelude.{ℕ, ◌≤◌, ◌<◌, List, [], ◌∷◌, map, slice_index, Option, None, Some, nat_lt, Bool, true, false, if◌then◌else◌}
 use Rattle.std.specs.Prelude.{◌/◌, codes}
 use Rattle.std.specs.Str.{bytes_eq}
 use Rattle.experiment.specs.declared.amounts.Amount.{Amount}

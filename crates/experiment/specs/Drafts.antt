@@ -1,5 +1,5 @@
 -- What the lines of an experiment said so far, and what makes it an experiment.
-use Rattle.std.specs.Prelude.{ℕ, if◌then◌else◌, Option, None, Some, Result, Ok, Err, List, [], ◌∷◌, length, slice_set, ◌==◌}
+use Rattle.std.specs.Prelude.{ℕ, if◌then◌else◌, Option, Some, Result, Ok, Err, List, slice_set, ◌==◌}
 use Rattle.homa_plain.specs.declared.settings.Settings.{Settings}
 use Rattle.homa_plain.specs.declared.settings.SettingFault.{SettingFault}
 use Rattle.homa_plain.specs.declared.settings.SettingFault.TheVariants.{OutOfRange, UnschedOverWindow, RateUnderSeg}

@@ -1,10 +1,8 @@
 -- What makes of what was said an experiment, or which line is wrong.
 use Rattle.std.specs.Prelude.{ℕ, nat_lt, nat_le, if◌then◌else◌, Option, None, Some, Result, Ok, Err, List, [], ◌∷◌}
-use Rattle.homa_plain.specs.declared.settings.Settings.{Settings}
 use Rattle.homa_plain.specs.declared.settings.SettingFault.{SettingFault}
 use Rattle.homa_plain.specs.declared.settings.SettingFault.TheVariants.{OutOfRange, UnschedOverWindow, RateUnderSeg}
 use Rattle.homa_plain.specs.declared.settings.Name.TheVariants.{Skew}
-use Rattle.homa_plain.specs.Settings.{verdict}
 use Rattle.experiment.specs.declared.amounts.Amount.TheVariants.{Incast}
 use Rattle.experiment.specs.declared.fault.Wrong.{Wrong}
 use Rattle.experiment.specs.declared.fault.Wrong.TheVariants as wrong

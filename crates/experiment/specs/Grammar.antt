@@ -1,5 +1,5 @@
 -- The grammar of an experiment: what a line stands for, by its words, or which word is wrong.
-use Rattle.std.specs.Prelude.{ℕ, ◌+◌, ◌*◌, ◌%◌, ◌==◌, ◌&&◌, nat_le, Bool, true, false, not, if◌then◌else◌, Option, None, Some, Result, Ok, Err, List}
+use Rattle.std.specs.Prelude.{ℕ, ◌*◌, ◌%◌, ◌==◌, ◌&&◌, nat_le, Bool, true, if◌then◌else◌, Option, None, Some, Result, Ok, Err, List}
 use Rattle.std.specs.Prelude.{[], ◌∷◌, codes}
 use Rattle.std.specs.Str.{bytes_eq}
 use Rattle.homa_plain.specs.declared.id.HostId.{HostId}

@@ -1,5 +1,5 @@
 -- What lines say that happens at moments.
-use Rattle.std.specs.Prelude.{ℕ, nat_lt, if◌then◌else◌, Result, Ok, List, [], ◌∷◌, ◌++◌, length}
+use Rattle.std.specs.Prelude.{nat_lt, if◌then◌else◌, Result, Ok, List, [], ◌∷◌, ◌++◌, length}
 use Rattle.experiment.specs.declared.fault.Refusal.{Refusal}
 use Rattle.experiment.specs.declared.fault.Wrong.TheVariants.{TooMany, Before}
 use Rattle.experiment.specs.declared.happenings.Happenings.{Happenings}

@@ -1,5 +1,5 @@
 -- The word without its leading zeros.
-use Rattle.std.proofs.Common.{rules, ◌≤◌, ◌<◌, ◌^◌, refl}
+use Rattle.std.proofs.Common.{rules, refl}
 use Rattle.experiment.proofs.WordLaws.{normal, shifted}
 use Rattle.experiment.proofs.draws.minus_ln.Goals as goal
 

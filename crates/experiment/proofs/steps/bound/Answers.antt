@@ -1,11 +1,11 @@
 -- Each step of a table is good, and what is left is reached in one of those that are left.
-use Rattle.std.proofs.Common.{◌≡◌, ◌∙◌, refl, sym, ap, ◌+◌, ◌*◌, ◌≤◌, ◌<◌, get_or, drop, arith}
+use Rattle.std.proofs.Common.{◌≡◌, ◌∙◌, refl, sym, ap, ◌+◌, ◌*◌, ◌<◌, get_or, drop, arith}
 use Rattle.std.proofs.lemmas.List.Sums.{sum_by-drop_more}
 use Rattle.experiment.specs.declared.steps.Step.{Step}
 use Rattle.std.proofs.lemmas.Nat.{mul-le}
 use Rattle.experiment.specs.Tables.{shares}
 use Rattle.experiment.proofs.StepLaws.{good_at, upto_within, is_last, no_step}
-use Rattle.experiment.proofs.DrawLaws.{reached, reached_on}
+use Rattle.experiment.proofs.DrawLaws.{reached_on}
 use Rattle.experiment.proofs.steps.bound.Goals as goal
 
 pub length_in-requires-clause-rises : goal.length_in-requires-clause-rises

@@ -1,5 +1,4 @@
 -- The last step is the highest one.
-use Rattle.std.proofs.Common.{arith}
 use Rattle.experiment.proofs.StepLaws.{table_is, last_get, last_within, no_step}
 use Rattle.experiment.proofs.steps.longest.Goals as goal
 

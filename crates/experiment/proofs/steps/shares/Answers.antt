@@ -1,6 +1,6 @@
 -- All shares together are few, and there is one.
 use Rattle.std.proofs.Common.{arith}
-use Rattle.experiment.proofs.StepLaws.{share_fits, some_shares, table_is}
+use Rattle.experiment.proofs.StepLaws.{share_fits}
 use Rattle.experiment.proofs.steps.shares.Goals as goal
 
 pub overflow_add-sum : goal.overflow_add-sum

@@ -1,6 +1,5 @@
 -- One more step makes a table.
-use Rattle.std.proofs.Common.{◌≡◌, ap, ◌∙◌, true, arith}
-use Rattle.experiment.specs.Tables.{is_table}
+use Rattle.std.proofs.Common.{arith}
 use Rattle.experiment.proofs.StepLaws.{table_is, table_push}
 use Rattle.experiment.proofs.workload.Workload.push.Goals as goal
 
