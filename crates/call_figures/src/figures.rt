@@ -93,7 +93,6 @@ fn longest(experiment: &Experiment) -> u32
 fn bound_of(experiment: &Experiment, part: u32) -> u32
     requires some { 1 ≤ part }
     requires within { part ≤ experiment.now.load.parts }
-    ensures { result ≤ 1000000 }
 {
     if part == experiment.load.parts {
         longest(experiment)
