@@ -1,0 +1,3 @@
+pub mod Alone
+pub mod Ranks
+pub mod Sides

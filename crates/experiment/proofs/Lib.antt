@@ -1,0 +1,10 @@
+mod WordLaws
+mod WireLaws
+mod StepLaws
+mod DrawLaws
+mod RangeLaws
+mod LengthLaws
+mod MarkLaws
+mod FitLaws
+mod DraftLaws
+mod TextLaws

@@ -1,0 +1,15 @@
+pub mod Draws
+pub mod Wires
+pub mod Tables
+pub mod Amounts
+pub mod Marks
+pub mod Ranges
+pub mod Verbs
+pub mod Grammar
+pub mod Sizes
+pub mod Happenings
+pub mod Drafts
+pub mod Fits
+pub mod Made
+pub mod Gaps
+pub mod Texts
