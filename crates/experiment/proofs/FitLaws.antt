@@ -1,5 +1,6 @@
 -- What fits together.
-use Rattle.std.proofs.Common.{◌≡◌, refl, sym, subst, ℕ, ◌*◌, ◌<◌, ◌≤◌, ltb, leb, Bool, true, false, cond, Option, None, Some, Result, Ok, Err, List, [], ◌∷◌, All}
+use Rattle.std.proofs.Common.{◌≡◌, refl, sym, subst, ℕ, ◌*◌, ◌<◌, ◌≤◌, ltb, leb, Bool, true, false, cond, Option, None, Some, Result, Ok, Err, List}
+use Rattle.std.proofs.Common.{[], ◌∷◌, All}
 use Rattle.std.proofs.lemmas.Bool.{ltb-true, leb-true}
 use Rattle.std.proofs.lemmas.List.Elements.{All-nil, All-cons}
 use Rattle.homa_plain.specs.declared.settings.SettingFault.{SettingFault}
