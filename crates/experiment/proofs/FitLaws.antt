@@ -1,5 +1,6 @@
 -- What fits together.
-use Rattle.std.proofs.Common.{◌≡◌, refl, sym, subst, ℕ, ◌<◌, ◌≤◌, ltb, leb, Bool, true, false, cond, Option, None, Some, Result, Ok, Err, List, [], ◌∷◌, All}
+use Rattle.std.proofs.Common.{◌≡◌, refl, sym, subst, ℕ, ◌*◌, ◌<◌, ◌≤◌, ltb, leb, Bool, true, false, cond, Option, None, Some, Result, Ok, Err, List}
+use Rattle.std.proofs.Common.{[], ◌∷◌, All}
 use Rattle.std.proofs.lemmas.Bool.{ltb-true, leb-true}
 use Rattle.std.proofs.lemmas.List.Elements.{All-nil, All-cons}
 use Rattle.homa_plain.specs.declared.settings.SettingFault.{SettingFault}
@@ -29,7 +30,7 @@ pub record AreFit (d : Drafting) : Type 0 where
   pub servers : All (λ c. c.server.0 < d.settings.hosts) d.happenings.listed
   pub injections : All (λ i. i.host.0 < d.settings.hosts) d.happenings.injections
   pub shifts : All (λ s. s.host.0 < d.settings.hosts) d.happenings.shifts
-  pub skew : All (λ s. s.ticks ≤ d.settings.skew) d.happenings.shifts
+  pub skew : All (λ s. s.ticks ≤ 2 * d.settings.skew) d.happenings.shifts
   pub incast : number_of d.numbers Incast < d.settings.hosts
   pub hot : (h : Hot) → d.hot ≡ Some h → h.host.0 < d.settings.hosts
 
@@ -66,15 +67,15 @@ injections_all hosts (i ∷ is) e =
     All-cons (λ (i : Injection). i.host.0 < hosts) i is (ltb-true i.host.0 hosts p.0) (injections_all hosts is p.1)
 
 shifts_all : (hosts skew : ℕ) (ss : List Shifting) → shifts_fit hosts skew ss ≡ Ok tt
-    → (All (λ s. s.host.0 < hosts) ss) × (All (λ s. s.ticks ≤ skew) ss)
-shifts_all hosts skew [] e = (All-nil (λ (s : Shifting). s.host.0 < hosts), All-nil (λ (s : Shifting). s.ticks ≤ skew))
+    → (All (λ s. s.host.0 < hosts) ss) × (All (λ s. s.ticks ≤ 2 * skew) ss)
+shifts_all hosts skew [] e = (All-nil (λ (s : Shifting). s.host.0 < hosts), All-nil (λ (s : Shifting). s.ticks ≤ 2 * skew))
 shifts_all hosts skew (s ∷ ss) e =
-    let p = kept (ltb s.host.0 hosts) (cond (leb s.ticks skew) (shifts_fit hosts skew ss) (Err (Said s.line 3 (wrong.AgainstSetting Skew))))
+    let p = kept (ltb s.host.0 hosts) (cond (leb s.ticks (2 * skew)) (shifts_fit hosts skew ss) (Err (Said s.line 3 (wrong.AgainstSetting Skew))))
     (Said s.line 2 wrong.Host) e in
-    let q = kept (leb s.ticks skew) (shifts_fit hosts skew ss) (Said s.line 3 (wrong.AgainstSetting Skew)) p.1 in
+    let q = kept (leb s.ticks (2 * skew)) (shifts_fit hosts skew ss) (Said s.line 3 (wrong.AgainstSetting Skew)) p.1 in
     let rest = shifts_all hosts skew ss q.1 in (
       All-cons (λ (s : Shifting). s.host.0 < hosts) s ss (ltb-true s.host.0 hosts p.0) rest.0,
-      All-cons (λ (s : Shifting). s.ticks ≤ skew) s ss (leb-true s.ticks skew q.0) rest.1,
+      All-cons (λ (s : Shifting). s.ticks ≤ 2 * skew) s ss (leb-true s.ticks (2 * skew) q.0) rest.1,
     )
 
 incast_less : (hosts incast line : ℕ) → incast_fits hosts incast line ≡ Ok tt → incast < hosts

@@ -1,5 +1,5 @@
 -- What makes of what was said an experiment, or which line is wrong.
-use Rattle.std.specs.Prelude.{ℕ, nat_lt, nat_le, if◌then◌else◌, Option, None, Some, Result, Ok, Err, List, [], ◌∷◌}
+use Rattle.std.specs.Prelude.{ℕ, ◌*◌, nat_lt, nat_le, if◌then◌else◌, Option, None, Some, Result, Ok, Err, List, [], ◌∷◌}
 use Rattle.homa_plain.specs.declared.settings.SettingFault.{SettingFault}
 use Rattle.homa_plain.specs.declared.settings.SettingFault.TheVariants.{OutOfRange, UnschedOverWindow, RateUnderSeg}
 use Rattle.homa_plain.specs.declared.settings.Name.TheVariants.{Skew}
@@ -41,11 +41,11 @@ abbrev pub injections_fit : ℕ → List Injection → Result (Unit {0}) Experim
 injections_fit hosts [] = Ok tt
 injections_fit hosts (i ∷ rest) = if nat_lt i.host.0 hosts then injections_fit hosts rest else said i.line 2 wrong.Host
 
--- the hosts of clocks are hosts, and none goes further apart than a clock may
+-- the hosts of clocks are hosts, and none is set further ahead than twice the skew
 abbrev pub shifts_fit : (hosts skew : ℕ) → List Shifting → Result (Unit {0}) ExperimentFault
 shifts_fit hosts skew [] = Ok tt
 shifts_fit hosts skew (s ∷ rest) =
-    if nat_lt s.host.0 hosts then (if nat_le s.ticks skew then shifts_fit hosts skew rest else said s.line 3 (wrong.AgainstSetting Skew))
+    if nat_lt s.host.0 hosts then (if nat_le s.ticks (2 * skew) then shifts_fit hosts skew rest else said s.line 3 (wrong.AgainstSetting Skew))
     else said s.line 2 wrong.Host
 
 -- there are more hosts than clients of an incast

@@ -196,7 +196,7 @@ inject_given n words = do
 abbrev pub shift_given : ℕ → List (List ℕ) → Result Statement Refusal
 shift_given n words = do
   host ← host_given 2 words
-  ticks ← number_between 3 0 1000 host.1
+  ticks ← number_between 3 0 2000 host.1
   at ← moment_given 4 ticks.1
   alone 5 (Shift (record { host = host.0; ticks = ticks.0; at = at.0; line = n }), at.1)
 

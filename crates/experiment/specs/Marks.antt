@@ -17,7 +17,7 @@ abbrev pub IsInjection : Injection → Type 0
 IsInjection i = (i.host.0 ≤ 31) × (i.bytes ≤ 1500) × (i.at ≤ 86400000000000000)
 
 abbrev pub IsShift : Shifting → Type 0
-IsShift s = (s.host.0 ≤ 31) × (s.ticks ≤ 1000) × (s.at ≤ 86400000000000000)
+IsShift s = (s.host.0 ≤ 31) × (s.ticks ≤ 2000) × (s.at ≤ 86400000000000000)
 
 -- the moment of the last call, or 0
 abbrev pub last_at : List ListedCall → ℕ

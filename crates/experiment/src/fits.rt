@@ -67,7 +67,7 @@ pub(crate) fn check_injections(injections: &[Injection], hosts: u32) -> Result<(
     Ok(())
 }
 
-/// That the hosts of shifted clocks are hosts, and that no clock goes further apart than `skew`.
+/// That the hosts of shifted clocks are hosts, and that no clock is set further ahead than twice `skew`.
 pub(crate) fn check_shifts(
     shifts: &[Shifting],
     hosts: u32,
@@ -79,7 +79,7 @@ pub(crate) fn check_shifts(
         if u32::from(shift.host.0) >= hosts {
             return said(shift.line, 2, Wrong::Host);
         }
-        if shift.ticks > skew {
+        if u64::from(shift.ticks) > 2 * u64::from(skew) {
             return said(shift.line, 3, Wrong::AgainstSetting(Name::Skew));
         }
     }

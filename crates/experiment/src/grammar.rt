@@ -31,8 +31,8 @@ const DAY: u64 = 86_400_000_000_000;
 // The most bytes of a datagram that is injected.
 const MOST_INJECTED: u64 = 1500;
 
-// The most ticks by which a clock is shifted.
-const MOST_SHIFT: u64 = 1000;
+// The most ticks by which a clock is set ahead.
+const MOST_SHIFT: u64 = 2000;
 
 // What is wrong in a word.
 fn refused(word: u32, wrong: Wrong) -> Refusal

@@ -83,7 +83,7 @@ impl Happenings {
         Ok(self.injections.push(injection).map_err(AllocError::from)?)
     }
 
-    /// One clock more that goes apart.
+    /// One clock more that is set.
     pub(crate) fn add_shift(&mut self, shift: Shifting) -> Result<(), LineStop>
         requires { IsShift shift }
         ensures { IsAfter (shifted (happening self.old) shift) result (happening self.new) }

@@ -31,7 +31,7 @@ pub struct Injection {
     pub line: u64,
 }
 
-/// A host's clock goes apart by so many ticks at a moment, and the line that says so.
+/// A host's clock is set so many ticks ahead at a moment, and the line that says so. Clocks begin `skew` ticks ahead.
 #[derive(Clone, Copy, Debug, PartialEq, Eq)]
 pub struct Shifting {
     pub host: HostId,

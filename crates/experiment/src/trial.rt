@@ -1,5 +1,5 @@
 // An experiment.
-ghost use Rattle.std.specs.Prelude.{◌≡◌, ◌≤◌, ◌<◌, Some, length, All};
+ghost use Rattle.std.specs.Prelude.{◌≡◌, ◌≤◌, ◌<◌, ◌*◌, Some, length, All};
 ghost use Rattle.homa_plain.specs.Settings.{IsValid};
 ghost use Rattle.experiment.specs.declared.load.Hot.{Hot};
 ghost use Rattle.experiment.specs.Marks.{IsRestart, IsCall, IsInjection, IsShift};
@@ -34,7 +34,7 @@ pub struct Experiment {
     ghost servers: { All (λ c. c.server.0 < settings.hosts) listed.items },
     ghost injected: { All (λ i. i.host.0 < settings.hosts) injections.items },
     ghost shifted: { All (λ s. s.host.0 < settings.hosts) shifts.items },
-    ghost within_skew: { All (λ s. s.ticks ≤ settings.skew) shifts.items },
+    ghost within_skew: { All (λ s. s.ticks ≤ 2 * settings.skew) shifts.items },
     ghost restarts_within: { All IsRestart restarts.items },
     ghost calls_within: { All IsCall listed.items },
     ghost injections_within: { All IsInjection injections.items },
