@@ -15,8 +15,9 @@ pub fn response_to(experiment: &Experiment, request: u32) -> u32
     }
 }
 
-/// From the first bit of a message's first frame until the receiver has its last one, where the sender sends its frames one right
-/// behind the other: the time of all its frames on one link, that of the longest frame on the other one, and the delays.
+/// How long a message alone takes, in picoseconds: from the first bit of its first frame until the receiver has the last one.
+/// The sender sends its frames without a gap. The time is that of all frames on one link, of the longest frame on the other
+/// link, and the delays.
 pub fn message_alone(experiment: &Experiment, length: u32) -> u64
     requires { length ≤ 1000000 }
     ensures value { result ≡ message_alone experiment.now length }
