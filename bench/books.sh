@@ -3,6 +3,7 @@
 # rows, and prints the ratios: about those of the logarithms, 2 and 1.5, or less. A walk over all rows would make each 10.
 # Filling the book alone is timed too, and taken off. From the top: bench/books.sh [ROUNDS], at most 1000000
 set -eu
+case ${1-1} in *[!0-9]* | "") echo "books.sh: a number is wanted, not '$1'" >&2; exit 2 ;; esac
 cd "$(dirname "$0")/../crates/bench_books"
 rt run -- both 4 4 > /dev/null
 python3 - "${1:-1000000}" <<'P'

@@ -5,6 +5,7 @@
 # packets and bytes that were sent are counted. `done` is a delivery and a call: the oldest row goes and a new one is made,
 # so the index of the rows is shifted. From the top: bench/host.sh [DELIVERIES], at most 500000
 set -eu
+case ${1-1} in *[!0-9]* | "") echo "host.sh: a number is wanted, not '$1'" >&2; exit 2 ;; esac
 cd "$(dirname "$0")/../crates/bench_host"
 rt run -- all 2 4 > /dev/null
 python3 - "${1:-500000}" <<'P'

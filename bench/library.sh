@@ -4,14 +4,21 @@
 # bytes, 1, 8 and 64 calls at a time. Then the library alone, both hosts in one process. Then calls of 100 bytes while two calls of
 # 1,000,000 run, beside TCP with such a call before each on its connection: over a link of 1 Gbit/s that is shared both ways (a network
 # namespace of its own with tbf; left out where that may not be made). Printed is of each figure the middle of the rounds, of p50 the
-# least too, and its ratios; at the end what of the processors' time others took. It needs gcc and the archive (rt lib in
-# crates/homa_c, or what is named). From the top: bench/library.sh [ROUNDS [ARCHIVE]]
+# least too, and its ratios; at the end what of the processors' time others took. It needs gcc. Timed is the archive that is named, or
+# the proved one (rt lib in crates/homa_c), or else one that it builds without proofs. From the top: bench/library.sh [ROUNDS [ARCHIVE]]
 set -eu
+case ${1-1} in *[!0-9]* | "") echo "library.sh: a number is wanted, not '$1'" >&2; exit 2 ;; esac
 cd "$(dirname "$0")/.."
 kit=$(dirname "$(dirname "$(readlink -f "$(command -v rt)")")")
 at=$(mktemp -d)
 trap 'rm -rf "$at"' EXIT
-gcc -O2 -std=gnu11 -Iinclude bench/library.c "${2:-crates/homa_c/out/libhoma_c.a}" "$kit/c/liblibc_c.a" -o "$at/library"
+archive=${2:-crates/homa_c/out/libhoma_c.a}
+if [ $# -lt 2 ] && [ ! -e "$archive" ]; then
+    echo "library.sh: no proved library is here; one is built without proofs" >&2
+    tools/install-library --prefix "$at/homa" --unproved >&2
+    archive=$at/homa/lib/libhoma.a
+fi
+gcc -O2 -std=gnu11 -Iinclude bench/library.c "$archive" "$kit/c/liblibc_c.a" -o "$at/library"
 printf '%s\n' '#!/bin/sh' 'ip link set lo up mtu 1500' 'tc qdisc add dev lo root tbf rate 1gbit burst 128k latency 50ms' 'exec "$@"' > "$at/link"
 chmod +x "$at/link"
 python3 - "$at" "${1:-5}" <<'P'

@@ -3,6 +3,7 @@
 # same run, and prints the ratios: processor time, the least of seven runs. A run without lines is timed too, and taken
 # off. From the top: bench/lines.sh [LINES]
 set -eu
+case ${1-1} in *[!0-9]* | "") echo "lines.sh: a number is wanted, not '$1'" >&2; exit 2 ;; esac
 cd "$(dirname "$0")/../crates/bench_lines"
 rt run -- put clock 3 < /dev/null > /dev/null
 python3 - "${1:-1000000}" <<'P'

@@ -4,6 +4,7 @@
 # processor time, the least of nine runs. Messages that are opened and closed without pieces are timed too, and taken off
 # the first. From the top: bench/pool.sh [MESSAGES]
 set -eu
+case ${1-1} in *[!0-9]* | "") echo "pool.sh: a number is wanted, not '$1'" >&2; exit 2 ;; esac
 cd "$(dirname "$0")/../crates/bench_pool"
 rt run -- accept 2 < /dev/null > /dev/null
 python3 - "${1:-1000}" <<'P'

@@ -4,6 +4,7 @@
 # longer a run is. Times are in hundredths of a second, so ask for a million events. It needs GNU time (/usr/bin/time).
 # From the top, with the program built (./homa): bench/replay.sh [EVENTS]
 set -eu
+case ${1-1} in *[!0-9]* | "") echo "replay.sh: a number is wanted, not '$1'" >&2; exit 2 ;; esac
 cd "$(dirname "$0")/.."
 export HOMA="${HOMA:-$("$PWD/homa" --which)}"
 python3 - "${1:-1000000}" <<'P'

@@ -13,6 +13,7 @@ import re
 BY_HAND = {
     ".ci/run": "it takes an hour, and runs the tests itself",
     "tests/run": "it runs tests/pages",
+    "dev/compute-rows /tmp/rows": "it proves for two minutes",
 }
 COMMAND = re.compile(r"\./homa|tools/|dev/|tests/|bench/|examples/|\.ci/run|\(?cd |(?:rt|gcc|g\+\+|rustc|cargo|python3|git) ")
 

@@ -25,22 +25,15 @@ FACT = "// For the proof:"
 LONG = {
     "driven_host/src/asking.rt": ("deliver",),
     "homa_c/src/exports.rt": ("homa_call", "homa_deliver"),
-    "homa_check/src/text.rt": ("judge_next",),
     "homa_host/src/host.rt": ("deliver",),
     "homa_in/src/arriving.rt": ("accept",),
-    "homa_io/src/held.rt": ("write",),
     "homa_io/src/memory.rt": ("write",),
     "homa_node/src/calling.rt": ("starts",),
-    "homa_node/src/opening.rt": ("open_node",),
-    "homa_replay/src/ahead.rt": ("fetch",),
-    "homa_replay/src/carrying.rt": ("begin", "carry_on"),
-    "homa_script/src/read.rt": ("next_given",),
-    "homa_script/src/reader.rt": ("settings", "next"),
+    "homa_replay/src/carrying.rt": ("begin",),
+    "homa_script/src/reader.rt": ("next",),
     "homa_server/src/table.rt": ("receive",),
     "homa_top/src/running.rt": ("run",),
-    "node_io/src/memory.rt": ("bind", "route", "send", "recv"),
-    "node_script/src/read.rt": ("read_call",),
-    "node_turns/src/acts.rt": ("hosts_act",),
+    "late_host/src/late.rt": ("deliver_at_once",),
     "text_lines/src/lines.rt": ("next",),
 }
 
@@ -193,11 +186,8 @@ def problems():
 
 
 def main(words):
-    if words in (["-h"], ["--help"]):
-        print(__doc__)
-        return 0
     if words:
-        print(__doc__, file=sys.stderr)
+        print(f"house_check.py: it takes no words, as {words[0]}", file=sys.stderr)
         return 2
     found = list(problems())
     print("\n".join(found) if found else "house: signatures, statements for the prover and names of types are as they should be")
@@ -205,4 +195,6 @@ def main(words):
 
 
 if __name__ == "__main__":
-    sys.exit(main(sys.argv[1:]))
+    sys.path.insert(0, os.path.join(TOP, "tools"))
+    from running import run
+    run("house_check.py", lambda: main(sys.argv[1:]), doc=__doc__)

@@ -4,7 +4,8 @@
 usage: dev/rules_check.py [--mend]
 
 Without a word it prints what is wrong, a line each; the status is then 1, else 0. `--mend` writes the file in which a function of the
-column 'code' or 'law' is now, where its crate has it in exactly one other file. `dev/tidy` calls `problems`.
+column 'code' or 'law' is now, where its crate has it in exactly one other file, and links each place to its file. `dev/tidy` calls
+`problems`.
 """
 import glob
 import os
@@ -16,6 +17,7 @@ PAGE = "docs/maintain/rules.md"
 COLUMNS = ["rule", "the papers' word", "source", "definition", "code", "law", "row or test"]
 NEEDED = ["source", "definition", "code", "law", "row or test"]
 NAMED = re.compile(r"((?:`[\w:-]+`(?:, )?)+) \(`([\w/]+)`\)")
+LINK = re.compile(r"\[(`[^`]+`)\]\(\.\./\.\./crates/[^)]*\)")
 
 
 def read(path):
@@ -24,8 +26,8 @@ def read(path):
 
 
 def rules(text):
-    """The rows of the tables, each with its line and its cells by column."""
-    for number, line in enumerate(text.splitlines(), 1):
+    """The rows of the tables, each with its line and its cells by column, without links."""
+    for number, line in enumerate(LINK.sub(r"\1", text).splitlines(), 1):
         cells = [cell.strip() for cell in re.split(r"(?<!\\)\|", line)[1:-1]]
         if line.startswith("|") and cells != COLUMNS and not set(line) <= set("|- "):
             yield number, dict(zip(COLUMNS, cells)) if len(cells) == len(COLUMNS) else None
@@ -56,11 +58,16 @@ def is_definition(name, place):
     return has_theorem(name, place if "/" in place else f"homa_plain/specs/{place}")
 
 
+def sources(crate):
+    """The files of a crate's code, as places: without `crates/` and their ending."""
+    files = sorted(glob.glob(os.path.join(TOP, f"crates/{crate}/src/**/*.rt"), recursive=True))
+    return [os.path.relpath(f, os.path.join(TOP, "crates"))[:-3] for f in files]
+
+
 def is_law(name, place):
     if "/" in place:
         return has_function(name, place)
-    files = sorted(glob.glob(os.path.join(TOP, f"crates/{place}/src/**/*.rt"), recursive=True))
-    return any(has_function(name, os.path.relpath(f, os.path.join(TOP, "crates"))[:-3]) for f in files)
+    return any(has_function(name, path) for path in sources(place))
 
 
 def is_row(name, place):
@@ -72,14 +79,29 @@ KINDS = {"definition": is_definition, "code": has_function, "law": is_law, "row 
 
 def elsewhere(name, path):
     """The other files of the crate that have this function."""
-    crate = path.split("/")[0]
-    files = sorted(glob.glob(os.path.join(TOP, f"crates/{crate}/src/**/*.rt"), recursive=True))
-    paths = [os.path.relpath(f, os.path.join(TOP, "crates"))[:-3] for f in files]
-    return [p for p in paths if has_function(name, p)]
+    return [p for p in sources(path.split("/")[0]) if has_function(name, p)]
+
+
+def file_of(name, place, column):
+    """The file below `crates/` in which a name of a column stands."""
+    if "/" not in place:
+        place = next((p for p in sources(place) if has_function(name, p)), place) if column == "law" else f"homa_plain/specs/{place}"
+    return next((place + end for end in (".rt", ".antt") if os.path.isfile(os.path.join(TOP, f"crates/{place}{end}"))), place)
+
+
+def linked(cell, column):
+    """A cell in which each place is a link to its file."""
+    def link(match):
+        name = re.findall(r"`([^`]+)`", match[1])[0]
+        return f"{match[1]} ([`{match[2]}`](../../crates/{file_of(name, match[2], column)}))"
+    return NAMED.sub(link, cell)
 
 
 def problems():
-    for number, cells in rules(read(PAGE)):
+    text = read(PAGE)
+    if text != mended(text):
+        yield f"{PAGE}: a place isn't linked to its file: dev/rules_check.py --mend"
+    for number, cells in rules(text):
         at = f"{PAGE}:{number}"
         if cells is None:
             yield f"{at}: a row with other columns than {', '.join(COLUMNS)}"
@@ -93,24 +115,30 @@ def problems():
                 yield f"{at}: the column '{column}' has what isn't a name with its place: {rest or cells[column]}"
             for name, place in found:
                 if not there(name, place):
-                    moved = elsewhere(name, place) if column in ("code", "law") and "/" in place else []
-                    more = f"; {moved[0]} has it: dev/rules_check.py --mend" if len(moved) == 1 else ""
+                    others = elsewhere(name, place) if column in ("code", "law") and "/" in place else []
+                    more = f"; {others[0]} has it: dev/rules_check.py --mend" if len(others) == 1 else ""
                     yield f"{at}: no {name} in {place} ({column}){more}"
 
 
 def mended(text):
-    """The page with the file in which each function is now."""
-    lines = text.splitlines(keepends=True)
+    """The page with the file in which each function is now, and with links."""
+    lines = LINK.sub(r"\1", text).splitlines(keepends=True)
     for number, cells in rules(text):
-        for column in ("code", "law") if cells else ():
-            cell = cells[column]
-            for match in NAMED.finditer(cell):
-                names, path = re.findall(r"`([^`]+)`", match[1]), match[2]
-                where = {name: path if "/" not in path or has_function(name, path) else (elsewhere(name, path) or [path])[0] for name in names}
-                if set(where.values()) != {path}:
-                    new = ", ".join(f"`{name}` (`{where[name]}`)" for name in names)
-                    lines[number - 1] = lines[number - 1].replace(match[0], new)
+        if cells:
+            cells |= {column: moved(cells[column]) for column in ("code", "law")}
+            cells |= {column: linked(cells[column], column) for column in KINDS}
+            lines[number - 1] = f"| {' | '.join(cells.values())} |\n".replace("|  |", "| |")
     return "".join(lines)
+
+
+def moved(cell):
+    """A cell with the file in which each function is now."""
+    for match in list(NAMED.finditer(cell)):
+        names, path = re.findall(r"`([^`]+)`", match[1]), match[2]
+        where = {name: path if "/" not in path or has_function(name, path) else (elsewhere(name, path) or [path])[0] for name in names}
+        if set(where.values()) != {path}:
+            cell = cell.replace(match[0], ", ".join(f"`{name}` (`{where[name]}`)" for name in names))
+    return cell
 
 
 def main(words):

@@ -2,8 +2,8 @@
  *
  * A host calls services of other hosts and serves their calls. The program feeds it with datagrams, turns and calls; each is one
  * step of the host. After a step it sends the frames of that step (homa_frames, homa_frame) and reads its entries (homa_entries,
- * homa_entry, homa_whole), before it does anything else: the next homa_call, homa_deliver or homa_turn, also one that isn't done,
- * may end what is shown of the last step. docs/use/library.md shows the loops of a client and of a server.
+ * homa_entry, homa_whole), before it does anything else. The next homa_call, homa_deliver or homa_turn may end what is shown of the
+ * last step, also where it isn't done. docs/use/library.md shows the loops of a client and of a server.
  *
  * Ticks: `now` counts ticks of the host's own clock, 0 to 1,000,000,002,000. The program says how long a tick is. A host's clock
  * never falls; two steps may have one tick. No step begins if `now` is below the tick of the last step (BAD_TICK), past the last tick, or
@@ -37,21 +37,25 @@
  * HOMA_OK, nothing happened to the host, and nothing was written but what the call says. What is shown of the last step stays, but where a
  * datagram asks or finds no memory, and where a call is SPENT: then no frame and no entry is shown. If more than one cause holds, the first of
  * this order is told. At opening: the handle, a setting, `id`, the incarnation, `last`. Else: the handle, the length of the datagram, the
- * host, SPENT by the clock or the steps, BAD_TICK, the length of the message, its pages, FULL, SPENT by the numbers. */
+ * host, SPENT by the clock or the steps, BAD_TICK, the length of the message, its pages, FULL, SPENT by the numbers. Of homa_answer: the
+ * handle, GONE, NO_BYTES, then as else. */
 enum {
     HOMA_OK = 0,
     HOMA_ASKS = 1,             /* of homa_deliver: an answer is wanted */
     HOMA_NO_MEMORY = 3,        /* there is no memory; the same call may be tried again */
-    HOMA_FULL = 4,             /* of homa_call, later: as many calls are live as `calls` says */
+    HOMA_FULL = 4,             /* of homa_call, later: as many calls are live as `calls` says; of homa_deliver: no room to keep what asks */
     HOMA_SPENT = 5,            /* never in this incarnation: its numbers, its steps or its clock are at their end */
+    HOMA_AT_WORK = 6,          /* of homa_deliver: it asks for a call that is kept */
+    HOMA_LATER = 7,            /* of homa_answer: the kept datagram is too old for a step; the answer is kept */
+    HOMA_GONE = 8,             /* of homa_answer and homa_decline: no such call waits for an answer */
     HOMA_NEVER = 9,            /* of homa_next_turn: no turn does anything before the next call or datagram */
     HOMA_NOT_OPEN = 16,        /* the handle isn't open */
     HOMA_IS_OPEN = 17,         /* of homa_open: it is */
-    HOMA_BAD_SETTING = 18,     /* of homa_open: homa_wrong_setting says which */
+    HOMA_BAD_SETTING = 18,     /* of homa_open: homa_wrong_setting says which; of homa_open_late also `kept` or `keep` */
     HOMA_BAD_HOST = 19,        /* `id` isn't below `hosts`; or there is no other host of that number */
     HOMA_BAD_INCARNATION = 20, /* of homa_open: it is 0 */
     HOMA_BAD_TICK = 21,        /* `last` is past the last tick; or `now` is below the tick of the last step */
-    HOMA_NO_BYTES = 22,        /* a request of 0 bytes */
+    HOMA_NO_BYTES = 22,        /* a request of 0 bytes, or an answer of homa_answer */
     HOMA_TOO_LONG = 23,        /* a message of over 1,000,000 bytes, or a datagram of over 65,535 */
     HOMA_TOO_MANY_PAGES = 24,  /* the message takes more pages than `pages`: no host of this net could ever take it */
     HOMA_NOT_THERE = 25,       /* there is no such frame or entry */
@@ -145,22 +149,23 @@ typedef struct {
     uint64_t at;
 } homa_more_info;
 
-/* What a host counts from its opening on; the last is so now. A count that rises stands still at 2^64 - 1. */
+/* What a host counts from its opening on; the last two are so now. A count that rises stands still at 2^64 - 1. */
 enum {
     HOMA_COUNT_CALLS, HOMA_COUNT_DONE, HOMA_COUNT_TIMEOUTS, HOMA_COUNT_FORGOTTEN, /* calls that began, and how they ended */
-    HOMA_COUNT_ASKED, HOMA_COUNT_RAN,                                             /* answers of ASKS, and requests that were answered */
+    HOMA_COUNT_ASKED, HOMA_COUNT_RAN,                                             /* datagrams that asked, and requests that were answered */
     HOMA_COUNT_SENT, HOMA_COUNT_SENT_BYTES, HOMA_COUNT_RECEIVED,                  /* frames, their bytes, datagrams that were a step */
     HOMA_COUNT_RESENDS_SENT,                                                      /* frames that ask for bytes again */
     HOMA_COUNT_JUNK, HOMA_COUNT_STALE, HOMA_COUNT_NO_ROW, HOMA_COUNT_NO_PAGES, HOMA_COUNT_GAPS, /* entries of these kinds */
     HOMA_COUNT_DROPPED, HOMA_COUNT_BURIED, HOMA_COUNT_FREED,
     HOMA_COUNT_LIVE, /* calls that are live */
+    HOMA_COUNT_KEPT, /* calls that are kept until they are answered (homa_open_late) */
     HOMA_COUNTS
 };
 
 /* All of them, in this order, as far as this header knows. */
 typedef struct {
     uint64_t calls, done, timeouts, forgotten, asked, ran, sent, sent_bytes, received, resends_sent, junk, stale, no_row, no_pages, gaps, dropped,
-        buried, freed, live;
+        buried, freed, live, kept;
 } homa_counts;
 
 #ifdef __GNUC__
@@ -181,8 +186,8 @@ uint32_t homa_version(void);
 HOMA_POINTERS void homa_usual(homa_settings *settings);
 
 /* Settings for a network of services, with ticks of 100 us to 10 ms: 32 hosts, packets of 1400 bytes and version 2, skew 10, window 60,000,
- * unsched 10,000, rate 100,000, patience of 2,100 ticks, life 3,000, 4,096 pages and rows, 256 calls, rebalance 100. docs/use/library.md,
- * 'Settings of a service', says what to change. */
+ * unsched 10,000, rate 100,000. The patience is 2,100 ticks, life 3,000; there are 4,096 pages and rows, 256 calls, rebalance 100.
+ * docs/use/library.md, 'Settings of a service', says what to change. */
 HOMA_POINTERS void homa_service(homa_settings *settings);
 
 /* What is wrong with settings: 0 nothing; 1 to 15 the first that is outside its range, by its place in homa_settings; 16 `unsched` is over
@@ -190,10 +195,19 @@ HOMA_POINTERS void homa_service(homa_settings *settings);
 HOMA_POINTERS uint32_t homa_wrong_setting(const homa_settings *settings);
 
 /* Opens a host without calls in a closed handle. `id` is its number, 0 to hosts - 1; `incarnation`, at least 1, is larger than in
- * each earlier life of this host: in one that was used, a new call gets an old call's response as its own, and is DONE. `last` is the tick
+ * each earlier life of this host. In one that was used, a new call gets an old call's response as its own, and is DONE. `last` is the tick
  * of its last step then, 0 before the first. Memory: see docs/use/limits.md.
  * IS_OPEN, BAD_SETTING, BAD_HOST, BAD_INCARNATION, BAD_TICK, NO_MEMORY: the handle stays as it was. */
 HOMA_POINTERS uint32_t homa_open(const homa_settings *settings, uint16_t id, uint32_t incarnation, uint64_t last, homa_host *host);
+
+/* Opens a host as homa_open does, that keeps what asks: of each call the datagram that asked last, until the call is answered. So a call is told
+ * once, and its answer may come later, by homa_answer. There is room for `kept` calls, 1 to 4,096. A kept datagram is delivered at most `keep` ticks
+ * after it came, 0 to `life`; let it be several times `resend`, so that a client that waits has a fresh datagram here. With wire 2 the host
+ * looks at a datagram's age besides, and `life` will do. With wire 1 nothing else does: a datagram comes to homa_deliver at most
+ * `life - keep` ticks after it was sent.
+ * As homa_open; BAD_SETTING also if `kept` or `keep` is outside its range: homa_wrong_setting is 0 then. */
+HOMA_POINTERS uint32_t homa_open_late(const homa_settings *settings, uint16_t id, uint32_t incarnation, uint64_t last, uint32_t kept, uint32_t keep,
+                                      homa_host *host);
 
 /* Closes a host and gives its memory back. NOT_OPEN. */
 HOMA_POINTERS uint32_t homa_close(homa_host *host);
@@ -205,24 +219,48 @@ HOMA_POINTERS uint32_t homa_close(homa_host *host);
 HOMA_POINTERS uint32_t homa_call(homa_host *host, uint16_t server, uint8_t service, const uint8_t *request, size_t len, uint64_t now,
                                  homa_call_id *id);
 
-/* A datagram came from the host `from`, with an answer in hand for the request that it may make whole, of 1 to 1,000,000 bytes, or
- * with none, of 0 bytes (an answer has at least one: a service whose answers may be empty puts a byte of its own in front). Bytes that are
- * no packet change no call, but are a step all the same, which may send what waits.
+/* A datagram came from the host `from`. In hand is an answer of 1 to 1,000,000 bytes for the request that it may make whole, or none, of
+ * 0 bytes. A service whose answers may be empty puts a byte of its own in front. Bytes that are no packet change no call, but are a step
+ * all the same, which may send what waits.
  * OK: the step is done. That the answer was taken says an entry HOMA_RAN alone: it names the call, and exactly these bytes are its
  *   response. Without one it wasn't taken (docs/use/library.md, 'An answer that isn't taken').
  * ASKS, only with no answer: it makes the request of the call `asked` whole, which homa_whole gives. Nothing happened: deliver the
  *   same datagram again with the answer, at once and at the same tick, or later ('An answer that isn't ready').
  * NO_MEMORY, only with an answer: the same, and there is no memory for the answer. Keep it by the call's id, and deliver it with the
  *   next datagram that asks for that call.
- * SPENT, NOT_OPEN, BAD_HOST, BAD_TICK; TOO_LONG, of the datagram or the answer; TOO_MANY_PAGES, of the answer. */
+ * SPENT, NOT_OPEN, BAD_HOST, BAD_TICK; TOO_LONG, of the datagram or the answer; TOO_MANY_PAGES, of the answer.
+ *
+ * At a host that keeps what asks (homa_open_late), with no answer:
+ * OK: the step is done. If it asks for a call whose answer is kept, the step has that answer, and an entry HOMA_RAN names the call.
+ * ASKS: it asks for the call `asked`, which is kept from now on. It is told once as long as it is kept. Give the answer by homa_answer.
+ * AT_WORK: it asks for a call that is kept, and takes the place of the datagram that asked before. Nothing is to be done.
+ * FULL: it asks, and there is no room to keep it. Its client asks again.
+ * NO_MEMORY: it asks, and there is no memory to keep it, or for the answer that is kept. Its client asks again.
+ * But for OK, nothing happened to the host, no frame and no entry is shown, and homa_whole has the request.
+ * With an answer in hand it is as at a host that keeps nothing; a call that runs isn't kept any more. */
 HOMA_POINTERS uint32_t homa_deliver(homa_host *host, uint16_t from, const uint8_t *frame, size_t len, uint64_t now, const uint8_t *answer,
                                     size_t answer_len, homa_asked *asked);
+
+/* The answer to a call that was told (ASKS) and is kept, of 1 to 1,000,000 bytes: the step of the datagram that asked last for it, with this answer.
+ * OK: the step is done; read its frames and entries. An entry HOMA_RAN names the call if the answer was taken. If it wasn't, the library
+ *   keeps the answer, and gives it to the next datagram that asks for the call.
+ * LATER: the datagram is older than `keep`, and there was no step. The answer is kept as above. What is shown stays.
+ * GONE: no such call waits for an answer. It was answered or declined, it had to make room, or it never asked. What is shown stays.
+ * NO_MEMORY: the call waits on; nothing may be shown.
+ * SPENT, NOT_OPEN, BAD_HOST, BAD_TICK, NO_BYTES, TOO_LONG, TOO_MANY_PAGES: the call waits on.
+ *
+ * A call isn't kept any more when a step ran it, when it is declined, or when it makes room. If another call asks and there is no room, the
+ * call goes whose datagram came first, unless that is at most `keep` ticks old. */
+HOMA_POINTERS uint32_t homa_answer(homa_host *host, const homa_call_id *id, const uint8_t *answer, size_t len, uint64_t now);
+
+/* No answer to a call will come: it isn't kept any more, and is told again if it asks again. GONE: it wasn't kept. NOT_OPEN. */
+HOMA_POINTERS uint32_t homa_decline(homa_host *host, const homa_call_id *id);
 
 /* A turn: of the rows that are due at this tick 32 at most act, and what waits may be sent. SPENT, NOT_OPEN, BAD_TICK. */
 HOMA_POINTERS uint32_t homa_turn(homa_host *host, uint64_t now);
 
-/* The tick before which no turn does anything: at each tick after the last step and before `at`, a turn would send no frame, have
- * no entry, and change nothing but the host's clock and its credit, which it may fill up (`rate`). `at` is the tick after that of the
+/* The tick before which no turn does anything. At each tick after the last step and before `at`, a turn would send no frame and have
+ * no entry. It would change nothing but the host's clock and its credit, which it may fill up (`rate`). `at` is the tick after that of the
  * last step, where bytes of a message wait to be sent, or the deadline of a row, which may be past.
  * NEVER: no turn that may begin does anything before the next call or datagram; at the clock's end that is so too, but at the last tick
  *   itself what waits may be sent. NOT_OPEN. `at` isn't written then. */
@@ -275,6 +313,9 @@ static inline const char *homa_text_of(uint32_t result) {
     case HOMA_NO_MEMORY: return "no memory";
     case HOMA_FULL: return "full";
     case HOMA_SPENT: return "spent";
+    case HOMA_AT_WORK: return "at work";
+    case HOMA_LATER: return "later";
+    case HOMA_GONE: return "gone";
     case HOMA_NEVER: return "never";
     case HOMA_NOT_OPEN: return "not open";
     case HOMA_IS_OPEN: return "is open";

@@ -5,7 +5,6 @@
 
 #include "homa.h"
 #include <array>
-#include <map>
 #include <new>
 #include <optional>
 #include <stdexcept>
@@ -59,8 +58,10 @@ inline homa_settings service_settings() {
 }
 
 class host {
+protected:
     homa_host handle = HOMA_CLOSED;
 
+    host() = default;
     static void need(std::uint32_t result, const char *call) {
         if (result == HOMA_NO_MEMORY) throw std::bad_alloc();
         if (result != HOMA_OK) throw refused(call, result);
@@ -150,101 +151,45 @@ public:
     }
 };
 
-// A host that keeps the datagrams that ask, so that each call is told once and its answer may come later.
-//
-// It keeps at most `most` calls. A kept datagram is delivered at most `ticks` ticks after it came: with version 1, that and the time that
-// it was under way are at most `life`; with version 2 the host itself looks, and `ticks` may be `life`. docs/use/library.md, 'An answer
-// that isn't ready', says how long a call waits.
-class late_host {
-    struct work {
-        std::uint16_t from;
-        std::uint64_t at;
-        bytes datagram;
-        std::optional<bytes> answer; // one that its step didn't take
-    };
-    host of;
-    std::map<homa_call_id, work, call_less> works;
-    std::size_t most;
-    std::uint64_t ticks;
-
-    bool is_fresh(const work &it, std::uint64_t now) const { return now <= it.at + ticks; }
-
-    void drop_what_ran() {
-        of.entries([this](const homa_entry_info &it) {
-            if (it.kind == HOMA_RAN) works.erase(it.id);
-        });
-    }
-
-    // Throws the oldest out that isn't fresh. Whether there was one.
-    bool makes_room(std::uint64_t now) {
-        auto oldest = works.end();
-        for (auto it = works.begin(); it != works.end(); ++it)
-            if (!is_fresh(it->second, now) && (oldest == works.end() || it->second.at < oldest->second.at)) oldest = it;
-        if (oldest == works.end()) return false;
-        works.erase(oldest);
-        return true;
-    }
-
-    // The step of a datagram with an answer. Whether it was done.
-    bool gives(const work &it, view answer, std::uint64_t now) {
-        if (of.deliver(it.from, it.datagram, now, answer)) return false;
-        drop_what_ran();
-        return true;
-    }
-
+// A host that keeps the datagrams that ask (homa_open_late), so that each call is told once and its answer may come later. Calls, turns,
+// frames and entries are those of every host. docs/use/library.md, 'An answer that isn't ready', says how long a call waits.
+class late_host : public host {
 public:
     enum class came { step, asks, at_work, full };
     enum class answered { step, later, gone };
 
-    late_host(host it, std::size_t most_calls, std::uint64_t most_ticks) : of(std::move(it)), most(most_calls), ticks(most_ticks) {}
+    // It keeps `kept` calls, 1 to 4,096; a kept datagram is delivered at most `keep` ticks after it came, 0 to `life`.
+    late_host(const homa_settings &settings, std::uint16_t id, std::uint32_t incarnation, std::uint32_t kept, std::uint32_t keep, std::uint64_t last = 0) {
+        std::uint32_t wrong = homa_wrong_setting(&settings);
+        need(homa_open_late(&settings, id, incarnation, last, kept, keep, &handle), wrong ? homa_text_of_setting(wrong) : "homa_open_late");
+    }
 
-    // Calls, turns, frames and entries are the host's. Datagrams come here.
-    host &inner() { return of; }
-    std::size_t at_work() const { return works.size(); }
+    // How many calls are kept.
+    std::uint64_t at_work() { return homa_count(&handle, HOMA_COUNT_KEPT); }
 
-    // A datagram came. `asks`: `asked` wants an answer, and is told once while it is kept; inner().whole() has the request. `at_work` and
-    // `full`: it asks again, or there is no room to keep it; nothing happened, and there is nothing to read.
+    // A datagram came. `asks`: `asked` wants an answer, and is told once while it is kept; whole() has the request. `at_work` and `full`: it
+    // asks again, or there is no room to keep it; nothing happened, and there is nothing to read.
     [[nodiscard]] came deliver(std::uint16_t from, view datagram, std::uint64_t now, homa_asked &asked) {
-        std::optional<homa_asked> asks = of.deliver(from, datagram, now);
-        if (!asks) return came::step;
-        auto it = works.find(asks->id);
-        if (it == works.end()) {
-            if (works.size() >= most && !makes_room(now)) return came::full;
-            works.emplace(asks->id, work{ from, now, datagram.copied(), std::nullopt });
-            asked = *asks;
-            return came::asks;
-        }
-        work &kept = it->second;
-        kept.from = from;
-        kept.at = now;
-        kept.datagram.assign(datagram.data(), datagram.data() + datagram.size());
-        if (!kept.answer) return came::at_work;
-        try {
-            return gives(kept, *kept.answer, now) ? came::step : came::at_work;
-        } catch (const std::bad_alloc &) {
-            return came::at_work;
+        switch (std::uint32_t result = homa_deliver(&handle, from, datagram.data(), datagram.size(), now, HOMA_NONE, 0, &asked)) {
+        case HOMA_ASKS: return came::asks;
+        case HOMA_AT_WORK: return came::at_work;
+        case HOMA_FULL: return came::full;
+        default: need(result, "homa_deliver"); return came::step;
         }
     }
 
     // The answer to a call that asked, of 1 to 1,000,000 bytes. `step`: it is done; an entry HOMA_RAN says that the answer was taken, and
     // without one it is kept for the next datagram that asks. `later`: there was no step, and it is kept. `gone`: no such call waits.
-    [[nodiscard]] answered answer(const homa_call_id &id, bytes given, std::uint64_t now) {
-        auto it = works.find(id);
-        if (it == works.end() || it->second.answer) return answered::gone;
-        if (given.empty() || given.size() > 1000000) throw refused("answer", given.empty() ? HOMA_NO_BYTES : HOMA_TOO_LONG);
-        if (!is_fresh(it->second, now)) {
-            it->second.answer = std::move(given);
-            return answered::later;
+    [[nodiscard]] answered answer(const homa_call_id &id, view given, std::uint64_t now) {
+        switch (std::uint32_t result = homa_answer(&handle, &id, given.data(), given.size(), now)) {
+        case HOMA_LATER: return answered::later;
+        case HOMA_GONE: return answered::gone;
+        default: need(result, "homa_answer"); return answered::step;
         }
-        homa_call_id kept = id;
-        gives(it->second, given, now);
-        it = works.find(kept);
-        if (it != works.end()) it->second.answer = std::move(given);
-        return answered::step;
     }
 
-    // No answer will come: where the call asks again, it is told again. Whether it was kept.
-    bool decline(const homa_call_id &id) { return works.erase(id) > 0; }
+    // No answer will come: if the call asks again, it is told again. Whether it was kept.
+    bool decline(const homa_call_id &id) { return homa_decline(&handle, &id) == HOMA_OK; }
 };
 
 } // namespace homa

@@ -170,6 +170,17 @@ def run(tool, main, faults=(), doc=None):
     sys.exit(status)
 
 
+def parser(tool, doc, **more):
+    """What reads the words of a tool: it refuses wrong ones in one line, with status 2."""
+    import argparse  # few tools read words by it, and its import takes longer than they do
+
+    class OneLine(argparse.ArgumentParser):
+        def error(self, message):
+            stop(tool, message)
+
+    return OneLine(prog=tool, description=doc, formatter_class=argparse.RawDescriptionHelpFormatter, **more)
+
+
 def range_text(low, high, above):
     """The range of a number in words."""
     if above is not None:

@@ -4,11 +4,11 @@
  *        kv client HOSTS FOLDER ID CALLS AT_A_TIME MOST_BYTES
  *
  * HOSTS is the file that net.h reads; in FOLDER each host keeps its incarnation and its last tick. KV_TICK_US is how many microseconds a tick
- * has (100). SIGUSR1 prints what was counted; SIGTERM ends. */
+ * has (100). One of KV_LATE calls (8) is answered late, with 0 none. SIGUSR1 prints what was counted; SIGTERM ends. */
 #define _GNU_SOURCE
 #include "../recipes/identity.h"
 #include "../recipes/tick.h"
-#include "late.h"
+#include "homa.h"
 #include "net.h"
 #include <errno.h>
 #include <signal.h>
@@ -46,7 +46,8 @@ static void watch(int fd) {
     need(fd >= 0 && epoll_ctl(self.epoll, EPOLL_CTL_ADD, fd, &event) == 0, strerror(errno));
 }
 
-static void open_node(const char *hosts, const char *folder, uint16_t id) {
+/* A server keeps what asks, as long as a datagram may be delivered. */
+static void open_node(const char *hosts, const char *folder, uint16_t id, bool is_server) {
     homa_settings settings;
     sigset_t signals;
     char name[20];
@@ -60,7 +61,9 @@ static void open_node(const char *hosts, const char *folder, uint16_t id) {
     for (int64_t left; (left = left_until(last)) > 0;) nanosleep(&(struct timespec){ left / 1000000000, left % 1000000000 }, NULL);
     self.host = (homa_host)HOMA_CLOSED;
     homa_service(&settings);
-    uint32_t result = homa_open(&settings, id, self.identity.incarnation, last, &self.host);
+    uint32_t incarnation = self.identity.incarnation;
+    uint32_t result = is_server ? homa_open_late(&settings, id, incarnation, last, AT_WORK, settings.life, &self.host)
+                                : homa_open(&settings, id, incarnation, last, &self.host);
     need(result == HOMA_OK, homa_text_of(result));
     sigemptyset(&signals);
     sigaddset(&signals, SIGUSR1), sigaddset(&signals, SIGTERM), sigaddset(&signals, SIGINT);
@@ -153,7 +156,7 @@ enum { ROWS = 1 << 16 };
 static row rows[ROWS];
 static job jobs[AT_WORK];
 static size_t job_count;
-static late works;
+static unsigned long told, again, full, kept_back;
 static uint8_t answer[MOST_MESSAGE];
 
 static row *row_of(const char *key) {
@@ -195,7 +198,10 @@ static size_t serve(uint32_t service, const uint8_t *request, size_t len) {
 
 static void give(homa_call_id id, uint32_t service, const uint8_t *request, size_t len) {
     size_t answer_len = serve(service, request, len);
-    if (late_answer(&works, id, answer, answer_len, step_tick()) == HOMA_OK) net_send(&self.net, &self.host);
+    uint64_t ran = homa_count(&self.host, HOMA_COUNT_RAN);
+    uint32_t result = homa_answer(&self.host, &id, answer, answer_len, step_tick());
+    if (result == HOMA_OK) net_send(&self.net, &self.host);
+    kept_back += result == HOMA_LATER || (result == HOMA_OK && homa_count(&self.host, HOMA_COUNT_RAN) == ran);
 }
 
 /* A call asks, for the first time: it is answered at once, or put to work. */
@@ -205,7 +211,7 @@ static void ask(homa_asked asked, uint64_t now) {
     if (asked.service != PUT_LATER && asked.service != GET_LATER) return give(asked.id, asked.service, message, len);
     uint8_t *copy = job_count < AT_WORK ? malloc(len) : NULL;
     if (!copy) {
-        late_decline(&works, asked.id);
+        homa_decline(&self.host, &asked.id);
         return;
     }
     memcpy(copy, message, len);
@@ -232,32 +238,31 @@ static uint64_t finish_jobs(void) {
 static void server_takes(void *to, uint16_t from, const uint8_t *datagram, size_t len) {
     homa_asked asked;
     uint64_t now = step_tick();
-    uint32_t result = late_deliver(&works, from, datagram, len, now, &asked);
+    uint32_t result = homa_deliver(&self.host, from, datagram, len, now, HOMA_NONE, 0, &asked);
     (void)to;
+    told += result == HOMA_ASKS;
+    again += result == HOMA_AT_WORK;
+    full += result == HOMA_FULL;
     if (result == HOMA_OK) net_send(&self.net, &self.host);
     if (result == HOMA_ASKS) ask(asked, now);
 }
 
 static void tell_server(void) {
     char more[200];
-    snprintf(more, sizeof more, "; told %lu, asked again %lu, ran %lu, kept back %lu, no room %lu, thrown out %lu, at work %zu", works.told, works.again,
-             works.ran, works.kept_back, works.full, works.thrown_out, works.used);
+    unsigned long at_work = (unsigned long)homa_count(&self.host, HOMA_COUNT_KEPT);
+    snprintf(more, sizeof more, "; told %lu, asked again %lu, kept back %lu, no room %lu, at work %lu", told, again, kept_back, full, at_work);
     print_counts(more);
 }
 
 static int server(void) {
-    homa_settings settings;
-    homa_service(&settings);
     printf("up\n"); /* calls may come */
     fflush(stdout);
-    need(late_open(&works, &self.host, &settings, AT_WORK, settings.life) == HOMA_OK, "no memory");
     for (uint64_t ready = UINT64_MAX; !self.is_over; ready = finish_jobs()) {
         wait_until(next_turn(ready), tell_server);
         net_receive(&self.net, server_takes, NULL);
         if (turn()) net_send(&self.net, &self.host);
     }
     tell_server();
-    late_close(&works);
     for (size_t i = 0; i < ROWS; i++) free(rows[i].value);
     while (job_count) free(jobs[--job_count].request);
     return 0;
@@ -278,7 +283,7 @@ typedef struct {
 } key;
 
 static key keys[MOST_KEYS];
-static unsigned long begun, done, timeouts, forgotten, wrong, not_stored, *times;
+static unsigned long late_of = 8, begun, done, timeouts, forgotten, wrong, not_stored, *times;
 
 static bool may_be(const key *it, uint64_t version) {
     for (size_t i = 0; i < it->lost_count && i < MOST_LOST; i++)
@@ -308,16 +313,22 @@ static bool is_right(key *it, const uint8_t *response, size_t len) {
     return may_be(it, version) && value_of(version, wanted) == len - HEAD && memcmp(wanted, response + HEAD, len - HEAD) == 0;
 }
 
+static uint64_t microseconds(void) {
+    struct timespec now;
+    clock_gettime(CLOCK_MONOTONIC, &now);
+    return (uint64_t)now.tv_sec * 1000000 + (uint64_t)now.tv_nsec / 1000;
+}
+
 static void begin(key *it, size_t number) {
     size_t key_len = (size_t)snprintf((char *)message + 1, MOST_KEY, "host %u key %zu", self.net.id, number), len = 1 + key_len;
-    bool is_late = mixed(begun) % 8 == 0;
+    bool is_late = late_of && mixed(begun) % late_of == 0;
     message[0] = (uint8_t)key_len;
     if (!it->is_get) len += value_of(it->version, message + len);
     uint8_t service = (uint8_t)(it->is_get ? is_late ? GET_LATER : GET : is_late ? PUT_LATER : PUT);
     uint32_t result = homa_call(&self.host, 0, service, message, len, step_tick(), &it->id);
     if (result != HOMA_OK) return; /* as many calls are live as there may be, or there is no memory: later */
     it->is_live = true;
-    it->began = tick();
+    it->began = microseconds();
     begun++;
     net_send(&self.net, &self.host);
 }
@@ -330,7 +341,7 @@ static void end(key *it, const homa_entry_info *entry) {
         bool is_wrong = !is_right(it, message, len);
         wrong += is_wrong;
         if (is_wrong) fprintf(stderr, "kv: host %u, call %u: a response that no store gives\n", self.net.id, entry->id.number);
-        times[done++] = tick() - it->began;
+        times[done++] = (unsigned long)(microseconds() - it->began);
     } else {
         timeouts += entry->kind == HOMA_TIMEOUT;
         forgotten += entry->kind == HOMA_FORGOTTEN;
@@ -365,6 +376,7 @@ static int client(unsigned long calls, size_t at_a_time) {
     times = calloc(calls, sizeof *times);
     need(times && at_a_time > 0 && at_a_time <= MOST_KEYS && most_bytes >= 100 && most_bytes <= 900000, "CALLS, AT_A_TIME or MOST_BYTES");
     for (size_t k = 0; k < at_a_time; k++) keys[k].version = ((uint64_t)self.identity.incarnation << 16 | self.net.id) << 32 | (uint64_t)k << 20;
+    uint64_t first = microseconds();
     while (done + timeouts + forgotten < calls && !self.is_over) {
         for (size_t k = 0; k < at_a_time && begun < calls; k++)
             if (!keys[k].is_live) begin(&keys[k], k);
@@ -372,19 +384,21 @@ static int client(unsigned long calls, size_t at_a_time) {
         net_receive(&self.net, client_takes, NULL);
         if (turn()) read_client();
     }
+    uint64_t took = microseconds() - first + 1;
     tell_client();
     qsort(times, done, sizeof *times, by_size);
-    printf("client %u: %lu done, %lu timed out, %lu forgotten, %lu wrong, %lu not stored; p50 %lu, p99 %lu ticks\n", self.net.id, done, timeouts, forgotten,
-           wrong, not_stored, done ? times[done / 2] : 0, done ? times[done * 99 / 100] : 0);
+    printf("client %u: %lu done, %lu timed out, %lu forgotten, %lu wrong, %lu not stored; p50 %lu, p99 %lu us, %lu calls a second\n", self.net.id, done, timeouts,
+           forgotten, wrong, not_stored, done ? times[done / 2] : 0, done ? times[done * 99 / 100] : 0, (unsigned long)(done * 1000000 / took));
     free(times);
     return wrong > 0 || done + timeouts + forgotten < calls;
 }
 
 int main(int argc, char **argv) {
     bool is_server = argc == 4 && strcmp(argv[1], "server") == 0, is_client = argc == 8 && strcmp(argv[1], "client") == 0;
+    if (getenv("KV_LATE")) late_of = strtoul(getenv("KV_LATE"), NULL, 10);
     if (getenv("KV_TICK_US")) tick_us = strtol(getenv("KV_TICK_US"), NULL, 10);
     need((is_server || is_client) && tick_us > 0, "usage: kv server HOSTS FOLDER | kv client HOSTS FOLDER ID CALLS AT_A_TIME MOST_BYTES");
-    open_node(argv[2], argv[3], is_client ? (uint16_t)strtoul(argv[4], NULL, 10) : 0);
+    open_node(argv[2], argv[3], is_client ? (uint16_t)strtoul(argv[4], NULL, 10) : 0, is_server);
     if (is_client) most_bytes = strtoul(argv[7], NULL, 10);
     int status = is_server ? server() : client(strtoul(argv[5], NULL, 10), strtoul(argv[6], NULL, 10));
     homa_close(&self.host);

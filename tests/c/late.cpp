@@ -4,6 +4,7 @@
 #include "homa.hpp"
 #include <cstdio>
 #include <deque>
+#include <map>
 #include <string>
 
 static unsigned passed, failed;
@@ -56,9 +57,9 @@ struct net {
             return read_client();
         }
         switch (server.deliver(1, it.it, now, asked)) {
-        case homa::late_host::came::step: return send(server.inner());
+        case homa::late_host::came::step: return send(server);
         case homa::late_host::came::asks:
-            jobs.push_back({now, now + told++ * 7 % 61, asked.id, server.inner().whole().size()});
+            jobs.push_back({now, now + told++ * 7 % 61, asked.id, server.whole().size()});
             return;
         case homa::late_host::came::at_work: again++; return;
         case homa::late_host::came::full: check(false, "there is room"); return;
@@ -77,7 +78,7 @@ struct net {
             given[it.id] = answer;
             due_done += it.len > 1400 || it.due - it.told <= 24;
             check(server.answer(it.id, answer, now) == homa::late_host::answered::step, "an answer");
-            send(server.inner());
+            send(server);
             check(server.answer(it.id, answer, now) == homa::late_host::answered::gone, "a second answer");
         }
     }
@@ -92,8 +93,8 @@ struct net {
             }
             client.turn(now);
             read_client();
-            server.inner().turn(now);
-            send(server.inner());
+            server.turn(now);
+            send(server);
         } while (!under_way.empty());
     }
 };
@@ -116,7 +117,7 @@ static void moves(const homa_settings &settings) {
 }
 
 static void rooms(const homa_settings &settings) {
-    homa::late_host server(made(settings, 0), 1, 10);
+    homa::late_host server(settings, 0, 1, 1, 10);
     homa::host client = made(settings, 1);
     homa_asked asked;
     homa::bytes first, second;
@@ -126,11 +127,11 @@ static void rooms(const homa_settings &settings) {
     client.frames([&](std::uint16_t, homa::view it) { second = it.copied(); });
     using came = homa::late_host::came;
     using answered = homa::late_host::answered;
-    check(server.deliver(1, first, 0, asked) == came::asks && server.inner().whole().size() == 3, "it is told");
+    check(server.deliver(1, first, 0, asked) == came::asks && server.whole().size() == 3, "it is told");
     const homa_call_id id = asked.id;
     check(server.deliver(1, first, 1, asked) == came::at_work, "it isn't told again");
     check(server.deliver(1, second, 11, asked) == came::full, "there is room for one, and it is fresh for ten ticks");
-    check(server.answer(id, {1, 2}, 12) == answered::later, "an answer behind these");
+    check(server.answer(id, homa::bytes{1, 2}, 12) == answered::later, "an answer behind these");
     check(server.deliver(1, first, 12, asked) == came::step && server.at_work() == 0, "goes with the next datagram that asks");
     check(server.deliver(1, second, 12, asked) == came::asks && server.decline(asked.id), "declined");
     check(!server.decline(id) && server.deliver(1, second, 12, asked) == came::asks, "and told again");
@@ -148,7 +149,7 @@ int main() {
     settings.life = 1000;
     moves(settings);
     rooms(settings);
-    net it{made(settings, 1), homa::late_host(made(settings, 0), 16, 1000)};
+    net it{made(settings, 1), homa::late_host(settings, 0, 1, 16, 1000)};
     for (std::uint64_t now = 0; now < 500; now++) {
         if (now < 100 && now % 2 == 0) {
             const homa_call_id id = it.client.call(0, 7, homa::bytes(now % 4 ? 100 : 3000, static_cast<std::uint8_t>(now)), now);

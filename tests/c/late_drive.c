@@ -1,11 +1,12 @@
-/* Random steps of a net whose server keeps late answers by examples/kv/late.h, beside a model. At each step: a call is told at most once while
- * it is kept; what is told is what was called; an entry HOMA_RAN comes with exactly the answer that was given to that call, and at most once
- * in a life; where nothing happened nothing is shown; the table never holds more than its room, and throws out only what is too old.
+/* Random steps of a net whose server keeps what asks (homa_open_late), beside a mirror of the calls that it keeps. At each step: a call is
+ * told once while it is kept; what is told is what was called; an entry HOMA_RAN comes with exactly the answer that was given to that
+ * call, and at most once in an incarnation; a call makes room only if its datagram is too old, and the oldest one does; each result is
+ * the one that the mirror says, and where nothing happened nothing is shown.
  * Prints what failed, and 'late_drive: N steps, M failed'.
  *
  * usage: late_drive STEPS SEED [MODE]     MODE has the letters h (a fourth of the datagrams is forged), m (a third of some allocations is
  * refused; linked with -Wl,--wrap=malloc,--wrap=realloc), s (small rooms) */
-#include "../../examples/kv/late.h"
+#include "homa.h"
 #include <errno.h>
 #include <stdio.h>
 #include <stdlib.h>
@@ -40,15 +41,16 @@ static bool refuses(void) {
 void *__wrap_malloc(size_t n) { return refuses() ? NULL : __real_malloc(n); }
 void *__wrap_realloc(void *at, size_t n) { return refuses() ? NULL : __real_realloc(at, n); }
 
-/* A call: kept is whether the table should have it, answered whether an answer was given while it is kept. */
+/* A call, one that a forged datagram made up too. Kept is whether the server should keep it, answered whether an answer was given to it since. */
 typedef struct {
     homa_call_id id;
     uint8_t service;
-    uint32_t seed, answer_seed, ran_in, ran_seed;
-    size_t len, answer_len, ran_len;
-    bool is_ended, is_kept, is_answered, has_ran;
+    uint32_t seed, answer_seed, ran_in;
+    size_t len, answer_len;
+    bool is_forged, is_ended, is_kept, is_answered, has_ran;
     unsigned given;
     uint64_t at; /* when it asked last */
+    unsigned long told; /* the how many-th that was told */
 } call;
 
 static struct {
@@ -57,15 +59,15 @@ static struct {
     uint64_t at;
     uint8_t bytes[FRAME];
 } net[NET];
-static size_t net_len, call_count, kept_count, table_room;
+static size_t net_len, call_count, kept_count;
+static uint32_t table_room;
 static call calls[CALLS];
 static homa_host hosts[HOSTS];
 static uint32_t incarnations[HOSTS], live[HOSTS];
 static homa_settings settings;
-static late table;
 static uint64_t now, keep;
 static uint8_t *room, *text;
-static unsigned long told, again, full, answers, ran, done, later, gone, kept_back, no_memory, thrown_out;
+static unsigned long told, again, full, answers, ran, at_once, done, later, gone, kept_back, no_memory, thrown_out;
 
 static uint8_t byte_of(uint64_t *at) {
     *at = *at * 6364136223846793005u + 1442695040888963407u;
@@ -92,6 +94,9 @@ static call *call_of(homa_call_id id) {
     return NULL;
 }
 
+/* The call whose answer comes with its datagram in this step, if one does. */
+static call *in_hand;
+
 static void leaves(call *it) {
     it->is_kept = it->is_answered = false;
     kept_count--;
@@ -99,24 +104,23 @@ static void leaves(call *it) {
 
 /* ---- reading a step */
 
+/* In an honest net an entry has the request of its call. In each net the call was told, and it or this step was given an answer. */
 static void has_ran(uint16_t host, const homa_entry_info *entry) {
     call *it = call_of(entry->id);
     ran++;
-    CHECK(host == 0);
-    if (!hostile) CHECK(it && it->is_kept && it->is_answered && it->service == entry->service && it->len == entry->len);
-    if (!hostile) CHECK(it && !(it->has_ran && it->ran_in == incarnations[0]));
-    if (!it || !it->is_kept) return;
-    leaves(it);
+    CHECK(host == 0 && it && (it->is_answered || in_hand == it));
+    if (!it) return;
+    if (!hostile) CHECK(it->service == entry->service && it->len == entry->len && !(it->has_ran && it->ran_in == incarnations[0]));
+    at_once += in_hand == it;
+    if (it->is_kept) leaves(it);
     it->has_ran = true;
     it->ran_in = incarnations[0];
-    it->ran_seed = it->answer_seed;
-    it->ran_len = it->answer_len;
 }
 
 static void has_ended(uint16_t host, const homa_entry_info *entry) {
     size_t len;
     call *it = call_of(entry->id);
-    CHECK(it && !it->is_ended && it->id.client == host && it->id.incarnation == incarnations[host]);
+    CHECK(it && !it->is_forged && !it->is_ended && it->id.client == host && it->id.incarnation == incarnations[host]);
     live[host]--;
     done += entry->kind == HOMA_DONE;
     if (!it) return;
@@ -149,20 +153,17 @@ static void read_step(uint16_t host) {
 static void open_host(uint16_t host) {
     hosts[host] = (homa_host)HOMA_CLOSED;
     live[host] = 0;
-    CHECK(homa_open(&settings, host, ++incarnations[host], now, &hosts[host]) == HOMA_OK);
-    if (host != 0) return;
-    CHECK(late_open(&table, &hosts[0], &settings, table_room, keep) == HOMA_OK);
+    uint32_t inc = ++incarnations[host];
+    if (host != 0) {
+        CHECK(homa_open(&settings, host, inc, now, &hosts[host]) == HOMA_OK);
+        return;
+    }
+    CHECK(homa_open_late(&settings, host, inc, now, table_room, (uint32_t)keep, &hosts[0]) == HOMA_OK);
     for (size_t i = 0; i < call_count; i++) calls[i].is_kept = calls[i].is_answered = false;
     kept_count = 0;
 }
 
-static void close_host(uint16_t host) {
-    if (host == 0) {
-        thrown_out += table.thrown_out;
-        late_close(&table);
-    }
-    CHECK(homa_close(&hosts[host]) == HOMA_OK);
-}
+static void close_host(uint16_t host) { CHECK(homa_close(&hosts[host]) == HOMA_OK); }
 
 static void new_net(void) {
     for (uint16_t k = 0; k < HOSTS; k++)
@@ -183,13 +184,25 @@ static void new_net(void) {
     settings.skew = (uint32_t)any(3);
     settings.wire = (uint32_t)(1 + any(2));
     keep = settings.wire == 1 ? any(settings.life) : settings.life; /* with version 1 a datagram comes within life - keep */
-    table_room = is_small ? 1 + any(4) : 1 + any(60);
+    table_room = (uint32_t)(is_small ? 1 + any(4) : 1 + any(60));
     now = any(100000);
     memset(incarnations, 0, sizeof incarnations);
     for (uint16_t k = 0; k < HOSTS; k++) open_host(k);
 }
 
 /* ---- the steps */
+
+/* A forged datagram may have asked for a call that is made only later: to the server it is the same one. */
+static void take_over(call *it) {
+    call *forged = call_of(it->id);
+    CHECK(hostile || !forged);
+    if (!forged) return;
+    it->is_kept = forged->is_kept;
+    it->is_answered = forged->is_answered;
+    it->at = forged->at;
+    it->told = forged->told;
+    *forged = (call){ .is_forged = true, .is_ended = true };
+}
 
 static void try_call(void) {
     uint16_t host = (uint16_t)(1 + any(HOSTS - 1));
@@ -204,27 +217,36 @@ static void try_call(void) {
     may_refuse = false;
     if (result == HOMA_NO_MEMORY) return;
     CHECK(result == HOMA_OK);
+    take_over(it);
     call_count++;
     live[host]++;
     read_step(host);
 }
 
-static bool is_in_table(homa_call_id id) {
-    for (size_t i = 0; i < table.room; i++)
-        if (table.rows[i].is_used && is_same(table.rows[i].id, id)) return true;
-    return false;
+/* The oldest call had to make room: the one whose datagram came first, and of several at one tick the one that was told first. */
+static void make_room(void) {
+    call *oldest = NULL;
+    for (size_t i = 0; i < call_count; i++) {
+        call *it = &calls[i];
+        if (it->is_kept && (!oldest || it->at < oldest->at || (it->at == oldest->at && it->told < oldest->told))) oldest = it;
+    }
+    CHECK(oldest && now > oldest->at + keep);
+    if (oldest) leaves(oldest);
+    thrown_out++;
 }
 
-/* What the table has thrown out since: one call at most, and one that was too old. */
-static void see_thrown_out(unsigned long before) {
-    size_t count = 0;
-    for (size_t i = 0; table.thrown_out > before && i < call_count; i++) {
-        if (!calls[i].is_kept || is_in_table(calls[i].id)) continue;
-        leaves(&calls[i]);
-        count++;
-        CHECK(hostile || now > calls[i].at + keep);
-    }
-    CHECK(table.thrown_out <= before + 1 && (hostile || count == table.thrown_out - before));
+/* Whether each call that is kept asked so lately that its datagram may be delivered. */
+static bool all_fresh(void) {
+    for (size_t i = 0; i < call_count; i++)
+        if (calls[i].is_kept && now > calls[i].at + keep) return false;
+    return true;
+}
+
+static uint32_t number_at(const uint8_t *at) { return (uint32_t)at[0] << 24 | (uint32_t)at[1] << 16 | (uint32_t)at[2] << 8 | at[3]; }
+
+/* The call whose request a datagram has a piece of, as docs/understand/protocol.md lays it out. */
+static homa_call_id id_in(uint16_t from, const uint8_t *bytes, size_t len) {
+    return len < 16 ? (homa_call_id){ 0 } : (homa_call_id){ from, number_at(bytes + 8), number_at(bytes + 12) };
 }
 
 /* A datagram that is under way, or none: this one is lost or too old. */
@@ -243,25 +265,71 @@ static bool some_datagram(uint16_t *from, uint16_t *to, uint8_t *bytes, size_t *
     return true;
 }
 
-static void see_asked(uint32_t result, const homa_asked *asked, bool was_refused) {
+/* A call is told. One that nobody made is known from now on. */
+static void see_told(const homa_asked *asked) {
     size_t len;
-    CHECK(homa_frames(&hosts[0]) == 0 && homa_entries(&hosts[0]) == 0);
-    CHECK(result == HOMA_ASKS || result == LATE_AT_WORK || result == LATE_FULL);
-    full += result == LATE_FULL;
-    told += result == HOMA_ASKS;
-    again += result == LATE_AT_WORK;
-    if (result == LATE_FULL) return;
     call *it = call_of(asked->id);
-    if (it) it->at = now;
-    if (!hostile && result == LATE_AT_WORK) CHECK(it && it->is_kept && (!it->is_answered || was_refused));
-    if (result == LATE_AT_WORK) return;
-    if (!hostile) {
-        CHECK(it && !it->is_kept && it->service == asked->service && !(it->has_ran && it->ran_in == incarnations[0]));
-        if (it) CHECK(homa_whole(&hosts[0], room, MOST, &len) == HOMA_OK && len == it->len && is_of(room, len, it->seed));
+    CHECK(hostile || it);
+    if (!it) {
+        it = &calls[call_count++];
+        *it = (call){ .id = asked->id, .is_forged = true, .is_ended = true };
     }
-    if (!it || it->is_kept) return;
+    CHECK(!it->is_kept);
+    if (!hostile) {
+        CHECK(it->service == asked->service && !(it->has_ran && it->ran_in == incarnations[0]));
+        CHECK(homa_whole(&hosts[0], room, MOST, &len) == HOMA_OK && len == it->len && is_of(room, len, it->seed));
+    }
+    if (kept_count == table_room) make_room();
     it->is_kept = true;
+    it->is_answered = false;
+    it->at = now;
+    it->told = told++;
     kept_count++;
+}
+
+/* A datagram came to the server that asks for a call. */
+static void see_asked(uint32_t result, homa_call_id id, const homa_asked *asked) {
+    call *it = call_of(id);
+    CHECK(homa_frames(&hosts[0]) == 0 && homa_entries(&hosts[0]) == 0 && homa_whole_len(&hosts[0]) > 0);
+    CHECK(result == HOMA_ASKS || result == HOMA_AT_WORK || result == HOMA_FULL || (result == HOMA_NO_MEMORY && wants_memory));
+    full += result == HOMA_FULL;
+    again += result == HOMA_AT_WORK;
+    if (result == HOMA_ASKS) {
+        CHECK(is_same(asked->id, id));
+        see_told(asked);
+    } else if (result == HOMA_AT_WORK) {
+        CHECK(it && it->is_kept && !it->is_answered);
+        if (it) it->at = now;
+    } else if (result == HOMA_FULL) CHECK((!it || !it->is_kept) && kept_count == table_room && all_fresh());
+}
+
+/* A datagram comes to the server, seldom with an answer in hand for the call that it may ask for. */
+static void serve(uint16_t from, const uint8_t *bytes, size_t len) {
+    homa_asked asked, was;
+    homa_call_id id = id_in(from, bytes, len);
+    call *it = any(50) ? NULL : call_of(id);
+    size_t answer_len = it ? 1 + any(2000) : 0;
+    uint32_t seed = (uint32_t)any(1u << 30);
+    fill(text, answer_len, seed);
+    memset(&was, 0xa5, sizeof was);
+    asked = was;
+    in_hand = it;
+    may_refuse = wants_memory;
+    uint32_t result = homa_deliver(&hosts[0], from, bytes, len, now, text, answer_len, &asked);
+    may_refuse = false;
+    CHECK(result == HOMA_ASKS || memcmp(&asked, &was, sizeof was) == 0);
+    if (it) {
+        CHECK(result == HOMA_OK || (result == HOMA_NO_MEMORY && wants_memory) || (result == HOMA_TOO_MANY_PAGES && answer_len > 4096u * settings.pages));
+        unsigned long before = at_once;
+        if (result == HOMA_OK) read_step(0);
+        if (at_once > before) {
+            it->answer_seed = seed;
+            it->answer_len = answer_len;
+            it->given++;
+        }
+    } else if (result == HOMA_OK) read_step(0);
+    else see_asked(result, id, &asked);
+    in_hand = NULL;
 }
 
 static void try_deliver(void) {
@@ -270,20 +338,13 @@ static void try_deliver(void) {
     size_t len;
     homa_asked asked;
     if (!some_datagram(&from, &to, bytes, &len)) return;
-    if (to != 0) {
-        uint32_t result = homa_deliver(&hosts[to], from, bytes, len, now, HOMA_NONE, 0, &asked);
-        CHECK(result == HOMA_OK || (result == HOMA_ASKS && hostile));
-        if (result == HOMA_OK) read_step(to);
+    if (to == 0) {
+        serve(from, bytes, len);
         return;
     }
-    unsigned long out = table.thrown_out;
-    may_refuse = wants_memory;
-    uint32_t result = late_deliver(&table, from, bytes, len, now, &asked);
-    may_refuse = false;
-    see_thrown_out(out);
-    if (result == HOMA_OK) read_step(0);
-    else see_asked(result, &asked, wants_memory);
-    CHECK(table.used <= table_room && (hostile || table.used == kept_count));
+    uint32_t result = homa_deliver(&hosts[to], from, bytes, len, now, HOMA_NONE, 0, &asked);
+    CHECK(result == HOMA_OK || (result == HOMA_ASKS && hostile));
+    if (result == HOMA_OK) read_step(to);
 }
 
 static size_t some_length(void) { return any(30) ? 1 + any(3000) : any(3) ? 1 + any(100000) : any(2) * (MOST + 1); }
@@ -298,12 +359,12 @@ static void see_answered(call *it, const call *was, uint32_t result, size_t fram
         CHECK(wants_memory);
         no_memory++;
         *it = *was;
-    } else if (result == LATE_LATER) {
+    } else if (result == HOMA_LATER) {
         later++;
-        CHECK((hostile || now > was->at + keep) && homa_frames(&hosts[0]) == frames && homa_entries(&hosts[0]) == entries);
+        CHECK(now > was->at + keep && homa_frames(&hosts[0]) == frames && homa_entries(&hosts[0]) == entries);
     } else {
         unsigned long before = ran;
-        CHECK(result == HOMA_OK && (hostile || now <= was->at + keep));
+        CHECK(result == HOMA_OK && now <= was->at + keep);
         read_step(0);
         kept_back += ran == before;
     }
@@ -326,23 +387,22 @@ static void try_answer(void) {
         it->given++;
     }
     may_refuse = wants_memory;
-    uint32_t result = late_answer(&table, it->id, text, len, now);
+    uint32_t result = homa_answer(&hosts[0], &it->id, text, len, now);
     may_refuse = false;
     answers++;
-    gone += result == LATE_GONE;
-    if (!is_due) CHECK(result == LATE_GONE);
+    gone += result == HOMA_GONE;
+    if (!is_due) CHECK(result == HOMA_GONE);
     else if (bad) CHECK(result == wanted);
     else see_answered(it, &was, result, frames, entries);
     if (is_due && bad) *it = was;
-    CHECK(hostile || table.used == kept_count);
 }
 
 static void try_decline(void) {
     if (!call_count) return;
     call *it = &calls[any(call_count)];
-    uint32_t result = late_decline(&table, it->id);
-    CHECK(result == (it->is_kept ? HOMA_OK : LATE_GONE) || hostile);
-    if (result == HOMA_OK && it->is_kept) leaves(it);
+    uint32_t result = homa_decline(&hosts[0], &it->id);
+    CHECK(result == (it->is_kept ? HOMA_OK : HOMA_GONE));
+    if (it->is_kept) leaves(it);
 }
 
 static void step(void) {
@@ -360,6 +420,7 @@ static void step(void) {
         CHECK(homa_turn(&hosts[host], now) == HOMA_OK);
         read_step(host);
     } else now += any(30) ? any(2) : any(40);
+    CHECK(homa_count(&hosts[0], HOMA_COUNT_KEPT) == kept_count && kept_count <= table_room);
 }
 
 int main(int argc, char **argv) {
@@ -376,7 +437,7 @@ int main(int argc, char **argv) {
     free(room), free(text);
     printf("told %lu, again %lu, no room %lu, answers %lu, gone %lu, no memory %lu, not taken %lu, too old %lu, ", told, again, full, answers, gone,
            no_memory, kept_back, later);
-    printf("ran %lu, done %lu, thrown out %lu, refused allocations %lu\n", ran, done, thrown_out, refusals);
+    printf("ran %lu, at once %lu, done %lu, thrown out %lu, refused allocations %lu\n", ran, at_once, done, thrown_out, refusals);
     printf("late_drive: %lu steps, %lu failed\n", steps, failed);
     return failed > 0;
 }

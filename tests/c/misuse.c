@@ -41,6 +41,7 @@ static void closed(homa_host *host, const char *what) {
     check(homa_close(host) == HOMA_NOT_OPEN, what);
     check(homa_call(host, 9, 0, bytes, LONG, LAST_TICK + 1, &id) == HOMA_NOT_OPEN && is_filled(&id, sizeof id), what);
     check(homa_deliver(host, 9, bytes, DATAGRAM, LAST_TICK + 1, bytes, LONG, &asked) == HOMA_NOT_OPEN && is_filled(&asked, sizeof asked), what);
+    check(homa_answer(host, &id, bytes, LONG, LAST_TICK + 1) == HOMA_NOT_OPEN && homa_decline(host, &id) == HOMA_NOT_OPEN, what);
     check(homa_turn(host, LAST_TICK + 1) == HOMA_NOT_OPEN, what);
     check(homa_next_turn(host, &at) == HOMA_NOT_OPEN && is_filled(&at, sizeof at), what);
     check(homa_frames(host) == 0 && homa_entries(host) == 0 && homa_whole_len(host) == 0 && homa_frame_level(host, 0) == 0, what);
@@ -49,6 +50,7 @@ static void closed(homa_host *host, const char *what) {
     check(homa_entry_more(host, 0, &more) == HOMA_NOT_OPEN && is_filled(&more, sizeof more), what);
     check(homa_whole(host, room, 100, &len) == HOMA_NOT_OPEN && is_filled(&len, sizeof len), what);
     check(homa_live(host) == 0 && homa_last(host) == 0 && homa_count(host, HOMA_COUNT_RECEIVED) == 0, what);
+    check(homa_count(host, HOMA_COUNT_KEPT) == 0, what);
     check(is_filled(room, 100), what);
     check(host->at == was.at && !host->is_open, what);
 }
@@ -97,9 +99,14 @@ static void open_wrongly(void) {
     check(homa_open(&settings, 1, 1, LAST_TICK, &host) == HOMA_OK && host.is_open, "the last tick");
     was = host;
     check(homa_open(&settings, 0, 2, 0, &host) == HOMA_IS_OPEN && host.at == was.at && host.is_open, "an open handle");
+    check(homa_open_late(&settings, 0, 2, 0, 1, 1, &host) == HOMA_IS_OPEN && host.at == was.at && host.is_open, "an open handle");
     check(homa_turn(&host, LAST_TICK) == HOMA_OK && homa_turn(&host, LAST_TICK + 1) == HOMA_SPENT, "a turn past the last tick");
     check(homa_close(&host) == HOMA_OK && !host.is_open, "close");
     closed(&host, "use after close");
+    check(homa_open_late(&settings, 0, 1, 0, 0, 1, &host) == HOMA_BAD_SETTING && !host.is_open, "no room to keep a call");
+    check(homa_open_late(&settings, 0, 1, 0, 1, settings.life + 1, &host) == HOMA_BAD_SETTING && !host.is_open, "kept for longer than a life");
+    check(homa_open_late(&settings, 0, 1, 0, 1, 1, &host) == HOMA_OK && homa_close(&host) == HOMA_OK, "close");
+    closed(&host, "use after close of a host that keeps what asks");
 }
 
 /* Steps that can't begin, at a host whose clock stands at 10 and whose next call has number 1. */

@@ -5,10 +5,10 @@
 
 It needs libhoma: the file that HOMA_LIBRARY names, or the one that the system finds."""
 from ._host import (Ask, CallId, Counts, Done, Event, Forgotten, Frame, Full, Host, NoLibrary, Note, NotNow, Ran, Refused, Settings, Spent, TimedOut)
-from ._late import LateHost
+from ._late import Answered, LateHost
 from .endpoint import CallFailed, CallForgotten, CallTimeout, Endpoint, Handler
 
 __all__ = [
-    "Ask", "CallFailed", "CallForgotten", "CallId", "CallTimeout", "Counts", "Done", "Endpoint", "Event", "Forgotten", "Frame", "Full", "Handler",
+    "Answered", "Ask", "CallFailed", "CallForgotten", "CallId", "CallTimeout", "Counts", "Done", "Endpoint", "Event", "Forgotten", "Frame", "Full", "Handler",
     "Host", "LateHost", "NoLibrary", "Note", "NotNow", "Ran", "Refused", "Settings", "Spent", "TimedOut",
 ]

@@ -8,7 +8,7 @@ import functools
 import os
 from typing import NamedTuple, Union
 
-OK, ASKS, NO_MEMORY, FULL, SPENT, BAD_SETTING = 0, 1, 3, 4, 5, 18
+OK, ASKS, NO_MEMORY, FULL, SPENT, AT_WORK, LATER, GONE, BAD_SETTING = 0, 1, 3, 4, 5, 6, 7, 8, 18
 RESULTS = {FULL: "full", SPENT: "spent", 16: "not open", BAD_SETTING: "bad setting", 19: "bad host", 20: "bad incarnation", 21: "bad tick",
            22: "no bytes", 23: "too long", 24: "too many pages"}
 RAN, DONE, TIMEOUT, FORGOTTEN = 1, 2, 3, 4
@@ -120,6 +120,7 @@ class Counts(NamedTuple):
     buried: int
     freed: int
     live: int
+    kept: int
 
 
 class CallId(NamedTuple):
@@ -195,9 +196,12 @@ _SIGNATURES = {
     "service": (None, _to(_Settings)),
     "wrong_setting": (U32, _to(_Settings)),
     "open": (U32, _to(_Settings), U16, U32, U64, _to(_Handle)),
+    "open_late": (U32, _to(_Settings), U16, U32, U64, U32, U32, _to(_Handle)),
     "close": (U32, _to(_Handle)),
     "call": (U32, _to(_Handle), U16, U8, BYTES, SIZE, U64, _to(_Call)),
     "deliver": (U32, _to(_Handle), U16, BYTES, SIZE, U64, BYTES, SIZE, _to(_Asked)),
+    "answer": (U32, _to(_Handle), _to(_Call), BYTES, SIZE, U64),
+    "decline": (U32, _to(_Handle), _to(_Call)),
     "turn": (U32, _to(_Handle), U64),
     "next_turn": (U32, _to(_Handle), _to(U64)),
     "frames": (SIZE, _to(_Handle)),
@@ -255,11 +259,14 @@ class Host:
 
     def __init__(self, settings: Settings, number: int, incarnation: int, last: int = 0) -> None:
         self._library, self._handle = library(), _Handle()
-        raw = settings._raw()
-        code = self._library.homa_open(raw, _in(number, 0xFFFF, "host"), _in(incarnation, 0xFFFFFFFF, "incarnation"), _in(last, 2**64 - 1, "last"), self._handle)
-        _need(code, f"homa_open: {settings.fault}" if code == BAD_SETTING else "homa_open")
+        whose = (_in(number, 0xFFFF, "host"), _in(incarnation, 0xFFFFFFFF, "incarnation"), _in(last, 2**64 - 1, "last"))
+        self._open(settings, *whose)
         self.number, self.settings = number, settings
         self._frame, self._whole = ctypes.create_string_buffer(MOST_FRAME), ctypes.create_string_buffer(MOST_MESSAGE)
+
+    def _open(self, settings: Settings, number: int, incarnation: int, last: int) -> None:
+        code = self._library.homa_open(settings._raw(), number, incarnation, last, self._handle)
+        _need(code, f"homa_open: {settings.fault}" if code == BAD_SETTING else "homa_open")
 
     def close(self) -> None:
         self._library.homa_close(self._handle)

@@ -1,72 +1,52 @@
-"""Late answers: the calls at work beside a host."""
+"""A host that keeps what asks, so that answers may come later."""
 from __future__ import annotations
 
-import dataclasses
-from typing import Callable
+import enum
 
-from ._host import Ask, CallId, Event, Host, Ran
-
-
-@dataclasses.dataclass
-class _Work:
-    source: int
-    at: int
-    datagram: bytes
-    answer: bytes | None = None
+from ._host import ASKS, AT_WORK, BAD_SETTING, FULL, GONE, LATER, Ask, CallId, Host, Settings, _Asked, _Call, _id, _in, _need
 
 
-class LateHost:
-    """`after` is called behind each step with what it told; it sends the host's frames."""
+class Answered(enum.Enum):
+    """What came of an answer. `STEP`: read `frames` and `events`; without an event `Ran` the library keeps the answer, and gives it to the
+    next datagram that asks. `LATER`: there was no step, and it is kept. `GONE`: no such call waits."""
 
-    def __init__(self, host: Host, room: int, keep: int, after: Callable[[list[Event]], None]) -> None:
-        self.host, self._room, self._keep, self._after = host, room, keep, after
-        self.work: dict[CallId, _Work] = {}
+    STEP = "step"
+    LATER = "later"
+    GONE = "gone"
 
-    def _step(self) -> list[Event]:
-        told = self.host.events()
-        for it in told:
-            if isinstance(it, Ran):
-                self.work.pop(it.id, None)
-        self._after(told)
-        return told
 
-    def deliver(self, source: int, datagram: bytes, now: int) -> Ask | None:
-        """A datagram came. What is asked, once for each call while it is kept."""
-        ask = self.host.deliver(source, datagram, now)
-        if ask is None:
-            self._step()
-            return None
-        work = self.work.get(ask.id)
-        if work:
-            work.source, work.at, work.datagram = source, now, datagram
-            if work.answer is not None:
-                self._give(work, work.answer, now)
-            return None
-        if len(self.work) >= self._room:
-            stale = [(it.at, id) for id, it in self.work.items() if now > it.at + self._keep]
-            if not stale:
-                return None
-            del self.work[min(stale)[1]]
-        self.work[ask.id] = _Work(source, now, datagram)
-        return ask
+class LateHost(Host):
+    """A host with room for `kept` calls, 1 to 4,096: each is told once, and answered at any time. A kept datagram is delivered at most `keep`
+    ticks after it came, 0 to `life` of the settings."""
 
-    def _give(self, work: _Work, answer: bytes, now: int) -> list[Event]:
-        try:
-            self.host.deliver(work.source, work.datagram, now, answer)
-        except MemoryError:
-            return []
-        return self._step()
+    def __init__(self, settings: Settings, number: int, incarnation: int, last: int = 0, *, kept: int = 1024, keep: int | None = None) -> None:
+        self._kept = _in(kept, 0xFFFFFFFF, "kept")
+        self._keep = _in(settings.life if keep is None else keep, 0xFFFFFFFF, "keep")
+        super().__init__(settings, number, incarnation, last)
 
-    def answer(self, id: CallId, answer: bytes, now: int) -> bool:
-        """The answer to a call that asked. False where no such call waits; else it was taken, or is kept for the next datagram that asks."""
-        work = self.work.get(id)
-        if work is None or work.answer is not None:
-            return False
-        work.answer = answer
-        if now <= work.at + self._keep:
-            self._give(work, answer, now)
-        return True
+    def _open(self, settings: Settings, number: int, incarnation: int, last: int) -> None:
+        code = self._library.homa_open_late(settings._raw(), number, incarnation, last, self._kept, self._keep, self._handle)
+        _need(code, f"homa_open_late: {settings.fault or 'kept or keep'}" if code == BAD_SETTING else "homa_open_late")
+
+    def deliver(self, source: int, datagram: bytes, now: int, answer: bytes = b"") -> Ask | None:
+        """A datagram came. What is asked, once for each call while it is kept. None also where it asks for a call that is kept, or there is no
+        room for one more: then `frames` and `events` have nothing."""
+        asked = _Asked()
+        code = self._library.homa_deliver(self._handle, source, datagram, len(datagram), now, answer, len(answer), asked)
+        if code == ASKS:
+            return Ask(_id(asked.id), asked.service, self._message())
+        if code not in (AT_WORK, FULL):
+            _need(code, "homa_deliver")
+        return None
+
+    def answer(self, id: CallId, answer: bytes, now: int) -> Answered:
+        """The answer to a call that asked, of 1 to 1,000,000 bytes."""
+        code = self._library.homa_answer(self._handle, _Call(*id), answer, len(answer), now)
+        if code in (LATER, GONE):
+            return Answered.LATER if code == LATER else Answered.GONE
+        _need(code, "homa_answer")
+        return Answered.STEP
 
     def decline(self, id: CallId) -> bool:
-        """No answer will come: where the call asks again, it is told again."""
-        return self.work.pop(id, None) is not None
+        """No answer will come: if the call asks again, it is told again. Whether it was kept."""
+        return bool(self._library.homa_decline(self._handle, _Call(*id)) == 0)

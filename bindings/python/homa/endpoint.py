@@ -7,8 +7,8 @@ import socket
 import time
 from typing import Awaitable, Callable, Mapping
 
-from ._host import CallId, Done, Event, Forgotten, Host, Settings, TimedOut
-from ._late import LateHost
+from ._host import CallId, Done, Event, Forgotten, Settings, TimedOut
+from ._late import Answered, LateHost
 
 Address = tuple[str, int]
 Handler = Callable[[bytes], Awaitable[bytes]]
@@ -64,9 +64,8 @@ class Endpoint(asyncio.DatagramProtocol):
             incarnation = int(time.time())
             await asyncio.sleep(incarnation + 1 - time.time())
         self._incarnation = incarnation
-        self._host = Host(self._settings, self.number, incarnation, max(self._last, self.now()))
+        self._host = LateHost(self._settings, self.number, incarnation, max(self._last, self.now()), kept=self._room)
         self._closed: asyncio.Future[None] = self._loop.create_future()
-        self._late = LateHost(self._host, self._room, self._settings.life, self._after)
         try:
             self._net, _ = await self._loop.create_datagram_endpoint(lambda: self, local_addr=self._addresses[self.number])
         except BaseException:
@@ -148,8 +147,10 @@ class Endpoint(asyncio.DatagramProtocol):
         if source is None:
             self.foreign += 1
             return
-        ask = self._late.deliver(source, data, self.now())
-        if ask:
+        ask = self._host.deliver(source, data, self.now())
+        if not ask:
+            self._after(self._host.events())
+        else:
             task = self._loop.create_task(self._serve(ask.id, ask.service, ask.request))
             self._tasks.add(task)
             task.add_done_callback(self._tasks.discard)
@@ -166,4 +167,11 @@ class Endpoint(asyncio.DatagramProtocol):
         except Exception:
             log.exception("service %d of host %d", service, self.number)
             answer = self._on_error
-        self._late.answer(id, answer, self.now())
+        try:
+            answered = self._host.answer(id, answer, self.now())
+        except MemoryError:
+            log.warning("service %d of host %d: no memory for an answer", service, self.number)
+            self._host.decline(id)  # it asks again, and is told again
+            return
+        if answered is Answered.STEP:
+            self._after(self._host.events())

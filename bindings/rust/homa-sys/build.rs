@@ -1,5 +1,8 @@
 //! Where libhoma is: the folder that HOMA_LIB_DIR names, or what pkg-config says. It is linked as an archive unless HOMA_SHARED is set.
-use std::{env, process::Command};
+use std::{
+    env,
+    process::{Command, exit},
+};
 
 fn main() {
     for name in ["HOMA_LIB_DIR", "HOMA_SHARED", "PKG_CONFIG_PATH"] {
@@ -9,7 +12,10 @@ fn main() {
         let said = Command::new("pkg-config").args(["--variable=libdir", "homa"]).output();
         match said {
             Ok(it) if it.status.success() => String::from_utf8_lossy(&it.stdout).trim().to_string(),
-            _ => panic!("libhoma isn't found: set HOMA_LIB_DIR, or PKG_CONFIG_PATH to the folder of homa.pc"),
+            _ => {
+                eprintln!("libhoma isn't found: set HOMA_LIB_DIR, or PKG_CONFIG_PATH to the folder of homa.pc");
+                exit(1)
+            }
         }
     });
     let kind = if env::var_os("HOMA_SHARED").is_some() { "dylib" } else { "static" };

@@ -12,7 +12,7 @@
 // the one with the fewest missing bytes, or the oldest of the two, and it is granted one more: a GRANT has 16 + 5 bytes.
 // A GRANT, a RESEND and an UNKNOWN each have one byte of a request sent, in 16 + 20 + 1 bytes, and a NEED_ACK a BUSY, in
 // 16. A datagram that is no packet is told; a repeat of a piece, of CUTOFFS and of an ACK, and a BUSY, tell nothing. Each
-// `done` tells that a call is done, that another is made, and that its first byte is sent, in 16 + 20 + 1 bytes; no
+// `done` tells that a call is done, that another is made, and that its first byte is sent, in 16 + 20 + 1 bytes. No
 // server has five calls that are done, of which it would be told by an ACK.
 
 mod frames;

@@ -1,8 +1,8 @@
 //! The calls of a simulated run: what is known of each, how long it takes alone, and how much slower it was, by rank.
 //!
 //! Moments and spans are picoseconds. A call is found by its id, in whichever life of its client it was made.
-//! Main promise: a call alone takes as long as its bytes need on two links, with their delays; a rank is the nearest one of all calls
-//! that were measured, of which those that are open or failed are slower than all others.
+//! Main promises: a call alone takes as long as its bytes need on two links, with their delays. A rank is the nearest one of all calls
+//! that were measured. Those that are open or failed are slower than all others.
 #![tactic(auto)]
 
 mod alone;

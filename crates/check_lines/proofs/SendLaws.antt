@@ -27,6 +27,8 @@ use Rattle.check_laws.specs.Spots.{spot, said_spot, raised_request, raised_respo
 use Rattle.check_laws.proofs.Each.{each_said}
 use Rattle.check_call.specs.declared.call.Call.{Call}
 use Rattle.check_call.specs.declared.packet.Packet.{Packet}
+use Rattle.check_call.specs.declared.packet.Piece.{Piece}
+use Rattle.check_call.specs.declared.packet.Piece.TheVariants.{Data, Unknown, Other}
 use Rattle.check_call.specs.declared.part.Part.{Part as KeptPart}
 use Rattle.check_call.specs.declared.spot.Change.{Change}
 use Rattle.check_call.specs.declared.spot.Change.TheVariants.{Nothing, Renewed, Told, RaisedRequest, RaisedResponse}
@@ -198,6 +200,22 @@ made_more : (v : View) (p : Sent) (ps : List Sent) → contains_key v.calls p.id
     → AllByRecursion (λ x. contains_key v.calls x.id ≡ true) (ps ++ p ∷ [])
 made_more v p [] h all = (h, tt)
 made_more v p (x ∷ ps) h all = (all.0, made_more v p ps h all.1)
+
+-- a server's packet has no byte of a request
+not_last : (n : ℕ) (k : Packet) (piece : Piece) → is_client k.role ≡ false → piece_has_last n k.role piece ≡ false
+not_last n k (Data all offset len) e = ap (λ b. b && nat_lt offset n && nat_le n (offset + len)) e
+not_last n k (Unknown reason) e = refl
+not_last n k Other e = refl
+
+pub not_sent : (k : Packet) (id : CallId) (q : CallId) (calls : CallId → Option Call) → is_client k.role ≡ false → calls q ≡ call_or id (sent_with k) calls q
+not_sent k id q calls e = by_call (is_call id q) (calls q) where
+  by_call : (b : Bool) (o : Option Call) → o ≡ (if b then option_map (sent_with k) o else o)
+  by_call true None = refl
+  by_call true (Some c) =
+      let was : (c.sent_last || piece_has_last (length c.request.items) k.role k.piece) ≡ c.sent_last =
+      ap (λ b. c.sent_last || b) (not_last (length c.request.items) k k.piece e) ∙ or_none c.sent_last in
+      λ i. Some (record c { sent_last = sym was i })
+  by_call false o = refl
 
 -- ---- all of it
 

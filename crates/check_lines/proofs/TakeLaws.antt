@@ -13,6 +13,7 @@ use Rattle.check_laws.specs.Spots as spots
 use Rattle.check_laws.specs.Spots.{spot, Undo, only, undo_each}
 use Rattle.check_call.specs.declared.spot.Spot.{Spot}
 use Rattle.check_call.specs.declared.spot.Change.{Change}
+use Rattle.check_call.specs.declared.spot.Change.TheVariants.{Nothing}
 use Rattle.check_call.specs.declared.call.Call.{Call}
 use Rattle.check_call.specs.Kept.{Beside, StandsFor, IsApart, changed, no_spot}
 use Rattle.check_call.specs.Calls.{spot_in, beside, called_of}
@@ -118,6 +119,42 @@ undo_then t d u id change f refused stale e made ch r s is =
         → AreSpots o (record d { refused = refused; stale = stale }) (record u { refused = f u.refused; stale = f u.stale })
     by_set None e m k a = absurd (not_made (call_at t u.packet.id) (beside u.packet.id.client t.settings.resend) m e)
     by_set (Some b) e m k a = (r b u.refused k a.0, s b u.stale k a.1)
+
+-- ---- a change that is none
+
+-- the spot of its call stays
+nothing_there : (v : View) (t : Trace) (id : CallId) (f : spots.Spot → spots.Spot) → Keeps v t → IsMade t id → IsChange t id Nothing f
+    → f (spot v.now id) ≡ spot v.now id
+nothing_there v t id f keeps made ch =
+    let here = some_there (call_at t id) made in
+    let c = here.0 in
+    let is : ChangesAs (beside id.client t.settings.resend c) Nothing f =
+    subst (λ (o : Option Call). IfSome (option_map (beside id.client t.settings.resend) o) (λ b. ChangesAs b Nothing f)) here.1 ch in
+    sym (is.same (spot_in c (lives_in t id c.server)) (spot v.now id) (stands_now v t id c keeps here.1))
+
+-- so does what is kept
+pub nothing_changes : (v w : View) (t : Trace) (id : CallId) (f : spots.Spot → spots.Spot) → Keeps v t → IsMade t id → IsChange t id Nothing f
+    → Changes v w id f → Keeps w t
+nothing_changes v w t id f keeps made ch changes = keeps_lines v w t changes.same (λ q. changes.spots q ∙ at_call q (is_call q id) refl) keeps where
+  at_call : (q : CallId) (b : Bool) → is_call q id ≡ b → only id f q (spot v.now q) ≡ spot v.now q
+  at_call q true e =
+      ap (λ b. cond b (f (spot v.now q)) (spot v.now q)) e
+      ∙ subst (λ (x : CallId). f (spot v.now x) ≡ spot v.now x) (sym ((calls_are q id).0 e)) (nothing_there v t id f keeps made ch)
+  at_call q false e = ap (λ b. cond b (f (spot v.now q)) (spot v.now q)) e
+
+-- and what the block's delivery may be taken back to
+pub nothing_undone : (t : Trace) (d : Option Delivery) (o : Option Undo) (id : CallId) (f : spots.Spot → spots.Spot) → IsMade t id
+    → IsChange t id Nothing f
+    → IsDelivered t d o → IsDelivered t d (option_map (undo_each (only id f)) o)
+nothing_undone t None None id f made ch is = tt
+nothing_undone t None (Some u) id f made ch is = absurd is
+nothing_undone t (Some d) None id f made ch is = absurd is
+nothing_undone t (Some d) (Some u) id f made ch is = at_call (is_call u.packet.id id) refl where
+  at_call : (b : Bool) → is_call u.packet.id id ≡ b → IsUndoOf t d (undo_each (only id f) u)
+  at_call true e =
+      undo_then t d u id Nothing f d.refused d.stale e made ch (λ b s x st. subst (StandsFor b d.refused) (x.same d.refused s st) st)
+      (λ b s x st. subst (StandsFor b d.stale) (x.same d.stale s st) st) is
+  at_call false e = undo_else t d u id f e is
 
 -- ---- a change of a call
 

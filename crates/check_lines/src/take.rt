@@ -327,6 +327,9 @@ impl Trace {
         ensures sets { OnOk result (SameSets self.old self.new) }
         ensures count { OnOk result (SameCount self.old self.new) }
     {
+        if let Change::Nothing = change {
+            return Ok(());
+        }
         self.change_delivery(id, change);
         let Some(at) = self.find(id) else {
             return Ok(());
@@ -381,6 +384,9 @@ impl Trace {
         ensures len { length self.new.calls.items ≡ length self.old.calls.items }
         ensures rest { self.new ≡ record self.old { calls = self.new.calls } }
     {
+        if !packet.role.is_of_client() {
+            return;
+        }
         let Some(at) = self.find(packet.id) else {
             return;
         };

@@ -9,7 +9,7 @@ nothing = codes ""
 abbrev pub one_call : List ℕ
 one_call = codes "settings 2 1400 10000 10000 4 14000 4 5 20 1024 256 1024 0\ncall 0.1.0 1 0 6869\nsend 0 0>1 1 DATA c 0.1.0 7 2 0 0 0 - 6869\ndeliver 0\nrun 1 0.1.0 0 6869 6869 0\nsend 1 1>0 1 DATA s 0.1.0 7 2 0 0 0 - 6869\ndeliver 1\ndone 0.1.0 6869\nok 3\n"
 
--- the same without its first line
+-- the lines of `one_call` without its first line
 abbrev pub no_settings : List ℕ
 no_settings = codes "call 0.1.0 1 0 6869\nsend 0 0>1 1 DATA c 0.1.0 7 2 0 0 0 - 6869\ndeliver 0\nrun 1 0.1.0 0 6869 6869 0\nsend 1 1>0 1 DATA s 0.1.0 7 2 0 0 0 - 6869\ndeliver 1\ndone 0.1.0 6869\nok 3\n"
 

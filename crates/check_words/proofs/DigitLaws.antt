@@ -1,12 +1,14 @@
 -- Lower-case hex, pair by pair.
-use Rattle.std.proofs.Common.{◌≡◌, ◌<◌, ◌≤◌, ℕ, suc, ◌+◌, ◌-◌, ◌*◌, ◌%◌, ◌&&◌, ◌||◌, max, Bool, true, false, Option, None, Some, Result}
-use Rattle.std.proofs.Common.{Ok, Err, List, [], ◌∷◌, ◌++◌, length, take, drop, set, get_or, refl, sym, ap, ◌∙◌, arith, append_assoc, drop-cons}
-use Rattle.std.specs.Prelude.{if◌then◌else◌}
+use Rattle.std.proofs.Common.{◌≡◌, ◌<◌, ◌≤◌, ℕ, zero, suc, ◌+◌, ◌-◌, ◌*◌, ◌%◌, ◌&&◌, ◌||◌, max, Bool, true, false, Option, None, Some, Result}
+use Rattle.std.proofs.Common.{Ok, Err, List, [], ◌∷◌, ◌++◌, length, take, drop, set, get_or, refl, sym, ap, subst, ◌∙◌, arith, append_assoc, drop-cons}
+use Rattle.std.specs.Prelude.{if◌then◌else◌, is_some, replicate, IfSome}
 use Rattle.std.specs.Char.{is_ascii_uppercase}
-use Rattle.std.specs.List.{list_any}
+use Rattle.std.specs.List.{list_all, list_any}
+use Rattle.std.specs.Ordering.{ord_max, nat_cmp}
 use Rattle.std.specs.Option.{option_map}
 use Rattle.std.specs.Result.{result_ok}
 use Rattle.std.proofs.lemmas.Bool.Decides.{nat_tests}
+use Rattle.std.proofs.lemmas.List.Folds.{list_all-append, list_all_more}
 use Rattle.std.proofs.lemmas.List.{append-nil, drop-drop, drop_all, take_all, take_more, take_more_set, take-append-drop}
 use Rattle.hex.specs.Hex.{decode_pairs, hex_digit_value, digit_or_error, ◌>>=◌}
 use Rattle.hex.specs.declared.error.FromHexError.{FromHexError}
@@ -44,6 +46,9 @@ pairs_same i (a ∷ b ∷ rest) =
     (decode_pairs (i + 2) rest) (lower_pairs rest) (pairs_same (i + 2) rest)
 
 -- ---- one digit more
+
+pub greater_is : (a b : ℕ) → ord_max nat_cmp a b ≡ max a b
+greater_is a b = grind (arith, nat_tests)
 
 greatest_is : (g v : ℕ) → is_value (max g v) ≡ (is_value g && is_value v)
 greatest_is g v = grind (arith, nat_tests)
@@ -87,6 +92,75 @@ values_more word values i g v m within within' greatest one so_far =
     ∙ (both_are (is_value g) (is_value v) (take i values) v
     ∙ ((λ j. at_end (so_far j) (one j))
     ∙ (sym (values_append (take i word) (get_or word i 0)) ∙ ap values_of (sym (take_more word i 0 within))))))
+
+-- ---- the greatest of all
+
+and_true : (b : Bool) → (b && true) ≡ b
+and_true true = refl
+and_true false = refl
+
+swapped : (a b c : Bool) → ((a && b) && c) ≡ ((a && c) && b)
+swapped true true true = refl
+swapped true true false = refl
+swapped true false true = refl
+swapped true false false = refl
+swapped false b c = refl
+
+grouped : (a b c : Bool) → (a && (b && c)) ≡ ((a && b) && c)
+grouped true b c = refl
+grouped false b c = refl
+
+one_more : (values : List ℕ) (v : ℕ) → list_all is_value (values ++ v ∷ []) ≡ (list_all is_value values && is_value v)
+one_more values v = list_all-append is_value values (v ∷ []) ∙ ap (λ b. list_all is_value values && b) (and_true (is_value v))
+
+-- with one value more that was read
+pub all_more : (values : List ℕ) (i g v m : ℕ) → i < length values → m ≡ max g v → is_value g ≡ list_all is_value (take i values)
+    → is_value m ≡ list_all is_value (take (i + 1) (set values i v))
+all_more values i g v m within greatest so_far =
+    ap is_value greatest
+    ∙ (greatest_is g v
+    ∙ ((λ j. so_far j && is_value v)
+    ∙ (sym (one_more (take i values) v) ∙ ap (list_all is_value) (sym (take_more_set values i v within)))))
+
+-- with one value more that was looked at
+pub all_seen : (values : List ℕ) (i g m : ℕ) → i < length values → m ≡ max g (get_or values i 0) → is_value g ≡ list_all is_value (take i values)
+    → is_value m ≡ list_all is_value (take (i + 1) values)
+all_seen values i g m within greatest so_far =
+    ap is_value greatest
+    ∙ (greatest_is g (get_or values i 0)
+    ∙ ((λ j. so_far j && is_value (get_or values i 0)) ∙ sym (list_all_more is_value values i 0 within)))
+
+-- with one number raised
+set_all : (most : List ℕ) (i m v : ℕ) → i < length most → is_value m ≡ (is_value (get_or most i 0) && is_value v)
+    → list_all is_value (set most i m) ≡ (list_all is_value most && is_value v)
+set_all [] i m v h e = absurd (omega arith)
+set_all (x ∷ most) zero m v h e = ap (λ b. b && list_all is_value most) e ∙ swapped (is_value x) (is_value v) (list_all is_value most)
+set_all (x ∷ most) (suc i) m v h e =
+    ap (λ b. is_value x && b) (set_all most i m v (omega arith) e) ∙ grouped (is_value x) (list_all is_value most) (is_value v)
+
+pub all_raised : (first most values : List ℕ) (i m : ℕ) → i < length most → i < length values → m ≡ max (get_or most i 0) (get_or values i 0)
+    → list_all is_value most ≡ (list_all is_value first && list_all is_value (take i values))
+    → list_all is_value (set most i m) ≡ (list_all is_value first && list_all is_value (take (i + 1) values))
+all_raised first most values i m within within' greater so_far =
+    let v = get_or values i 0 in
+    set_all most i m v within (ap is_value greater ∙ greatest_is (get_or most i 0) v)
+    ∙ ((λ j. so_far j && is_value v)
+    ∙ (sym (grouped (list_all is_value first) (list_all is_value (take i values)) (is_value v))
+    ∙ ap (λ b. list_all is_value first && b) (sym (list_all_more is_value values i 0 within'))))
+
+-- at first none is greater
+pub none_greater : (n : ℕ) → list_all is_value (replicate n 0) ≡ true
+none_greater zero = refl
+none_greater (suc n) = none_greater n
+
+-- what is spelled, if it is known whether something is
+some_if : (b : Bool) (bytes : List ℕ) (o : Option (List ℕ)) → (if b then Some bytes else None) ≡ o → (b ≡ is_some o) × (IfSome o (λ bs. bytes ≡ bs))
+some_if true bytes o e = subst (λ (p : Option (List ℕ)). (true ≡ is_some p) × (IfSome p (λ bs. bytes ≡ bs))) e (refl, refl)
+some_if false bytes o e = subst (λ (p : Option (List ℕ)). (false ≡ is_some p) × (IfSome p (λ bs. bytes ≡ bs))) e (refl, tt)
+
+pub if_some : (bytes : List ℕ) (o : Option (List ℕ)) → IfSome o (λ bs. bytes ≡ bs) → (if is_some o then Some bytes else None) ≡ o
+if_some bytes None e = refl
+if_some bytes (Some bs) e = ap Some e
 
 -- ---- one pair more
 
@@ -162,6 +236,21 @@ part_read word values bytes are n even whole read =
     (λ j. if are then Some (whole j) else None)
     ∙ (joined_if are values ∙ (ap (option_map joined) read ∙ pairs_joined word n even))
 
+-- a whole part
+pub whole_read : (word values bytes first most : List ℕ) (g n : ℕ) → length word ≡ 2 * n → bytes ≡ joined values
+    → (if is_value g then Some values else None) ≡ values_of word → is_value g ≡ list_all is_value values
+    → list_all is_value most ≡ (list_all is_value first && list_all is_value values)
+    → (list_all is_value most ≡ (is_some (lower_pairs word) && list_all is_value first)) × (IfSome (lower_pairs word) (λ bs. bytes ≡ bs))
+whole_read word values bytes first most g n even whole read all raised =
+    let known = some_if (is_value g) bytes (lower_pairs word) (part_read word values bytes (is_value g) n even whole read) in
+    (raised ∙ (turned (list_all is_value first) (list_all is_value values) ∙ ap (λ b. b && list_all is_value first) (sym all ∙ known.0)), known.1)
+  where
+    turned : (a b : Bool) → (a && b) ≡ (b && a)
+    turned true true = refl
+    turned true false = refl
+    turned false true = refl
+    turned false false = refl
+
 -- ---- part by part
 
 -- the part of n digits from one place on
@@ -225,3 +314,7 @@ last_by false false front bytes = refl
 pub spelled_last : (word bytes front : List ℕ) (are part : Bool) (at : ℕ) → (if part then Some bytes else None) ≡ lower_pairs (drop at word)
     → lower_pairs word ≡ spelled are front (lower_pairs (drop at word)) → (if part && are then Some (front ++ bytes) else None) ≡ lower_pairs word
 spelled_last word bytes front are part at read so_far = last_by are part front bytes ∙ (ap (spelled are front) read ∙ sym so_far)
+
+-- before the first part
+pub nothing_read : (word : List ℕ) (are : Bool) → are ≡ true → lower_pairs word ≡ spelled are [] (lower_pairs word)
+nothing_read word are e = before_nil (lower_pairs word) ∙ ap (λ b. spelled b [] (lower_pairs word)) (sym e)

@@ -9,8 +9,8 @@ use Rattle.host_view.specs.Done.{IsDone, HoldsSent}
 use Rattle.homa_service.specs.Suite.{suite_answer}
 use Rattle.driven_host.specs.declared.counts.HostCounts.{HostCounts}
 
--- a host, how many answers its service gave, how many steps were begun, and what its last step left: its frames, the message
--- that became whole, and who sent the datagram that came; and what was counted, where that is asked for
+-- a host, how many answers its service gave, how many steps were begun, and what was counted, where that is asked for. Its last step
+-- left its frames, the message that became whole, and who sent the datagram that came.
 pub record Driven : Type 0 where
   pub host : Seen
   pub served : ℕ

@@ -1,8 +1,8 @@
 //! An experiment: what is asked of a simulated network, the text that says it, and the draws that it makes.
 //!
 //! Moments and spans are picoseconds, of which a byte takes a whole number at each rate that a link may have.
-//! Main promise: a text gives an experiment of which each value is within its range, or a fault that names line and word;
-//! a length that is drawn stands in the table; the mean on the wire is that of the table.
+//! Main promises: a text gives an experiment of which each value is within its range, or a fault that names line and word.
+//! A length that is drawn stands in the table. The mean on the wire is that of the table.
 #![tactic(auto)]
 
 mod amounts;

@@ -4,7 +4,7 @@ ghost use Rattle.homa_plain.specs.Input.{words_of};
 ghost use Rattle.experiment.specs.Grammar.{line_of};
 ghost use Rattle.experiment.specs.Drafts.{drafting};
 ghost use Rattle.text_lines.specs.Lines.{reading};
-ghost use Rattle.script_lines.specs.Place.{place_of, IsCounted};
+ghost use Rattle.script_lines.specs.Place.{place_of, ReadsScript};
 ghost use Rattle.experiment.specs.Texts.{fault_at, line_after, IsLineTaken, IsNextText, IsTextNumbered, IsExperimentOf};
 
 use crate::draft::Draft;
@@ -35,8 +35,7 @@ fn said(line: u64, refusal: Refusal) -> ExperimentFault
 
 // Whether there is a further line, which then is the last one of `lines`.
 fn next<S: Source>(lines: &mut Lines, source: &mut S) -> Result<bool, ExperimentFault>
-    requires longest { (reading lines.old).longest ≡ 2100000 }
-    requires counted { IsCounted (place_of (reading lines.old)) }
+    requires script { ReadsScript (reading lines.old) }
     ensures line { (bytes : List ℕ) → S.left source.old ≡ Some bytes → IsNextText (reading lines.old) (reading lines.new) bytes (S.left source.new) result }
     ensures numbered { IsTextNumbered (place_of (reading lines.old)) (place_of (reading lines.new)) result }
     ensures short { IfOk result (λ there. there ≡ true → length (reading lines.new).line ≤ 2100000) }

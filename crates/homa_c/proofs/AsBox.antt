@@ -6,10 +6,10 @@ use Rattle.std_alloc.proofs.BoxSteps.Form.{Bx}
 use Rattle.std_heap.specs.contracts.Global as Heap
 use Rattle.std_heap.specs.contracts.GlobalAllocator.TheImpl.{ghosts, dict}
 use Rattle.std_heap.proofs.Global.TheLaws as heap
-use Rattle.driven_host.specs.contracts.asking.AskingHost as Held
+use Rattle.late_host.specs.contracts.late.LateHost as Held
 use Rattle.homa_plain.specs.Settings.{usual}
 use Rattle.driven_host.specs.Asking.{opened}
-use Rattle.driven_host.proofs.asking.AskingHost.TheLaws as held
+use Rattle.late_host.proofs.late.LateHost.TheLaws as held
 use Rattle.homa_c.specs.contracts.handle.slot.parts.Parts as Parts
 use Rattle.homa_c.specs.contracts.handle.slot.Slot as Slotted
 
@@ -28,4 +28,4 @@ FromSlot = plain (λ _. Slotted.the_row)
 
 -- stands where a slot holds nothing
 abbrev pub nothing_held : Held.the_row.Denot
-nothing_held = opened usual (record { 0 = 0 }) 1 0
+nothing_held = record { driven = opened usual (record { 0 = 0 }) 1 0; calls = []; room = 0; keep = 0 }

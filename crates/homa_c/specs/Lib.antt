@@ -4,3 +4,4 @@ pub mod Shown
 pub mod Results
 pub mod Counted
 pub mod Begun
+pub mod Late

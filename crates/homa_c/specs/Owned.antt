@@ -6,7 +6,7 @@ use denote.RawPtr.{Ptr}
 use Rattle.std.specs.Box.Ownership.{box_owns}
 use Rattle.std.specs.Global.{Global}
 use Rattle.std_heap.specs.contracts.GlobalAllocator.TheImpl.{ghosts}
-use Rattle.driven_host.specs.contracts.asking.AskingHost.{the_row}
+use Rattle.late_host.specs.contracts.late.LateHost.{the_row}
 
 -- the block of the host that lies there, if there is one
 abbrev pub slot_owns : Global → Ptr → Bool → the_row.Denot → Fml

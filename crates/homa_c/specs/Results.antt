@@ -1,5 +1,5 @@
 -- What C is answered.
-use Rattle.std.specs.Prelude.{ℕ, nat_le, nat_lt, ◌==◌, Bool, if◌then◌else◌, Option, Some, None, Result, Ok, Err, is_err}
+use Rattle.std.specs.Prelude.{ℕ, nat_le, nat_lt, ◌==◌, ◌&&◌, Bool, not, if◌then◌else◌, Option, Some, None, Result, Ok, Err, is_err}
 use Rattle.homa_plain.specs.declared.settings.SettingFault.{SettingFault}
 use Rattle.homa_plain.specs.declared.settings.SettingFault.TheVariants.{OutOfRange, UnschedOverWindow, RateUnderSeg}
 use Rattle.homa_plain.specs.declared.settings.Name.{Name}
@@ -9,6 +9,10 @@ use Rattle.homa_plain.specs.Limits.{last_host_tick}
 use Rattle.homa_plain.specs.Settings.{verdict}
 use Rattle.driven_host.specs.declared.faults.StepFault.{StepFault}
 use Rattle.driven_host.specs.declared.faults.StepFault.TheVariants.{NoHost, Spent, Back, Empty, TooLong, TooManyPages, CallsFull}
+use Rattle.late_host.specs.declared.outcomes.Heard.{Heard}
+use Rattle.late_host.specs.declared.outcomes.Heard.TheVariants as heard
+use Rattle.late_host.specs.declared.outcomes.Answered.{Answered}
+use Rattle.late_host.specs.declared.outcomes.Answered.TheVariants as answered
 use Rattle.homa_c.specs.declared.settings.HomaSettings.{HomaSettings}
 use Rattle.homa_c.specs.Shown.{given_settings}
 
@@ -26,6 +30,25 @@ fault_code TooManyPages = 24
 abbrev pub code : Option StepFault → ℕ
 code None = 0
 code (Some fault) = fault_code fault
+
+-- what came of a datagram at a host that keeps what asks: OK, ASKS, AT_WORK, FULL, NO_MEMORY, or why no step began
+abbrev pub heard_code : Heard → ℕ
+heard_code heard.Taken = 0
+heard_code (heard.Ran id) = 0
+heard_code (heard.Asks e) = 1
+heard_code (heard.AtWork id) = 6
+heard_code (heard.Full id) = 4
+heard_code heard.NoMemory = 3
+heard_code (heard.Refused fault) = fault_code fault
+
+-- what came of an answer: OK, LATER, GONE, NO_MEMORY, or why it can't be given
+abbrev pub settled_code : Answered → ℕ
+settled_code answered.Ran = 0
+settled_code answered.Held = 0
+settled_code answered.Later = 7
+settled_code answered.Gone = 8
+settled_code answered.NoMemory = 3
+settled_code (answered.Refused fault) = fault_code fault
 
 -- the place of a setting among the settings, from 1
 abbrev pub name_code : Name → ℕ
@@ -61,3 +84,12 @@ open_code is_open s id inc last =
     else if inc == 0 then 20
     else if nat_lt last_host_tick last then 21
     else 0
+
+-- a host with these settings can keep so many calls, for so many ticks
+abbrev pub can_keep : HomaSettings → ℕ → ℕ → Bool
+can_keep s kept keep = nat_le 1 kept && nat_le kept 4096 && nat_le keep s.life
+
+-- why a host that keeps what asks can't be opened: as above, and BAD_SETTING also where it can't keep so many calls for so many ticks
+abbrev pub open_late_code : Bool → HomaSettings → ℕ → ℕ → ℕ → ℕ → ℕ → ℕ
+open_late_code is_open s id inc last kept keep =
+    if not is_open && not (can_keep s kept keep) then 18 else open_code is_open s id inc last

@@ -8,7 +8,9 @@ use Rattle.homa_plain.specs.declared.entry.Why.TheVariants.{Timeout, Forgotten}
 use Rattle.homa_plain.specs.Entries.{PlainEntry, PlainRun, PlainDone, PlainFail, PlainJunk, PlainStale, PlainFullRows, PlainFullPages, PlainGaps}
 use Rattle.homa_plain.specs.Entries.{PlainDrop, PlainBury, PlainFree, PlainCall, PlainSend, PlainBalance}
 use Rattle.homa_plain.specs.Wire.{kind}
+use Rattle.host_view.specs.Marks.{shown_entries}
 use Rattle.homa_host.specs.declared.asked.Asked.{Asked}
+use Rattle.driven_host.specs.Driven.{Driven}
 use Rattle.homa_c.specs.declared.settings.HomaSettings.{HomaSettings}
 use Rattle.homa_c.specs.declared.entries.HomaCall.{HomaCall}
 use Rattle.homa_c.specs.declared.entries.HomaAsked.{HomaAsked}
@@ -19,9 +21,17 @@ use Rattle.homa_c.specs.declared.entries.HomaMore.{HomaMore}
 abbrev pub shown_call : CallId → HomaCall
 shown_call id = record { client = id.client.0; inc = id.inc; seq = id.seq }
 
+-- the call that C gives
+abbrev pub given_call : HomaCall → CallId
+given_call id = record { client = record { 0 = id.client }; inc = id.inc; seq = id.seq }
+
 -- a call that asks a service
 abbrev pub shown_asked : Asked → HomaAsked
 shown_asked asked = record { id = shown_call asked.id; service = asked.number }
+
+-- what the last step of a host told
+abbrev pub told_entries : Driven → List PlainEntry
+told_entries d = shown_entries d.host d.out d.whole
 
 -- the kind of a failure
 abbrev pub shown_why : Why → ℕ
@@ -67,8 +77,8 @@ abbrev pub shown_peer : Option HostId → ℕ
 shown_peer None = 65535
 shown_peer (Some host) = host.0
 
--- what more an entry tells, where this host sent the datagram of the step: the other host, and the tick at which a packet was
--- sent or up to which a call is remembered, how many rows there may be, how many pages are free, or the kind of a packet
+-- what more an entry tells, where this host sent the datagram of the step: the other host, and a number. That is the tick at which a
+-- packet was sent or up to which a call is remembered, how many rows there may be, how many pages are free, or the kind of a packet.
 abbrev pub shown_more : Option HostId → PlainEntry → HomaMore
 shown_more from (PlainRun host id service request response hold) = record { peer = id.client.0; at = 0 }
 shown_more from (PlainDone id bytes) = record { peer = shown_peer from; at = 0 }

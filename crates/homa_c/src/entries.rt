@@ -1,6 +1,7 @@
 // What a host asks and tells, as C has it.
 ghost use Rattle.std.specs.Prelude.{◌≡◌};
-ghost use Rattle.homa_c.specs.Shown.{shown_call, shown_asked, shown_why, shown_peer, shown_entry, shown_more, no_call, of_call, of_none, of_service};
+ghost use Rattle.homa_c.specs.Shown.{shown_call, given_call, shown_asked, shown_why, shown_peer, shown_entry, shown_more};
+ghost use Rattle.homa_c.specs.Shown.{no_call, of_call, of_none, of_service};
 ghost use Rattle.homa_plain.specs.Entries.{plain};
 
 use crate::results::{
@@ -51,6 +52,17 @@ pub(crate) fn call_of(id: CallId) -> HomaCall
 {
     HomaCall {
         client: id.client.0,
+        inc: id.inc,
+        seq: id.seq,
+    }
+}
+
+// A call that C gives.
+pub(crate) fn given_call(id: &HomaCall) -> CallId
+    ensures { result ≡ given_call id.now }
+{
+    CallId {
+        client: HostId(id.client),
         inc: id.inc,
         seq: id.seq,
     }

@@ -20,28 +20,28 @@ pub extern "C" fn homa_version() -> u32
 #[unsafe(no_mangle)]
 pub extern "C" fn homa_live(host: &mut Handle) -> u32
     ensures closed { host.old.is_open ≡ false → result ≡ 0 }
-    ensures live { host.old.is_open ≡ true → result ≡ len host.old.slot.held.host.host.clients }
+    ensures live { host.old.is_open ≡ true → result ≡ len host.old.slot.held.driven.host.host.clients }
     ensures same { host.new.slot.held ≡ host.old.slot.held }
     ensures open { host.new.is_open ≡ host.old.is_open }
 {
     if !host.is_open {
         return 0;
     }
-    host.slot.as_mut().host().live()
+    host.slot.as_mut().asking().host().live()
 }
 
 /// The tick of its last step, and before the first what the host was opened with. 0 where the handle isn't open.
 #[unsafe(no_mangle)]
 pub extern "C" fn homa_last(host: &mut Handle) -> u64
     ensures closed { host.old.is_open ≡ false → result ≡ 0 }
-    ensures last { host.old.is_open ≡ true → result ≡ host.old.slot.held.host.host.last }
+    ensures last { host.old.is_open ≡ true → result ≡ host.old.slot.held.driven.host.host.last }
     ensures same { host.new.slot.held ≡ host.old.slot.held }
     ensures open { host.new.is_open ≡ host.old.is_open }
 {
     if !host.is_open {
         return 0;
     }
-    host.slot.as_mut().host().last()
+    host.slot.as_mut().asking().host().last()
 }
 
 /// The count of this number (`all_counts`). 0 where the handle isn't open, or there is no such count.
@@ -56,7 +56,8 @@ pub extern "C" fn homa_count(host: &mut Handle, which: u32) -> u64
         return 0;
     }
     let held = host.slot.as_mut();
-    let counts = held.counts();
+    let asking = held.asking();
+    let counts = asking.counts();
     match which {
         0 => counts.calls,
         1 => counts.done,
@@ -76,7 +77,8 @@ pub extern "C" fn homa_count(host: &mut Handle, which: u32) -> u64
         15 => counts.dropped,
         16 => counts.buried,
         17 => counts.freed,
-        18 => u64::from(held.host().live()),
+        18 => u64::from(asking.host().live()),
+        19 => held.kept() as u64,
         _ => 0,
     }
 }

@@ -9,6 +9,7 @@ mod entries;
 mod exports;
 mod handle;
 mod knows;
+mod late;
 mod results;
 mod settings;
 mod shows;

@@ -1,8 +1,9 @@
 // What the exports answer, and the kinds of entries.
 ghost use Rattle.std.specs.Prelude.{◌≡◌};
-ghost use Rattle.homa_c.specs.Results.{fault_code};
+ghost use Rattle.homa_c.specs.Results.{fault_code, heard_code, settled_code};
 
 use driven_host::StepFault;
+use late_host::{Answered, Heard};
 
 /// It was done.
 pub(crate) const OK: u32 = 0;
@@ -13,11 +14,20 @@ pub(crate) const ASKS: u32 = 1;
 /// There is no memory, and nothing happened.
 pub(crate) const NO_MEMORY: u32 = 3;
 
-/// As many calls are live as the settings allow.
+/// As many calls are live as the settings allow; or there is no room to keep what asks.
 pub(crate) const FULL: u32 = 4;
 
 /// Not in this life of the host: its numbers, its steps or its clock are at their end.
 pub(crate) const SPENT: u32 = 5;
+
+/// It asks for a call that is kept, and is kept in place of the datagram before.
+pub(crate) const AT_WORK: u32 = 6;
+
+/// The kept datagram is too old for a step, and the answer is kept.
+pub(crate) const LATER: u32 = 7;
+
+/// No call of this id waits for an answer.
+pub(crate) const GONE: u32 = 8;
 
 /// No turn that may begin does anything before the next call or datagram.
 pub(crate) const NEVER: u32 = 9;
@@ -106,5 +116,32 @@ pub(crate) fn code_of(fault: StepFault) -> u32
         StepFault::TooLong => TOO_LONG,
         StepFault::TooManyPages => TOO_MANY_PAGES,
         StepFault::CallsFull => FULL,
+    }
+}
+
+// What C is told of a datagram that a host hears which keeps what asks.
+pub(crate) fn code_of_heard(heard: Heard) -> u32
+    ensures { result ≡ heard_code heard }
+{
+    match heard {
+        Heard::Taken | Heard::Ran(_) => OK,
+        Heard::Asks(_) => ASKS,
+        Heard::AtWork(_) => AT_WORK,
+        Heard::Full(_) => FULL,
+        Heard::NoMemory => NO_MEMORY,
+        Heard::Refused(fault) => code_of(fault),
+    }
+}
+
+// What C is told of an answer.
+pub(crate) fn code_of_settled(answered: Answered) -> u32
+    ensures { result ≡ settled_code answered }
+{
+    match answered {
+        Answered::Ran | Answered::Held => OK,
+        Answered::Later => LATER,
+        Answered::Gone => GONE,
+        Answered::NoMemory => NO_MEMORY,
+        Answered::Refused(fault) => code_of(fault),
     }
 }

@@ -1,7 +1,6 @@
 // What C reads of a host's last step. Each call answers the same until the next call, delivery or turn.
 ghost use Rattle.std.specs.Prelude.{◌≡◌, ◌≢◌, ◌≤◌, ◌<◌, IfSome, true, false, length, take, drop, slice_get};
-ghost use Rattle.host_view.specs.Marks.{shown_entries};
-ghost use Rattle.homa_c.specs.Shown.{shown_entry, shown_more, shown_level};
+ghost use Rattle.homa_c.specs.Shown.{told_entries, shown_entry, shown_more, shown_level};
 
 use crate::entries::{HomaEntry, HomaMore, entry_of, more_of};
 use crate::handle::Handle;
@@ -23,7 +22,7 @@ pub struct HomaFrame {
 #[unsafe(no_mangle)]
 pub extern "C" fn homa_frames(host: &mut Handle) -> usize
     ensures closed { host.old.is_open ≡ false → result ≡ 0 }
-    ensures count { host.old.is_open ≡ true → result ≡ length host.old.slot.held.out }
+    ensures count { host.old.is_open ≡ true → result ≡ length host.old.slot.held.driven.out }
     ensures few { result ≤ 64 }
     ensures same { host.new.slot.held ≡ host.old.slot.held }
     ensures open { host.new.is_open ≡ host.old.is_open }
@@ -31,7 +30,7 @@ pub extern "C" fn homa_frames(host: &mut Handle) -> usize
     if !host.is_open {
         return 0;
     }
-    host.slot.as_mut().out().len()
+    host.slot.as_mut().asking().out().len()
 }
 
 /// The frame of the last step with this number, counted from 0. Its bytes go to the front of `room`. NOT_THERE: there is no such
@@ -44,11 +43,11 @@ pub extern "C" fn homa_frame(
     info: &mut HomaFrame,
 ) -> u32
     ensures closed { host.old.is_open ≡ false → result ≡ 16 }
-    ensures there { host.old.is_open ≡ true → length host.old.slot.held.out ≤ i → result ≡ 25 }
-    ensures begins { host.old.is_open ≡ true → IfSome (slice_get host.old.slot.held.out i) (λ f. length f.frame ≤ length room.old → result ≡ 0) }
-    ensures no_room { host.old.is_open ≡ true → IfSome (slice_get host.old.slot.held.out i) (λ f. length room.old < length f.frame → result ≡ 26) }
-    ensures within { result ≡ 0 → i < length host.old.slot.held.out }
-    ensures sent { result ≡ 0 → IfSome (slice_get host.old.slot.held.out i)
+    ensures there { host.old.is_open ≡ true → length host.old.slot.held.driven.out ≤ i → result ≡ 25 }
+    ensures begins { host.old.is_open ≡ true → IfSome (slice_get host.old.slot.held.driven.out i) (λ f. length f.frame ≤ length room.old → result ≡ 0) }
+    ensures no_room { host.old.is_open ≡ true → IfSome (slice_get host.old.slot.held.driven.out i) (λ f. length room.old < length f.frame → result ≡ 26) }
+    ensures within { result ≡ 0 → i < length host.old.slot.held.driven.out }
+    ensures sent { result ≡ 0 → IfSome (slice_get host.old.slot.held.driven.out i)
         (λ f. (info.new.from ≡ f.from.0) × (info.new.to ≡ f.to.0) × (take info.new.len room.new ≡ f.frame)) }
     ensures behind { result ≡ 0 → drop info.new.len room.new ≡ drop info.new.len room.old }
     ensures same { host.new.slot.held ≡ host.old.slot.held }
@@ -58,7 +57,7 @@ pub extern "C" fn homa_frame(
     if !host.is_open {
         return NOT_OPEN;
     }
-    let sent = host.slot.as_mut().out();
+    let sent = host.slot.as_mut().asking().out();
     if i >= sent.len() {
         return NOT_THERE;
     }
@@ -80,15 +79,15 @@ pub extern "C" fn homa_frame(
 #[unsafe(no_mangle)]
 pub extern "C" fn homa_frame_level(host: &mut Handle, i: usize) -> u32
     ensures closed { host.old.is_open ≡ false → result ≡ 0 }
-    ensures there { length host.old.slot.held.out ≤ i → result ≡ 0 }
-    ensures level { host.old.is_open ≡ true → IfSome (slice_get host.old.slot.held.out i) (λ f. result ≡ shown_level f.frame) }
+    ensures there { length host.old.slot.held.driven.out ≤ i → result ≡ 0 }
+    ensures level { host.old.is_open ≡ true → IfSome (slice_get host.old.slot.held.driven.out i) (λ f. result ≡ shown_level f.frame) }
     ensures same { host.new.slot.held ≡ host.old.slot.held }
     ensures open { host.new.is_open ≡ host.old.is_open }
 {
     if !host.is_open {
         return 0;
     }
-    let sent = host.slot.as_mut().out();
+    let sent = host.slot.as_mut().asking().out();
     if i >= sent.len() {
         return 0;
     }
@@ -103,7 +102,7 @@ pub extern "C" fn homa_frame_level(host: &mut Handle, i: usize) -> u32
 #[unsafe(no_mangle)]
 pub extern "C" fn homa_entries(host: &mut Handle) -> usize
     ensures closed { host.old.is_open ≡ false → result ≡ 0 }
-    ensures count { host.old.is_open ≡ true → result ≡ length host.old.slot.held.host.marks }
+    ensures count { host.old.is_open ≡ true → result ≡ length host.old.slot.held.driven.host.marks }
     ensures few { result ≤ 128 }
     ensures same { host.new.slot.held ≡ host.old.slot.held }
     ensures open { host.new.is_open ≡ host.old.is_open }
@@ -111,17 +110,17 @@ pub extern "C" fn homa_entries(host: &mut Handle) -> usize
     if !host.is_open {
         return 0;
     }
-    host.slot.as_mut().host().entries()
+    host.slot.as_mut().asking().host().entries()
 }
 
 /// The entry of the last step with this number, counted from 0. NOT_THERE: there is none.
 #[unsafe(no_mangle)]
 pub extern "C" fn homa_entry(host: &mut Handle, i: usize, info: &mut HomaEntry) -> u32
     ensures closed { host.old.is_open ≡ false → result ≡ 16 }
-    ensures there { host.old.is_open ≡ true → length host.old.slot.held.host.marks ≤ i → result ≡ 25 }
-    ensures begins { host.old.is_open ≡ true → i < length host.old.slot.held.host.marks → result ≡ 0 }
-    ensures within { result ≡ 0 → i < length host.old.slot.held.host.marks }
-    ensures told { result ≡ 0 → IfSome (slice_get (shown_entries host.old.slot.held.host host.old.slot.held.out host.old.slot.held.whole) i)
+    ensures there { host.old.is_open ≡ true → length host.old.slot.held.driven.host.marks ≤ i → result ≡ 25 }
+    ensures begins { host.old.is_open ≡ true → i < length host.old.slot.held.driven.host.marks → result ≡ 0 }
+    ensures within { result ≡ 0 → i < length host.old.slot.held.driven.host.marks }
+    ensures told { result ≡ 0 → IfSome (slice_get (told_entries host.old.slot.held.driven) i)
         (λ e. info.new ≡ shown_entry e) }
     ensures same { host.new.slot.held ≡ host.old.slot.held }
     ensures unwritten { result ≢ 0 → info.new ≡ info.old }
@@ -130,7 +129,7 @@ pub extern "C" fn homa_entry(host: &mut Handle, i: usize, info: &mut HomaEntry) 
     if !host.is_open {
         return NOT_OPEN;
     }
-    let held = host.slot.as_mut();
+    let held = host.slot.as_mut().asking();
     if i >= held.host().entries() {
         return NOT_THERE;
     }
@@ -142,11 +141,11 @@ pub extern "C" fn homa_entry(host: &mut Handle, i: usize, info: &mut HomaEntry) 
 #[unsafe(no_mangle)]
 pub extern "C" fn homa_entry_more(host: &mut Handle, i: usize, more: &mut HomaMore) -> u32
     ensures closed { host.old.is_open ≡ false → result ≡ 16 }
-    ensures there { host.old.is_open ≡ true → length host.old.slot.held.host.marks ≤ i → result ≡ 25 }
-    ensures begins { host.old.is_open ≡ true → i < length host.old.slot.held.host.marks → result ≡ 0 }
-    ensures within { result ≡ 0 → i < length host.old.slot.held.host.marks }
-    ensures told { result ≡ 0 → IfSome (slice_get (shown_entries host.old.slot.held.host host.old.slot.held.out host.old.slot.held.whole) i)
-        (λ e. more.new ≡ shown_more host.old.slot.held.from e) }
+    ensures there { host.old.is_open ≡ true → length host.old.slot.held.driven.host.marks ≤ i → result ≡ 25 }
+    ensures begins { host.old.is_open ≡ true → i < length host.old.slot.held.driven.host.marks → result ≡ 0 }
+    ensures within { result ≡ 0 → i < length host.old.slot.held.driven.host.marks }
+    ensures told { result ≡ 0 → IfSome (slice_get (told_entries host.old.slot.held.driven) i)
+        (λ e. more.new ≡ shown_more host.old.slot.held.driven.from e) }
     ensures same { host.new.slot.held ≡ host.old.slot.held }
     ensures unwritten { result ≢ 0 → more.new ≡ more.old }
     ensures open { host.new.is_open ≡ host.old.is_open }
@@ -154,7 +153,7 @@ pub extern "C" fn homa_entry_more(host: &mut Handle, i: usize, more: &mut HomaMo
     if !host.is_open {
         return NOT_OPEN;
     }
-    let held = host.slot.as_mut();
+    let held = host.slot.as_mut().asking();
     if i >= held.host().entries() {
         return NOT_THERE;
     }
@@ -167,14 +166,14 @@ pub extern "C" fn homa_entry_more(host: &mut Handle, i: usize, more: &mut HomaMo
 #[unsafe(no_mangle)]
 pub extern "C" fn homa_whole_len(host: &mut Handle) -> usize
     ensures closed { host.old.is_open ≡ false → result ≡ 0 }
-    ensures len { host.old.is_open ≡ true → result ≡ length host.old.slot.held.whole }
+    ensures len { host.old.is_open ≡ true → result ≡ length host.old.slot.held.driven.whole }
     ensures same { host.new.slot.held ≡ host.old.slot.held }
     ensures open { host.new.is_open ≡ host.old.is_open }
 {
     if !host.is_open {
         return 0;
     }
-    host.slot.as_mut().whole().len()
+    host.slot.as_mut().asking().whole().len()
 }
 
 /// The message that became whole in the last step: the request that is asked about or was answered, or the response of a call
@@ -182,10 +181,10 @@ pub extern "C" fn homa_whole_len(host: &mut Handle) -> usize
 #[unsafe(no_mangle)]
 pub extern "C" fn homa_whole(host: &mut Handle, room: &mut [u8], len: &mut usize) -> u32
     ensures closed { host.old.is_open ≡ false → result ≡ 16 }
-    ensures begins { host.old.is_open ≡ true → length host.old.slot.held.whole ≤ length room.old → result ≡ 0 }
-    ensures no_room { host.old.is_open ≡ true → length room.old < length host.old.slot.held.whole → result ≡ 26 }
-    ensures len { result ≡ 0 → len.new ≡ length host.old.slot.held.whole }
-    ensures bytes { result ≡ 0 → take len.new room.new ≡ host.old.slot.held.whole }
+    ensures begins { host.old.is_open ≡ true → length host.old.slot.held.driven.whole ≤ length room.old → result ≡ 0 }
+    ensures no_room { host.old.is_open ≡ true → length room.old < length host.old.slot.held.driven.whole → result ≡ 26 }
+    ensures len { result ≡ 0 → len.new ≡ length host.old.slot.held.driven.whole }
+    ensures bytes { result ≡ 0 → take len.new room.new ≡ host.old.slot.held.driven.whole }
     ensures behind { result ≡ 0 → drop len.new room.new ≡ drop len.new room.old }
     ensures same { host.new.slot.held ≡ host.old.slot.held }
     ensures unwritten { result ≢ 0 → (room.new ≡ room.old) × (len.new ≡ len.old) }
@@ -194,7 +193,7 @@ pub extern "C" fn homa_whole(host: &mut Handle, room: &mut [u8], len: &mut usize
     if !host.is_open {
         return NOT_OPEN;
     }
-    let bytes = host.slot.as_mut().whole();
+    let bytes = host.slot.as_mut().asking().whole();
     if bytes.len() > room.len() {
         return NO_ROOM;
     }

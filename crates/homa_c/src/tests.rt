@@ -5,6 +5,7 @@ use crate::exports::{homa_call, homa_close, homa_deliver, homa_next_turn, homa_o
 use crate::handle::Handle;
 use crate::handle::slot::Slot;
 use crate::knows::{homa_count, homa_last, homa_live, homa_version};
+use crate::late::{homa_answer, homa_decline, homa_open_late};
 use crate::settings::{HomaSettings, homa_service, homa_usual, homa_wrong_setting};
 use crate::shows::{
     HomaFrame, homa_entries, homa_entry, homa_entry_more, homa_frame, homa_frame_level,
@@ -169,6 +170,50 @@ fn one_call(rt: HostRuntime) {
     ends(&rt, alloc, &mut client, &response);
     assert!(rt; homa_close(alloc, &mut client) == 0);
     assert!(rt; homa_close(alloc, &mut client) == 16);
+    assert!(rt; homa_close(alloc, &mut server) == 0);
+}
+
+// It comes to a server that keeps what asks, and once more a tick later.
+fn waits(rt: &impl Abort, alloc: Global, server: &mut Handle, request: &Datagram) -> HomaAsked {
+    let (mut asked, mut again) = (nobody(), nobody());
+    let frame = &request.room[..request.len.min(1500)];
+    assert!(rt; homa_deliver(alloc, server, CLIENT, frame, 6, &[], &mut asked) == 1);
+    assert!(rt; asked.service == 7 && asked.id.client == CLIENT && asked.id.seq == 0);
+    assert!(rt; homa_deliver(alloc, server, CLIENT, frame, 7, &[], &mut again) == 6);
+    assert!(rt; again.service == 9 && homa_entries(server) == 0 && homa_count(server, 19) == 1);
+    asked
+}
+
+// The server answers "hi" at tick 7, once.
+fn answers_later(
+    rt: &impl Abort,
+    alloc: Global,
+    server: &mut Handle,
+    asked: &HomaAsked,
+) -> Datagram {
+    assert!(rt; homa_answer(alloc, server, &asked.id, &[], 7) == 22);
+    assert!(rt; homa_answer(alloc, server, &asked.id, b"hi", 7) == 0);
+    assert!(rt; first(rt, server) == (1, 7, 0, 5, CLIENT));
+    assert!(rt; homa_answer(alloc, server, &asked.id, b"hi", 7) == 8);
+    assert!(rt; homa_decline(server, &asked.id) == 8 && homa_count(server, 19) == 0);
+    only_frame(rt, server, SERVER, CLIENT)
+}
+
+#[test]
+fn a_late_answer(rt: HostRuntime) {
+    let alloc = rt.alloc();
+    let mut client = opened(&rt, alloc, CLIENT);
+    let mut server = Handle {
+        slot: Slot::none(alloc),
+        is_open: false,
+    };
+    assert!(rt; homa_open_late(alloc, &usual(), SERVER, 3, 5, 0, 20, &mut server) == 18);
+    assert!(rt; homa_open_late(alloc, &usual(), SERVER, 3, 5, 2, 20, &mut server) == 0);
+    let request = calls(&rt, alloc, &mut client);
+    let asked = waits(&rt, alloc, &mut server, &request);
+    let response = answers_later(&rt, alloc, &mut server, &asked);
+    ends(&rt, alloc, &mut client, &response);
+    assert!(rt; homa_close(alloc, &mut client) == 0);
     assert!(rt; homa_close(alloc, &mut server) == 0);
 }
 

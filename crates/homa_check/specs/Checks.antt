@@ -1,7 +1,7 @@
 -- A check of a text, line by line.
-use Rattle.std.specs.Prelude.{◌≡◌, ◌⊎◌, ℕ, ◌+◌, ◌==◌, Bool, true, false, if◌then◌else◌, Option, Some, List, [], ◌∷◌, ◌++◌, length, Result, Ok, Err, codes}
+use Rattle.std.specs.Prelude.{◌≡◌, ◌⊎◌, ◌≤◌, ℕ, ◌+◌, ◌==◌, Bool, true, false, if◌then◌else◌, Option, Some, List, [], ◌∷◌, ◌++◌, length, Result, Ok, Err, codes}
 use Rattle.std.specs.Fmt.{decimal}
-use Rattle.homa_io.specs.Outside.{unread, IsAtEnd}
+use Rattle.homa_io.specs.Outside.{HasRisen, unread, IsAtEnd}
 use Rattle.homa_plain.specs.Input.{lines_of, has_no_feed}
 use Rattle.trace_rules.specs.View.{View, nothing_seen}
 use Rattle.trace_rules.specs.Judge.{Clause, ShapeClause, OnceClause, ReturnedClause, HandedUpClause, FailsClause, GrantingClause}
@@ -37,6 +37,15 @@ is_fault NoMemory = false
 abbrev pub is_read : {A : Type 0} → Result A CheckStop → Bool
 is_read (Ok answer) = false
 is_read (Err stop) = is_fault stop
+
+module _ {S A : Type 0} (left : S → Option (List ℕ)) (faults : S → ℕ) (is_same : S → S → Type 0) where
+  -- The source was read up to some place. Its count of faults rose exactly if the result is a fault of it, and it is the same source.
+  pub record HasReadOn (r : Result A CheckStop) (old new : S) : Type 0 where
+    pub read_on : (came : List ℕ) × (left old ≡ unread came (left new))
+    pub risen : is_read r ≡ true → HasRisen (faults old) (faults new)
+    pub quiet : is_read r ≡ false → faults new ≡ faults old
+    pub never_falls : faults old ≤ faults new
+    pub same : is_same old new
 
 -- the word of a clause in the line of a verdict
 abbrev pub clause_word : Clause → List ℕ

@@ -1,13 +1,13 @@
 // The check of a text.
-ghost use Rattle.std.specs.Prelude.{◌≡◌, ◌≢◌, ◌+◌, ◌-◌, ◌*◌, ◌^◌, ◌<◌, ◌≤◌, ◌++◌, ℕ, List, Some, None, [], true, false, length, min, IfOk, OnOk};
+ghost use Rattle.std.specs.Prelude.{◌≡◌, ◌≢◌, ◌+◌, ◌-◌, ◌*◌, ◌^◌, ◌<◌, ◌≤◌, ◌++◌, ℕ, List, Some, None, [], true, length, min, IfOk, OnOk};
 ghost use Rattle.std.specs.Option.{option_map};
-ghost use Rattle.homa_check.specs.Checks.{plain_verdict, is_yes, is_read, verdict_at_end, IsNext, TookLine, IsUpTo, IsCutShort};
+ghost use Rattle.homa_check.specs.Checks.{plain_verdict, is_yes, is_read, verdict_at_end, IsNext, TookLine, IsUpTo, IsCutShort, HasReadOn};
 ghost use Rattle.homa_check.specs.Clauses.{clause_of};
 ghost use Rattle.check_lines.specs.Traces.{Follows};
 ghost use Rattle.homa_check.specs.declared.text.Next.TheVariants.{Taken};
 ghost use Rattle.homa_check.specs.declared.verdict.Clause.{Clause as AClause};
 ghost use Rattle.homa_check.specs.declared.verdict.Verdict.TheVariants.{Yes, No};
-ghost use Rattle.homa_io.specs.Outside.{HasRisen, unread, IsAtEnd};
+ghost use Rattle.homa_io.specs.Outside.{unread, IsAtEnd};
 ghost use Rattle.check_reader.specs.Forms.{entry_of};
 ghost use Rattle.homa_plain.specs.Input.{has_no_feed};
 ghost use Rattle.trace_rules.specs.View.{View, nothing_seen};
@@ -77,14 +77,10 @@ fn judge_next<S: Source>(
     ensures unended { is_read result ≡ true → (came : List ℕ) × (S.left source.old ≡ unread came (S.left source.new))
         × (has_no_feed ((reading lines.old).pending ++ came) ≡ true) }
     ensures number { OnOk result ((reading lines.new).number ≡ min ((reading lines.old).number + 1) (2 ^ 64 - 1)) }
-    ensures read_on { (came : List ℕ) × (S.left source.old ≡ unread came (S.left source.new)) }
     ensures limit { (reading lines.new).limit ≡ (reading lines.old).limit }
     ensures longest { (reading lines.new).longest ≡ (reading lines.old).longest }
     ensures room { length room.new ≡ length room.old }
-    ensures risen { is_read result ≡ true → HasRisen (S.faults source.old) (S.faults source.new) }
-    ensures quiet { is_read result ≡ false → S.faults source.new ≡ S.faults source.old }
-    ensures never_falls { S.faults source.old ≤ S.faults source.new }
-    ensures same { S.is_same source.old source.new }
+    ensures source { HasReadOn S.left S.faults S.is_same result source.old source.new }
 {
     match lines.next(source)? {
         LineGot::End => Ok(Next::End),
@@ -128,14 +124,9 @@ pub fn check<S: Source>(alloc: Global, source: &mut S) -> Result<Verdict, CheckS
     // If reading failed, the lines that arrived whole obey all laws.
     ensures cut { is_read result ≡ true → (bytes : List ℕ) → S.left source.old ≡ Some bytes → IsCutShort bytes (S.left source.new) }
 
-    // In each case the source was read from its beginning up to some place.
-    ensures read_on { (came : List ℕ) × (S.left source.old ≡ unread came (S.left source.new)) }
-
-    // `Read` is returned exactly if the source's count of faults rose. `NoMemory` may come at any time.
-    ensures risen { is_read result ≡ true → HasRisen (S.faults source.old) (S.faults source.new) }
-    ensures quiet { is_read result ≡ false → S.faults source.new ≡ S.faults source.old }
-    ensures never_falls { S.faults source.old ≤ S.faults source.new }
-    ensures same { S.is_same source.old source.new }
+    // In each case the source was read from its beginning up to some place. `Read` is returned exactly if its count of faults
+    // rose. `NoMemory` may come at any time.
+    ensures source { HasReadOn S.left S.faults S.is_same result source.old source.new }
 {
     let mut lines = Lines::open(alloc, LONGEST_INPUT, LONGEST_LINE)?;
     let mut room = vec![in alloc; 0; ROOM]?;
@@ -159,11 +150,7 @@ fn judge_all<S: Source>(
     ensures behind { IfOk result (λ verdict. (line : ℕ) (clause : AClause) → verdict ≡ No line clause
         → IsUpTo line (S.left source.old) (S.left source.new) (reading lines.new)) }
     ensures cut { is_read result ≡ true → (bytes : List ℕ) → S.left source.old ≡ Some bytes → IsCutShort bytes (S.left source.new) }
-    ensures read_on { (came : List ℕ) × (S.left source.old ≡ unread came (S.left source.new)) }
-    ensures risen { is_read result ≡ true → HasRisen (S.faults source.old) (S.faults source.new) }
-    ensures quiet { is_read result ≡ false → S.faults source.new ≡ S.faults source.old }
-    ensures never_falls { S.faults source.old ≤ S.faults source.new }
-    ensures same { S.is_same source.old source.new }
+    ensures source { HasReadOn S.left S.faults S.is_same result source.old source.new }
 {
     'lines: loop {
         match judge_next(alloc, trace, lines, source, room)? {

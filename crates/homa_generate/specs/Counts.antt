@@ -1,60 +1,45 @@
 -- How many lines of each kind a trace has, in the order of the summary.
-use Rattle.std.specs.Prelude.{◌≡◌, ℕ, ◌+◌, ◌-◌, ◌^◌, Option, None, Some, List, [], ◌∷◌, replicate, slice_set, slice_index_or, codes}
+use Rattle.std.specs.Prelude.{◌≡◌, ℕ, ◌+◌, ◌-◌, ◌^◌, Option, None, Some, List, [], ◌∷◌, map, replicate, slice_set, slice_index_or, codes}
 use Rattle.std.specs.List.{flat_map}
 use Rattle.homa_plain.specs.Entries.{PlainEntry}
+use Rattle.homa_plain.specs.Kinds.{kinds as packet_kinds, kind_number, kind_name}
 use Rattle.generated_runs.specs.Generated.{summary_line}
-use Rattle.homa_world.specs.declared.kinds.Kind.{Kind}
-use Rattle.homa_world.specs.declared.kinds.Kind.TheVariants as kind
+use Rattle.homa_world.specs.declared.kinds.LineKind.{LineKind}
+use Rattle.homa_world.specs.declared.kinds.LineKind.TheVariants as line
 use Rattle.homa_world.specs.Kinds.{kind_of}
 
--- all kinds, in the order of the summary
-abbrev pub kinds : List Kind
-kinds =
-    kind.Call ∷ kind.Run ∷ kind.Done ∷ kind.Timeout ∷ kind.Forgotten ∷ kind.Deliver ∷ kind.Clock ∷
-    kind.Data ∷ kind.Grant ∷ kind.Resend ∷ kind.Busy ∷ kind.Cutoffs ∷ kind.Unknown ∷ kind.NeedAck ∷ kind.Ack ∷ []
+-- all kinds, in the order of the summary: those of packets stand last, by their numbers
+abbrev pub kinds : List LineKind
+kinds = line.Call ∷ line.Run ∷ line.Done ∷ line.Timeout ∷ line.Forgotten ∷ line.Deliver ∷ line.Clock ∷ map line.Sent packet_kinds
 
 -- a kind's place there
-abbrev pub place : Kind → ℕ
-place kind.Call = 0
-place kind.Run = 1
-place kind.Done = 2
-place kind.Timeout = 3
-place kind.Forgotten = 4
-place kind.Deliver = 5
-place kind.Clock = 6
-place kind.Data = 7
-place kind.Grant = 8
-place kind.Resend = 9
-place kind.Busy = 10
-place kind.Cutoffs = 11
-place kind.Unknown = 12
-place kind.NeedAck = 13
-place kind.Ack = 14
+abbrev pub place : LineKind → ℕ
+place line.Call = 0
+place line.Run = 1
+place line.Done = 2
+place line.Timeout = 3
+place line.Forgotten = 4
+place line.Deliver = 5
+place line.Clock = 6
+place (line.Sent kind) = 6 + kind_number kind
 
 -- a kind's name there
-abbrev pub name : Kind → List ℕ
-name kind.Call = codes "calls"
-name kind.Run = codes "runs"
-name kind.Done = codes "done"
-name kind.Timeout = codes "timeout"
-name kind.Forgotten = codes "forgotten"
-name kind.Deliver = codes "deliver"
-name kind.Clock = codes "clock"
-name kind.Data = codes "DATA"
-name kind.Grant = codes "GRANT"
-name kind.Resend = codes "RESEND"
-name kind.Busy = codes "BUSY"
-name kind.Cutoffs = codes "CUTOFFS"
-name kind.Unknown = codes "UNKNOWN"
-name kind.NeedAck = codes "NEED_ACK"
-name kind.Ack = codes "ACK"
+abbrev pub name : LineKind → List ℕ
+name line.Call = codes "calls"
+name line.Run = codes "runs"
+name line.Done = codes "done"
+name line.Timeout = codes "timeout"
+name line.Forgotten = codes "forgotten"
+name line.Deliver = codes "deliver"
+name line.Clock = codes "clock"
+name (line.Sent kind) = kind_name kind
 
 -- how many lines of a kind were counted
-abbrev pub number_of : List ℕ → Kind → ℕ
+abbrev pub number_of : List ℕ → LineKind → ℕ
 number_of counts k = slice_index_or counts (place k) 0
 
 -- with one more of a kind
-abbrev pub one_more : List ℕ → Option Kind → List ℕ
+abbrev pub one_more : List ℕ → Option LineKind → List ℕ
 one_more counts None = counts
 one_more counts (Some k) = slice_set counts (place k) (number_of counts k + 1)
 
@@ -64,15 +49,15 @@ counted counts [] = counts
 counted counts (e ∷ es) = counted (one_more counts (kind_of e)) es
 
 -- it is a kind whose number has no room left
-abbrev pub IsFullOf : List ℕ → Option Kind → Type 0
-IsFullOf counts kind = (k : Kind) × (kind ≡ Some k) × (number_of counts k ≡ 2 ^ 64 - 1)
+abbrev pub IsFullOf : List ℕ → Option LineKind → Type 0
+IsFullOf counts kind = (k : LineKind) × (kind ≡ Some k) × (number_of counts k ≡ 2 ^ 64 - 1)
 
 -- no line was counted
 abbrev pub no_counts : List ℕ
 no_counts = replicate 15 0
 
 -- the line of a kind
-abbrev pub count_line : List ℕ → Kind → List ℕ
+abbrev pub count_line : List ℕ → LineKind → List ℕ
 count_line counts k = summary_line (name k) (number_of counts k)
 
 -- the lines of these counts

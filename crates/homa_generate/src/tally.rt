@@ -1,65 +1,71 @@
 //! How many lines of each kind a trace has.
-ghost use Rattle.std.specs.Prelude.{◌≡◌, ◌<◌, OnOk, OnErr};
+ghost use Rattle.std.specs.Prelude.{◌≡◌, ◌<◌, Some, OnOk, OnErr, slice_get};
 ghost use Rattle.homa_io.specs.Writing.{IsWritten};
-ghost use Rattle.homa_generate.specs.Counts.{IsFullOf, name, place, one_more, no_counts, counts_text};
+ghost use Rattle.homa_generate.specs.Counts.{IsFullOf, kinds, name, place, one_more, no_counts, counts_text};
 
 use homa_io::{Sink, WriteFailed};
+use homa_plain::Kind;
 use homa_text::Word::{Number, Text};
 use homa_text::put_line;
-use homa_world::Kind;
+use homa_world::LineKind;
 use std::alloc::AllocError;
 use std::marker::Model;
 
-// How many kinds there are.
+// How many kinds of lines are counted.
 const COUNT: usize = 15;
 
-// All kinds, in the order of the summary.
-const KINDS: [Kind; COUNT] = [
-    Kind::Call,
-    Kind::Run,
-    Kind::Done,
-    Kind::Timeout,
-    Kind::Forgotten,
-    Kind::Deliver,
-    Kind::Clock,
-    Kind::Data,
-    Kind::Grant,
-    Kind::Resend,
-    Kind::Busy,
-    Kind::Cutoffs,
-    Kind::Unknown,
-    Kind::NeedAck,
-    Kind::Ack,
+// The kinds of lines that tell of no packet's sending, in the order of the summary. Those of packets stand behind them.
+const STEPS: [LineKind; 7] = [
+    LineKind::Call,
+    LineKind::Run,
+    LineKind::Done,
+    LineKind::Timeout,
+    LineKind::Forgotten,
+    LineKind::Deliver,
+    LineKind::Clock,
 ];
 
-// The place of a kind's number.
-fn place_of(kind: Kind) -> usize
+// The kind at a place of the summary.
+fn kind_at(place: usize) -> LineKind
+    requires { place < 15 }
+    ensures { slice_get kinds place ≡ Some result }
+{
+    if place < STEPS.len() {
+        return STEPS[place];
+    }
+    LineKind::Sent(Kind::ALL[place - STEPS.len()])
+}
+
+// A kind's place in the summary.
+fn place_of(kind: LineKind) -> usize
     ensures place { result ≡ place kind }
     ensures inside { result < 15 }
 {
-    kind as usize
+    match kind {
+        LineKind::Call => 0,
+        LineKind::Run => 1,
+        LineKind::Done => 2,
+        LineKind::Timeout => 3,
+        LineKind::Forgotten => 4,
+        LineKind::Deliver => 5,
+        LineKind::Clock => 6,
+        LineKind::Sent(kind) => 6 + usize::from(kind.number()),
+    }
 }
 
 // A kind's name in the summary.
-fn name_of(kind: Kind) -> &'static [u8]
+fn name_of(kind: LineKind) -> &'static [u8]
     ensures { result.now ≡ name kind }
 {
     match kind {
-        Kind::Call => b"calls",
-        Kind::Run => b"runs",
-        Kind::Done => b"done",
-        Kind::Timeout => b"timeout",
-        Kind::Forgotten => b"forgotten",
-        Kind::Deliver => b"deliver",
-        Kind::Clock => b"clock",
-        Kind::Data => b"DATA",
-        Kind::Grant => b"GRANT",
-        Kind::Resend => b"RESEND",
-        Kind::Busy => b"BUSY",
-        Kind::Cutoffs => b"CUTOFFS",
-        Kind::Unknown => b"UNKNOWN",
-        Kind::NeedAck => b"NEED_ACK",
-        Kind::Ack => b"ACK",
+        LineKind::Call => b"calls",
+        LineKind::Run => b"runs",
+        LineKind::Done => b"done",
+        LineKind::Timeout => b"timeout",
+        LineKind::Forgotten => b"forgotten",
+        LineKind::Deliver => b"deliver",
+        LineKind::Clock => b"clock",
+        LineKind::Sent(kind) => kind.word(),
     }
 }
 
@@ -88,7 +94,7 @@ impl Counts {
     }
 
     /// Counts a line of this kind, if it is one. Fails where its number has no room left, and then counts nothing.
-    pub fn note_kind(&mut self, kind: Option<Kind>) -> Result<(), AllocError>
+    pub fn note_kind(&mut self, kind: Option<LineKind>) -> Result<(), AllocError>
         ensures ok { OnOk result (self.new ≡ one_more self.old kind) }
         ensures full { OnErr result (IsFullOf self.old kind) }
         ensures same { OnErr result (self.new ≡ self.old) }
@@ -105,7 +111,8 @@ impl Counts {
     pub fn put<K: Sink>(&self, sink: &mut K) -> Result<(), WriteFailed>
         ensures { IsWritten K.taken K.faults K.is_same result sink.old sink.new (counts_text self.now) }
     {
-        for kind in KINDS {
+        for place in 0..COUNT {
+            let kind = kind_at(place);
             put_line(
                 sink,
                 &[Text(name_of(kind)), Number(self.numbers[place_of(kind)])],

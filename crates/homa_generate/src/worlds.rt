@@ -12,7 +12,7 @@ ghost use Rattle.homa_world.specs.Passing.{IsOf};
 use homa_plain::HostId;
 use homa_replay::ReplayWorld;
 use homa_service::Service;
-use homa_world::{Kind, Passing, World};
+use homa_world::{LineKind, Passing, World};
 
 /// A world in which traffic is generated: it also shows its clock, the packets that were sent, and which hosts have
 /// live calls.
@@ -31,7 +31,7 @@ pub trait GenerateWorld: ReplayWorld {
         ensures { (w : PlainWorld) → Self.stands self.now w → IsOf (Self.settings self.now) w n result };
 
     /// The kind of the line of the last event's entry with this number, if it is counted.
-    fn kind(&self, i: usize) -> Option<Kind>
+    fn kind(&self, i: usize) -> Option<LineKind>
         requires { i < length (Self.told self.now) }
         ensures { option_map kind_of (slice_get (Self.told self.now) i) ≡ Some result };
 
@@ -57,7 +57,7 @@ impl<S: Service> GenerateWorld for World<S> {
         World::packet(self, n)
     }
 
-    fn kind(&self, i: usize) -> Option<Kind> {
+    fn kind(&self, i: usize) -> Option<LineKind> {
         World::kind(self, i)
     }
 

@@ -22,7 +22,7 @@ use host_view::{Mark, Outbox};
 use msg_pool::MsgPool;
 use std::alloc::{AllocError, Global};
 
-/// The parts of a host.
+/// A host's control state, its rows, its books and its pages, which a step changes together.
 #[derive(Drop)]
 pub struct HostParts {
     pub(crate) control: Control,

@@ -1,5 +1,6 @@
 -- What a sink that holds lines back has.
-use Rattle.std.specs.Prelude.{ℕ, ◌-◌, length, List, drop, vec_capacity}
+use Rattle.std.specs.Prelude.{◌≡◌, ◌≤◌, ℕ, ◌-◌, length, Option, List, Result, OnOk, OnErr, drop, vec_capacity}
+use Rattle.homa_io.specs.Outside.{HasRisen, Grows}
 use Rattle.homa_io.specs.declared.held.Room.{Room}
 use Rattle.homa_io.specs.declared.held.HeldSink.{HeldSink}
 
@@ -22,3 +23,12 @@ space_left held = 65536 - length held.bytes.items
 -- how many lines are still passed on at once
 abbrev pub direct_lines : {K : Type 0} → HeldSink K → ℕ
 direct_lines held = held.direct
+
+-- the sink below took more or nothing, only an error counts a fault there, and it is the same sink
+pub record PassesOn {K A E : Type 0} (taken : K → Option (List ℕ)) (faults : K → ℕ) (is_same : K → K → Type 0) (result : Result A E) (old new : K)
+    : Type 0 where
+  pub grows : Grows (taken old) (taken new)
+  pub risen : OnErr result (HasRisen (faults old) (faults new))
+  pub quiet : OnOk result (faults new ≡ faults old)
+  pub never_falls : faults old ≤ faults new
+  pub same : is_same old new

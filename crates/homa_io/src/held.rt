@@ -1,6 +1,6 @@
 // A sink that holds lines back, so that many of them go out in one write.
 ghost use Rattle.std.specs.Prelude.{◌≡◌, ◌≤◌, ◌<◌, ◌+◌, ◌-◌, ◌++◌, [], length, take, vec_capacity, nat_eq, IfOk, OnOk, OnErr, if◌then◌else◌};
-ghost use Rattle.homa_io.specs.Outside.{HasRisen, appended, Grows};
+ghost use Rattle.homa_io.specs.Outside.{appended, Grows};
 
 use crate::{NoMemory, Sink, WriteFailed};
 use std::alloc::Global;
@@ -49,7 +49,7 @@ pub struct HeldSink<K> {
 }
 
 impl<K: Sink + Drop> HeldSink<K> {
-    ghost use Rattle.homa_io.specs.Held.{sink_below, held_bytes, space_left, direct_lines};
+    ghost use Rattle.homa_io.specs.Held.{sink_below, held_bytes, space_left, direct_lines, PassesOn};
 
     /// A sink over this one, which holds nothing yet.
     pub fn over(sink: K, room: Room) -> HeldSink<K>
@@ -90,13 +90,7 @@ impl<K: Sink + Drop> HeldSink<K> {
         // So much is lost at most where the sink is dropped after an error.
         ensures most { length (held_bytes self.new) ≤ 65536 }
 
-        ensures grows { Grows (K.taken (sink_below self.old)) (K.taken (sink_below self.new)) }
-        ensures risen { OnErr result
-            (HasRisen (K.faults (sink_below self.old)) (K.faults (sink_below self.new))) }
-        ensures quiet { OnOk result
-            (K.faults (sink_below self.new) ≡ K.faults (sink_below self.old)) }
-        ensures never_falls { K.faults (sink_below self.old) ≤ K.faults (sink_below self.new) }
-        ensures same { K.is_same (sink_below self.old) (sink_below self.new) }
+        ensures below { PassesOn K.taken K.faults K.is_same result (sink_below self.old) (sink_below self.new) }
     {
         while self.sent < self.bytes.len() {
             self.sent += self.sink.write(&self.bytes[self.sent..])?;
@@ -117,11 +111,7 @@ impl<K: Sink + Drop> HeldSink<K> {
         ensures counted { IfOk result (λ n. direct_lines self.new
             ≡ (if nat_eq n (length bytes.now) then direct_lines self.old - 1 else direct_lines self.old)) }
         ensures uncounted { OnErr result (direct_lines self.new ≡ direct_lines self.old) }
-        ensures grows { Grows (K.taken (sink_below self.old)) (K.taken (sink_below self.new)) }
-        ensures risen { OnErr result (HasRisen (K.faults (sink_below self.old)) (K.faults (sink_below self.new))) }
-        ensures quiet { OnOk result (K.faults (sink_below self.new) ≡ K.faults (sink_below self.old)) }
-        ensures never_falls { K.faults (sink_below self.old) ≤ K.faults (sink_below self.new) }
-        ensures same { K.is_same (sink_below self.old) (sink_below self.new) }
+        ensures below { PassesOn K.taken K.faults K.is_same result (sink_below self.old) (sink_below self.new) }
     {
         let n = self.sink.write(bytes)?;
         if n == bytes.len() {
@@ -139,11 +129,7 @@ impl<K: Sink + Drop> HeldSink<K> {
         ensures none { OnOk result (space_left self.old < n → held_bytes self.new ≡ []) }
         ensures whole { appended (K.taken (sink_below self.new)) (held_bytes self.new) ≡ appended (K.taken (sink_below self.old)) (held_bytes self.old) }
         ensures direct { direct_lines self.new ≡ direct_lines self.old }
-        ensures grows { Grows (K.taken (sink_below self.old)) (K.taken (sink_below self.new)) }
-        ensures risen { OnErr result (HasRisen (K.faults (sink_below self.old)) (K.faults (sink_below self.new))) }
-        ensures quiet { OnOk result (K.faults (sink_below self.new) ≡ K.faults (sink_below self.old)) }
-        ensures never_falls { K.faults (sink_below self.old) ≤ K.faults (sink_below self.new) }
-        ensures same { K.is_same (sink_below self.old) (sink_below self.new) }
+        ensures below { PassesOn K.taken K.faults K.is_same result (sink_below self.old) (sink_below self.new) }
     {
         if n <= ROOM - self.bytes.len() {
             return Ok(());
@@ -163,7 +149,7 @@ impl<K: Sink + Drop> HeldSink<K> {
 }
 
 impl<K: Sink + Drop> Sink for HeldSink<K> {
-    ghost use Rattle.homa_io.specs.Held.{sink_below, held_bytes, space_left, direct_lines};
+    ghost use Rattle.homa_io.specs.Held.{sink_below, held_bytes, space_left, direct_lines, PassesOn};
     ghost use Rattle.homa_io.specs.Growing.{grows_none, grows_on};
 
     ghost taken = { λ h. appended (K.taken (sink_below h)) (held_bytes h) };
@@ -192,13 +178,7 @@ impl<K: Sink + Drop> Sink for HeldSink<K> {
             appended (K.taken (sink_below self.new)) (held_bytes self.new)
             ≡ appended (K.taken (sink_below self.old)) (held_bytes self.old)) }
 
-        ensures risen { OnErr result
-            (HasRisen (K.faults (sink_below self.old)) (K.faults (sink_below self.new))) }
-        ensures quiet { OnOk result
-            (K.faults (sink_below self.new) ≡ K.faults (sink_below self.old)) }
-        ensures never_falls { K.faults (sink_below self.old) ≤ K.faults (sink_below self.new) }
-        ensures same { K.is_same (sink_below self.old) (sink_below self.new)
-            × Grows (K.taken (sink_below self.old)) (K.taken (sink_below self.new)) }
+        ensures below { PassesOn K.taken K.faults K.is_same result (sink_below self.old) (sink_below self.new) }
 
         // The first lines are passed on at once, and each that is taken whole is one of them.
         ensures first { OnOk result (0 < direct_lines self.old → held_bytes self.new ≡ []) }

@@ -1,5 +1,5 @@
 -- What was served, with what the net did before.
-use Rattle.std.proofs.Common.{◌≡◌, ◌⊎◌, inl, inr, ℕ, Bool, suc, Option, None, Some, Result, Ok, Err, List, [], ◌∷◌, ◌++◌, append_assoc, refl, sym, ap}
+use Rattle.std.proofs.Common.{◌≡◌, ◌⊎◌, inl, inr, ℕ, Bool, suc, Option, None, Some, Result, Err, List, [], ◌∷◌, ◌++◌, append_assoc, refl, sym, ap}
 use Rattle.std.proofs.Common.{◌∙◌, subst}
 use Rattle.std.proofs.lemmas.List.{append-nil}
 use Rattle.homa_plain.specs.Entries.{PlainEntry}

@@ -1,13 +1,12 @@
 -- What a net did while hosts are bound and routed.
-use Rattle.std.proofs.Common.{◌≡◌, ◌<◌, ◌≤◌, ◌+◌, ℕ, zero, suc, arith, false, Option, None, Some, List, [], ◌∷◌, ◌++◌, length, take, drop, get_or}
-use Rattle.std.proofs.Common.{refl, sym, ap, ◌∙◌, subst, append_assoc}
+use Rattle.std.proofs.Common.{◌≡◌, ◌<◌, ◌≤◌, ◌+◌, ℕ, zero, suc, arith, false, Option, List, [], ◌∷◌, ◌++◌, length, take, drop, get_or}
+use Rattle.std.proofs.Common.{refl, sym, ap, ◌∙◌, append_assoc}
 use Rattle.std.specs.Prelude.{map}
 use Rattle.std.proofs.lemmas.List.{append-nil}
 use Rattle.node_io.specs.Net.{added}
-use Rattle.node_runs.specs.Script as script
 use Rattle.node_runs.specs.Acts.{Act, Bound, Routed, binds, routes, connects}
 use Rattle.node_turns.specs.Told.{listed, ListedFront}
-use Rattle.node_turns.proofs.Lists.{listed_none, listed_more, added_is}
+use Rattle.node_turns.proofs.Lists.{listed_more, added_is}
 use Rattle.node_script.specs.declared.place.Place.{Place}
 use Rattle.node_script.specs.declared.place.Place.TheVariants.{Local, Remote}
 use Rattle.node_script.specs.Setup.{place_seen}

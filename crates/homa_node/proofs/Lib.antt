@@ -6,6 +6,7 @@ pub mod Coming
 pub mod Refusals
 pub mod Started
 pub mod Stops
+pub mod Ends
 pub mod Fars
 pub mod Courses
 pub mod Turns

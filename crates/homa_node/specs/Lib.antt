@@ -5,3 +5,4 @@ pub mod Coming
 pub mod Started
 pub mod Progress
 pub mod Opened
+pub mod Ends

@@ -1,15 +1,18 @@
 -- A script that is read up to `go`.
-use Rattle.std.specs.Prelude.{ℕ, Option, Result, Ok, Err, List}
+use Rattle.std.specs.Prelude.{◌≡◌, ◌^◌, ℕ, Option, Result, Ok, Err, List}
+use Rattle.homa_plain.specs.declared.settings.Settings.{Settings}
+use Rattle.node_runs.specs.Course.{locals as local_hosts}
 use Rattle.node_runs.specs.Script.{opening, Opened, unopened}
 use Rattle.node_turns.specs.declared.stop.NodeStop.{NodeStop}
 use Rattle.node_turns.specs.declared.stop.NodeStop.TheVariants.{Script, Read, NoMemory}
-use Rattle.script_lines.specs.Place.{Place}
+use Rattle.script_lines.specs.Place.{Place, IsCounted}
 use Rattle.script_lines.specs.Read.{IsRead, IsCut}
 use Rattle.node_script.specs.declared.setup.Setup.{Setup}
 use Rattle.node_script.specs.declared.stop.SetupStop.{SetupStop}
 use Rattle.node_script.specs.declared.stop.SetupStop.TheVariants as setup
 use Rattle.node_script.specs.Heads.{setup_seen}
 use Rattle.node_script.specs.Calls.{calls_left}
+use Rattle.homa_node.specs.declared.opening.Node.{Node}
 
 -- why the lines up to `go` give no setup
 abbrev pub opening_stop : ℕ → SetupStop → NodeStop
@@ -24,3 +27,12 @@ HasOpened limit new bytes left (Err (Script line fault)) = IsRead bytes left (op
 HasOpened limit new bytes left (Err Read) = IsCut bytes left
 HasOpened limit new bytes left (Err NoMemory) = IsCut bytes left
 HasOpened limit new bytes left (Err stop) = ⊥
+
+-- a node behind `go`: its calls are still to be read, its local hosts are those of its setup, and its hosts have done nothing
+pub record StandsAtGo {H : Type 0} (set : H → Settings) (tick done : H → ℕ) (node : Node H) : Type 0 where
+  pub counted : IsCounted node.reader.place
+  pub limit : node.reader.place.limit ≡ 2 ^ 36
+  pub locals : node.locals.items ≡ local_hosts (setup_seen node.setup)
+  pub settings : set node.hosts ≡ node.setup.settings
+  pub clock : tick node.hosts ≡ 0
+  pub steps : done node.hosts ≡ 0

@@ -1,16 +1,17 @@
 // The calls whose tick has come are started.
-ghost use Rattle.std.specs.Prelude.{◌≡◌, ◌≤◌, ◌<◌, ◌+◌, ◌^◌, ◌∷◌, ℕ, List, Some, [], IfErr, OnOk};
+ghost use Rattle.std.specs.Prelude.{◌≡◌, ◌≤◌, ◌<◌, ◌^◌, ◌∷◌, ℕ, List, Some, [], IfErr, OnOk};
 ghost use Rattle.homa_plain.specs.declared.fault.LineFault.TheVariants.{World as ByWorld};
 ghost use Rattle.homa_plain.specs.declared.fault.WorldFault.TheVariants.{Start as CantStart};
 ghost use Rattle.homa_plain.specs.World.{World};
 ghost use Rattle.node_runs.specs.Course.{RefusedAt};
 ghost use Rattle.node_runs.specs.Script.{Calls};
 ghost use Rattle.node_turns.specs.Told.{ListedFront, Hears, AreDone, AreBroken};
-ghost use Rattle.node_turns.specs.Faults.{counts, AreFaults};
+ghost use Rattle.node_turns.specs.Same.{HaveStepped, IsSameOutside};
 ghost use Rattle.node_turns.specs.Acting.{HasActed, IsCut};
 ghost use Rattle.node_script.specs.Heads.{IsSound, setup_seen};
 ghost use Rattle.homa_node.specs.Starting.{starting, called, OnStart, OnCut, IsCallStop};
 ghost use Rattle.homa_node.specs.Coming.{calls_ahead, IsOpenAt, IsIdle, IsAllRead, HasRoom};
+ghost use Rattle.homa_node.specs.Ends.{AreSameEnds};
 ghost use Rattle.homa_node.specs.Started.{stopping, HasStarted, HasStopped};
 
 use crate::{NextCall, look, take_due};
@@ -50,12 +51,9 @@ pub fn start_call<H: LoopHosts, N: Net, O: Observer>(
         (N.acts net.old) (N.acts net.new) (Hears 64) (Hears 64)) (N.sent net.old)
         (N.sent net.new) (N.gave net.old) (N.gave net.new)) }
     ensures stops { IfErr result IsCallStop }
-    ensures settings { H.settings hosts.new ≡ H.settings hosts.old }
-    ensures clock { H.clock hosts.new ≡ H.clock hosts.old }
-    ensures steps { H.steps hosts.new ≤ H.steps hosts.old + 1 }
-    ensures known { N.known net.new ≡ N.known net.old }
-    ensures faults { AreFaults (counts 0 (N.faults net.old) (O.faults observer.old)) (counts 0 (N.faults net.new) (O.faults observer.new)) result }
-    ensures same { O.is_same observer.old observer.new }
+    ensures stepped { HaveStepped H.settings H.clock H.steps hosts.old hosts.new 1 }
+    ensures outside { IsSameOutside N.known N.faults O.faults O.is_same
+        net.old net.new observer.old observer.new result }
 {
     let answer = hosts.call(alloc, call.client, call.server, call.service, request)?;
     if let Err(fault) = answer {
@@ -109,10 +107,8 @@ pub fn starts<H: LoopHosts, S: Source, N: Net, O: Observer>(
     ensures settings { H.settings hosts.new ≡ H.settings hosts.old }
     ensures clock { H.clock hosts.new ≡ H.clock hosts.old }
     ensures known { N.known net.new ≡ N.known net.old }
-    ensures faults { AreFaults (counts (S.faults source.old) (N.faults net.old) (O.faults observer.old))
-        (counts (S.faults source.new) (N.faults net.new) (O.faults observer.new)) result }
-    ensures same_source { S.is_same source.old source.new }
-    ensures same_observer { O.is_same observer.old observer.new }
+    ensures ends { AreSameEnds S.faults N.faults O.faults S.is_same O.is_same source.old source.new net.old net.new
+        observer.old observer.new result }
 {
     look(reader, setup, ahead, source)?;
     'calls: while let Some(call) = take_due(ahead, hosts.now()) {

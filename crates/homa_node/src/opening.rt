@@ -1,7 +1,7 @@
 // A node is opened: its script is read up to `go`, the net learns where the hosts are, and the settings are told.
-ghost use Rattle.std.specs.Prelude.{◌≡◌, ◌^◌, ℕ, Option, List, Some, Err, false, nat_lt, length, IfOk, IfErr};
+ghost use Rattle.std.specs.Prelude.{◌≡◌, ℕ, Option, List, Some, Err, false, nat_lt, length, IfOk, IfErr};
 ghost use Rattle.homa_plain.specs.declared.id.HostId.{HostId as Host};
-ghost use Rattle.node_runs.specs.Course.{locals as local_hosts, loop_turns, node_run};
+ghost use Rattle.node_runs.specs.Course.{loop_turns, node_run};
 ghost use Rattle.node_runs.specs.Acts.{connects, opened_acts};
 ghost use Rattle.node_runs.specs.Script.{opening};
 ghost use Rattle.homa_plain.specs.Script.{most_bytes};
@@ -11,9 +11,10 @@ ghost use Rattle.node_turns.specs.Faults.{counts, AreFaults};
 ghost use Rattle.script_lines.specs.Place.{first_place, IsCounted};
 ghost use Rattle.node_script.specs.Heads.{IsSound, setup_seen};
 ghost use Rattle.node_script.specs.Calls.{calls_left};
+ghost use Rattle.homa_node.specs.Ends.{AreSameEnds};
 ghost use Rattle.homa_node.specs.Served.{outside, HasServed};
 ghost use Rattle.homa_node.specs.Progress.{IsAt};
-ghost use Rattle.homa_node.specs.Opened.{HasOpened, opening_stop};
+ghost use Rattle.homa_node.specs.Opened.{HasOpened, StandsAtGo, opening_stop};
 
 use crate::OpenHosts;
 use crate::places::{connect, first_incs, locals};
@@ -95,17 +96,10 @@ pub fn open_node<B: Drop, H: OpenHosts<B> + Drop, S: Source, N: Net, O: Observer
 
     ensures never_strange { OnStrange result ⊥ }
     ensures sound { IfOk result (λ node. IsSound node.setup) }
-    ensures counted { IfOk result (λ node. IsCounted node.reader.place) }
-    ensures limit { IfOk result (λ node. node.reader.place.limit ≡ 2 ^ 36) }
-    ensures locals { IfOk result (λ node. node.locals.items ≡ local_hosts (setup_seen node.setup)) }
-    ensures settings { IfOk result (λ node. H.settings node.hosts ≡ node.setup.settings) }
-    ensures clock { IfOk result (λ node. H.clock node.hosts ≡ 0) }
-    ensures steps { IfOk result (λ node. H.steps node.hosts ≡ 0) }
+    ensures at_go { IfOk result (StandsAtGo H.settings H.clock H.steps) }
     ensures known { IfOk result (λ node. (h : Host) → N.known net.new h ≡ nat_lt h.0 (length node.setup.places.items)) }
-    ensures faults { AreFaults (counts (S.faults source.old) (N.faults net.old) (O.faults observer.old))
-        (counts (S.faults source.new) (N.faults net.new) (O.faults observer.new)) result }
-    ensures same_source { S.is_same source.old source.new }
-    ensures same_observer { O.is_same observer.old observer.new }
+    ensures ends { AreSameEnds S.faults N.faults O.faults S.is_same O.is_same source.old source.new net.old net.new
+        observer.old observer.new result }
 {
     let mut reader = Reader::open(alloc, LONGEST_INPUT)?;
     let setup = read_setup(alloc, &mut reader, source)?;

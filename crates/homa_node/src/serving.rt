@@ -4,7 +4,7 @@ ghost use Rattle.homa_plain.specs.declared.id.HostId.{HostId as Host};
 ghost use Rattle.node_runs.specs.Course.{node_run};
 ghost use Rattle.node_turns.specs.Told.{SomeStrange};
 ghost use Rattle.node_turns.specs.Acting.{OnStrange};
-ghost use Rattle.node_turns.specs.Faults.{counts, AreFaults};
+ghost use Rattle.homa_node.specs.Ends.{AreSameEnds};
 ghost use Rattle.homa_node.specs.Served.{outside, HasServed};
 
 use crate::opening::{Node, open_node};
@@ -37,10 +37,8 @@ pub fn serve<B: Drop, H: OpenHosts<B> + Drop, S: Source, N: Net, C: Clock, O: Ob
     ensures some_strange { OnStrange result (SomeStrange O.strange) }
 
     // A fault of reading, of the net or of writing comes only where that count rose, and then always.
-    ensures faults { AreFaults (counts (S.faults source.old) (N.faults net.old) (O.faults observer.old))
-        (counts (S.faults source.new) (N.faults net.new) (O.faults observer.new)) result }
-    ensures same_source { S.is_same source.old source.new }
-    ensures same_observer { O.is_same observer.old observer.new }
+    ensures ends { AreSameEnds S.faults N.faults O.faults S.is_same O.is_same source.old source.new net.old net.new
+        observer.old observer.new result }
 {
     let node: Node<H> = open_node(alloc, source, net, boxes, observer)?;
     let Node {

@@ -21,6 +21,7 @@ abbrev pub renewed : ℕ → ClientRow → ClientRow
 renewed inc r = if nat_lt r.seen inc then record r { seen = inc; part = None } else r
 
 -- notes that the server was heard of, except through UNKNOWN; NEED_ACK and CUTOFFS leave the timer's base
+-- A rule of this project.
 abbrev pub refreshed : ℕ → Body → ClientRow → ClientRow
 refreshed now (body.Unknown reason) r = r
 refreshed now body.NeedAck r = record r { heard = now; count = 0 }
@@ -40,6 +41,7 @@ busy_for Queued = []
 -- ---- pieces of the response
 
 -- adds a piece to the response; if the response is whole, the call is done
+-- A rule of this project.
 abbrev pub piece_added : CallId → ClientRow → Incoming → Did ClientRow → Did ClientRow
 piece_added id r part d =
     if is_whole part

@@ -21,6 +21,7 @@ abbrev pub with_state : ServerRow → State → ServerRow
 with_state row state = record row { state = state }
 
 -- the response is sent from now on, which takes an order number
+-- A rule of this project.
 abbrev pub replying : Settings → ℕ → List ℕ → ServerRow → Did ServerRow → Did ServerRow
 replying s now response row d = record d {
   row = Some (with_state row (Replying response (outgoing.opened (length response) s.unsched) d.order now 0));
@@ -36,6 +37,7 @@ buried m id until row = says m (Some (with_state row (Buried until))) (Tells (Pl
 -- ---- pieces of the request
 
 -- the request is whole, and the service runs
+-- A rule of this project, so that no call runs twice in an incarnation.
 abbrev pub runs : Settings → Moment → CallId → ℕ → List ℕ → Answer → ServerRow → Did ServerRow → Did ServerRow
 runs s m id service request answer row d =
     let told = record d { says = Tells (PlainRun m.host id service request answer.bytes answer.hold) ∷ [] } in
@@ -44,6 +46,7 @@ runs s m id service request answer row d =
     else record told { row = Some (with_state row (Held answer.bytes (m.now + answer.hold))) }
 
 -- the request with the piece
+-- A rule of this project.
 abbrev pub piece_added : Settings → Moment → CallId → ℕ → Answer → ServerRow → Incoming → Did ServerRow → Did ServerRow
 piece_added s m id service answer row part d =
     if is_whole part

@@ -38,6 +38,7 @@ pub record Granted (X : Type 0) : Type 0 where
   pub prio : ℕ
 
 -- of things in order of a key, the first k with different senders
+-- That a sender has one of them is a rule of this project.
 abbrev pub chosen_by : {X : Type 0} → (X → ℕ) → (X → ℕ × ℕ) → ℕ → List X → List X
 chosen_by from key k xs = take k (firsts from (ordered key xs))
 

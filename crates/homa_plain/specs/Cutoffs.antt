@@ -72,6 +72,7 @@ unfoldable pub bounds : ℕ → ℕ → List ℕ → List ℕ
 bounds k unsched lengths = map (bound_of_level k unsched lengths) levels
 
 -- the cutoffs of a host by the lengths of its last messages
+-- Source: SIGCOMM 2018, "Packet priorities" (from memory). That the last 256 lengths count is a rule of this project.
 abbrev pub balanced : ℕ → ℕ → ℕ → List ℕ → Cutoffs
 balanced k unsched version lengths = record { version = version; upto = bounds k unsched lengths }
 

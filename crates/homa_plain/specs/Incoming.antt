@@ -45,6 +45,7 @@ first_known known a [] = []
 first_known known a (x ∷ xs) = unwrap_or (get known a) x ∷ first_known known (suc a) xs
 
 -- the message with a piece of it that begins at an offset; bytes that had arrived keep their values
+-- A rule of this project.
 abbrev pub with_bytes : Incoming → ℕ → List ℕ → Incoming
 with_bytes p offset piece =
     let known = retain p.bytes (is_between offset (offset + length piece)) in

@@ -20,6 +20,7 @@ abbrev pub restart : Outgoing → Outgoing
 restart p = let end = min p.length p.unsched in record p { waiting = set_of_range 0 end; granted = end }
 
 -- a message of n bytes, of which nothing was sent
+-- Source: SIGCOMM 2018, "Basic sender behavior" (from memory).
 abbrev pub opened : ℕ → ℕ → Outgoing
 opened n unsched = record { length = n; waiting = set_of_range 0 (min n unsched); granted = min n unsched; top = 0; prio = 0; unsched = unsched }
 
@@ -90,6 +91,7 @@ pub record Next : Type 0 where
   pub part : Outgoing
 
 -- takes the next bytes to be sent: the lowest ones that wait, at most seg in a row
+-- A rule of this project.
 abbrev pub next : Outgoing → ℕ → Next
 next p seg = record { range = next_range p seg; part = sent p (next_range p seg) }
 

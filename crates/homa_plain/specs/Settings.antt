@@ -116,6 +116,7 @@ abbrev pub is_past_life : Settings → ℕ → ℕ → Bool
 is_past_life s sent now = s.wire == 1 && nat_lt (sent + s.life) now
 
 -- the band: by how many ticks two hosts' clocks may differ
+-- A rule of this project.
 abbrev pub band : Settings → ℕ
 band s = 2 * s.skew
 

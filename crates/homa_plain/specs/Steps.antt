@@ -1,4 +1,5 @@
 -- A step of a host: a call, a packet that comes, a turn. It is a fold of moves; each changes one row and speaks of one call.
+-- Rules: CUTOFFS to a sender with old ones, five ACKs, a packet that is too old, credit, the pump, what a call's id is.
 use Rattle.std.specs.Prelude.{ℕ, zero, suc, ◌+◌, ◌-◌, ◌==◌, ◌&&◌, ◌||◌, Bool, true, false, nat_lt, nat_le, if◌then◌else◌, Option, None, Some, List}
 use Rattle.std.specs.Prelude.{[], ◌∷◌, ◌++◌, length, drop, ◌*◌, slice_set}
 use Rattle.plain_sets.specs.Maps.{get, insert, len}
@@ -135,6 +136,7 @@ abbrev pub with_peer : Settings → HostId → PeerCutoffs → Host → Host
 with_peer s peer cutoffs h = record h { peers = slice_set h.peers peer.0 cutoffs }
 
 -- a peer's cutoffs arrive
+-- A rule of this project.
 abbrev pub hears_cutoffs : Settings → HostId → ℕ → Body → Work → Work
 hears_cutoffs s peer inc (body.Cutoffs cutoffs) w =
     if is_newer inc cutoffs (peer_cutoffs s w.host peer)
@@ -231,6 +233,7 @@ gives_grants s w = all_granted s (grants (λ (a : Arriving). a.message) s.overco
 -- ---- the pump
 
 -- how many packets a step sends at most
+-- A rule of this project.
 abbrev pub most_packets : ℕ
 most_packets = 64
 
@@ -239,6 +242,7 @@ abbrev pub spent : ℕ → Work → Work
 spent n w = record w { host = record w.host { credit = w.host.credit - n } }
 
 -- the oldest of the finished calls, which a request's piece carries
+-- A rule of this project.
 abbrev pub oldest : List (ℕ × ℕ) → Option (ℕ × ℕ)
 oldest [] = None
 oldest (call ∷ calls) = Some call
@@ -291,6 +295,7 @@ first_leaves s (Some l) w = leaves_from s l.place w
 
 -- the first message that may be sent sends its next piece;
 -- none if there is no such message, or if the piece has more bytes than the credit
+-- Source: SIGCOMM 2018, "Basic sender behavior" (from memory). That bytes sent again don't count is a rule of this project.
 unfoldable pub pumped_once : Settings → Work → Option Work
 pumped_once s w = first_leaves s (least leaving_key (departures s (now_of w) w.host)) w
 
@@ -311,10 +316,12 @@ ended s w = pump s (gives_grants s w)
 -- ---- steps
 
 -- the id of a host's next call
+-- Source: SIGCOMM 2018, "RPCs, not connections" (from memory).
 abbrev pub next_id : Host → CallId
 next_id h = record { client = h.id; inc = h.inc; seq = h.seq }
 
 -- why a call can't start, if it can't
+-- A rule of this project.
 unfoldable pub start_fault : Settings → Host → HostId → List ℕ → Option StartFault
 start_fault s h server request =
     if length request == 0 then Some Empty

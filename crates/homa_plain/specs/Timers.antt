@@ -36,10 +36,12 @@ abbrev pub unless : Bool → ℕ → Option ℕ
 unless rests at = if rests then None else Some at
 
 -- the deadline of a call's row at its client, unless its timer rests
+-- Source: SIGCOMM 2018, "Lost packets" (from memory).
 unfoldable pub client_deadline : Settings → ClientRow → Option ℕ
 client_deadline s r = unless (is_client_at_rest r) (r.base + s.resend)
 
 -- the deadline in this state: that of its timer, the end of a hold, or the tick after the last of a buried call
+-- Source: SIGCOMM 2018, "Lost packets" (from memory).
 abbrev pub state_deadline : Settings → State → Option ℕ
 state_deadline s (Receiving service part base count) = unless (has_no_gap part) (base + s.resend)
 state_deadline s (Held response release) = Some release
@@ -59,6 +61,7 @@ resend_of s None = []
 resend_of s (Some r) = Posts (body.Resend r.from r.to (asking_level s)) ∷ []
 
 -- what a client asks for: the first gap of the response or, before any of it arrived, the bytes that need no grant
+-- Source: SIGCOMM 2018, "Lost packets" (from memory).
 abbrev pub wanted : Settings → Option Incoming → Option Range
 wanted s None = Some (range 0 s.unsched)
 wanted s (Some part) = first_gap part

@@ -99,6 +99,7 @@ abbrev pub header_bytes : ℕ → Packet → List ℕ
 header_bytes wire p = wire ∷ kind p.body ∷ role_byte p.role ∷ p.level ∷ (to_be_bytes w32 p.sender ++ two (p.inc, p.seq) ++ tick_bytes wire p.at)
 
 -- the one spelling, of version 1 or 2: header, fields, payload
+-- A rule of this project.
 abbrev pub spelling : ℕ → Packet → List ℕ → List ℕ
 spelling wire p payload = header_bytes wire p ++ body_bytes p.body ++ payload
 

@@ -1,5 +1,5 @@
 -- The world: hosts with their own clocks, the packets that were sent, and what each event does.
-use Rattle.std.specs.Prelude.{ℕ, zero, suc, ◌+◌, ◌-◌, ◌==◌, ◌&&◌, Bool, is_some, nat_lt, if◌then◌else◌, Option, None, Some, List, [], ◌∷◌, ◌++◌}
+use Rattle.std.specs.Prelude.{ℕ, zero, suc, ◌+◌, ◌-◌, ◌==◌, Bool, is_some, nat_lt, if◌then◌else◌, Option, None, Some, List, [], ◌∷◌, ◌++◌}
 use Rattle.std.specs.Prelude.{length, map, drop, replicate, slice_get, slice_set, slice_index_or}
 use Rattle.homa_plain.specs.declared.id.HostId.{HostId}
 use Rattle.homa_plain.specs.declared.packet.Packet.{Packet as WirePacket}
@@ -138,6 +138,7 @@ turns s w id (Some h) = stepped w id [] (turn_step s h (own_clock w id))
 
 -- a host restarts: it is a new host of the next incarnation, with a spare service;
 -- its lead, and the clock of its last step, stay
+-- A rule of this project.
 abbrev pub restarts : Settings → World → HostId → Option Host → ℕ → Outcome
 restarts s w id None spares = Refused NoSuchHost
 restarts s w id (Some h) zero = Refused NoSpare
@@ -157,6 +158,7 @@ injected s w id bytes (Some h) (Some read) = Refused Decodes
 injected s w id bytes (Some h) None = arrives_at s w id (PlainInject id bytes ∷ []) None (Some h)
 
 -- a host's lead becomes n ticks: at most the band, and so that its own clock isn't before that of its last step
+-- A rule of this project.
 abbrev pub shifted : Settings → World → HostId → ℕ → Option Host → Outcome
 shifted s w id n None = Refused NoSuchHost
 shifted s w id n (Some h) =

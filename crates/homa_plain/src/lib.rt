@@ -16,6 +16,7 @@ mod frame;
 mod id;
 mod incoming_laws;
 mod limits;
+mod old_packets;
 mod outgoing_laws;
 mod packet;
 mod row;

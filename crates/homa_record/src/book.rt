@@ -22,7 +22,7 @@ pub(crate) enum Kind {
     Sent(u64),
     /// No packet.
     Junk,
-    /// A packet that no host of the run sent in its life.
+    /// A packet that its sender, in this run, didn't send to this host within `life`.
     Strange,
 }
 

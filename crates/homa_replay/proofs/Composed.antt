@@ -1,7 +1,7 @@
 -- The lines behind `go`, in the world that `go` opens, are the rest of the replay.
 use Rattle.std.proofs.Common.{◌≡◌, ◌⊎◌, inl, inr, ℕ, Bool, true, false, Option, Some, Result, Ok, Err, List, [], ◌∷◌, ◌++◌, refl, sym, ap, ◌∙◌}
 use Rattle.std.proofs.Common.{subst, append_assoc}
-use Rattle.std.specs.Prelude.{IfErr, OnOk}
+use Rattle.std.specs.Prelude.{IfErr, IsErrAnd, OnOk}
 use Rattle.std.specs.List.{flat_map}
 use Rattle.std.proofs.lemmas.List.{append-nil}
 use Rattle.homa_io.specs.Outside.{appended, Grows}
@@ -25,6 +25,7 @@ use Rattle.homa_replay.specs.Lines.{text_of, IsFront}
 use Rattle.homa_replay.specs.Stops.{prints_all}
 use Rattle.homa_replay.specs.declared.stop.Stop.{Stop}
 use Rattle.homa_replay.specs.Progress.{Whole, replay_of, left_at, ArePrinted, AreParts}
+use Rattle.homa_replay.specs.Replayed.{IsReplayed}
 use Rattle.homa_replay.proofs.Fronts.{nothing_appended, wrote_more}
 use Rattle.homa_replay.proofs.Fars.{far_start, fars_part}
 use Rattle.homa_replay.proofs.Plays.{text-with_told, printed_more, front_of, front_begins, front_behind}
@@ -154,6 +155,10 @@ printed_settings s t w place first old new p accepted e d = subst (λ (x : Setti
 
 -- ---- through a sink that holds lines back
 
+-- nothing is held any more
+pub all_out : (below new : Option (List ℕ)) (held last : List ℕ) → last ≡ [] → appended new last ≡ appended below held → new ≡ appended below held
+all_out below new held last out e = nothing_appended new ∙ (ap (λ (l : List ℕ). appended new l) (sym out) ∙ e)
+
 -- all went out
 pub printed_below : (whole : Whole) (first old below new : Option (List ℕ)) (before held : List ℕ) (p : List PlainEntry → Type 0) (accepted : Bool)
     → before ≡ [] → new ≡ appended below held
@@ -238,3 +243,14 @@ pub parts_any : (r : Result Bool Stop) (whole : Whole) (first left old new : Opt
     → IfErr r (λ stop. AreParts whole first left old new p (prints_all stop)) → AreParts whole first left old new p false
 parts_any (Ok accepted) whole first left old new p f d = f
 parts_any (Err stop) whole first left old new p f d = less whole first left old new p (prints_all stop) d
+
+-- it stopped
+pub replayed_part : {boxes : ℕ} {p : List PlainEntry → Type 0} {first left old new : Option (List ℕ)} (r : Result Bool Stop) (stop : Stop)
+    → IsErrAnd r (λ y. y ≡ stop) → AreParts (replay_of boxes) first left old new p (prints_all stop) → IsReplayed boxes p first left old new r
+replayed_part (Ok accepted) stop h part = absurd h
+replayed_part {boxes} {p} {first} {left} {old} {new} (Err y) stop h part = record {
+  printed = tt;
+  to_end = λ k. absurd cc;
+  behind = λ k. absurd cc;
+  part = subst (λ (z : Stop). AreParts (replay_of boxes) first left old new p (prints_all z)) (sym h) part;
+}

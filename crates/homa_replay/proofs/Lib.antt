@@ -3,10 +3,12 @@ pub mod Streams
 pub mod Plays
 pub mod Ticks
 pub mod Turns
+pub mod Playing
 pub mod Fars
 pub mod LineSteps
 pub mod Begins
 pub mod Composed
 pub mod Exits
+pub mod Leaving
 pub mod Aheads
 pub mod Behinds

@@ -9,5 +9,7 @@ pub mod NextLine
 pub mod Part
 pub mod OpenWorld
 pub mod Stops
+pub mod Playing
+pub mod Replayed
 pub mod Faults
 pub mod RefusedReads

@@ -1,8 +1,8 @@
 // A source that writes what is held before each read.
 ghost use Rattle.std.specs.Prelude.{◌≡◌, ◌≤◌, ◌<◌, [], None, true, length, take, IfOk, OnErr, OnOk, IsErrOf};
-ghost use Rattle.homa_io.specs.Outside.{HasRisen, unread, IsAtEnd};
+ghost use Rattle.homa_io.specs.Outside.{unread, IsAtEnd};
 ghost use Rattle.script_lines.specs.Taking.{TakesLines};
-ghost use Rattle.homa_replay.specs.Faults.{AreFaults};
+ghost use Rattle.homa_replay.specs.Faults.{LeavesBoth};
 ghost use Rattle.homa_replay.specs.Part.{answer_of};
 
 use crate::part::Part;
@@ -30,19 +30,12 @@ impl<'a, S: Source, K: FlushSink> Ahead<'a, S, K> {
         ensures err { OnErr result (S.left self.new.source.now ≡ S.left self.old.source.now) }
         ensures taken { K.taken self.new.sink.now ≡ K.taken self.old.sink.now }
         ensures none { OnOk result (K.held self.new.sink.now ≡ []) }
-        ensures read_none { IsErrOf result Stop.Read → K.held self.new.sink.now ≡ [] }
-        ensures quiet_source { OnOk result (S.faults self.new.source.now ≡ S.faults self.old.source.now) }
-        ensures quiet_sink { OnOk result (K.faults self.new.sink.now ≡ K.faults self.old.sink.now) }
         ensures stop { self.new.stop ≡ self.old.stop }
         ensures faults { self.new.faults ≡ self.old.faults }
         ensures lent_source { self.new.source.ghost_name ≡ self.old.source.ghost_name }
         ensures lent_sink { self.new.sink.ghost_name ≡ self.old.sink.ghost_name }
-        ensures same_source { S.is_same self.old.source.now self.new.source.now }
-        ensures same_sink { K.is_same self.old.sink.now self.new.sink.now }
-        ensures read_risen { IsErrOf result Stop.Read → HasRisen (S.faults self.old.source.now) (S.faults self.new.source.now) }
-        ensures read_quiet { IsErrOf result Stop.Read → K.faults self.new.sink.now ≡ K.faults self.old.sink.now }
-        ensures write_risen { IsErrOf result Stop.Write → HasRisen (K.faults self.old.sink.now) (K.faults self.new.sink.now) }
-        ensures write_quiet { IsErrOf result Stop.Write → S.faults self.new.source.now ≡ S.faults self.old.source.now }
+        ensures left { LeavesBoth S.faults S.is_same K.faults K.is_same K.held self.old.source.now self.new.source.now self.old.sink.now
+            self.new.sink.now result }
         ensures memory { IsErrOf result Stop.NoMemory → ⊥ }
     {
         self.sink.flush()?;
@@ -117,11 +110,8 @@ pub(crate) fn read_ahead<T: Part, S: Source, K: FlushSink>(
     ensures took { OnOk result (TakesLines reader.old.place reader.new.place (S.left source.old) (S.left source.new)) }
     ensures pending { length reader.new.place.pending ≤ 65536 }
     ensures taken { K.taken sink.new ≡ K.taken sink.old }
-    ensures faults { AreFaults (S.faults source.old) (S.faults source.new) (K.faults sink.old) (K.faults sink.new) result }
-    ensures read_none { IsErrOf result Stop.Read → K.held sink.new ≡ [] }
+    ensures left { LeavesBoth S.faults S.is_same K.faults K.is_same K.held source.old source.new sink.old sink.new result }
     ensures memory { IsErrOf result Stop.NoMemory → ⊥ }
-    ensures same_source { S.is_same source.old source.new }
-    ensures same_sink { K.is_same sink.old sink.new }
 {
     let mut ahead = Ahead {
         source,

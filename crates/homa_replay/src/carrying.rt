@@ -1,7 +1,7 @@
 // The replay of a schedule.
 ghost use Rattle.std.specs.Prelude.{◌≡◌, ◌≤◌, ◌+◌, ◌*◌, ◌^◌, ℕ, List, [], Some, None, Ok, true, false, IfOk, IfErr, IfSome, OnOk, OnErr, IsErrOf};
 ghost use Rattle.homa_io.specs.Outside.{HasRisen, appended, TookFront};
-ghost use Rattle.homa_plain.specs.Entries.{PlainSettings, PlainRefused, IsCause, is_memory};
+ghost use Rattle.homa_plain.specs.Entries.{PlainSettings, PlainRefused, IsCause};
 ghost use Rattle.homa_plain.specs.Text.{line_text};
 ghost use Rattle.homa_plain.specs.Settings.{IsValid};
 ghost use Rattle.homa_plain.specs.Script.{Opened, opening};
@@ -12,12 +12,12 @@ ghost use Rattle.script_lines.specs.Read.{IsRead};
 ghost use Rattle.script_lines.specs.Taking.{TakesLines};
 ghost use Rattle.homa_script.specs.Script.{opened, IsInRange};
 ghost use Rattle.homa_plain.specs.World.{World};
-ghost use Rattle.homa_replay.specs.Lines.{ArePlayed, AreRefused, AreCut};
+ghost use Rattle.homa_replay.specs.Playing.{Plays};
 ghost use Rattle.homa_replay.specs.NextLine.{given_of, line_events, is_end};
 ghost use Rattle.homa_replay.specs.Progress.{left_at, replay_of, is_unasked, ArePrinted, AreParts};
 ghost use Rattle.homa_replay.specs.RefusedReads.{RefusesLast};
 ghost use Rattle.homa_replay.specs.Stops.{prints_all};
-ghost use Rattle.homa_replay.specs.Faults.{AreFaults};
+ghost use Rattle.homa_replay.specs.Faults.{OnlyWrites, LeavesBoth};
 
 use crate::ahead::read_ahead;
 use crate::lines::{play, play_ticks};
@@ -39,23 +39,11 @@ fn play_line<P: ReplayWorld, K: Sink>(
 ) -> Result<Option<WorldFault>, Stop>
     requires hosts { hosts ≤ 32 }
     requires few { P.events world.old + line_events hosts next.now ≤ 2 ^ 57 }
-    ensures played { result ≡ Ok None → (w : World) → P.stands world.old w
-        → ArePlayed (P.settings world.old) w (events_of hosts (given_of next.now bytes.now)) (P.stands world.new) (K.taken sink.old) (K.taken sink.new)
-        (P.allows world.old) (P.allows world.new) }
-    ensures refused { IfOk result (λ r. IfSome r (λ fault. (w : World) → P.stands world.old w
-        → AreRefused (P.settings world.old) w (events_of hosts (given_of next.now bytes.now)) (K.taken sink.old) (K.taken sink.new)
-        (P.allows world.old) fault)) }
-    ensures real { IfOk result (λ r. IfSome r (λ fault. is_memory fault ≡ false)) }
-    ensures cut { IfErr result (λ stop. (w : World) → P.stands world.old w
-        → AreCut (P.settings world.old) w (events_of hosts (given_of next.now bytes.now)) (K.taken sink.old) (K.taken sink.new) (P.allows world.old)
-        (prints_all stop)) }
+    ensures plays { Plays (P.settings world.old) (events_of hosts (given_of next.now bytes.now)) (P.stands world.old) (P.stands world.new)
+        (P.allows world.old) (P.allows world.new) (K.taken sink.old) (K.taken sink.new) result }
     ensures settings { P.settings world.new ≡ P.settings world.old }
     ensures counted { P.events world.new ≤ P.events world.old + line_events hosts next.now }
-    ensures write { IsErrOf result Stop.Write → HasRisen (K.faults sink.old) (K.faults sink.new) }
-    ensures memory { IsErrOf result Stop.NoMemory → K.faults sink.new ≡ K.faults sink.old }
-    ensures read { IsErrOf result Stop.Read → ⊥ }
-    ensures quiet { OnOk result (K.faults sink.new ≡ K.faults sink.old) }
-    ensures same { K.is_same sink.old sink.new }
+    ensures sink { OnlyWrites K.faults K.is_same result sink.old sink.new }
 {
     match next {
         Next::Event(event) => play(alloc, world, sink, event, bytes),
@@ -128,11 +116,8 @@ pub fn begin<S: Source, K: FlushSink>(
     ensures counted { IfOk result (λ r. IfSome r (λ s. IsCounted reader.new.place)) }
     ensures limit { reader.new.place.limit ≡ LONGEST_INPUT }
 
-    ensures faults { AreFaults (S.faults source.old) (S.faults source.new) (K.faults sink.old) (K.faults sink.new) result }
-    ensures read_none { IsErrOf result Stop.Read → K.held sink.new ≡ [] }
+    ensures left { LeavesBoth S.faults S.is_same K.faults K.is_same K.held source.old source.new sink.old sink.new result }
     ensures memory { IsErrOf result Stop.NoMemory → ⊥ }
-    ensures same_source { S.is_same source.old source.new }
-    ensures same_sink { K.is_same sink.old sink.new }
 {
     match read_ahead::<Settings, S, K>(reader, source, sink)? {
         Ok(settings) => {
@@ -177,10 +162,7 @@ pub fn carry_on<P: ReplayWorld, S: Source, K: FlushSink>(
     ensures behind { result ≡ Ok false → (w : World) → P.stands world.old w → (bytes : List ℕ) → S.left source.old ≡ Some bytes
         → RefusesLast reader.old.place reader.new.place (S.left source.old) (S.left source.new) (K.taken sink.old) (K.taken sink.new) }
 
-    ensures faults { AreFaults (S.faults source.old) (S.faults source.new) (K.faults sink.old) (K.faults sink.new) result }
-    ensures read_none { IsErrOf result Stop.Read → K.held sink.new ≡ [] }
-    ensures same_source { S.is_same source.old source.new }
-    ensures same_sink { K.is_same sink.old sink.new }
+    ensures left { LeavesBoth S.faults S.is_same K.faults K.is_same K.held source.old source.new sink.old sink.new result }
 {
     let mut events: u64 = 0;
     'lines: loop {

@@ -1,12 +1,11 @@
 // The events of a line, one after the other.
-ghost use Rattle.std.specs.Prelude.{◌≡◌, ◌≤◌, ◌<◌, ◌+◌, ◌*◌, ◌^◌, ◌∷◌, [], Some, None, Ok, false, IfOk, IfErr, IfSome, OnOk, IsErrOf};
-ghost use Rattle.homa_io.specs.Outside.{HasRisen};
+ghost use Rattle.std.specs.Prelude.{◌≡◌, ◌≤◌, ◌<◌, ◌+◌, ◌*◌, ◌^◌, ◌∷◌, []};
 ghost use Rattle.homa_plain.specs.declared.event.Event.TheVariants as event;
 ghost use Rattle.homa_plain.specs.Replay.{turns_of, ticks};
-ghost use Rattle.homa_plain.specs.World.{World};
 ghost use Rattle.homa_plain.specs.Entries.{is_memory};
-ghost use Rattle.homa_replay.specs.Lines.{tick_of, ArePlayed, AreRefused, AreCut};
-ghost use Rattle.homa_replay.specs.Stops.{prints_all};
+ghost use Rattle.homa_replay.specs.Lines.{tick_of};
+ghost use Rattle.homa_replay.specs.Playing.{Plays};
+ghost use Rattle.homa_replay.specs.Faults.{OnlyWrites};
 
 use crate::print::put_entries;
 use crate::{ReplayWorld, Stop};
@@ -30,23 +29,11 @@ pub(crate) fn play<P: ReplayWorld, K: Sink>(
     bytes: &[u8],
 ) -> Result<Option<WorldFault>, Stop>
     requires few { P.events world.old < 2 ^ 57 }
-    ensures played { result ≡ Ok None → (w : World) → P.stands world.old w
-        → ArePlayed (P.settings world.old) w (record { event = event.now; bytes = bytes.now } ∷ []) (P.stands world.new) (K.taken sink.old) (K.taken sink.new)
-        (P.allows world.old) (P.allows world.new) }
-    ensures refused { IfOk result (λ r. IfSome r (λ fault. (w : World) → P.stands world.old w
-        → AreRefused (P.settings world.old) w (record { event = event.now; bytes = bytes.now } ∷ []) (K.taken sink.old) (K.taken sink.new)
-        (P.allows world.old) fault)) }
-    ensures real { IfOk result (λ r. IfSome r (λ fault. is_memory fault ≡ false)) }
-    ensures cut { IfErr result (λ stop. (w : World) → P.stands world.old w
-        → AreCut (P.settings world.old) w (record { event = event.now; bytes = bytes.now } ∷ []) (K.taken sink.old) (K.taken sink.new) (P.allows world.old)
-        (prints_all stop)) }
+    ensures plays { Plays (P.settings world.old) (record { event = event.now; bytes = bytes.now } ∷ []) (P.stands world.old) (P.stands world.new)
+        (P.allows world.old) (P.allows world.new) (K.taken sink.old) (K.taken sink.new) result }
     ensures settings { P.settings world.new ≡ P.settings world.old }
     ensures counted { P.events world.new ≤ P.events world.old + 1 }
-    ensures write { IsErrOf result Stop.Write → HasRisen (K.faults sink.old) (K.faults sink.new) }
-    ensures memory { IsErrOf result Stop.NoMemory → K.faults sink.new ≡ K.faults sink.old }
-    ensures read { IsErrOf result Stop.Read → ⊥ }
-    ensures quiet { OnOk result (K.faults sink.new ≡ K.faults sink.old) }
-    ensures same { K.is_same sink.old sink.new }
+    ensures sink { OnlyWrites K.faults K.is_same result sink.old sink.new }
 {
     if let Err(fault) = world.apply(alloc, event, bytes) {
         if is_memory(&fault) {
@@ -67,21 +54,11 @@ fn play_turns<P: ReplayWorld, K: Sink>(
 ) -> Result<Option<WorldFault>, Stop>
     requires hosts { hosts ≤ 32 }
     requires few { P.events world.old + hosts ≤ 2 ^ 57 }
-    ensures played { result ≡ Ok None → (w : World) → P.stands world.old w
-        → ArePlayed (P.settings world.old) w (turns_of 0 hosts) (P.stands world.new) (K.taken sink.old) (K.taken sink.new) (P.allows world.old)
-        (P.allows world.new) }
-    ensures refused { IfOk result (λ r. IfSome r (λ fault. (w : World) → P.stands world.old w
-        → AreRefused (P.settings world.old) w (turns_of 0 hosts) (K.taken sink.old) (K.taken sink.new) (P.allows world.old) fault)) }
-    ensures real { IfOk result (λ r. IfSome r (λ fault. is_memory fault ≡ false)) }
-    ensures cut { IfErr result (λ stop. (w : World) → P.stands world.old w
-        → AreCut (P.settings world.old) w (turns_of 0 hosts) (K.taken sink.old) (K.taken sink.new) (P.allows world.old) (prints_all stop)) }
+    ensures plays { Plays (P.settings world.old) (turns_of 0 hosts) (P.stands world.old) (P.stands world.new) (P.allows world.old) (P.allows world.new)
+        (K.taken sink.old) (K.taken sink.new) result }
     ensures settings { P.settings world.new ≡ P.settings world.old }
     ensures counted { P.events world.new ≤ P.events world.old + hosts }
-    ensures write { IsErrOf result Stop.Write → HasRisen (K.faults sink.old) (K.faults sink.new) }
-    ensures memory { IsErrOf result Stop.NoMemory → K.faults sink.new ≡ K.faults sink.old }
-    ensures read { IsErrOf result Stop.Read → ⊥ }
-    ensures quiet { OnOk result (K.faults sink.new ≡ K.faults sink.old) }
-    ensures same { K.is_same sink.old sink.new }
+    ensures sink { OnlyWrites K.faults K.is_same result sink.old sink.new }
 {
     for host in 0..hosts {
         let turn = Event::Turn {
@@ -104,21 +81,11 @@ fn play_tick<P: ReplayWorld, K: Sink>(
 ) -> Result<Option<WorldFault>, Stop>
     requires hosts { hosts ≤ 32 }
     requires few { P.events world.old + hosts < 2 ^ 57 }
-    ensures played { result ≡ Ok None → (w : World) → P.stands world.old w
-        → ArePlayed (P.settings world.old) w (tick_of hosts) (P.stands world.new) (K.taken sink.old) (K.taken sink.new) (P.allows world.old)
-        (P.allows world.new) }
-    ensures refused { IfOk result (λ r. IfSome r (λ fault. (w : World) → P.stands world.old w
-        → AreRefused (P.settings world.old) w (tick_of hosts) (K.taken sink.old) (K.taken sink.new) (P.allows world.old) fault)) }
-    ensures real { IfOk result (λ r. IfSome r (λ fault. is_memory fault ≡ false)) }
-    ensures cut { IfErr result (λ stop. (w : World) → P.stands world.old w
-        → AreCut (P.settings world.old) w (tick_of hosts) (K.taken sink.old) (K.taken sink.new) (P.allows world.old) (prints_all stop)) }
+    ensures plays { Plays (P.settings world.old) (tick_of hosts) (P.stands world.old) (P.stands world.new) (P.allows world.old) (P.allows world.new)
+        (K.taken sink.old) (K.taken sink.new) result }
     ensures settings { P.settings world.new ≡ P.settings world.old }
     ensures counted { P.events world.new ≤ P.events world.old + hosts + 1 }
-    ensures write { IsErrOf result Stop.Write → HasRisen (K.faults sink.old) (K.faults sink.new) }
-    ensures memory { IsErrOf result Stop.NoMemory → K.faults sink.new ≡ K.faults sink.old }
-    ensures read { IsErrOf result Stop.Read → ⊥ }
-    ensures quiet { OnOk result (K.faults sink.new ≡ K.faults sink.old) }
-    ensures same { K.is_same sink.old sink.new }
+    ensures sink { OnlyWrites K.faults K.is_same result sink.old sink.new }
 {
     let answer = play(alloc, world, sink, &Event::Clock, &[])?;
     if answer.is_some() {
@@ -138,21 +105,11 @@ pub(crate) fn play_ticks<P: ReplayWorld, K: Sink>(
 ) -> Result<Option<WorldFault>, Stop>
     requires hosts { hosts ≤ 32 }
     requires few { P.events world.old + n * (hosts + 1) ≤ 2 ^ 57 }
-    ensures played { result ≡ Ok None → (w : World) → P.stands world.old w
-        → ArePlayed (P.settings world.old) w (ticks hosts n) (P.stands world.new) (K.taken sink.old) (K.taken sink.new) (P.allows world.old)
-        (P.allows world.new) }
-    ensures refused { IfOk result (λ r. IfSome r (λ fault. (w : World) → P.stands world.old w
-        → AreRefused (P.settings world.old) w (ticks hosts n) (K.taken sink.old) (K.taken sink.new) (P.allows world.old) fault)) }
-    ensures real { IfOk result (λ r. IfSome r (λ fault. is_memory fault ≡ false)) }
-    ensures cut { IfErr result (λ stop. (w : World) → P.stands world.old w
-        → AreCut (P.settings world.old) w (ticks hosts n) (K.taken sink.old) (K.taken sink.new) (P.allows world.old) (prints_all stop)) }
+    ensures plays { Plays (P.settings world.old) (ticks hosts n) (P.stands world.old) (P.stands world.new) (P.allows world.old) (P.allows world.new)
+        (K.taken sink.old) (K.taken sink.new) result }
     ensures settings { P.settings world.new ≡ P.settings world.old }
     ensures counted { P.events world.new ≤ P.events world.old + n * (hosts + 1) }
-    ensures write { IsErrOf result Stop.Write → HasRisen (K.faults sink.old) (K.faults sink.new) }
-    ensures memory { IsErrOf result Stop.NoMemory → K.faults sink.new ≡ K.faults sink.old }
-    ensures read { IsErrOf result Stop.Read → ⊥ }
-    ensures quiet { OnOk result (K.faults sink.new ≡ K.faults sink.old) }
-    ensures same { K.is_same sink.old sink.new }
+    ensures sink { OnlyWrites K.faults K.is_same result sink.old sink.new }
 {
     for tick in 0..n {
         let answer = play_tick(alloc, world, sink, hosts)?;

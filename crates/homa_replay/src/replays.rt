@@ -8,7 +8,8 @@ ghost use Rattle.homa_plain.specs.Answers.{shown};
 ghost use Rattle.homa_replay.specs.OpenWorld.{IsOpened, may_write};
 ghost use Rattle.homa_replay.specs.RefusedReads.{IsReadUpTo};
 ghost use Rattle.homa_replay.specs.Stops.{prints_all};
-ghost use Rattle.homa_replay.specs.Faults.{AreFaults};
+ghost use Rattle.homa_replay.specs.Faults.{AreFaults, LeavesBoth};
+ghost use Rattle.homa_replay.specs.Replayed.{IsReplayed};
 ghost use Rattle.homa_replay.specs.Progress.{replay_of, ArePrinted, AreParts};
 
 use crate::{FlushSink, ReplayWorld, Stop, begin, carry_on};
@@ -49,20 +50,11 @@ fn replay_held<B: Drop, P: OpenWorld<B> + Drop, S: Source, K: FlushSink>(
     boxes: B,
 ) -> Result<bool, Stop>
     requires { P.are_ready boxes }
-    ensures printed { IfOk result (λ accepted. ArePrinted (replay_of (P.many boxes)) (S.left source.old) (K.taken sink.old) (K.taken sink.new)
-        (P.are_allowed boxes) accepted) }
-    ensures to_end { result ≡ Ok true → (bytes : List ℕ) → S.left source.old ≡ Some bytes → S.left source.new ≡ Some [] }
-    ensures behind { result ≡ Ok false → (bytes : List ℕ) → S.left source.old ≡ Some bytes
-        → IsReadUpTo bytes (S.left source.new) (K.taken sink.old) (K.taken sink.new) }
-    ensures part { IfErr result (λ stop. AreParts (replay_of (P.many boxes)) (S.left source.old) (S.left source.new) (K.taken sink.old)
-        (K.taken sink.new) (P.are_allowed boxes) (prints_all stop)) }
+    ensures replayed { IsReplayed (P.many boxes) (P.are_allowed boxes) (S.left source.old) (S.left source.new) (K.taken sink.old) (K.taken sink.new) result }
     ensures front { OnOk result (AreParts (replay_of (P.many boxes)) (S.left source.old) (S.left source.new) (K.taken sink.old) (K.taken sink.new)
         (P.are_allowed boxes) false) }
 
-    ensures faults { AreFaults (S.faults source.old) (S.faults source.new) (K.faults sink.old) (K.faults sink.new) result }
-    ensures read_none { IsErrOf result Stop.Read → K.held sink.new ≡ [] }
-    ensures same_source { S.is_same source.old source.new }
-    ensures same_sink { K.is_same sink.old sink.new }
+    ensures left { LeavesBoth S.faults S.is_same K.faults K.is_same K.held source.old source.new sink.old sink.new result }
 {
     let mut reader = Reader::open(alloc, LONGEST_INPUT)?;
     let Some(settings) = begin(&mut reader, source, sink)? else {
@@ -104,13 +96,8 @@ fn replay_through<B: Drop, P: OpenWorld<B> + Drop, S: Source, K: Sink + Drop>(
 ) -> Result<bool, Stop>
     requires ready { P.are_ready boxes }
     requires none { held_bytes held.old ≡ [] }
-    ensures printed { IfOk result (λ accepted. ArePrinted (replay_of (P.many boxes)) (S.left source.old) (K.taken (sink_below held.old))
-        (K.taken (sink_below held.new)) (P.are_allowed boxes) accepted) }
-    ensures to_end { result ≡ Ok true → (bytes : List ℕ) → S.left source.old ≡ Some bytes → S.left source.new ≡ Some [] }
-    ensures behind { result ≡ Ok false → (bytes : List ℕ) → S.left source.old ≡ Some bytes
-        → IsReadUpTo bytes (S.left source.new) (K.taken (sink_below held.old)) (K.taken (sink_below held.new)) }
-    ensures part { IfErr result (λ stop. AreParts (replay_of (P.many boxes)) (S.left source.old) (S.left source.new) (K.taken (sink_below held.old))
-        (K.taken (sink_below held.new)) (P.are_allowed boxes) (prints_all stop)) }
+    ensures replayed { IsReplayed (P.many boxes) (P.are_allowed boxes) (S.left source.old) (S.left source.new) (K.taken (sink_below held.old))
+        (K.taken (sink_below held.new)) result }
     ensures same { K.is_same (sink_below held.old) (sink_below held.new) }
     ensures faults { AreFaults (S.faults source.old) (S.faults source.new) (K.faults (sink_below held.old)) (K.faults (sink_below held.new)) result }
 {

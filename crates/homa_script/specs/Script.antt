@@ -28,7 +28,7 @@ IsOpening limit new bytes left (Ok settings) = IsRead bytes left (opening limit)
 IsOpening limit new bytes left (Err (Read failed)) = IsCut bytes left
 IsOpening limit new bytes left (Err (Fault fault)) = IsRead bytes left (opening limit) (λ more. Unopened (record { line = new.number; fault = fault }))
 
--- no step is left, and no byte
+-- the reader is at the end: the rest of the input has no step, and all of it was read
 abbrev pub IsLast : Place → List ℕ → Option (List ℕ) → Type 0
 IsLast old bytes left = IsRead bytes left (steps_left old) (λ more. no_steps) × (left ≡ Some [])
 

@@ -1,11 +1,11 @@
 // What comes next of a schedule.
-ghost use Rattle.std.specs.Prelude.{◌≡◌, ◌≤◌, ℕ, List, Some, true, false, length, vec_capacity, IfOk, IfErr, IfSome};
-ghost use Rattle.homa_io.specs.Outside.{HasRisen};
+ghost use Rattle.std.specs.Prelude.{◌≡◌, ◌≤◌, ℕ, List, Some, length, vec_capacity, IfOk, IfSome};
 ghost use Rattle.homa_plain.specs.Settings.{IsValid};
 ghost use Rattle.text_lines.specs.Lines.{reading};
-ghost use Rattle.script_lines.specs.Place.{place_of, IsCounted};
-ghost use Rattle.script_lines.specs.Stops.{is_read, has_failed_read};
-ghost use Rattle.script_lines.specs.Taking.{TakesLines};
+ghost use Rattle.script_lines.specs.Place.{place_of, IsCounted, ReadsScript};
+ghost use Rattle.script_lines.specs.Stops.{has_failed_read};
+ghost use Rattle.script_lines.specs.Faults.{CountsFaults};
+ghost use Rattle.script_lines.specs.Taking.{GoesOn};
 ghost use Rattle.homa_script.specs.Given.{IsWithin};
 ghost use Rattle.homa_script.specs.Script.{opened, IsOpening};
 ghost use Rattle.homa_script.specs.Lines.{IsNextGiven, IsGivenOn};
@@ -22,22 +22,14 @@ pub(crate) fn read_settings<S: Source>(
     lines: &mut Lines,
     source: &mut S,
 ) -> Result<Settings, ScriptStop>
-    requires longest { (reading lines.old).longest ≡ 2100000 }
-    requires counted { IsCounted (place_of (reading lines.old)) }
+    requires script { ReadsScript (reading lines.old) }
     requires first { place_of (reading lines.old) ≡ (opened (reading lines.old).limit).place }
     ensures settings { (bytes : List ℕ) → S.left source.old ≡ Some bytes
         → IsOpening (reading lines.old).limit (place_of (reading lines.new)) bytes (S.left source.new) result }
-    ensures took { has_failed_read result ≡ false → TakesLines (place_of (reading lines.old)) (place_of (reading lines.new)) (S.left source.old)
-        (S.left source.new) }
-    ensures ahead { length (reading lines.new).pending ≤ 65536 }
+    ensures goes { GoesOn (reading lines.old) (reading lines.new) (S.left source.old) (S.left source.new) (has_failed_read result) }
     ensures valid { IfOk result IsValid }
     ensures counted { IfOk result (λ settings. IsCounted (place_of (reading lines.new))) }
-    ensures limit { (reading lines.new).limit ≡ (reading lines.old).limit }
-    ensures longest { (reading lines.new).longest ≡ (reading lines.old).longest }
-    ensures risen { IfErr result (λ stop. is_read stop ≡ true → HasRisen (S.faults source.old) (S.faults source.new)) }
-    ensures quiet { has_failed_read result ≡ false → S.faults source.new ≡ S.faults source.old }
-    ensures never_falls { S.faults source.old ≤ S.faults source.new }
-    ensures same { S.is_same source.old source.new }
+    ensures faults { CountsFaults S.faults S.is_same (has_failed_read result) source.old source.new }
 {
     let mut settings = Settings::usual();
     'lines: while next_line(lines, source)? {
@@ -60,23 +52,15 @@ pub(crate) fn next_given<S: Source>(
     out: &mut Vec<u8>,
 ) -> Result<Option<Given>, ScriptStop>
     requires room { 1050000 ≤ vec_capacity out.old }
-    requires longest { (reading lines.old).longest ≡ 2100000 }
-    requires counted { IsCounted (place_of (reading lines.old)) }
+    requires script { ReadsScript (reading lines.old) }
     ensures given { (bytes : List ℕ) → S.left source.old ≡ Some bytes
         → IsNextGiven (place_of (reading lines.old)) (place_of (reading lines.new)) out.new.items bytes (S.left source.new) result }
-    ensures took { has_failed_read result ≡ false → TakesLines (place_of (reading lines.old)) (place_of (reading lines.new)) (S.left source.old)
-        (S.left source.new) }
-    ensures ahead { length (reading lines.new).pending ≤ 65536 }
+    ensures goes { GoesOn (reading lines.old) (reading lines.new) (S.left source.old) (S.left source.new) (has_failed_read result) }
     ensures within { IfOk result (λ given. IfSome given (λ g. IsWithin g (length out.new.items))) }
     ensures most { IfOk result (λ given. IfSome given (λ g. IsWithin g 1050000)) }
     ensures capacity { vec_capacity out.old ≤ vec_capacity out.new }
     ensures on { IfOk result (IsGivenOn (place_of (reading lines.old)) (place_of (reading lines.new))) }
-    ensures limit { (reading lines.new).limit ≡ (reading lines.old).limit }
-    ensures longest { (reading lines.new).longest ≡ (reading lines.old).longest }
-    ensures risen { IfErr result (λ stop. is_read stop ≡ true → HasRisen (S.faults source.old) (S.faults source.new)) }
-    ensures quiet { has_failed_read result ≡ false → S.faults source.new ≡ S.faults source.old }
-    ensures never_falls { S.faults source.old ≤ S.faults source.new }
-    ensures same { S.is_same source.old source.new }
+    ensures faults { CountsFaults S.faults S.is_same (has_failed_read result) source.old source.new }
 {
     'lines: while next_line(lines, source)? {
         if let Some(given) = read_event_line(last_line(lines), out)? {

@@ -58,6 +58,7 @@ impl Model for Reader {
 impl Reader {
     ghost use Rattle.script_lines.specs.Place.{IsCounted};
     ghost use Rattle.script_lines.specs.Stops.{is_read, has_failed_read};
+    ghost use Rattle.script_lines.specs.Faults.{CountsFaults};
     ghost use Rattle.script_lines.specs.Taking.{TakesLines};
     ghost use Rattle.homa_script.specs.Script.{opened, has_operand, is_end, IsOpening, IsNext, IsInRange, IsOn};
 
@@ -93,10 +94,7 @@ impl Reader {
         ensures counted { IfOk result (λ settings. IsCounted self.new.place) }
         ensures limit { self.new.place.limit ≡ self.old.place.limit }
 
-        ensures risen { IfErr result (λ stop. is_read stop ≡ true → HasRisen (S.faults source.old) (S.faults source.new)) }
-        ensures quiet { has_failed_read result ≡ false → S.faults source.new ≡ S.faults source.old }
-        ensures never_falls { S.faults source.old ≤ S.faults source.new }
-        ensures same { S.is_same source.old source.new }
+        ensures faults { CountsFaults S.faults S.is_same (has_failed_read result) source.old source.new }
     {
         let answer = read_settings(&mut self.lines, source);
         self.stage = match answer {

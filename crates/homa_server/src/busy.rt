@@ -1,4 +1,6 @@
-//! BUSY: a RESEND comes for bytes that a row cannot give now.
+//! BUSY: a RESEND comes for bytes that a row can't give now.
+//!
+//! `homa_out` says that all bytes asked for still wait. `gets` answers so while the request arrives. `homa_client/src/gets` hears it.
 ghost use Rattle.std.specs.Prelude.{◌≡◌, ℕ, List, false, Some};
 ghost use Rattle.homa_plain.specs.declared.id.CallId.{CallId};
 ghost use Rattle.homa_plain.specs.declared.settings.Settings.{Settings};

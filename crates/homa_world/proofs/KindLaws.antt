@@ -22,7 +22,7 @@ use Rattle.homa_host.specs.Public.{IsHeld}
 use Rattle.host_table.specs.declared.stage.Stage.{Stage}
 use Rattle.host_table.specs.Left.{entries_of, HasLeft}
 use Rattle.host_table.specs.Staged.{frames_of, whole_of}
-use Rattle.homa_world.specs.declared.kinds.Kind.{Kind}
+use Rattle.homa_world.specs.declared.kinds.LineKind.{LineKind}
 use Rattle.homa_world.specs.Kinds.{kind_of, packet_kind, kind_numbered}
 
 -- ---- by a datagram
@@ -47,7 +47,7 @@ some_is : {A : Type 0} (x y : A) → Some x ≡ Some y → x ≡ y
 some_is x y e = cc
 
 -- so the second byte names the packet's kind
-pub kind_at : (wire : ℕ) (bytes : List ℕ) (p : Packet) (payload : List ℕ) (n : ℕ) (k : Option Kind) → IsBytes bytes
+pub kind_at : (wire : ℕ) (bytes : List ℕ) (p : Packet) (payload : List ℕ) (n : ℕ) (k : Option LineKind) → IsBytes bytes
     → packet_in wire bytes ≡ Some (p, payload) → slice_get bytes 1 ≡ Some n → k ≡ kind_numbered n → k ≡ Some (packet_kind p.body)
 kind_at wire bytes p payload n k fits read at is =
     is ∙ ap kind_numbered (some_is n (kind p.body) (sym at ∙ second_byte wire bytes p payload fits read)) ∙ named p.body
@@ -75,7 +75,7 @@ module _ (h : Seen) (frames : List SentFrame) where
     by (Some f) at is = slice_get_within frames n f at
 
   -- the kind of a frame's line
-  pub frame_kind : (n : ℕ) (bytes whole : List ℕ) (k : Option Kind) → IfSome (slice_get frames n) (λ f. bytes ≡ f.frame)
+  pub frame_kind : (n : ℕ) (bytes whole : List ℕ) (k : Option LineKind) → IfSome (slice_get frames n) (λ f. bytes ≡ f.frame)
       → ((wire : ℕ) (p : Packet) (payload : List ℕ) → packet_in wire bytes ≡ Some (p, payload) → k ≡ Some (packet_kind p.body))
       → IsHeld h frames (mark.Sent n) → k ≡ kind_of (shown h frames whole (mark.Sent n))
   frame_kind n bytes whole k same says is = by (slice_get frames n) same is where
@@ -101,7 +101,7 @@ behind (x ∷ a) b i zero e = absurd (omega (arith, e))
 behind (x ∷ a) b i (suc j) e = behind a b i j (omega (arith, e))
 
 -- the kind of the entry of a mark, behind other entries
-pub mark_kind : (h : Seen) (frames : List SentFrame) (whole : List ℕ) (base : ℕ) (before : List PlainEntry) (i j : ℕ) (m : Mark) (k : Option Kind)
+pub mark_kind : (h : Seen) (frames : List SentFrame) (whole : List ℕ) (base : ℕ) (before : List PlainEntry) (i j : ℕ) (m : Mark) (k : Option LineKind)
     → j ≡ length before + i → slice_get h.marks i ≡ Some m → k ≡ kind_of (shown h frames whole m)
     → option_map kind_of (slice_get (before ++ map (numbered base) (shown_entries h frames whole)) j) ≡ Some k
 mark_kind h frames whole base before i j m k place at is =
@@ -127,7 +127,7 @@ module _ {S : Type 0} (st : Stage S) where
   left_held (Some h) i m left at = (h, held h (frames_of st) m left.0 (marked h i m at))
 
   -- the kind of an entry that a host's last step left, behind other entries
-  pub left_kind : (o : Option Seen) (base : ℕ) (before : List PlainEntry) (i j : ℕ) (m : Mark) (k : Option Kind) → HasLeft st o
+  pub left_kind : (o : Option Seen) (base : ℕ) (before : List PlainEntry) (i j : ℕ) (m : Mark) (k : Option LineKind) → HasLeft st o
       → IfSome o (λ h. slice_get h.marks i ≡ Some m) → j ≡ length before + i
       → ((h : Seen) (whole : List ℕ) → IsHeld h (frames_of st) m → k ≡ kind_of (shown h (frames_of st) whole m))
       → option_map kind_of (slice_get (before ++ map (numbered base) (entries_of st o)) j) ≡ Some k

@@ -10,5 +10,6 @@ pub mod ArrivedLaws
 pub mod FirstLaws
 pub mod BytesLaws
 pub mod AllowLaws
+pub mod HappenedLaws
 pub mod LookLaws
 pub mod KindLaws

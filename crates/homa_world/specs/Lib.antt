@@ -1,5 +1,6 @@
 pub mod Packed
 pub mod Standing
+pub mod Happened
 pub mod Arrived
 pub mod First
 pub mod Passing

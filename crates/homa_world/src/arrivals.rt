@@ -1,14 +1,16 @@
 // Events that bring a datagram to a host.
-ghost use Rattle.std.specs.Prelude.{◌≡◌, ◌≤◌, ◌<◌, ◌+◌, ◌^◌, ◌==◌, ℕ, Some, IfOk, IfErr, OnOk, OnErr, [], ◌∷◌, slice_get};
+ghost use Rattle.std.specs.Prelude.{◌≡◌, ◌≤◌, ◌==◌, ℕ, Some, IfOk, IfErr, OnOk, OnErr, [], ◌∷◌, slice_get};
 ghost use Rattle.homa_plain.specs.Entries.{PlainDeliver};
 ghost use Rattle.homa_plain.specs.World.{stranger as plain_stranger};
+ghost use Rattle.homa_plain.specs.Replay.{bare};
 ghost use Rattle.homa_plain.specs.declared.event.Event.TheVariants as event;
-ghost use Rattle.world_packets.specs.All.{kept_all, open_tick, HasRoomFor};
+ghost use Rattle.world_packets.specs.All.{kept_all};
 ghost use Rattle.world_packets.specs.Kept.{StalePacket};
 ghost use Rattle.world_packets.specs.Olds.{TellsClock};
 ghost use Rattle.homa_world.specs.declared.parts.Last.TheVariants as last;
 ghost use Rattle.homa_world.specs.Arrived.{HasArrived};
-ghost use Rattle.homa_world.specs.Standing.{IsKept, Applies, Refuses, StillStands, AllowsNoMore};
+ghost use Rattle.homa_world.specs.Happened.{MayHappen, HasMadeRoom, NothingHappened, HasHappened};
+ghost use Rattle.homa_world.specs.Standing.{Refuses};
 
 use crate::parts::{First, WorldParts, clock_of};
 use homa_plain::{Body, Frame, HostId, LAST_HOST_TICK, Packet, Role, Settings, WorldFault};
@@ -20,15 +22,8 @@ use world_packets::Kept;
 impl<S: Service> WorldParts<S> {
     /// The packet with this number comes to its receiver.
     pub fn deliver(&mut self, alloc: Global, number: u64) -> Result<(), WorldFault>
-        requires kept { IsKept S.served self.old }
-        requires few { self.old.applied < 2 ^ 57 }
-        ensures done { OnOk result (Applies S.served S.allows self.old self.new (record { event = event.Deliver number; bytes = [] })) }
-        ensures fault { IfErr result (λ fault. Refuses self.old (record { event = event.Deliver number; bytes = [] }) fault) }
-        ensures still { OnErr result (StillStands self.old self.new) }
-        ensures allows { OnErr result (AllowsNoMore S.served S.allows self.old self.new) }
-        ensures kept { IsKept S.served self.new }
-        ensures settings { self.new.settings ≡ self.old.settings }
-        ensures counted { self.new.applied ≤ self.old.applied + 1 }
+        requires { MayHappen S.served self.old }
+        ensures { HasHappened S.served S.allows (bare (event.Deliver number)) self.old self.new result }
     {
         if self.make_room(alloc).is_err() {
             return Err(WorldFault::NoMemory);
@@ -40,15 +35,12 @@ impl<S: Service> WorldParts<S> {
 
     // What is kept of a packet comes to its receiver, which answers; or why it can't.
     fn arrive(&mut self, alloc: Global, number: u64) -> Result<HostId, WorldFault>
-        requires kept { IsKept S.served self.old }
-        requires few { self.old.applied < 2 ^ 57 }
+        requires may { MayHappen S.served self.old }
         requires none { self.old.last ≡ last.Nothing }
         ensures came { IfOk result (λ to. HasArrived S.served S.allows (event.Deliver number) [] (PlainDeliver number ∷ []) to self.old self.new.stage) }
-        ensures fault { IfErr result (λ fault. Refuses self.old (record { event = event.Deliver number; bytes = [] }) fault) }
+        ensures fault { IfErr result (Refuses self.old (bare (event.Deliver number))) }
         ensures same { self.new ≡ record self.old { stage = self.new.stage } }
-        ensures kept { OnErr result (IsKept S.served self.new) }
-        ensures still { OnErr result (StillStands self.old self.new) }
-        ensures allows { OnErr result (AllowsNoMore S.served S.allows self.old self.new) }
+        ensures none { OnErr result (NothingHappened S.served S.allows self.old self.new) }
     {
         let (to, at) = match self.packets.get(number) {
             None => return Err(WorldFault::NoSuchPacket),
@@ -89,18 +81,15 @@ impl<S: Service> WorldParts<S> {
 
     // A packet comes of which it is known that it is stale: its receiver tells no more of it than its sender's clock.
     fn stale_comes(&mut self, alloc: Global, to: HostId, at: u64) -> Result<(), WorldFault>
-        requires kept { IsKept S.served self.old }
-        requires few { self.old.applied < 2 ^ 57 }
+        requires may { MayHappen S.served self.old }
         requires none { self.old.last ≡ last.Nothing }
         requires at { at ≤ LAST_HOST_TICK }
         ensures came { OnOk result ((n : ℕ) → slice_get (kept_all self.old.packets) n ≡ Some (StalePacket to at)
             → HasArrived S.served S.allows (event.Deliver n) [] (PlainDeliver n ∷ []) to self.old self.new.stage) }
         ensures fault { IfErr result (λ fault. (n : ℕ) → slice_get (kept_all self.old.packets) n ≡ Some (StalePacket to at)
-            → Refuses self.old (record { event = event.Deliver n; bytes = [] }) fault) }
+            → Refuses self.old (bare (event.Deliver n)) fault) }
         ensures same { self.new ≡ record self.old { stage = self.new.stage } }
-        ensures kept { OnErr result (IsKept S.served self.new) }
-        ensures still { OnErr result (StillStands self.old self.new) }
-        ensures allows { OnErr result (AllowsNoMore S.served S.allows self.old self.new) }
+        ensures none { OnErr result (NothingHappened S.served S.allows self.old self.new) }
     {
         if !self.stage.has(to) {
             return Err(WorldFault::NoSuchHost);
@@ -118,15 +107,8 @@ impl<S: Service> WorldParts<S> {
 
     /// A datagram that no host sent comes to a host.
     pub fn inject(&mut self, alloc: Global, host: HostId, bytes: &[u8]) -> Result<(), WorldFault>
-        requires kept { IsKept S.served self.old }
-        requires few { self.old.applied < 2 ^ 57 }
-        ensures done { OnOk result (Applies S.served S.allows self.old self.new (record { event = event.Inject host; bytes = bytes.now })) }
-        ensures fault { IfErr result (λ fault. Refuses self.old (record { event = event.Inject host; bytes = bytes.now }) fault) }
-        ensures still { OnErr result (StillStands self.old self.new) }
-        ensures allows { OnErr result (AllowsNoMore S.served S.allows self.old self.new) }
-        ensures kept { IsKept S.served self.new }
-        ensures settings { self.new.settings ≡ self.old.settings }
-        ensures counted { self.new.applied ≤ self.old.applied + 1 }
+        requires { MayHappen S.served self.old }
+        ensures { HasHappened S.served S.allows (record { event = event.Inject host; bytes = bytes.now }) self.old self.new result }
     {
         if !self.stage.has(host) {
             return Err(WorldFault::NoSuchHost);
@@ -150,14 +132,10 @@ impl<S: Service> WorldParts<S> {
 
     // Room for the packets of a step, and the datagram is kept for its entry.
     fn keep_injected(&mut self, alloc: Global, bytes: &[u8]) -> Result<(), AllocError>
-        requires kept { IsKept S.served self.old }
-        requires few { self.old.applied < 2 ^ 57 }
-        ensures still { StillStands self.old self.new }
-        ensures kept { IsKept S.served self.new }
+        requires { MayHappen S.served self.old }
+        ensures room { HasMadeRoom S.served self.old self.new result }
         ensures same { self.new ≡ record self.old { packets = self.new.packets; injected = self.new.injected; last = last.Nothing } }
         ensures bytes { OnOk result (self.new.injected.items ≡ bytes.now) }
-        ensures room { OnOk result (HasRoomFor self.new.packets 64) }
-        ensures tick { OnOk result (open_tick self.new.packets ≡ self.new.clock) }
     {
         self.make_room(alloc)?;
         self.injected.clear();

@@ -1,17 +1,16 @@
 // What the last event of a world told.
-ghost use Rattle.std.specs.Prelude.{◌≡◌, ◌≤◌, ◌<◌, ◌+◌, ◌^◌, ℕ, Some, List, length, slice_get};
+ghost use Rattle.std.specs.Prelude.{◌≡◌, ◌≤◌, ◌<◌, ℕ, Some, List, length, slice_get};
 ghost use Rattle.std.specs.Option.{option_map};
 ghost use Rattle.homa_plain.specs.Entries.{plain};
 ghost use Rattle.homa_plain.specs.Told.{HasLine};
-ghost use Rattle.event_laws.specs.Named.{numbered as plain_numbered};
-ghost use Rattle.host_table.specs.Left.{IsFew};
 ghost use Rattle.homa_world.specs.Kinds.{kind_of};
 ghost use Rattle.homa_world.specs.Standing.{first_told, told_of, IsKept};
 
-use crate::kinds::Kind;
+use crate::kinds::LineKind;
 use crate::parts::{First, Last, WorldParts};
 use homa_plain::{Entry, HostId};
 use homa_service::Service;
+use host_table::number_on;
 
 impl First {
     // How many entries it is.
@@ -26,12 +25,12 @@ impl First {
     }
 
     // The kind of its line, if it is counted.
-    fn kind(self) -> Option<Kind>
+    fn kind(self) -> Option<LineKind>
         ensures { (host : HostId) (bytes : List ℕ) → 0 < length (first_told host self bytes)
             → option_map kind_of (slice_get (first_told host self bytes) 0) ≡ Some result }
     {
         match self {
-            First::Delivered(_) => Some(Kind::Deliver),
+            First::Delivered(_) => Some(LineKind::Deliver),
             First::Nothing | First::Injected => None,
         }
     }
@@ -75,21 +74,21 @@ impl<S: Service> WorldParts<S> {
     }
 
     /// The kind of the line of the last event's entry with this number, if it is counted.
-    pub fn kind(&self, i: usize) -> Option<Kind>
+    pub fn kind(&self, i: usize) -> Option<LineKind>
         requires kept { IsKept S.served self.now }
         requires i { i < length (told_of self.now) }
         ensures { option_map kind_of (slice_get (told_of self.now) i) ≡ Some result }
     {
         match self.last {
             Last::Nothing => unreachable!(),
-            Last::Ticked => Some(Kind::Clock),
+            Last::Ticked => Some(LineKind::Clock),
             Last::Restarted { .. } | Last::Shifted { .. } => None,
             Last::Stepped { host, first, .. } => {
                 let before = first.entries();
                 if i < before {
                     return first.kind();
                 }
-                Kind::of_mark(self.stage.mark(host, i - before), self.stage.outbox())
+                LineKind::of_mark(self.stage.mark(host, i - before), self.stage.outbox())
             }
         }
     }
@@ -108,18 +107,5 @@ impl<S: Service> WorldParts<S> {
                 bytes: &self.injected,
             },
         }
-    }
-}
-
-// Gives a packet of a step the number that it has in the world.
-fn number_on(base: u64, entry: &mut Entry<'_>)
-    requires few { IsFew (plain entry.old) }
-    requires base { base + 64 < 2 ^ 64 }
-    requires line { HasLine (plain entry.old) }
-    ensures entry { plain entry.new ≡ plain_numbered base (plain entry.old) }
-    ensures line { HasLine (plain entry.new) }
-{
-    if let Entry::Send { number, .. } = entry {
-        *number += base;
     }
 }

@@ -15,7 +15,7 @@ mod rest;
 mod shown;
 mod world;
 
-pub use kinds::Kind;
+pub use kinds::LineKind;
 pub use parts::{First, Last, WorldParts};
 pub use shown::Passing;
 pub use world::World;

@@ -1,12 +1,13 @@
 // The parts of a world, and what each event does with them.
-ghost use Rattle.std.specs.Prelude.{◌≡◌, ◌≤◌, ◌<◌, ◌+◌, ◌^◌, ◌++◌, IfErr, OnOk, OnErr, [], map, length, slice_index_or};
+ghost use Rattle.std.specs.Prelude.{◌≡◌, ◌≤◌, ◌<◌, ◌+◌, ◌^◌, ◌++◌, map, length, slice_index_or};
 ghost use Rattle.std.specs.List.{AllByRecursion};
+ghost use Rattle.homa_plain.specs.Replay.{bare};
 ghost use Rattle.homa_plain.specs.declared.event.Event.TheVariants as event;
 ghost use Rattle.world_packets.specs.All.{kept_all, settings_of, open_tick, HasRoomFor};
 ghost use Rattle.homa_world.specs.declared.parts.Last.TheVariants as last;
 ghost use Rattle.host_table.specs.Staged.{frames_of};
 ghost use Rattle.homa_world.specs.Packed.{frame_kept, IsShort};
-ghost use Rattle.homa_world.specs.Standing.{IsKept, Applies, Refuses, StillStands, AllowsNoMore};
+ghost use Rattle.homa_world.specs.Happened.{MayHappen, HasMadeRoom, HasHappened};
 
 use homa_plain::{HostId, LAST_TICK, Settings, WorldFault};
 use homa_service::Service;
@@ -79,15 +80,8 @@ impl<S: Service> WorldParts<S> {
 
     /// The clock goes on by a tick.
     pub fn tick(&mut self) -> Result<(), WorldFault>
-        requires kept { IsKept S.served self.old }
-        requires few { self.old.applied < 2 ^ 57 }
-        ensures done { OnOk result (Applies S.served S.allows self.old self.new (record { event = event.Clock; bytes = [] })) }
-        ensures fault { IfErr result (λ fault. Refuses self.old (record { event = event.Clock; bytes = [] }) fault) }
-        ensures still { OnErr result (StillStands self.old self.new) }
-        ensures allows { OnErr result (AllowsNoMore S.served S.allows self.old self.new) }
-        ensures kept { IsKept S.served self.new }
-        ensures settings { self.new.settings ≡ self.old.settings }
-        ensures counted { self.new.applied ≤ self.old.applied + 1 }
+        requires { MayHappen S.served self.old }
+        ensures { HasHappened S.served S.allows (bare event.Clock) self.old self.new result }
     {
         if self.clock == LAST_TICK {
             return Err(WorldFault::ClockEnd);
@@ -100,13 +94,9 @@ impl<S: Service> WorldParts<S> {
 
     // Room for the packets of a step. Nothing is told any more of the last event.
     pub(crate) fn make_room(&mut self, alloc: Global) -> Result<(), AllocError>
-        requires kept { IsKept S.served self.old }
-        requires few { self.old.applied < 2 ^ 57 }
-        ensures still { StillStands self.old self.new }
-        ensures kept { IsKept S.served self.new }
+        requires { MayHappen S.served self.old }
+        ensures room { HasMadeRoom S.served self.old self.new result }
         ensures same { self.new ≡ record self.old { packets = self.new.packets; last = last.Nothing } }
-        ensures room { OnOk result (HasRoomFor self.new.packets 64) }
-        ensures tick { OnOk result (open_tick self.new.packets ≡ self.new.clock) }
     {
         self.last = Last::Nothing;
         self.packets.reserve(alloc, self.clock)
@@ -135,15 +125,8 @@ impl<S: Service> WorldParts<S> {
 
     /// A turn of a host.
     pub fn turn(&mut self, alloc: Global, host: HostId) -> Result<(), WorldFault>
-        requires kept { IsKept S.served self.old }
-        requires few { self.old.applied < 2 ^ 57 }
-        ensures done { OnOk result (Applies S.served S.allows self.old self.new (record { event = event.Turn host; bytes = [] })) }
-        ensures fault { IfErr result (λ fault. Refuses self.old (record { event = event.Turn host; bytes = [] }) fault) }
-        ensures still { OnErr result (StillStands self.old self.new) }
-        ensures allows { OnErr result (AllowsNoMore S.served S.allows self.old self.new) }
-        ensures kept { IsKept S.served self.new }
-        ensures settings { self.new.settings ≡ self.old.settings }
-        ensures counted { self.new.applied ≤ self.old.applied + 1 }
+        requires { MayHappen S.served self.old }
+        ensures { HasHappened S.served S.allows (bare (event.Turn host)) self.old self.new result }
     {
         if !self.stage.has(host) {
             return Err(WorldFault::NoSuchHost);
@@ -166,15 +149,8 @@ impl<S: Service> WorldParts<S> {
         number: u8,
         bytes: &[u8],
     ) -> Result<(), WorldFault>
-        requires kept { IsKept S.served self.old }
-        requires few { self.old.applied < 2 ^ 57 }
-        ensures done { OnOk result (Applies S.served S.allows self.old self.new (record { event = event.Call client server number; bytes = bytes.now })) }
-        ensures fault { IfErr result (λ fault. Refuses self.old (record { event = event.Call client server number; bytes = bytes.now }) fault) }
-        ensures still { OnErr result (StillStands self.old self.new) }
-        ensures allows { OnErr result (AllowsNoMore S.served S.allows self.old self.new) }
-        ensures kept { IsKept S.served self.new }
-        ensures settings { self.new.settings ≡ self.old.settings }
-        ensures counted { self.new.applied ≤ self.old.applied + 1 }
+        requires { MayHappen S.served self.old }
+        ensures { HasHappened S.served S.allows (record { event = event.Call client server number; bytes = bytes.now }) self.old self.new result }
     {
         if !self.stage.has(server) {
             return Err(WorldFault::NoSuchHost);

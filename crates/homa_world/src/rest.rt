@@ -1,7 +1,7 @@
 // Events of a world that are no step of a host: a host's clock is set, and a host restarts.
-ghost use Rattle.std.specs.Prelude.{◌≡◌, ◌≤◌, ◌<◌, ◌+◌, ◌^◌, IfErr, OnOk, OnErr, []};
+ghost use Rattle.homa_plain.specs.Replay.{bare};
 ghost use Rattle.homa_plain.specs.declared.event.Event.TheVariants as event;
-ghost use Rattle.homa_world.specs.Standing.{IsKept, Applies, Refuses, StillStands, AllowsNoMore};
+ghost use Rattle.homa_world.specs.Happened.{MayHappen, HasHappened};
 
 use crate::parts::{Last, WorldParts};
 use homa_plain::{HostId, WorldFault};
@@ -11,15 +11,8 @@ use std::alloc::Global;
 impl<S: Service> WorldParts<S> {
     /// A host's own clock is set to be `n` ticks ahead.
     pub fn shift(&mut self, host: HostId, n: u32) -> Result<(), WorldFault>
-        requires kept { IsKept S.served self.old }
-        requires few { self.old.applied < 2 ^ 57 }
-        ensures done { OnOk result (Applies S.served S.allows self.old self.new (record { event = event.Shift host n; bytes = [] })) }
-        ensures fault { IfErr result (λ fault. Refuses self.old (record { event = event.Shift host n; bytes = [] }) fault) }
-        ensures still { OnErr result (StillStands self.old self.new) }
-        ensures allows { OnErr result (AllowsNoMore S.served S.allows self.old self.new) }
-        ensures kept { IsKept S.served self.new }
-        ensures settings { self.new.settings ≡ self.old.settings }
-        ensures counted { self.new.applied ≤ self.old.applied + 1 }
+        requires { MayHappen S.served self.old }
+        ensures { HasHappened S.served S.allows (bare (event.Shift host n)) self.old self.new result }
     {
         if !self.stage.has(host) {
             return Err(WorldFault::NoSuchHost);
@@ -42,15 +35,8 @@ impl<S: Service> WorldParts<S> {
     /// A host restarts: it has no calls, is in its next life, and has the last spare service. How far its clock is ahead
     /// stays, and at what tick of it its last step was.
     pub fn restart(&mut self, alloc: Global, host: HostId) -> Result<(), WorldFault>
-        requires kept { IsKept S.served self.old }
-        requires few { self.old.applied < 2 ^ 57 }
-        ensures done { OnOk result (Applies S.served S.allows self.old self.new (record { event = event.Restart host; bytes = [] })) }
-        ensures fault { IfErr result (λ fault. Refuses self.old (record { event = event.Restart host; bytes = [] }) fault) }
-        ensures still { OnErr result (StillStands self.old self.new) }
-        ensures allows { OnErr result (AllowsNoMore S.served S.allows self.old self.new) }
-        ensures kept { IsKept S.served self.new }
-        ensures settings { self.new.settings ≡ self.old.settings }
-        ensures counted { self.new.applied ≤ self.old.applied + 1 }
+        requires { MayHappen S.served self.old }
+        ensures { HasHappened S.served S.allows (bare (event.Restart host)) self.old self.new result }
     {
         if !self.stage.has(host) {
             return Err(WorldFault::NoSuchHost);

@@ -8,9 +8,9 @@ ghost use Rattle.homa_plain.specs.World.{World as PlainWorld, host_at};
 ghost use Rattle.homa_world.specs.Passing.{IsOf};
 
 use crate::parts::WorldParts;
-use crate::{Kind, Passing};
+use crate::{LineKind, Passing};
 use homa_host::Host;
-use homa_plain::{Entry, Event, HostId, LAST_TICK, MOST_SERVICES, Settings, WorldFault};
+use homa_plain::{Entry, Event, HostId, LAST_TICK, Settings, WorldFault};
 use homa_replay::{OpenWorld, ReplayWorld};
 use homa_service::Service;
 use std::alloc::{AllocError, Global};
@@ -36,8 +36,8 @@ impl<S: Service> Model for World<S> {
 impl<S: Service> World<S> {
     ghost use Rattle.std.specs.Prelude.{IfOk, List, ◌∷◌};
     ghost use Rattle.homa_plain.specs.Entries.{PlainEntry, PlainSettings};
-    ghost use Rattle.homa_plain.specs.Settings.{IsValid};
-    ghost use Rattle.homa_world.specs.First.{IsFirstAt};
+    ghost use Rattle.host_table.specs.Staged.{MaySeat};
+    ghost use Rattle.homa_world.specs.First.{IsOpenedAt};
     ghost use Rattle.box_laws.specs.First.{AreAllowed};
     ghost use Rattle.homa_world.specs.Kinds.{kind_of};
     ghost use Rattle.homa_world.specs.Standing.{StandsFor, told_of, may_tell_of};
@@ -50,14 +50,10 @@ impl<S: Service> World<S> {
         services: Vec<S>,
         start: u64,
     ) -> Result<World<S>, AllocError>
-        requires valid { IsValid settings.now }
-        requires enough { settings.now.hosts ≤ length services.items }
-        requires at_most { length services.items ≤ MOST_SERVICES }
+        requires boxes { MaySeat settings.now services.items }
         requires none { AllByRecursion (λ service. S.served service ≡ 0) services.items }
         requires start { start ≤ LAST_TICK }
-        ensures first { IfOk result (λ w. IsFirstAt settings.now start (length services.items) (StandsFor w)) }
-        ensures settings { IfOk result (λ w. w.settings ≡ settings.now) }
-        ensures applied { IfOk result (λ w. w.applied ≡ 0) }
+        ensures opened { IfOk result (IsOpenedAt settings.now start services.items) }
         ensures allows { IfOk result (λ w. (told : List PlainEntry) → may_tell_of S.served S.allows w told
             → AreAllowed S.served S.allows services.items (PlainSettings settings.now ∷ told)) }
     {
@@ -104,7 +100,7 @@ impl<S: Service> World<S> {
     }
 
     /// The kind of the line of the last event's entry with this number, if it is counted.
-    pub fn kind(&self, i: usize) -> Option<Kind>
+    pub fn kind(&self, i: usize) -> Option<LineKind>
         requires { i < length (told_of self.now) }
         ensures { option_map kind_of (slice_get (told_of self.now) i) ≡ Some result }
     {

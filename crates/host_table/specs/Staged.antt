@@ -1,8 +1,10 @@
 -- The hosts with their boxes, and what a step of one of them does.
-use Rattle.std.specs.Prelude.{◌≡◌, ◌≤◌, ◌<◌, ◌+◌, ◌^◌, ℕ, Option, Some, if◌then◌else◌, List, map, replicate, slice_set}
+use Rattle.std.specs.Prelude.{◌≡◌, ◌≤◌, ◌<◌, ◌+◌, ◌^◌, ℕ, Option, Some, if◌then◌else◌, List, length, map, take, drop, replicate, slice_set}
 use Rattle.std.specs.List.{AllByRecursion}
 use Rattle.homa_plain.specs.declared.id.HostId.{HostId}
 use Rattle.homa_plain.specs.declared.settings.Settings.{Settings}
+use Rattle.homa_plain.specs.Settings.{IsValid}
+use Rattle.homa_plain.specs.Limits.{most_services}
 use Rattle.homa_plain.specs.Host.{Host}
 use Rattle.homa_plain.specs.Packets.{Packet}
 use Rattle.homa_plain.specs.World.{new_hosts}
@@ -60,6 +62,17 @@ seats_of st = places st.services
 -- the boxes of hosts that restart
 abbrev pub spares_of : {S : Type 0} → Stage S → List S
 spares_of st = spares st.services
+
+-- the settings can be used, there is a box for each host, and a table has room for all boxes
+pub record MaySeat {S : Type 0} (s : Settings) (boxes : List S) : Type 0 where
+  pub valid : IsValid s
+  pub enough : s.hosts ≤ length boxes
+  pub at_most : length boxes ≤ most_services
+
+-- each host has the box with its number, and the others are spare
+pub record AreSeated {S : Type 0} (s : Settings) (boxes : List S) (st : Stage S) : Type 0 where
+  pub seats : seats_of st ≡ map Some (take s.hosts boxes)
+  pub spares : spares_of st ≡ drop s.hosts boxes
 
 -- a step may begin at a host, at this tick of its own clock
 pub record MayStep (now : ℕ) (h : Seen) : Type 0 where

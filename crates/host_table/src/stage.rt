@@ -1,6 +1,6 @@
 // The hosts and their services, with the room that a step needs.
 ghost use Rattle.std.specs.Prelude.{◌≡◌, ◌≢◌, ◌<◌, ◌≤◌, ◌^◌, ◌↔◌, true, IsTrue, IsSome, IfSome, IfOk, IfErr, OnOk, OnErr, Some};
-ghost use Rattle.std.specs.Prelude.{map, take, drop, length, slice_get};
+ghost use Rattle.std.specs.Prelude.{map, length, slice_get};
 ghost use Rattle.std.specs.List.{AllByRecursion};
 ghost use Rattle.homa_plain.specs.Settings.{IsValid};
 ghost use Rattle.homa_plain.specs.Host.{new_host};
@@ -13,11 +13,11 @@ ghost use Rattle.homa_plain.specs.Told.{HasLine};
 ghost use Rattle.homa_host.specs.Asking.{HasAsked};
 ghost use Rattle.host_table.specs.Left.{entries_of, HasLeft, IsFew};
 ghost use Rattle.host_table.specs.Staged.{hosts_of, frames_of, known, known_of, known_in, first_known, known_first, whole_of, seats_of, spares_of};
-ghost use Rattle.host_table.specs.Staged.{MayStep, HasStepped, HasCome, HasNotCome};
+ghost use Rattle.host_table.specs.Staged.{MaySeat, AreSeated, MayStep, HasStepped, HasCome, HasNotCome};
 ghost use Rattle.host_table.specs.Restarted.{HasRestarted, HasNoSpare};
 
 use homa_host::{Asked, Host};
-use homa_plain::{Entry, HostId, LAST_HOST_TICK, MOST_SERVICES, Settings, StartFault, WorldFault};
+use homa_plain::{Entry, HostId, LAST_HOST_TICK, Settings, StartFault, WorldFault};
 use homa_service::{Service, ServiceTable};
 use host_view::{Mark, Outbox};
 use msg_pool::Scratch;
@@ -39,12 +39,9 @@ impl<S: Service> Stage<S> {
         settings: &Settings,
         services: Vec<S>,
     ) -> Result<Stage<S>, AllocError>
-        requires valid { IsValid settings.now }
-        requires enough { settings.now.hosts ≤ length services.items }
-        requires at_most { length services.items ≤ MOST_SERVICES }
+        requires boxes { MaySeat settings.now services.items }
         ensures known { IfOk result (λ stage. known_of stage ≡ first_known settings.now settings.now.hosts) }
-        ensures seats { IfOk result (λ stage. seats_of stage ≡ map Some (take settings.now.hosts services.items)) }
-        ensures spares { IfOk result (λ stage. spares_of stage ≡ drop settings.now.hosts services.items) }
+        ensures seated { IfOk result (AreSeated settings.now services.items) }
     {
         let incs = vec![in alloc; 1u32; settings.hosts as usize]?;
         Stage::open_in(alloc, settings, &incs, services)
@@ -57,14 +54,11 @@ impl<S: Service> Stage<S> {
         incs: &[u32],
         services: Vec<S>,
     ) -> Result<Stage<S>, AllocError>
-        requires valid { IsValid settings.now }
+        requires boxes { MaySeat settings.now services.items }
         requires incs { length incs.now ≡ settings.now.hosts }
         requires lives { AllByRecursion (λ inc. 1 ≤ inc) incs.now }
-        requires enough { settings.now.hosts ≤ length services.items }
-        requires at_most { length services.items ≤ MOST_SERVICES }
         ensures known { IfOk result (λ stage. known_of stage ≡ known_first settings.now incs.now) }
-        ensures seats { IfOk result (λ stage. seats_of stage ≡ map Some (take settings.now.hosts services.items)) }
-        ensures spares { IfOk result (λ stage. spares_of stage ≡ drop settings.now.hosts services.items) }
+        ensures seated { IfOk result (AreSeated settings.now services.items) }
     {
         Ok(Stage {
             hosts: first_hosts(alloc, settings, incs)?,

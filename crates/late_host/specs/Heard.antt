@@ -8,6 +8,9 @@ use Rattle.homa_host.specs.declared.asked.Asked.{Asked}
 use Rattle.homa_host.specs.Asking.{HasAsked}
 use Rattle.driven_host.specs.declared.faults.StepFault.{StepFault}
 use Rattle.driven_host.specs.declared.faults.StepFault.TheVariants.{Empty}
+use Rattle.driven_host.specs.declared.counts.HostCounts.{HostCounts}
+use Rattle.driven_host.specs.Driven.{Driven}
+use Rattle.driven_host.specs.Counts.{counted, with_received, with_asked}
 use Rattle.driven_host.specs.Faults.{delivery_fault}
 use Rattle.late_host.specs.declared.kept.KeptCall.{KeptCall}
 use Rattle.late_host.specs.declared.outcomes.Heard.{Heard}
@@ -83,6 +86,14 @@ abbrev pub heard_fault : Heard → Option StepFault
 heard_fault (heard.Refused fault) = Some fault
 heard_fault h = None
 
+-- What was counted behind the datagram, from what was counted before. A datagram that asks is counted as one, also where its
+-- call's answer was kept.
+abbrev pub heard_counts : Heard → HostCounts → Driven → HostCounts
+heard_counts heard.Taken c d = counted (with_received c) d.host.marks d.out
+heard_counts (heard.Ran id) c d = counted (with_received (with_asked c)) d.host.marks d.out
+heard_counts (heard.Refused fault) c d = c
+heard_counts h c d = with_asked c
+
 -- why the answer to this call, of so many bytes, can't be given
 abbrev pub answer_fault : Late → KeptCall → ℕ → ℕ → Option StepFault
 answer_fault l call bytes now =
@@ -144,3 +155,9 @@ module _ (id : CallId) (answer : List ℕ) (now : ℕ) (old new : Late) where
   IsSettled answered.Gone = IsGone
   IsSettled answered.NoMemory = IsUnanswered
   IsSettled (answered.Refused fault) = IsRefused fault
+
+-- what was counted behind the answer, from what was counted before
+abbrev pub settled_counts : Answered → HostCounts → Driven → HostCounts
+settled_counts answered.Ran c d = counted (with_received c) d.host.marks d.out
+settled_counts answered.Held c d = counted (with_received c) d.host.marks d.out
+settled_counts a c d = c

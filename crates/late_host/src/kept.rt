@@ -52,6 +52,13 @@ impl KeptCalls {
         })
     }
 
+    /// How many calls may be kept.
+    pub fn room(&self) -> u32
+        ensures { result ≡ self.now.room }
+    {
+        self.room
+    }
+
     /// How many calls are kept.
     pub fn len(&self) -> usize
         ensures len { result ≡ length self.now.calls }

@@ -1,16 +1,23 @@
 // A host that keeps what asks, so that answers may come later.
 ghost use Rattle.std.specs.Prelude.{◌≡◌, ◌≢◌, ◌<◌, ◌≤◌, ◌+◌, ◌↔◌, ◌⊎◌, IsTrue, IsSome, IfOk, IfErr, Ok, All, Some, None, true, false, [], length};
 ghost use Rattle.homa_plain.specs.Settings.{IsValid};
-ghost use Rattle.homa_plain.specs.Steps.{next_id, call_step, turn_step};
+ghost use Rattle.homa_plain.specs.Rules.{Answer};
+ghost use Rattle.homa_plain.specs.Steps.{next_id, has_run, call_step, turn_step};
+ghost use Rattle.homa_host.specs.declared.asked.Asked.{Asked};
+ghost use Rattle.homa_host.specs.Asking.{HasAsked};
+ghost use Rattle.driven_host.specs.declared.faults.StepFault.{StepFault};
+ghost use Rattle.driven_host.specs.declared.faults.StepFault.TheVariants.{Spent};
 ghost use Rattle.driven_host.specs.Driven.{IsStep, IsStill, ShowsNothing};
 ghost use Rattle.driven_host.specs.Faults.{begin_fault, call_fault, delivery_fault};
+ghost use Rattle.driven_host.specs.Asking.{refusal, has_whole};
+ghost use Rattle.driven_host.specs.Counts.{counted, with_received, with_asked};
 ghost use Rattle.late_host.specs.Ran.{ran_in};
-ghost use Rattle.driven_host.specs.Asking.{opened};
+ghost use Rattle.late_host.specs.Late.{late_opened, arrives, HasArrived, WasGiven};
 
 use crate::bytes::Bytes;
 use crate::kept::{KeptCall, KeptCalls, is_fresh};
 use crate::outcomes::{Answered, Heard};
-use crate::ran::has_run;
+use crate::ran::{has_run, ran};
 use driven_host::{AskingHost, Came, StepFault};
 use homa_plain::{CallId, HostId, LAST_HOST_TICK, Settings};
 use std::alloc::{AllocError, Global};
@@ -35,11 +42,11 @@ impl Model for LateHost {
 
 impl LateHost {
     ghost use Rattle.late_host.specs.Kept.{call_of, without, changed, IsFresh};
-    ghost use Rattle.late_host.specs.Late.{IsKeptToo, asked_again, with_answer};
-    ghost use Rattle.late_host.specs.Heard.{IsHeard, heard_fault, IsSettled};
+    ghost use Rattle.late_host.specs.Late.{IsKeptToo, asked_again, with_answer, without_ran};
+    ghost use Rattle.late_host.specs.Heard.{IsHeard, heard_fault, heard_counts, IsSettled, settled_counts};
 
     /// Opens a host without calls, as [`AskingHost::open`] does, with room to keep so many. A kept datagram is delivered at most
-    /// `keep` ticks after it came. With version 1 of the wire nothing else sees to its age: the time that a datagram is under
+    /// `keep` ticks after it Came. With version 1 of the wire nothing else sees to its age: the time that a datagram is under
     /// way and `keep` together must be at most `life`. Fails by want of memory alone.
     pub fn open(
         alloc: Global,
@@ -54,7 +61,7 @@ impl LateHost {
         requires id { id.0 < settings.now.hosts }
         requires inc { 1 ≤ inc }
         requires last { last ≤ LAST_HOST_TICK }
-        ensures { IfOk result (λ h. h ≡ record { driven = opened settings.now id inc last; calls = []; room = room; keep = keep }) }
+        ensures { IfOk result (λ h. h ≡ late_opened settings.now id inc last room keep) }
     {
         let kept = KeptCalls::open(alloc, room)?;
         Ok(LateHost {
@@ -70,6 +77,10 @@ impl LateHost {
     pub fn deliver(&mut self, alloc: Global, from: HostId, frame: &[u8], now: u64) -> Heard
         ensures fault { heard_fault result ≡ delivery_fault self.old.driven.host self.old.driven.steps from 0 now }
         ensures came { IsHeard now from frame.now self.old self.new result }
+        ensures from { heard_fault result ≡ None → self.new.driven.from ≡ Some from }
+        ensures none_whole { (id : CallId) → (result ≡ Heard.Taken) ⊎ (result ≡ Heard.Ran id)
+            → has_whole self.new.driven.host.marks ≡ false → self.new.driven.whole ≡ [] }
+        ensures counts { self.new.driven.counts ≡ heard_counts result self.old.driven.counts self.new.driven }
         ensures room { self.new.room ≡ self.old.room }
         ensures keep { self.new.keep ≡ self.old.keep }
         ensures steps { self.new.driven.steps ≤ self.old.driven.steps + 2 }
@@ -104,11 +115,58 @@ impl LateHost {
         }
     }
 
+    /// A datagram comes, with the answer in hand or with none, as [`AskingHost::deliver`] takes it: what asks isn't kept. A call
+    /// that runs isn't kept any more.
+    pub fn deliver_at_once(
+        &mut self,
+        alloc: Global,
+        from: HostId,
+        frame: &[u8],
+        now: u64,
+        answer: &[u8],
+    ) -> Came
+        ensures fault { refusal result
+            ≡ delivery_fault self.old.driven.host self.old.driven.steps from (length answer.now) now }
+        ensures step { result ≡ Came.Taken → HasArrived now from frame.now self.old.driven self.new.driven }
+        ensures given { result ≡ Came.Taken → WasGiven answer.now self.new.driven }
+        ensures none_whole { result ≡ Came.Taken
+            → has_whole self.new.driven.host.marks ≡ false → self.new.driven.whole ≡ [] }
+        ensures asks { (e : Asked) → result ≡ Came.Asks e → (a : Answer)
+            → HasAsked e.id e.number self.new.driven.whole (arrives self.old.driven now from frame.now a).told }
+        ensures unanswered { (e : Asked) → result ≡ Came.Asks e → answer.now ≡ [] }
+        ensures answered { result ≡ Came.NoMemory → answer.now ≢ [] }
+        ensures no_memory { result ≡ Came.NoMemory → (a : Answer)
+            → has_run (arrives self.old.driven now from frame.now a).told ≡ true }
+        ensures from { refusal result ≡ None → self.new.driven.from ≡ Some from }
+        ensures counts { result ≡ Came.Taken → self.new.driven.counts
+            ≡ counted (with_received self.old.driven.counts) self.new.driven.host.marks self.new.driven.out }
+        ensures asked { (e : Asked) → result ≡ Came.Asks e → self.new.driven.counts ≡ with_asked self.old.driven.counts }
+        ensures uncounted { result ≡ Came.NoMemory → self.new.driven.counts ≡ self.old.driven.counts }
+        ensures same { result ≢ Came.Taken → IsStill self.old.driven self.new.driven }
+        ensures unbegun { (f : StepFault) → result ≡ Came.Refused f → self.new ≡ self.old }
+        ensures shows { result ≢ Came.Taken → refusal result ≡ None → ShowsNothing self.new.driven }
+        ensures steps { self.new.driven.steps ≤ self.old.driven.steps + 1 }
+        ensures calls { result ≡ Came.Taken → self.new.calls ≡ without_ran self.new.driven.host.marks self.old.calls }
+        ensures kept { result ≢ Came.Taken → self.new.calls ≡ self.old.calls }
+        ensures room { self.new.room ≡ self.old.room }
+        ensures keep { self.new.keep ≡ self.old.keep }
+    {
+        let came = self.asking.deliver(alloc, from, frame, now, answer);
+        match came {
+            Came::Taken => self.drops_ran(),
+            Came::Asks(_) | Came::NoMemory | Came::Refused(_) => {}
+        }
+        came
+    }
+
     /// The answer to a call that is kept, at tick `now` of the host's own clock: the step of the datagram that asked last for the
     /// call, with this answer. If the step doesn't run the call, or the datagram is too old for a step, the answer is kept, and
     /// given to the next datagram that asks for the call.
     pub fn answer(&mut self, alloc: Global, id: CallId, answer: &[u8], now: u64) -> Answered
         ensures settled { IsSettled id answer.now now self.old self.new result }
+        ensures none_whole { (result ≡ Answered.Ran) ⊎ (result ≡ Answered.Held)
+            → has_whole self.new.driven.host.marks ≡ false → self.new.driven.whole ≡ [] }
+        ensures counts { self.new.driven.counts ≡ settled_counts result self.old.driven.counts self.new.driven }
         ensures room { self.new.room ≡ self.old.room }
         ensures keep { self.new.keep ≡ self.old.keep }
         ensures steps { self.new.driven.steps ≤ self.old.driven.steps + 1 }
@@ -169,7 +227,12 @@ impl LateHost {
             (call_step self.old.driven.host.settings self.old.driven.host.host now server number request.items)
             self.old.driven self.new.driven) }
         ensures whole { IfOk result (λ _. self.new.driven.whole ≡ []) }
+        ensures from { IfOk result (λ _. self.new.driven.from ≡ None) }
+        ensures counts { IfOk result
+            (λ _. self.new.driven.counts ≡ counted self.old.driven.counts self.new.driven.host.marks self.new.driven.out) }
+        ensures uncounted { IfErr result (λ _. self.new.driven.counts ≡ self.old.driven.counts) }
         ensures same { IfErr result (λ _. IsStill self.old.driven self.new.driven) }
+        ensures unbegun { IfErr result (λ f. f ≢ Spent → self.new ≡ self.old) }
         ensures shows { IfErr result (λ _. (self.new.driven ≡ self.old.driven) ⊎ ShowsNothing self.new.driven) }
         ensures steps { self.new.driven.steps ≤ self.old.driven.steps + 1 }
         ensures kept { self.new ≡ record self.old { driven = self.new.driven } }
@@ -184,6 +247,9 @@ impl LateHost {
         ensures step { IfOk result (λ _. IsStep
             (turn_step self.old.driven.host.settings self.old.driven.host.host now) self.old.driven self.new.driven) }
         ensures whole { IfOk result (λ _. self.new.driven.whole ≡ []) }
+        ensures from { IfOk result (λ _. self.new.driven.from ≡ None) }
+        ensures counts { IfOk result
+            (λ _. self.new.driven.counts ≡ counted self.old.driven.counts self.new.driven.host.marks self.new.driven.out) }
         ensures same { IfErr result (λ _. self.new ≡ self.old) }
         ensures steps { self.new.driven.steps ≤ self.old.driven.steps + 1 }
         ensures kept { self.new ≡ record self.old { driven = self.new.driven } }
@@ -198,12 +264,28 @@ impl LateHost {
         &self.asking
     }
 
+    /// How many calls may be kept.
+    pub fn room(&self) -> u32
+        ensures { result ≡ self.now.room }
+    {
+        self.kept.room()
+    }
+
     /// How many calls are kept.
     pub fn kept(&self) -> usize
         ensures count { result ≡ length self.now.calls }
         ensures within { result ≤ self.now.room }
     {
         self.kept.len()
+    }
+
+    // The call that ran in the host's last step isn't kept any more.
+    fn drops_ran(&mut self)
+        ensures { self.new ≡ record self.old { calls = without_ran self.old.driven.host.marks self.old.calls } }
+    {
+        if let Some(id) = ran(self.asking.host()) {
+            self.kept.take_out(id);
+        }
     }
 
     // After the step of its datagram with this answer: the call goes if it ran, and else its answer is kept.

@@ -8,12 +8,12 @@ use Rattle.msg_pool.specs.Bytes.{overwritten}
 use Rattle.msg_pool.specs.Pages.{page_at, byte_at, values_from, chain_bytes}
 
 -- as many values as were asked for
-length-values : (f : ℕ → ℕ) (at count : ℕ) → length (values_from f at count) ≡ count
+pub length-values : (f : ℕ → ℕ) (at count : ℕ) → length (values_from f at count) ≡ count
 length-values f at zero = refl
 length-values f at (suc count) = ap suc (length-values f (suc at) count)
 
 -- each is that of its number
-get-values : (f : ℕ → ℕ) (at count i : ℕ) → i < count → get_or (values_from f at count) i 0 ≡ f (at + i)
+pub get-values : (f : ℕ → ℕ) (at count i : ℕ) → i < count → get_or (values_from f at count) i 0 ≡ f (at + i)
 get-values f at zero i h = absurd (omega arith)
 get-values f at (suc count) zero h = ap f (omega arith)
 get-values f at (suc count) (suc i) h = get-values f (suc at) count i (omega arith) ∙ ap f (omega arith)

@@ -1,12 +1,18 @@
--- A block of pages of which the first ones are stored: the bytes of the others are zero.
-use Rattle.std.specs.Prelude.{◌≡◌, ℕ, ◌-◌, ◌*◌, ◌≤◌, List, ◌++◌, length, replicate}
+-- A block of pages of which the first ones are stored. Of a stored page so many bytes count, up to its end. All others are zero.
+use Rattle.std.specs.Prelude.{◌≡◌, ℕ, ◌*◌, ◌/◌, ◌%◌, ◌≤◌, nat_lt, if◌then◌else◌, List, length, slice_index}
+use Rattle.msg_pool.specs.Pages.{values_from}
 
--- bytes, and zeros after them up to a length
-abbrev pub with_zeros : List ℕ → ℕ → List ℕ
-with_zeros stored len = stored ++ replicate (len - length stored) 0
+-- a byte of the block: a stored one below the end of its page, and else zero
+abbrev pub byte_of : (stored ends : List ℕ) → ℕ → ℕ
+byte_of stored ends i = if nat_lt (i % 4096) (slice_index ends (i / 4096)) then slice_index stored i else 0
 
--- whole pages are stored, no more than there are, and there is room for all
-pub record AreStored (stored : List ℕ) (capacity pages : ℕ) : Type 0 where
-  pub whole : (n : ℕ) × (length stored ≡ n * 4096)
-  pub within : length stored ≤ pages * 4096
+-- so many bytes of the block
+unfoldable pub bytes_in : (stored ends : List ℕ) → ℕ → List ℕ
+bytes_in stored ends len = values_from (byte_of stored ends) 0 len
+
+-- each stored page has an end, there are no more of them than pages, and there is room for all
+pub record AreStored (stored ends : List ℕ) (capacity capacity_of_ends pages : ℕ) : Type 0 where
+  pub whole : length stored ≡ length ends * 4096
+  pub within : length ends ≤ pages
   pub room : pages * 4096 ≤ capacity
+  pub room_of_ends : pages ≤ capacity_of_ends

@@ -15,6 +15,7 @@ use Rattle.host_table.specs.declared.stage.Stage.{Stage}
 use Rattle.host_table.specs.Left.{entries_of, HasLeft}
 use Rattle.host_table.specs.Staged.{Known, hosts_of, frames_of, known_of, seats_of, spares_of}
 use Rattle.node_turns.specs.Acting.{IsStep, IsOwn}
+use Rattle.node_turns.specs.Same.{HaveStepped}
 use Rattle.node_hosts.specs.declared.parts.Last.{Last}
 use Rattle.node_hosts.specs.declared.parts.Last.TheVariants as last
 use Rattle.node_hosts.specs.declared.parts.NodeParts.{NodeParts}
@@ -78,6 +79,11 @@ module _ {S : Type 0} where
     pub seats : (i : ℕ) → i < n.settings.hosts → SeatFits served n.steps (place_of (seats_of n.stage) i)
     pub sent : n.sent ≤ 64 * n.steps
     pub last : IsLast n n.last
+
+  -- what is so between two steps is so behind a step too, which is counted at most, and leaves the settings and the clock
+  pub record StaysKept (served : S → ℕ) (old new : NodeParts S) : Type 0 where
+    pub kept : IsKept served new
+    pub stepped : HaveStepped {H = NodeParts S} (λ n. n.settings) (λ n. n.clock) (λ n. n.steps) old new 1
 
   -- a step was done: the plain world's outcome
   abbrev pub Steps : (S → ℕ) → Allows S → NodeParts S → NodeParts S → (World → Outcome) → List PlainEntry → Type 0

@@ -1,27 +1,24 @@
 // The parts of a node's hosts, and what each step does with them.
 ghost use Rattle.std.specs.Prelude.{◌≡◌, ◌≢◌, ◌≤◌, ◌<◌, ◌+◌, ◌*◌, ◌^◌, IfOk, IfErr, OnOk, OnErr, Ok, Some, [], ◌∷◌};
-ghost use Rattle.std.specs.Prelude.{length, map, take, drop, slice_get};
+ghost use Rattle.std.specs.Prelude.{length, slice_get};
 ghost use Rattle.std.specs.List.{AllByRecursion};
 ghost use Rattle.homa_plain.specs.declared.event.Event.TheVariants as event;
 ghost use Rattle.homa_plain.specs.declared.fault.WorldFault.TheVariants as fault_word;
 ghost use Rattle.homa_plain.specs.Entries.{PlainRecv, plain};
-ghost use Rattle.homa_plain.specs.Settings.{IsValid};
 ghost use Rattle.homa_plain.specs.World.{World, outcome};
 ghost use Rattle.homa_plain.specs.Told.{HasLine};
 ghost use Rattle.node_io.specs.Observer.{IsSeen};
-ghost use Rattle.event_laws.specs.Named.{numbered as plain_numbered};
-ghost use Rattle.host_table.specs.Left.{IsFew};
-ghost use Rattle.host_table.specs.Staged.{frames_of, seats_of, spares_of};
+ghost use Rattle.host_table.specs.Staged.{frames_of, MaySeat, AreSeated};
 ghost use Rattle.node_runs.specs.Course.{arrival_outcome};
 ghost use Rattle.homa_plain.specs.Rules.{Answer};
 ghost use Rattle.node_turns.specs.Acting.{IsRefused, IsOwn, Asks};
 ghost use Rattle.homa_node.specs.Served.{IsFirstIn};
 ghost use Rattle.node_hosts.specs.declared.parts.Last.TheVariants as last;
-ghost use Rattle.node_hosts.specs.Standing.{IsKept, StandsFor, Steps, told_of};
+ghost use Rattle.node_hosts.specs.Standing.{IsKept, StandsFor, Steps, StaysKept, told_of};
 
-use homa_plain::{Entry, HostId, LAST_TICK, MOST_SERVICES, Settings, StartFault};
+use homa_plain::{Entry, HostId, LAST_TICK, Settings, StartFault};
 use homa_service::Service;
-use host_table::Stage;
+use host_table::{Stage, number_on};
 use std::alloc::{AllocError, Global};
 
 /// What the last step was, as far as its entries need it.
@@ -52,19 +49,16 @@ impl<S: Service> NodeParts<S> {
         incs: &[u32],
         services: Vec<S>,
     ) -> Result<NodeParts<S>, AllocError>
-        requires valid { IsValid settings.now }
+        requires boxes { MaySeat settings.now services.items }
         requires incs { length incs.now ≡ settings.now.hosts }
         requires lives { AllByRecursion (λ inc. 1 ≤ inc) incs.now }
-        requires enough { settings.now.hosts ≤ length services.items }
-        requires at_most { length services.items ≤ MOST_SERVICES }
         requires none { AllByRecursion (λ service. S.served service ≡ 0) services.items }
         ensures first { IfOk result (λ n. IsFirstIn settings.now incs.now (StandsFor n)) }
         ensures kept { IfOk result (IsKept S.served) }
         ensures settings { IfOk result (λ n. n.settings ≡ settings.now) }
         ensures clock { IfOk result (λ n. n.clock ≡ 0) }
         ensures steps { IfOk result (λ n. n.steps ≡ 0) }
-        ensures seats { IfOk result (λ n. seats_of n.stage ≡ map Some (take settings.now.hosts services.items)) }
-        ensures spares { IfOk result (λ n. spares_of n.stage ≡ drop settings.now.hosts services.items) }
+        ensures seated { IfOk result (λ n. AreSeated settings.now services.items n.stage) }
     {
         Ok(NodeParts {
             settings: *settings,
@@ -134,10 +128,7 @@ impl<S: Service> NodeParts<S> {
             → Steps S.served S.allows self.old self.new (λ v. outcome self.old.settings v (event.Call client server number) bytes.now) [] }
         ensures fault { IfOk result (λ r. IfErr r (λ fault. (w : World) → StandsFor self.old w
             → IsRefused self.old.settings w (event.Call client server number) bytes.now (fault_word.Start fault))) }
-        ensures kept { IsKept S.served self.new }
-        ensures settings { self.new.settings ≡ self.old.settings }
-        ensures clock { self.new.clock ≡ self.old.clock }
-        ensures counted { self.new.steps ≤ self.old.steps + 1 }
+        ensures stays { StaysKept S.served self.old self.new }
     {
         let request = Vec::from_slice(alloc, bytes)?;
         let now = self.begin();
@@ -165,10 +156,7 @@ impl<S: Service> NodeParts<S> {
             (λ v. arrival_outcome self.old.settings v host (record { from = from; bytes = bytes.now })) (PlainRecv host from bytes.now ∷ [])) }
         ensures asks { OnErr result ((w : World) → StandsFor self.old w → (a : Answer)
             → Asks (λ v. arrival_outcome self.old.settings v host (record { from = from; bytes = bytes.now })) w a) }
-        ensures kept { IsKept S.served self.new }
-        ensures settings { self.new.settings ≡ self.old.settings }
-        ensures clock { self.new.clock ≡ self.old.clock }
-        ensures counted { self.new.steps ≤ self.old.steps + 1 }
+        ensures stays { StaysKept S.served self.old self.new }
     {
         let now = self.begin();
         // (`?` makes std's error of a `homa_host::Asked`)
@@ -183,10 +171,7 @@ impl<S: Service> NodeParts<S> {
         requires host { host.0 < self.old.settings.hosts }
         requires few { self.old.steps < 2 ^ 57 }
         ensures done { Steps S.served S.allows self.old self.new (λ v. outcome self.old.settings v (event.Turn host) []) [] }
-        ensures kept { IsKept S.served self.new }
-        ensures settings { self.new.settings ≡ self.old.settings }
-        ensures clock { self.new.clock ≡ self.old.clock }
-        ensures counted { self.new.steps ≤ self.old.steps + 1 }
+        ensures stays { StaysKept S.served self.old self.new }
     {
         let now = self.begin();
         self.stage.turn(host, now);
@@ -221,18 +206,5 @@ impl<S: Service> NodeParts<S> {
                 entry
             }
         }
-    }
-}
-
-// Gives a packet of a step the number that it has among all that were sent.
-fn number_on(base: u64, entry: &mut Entry<'_>)
-    requires few { IsFew (plain entry.old) }
-    requires base { base + 64 < 2 ^ 64 }
-    requires line { HasLine (plain entry.old) }
-    ensures entry { plain entry.new ≡ plain_numbered base (plain entry.old) }
-    ensures line { HasLine (plain entry.new) }
-{
-    if let Entry::Send { number, .. } = entry {
-        *number += base;
     }
 }

@@ -1,7 +1,7 @@
 -- What was sent and given among the things that a net did.
 use Rattle.std.proofs.Common.{◌≡◌, List, [], ◌∷◌, ◌++◌, refl, ap, ◌∙◌}
 use Rattle.std.proofs.lemmas.List.{append-nil}
-use Rattle.node_runs.specs.Acts.{Act, Bound, Routed, Sent, Received, sents, gives}
+use Rattle.node_runs.specs.Acts.{Act, Sent, Received, sents, gives}
 
 pub sents_more : (a b : List Act) → sents (a ++ b) ≡ sents a ++ sents b
 sents_more [] b = refl

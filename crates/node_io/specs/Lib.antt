@@ -1,4 +1,5 @@
 pub mod Net
+pub mod Called
 pub mod Clock
 pub mod Observer
 pub mod Hosts

@@ -1,5 +1,6 @@
 -- What a net in memory holds and has told.
-use Rattle.std.specs.Prelude.{ℕ, Bool, if◌then◌else◌, Option, Some, List, [], ◌∷◌, ◌++◌, map}
+use Rattle.std.specs.Prelude.{◌≡◌, ◌↔◌, ◌⊎◌, ◌+◌, ◌-◌, ◌^◌, ℕ, Bool, if◌then◌else◌, Option, Some, List, [], ◌∷◌, ◌++◌, map, min}
+use Rattle.std.specs.Prelude.{Contains, Result, IsErr, OnOk, OnErr}
 use Rattle.homa_plain.specs.declared.id.HostId.{HostId}
 use Rattle.node_runs.specs.Course.{Datagram, Receive}
 use Rattle.node_io.specs.declared.memory.MemNet.{MemNet}
@@ -63,3 +64,16 @@ net_receives net = net.receives
 -- and for how many hosts that are bound or routed
 abbrev pub net_places : MemNet → ℕ
 net_places net = net.places
+
+-- A call failed exactly where the plan has its number or this holds, for which it can't be done. The next call has the next number.
+pub record IsPlanned {A E : Type 0} (r : Result A E) (old new : MemNet) (hindrance : Type 0) : Type 0 where
+  pub planned : IsErr r ↔ (Contains (net_fails old) (net_calls old) ⊎ hindrance)
+  pub numbered : net_calls new ≡ min (net_calls old + 1) (2 ^ 64 - 1)
+  pub plan : net_fails new ≡ net_fails old
+
+-- a call took room for one of its own kind, unless it failed, and none for the two other kinds
+pub record TakesRoom {A E : Type 0} (own other third : MemNet → ℕ) (r : Result A E) (old new : MemNet) : Type 0 where
+  pub taken : OnOk r (own new + 1 ≡ own old)
+  pub err_taken : OnErr r (own new ≡ own old)
+  pub same_other : other new ≡ other old
+  pub same_third : third new ≡ third old

@@ -1,12 +1,12 @@
 // A net in memory, whose faults are planned.
-ghost use Rattle.std.specs.Prelude.{◌≡◌, ◌≤◌, ◌<◌, ◌+◌, ◌-◌, ◌^◌, ◌↔◌, ◌⊎◌, ◌||◌, false, true, Some, None, [], ◌∷◌, ◌++◌, length, map, min};
-ghost use Rattle.std.specs.Prelude.{vec_capacity, Contains, IsErr, OnOk, OnErr, IfOk, IfSome, if◌then◌else◌, refl};
-ghost use Rattle.homa_io.specs.Outside.{HasRisen};
+ghost use Rattle.std.specs.Prelude.{◌≡◌, ◌≤◌, ◌<◌, ◌+◌, ◌⊎◌, ◌||◌, false, true, Some, None, [], ◌∷◌, ◌++◌, length, map};
+ghost use Rattle.std.specs.Prelude.{vec_capacity, OnOk, OnErr, IfOk, IfSome, if◌then◌else◌, refl};
 ghost use Rattle.homa_plain.specs.declared.id.HostId.{HostId as Host};
 ghost use Rattle.homa_plain.specs.Calls.{is_host};
 ghost use Rattle.node_io.specs.Hosts.{set_has};
 ghost use Rattle.node_io.specs.Net.{arrival_of, receive_of, IfFrom, is_welcome, next_arrival, left_queued, if_queued, added, datagram_of};
 ghost use Rattle.node_io.specs.Given.{received, act_of};
+ghost use Rattle.node_io.specs.Called.{CountsErrors, HasLearned};
 ghost use Rattle.node_runs.specs.Acts.{Bound, Routed, Sent, Received};
 
 use crate::faults::Calls;
@@ -181,8 +181,8 @@ impl MemNet {
 }
 
 impl Net for MemNet {
-    ghost use Rattle.node_io.specs.Memory.{net_bound, net_known, net_queue, net_queued, queue_with, net_sent, net_gave, net_faults, net_fails};
-    ghost use Rattle.node_io.specs.Memory.{net_calls, net_sends, net_receives, net_places, net_acts};
+    ghost use Rattle.node_io.specs.Memory.{net_bound, net_known, net_queue, net_queued, queue_with, net_sent, net_gave, net_faults};
+    ghost use Rattle.node_io.specs.Memory.{net_sends, net_receives, net_places, net_acts, IsPlanned, TakesRoom};
 
     ghost known = { net_known };
 
@@ -197,26 +197,13 @@ impl Net for MemNet {
     ghost faults = { net_faults };
 
     fn bind(&mut self, host: HostId, port: u16) -> Result<(), NetFailed>
-        ensures known { OnOk result ((h : Host) → net_known self.new h ≡ (net_known self.old h || is_host h host)) }
-        ensures err { OnErr result (net_known self.new ≡ net_known self.old) }
-        ensures acts { OnOk result (net_acts self.new ≡ added (net_acts self.old) (Bound host port)) }
-        ensures err_acts { OnErr result (net_acts self.new ≡ net_acts self.old) }
-        ensures queued { net_queued self.new ≡ net_queued self.old }
-        ensures sent { net_sent self.new ≡ net_sent self.old }
-        ensures gave { net_gave self.new ≡ net_gave self.old }
-        ensures risen { OnErr result (HasRisen (net_faults self.old) (net_faults self.new)) }
-        ensures quiet { OnOk result (net_faults self.new ≡ net_faults self.old) }
-        ensures never_falls { net_faults self.old ≤ net_faults self.new }
+        ensures learned { HasLearned net_known net_queued net_acts net_sent net_gave net_faults result
+            self.old self.new host (Bound host port) }
 
         // It fails exactly where the plan has its number or there is no room, and what is sent to the host is queued from now on.
         ensures bound { OnOk result ((h : Host) → net_bound self.new h ≡ (net_bound self.old h || is_host h host)) }
-        ensures planned { IsErr result ↔ (Contains (net_fails self.old) (net_calls self.old) ⊎ (net_places self.old ≡ 0)) }
-        ensures numbered { net_calls self.new ≡ min (net_calls self.old + 1) (2 ^ 64 - 1) }
-        ensures plan { net_fails self.new ≡ net_fails self.old }
-        ensures sends { net_sends self.new ≡ net_sends self.old }
-        ensures receives { net_receives self.new ≡ net_receives self.old }
-        ensures places { OnOk result (net_places self.new + 1 ≡ net_places self.old) }
-        ensures err_places { OnErr result (net_places self.new ≡ net_places self.old) }
+        ensures planned { IsPlanned result self.old self.new (net_places self.old ≡ 0) }
+        ensures room { TakesRoom net_places net_sends net_receives result self.old self.new }
     {
         self.calls.begin(self.places > 0)?;
         self.places -= 1;
@@ -227,26 +214,13 @@ impl Net for MemNet {
     }
 
     fn route(&mut self, host: HostId, port: u16) -> Result<(), NetFailed>
-        ensures known { OnOk result ((h : Host) → net_known self.new h ≡ (net_known self.old h || is_host h host)) }
-        ensures err { OnErr result (net_known self.new ≡ net_known self.old) }
-        ensures acts { OnOk result (net_acts self.new ≡ added (net_acts self.old) (Routed host port)) }
-        ensures err_acts { OnErr result (net_acts self.new ≡ net_acts self.old) }
-        ensures queued { net_queued self.new ≡ net_queued self.old }
-        ensures sent { net_sent self.new ≡ net_sent self.old }
-        ensures gave { net_gave self.new ≡ net_gave self.old }
-        ensures risen { OnErr result (HasRisen (net_faults self.old) (net_faults self.new)) }
-        ensures quiet { OnOk result (net_faults self.new ≡ net_faults self.old) }
-        ensures never_falls { net_faults self.old ≤ net_faults self.new }
+        ensures learned { HasLearned net_known net_queued net_acts net_sent net_gave net_faults result
+            self.old self.new host (Routed host port) }
 
         // It fails exactly where the plan has its number or there is no room.
         ensures bound { net_bound self.new ≡ net_bound self.old }
-        ensures planned { IsErr result ↔ (Contains (net_fails self.old) (net_calls self.old) ⊎ (net_places self.old ≡ 0)) }
-        ensures numbered { net_calls self.new ≡ min (net_calls self.old + 1) (2 ^ 64 - 1) }
-        ensures plan { net_fails self.new ≡ net_fails self.old }
-        ensures sends { net_sends self.new ≡ net_sends self.old }
-        ensures receives { net_receives self.new ≡ net_receives self.old }
-        ensures places { OnOk result (net_places self.new + 1 ≡ net_places self.old) }
-        ensures err_places { OnErr result (net_places self.new ≡ net_places self.old) }
+        ensures planned { IsPlanned result self.old self.new (net_places self.old ≡ 0) }
+        ensures room { TakesRoom net_places net_sends net_receives result self.old self.new }
     {
         self.calls.begin(self.places > 0)?;
         self.places -= 1;
@@ -263,21 +237,14 @@ impl Net for MemNet {
         ensures queued { OnErr result (net_queued self.new ≡ net_queued self.old) }
         ensures known { net_known self.new ≡ net_known self.old }
         ensures gave { net_gave self.new ≡ net_gave self.old }
-        ensures risen { OnErr result (HasRisen (net_faults self.old) (net_faults self.new)) }
-        ensures quiet { OnOk result (net_faults self.new ≡ net_faults self.old) }
-        ensures never_falls { net_faults self.old ≤ net_faults self.new }
+        ensures counted { CountsErrors net_faults result self.old self.new }
 
         // It is queued for its receiver, where that was bound. It fails exactly where the plan has its number, there is
         // no room, or the datagram is too long.
         ensures queue { OnOk result (net_queue self.new ≡ queue_with self.old (record { from = from; to = to; bytes = bytes.now })) }
         ensures bound { net_bound self.new ≡ net_bound self.old }
-        ensures planned { IsErr result ↔ (Contains (net_fails self.old) (net_calls self.old) ⊎ ((net_sends self.old ≡ 0) ⊎ (1500 < length bytes.now))) }
-        ensures numbered { net_calls self.new ≡ min (net_calls self.old + 1) (2 ^ 64 - 1) }
-        ensures plan { net_fails self.new ≡ net_fails self.old }
-        ensures sends { OnOk result (net_sends self.new + 1 ≡ net_sends self.old) }
-        ensures err_sends { OnErr result (net_sends self.new ≡ net_sends self.old) }
-        ensures receives { net_receives self.new ≡ net_receives self.old }
-        ensures places { net_places self.new ≡ net_places self.old }
+        ensures planned { IsPlanned result self.old self.new ((net_sends self.old ≡ 0) ⊎ (1500 < length bytes.now)) }
+        ensures room { TakesRoom net_sends net_receives net_places result self.old self.new }
     {
         let has_room = self.sends > 0 && bytes.len() <= 1500;
         self.calls.begin(has_room)?;
@@ -300,19 +267,12 @@ impl Net for MemNet {
         ensures err_gave { OnErr result (net_gave self.new ≡ net_gave self.old) }
         ensures known { net_known self.new ≡ net_known self.old }
         ensures sent { net_sent self.new ≡ net_sent self.old }
-        ensures risen { OnErr result (HasRisen (net_faults self.old) (net_faults self.new)) }
-        ensures quiet { OnOk result (net_faults self.new ≡ net_faults self.old) }
-        ensures never_falls { net_faults self.old ≤ net_faults self.new }
+        ensures counted { CountsErrors net_faults result self.old self.new }
 
         // It fails exactly where the plan has its number or there is no room.
         ensures bound { net_bound self.new ≡ net_bound self.old }
-        ensures planned { IsErr result ↔ (Contains (net_fails self.old) (net_calls self.old) ⊎ (net_receives self.old ≡ 0)) }
-        ensures numbered { net_calls self.new ≡ min (net_calls self.old + 1) (2 ^ 64 - 1) }
-        ensures plan { net_fails self.new ≡ net_fails self.old }
-        ensures sends { net_sends self.new ≡ net_sends self.old }
-        ensures receives { OnOk result (net_receives self.new + 1 ≡ net_receives self.old) }
-        ensures err_receives { OnErr result (net_receives self.new ≡ net_receives self.old) }
-        ensures places { net_places self.new ≡ net_places self.old }
+        ensures planned { IsPlanned result self.old self.new (net_receives self.old ≡ 0) }
+        ensures room { TakesRoom net_receives net_sends net_places result self.old self.new }
     {
         self.calls.begin(self.receives > 0)?;
         let got = take_next(&mut self.queued, &self.known, host, frame);

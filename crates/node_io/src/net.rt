@@ -1,10 +1,9 @@
 // What datagrams are sent to and received from.
-ghost use Rattle.std.specs.Prelude.{◌≡◌, ◌≤◌, ◌||◌, ℕ, Bool, true, Option, List, OnOk, OnErr, IfOk, IfSome};
-ghost use Rattle.homa_io.specs.Outside.{HasRisen};
+ghost use Rattle.std.specs.Prelude.{◌≡◌, ℕ, Bool, true, Option, List, OnOk, OnErr, IfOk, IfSome};
 ghost use Rattle.homa_plain.specs.declared.id.HostId.{HostId as Host};
-ghost use Rattle.homa_plain.specs.Calls.{is_host};
 ghost use Rattle.node_runs.specs.Course.{Datagram, Receive};
 ghost use Rattle.node_runs.specs.Acts.{Act, Bound, Routed, Sent, Received};
+ghost use Rattle.node_io.specs.Called.{CountsErrors, HasLearned};
 ghost use Rattle.node_io.specs.Net.{arrival_of, receive_of, IfFrom, is_welcome, next_arrival, if_queued, added, sent_in, given_in};
 
 use homa_plain::{Frame, HostId};
@@ -44,29 +43,13 @@ pub trait Net {
 
     /// Makes a host one that sends and receives here, at this port. Only an error counts a fault.
     fn bind(&mut self, host: HostId, port: u16) -> Result<(), NetFailed>
-        ensures known { OnOk result ((h : Host) → known self.new h ≡ (known self.old h || is_host h host)) }
-        ensures err { OnErr result (known self.new ≡ known self.old) }
-        ensures acts { OnOk result (acts self.new ≡ added (acts self.old) (Bound host port)) }
-        ensures err_acts { OnErr result (acts self.new ≡ acts self.old) }
-        ensures queued { queued self.new ≡ queued self.old }
-        ensures sent { sent self.new ≡ sent self.old }
-        ensures gave { gave self.new ≡ gave self.old }
-        ensures risen { OnErr result (HasRisen (faults self.old) (faults self.new)) }
-        ensures quiet { OnOk result (faults self.new ≡ faults self.old) }
-        ensures never_falls { faults self.old ≤ faults self.new };
+        ensures learned { HasLearned known queued acts sent gave faults result
+            self.old self.new host (Bound host port) };
 
     /// Says at which port a host is that isn't bound here. Only an error counts a fault.
     fn route(&mut self, host: HostId, port: u16) -> Result<(), NetFailed>
-        ensures known { OnOk result ((h : Host) → known self.new h ≡ (known self.old h || is_host h host)) }
-        ensures err { OnErr result (known self.new ≡ known self.old) }
-        ensures acts { OnOk result (acts self.new ≡ added (acts self.old) (Routed host port)) }
-        ensures err_acts { OnErr result (acts self.new ≡ acts self.old) }
-        ensures queued { queued self.new ≡ queued self.old }
-        ensures sent { sent self.new ≡ sent self.old }
-        ensures gave { gave self.new ≡ gave self.old }
-        ensures risen { OnErr result (HasRisen (faults self.old) (faults self.new)) }
-        ensures quiet { OnOk result (faults self.new ≡ faults self.old) }
-        ensures never_falls { faults self.old ≤ faults self.new };
+        ensures learned { HasLearned known queued acts sent gave faults result
+            self.old self.new host (Routed host port) };
 
     /// Sends a datagram. Only an error counts a fault, and then nothing was taken.
     fn send(&mut self, from: HostId, to: HostId, bytes: &[u8]) -> Result<(), NetFailed>
@@ -77,9 +60,7 @@ pub trait Net {
         ensures queued { OnErr result (queued self.new ≡ queued self.old) }
         ensures known { known self.new ≡ known self.old }
         ensures gave { gave self.new ≡ gave self.old }
-        ensures risen { OnErr result (HasRisen (faults self.old) (faults self.new)) }
-        ensures quiet { OnOk result (faults self.new ≡ faults self.old) }
-        ensures never_falls { faults self.old ≤ faults self.new };
+        ensures counted { CountsErrors faults result self.old self.new };
 
     /// Receives a datagram for a host: the oldest from another host that was bound or routed. What others sent is passed
     /// over. A datagram of more than 1,500 bytes is cut to these. Only an error counts a fault, and then nothing was
@@ -96,9 +77,7 @@ pub trait Net {
         ensures err_gave { OnErr result (gave self.new ≡ gave self.old) }
         ensures known { known self.new ≡ known self.old }
         ensures sent { sent self.new ≡ sent self.old }
-        ensures risen { OnErr result (HasRisen (faults self.old) (faults self.new)) }
-        ensures quiet { OnOk result (faults self.new ≡ faults self.old) }
-        ensures never_falls { faults self.old ≤ faults self.new };
+        ensures counted { CountsErrors faults result self.old self.new };
 
     /// What was sent is what it took among the things that it did.
     ghost sent_is: { (net : Self) → sent net ≡ sent_in (acts net) };

@@ -1,11 +1,11 @@
 // The lines up to `go`, and the next call behind it.
-ghost use Rattle.std.specs.Prelude.{◌≡◌, ◌≤◌, ◌<◌, ℕ, List, Some, true, false, length, vec_capacity, IfOk, IfErr, IfSome};
-ghost use Rattle.homa_io.specs.Outside.{HasRisen};
+ghost use Rattle.std.specs.Prelude.{◌≡◌, ◌≤◌, ◌<◌, ℕ, List, Some, length, vec_capacity, IfOk, IfSome};
 ghost use Rattle.text_lines.specs.Lines.{reading};
-ghost use Rattle.script_lines.specs.Place.{place_of, first_place, IsCounted};
+ghost use Rattle.script_lines.specs.Place.{place_of, first_place, IsCounted, ReadsScript};
+ghost use Rattle.script_lines.specs.Faults.{CountsFaults};
 ghost use Rattle.node_script.specs.Heads.{IsSound, setup_seen};
 ghost use Rattle.node_script.specs.Calls.{IsOpening, IsNext, IsOn};
-ghost use Rattle.node_script.specs.Stops.{is_read, is_call_read, has_failed_read, has_failed_call};
+ghost use Rattle.node_script.specs.Stops.{has_failed_read, has_failed_call};
 
 use crate::head::Head;
 use crate::heading::read_heading;
@@ -24,8 +24,7 @@ pub(crate) fn read_setup<S: Source>(
     lines: &mut Lines,
     source: &mut S,
 ) -> Result<Setup, SetupStop>
-    requires longest { (reading lines.old).longest ≡ 2100000 }
-    requires counted { IsCounted (place_of (reading lines.old)) }
+    requires script { ReadsScript (reading lines.old) }
     requires first { place_of (reading lines.old) ≡ first_place (reading lines.old).limit }
     ensures setup { (bytes : List ℕ) → S.left source.old ≡ Some bytes
         → IsOpening (reading lines.old).limit (place_of (reading lines.new)) bytes (S.left source.new) result }
@@ -33,10 +32,7 @@ pub(crate) fn read_setup<S: Source>(
     ensures counted { IfOk result (λ setup. IsCounted (place_of (reading lines.new))) }
     ensures limit { (reading lines.new).limit ≡ (reading lines.old).limit }
     ensures longest { (reading lines.new).longest ≡ (reading lines.old).longest }
-    ensures risen { IfErr result (λ stop. is_read stop ≡ true → HasRisen (S.faults source.old) (S.faults source.new)) }
-    ensures quiet { has_failed_read result ≡ false → S.faults source.new ≡ S.faults source.old }
-    ensures never_falls { S.faults source.old ≤ S.faults source.new }
-    ensures same { S.is_same source.old source.new }
+    ensures faults { CountsFaults S.faults S.is_same (has_failed_read result) source.old source.new }
 {
     let mut head = Head::new(alloc)?;
     'lines: while next_line(lines, source)? {
@@ -58,8 +54,7 @@ pub(crate) fn read_call<S: Source>(
 ) -> Result<Option<TimedCall>, CallStop>
     requires room { 1050000 ≤ vec_capacity out.old }
     requires end { 1 ≤ setup.now.end }
-    requires longest { (reading lines.old).longest ≡ 2100000 }
-    requires counted { IsCounted (place_of (reading lines.old)) }
+    requires script { ReadsScript (reading lines.old) }
     ensures call { (bytes : List ℕ) → S.left source.old ≡ Some bytes
         → IsNext (setup_seen setup.now) least (place_of (reading lines.old)) (place_of (reading lines.new)) out.new.items bytes (S.left source.new) result }
     ensures there { IfOk result (λ call. IfSome call (λ c. (c.client.0 < length setup.now.places.items) × (c.server.0 < length setup.now.places.items))) }
@@ -70,10 +65,7 @@ pub(crate) fn read_call<S: Source>(
     ensures on { IfOk result (IsOn (place_of (reading lines.old)) (place_of (reading lines.new))) }
     ensures limit { (reading lines.new).limit ≡ (reading lines.old).limit }
     ensures longest { (reading lines.new).longest ≡ (reading lines.old).longest }
-    ensures risen { IfErr result (λ stop. is_call_read stop ≡ true → HasRisen (S.faults source.old) (S.faults source.new)) }
-    ensures quiet { has_failed_call result ≡ false → S.faults source.new ≡ S.faults source.old }
-    ensures never_falls { S.faults source.old ≤ S.faults source.new }
-    ensures same { S.is_same source.old source.new }
+    ensures faults { CountsFaults S.faults S.is_same (has_failed_call result) source.old source.new }
 {
     let bounds = Bounds {
         least,

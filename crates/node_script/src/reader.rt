@@ -1,7 +1,7 @@
 // A reader of node scripts.
-ghost use Rattle.std.specs.Prelude.{◌≡◌, ◌≤◌, ◌<◌, ◌-◌, ◌^◌, ℕ, List, Some, true, false, length, take, IfOk, IfErr, IfSome};
-ghost use Rattle.homa_io.specs.Outside.{HasRisen};
+ghost use Rattle.std.specs.Prelude.{◌≡◌, ◌≤◌, ◌<◌, ◌-◌, ◌^◌, ℕ, List, Some, length, take, IfOk, IfSome};
 ghost use Rattle.script_lines.specs.Place.{first_place, IsCounted};
+ghost use Rattle.script_lines.specs.Faults.{CountsFaults};
 
 use crate::read::{read_call, read_setup};
 use crate::setup::Setup;
@@ -43,7 +43,7 @@ impl Reader {
     ghost use Rattle.node_script.specs.Heads.{IsSound, setup_seen};
     ghost use Rattle.node_script.specs.Calls.{IsOpening, IsNext, IsOn};
     ghost use Rattle.node_script.specs.Standing.{tick_after};
-    ghost use Rattle.node_script.specs.Stops.{is_read, is_call_read, has_failed_read, has_failed_call};
+    ghost use Rattle.node_script.specs.Stops.{has_failed_read, has_failed_call};
 
     /// A reader of a script of at most `limit` bytes.
     pub fn open(alloc: Global, limit: u64) -> Result<Reader, AllocError>
@@ -72,10 +72,7 @@ impl Reader {
         ensures limit { self.new.place.limit ≡ self.old.place.limit }
         ensures least { self.new.least ≡ self.old.least }
 
-        ensures risen { IfErr result (λ stop. is_read stop ≡ true → HasRisen (S.faults source.old) (S.faults source.new)) }
-        ensures quiet { has_failed_read result ≡ false → S.faults source.new ≡ S.faults source.old }
-        ensures never_falls { S.faults source.old ≤ S.faults source.new }
-        ensures same { S.is_same source.old source.new }
+        ensures faults { CountsFaults S.faults S.is_same (has_failed_read result) source.old source.new }
     {
         read_setup(alloc, &mut self.lines, source)
     }
@@ -101,10 +98,7 @@ impl Reader {
         ensures limit { self.new.place.limit ≡ self.old.place.limit }
         ensures least { IfOk result (λ call. self.new.least ≡ tick_after self.old.least call) }
 
-        ensures risen { IfErr result (λ stop. is_call_read stop ≡ true → HasRisen (S.faults source.old) (S.faults source.new)) }
-        ensures quiet { has_failed_call result ≡ false → S.faults source.new ≡ S.faults source.old }
-        ensures never_falls { S.faults source.old ≤ S.faults source.new }
-        ensures same { S.is_same source.old source.new }
+        ensures faults { CountsFaults S.faults S.is_same (has_failed_call result) source.old source.new }
     {
         let call = read_call(
             &mut self.lines,

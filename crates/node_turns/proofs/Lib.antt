@@ -2,6 +2,7 @@ pub mod Lists
 pub mod Frames
 pub mod Done
 pub mod Tellings
+pub mod Same
 pub mod Acted
 pub mod Hearing
 pub mod Cuts

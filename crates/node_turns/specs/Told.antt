@@ -2,7 +2,7 @@
 use Rattle.std.specs.Prelude.{◌≡◌, ◌≤◌, ◌⊎◌, ℕ, Bool, true, false, Option, None, Some, List, [], ◌∷◌, ◌++◌, length, take}
 use Rattle.std.specs.List.{AllByRecursion}
 use Rattle.homa_plain.specs.declared.id.HostId.{HostId}
-use Rattle.homa_plain.specs.Entries.{PlainEntry, PlainRecv}
+use Rattle.homa_plain.specs.Entries.{PlainRecv}
 use Rattle.homa_io.specs.Outside.{appended, TookFront}
 use Rattle.node_runs.specs.Course.{Report, Tells, Turning, Datagram}
 use Rattle.node_runs.specs.Acts.{Act, sents, acts_by}

@@ -7,6 +7,7 @@ ghost use Rattle.homa_plain.specs.Entries.{PlainEntry};
 ghost use Rattle.node_runs.specs.Course.{GoesOn, IsReceived, has_turn, hears, hosts_act, most_received};
 ghost use Rattle.node_turns.specs.Told.{Listed, ListedFront, Hears, Turns, AreTold, AreFront, AreDone, AreBroken, AreHalted, SomeStrange};
 ghost use Rattle.node_turns.specs.Faults.{counts, AreFaults};
+ghost use Rattle.node_turns.specs.Same.{HaveStepped, IsSameOutside};
 ghost use Rattle.node_turns.specs.Acting.{HasActed, IsCut, IsMidst, IsHeardStop, OnStrange, with_left, goes_on, clock_reports};
 
 use crate::telling::{send_frames, tell_entries};
@@ -38,12 +39,9 @@ pub fn has_turn<H: LoopHosts, N: Net, O: Observer>(
         (AreBroken O.told O.kept O.strange (O.taken observer.old) (O.notes observer.old) (O.taken observer.new) (N.acts net.old) (N.acts net.new) (Turns host))
         (ListedFront (N.sent net.old) (N.sent net.new)) (N.gave net.old) (N.gave net.new)) }
     ensures midst { IfErr result IsMidst }
-    ensures settings { H.settings hosts.new ≡ H.settings hosts.old }
-    ensures clock { H.clock hosts.new ≡ H.clock hosts.old }
-    ensures steps { H.steps hosts.new ≤ H.steps hosts.old + 1 }
-    ensures known { N.known net.new ≡ N.known net.old }
-    ensures faults { AreFaults (counts 0 (N.faults net.old) (O.faults observer.old)) (counts 0 (N.faults net.new) (O.faults observer.new)) result }
-    ensures same { O.is_same observer.old observer.new }
+    ensures stepped { HaveStepped H.settings H.clock H.steps hosts.old hosts.new 1 }
+    ensures outside { IsSameOutside N.known N.faults O.faults O.is_same
+        net.old net.new observer.old observer.new result }
 {
     observer.turning(host)?;
     hosts.turn(host);
@@ -85,12 +83,9 @@ pub fn hears<H: LoopHosts, N: Net, O: Observer>(
         (Listed (N.sent net.old) (N.sent net.new)) (N.gave net.old) (N.gave net.new)) }
     ensures some_strange { OnStrange result (SomeStrange O.strange) }
     ensures midst { IfErr result IsHeardStop }
-    ensures settings { H.settings hosts.new ≡ H.settings hosts.old }
-    ensures clock { H.clock hosts.new ≡ H.clock hosts.old }
-    ensures steps { H.steps hosts.new ≤ H.steps hosts.old + 64 }
-    ensures known { N.known net.new ≡ N.known net.old }
-    ensures faults { AreFaults (counts 0 (N.faults net.old) (O.faults observer.old)) (counts 0 (N.faults net.new) (O.faults observer.new)) result }
-    ensures same { O.is_same observer.old observer.new }
+    ensures stepped { HaveStepped H.settings H.clock H.steps hosts.old hosts.new 64 }
+    ensures outside { IsSameOutside N.known N.faults O.faults O.is_same
+        net.old net.new observer.old observer.new result }
 {
     let mut frame = Frame::empty();
     for i in 0..MOST_RECEIVED {
@@ -135,12 +130,9 @@ pub fn hosts_act<H: LoopHosts, N: Net, O: Observer>(
         (Listed (N.sent net.old) (N.sent net.new)) (N.gave net.old) (N.gave net.new)) }
     ensures some_strange { OnStrange result (SomeStrange O.strange) }
     ensures midst { IfErr result IsHeardStop }
-    ensures settings { H.settings hosts.new ≡ H.settings hosts.old }
-    ensures clock { H.clock hosts.new ≡ H.clock hosts.old }
-    ensures steps { H.steps hosts.new ≤ H.steps hosts.old + 65 * length locals.now }
-    ensures known { N.known net.new ≡ N.known net.old }
-    ensures faults { AreFaults (counts 0 (N.faults net.old) (O.faults observer.old)) (counts 0 (N.faults net.new) (O.faults observer.new)) result }
-    ensures same { O.is_same observer.old observer.new }
+    ensures stepped { HaveStepped H.settings H.clock H.steps hosts.old hosts.new (65 * length locals.now) }
+    ensures outside { IsSameOutside N.known N.faults O.faults O.is_same
+        net.old net.new observer.old observer.new result }
 {
     for i in 0..locals.len() {
         let host = locals[i];

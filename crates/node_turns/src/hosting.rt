@@ -1,5 +1,5 @@
 // Hosts that act at a clock that is read outside.
-ghost use Rattle.std.specs.Prelude.{◌≡◌, ◌≢◌, ◌≤◌, ◌<◌, ◌+◌, ◌^◌, ℕ, List, [], ◌∷◌, Some, length, slice_get, Ok, IfErr, OnOk, OnErr, IfOk};
+ghost use Rattle.std.specs.Prelude.{◌≡◌, ◌≢◌, ◌≤◌, ◌<◌, ◌^◌, ℕ, List, [], ◌∷◌, Some, length, slice_get, Ok, IfErr, OnOk, OnErr, IfOk};
 ghost use Rattle.std.specs.List.{AllByRecursion};
 ghost use Rattle.homa_plain.specs.declared.settings.Settings.{Settings};
 ghost use Rattle.homa_plain.specs.declared.id.HostId.{HostId as Host};
@@ -14,6 +14,7 @@ ghost use Rattle.node_io.specs.Observer.{IsSeen};
 ghost use Rattle.node_runs.specs.Course.{arrival_outcome, Arrival};
 ghost use Rattle.node_turns.specs.Acting.{IsRefused};
 ghost use Rattle.node_turns.specs.Acting.{IsStep, IsBegun, IsOwn, Asks};
+ghost use Rattle.node_turns.specs.Same.{HaveStepped};
 
 use homa_plain::{Entry, HostId, LAST_TICK, StartFault, WorldFault};
 use host_view::Outbox;
@@ -75,9 +76,7 @@ pub trait LoopHosts {
             IfErr r (λ fault. (w : World) → stands self.old w
             → IsRefused (settings self.old) w (event.Call client server number) request.now (fault_word.Start fault))) }
         ensures own { AllByRecursion IsOwn (told self.new) }
-        ensures settings { settings self.new ≡ settings self.old }
-        ensures clock { clock self.new ≡ clock self.old }
-        ensures steps { steps self.new ≤ steps self.old + 1 };
+        ensures stepped { HaveStepped settings clock steps self.old self.new 1 };
 
     /// A datagram comes to a host from another one. Memory is wanted only where it asks the host's service.
     fn hear(
@@ -97,9 +96,7 @@ pub trait LoopHosts {
         ensures asks { OnErr result ((w : World) → stands self.old w → (a : Answer)
             → Asks (λ v. arrival_outcome (settings self.old) v host (record { from = from; bytes = bytes.now })) w a) }
         ensures own { AllByRecursion IsOwn (told self.new) }
-        ensures settings { settings self.new ≡ settings self.old }
-        ensures clock { clock self.new ≡ clock self.old }
-        ensures steps { steps self.new ≤ steps self.old + 1 };
+        ensures stepped { HaveStepped settings clock steps self.old self.new 1 };
 
     /// A turn of a host. It takes no memory.
     fn turn(&mut self, host: HostId)
@@ -109,9 +106,7 @@ pub trait LoopHosts {
             → IsStep (λ v. outcome (settings self.old) v (event.Turn host) []) [] (settings self.old) w (stands self.new) (told self.new) (frames self.new)
             (allows self.old) (allows self.new) }
         ensures own { AllByRecursion IsOwn (told self.new) }
-        ensures settings { settings self.new ≡ settings self.old }
-        ensures clock { clock self.new ≡ clock self.old }
-        ensures steps { steps self.new ≤ steps self.old + 1 };
+        ensures stepped { HaveStepped settings clock steps self.old self.new 1 };
 
     /// How many entries the last step has.
     fn entries(&self) -> usize

@@ -1,16 +1,17 @@
 // The summary of a few lines.
 use homa_generate::Counts;
 use homa_io::MemSink;
-use homa_world::Kind;
+use homa_plain::Kind;
+use homa_world::LineKind;
 use std::alloc::{AllocError, Global};
 
 // Whether this is the summary of lines of three kinds, with one between them that isn't counted.
 fn sums_up(alloc: Global, text: &[u8]) -> Result<bool, AllocError> {
     let mut counts = Counts::new();
-    counts.note_kind(Some(Kind::Clock))?;
+    counts.note_kind(Some(LineKind::Clock))?;
     counts.note_kind(None)?;
-    counts.note_kind(Some(Kind::Forgotten))?;
-    counts.note_kind(Some(Kind::Busy))?;
+    counts.note_kind(Some(LineKind::Forgotten))?;
+    counts.note_kind(Some(LineKind::Sent(Kind::Busy)))?;
     let mut sink = MemSink::new(alloc, 1000, Vec::new(alloc))?;
     let written = counts.put(&mut sink);
     Ok(written.is_ok() && sink.bytes() == text)

@@ -8,7 +8,7 @@ use Rattle.text_lines.specs.Lines.{Reading, TakesLine, IsLine, IsLong, IsOver, I
 use Rattle.text_lines.specs.Rest.{Takes}
 use Rattle.text_lines.proofs.Taking.{takes_none, takes_on}
 use Rattle.script_lines.specs.Place.{Place, place_of, IsCounted}
-use Rattle.script_lines.specs.Taking.{feeds, TakesLines}
+use Rattle.script_lines.specs.Taking.{feeds, TakesLines, GoesOn}
 use Rattle.script_lines.proofs.LinesOf.{lines_of-feed, lines_of-last}
 use Rattle.script_lines.proofs.NextLine.{Got}
 
@@ -140,3 +140,18 @@ lines_on a b c left0 left1 left2 p q =
       needed = still_needed a.number b.number c.number (feeds a.pending) (feeds b.pending) left0 left1 left2 p.needed q.needed
           (omega (arith, q.lines)) (omega (arith, all, ends, p.lines));
     }
+
+-- it took lines and has the same bounds
+pub goes_with : {old new : Reading} {left left_then : Option (List ℕ)} {failed : Bool} → TakesLines (place_of old) (place_of new) left left_then
+    → length new.pending ≤ 65536 → new.limit ≡ old.limit → new.longest ≡ old.longest → GoesOn old new left left_then failed
+goes_with took ahead limit longest = record { took = λ _. took; ahead = ahead; limit = limit; longest = longest }
+
+-- a reader goes on behind lines that it took
+pub goes_behind : {a b c : Reading} {left0 left1 left2 : Option (List ℕ)} {before failed : Bool} → TakesLines (place_of a) (place_of b) left0 left1
+    → b.limit ≡ a.limit → b.longest ≡ a.longest → GoesOn b c left1 left2 before → (failed ≡ false → before ≡ false) → GoesOn a c left0 left2 failed
+goes_behind took limit longest e f = record {
+  took = λ k. lines_on _ _ _ _ _ _ took (e.took (f k));
+  ahead = e.ahead;
+  limit = e.limit ∙ limit;
+  longest = e.longest ∙ longest;
+}

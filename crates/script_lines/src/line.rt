@@ -1,12 +1,12 @@
 // The lines of a script.
-ghost use Rattle.std.specs.Prelude.{◌≡◌, ◌≤◌, ◌+◌, ℕ, List, Some, true, false, length, IfOk, IfErr};
-ghost use Rattle.homa_io.specs.Outside.{HasRisen};
+ghost use Rattle.std.specs.Prelude.{◌≡◌, ◌≤◌, ◌+◌, ℕ, List, Some, true, length, IfOk};
 ghost use Rattle.homa_plain.specs.Script.{without_return};
 ghost use Rattle.text_lines.specs.Lines.{reading};
-ghost use Rattle.script_lines.specs.Place.{place_of, IsCounted};
-ghost use Rattle.script_lines.specs.Stops.{is_read, has_failed_read};
+ghost use Rattle.script_lines.specs.Place.{place_of, ReadsScript};
+ghost use Rattle.script_lines.specs.Stops.{has_failed_read};
+ghost use Rattle.script_lines.specs.Faults.{CountsFaults};
 ghost use Rattle.script_lines.specs.Lines.{IsNextLine, IsNumbered};
-ghost use Rattle.script_lines.specs.Taking.{TakesLines};
+ghost use Rattle.script_lines.specs.Taking.{GoesOn};
 
 use crate::ScriptStop;
 use homa_io::Source;
@@ -17,21 +17,13 @@ use text_lines::{LineGot, Lines};
 /// Reads the next line, and answers whether there is one. A line that isn't refused by what it is
 /// made of is then the last line of `lines`.
 pub fn next_line<S: Source>(lines: &mut Lines, source: &mut S) -> Result<bool, ScriptStop>
-    requires longest { (reading lines.old).longest ≡ 2100000 }
-    requires counted { IsCounted (place_of (reading lines.old)) }
+    requires script { ReadsScript (reading lines.old) }
     ensures line { (bytes : List ℕ) → S.left source.old ≡ Some bytes → IsNextLine (reading lines.old) (reading lines.new) bytes (S.left source.new) result }
-    ensures took { has_failed_read result ≡ false → TakesLines (place_of (reading lines.old)) (place_of (reading lines.new)) (S.left source.old)
-        (S.left source.new) }
-    ensures ahead { length (reading lines.new).pending ≤ 65536 }
+    ensures goes { GoesOn (reading lines.old) (reading lines.new) (S.left source.old) (S.left source.new) (has_failed_read result) }
     ensures numbered { IsNumbered (place_of (reading lines.old)) (place_of (reading lines.new)) result }
     ensures short { IfOk result (λ there. there ≡ true → length (reading lines.new).line ≤ 2100000) }
     ensures sized { IfOk result (λ there. there ≡ true → (reading lines.old).read + length (reading lines.new).line ≤ (reading lines.new).read) }
-    ensures limit { (reading lines.new).limit ≡ (reading lines.old).limit }
-    ensures longest { (reading lines.new).longest ≡ (reading lines.old).longest }
-    ensures risen { IfErr result (λ stop. is_read stop ≡ true → HasRisen (S.faults source.old) (S.faults source.new)) }
-    ensures quiet { has_failed_read result ≡ false → S.faults source.new ≡ S.faults source.old }
-    ensures never_falls { S.faults source.old ≤ S.faults source.new }
-    ensures same { S.is_same source.old source.new }
+    ensures faults { CountsFaults S.faults S.is_same (has_failed_read result) source.old source.new }
 {
     match lines.next(source)? {
         LineGot::End => Ok(false),

@@ -21,7 +21,7 @@ impl Lates {
     ghost use Rattle.world_packets.specs.Firsts.{IsIn};
     ghost use Rattle.world_packets.specs.Past.{lates_kept};
 
-    /// No packet. It takes no memory.
+    /// Opens an empty store of packets. Takes no memory.
     pub(crate) fn open(alloc: Global) -> Lates
         ensures { lates_kept result ≡ [] }
     {

@@ -80,7 +80,7 @@ impl Past {
     ghost use Rattle.world_packets.specs.Past.{past_kept, wire_of};
     ghost use Rattle.world_packets.specs.Ticks.{kept_of};
 
-    /// No packet. It takes no memory.
+    /// Opens an empty store of packets. Takes no memory.
     pub(crate) fn open(alloc: Global, wire: u32) -> Past
         ensures none { past_kept result ≡ [] }
         ensures one { wire ≡ 1 → wire_of result ≡ 1 }

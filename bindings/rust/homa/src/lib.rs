@@ -222,7 +222,7 @@ pub enum Note {
     Freed { id: CallId },
 }
 
-/// What a host counted from its opening on, and how many calls are live.
+/// What a host counted from its opening on, and how many calls are live, and kept until they are answered.
 #[derive(Clone, Copy, Debug, Default, PartialEq, Eq)]
 pub struct Counts {
     pub calls: u64,
@@ -244,6 +244,7 @@ pub struct Counts {
     pub buried: u64,
     pub freed: u64,
     pub live: u64,
+    pub kept: u64,
 }
 
 /// A host. It gives its memory back when it is dropped.
@@ -267,12 +268,16 @@ impl Host {
 
     /// Opens host `id` in an incarnation that is larger than each earlier one; `last` is the tick of its last step then.
     pub fn open(settings: &Settings, id: u16, incarnation: u32, last: u64) -> Result<Host, Error> {
+        // SAFETY: the handle is closed, and both pointers are valid.
+        Host::opened(|host| unsafe { sys::homa_open(&settings.0, id, incarnation, last, host) })
+    }
+
+    fn opened(open: impl FnOnce(*mut sys::homa_host) -> u32) -> Result<Host, Error> {
         if !is_ours(version()) {
             return Err(Error::Mistake(Mistake::Library));
         }
         let mut host = Host(sys::homa_host { at: ptr::null_mut(), is_open: false });
-        // SAFETY: the handle is closed, and both pointers are valid.
-        result(unsafe { sys::homa_open(&settings.0, id, incarnation, last, host.raw()) })?;
+        result(open(host.raw()))?;
         Ok(host)
     }
 
@@ -300,10 +305,14 @@ impl Host {
         let code =
             unsafe { sys::homa_deliver(self.raw(), from, datagram.as_ptr(), datagram.len(), now, answer.as_ptr(), answer.len(), &mut asked) };
         if code == sys::HOMA_ASKS {
-            return Ok(Came::Asks(Ask { id: asked.id, service: asked.service as u8, request: self.step().whole() }));
+            return Ok(Came::Asks(self.ask(asked)));
         }
         result(code)?;
         Ok(Came::Step(self.step()))
+    }
+
+    fn ask(&mut self, asked: sys::homa_asked) -> Ask {
+        Ask { id: asked.id, service: asked.service as u8, request: self.step().whole() }
     }
 
     /// A turn.
@@ -357,6 +366,7 @@ impl Host {
             buried: next(),
             freed: next(),
             live: next(),
+            kept: next(),
         }
     }
 }

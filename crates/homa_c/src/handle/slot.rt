@@ -1,13 +1,13 @@
 // Room for a host.
 ghost use Rattle.std.specs.Prelude.{◌≡◌, Bool, true, false};
 ghost use Rattle.std.specs.Coded.{coded_bool};
-ghost use Rattle.driven_host.specs.Driven.{Driven};
+ghost use Rattle.late_host.specs.Late.{Late};
 ghost use Rattle.homa_c.specs.Owned.{held_coded, slot_owns};
 
 mod lend;
 mod parts;
 
-use driven_host::AskingHost;
+use late_host::LateHost;
 use parts::Parts;
 use std::alloc::Global;
 use std::marker::Model;
@@ -27,7 +27,7 @@ pub struct Slot {
     at: *mut Opaque,
     alloc: Global,
     pub ghost is_held: { Bool } by { coded_bool },
-    pub ghost held: { Driven } by { held_coded },
+    pub ghost held: { Late } by { held_coded },
 }
 
 impl Model for Slot {
@@ -46,14 +46,14 @@ impl Slot {
     }
 
     // The host of a box.
-    pub(crate) fn of(value: Box<AskingHost>) -> Slot
+    pub(crate) fn of(value: Box<LateHost>) -> Slot
         ensures is_held { result.is_held ≡ true }
         ensures held { result.held ≡ value.value }
     {
         Slot::of_parts(Parts::of(value))
     }
 
-    fn of_parts(parts: Parts<AskingHost, Global>) -> Slot
+    fn of_parts(parts: Parts<LateHost, Global>) -> Slot
         ensures { (result.is_held ≡ true) × (result.held ≡ parts.value) }
     {
         let Parts { ptr, alloc } = parts;
@@ -64,20 +64,20 @@ impl Slot {
     }
 
     // The box of the host.
-    pub(crate) fn into_box(self) -> Box<AskingHost>
+    pub(crate) fn into_box(self) -> Box<LateHost>
         requires { self.is_held ≡ true }
         ensures { result.value ≡ self.held }
     {
         self.into_parts().into_box()
     }
 
-    fn into_parts(self) -> Parts<AskingHost, Global>
+    fn into_parts(self) -> Parts<LateHost, Global>
         requires { self.is_held ≡ true }
         ensures { result.value ≡ self.held }
     {
         let Slot { at, alloc } = self;
         Parts {
-            ptr: at as *mut AskingHost,
+            ptr: at as *mut LateHost,
             alloc,
         }
     }

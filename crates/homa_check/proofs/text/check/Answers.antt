@@ -17,11 +17,7 @@ returns g c =
           IfOk-weaker c.judge_all.result _ _ (λ verdict v bytes line clause k e. no_is bytes line (clause_of clause) (v bytes k ∙ ap plain_verdict e))
           h.verdict;
       cut = h.cut;
-      read_on = h.read_on;
-      risen = h.risen;
-      quiet = h.quiet;
-      never_falls = h.never_falls;
-      same = h.same;
+      source = h.source;
     }
 
 pub returns-in_err-lines : goal.returns-in_err-lines
@@ -33,11 +29,13 @@ returns-in_err-lines g c =
       end = tt;
       no = tt;
       cut = λ r. absurd cc;
-      read_on = ([], sym (unread-nil _));
-      risen = λ r. absurd cc;
-      quiet = λ r. refl;
-      never_falls = omega arith;
-      same = g.met.S.Source.same_self _;
+      source = record {
+        read_on = ([], sym (unread-nil _));
+        risen = λ r. absurd cc;
+        quiet = λ r. refl;
+        never_falls = omega arith;
+        same = g.met.S.Source.same_self _;
+      };
     })
 
 pub returns-in_err-room : goal.returns-in_err-room
@@ -49,11 +47,13 @@ returns-in_err-room g c =
       end = tt;
       no = tt;
       cut = λ r. absurd cc;
-      read_on = ([], sym (unread-nil _));
-      risen = λ r. absurd cc;
-      quiet = λ r. refl;
-      never_falls = omega arith;
-      same = g.met.S.Source.same_self _;
+      source = record {
+        read_on = ([], sym (unread-nil _));
+        risen = λ r. absurd cc;
+        quiet = λ r. refl;
+        never_falls = omega arith;
+        same = g.met.S.Source.same_self _;
+      };
     })
 
 pub judge_all-requires-clause-follows : goal.judge_all-requires-clause-follows

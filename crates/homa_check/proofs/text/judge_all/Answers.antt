@@ -53,9 +53,9 @@ lines-preserved g c =
       limit = e.limit ∙ i.limit;
       longest = e.longest ∙ i.longest;
       room = omega (arith, e.room, i.room);
-      quiet = e.quiet refl ∙ i.quiet;
-      never_falls = omega (arith, e.never_falls, i.never_falls);
-      same = g.met.S.Source.same_on _ _ _ i.same e.same;
+      quiet = e.source.quiet refl ∙ i.quiet;
+      never_falls = omega (arith, e.source.never_falls, i.never_falls);
+      same = g.met.S.Source.same_on _ _ _ i.same e.source.same;
     }
 
 pub lines-smaller : goal.lines-smaller
@@ -73,11 +73,13 @@ returns-in-End g c =
           let last = end_no i.due.0 line (clause_of clause) (c.at_end.ensures i.due.0 end.2 ∙ ap plain_verdict no) in
           up_to line _ _ _ _ _ _ e.limit (omega (arith, last, e.number, i.due.2, i.counted, i.within)) i.taken e.took;
       cut = λ r. absurd cc;
-      read_on = read_further _ _ _ (i.taken.came, i.taken.source) e.read_on;
-      risen = λ r. absurd cc;
-      quiet = λ r. e.quiet refl ∙ i.quiet;
-      never_falls = omega (arith, e.never_falls, i.never_falls);
-      same = g.met.S.Source.same_on _ _ _ i.same e.same;
+      source = record {
+        read_on = read_further _ _ _ (i.taken.came, i.taken.source) e.source.read_on;
+        risen = λ r. absurd cc;
+        quiet = λ r. e.source.quiet refl ∙ i.quiet;
+        never_falls = omega (arith, e.source.never_falls, i.never_falls);
+        same = g.met.S.Source.same_on _ _ _ i.same e.source.same;
+      };
     }
 
 pub returns-in-Fails : goal.returns-in-Fails
@@ -93,11 +95,13 @@ returns-in-Fails g c =
           let same : c.number.result ≡ line = cc in
           up_to line _ _ _ _ _ _ e.limit (sym c.number.ensures ∙ same) i.taken e.took;
       cut = λ r. absurd cc;
-      read_on = read_further _ _ _ (i.taken.came, i.taken.source) e.read_on;
-      risen = λ r. absurd cc;
-      quiet = λ r. e.quiet refl ∙ i.quiet;
-      never_falls = omega (arith, e.never_falls, i.never_falls);
-      same = g.met.S.Source.same_on _ _ _ i.same e.same;
+      source = record {
+        read_on = read_further _ _ _ (i.taken.came, i.taken.source) e.source.read_on;
+        risen = λ r. absurd cc;
+        quiet = λ r. e.source.quiet refl ∙ i.quiet;
+        never_falls = omega (arith, e.source.never_falls, i.never_falls);
+        same = g.met.S.Source.same_on _ _ _ i.same e.source.same;
+      };
     }
 
 pub judge_next-requires : goal.judge_next-requires
@@ -114,9 +118,11 @@ returns-in_err-judge_next g c =
       end = tt;
       behind = tt;
       cut = λ r bytes h. cut_short bytes _ _ (reading c.lines.lines) i.due.0 (i.due.4 bytes h) (k.unended r);
-      read_on = read_further _ _ _ (i.taken.came, i.taken.source) k.read_on;
-      risen = λ r. subst (λ (n : ℕ). HasRisen n (g.S.Source.faults c.judge_next.new.source)) i.quiet (k.risen r);
-      quiet = λ r. k.quiet r ∙ i.quiet;
-      never_falls = omega (arith, k.never_falls, i.never_falls);
-      same = g.met.S.Source.same_on _ _ _ i.same k.same;
+      source = record {
+        read_on = read_further _ _ _ (i.taken.came, i.taken.source) k.source.read_on;
+        risen = λ r. subst (λ (n : ℕ). HasRisen n (g.S.Source.faults c.judge_next.new.source)) i.quiet (k.source.risen r);
+        quiet = λ r. k.source.quiet r ∙ i.quiet;
+        never_falls = omega (arith, k.source.never_falls, i.never_falls);
+        same = g.met.S.Source.same_on _ _ _ i.same k.source.same;
+      };
     })

@@ -12,6 +12,7 @@ use Rattle.homa_node.specs.Starting.{called}
 use Rattle.homa_node.proofs.Starting.{acted_call}
 use Rattle.homa_node.proofs.CallCuts.{cut_uncalled, cut_called, seen_cut, seen_call}
 use Rattle.homa_node.proofs.Started.{ended_one}
+use Rattle.node_turns.proofs.Same.{outside_memory, outside_went, outside_lost, outside_untold}
 use Rattle.homa_node.proofs.calling.start_call.Goals as goal
 
 pub returns-clause-acted : goal.returns-clause-acted
@@ -77,3 +78,62 @@ returns-in-Err-clause-refused g c =
     λ w h due held. ended_one (g.H.LoopHosts.settings c.args.hosts.now) held (called c.args.call.now c.args.request.now) w _ _ _ _ c.in-Err.fault due
     ((rw c.in-Err.is at c.in_ok-answer.ensures.fault) w h)
     (gone_none o.told o.kept o.strange _ _ _ (Hears 64)) (g.met.H.LoopHosts.allows_none c.args.hosts.now)
+
+pub returns-in_err-answer-clause-stepped : goal.returns-in_err-answer-clause-stepped
+returns-in_err-answer-clause-stepped g c = c.call.ensures.stepped
+
+pub returns-in-Err-clause-stepped : goal.returns-in-Err-clause-stepped
+returns-in-Err-clause-stepped g c = c.call.ensures.stepped
+
+pub returns-in_err-send_frames-clause-stepped : goal.returns-in_err-send_frames-clause-stepped
+returns-in_err-send_frames-clause-stepped g c = c.call.ensures.stepped
+
+pub returns-in_err-tell_entries-clause-stepped : goal.returns-in_err-tell_entries-clause-stepped
+returns-in_err-tell_entries-clause-stepped g c = c.call.ensures.stepped
+
+pub returns-clause-stepped : goal.returns-clause-stepped
+returns-clause-stepped g c = c.call.ensures.stepped
+
+pub returns-in_err-answer-clause-outside : goal.returns-in_err-answer-clause-outside
+returns-in_err-answer-clause-outside g c =
+    let n = g.N.Net in
+    let o = g.O.Observer in
+    let m = g.met.O.Observer in
+    let p = err_from_is_err_and c.from_residual.result c.from_residual.ensures.1 in
+    rw (p.1, p.2) (outside_memory n.known n.faults o.faults o.is_same m.same_self m.same_on c.args.net.now c.args.observer.now)
+
+pub returns-in-Err-clause-outside : goal.returns-in-Err-clause-outside
+returns-in-Err-clause-outside g c =
+    let m = g.met.O.Observer in
+    record { known = refl; faults = refl; same = m.same_self c.args.observer.now }
+
+pub returns-in_err-send_frames-clause-outside : goal.returns-in_err-send_frames-clause-outside
+returns-in_err-send_frames-clause-outside g c =
+    let n = g.N.Net in
+    let o = g.O.Observer in
+    let m = g.met.O.Observer in
+    let e = c.in_err-send_frames.ensures in
+    let p = err_from_is_err_and c.from_residual-in_err-send_frames.result c.from_residual-in_err-send_frames.ensures.1 in
+    rw (p.1, p.2) (outside_lost n.known n.faults o.faults o.is_same m.same_self m.same_on c.args.net.now c.send_frames.new.net c.args.observer.now
+    e.known e.risen)
+
+pub returns-in_err-tell_entries-clause-outside : goal.returns-in_err-tell_entries-clause-outside
+returns-in_err-tell_entries-clause-outside g c =
+    let n = g.N.Net in
+    let o = g.O.Observer in
+    let m = g.met.O.Observer in
+    let f = c.in_ok-send_frames.ensures in
+    let e = c.in_err-tell_entries.ensures in
+    let p = err_from_is_err_and c.from_residual-in_err-tell_entries.result c.from_residual-in_err-tell_entries.ensures.1 in
+    rw (p.1, p.2) (outside_untold n.known n.faults o.faults o.is_same m.same_self m.same_on c.args.net.now c.send_frames.new.net c.args.observer.now
+    c.tell_entries.new.observer c.in_err-tell_entries.field-0.0 f.known f.quiet e.risen e.quiet e.same)
+
+pub returns-clause-outside : goal.returns-clause-outside
+returns-clause-outside g c =
+    let n = g.N.Net in
+    let o = g.O.Observer in
+    let m = g.met.O.Observer in
+    let f = c.in_ok-send_frames.ensures in
+    let e = c.in_ok-tell_entries.ensures in
+    outside_went n.known n.faults o.faults o.is_same m.same_self m.same_on c.args.net.now c.send_frames.new.net c.args.observer.now
+    c.tell_entries.new.observer f.known f.quiet e.quiet e.same

@@ -12,6 +12,7 @@ use Rattle.homa_node.specs.Coming.{calls_ahead, IsAllRead}
 use Rattle.homa_node.proofs.Coming.{room_taken}
 use Rattle.homa_node.proofs.Started.{started_none, started_as, started_looked, started_call}
 use Rattle.homa_node.proofs.Stops.{look_stopped, call_stopped}
+use Rattle.homa_node.proofs.Ends.{ends_read, ends_unread, ends_acted, ends_unacted, ends_on}
 use Rattle.homa_node.proofs.calling.starts.Goals as goal
 
 pub returns-in_err-look-clause-stopped : goal.returns-in_err-look-clause-stopped
@@ -60,11 +61,8 @@ calls-init g c =
       settings = refl;
       clock = refl;
       hosts = refl;
-      source = ap (λ k. k.source) e.faults;
-      net = refl;
-      sink = refl;
-      same_source = e.same;
-      same_observer = g.met.O.Observer.same_self _;
+      ends = ends_read s.faults n.faults o.faults s.is_same o.is_same g.met.S.Source.same_self g.met.S.Source.same_on g.met.O.Observer.same_self
+          g.met.O.Observer.same_on c.args.source.now c.look.new.source c.args.net.now c.args.observer.now _ e.faults e.same;
     }
 
 pub returns-in_err-start_call-clause-stopped : goal.returns-in_err-start_call-clause-stopped
@@ -142,15 +140,21 @@ calls-preserved g c =
       limit = k.limit ∙ l.invariant.limit;
       room = λ most r. k.room most (h.steps c.start_call.new.hosts)
           (room_taken l.ahead c.take_due.new.ahead c.in-Some.call l.reader most (h.steps l.hosts)
-          (h.steps c.start_call.new.hosts) c.in-Some.ensures.some c.in-Some.ensures.taken e.steps (l.invariant.room most r));
-      settings = e.settings ∙ l.invariant.settings;
-      clock = e.clock ∙ l.invariant.clock;
-      hosts = e.known ∙ l.invariant.hosts;
-      source = ap (λ x. x.source) k.faults ∙ l.invariant.source;
-      net = ap (λ x. x.net) e.faults ∙ l.invariant.net;
-      sink = ap (λ x. x.sink) e.faults ∙ l.invariant.sink;
-      same_source = g.met.S.Source.same_on _ _ _ l.invariant.same_source k.same;
-      same_observer = g.met.O.Observer.same_on _ _ _ l.invariant.same_observer e.same;
+          (h.steps c.start_call.new.hosts) c.in-Some.ensures.some c.in-Some.ensures.taken e.stepped.steps (l.invariant.room most r));
+      settings = e.stepped.settings ∙ l.invariant.settings;
+      clock = e.stepped.clock ∙ l.invariant.clock;
+      hosts = e.outside.known ∙ l.invariant.hosts;
+      ends =
+          let sm = g.met.S.Source in
+          let m = g.met.O.Observer in
+          ends_on s.faults n.faults o.faults s.is_same o.is_same sm.same_self sm.same_on m.same_self m.same_on c.args.source.now l.source
+          c.look-in-Some.new.source c.args.net.now l.net c.start_call.new.net c.args.observer.now l.observer c.start_call.new.observer _ l.invariant.ends
+          (ends_on s.faults n.faults o.faults s.is_same o.is_same sm.same_self sm.same_on m.same_self m.same_on l.source l.source
+          c.look-in-Some.new.source l.net c.start_call.new.net c.start_call.new.net l.observer c.start_call.new.observer c.start_call.new.observer _
+          (ends_acted s.faults n.faults o.faults s.is_same o.is_same sm.same_self sm.same_on m.same_self m.same_on n.known l.source l.net
+          c.start_call.new.net l.observer c.start_call.new.observer _ e.outside)
+          (ends_read s.faults n.faults o.faults s.is_same o.is_same sm.same_self sm.same_on m.same_self m.same_on l.source c.look-in-Some.new.source
+          c.start_call.new.net c.start_call.new.observer _ k.faults k.same));
     }
 
 pub returns-in_err-look-2-clause-stopped : goal.returns-in_err-look-2-clause-stopped
@@ -210,3 +214,99 @@ returns-clause-started g c =
     (n.sent l.net) (n.gave l.net) (s.left l.source) (h.stands l.hosts) (h.allows l.hosts) _ (calls_ahead setup l.ahead l.reader)
     (calls_ahead setup c.take_due.new.ahead l.reader)
     (λ more. ap (λ a. calls_ahead setup a l.reader more) (sym c.in_default.ensures.none)) l.invariant.started
+
+pub returns-in_err-look-clause-settings : goal.returns-in_err-look-clause-settings
+returns-in_err-look-clause-settings g c = refl
+
+pub returns-in_err-look-clause-clock : goal.returns-in_err-look-clause-clock
+returns-in_err-look-clause-clock g c = refl
+
+pub returns-in_err-look-clause-known : goal.returns-in_err-look-clause-known
+returns-in_err-look-clause-known g c = refl
+
+pub returns-in_err-look-clause-limit : goal.returns-in_err-look-clause-limit
+returns-in_err-look-clause-limit g c = c.look.ensures.limit
+
+pub returns-in_err-look-clause-ends : goal.returns-in_err-look-clause-ends
+returns-in_err-look-clause-ends g c =
+    let n = g.N.Net in
+    let s = g.S.Source in
+    let sm = g.met.S.Source in
+    let o = g.O.Observer in
+    let m = g.met.O.Observer in
+    let e = c.in_err-look.ensures in
+    let p = err_from_is_err_and c.from_residual.result c.from_residual.ensures.1 in
+    rw (p.1, p.2) (ends_unread s.faults n.faults o.faults s.is_same o.is_same sm.same_self sm.same_on m.same_self m.same_on (Unit {0}) c.args.source.now
+    c.look.new.source c.args.net.now c.args.observer.now c.in_err-look.field-0.0 e.faults e.same)
+
+pub returns-in_err-start_call-clause-settings : goal.returns-in_err-start_call-clause-settings
+returns-in_err-start_call-clause-settings g c = c.start_call.ensures.stepped.settings ∙ c.calls.invariant.settings
+
+pub returns-in_err-look-2-clause-settings : goal.returns-in_err-look-2-clause-settings
+returns-in_err-look-2-clause-settings g c = c.start_call.ensures.stepped.settings ∙ c.calls.invariant.settings
+
+pub returns-in_err-start_call-clause-clock : goal.returns-in_err-start_call-clause-clock
+returns-in_err-start_call-clause-clock g c = c.start_call.ensures.stepped.clock ∙ c.calls.invariant.clock
+
+pub returns-in_err-look-2-clause-clock : goal.returns-in_err-look-2-clause-clock
+returns-in_err-look-2-clause-clock g c = c.start_call.ensures.stepped.clock ∙ c.calls.invariant.clock
+
+pub returns-in_err-start_call-clause-known : goal.returns-in_err-start_call-clause-known
+returns-in_err-start_call-clause-known g c = c.start_call.ensures.outside.known ∙ c.calls.invariant.hosts
+
+pub returns-in_err-look-2-clause-known : goal.returns-in_err-look-2-clause-known
+returns-in_err-look-2-clause-known g c = c.start_call.ensures.outside.known ∙ c.calls.invariant.hosts
+
+pub returns-in_err-start_call-clause-limit : goal.returns-in_err-start_call-clause-limit
+returns-in_err-start_call-clause-limit g c = c.calls.invariant.limit
+
+pub returns-in_err-look-2-clause-limit : goal.returns-in_err-look-2-clause-limit
+returns-in_err-look-2-clause-limit g c = c.look-in-Some.ensures.limit ∙ c.calls.invariant.limit
+
+pub returns-in_err-start_call-clause-ends : goal.returns-in_err-start_call-clause-ends
+returns-in_err-start_call-clause-ends g c =
+    let n = g.N.Net in
+    let s = g.S.Source in
+    let sm = g.met.S.Source in
+    let o = g.O.Observer in
+    let m = g.met.O.Observer in
+    let l = c.calls in
+    let p = err_from_is_err_and c.from_residual-in_err-start_call.result c.from_residual-in_err-start_call.ensures.1 in
+    rw (p.1, p.2) (ends_on s.faults n.faults o.faults s.is_same o.is_same sm.same_self sm.same_on m.same_self m.same_on c.args.source.now l.source
+    l.source c.args.net.now l.net c.start_call.new.net c.args.observer.now l.observer c.start_call.new.observer _ l.invariant.ends
+    (ends_unacted s.faults n.faults o.faults s.is_same o.is_same sm.same_self sm.same_on m.same_self m.same_on n.known l.source l.net
+    c.start_call.new.net l.observer c.start_call.new.observer c.in_err-start_call.field-0.0 c.in_err-start_call.ensures.outside))
+
+pub returns-in_err-look-2-clause-ends : goal.returns-in_err-look-2-clause-ends
+returns-in_err-look-2-clause-ends g c =
+    let n = g.N.Net in
+    let s = g.S.Source in
+    let sm = g.met.S.Source in
+    let o = g.O.Observer in
+    let m = g.met.O.Observer in
+    let l = c.calls in
+    let e = c.in_err-look-2.ensures in
+    let p = err_from_is_err_and c.from_residual-in_err-look-2.result c.from_residual-in_err-look-2.ensures.1 in
+    rw (p.1, p.2) (ends_on s.faults n.faults o.faults s.is_same o.is_same sm.same_self sm.same_on m.same_self m.same_on c.args.source.now l.source
+    c.look-in-Some.new.source c.args.net.now l.net c.start_call.new.net c.args.observer.now l.observer c.start_call.new.observer _ l.invariant.ends
+    (ends_on s.faults n.faults o.faults s.is_same o.is_same sm.same_self sm.same_on m.same_self m.same_on l.source l.source
+    c.look-in-Some.new.source l.net c.start_call.new.net c.start_call.new.net l.observer c.start_call.new.observer c.start_call.new.observer _
+    (ends_acted s.faults n.faults o.faults s.is_same o.is_same sm.same_self sm.same_on m.same_self m.same_on n.known l.source l.net
+    c.start_call.new.net l.observer c.start_call.new.observer _ c.in_ok-start_call.ensures.outside)
+    (ends_unread s.faults n.faults o.faults s.is_same o.is_same sm.same_self sm.same_on m.same_self m.same_on (Unit {0}) l.source
+    c.look-in-Some.new.source c.start_call.new.net c.start_call.new.observer c.in_err-look-2.field-0.0 e.faults e.same)))
+
+pub returns-clause-settings : goal.returns-clause-settings
+returns-clause-settings g c = c.calls.invariant.settings
+
+pub returns-clause-clock : goal.returns-clause-clock
+returns-clause-clock g c = c.calls.invariant.clock
+
+pub returns-clause-known : goal.returns-clause-known
+returns-clause-known g c = c.calls.invariant.hosts
+
+pub returns-clause-limit : goal.returns-clause-limit
+returns-clause-limit g c = c.calls.invariant.limit
+
+pub returns-clause-ends : goal.returns-clause-ends
+returns-clause-ends g c = c.calls.invariant.ends

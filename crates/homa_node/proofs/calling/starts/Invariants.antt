@@ -1,8 +1,9 @@
-use Rattle.std.proofs.Common.{◌≡◌, ℕ, Some, List}
+use Rattle.std.proofs.Common.{◌≡◌, ℕ, Some, Ok, List}
 use Rattle.node_turns.specs.Told.{Hears, AreDone}
 use Rattle.node_script.specs.Heads.{setup_seen}
 use Rattle.homa_node.specs.Coming.{calls_ahead, IsLooked, IsOpenAt, IsAllRead, HasRoom, lines_ahead}
 use Rattle.homa_node.specs.Started.{HasStarted}
+use Rattle.homa_node.specs.Ends.{AreSameEnds}
 use Rattle.homa_node.proofs.calling.starts.Given as goal
 
 -- so many calls were started, and the next line was read
@@ -27,11 +28,7 @@ invariant-calls g l =
       settings : h.settings l.hosts ≡ h.settings l.fn.hosts;
       clock : h.clock l.hosts ≡ h.clock l.fn.hosts;
       hosts : n.known l.net ≡ n.known l.fn.net;
-      source : s.faults l.source ≡ s.faults l.fn.source;
-      net : n.faults l.net ≡ n.faults l.fn.net;
-      sink : o.faults l.observer ≡ o.faults l.fn.observer;
-      same_source : s.is_same l.fn.source l.source;
-      same_observer : o.is_same l.fn.observer l.observer;
+      ends : AreSameEnds {A = Unit {0}} s.faults n.faults o.faults s.is_same o.is_same l.fn.source l.source l.fn.net l.net l.fn.observer l.observer (Ok tt);
     }
 
 abbrev pub decreases-calls : goal.decreases-calls

@@ -4,7 +4,7 @@ use Rattle.std.proofs.lemmas.Result.{err_from_is_err_and}
 use Rattle.homa_plain.specs.Entries.{PlainSettings}
 use Rattle.homa_plain.specs.Script.{most_bytes}
 use Rattle.node_runs.specs.Script.{Opened, opening}
-use Rattle.node_runs.specs.Course.{Tells, node_run, first_inc}
+use Rattle.node_runs.specs.Course.{Tells, node_run, first_inc, locals_from}
 use Rattle.node_runs.specs.Acts.{connects}
 use Rattle.node_turns.specs.Told.{listed, Hears, AreBroken}
 use Rattle.node_turns.specs.Seen.{seen_stop}
@@ -13,6 +13,7 @@ use Rattle.node_turns.proofs.Lists.{listed_none}
 use Rattle.node_turns.proofs.Done.{broken_untold}
 use Rattle.node_turns.proofs.Tellings.{told_one, front_first, never_own, seen_midst, seen_never}
 use Rattle.script_lines.specs.Read.{IsRead}
+use Rattle.node_script.specs.declared.setup.Setup.{Setup}
 use Rattle.node_script.specs.Setup.{place_seen}
 use Rattle.node_script.specs.Heads.{setup_seen}
 use Rattle.node_script.specs.Calls.{calls_left}
@@ -21,6 +22,7 @@ use Rattle.homa_node.specs.Opened.{HasOpened}
 use Rattle.homa_node.proofs.Openings.{outside_same, part_as, open_none, open_stopped, open_untold, settings_part, settings_told, at_first, opened_connects}
 use Rattle.homa_node.proofs.Connected.{all_served, none_served, untouched, unopened_first}
 use Rattle.homa_node.proofs.Stopped.{midst_stopped}
+use Rattle.homa_node.proofs.Ends.{ends_memory, ends_went, ends_lost, ends_untold, ends_read, ends_unread, ends_on}
 use Rattle.homa_node.proofs.opening.open_node.Goals as goal
 
 pub returns-in_err-reader-clause-stopped : goal.returns-in_err-reader-clause-stopped
@@ -261,3 +263,168 @@ returns-clause-opens g c =
     (outside (o.taken c.args.observer.now) (o.notes c.args.observer.now) (n.acts c.args.net.now) (n.sent c.args.net.now) (n.gave c.args.net.now) None) k
     (g.met.H.OpenHosts.unasked c.args.boxes [] refl) left (setup_seen setup) (calls_left (setup_seen setup) 0 place)
     (λ rest q. subst (λ m. HasOpened m place rest left (Ok setup)) (ap (λ x. x.limit) c.in_ok-reader.ensures.place) (c.in_ok-setup.ensures.opened rest q))
+
+pub returns-in_err-reader-clause-ends : goal.returns-in_err-reader-clause-ends
+returns-in_err-reader-clause-ends g c =
+    let n = g.N.Net in
+    let s = g.S.Source in
+    let sm = g.met.S.Source in
+    let o = g.O.Observer in
+    let m = g.met.O.Observer in
+    let p = err_from_is_err_and c.from_residual.result c.from_residual.ensures.1 in
+    rw (p.1, p.2) (ends_memory s.faults n.faults o.faults s.is_same o.is_same sm.same_self sm.same_on m.same_self m.same_on c.args.source.now
+    c.args.net.now c.args.observer.now)
+
+pub returns-in_err-setup-clause-ends : goal.returns-in_err-setup-clause-ends
+returns-in_err-setup-clause-ends g c =
+    let n = g.N.Net in
+    let s = g.S.Source in
+    let sm = g.met.S.Source in
+    let o = g.O.Observer in
+    let m = g.met.O.Observer in
+    let e = c.in_err-setup.ensures in
+    let p = err_from_is_err_and c.from_residual-in_err-setup.result c.from_residual-in_err-setup.ensures.1 in
+    rw (p.1, p.2) (ends_unread s.faults n.faults o.faults s.is_same o.is_same sm.same_self sm.same_on m.same_self m.same_on Setup c.args.source.now
+    c.read_setup.new.source c.args.net.now c.args.observer.now c.in_err-setup.field-0.0 e.faults e.same)
+
+pub returns-in_err-connect-clause-ends : goal.returns-in_err-connect-clause-ends
+returns-in_err-connect-clause-ends g c =
+    let n = g.N.Net in
+    let s = g.S.Source in
+    let sm = g.met.S.Source in
+    let o = g.O.Observer in
+    let m = g.met.O.Observer in
+    let r = c.in_ok-setup.ensures in
+    let e = c.in_err-connect.ensures in
+    let p = err_from_is_err_and c.from_residual-in_err-connect.result c.from_residual-in_err-connect.ensures.1 in
+    rw (p.1, p.2) (ends_on s.faults n.faults o.faults s.is_same o.is_same sm.same_self sm.same_on m.same_self m.same_on c.args.source.now
+    c.read_setup.new.source
+    c.read_setup.new.source c.args.net.now c.args.net.now c.connect.new.net c.args.observer.now c.args.observer.now c.args.observer.now _
+    (ends_read s.faults n.faults o.faults s.is_same o.is_same sm.same_self sm.same_on m.same_self m.same_on c.args.source.now c.read_setup.new.source
+    c.args.net.now c.args.observer.now _ r.faults r.same)
+    (ends_lost s.faults n.faults o.faults s.is_same o.is_same sm.same_self sm.same_on m.same_self m.same_on c.read_setup.new.source c.args.net.now
+    c.connect.new.net
+    c.args.observer.now e.risen))
+
+pub returns-in_err-seen-clause-ends : goal.returns-in_err-seen-clause-ends
+returns-in_err-seen-clause-ends g c =
+    let n = g.N.Net in
+    let s = g.S.Source in
+    let sm = g.met.S.Source in
+    let o = g.O.Observer in
+    let m = g.met.O.Observer in
+    let r = c.in_ok-setup.ensures in
+    let k = c.in_ok-connect.ensures in
+    let e = c.in_err-seen.ensures in
+    let p = err_from_is_err_and c.from_residual-in_err-seen.result c.from_residual-in_err-seen.ensures.1 in
+    rw (p.1, p.2) (ends_on s.faults n.faults o.faults s.is_same o.is_same sm.same_self sm.same_on m.same_self m.same_on c.args.source.now
+    c.read_setup.new.source
+    c.read_setup.new.source c.args.net.now c.args.net.now c.connect.new.net c.args.observer.now c.args.observer.now c.seen.new.self _
+    (ends_read s.faults n.faults o.faults s.is_same o.is_same sm.same_self sm.same_on m.same_self m.same_on c.args.source.now c.read_setup.new.source
+    c.args.net.now c.args.observer.now _ r.faults r.same)
+    (ends_untold s.faults n.faults o.faults s.is_same o.is_same sm.same_self sm.same_on m.same_self m.same_on c.read_setup.new.source c.args.net.now
+    c.connect.new.net
+    c.args.observer.now c.seen.new.self c.in_err-seen.field-0.0 k.quiet e.risen e.quiet e.same))
+
+pub returns-in_err-ids-clause-ends : goal.returns-in_err-ids-clause-ends
+returns-in_err-ids-clause-ends g c =
+    let n = g.N.Net in
+    let s = g.S.Source in
+    let sm = g.met.S.Source in
+    let o = g.O.Observer in
+    let m = g.met.O.Observer in
+    let r = c.in_ok-setup.ensures in
+    let k = c.in_ok-connect.ensures in
+    let t = c.in_ok-seen.ensures in
+    let p = err_from_is_err_and c.from_residual-in_err-ids.result c.from_residual-in_err-ids.ensures.1 in
+    rw (p.1, p.2) (ends_on s.faults n.faults o.faults s.is_same o.is_same sm.same_self sm.same_on m.same_self m.same_on c.args.source.now
+    c.read_setup.new.source
+    c.read_setup.new.source c.args.net.now c.args.net.now c.connect.new.net c.args.observer.now c.args.observer.now c.seen.new.self _
+    (ends_read s.faults n.faults o.faults s.is_same o.is_same sm.same_self sm.same_on m.same_self m.same_on c.args.source.now c.read_setup.new.source
+    c.args.net.now c.args.observer.now _ r.faults r.same)
+    (ends_on s.faults n.faults o.faults s.is_same o.is_same sm.same_self sm.same_on m.same_self m.same_on c.read_setup.new.source c.read_setup.new.source
+    c.read_setup.new.source c.args.net.now c.connect.new.net c.connect.new.net c.args.observer.now c.seen.new.self c.seen.new.self _
+    (ends_went s.faults n.faults o.faults s.is_same o.is_same sm.same_self sm.same_on m.same_self m.same_on c.read_setup.new.source c.args.net.now
+    c.connect.new.net
+    c.args.observer.now c.seen.new.self _ k.quiet t.quiet t.same)
+    (ends_memory s.faults n.faults o.faults s.is_same o.is_same sm.same_self sm.same_on m.same_self m.same_on c.read_setup.new.source
+    c.connect.new.net c.seen.new.self)))
+
+pub returns-in_err-incs-clause-ends : goal.returns-in_err-incs-clause-ends
+returns-in_err-incs-clause-ends g c =
+    let n = g.N.Net in
+    let s = g.S.Source in
+    let sm = g.met.S.Source in
+    let o = g.O.Observer in
+    let m = g.met.O.Observer in
+    let r = c.in_ok-setup.ensures in
+    let k = c.in_ok-connect.ensures in
+    let t = c.in_ok-seen.ensures in
+    let p = err_from_is_err_and c.from_residual-in_err-incs.result c.from_residual-in_err-incs.ensures.1 in
+    rw (p.1, p.2) (ends_on s.faults n.faults o.faults s.is_same o.is_same sm.same_self sm.same_on m.same_self m.same_on c.args.source.now
+    c.read_setup.new.source
+    c.read_setup.new.source c.args.net.now c.args.net.now c.connect.new.net c.args.observer.now c.args.observer.now c.seen.new.self _
+    (ends_read s.faults n.faults o.faults s.is_same o.is_same sm.same_self sm.same_on m.same_self m.same_on c.args.source.now c.read_setup.new.source
+    c.args.net.now c.args.observer.now _ r.faults r.same)
+    (ends_on s.faults n.faults o.faults s.is_same o.is_same sm.same_self sm.same_on m.same_self m.same_on c.read_setup.new.source c.read_setup.new.source
+    c.read_setup.new.source c.args.net.now c.connect.new.net c.connect.new.net c.args.observer.now c.seen.new.self c.seen.new.self _
+    (ends_went s.faults n.faults o.faults s.is_same o.is_same sm.same_self sm.same_on m.same_self m.same_on c.read_setup.new.source c.args.net.now
+    c.connect.new.net
+    c.args.observer.now c.seen.new.self _ k.quiet t.quiet t.same)
+    (ends_memory s.faults n.faults o.faults s.is_same o.is_same sm.same_self sm.same_on m.same_self m.same_on c.read_setup.new.source
+    c.connect.new.net c.seen.new.self)))
+
+pub returns-in_err-hosts-clause-ends : goal.returns-in_err-hosts-clause-ends
+returns-in_err-hosts-clause-ends g c =
+    let n = g.N.Net in
+    let s = g.S.Source in
+    let sm = g.met.S.Source in
+    let o = g.O.Observer in
+    let m = g.met.O.Observer in
+    let r = c.in_ok-setup.ensures in
+    let k = c.in_ok-connect.ensures in
+    let t = c.in_ok-seen.ensures in
+    let p = err_from_is_err_and c.from_residual-in_err-hosts.result c.from_residual-in_err-hosts.ensures.1 in
+    rw (p.1, p.2) (ends_on s.faults n.faults o.faults s.is_same o.is_same sm.same_self sm.same_on m.same_self m.same_on c.args.source.now
+    c.read_setup.new.source
+    c.read_setup.new.source c.args.net.now c.args.net.now c.connect.new.net c.args.observer.now c.args.observer.now c.seen.new.self _
+    (ends_read s.faults n.faults o.faults s.is_same o.is_same sm.same_self sm.same_on m.same_self m.same_on c.args.source.now c.read_setup.new.source
+    c.args.net.now c.args.observer.now _ r.faults r.same)
+    (ends_on s.faults n.faults o.faults s.is_same o.is_same sm.same_self sm.same_on m.same_self m.same_on c.read_setup.new.source c.read_setup.new.source
+    c.read_setup.new.source c.args.net.now c.connect.new.net c.connect.new.net c.args.observer.now c.seen.new.self c.seen.new.self _
+    (ends_went s.faults n.faults o.faults s.is_same o.is_same sm.same_self sm.same_on m.same_self m.same_on c.read_setup.new.source c.args.net.now
+    c.connect.new.net
+    c.args.observer.now c.seen.new.self _ k.quiet t.quiet t.same)
+    (ends_memory s.faults n.faults o.faults s.is_same o.is_same sm.same_self sm.same_on m.same_self m.same_on c.read_setup.new.source
+    c.connect.new.net c.seen.new.self)))
+
+pub returns-clause-ends : goal.returns-clause-ends
+returns-clause-ends g c =
+    let n = g.N.Net in
+    let s = g.S.Source in
+    let sm = g.met.S.Source in
+    let o = g.O.Observer in
+    let m = g.met.O.Observer in
+    let r = c.in_ok-setup.ensures in
+    let k = c.in_ok-connect.ensures in
+    let t = c.in_ok-seen.ensures in
+    ends_on s.faults n.faults o.faults s.is_same o.is_same sm.same_self sm.same_on m.same_self m.same_on c.args.source.now c.read_setup.new.source
+    c.read_setup.new.source c.args.net.now c.args.net.now c.connect.new.net c.args.observer.now c.args.observer.now c.seen.new.self _
+    (ends_read s.faults n.faults o.faults s.is_same o.is_same sm.same_self sm.same_on m.same_self m.same_on c.args.source.now c.read_setup.new.source
+    c.args.net.now c.args.observer.now _ r.faults r.same)
+    (ends_went s.faults n.faults o.faults s.is_same o.is_same sm.same_self sm.same_on m.same_self m.same_on c.read_setup.new.source c.args.net.now
+    c.connect.new.net
+    c.args.observer.now c.seen.new.self _ k.quiet t.quiet t.same)
+
+pub returns-clause-at_go : goal.returns-clause-at_go
+returns-clause-at_go g c =
+    let r = c.in_ok-setup.ensures in
+    let h = c.in_ok-hosts.ensures in
+    record {
+      counted = r.counted;
+      limit = r.limit ∙ ap (λ x. x.limit) c.in_ok-reader.ensures.place;
+      locals = c.in_ok-ids.ensures.locals ∙ ap (λ xs. locals_from 0 (map place_seen xs)) c.deref-2.ensures.value;
+      settings = h.settings;
+      clock = h.clock;
+      steps = h.steps;
+    }

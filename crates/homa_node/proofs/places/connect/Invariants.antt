@@ -3,7 +3,6 @@ use Rattle.std.specs.Prelude.{◌||◌, map}
 use Rattle.node_runs.specs.Acts.{binds, routes}
 use Rattle.node_turns.specs.Told.{listed}
 use Rattle.node_script.specs.Setup.{place_seen}
-use Rattle.homa_node.proofs.Connects.{first_bound}
 use Rattle.homa_plain.specs.declared.id.HostId.{HostId}
 use Rattle.homa_node.proofs.Connecting.{here_below, there_below}
 use Rattle.homa_node.proofs.places.connect.Given as goal

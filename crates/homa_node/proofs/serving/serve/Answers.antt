@@ -19,6 +19,7 @@ use Rattle.homa_node.proofs.Coming.{room_on, room_wide, read_to_end, locals_ther
 use Rattle.homa_node.proofs.Turns.{at_none, at_ticked, clock_part, at_clock, at_calls, calls_stopped, at_hosts, hosts_part, at_end, at_wait, at_stall}
 use Rattle.homa_node.proofs.Stopped.{midst_stopped, heard_stopped}
 use Rattle.homa_node.proofs.Stops.{stopped_never}
+use Rattle.homa_node.proofs.Ends.{ends_as, ends_ok, ends_stalled, ends_clock, ends_no_clock, ends_acted, ends_unacted, ends_on}
 use Rattle.homa_node.proofs.serving.serve.Goals as goal
 
 pub returns-in_err-node-clause-answered : goal.returns-in_err-node-clause-answered
@@ -46,18 +47,15 @@ loop-done-init g c =
           (h.stands node.hosts) (h.allows node.hosts) 0 _ 0 0 (e.opened bytes ticks k) (omega (arith, e.sound.turns));
       opens = e.opens;
       all = λ bytes k. tt;
-      open_at = e.counted;
-      limit = omega (arith, e.limit);
-      room = omega (arith, e.steps);
-      settings = e.settings;
-      now = e.clock;
+      open_at = e.at_go.counted;
+      limit = omega (arith, e.at_go.limit);
+      room = omega (arith, e.at_go.steps);
+      settings = e.at_go.settings;
+      now = e.at_go.clock;
       last = omega arith;
       known = e.known;
-      source = ap (λ k. k.source) e.faults;
-      net = ap (λ k. k.net) e.faults;
-      sink = ap (λ k. k.sink) e.faults;
-      same_source = e.same_source;
-      same_observer = e.same_observer;
+      ends = ends_ok s.faults n.faults o.faults s.is_same o.is_same c.args.source.now c.open_node.new.source c.args.net.now c.open_node.new.net
+          c.args.observer.now c.open_node.new.observer _ _ e.ends;
     }
 
 pub returns-in_err-clock_stands-clause-answered : goal.returns-in_err-clock_stands-clause-answered
@@ -147,20 +145,12 @@ returns-in_err-starts-clause-answered g c =
     clocked.acts started.acts stop)
     one_clock c.in_err-starts.ensures.stopped)))
 
-pub returns-in_err-starts-clause-same_source : goal.returns-in_err-starts-clause-same_source
-returns-in_err-starts-clause-same_source g c = g.met.S.Source.same_on _ _ _ c.loop-done.invariant.same_source c.in_err-starts.ensures.same_source
-
-pub returns-in_err-starts-clause-same_observer : goal.returns-in_err-starts-clause-same_observer
-returns-in_err-starts-clause-same_observer g c =
-    g.met.O.Observer.same_on _ _ _ (g.met.O.Observer.same_on _ _ _ c.loop-done.invariant.same_observer c.in_ok-clock_stands.ensures.same)
-    c.in_err-starts.ensures.same_observer
-
 pub hosts_act-requires-clause-there : goal.hosts_act-requires-clause-there
 hosts_act-requires-clause-there g c =
     let h = g.H.LoopHosts in
     let node = c.in_ok-node.node in
     let e = ap (λ q. q.hosts) (c.in_ok-starts.ensures.settings ∙ c.in_ok-clock_stands.ensures.settings ∙ c.loop-done.invariant.settings) in
-    subst (AllByRecursion (λ (host : HostId). host.0 < (h.settings c.starts.new.hosts).hosts)) (sym (c.deref.ensures.value ∙ c.in_ok-node.ensures.locals))
+    subst (AllByRecursion (λ (host : HostId). host.0 < (h.settings c.starts.new.hosts).hosts)) (sym (c.deref.ensures.value ∙ c.in_ok-node.ensures.at_go.locals))
     (locals_there 0 node.setup.places.items (h.settings c.starts.new.hosts).hosts (omega (arith, e, c.in_ok-node.ensures.sound.count)))
 
 pub hosts_act-requires-clause-fit : goal.hosts_act-requires-clause-fit
@@ -168,7 +158,7 @@ hosts_act-requires-clause-fit g c =
     let node = c.in_ok-node.node in
     omega (
       arith,
-      ap length (c.deref.ensures.value ∙ c.in_ok-node.ensures.locals),
+      ap length (c.deref.ensures.value ∙ c.in_ok-node.ensures.at_go.locals),
       locals_few 0 node.setup.places.items,
       c.in_ok-node.ensures.sound.count,
       c.in_ok-node.ensures.sound.valid.in_range.1,
@@ -230,7 +220,7 @@ returns-in_err-hosts_act-clause-answered g c =
     (connects setup.places) _ (l.invariant.opens bytes k) (
     let part = hosts_part node_run o.told o.kept o.strange may bytes old setup (s.left c.starts.new.source) started (h.stands c.starts.new.hosts)
     (h.allows c.starts.new.hosts) tick left turn tick (at_started bytes k) acted
-    (h.settings c.starts.new.hosts) one_start c.deref.result.now (c.deref.ensures.value ∙ c.in_ok-node.ensures.locals) in
+    (h.settings c.starts.new.hosts) one_start c.deref.result.now (c.deref.ensures.value ∙ c.in_ok-node.ensures.at_go.locals) in
     heard_stopped node_run o.told o.kept o.strange may bytes (s.left c.starts.new.source) old acted stop e.midst
     (part (AreBroken o.told o.kept o.strange started.taken started.notes acted.taken started.acts acted.acts (Hears 64))
     (AreBroken o.told o.kept o.strange old.taken old.notes acted.taken old.acts acted.acts (Hears 64))
@@ -265,15 +255,6 @@ pub returns-in_err-hosts_act-clause-some_strange : goal.returns-in_err-hosts_act
 returns-in_err-hosts_act-clause-some_strange g c =
     let p = err_from_is_err_and c.from_residual-in_err-hosts_act.result c.from_residual-in_err-hosts_act.ensures.1 in
     rw (p.1, p.2) (on_stop (Unit {0}) (Unit {0}) c.in_err-hosts_act.field-0.0 _ _ (λ f. f) c.in_err-hosts_act.ensures.some_strange)
-
-pub returns-in_err-hosts_act-clause-same_source : goal.returns-in_err-hosts_act-clause-same_source
-returns-in_err-hosts_act-clause-same_source g c = g.met.S.Source.same_on _ _ _ c.loop-done.invariant.same_source c.in_ok-starts.ensures.same_source
-
-pub returns-in_err-hosts_act-clause-same_observer : goal.returns-in_err-hosts_act-clause-same_observer
-returns-in_err-hosts_act-clause-same_observer g c =
-    g.met.O.Observer.same_on _ _ _ (g.met.O.Observer.same_on _ _ _
-    (g.met.O.Observer.same_on _ _ _ c.loop-done.invariant.same_observer c.in_ok-clock_stands.ensures.same) c.in_ok-starts.ensures.same_observer)
-    c.in_err-hosts_act.ensures.same
 
 pub returns-then-setup-now-clause-answered : goal.returns-then-setup-now-clause-answered
 returns-then-setup-now-clause-answered g c =
@@ -327,7 +308,7 @@ returns-then-setup-now-clause-answered g c =
     let at_acted = λ (bytes : List ℕ) (k : s.left c.args.source.now ≡ Some bytes).
     at_hosts node_run o.told o.kept o.strange may bytes old setup (s.left c.starts.new.source) started (h.stands c.starts.new.hosts)
     (h.allows c.starts.new.hosts) tick left turn tick (at_started bytes k) acted
-    (h.settings c.starts.new.hosts) one_start c.deref.result.now (c.deref.ensures.value ∙ c.in_ok-node.ensures.locals) (h.stands c.hosts_act.new.hosts)
+    (h.settings c.starts.new.hosts) one_start c.deref.result.now (c.deref.ensures.value ∙ c.in_ok-node.ensures.at_go.locals) (h.stands c.hosts_act.new.hosts)
     (h.allows c.hosts_act.new.hosts) c.in_ok-hosts_act.ensures.acted refl in
     let all_read = λ (bytes : List ℕ) (k : s.left c.args.source.now ≡ Some bytes).
     let d = (l.invariant.far bytes k).far.read in
@@ -341,15 +322,6 @@ returns-then-setup-now-clause-answered g c =
           (subst (IsIdle c.starts.new.ahead) (c.in_ok-starts.ensures.clock ∙ c.in_ok-clock_stands.ensures.clock) c.in_ok-starts.ensures.idle)
           c.if-setup-now.true (all_read bytes k),
     )
-
-pub returns-then-setup-now-clause-same_source : goal.returns-then-setup-now-clause-same_source
-returns-then-setup-now-clause-same_source g c = g.met.S.Source.same_on _ _ _ c.loop-done.invariant.same_source c.in_ok-starts.ensures.same_source
-
-pub returns-then-setup-now-clause-same_observer : goal.returns-then-setup-now-clause-same_observer
-returns-then-setup-now-clause-same_observer g c =
-    g.met.O.Observer.same_on _ _ _ (g.met.O.Observer.same_on _ _ _
-    (g.met.O.Observer.same_on _ _ _ c.loop-done.invariant.same_observer c.in_ok-clock_stands.ensures.same) c.in_ok-starts.ensures.same_observer)
-    c.in_ok-hosts_act.ensures.same
 
 pub loop-done-preserved : goal.loop-done-preserved
 loop-done-preserved g c =
@@ -403,7 +375,7 @@ loop-done-preserved g c =
     let at_acted = λ (bytes : List ℕ) (k : s.left c.args.source.now ≡ Some bytes).
     at_hosts node_run o.told o.kept o.strange may bytes old setup (s.left c.starts.new.source) started (h.stands c.starts.new.hosts)
     (h.allows c.starts.new.hosts) tick left turn tick (at_started bytes k) acted
-    (h.settings c.starts.new.hosts) one_start c.deref.result.now (c.deref.ensures.value ∙ c.in_ok-node.ensures.locals) (h.stands c.hosts_act.new.hosts)
+    (h.settings c.starts.new.hosts) one_start c.deref.result.now (c.deref.ensures.value ∙ c.in_ok-node.ensures.at_go.locals) (h.stands c.hosts_act.new.hosts)
     (h.allows c.hosts_act.new.hosts) c.in_ok-hosts_act.ensures.acted refl in
     let all_read = λ (bytes : List ℕ) (k : s.left c.args.source.now ≡ Some bytes).
     let d = (l.invariant.far bytes k).far.read in
@@ -413,7 +385,7 @@ loop-done-preserved g c =
     let fit : length c.deref.result.now ≤ 32 =
     omega (
       arith,
-      ap length (c.deref.ensures.value ∙ c.in_ok-node.ensures.locals),
+      ap length (c.deref.ensures.value ∙ c.in_ok-node.ensures.at_go.locals),
       locals_few 0 node.setup.places.items,
       c.in_ok-node.ensures.sound.count,
       c.in_ok-node.ensures.sound.valid.in_range.1,
@@ -428,21 +400,26 @@ loop-done-preserved g c =
       room = room_wide (2080 * l.done + 2080) (2080 * (l.done + 1)) (h.steps c.hosts_act.new.hosts) c.starts.new.ahead c.starts.new.reader
           (room_on (2080 * l.done) 2080 (h.steps c.starts.new.hosts) (h.steps c.hosts_act.new.hosts) c.starts.new.ahead c.starts.new.reader
           (c.in_ok-starts.ensures.room (2080 * l.done) first_steps)
-          (omega (arith, c.in_ok-hosts_act.ensures.steps, fit)))
+          (omega (arith, c.in_ok-hosts_act.ensures.stepped.steps, fit)))
           (omega arith);
-      settings = c.in_ok-hosts_act.ensures.settings ∙ one_start;
-      now = c.in_ok-hosts_act.ensures.clock ∙ c.in_ok-starts.ensures.clock ∙ c.in_ok-clock_stands.ensures.clock;
+      settings = c.in_ok-hosts_act.ensures.stepped.settings ∙ one_start;
+      now = c.in_ok-hosts_act.ensures.stepped.clock ∙ c.in_ok-starts.ensures.clock ∙ c.in_ok-clock_stands.ensures.clock;
       last = omega (arith, c.now-now.ensures.last);
-      known = λ id. ap (λ f. f id) (c.in_ok-hosts_act.ensures.known ∙ c.in_ok-starts.ensures.known) ∙ l.invariant.known id;
-      source = ap (λ k. k.source) c.in_ok-starts.ensures.faults ∙ l.invariant.source;
-      net = ap (λ k. k.net) c.in_ok-hosts_act.ensures.faults ∙ ap (λ k. k.net) c.in_ok-starts.ensures.faults ∙ l.invariant.net;
-      sink = ap (λ k. k.sink) c.in_ok-hosts_act.ensures.faults ∙ ap (λ k. k.sink) c.in_ok-starts.ensures.faults
-          ∙ ap (λ k. k.sink) c.in_ok-clock_stands.ensures.faults ∙ l.invariant.sink;
-      same_source = g.met.S.Source.same_on _ _ _ l.invariant.same_source c.in_ok-starts.ensures.same_source;
-      same_observer = g.met.O.Observer.same_on _ _ _
-          (g.met.O.Observer.same_on _ _ _
-          (g.met.O.Observer.same_on _ _ _ l.invariant.same_observer c.in_ok-clock_stands.ensures.same) c.in_ok-starts.ensures.same_observer)
-          c.in_ok-hosts_act.ensures.same;
+      known = λ id. ap (λ f. f id) (c.in_ok-hosts_act.ensures.outside.known ∙ c.in_ok-starts.ensures.known) ∙ l.invariant.known id;
+      ends =
+          let sm = g.met.S.Source in
+          let m = g.met.O.Observer in
+          ends_on s.faults n.faults o.faults s.is_same o.is_same sm.same_self sm.same_on m.same_self m.same_on c.args.source.now l.source
+          c.starts.new.source c.args.net.now l.net c.hosts_act.new.net c.args.observer.now l.observer c.hosts_act.new.observer _ l.invariant.ends
+          (ends_on s.faults n.faults o.faults s.is_same o.is_same sm.same_self sm.same_on m.same_self m.same_on l.source l.source
+          c.starts.new.source l.net l.net c.hosts_act.new.net l.observer c.clock_stands.new.observer c.hosts_act.new.observer _
+          (ends_clock s.faults n.faults o.faults s.is_same o.is_same sm.same_self sm.same_on m.same_self m.same_on l.source l.net l.observer
+          c.clock_stands.new.observer _ c.in_ok-clock_stands.ensures.faults c.in_ok-clock_stands.ensures.same)
+          (ends_on s.faults n.faults o.faults s.is_same o.is_same sm.same_self sm.same_on m.same_self m.same_on l.source c.starts.new.source
+          c.starts.new.source l.net c.starts.new.net c.hosts_act.new.net c.clock_stands.new.observer c.starts.new.observer c.hosts_act.new.observer _
+          c.in_ok-starts.ensures.ends
+          (ends_acted s.faults n.faults o.faults s.is_same o.is_same sm.same_self sm.same_on m.same_self m.same_on n.known c.starts.new.source
+          c.starts.new.net c.hosts_act.new.net c.starts.new.observer c.hosts_act.new.observer _ c.in_ok-hosts_act.ensures.outside)));
     }
 
 pub returns-clause-answered : goal.returns-clause-answered
@@ -464,3 +441,97 @@ returns-clause-answered g c =
     (at_stall node_run o.told o.kept o.strange may bytes old setup (s.left l.source) last (h.stands l.hosts) (h.allows l.hosts) l.now
     (calls_ahead setup l.ahead l.reader) l.done l.now (l.invariant.far bytes k)
     (omega (arith, c.loop-done-test.false)) (g.met.H.LoopHosts.allows_none l.hosts)))
+
+pub returns-in_err-node-clause-ends : goal.returns-in_err-node-clause-ends
+returns-in_err-node-clause-ends g c =
+    let n = g.N.Net in
+    let s = g.S.Source in
+    let o = g.O.Observer in
+    let p = err_from_is_err_and c.from_residual.result c.from_residual.ensures.1 in
+    rw (p.1, p.2) (ends_as s.faults n.faults o.faults s.is_same o.is_same c.args.source.now c.open_node.new.source c.args.net.now c.open_node.new.net
+    c.args.observer.now
+    c.open_node.new.observer c.in_err-node.field-0.0 c.in_err-node.ensures.ends)
+
+pub returns-in_err-clock_stands-clause-ends : goal.returns-in_err-clock_stands-clause-ends
+returns-in_err-clock_stands-clause-ends g c =
+    let n = g.N.Net in
+    let s = g.S.Source in
+    let sm = g.met.S.Source in
+    let o = g.O.Observer in
+    let m = g.met.O.Observer in
+    let l = c.loop-done in
+    let e = c.in_err-clock_stands.ensures in
+    let p = err_from_is_err_and c.from_residual-in_err-clock_stands.result c.from_residual-in_err-clock_stands.ensures.1 in
+    rw (p.1, p.2) (ends_on s.faults n.faults o.faults s.is_same o.is_same sm.same_self sm.same_on m.same_self m.same_on c.args.source.now l.source
+    l.source c.args.net.now l.net l.net c.args.observer.now l.observer c.clock_stands.new.observer _ l.invariant.ends
+    (ends_no_clock s.faults n.faults o.faults s.is_same o.is_same sm.same_self sm.same_on m.same_self m.same_on (Unit {0}) l.source l.net l.observer
+    c.clock_stands.new.observer c.in_err-clock_stands.field-0.0 e.faults e.same))
+
+pub returns-in_err-starts-clause-ends : goal.returns-in_err-starts-clause-ends
+returns-in_err-starts-clause-ends g c =
+    let n = g.N.Net in
+    let s = g.S.Source in
+    let sm = g.met.S.Source in
+    let o = g.O.Observer in
+    let m = g.met.O.Observer in
+    let l = c.loop-done in
+    let p = err_from_is_err_and c.from_residual-in_err-starts.result c.from_residual-in_err-starts.ensures.1 in
+    rw (p.1, p.2) (ends_on s.faults n.faults o.faults s.is_same o.is_same sm.same_self sm.same_on m.same_self m.same_on c.args.source.now l.source
+    c.starts.new.source c.args.net.now l.net c.starts.new.net c.args.observer.now l.observer c.starts.new.observer _ l.invariant.ends
+    (ends_on s.faults n.faults o.faults s.is_same o.is_same sm.same_self sm.same_on m.same_self m.same_on l.source l.source
+    c.starts.new.source l.net l.net c.starts.new.net l.observer c.clock_stands.new.observer c.starts.new.observer _
+    (ends_clock s.faults n.faults o.faults s.is_same o.is_same sm.same_self sm.same_on m.same_self m.same_on l.source l.net l.observer
+    c.clock_stands.new.observer _ c.in_ok-clock_stands.ensures.faults c.in_ok-clock_stands.ensures.same)
+    (ends_as s.faults n.faults o.faults s.is_same o.is_same l.source c.starts.new.source l.net c.starts.new.net c.clock_stands.new.observer
+    c.starts.new.observer c.in_err-starts.field-0.0 c.in_err-starts.ensures.ends)))
+
+pub returns-in_err-hosts_act-clause-ends : goal.returns-in_err-hosts_act-clause-ends
+returns-in_err-hosts_act-clause-ends g c =
+    let n = g.N.Net in
+    let s = g.S.Source in
+    let sm = g.met.S.Source in
+    let o = g.O.Observer in
+    let m = g.met.O.Observer in
+    let l = c.loop-done in
+    let p = err_from_is_err_and c.from_residual-in_err-hosts_act.result c.from_residual-in_err-hosts_act.ensures.1 in
+    rw (p.1, p.2) (ends_on s.faults n.faults o.faults s.is_same o.is_same sm.same_self sm.same_on m.same_self m.same_on c.args.source.now l.source
+    c.starts.new.source c.args.net.now l.net c.hosts_act.new.net c.args.observer.now l.observer c.hosts_act.new.observer _ l.invariant.ends
+    (ends_on s.faults n.faults o.faults s.is_same o.is_same sm.same_self sm.same_on m.same_self m.same_on l.source l.source
+    c.starts.new.source l.net l.net c.hosts_act.new.net l.observer c.clock_stands.new.observer c.hosts_act.new.observer _
+    (ends_clock s.faults n.faults o.faults s.is_same o.is_same sm.same_self sm.same_on m.same_self m.same_on l.source l.net l.observer
+    c.clock_stands.new.observer _ c.in_ok-clock_stands.ensures.faults c.in_ok-clock_stands.ensures.same)
+    (ends_on s.faults n.faults o.faults s.is_same o.is_same sm.same_self sm.same_on m.same_self m.same_on l.source c.starts.new.source
+    c.starts.new.source l.net c.starts.new.net c.hosts_act.new.net c.clock_stands.new.observer c.starts.new.observer c.hosts_act.new.observer _
+    c.in_ok-starts.ensures.ends
+    (ends_unacted s.faults n.faults o.faults s.is_same o.is_same sm.same_self sm.same_on m.same_self m.same_on n.known c.starts.new.source
+    c.starts.new.net c.hosts_act.new.net c.starts.new.observer c.hosts_act.new.observer c.in_err-hosts_act.field-0.0
+    c.in_err-hosts_act.ensures.outside))))
+
+pub returns-then-setup-now-clause-ends : goal.returns-then-setup-now-clause-ends
+returns-then-setup-now-clause-ends g c =
+    let n = g.N.Net in
+    let s = g.S.Source in
+    let sm = g.met.S.Source in
+    let o = g.O.Observer in
+    let m = g.met.O.Observer in
+    let l = c.loop-done in
+    ends_on s.faults n.faults o.faults s.is_same o.is_same sm.same_self sm.same_on m.same_self m.same_on c.args.source.now l.source
+    c.starts.new.source c.args.net.now l.net c.hosts_act.new.net c.args.observer.now l.observer c.hosts_act.new.observer _ l.invariant.ends
+    (ends_on s.faults n.faults o.faults s.is_same o.is_same sm.same_self sm.same_on m.same_self m.same_on l.source l.source
+    c.starts.new.source l.net l.net c.hosts_act.new.net l.observer c.clock_stands.new.observer c.hosts_act.new.observer _
+    (ends_clock s.faults n.faults o.faults s.is_same o.is_same sm.same_self sm.same_on m.same_self m.same_on l.source l.net l.observer
+    c.clock_stands.new.observer _ c.in_ok-clock_stands.ensures.faults c.in_ok-clock_stands.ensures.same)
+    (ends_on s.faults n.faults o.faults s.is_same o.is_same sm.same_self sm.same_on m.same_self m.same_on l.source c.starts.new.source
+    c.starts.new.source l.net c.starts.new.net c.hosts_act.new.net c.clock_stands.new.observer c.starts.new.observer c.hosts_act.new.observer _
+    c.in_ok-starts.ensures.ends
+    (ends_acted s.faults n.faults o.faults s.is_same o.is_same sm.same_self sm.same_on m.same_self m.same_on n.known c.starts.new.source
+    c.starts.new.net c.hosts_act.new.net c.starts.new.observer c.hosts_act.new.observer _ c.in_ok-hosts_act.ensures.outside)))
+
+pub returns-clause-ends : goal.returns-clause-ends
+returns-clause-ends g c =
+    let n = g.N.Net in
+    let s = g.S.Source in
+    let o = g.O.Observer in
+    let l = c.loop-done in
+    ends_stalled s.faults n.faults o.faults s.is_same o.is_same c.args.source.now l.source c.args.net.now l.net c.args.observer.now l.observer _ _
+    l.invariant.ends

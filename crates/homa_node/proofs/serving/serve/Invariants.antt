@@ -1,4 +1,4 @@
-use Rattle.std.proofs.Common.{◌≡◌, ◌≤◌, ◌*◌, ℕ, Some, List, length}
+use Rattle.std.proofs.Common.{◌≡◌, ◌≤◌, ◌*◌, ℕ, Some, Ok, List, length}
 use Rattle.std.specs.Prelude.{nat_lt}
 use Rattle.homa_plain.specs.declared.id.HostId.{HostId}
 use Rattle.node_runs.specs.Course.{node_run}
@@ -9,6 +9,7 @@ use Rattle.node_turns.specs.Told.{listed}
 use Rattle.node_script.specs.Heads.{setup_seen}
 use Rattle.homa_node.specs.Coming.{calls_ahead, IsOpenAt, IsAllRead, HasRoom}
 use Rattle.homa_node.specs.Served.{outside}
+use Rattle.homa_node.specs.Ends.{AreSameEnds}
 use Rattle.homa_node.specs.Progress.{IsAt, behind_turns}
 use Rattle.homa_node.proofs.serving.serve.Given as goal
 
@@ -37,9 +38,5 @@ invariant-loop-done g l =
       now : h.clock l.hosts ≡ l.now;
       last : l.now ≤ c.last l.clock;
       known : (id : HostId) → n.known l.net id ≡ nat_lt id.0 (length l.setup.places.items);
-      source : s.faults l.source ≡ s.faults l.fn.source;
-      net : n.faults l.net ≡ n.faults l.fn.net;
-      sink : o.faults l.observer ≡ o.faults l.fn.observer;
-      same_source : s.is_same l.fn.source l.source;
-      same_observer : o.is_same l.fn.observer l.observer;
+      ends : AreSameEnds {A = Unit {0}} s.faults n.faults o.faults s.is_same o.is_same l.fn.source l.source l.fn.net l.net l.fn.observer l.observer (Ok tt);
     }

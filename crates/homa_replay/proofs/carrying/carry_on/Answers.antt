@@ -125,7 +125,7 @@ returns-in_err-refused-clause-part g c =
     line_cut (left_at s w 0 c.args.reader.now.place) _ _ _ _ _ _ _ s d.0 l.events new.place.number es new.place
     (at_line (left_at s w 0 c.args.reader.now.place) _ _ _ _ _ _ _ _ s d.0 l.events l.reader.place new.place new.operand c.in_ok-next.ensures.taken
     d.2 c.in-Ok.next given c.args.hosts going (ap (given_of c.in-Ok.next) (sym c.bytes.ensures.bytes)) (sym c.requires.hosts) next)
-    _ (cut_at _ s d.0 _ _ _ l.invariant.settings es _ (c.in_err-refused.ensures.cut d.0 d.1)))
+    _ (cut_at _ s d.0 _ _ _ l.invariant.settings es _ (c.in_err-refused.ensures.plays.cut d.0 d.1)))
 
 pub returns-in_err-put_refused-clause-part : goal.returns-in_err-put_refused-clause-part
 returns-in_err-put_refused-clause-part g c =
@@ -136,7 +136,7 @@ returns-in_err-put_refused-clause-part g c =
     let going = sym c.is_end.ensures ∙ c.if-is_end.false in
     let given = given_of c.in-Ok.next c.bytes.result.now in
     let es = events_of c.args.hosts given in
-    let refused = rw c.in-Some.is at c.in_ok-refused.ensures.refused in
+    let refused = rw c.in-Some.is at c.in_ok-refused.ensures.plays.refused in
     err_if _ Write _ (stop_of _ _ _ c.from_residual-in_err-put_refused.ensures.1 c.in_err-put_refused.ensures.stop)
     (λ w h. let d = l.invariant.due w h in
     last_cut (left_at s w 0 c.args.reader.now.place) _ _ _ _ _ _ (λ more. more ≡ []) (RefusedAt c.line-in-Some.result (ByWorld c.in-Some.fault))
@@ -157,7 +157,7 @@ returns-in-Some-clause-printed g c =
     let going = sym c.is_end.ensures ∙ c.if-is_end.false in
     let given = given_of c.in-Ok.next c.bytes.result.now in
     let es = events_of c.args.hosts given in
-    let refused = rw c.in-Some.is at c.in_ok-refused.ensures.refused in
+    let refused = rw c.in-Some.is at c.in_ok-refused.ensures.plays.refused in
     λ w h. let d = l.invariant.due w h in
     fars_end (left_at s w 0 c.args.reader.now.place) _ _ _ _ _ (λ more. more ≡ []) _ (RefusedAt c.line-in-Some.result (ByWorld c.in-Some.fault)) false
     (renumbered (left_at s w 0 c.args.reader.now.place) _ _ _ _ _ (λ more. more ≡ []) c.line-in-Some.result new.place.number
@@ -186,7 +186,7 @@ lines-preserved g c =
     record {
       due = λ w h.
           let d = l.invariant.due w h in
-          let a = played_at _ s d.0 _ _ _ l.invariant.settings es _ _ (r.played (ap Ok c.in_default.is) d.0 d.1) in (
+          let a = played_at _ s d.0 _ _ _ l.invariant.settings es _ _ (r.plays.played (ap Ok c.in_default.is) d.0 d.1) in (
             a.next,
             a.stood,
             line_done (left_at s w 0 c.args.reader.now.place) _ _ _ _ _ _ _ s d.0 l.events new.place.number es new.place
@@ -203,10 +203,10 @@ lines-preserved g c =
       limit = e.limit ∙ l.invariant.limit;
       few = omega (arith, most, on.1, l.invariant.few);
       applied = omega (arith, r.counted, l.invariant.applied, c.line_events-events.ensures);
-      quiet_source = e.faults.quiet_source ∙ l.invariant.quiet_source;
-      quiet_sink = r.quiet ∙ (e.faults.quiet_sink ∙ l.invariant.quiet_sink);
-      same_source = g.met.S.Source.same_on _ _ _ l.invariant.same_source e.same_source;
-      same_sink = g.met.K.Sink.same_on _ _ _ l.invariant.same_sink (g.met.K.Sink.same_on _ _ _ e.same_sink r.same);
+      quiet_source = e.left.faults.quiet_source ∙ l.invariant.quiet_source;
+      quiet_sink = r.sink.quiet ∙ (e.left.faults.quiet_sink ∙ l.invariant.quiet_sink);
+      same_source = g.met.S.Source.same_on _ _ _ l.invariant.same_source e.left.same_source;
+      same_sink = g.met.K.Sink.same_on _ _ _ l.invariant.same_sink (g.met.K.Sink.same_on _ _ _ e.left.same_sink r.sink.same);
     }
 
 pub returns-in-Err-clause-front : goal.returns-in-Err-clause-front
@@ -244,7 +244,7 @@ returns-in-Some-clause-front g c =
     let going = sym c.is_end.ensures ∙ c.if-is_end.false in
     let given = given_of c.in-Ok.next c.bytes.result.now in
     let es = events_of c.args.hosts given in
-    let refused = rw c.in-Some.is at c.in_ok-refused.ensures.refused in
+    let refused = rw c.in-Some.is at c.in_ok-refused.ensures.plays.refused in
     (λ w h. let d = l.invariant.due w h in
     last_cut (left_at s w 0 c.args.reader.now.place) _ _ _ _ _ _ (λ more. more ≡ []) (RefusedAt c.line-in-Some.result (ByWorld c.in-Some.fault))
     (renumbered (left_at s w 0 c.args.reader.now.place) _ _ _ _ _ (λ more. more ≡ []) c.line-in-Some.result new.place.number
@@ -278,7 +278,7 @@ returns-in-Some-clause-behind g c =
     let going = sym c.is_end.ensures ∙ c.if-is_end.false in
     let given = given_of c.in-Ok.next c.bytes.result.now in
     let es = events_of c.args.hosts given in
-    let refused = rw c.in-Some.is at c.in_ok-refused.ensures.refused in
+    let refused = rw c.in-Some.is at c.in_ok-refused.ensures.plays.refused in
     λ _ w h.
     let d = l.invariant.due w h in
     refuses_far c.args.reader.now.place new.place _ _ _ _ _ c.line-in-Some.result (ByWorld c.in-Some.fault)

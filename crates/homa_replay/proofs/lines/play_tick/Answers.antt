@@ -1,25 +1,30 @@
 use Rattle.std.proofs.Common.{◌∙◌, ap, sym, Ok, [], refl}
 use Rattle.std.proofs.lemmas.List.{append-nil}
+use Rattle.homa_plain.specs.Replay.{turns_of}
 use Rattle.homa_replay.specs.Lines.{tick_of}
-use Rattle.homa_replay.proofs.Exits.{err_if}
-use Rattle.homa_replay.proofs.Turns.{is_none, if_some, then_played, then_refused, then_cut}
+use Rattle.homa_replay.proofs.Plays.{cut_wide}
+use Rattle.homa_replay.proofs.Turns.{is_none, then_cut}
+use Rattle.homa_replay.proofs.Playing.{not_all, plays_cut, plays_wide, plays_on}
 use Rattle.homa_replay.proofs.lines.play_tick.Goals as goal
 
-pub returns-in_err-turned-clause-cut : goal.returns-in_err-turned-clause-cut
-returns-in_err-turned-clause-cut g c =
-    let first = c.in_ok-answer.ensures.played (ap Ok (is_none c.in_ok-answer.answer (sym c.is_some.ensures ∙ c.if-is_some.false))) in
-    err_if _ _ _ c.from_residual-in_err-turned.ensures.1
-    (λ w h. then_cut _ _ _ _ _ _ _ _ _ _ _ c.in_ok-answer.ensures.settings (first w h) [] (tick_of c.args.hosts) _
-    (sym (append-nil (tick_of c.args.hosts))) c.in_err-turned.ensures.cut)
+pub returns-in_err-answer-clause-plays : goal.returns-in_err-answer-clause-plays
+returns-in_err-answer-clause-plays g c =
+    plays_cut _ _ c.from_residual.ensures.1 (λ w h. cut_wide _ w _ (turns_of 0 c.args.hosts) _ _ _ _ (c.in_err-answer.ensures.plays.cut w h))
 
-pub returns-clause-played : goal.returns-clause-played
-returns-clause-played g c =
-    let first = c.in_ok-answer.ensures.played (ap Ok (is_none c.in_ok-answer.answer (sym c.is_some.ensures ∙ c.if-is_some.false))) in
-    λ e w h. then_played _ _ _ _ _ _ _ _ _ _ _ c.in_ok-answer.ensures.settings (first w h) _ _ (tick_of c.args.hosts) refl (c.in_ok-turned.ensures.played e)
+pub returns-then-is_some-clause-plays : goal.returns-then-is_some-clause-plays
+returns-then-is_some-clause-plays g c =
+    plays_wide (turns_of 0 c.args.hosts) _ c.in_ok-answer.ensures.plays (not_all c.in_ok-answer.answer (sym c.is_some.ensures ∙ c.if-is_some.true))
 
-pub returns-clause-refused : goal.returns-clause-refused
-returns-clause-refused g c =
-    let first = c.in_ok-answer.ensures.played (ap Ok (is_none c.in_ok-answer.answer (sym c.is_some.ensures ∙ c.if-is_some.false))) in
-    if_some c.in_ok-turned.turned _ _ c.in_ok-turned.ensures.refused
-    (λ fault r w h. then_refused _ _ _ _ _ _ _ _ _ _ _ c.in_ok-answer.ensures.settings (first w h) [] (tick_of c.args.hosts) fault
-    (sym (append-nil (tick_of c.args.hosts))) r)
+pub returns-in_err-turned-clause-plays : goal.returns-in_err-turned-clause-plays
+returns-in_err-turned-clause-plays g c =
+    let e = c.in_ok-answer.ensures in
+    let first = e.plays.played (ap Ok (is_none c.in_ok-answer.answer (sym c.is_some.ensures ∙ c.if-is_some.false))) in
+    plays_cut _ _ c.from_residual-in_err-turned.ensures.1
+    (λ w h. then_cut _ _ _ _ _ _ _ _ _ _ _ e.settings (first w h) [] (tick_of c.args.hosts) _
+    (sym (append-nil (tick_of c.args.hosts))) c.in_err-turned.ensures.plays.cut)
+
+pub returns-clause-plays : goal.returns-clause-plays
+returns-clause-plays g c =
+    let e = c.in_ok-answer.ensures in
+    let first = e.plays.played (ap Ok (is_none c.in_ok-answer.answer (sym c.is_some.ensures ∙ c.if-is_some.false))) in
+    plays_on _ _ _ _ [] (tick_of c.args.hosts) e.settings first (sym (append-nil (tick_of c.args.hosts))) _ c.in_ok-turned.ensures.plays (λ _. refl)

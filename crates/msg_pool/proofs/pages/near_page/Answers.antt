@@ -1,7 +1,7 @@
 -- A page behind the last one that was looked for is one of the same chain.
 use Rattle.std.proofs.Common.{arith, ◌≡◌, ℕ, ◌+◌, ◌<◌, ◌≤◌, ◌-◌, List, length, sym, ap, subst, ◌∙◌}
 use Rattle.msg_pool.specs.declared.pages.Near.{Near}
-use Rattle.msg_pool.specs.Pages.{page_at, IsChain}
+use Rattle.msg_pool.specs.Pages.{page_at}
 use Rattle.msg_pool.specs.Near.{IsNear}
 use Rattle.msg_pool.proofs.ChainLaws.{page_at-plus}
 use Rattle.msg_pool.proofs.pages.near_page.Goals as goal

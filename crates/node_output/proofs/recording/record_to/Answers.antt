@@ -22,7 +22,7 @@ returns-clause-recorded g c = λ bytes had.
 
 pub returns-clause-faults : goal.returns-clause-faults
 returns-clause-faults g c =
-    faults_by _ _ _ _ _ _ _ _ _ c.serve-served.result c.put_end-end.result c.serve-served.ensures.faults
+    faults_by _ _ _ _ _ _ _ _ _ c.serve-served.result c.put_end-end.result c.serve-served.ensures.ends.faults
     (subst (λ (s : g.row.K.Denot). PutsEnd (g.K.Sink.taken s) (g.K.Sink.taken c.put_end-end.new.sink) (g.K.Sink.faults s)
     (g.K.Sink.faults c.put_end-end.new.sink)
     c.serve-served.result c.put_end-end.result (end_of c.serve-served.result)) c.into_sink-sink.ensures c.put_end-end.ensures.ends)

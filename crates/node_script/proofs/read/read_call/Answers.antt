@@ -13,19 +13,19 @@ lines-preserved g c =
     let l = c.lines in
     let e = c.in_ok-next_line.ensures in
     let t = taken (reading l.lines)
-    (reading c.next_line.new.lines) _ _ _ c.last_line.result.now c.if-branch.true e.line e.numbered e.limit c.last_line.ensures.value in
+    (reading c.next_line.new.lines) _ _ _ c.last_line.result.now c.if-branch.true e.line e.numbered e.goes.limit c.last_line.ensures.value in
     let s = setup_seen c.args.setup.now in
     record {
       due = due_blank s c.args.least (reading c.args.lines.now) _ _ _ _ _ _ l.invariant.due t c.number-number.result c.number-number.ensures
           (rw c.in_default.is at (c.in_ok-call.ensures.given s (ap (map place_seen) (sym c.deref.ensures.value), refl)));
       counted = counted_on _ _ _ _ _ l.invariant.counted t;
       on = omega (arith, t.on, l.invariant.on);
-      limit = e.limit ∙ l.invariant.limit;
-      longest = e.longest ∙ l.invariant.longest;
+      limit = e.goes.limit ∙ l.invariant.limit;
+      longest = e.goes.longest ∙ l.invariant.longest;
       capacity = omega (arith, c.in_ok-call.ensures.capacity, l.invariant.capacity);
-      quiet = e.quiet refl ∙ l.invariant.quiet;
-      never_falls = omega (arith, e.never_falls, l.invariant.never_falls);
-      same = g.met.S.Source.same_on _ _ _ l.invariant.same e.same;
+      quiet = e.faults.quiet refl ∙ l.invariant.quiet;
+      never_falls = omega (arith, e.faults.never_falls, l.invariant.never_falls);
+      same = g.met.S.Source.same_on _ _ _ l.invariant.same e.faults.same;
     }
 
 pub returns-in_err-next_line-clause-call : goal.returns-in_err-next_line-clause-call
@@ -41,7 +41,7 @@ returns-in_err-call-clause-call g c =
     let l = c.lines in
     let e = c.in_ok-next_line.ensures in
     let t = taken (reading l.lines)
-    (reading c.next_line.new.lines) _ _ _ c.last_line.result.now c.if-branch.true e.line e.numbered e.limit c.last_line.ensures.value in
+    (reading c.next_line.new.lines) _ _ _ c.last_line.result.now c.if-branch.true e.line e.numbered e.goes.limit c.last_line.ensures.value in
     let s = setup_seen c.args.setup.now in
     let p = err_from_is_err_and c.from_residual-in_err-call.result c.from_residual-in_err-call.ensures.1 in
     rw (p.1, p.2) (due_fault s c.args.least (reading c.args.lines.now) _ _ _ _ _ _ l.invariant.due t c.number-number.result c.number-number.ensures
@@ -52,7 +52,7 @@ returns-in-Some-clause-call g c =
     let l = c.lines in
     let e = c.in_ok-next_line.ensures in
     let t = taken (reading l.lines)
-    (reading c.next_line.new.lines) _ _ _ c.last_line.result.now c.if-branch.true e.line e.numbered e.limit c.last_line.ensures.value in
+    (reading c.next_line.new.lines) _ _ _ c.last_line.result.now c.if-branch.true e.line e.numbered e.goes.limit c.last_line.ensures.value in
     let s = setup_seen c.args.setup.now in
     due_call s c.args.least (reading c.args.lines.now) _ _ _ _ _ _ l.invariant.due t c.number-number.result c.number-number.ensures
     (call_seen c.in-Some.call c.read_timed_line.new.out.items)
@@ -63,7 +63,7 @@ returns-in-Some-clause-on g c =
     let l = c.lines in
     let e = c.in_ok-next_line.ensures in
     let t = taken (reading l.lines)
-    (reading c.next_line.new.lines) _ _ _ c.last_line.result.now c.if-branch.true e.line e.numbered e.limit c.last_line.ensures.value in
+    (reading c.next_line.new.lines) _ _ _ c.last_line.result.now c.if-branch.true e.line e.numbered e.goes.limit c.last_line.ensures.value in
     let s = setup_seen c.args.setup.now in
     let two = long_call s c.args.least c.number-number.result c.last_line.result.now (call_seen c.in-Some.call c.read_timed_line.new.out.items)
     (rw c.in-Some.is at (c.in_ok-call.ensures.given s (ap (map place_seen) (sym c.deref.ensures.value), refl))) in

@@ -12,7 +12,7 @@ pub lines-init : goal.lines-init
 lines-init g c = record {
   said = record { head = first_head; is = c.in_ok-head.ensures.head; due = open_start (reading c.args.lines.now) _ c.requires.first };
   good = c.in_ok-head.ensures.good;
-  counted = c.requires.counted;
+  counted = c.requires.script.counted;
   limit = refl;
   longest = refl;
   quiet = refl;
@@ -25,7 +25,7 @@ lines-preserved g c =
     let l = c.lines in
     let e = c.in_ok-next_line.ensures in
     let t = taken (reading l.lines)
-    (reading c.next_line.new.lines) _ _ _ c.last_line.result.now c.if-branch.true e.line e.numbered e.limit c.last_line.ensures.value in
+    (reading c.next_line.new.lines) _ _ _ c.last_line.result.now c.if-branch.true e.line e.numbered e.goes.limit c.last_line.ensures.value in
     let said = l.invariant.said in
     let h = heading_seen c.in_ok-heading.heading in
     record {
@@ -37,11 +37,11 @@ lines-preserved g c =
       };
       good = c.in_ok-says.ensures.good;
       counted = counted_on _ _ _ _ _ l.invariant.counted t;
-      limit = e.limit ∙ l.invariant.limit;
-      longest = e.longest ∙ l.invariant.longest;
-      quiet = e.quiet refl ∙ l.invariant.quiet;
-      never_falls = omega (arith, e.never_falls, l.invariant.never_falls);
-      same = g.met.S.Source.same_on _ _ _ l.invariant.same e.same;
+      limit = e.goes.limit ∙ l.invariant.limit;
+      longest = e.goes.longest ∙ l.invariant.longest;
+      quiet = e.faults.quiet refl ∙ l.invariant.quiet;
+      never_falls = omega (arith, e.faults.never_falls, l.invariant.never_falls);
+      same = g.met.S.Source.same_on _ _ _ l.invariant.same e.faults.same;
     }
 
 pub returns-in_err-next_line-clause-setup : goal.returns-in_err-next_line-clause-setup
@@ -58,7 +58,7 @@ returns-in_err-heading-clause-setup g c =
     let l = c.lines in
     let e = c.in_ok-next_line.ensures in
     let t = taken (reading l.lines)
-    (reading c.next_line.new.lines) _ _ _ c.last_line.result.now c.if-branch.true e.line e.numbered e.limit c.last_line.ensures.value in
+    (reading c.next_line.new.lines) _ _ _ c.last_line.result.now c.if-branch.true e.line e.numbered e.goes.limit c.last_line.ensures.value in
     let r = c.from_residual-in_err-heading in
     let p = err_from_is_err_and r.result r.ensures.1 in
     rw (p.1, p.2) (open_fault (reading c.args.lines.now).limit _ _ l.invariant.said.head _ _ _ _ l.invariant.said.due t c.in_err-heading.field-0.0
@@ -69,7 +69,7 @@ returns-in_err-says-clause-setup g c =
     let l = c.lines in
     let e = c.in_ok-next_line.ensures in
     let t = taken (reading l.lines)
-    (reading c.next_line.new.lines) _ _ _ c.last_line.result.now c.if-branch.true e.line e.numbered e.limit c.last_line.ensures.value in
+    (reading c.next_line.new.lines) _ _ _ c.last_line.result.now c.if-branch.true e.line e.numbered e.goes.limit c.last_line.ensures.value in
     let r = c.from_residual-in_err-says in
     let p = err_from_is_err_and r.result r.ensures.1 in
     rw (p.1, p.2) (open_cut (reading c.args.lines.now).limit _ _ l.invariant.said.head _ _ _ _ l.invariant.said.due t)
@@ -79,7 +79,7 @@ returns-then-branch-2-clause-setup g c =
     let l = c.lines in
     let e = c.in_ok-next_line.ensures in
     let t = taken (reading l.lines)
-    (reading c.next_line.new.lines) _ _ _ c.last_line.result.now c.if-branch.true e.line e.numbered e.limit c.last_line.ensures.value in
+    (reading c.next_line.new.lines) _ _ _ c.last_line.result.now c.if-branch.true e.line e.numbered e.goes.limit c.last_line.ensures.value in
     let go = sym c.in_ok-says.ensures.go ∙ c.if-branch-2.true in
     let h = heading_seen c.in_ok-heading.heading in
     let said = l.invariant.said in

@@ -1,8 +1,9 @@
-use Rattle.std.proofs.Common.{◌≡◌, ◌≤◌, ◌+◌, ◌-◌}
+use Rattle.std.proofs.Common.{◌-◌, Ok}
 use Rattle.homa_plain.specs.World.{World}
 use Rattle.node_runs.specs.Course.{hears}
 use Rattle.node_turns.specs.Told.{Hears, AreDone}
 use Rattle.node_turns.specs.Acting.{HasActed}
+use Rattle.node_turns.specs.Same.{HaveStepped, IsSameOutside}
 use Rattle.node_turns.proofs.acts.hears.Given as goal
 
 -- so many datagrams came
@@ -18,11 +19,6 @@ invariant-loop-i g l =
           (AreDone o.told o.kept o.strange (o.taken l.fn.observer) (o.notes l.fn.observer) (o.taken l.observer) (o.notes l.observer)
           (n.acts l.fn.net) (n.acts l.net) (Hears 64) (Hears (64 - l.i))) (n.sent l.fn.net)
           (n.sent l.net) (n.gave l.fn.net) (n.gave l.net);
-      settings : h.settings l.hosts ≡ h.settings l.fn.hosts;
-      clock : h.clock l.hosts ≡ h.clock l.fn.hosts;
-      steps : h.steps l.hosts ≤ h.steps l.fn.hosts + l.i;
-      known : n.known l.net ≡ n.known l.fn.net;
-      net : n.faults l.net ≡ n.faults l.fn.net;
-      sink : o.faults l.observer ≡ o.faults l.fn.observer;
-      same : o.is_same l.fn.observer l.observer;
+      stepped : HaveStepped h.settings h.clock h.steps l.fn.hosts l.hosts l.i;
+      outside : IsSameOutside {A = Unit {0}} n.known n.faults o.faults o.is_same l.fn.net l.net l.fn.observer l.observer (Ok tt);
     }

@@ -1,4 +1,4 @@
-use Rattle.std.proofs.Common.{◌+◌, refl, drop, get_or, ◌∙◌, ap, arith}
+use Rattle.std.proofs.Common.{◌+◌, ◌*◌, length, drop, get_or, ◌∙◌, arith}
 use Rattle.node_runs.specs.Course.{hosts_act}
 use Rattle.node_turns.specs.Acting.{with_left}
 use Rattle.node_turns.specs.Told.{Hears, Turns}
@@ -9,6 +9,7 @@ use Rattle.std.proofs.lemmas.Result.{MatchResult-from_err, err_from_is_err_and}
 use Rattle.node_turns.proofs.Tellings.{on_stop, midst_heard, midst_never}
 use Rattle.node_turns.proofs.Lists.{listed_more, front_listed}
 use Rattle.node_turns.proofs.Cuts.{cut_on}
+use Rattle.node_turns.proofs.Same.{stepped_none, stepped_on, stepped_within, outside_none, outside_on}
 use Rattle.node_turns.proofs.HostCuts.{next_hears_cut, next_turn_cut}
 use Rattle.node_turns.proofs.acts.hosts_act.Goals as goal
 
@@ -19,13 +20,9 @@ loop-i-init g c =
       acted = λ w h. acted_none (g.H.LoopHosts.settings c.args.hosts.now)
           (with_left (hosts_act (g.H.LoopHosts.settings c.args.hosts.now) c.args.locals.now)) w _ _ _ _ _ h
           (gone_none o.told o.kept o.strange _ _ _ (Hears 64));
-      settings = refl;
-      clock = refl;
-      steps = omega (arith);
-      known = refl;
-      net = refl;
-      sink = refl;
-      same = g.met.O.Observer.same_self _;
+      stepped = stepped_none g.H.LoopHosts.settings g.H.LoopHosts.clock g.H.LoopHosts.steps c.args.hosts.now 0;
+      outside = outside_none g.N.Net.known g.N.Net.faults o.faults o.is_same g.met.O.Observer.same_self g.met.O.Observer.same_on c.args.net.now
+          c.args.observer.now;
     }
 
 pub loop-i-preserved : goal.loop-i-preserved
@@ -40,21 +37,23 @@ loop-i-preserved g c =
       acted = λ w h. acted_on s (with_left (hosts_act s locals)) (with_left (hosts_act s (drop i locals))) (with_left (hosts_act s (drop (i + 1) locals))) w
           (g.H.LoopHosts.stands l.hosts) _ _ (g.H.LoopHosts.allows l.hosts) _ _ _ _ _ (g.N.Net.sent l.net) _ _ (g.N.Net.gave l.net) _ (l.invariant.acted w h)
           (λ v st. host_next s host locals i (drop_at locals i (record { 0 = 0 }) (omega (arith, c.loop-i-test.true, l.auto.i-end)))
-          (g.H.LoopHosts.settings l.hosts) (g.H.LoopHosts.settings c.hears.new.hosts) l.invariant.settings
-          (c.in_ok-hears.ensures.settings ∙ l.invariant.settings)
+          (g.H.LoopHosts.settings l.hosts) (g.H.LoopHosts.settings c.hears.new.hosts) l.invariant.stepped.settings
+          (c.in_ok-hears.ensures.stepped.settings ∙ l.invariant.stepped.settings)
           v (g.H.LoopHosts.stands c.hears.new.hosts) _ _ (g.H.LoopHosts.allows c.hears.new.hosts) _ _ _ _ _ (g.N.Net.sent c.hears.new.net) _ _
           (g.N.Net.gave c.hears.new.net) _ (c.in_ok-hears.ensures.acted v st) c.in_ok-has_turn.ensures.acted
           (λ x y p q. gone_more o.told o.kept o.strange _ (o.taken c.hears.new.observer) _ _ (o.notes c.hears.new.observer) _ _ (g.N.Net.acts c.hears.new.net) _
           (Hears 64) (Turns host) (Hears 64) x y p q))
           (λ x y p q. gone_more o.told o.kept o.strange _ (o.taken l.observer) _ _ (o.notes l.observer) _ _ (g.N.Net.acts l.net) _ (Hears 64)
           (Hears 64) (Hears 64) x y p q);
-      settings = c.in_ok-has_turn.ensures.settings ∙ c.in_ok-hears.ensures.settings ∙ l.invariant.settings;
-      clock = c.in_ok-has_turn.ensures.clock ∙ c.in_ok-hears.ensures.clock ∙ l.invariant.clock;
-      steps = omega (arith, c.in_ok-has_turn.ensures.steps, c.in_ok-hears.ensures.steps, l.invariant.steps);
-      known = c.in_ok-has_turn.ensures.known ∙ c.in_ok-hears.ensures.known ∙ l.invariant.known;
-      net = ap (λ k. k.net) c.in_ok-has_turn.ensures.faults ∙ ap (λ k. k.net) c.in_ok-hears.ensures.faults ∙ l.invariant.net;
-      sink = ap (λ k. k.sink) c.in_ok-has_turn.ensures.faults ∙ ap (λ k. k.sink) c.in_ok-hears.ensures.faults ∙ l.invariant.sink;
-      same = g.met.O.Observer.same_on _ _ _ (g.met.O.Observer.same_on _ _ _ l.invariant.same c.in_ok-hears.ensures.same) c.in_ok-has_turn.ensures.same;
+      stepped = stepped_on g.H.LoopHosts.settings g.H.LoopHosts.clock g.H.LoopHosts.steps c.args.hosts.now c.hears.new.hosts c.has_turn.new.hosts
+          (65 * i + 64) 1 (65 * (i + 1)) (omega arith)
+          (stepped_on g.H.LoopHosts.settings g.H.LoopHosts.clock g.H.LoopHosts.steps c.args.hosts.now l.hosts c.hears.new.hosts (65 * i) 64
+          (65 * i + 64) (omega arith) l.invariant.stepped c.in_ok-hears.ensures.stepped) c.in_ok-has_turn.ensures.stepped;
+      outside = outside_on g.N.Net.known g.N.Net.faults o.faults o.is_same g.met.O.Observer.same_self g.met.O.Observer.same_on c.args.net.now
+          c.hears.new.net c.has_turn.new.net c.args.observer.now c.hears.new.observer c.has_turn.new.observer _
+          (outside_on g.N.Net.known g.N.Net.faults o.faults o.is_same g.met.O.Observer.same_self g.met.O.Observer.same_on c.args.net.now l.net
+          c.hears.new.net c.args.observer.now l.observer c.hears.new.observer _ l.invariant.outside c.in_ok-hears.ensures.outside)
+          c.in_ok-has_turn.ensures.outside;
     }
 
 pub returns-in_err-hears-clause-cut : goal.returns-in_err-hears-clause-cut
@@ -69,7 +68,7 @@ returns-in_err-hears-clause-cut g c =
     (λ _ w h. cut_on s (with_left (hosts_act s locals)) (with_left (hosts_act s (drop i locals))) w (g.H.LoopHosts.stands l.hosts) _
     (g.H.LoopHosts.allows l.hosts) _ _ _ _ _ _ (g.N.Net.sent l.net) _ (g.N.Net.gave l.net) _ (l.invariant.acted w h)
     (λ v st. next_hears_cut s host locals i (drop_at locals i (record { 0 = 0 }) (omega (arith, c.loop-i-test.true, l.auto.i-end)))
-    (g.H.LoopHosts.settings l.hosts) l.invariant.settings v (g.H.LoopHosts.allows l.hosts) _ _ _ _ (c.in_err-hears.ensures.cut v st))
+    (g.H.LoopHosts.settings l.hosts) l.invariant.stepped.settings v (g.H.LoopHosts.allows l.hosts) _ _ _ _ (c.in_err-hears.ensures.cut v st))
     (λ x y p q. broken_more o.told o.kept o.strange _ (o.taken l.observer) _ _ (o.notes l.observer) _ (g.N.Net.acts l.net) _ (Hears 64) (Hears 64) x y p q)
     (λ x y p q. front_listed _ (g.N.Net.sent l.net) _ x y p q))
 
@@ -85,7 +84,8 @@ returns-in_err-has_turn-clause-cut g c =
     (λ _ w h. cut_on s (with_left (hosts_act s locals)) (with_left (hosts_act s (drop i locals))) w (g.H.LoopHosts.stands l.hosts) _
     (g.H.LoopHosts.allows l.hosts) _ _ _ _ _ _ (g.N.Net.sent l.net) _ (g.N.Net.gave l.net) _ (l.invariant.acted w h)
     (λ v st. next_turn_cut s host locals i (drop_at locals i (record { 0 = 0 }) (omega (arith, c.loop-i-test.true, l.auto.i-end)))
-    (g.H.LoopHosts.settings l.hosts) (g.H.LoopHosts.settings c.hears.new.hosts) l.invariant.settings (c.in_ok-hears.ensures.settings ∙ l.invariant.settings)
+    (g.H.LoopHosts.settings l.hosts) (g.H.LoopHosts.settings c.hears.new.hosts) l.invariant.stepped.settings
+    (c.in_ok-hears.ensures.stepped.settings ∙ l.invariant.stepped.settings)
     v (g.H.LoopHosts.stands c.hears.new.hosts) _ (g.H.LoopHosts.allows c.hears.new.hosts) _ _ _ _ _ _ (g.N.Net.sent c.hears.new.net) _
     (g.N.Net.gave c.hears.new.net) _ (c.in_ok-hears.ensures.acted v st) c.in_err-has_turn.ensures.cut
     (λ x y p q. broken_more o.told o.kept o.strange _ (o.taken c.hears.new.observer) _ _ (o.notes c.hears.new.observer) _ (g.N.Net.acts c.hears.new.net) _
@@ -107,7 +107,7 @@ returns-in_err-hears-clause-strange g c =
     (λ k w h. cut_on s (with_left (hosts_act s locals)) (with_left (hosts_act s (drop i locals))) w (g.H.LoopHosts.stands l.hosts) _
     (g.H.LoopHosts.allows l.hosts) _ _ _ _ _ _ (g.N.Net.sent l.net) _ (g.N.Net.gave l.net) _ (l.invariant.acted w h)
     (λ v st. next_hears_cut s host locals i (drop_at locals i (record { 0 = 0 }) (omega (arith, c.loop-i-test.true, l.auto.i-end)))
-    (g.H.LoopHosts.settings l.hosts) l.invariant.settings v (g.H.LoopHosts.allows l.hosts) _ _ _ _ (k v st))
+    (g.H.LoopHosts.settings l.hosts) l.invariant.stepped.settings v (g.H.LoopHosts.allows l.hosts) _ _ _ _ (k v st))
     (λ x y p q. halted_more o.told o.kept o.strange _ (o.taken l.observer) _ _ (o.notes l.observer) _ (g.N.Net.acts l.net) _ (Hears 64) (Hears 64) x y p q)
     (λ x y p q. listed_more _ (g.N.Net.sent l.net) _ x y p q)) c.in_err-hears.ensures.strange)
 
@@ -130,3 +130,51 @@ pub returns-in_err-has_turn-clause-midst : goal.returns-in_err-has_turn-clause-m
 returns-in_err-has_turn-clause-midst g c =
     let p = err_from_is_err_and c.from_residual-in_err-has_turn.result c.from_residual-in_err-has_turn.ensures.1 in
     rw (p.1, p.2) (midst_heard c.in_err-has_turn.field-0.0 c.in_err-has_turn.ensures.midst)
+
+pub returns-in_err-hears-clause-stepped : goal.returns-in_err-hears-clause-stepped
+returns-in_err-hears-clause-stepped g c =
+    let h = g.H.LoopHosts in
+    let l = c.loop-i in
+    stepped_on h.settings h.clock h.steps c.args.hosts.now l.hosts c.hears.new.hosts (65 * l.i) 64 (65 * length c.args.locals.now)
+    (omega (arith, c.loop-i-test.true, l.auto.i-end)) l.invariant.stepped c.hears.ensures.stepped
+
+pub returns-in_err-has_turn-clause-stepped : goal.returns-in_err-has_turn-clause-stepped
+returns-in_err-has_turn-clause-stepped g c =
+    let h = g.H.LoopHosts in
+    let l = c.loop-i in
+    stepped_on h.settings h.clock h.steps c.args.hosts.now c.hears.new.hosts c.has_turn.new.hosts (65 * l.i + 64) 1
+    (65 * length c.args.locals.now) (omega (arith, c.loop-i-test.true, l.auto.i-end))
+    (stepped_on h.settings h.clock h.steps c.args.hosts.now l.hosts c.hears.new.hosts (65 * l.i) 64 (65 * l.i + 64) (omega arith)
+    l.invariant.stepped c.hears.ensures.stepped) c.has_turn.ensures.stepped
+
+pub returns-clause-stepped : goal.returns-clause-stepped
+returns-clause-stepped g c =
+    let h = g.H.LoopHosts in
+    let l = c.loop-i in
+    stepped_within h.settings h.clock h.steps c.args.hosts.now l.hosts (65 * l.i) (65 * length c.args.locals.now) (omega (arith, l.auto.i-end))
+    l.invariant.stepped
+
+pub returns-in_err-hears-clause-outside : goal.returns-in_err-hears-clause-outside
+returns-in_err-hears-clause-outside g c =
+    let n = g.N.Net in
+    let o = g.O.Observer in
+    let m = g.met.O.Observer in
+    let l = c.loop-i in
+    let p = err_from_is_err_and c.from_residual.result c.from_residual.ensures.1 in
+    rw (p.1, p.2) (outside_on n.known n.faults o.faults o.is_same m.same_self m.same_on c.args.net.now l.net c.hears.new.net c.args.observer.now l.observer
+    c.hears.new.observer _ l.invariant.outside c.in_err-hears.ensures.outside)
+
+pub returns-in_err-has_turn-clause-outside : goal.returns-in_err-has_turn-clause-outside
+returns-in_err-has_turn-clause-outside g c =
+    let n = g.N.Net in
+    let o = g.O.Observer in
+    let m = g.met.O.Observer in
+    let l = c.loop-i in
+    let p = err_from_is_err_and c.from_residual-in_err-has_turn.result c.from_residual-in_err-has_turn.ensures.1 in
+    rw (p.1, p.2) (outside_on n.known n.faults o.faults o.is_same m.same_self m.same_on c.args.net.now c.hears.new.net c.has_turn.new.net
+    c.args.observer.now c.hears.new.observer c.has_turn.new.observer _
+    (outside_on n.known n.faults o.faults o.is_same m.same_self m.same_on c.args.net.now l.net c.hears.new.net c.args.observer.now l.observer
+    c.hears.new.observer _ l.invariant.outside c.in_ok-hears.ensures.outside) c.in_err-has_turn.ensures.outside)
+
+pub returns-clause-outside : goal.returns-clause-outside
+returns-clause-outside g c = c.loop-i.invariant.outside

@@ -1,5 +1,6 @@
-use Rattle.std.proofs.Common.{◌<◌, length, arith, ◌∙◌}
+use Rattle.std.proofs.Common.{◌<◌, ℕ, length, subst, arith, ◌∙◌}
 use Rattle.std.proofs.lemmas.Result.{MatchResult-from_err}
+use Rattle.homa_io.specs.Outside.{HasRisen}
 use Rattle.node_turns.specs.Acting.{frame_datagram, frame_act}
 use Rattle.node_runs.specs.Acts.{Sent}
 use Rattle.node_turns.proofs.Lists.{front_sent}
@@ -29,5 +30,13 @@ loop-i-preserved g c =
           c.loop-i.invariant.acts e.acts;
       gave = e.gave ∙ c.loop-i.invariant.gave;
       known = e.known ∙ c.loop-i.invariant.known;
-      quiet = e.quiet ∙ c.loop-i.invariant.quiet;
+      quiet = e.counted.quiet ∙ c.loop-i.invariant.quiet;
     }
+
+pub returns-in_err-send-clause-risen : goal.returns-in_err-send-clause-risen
+returns-in_err-send-clause-risen g c =
+    MatchResult-from_err _ _ _ c.from_residual.ensures.0
+    (λ _. subst (λ (k : ℕ). HasRisen k (g.N.Net.faults c.send.new.self)) c.loop-i.invariant.quiet c.in_err-send.ensures.counted.risen)
+
+pub returns-in_err-send-clause-never_falls : goal.returns-in_err-send-clause-never_falls
+returns-in_err-send-clause-never_falls g c = omega (arith, c.loop-i.invariant.quiet, c.in_err-send.ensures.counted.never_falls)

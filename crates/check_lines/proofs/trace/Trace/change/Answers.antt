@@ -1,7 +1,18 @@
 use Rattle.std.proofs.Common.{sym, subst}
+use Rattle.check_call.specs.declared.spot.Change.{Change}
 use Rattle.check_lines.specs.Changes.{IsChange}
-use Rattle.check_lines.proofs.TakeLaws.{keeps_delivery, changed_stands}
+use Rattle.check_lines.proofs.TakeLaws.{keeps_delivery, changed_stands, nothing_changes, nothing_undone}
 use Rattle.check_lines.proofs.trace.Trace.change.Goals as goal
+
+pub returns-in-Nothing-clause-kept : goal.returns-in-Nothing-clause-kept
+returns-in-Nothing-clause-kept c v w f keeps made ch changes =
+    nothing_changes v w c.args.self.now c.args.id f keeps made
+    (subst (λ (x : Change). IsChange c.args.self.now c.args.id x f) c.in-Nothing.is ch) changes
+
+pub returns-in-Nothing-clause-block : goal.returns-in-Nothing-clause-block
+returns-in-Nothing-clause-block c o f ch made is =
+    nothing_undone c.args.self.now c.args.self.now.delivery o c.args.id f made
+    (subst (λ (x : Change). IsChange c.args.self.now c.args.id x f) c.in-Nothing.is ch) is
 
 pub returns-clause-kept : goal.returns-clause-kept
 returns-clause-kept c v w f keeps made ch changes =

@@ -7,8 +7,14 @@ use Rattle.check_lines.specs.Traces.{call_in}
 use Rattle.check_lines.specs.Changes.{call_or}
 use Rattle.check_lines.specs.Sends.{sent_with}
 use Rattle.check_lines.proofs.Places.{place_within, call_changed}
+use Rattle.check_lines.proofs.SendLaws.{not_sent}
 use Rattle.check_lines.proofs.trace.Trace.note_last.Goals as goal
 use Rattle.check_lines.proofs.trace.Trace.note_last.Goals.{then-call, else-call}
+
+pub returns-then-not-is_of_client-clause-calls : goal.returns-then-not-is_of_client-clause-calls
+returns-then-not-is_of_client-clause-calls c q =
+    let t = c.args.self.now in
+    not_sent c.args.packet.now c.args.packet.now.id q (call_in t.ids.keys t.calls.items) (sym c.is_of_client.ensures ∙ c.if-not-is_of_client.true)
 
 pub returns-clause-calls : goal.returns-clause-calls
 returns-clause-calls c q =

@@ -1,5 +1,6 @@
-use Rattle.std.proofs.Common.{ap, ◌∙◌, arith}
+use Rattle.std.proofs.Common.{ap, ◌∙◌, arith, rules}
 use Rattle.std.proofs.lemmas.List.{take_rest}
+use Rattle.homa_io.proofs.Counts.{kept_behind}
 use Rattle.homa_io.proofs.Holding.{stays_whole, goes_on}
 use Rattle.homa_io.proofs.held.HeldSink.flush.Goals as goal
 
@@ -8,10 +9,17 @@ returns-in_err-self-clause-whole g c =
     let l = c.loop-self in
     stays_whole _ _ _ _ _ _ _ (ap (λ v. v.items) l.invariant.items) l.invariant.onward l.invariant.so_far c.in_err-self.ensures.err
 
-pub returns-in_err-self-clause-grows : goal.returns-in_err-self-clause-grows
-returns-in_err-self-clause-grows g c =
+pub returns-in_err-self-clause-below : goal.returns-in_err-self-clause-below
+returns-in_err-self-clause-below g c =
     let l = c.loop-self in
-    (_, c.in_err-self.ensures.err ∙ l.invariant.so_far)
+    let e = c.in_err-self.ensures in
+    record {
+      grows = (_, e.err ∙ l.invariant.so_far);
+      risen = search rules;
+      quiet = search rules;
+      never_falls = kept_behind _ _ _ l.invariant.quiet e.never_falls;
+      same = g.met.K.Sink.same_on _ _ _ l.invariant.same e.same;
+    }
 
 pub loop-self-preserved : goal.loop-self-preserved
 loop-self-preserved g c =

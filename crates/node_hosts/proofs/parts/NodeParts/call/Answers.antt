@@ -1,4 +1,4 @@
-use Rattle.std.proofs.Common.{◌<◌, sym, ap, subst, arith}
+use Rattle.std.proofs.Common.{◌<◌, refl, sym, ap, ◌∙◌, subst, arith}
 use Rattle.homa_plain.specs.declared.event.Event.TheVariants as event
 use Rattle.homa_plain.specs.declared.fault.WorldFault.TheVariants as fault_word
 use Rattle.node_turns.specs.Acting.{IsRefused}
@@ -35,9 +35,17 @@ returns-in-Err-clause-fault g c = λ w stands.
     (subst (λ n. c.args.server.0 < n.settings.hosts) (sym c.begin-now.ensures.same) c.requires.server)
     c.in-Err.ensures.fault w (subst (λ n. StandsFor n w) (sym c.begin-now.ensures.same) stands))
 
-pub returns-in-Err-clause-kept : goal.returns-in-Err-clause-kept
-returns-in-Err-clause-kept g c = failed_kept _ c.begin-now.new.self c.call.new.self c.begin-now.ensures.kept
-    (ap (λ n. n.last) c.begin-now.ensures.same) c.in-Err.ensures.known c.call.ensures.seats
+pub returns-in-Err-clause-stays : goal.returns-in-Err-clause-stays
+returns-in-Err-clause-stays g c =
+    record {
+      kept = failed_kept _ c.begin-now.new.self c.call.new.self c.begin-now.ensures.kept
+          (ap (λ n. n.last) c.begin-now.ensures.same) c.in-Err.ensures.known c.call.ensures.seats;
+      stepped = record {
+        settings = ap (λ n. n.settings) c.begin-now.ensures.same;
+        clock = ap (λ n. n.clock) c.begin-now.ensures.same;
+        steps = omega (arith, ap (λ n. n.steps) c.begin-now.ensures.same);
+      };
+    }
 
 pub returns-clause-done : goal.returns-clause-done
 returns-clause-done g c =
@@ -50,13 +58,23 @@ returns-clause-done g c =
     (subst (λ n. c.args.server.0 < n.settings.hosts) (sym c.begin-now.ensures.same) c.requires.server) c.in_default.ensures.step
     c.in_default.ensures.no_fault).0
 
-pub returns-clause-kept : goal.returns-clause-kept
-returns-clause-kept g c =
-    (called _ (λ seat count number q r hold. Unit {0}) c.args.self.now c.begin-now.new.self c.finish.new.self c.begin-now.ensures.kept
-    (omega (arith, c.requires.few, ap (λ n. n.steps) c.begin-now.ensures.same)) c.begin-now.ensures.same
-    c.begin-now.result c.args.client c.begin-now.ensures.clock
-    (subst (λ n. c.args.client.0 < n.settings.hosts) (sym c.begin-now.ensures.same) c.requires.client) c.call.new.self
-    c.finish.ensures.same c.finish.ensures.few c.call.ensures.seats c.call.ensures.spares c.args.server c.args.number _ c.args.bytes.now
-    c.in_ok-request.ensures.items
-    (subst (λ n. c.args.server.0 < n.settings.hosts) (sym c.begin-now.ensures.same) c.requires.server) c.in_default.ensures.step
-    c.in_default.ensures.no_fault).1
+pub returns-clause-stays : goal.returns-clause-stays
+returns-clause-stays g c =
+    record {
+      kept = (called _ (λ seat count number q r hold. Unit {0}) c.args.self.now c.begin-now.new.self c.finish.new.self c.begin-now.ensures.kept
+          (omega (arith, c.requires.few, ap (λ n. n.steps) c.begin-now.ensures.same)) c.begin-now.ensures.same
+          c.begin-now.result c.args.client c.begin-now.ensures.clock
+          (subst (λ n. c.args.client.0 < n.settings.hosts) (sym c.begin-now.ensures.same) c.requires.client) c.call.new.self
+          c.finish.ensures.same c.finish.ensures.few c.call.ensures.seats c.call.ensures.spares c.args.server c.args.number _ c.args.bytes.now
+          c.in_ok-request.ensures.items
+          (subst (λ n. c.args.server.0 < n.settings.hosts) (sym c.begin-now.ensures.same) c.requires.server) c.in_default.ensures.step
+          c.in_default.ensures.no_fault).1;
+      stepped = record {
+        settings = ap (λ n. n.settings) c.finish.ensures.same ∙ ap (λ n. n.settings) c.begin-now.ensures.same;
+        clock = ap (λ n. n.clock) c.finish.ensures.same ∙ ap (λ n. n.clock) c.begin-now.ensures.same;
+        steps = omega (arith, ap (λ n. n.steps) c.finish.ensures.same, ap (λ n. n.steps) c.begin-now.ensures.same);
+      };
+    }
+
+pub returns-in_err-request-clause-stays : goal.returns-in_err-request-clause-stays
+returns-in_err-request-clause-stays g c = record { kept = c.requires.kept; stepped = record { settings = refl; clock = refl; steps = omega arith } }

@@ -38,7 +38,7 @@ use Rattle.core.proofs.alloc.Calls.{token}
 use Rattle.std_alloc.proofs.BoxSteps.Form.{D, R, B, τ, word, handle}
 use Rattle.std_alloc.proofs.BoxSteps.Steps.{box_out, box_in}
 use Rattle.homa_c.specs.Followed.{with_held}
-use Rattle.driven_host.specs.contracts.asking.AskingHost as Held
+use Rattle.late_host.specs.contracts.late.LateHost as Held
 use Rattle.homa_c.specs.contracts.handle.slot.Slot as Slotted
 use Rattle.homa_c.proofs.AsBox.{E}
 use Rattle.homa_c.specs.contracts.handle.slot.Slot.as_mut as F

@@ -2,7 +2,7 @@
 use Rattle.std.proofs.Common.{length, refl, arith}
 use Rattle.std.proofs.lemmas.Option.{slice_get_past, slice_get_read}
 use Rattle.homa_world.proofs.KindLaws.{kind_at, no_second}
-use Rattle.homa_world.proofs.kinds.Kind.of_datagram.Goals as goal
+use Rattle.homa_world.proofs.kinds.LineKind.of_datagram.Goals as goal
 
 pub returns-in_err-get : goal.returns-in_err-get
 returns-in_err-get c = λ wire p payload read.

@@ -5,7 +5,7 @@ use Rattle.host_view.specs.Marks.{shown}
 use Rattle.homa_host.specs.Public.{IsHeld}
 use Rattle.homa_world.specs.Kinds.{kind_of}
 use Rattle.homa_world.proofs.KindLaws.{frame_kind}
-use Rattle.homa_world.proofs.kinds.Kind.of_mark.Goals as goal
+use Rattle.homa_world.proofs.kinds.LineKind.of_mark.Goals as goal
 
 pub returns-in-Sent : goal.returns-in-Sent
 returns-in-Sent c = λ h whole is.
