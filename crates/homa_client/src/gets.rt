@@ -1,6 +1,6 @@
 //! What a packet of its server does to a row.
 //! Rules: what DATA, GRANT, RESEND, BUSY, UNKNOWN, NEED_ACK and CUTOFFS do to a call at its client, and which renew it.
-ghost use Rattle.std.specs.Prelude.{◌≡◌, List, ℕ, ◌+◌, ◌<◌, ◌≤◌, length, Some, None, IsSome, IfSome};
+ghost use Rattle.std.specs.Prelude.{◌≡◌, ℕ, ◌+◌, ◌<◌, ◌≤◌, length, Some, None, IsSome, IfSome};
 ghost use Rattle.homa_plain.specs.Outgoing.{grant};
 ghost use Rattle.homa_plain.specs.AtClient.{renewed, refreshed, started_over, answered, piece_comes, response_piece};
 ghost use Rattle.homa_plain.specs.AtServer.{piece_of};
