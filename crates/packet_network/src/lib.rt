@@ -8,6 +8,7 @@
 
 mod chance;
 mod event;
+mod fabric;
 mod fates;
 mod flow;
 mod measure;
