@@ -4,5 +4,5 @@ pub mod Standing
 pub mod Outlets
 pub mod Flows
 pub mod States
-pub mod Fabrics
+pub mod Paths
 pub mod Networks

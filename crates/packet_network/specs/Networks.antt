@@ -7,13 +7,13 @@ use Rattle.packet_network.specs.States.{NetworkState}
 
 -- how many packets are under way, by where they stand
 abbrev pub standing : Inside → ℕ
-standing n = in_agenda n.fabric.flow.agenda.dues + (waiting_at_all n.fabric.cards.items + waiting_at_all n.fabric.outputs.items)
+standing n = in_agenda n.paths.flow.agenda.dues + (waiting_at_all n.paths.cards.items + waiting_at_all n.paths.outputs.items)
 
 abbrev pub state_of : Inside → NetworkState
 state_of n = record {
-  moment = n.fabric.flow.agenda.moment;
-  fates = n.fabric.flow.census.fates;
+  moment = n.paths.flow.agenda.moment;
+  fates = n.paths.flow.census.fates;
   under_way = standing n;
-  loss = n.fabric.network.loss;
-  repeat = n.fabric.network.repeat;
+  loss = n.paths.network.loss;
+  repeat = n.paths.network.repeat;
 }

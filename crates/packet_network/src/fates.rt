@@ -1,5 +1,5 @@
 // What became of packets.
-ghost use Rattle.std.specs.Prelude.{◌≡◌, ◌≤◌, ◌<◌, ◌+◌, ◌^◌, ◌↔◌, IsTrue};
+ghost use Rattle.std.specs.Prelude.{◌≡◌, ◌≤◌, ◌<◌, ◌+◌, ◌^◌, IsTrue};
 ghost use Rattle.packet_network.specs.Censuses.{IsConserved, one_sent, one_repeated, one_lost, one_refused, one_delivered, no_fates};
 
 /// What became of packets. Each that was sent, and each that came twice, was delivered, lost, refused by a full queue or too old

@@ -4,7 +4,7 @@ ghost use Rattle.packet_network.specs.Standing.{in_agenda, carried};
 ghost use Rattle.packet_network.specs.Censuses.{one_sent, one_repeated, one_lost, one_refused, one_delivered, IsStill};
 
 use crate::chance::chance_of;
-use crate::event::{Event, Place, Task};
+use crate::event::{NetworkEvent, Place, Task};
 use crate::fates::Census;
 use crate::outlet::Outlet;
 use crate::packet::SimPacket;
@@ -17,7 +17,7 @@ use run_gauges::Receiver;
 /// wait at a queue.
 #[derive(Drop)]
 pub(crate) struct Flow {
-    pub(crate) agenda: Agenda<Event>,
+    pub(crate) agenda: Agenda<NetworkEvent>,
     pub(crate) receivers: Vec<Receiver>,
     pub(crate) census: Census,
     ghost all_receivers: { length receivers.items ≡ 32 },
@@ -45,13 +45,14 @@ impl Flow {
     }
 
     /// A task is due at a moment, or now where that is over.
+    #[tactic(auto, using(crate::proofs::StandingLaws::one_due))]
     pub(crate) fn enter(&mut self, at: u64, task: Task) -> Result<(), NetworkStop>
         ensures census { self.new.census ≡ self.old.census }
         ensures moment { self.new.agenda.moment ≡ self.old.agenda.moment }
         ensures packets { in_agenda self.new.agenda.dues ≡ in_agenda self.old.agenda.dues }
     {
         self.in_time()?;
-        self.agenda.enter(at, Event::Task(task))?;
+        self.agenda.enter(at, NetworkEvent::Task(task))?;
         Ok(())
     }
 
@@ -131,11 +132,12 @@ impl Flow {
     }
 
     /// A packet of which nothing was due is on its way until a moment, or lost where memory runs out.
+    #[tactic(auto, using(crate::proofs::StandingLaws::one_due))]
     pub(crate) fn carry(
         &mut self,
         at: u64,
         packet: &SimPacket,
-        event: Event,
+        event: NetworkEvent,
     ) -> Result<(), NetworkStop>
         requires carried { carried event ≡ 1 }
         requires outside { 0 < outside self.old }
@@ -153,6 +155,7 @@ impl Flow {
     }
 
     // A packet comes to the switch once more, at a moment.
+    #[tactic(auto, using(crate::proofs::StandingLaws::one_due))]
     fn repeat(&mut self, at: u64, packet: &SimPacket) -> Result<(), NetworkStop>
         requires repeated { self.old.census.fates.repeated < 2 ^ 62 }
         requires entered { self.old.agenda.count < 2 ^ 63 }
@@ -162,14 +165,15 @@ impl Flow {
         ensures moment { self.new.agenda.moment ≡ self.old.agenda.moment }
         ensures entered { self.new.agenda.count ≤ self.old.agenda.count + 1 }
     {
-        self.agenda.enter(at, Event::AtSwitch(*packet))?;
+        self.agenda.enter(at, NetworkEvent::AtSwitch(*packet))?;
         self.census.repeats();
         self.goes_to(packet);
         Ok(())
     }
 
     /// What is due next happens now: a packet that it has with it is under way without anything due.
-    pub(crate) fn next(&mut self) -> Option<Event>
+    #[tactic(auto, using(crate::proofs::StandingLaws::one_happens))]
+    pub(crate) fn next(&mut self) -> Option<NetworkEvent>
         ensures some { IfSome result (λ event. outside self.new ≡ outside self.old + carried event) }
         ensures none { result ≡ None → outside self.new ≡ outside self.old }
         ensures census { self.new.census ≡ self.old.census }
@@ -209,6 +213,7 @@ impl Flow {
     }
 
     /// A packet left its card and is on its way to the switch, or is lost.
+    #[tactic(auto, using(crate::proofs::StandingLaws::one_due))]
     pub(crate) fn leave_card(
         &mut self,
         place: Place,
@@ -230,7 +235,7 @@ impl Flow {
     {
         let chance = chance_of(seed, packet.name, network);
         let at = passage.there + network.switch + chance.late;
-        let freed = self.agenda.enter(passage.left, Event::CardFree(place));
+        let freed = self.agenda.enter(passage.left, NetworkEvent::CardFree(place));
         let repeated = if chance.is_repeated {
             self.repeat(at + network.switch, packet)
         } else {
@@ -240,7 +245,7 @@ impl Flow {
             self.lose(packet);
             Ok(())
         } else {
-            self.carry(at, packet, Event::AtSwitch(*packet))
+            self.carry(at, packet, NetworkEvent::AtSwitch(*packet))
         };
         freed?;
         repeated?;
@@ -248,6 +253,7 @@ impl Flow {
     }
 
     /// A packet left its output and is on its way to its host.
+    #[tactic(auto, using(crate::proofs::StandingLaws::one_due))]
     pub(crate) fn leave_output(
         &mut self,
         place: Place,
@@ -267,9 +273,9 @@ impl Flow {
         self.set_taken(place, true);
         let freed = self
             .agenda
-            .enter(passage.left, Event::OutputFree(place));
+            .enter(passage.left, NetworkEvent::OutputFree(place));
         let at = passage.there + software(packet, network);
-        let carried = self.carry(at, packet, Event::AtHost(*packet));
+        let carried = self.carry(at, packet, NetworkEvent::AtHost(*packet));
         freed?;
         carried
     }

@@ -1,10 +1,10 @@
 //! A network as its user sees it.
-ghost use Rattle.std.specs.Prelude.{◌≡◌, ◌≤◌, ◌<◌, ◌+◌, ◌^◌, IfOk, OnOk, OnErr};
+ghost use Rattle.std.specs.Prelude.{◌≡◌, ◌≤◌, ◌<◌, ◌+◌, IfOk, OnOk};
 ghost use Rattle.packet_network.specs.Censuses.{IsConserved, no_fates};
 ghost use Rattle.packet_network.specs.States.{arrived};
 
-use crate::event::{Begun, Event, Reached, Task};
-use crate::fabric::Fabric;
+use crate::event::{Begun, NetworkEvent, Reached, Task};
+use crate::paths::PacketPaths;
 use crate::fates::Fates;
 use crate::measure::{Down, Level, Waits};
 use crate::outlet::Outlet;
@@ -20,7 +20,7 @@ use std::marker::Model;
 /// packets.
 #[derive(Drop)]
 pub struct PacketNetwork {
-    fabric: Fabric,
+    paths: PacketPaths,
 }
 
 impl Model for PacketNetwork {
@@ -48,22 +48,22 @@ impl PacketNetwork {
         ensures loss { IfOk result (λ n. n.loss ≡ experiment.now.network.loss) }
         ensures repeat { IfOk result (λ n. n.repeat ≡ experiment.now.network.repeat) }
     {
-        let fabric = Fabric::open(alloc, experiment, seed)?;
-        Ok(PacketNetwork { fabric })
+        let paths = PacketPaths::open(alloc, experiment, seed)?;
+        Ok(PacketNetwork { paths })
     }
 
     /// The moment of what came last.
     pub fn now(&self) -> u64
         ensures { result ≡ self.now.moment }
     {
-        self.fabric.flow.agenda.now()
+        self.paths.flow.agenda.now()
     }
 
     /// A task is due at a moment, or now where that is over.
     pub fn enter(&mut self, at: u64, task: Task) -> Result<(), NetworkStop>
         ensures { self.new ≡ self.old }
     {
-        self.fabric.flow.enter(at, task)
+        self.paths.flow.enter(at, task)
     }
 
     /// A packet comes to its sender's card. If the card's link is free the next packet there begins, which is told. Where it fails
@@ -77,7 +77,7 @@ impl PacketNetwork {
         ensures lossless { OnOk result (IsLossless self.old self.new) }
         ensures given { IsAsGiven self.old self.new }
     {
-        self.fabric.send(packet)
+        self.paths.send(packet)
     }
 
     /// What happens next, or none where nothing is due. Where memory runs out a packet that was to go on is lost.
@@ -89,7 +89,7 @@ impl PacketNetwork {
         ensures lossless { OnOk result (IsLossless self.old self.new) }
         ensures given { IsAsGiven self.old self.new }
     {
-        self.fabric.next()
+        self.paths.next()
     }
 
     /// The packet that was told last to be at its host was too old: it doesn't count as delivered.
@@ -101,14 +101,14 @@ impl PacketNetwork {
         ensures moment { self.new.moment ≡ self.old.moment }
         ensures given { IsAsGiven self.old self.new }
     {
-        self.fabric.flow.age();
+        self.paths.flow.age();
     }
 
     /// How many bytes wait at a host's card.
     pub fn card_bytes(&self, host: HostId) -> u64
         requires { host.0 < 32 }
     {
-        self.fabric.cards[host.0 as usize].bytes()
+        self.paths.cards[host.0 as usize].bytes()
     }
 
     /// What became of packets from the beginning on.
@@ -116,14 +116,14 @@ impl PacketNetwork {
         ensures value { result ≡ self.now.fates }
         ensures conserved { IsConserved result self.now.under_way }
     {
-        self.fabric.flow.census.fates
+        self.paths.flow.census.fates
     }
 
     /// How many packets are under way.
     pub fn under_way(&self) -> u64
         ensures { result ≡ self.now.under_way }
     {
-        self.fabric.flow.census.under_way
+        self.paths.flow.census.under_way
     }
 
     /// One more message to a receiver has bytes that aren't granted.
@@ -131,7 +131,7 @@ impl PacketNetwork {
         requires { host.0 < 32 }
         ensures { self.new ≡ self.old }
     {
-        self.fabric.flow.receivers[host.0 as usize].opens(self.fabric.flow.agenda.now());
+        self.paths.flow.receivers[host.0 as usize].opens(self.paths.flow.agenda.now());
     }
 
     /// One message less has such bytes.
@@ -139,7 +139,7 @@ impl PacketNetwork {
         requires { host.0 < 32 }
         ensures { self.new ≡ self.old }
     {
-        self.fabric.flow.receivers[host.0 as usize].closes(self.fabric.flow.agenda.now());
+        self.paths.flow.receivers[host.0 as usize].closes(self.paths.flow.agenda.now());
     }
 
     /// The first piece of a sender's message came to a receiver.
@@ -148,7 +148,7 @@ impl PacketNetwork {
         requires sender { sender.0 < 32 }
         ensures { self.new ≡ self.old }
     {
-        self.fabric.flow.receivers[host.0 as usize].begins(self.fabric.flow.agenda.now(), sender.0 as usize);
+        self.paths.flow.receivers[host.0 as usize].begins(self.paths.flow.agenda.now(), sender.0 as usize);
     }
 
     /// A sender's message of which a piece came is whole, or given up.
@@ -157,7 +157,7 @@ impl PacketNetwork {
         requires sender { sender.0 < 32 }
         ensures { self.new ≡ self.old }
     {
-        self.fabric.flow.receivers[host.0 as usize].completes(self.fabric.flow.agenda.now(), sender.0 as usize);
+        self.paths.flow.receivers[host.0 as usize].completes(self.paths.flow.agenda.now(), sender.0 as usize);
     }
 
     /// How a receiver's link was used up to now, since counting began anew.
@@ -165,7 +165,7 @@ impl PacketNetwork {
         requires { host.0 < 32 }
         ensures { self.now.moment ≤ result.since }
     {
-        self.fabric.flow.receivers[host.0 as usize].spans_at(self.fabric.flow.agenda.now())
+        self.paths.flow.receivers[host.0 as usize].spans_at(self.paths.flow.agenda.now())
     }
 
     /// For how long the link of a host's card was taken up to now, since counting began anew.
@@ -173,17 +173,17 @@ impl PacketNetwork {
         requires { host.0 < 32 }
         ensures { result ≤ self.now.moment }
     {
-        self.fabric.cards[host.0 as usize].taken(self.fabric.flow.agenda.now())
+        self.paths.cards[host.0 as usize].taken(self.paths.flow.agenda.now())
     }
 
     /// How packets waited at cards up to now, since counting began anew.
     pub fn cards(&self) -> Waits {
-        all_waits(&self.fabric.cards, self.fabric.flow.agenda.now())
+        all_waits(&self.paths.cards, self.paths.flow.agenda.now())
     }
 
     /// How packets waited at the switch's outputs up to now, since counting began anew.
     pub fn outputs(&self) -> Waits {
-        all_waits(&self.fabric.outputs, self.fabric.flow.agenda.now())
+        all_waits(&self.paths.outputs, self.paths.flow.agenda.now())
     }
 
     /// What waited and passed at a level of the switch's outputs up to now, since counting began anew.
@@ -191,32 +191,32 @@ impl PacketNetwork {
         requires { level < 8 }
     {
         let mut sum = Level::new();
-        for output in &self.fabric.outputs {
-            sum = output.add_level(self.fabric.flow.agenda.now(), level, &sum);
+        for output in &self.paths.outputs {
+            sum = output.add_level(self.paths.flow.agenda.now(), level, &sum);
         }
         sum
     }
 
     /// The bytes that outputs began to send since counting began anew, by why they were sent.
     pub fn down(&self) -> Down {
-        self.fabric.down
+        self.paths.down
     }
 
     /// Counting begins anew: from now on gauges, spans, waits and bytes are those of what comes. Fates go on.
     pub fn restart(&mut self)
         ensures { self.new ≡ self.old }
     {
-        let now = self.fabric.flow.agenda.now();
-        for card in self.fabric.cards.iter_mut() {
+        let now = self.paths.flow.agenda.now();
+        for card in self.paths.cards.iter_mut() {
             card.restart(now);
         }
-        for output in self.fabric.outputs.iter_mut() {
+        for output in self.paths.outputs.iter_mut() {
             output.restart(now);
         }
-        for receiver in self.fabric.flow.receivers.iter_mut() {
+        for receiver in self.paths.flow.receivers.iter_mut() {
             receiver.restart(now);
         }
-        self.fabric.down = Down::new();
+        self.paths.down = Down::new();
     }
 }
 

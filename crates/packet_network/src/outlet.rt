@@ -100,6 +100,7 @@ impl Outlet {
     }
 
     // A packet is queued, or not where there is no room.
+    #[tactic(auto, using(crate::proofs::StandingLaws::one_enters))]
     fn queue(&mut self, level: usize, packet: SimPacket) -> Result<bool, AllocError>
         requires { level < 8 }
         ensures fits { result ≡ Ok true → waiting_at self.new ≡ waiting_at self.old + 1 }
@@ -145,6 +146,7 @@ impl Outlet {
     }
 
     // The packet that goes next.
+    #[tactic(auto, using(crate::proofs::StandingLaws::one_leaves))]
     fn next(&mut self) -> Option<SimPacket>
         ensures some { IfSome result (λ _. waiting_at self.new + 1 ≡ waiting_at self.old) }
         ensures none { result ≡ None → waiting_at self.new ≡ waiting_at self.old }

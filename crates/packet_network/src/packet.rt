@@ -7,7 +7,7 @@ use homa_plain::HostId;
 
 /// Why a packet is sent.
 #[derive(Clone, Copy, Debug, PartialEq, Eq)]
-pub enum Traffic {
+pub enum PacketCause {
     /// Bytes of a message for the first time.
     First,
     /// Bytes of a message that were sent before.
@@ -29,7 +29,7 @@ pub struct Piece {
 
 /// Up to which byte of which message a packet grants: the call by its place in the list of calls.
 #[derive(Clone, Copy, Debug, PartialEq, Eq)]
-pub struct Grant {
+pub struct PieceGrant {
     pub call: u32,
     pub upto: u32,
     pub is_response: bool,
@@ -50,11 +50,11 @@ pub struct SimPacket {
     pub left: u32,
     pub name: PacketName,
     pub piece: Option<Piece>,
-    pub grant: Option<Grant>,
+    pub grant: Option<PieceGrant>,
     pub from: HostId,
     pub to: HostId,
     pub level: u8,
-    pub traffic: Traffic,
+    pub cause: PacketCause,
     ghost sender: { from.0 < 32 },
     ghost receiver: { to.0 < 32 },
 }

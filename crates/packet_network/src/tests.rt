@@ -1,7 +1,7 @@
 // Packets whose ways are worked out by hand. A byte takes 800 ps; a link 700 ns; the switch 250 ns; a host 100 ns.
 ghost use Rattle.std.specs.Prelude.{◌<◌};
 
-use crate::{Fates, PacketNetwork, Reached, SimPacket, Task, Traffic};
+use crate::{Fates, PacketNetwork, Reached, SimPacket, Task, PacketCause};
 use experiment::{PacketName, read};
 use homa_io::MemSource;
 use homa_plain::HostId;
@@ -43,7 +43,7 @@ fn packet(from: u16, to: u16, bytes: u32, left: u32) -> SimPacket
         from: HostId(from),
         to: HostId(to),
         level: 0,
-        traffic: Traffic::Control,
+        cause: PacketCause::Control,
     }
 }
 

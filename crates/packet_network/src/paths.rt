@@ -1,11 +1,11 @@
 // Where packets are, and how they go on.
-ghost use Rattle.std.specs.Prelude.{◌≡◌, ◌≤◌, ◌<◌, ◌+◌, ◌^◌, length, IfOk, OnOk, OnErr};
+ghost use Rattle.std.specs.Prelude.{◌≡◌, ◌≤◌, ◌<◌, ◌+◌, ◌^◌, length, IfOk, OnOk};
 ghost use Rattle.packet_network.specs.Standing.{in_agenda};
 ghost use Rattle.packet_network.specs.Outlets.{waiting_at_all};
-ghost use Rattle.packet_network.specs.Censuses.{one_sent, IsStill, no_fates};
+ghost use Rattle.packet_network.specs.Censuses.{IsStill, no_fates};
 ghost use Rattle.packet_network.specs.States.{arrived, arriving};
 
-use crate::event::{Begun, Event, Place, Reached};
+use crate::event::{Begun, NetworkEvent, Place, Reached};
 use crate::fates::Census;
 use crate::flow::Flow;
 use crate::measure::Down;
@@ -20,7 +20,7 @@ use std::alloc::{AllocError, Global};
 /// What is due, the queues and links of each host, and what was sent to hosts. Each packet that is under way has something due, or
 /// waits at a card or an output.
 #[derive(Drop)]
-pub(crate) struct Fabric {
+pub(crate) struct PacketPaths {
     pub(crate) flow: Flow,
     pub(crate) cards: Vec<Outlet>,
     pub(crate) outputs: Vec<Outlet>,
@@ -60,16 +60,15 @@ fn receivers(alloc: Global, overcommit: u32) -> Result<Vec<Receiver>, AllocError
     Ok(receivers)
 }
 
-impl Fabric {
-    ghost use Rattle.packet_network.specs.Flows.{IsInTime};
-    ghost use Rattle.packet_network.specs.Fabrics.{IsAsGiven, IsLossless};
+impl PacketPaths {
+    ghost use Rattle.packet_network.specs.Paths.{IsAsGiven, IsLossless};
 
     /// Nothing is due, and nothing under way.
     pub(crate) fn open(
         alloc: Global,
         experiment: &Experiment,
         seed: u64,
-    ) -> Result<Fabric, AllocError>
+    ) -> Result<PacketPaths, AllocError>
         ensures moment { IfOk result (λ f. f.flow.agenda.moment ≡ 0) }
         ensures fates { IfOk result (λ f. f.flow.census.fates ≡ no_fates) }
         ensures under_way { IfOk result (λ f. f.flow.census.under_way ≡ 0) }
@@ -82,7 +81,7 @@ impl Fabric {
             receivers: receivers(alloc, experiment.settings.overcommit)?,
             census: Census::new(),
         };
-        Ok(Fabric {
+        Ok(PacketPaths {
             flow,
             cards: outlets(alloc, &network, network.card, u64::MAX)?,
             outputs: outlets(alloc, &network, Card::Levels, u64::from(network.buffer))?,
@@ -93,6 +92,7 @@ impl Fabric {
     }
 
     /// A packet comes to its sender's card. If the card's link is free the next packet there begins, which is told.
+    #[tactic(auto, using(crate::proofs::StandingLaws::one_changes))]
     pub(crate) fn send(&mut self, packet: SimPacket) -> Result<Option<Begun>, NetworkStop>
         ensures sent { OnOk result (self.new.flow.census.fates.sent ≡ self.old.flow.census.fates.sent + 1) }
         ensures at_most_one { self.new.flow.census.fates.sent ≤ self.old.flow.census.fates.sent + 1 }
@@ -114,6 +114,7 @@ impl Fabric {
     }
 
     // A card sends its next packet, if its link is free.
+    #[tactic(auto, using(crate::proofs::StandingLaws::one_changes))]
     fn begin_at_card(&mut self, place: Place) -> Result<Option<Begun>, NetworkStop>
         requires entered { self.old.flow.agenda.count < 2 ^ 62 }
         requires repeated { self.old.flow.census.fates.repeated < 2 ^ 62 }
@@ -132,6 +133,7 @@ impl Fabric {
     }
 
     // An output sends its next packet, if its link is free.
+    #[tactic(auto, using(crate::proofs::StandingLaws::one_changes))]
     fn begin_at_output(&mut self, place: Place) -> Result<Reached, NetworkStop>
         requires { self.old.flow.agenda.count < 2 ^ 62 }
         ensures still { IsStill self.old.flow.census.fates self.new.flow.census.fates }
@@ -148,13 +150,14 @@ impl Fabric {
             }
             return Ok(Reached::Nothing);
         };
-        self.down.passes(packet.traffic, u64::from(packet.bytes));
+        self.down.passes(packet.cause, u64::from(packet.bytes));
         self.flow
             .leave_output(place, &packet, passage, &self.network)?;
         Ok(Reached::Output(packet.begun(place, now)))
     }
 
     /// What happens next, or none where nothing is due.
+    #[tactic(auto, using(crate::proofs::StandingLaws::one_changes))]
     pub(crate) fn next(&mut self) -> Result<Option<Reached>, NetworkStop>
         ensures sent { self.new.flow.census.fates.sent ≡ self.old.flow.census.fates.sent }
         ensures arrived { IfOk result (λ r. self.new.flow.census.fates.delivered ≡ self.old.flow.census.fates.delivered + arrived r) }
@@ -168,19 +171,19 @@ impl Fabric {
             return Ok(None);
         };
         let reached = match event {
-            Event::Task(task) => Reached::Task(task),
-            Event::CardFree(place) => match self.begin_at_card(place)? {
+            NetworkEvent::Task(task) => Reached::Task(task),
+            NetworkEvent::CardFree(place) => match self.begin_at_card(place)? {
                 Some(begun) => Reached::Card(begun),
                 None => Reached::Nothing,
             },
-            Event::OutputFree(place) => self.begin_at_output(place)?,
-            Event::AtSwitch(packet) => {
+            NetworkEvent::OutputFree(place) => self.begin_at_output(place)?,
+            NetworkEvent::AtSwitch(packet) => {
                 let place = packet.receiver();
                 let output = &mut self.outputs[place.host as usize];
                 let waits = self.flow.reach(output, &packet)?;
                 if waits { self.begin_at_output(place)? } else { Reached::Nothing }
             }
-            Event::AtHost(packet) => {
+            NetworkEvent::AtHost(packet) => {
                 self.flow.deliver(&packet);
                 Reached::AtHost(packet)
             }
