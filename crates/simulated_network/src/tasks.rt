@@ -1,0 +1,131 @@
+// What a task makes of the network, and what happens in the world then.
+use crate::network::SimulatedNetwork;
+use crate::step::Step;
+use experiment::wire_of_call;
+use homa_plain::{Event, HostId};
+use packet_network::{NetworkStop, Task};
+
+/// An event without bytes.
+pub(crate) fn happens(event: Event) -> Step {
+    Step::Event { event, bytes: 0 }
+}
+
+impl SimulatedNetwork<'_> {
+    /// A task begins.
+    pub(crate) fn begins(&mut self, task: Task) -> Result<Step, NetworkStop> {
+        match task {
+            Task::Clock => self.ticks(),
+            Task::Turn(host) => Ok(self.turn(host)),
+            Task::Calls(client) => self.calls(client),
+            Task::Listed(i) => self.listed(i),
+            Task::Restart(i) => Ok(self.restart(i)),
+            Task::Inject(i) => Ok(self.inject(i)),
+            Task::Shift(i) => Ok(self.shift(i)),
+        }
+    }
+
+    // The clock goes on, and turns are due.
+    fn ticks(&mut self) -> Result<Step, NetworkStop> {
+        let (tick, is_spread) = (
+            self.experiment.network.tick,
+            self.experiment.network.is_spread,
+        );
+        let hosts = self.experiment.settings.hosts;
+        let now = self.packets.now();
+        for host in 0..hosts {
+            let late = if is_spread {
+                tick * u64::from(host) / u64::from(hosts)
+            } else {
+                0
+            };
+            let at = now.saturating_add(late);
+            self.packets.enter(at, Task::Turn(HostId(host as u16)))?;
+        }
+        self.packets.enter(now.saturating_add(tick), Task::Clock)?;
+        Ok(happens(Event::Clock))
+    }
+
+    // A host has its turn, unless too much waits at its network card.
+    fn turn(&mut self, host: HostId) -> Step {
+        let limit = u64::from(self.experiment.network.card_limit);
+        if self.packets.card_bytes(host) > limit {
+            self.trouble.held = self.trouble.held.saturating_add(1);
+            return Step::Inside;
+        }
+        happens(Event::Turn { host })
+    }
+
+    // A client makes calls now, and its next ones are due.
+    fn calls(&mut self, client: HostId) -> Result<Step, NetworkStop> {
+        let gap = self.arrivals.next_gap();
+        let next = self.packets.now().saturating_add(gap);
+        self.packets.enter(next, Task::Calls(client))?;
+        self.arrivals.begin(self.experiment, client);
+        Ok(Step::Inside)
+    }
+
+    // The call of a list with this number is made, and the next one is due.
+    fn listed(&mut self, i: u32) -> Result<Step, NetworkStop> {
+        let Some(call) = self.experiment.listed.get(i as usize) else {
+            return Ok(Step::Inside);
+        };
+        let next = i.saturating_add(1);
+        if let Some(later) = self.experiment.listed.get(next as usize) {
+            self.packets.enter(later.at, Task::Listed(next))?;
+        }
+        Ok(self.call(call.client, call.server, call.bytes))
+    }
+
+    // The restart with this number.
+    fn restart(&mut self, i: u32) -> Step {
+        match self.experiment.restarts.get(i as usize) {
+            Some(restart) => happens(Event::Restart { host: restart.host }),
+            None => Step::Inside,
+        }
+    }
+
+    // The datagram with this number that no host sent.
+    fn inject(&mut self, i: u32) -> Step {
+        match self.experiment.injections.get(i as usize) {
+            Some(injection) => Step::Event {
+                event: Event::Inject {
+                    host: injection.host,
+                },
+                bytes: injection.bytes,
+            },
+            None => Step::Inside,
+        }
+    }
+
+    // The setting of a clock with this number.
+    fn shift(&mut self, i: u32) -> Step {
+        match self.experiment.shifts.get(i as usize) {
+            Some(shift) => happens(Event::Shift {
+                host: shift.host,
+                n: shift.ticks,
+            }),
+            None => Step::Inside,
+        }
+    }
+
+    /// A call was drawn, or is the next of the list. Measuring may begin or end with it.
+    pub(crate) fn call(&mut self, client: HostId, server: HostId, bytes: u32) -> Step {
+        let load = &self.experiment.load;
+        let drawn = self.arrivals.drawn();
+        if drawn == load.warm {
+            self.packets.restart();
+            self.window.open(self.packets.now());
+        }
+        if drawn == load.warm + load.calls {
+            self.window
+                .close(&self.packets, self.experiment.settings.hosts);
+        }
+        self.window.offers(wire_of_call(self.experiment, bytes));
+        self.arrivals.count();
+        Step::Call {
+            client,
+            server,
+            bytes,
+        }
+    }
+}
