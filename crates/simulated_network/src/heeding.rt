@@ -132,6 +132,7 @@ impl SimulatedNetwork<'_> {
             left: mark.left,
             name: mark.name,
             piece: mark.piece,
+            grant: mark.grant,
             from: sent.from,
             to: sent.to,
             level: sent.level,

@@ -4,7 +4,7 @@ use crate::outcome::is_measured;
 use call_figures::{CallEnd, SimCall, SimCalls, Transfer, Transfers};
 use experiment::Experiment;
 use homa_plain::{Body, CallId, HostId, Role};
-use packet_network::{Begun, PacketNetwork, Piece, SimPacket};
+use packet_network::{Begun, Grant, PacketNetwork, Piece, SimPacket};
 use std::alloc::{AllocError, Global};
 
 /// All calls that were made with their messages, and how many of those that are measured are open.
@@ -16,6 +16,18 @@ pub(crate) struct KnownCalls<'a> {
     open: u64,
     // How many packets were sent of calls that aren't known.
     strange: u32,
+}
+
+// The grant that a packet of the call at a place is, if it is one. A client grants its response, and a server its request.
+fn grant_of(place: u32, role: Role, body: &Body) -> Option<Grant> {
+    match *body {
+        Body::Grant { offset, .. } => Some(Grant {
+            call: place,
+            upto: offset,
+            is_response: role == Role::Client,
+        }),
+        _ => None,
+    }
 }
 
 impl<'a> KnownCalls<'a> {
@@ -182,20 +194,13 @@ impl<'a> KnownCalls<'a> {
     }
 
     // A receiver grants a message up to a byte.
-    fn grants(
-        &mut self,
-        packets: &mut PacketNetwork,
-        receiver: HostId,
-        place: u32,
-        is_response: bool,
-        upto: u32,
-    ) {
-        let Some(message) = self.transfers.message(place, is_response) else {
+    fn grants(&mut self, packets: &mut PacketNetwork, receiver: HostId, grant: &Grant) {
+        let Some(message) = self.transfers.message(grant.call, grant.is_response) else {
             return;
         };
         let mut granted = message;
-        granted.grants(upto);
-        self.transfers.set(place, is_response, granted);
+        granted.grants(grant.upto);
+        self.transfers.set(grant.call, grant.is_response, granted);
         if message.came && !message.over && message.is_short() && !granted.is_short() {
             packets.closes(receiver);
         }
@@ -214,7 +219,7 @@ impl<'a> KnownCalls<'a> {
     // The mark of a packet of a call that isn't known.
     fn strange(&mut self) -> Mark {
         self.strange = self.strange.saturating_add(1);
-        Mark::control(u32::MAX, self.strange)
+        Mark::control(u32::MAX, self.strange, None)
     }
 
     /// What a packet says that a host sends; its payload has so many bytes.
@@ -243,11 +248,12 @@ impl<'a> KnownCalls<'a> {
             };
             return self.piece(packets.now(), call.drawn, piece);
         }
-        if let Body::Grant { offset, .. } = *body {
-            self.grants(packets, from, place, role == Role::Client, offset);
+        let grant = grant_of(place, role, body);
+        if let Some(grant) = grant {
+            self.grants(packets, from, &grant);
         }
         self.count(place, call, matches!(body, Body::Resend { .. }));
-        Mark::control(call.drawn, call.controls)
+        Mark::control(call.drawn, call.controls, grant)
     }
 
     // A piece comes to its receiver, which may be the first of its message.
@@ -275,6 +281,18 @@ impl<'a> KnownCalls<'a> {
     pub(crate) fn arrives(&mut self, packets: &mut PacketNetwork, packet: &SimPacket) {
         if let Some(piece) = packet.piece {
             self.comes(packets, packet.from, packet.to, &piece);
+        }
+        if let Some(grant) = packet.grant {
+            self.clears(packets.now(), &grant);
+        }
+    }
+
+    // A grant comes to its message's sender.
+    fn clears(&mut self, now: u64, grant: &Grant) {
+        if let Some(message) = self.transfers.message(grant.call, grant.is_response) {
+            let mut message = message;
+            message.clears(now, grant.upto);
+            self.transfers.set(grant.call, grant.is_response, message);
         }
     }
 

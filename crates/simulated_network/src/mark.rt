@@ -1,12 +1,13 @@
 // What a packet says of its call.
 use experiment::PacketName;
-use packet_network::{Piece, Traffic};
+use packet_network::{Grant, Piece, Traffic};
 
-/// What a packet says of its call: the bytes of a message, how they are counted, by which name it is drawn for, and how many bytes of
-/// its message are left.
+/// What a packet says of its call: which bytes of a message it has or which grant, how it is counted, by which name it is drawn for,
+/// and how many bytes of its message are left.
 #[derive(Clone, Copy, Debug, PartialEq, Eq)]
 pub(crate) struct Mark {
     pub(crate) piece: Option<Piece>,
+    pub(crate) grant: Option<Grant>,
     pub(crate) traffic: Traffic,
     pub(crate) name: PacketName,
     pub(crate) left: u32,
@@ -19,9 +20,10 @@ const CONTROL: u32 = 4;
 
 impl Mark {
     /// That of a packet without a piece, of a call by the order in which calls were drawn.
-    pub(crate) fn control(drawn: u32, times: u32) -> Mark {
+    pub(crate) fn control(drawn: u32, times: u32, grant: Option<Grant>) -> Mark {
         Mark {
             piece: None,
+            grant,
             traffic: Traffic::Control,
             name: PacketName {
                 call: drawn,
@@ -42,6 +44,7 @@ impl Mark {
         };
         Mark {
             piece: Some(piece),
+            grant: None,
             traffic,
             name: PacketName {
                 call: drawn,

@@ -111,8 +111,8 @@ impl<'a> SimulatedNetwork<'a> {
             return Ok(Step::Over);
         }
         if self.arrivals.is_due() {
-            let (client, server, bytes) = self.arrivals.call(self.experiment);
-            return Ok(self.call(client, server, bytes));
+            let asked = self.arrivals.call(self.experiment);
+            return Ok(self.call(&asked));
         }
         match self.packets.next()? {
             None => Ok(Step::Over),

@@ -1,4 +1,5 @@
 // What a task makes of the network, and what happens in the world then.
+use crate::arrivals::Asked;
 use crate::network::SimulatedNetwork;
 use crate::step::Step;
 use experiment::wire_of_call;
@@ -73,7 +74,12 @@ impl SimulatedNetwork<'_> {
         if let Some(later) = self.experiment.listed.get(next as usize) {
             self.packets.enter(later.at, Task::Listed(next))?;
         }
-        Ok(self.call(call.client, call.server, call.bytes))
+        let asked = Asked {
+            client: call.client,
+            server: call.server,
+            bytes: call.bytes,
+        };
+        Ok(self.call(&asked))
     }
 
     // The restart with this number.
@@ -109,7 +115,7 @@ impl SimulatedNetwork<'_> {
     }
 
     /// A call was drawn, or is the next of the list. Measuring may begin or end with it.
-    pub(crate) fn call(&mut self, client: HostId, server: HostId, bytes: u32) -> Step {
+    pub(crate) fn call(&mut self, asked: &Asked) -> Step {
         let load = &self.experiment.load;
         let drawn = self.arrivals.drawn();
         if drawn == load.warm {
@@ -120,12 +126,13 @@ impl SimulatedNetwork<'_> {
             self.window
                 .close(&self.packets, self.experiment.settings.hosts);
         }
-        self.window.offers(wire_of_call(self.experiment, bytes));
+        self.window
+            .offers(wire_of_call(self.experiment, asked.bytes));
         self.arrivals.count();
         Step::Call {
-            client,
-            server,
-            bytes,
+            client: asked.client,
+            server: asked.server,
+            bytes: asked.bytes,
         }
     }
 }
