@@ -11,6 +11,7 @@ mod link_use;
 mod mark;
 mod network;
 mod outcome;
+mod receivers;
 mod step;
 mod tasks;
 #[cfg(test)]

@@ -1,4 +1,6 @@
 // What a packet says of its call.
+ghost use Rattle.std.specs.Prelude.{◌≡◌, None, Some};
+
 use experiment::PacketName;
 use packet_network::{Grant, Piece, Traffic};
 
@@ -20,7 +22,10 @@ const CONTROL: u32 = 4;
 
 impl Mark {
     /// That of a packet without a piece, of a call by the order in which calls were drawn.
-    pub(crate) fn control(drawn: u32, times: u32, grant: Option<Grant>) -> Mark {
+    pub(crate) fn control(drawn: u32, times: u32, grant: Option<Grant>) -> Mark
+        ensures piece { result.piece ≡ None }
+        ensures grant { result.grant ≡ grant }
+    {
         Mark {
             piece: None,
             grant,
@@ -36,7 +41,10 @@ impl Mark {
     }
 
     /// That of a piece. Where it was sent before, so many packets of its message were.
-    pub(crate) fn piece(drawn: u32, times: Option<u32>, piece: Piece) -> Mark {
+    pub(crate) fn piece(drawn: u32, times: Option<u32>, piece: Piece) -> Mark
+        ensures piece { result.piece ≡ Some piece }
+        ensures grant { result.grant ≡ None }
+    {
         let side = u32::from(piece.is_response);
         let (traffic, kind) = match times {
             None => (Traffic::First, side),

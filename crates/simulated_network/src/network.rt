@@ -1,4 +1,9 @@
 // A simulated network, which tells what happens next in the world, and heeds what the world tells.
+ghost use Rattle.std.specs.Prelude.{◌≡◌, ◌≤◌, ◌<◌, ◌+◌, ◌-◌, ◌^◌, [], length, min, IfOk};
+ghost use Rattle.packet_network.specs.Censuses.{no_fates, IsConserved};
+ghost use Rattle.simulated_network.specs.Runs.{all_made, drawn_by, delivered_by, bytes_of};
+ghost use Rattle.simulated_network.specs.Troubles.{no_trouble, one_left_out};
+
 use crate::arrivals::Arrivals;
 use crate::known::KnownCalls;
 use crate::outcome::Outcome;
@@ -10,6 +15,7 @@ use experiment::Experiment;
 use homa_plain::{Event, HostId};
 use packet_network::{NetworkStop, PacketNetwork, Reached, SimPacket, Task};
 use std::alloc::Global;
+use std::marker::Model;
 
 /// All of a run but its world: what is due, the packets under way, and what is known of calls.
 #[derive(Drop)]
@@ -22,20 +28,41 @@ pub struct SimulatedNetwork<'a> {
     pub(crate) trouble: Trouble,
 }
 
+impl Model for SimulatedNetwork<'_> {
+    ghost use Rattle.simulated_network.specs.Runs.{RunState};
+
+    ghost Value = { RunState };
+
+    ghost view = { λ n. record {
+      network = n.packets;
+      calls = n.known.calls;
+      transfers = n.known.transfers;
+      drawn = n.arrivals.drawn;
+      trouble = n.trouble;
+    } };
+}
+
 impl<'a> SimulatedNetwork<'a> {
     /// The network of an experiment with a seed. The clock is due, and the first calls are.
     pub fn open(
         alloc: Global,
         experiment: &'a Experiment,
         seed: u64,
-    ) -> Result<SimulatedNetwork<'a>, NetworkStop> {
+    ) -> Result<SimulatedNetwork<'a>, NetworkStop>
+        ensures calls { IfOk result (λ n. n.calls ≡ []) }
+        ensures transfers { IfOk result (λ n. n.transfers ≡ []) }
+        ensures drawn { IfOk result (λ n. n.drawn ≡ 0) }
+        ensures moment { IfOk result (λ n. n.network.moment ≡ 0) }
+        ensures fates { IfOk result (λ n. n.network.fates ≡ no_fates) }
+        ensures trouble { IfOk result (λ n. n.trouble ≡ no_trouble) }
+    {
         let mut network = SimulatedNetwork {
             experiment,
             packets: PacketNetwork::open(alloc, experiment, seed)?,
             arrivals: Arrivals::new(experiment, seed),
             known: KnownCalls::new(alloc, experiment)?,
             window: Window::new(),
-            trouble: Trouble::NONE,
+            trouble: Trouble::new(),
         };
         network.packets.enter(experiment.network.tick, Task::Clock)?;
         network.enter_calls()?;
@@ -44,7 +71,9 @@ impl<'a> SimulatedNetwork<'a> {
     }
 
     // The first calls are due: of a list, or of each client, or of all clients of an incast at once.
-    fn enter_calls(&mut self) -> Result<(), NetworkStop> {
+    fn enter_calls(&mut self) -> Result<(), NetworkStop>
+        ensures { self.new ≡ self.old }
+    {
         let experiment = self.experiment;
         if let Some(first) = experiment.listed.first() {
             return self.packets.enter(first.at, Task::Listed(0));
@@ -62,7 +91,9 @@ impl<'a> SimulatedNetwork<'a> {
     }
 
     // What lines say that happens at a moment is due then.
-    fn enter_marks(&mut self) -> Result<(), NetworkStop> {
+    fn enter_marks(&mut self) -> Result<(), NetworkStop>
+        ensures { self.new ≡ self.old }
+    {
         let experiment = self.experiment;
         for (i, restart) in experiment.restarts.iter().enumerate() {
             self.packets.enter(restart.at, Task::Restart(i as u32))?;
@@ -77,17 +108,23 @@ impl<'a> SimulatedNetwork<'a> {
     }
 
     /// The moment of the last step, in picoseconds.
-    pub fn now(&self) -> u64 {
+    pub fn now(&self) -> u64
+        ensures { result ≡ self.now.network.moment }
+    {
         self.packets.now()
     }
 
     /// How many calls were drawn so far.
-    pub fn drawn(&self) -> u32 {
+    pub fn drawn(&self) -> u32
+        ensures { result ≡ self.now.drawn }
+    {
         self.arrivals.drawn()
     }
 
     /// How many calls were made so far.
-    pub fn made(&self) -> usize {
+    pub fn made(&self) -> usize
+        ensures { result ≡ length self.now.calls }
+    {
         self.known.calls.count()
     }
 
@@ -106,7 +143,15 @@ impl<'a> SimulatedNetwork<'a> {
     }
 
     /// What happens next; `tick` is that of the world's clock. It ends with `Step::Over`.
-    pub fn next(&mut self, tick: u64) -> Result<Step, NetworkStop> {
+    pub fn next(&mut self, tick: u64) -> Result<Step, NetworkStop>
+        ensures made { all_made self.new.calls ≡ all_made self.old.calls }
+        ensures drawn { IfOk result (λ step. self.new.drawn ≡ min (self.old.drawn + drawn_by step) (2 ^ 32 - 1)) }
+        ensures delivered { IfOk result (λ step. self.new.network.fates.delivered ≡ self.old.network.fates.delivered + delivered_by step) }
+        ensures sent { self.new.network.fates.sent ≡ self.old.network.fates.sent }
+        ensures forth { self.old.network.moment ≤ self.new.network.moment }
+        ensures bytes { IfOk result (λ step. bytes_of step ≤ 1000000) }
+        ensures left_out { self.new.trouble.left_out ≡ self.old.trouble.left_out }
+    {
         if self.is_over() {
             return Ok(Step::Over);
         }
@@ -131,7 +176,16 @@ impl<'a> SimulatedNetwork<'a> {
     }
 
     // A packet is at its host. With version 1 the world wouldn't take one that is too old.
-    fn arrives(&mut self, tick: u64, packet: &SimPacket) -> Step {
+    fn arrives(&mut self, tick: u64, packet: &SimPacket) -> Step
+        ensures made { all_made self.new.calls ≡ all_made self.old.calls }
+        ensures drawn { self.new.drawn ≡ self.old.drawn }
+        ensures step { drawn_by result ≡ 0 }
+        ensures bytes { bytes_of result ≡ 0 }
+        ensures delivered { 0 < self.old.network.fates.delivered → self.new.network.fates.delivered + 1 ≡ self.old.network.fates.delivered + delivered_by result }
+        ensures sent { self.new.network.fates.sent ≡ self.old.network.fates.sent }
+        ensures moment { self.new.network.moment ≡ self.old.network.moment }
+        ensures trouble { self.new.trouble ≡ self.old.trouble }
+    {
         let settings = &self.experiment.settings;
         let age = tick.saturating_sub(packet.tick);
         if settings.wire == 1 && age > u64::from(settings.life) {
@@ -144,12 +198,23 @@ impl<'a> SimulatedNetwork<'a> {
     }
 
     /// The call of the last step isn't made, as its client has as many live ones as it may.
-    pub fn leaves_out(&mut self) {
+    pub fn leaves_out(&mut self)
+        ensures { self.new ≡ record self.old { trouble = one_left_out self.old.trouble } }
+    {
         self.trouble.left_out = self.trouble.left_out.saturating_add(1);
     }
 
     /// What came of the run, which had so many events.
-    pub fn finish(self, events: u64) -> Outcome {
+    pub fn finish(self, events: u64) -> Outcome
+        ensures calls { result.calls ≡ self.calls }
+        ensures transfers { result.transfers ≡ self.transfers }
+        ensures fates { result.fates ≡ self.network.fates }
+        ensures conserved { IsConserved result.fates result.under_way }
+        ensures under_way { result.under_way ≡ self.network.under_way }
+        ensures trouble { result.trouble ≡ self.trouble }
+        ensures events { result.events ≡ events }
+        ensures ended { result.ended ≡ self.network.moment }
+    {
         let SimulatedNetwork {
             experiment,
             packets,

@@ -1,4 +1,8 @@
 // What a task makes of the network, and what happens in the world then.
+ghost use Rattle.std.specs.Prelude.{◌≡◌, ◌≤◌, ◌+◌, ◌-◌, ◌^◌, min, IfOk};
+ghost use Rattle.simulated_network.specs.declared.step.Step.TheVariants as step;
+ghost use Rattle.simulated_network.specs.Runs.{drawn_by, delivered_by, bytes_of, IsQuiet};
+
 use crate::arrivals::Asked;
 use crate::network::SimulatedNetwork;
 use crate::step::Step;
@@ -7,13 +11,22 @@ use homa_plain::{Event, HostId};
 use packet_network::{NetworkStop, Task};
 
 /// An event without bytes.
-pub(crate) fn happens(event: Event) -> Step {
+pub(crate) fn happens(event: Event) -> Step
+    ensures { result ≡ step.Event event 0 }
+{
     Step::Event { event, bytes: 0 }
 }
 
 impl SimulatedNetwork<'_> {
     /// A task begins.
-    pub(crate) fn begins(&mut self, task: Task) -> Result<Step, NetworkStop> {
+    pub(crate) fn begins(&mut self, task: Task) -> Result<Step, NetworkStop>
+        ensures calls { self.new.calls ≡ self.old.calls }
+        ensures network { self.new.network ≡ self.old.network }
+        ensures left_out { self.new.trouble.left_out ≡ self.old.trouble.left_out }
+        ensures drawn { IfOk result (λ step. self.new.drawn ≡ min (self.old.drawn + drawn_by step) (2 ^ 32 - 1)) }
+        ensures delivered { IfOk result (λ step. delivered_by step ≡ 0) }
+        ensures bytes { IfOk result (λ step. bytes_of step ≤ 1000000) }
+    {
         match task {
             Task::Clock => self.ticks(),
             Task::Turn(host) => Ok(self.turn(host)),
@@ -26,7 +39,10 @@ impl SimulatedNetwork<'_> {
     }
 
     // The clock goes on, and turns are due.
-    fn ticks(&mut self) -> Result<Step, NetworkStop> {
+    fn ticks(&mut self) -> Result<Step, NetworkStop>
+        ensures state { self.new ≡ self.old }
+        ensures step { IfOk result (λ step. IsQuiet step) }
+    {
         let (tick, is_spread) = (
             self.experiment.network.tick,
             self.experiment.network.is_spread,
@@ -47,7 +63,13 @@ impl SimulatedNetwork<'_> {
     }
 
     // A host has its turn, unless too much waits at its network card.
-    fn turn(&mut self, host: HostId) -> Step {
+    fn turn(&mut self, host: HostId) -> Step
+        ensures calls { self.new.calls ≡ self.old.calls }
+        ensures network { self.new.network ≡ self.old.network }
+        ensures left_out { self.new.trouble.left_out ≡ self.old.trouble.left_out }
+        ensures drawn { self.new.drawn ≡ self.old.drawn }
+        ensures step { IsQuiet result }
+    {
         let limit = u64::from(self.experiment.network.card_limit);
         if self.packets.card_bytes(host) > limit {
             self.trouble.held = self.trouble.held.saturating_add(1);
@@ -57,7 +79,10 @@ impl SimulatedNetwork<'_> {
     }
 
     // A client makes calls now, and its next ones are due.
-    fn calls(&mut self, client: HostId) -> Result<Step, NetworkStop> {
+    fn calls(&mut self, client: HostId) -> Result<Step, NetworkStop>
+        ensures state { self.new ≡ self.old }
+        ensures step { IfOk result (λ step. IsQuiet step) }
+    {
         let gap = self.arrivals.next_gap();
         let next = self.packets.now().saturating_add(gap);
         self.packets.enter(next, Task::Calls(client))?;
@@ -66,7 +91,14 @@ impl SimulatedNetwork<'_> {
     }
 
     // The call of a list with this number is made, and the next one is due.
-    fn listed(&mut self, i: u32) -> Result<Step, NetworkStop> {
+    fn listed(&mut self, i: u32) -> Result<Step, NetworkStop>
+        ensures calls { self.new.calls ≡ self.old.calls }
+        ensures network { self.new.network ≡ self.old.network }
+        ensures left_out { self.new.trouble.left_out ≡ self.old.trouble.left_out }
+        ensures drawn { IfOk result (λ step. self.new.drawn ≡ min (self.old.drawn + drawn_by step) (2 ^ 32 - 1)) }
+        ensures delivered { IfOk result (λ step. delivered_by step ≡ 0) }
+        ensures bytes { IfOk result (λ step. bytes_of step ≤ 1000000) }
+    {
         let Some(call) = self.experiment.listed.get(i as usize) else {
             return Ok(Step::Inside);
         };
@@ -83,7 +115,9 @@ impl SimulatedNetwork<'_> {
     }
 
     // The restart with this number.
-    fn restart(&mut self, i: u32) -> Step {
+    fn restart(&self, i: u32) -> Step
+        ensures { IsQuiet result }
+    {
         match self.experiment.restarts.get(i as usize) {
             Some(restart) => happens(Event::Restart { host: restart.host }),
             None => Step::Inside,
@@ -91,7 +125,9 @@ impl SimulatedNetwork<'_> {
     }
 
     // The datagram with this number that no host sent.
-    fn inject(&mut self, i: u32) -> Step {
+    fn inject(&self, i: u32) -> Step
+        ensures { IsQuiet result }
+    {
         match self.experiment.injections.get(i as usize) {
             Some(injection) => Step::Event {
                 event: Event::Inject {
@@ -104,7 +140,9 @@ impl SimulatedNetwork<'_> {
     }
 
     // The setting of a clock with this number.
-    fn shift(&mut self, i: u32) -> Step {
+    fn shift(&self, i: u32) -> Step
+        ensures { IsQuiet result }
+    {
         match self.experiment.shifts.get(i as usize) {
             Some(shift) => happens(Event::Shift {
                 host: shift.host,
@@ -115,7 +153,13 @@ impl SimulatedNetwork<'_> {
     }
 
     /// A call was drawn, or is the next of the list. Measuring may begin or end with it.
-    pub(crate) fn call(&mut self, asked: &Asked) -> Step {
+    pub(crate) fn call(&mut self, asked: &Asked) -> Step
+        ensures calls { self.new.calls ≡ self.old.calls }
+        ensures network { self.new.network ≡ self.old.network }
+        ensures trouble { self.new.trouble ≡ self.old.trouble }
+        ensures drawn { self.new.drawn ≡ min (self.old.drawn + 1) (2 ^ 32 - 1) }
+        ensures step { result ≡ step.Call asked.now.client asked.now.server asked.now.bytes }
+    {
         let load = &self.experiment.load;
         let drawn = self.arrivals.drawn();
         if drawn == load.warm {
