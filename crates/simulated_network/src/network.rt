@@ -28,7 +28,7 @@ pub struct SimulatedNetwork<'a> {
     pub(crate) trouble: Trouble,
 }
 
-impl Model for SimulatedNetwork<'_> {
+impl<'a> Model for SimulatedNetwork<'a> {
     ghost use Rattle.simulated_network.specs.Runs.{RunState};
 
     ghost Value = { RunState };
