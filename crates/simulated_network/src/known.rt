@@ -2,7 +2,7 @@
 ghost use Rattle.std.specs.Prelude.{◌≡◌, ◌++◌, ◌∷◌, [], Some, IfOk, OnOk, OnErr, slice_get};
 ghost use Rattle.simulated_network.specs.Runs.{made_of, all_made};
 
-use crate::mark::Mark;
+use crate::mark::PacketMark;
 use crate::outcome::is_measured;
 use crate::receivers::{begins, closes, completes};
 use call_figures::{CallEnd, SimCall, SimCalls, Transfer, Transfers};
@@ -211,7 +211,7 @@ impl<'a> KnownCalls<'a> {
     }
 
     // What a piece says.
-    fn piece(&mut self, now: u64, drawn: u32, piece: Piece) -> Mark
+    fn piece(&mut self, now: u64, drawn: u32, piece: Piece) -> PacketMark
         ensures made { all_made self.new.calls ≡ all_made self.old.calls }
     {
         let mut times = None;
@@ -222,7 +222,7 @@ impl<'a> KnownCalls<'a> {
             }
             self.transfers.set(piece.call, piece.is_response, message);
         }
-        Mark::piece(drawn, times, piece)
+        PacketMark::piece(drawn, times, piece)
     }
 
     // A receiver grants a message up to a byte.
@@ -263,11 +263,11 @@ impl<'a> KnownCalls<'a> {
     }
 
     // The mark of a packet of a call that isn't known.
-    fn strange(&mut self) -> Mark
+    fn strange(&mut self) -> PacketMark
         ensures made { all_made self.new.calls ≡ all_made self.old.calls }
     {
         self.strange = self.strange.saturating_add(1);
-        Mark::control(u32::MAX, self.strange, None)
+        PacketMark::control(u32::MAX, self.strange, None)
     }
 
     /// What a packet says that a host sends; its payload has so many bytes.
@@ -279,7 +279,7 @@ impl<'a> KnownCalls<'a> {
         role: Role,
         body: &Body,
         len: u32,
-    ) -> Mark
+    ) -> PacketMark
         ensures made { all_made self.new.calls ≡ all_made self.old.calls }
         ensures packets { packets.new ≡ packets.old }
     {
@@ -304,7 +304,7 @@ impl<'a> KnownCalls<'a> {
             self.grants(packets, from, &grant);
         }
         self.count(place, call, matches!(body, Body::Resend { .. }));
-        Mark::control(call.drawn, call.controls, grant)
+        PacketMark::control(call.drawn, call.controls, grant)
     }
 
     // A piece comes to its receiver, which may be the first of its message.

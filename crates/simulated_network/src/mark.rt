@@ -7,7 +7,7 @@ use packet_network::{Grant, Piece, Traffic};
 /// What a packet says of its call: which bytes of a message it has or which grant, how it is counted, by which name it is drawn for,
 /// and how many bytes of its message are left.
 #[derive(Clone, Copy, Debug, PartialEq, Eq)]
-pub(crate) struct Mark {
+pub(crate) struct PacketMark {
     pub(crate) piece: Option<Piece>,
     pub(crate) grant: Option<Grant>,
     pub(crate) traffic: Traffic,
@@ -20,13 +20,13 @@ const AGAIN: u32 = 2;
 
 const CONTROL: u32 = 4;
 
-impl Mark {
+impl PacketMark {
     /// That of a packet without a piece, of a call by the order in which calls were drawn.
-    pub(crate) fn control(drawn: u32, times: u32, grant: Option<Grant>) -> Mark
+    pub(crate) fn control(drawn: u32, times: u32, grant: Option<Grant>) -> PacketMark
         ensures piece { result.piece ≡ None }
         ensures grant { result.grant ≡ grant }
     {
-        Mark {
+        PacketMark {
             piece: None,
             grant,
             traffic: Traffic::Control,
@@ -41,7 +41,7 @@ impl Mark {
     }
 
     /// That of a piece. Where it was sent before, so many packets of its message were.
-    pub(crate) fn piece(drawn: u32, times: Option<u32>, piece: Piece) -> Mark
+    pub(crate) fn piece(drawn: u32, times: Option<u32>, piece: Piece) -> PacketMark
         ensures piece { result.piece ≡ Some piece }
         ensures grant { result.grant ≡ None }
     {
@@ -50,7 +50,7 @@ impl Mark {
             None => (Traffic::First, side),
             Some(_) => (Traffic::Again, AGAIN + side),
         };
-        Mark {
+        PacketMark {
             piece: Some(piece),
             grant: None,
             traffic,

@@ -6,8 +6,8 @@ ghost use Rattle.simulated_network.specs.Troubles.{no_trouble, one_left_out};
 
 use crate::arrivals::Arrivals;
 use crate::known::KnownCalls;
-use crate::outcome::Outcome;
-use crate::step::Step;
+use crate::outcome::RunOutcome;
+use crate::step::RunStep;
 use crate::tasks::happens;
 use crate::trouble::Trouble;
 use crate::window::Window;
@@ -142,8 +142,8 @@ impl<'a> SimulatedNetwork<'a> {
             && (self.known.open() == 0 || drawn >= measured + 3 * u64::from(load.calls) + 1000)
     }
 
-    /// What happens next; `tick` is that of the world's clock. It ends with `Step::Over`.
-    pub fn next(&mut self, tick: u64) -> Result<Step, NetworkStop>
+    /// What happens next; `tick` is that of the world's clock. It ends with `RunStep::Over`.
+    pub fn next(&mut self, tick: u64) -> Result<RunStep, NetworkStop>
         ensures made { all_made self.new.calls ≡ all_made self.old.calls }
         ensures drawn { IfOk result (λ step. self.new.drawn ≡ min (self.old.drawn + drawn_by step) (2 ^ 32 - 1)) }
         ensures delivered { IfOk result (λ step. self.new.network.fates.delivered ≡ self.old.network.fates.delivered + delivered_by step) }
@@ -153,30 +153,30 @@ impl<'a> SimulatedNetwork<'a> {
         ensures left_out { self.new.trouble.left_out ≡ self.old.trouble.left_out }
     {
         if self.is_over() {
-            return Ok(Step::Over);
+            return Ok(RunStep::Over);
         }
         if self.arrivals.is_due() {
             let asked = self.arrivals.call(self.experiment);
             return Ok(self.call(&asked));
         }
         match self.packets.next()? {
-            None => Ok(Step::Over),
+            None => Ok(RunStep::Over),
             Some(Reached::Task(task)) => self.begins(task),
             Some(Reached::AtHost(packet)) => Ok(self.arrives(tick, &packet)),
             Some(Reached::Card(begun)) => {
                 self.known.leaves_card(self.packets.now(), &begun);
-                Ok(Step::Inside)
+                Ok(RunStep::Inside)
             }
             Some(Reached::Output(begun)) => {
                 self.known.leaves_output(&begun);
-                Ok(Step::Inside)
+                Ok(RunStep::Inside)
             }
-            Some(Reached::Nothing) => Ok(Step::Inside),
+            Some(Reached::Nothing) => Ok(RunStep::Inside),
         }
     }
 
     // A packet is at its host. With version 1 the world wouldn't take one that is too old.
-    fn arrives(&mut self, tick: u64, packet: &SimPacket) -> Step
+    fn arrives(&mut self, tick: u64, packet: &SimPacket) -> RunStep
         ensures made { all_made self.new.calls ≡ all_made self.old.calls }
         ensures drawn { self.new.drawn ≡ self.old.drawn }
         ensures step { drawn_by result ≡ 0 }
@@ -190,7 +190,7 @@ impl<'a> SimulatedNetwork<'a> {
         let age = tick.saturating_sub(packet.tick);
         if settings.wire == 1 && age > u64::from(settings.life) {
             self.packets.was_too_old();
-            return Step::Inside;
+            return RunStep::Inside;
         }
         self.known.arrives(&mut self.packets, packet);
         let packet = packet.number;
@@ -205,7 +205,7 @@ impl<'a> SimulatedNetwork<'a> {
     }
 
     /// What came of the run, which had so many events.
-    pub fn finish(self, events: u64) -> Outcome
+    pub fn finish(self, events: u64) -> RunOutcome
         ensures calls { result.calls ≡ self.calls }
         ensures transfers { result.transfers ≡ self.transfers }
         ensures fates { result.fates ≡ self.network.fates }
@@ -229,7 +229,7 @@ impl<'a> SimulatedNetwork<'a> {
             transfers,
             ..
         } = known;
-        Outcome {
+        RunOutcome {
             calls,
             transfers,
             window,

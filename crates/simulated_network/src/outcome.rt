@@ -10,7 +10,7 @@ use packet_network::Fates;
 
 /// What came of a run. Moments are picoseconds.
 #[derive(Drop)]
-pub struct Outcome {
+pub struct RunOutcome {
     /// All calls that were made, and their messages.
     pub calls: SimCalls,
     pub transfers: Transfers,
@@ -46,7 +46,7 @@ fn before(calls: &[SimCall], number: u32) -> usize
     count
 }
 
-impl Outcome {
+impl RunOutcome {
     /// The calls that are measured.
     pub fn measured(&self, load: &Load) -> &[SimCall]
         ensures { result.now ≡ measured load.now self.now.calls }

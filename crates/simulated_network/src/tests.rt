@@ -1,5 +1,5 @@
 // Runs of small experiments, with lines that a world could tell.
-use crate::{SimulatedNetwork, Step};
+use crate::{RunStep, SimulatedNetwork};
 use experiment::{Experiment, read};
 use homa_io::MemSource;
 use homa_plain::{CallId, Entry, HostId};
@@ -14,15 +14,15 @@ fn experiment_of(rt: &impl Abort, alloc: Global, text: &str) -> Experiment {
 }
 
 // The next call that is to be made.
-fn next_call(rt: &impl Abort, network: &mut SimulatedNetwork<'_>) -> Step {
+fn next_call(rt: &impl Abort, network: &mut SimulatedNetwork<'_>) -> RunStep {
     for _ in 0..10_000 {
         let step = network.next(0).expect(rt, "it stops");
         match step {
-            Step::Over | Step::Call { .. } => return step,
+            RunStep::Over | RunStep::Call { .. } => return step,
             _ => {}
         }
     }
-    Step::Inside
+    RunStep::Inside
 }
 
 #[test]
@@ -30,7 +30,7 @@ fn listed_calls_are_made(rt: HostRuntime) {
     let text = "hosts 4\ncall 0 1 100 5\ncall 2 3 200 700\n";
     let experiment = experiment_of(&rt, rt.alloc(), text);
     let mut network = SimulatedNetwork::open(rt.alloc(), &experiment, 1).expect(&rt, "no memory");
-    let first = Step::Call {
+    let first = RunStep::Call {
         client: HostId(0),
         server: HostId(1),
         bytes: 100,
