@@ -1,5 +1,5 @@
 // What is measured at queues.
-use crate::packet::Traffic;
+use crate::packet::PacketCause;
 
 /// How packets waited in queues, since counting began anew.
 #[derive(Clone, Copy, Debug, PartialEq, Eq)]
@@ -68,11 +68,11 @@ impl Down {
     }
 
     /// A packet of so many bytes went.
-    pub(crate) fn passes(&mut self, traffic: Traffic, bytes: u64) {
-        match traffic {
-            Traffic::First => self.data = self.data.saturating_add(bytes),
-            Traffic::Again => self.again = self.again.saturating_add(bytes),
-            Traffic::Control => self.control = self.control.saturating_add(bytes),
+    pub(crate) fn passes(&mut self, cause: PacketCause, bytes: u64) {
+        match cause {
+            PacketCause::First => self.data = self.data.saturating_add(bytes),
+            PacketCause::Again => self.again = self.again.saturating_add(bytes),
+            PacketCause::Control => self.control = self.control.saturating_add(bytes),
         }
     }
 }

@@ -171,7 +171,7 @@ impl SimulatedNetwork<'_> {
             from: sent.from,
             to: sent.to,
             level: sent.level,
-            traffic: mark.traffic,
+            cause: mark.cause,
         }
     }
 

@@ -8,7 +8,7 @@ use crate::receivers::{begins, closes, completes};
 use call_figures::{CallEnd, SimCall, SimCalls, Transfer, Transfers};
 use experiment::Experiment;
 use homa_plain::{Body, CallId, HostId, Role};
-use packet_network::{Begun, Grant, PacketNetwork, Piece, SimPacket};
+use packet_network::{Begun, PacketNetwork, Piece, PieceGrant, SimPacket};
 use std::alloc::{AllocError, Global};
 
 /// All calls that were made with their messages, and how many of those that are measured are open.
@@ -23,9 +23,9 @@ pub(crate) struct KnownCalls<'a> {
 }
 
 // The grant that a packet of the call at a place is, if it is one. A client grants its response, and a server its request.
-fn grant_of(place: u32, role: Role, body: &Body) -> Option<Grant> {
+fn grant_of(place: u32, role: Role, body: &Body) -> Option<PieceGrant> {
     match *body {
-        Body::Grant { offset, .. } => Some(Grant {
+        Body::Grant { offset, .. } => Some(PieceGrant {
             call: place,
             upto: offset,
             is_response: role == Role::Client,
@@ -226,7 +226,7 @@ impl<'a> KnownCalls<'a> {
     }
 
     // A receiver grants a message up to a byte.
-    fn grants(&mut self, packets: &mut PacketNetwork, receiver: HostId, grant: &Grant)
+    fn grants(&mut self, packets: &mut PacketNetwork, receiver: HostId, grant: &PieceGrant)
         ensures made { all_made self.new.calls ≡ all_made self.old.calls }
         ensures packets { packets.new ≡ packets.old }
     {
@@ -342,7 +342,7 @@ impl<'a> KnownCalls<'a> {
     }
 
     // A grant comes to its message's sender.
-    fn clears(&mut self, now: u64, grant: &Grant)
+    fn clears(&mut self, now: u64, grant: &PieceGrant)
         ensures made { all_made self.new.calls ≡ all_made self.old.calls }
     {
         if let Some(message) = self.transfers.message(grant.call, grant.is_response) {

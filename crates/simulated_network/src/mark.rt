@@ -2,15 +2,15 @@
 ghost use Rattle.std.specs.Prelude.{◌≡◌, None, Some};
 
 use experiment::PacketName;
-use packet_network::{Grant, Piece, Traffic};
+use packet_network::{PacketCause, Piece, PieceGrant};
 
 /// What a packet says of its call: which bytes of a message it has or which grant, how it is counted, by which name it is drawn for,
 /// and how many bytes of its message are left.
 #[derive(Clone, Copy, Debug, PartialEq, Eq)]
 pub(crate) struct PacketMark {
     pub(crate) piece: Option<Piece>,
-    pub(crate) grant: Option<Grant>,
-    pub(crate) traffic: Traffic,
+    pub(crate) grant: Option<PieceGrant>,
+    pub(crate) cause: PacketCause,
     pub(crate) name: PacketName,
     pub(crate) left: u32,
 }
@@ -22,14 +22,14 @@ const CONTROL: u32 = 4;
 
 impl PacketMark {
     /// That of a packet without a piece, of a call by the order in which calls were drawn.
-    pub(crate) fn control(drawn: u32, times: u32, grant: Option<Grant>) -> PacketMark
+    pub(crate) fn control(drawn: u32, times: u32, grant: Option<PieceGrant>) -> PacketMark
         ensures piece { result.piece ≡ None }
         ensures grant { result.grant ≡ grant }
     {
         PacketMark {
             piece: None,
             grant,
-            traffic: Traffic::Control,
+            cause: PacketCause::Control,
             name: PacketName {
                 call: drawn,
                 kind: CONTROL,
@@ -46,14 +46,14 @@ impl PacketMark {
         ensures grant { result.grant ≡ None }
     {
         let side = u32::from(piece.is_response);
-        let (traffic, kind) = match times {
-            None => (Traffic::First, side),
-            Some(_) => (Traffic::Again, AGAIN + side),
+        let (cause, kind) = match times {
+            None => (PacketCause::First, side),
+            Some(_) => (PacketCause::Again, AGAIN + side),
         };
         PacketMark {
             piece: Some(piece),
             grant: None,
-            traffic,
+            cause,
             name: PacketName {
                 call: drawn,
                 kind,
