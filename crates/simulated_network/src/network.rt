@@ -17,6 +17,9 @@ use packet_network::{NetworkStop, PacketNetwork, Reached, SimPacket, Task};
 use std::alloc::Global;
 use std::marker::Model;
 
+// A run doesn't wait for open calls when as many calls were drawn behind those that are measured as these are, and so many more.
+const MOST_BEHIND: u64 = 1000;
+
 /// All of a run but its world: what is due, the packets under way, and what is known of calls.
 #[derive(Drop)]
 pub struct SimulatedNetwork<'a> {
@@ -139,7 +142,7 @@ impl<'a> SimulatedNetwork<'a> {
             drawn >= measured
         };
         is_closed
-            && (self.known.open() == 0 || drawn >= measured + 3 * u64::from(load.calls) + 1000)
+            && (self.known.open() == 0 || drawn >= measured + u64::from(load.calls) + MOST_BEHIND)
     }
 
     /// What happens next; `tick` is that of the world's clock. It ends with `RunStep::Over`.
