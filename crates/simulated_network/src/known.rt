@@ -1,5 +1,5 @@
 // What is known of calls and their messages.
-ghost use Rattle.std.specs.Prelude.{◌≡◌, ◌++◌, ◌∷◌, [], Some, IfOk, OnOk, OnErr, slice_get};
+ghost use Rattle.std.specs.Prelude.{◌≡◌, ◌++◌, ◌∷◌, [], Some, IfOk, OnOk, slice_get};
 ghost use Rattle.simulated_network.specs.Runs.{made_of, all_made};
 
 use crate::mark::PacketMark;

@@ -184,7 +184,8 @@ impl<'a> SimulatedNetwork<'a> {
         ensures drawn { self.new.drawn ≡ self.old.drawn }
         ensures step { drawn_by result ≡ 0 }
         ensures bytes { bytes_of result ≡ 0 }
-        ensures delivered { 0 < self.old.network.fates.delivered → self.new.network.fates.delivered + 1 ≡ self.old.network.fates.delivered + delivered_by result }
+        ensures delivered { 0 < self.old.network.fates.delivered
+            → self.new.network.fates.delivered + 1 ≡ self.old.network.fates.delivered + delivered_by result }
         ensures sent { self.new.network.fates.sent ≡ self.old.network.fates.sent }
         ensures moment { self.new.network.moment ≡ self.old.network.moment }
         ensures trouble { self.new.trouble ≡ self.old.trouble }
@@ -209,14 +210,14 @@ impl<'a> SimulatedNetwork<'a> {
 
     /// What came of the run, which had so many events.
     pub fn finish(self, events: u64) -> RunOutcome
-        ensures calls { result.calls ≡ self.calls }
-        ensures transfers { result.transfers ≡ self.transfers }
-        ensures fates { result.fates ≡ self.network.fates }
+        ensures calls { result.calls ≡ self.entry.calls }
+        ensures transfers { result.transfers ≡ self.entry.transfers }
+        ensures fates { result.fates ≡ self.entry.network.fates }
         ensures conserved { IsConserved result.fates result.under_way }
-        ensures under_way { result.under_way ≡ self.network.under_way }
-        ensures trouble { result.trouble ≡ self.trouble }
+        ensures under_way { result.under_way ≡ self.entry.network.under_way }
+        ensures trouble { result.trouble ≡ self.entry.trouble }
         ensures events { result.events ≡ events }
-        ensures ended { result.ended ≡ self.network.moment }
+        ensures ended { result.ended ≡ self.entry.network.moment }
     {
         let SimulatedNetwork {
             experiment,

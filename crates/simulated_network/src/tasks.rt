@@ -3,7 +3,7 @@ ghost use Rattle.std.specs.Prelude.{◌≡◌, ◌≤◌, ◌+◌, ◌-◌, ◌^
 ghost use Rattle.simulated_network.specs.declared.step.RunStep.TheVariants as step;
 ghost use Rattle.simulated_network.specs.Runs.{drawn_by, delivered_by, bytes_of, IsQuiet};
 
-use crate::arrivals::Asked;
+use crate::arrivals::DrawnCall;
 use crate::network::SimulatedNetwork;
 use crate::step::RunStep;
 use experiment::wire_of_call;
@@ -106,7 +106,7 @@ impl SimulatedNetwork<'_> {
         if let Some(later) = self.experiment.listed.get(next as usize) {
             self.packets.enter(later.at, Task::Listed(next))?;
         }
-        let asked = Asked {
+        let asked = DrawnCall {
             client: call.client,
             server: call.server,
             bytes: call.bytes,
@@ -153,7 +153,7 @@ impl SimulatedNetwork<'_> {
     }
 
     /// A call was drawn, or is the next of the list. Measuring may begin or end with it.
-    pub(crate) fn call(&mut self, asked: &Asked) -> RunStep
+    pub(crate) fn call(&mut self, asked: &DrawnCall) -> RunStep
         ensures calls { self.new.calls ≡ self.old.calls }
         ensures network { self.new.network ≡ self.old.network }
         ensures trouble { self.new.trouble ≡ self.old.trouble }
