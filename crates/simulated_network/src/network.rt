@@ -69,7 +69,9 @@ impl<'a> SimulatedNetwork<'a> {
         };
         network.packets.enter(experiment.network.tick, Task::Clock)?;
         network.enter_calls()?;
-        network.enter_marks()?;
+        network.enter_restarts()?;
+        network.enter_injections()?;
+        network.enter_shifts()?;
         Ok(network)
     }
 
@@ -93,19 +95,38 @@ impl<'a> SimulatedNetwork<'a> {
         Ok(())
     }
 
-    // What lines say that happens at a moment is due then.
-    fn enter_marks(&mut self) -> Result<(), NetworkStop>
+    // The restarts are due at their moments.
+    fn enter_restarts(&mut self) -> Result<(), NetworkStop>
         ensures { self.new ≡ self.old }
     {
-        let experiment = self.experiment;
-        for (i, restart) in experiment.restarts.iter().enumerate() {
-            self.packets.enter(restart.at, Task::Restart(i as u32))?;
+        let mut number: u32 = 0;
+        for restart in &self.experiment.restarts {
+            self.packets.enter(restart.at, Task::Restart(number))?;
+            number = number.saturating_add(1);
         }
-        for (i, injection) in experiment.injections.iter().enumerate() {
-            self.packets.enter(injection.at, Task::Inject(i as u32))?;
+        Ok(())
+    }
+
+    // The datagrams that no host sends are due at their moments.
+    fn enter_injections(&mut self) -> Result<(), NetworkStop>
+        ensures { self.new ≡ self.old }
+    {
+        let mut number: u32 = 0;
+        for injection in &self.experiment.injections {
+            self.packets.enter(injection.at, Task::Inject(number))?;
+            number = number.saturating_add(1);
         }
-        for (i, shift) in experiment.shifts.iter().enumerate() {
-            self.packets.enter(shift.at, Task::Shift(i as u32))?;
+        Ok(())
+    }
+
+    // The settings of clocks are due at their moments.
+    fn enter_shifts(&mut self) -> Result<(), NetworkStop>
+        ensures { self.new ≡ self.old }
+    {
+        let mut number: u32 = 0;
+        for shift in &self.experiment.shifts {
+            self.packets.enter(shift.at, Task::Shift(number))?;
+            number = number.saturating_add(1);
         }
         Ok(())
     }

@@ -5,6 +5,7 @@ ghost use Rattle.simulated_network.specs.Runs.{drawn_by, delivered_by, bytes_of,
 
 use crate::arrivals::DrawnCall;
 use crate::network::SimulatedNetwork;
+use crate::receivers::is_known;
 use crate::step::RunStep;
 use experiment::wire_of_call;
 use homa_plain::{Event, HostId};
@@ -71,7 +72,7 @@ impl SimulatedNetwork<'_> {
         ensures step { IsQuiet result }
     {
         let limit = u64::from(self.experiment.network.card_limit);
-        if self.packets.card_bytes(host) > limit {
+        if is_known(host) && self.packets.card_bytes(host) > limit {
             self.trouble.held = self.trouble.held.saturating_add(1);
             return RunStep::Inside;
         }
