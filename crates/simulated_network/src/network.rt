@@ -1,7 +1,7 @@
 // A simulated network, which tells what happens next in the world, and heeds what the world tells.
-ghost use Rattle.std.specs.Prelude.{◌≡◌, ◌≤◌, ◌<◌, ◌+◌, ◌-◌, ◌^◌, [], length, min, IfOk};
+ghost use Rattle.std.specs.Prelude.{◌≡◌, ◌≤◌, ◌<◌, ◌+◌, [], length, false, IfOk};
 ghost use Rattle.packet_network.specs.Censuses.{no_fates, IsConserved};
-ghost use Rattle.simulated_network.specs.Runs.{all_made, drawn_by, delivered_by, bytes_of};
+ghost use Rattle.simulated_network.specs.Runs.{all_made, is_call, drawn_after, delivered_by, bytes_of};
 ghost use Rattle.simulated_network.specs.Troubles.{no_trouble, one_left_out};
 
 use crate::arrivals::Arrivals;
@@ -169,7 +169,7 @@ impl<'a> SimulatedNetwork<'a> {
     /// What happens next; `tick` is that of the world's clock. It ends with `RunStep::Over`.
     pub fn next(&mut self, tick: u64) -> Result<RunStep, NetworkStop>
         ensures made { all_made self.new.calls ≡ all_made self.old.calls }
-        ensures drawn { IfOk result (λ step. self.new.drawn ≡ min (self.old.drawn + drawn_by step) (2 ^ 32 - 1)) }
+        ensures drawn { IfOk result (λ step. self.new.drawn ≡ drawn_after step self.old.drawn) }
         ensures delivered { IfOk result (λ step. self.new.network.fates.delivered ≡ self.old.network.fates.delivered + delivered_by step) }
         ensures sent { self.new.network.fates.sent ≡ self.old.network.fates.sent }
         ensures forth { self.old.network.moment ≤ self.new.network.moment }
@@ -203,7 +203,7 @@ impl<'a> SimulatedNetwork<'a> {
     fn arrives(&mut self, tick: u64, packet: &SimPacket) -> RunStep
         ensures made { all_made self.new.calls ≡ all_made self.old.calls }
         ensures drawn { self.new.drawn ≡ self.old.drawn }
-        ensures step { drawn_by result ≡ 0 }
+        ensures step { is_call result ≡ false }
         ensures bytes { bytes_of result ≡ 0 }
         ensures delivered { 0 < self.old.network.fates.delivered
             → self.new.network.fates.delivered + 1 ≡ self.old.network.fates.delivered + delivered_by result }

@@ -1,7 +1,7 @@
 // What a task makes of the network, and what happens in the world then.
 ghost use Rattle.std.specs.Prelude.{◌≡◌, ◌≤◌, ◌+◌, ◌-◌, ◌^◌, min, IfOk};
 ghost use Rattle.simulated_network.specs.declared.step.RunStep.TheVariants as step;
-ghost use Rattle.simulated_network.specs.Runs.{drawn_by, delivered_by, bytes_of, IsQuiet};
+ghost use Rattle.simulated_network.specs.Runs.{drawn_after, delivered_by, bytes_of, IsQuiet};
 
 use crate::arrivals::DrawnCall;
 use crate::network::SimulatedNetwork;
@@ -24,7 +24,7 @@ impl SimulatedNetwork<'_> {
         ensures calls { self.new.calls ≡ self.old.calls }
         ensures network { self.new.network ≡ self.old.network }
         ensures left_out { self.new.trouble.left_out ≡ self.old.trouble.left_out }
-        ensures drawn { IfOk result (λ step. self.new.drawn ≡ min (self.old.drawn + drawn_by step) (2 ^ 32 - 1)) }
+        ensures drawn { IfOk result (λ step. self.new.drawn ≡ drawn_after step self.old.drawn) }
         ensures delivered { IfOk result (λ step. delivered_by step ≡ 0) }
         ensures bytes { IfOk result (λ step. bytes_of step ≤ 1000000) }
     {
@@ -96,7 +96,7 @@ impl SimulatedNetwork<'_> {
         ensures calls { self.new.calls ≡ self.old.calls }
         ensures network { self.new.network ≡ self.old.network }
         ensures left_out { self.new.trouble.left_out ≡ self.old.trouble.left_out }
-        ensures drawn { IfOk result (λ step. self.new.drawn ≡ min (self.old.drawn + drawn_by step) (2 ^ 32 - 1)) }
+        ensures drawn { IfOk result (λ step. self.new.drawn ≡ drawn_after step self.old.drawn) }
         ensures delivered { IfOk result (λ step. delivered_by step ≡ 0) }
         ensures bytes { IfOk result (λ step. bytes_of step ≤ 1000000) }
     {
