@@ -22,7 +22,8 @@ impl SimulatedNetwork<'_> {
     /// A task begins.
     pub(crate) fn begins(&mut self, task: Task) -> Result<RunStep, NetworkStop>
         ensures calls { self.new.calls ≡ self.old.calls }
-        ensures network { self.new.network ≡ self.old.network }
+        ensures moment { self.new.network.moment ≡ self.old.network.moment }
+        ensures fates { self.new.network.fates ≡ self.old.network.fates }
         ensures left_out { self.new.trouble.left_out ≡ self.old.trouble.left_out }
         ensures drawn { IfOk result (λ step. self.new.drawn ≡ drawn_after step self.old.drawn) }
         ensures delivered { IfOk result (λ step. delivered_by step ≡ 0) }
@@ -94,7 +95,8 @@ impl SimulatedNetwork<'_> {
     // The call of a list with this number is made, and the next one is due.
     fn listed(&mut self, i: u32) -> Result<RunStep, NetworkStop>
         ensures calls { self.new.calls ≡ self.old.calls }
-        ensures network { self.new.network ≡ self.old.network }
+        ensures moment { self.new.network.moment ≡ self.old.network.moment }
+        ensures fates { self.new.network.fates ≡ self.old.network.fates }
         ensures left_out { self.new.trouble.left_out ≡ self.old.trouble.left_out }
         ensures drawn { IfOk result (λ step. self.new.drawn ≡ drawn_after step self.old.drawn) }
         ensures delivered { IfOk result (λ step. delivered_by step ≡ 0) }
@@ -156,7 +158,8 @@ impl SimulatedNetwork<'_> {
     /// A call was drawn, or is the next of the list. Measuring may begin or end with it.
     pub(crate) fn call(&mut self, asked: &DrawnCall) -> RunStep
         ensures calls { self.new.calls ≡ self.old.calls }
-        ensures network { self.new.network ≡ self.old.network }
+        ensures moment { self.new.network.moment ≡ self.old.network.moment }
+        ensures fates { self.new.network.fates ≡ self.old.network.fates }
         ensures trouble { self.new.trouble ≡ self.old.trouble }
         ensures drawn { self.new.drawn ≡ min (self.old.drawn + 1) (2 ^ 32 - 1) }
         ensures step { result ≡ step.Call asked.now.client asked.now.server asked.now.bytes }
