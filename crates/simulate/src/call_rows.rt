@@ -1,6 +1,5 @@
 // A line for each call.
 use crate::cells::Cell;
-use crate::outcome::Outcome;
 use crate::parts::nanos;
 use crate::rows::{Column, Printer, named};
 use crate::stop::PrintStop;
@@ -9,6 +8,7 @@ use call_figures::{CallEnd, Rank, SimCall, call_alone, response_to};
 use experiment::Experiment;
 use homa_io::Sink;
 use homa_plain::{CallId, HostId};
+use simulated_network::Outcome;
 
 // The word of an end.
 fn end_word(end: CallEnd) -> &'static str {

@@ -7,13 +7,13 @@
 mod call_rows;
 mod cells;
 mod faults;
-mod outcome;
 mod parts;
 mod progress;
 mod rows;
 mod running;
 mod slowdown_rows;
 mod status;
+mod services;
 mod stop;
 mod summary;
 mod tally;
@@ -23,7 +23,6 @@ mod warnings;
 mod words;
 
 use crate::faults::InWords;
-use crate::outcome::SimStop;
 use crate::rows::Printer;
 use crate::running::run;
 use crate::status::ExitStatus;
@@ -31,6 +30,7 @@ use crate::stop::PrintStop;
 use crate::words::{Asked, CommandLine, WordFault, read_words};
 use experiment::{Experiment, ExperimentFault, read};
 use homa_io::{HeldSink, Room, StdSink, StdSource};
+use simulation::SimStop;
 use std::alloc::AllocError;
 use std::process::ExitCode;
 use std::{env, io};
@@ -92,6 +92,7 @@ fn tell_stop(rt: &HostRuntime, stop: PrintStop) -> ExitStatus {
     let why = match stop {
         PrintStop::NoMemory | PrintStop::Run(SimStop::NoMemory) => "there is no memory",
         PrintStop::Write | PrintStop::Run(SimStop::Write) => "standard output can't be written",
+        PrintStop::Run(SimStop::Refused(_)) => "the world refused an event",
         PrintStop::Run(SimStop::TooLong) => "the run takes longer than moments may be late",
         PrintStop::Run(SimStop::Events) => "the run has as many events as `events` allows",
     };

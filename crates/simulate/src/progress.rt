@@ -1,10 +1,8 @@
 // How far a run has come, on standard error.
 use crate::cells::Thousandths;
-use crate::outcome::Telling;
+use crate::parts::part;
+use simulation::{Far, Telling};
 use std::time::Instant;
-
-// After how many tellings the clock is looked at.
-const LOOKS: u32 = 1024;
 
 /// Tells how far a run has come, at most once a second.
 #[derive(Drop)]
@@ -16,7 +14,6 @@ pub(crate) struct Progress<'a> {
     calls: u64,
     // The second in which it was told last.
     told: u64,
-    left: u32,
 }
 
 impl<'a> Progress<'a> {
@@ -38,12 +35,11 @@ impl<'a> Progress<'a> {
             seed,
             calls,
             told: 0,
-            left: LOOKS,
         }
     }
 
-    // Tells it, if another second has passed.
-    fn look(&mut self, made: u64, now: u64) {
+    // Tells it in another second than the last time.
+    fn look(&mut self, far: &Far) {
         let Some(began) = &self.began else {
             return;
         };
@@ -55,8 +51,8 @@ impl<'a> Progress<'a> {
             return;
         }
         self.told = seconds;
-        let part = Thousandths((u128::from(made) * 1000 / u128::from(self.calls.max(1))) as u64);
-        let (seed, calls, micros) = (self.seed, self.calls, now / 1_000_000);
+        let part = Thousandths(part(u128::from(far.drawn), u128::from(self.calls)));
+        let (seed, calls, micros) = (self.seed, self.calls, far.now / 1_000_000);
         let _ = eprintln!(self.rt;
             "homa-simulate: seed {seed}: {part} of {calls} calls, {micros} us simulated, {seconds} s elapsed"
         );
@@ -64,12 +60,9 @@ impl<'a> Progress<'a> {
 }
 
 impl Telling for Progress<'_> {
-    fn tell(&mut self, made: u64, now: u64) {
-        if self.left > 1 {
-            self.left -= 1;
-            return;
-        }
-        self.left = LOOKS;
-        self.look(made, now);
+    ghost hears = { λ a far b. Unit {0} };
+
+    fn tell(&mut self, far: &Far) {
+        self.look(far);
     }
 }

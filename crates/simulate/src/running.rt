@@ -1,8 +1,8 @@
 // The runs of an experiment, one for each seed, and what is printed of them.
 use crate::call_rows::put_calls;
-use crate::outcome::{Outcome, SimStop, simulate};
 use crate::progress::Progress;
 use crate::rows::Printer;
+use crate::services::suites;
 use crate::slowdown_rows::{put_slowdowns, put_spreads};
 use crate::stop::PrintStop;
 use crate::summary::{put_means, put_summary};
@@ -13,6 +13,10 @@ use crate::words::{Asked, Report};
 use call_figures::Figures;
 use experiment::Experiment;
 use homa_io::Sink;
+use homa_service::Suite;
+use homa_world::World;
+use simulated_network::Outcome;
+use simulation::{SimStop, simulate};
 use std::alloc::AllocError;
 use std::fmt::Write;
 
@@ -27,11 +31,17 @@ fn run_of<K: Sink + Drop>(
     let load = &experiment.load;
     let calls = u64::from(load.warm) + u64::from(load.calls);
     let mut progress = Progress::new(rt, asked.tells_progress, seed, calls);
-    let prints = match asked.report {
-        Report::Schedule => Some(&mut printer.sink),
-        _ => None,
-    };
-    simulate(rt.alloc(), experiment, seed, prints, &mut progress)
+    let alloc = rt.alloc();
+    let services = suites(alloc)?;
+    simulate::<Vec<Suite>, World<Suite>, K, Progress<'_>>(
+        alloc,
+        experiment,
+        seed,
+        services,
+        &mut printer.sink,
+        asked.report == Report::Schedule,
+        &mut progress,
+    )
 }
 
 // Tells a warning on standard error, and on the page for people.

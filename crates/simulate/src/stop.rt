@@ -1,6 +1,6 @@
 // Why a run isn't printed whole.
-use crate::outcome::SimStop;
 use homa_io::WriteFailed;
+use simulation::SimStop;
 use std::alloc::AllocError;
 
 /// Why a text isn't printed whole.

@@ -1,6 +1,5 @@
 // A page for people.
 use crate::cells::{Cell, Thousandths, add_cell};
-use crate::outcome::{Outcome, Waits, Window};
 use crate::parts::{mean, nanos, part};
 use crate::rows::Printer;
 use crate::slowdown_rows::{Group, Spread, spread_of, spread_over};
@@ -10,6 +9,7 @@ use crate::totals::{Parts, Queue, passed, span};
 use call_figures::{Figures, Interval};
 use experiment::Experiment;
 use homa_io::Sink;
+use simulated_network::{Outcome, Waits, Window};
 use std::alloc::{AllocError, Global};
 use std::fmt::Write;
 
@@ -262,7 +262,7 @@ pub(crate) fn put_summary<K: Sink + Drop>(
     let text = &mut printer.text;
     let (measured, whole) = (nanos(span(window)), nanos(outcome.ended));
     writeln!(text, "seed {seed}")?;
-    writeln!(text, " in the window of {measured} ns, in which the measured calls were made")?;
+    writeln!(text, " in the window of {measured} ns, from the first measured call until the one behind the last")?;
     add_taken(text, experiment, window)?;
     add_idle(text, experiment, window)?;
     add_queue(text, "cards    ", &window.cards, window.links.time)?;

@@ -1,7 +1,7 @@
 // What the calls that were measured came to.
-use crate::outcome::Outcome;
 use call_figures::{CallEnd, SimCall, Transfer};
 use experiment::Experiment;
+use simulated_network::Outcome;
 
 /// How the calls that were measured ended, and for how long all of their pieces waited, in picoseconds.
 #[derive(Clone, Copy, Debug, PartialEq, Eq)]

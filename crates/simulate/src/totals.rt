@@ -1,12 +1,12 @@
 // What was counted in a run.
 use crate::cells::Cell;
-use crate::outcome::{LinkUse, Outcome, Waits, Window};
 use crate::parts::{mean, nanos, part};
 use crate::rows::{Column, Printer, named};
 use crate::stop::PrintStop;
 use crate::tally::Tally;
 use experiment::Experiment;
 use homa_io::Sink;
+use simulated_network::{LinkUse, Outcome, Waits, Window};
 use std::alloc::{AllocError, Global};
 
 /// What waited at all cards, or at all outputs: the most bytes at one of them; the mean of the bytes at one, by their sum

@@ -1,9 +1,9 @@
 // What a reader of figures has to know before they are believed.
 use crate::cells::Thousandths;
-use crate::outcome::Window;
 use crate::slowdown_rows::{Group, spread_over};
 use call_figures::{Figures, Interval, Rank};
 use experiment::{Experiment, Framing};
+use simulated_network::Window;
 use std::alloc::{AllocError, Global};
 use std::fmt;
 
