@@ -13,8 +13,8 @@ use Rattle.homa_world.specs.declared.shown.Passing.{Passing}
 use Rattle.homa_world.specs.Passing.{IsOf}
 use Rattle.generated_runs.specs.Generated.{call_text}
 use Rattle.generated_runs.specs.Rounds.{live_at}
-use Rattle.simulation.specs.declared.step.Step.{Step}
-use Rattle.simulation.specs.declared.step.Step.TheVariants as step
+use Rattle.simulated_network.specs.declared.step.Step.{Step}
+use Rattle.simulated_network.specs.declared.step.Step.TheVariants as step
 
 -- what is printed of a text, if anything is printed
 abbrev pub said : Bool → List ℕ → List ℕ

@@ -1,6 +1,6 @@
 // An event of a run, which the network heeds.
 ghost use Rattle.std.specs.Prelude.{◌≡◌, ◌≤◌, ◌<◌, ◌+◌, ◌^◌, OnOk, OnErr};
-ghost use Rattle.homa_io.specs.Outside.{TookFront};
+ghost use Rattle.homa_io.specs.Outside.{appended, TookFront};
 ghost use Rattle.homa_plain.specs.Entries.{plain};
 ghost use Rattle.homa_plain.specs.Script.{counting};
 ghost use Rattle.homa_plain.specs.World.{World};
@@ -9,12 +9,13 @@ ghost use Rattle.simulation.specs.Turns.{IsShown, AreHeeded, HasHappened, said};
 
 use crate::lines::show;
 use crate::setup::Setup;
-use crate::{HostNetwork, NetworkStop, SimStop};
+use crate::{HostNetwork, SimStop};
 use homa_generate::GenerateWorld;
 use homa_io::Sink;
 use homa_plain::{Entry, Event, WorldFault};
 use homa_replay::ReplayWorld;
 use homa_world::Passing;
+use simulated_network::NetworkStop;
 
 // What the world shows of an entry's packet, if the entry is of one that was sent.
 fn shown_of<P: GenerateWorld>(world: &P, entry: &Entry<'_>) -> Option<Passing>

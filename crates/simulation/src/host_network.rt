@@ -2,11 +2,11 @@
 ghost use Rattle.std.specs.Prelude.{◌≡◌, ℕ, Option, IfOk, OnOk};
 ghost use Rattle.homa_plain.specs.Entries.{PlainEntry, plain};
 ghost use Rattle.homa_world.specs.declared.shown.Passing.{Passing};
-ghost use Rattle.simulation.specs.declared.step.Step.{Step};
+ghost use Rattle.simulated_network.specs.declared.step.Step.{Step};
 
-use crate::{NetworkStop, Step};
 use homa_plain::Entry;
 use homa_world::Passing;
+use simulated_network::{NetworkStop, Step};
 
 /// A network of hosts, which isn't the world: it gives the events of a run, and heeds what they tell.
 pub trait HostNetwork {

@@ -9,12 +9,11 @@
 mod events;
 mod host_network;
 mod lines;
+mod network;
 mod running;
 mod setup;
-mod step;
 mod stop;
 
 pub use host_network::HostNetwork;
-pub use running::{Far, Telling};
-pub use step::{NetworkStop, Step};
+pub use running::{Far, Telling, simulate};
 pub use stop::SimStop;

@@ -4,12 +4,16 @@ ghost use Rattle.homa_io.specs.Outside.{TookFront};
 ghost use Rattle.homa_plain.specs.World.{World};
 
 use crate::events::happen;
+use crate::lines::begin;
 use crate::setup::{MOST_BYTES, Setup};
-use crate::{HostNetwork, SimStop, Step};
+use crate::{HostNetwork, SimStop};
+use experiment::Experiment;
 use homa_generate::GenerateWorld;
 use homa_io::Sink;
-use homa_plain::{Event, HostId};
-use homa_replay::ReplayWorld;
+use homa_plain::Event;
+use homa_replay::OpenWorld;
+use simulated_network::{Outcome, SimulatedNetwork, Step};
+use std::alloc::Global;
 
 // After how many turns a run stops.
 const MOST_TURNS: u64 = 1 << 50;
@@ -110,4 +114,25 @@ pub(crate) fn play<P: GenerateWorld, N: HostNetwork, K: Sink, T: Telling>(
         }
     }
     Err(SimStop::TooLong)
+}
+
+/// Runs an experiment with a seed in a world with these boxes, in which nothing has happened. If `prints`, the sink takes the
+/// settings and each event, as lines of a schedule.
+pub fn simulate<B: Drop, P: GenerateWorld + OpenWorld<B> + Drop, K: Sink, T: Telling>(
+    alloc: Global,
+    experiment: &Experiment,
+    seed: u64,
+    boxes: B,
+    sink: &mut K,
+    prints: bool,
+    telling: &mut T,
+) -> Result<Outcome, SimStop>
+    requires { P.are_ready boxes }
+{
+    let setup = Setup::new(alloc, experiment, prints)?;
+    let mut world = P::open(alloc, &setup.settings, boxes)?;
+    let mut network = SimulatedNetwork::open(alloc, experiment, seed)?;
+    begin(&setup, sink)?;
+    let events = play(&setup, &mut world, &mut network, sink, telling)?;
+    Ok(network.finish(events))
 }

@@ -3,6 +3,7 @@ ghost use Rattle.std.specs.Prelude.{◌≡◌, IfOk};
 ghost use Rattle.homa_plain.specs.Script.{counting};
 ghost use Rattle.homa_plain.specs.Settings.{IsValid};
 
+use experiment::Experiment;
 use homa_plain::Settings;
 use homa_text::counting_bytes;
 use std::alloc::{AllocError, Global};
@@ -25,24 +26,21 @@ pub(crate) struct Setup {
 }
 
 impl Setup {
-    /// A run with these settings.
+    /// A run of an experiment.
     pub(crate) fn new(
         alloc: Global,
-        settings: Settings,
-        service: u8,
-        most_events: u64,
+        experiment: &Experiment,
         prints: bool,
     ) -> Result<Setup, AllocError>
-        requires { IsValid settings }
-        ensures settings { IfOk result (λ setup. setup.settings ≡ settings) }
-        ensures service { IfOk result (λ setup. setup.service ≡ service) }
+        ensures settings { IfOk result (λ setup. setup.settings ≡ experiment.now.settings) }
+        ensures service { IfOk result (λ setup. setup.service ≡ experiment.now.load.service) }
         ensures prints { IfOk result (λ setup. setup.prints ≡ prints) }
     {
         Ok(Setup {
             alloc,
-            settings,
-            service,
-            most_events,
+            settings: experiment.settings,
+            service: experiment.load.service as u8,
+            most_events: experiment.load.events,
             bytes: counting_bytes(alloc, MOST_BYTES)?,
             prints,
         })

@@ -1,7 +1,7 @@
 // Why a run stops.
-use crate::NetworkStop;
 use homa_io::WriteFailed;
 use homa_plain::WorldFault;
+use simulated_network::NetworkStop;
 use std::alloc::AllocError;
 
 /// Why a run stops before its end.
