@@ -31,6 +31,8 @@ pub struct Far {
 
 /// What hears how far a run is.
 pub trait Telling {
+    ghost use Rattle.simulation.specs.declared.running.Far.{Far};
+
     /// From one state to the next, it heard that a run is so far.
     ghost hears: { Self → Far → Self → Type 0 };
 
