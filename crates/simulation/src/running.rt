@@ -38,7 +38,7 @@ pub trait Telling {
 
     /// Hears how far a run is.
     fn tell(&mut self, far: &Far)
-        ensures { hears self.old far.now self.new };
+        ensures { hears self.old far.entry.now self.new };
 }
 
 // A turn of a run; whether the run goes on.
