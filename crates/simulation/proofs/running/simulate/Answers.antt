@@ -1,6 +1,7 @@
 -- Opened, begun, and played to its end.
-use Rattle.std.proofs.Common.{◌∙◌, refl}
+use Rattle.std.proofs.Common.{ℕ, refl, sym, subst}
 use Rattle.std.proofs.lemmas.Result.{MatchResult-from_err}
+use Rattle.simulation.specs.Runs.{IsRun}
 use Rattle.simulation.proofs.RunLaws.{part_none, part_begun, whole_here, part_here}
 use Rattle.simulation.proofs.running.simulate.Goals as goal
 
@@ -34,5 +35,10 @@ pub returns-clause-ran : goal.returns-clause-ran
 returns-clause-ran g c =
     let setup = c.in_ok-setup.ensures in
     let w = c.in_ok-world.ensures in
-    whole_here _ _ _ _ _ _ _ _ _ _ _ _ _ _ _ setup.settings w.settings setup.prints w.opened c.in_ok-begin.ensures.ok w.allows _ _ _ refl
-    (g.met.P.ReplayWorld.allows_none c.play-events.new.world) c.in_ok-events.ensures.ran
+    let k = g.K.Sink in
+    subst
+    (λ (n : ℕ). IsRun c.args.experiment.now.settings (g.P.OpenWorld.many c.args.boxes) c.args.prints (g.P.OpenWorld.are_allowed c.args.boxes)
+    (k.taken c.args.sink.now) (k.taken c.play.new.sink) n)
+    (sym c.finish.ensures.events)
+    (whole_here _ _ _ _ _ _ _ _ _ _ _ _ _ _ _ setup.settings w.settings setup.prints w.opened c.in_ok-begin.ensures.ok w.allows _ _ _ refl
+    (g.met.P.ReplayWorld.allows_none c.play.new.world) c.in_ok-events.ensures.ran)
