@@ -5,11 +5,11 @@ ghost use Rattle.packet_network.specs.Measures.{waits_of, passed_at, bytes_at, n
 ghost use Rattle.packet_network.specs.States.{arrived};
 
 use crate::event::{Begun, NetworkEvent, Reached, Task};
-use crate::paths::PacketPaths;
 use crate::fates::Fates;
 use crate::measure::{Down, Level, Waits};
 use crate::outlets::{all_waits, level_of_all};
 use crate::packet::SimPacket;
+use crate::paths::PacketPaths;
 use crate::stop::NetworkStop;
 use experiment::Experiment;
 use homa_plain::HostId;
@@ -150,7 +150,10 @@ impl PacketNetwork {
         requires sender { sender.0 < 32 }
         ensures { self.new ≡ self.old }
     {
-        self.paths.flow.receivers[host.0 as usize].begins(self.paths.flow.agenda.now(), sender.0 as usize);
+        self.paths.flow.receivers[host.0 as usize].begins(
+            self.paths.flow.agenda.now(),
+            sender.0 as usize,
+        );
     }
 
     /// A sender's message of which a piece came is whole, or given up.
@@ -159,7 +162,10 @@ impl PacketNetwork {
         requires sender { sender.0 < 32 }
         ensures { self.new ≡ self.old }
     {
-        self.paths.flow.receivers[host.0 as usize].completes(self.paths.flow.agenda.now(), sender.0 as usize);
+        self.paths.flow.receivers[host.0 as usize].completes(
+            self.paths.flow.agenda.now(),
+            sender.0 as usize,
+        );
     }
 
     /// How a receiver's link was used up to now, since counting began anew.
@@ -197,7 +203,11 @@ impl PacketNetwork {
         requires { level < 8 }
         ensures { result.passed ≡ passed_at level self.now.outputs }
     {
-        level_of_all(self.paths.outputs.as_slice(), level, self.paths.flow.agenda.now())
+        level_of_all(
+            self.paths.outputs.as_slice(),
+            level,
+            self.paths.flow.agenda.now(),
+        )
     }
 
     /// The bytes that outputs began to send since counting began anew, by why they were sent.

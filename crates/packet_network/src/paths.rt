@@ -169,7 +169,11 @@ impl PacketPaths {
             NetworkEvent::AtSwitch(packet) => {
                 let place = packet.receiver();
                 let waits = self.flow.reach(self.outputs.as_mut_slice(), &packet)?;
-                if waits { self.begin_at_output(place)? } else { Reached::Nothing }
+                if waits {
+                    self.begin_at_output(place)?
+                } else {
+                    Reached::Nothing
+                }
             }
             NetworkEvent::AtHost(packet) => {
                 self.flow.deliver(&packet);
