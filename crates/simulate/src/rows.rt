@@ -1,9 +1,7 @@
 // Lines with columns.
 use crate::cells::{Cell, add_cell, add_value};
-use crate::stop::PrintStop;
 use crate::words::Format;
-use homa_io::{Sink, write_all};
-use std::alloc::{AllocError, Global};
+use std::alloc::AllocError;
 
 /// A column of a line: its name, and what stands in it.
 #[derive(Clone, Copy, Debug, PartialEq, Eq)]
@@ -58,53 +56,26 @@ fn add_object(text: &mut String, columns: &[Column]) -> Result<(), AllocError> {
     text.push_str("}\n")
 }
 
-/// A sink with room for a line, and the form of lines.
-#[derive(Drop)]
-pub(crate) struct Printer<K> {
-    pub(crate) sink: K,
-    pub(crate) text: String,
-    pub(crate) format: Format,
+/// Adds the names of these columns, if the form has them in a line of their own.
+pub(crate) fn add_head(
+    text: &mut String,
+    format: Format,
+    columns: &[Column],
+) -> Result<(), AllocError> {
+    match format {
+        Format::Csv => add_names(text, columns),
+        Format::Json => Ok(()),
+    }
 }
 
-impl<K: Sink + Drop> Printer<K> {
-    /// A printer over this sink.
-    pub(crate) fn new(alloc: Global, sink: K, format: Format) -> Printer<K> {
-        Printer {
-            sink,
-            text: String::new(alloc),
-            format,
-        }
-    }
-
-    /// Writes the line that is made, which then is empty.
-    pub(crate) fn write(&mut self) -> Result<(), PrintStop> {
-        write_all(&mut self.sink, self.text.as_bytes())?;
-        self.text.clear();
-        Ok(())
-    }
-
-    /// Writes a text.
-    pub(crate) fn put(&mut self, text: &str) -> Result<(), PrintStop> {
-        Ok(write_all(&mut self.sink, text.as_bytes())?)
-    }
-
-    /// Writes the names of these columns, if the form has them in a line of their own.
-    pub(crate) fn head(&mut self, columns: &[Column]) -> Result<(), PrintStop> {
-        match self.format {
-            Format::Csv => {
-                add_names(&mut self.text, columns)?;
-                self.write()
-            }
-            Format::Json => Ok(()),
-        }
-    }
-
-    /// Writes a line of these columns.
-    pub(crate) fn line(&mut self, columns: &[Column]) -> Result<(), PrintStop> {
-        match self.format {
-            Format::Csv => add_cells(&mut self.text, columns)?,
-            Format::Json => add_object(&mut self.text, columns)?,
-        }
-        self.write()
+/// Adds a line of these columns.
+pub(crate) fn add_line(
+    text: &mut String,
+    format: Format,
+    columns: &[Column],
+) -> Result<(), AllocError> {
+    match format {
+        Format::Csv => add_cells(text, columns),
+        Format::Json => add_object(text, columns),
     }
 }

@@ -1,11 +1,10 @@
 // What was counted in a run.
 use crate::cells::Cell;
 use crate::parts::{mean, nanos, part};
-use crate::rows::{Column, Printer, named};
-use crate::stop::PrintStop;
+use crate::rows::{Column, add_head, add_line, named};
 use crate::tally::Tally;
+use crate::words::Format;
 use experiment::Experiment;
-use homa_io::Sink;
 use simulated_network::{LinkUse, Outcome, Waits, Window};
 use std::alloc::{AllocError, Global};
 
@@ -229,7 +228,7 @@ fn waits(tally: &Tally) -> [Column; 4] {
     ]
 }
 
-/// The columns of a run.
+// The columns of a run.
 fn columns(
     alloc: Global,
     experiment: &Experiment,
@@ -250,18 +249,19 @@ fn columns(
     Ok(columns)
 }
 
-/// Writes the line of a run, behind the names of the columns if the run is the first one.
-pub(crate) fn put_totals<K: Sink + Drop>(
+/// Adds the line of a run, behind the names of the columns if the run is the first one.
+pub(crate) fn add_totals(
     alloc: Global,
-    printer: &mut Printer<K>,
+    text: &mut String,
+    format: Format,
     experiment: &Experiment,
     outcome: &Outcome,
     seed: u64,
     is_first: bool,
-) -> Result<(), PrintStop> {
+) -> Result<(), AllocError> {
     let columns = columns(alloc, experiment, outcome, seed)?;
     if is_first {
-        printer.head(&columns)?;
+        add_head(text, format, &columns)?;
     }
-    printer.line(&columns)
+    add_line(text, format, &columns)
 }
