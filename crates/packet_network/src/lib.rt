@@ -9,6 +9,7 @@
 mod chance;
 mod event;
 mod fates;
+mod flow;
 mod measure;
 mod network;
 mod outlet;
@@ -21,5 +22,5 @@ pub use event::{Begun, Reached, Task};
 pub use fates::Fates;
 pub use measure::{Down, Level, Waits};
 pub use network::PacketNetwork;
-pub use packet::{Piece, SimPacket, Traffic};
+pub use packet::{Grant, Piece, SimPacket, Traffic};
 pub use stop::NetworkStop;

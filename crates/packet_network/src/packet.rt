@@ -1,6 +1,7 @@
 // A packet under way.
 ghost use Rattle.std.specs.Prelude.{◌<◌};
 
+use crate::event::{Begun, Place};
 use experiment::PacketName;
 use homa_plain::HostId;
 
@@ -26,6 +27,14 @@ pub struct Piece {
     pub is_response: bool,
 }
 
+/// Up to which byte of which message a packet grants: the call by its place in the list of calls.
+#[derive(Clone, Copy, Debug, PartialEq, Eq)]
+pub struct Grant {
+    pub call: u32,
+    pub upto: u32,
+    pub is_response: bool,
+}
+
 /// A packet under way.
 #[derive(Clone, Copy, Debug, PartialEq, Eq)]
 pub struct SimPacket {
@@ -41,6 +50,7 @@ pub struct SimPacket {
     pub left: u32,
     pub name: PacketName,
     pub piece: Option<Piece>,
+    pub grant: Option<Grant>,
     pub from: HostId,
     pub to: HostId,
     pub level: u8,
@@ -53,5 +63,26 @@ impl Piece {
     /// Whether it has the last byte of a request.
     pub(crate) fn ends_request(&self) -> bool {
         !self.is_response && u64::from(self.offset) + u64::from(self.len) >= u64::from(self.length)
+    }
+}
+
+impl SimPacket {
+    /// Its sender's card.
+    pub(crate) fn sender(&self) -> Place {
+        Place { host: self.from.0 }
+    }
+
+    /// Its receiver's output.
+    pub(crate) fn receiver(&self) -> Place {
+        Place { host: self.to.0 }
+    }
+
+    /// It began to leave a queue.
+    pub(crate) fn begun(&self, place: Place, now: u64) -> Begun {
+        Begun {
+            host: HostId(place.host),
+            piece: self.piece,
+            wait: now.saturating_sub(self.came),
+        }
     }
 }

@@ -5,12 +5,15 @@
 #![tactic(auto)]
 
 mod arrivals;
+mod heeding;
 mod known;
 mod link_use;
 mod mark;
 mod network;
 mod outcome;
+mod receivers;
 mod step;
+mod tasks;
 #[cfg(test)]
 mod tests;
 mod trouble;
@@ -20,6 +23,6 @@ pub use link_use::LinkUse;
 pub use network::SimulatedNetwork;
 pub use outcome::Outcome;
 pub use packet_network::{Fates, Level, NetworkStop, Waits};
-pub use step::Step;
+pub use step::{Datagram, Step};
 pub use trouble::Trouble;
 pub use window::Window;

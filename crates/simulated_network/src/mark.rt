@@ -1,12 +1,15 @@
 // What a packet says of its call.
-use experiment::PacketName;
-use packet_network::{Piece, Traffic};
+ghost use Rattle.std.specs.Prelude.{◌≡◌, None, Some};
 
-/// What a packet says of its call: the bytes of a message, how they are counted, by which name it is drawn for, and how many bytes of
-/// its message are left.
+use experiment::PacketName;
+use packet_network::{Grant, Piece, Traffic};
+
+/// What a packet says of its call: which bytes of a message it has or which grant, how it is counted, by which name it is drawn for,
+/// and how many bytes of its message are left.
 #[derive(Clone, Copy, Debug, PartialEq, Eq)]
 pub(crate) struct Mark {
     pub(crate) piece: Option<Piece>,
+    pub(crate) grant: Option<Grant>,
     pub(crate) traffic: Traffic,
     pub(crate) name: PacketName,
     pub(crate) left: u32,
@@ -19,9 +22,13 @@ const CONTROL: u32 = 4;
 
 impl Mark {
     /// That of a packet without a piece, of a call by the order in which calls were drawn.
-    pub(crate) fn control(drawn: u32, times: u32) -> Mark {
+    pub(crate) fn control(drawn: u32, times: u32, grant: Option<Grant>) -> Mark
+        ensures piece { result.piece ≡ None }
+        ensures grant { result.grant ≡ grant }
+    {
         Mark {
             piece: None,
+            grant,
             traffic: Traffic::Control,
             name: PacketName {
                 call: drawn,
@@ -34,7 +41,10 @@ impl Mark {
     }
 
     /// That of a piece. Where it was sent before, so many packets of its message were.
-    pub(crate) fn piece(drawn: u32, times: Option<u32>, piece: Piece) -> Mark {
+    pub(crate) fn piece(drawn: u32, times: Option<u32>, piece: Piece) -> Mark
+        ensures piece { result.piece ≡ Some piece }
+        ensures grant { result.grant ≡ None }
+    {
         let side = u32::from(piece.is_response);
         let (traffic, kind) = match times {
             None => (Traffic::First, side),
@@ -42,6 +52,7 @@ impl Mark {
         };
         Mark {
             piece: Some(piece),
+            grant: None,
             traffic,
             name: PacketName {
                 call: drawn,

@@ -20,3 +20,10 @@ pub enum Step {
         bytes: u32,
     },
 }
+
+/// A datagram that is sent: how many bytes it has, and at which tick it is sent.
+#[derive(Clone, Copy, Debug, PartialEq, Eq)]
+pub struct Datagram {
+    pub len: u32,
+    pub tick: u64,
+}

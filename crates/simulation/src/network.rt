@@ -2,7 +2,7 @@
 use crate::HostNetwork;
 use homa_plain::Entry;
 use homa_world::Passing;
-use simulated_network::{NetworkStop, SimulatedNetwork, Step};
+use simulated_network::{Datagram, NetworkStop, SimulatedNetwork, Step};
 
 impl HostNetwork for SimulatedNetwork<'_> {
     ghost gives = { λ a tick step b. Unit {0} };
@@ -24,7 +24,11 @@ impl HostNetwork for SimulatedNetwork<'_> {
     }
 
     fn heed(&mut self, entry: &Entry<'_>, passing: Option<Passing>) -> Result<(), NetworkStop> {
-        SimulatedNetwork::heed(self, entry, passing)
+        let datagram = passing.map(|it| Datagram {
+            len: it.len,
+            tick: it.tick,
+        });
+        SimulatedNetwork::heed(self, entry, datagram)
     }
 
     fn now(&self) -> u64 {
