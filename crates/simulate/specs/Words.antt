@@ -14,8 +14,8 @@ use Rattle.simulate.specs.declared.words.Meaning.TheVariants as means
 use Rattle.simulate.specs.declared.words.Said.{Said}
 
 -- what a word says, if it is one of those that there are
-abbrev pub meaning : List ℕ → Option Meaning
-meaning word =
+abbrev pub meaning_of : List ℕ → Option Meaning
+meaning_of word =
     if bytes_eq word (codes "summary") then Some (means.Print Summary)
     else if bytes_eq word (codes "figures") then Some (means.Print Figures)
     else if bytes_eq word (codes "totals") then Some (means.Print Totals)
@@ -49,8 +49,8 @@ asked_for said report =
     else Ask (record { report = report; format = form_of said.is_json; tells_progress = said.tells_progress })
 
 -- what is asked where this was said
-abbrev pub asked : Said → CommandLine
-asked said = elim said.report [ None ↦ Wrong Missing | Some report ↦ asked_for said report ]
+abbrev pub answer_to : Said → CommandLine
+answer_to said = elim said.report [ None ↦ Wrong Missing | Some report ↦ asked_for said report ]
 
 -- what is said with one word more, or that the one behind so many words ends the command line
 abbrev pub step : Said → ℕ → Option Meaning → Result Said CommandLine
@@ -63,8 +63,8 @@ step said at (Some (means.Print report)) =
 
 -- what words say behind so many others, which said this
 abbrev pub read_on : Said → ℕ → List (Bor (List ℕ)) → CommandLine
-read_on said at [] = asked said
-read_on said at (word ∷ words) = elim step said at (meaning word.now) [ Err answer ↦ answer | Ok next ↦ read_on next (at + 1) words ]
+read_on said at [] = answer_to said
+read_on said at (word ∷ words) = elim step said at (meaning_of word.now) [ Err answer ↦ answer | Ok next ↦ read_on next (at + 1) words ]
 
 -- what a command line says
 abbrev pub command_line : List (Bor (List ℕ)) → CommandLine

@@ -1,4 +1,7 @@
 // A line for each call.
+ghost use Rattle.std.specs.Prelude.{◌≡◌};
+ghost use Rattle.simulate.specs.Rows.{names};
+ghost use Rattle.simulate.specs.Columns.{call_names};
 use crate::cells::Cell;
 use crate::parts::nanos;
 use crate::rows::{Column, add_head, add_line, named};
@@ -7,7 +10,7 @@ use crate::words::Format;
 use call_figures::{CallEnd, Rank, SimCall, call_alone, response_to};
 use experiment::Experiment;
 use homa_plain::{CallId, HostId};
-use simulated_network::Outcome;
+use simulated_network::RunOutcome;
 use std::alloc::AllocError;
 
 // The word of an end.
@@ -55,10 +58,12 @@ fn ended(call: &SimCall) -> Option<u64> {
 // The columns of a call: moments and spans are nanoseconds.
 fn columns(
     experiment: &Experiment,
-    outcome: &Outcome,
+    outcome: &RunOutcome,
     seed: u64,
     call: &SimCall,
-) -> [Column; 21] {
+) -> [Column; 21]
+    ensures { names result ≡ call_names }
+{
     let waits = waits_of(outcome, call);
     let response = response_to(experiment, call.request);
     [
@@ -112,7 +117,7 @@ pub(crate) fn add_call_head(
     text: &mut String,
     format: Format,
     experiment: &Experiment,
-    outcome: &Outcome,
+    outcome: &RunOutcome,
 ) -> Result<(), AllocError> {
     add_head(text, format, &columns(experiment, outcome, 0, &no_call()))
 }
@@ -122,7 +127,7 @@ pub(crate) fn add_call(
     text: &mut String,
     format: Format,
     experiment: &Experiment,
-    outcome: &Outcome,
+    outcome: &RunOutcome,
     seed: u64,
     call: &SimCall,
 ) -> Result<(), AllocError> {

@@ -1,4 +1,7 @@
 // How the program ends.
+ghost use Rattle.std.specs.Prelude.{◌≡◌};
+ghost use Rattle.simulate.specs.Ends.{status_of};
+
 use crate::words::WordFault;
 use experiment::ExperimentFault;
 use simulation::SimStop;
@@ -21,7 +24,9 @@ pub(crate) enum Ended {
 impl Ended {
     /// The program's status: 0 where all was printed, 1 for words, 2 for an experiment, 3 for a run that stopped, and 4 where
     /// standard output took no more.
-    pub(crate) fn status(self) -> u8 {
+    pub(crate) fn status(self) -> u8
+        ensures { result ≡ status_of self }
+    {
         match self {
             Ended::Printed | Ended::Helped => 0,
             Ended::Words(_) => 1,

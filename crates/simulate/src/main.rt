@@ -13,7 +13,6 @@ mod parts;
 mod progress;
 mod rows;
 mod running;
-mod services;
 mod slowdown_rows;
 mod summary;
 mod tally;

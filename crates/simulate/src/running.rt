@@ -1,7 +1,6 @@
 // The runs of an experiment, one for each seed, and what is printed of them.
 use crate::call_rows::{add_call, add_call_head};
 use crate::progress::Hearing;
-use crate::services::suites;
 use crate::slowdown_rows::{add_slowdown_head, add_slowdowns, add_spreads};
 use crate::summary::{add_means, add_summary};
 use crate::totals::add_totals;
@@ -13,8 +12,8 @@ use experiment::Experiment;
 use homa_io::{Sink, write_all};
 use homa_service::Suite;
 use homa_world::World;
-use simulated_network::Outcome;
-use simulation::{SimStop, simulate};
+use simulated_network::RunOutcome;
+use simulation::{SimStop, simulate, suites};
 use std::alloc::{AllocError, Global};
 use std::fmt::Write;
 
@@ -32,7 +31,7 @@ fn run_of<K: Sink, T: Hearing>(
     sink: &mut K,
     telling: &mut T,
     seed: u64,
-) -> Result<Outcome, SimStop> {
+) -> Result<RunOutcome, SimStop> {
     let load = &job.experiment.load;
     telling.begin(seed, u64::from(load.warm) + u64::from(load.calls));
     let services = suites(job.alloc)?;
@@ -70,9 +69,14 @@ fn add_beginning<E: Eprint>(
     text: &mut String,
     notes: &E,
 ) -> Result<(), AllocError> {
-    let values = values(job.alloc, job.asked.format, job.experiment)?;
+    let memory = from_memory(job.experiment);
+    let note = match job.asked.report {
+        Report::Summary => None,
+        _ => memory,
+    };
+    let values = values(job.alloc, job.asked.format, job.experiment, note)?;
     text.push_str(values.as_str())?;
-    warn(job, text, notes, from_memory(job.experiment))?;
+    warn(job, text, notes, memory)?;
     warn(job, text, notes, rate_over_link(job.experiment))
 }
 
@@ -80,7 +84,7 @@ fn add_beginning<E: Eprint>(
 fn add_run(
     job: &Job<'_>,
     text: &mut String,
-    outcome: &Outcome,
+    outcome: &RunOutcome,
     figures: &Figures,
     at: u32,
 ) -> Result<(), AllocError> {
@@ -112,7 +116,7 @@ fn put_calls<K: Sink>(
     job: &Job<'_>,
     sink: &mut K,
     text: &mut String,
-    outcome: &Outcome,
+    outcome: &RunOutcome,
     seed: u64,
 ) -> Result<(), SimStop> {
     let (experiment, format) = (job.experiment, job.asked.format);

@@ -1,4 +1,7 @@
 // Slowdowns by length, for each seed and over all of them.
+ghost use Rattle.std.specs.Prelude.{◌≡◌};
+ghost use Rattle.simulate.specs.Rows.{names};
+ghost use Rattle.simulate.specs.Columns.{slowdown_names};
 use crate::cells::Cell;
 use crate::rows::{Column, add_head, add_line, named};
 use crate::words::Format;
@@ -142,7 +145,9 @@ pub(crate) fn spread_over(
 }
 
 // The columns of a group.
-fn columns(seed: Cell, group: Group, it: &Spread) -> [Column; 12] {
+fn columns(seed: Cell, group: Group, it: &Spread) -> [Column; 12]
+    ensures { names result ≡ slowdown_names }
+{
     [
         named("seed", seed),
         named("part", group.cell()),

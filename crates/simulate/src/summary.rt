@@ -6,7 +6,7 @@ use crate::tally::Tally;
 use crate::totals::{Parts, Queue, passed, span};
 use call_figures::{Figures, Interval};
 use experiment::Experiment;
-use simulated_network::{Outcome, Waits, Window};
+use simulated_network::{RunOutcome, Waits, Window};
 use std::alloc::{AllocError, Global};
 use std::fmt::Write;
 
@@ -59,10 +59,10 @@ fn add_idle(
 fn add_calls(
     text: &mut String,
     experiment: &Experiment,
-    outcome: &Outcome,
+    outcome: &RunOutcome,
 ) -> Result<(), AllocError> {
-    let it = Tally::of(experiment, outcome);
-    let (done, failed, open, resends) = (it.done, it.failed, it.open, it.resends);
+    let it = Tally::of(outcome, outcome.measured(&experiment.load));
+    let (done, failed, open, resends) = (it.done, it.failed, it.still_open, it.resends);
     let (again, bytes) = (it.again, it.bytes);
     let count = u128::from(it.count());
     let (card, output) = (
@@ -117,7 +117,7 @@ fn add_levels(text: &mut String, window: &Window) -> Result<(), AllocError> {
 }
 
 // What became of the packets of the whole run.
-fn add_fates(text: &mut String, outcome: &Outcome) -> Result<(), AllocError> {
+fn add_fates(text: &mut String, outcome: &RunOutcome) -> Result<(), AllocError> {
     let it = &outcome.fates;
     let (sent, repeated, delivered) = (it.sent, it.repeated, it.delivered);
     let (lost, full, old) = (it.lost, it.full, it.old);
@@ -263,7 +263,7 @@ pub(crate) fn add_summary(
     alloc: Global,
     text: &mut String,
     experiment: &Experiment,
-    outcome: &Outcome,
+    outcome: &RunOutcome,
     figures: &Figures,
     seed: u64,
 ) -> Result<(), AllocError> {

@@ -1,4 +1,5 @@
 // All values of an experiment, as its lines.
+use crate::warnings::Warning;
 use crate::words::Format;
 use experiment::{Amount, Card, Experiment, ListedCall, Step};
 use homa_plain::Name;
@@ -192,25 +193,34 @@ impl Lines {
     }
 }
 
-/// All values of an experiment: in CSV each line of its text behind `# `, in JSON one object with an array of the lines.
-pub(crate) fn values(
-    alloc: Global,
-    format: Format,
-    experiment: &Experiment,
-) -> Result<String, AllocError> {
+// Adds the lines behind which notes stand.
+fn lines_of(alloc: Global, format: Format, experiment: &Experiment) -> Result<String, AllocError> {
     let mut lines = Lines {
         text: String::new(alloc),
         format,
         is_first: true,
     };
-    match format {
-        Format::Csv => lines.all(experiment)?,
-        Format::Json => {
-            lines.text.push_str("{\"experiment\":[")?;
-            lines.all(experiment)?;
-            lines.text.push_str("]}\n")?;
-        }
-    }
+    lines.all(experiment)?;
     let Lines { text, .. } = lines;
     Ok(text)
+}
+
+/// All values of an experiment, with a note if there is one. In CSV each line of the experiment's text stands behind `# `, and the
+/// note behind `## `. In JSON this is one object, with an array of the lines and one of notes.
+pub(crate) fn values(
+    alloc: Global,
+    format: Format,
+    experiment: &Experiment,
+    note: Option<Warning>,
+) -> Result<String, AllocError> {
+    let lines = lines_of(alloc, format, experiment)?;
+    let lines = lines.as_str();
+    match (format, note) {
+        (Format::Csv, None) => format!(in alloc; "{lines}"),
+        (Format::Csv, Some(note)) => format!(in alloc; "{lines}## {note}\n"),
+        (Format::Json, None) => format!(in alloc; "{{\"experiment\":[{lines}],\"notes\":[]}}\n"),
+        (Format::Json, Some(note)) => {
+            format!(in alloc; "{{\"experiment\":[{lines}],\"notes\":[\"{note}\"]}}\n")
+        }
+    }
 }
