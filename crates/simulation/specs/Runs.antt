@@ -61,3 +61,14 @@ pub record IsRun (s : Settings) (boxes : ℕ) (prints : Bool) (allowed : List Pl
   pub counted : events ≡ length es
   pub printed : new ≡ appended old (said prints (settings_text s ++ flat_map line_of es))
   pub allow : allowed (PlainSettings s ∷ told)
+
+-- A run that stopped early. What was printed is a front of its schedule, in which one event more may stand.
+pub record IsPart (s : Settings) (boxes : ℕ) (prints : Bool) (allowed : List PlainEntry → Type 0) (old new : Option (List ℕ)) : Type 0 where
+  pub es : List Happening
+  pub told : List PlainEntry
+  pub end : World
+  pub carries : (later : List Answer) → carried s (new_world s (replicate s.hosts 1) 0 boxes (shown told ++ later)) es
+      ≡ record { world = answering later end; told = told; count = length es; fault = None }
+  pub last : Happening
+  pub front : TookFront old new (said prints (settings_text s ++ flat_map line_of (es ++ last ∷ [])))
+  pub allow : allowed (PlainSettings s ∷ told)

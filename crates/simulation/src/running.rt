@@ -1,7 +1,7 @@
 // The turns of a run, from its first to its last.
 ghost use Rattle.std.specs.Prelude.{◌≡◌, ◌≤◌, ◌<◌, ◌+◌, ◌^◌, OnOk, OnErr, IfOk};
 ghost use Rattle.homa_plain.specs.World.{World};
-ghost use Rattle.simulation.specs.Runs.{at, HasRun, HasStopped, IsRun};
+ghost use Rattle.simulation.specs.Runs.{at, HasRun, HasStopped, IsRun, IsPart};
 
 use crate::events::happen;
 use crate::lines::begin;
@@ -139,6 +139,7 @@ pub fn simulate<B: Drop, P: GenerateWorld + OpenWorld<B> + Drop, K: Sink, T: Tel
     requires { P.are_ready boxes }
     ensures ran { IfOk result (λ outcome. IsRun experiment.now.settings (P.many boxes) prints (P.are_allowed boxes) (K.taken sink.old) (K.taken sink.new)
         outcome.events) }
+    ensures stopped { OnErr result (IsPart experiment.now.settings (P.many boxes) prints (P.are_allowed boxes) (K.taken sink.old) (K.taken sink.new)) }
     ensures same { K.is_same sink.old sink.new }
 {
     let setup = Setup::new(alloc, experiment, prints)?;
