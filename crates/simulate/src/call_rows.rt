@@ -10,7 +10,7 @@ use crate::words::Format;
 use call_figures::{CallEnd, Rank, SimCall, call_alone, response_to};
 use experiment::Experiment;
 use homa_plain::{CallId, HostId};
-use simulated_network::RunOutcome;
+use simulated_network::Outcome;
 use std::alloc::AllocError;
 
 // The word of an end.
@@ -58,7 +58,7 @@ fn ended(call: &SimCall) -> Option<u64> {
 // The columns of a call: moments and spans are nanoseconds.
 fn columns(
     experiment: &Experiment,
-    outcome: &RunOutcome,
+    outcome: &Outcome,
     seed: u64,
     call: &SimCall,
 ) -> [Column; 21]
@@ -117,7 +117,7 @@ pub(crate) fn add_call_head(
     text: &mut String,
     format: Format,
     experiment: &Experiment,
-    outcome: &RunOutcome,
+    outcome: &Outcome,
 ) -> Result<(), AllocError> {
     add_head(text, format, &columns(experiment, outcome, 0, &no_call()))
 }
@@ -127,7 +127,7 @@ pub(crate) fn add_call(
     text: &mut String,
     format: Format,
     experiment: &Experiment,
-    outcome: &RunOutcome,
+    outcome: &Outcome,
     seed: u64,
     call: &SimCall,
 ) -> Result<(), AllocError> {

@@ -12,7 +12,7 @@ use experiment::Experiment;
 use homa_io::{Sink, write_all};
 use homa_service::Suite;
 use homa_world::World;
-use simulated_network::RunOutcome;
+use simulated_network::Outcome;
 use simulation::{SimStop, simulate, suites};
 use std::alloc::{AllocError, Global};
 use std::fmt::Write;
@@ -31,7 +31,7 @@ fn run_of<K: Sink, T: Hearing>(
     sink: &mut K,
     telling: &mut T,
     seed: u64,
-) -> Result<RunOutcome, SimStop> {
+) -> Result<Outcome, SimStop> {
     let load = &job.experiment.load;
     telling.begin(seed, u64::from(load.warm) + u64::from(load.calls));
     let services = suites(job.alloc)?;
@@ -84,7 +84,7 @@ fn add_beginning<E: Eprint>(
 fn add_run(
     job: &Job<'_>,
     text: &mut String,
-    outcome: &RunOutcome,
+    outcome: &Outcome,
     figures: &Figures,
     at: u32,
 ) -> Result<(), AllocError> {
@@ -116,7 +116,7 @@ fn put_calls<K: Sink>(
     job: &Job<'_>,
     sink: &mut K,
     text: &mut String,
-    outcome: &RunOutcome,
+    outcome: &Outcome,
     seed: u64,
 ) -> Result<(), SimStop> {
     let (experiment, format) = (job.experiment, job.asked.format);

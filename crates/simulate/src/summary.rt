@@ -6,7 +6,7 @@ use crate::tally::Tally;
 use crate::totals::{Parts, Queue, passed, span};
 use call_figures::{Figures, Interval};
 use experiment::Experiment;
-use simulated_network::{RunOutcome, Waits, Window};
+use simulated_network::{Outcome, Waits, Window};
 use std::alloc::{AllocError, Global};
 use std::fmt::Write;
 
@@ -59,7 +59,7 @@ fn add_idle(
 fn add_calls(
     text: &mut String,
     experiment: &Experiment,
-    outcome: &RunOutcome,
+    outcome: &Outcome,
 ) -> Result<(), AllocError> {
     let it = Tally::of(outcome, outcome.measured(&experiment.load));
     let (done, failed, open, resends) = (it.done, it.failed, it.still_open, it.resends);
@@ -117,7 +117,7 @@ fn add_levels(text: &mut String, window: &Window) -> Result<(), AllocError> {
 }
 
 // What became of the packets of the whole run.
-fn add_fates(text: &mut String, outcome: &RunOutcome) -> Result<(), AllocError> {
+fn add_fates(text: &mut String, outcome: &Outcome) -> Result<(), AllocError> {
     let it = &outcome.fates;
     let (sent, repeated, delivered) = (it.sent, it.repeated, it.delivered);
     let (lost, full, old) = (it.lost, it.full, it.old);
@@ -263,7 +263,7 @@ pub(crate) fn add_summary(
     alloc: Global,
     text: &mut String,
     experiment: &Experiment,
-    outcome: &RunOutcome,
+    outcome: &Outcome,
     figures: &Figures,
     seed: u64,
 ) -> Result<(), AllocError> {

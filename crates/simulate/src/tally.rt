@@ -2,7 +2,7 @@
 ghost use Rattle.std.specs.Prelude.{◌≡◌, ◌+◌, ◌<◌, ◌^◌, length};
 
 use call_figures::{CallEnd, SimCall, Transfer};
-use simulated_network::RunOutcome;
+use simulated_network::Outcome;
 
 /// How the calls that were measured ended, and for how long all of their pieces waited, in picoseconds.
 #[derive(Clone, Copy, Debug, PartialEq, Eq)]
@@ -34,7 +34,7 @@ pub(crate) struct CallWaits {
 }
 
 // The message of a side of a call; one that isn't known if there is none.
-fn message(outcome: &RunOutcome, place: u32, is_response: bool) -> Transfer {
+fn message(outcome: &Outcome, place: u32, is_response: bool) -> Transfer {
     outcome
         .transfers
         .message(place, is_response)
@@ -42,7 +42,7 @@ fn message(outcome: &RunOutcome, place: u32, is_response: bool) -> Transfer {
 }
 
 /// The waits of a call's messages.
-pub(crate) fn waits_of(outcome: &RunOutcome, call: &SimCall) -> CallWaits {
+pub(crate) fn waits_of(outcome: &Outcome, call: &SimCall) -> CallWaits {
     let place = outcome.calls.place(call.id).unwrap_or(u32::MAX);
     let (asked, answered) = (
         message(outcome, place, false),
@@ -106,7 +106,7 @@ impl Tally {
     }
 
     /// That of these calls of a run.
-    pub(crate) fn of(outcome: &RunOutcome, calls: &[SimCall]) -> Tally
+    pub(crate) fn of(outcome: &Outcome, calls: &[SimCall]) -> Tally
         ensures { result.done + result.failed + result.still_open ≡ length calls.now }
     {
         let mut tally = Tally::none();

@@ -9,7 +9,7 @@ use crate::rows::{Column, add_head, add_line, named};
 use crate::tally::Tally;
 use crate::words::Format;
 use experiment::Experiment;
-use simulated_network::{LinkUse, RunOutcome, Waits, Window};
+use simulated_network::{LinkUse, Outcome, Waits, Window};
 use std::alloc::{AllocError, Global};
 
 /// What waited at all cards, or at all outputs: the most bytes at one of them; the mean of the bytes at one, by their sum
@@ -90,7 +90,7 @@ impl Parts {
 }
 
 // The window, and what of the links was asked, offered and taken.
-fn taken(experiment: &Experiment, outcome: &RunOutcome, seed: u64) -> [Column; 17]
+fn taken(experiment: &Experiment, outcome: &Outcome, seed: u64) -> [Column; 17]
     ensures { names result ≡ taken_names }
 {
     let window = &outcome.window;
@@ -134,7 +134,7 @@ fn ended(tally: &Tally, window: &Window) -> [Column; 8]
 }
 
 // What became of the packets of the whole run, and what went wrong in it.
-fn fates(outcome: &RunOutcome) -> [Column; 12]
+fn fates(outcome: &Outcome) -> [Column; 12]
     ensures { names result ≡ fates_names }
 {
     let (fates, trouble) = (&outcome.fates, &outcome.trouble);
@@ -252,7 +252,7 @@ fn waits(tally: &Tally) -> [Column; 4]
 fn columns(
     alloc: Global,
     experiment: &Experiment,
-    outcome: &RunOutcome,
+    outcome: &Outcome,
     seed: u64,
 ) -> Result<Vec<Column>, AllocError>
     ensures { IfOk result (λ columns. names columns.items ≡ totals_names) }
@@ -277,7 +277,7 @@ pub(crate) fn add_totals(
     text: &mut String,
     format: Format,
     experiment: &Experiment,
-    outcome: &RunOutcome,
+    outcome: &Outcome,
     seed: u64,
     is_first: bool,
 ) -> Result<(), AllocError> {
