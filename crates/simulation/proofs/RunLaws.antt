@@ -1,5 +1,6 @@
 -- Runs that go on, and runs that stop.
-use Rattle.std.proofs.Common.{◌≡◌, ◌+◌, ℕ, Bool, true, false, Option, None, List, [], ◌∷◌, ◌++◌, length, refl, sym, ap, ◌∙◌, subst, append_assoc, replicate, arith}
+use Rattle.std.proofs.Common.{◌≡◌, ◌+◌, ℕ, Bool, true, false, Option, None, List, [], ◌∷◌, ◌++◌, length, refl, sym, ap, ◌∙◌, subst, append_assoc}
+use Rattle.std.proofs.Common.{replicate, arith}
 use Rattle.std.specs.List.{flat_map}
 use Rattle.std.proofs.lemmas.List.{append-nil, length-append}
 use Rattle.homa_io.specs.Outside.{appended, TookFront}
@@ -16,8 +17,8 @@ use Rattle.generated_runs.proofs.Carried.{no_event}
 use Rattle.homa_replay.specs.OpenWorld.{IsFirst, IsOpened}
 use Rattle.homa_replay.proofs.Fronts.{nothing_appended, wrote_more, front_after, front_none, front_same, front_wide}
 use Rattle.homa_world.specs.declared.shown.Passing.{Passing}
-use Rattle.simulated_network.specs.declared.step.Step.{Step}
-use Rattle.simulated_network.specs.declared.step.Step.TheVariants as step
+use Rattle.simulated_network.specs.declared.step.RunStep.{RunStep}
+use Rattle.simulated_network.specs.declared.step.RunStep.TheVariants as step
 use Rattle.simulation.specs.Turns.{Turn, Waited, LeftOut, Happened, happenings, told_of, line_of, IsWait, Asks, IsFull, HasHappened, AreTurns}
 use Rattle.simulation.specs.Runs.{said, At, HasRun, HasStopped, IsRun, IsPart}
 use Rattle.simulation.proofs.TurnLaws.{happenings-append, told_of-append, turns_on, carried_of}
@@ -31,8 +32,8 @@ said_nothing true = refl
 said_nothing false = refl
 
 -- a step was given, at this tick
-pub gave_as : {N : Type 0} (gives : N → ℕ → Step → N → Type 0) (a b : N) (t u : ℕ) (x y : Step) → t ≡ u → x ≡ y → gives a t x b → gives a u y b
-gave_as gives a b t u x y same is gave = subst (λ (z : Step). gives a u z b) is (subst (λ (n : ℕ). gives a n x b) same gave)
+pub gave_as : {N : Type 0} (gives : N → ℕ → RunStep → N → Type 0) (a b : N) (t u : ℕ) (x y : RunStep) → t ≡ u → x ≡ y → gives a t x b → gives a u y b
+gave_as gives a b t u x y same is gave = subst (λ (z : RunStep). gives a u z b) is (subst (λ (n : ℕ). gives a n x b) same gave)
 
 -- nothing was printed
 pub unsaid : (prints : Bool) (old : Option (List ℕ)) → old ≡ appended old (said prints [])
@@ -43,7 +44,7 @@ flat_map-append' [] b = refl
 flat_map-append' (e ∷ a) b =
     ap (λ (l : List ℕ). line_of e ++ l) (flat_map-append' a b) ∙ sym (append_assoc (line_of e) (flat_map line_of a) (flat_map line_of b))
 
-module _ {N : Type 0} (gives : N → ℕ → Step → N → Type 0) (heeds : N → PlainEntry → Option Passing → N → Type 0) (leaves : N → N → Type 0)
+module _ {N : Type 0} (gives : N → ℕ → RunStep → N → Type 0) (heeds : N → PlainEntry → Option Passing → N → Type 0) (leaves : N → N → Type 0)
     (s : Settings) (service : ℕ) (prints : Bool) where
   -- nothing happened yet
   pub none_run : (w : World) (a : At N) (stands : World → Type 0) (before : List PlainEntry → Type 0) → stands w
@@ -59,7 +60,7 @@ module _ {N : Type 0} (gives : N → ℕ → Step → N → Type 0) (heeds : N �
   }
 
   -- time went on in the network alone, or the run is over
-  pub waited : (w : World) (a : At N) (b : N) (given : Step) (stands : World → Type 0) (before : List PlainEntry → Type 0) → IsWait given
+  pub waited : (w : World) (a : At N) (b : N) (given : RunStep) (stands : World → Type 0) (before : List PlainEntry → Type 0) → IsWait given
       → gives a.network w.clock given b → stands w → HasRun gives heeds leaves s service prints w a (record a { network = b }) stands before before
   waited w a b given stands before is gave stood = record {
     turns = Waited given ∷ [];
@@ -86,7 +87,7 @@ module _ {N : Type 0} (gives : N → ℕ → Step → N → Type 0) (heeds : N �
   }
 
   -- an event happened
-  pub one_event : (w : World) (a b : At N) (m : N) (given : Step) (e : Happening) (stands : World → Type 0) (before after : List PlainEntry → Type 0)
+  pub one_event : (w : World) (a b : At N) (m : N) (given : RunStep) (e : Happening) (stands : World → Type 0) (before after : List PlainEntry → Type 0)
       → gives a.network w.clock given m → Asks service given e → HasHappened heeds s w e m b.network stands before after
       → b.events ≡ a.events + 1 → b.taken ≡ appended a.taken (said prints (line_of e))
       → HasRun gives heeds leaves s service prints w a b stands before after
@@ -203,7 +204,7 @@ module _ {N : Type 0} (gives : N → ℕ → Step → N → Type 0) (heeds : N �
       stopped_on w a b new st p q first
       (λ v h. subst (λ (o : Settings). HasStopped gives heeds leaves o service prints v b new q) same (next v h))
 
-module _ {N : Type 0} (gives : N → ℕ → Step → N → Type 0) (heeds : N → PlainEntry → Option Passing → N → Type 0) (leaves : N → N → Type 0)
+module _ {N : Type 0} (gives : N → ℕ → RunStep → N → Type 0) (heeds : N → PlainEntry → Option Passing → N → Type 0) (leaves : N → N → Type 0)
     (s : Settings) (service : ℕ) (prints : Bool) (boxes : ℕ) (first : World) (is_first : IsFirst s boxes first) (a : At N)
     (p : List PlainEntry → Type 0) (allowed : List PlainEntry → Type 0) (old : Option (List ℕ))
     (begun : a.taken ≡ appended old (said prints (settings_text s)))
@@ -284,7 +285,7 @@ part_begun s u boxes p q allowed old new same prints allow front =
     part_settings s boxes p allowed old new allow
     (front_same old new (said q (settings_text u)) (said p (settings_text s)) (said_as p q s u prints same) front)
 
-module _ {N : Type 0} (gives : N → ℕ → Step → N → Type 0) (heeds : N → PlainEntry → Option Passing → N → Type 0) (leaves : N → N → Type 0)
+module _ {N : Type 0} (gives : N → ℕ → RunStep → N → Type 0) (heeds : N → PlainEntry → Option Passing → N → Type 0) (leaves : N → N → Type 0)
     (s u t : Settings) (service : ℕ) (pr qr : Bool) (boxes : ℕ) (a : At N) (st : World → Type 0) (p : List PlainEntry → Type 0)
     (allowed : List PlainEntry → Type 0) (old : Option (List ℕ)) (same : u ≡ s) (stays : t ≡ u) (prints : qr ≡ pr) (opened : IsOpened u boxes st)
     (begun : a.taken ≡ appended old (said qr (settings_text u)))

@@ -5,7 +5,7 @@ use Rattle.homa_plain.specs.declared.settings.Settings.{Settings}
 use Rattle.homa_plain.specs.declared.event.Event.TheVariants as event
 use Rattle.homa_plain.specs.World.{host_at}
 use Rattle.generated_runs.specs.Rounds.{live_at}
-use Rattle.simulated_network.specs.declared.step.Step.TheVariants as step
+use Rattle.simulated_network.specs.declared.step.RunStep.TheVariants as step
 use Rattle.simulation.specs.Turns.{beside}
 use Rattle.simulation.proofs.RunLaws.{gave_as, waited, left_out, one_event, stopped_here, stopped_at}
 use Rattle.simulation.proofs.running.turn.Goals as goal
