@@ -13,8 +13,11 @@ mod flow;
 mod measure;
 mod network;
 mod outlet;
+mod outlets;
 mod packet;
+mod paths;
 mod stop;
+mod tally;
 #[cfg(test)]
 mod tests;
 
@@ -22,5 +25,5 @@ pub use event::{Begun, Reached, Task};
 pub use fates::Fates;
 pub use measure::{Down, Level, Waits};
 pub use network::PacketNetwork;
-pub use packet::{Grant, Piece, SimPacket, Traffic};
+pub use packet::{PacketCause, Piece, PieceGrant, SimPacket};
 pub use stop::NetworkStop;

@@ -1,265 +1,230 @@
-//! All that is due in a network, and where its packets are.
-use crate::event::{Begun, Event, Place, Reached, Task};
-use crate::fates::{Census, Fates};
-use crate::flow::Flow;
+//! A network as its user sees it.
+ghost use Rattle.std.specs.Prelude.{◌≡◌, ◌≤◌, ◌<◌, ◌+◌, IfOk, IfSome, OnOk, slice_get};
+ghost use Rattle.packet_network.specs.Censuses.{IsConserved, no_fates};
+ghost use Rattle.packet_network.specs.Measures.{waits_of, passed_at, bytes_at, no_bytes};
+ghost use Rattle.packet_network.specs.States.{arrived};
+
+use crate::event::{Begun, NetworkEvent, Reached, Task};
+use crate::fates::Fates;
 use crate::measure::{Down, Level, Waits};
-use crate::outlet::Outlet;
+use crate::outlets::{all_waits, level_of_all};
 use crate::packet::SimPacket;
+use crate::paths::PacketPaths;
 use crate::stop::NetworkStop;
-use experiment::{Card, Experiment, Network};
+use experiment::Experiment;
 use homa_plain::HostId;
-use network_parts::Agenda;
-use run_gauges::{Receiver, SENDERS, Spans};
+use run_gauges::Spans;
 use std::alloc::{AllocError, Global};
+use std::marker::Model;
 
 /// A network of up to 32 hosts: what is due, the queues and links of each host, what is known of each receiver, and what became of
 /// packets.
 #[derive(Drop)]
 pub struct PacketNetwork {
-    flow: Flow,
-    cards: Vec<Outlet>,
-    outputs: Vec<Outlet>,
-    down: Down,
-    network: Network,
-    seed: u64,
+    paths: PacketPaths,
 }
 
-// The queues of so many hosts, in this order, and with this room.
-fn outlets(
-    alloc: Global,
-    network: &Network,
-    order: Card,
-    room: u64,
-) -> Result<Vec<Outlet>, AllocError> {
-    let mut outlets = Vec::with_capacity(alloc, SENDERS)?;
-    for _ in 0..SENDERS {
-        outlets.push(Outlet::open(alloc, network, order, room)?)?;
-    }
-    Ok(outlets)
-}
+impl Model for PacketNetwork {
+    ghost use Rattle.packet_network.specs.States.{NetworkState};
 
-// As many receivers, which grant to so many senders at a time.
-fn receivers(alloc: Global, overcommit: u32) -> Result<Vec<Receiver>, AllocError> {
-    let mut receivers = Vec::with_capacity(alloc, SENDERS)?;
-    for _ in 0..SENDERS {
-        receivers.push(Receiver::new(overcommit))?;
-    }
-    Ok(receivers)
+    ghost Value = { NetworkState };
+
+    ghost use Rattle.packet_network.specs.Networks.{state_of};
+
+    ghost view = { state_of };
 }
 
 impl PacketNetwork {
+    ghost use Rattle.packet_network.specs.States.{IsLossless, IsAsGiven};
+
     /// The network of an experiment, in the run of a seed: nothing is due, and nothing under way.
     pub fn open(
         alloc: Global,
         experiment: &Experiment,
         seed: u64,
-    ) -> Result<PacketNetwork, AllocError> {
-        let network = experiment.network;
-        Ok(PacketNetwork {
-            flow: Flow {
-                agenda: Agenda::new(alloc),
-                receivers: receivers(alloc, experiment.settings.overcommit)?,
-                census: Census::new(),
-            },
-            cards: outlets(alloc, &network, network.card, u64::MAX)?,
-            outputs: outlets(alloc, &network, Card::Levels, u64::from(network.buffer))?,
-            down: Down::new(),
-            network,
-            seed,
-        })
+    ) -> Result<PacketNetwork, AllocError>
+        ensures moment { IfOk result (λ n. n.moment ≡ 0) }
+        ensures fates { IfOk result (λ n. n.fates ≡ no_fates) }
+        ensures under_way { IfOk result (λ n. n.under_way ≡ 0) }
+        ensures loss { IfOk result (λ n. n.loss ≡ experiment.now.network.loss) }
+        ensures repeat { IfOk result (λ n. n.repeat ≡ experiment.now.network.repeat) }
+    {
+        let paths = PacketPaths::open(alloc, experiment, seed)?;
+        Ok(PacketNetwork { paths })
     }
 
     /// The moment of what came last.
-    pub fn now(&self) -> u64 {
-        self.flow.agenda.now()
+    pub fn now(&self) -> u64
+        ensures { result ≡ self.now.moment }
+    {
+        self.paths.flow.agenda.now()
     }
 
     /// A task is due at a moment, or now where that is over.
-    pub fn enter(&mut self, at: u64, task: Task) -> Result<(), NetworkStop> {
-        self.flow.in_time()?;
-        self.flow.agenda.enter(at, Event::Task(task))?;
-        Ok(())
+    pub fn enter(&mut self, at: u64, task: Task) -> Result<(), NetworkStop>
+        ensures { self.new ≡ self.old }
+    {
+        self.paths.flow.enter(at, task)
     }
 
-    /// A packet comes to its sender's card. If the card's link is free the next packet there begins, which is told.
-    pub fn send(&mut self, packet: SimPacket) -> Result<Option<Begun>, NetworkStop> {
-        let now = self.flow.in_time()?;
-        let place = packet.sender();
-        let fits = self.cards[place.host as usize].enter(now, packet)?;
-        self.flow.send(&packet);
-        if fits {
-            return self.begin_at_card(place);
-        }
-        self.flow.refuse(&packet);
-        Ok(None)
+    /// A packet comes to its sender's card. If the card's link is free the next packet there begins, which is told. Where it fails
+    /// the packet may have been sent, and a packet that began is lost.
+    pub fn send(&mut self, packet: SimPacket) -> Result<Option<Begun>, NetworkStop>
+        ensures sent { OnOk result (self.new.fates.sent ≡ self.old.fates.sent + 1) }
+        ensures at_most_one { self.new.fates.sent ≤ self.old.fates.sent + 1 }
+        ensures delivered { self.new.fates.delivered ≡ self.old.fates.delivered }
+        ensures old { self.new.fates.old ≡ self.old.fates.old }
+        ensures moment { self.new.moment ≡ self.old.moment }
+        ensures lossless { OnOk result (IsLossless self.old self.new) }
+        ensures given { IsAsGiven self.old self.new }
+    {
+        self.paths.send(packet)
     }
 
-    // A card sends its next packet, if its link is free.
-    fn begin_at_card(&mut self, place: Place) -> Result<Option<Begun>, NetworkStop> {
-        let now = self.flow.agenda.now();
-        let Some((packet, passage)) = self.cards[place.host as usize].begin(now) else {
-            return Ok(None);
-        };
-        self.flow
-            .leave_card(place, &packet, passage, &self.network, self.seed)?;
-        Ok(Some(packet.begun(place, now)))
-    }
-
-    // A packet is to be queued at its receiver's output.
-    fn comes_to_switch(&mut self, packet: SimPacket) -> Result<Reached, NetworkStop> {
-        let now = self.flow.agenda.now();
-        let place = packet.receiver();
-        match self.outputs[place.host as usize].enter(now, packet) {
-            Ok(true) => self.begin_at_output(place),
-            Ok(false) => {
-                self.flow.refuse(&packet);
-                Ok(Reached::Nothing)
-            }
-            Err(_) => {
-                self.flow.lose(&packet);
-                Err(NetworkStop::NoMemory)
-            }
-        }
-    }
-
-    // An output sends its next packet, if its link is free.
-    fn begin_at_output(&mut self, place: Place) -> Result<Reached, NetworkStop> {
-        let now = self.flow.agenda.now();
-        let output = &mut self.outputs[place.host as usize];
-        let Some((packet, passage)) = output.begin(now) else {
-            if output.is_free(now) {
-                self.flow.set_taken(place, false);
-            }
-            return Ok(Reached::Nothing);
-        };
-        self.down.passes(packet.traffic, u64::from(packet.bytes));
-        self.flow
-            .leave_output(place, &packet, passage, &self.network)?;
-        Ok(Reached::Output(packet.begun(place, now)))
-    }
-
-    /// What happens next, or none where nothing is due.
-    pub fn next(&mut self) -> Result<Option<Reached>, NetworkStop> {
-        self.flow.in_time()?;
-        let Some(due) = self.flow.agenda.next() else {
-            return Ok(None);
-        };
-        let reached = self.happens(due.what)?;
-        Ok(Some(reached))
-    }
-
-    // What was due happens.
-    fn happens(&mut self, event: Event) -> Result<Reached, NetworkStop> {
-        match event {
-            Event::Task(task) => Ok(Reached::Task(task)),
-            Event::CardFree(place) => match self.begin_at_card(place)? {
-                None => Ok(Reached::Nothing),
-                Some(begun) => Ok(Reached::Card(begun)),
-            },
-            Event::OutputFree(place) => self.begin_at_output(place),
-            Event::AtSwitch(packet) => self.comes_to_switch(packet),
-            Event::AtHost(packet) => {
-                self.flow.deliver(&packet);
-                Ok(Reached::AtHost(packet))
-            }
-        }
+    /// What happens next, or none where nothing is due. Where memory runs out a packet that was to go on is lost.
+    pub fn next(&mut self) -> Result<Option<Reached>, NetworkStop>
+        ensures sent { self.new.fates.sent ≡ self.old.fates.sent }
+        ensures arrived { IfOk result (λ r. self.new.fates.delivered ≡ self.old.fates.delivered + arrived r) }
+        ensures old { self.new.fates.old ≡ self.old.fates.old }
+        ensures forth { self.old.moment ≤ self.new.moment }
+        ensures lossless { OnOk result (IsLossless self.old self.new) }
+        ensures given { IsAsGiven self.old self.new }
+    {
+        self.paths.next()
     }
 
     /// The packet that was told last to be at its host was too old: it doesn't count as delivered.
-    pub fn was_too_old(&mut self) {
-        self.flow.census.ages();
+    pub fn was_too_old(&mut self)
+        ensures aged { 0 < self.old.fates.delivered → self.new.fates.old ≡ self.old.fates.old + 1 }
+        ensures both { self.new.fates.delivered + self.new.fates.old ≡ self.old.fates.delivered + self.old.fates.old }
+        ensures sent { self.new.fates.sent ≡ self.old.fates.sent }
+        ensures under_way { self.new.under_way ≡ self.old.under_way }
+        ensures moment { self.new.moment ≡ self.old.moment }
+        ensures given { IsAsGiven self.old self.new }
+    {
+        self.paths.flow.age();
     }
 
     /// How many bytes wait at a host's card.
-    pub fn card_bytes(&self, host: HostId) -> u64 {
-        self.cards[host.0 as usize].bytes()
+    pub fn card_bytes(&self, host: HostId) -> u64
+        requires { host.0 < 32 }
+        ensures { IfSome (slice_get self.now.cards host.0) (λ card. result ≡ bytes_at card) }
+    {
+        self.paths.cards[host.0 as usize].bytes()
     }
 
     /// What became of packets from the beginning on.
-    pub fn fates(&self) -> Fates {
-        self.flow.census.fates
+    pub fn fates(&self) -> Fates
+        ensures value { result ≡ self.now.fates }
+        ensures conserved { IsConserved result self.now.under_way }
+    {
+        self.paths.flow.census.fates
     }
 
     /// How many packets are under way.
-    pub fn under_way(&self) -> u64 {
-        self.flow.census.under_way
+    pub fn under_way(&self) -> u64
+        ensures { result ≡ self.now.under_way }
+    {
+        self.paths.flow.census.under_way
     }
 
     /// One more message to a receiver has bytes that aren't granted.
-    pub fn opens(&mut self, host: HostId) {
-        self.flow.receivers[host.0 as usize].opens(self.flow.agenda.now());
+    pub fn opens(&mut self, host: HostId)
+        requires { host.0 < 32 }
+        ensures { self.new ≡ self.old }
+    {
+        self.paths.flow.receivers[host.0 as usize].opens(self.paths.flow.agenda.now());
     }
 
     /// One message less has such bytes.
-    pub fn closes(&mut self, host: HostId) {
-        self.flow.receivers[host.0 as usize].closes(self.flow.agenda.now());
+    pub fn closes(&mut self, host: HostId)
+        requires { host.0 < 32 }
+        ensures { self.new ≡ self.old }
+    {
+        self.paths.flow.receivers[host.0 as usize].closes(self.paths.flow.agenda.now());
     }
 
     /// The first piece of a sender's message came to a receiver.
-    pub fn begins(&mut self, host: HostId, sender: HostId) {
-        self.flow.receivers[host.0 as usize].begins(self.flow.agenda.now(), sender.0 as usize);
+    pub fn begins(&mut self, host: HostId, sender: HostId)
+        requires host { host.0 < 32 }
+        requires sender { sender.0 < 32 }
+        ensures { self.new ≡ self.old }
+    {
+        self.paths.flow.receivers[host.0 as usize].begins(
+            self.paths.flow.agenda.now(),
+            sender.0 as usize,
+        );
     }
 
     /// A sender's message of which a piece came is whole, or given up.
-    pub fn completes(&mut self, host: HostId, sender: HostId) {
-        self.flow.receivers[host.0 as usize].completes(self.flow.agenda.now(), sender.0 as usize);
+    pub fn completes(&mut self, host: HostId, sender: HostId)
+        requires host { host.0 < 32 }
+        requires sender { sender.0 < 32 }
+        ensures { self.new ≡ self.old }
+    {
+        self.paths.flow.receivers[host.0 as usize].completes(
+            self.paths.flow.agenda.now(),
+            sender.0 as usize,
+        );
     }
 
     /// How a receiver's link was used up to now, since counting began anew.
-    pub fn spans(&self, host: HostId) -> Spans {
-        self.flow.receivers[host.0 as usize].spans_at(self.flow.agenda.now())
+    pub fn spans(&self, host: HostId) -> Spans
+        requires { host.0 < 32 }
+        ensures { self.now.moment ≤ result.since }
+    {
+        self.paths.flow.receivers[host.0 as usize].spans_at(self.paths.flow.agenda.now())
     }
 
     /// For how long the link of a host's card was taken up to now, since counting began anew.
-    pub fn card_taken(&self, host: HostId) -> u64 {
-        self.cards[host.0 as usize].taken(self.flow.agenda.now())
+    pub fn card_taken(&self, host: HostId) -> u64
+        requires { host.0 < 32 }
+        ensures { result ≤ self.now.moment }
+    {
+        self.paths.cards[host.0 as usize].taken(self.paths.flow.agenda.now())
     }
 
     /// How packets waited at cards up to now, since counting began anew.
-    pub fn cards(&self) -> Waits {
-        all_waits(&self.cards, self.flow.agenda.now())
+    pub fn cards(&self) -> Waits
+        ensures { result ≡ waits_of self.now.moment self.now.cards }
+    {
+        all_waits(self.paths.cards.as_slice(), self.paths.flow.agenda.now())
     }
 
     /// How packets waited at the switch's outputs up to now, since counting began anew.
-    pub fn outputs(&self) -> Waits {
-        all_waits(&self.outputs, self.flow.agenda.now())
+    pub fn outputs(&self) -> Waits
+        ensures { result ≡ waits_of self.now.moment self.now.outputs }
+    {
+        all_waits(self.paths.outputs.as_slice(), self.paths.flow.agenda.now())
     }
 
     /// What waited and passed at a level of the switch's outputs up to now, since counting began anew.
-    pub fn level(&self, level: usize) -> Level {
-        let mut sum = Level::new();
-        for output in &self.outputs {
-            sum = output.add_level(self.flow.agenda.now(), level, &sum);
-        }
-        sum
+    pub fn level(&self, level: usize) -> Level
+        requires { level < 8 }
+        ensures { result.passed ≡ passed_at level self.now.outputs }
+    {
+        level_of_all(
+            self.paths.outputs.as_slice(),
+            level,
+            self.paths.flow.agenda.now(),
+        )
     }
 
     /// The bytes that outputs began to send since counting began anew, by why they were sent.
-    pub fn down(&self) -> Down {
-        self.down
+    pub fn down(&self) -> Down
+        ensures { result ≡ self.now.down }
+    {
+        self.paths.down
     }
 
     /// Counting begins anew: from now on gauges, spans, waits and bytes are those of what comes. Fates go on.
-    pub fn restart(&mut self) {
-        let now = self.flow.agenda.now();
-        for card in self.cards.iter_mut() {
-            card.restart(now);
-        }
-        for output in self.outputs.iter_mut() {
-            output.restart(now);
-        }
-        for receiver in self.flow.receivers.iter_mut() {
-            receiver.restart(now);
-        }
-        self.down = Down::new();
+    pub fn restart(&mut self)
+        ensures moment { self.new.moment ≡ self.old.moment }
+        ensures fates { self.new.fates ≡ self.old.fates }
+        ensures under_way { self.new.under_way ≡ self.old.under_way }
+        ensures down { self.new.down ≡ no_bytes }
+        ensures given { IsAsGiven self.old self.new }
+    {
+        self.paths.restart();
     }
-}
-
-// How packets waited at all of these up to a moment.
-fn all_waits(outlets: &Vec<Outlet>, now: u64) -> Waits {
-    let mut waits = Waits::new();
-    for outlet in outlets {
-        waits = outlet.add_waits(now, &waits);
-    }
-    waits
 }

@@ -1,5 +1,6 @@
 -- A run, as contracts see it.
-use Rattle.std.specs.Prelude.{◌≡◌, ℕ, ◌+◌, ◌-◌, ◌^◌, ◌<◌, ◌≤◌, List, [], ◌∷◌, Option, None, Some, length, map, min, nat_lt, ◌&&◌, if◌then◌else◌}
+use Rattle.std.specs.Prelude.{◌≡◌, ℕ, Bool, true, false, ◌+◌, ◌-◌, ◌^◌, ◌<◌, ◌≤◌, List, [], ◌∷◌, Option, None, Some, length, map, min, nat_lt, ◌&&◌}
+use Rattle.std.specs.Prelude.{if◌then◌else◌}
 use Rattle.homa_plain.specs.declared.id.CallId.{CallId}
 use Rattle.homa_plain.specs.declared.id.HostId.{HostId}
 use Rattle.homa_plain.specs.declared.event.Event.{Event}
@@ -8,9 +9,9 @@ use Rattle.homa_plain.specs.Entries.{PlainEntry, PlainCall, PlainSend}
 use Rattle.call_figures.specs.declared.calls.SimCall.{SimCall}
 use Rattle.call_figures.specs.declared.transfer.Transfer.{Transfer}
 use Rattle.packet_network.specs.States.{NetworkState}
-use Rattle.simulated_network.specs.declared.step.Step.{Step}
-use Rattle.simulated_network.specs.declared.step.Step.TheVariants as step
-use Rattle.simulated_network.specs.declared.step.Datagram.{Datagram}
+use Rattle.simulated_network.specs.declared.step.RunStep.{RunStep}
+use Rattle.simulated_network.specs.declared.step.RunStep.TheVariants as step
+use Rattle.simulated_network.specs.declared.step.SentDatagram.{SentDatagram}
 use Rattle.simulated_network.specs.declared.trouble.Trouble.{Trouble}
 
 -- the network, all calls that were made with their messages, how many were drawn, and what shouldn't have happened
@@ -45,36 +46,40 @@ made_by (PlainCall id server service bytes) drawn moment = one_made id server (m
 made_by _ drawn moment = []
 
 -- a packet is sent if its datagram is known and its hosts are such that there may be
-abbrev pub one_sent : (from to : HostId) → Option Datagram → ℕ
+abbrev pub one_sent : (from to : HostId) → Option SentDatagram → ℕ
 one_sent from to None = 0
 one_sent from to (Some datagram) = if nat_lt from.0 32 && nat_lt to.0 32 then 1 else 0
 
 -- how many packets an entry sends
-abbrev pub sent_by : PlainEntry → Option Datagram → ℕ
+abbrev pub sent_by : PlainEntry → Option SentDatagram → ℕ
 sent_by (PlainSend number from to inc role id level body payload) datagram = one_sent from to datagram
 sent_by _ datagram = 0
 
--- how many calls a step draws
-abbrev pub drawn_by : Step → ℕ
-drawn_by (step.Call client server bytes) = 1
-drawn_by step.Over = 0
-drawn_by step.Inside = 0
-drawn_by (step.Event event bytes) = 0
+-- a step asks for a call
+abbrev pub is_call : RunStep → Bool
+is_call (step.Call client server bytes) = true
+is_call step.Over = false
+is_call step.Inside = false
+is_call (step.Event event bytes) = false
+
+-- how many calls were drawn after a step: one more if it asks for a call, of at most 2^32 - 1 that are counted
+abbrev pub drawn_after : RunStep → ℕ → ℕ
+drawn_after s n = if is_call s then min (n + 1) (2 ^ 32 - 1) else n
 
 -- how many packets a step brings to their hosts
-abbrev pub delivered_by : Step → ℕ
+abbrev pub delivered_by : RunStep → ℕ
 delivered_by (step.Event (Deliver packet) bytes) = 1
 delivered_by _ = 0
 
 -- the bytes of a request that a step asks for, or of a datagram that it injects
-abbrev pub bytes_of : Step → ℕ
+abbrev pub bytes_of : RunStep → ℕ
 bytes_of (step.Call client server bytes) = bytes
 bytes_of (step.Event event bytes) = bytes
 bytes_of step.Over = 0
 bytes_of step.Inside = 0
 
--- a step draws no call, brings no packet, and has at most 1,000,000 bytes beside it
-pub record IsQuiet (s : Step) : Type 0 where
-  pub drawn : drawn_by s ≡ 0
+-- a step asks for no call, brings no packet, and has at most 1,000,000 bytes beside it
+pub record IsQuiet (s : RunStep) : Type 0 where
+  pub call : is_call s ≡ false
   pub delivered : delivered_by s ≡ 0
   pub bytes : bytes_of s ≤ 1000000

@@ -22,7 +22,7 @@ pub(crate) struct Arrivals {
 
 /// A call that was drawn, or is listed.
 #[derive(Clone, Copy, Debug, PartialEq, Eq)]
-pub(crate) struct Asked {
+pub(crate) struct DrawnCall {
     pub(crate) client: HostId,
     pub(crate) server: HostId,
     pub(crate) bytes: u32,
@@ -98,14 +98,14 @@ impl Arrivals {
     }
 
     /// The next call that is made at this moment.
-    pub(crate) fn call(&mut self, experiment: &Experiment) -> Asked
+    pub(crate) fn call(&mut self, experiment: &Experiment) -> DrawnCall
         ensures drawn { self.new.drawn ≡ self.old.drawn }
     {
         let incast = experiment.load.incast;
         let bytes = experiment.workload.draw(&mut self.lengths);
         self.left = self.left.saturating_sub(1);
         if incast > 0 {
-            return Asked {
+            return DrawnCall {
                 client: HostId((1 + self.left % incast) as u16),
                 server: HostId(0),
                 bytes,
@@ -113,7 +113,7 @@ impl Arrivals {
         }
         let client = self.client;
         let server = self.server(experiment, client);
-        Asked {
+        DrawnCall {
             client,
             server,
             bytes,

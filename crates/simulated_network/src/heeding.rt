@@ -5,14 +5,14 @@ ghost use Rattle.simulated_network.specs.Runs.{all_made, made_by, one_made, sent
 
 use crate::network::SimulatedNetwork;
 use crate::receivers::is_known;
-use crate::step::Datagram;
+use crate::step::SentDatagram;
 use call_figures::{CallEnd, SimCall};
 use homa_plain::{Body, CallId, Entry, HostId, Role, Why};
 use packet_network::{NetworkStop, SimPacket};
 
 // A packet that a host sends, as its line tells it.
 #[derive(Drop)]
-struct Sent<'a> {
+struct SentPacket<'a> {
     number: u64,
     from: HostId,
     to: HostId,
@@ -41,7 +41,11 @@ fn count(bytes: &[u8]) -> u32
 impl SimulatedNetwork<'_> {
     /// Heeds what an entry of the last step's event tells: a call is made, a packet is sent, or a call goes on. A packet that is sent
     /// is this datagram. After an error the run is over.
-    pub fn heed(&mut self, entry: &Entry<'_>, datagram: Option<Datagram>) -> Result<(), NetworkStop>
+    pub fn heed(
+        &mut self,
+        entry: &Entry<'_>,
+        datagram: Option<SentDatagram>,
+    ) -> Result<(), NetworkStop>
         ensures made { OnOk result (all_made self.new.calls ≡ all_made self.old.calls ++ made_by (plain entry.now) self.old.drawn self.old.network.moment) }
         ensures sent { OnOk result (self.new.network.fates.sent ≡ self.old.network.fates.sent + sent_by (plain entry.now) datagram) }
         ensures delivered { self.new.network.fates.delivered ≡ self.old.network.fates.delivered }
@@ -68,7 +72,7 @@ impl SimulatedNetwork<'_> {
                 ref payload,
                 ..
             } => {
-                let sent = Sent {
+                let sent = SentPacket {
                     number,
                     from,
                     to,
@@ -109,7 +113,11 @@ impl SimulatedNetwork<'_> {
     }
 
     // A packet comes to its sender's network card, if its hosts are such that there may be.
-    fn sends(&mut self, sent: &Sent<'_>, datagram: Option<Datagram>) -> Result<(), NetworkStop>
+    fn sends(
+        &mut self,
+        sent: &SentPacket<'_>,
+        datagram: Option<SentDatagram>,
+    ) -> Result<(), NetworkStop>
         ensures made { all_made self.new.calls ≡ all_made self.old.calls }
         ensures sent { OnOk result (self.new.network.fates.sent ≡ self.old.network.fates.sent + one_sent sent.now.from sent.now.to datagram) }
         ensures delivered { self.new.network.fates.delivered ≡ self.old.network.fates.delivered }
@@ -133,7 +141,7 @@ impl SimulatedNetwork<'_> {
     }
 
     // The packet that is sent, as the network takes it.
-    fn packet(&mut self, sent: &Sent<'_>, datagram: Datagram) -> SimPacket
+    fn packet(&mut self, sent: &SentPacket<'_>, datagram: SentDatagram) -> SimPacket
         requires from { sent.now.from.0 < 32 }
         requires to { sent.now.to.0 < 32 }
         ensures made { all_made self.new.calls ≡ all_made self.old.calls }
@@ -163,7 +171,7 @@ impl SimulatedNetwork<'_> {
             from: sent.from,
             to: sent.to,
             level: sent.level,
-            traffic: mark.traffic,
+            cause: mark.cause,
         }
     }
 

@@ -1,14 +1,14 @@
 // What is known of calls and their messages.
-ghost use Rattle.std.specs.Prelude.{◌≡◌, ◌++◌, ◌∷◌, [], Some, IfOk, OnOk, OnErr, slice_get};
+ghost use Rattle.std.specs.Prelude.{◌≡◌, ◌++◌, ◌∷◌, [], Some, IfOk, OnOk, slice_get};
 ghost use Rattle.simulated_network.specs.Runs.{made_of, all_made};
 
-use crate::mark::Mark;
+use crate::mark::PacketMark;
 use crate::outcome::is_measured;
 use crate::receivers::{begins, closes, completes};
 use call_figures::{CallEnd, SimCall, SimCalls, Transfer, Transfers};
 use experiment::Experiment;
 use homa_plain::{Body, CallId, HostId, Role};
-use packet_network::{Begun, Grant, PacketNetwork, Piece, SimPacket};
+use packet_network::{Begun, PacketNetwork, Piece, PieceGrant, SimPacket};
 use std::alloc::{AllocError, Global};
 
 /// All calls that were made with their messages, and how many of those that are measured are open.
@@ -23,9 +23,9 @@ pub(crate) struct KnownCalls<'a> {
 }
 
 // The grant that a packet of the call at a place is, if it is one. A client grants its response, and a server its request.
-fn grant_of(place: u32, role: Role, body: &Body) -> Option<Grant> {
+fn grant_of(place: u32, role: Role, body: &Body) -> Option<PieceGrant> {
     match *body {
-        Body::Grant { offset, .. } => Some(Grant {
+        Body::Grant { offset, .. } => Some(PieceGrant {
             call: place,
             upto: offset,
             is_response: role == Role::Client,
@@ -211,7 +211,7 @@ impl<'a> KnownCalls<'a> {
     }
 
     // What a piece says.
-    fn piece(&mut self, now: u64, drawn: u32, piece: Piece) -> Mark
+    fn piece(&mut self, now: u64, drawn: u32, piece: Piece) -> PacketMark
         ensures made { all_made self.new.calls ≡ all_made self.old.calls }
     {
         let mut times = None;
@@ -222,11 +222,11 @@ impl<'a> KnownCalls<'a> {
             }
             self.transfers.set(piece.call, piece.is_response, message);
         }
-        Mark::piece(drawn, times, piece)
+        PacketMark::piece(drawn, times, piece)
     }
 
     // A receiver grants a message up to a byte.
-    fn grants(&mut self, packets: &mut PacketNetwork, receiver: HostId, grant: &Grant)
+    fn grants(&mut self, packets: &mut PacketNetwork, receiver: HostId, grant: &PieceGrant)
         ensures made { all_made self.new.calls ≡ all_made self.old.calls }
         ensures packets { packets.new ≡ packets.old }
     {
@@ -263,11 +263,11 @@ impl<'a> KnownCalls<'a> {
     }
 
     // The mark of a packet of a call that isn't known.
-    fn strange(&mut self) -> Mark
+    fn strange(&mut self) -> PacketMark
         ensures made { all_made self.new.calls ≡ all_made self.old.calls }
     {
         self.strange = self.strange.saturating_add(1);
-        Mark::control(u32::MAX, self.strange, None)
+        PacketMark::control(u32::MAX, self.strange, None)
     }
 
     /// What a packet says that a host sends; its payload has so many bytes.
@@ -279,7 +279,7 @@ impl<'a> KnownCalls<'a> {
         role: Role,
         body: &Body,
         len: u32,
-    ) -> Mark
+    ) -> PacketMark
         ensures made { all_made self.new.calls ≡ all_made self.old.calls }
         ensures packets { packets.new ≡ packets.old }
     {
@@ -299,12 +299,12 @@ impl<'a> KnownCalls<'a> {
             };
             return self.piece(packets.now(), call.drawn, piece);
         }
+        self.count(place, call, matches!(body, Body::Resend { .. }));
         let grant = grant_of(place, role, body);
         if let Some(grant) = grant {
             self.grants(packets, from, &grant);
         }
-        self.count(place, call, matches!(body, Body::Resend { .. }));
-        Mark::control(call.drawn, call.controls, grant)
+        PacketMark::control(call.drawn, call.controls, grant)
     }
 
     // A piece comes to its receiver, which may be the first of its message.
@@ -342,7 +342,7 @@ impl<'a> KnownCalls<'a> {
     }
 
     // A grant comes to its message's sender.
-    fn clears(&mut self, now: u64, grant: &Grant)
+    fn clears(&mut self, now: u64, grant: &PieceGrant)
         ensures made { all_made self.new.calls ≡ all_made self.old.calls }
     {
         if let Some(message) = self.transfers.message(grant.call, grant.is_response) {

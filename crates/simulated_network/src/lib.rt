@@ -21,8 +21,8 @@ mod window;
 
 pub use link_use::LinkUse;
 pub use network::SimulatedNetwork;
-pub use outcome::Outcome;
+pub use outcome::RunOutcome;
 pub use packet_network::{Fates, Level, NetworkStop, Waits};
-pub use step::{Datagram, Step};
+pub use step::{RunStep, SentDatagram};
 pub use trouble::Trouble;
 pub use window::Window;

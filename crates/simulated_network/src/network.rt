@@ -1,13 +1,13 @@
 // A simulated network, which tells what happens next in the world, and heeds what the world tells.
-ghost use Rattle.std.specs.Prelude.{◌≡◌, ◌≤◌, ◌<◌, ◌+◌, ◌-◌, ◌^◌, [], length, min, IfOk};
+ghost use Rattle.std.specs.Prelude.{◌≡◌, ◌≤◌, ◌<◌, ◌+◌, [], length, false, IfOk};
 ghost use Rattle.packet_network.specs.Censuses.{no_fates, IsConserved};
-ghost use Rattle.simulated_network.specs.Runs.{all_made, drawn_by, delivered_by, bytes_of};
+ghost use Rattle.simulated_network.specs.Runs.{all_made, is_call, drawn_after, delivered_by, bytes_of};
 ghost use Rattle.simulated_network.specs.Troubles.{no_trouble, one_left_out};
 
 use crate::arrivals::Arrivals;
 use crate::known::KnownCalls;
-use crate::outcome::Outcome;
-use crate::step::Step;
+use crate::outcome::RunOutcome;
+use crate::step::RunStep;
 use crate::tasks::happens;
 use crate::trouble::Trouble;
 use crate::window::Window;
@@ -16,6 +16,9 @@ use homa_plain::{Event, HostId};
 use packet_network::{NetworkStop, PacketNetwork, Reached, SimPacket, Task};
 use std::alloc::Global;
 use std::marker::Model;
+
+// A run doesn't wait for open calls when as many calls were drawn behind those that are measured as these are, and so many more.
+const MOST_BEHIND: u64 = 1000;
 
 /// All of a run but its world: what is due, the packets under way, and what is known of calls.
 #[derive(Drop)]
@@ -66,7 +69,9 @@ impl<'a> SimulatedNetwork<'a> {
         };
         network.packets.enter(experiment.network.tick, Task::Clock)?;
         network.enter_calls()?;
-        network.enter_marks()?;
+        network.enter_restarts()?;
+        network.enter_injections()?;
+        network.enter_shifts()?;
         Ok(network)
     }
 
@@ -90,19 +95,38 @@ impl<'a> SimulatedNetwork<'a> {
         Ok(())
     }
 
-    // What lines say that happens at a moment is due then.
-    fn enter_marks(&mut self) -> Result<(), NetworkStop>
+    // The restarts are due at their moments.
+    fn enter_restarts(&mut self) -> Result<(), NetworkStop>
         ensures { self.new ≡ self.old }
     {
-        let experiment = self.experiment;
-        for (i, restart) in experiment.restarts.iter().enumerate() {
-            self.packets.enter(restart.at, Task::Restart(i as u32))?;
+        let mut number: u32 = 0;
+        for restart in &self.experiment.restarts {
+            self.packets.enter(restart.at, Task::Restart(number))?;
+            number = number.saturating_add(1);
         }
-        for (i, injection) in experiment.injections.iter().enumerate() {
-            self.packets.enter(injection.at, Task::Inject(i as u32))?;
+        Ok(())
+    }
+
+    // The datagrams that no host sends are due at their moments.
+    fn enter_injections(&mut self) -> Result<(), NetworkStop>
+        ensures { self.new ≡ self.old }
+    {
+        let mut number: u32 = 0;
+        for injection in &self.experiment.injections {
+            self.packets.enter(injection.at, Task::Inject(number))?;
+            number = number.saturating_add(1);
         }
-        for (i, shift) in experiment.shifts.iter().enumerate() {
-            self.packets.enter(shift.at, Task::Shift(i as u32))?;
+        Ok(())
+    }
+
+    // The settings of clocks are due at their moments.
+    fn enter_shifts(&mut self) -> Result<(), NetworkStop>
+        ensures { self.new ≡ self.old }
+    {
+        let mut number: u32 = 0;
+        for shift in &self.experiment.shifts {
+            self.packets.enter(shift.at, Task::Shift(number))?;
+            number = number.saturating_add(1);
         }
         Ok(())
     }
@@ -139,13 +163,13 @@ impl<'a> SimulatedNetwork<'a> {
             drawn >= measured
         };
         is_closed
-            && (self.known.open() == 0 || drawn >= measured + 3 * u64::from(load.calls) + 1000)
+            && (self.known.open() == 0 || drawn >= measured + u64::from(load.calls) + MOST_BEHIND)
     }
 
-    /// What happens next; `tick` is that of the world's clock. It ends with `Step::Over`.
-    pub fn next(&mut self, tick: u64) -> Result<Step, NetworkStop>
+    /// What happens next; `tick` is that of the world's clock. It ends with `RunStep::Over`.
+    pub fn next(&mut self, tick: u64) -> Result<RunStep, NetworkStop>
         ensures made { all_made self.new.calls ≡ all_made self.old.calls }
-        ensures drawn { IfOk result (λ step. self.new.drawn ≡ min (self.old.drawn + drawn_by step) (2 ^ 32 - 1)) }
+        ensures drawn { IfOk result (λ step. self.new.drawn ≡ drawn_after step self.old.drawn) }
         ensures delivered { IfOk result (λ step. self.new.network.fates.delivered ≡ self.old.network.fates.delivered + delivered_by step) }
         ensures sent { self.new.network.fates.sent ≡ self.old.network.fates.sent }
         ensures forth { self.old.network.moment ≤ self.new.network.moment }
@@ -153,35 +177,36 @@ impl<'a> SimulatedNetwork<'a> {
         ensures left_out { self.new.trouble.left_out ≡ self.old.trouble.left_out }
     {
         if self.is_over() {
-            return Ok(Step::Over);
+            return Ok(RunStep::Over);
         }
         if self.arrivals.is_due() {
             let asked = self.arrivals.call(self.experiment);
             return Ok(self.call(&asked));
         }
         match self.packets.next()? {
-            None => Ok(Step::Over),
+            None => Ok(RunStep::Over),
             Some(Reached::Task(task)) => self.begins(task),
             Some(Reached::AtHost(packet)) => Ok(self.arrives(tick, &packet)),
             Some(Reached::Card(begun)) => {
                 self.known.leaves_card(self.packets.now(), &begun);
-                Ok(Step::Inside)
+                Ok(RunStep::Inside)
             }
             Some(Reached::Output(begun)) => {
                 self.known.leaves_output(&begun);
-                Ok(Step::Inside)
+                Ok(RunStep::Inside)
             }
-            Some(Reached::Nothing) => Ok(Step::Inside),
+            Some(Reached::Nothing) => Ok(RunStep::Inside),
         }
     }
 
     // A packet is at its host. With version 1 the world wouldn't take one that is too old.
-    fn arrives(&mut self, tick: u64, packet: &SimPacket) -> Step
+    fn arrives(&mut self, tick: u64, packet: &SimPacket) -> RunStep
         ensures made { all_made self.new.calls ≡ all_made self.old.calls }
         ensures drawn { self.new.drawn ≡ self.old.drawn }
-        ensures step { drawn_by result ≡ 0 }
+        ensures step { is_call result ≡ false }
         ensures bytes { bytes_of result ≡ 0 }
-        ensures delivered { 0 < self.old.network.fates.delivered → self.new.network.fates.delivered + 1 ≡ self.old.network.fates.delivered + delivered_by result }
+        ensures delivered { 0 < self.old.network.fates.delivered
+            → self.new.network.fates.delivered + 1 ≡ self.old.network.fates.delivered + delivered_by result }
         ensures sent { self.new.network.fates.sent ≡ self.old.network.fates.sent }
         ensures moment { self.new.network.moment ≡ self.old.network.moment }
         ensures trouble { self.new.trouble ≡ self.old.trouble }
@@ -190,7 +215,7 @@ impl<'a> SimulatedNetwork<'a> {
         let age = tick.saturating_sub(packet.tick);
         if settings.wire == 1 && age > u64::from(settings.life) {
             self.packets.was_too_old();
-            return Step::Inside;
+            return RunStep::Inside;
         }
         self.known.arrives(&mut self.packets, packet);
         let packet = packet.number;
@@ -205,15 +230,15 @@ impl<'a> SimulatedNetwork<'a> {
     }
 
     /// What came of the run, which had so many events.
-    pub fn finish(self, events: u64) -> Outcome
-        ensures calls { result.calls ≡ self.calls }
-        ensures transfers { result.transfers ≡ self.transfers }
-        ensures fates { result.fates ≡ self.network.fates }
+    pub fn finish(self, events: u64) -> RunOutcome
+        ensures calls { result.calls ≡ self.entry.calls }
+        ensures transfers { result.transfers ≡ self.entry.transfers }
+        ensures fates { result.fates ≡ self.entry.network.fates }
         ensures conserved { IsConserved result.fates result.under_way }
-        ensures under_way { result.under_way ≡ self.network.under_way }
-        ensures trouble { result.trouble ≡ self.trouble }
+        ensures under_way { result.under_way ≡ self.entry.network.under_way }
+        ensures trouble { result.trouble ≡ self.entry.trouble }
         ensures events { result.events ≡ events }
-        ensures ended { result.ended ≡ self.network.moment }
+        ensures ended { result.ended ≡ self.entry.network.moment }
     {
         let SimulatedNetwork {
             experiment,
@@ -229,7 +254,7 @@ impl<'a> SimulatedNetwork<'a> {
             transfers,
             ..
         } = known;
-        Outcome {
+        RunOutcome {
             calls,
             transfers,
             window,

@@ -1,29 +1,31 @@
 // What a task makes of the network, and what happens in the world then.
 ghost use Rattle.std.specs.Prelude.{◌≡◌, ◌≤◌, ◌+◌, ◌-◌, ◌^◌, min, IfOk};
-ghost use Rattle.simulated_network.specs.declared.step.Step.TheVariants as step;
-ghost use Rattle.simulated_network.specs.Runs.{drawn_by, delivered_by, bytes_of, IsQuiet};
+ghost use Rattle.simulated_network.specs.declared.step.RunStep.TheVariants as step;
+ghost use Rattle.simulated_network.specs.Runs.{drawn_after, delivered_by, bytes_of, IsQuiet};
 
-use crate::arrivals::Asked;
+use crate::arrivals::DrawnCall;
 use crate::network::SimulatedNetwork;
-use crate::step::Step;
+use crate::receivers::is_known;
+use crate::step::RunStep;
 use experiment::wire_of_call;
 use homa_plain::{Event, HostId};
 use packet_network::{NetworkStop, Task};
 
 /// An event without bytes.
-pub(crate) fn happens(event: Event) -> Step
+pub(crate) fn happens(event: Event) -> RunStep
     ensures { result ≡ step.Event event 0 }
 {
-    Step::Event { event, bytes: 0 }
+    RunStep::Event { event, bytes: 0 }
 }
 
 impl SimulatedNetwork<'_> {
     /// A task begins.
-    pub(crate) fn begins(&mut self, task: Task) -> Result<Step, NetworkStop>
+    pub(crate) fn begins(&mut self, task: Task) -> Result<RunStep, NetworkStop>
         ensures calls { self.new.calls ≡ self.old.calls }
-        ensures network { self.new.network ≡ self.old.network }
+        ensures moment { self.new.network.moment ≡ self.old.network.moment }
+        ensures fates { self.new.network.fates ≡ self.old.network.fates }
         ensures left_out { self.new.trouble.left_out ≡ self.old.trouble.left_out }
-        ensures drawn { IfOk result (λ step. self.new.drawn ≡ min (self.old.drawn + drawn_by step) (2 ^ 32 - 1)) }
+        ensures drawn { IfOk result (λ step. self.new.drawn ≡ drawn_after step self.old.drawn) }
         ensures delivered { IfOk result (λ step. delivered_by step ≡ 0) }
         ensures bytes { IfOk result (λ step. bytes_of step ≤ 1000000) }
     {
@@ -39,7 +41,7 @@ impl SimulatedNetwork<'_> {
     }
 
     // The clock goes on, and turns are due.
-    fn ticks(&mut self) -> Result<Step, NetworkStop>
+    fn ticks(&mut self) -> Result<RunStep, NetworkStop>
         ensures state { self.new ≡ self.old }
         ensures step { IfOk result (λ step. IsQuiet step) }
     {
@@ -63,7 +65,7 @@ impl SimulatedNetwork<'_> {
     }
 
     // A host has its turn, unless too much waits at its network card.
-    fn turn(&mut self, host: HostId) -> Step
+    fn turn(&mut self, host: HostId) -> RunStep
         ensures calls { self.new.calls ≡ self.old.calls }
         ensures network { self.new.network ≡ self.old.network }
         ensures left_out { self.new.trouble.left_out ≡ self.old.trouble.left_out }
@@ -71,15 +73,15 @@ impl SimulatedNetwork<'_> {
         ensures step { IsQuiet result }
     {
         let limit = u64::from(self.experiment.network.card_limit);
-        if self.packets.card_bytes(host) > limit {
+        if is_known(host) && self.packets.card_bytes(host) > limit {
             self.trouble.held = self.trouble.held.saturating_add(1);
-            return Step::Inside;
+            return RunStep::Inside;
         }
         happens(Event::Turn { host })
     }
 
     // A client makes calls now, and its next ones are due.
-    fn calls(&mut self, client: HostId) -> Result<Step, NetworkStop>
+    fn calls(&mut self, client: HostId) -> Result<RunStep, NetworkStop>
         ensures state { self.new ≡ self.old }
         ensures step { IfOk result (λ step. IsQuiet step) }
     {
@@ -87,26 +89,27 @@ impl SimulatedNetwork<'_> {
         let next = self.packets.now().saturating_add(gap);
         self.packets.enter(next, Task::Calls(client))?;
         self.arrivals.begin(self.experiment, client);
-        Ok(Step::Inside)
+        Ok(RunStep::Inside)
     }
 
     // The call of a list with this number is made, and the next one is due.
-    fn listed(&mut self, i: u32) -> Result<Step, NetworkStop>
+    fn listed(&mut self, i: u32) -> Result<RunStep, NetworkStop>
         ensures calls { self.new.calls ≡ self.old.calls }
-        ensures network { self.new.network ≡ self.old.network }
+        ensures moment { self.new.network.moment ≡ self.old.network.moment }
+        ensures fates { self.new.network.fates ≡ self.old.network.fates }
         ensures left_out { self.new.trouble.left_out ≡ self.old.trouble.left_out }
-        ensures drawn { IfOk result (λ step. self.new.drawn ≡ min (self.old.drawn + drawn_by step) (2 ^ 32 - 1)) }
+        ensures drawn { IfOk result (λ step. self.new.drawn ≡ drawn_after step self.old.drawn) }
         ensures delivered { IfOk result (λ step. delivered_by step ≡ 0) }
         ensures bytes { IfOk result (λ step. bytes_of step ≤ 1000000) }
     {
         let Some(call) = self.experiment.listed.get(i as usize) else {
-            return Ok(Step::Inside);
+            return Ok(RunStep::Inside);
         };
         let next = i.saturating_add(1);
         if let Some(later) = self.experiment.listed.get(next as usize) {
             self.packets.enter(later.at, Task::Listed(next))?;
         }
-        let asked = Asked {
+        let asked = DrawnCall {
             client: call.client,
             server: call.server,
             bytes: call.bytes,
@@ -115,32 +118,32 @@ impl SimulatedNetwork<'_> {
     }
 
     // The restart with this number.
-    fn restart(&self, i: u32) -> Step
+    fn restart(&self, i: u32) -> RunStep
         ensures { IsQuiet result }
     {
         match self.experiment.restarts.get(i as usize) {
             Some(restart) => happens(Event::Restart { host: restart.host }),
-            None => Step::Inside,
+            None => RunStep::Inside,
         }
     }
 
     // The datagram with this number that no host sent.
-    fn inject(&self, i: u32) -> Step
+    fn inject(&self, i: u32) -> RunStep
         ensures { IsQuiet result }
     {
         match self.experiment.injections.get(i as usize) {
-            Some(injection) => Step::Event {
+            Some(injection) => RunStep::Event {
                 event: Event::Inject {
                     host: injection.host,
                 },
                 bytes: injection.bytes,
             },
-            None => Step::Inside,
+            None => RunStep::Inside,
         }
     }
 
     // The setting of a clock with this number.
-    fn shift(&self, i: u32) -> Step
+    fn shift(&self, i: u32) -> RunStep
         ensures { IsQuiet result }
     {
         match self.experiment.shifts.get(i as usize) {
@@ -148,14 +151,15 @@ impl SimulatedNetwork<'_> {
                 host: shift.host,
                 n: shift.ticks,
             }),
-            None => Step::Inside,
+            None => RunStep::Inside,
         }
     }
 
     /// A call was drawn, or is the next of the list. Measuring may begin or end with it.
-    pub(crate) fn call(&mut self, asked: &Asked) -> Step
+    pub(crate) fn call(&mut self, asked: &DrawnCall) -> RunStep
         ensures calls { self.new.calls ≡ self.old.calls }
-        ensures network { self.new.network ≡ self.old.network }
+        ensures moment { self.new.network.moment ≡ self.old.network.moment }
+        ensures fates { self.new.network.fates ≡ self.old.network.fates }
         ensures trouble { self.new.trouble ≡ self.old.trouble }
         ensures drawn { self.new.drawn ≡ min (self.old.drawn + 1) (2 ^ 32 - 1) }
         ensures step { result ≡ step.Call asked.now.client asked.now.server asked.now.bytes }
@@ -173,7 +177,7 @@ impl SimulatedNetwork<'_> {
         self.window
             .offers(wire_of_call(self.experiment, asked.bytes));
         self.arrivals.count();
-        Step::Call {
+        RunStep::Call {
             client: asked.client,
             server: asked.server,
             bytes: asked.bytes,

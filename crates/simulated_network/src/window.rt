@@ -1,5 +1,5 @@
 // What is measured between two moments.
-ghost use Rattle.std.specs.Prelude.{◌≡◌, ◌≤◌, ◌<◌, ◌*◌, ◌^◌, true, false};
+ghost use Rattle.std.specs.Prelude.{◌≡◌, ◌≤◌, ◌*◌, ◌^◌, true, false};
 
 use crate::link_use::LinkUse;
 use homa_plain::HostId;

@@ -7,7 +7,7 @@ ghost use Rattle.simulation.specs.Turns.{IsShown, AreHeeded, HasHappened, beside
 ghost use Rattle.simulation.specs.Runs.{said};
 
 use crate::lines::show;
-use crate::setup::{MOST_BYTES, Setup};
+use crate::setup::Setup;
 use crate::{HostNetwork, SimStop};
 use homa_generate::GenerateWorld;
 use homa_io::Sink;
@@ -78,7 +78,7 @@ pub(crate) fn happen<P: GenerateWorld, N: HostNetwork, K: Sink>(
     if setup.most_events != 0 && setup.most_events <= *events {
         return Err(SimStop::Events);
     }
-    if MOST_BYTES < bytes {
+    if setup.bytes.len() < bytes as usize {
         return Err(SimStop::TooLong);
     }
     let request = &setup.bytes[..bytes as usize];
