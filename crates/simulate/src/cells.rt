@@ -1,0 +1,79 @@
+// What stands in a column.
+use call_figures::Rank;
+use homa_plain::CallId;
+use std::alloc::AllocError;
+use std::fmt;
+use std::fmt::Write;
+
+/// What stands in a column of a line.
+#[derive(Clone, Copy, Debug, PartialEq, Eq)]
+pub(crate) enum Cell {
+    /// A word of letters and digits.
+    Word(&'static str),
+    Number(u64),
+    /// So many 1000ths.
+    Thousandths(u64),
+    /// A call: its client, the client's incarnation and the sequence number.
+    Id(CallId),
+    /// A rank of 1000ths.
+    Rank(Rank),
+    /// What didn't come to pass.
+    Empty,
+}
+
+/// A number of 1000ths, which is printed with three digits behind the point.
+#[derive(Clone, Copy, Debug, PartialEq, Eq)]
+pub(crate) struct Thousandths(pub(crate) u64);
+
+impl fmt::Display for Thousandths {
+    fn fmt<W: fmt::Write>(&self, f: &mut fmt::Formatter<W>) -> fmt::Result {
+        let (whole, rest) = (self.0 / 1000, self.0 % 1000);
+        write!(f, "{whole}.{rest:03}")
+    }
+}
+
+// Adds a number of 1000ths.
+fn add_thousandths(text: &mut String, n: u64) -> Result<(), AllocError> {
+    let n = Thousandths(n);
+    write!(text, "{n}")
+}
+
+// Adds a call.
+fn add_id(text: &mut String, id: CallId) -> Result<(), AllocError> {
+    let (client, inc, seq) = (id.client.0, id.inc, id.seq);
+    write!(text, "{client}.{inc}.{seq}")
+}
+
+// Adds a number.
+fn add_number(text: &mut String, n: u64) -> Result<(), AllocError> {
+    write!(text, "{n}")
+}
+
+/// Adds what stands in a column of CSV.
+pub(crate) fn add_cell(text: &mut String, cell: Cell) -> Result<(), AllocError> {
+    match cell {
+        Cell::Word(word) => text.push_str(word),
+        Cell::Number(n) => add_number(text, n),
+        Cell::Thousandths(n) | Cell::Rank(Rank::At(n)) => add_thousandths(text, n),
+        Cell::Id(id) => add_id(text, id),
+        Cell::Rank(Rank::Few) => text.push_str("-"),
+        Cell::Rank(Rank::Slower) => text.push_str("inf"),
+        Cell::Empty => Ok(()),
+    }
+}
+
+// Adds a text of JSON.
+fn add_quoted(text: &mut String, cell: Cell) -> Result<(), AllocError> {
+    text.push_str("\"")?;
+    add_cell(text, cell)?;
+    text.push_str("\"")
+}
+
+/// Adds a value of JSON: null for what isn't known.
+pub(crate) fn add_value(text: &mut String, cell: Cell) -> Result<(), AllocError> {
+    match cell {
+        Cell::Word(_) | Cell::Id(_) | Cell::Rank(Rank::Slower) => add_quoted(text, cell),
+        Cell::Rank(Rank::Few) | Cell::Empty => text.push_str("null"),
+        _ => add_cell(text, cell),
+    }
+}

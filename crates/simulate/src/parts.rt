@@ -1,0 +1,19 @@
+// Parts and means, rounded down.
+
+/// A part of a whole, in 1000ths; of no whole it is 0.
+pub(crate) fn part(n: u128, of: u128) -> u64 {
+    mean(n.saturating_mul(1000), of)
+}
+
+/// A sum over so many; over none it is 0.
+pub(crate) fn mean(sum: u128, count: u128) -> u64 {
+    if count == 0 {
+        return 0;
+    }
+    (sum / count).min(u128::from(u64::MAX)) as u64
+}
+
+/// A span in nanoseconds.
+pub(crate) fn nanos(picos: u64) -> u64 {
+    picos / 1000
+}

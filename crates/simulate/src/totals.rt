@@ -1,0 +1,267 @@
+// What was counted in a run.
+use crate::cells::Cell;
+use crate::parts::{mean, nanos, part};
+use crate::rows::{Column, Printer, named};
+use crate::stop::PrintStop;
+use crate::tally::Tally;
+use experiment::Experiment;
+use homa_io::Sink;
+use simulated_network::{LinkUse, Outcome, Waits, Window};
+use std::alloc::{AllocError, Global};
+
+/// What waited at all cards, or at all outputs: the most bytes at one of them; the mean of the bytes at one, by their sum
+/// over time and by the waits of packets; and the mean wait of a packet.
+#[derive(Clone, Copy, Debug, PartialEq, Eq)]
+pub(crate) struct Queue {
+    pub(crate) most: u64,
+    pub(crate) mean: u64,
+    pub(crate) little: u64,
+    pub(crate) wait_ns: u64,
+}
+
+/// The numbers of a run's window as they are printed: parts of links are 1000ths.
+#[derive(Clone, Copy, Debug, PartialEq, Eq)]
+pub(crate) struct Parts {
+    pub(crate) offered: u64,
+    pub(crate) up: u64,
+    pub(crate) down: u64,
+    pub(crate) hot: u64,
+    pub(crate) data: u64,
+    pub(crate) again: u64,
+    pub(crate) control: u64,
+    pub(crate) withheld: u64,
+    pub(crate) wasted: u64,
+    pub(crate) coming: u64,
+    pub(crate) unsent: u64,
+    pub(crate) empty: u64,
+}
+
+/// How long a window is, in picoseconds.
+pub(crate) fn span(window: &Window) -> u64 {
+    window.to.saturating_sub(window.from)
+}
+
+impl Queue {
+    /// What waited in so much time of all links, in picoseconds.
+    pub(crate) fn of(waits: &Waits, time: u128) -> Queue {
+        Queue {
+            most: waits.most,
+            mean: mean(waits.area, time),
+            little: mean(waits.weighted, time),
+            wait_ns: nanos(mean(u128::from(waits.waited), u128::from(waits.begun))),
+        }
+    }
+}
+
+impl Parts {
+    /// Those of a run.
+    pub(crate) fn of(experiment: &Experiment, window: &Window) -> Parts {
+        let time = window.links.time;
+        let byte = u128::from(experiment.network.byte);
+        let span = u128::from(span(window));
+        let filled = |bytes: u64| part(u128::from(bytes).saturating_mul(byte), time);
+        let LinkUse {
+            taken,
+            withheld,
+            coming,
+            unsent,
+            empty,
+            wasted,
+            ..
+        } = window.links;
+        Parts {
+            offered: filled(window.offered),
+            up: part(window.up, time),
+            down: part(taken, time),
+            hot: part(u128::from(window.hottest.1), span),
+            data: filled(window.data),
+            again: filled(window.again),
+            control: filled(window.control),
+            withheld: part(withheld, time),
+            wasted: part(wasted, time),
+            coming: part(coming, time),
+            unsent: part(unsent, time),
+            empty: part(empty, time),
+        }
+    }
+}
+
+// The window, and what of the links was asked, offered and taken.
+fn taken(experiment: &Experiment, outcome: &Outcome, seed: u64) -> [Column; 17] {
+    let window = &outcome.window;
+    let parts = Parts::of(experiment, window);
+    let load = u64::from(experiment.load.load);
+    [
+        named("seed", Cell::Number(seed)),
+        named("window_ns", Cell::Number(nanos(span(window)))),
+        named("run_ns", Cell::Number(nanos(outcome.ended))),
+        named("asked", Cell::Thousandths(load)),
+        named("offered", Cell::Thousandths(parts.offered)),
+        named("up", Cell::Thousandths(parts.up)),
+        named("down", Cell::Thousandths(parts.down)),
+        named("hot_host", Cell::Number(u64::from(window.hottest.0.0))),
+        named("hot_down", Cell::Thousandths(parts.hot)),
+        named("data", Cell::Thousandths(parts.data)),
+        named("again", Cell::Thousandths(parts.again)),
+        named("control", Cell::Thousandths(parts.control)),
+        named("withheld", Cell::Thousandths(parts.withheld)),
+        named("wasted", Cell::Thousandths(parts.wasted)),
+        named("coming", Cell::Thousandths(parts.coming)),
+        named("unsent", Cell::Thousandths(parts.unsent)),
+        named("empty", Cell::Thousandths(parts.empty)),
+    ]
+}
+
+// How the calls that were measured ended, and the packets of the window.
+fn ended(tally: &Tally, window: &Window) -> [Column; 8] {
+    [
+        named("done", Cell::Number(tally.done)),
+        named("failed", Cell::Number(tally.failed)),
+        named("open", Cell::Number(tally.open)),
+        named("resends", Cell::Number(tally.resends)),
+        named("again_bytes", Cell::Number(tally.again)),
+        named("bytes", Cell::Number(tally.bytes)),
+        named("packets", Cell::Number(window.packets)),
+        named("cutoffs", Cell::Number(window.cutoffs)),
+    ]
+}
+
+// What became of the packets of the whole run, and what went wrong in it.
+fn fates(outcome: &Outcome) -> [Column; 12] {
+    let (fates, trouble) = (&outcome.fates, &outcome.trouble);
+    [
+        named("sent", Cell::Number(fates.sent)),
+        named("repeated", Cell::Number(fates.repeated)),
+        named("delivered", Cell::Number(fates.delivered)),
+        named("lost", Cell::Number(fates.lost)),
+        named("full", Cell::Number(fates.full)),
+        named("old", Cell::Number(fates.old)),
+        named("under_way", Cell::Number(outcome.under_way)),
+        named("left_out", Cell::Number(trouble.left_out)),
+        named("dropped", Cell::Number(trouble.dropped)),
+        named("refused", Cell::Number(trouble.refused)),
+        named("held", Cell::Number(trouble.held)),
+        named("events", Cell::Number(outcome.events)),
+    ]
+}
+
+// What waited at cards and outputs.
+fn queues(window: &Window) -> [Column; 8] {
+    let cards = Queue::of(&window.cards, window.links.time);
+    let outputs = Queue::of(&window.outputs, window.links.time);
+    [
+        named("card_most", Cell::Number(cards.most)),
+        named("card_mean", Cell::Number(cards.mean)),
+        named("card_little", Cell::Number(cards.little)),
+        named("card_wait_ns", Cell::Number(cards.wait_ns)),
+        named("out_most", Cell::Number(outputs.most)),
+        named("out_mean", Cell::Number(outputs.mean)),
+        named("out_little", Cell::Number(outputs.little)),
+        named("out_wait_ns", Cell::Number(outputs.wait_ns)),
+    ]
+}
+
+// The most bytes that waited at an output, by level.
+fn most(window: &Window) -> [Column; 8] {
+    let most = |level: usize| Cell::Number(window.levels[level].most);
+    [
+        named("most0", most(0)),
+        named("most1", most(1)),
+        named("most2", most(2)),
+        named("most3", most(3)),
+        named("most4", most(4)),
+        named("most5", most(5)),
+        named("most6", most(6)),
+        named("most7", most(7)),
+    ]
+}
+
+// The mean of the bytes that waited at an output, by level.
+fn means(window: &Window) -> [Column; 8] {
+    let mean = |level: usize| Cell::Number(mean(window.levels[level].area, window.links.time));
+    [
+        named("mean0", mean(0)),
+        named("mean1", mean(1)),
+        named("mean2", mean(2)),
+        named("mean3", mean(3)),
+        named("mean4", mean(4)),
+        named("mean5", mean(5)),
+        named("mean6", mean(6)),
+        named("mean7", mean(7)),
+    ]
+}
+
+/// The bytes that left all outputs in a window, of all levels.
+pub(crate) fn passed(window: &Window) -> u128 {
+    let mut sum: u128 = 0;
+    for level in &window.levels {
+        sum = sum.saturating_add(u128::from(level.passed));
+    }
+    sum
+}
+
+// Each level's share of the bytes that left outputs.
+fn shares(window: &Window) -> [Column; 8] {
+    let all = passed(window);
+    let share = |level: usize| Cell::Thousandths(part(u128::from(window.levels[level].passed), all));
+    [
+        named("share0", share(0)),
+        named("share1", share(1)),
+        named("share2", share(2)),
+        named("share3", share(3)),
+        named("share4", share(4)),
+        named("share5", share(5)),
+        named("share6", share(6)),
+        named("share7", share(7)),
+    ]
+}
+
+// The mean waits of a call that was measured, in nanoseconds: all of its pieces together in cards and at outputs, and its
+// messages for grants and for credit.
+fn waits(tally: &Tally) -> [Column; 4] {
+    let count = u128::from(tally.count());
+    let wait = |sum: u128| Cell::Number(nanos(mean(sum, count)));
+    [
+        named("call_card_ns", wait(tally.in_card)),
+        named("call_out_ns", wait(tally.at_output)),
+        named("call_grant_ns", wait(tally.for_grant)),
+        named("call_credit_ns", wait(tally.for_credit)),
+    ]
+}
+
+/// The columns of a run.
+fn columns(
+    alloc: Global,
+    experiment: &Experiment,
+    outcome: &Outcome,
+    seed: u64,
+) -> Result<Vec<Column>, AllocError> {
+    let window = &outcome.window;
+    let tally = Tally::of(experiment, outcome);
+    let mut columns = Vec::with_capacity(alloc, 81)?;
+    columns.extend_from_slice(&taken(experiment, outcome, seed))?;
+    columns.extend_from_slice(&ended(&tally, window))?;
+    columns.extend_from_slice(&fates(outcome))?;
+    columns.extend_from_slice(&queues(window))?;
+    columns.extend_from_slice(&most(window))?;
+    columns.extend_from_slice(&means(window))?;
+    columns.extend_from_slice(&shares(window))?;
+    columns.extend_from_slice(&waits(&tally))?;
+    Ok(columns)
+}
+
+/// Writes the line of a run, behind the names of the columns if the run is the first one.
+pub(crate) fn put_totals<K: Sink + Drop>(
+    alloc: Global,
+    printer: &mut Printer<K>,
+    experiment: &Experiment,
+    outcome: &Outcome,
+    seed: u64,
+    is_first: bool,
+) -> Result<(), PrintStop> {
+    let columns = columns(alloc, experiment, outcome, seed)?;
+    if is_first {
+        printer.head(&columns)?;
+    }
+    printer.line(&columns)
+}

@@ -1,0 +1,314 @@
+// What is known of calls and their messages.
+use crate::mark::Mark;
+use crate::outcome::is_measured;
+use call_figures::{CallEnd, SimCall, SimCalls, Transfer, Transfers};
+use experiment::Experiment;
+use homa_plain::{Body, CallId, HostId, Role};
+use packet_network::{Begun, PacketNetwork, Piece, SimPacket};
+use std::alloc::{AllocError, Global};
+
+/// All calls that were made with their messages, and how many of those that are measured are open.
+#[derive(Drop)]
+pub(crate) struct KnownCalls<'a> {
+    experiment: &'a Experiment,
+    pub(crate) calls: SimCalls,
+    pub(crate) transfers: Transfers,
+    open: u64,
+    // How many packets were sent of calls that aren't known.
+    strange: u32,
+}
+
+impl<'a> KnownCalls<'a> {
+    /// No call was made.
+    pub(crate) fn new(
+        alloc: Global,
+        experiment: &'a Experiment,
+    ) -> Result<KnownCalls<'a>, AllocError> {
+        Ok(KnownCalls {
+            experiment,
+            calls: SimCalls::new(alloc, experiment.settings.hosts)?,
+            transfers: Transfers::new(alloc),
+            open: 0,
+            strange: 0,
+        })
+    }
+
+    /// How many calls that are measured are open.
+    pub(crate) fn open(&self) -> u64 {
+        self.open
+    }
+
+    /// A call is made.
+    pub(crate) fn make(&mut self, call: SimCall) -> Result<(), AllocError> {
+        self.calls.make(call.id, call)?;
+        if is_measured(&self.experiment.load, call.drawn) {
+            self.open = self.open.saturating_add(1);
+        }
+        let unsched = self.experiment.settings.unsched;
+        let request = Transfer::begun(call.request, unsched, call.made);
+        self.transfers.begin(request, Transfer::unknown())
+    }
+
+    // A message leaves its receiver. If it isn't over there, it may come anew.
+    fn leaves(
+        &mut self,
+        packets: &mut PacketNetwork,
+        place: u32,
+        is_response: bool,
+        is_over: bool,
+    ) {
+        let Some(call) = self.calls.at(place) else {
+            return;
+        };
+        let Some(message) = self.transfers.message(place, is_response) else {
+            return;
+        };
+        if message.came && !message.over {
+            let receiver = call.sender(!is_response);
+            packets.completes(receiver, call.sender(is_response));
+            if message.is_short() {
+                packets.closes(receiver);
+            }
+        }
+        let message = Transfer {
+            came: false,
+            granted: 0,
+            over: is_over,
+            ..message
+        };
+        self.transfers.set(place, is_response, message);
+    }
+
+    /// A service ran, and answers so many bytes.
+    pub(crate) fn runs(&mut self, packets: &mut PacketNetwork, id: CallId, bytes: u32) {
+        let Some(place) = self.calls.place(id) else {
+            return;
+        };
+        self.leaves(packets, place, false, true);
+        let now = packets.now();
+        if let Some(call) = self.calls.at(place) {
+            let ran = call.ran.or(Some(now));
+            self.calls.set(place, SimCall { ran, ..call });
+        }
+        if let Some(message) = self.transfers.message(place, true) {
+            let begun = Transfer {
+                length: bytes,
+                sent: 0,
+                cleared: self.experiment.settings.unsched.min(bytes),
+                since: now,
+                ..message
+            };
+            self.transfers.set(place, true, begun);
+        }
+    }
+
+    // The call at a place ends, if it is open.
+    fn end_at(&mut self, now: u64, place: u32, end: CallEnd) {
+        let Some(call) = self.calls.at(place) else {
+            return;
+        };
+        if call.end != CallEnd::Open {
+            return;
+        }
+        if is_measured(&self.experiment.load, call.drawn) {
+            self.open = self.open.saturating_sub(1);
+        }
+        let ended = now;
+        self.calls.set(place, SimCall { ended, end, ..call });
+    }
+
+    /// A call ends at its client.
+    pub(crate) fn ends(&mut self, packets: &mut PacketNetwork, id: CallId, end: CallEnd) {
+        if let Some(place) = self.calls.place(id) {
+            self.leaves(packets, place, true, true);
+            self.end_at(packets.now(), place, end);
+        }
+    }
+
+    /// A server gives up a request.
+    pub(crate) fn drops(&mut self, packets: &mut PacketNetwork, id: CallId) {
+        if let Some(place) = self.calls.place(id) {
+            self.leaves(packets, place, false, true);
+        }
+    }
+
+    /// A host refuses a message, of which it knows nothing then.
+    pub(crate) fn refuses(&mut self, packets: &mut PacketNetwork, host: HostId, id: CallId) {
+        if let Some(place) = self.calls.place(id) {
+            let is_response = host == id.client;
+            self.leaves(packets, place, is_response, false);
+        }
+    }
+
+    // A host that restarts loses what it knows of the call at a place.
+    fn loses(&mut self, packets: &mut PacketNetwork, host: HostId, place: u32) {
+        let Some(call) = self.calls.at(place) else {
+            return;
+        };
+        if call.server == host {
+            self.leaves(packets, place, false, false);
+        }
+        if call.id.client == host {
+            self.leaves(packets, place, true, true);
+            self.end_at(packets.now(), place, CallEnd::Restarted);
+        }
+    }
+
+    /// A host restarts: its open calls end, and its next ones have another incarnation.
+    pub(crate) fn restarts(
+        &mut self,
+        packets: &mut PacketNetwork,
+        host: HostId,
+        inc: u32,
+    ) -> Result<(), AllocError> {
+        let count = u32::try_from(self.calls.count()).unwrap_or(u32::MAX);
+        for place in 0..count {
+            self.loses(packets, host, place);
+        }
+        self.calls.begin_life(host, inc)
+    }
+
+    // What a piece says.
+    fn piece(&mut self, now: u64, drawn: u32, piece: Piece) -> Mark {
+        let mut times = None;
+        if let Some(message) = self.transfers.message(piece.call, piece.is_response) {
+            let mut message = message;
+            if message.sends(now, piece.offset, piece.len) {
+                times = Some(message.resent);
+            }
+            self.transfers.set(piece.call, piece.is_response, message);
+        }
+        Mark::piece(drawn, times, piece)
+    }
+
+    // A receiver grants a message up to a byte.
+    fn grants(
+        &mut self,
+        packets: &mut PacketNetwork,
+        receiver: HostId,
+        place: u32,
+        is_response: bool,
+        upto: u32,
+    ) {
+        let Some(message) = self.transfers.message(place, is_response) else {
+            return;
+        };
+        let mut granted = message;
+        granted.grants(upto);
+        self.transfers.set(place, is_response, granted);
+        if message.came && !message.over && message.is_short() && !granted.is_short() {
+            packets.closes(receiver);
+        }
+    }
+
+    // A call's packet without a piece is counted: how many the call has, itself left out.
+    fn count(&mut self, place: u32, call: SimCall, is_resend: bool) {
+        let counted = SimCall {
+            controls: call.controls.saturating_add(1),
+            resends: call.resends.saturating_add(u32::from(is_resend)),
+            ..call
+        };
+        self.calls.set(place, counted);
+    }
+
+    // The mark of a packet of a call that isn't known.
+    fn strange(&mut self) -> Mark {
+        self.strange = self.strange.saturating_add(1);
+        Mark::control(u32::MAX, self.strange)
+    }
+
+    /// What a packet says that a host sends; its payload has so many bytes.
+    pub(crate) fn says(
+        &mut self,
+        packets: &mut PacketNetwork,
+        from: HostId,
+        id: CallId,
+        role: Role,
+        body: &Body,
+        len: u32,
+    ) -> Mark {
+        let Some(place) = self.calls.place(id) else {
+            return self.strange();
+        };
+        let Some(call) = self.calls.at(place) else {
+            return self.strange();
+        };
+        if let Body::Data { length, offset, .. } = *body {
+            let piece = Piece {
+                call: place,
+                is_response: role == Role::Server,
+                length,
+                offset,
+                len,
+            };
+            return self.piece(packets.now(), call.drawn, piece);
+        }
+        if let Body::Grant { offset, .. } = *body {
+            self.grants(packets, from, place, role == Role::Client, offset);
+        }
+        self.count(place, call, matches!(body, Body::Resend { .. }));
+        Mark::control(call.drawn, call.controls)
+    }
+
+    // A piece comes to its receiver, which may be the first of its message.
+    fn comes(&mut self, packets: &mut PacketNetwork, from: HostId, to: HostId, piece: &Piece) {
+        let Some(message) = self.transfers.message(piece.call, piece.is_response) else {
+            return;
+        };
+        if message.came || message.over {
+            return;
+        }
+        let granted = message.granted.max(self.experiment.settings.unsched);
+        let known = Transfer {
+            came: true,
+            granted,
+            ..message
+        };
+        self.transfers.set(piece.call, piece.is_response, known);
+        packets.begins(to, from);
+        if known.is_short() {
+            packets.opens(to);
+        }
+    }
+
+    /// A packet is at its host.
+    pub(crate) fn arrives(&mut self, packets: &mut PacketNetwork, packet: &SimPacket) {
+        if let Some(piece) = packet.piece {
+            self.comes(packets, packet.from, packet.to, &piece);
+        }
+    }
+
+    /// A packet leaves its sender's network card.
+    pub(crate) fn leaves_card(&mut self, now: u64, begun: &Begun) {
+        let Some(piece) = begun.piece else {
+            return;
+        };
+        if let Some(message) = self.transfers.message(piece.call, piece.is_response) {
+            let in_card = message.in_card.saturating_add(begun.wait);
+            let message = Transfer { in_card, ..message };
+            self.transfers.set(piece.call, piece.is_response, message);
+        }
+        if piece.is_response || piece.offset > 0 {
+            return;
+        }
+        if let Some(call) = self.calls.at(piece.call) {
+            let first = call.first.or(Some(now));
+            self.calls.set(piece.call, SimCall { first, ..call });
+        }
+    }
+
+    /// A packet leaves an output of the switch.
+    pub(crate) fn leaves_output(&mut self, begun: &Begun) {
+        let Some(piece) = begun.piece else {
+            return;
+        };
+        if let Some(message) = self.transfers.message(piece.call, piece.is_response) {
+            let at_output = message.at_output.saturating_add(begun.wait);
+            let message = Transfer {
+                at_output,
+                ..message
+            };
+            self.transfers.set(piece.call, piece.is_response, message);
+        }
+    }
+}

@@ -1,0 +1,49 @@
+// How links to hosts were used.
+use run_gauges::Spans;
+
+/// How links to hosts were used, all together: all of their time, for how long they were taken, and for how long they were idle, by
+/// cause: while overcommitment held a grant back; else while packets were under way to the host; else while a message was
+/// incomplete there; else with nothing to come. `wasted` is the idle time in which bytes of a message weren't granted.
+#[derive(Clone, Copy, Debug)]
+pub struct LinkUse {
+    pub time: u128,
+    pub taken: u128,
+    pub withheld: u128,
+    pub coming: u128,
+    pub unsent: u128,
+    pub empty: u128,
+    pub wasted: u128,
+}
+
+impl LinkUse {
+    /// No time.
+    pub fn new() -> LinkUse {
+        LinkUse {
+            time: 0,
+            taken: 0,
+            withheld: 0,
+            coming: 0,
+            unsent: 0,
+            empty: 0,
+            wasted: 0,
+        }
+    }
+
+    /// The time in which they were idle.
+    pub fn idle(&self) -> u128 {
+        self.withheld + self.coming + self.unsent + self.empty
+    }
+
+    /// One link more, which was used so.
+    pub(crate) fn add(&mut self, spans: &Spans) {
+        *self = LinkUse {
+            time: self.time + u128::from(spans.since - spans.from),
+            taken: self.taken + u128::from(spans.taken),
+            withheld: self.withheld + u128::from(spans.withheld),
+            coming: self.coming + u128::from(spans.coming),
+            unsent: self.unsent + u128::from(spans.unsent),
+            empty: self.empty + u128::from(spans.empty),
+            wasted: self.wasted + u128::from(spans.wasted),
+        };
+    }
+}

@@ -1,0 +1,22 @@
+// What happens next.
+use homa_plain::{Event, HostId};
+
+/// What happens next in a run.
+#[derive(Clone, Copy, Debug, PartialEq, Eq)]
+pub enum Step {
+    /// The run is over: the calls that are measured have ended, or too many more were drawn, or nothing is due.
+    Over,
+    /// Time went on in the network alone.
+    Inside,
+    /// An event of the world. An injected datagram has so many counting bytes.
+    Event {
+        event: Event,
+        bytes: u32,
+    },
+    /// A client is to call a server with so many bytes, if it may have one more live call.
+    Call {
+        client: HostId,
+        server: HostId,
+        bytes: u32,
+    },
+}

@@ -1,0 +1,1 @@
+-- A run, from a state of the world and the network to the next.

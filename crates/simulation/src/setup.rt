@@ -1,0 +1,48 @@
+// What doesn't change in a run.
+ghost use Rattle.std.specs.Prelude.{◌≡◌, IfOk};
+ghost use Rattle.homa_plain.specs.Script.{counting};
+ghost use Rattle.homa_plain.specs.Settings.{IsValid};
+
+use experiment::Experiment;
+use homa_plain::Settings;
+use homa_text::counting_bytes;
+use std::alloc::{AllocError, Global};
+
+/// The most bytes of a request or of an injected datagram.
+pub(crate) const MOST_BYTES: u32 = 1_000_000;
+
+/// What doesn't change in a run: the world's settings, the number of the service that is called, the bytes of which each
+/// request has a front, after how many events the run stops (0: never), and whether its events are printed.
+#[derive(Drop)]
+pub(crate) struct Setup {
+    pub(crate) alloc: Global,
+    pub(crate) settings: Settings,
+    pub(crate) service: u8,
+    pub(crate) most_events: u64,
+    pub(crate) bytes: Vec<u8>,
+    pub(crate) prints: bool,
+    ghost valid: { IsValid settings },
+    ghost counting: { bytes.items ≡ counting 0 1000000 },
+}
+
+impl Setup {
+    /// A run of an experiment.
+    pub(crate) fn new(
+        alloc: Global,
+        experiment: &Experiment,
+        prints: bool,
+    ) -> Result<Setup, AllocError>
+        ensures settings { IfOk result (λ setup. setup.settings ≡ experiment.now.settings) }
+        ensures service { IfOk result (λ setup. setup.service ≡ experiment.now.load.service) }
+        ensures prints { IfOk result (λ setup. setup.prints ≡ prints) }
+    {
+        Ok(Setup {
+            alloc,
+            settings: experiment.settings,
+            service: experiment.load.service as u8,
+            most_events: experiment.load.events,
+            bytes: counting_bytes(alloc, MOST_BYTES)?,
+            prints,
+        })
+    }
+}
