@@ -146,11 +146,11 @@ KEPT = {
 }
 MADE = {
     "generated": lambda: made(7, 300),
-    "usual": lambda: network(*MIXED, "hosts 8", "measure 400"),
+    "usual": lambda: network(*MIXED, "hosts 8", "measure 300"),
     "restarts": lambda: network(*MIXED, *BUSY, "measure 60"),
     "version 2": lambda: network(*MIXED, *BUSY, "measure 60", "wire 2", "skew 3"),
     "full": lambda: replayed(FULL),
-    "gaps": lambda: network(*MIXED, "hosts 3", "seg 20", "resend 20", "loss 200000", "jitter 22500", "measure 12"),
+    "gaps": lambda: network(*MIXED, "hosts 3", "seg 20", "resend 20", "loss 200000", "jitter 22500", "load 50", "measure 12"),
     "two processes": lambda: node_of_two(20, 20000),
 }
 

@@ -6,11 +6,11 @@ from testing import Skipped
 from nodes import PROGRAM
 from workbench.programs import program
 
-# Hosts whose messages have up to 100,000 bytes, on links of 10 Gbit/s.
-MIXED = ("tick 2500", "rate 2800", "size 1000 70", "size 10000 25", "size 100000 5", "load 800", "warm 0")
+# Calls of up to 30,000 bytes, on links of 10 Gbit/s.
+MIXED = ("size 1000 80", "size 5000 17", "size 30000 3", "load 800", "warm 0")
 # Few of everything, so that all kinds of packets are sent; losses, repeats and restarts.
-BUSY = ("hosts 5", "overcommit 2", "rebalance 8", "resend 20", "tries 8", "life 200", "served 20", "loss 100000",
-        "repeat 50000", "jitter 15000", "restart 2 150000", "restart 0 225000")
+BUSY = ("hosts 5", "overcommit 2", "rebalance 8", "resend 20", "tries 8", "life 200", "served 40", "loss 100000",
+        "repeat 50000", "jitter 15000", "load 200", "restart 2 150000", "restart 0 225000")
 
 
 def simulator():
