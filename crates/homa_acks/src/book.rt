@@ -4,7 +4,7 @@ ghost use Rattle.std.specs.Prelude.{◌≡◌, ◌+◌, ◌<◌, ◌↔◌, ◌+
 ghost use Rattle.homa_acks.specs.Book.{calls_of, IsBelowFive};
 
 use crate::AckBatch;
-use crate::waiting::Waiting;
+use crate::five_acks::Waiting;
 use homa_plain::HostId;
 use std::alloc::{AllocError, Global};
 use std::marker::Model;

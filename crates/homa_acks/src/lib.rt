@@ -10,7 +10,7 @@
 #![tactic(auto)]
 
 mod book;
-mod waiting;
+mod five_acks;
 
 pub use book::AckBook;
-pub use waiting::AckBatch;
+pub use five_acks::AckBatch;

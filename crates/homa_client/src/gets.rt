@@ -1,8 +1,8 @@
 //! What a packet of its server does to a row.
 //! Rules: what DATA, GRANT, RESEND, BUSY, UNKNOWN, NEED_ACK and CUTOFFS do to a call at its client, and which renew it.
-ghost use Rattle.std.specs.Prelude.{◌≡◌, List, ℕ, ◌+◌, ◌<◌, ◌≤◌, length, Some, None, IsSome, IfSome};
-ghost use Rattle.homa_plain.specs.Outgoing.{grant, resend};
-ghost use Rattle.homa_plain.specs.AtClient.{renewed, refreshed, started_over, request_resent, answered, piece_comes, response_piece};
+ghost use Rattle.std.specs.Prelude.{◌≡◌, ℕ, ◌+◌, ◌<◌, ◌≤◌, length, Some, None, IsSome, IfSome};
+ghost use Rattle.homa_plain.specs.Outgoing.{grant};
+ghost use Rattle.homa_plain.specs.AtClient.{renewed, refreshed, started_over, answered, piece_comes, response_piece};
 ghost use Rattle.homa_plain.specs.AtServer.{piece_of};
 ghost use Rattle.homa_plain.specs.declared.id.CallId.{CallId};
 ghost use Rattle.homa_plain.specs.declared.id.HostId.{HostId};
@@ -12,14 +12,13 @@ ghost use Rattle.msg_pool.specs.Pool.{Pool};
 ghost use Rattle.homa_in.specs.Pooled.{seen_part, IsInPool, Moves};
 ghost use Rattle.homa_in.specs.Pieces.{piece_in, IsFit};
 ghost use Rattle.homa_client.specs.Held.{seen_row};
-ghost use Rattle.homa_client.specs.Gives.{Gave, HasNone, moment_of, did_of};
+ghost use Rattle.homa_client.specs.Gives.{Gave, moment_of};
 ghost use Rattle.homa_client.specs.Lending.{IsSame};
 
 use crate::answers::RowDid;
 use crate::lent::Lent;
 use crate::row::Row;
 use homa_in::{Moment, Opening, Piece, Put, close_part, open_part, put_piece};
-use homa_out::Resent;
 use homa_plain::{Body, CallId, LAST_HOST_TICK, LONGEST_MESSAGE};
 use msg_pool::MsgPool;
 
@@ -205,21 +204,6 @@ impl Row {
         ensures { self.new ≡ record self.old { out = grant self.old.out offset prio } }
     {
         self.out.grant(offset, prio);
-    }
-
-    // A RESEND of the request.
-    fn resend(&mut self, from: u32, to: u32, prio: u8) -> RowDid
-        requires some { from < to }
-        requires prio { prio ≤ 7 }
-        ensures did { (m : PlainMoment) (id : CallId) (pool : Pool) (told : List ℕ) → let r = seen_row pool self.old in
-            request_resent m r (resend r.out from to prio) ≡ did_of m id None (seen_row pool self.new) told result }
-        ensures part { self.new.part ≡ self.old.part }
-        ensures stays { HasNone result self.new.part }
-    {
-        match self.out.resend(from, to, prio) {
-            Resent::Queued => RowDid::Touched,
-            Resent::Busy => RowDid::Busy,
-        }
     }
 
     // The server has no record of the call: where nothing of the response has come, the request starts over.

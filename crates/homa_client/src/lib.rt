@@ -11,6 +11,7 @@
 #![tactic(auto)]
 
 mod answers;
+mod busy;
 mod gets;
 mod lent;
 mod resends;

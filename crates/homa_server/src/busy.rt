@@ -1,6 +1,7 @@
 //! BUSY: a RESEND comes for bytes that a row can't give now.
 //!
-//! `homa_out` says that all bytes asked for still wait. `gets` answers so while the request arrives. `homa_client/src/gets` hears it.
+//! A call whose response is held back answers so. `gets` answers so too while the request arrives, and where a RESEND queues nothing
+//! of the response, as `homa_out` says. `homa_client/src/busy` is the client's side.
 ghost use Rattle.std.specs.Prelude.{◌≡◌, ℕ, List, false, Some};
 ghost use Rattle.homa_plain.specs.declared.id.CallId.{CallId};
 ghost use Rattle.homa_plain.specs.declared.settings.Settings.{Settings};

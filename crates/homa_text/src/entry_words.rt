@@ -2,6 +2,7 @@
 ghost use Rattle.std.specs.Prelude.{◌≡◌, ◌+◌, ◌≤◌, ◌++◌, [], ◌∷◌, length, map, codes, decimal};
 ghost use Rattle.arrayvec.specs.ArrayVec.{array_vec_len};
 ghost use Rattle.homa_plain.specs.Entries.{plain};
+ghost use Rattle.homa_plain.specs.Settings.{setting};
 ghost use Rattle.homa_plain.specs.Text.{settings_words, cutoffs_words, call_word, host_word, id_word, hex_word, fault_words, ack_word, role_word};
 ghost use Rattle.homa_plain.specs.Text.{body_words, why_word, entry_words};
 ghost use Rattle.homa_text.specs.Written.{word_text};
@@ -9,7 +10,7 @@ ghost use Rattle.homa_text.specs.Written.{word_text};
 use crate::Word::{self, Call, Hex, Host, Id, Number, Route, Text};
 use crate::fault_words::push_fault;
 use arrayvec::ArrayVec;
-use homa_plain::{Body, CallId, Cutoffs, Entry, HostId, LineFault, Role, Settings, Why};
+use homa_plain::{Body, CallId, Cutoffs, Entry, HostId, LineFault, Name, Role, Settings, Why};
 use text_lines::told_settings;
 
 // The words of a line; no entry has more than sixteen.
@@ -56,29 +57,22 @@ fn push_calls(list: &mut WordList<'_>, calls: &[(u32, u32)])
     }
 }
 
+// Adds the numbers of the settings that have these names, each as one word.
+fn push_settings(list: &mut WordList<'_>, s: &Settings, names: &[Name])
+    requires { array_vec_len list.old + length names.now ≤ 16 }
+    ensures { map word_text list.new.items ≡ map word_text list.old.items ++ map (λ name. decimal (setting s.now name)) names.now }
+{
+    for name in names {
+        list.push(Number(u64::from(s.get(*name))));
+    }
+}
+
 // The words of the settings' line: 13 to 15 numbers.
 fn words_of_settings<'a>(s: &Settings) -> WordList<'a>
     ensures { map word_text result.items ≡ settings_words s.now }
 {
-    let numbers = [
-        s.hosts,
-        s.seg,
-        s.window,
-        s.unsched,
-        s.overcommit,
-        s.rate,
-        s.resend,
-        s.tries,
-        s.life,
-        s.pages,
-        s.calls,
-        s.served,
-        s.rebalance,
-        s.skew,
-        s.wire,
-    ];
     let mut list = list_of(b"settings", &[]);
-    push_numbers(&mut list, &numbers[..told_settings(s)]);
+    push_settings(&mut list, s, &Name::ALL[..told_settings(s)]);
     list
 }
 

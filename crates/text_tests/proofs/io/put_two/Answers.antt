@@ -17,7 +17,8 @@ returns-in_err-write_all-2-clause-err g c = MatchResult-from_err _ _ _ c.from_re
 
 pub returns-in_err-flush-clause-err : goal.returns-in_err-flush-clause-err
 returns-in_err-flush-clause-err g c = MatchResult-from_err _ _ _ c.from_residual-in_err-flush.ensures.0
-    (λ _. front_within _ _ _ _ _ [] _ (grows_on _ _ _ c.write_all.ensures.same.1 (grows_on _ _ _ c.write_all-2.ensures.same.1 c.flush.ensures.grows)) c.requires
+    (λ _. front_within _ _ _ _ _ [] _
+    (grows_on _ _ _ c.write_all.ensures.same.1 (grows_on _ _ _ c.write_all-2.ensures.same.1 c.flush.ensures.below.grows)) c.requires
     (_, [], append-nil _, c.flush.ensures.whole ∙ two_put _ _ _ _ _ c.in_ok-write_all.ensures.ok c.in_ok-write_all-2.ensures.ok) (append-nil _))
 
 pub returns-clause-ok : goal.returns-clause-ok
@@ -26,4 +27,4 @@ returns-clause-ok g c =
 
 pub returns-clause-same : goal.returns-clause-same
 returns-clause-same g c =
-    g.met.K.Sink.same_on _ _ _ c.write_all.ensures.same.0 (g.met.K.Sink.same_on _ _ _ c.write_all-2.ensures.same.0 c.flush.ensures.same)
+    g.met.K.Sink.same_on _ _ _ c.write_all.ensures.same.0 (g.met.K.Sink.same_on _ _ _ c.write_all-2.ensures.same.0 c.flush.ensures.below.same)
